@@ -1,0 +1,4 @@
+pub mod Configs
+pub mod Configured
+pub mod Numbers
+pub mod Refusals

@@ -1,0 +1,10 @@
+//! The numbers that every node speaks of, the configuration of a store, and why a call is refused.
+#![tactic(auto)]
+
+mod config;
+mod numbers;
+mod refusal;
+
+pub use config::Config;
+pub use numbers::{ClientId, Handle, Moment, ReqId, ServerId, Stamp, next_number};
+pub use refusal::{PathText, Refusal};
