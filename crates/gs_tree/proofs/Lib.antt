@@ -1,0 +1,5 @@
+pub mod Rows
+pub mod Splice
+pub mod Sowing
+pub mod Reaching
+pub mod Laws

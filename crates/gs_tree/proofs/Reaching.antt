@@ -1,0 +1,130 @@
+-- How long the paths below a node are.
+use Rattle.std.proofs.Common.{◌≡◌, ◌+◌, ◌<◌, ◌≤◌, ℕ, Bool, true, false, cond, ◌&&◌, ◌⊎◌, inl, inr, List, [], ◌∷◌, length, max, min, refl, sym, ap, ◌∙◌, subst, arith}
+use Rattle.std.specs.Prelude.{Option, Some, None, is_none, is_some}
+use Rattle.std.specs.Ordering.{eq_by_cmp}
+use Rattle.std.specs.Cmp.{Equal-is}
+use Rattle.std.specs.FinMap.{slice_cmp-IsAntisymmetric, nat_cmp-IsAntisymmetric}
+use Rattle.gs_path.specs.Path.{Name, Path, same_name, begins, path_cmp, name_cmp}
+use Rattle.gs_tree.specs.Entry.{Entry, Dir, File}
+use Rattle.gs_tree.specs.Plain.{Plain, without}
+use Rattle.gs_tree.specs.Find.{Rows, at, IsWithin}
+use Rattle.std.specs.BTreeMap.{BTreeMap, IsOrdered}
+use Rattle.std.specs.Prelude.{Vec}
+use Rattle.std.specs.declared.alloc.Global.{Global}
+use Rattle.gs_tree.specs.Rows.{Reaches, IsNode, rows_of, joined}
+use Rattle.gs_tree.specs.Inverses.{row_of}
+use Rattle.gs_tree.specs.declared.node.Kind.{Kind}
+use Rattle.gs_tree.specs.declared.node.Kind.TheVariants as kinds
+use Rattle.gs_tree.specs.Edits.{same_path}
+use Rattle.gs_tree.proofs.Splice.{splice, Updates, at-updated}
+use Rattle.gs_tree.proofs.Sowing.{leafed}
+
+-- a directory with one child changed
+pub reaches_splice : (x : Name) (child : Rows ℕ) (f new : Plain ℕ) (r s c n : ℕ) → ((q : Path) → new q ≡ splice x (Some child) f q) → Reaches r f → Reaches c (at child) → s ≡ min (c + 1) 255 → n ≡ max r s → Reaches n new
+reaches_splice x child f new r s c n is old below e1 e2 small [] some = omega arith
+reaches_splice x child f new r s c n is old below e1 e2 small (y ∷ p) some =
+    elim (same_name x y) as (λ b. is_some (cond b (at child p) (f (y ∷ p))) ≡ true → length (y ∷ p) ≤ n) [
+      | true ↦ λ h. let c_small : c < 255 = omega arith in let k = below c_small p h in omega arith
+      | false ↦ λ h. let r_small : r < 255 = omega arith in let k = old r_small (y ∷ p) h in omega arith
+    ] (ap is_some (sym (is (y ∷ p))) ∙ some)
+
+pub reaches_less : (f new : Plain ℕ) (n : ℕ) → ((q : Path) → is_some (new q) ≡ true → is_some (f q) ≡ true) → Reaches n f → Reaches n new
+reaches_less f new n h old small q some = old small q (h q some)
+
+pub reaches_without : (p : Path) (f new : Plain ℕ) (n : ℕ) → ((q : Path) → new q ≡ without p f q) → Reaches n f → Reaches n new
+reaches_without p f new n is = reaches_less f new n (λ q some.
+    elim (begins p q) as (λ b. is_some (cond b None (f q)) ≡ true → is_some (f q) ≡ true) [
+      | true ↦ λ h. cc
+      | false ↦ λ h. h
+    ] (ap is_some (sym (is q)) ∙ some))
+
+pub same_path-is : (p q : Path) → same_path p q ≡ true → p ≡ q
+same_path-is p q e = slice_cmp-IsAntisymmetric (slice_cmp-IsAntisymmetric nat_cmp-IsAntisymmetric) p q ((Equal-is (path_cmp p q)).0 e)
+
+pub begins-length : (p q : Path) → begins p q ≡ true → length p ≤ length q
+begins-length [] q h = omega arith
+begins-length (x ∷ p) [] h = absurd (cc)
+begins-length (x ∷ p) (y ∷ q) h =
+    elim (same_name x y) as (λ b. (b && begins p q) ≡ true → length (x ∷ p) ≤ length (y ∷ q)) [
+      | true ↦ λ k. let l = begins-length p q k in omega arith
+      | false ↦ λ k. absurd (cc)
+    ] h
+
+-- something made at a path, with what is above it
+pub leafed-stands : (p : Path) (e : Entry ℕ) (f : Plain ℕ) (q : Path) → is_some (leafed p e f q) ≡ true → (length q ≤ length p) ⊎ (is_some (f q) ≡ true)
+leafed-stands p e f q some =
+    elim (same_path p q) as (λ b. same_path p q ≡ b → is_some (cond b (Some e) (cond (begins q p && is_none (f q)) (Some Dir) (f q))) ≡ true → (length q ≤ length p) ⊎ (is_some (f q) ≡ true)) [
+      | true ↦ λ b h. let l : length p ≡ length q = ap length (same_path-is p q b) in inl (omega arith)
+      | false ↦ λ b h. elim (begins q p) as (λ d. begins q p ≡ d → is_some (cond (d && is_none (f q)) (Some Dir) (f q)) ≡ true → (length q ≤ length p) ⊎ (is_some (f q) ≡ true)) [
+        | true ↦ λ d k. inl (begins-length q p d)
+        | false ↦ λ d k. inr k
+      ] refl h
+    ] refl some
+
+pub reaches_leafed : (p : Path) (e : Entry ℕ) (f new : Plain ℕ) (r s n : ℕ) → ((q : Path) → new q ≡ leafed p e f q) → Reaches r f → (s < 255 → length p ≤ s) → n ≡ max r s → Reaches n new
+reaches_leafed p e f new r s n is old long e2 small q some =
+    elim (leafed-stands p e f q (ap is_some (sym (is q)) ∙ some)) [
+      | inl h ↦ let s_small : s < 255 = omega arith in let k = long s_small in omega arith
+      | inr h ↦ let r_small : r < 255 = omega arith in let k = old r_small q h in omega arith
+    ]
+
+-- a file, or an empty directory
+pub reaches_leaf : (e : Entry ℕ) (n : ℕ) → Reaches n (at (([], e) ∷ []))
+reaches_leaf e n small [] some = omega arith
+reaches_leaf e n small (y ∷ p) some = absurd (cc)
+
+reaches_seen : {m : Rows ℕ} (k : Kind) (n : ℕ) → rows_of k ≡ m → Reaches n (at (rows_of k)) → Reaches n (at m)
+reaches_seen k n view h = subst (λ r. Reaches n (at r)) view h
+
+-- a node whose one child has changed
+pub node_spliced : {m : Rows ℕ} {old new : BTreeMap Name (Rows ℕ)} {x : Name} {child : Rows ℕ} (k : Kind) (r s c n : ℕ) → Updates m old new x (Some child) → rows_of k ≡ m → Reaches r (at (rows_of k)) → Reaches c (at child) → s ≡ min (c + 1) 255 → n ≡ max r s → IsNode n (kinds.Dir new)
+node_spliced {m = m} {new = new} {x = x} {child = child} k r s c n u view old below e1 e2 = record {
+  level = u.ordered;
+  reaches = reaches_splice x child (at m) (at (rows_of (kinds.Dir new))) r s c n (at-updated u) (reaches_seen k r view old) below e1 e2;
+}
+
+-- a node that lost what stood at a path
+pub node_without : {m : Rows ℕ} {old new : BTreeMap Name (Rows ℕ)} {x : Name} {w : Option (Rows ℕ)} (k : Kind) (n : ℕ) (p : Path) → Updates m old new x w → rows_of k ≡ m → Reaches n (at (rows_of k)) → ((q : Path) → at (rows_of (kinds.Dir new)) q ≡ without p (at m) q) → IsNode n (kinds.Dir new)
+node_without {m = m} {new = new} k n p u view old is = record {
+  level = u.ordered;
+  reaches = reaches_without p (at m) (at (rows_of (kinds.Dir new))) n is (reaches_seen k n view old);
+}
+
+-- a node with something made below
+pub node_leafed : {m : Rows ℕ} {old new : BTreeMap Name (Rows ℕ)} {x : Name} {w : Option (Rows ℕ)} (k : Kind) (r s n : ℕ) (p : Path) (e : Entry ℕ) → Updates m old new x w → rows_of k ≡ m → Reaches r (at (rows_of k)) → ((q : Path) → at (rows_of (kinds.Dir new)) q ≡ leafed p e (at m) q) → (s < 255 → length p ≤ s) → n ≡ max r s → IsNode n (kinds.Dir new)
+node_leafed {m = m} {new = new} k r s n p e u view old is long e2 = record {
+  level = u.ordered;
+  reaches = reaches_leafed p e (at m) (at (rows_of (kinds.Dir new))) r s n is (reaches_seen k r view old) long e2;
+}
+
+pub node_blank_dir : (children : BTreeMap Name (Rows ℕ)) → children.entries ≡ [] → IsOrdered name_cmp children → IsNode 0 (kinds.Dir children)
+node_blank_dir children empty ordered = record {
+  level = ordered;
+  reaches = subst (λ (es : List (Name × Rows ℕ)). Reaches 0 (at (([], Dir) ∷ joined es))) (sym empty) (reaches_leaf Dir 0);
+}
+
+pub node_blank_file : (handles : Vec ℕ Global) → IsNode 0 (kinds.File handles)
+node_blank_file handles = record { level = tt; reaches = reaches_leaf (File handles.items) 0 }
+
+-- directories in a row
+pub node_row : (children : BTreeMap Name (Rows ℕ)) (p : Path) (e : Entry ℕ) (n : ℕ) → IsOrdered name_cmp children → ((q : Path) → at (rows_of (kinds.Dir children)) q ≡ row_of p e q) → (n < 255 → length p ≤ n) → IsNode n (kinds.Dir children)
+node_row children p e n ordered is long = record { level = ordered; reaches = λ small q some. row_within q small (ap is_some (sym (is q)) ∙ some) }
+  where
+    dir : Option (Entry ℕ)
+    dir = Some Dir
+
+    row_within : (q : Path) → n < 255 → is_some (row_of p e q) ≡ true → length q ≤ n
+    row_within q small some = elim (same_path p q) as (λ b. same_path p q ≡ b → is_some (cond b (Some e) (cond (begins q p) (Some Dir) None)) ≡ true → length q ≤ n) [
+      | true ↦ λ b h. let k = long small in let l : length p ≡ length q = ap length (same_path-is p q b) in omega arith
+      | false ↦ λ b h. elim (begins q p) as (λ d. begins q p ≡ d → is_some (cond d dir None) ≡ true → length q ≤ n) [
+        | true ↦ λ d h2. let k = long small in let l = begins-length q p d in omega arith
+        | false ↦ λ d h2. absurd (cc)
+      ] refl h
+    ] refl some
+
+-- a node in which nothing has changed
+pub node_same : {m : Rows ℕ} {old new : BTreeMap Name (Rows ℕ)} {x : Name} {w : Option (Rows ℕ)} (k : Kind) (n : ℕ) → Updates m old new x w → rows_of k ≡ m → Reaches n (at (rows_of k)) → ((q : Path) → at (rows_of (kinds.Dir new)) q ≡ at m q) → IsNode n (kinds.Dir new)
+node_same {m = m} {new = new} k n u view old is = record {
+  level = u.ordered;
+  reaches = reaches_less (at m) (at (rows_of (kinds.Dir new))) n (λ q some. ap is_some (sym (is q)) ∙ some) (reaches_seen k n view old);
+}

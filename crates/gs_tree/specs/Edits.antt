@@ -1,0 +1,99 @@
+-- The commands of a plain tree, by cases on what stands at a path, with the refusals in their order, and what takes each
+-- back. A refused command leaves the tree.
+use Rattle.std.specs.Prelude.{◌≡◌, ℕ, ◌+◌, ◌≤◌, Bool, true, false, cond, ◌&&◌, ◌||◌, ◌⊎◌, if◌then◌else◌, [], ◌∷◌, ◌++◌, List, map, take, drop, length, nat_lt, Option, Some, None, Result, Ok, Err, is_some, is_none}
+use Rattle.std.specs.Ordering.{eq_by_cmp}
+use Rattle.gs_path.specs.Path.{Path, path_cmp, begins}
+use Rattle.gs_path.specs.Element.{hidden_name}
+use Rattle.gs_base.specs.declared.refusal.Refusal.{Refusal}
+use Rattle.gs_base.specs.declared.refusal.Refusal.TheVariants.{BadPath, NotFound, Exists, NotADirectory, IntoItself, IsRoot}
+use Rattle.gs_tree.specs.Entry.{Entry, Dir, File}
+use Rattle.gs_tree.specs.Plain.{Plain, Same, IsFree, with_at, without, part_at}
+
+abbrev pub is_dir : {A : Type 0} → Option (Entry A) → Bool
+is_dir None = false
+is_dir (Some Dir) = true
+is_dir (Some (File chunks)) = false
+
+abbrev pub is_file : {A : Type 0} → Option (Entry A) → Bool
+is_file None = false
+is_file (Some Dir) = false
+is_file (Some (File chunks)) = true
+
+abbrev pub same_path : Path → Path → Bool
+same_path p q = eq_by_cmp path_cmp p q
+
+abbrev pub parent : Path → Path
+parent [] = []
+parent (x ∷ []) = []
+parent (x ∷ y ∷ p) = x ∷ parent (y ∷ p)
+
+-- the last element, as a path
+abbrev pub last : Path → Path
+last [] = []
+last (x ∷ []) = x ∷ []
+last (x ∷ y ∷ p) = last (y ∷ p)
+
+-- whether a file stands at a proper ancestor
+abbrev pub file_above : {A : Type 0} → Plain A → Path → Bool
+file_above m [] = false
+file_above m (x ∷ p) = is_file (m []) || file_above (λ q. m (x ∷ q)) p
+
+-- a directory at p and at each ancestor where nothing stands
+abbrev pub with_dirs : {A : Type 0} → Path → Plain A → Plain A
+with_dirs p m q = cond (begins q p && is_none (m q)) (Some Dir) (m q)
+
+abbrev pub with_entry : {A : Type 0} → Path → Entry A → Plain A → Plain A
+with_entry p e m q = cond (same_path p q) (Some e) (m q)
+
+abbrev pub mkdirs : {A : Type 0} → Plain A → Path → Result (Plain A) Refusal
+mkdirs m p =
+    if is_file (m p) then Err Exists
+    else if file_above m p then Err NotADirectory
+    else Ok (with_dirs p m)
+
+abbrev pub create : {A : Type 0} → Plain A → Path → Result (Plain A) Refusal
+create m p =
+    if is_some (m p) then Err Exists
+    else if file_above m p then Err NotADirectory
+    else Ok (with_entry p (File []) (with_dirs p m))
+
+-- each path that begins with `from` has that front replaced
+abbrev pub moved : {A : Type 0} → Path → Path → Plain A → Plain A
+moved from to m = with_at to (part_at from m) (without from m)
+
+abbrev pub target_of : {A : Type 0} → Plain A → Path → Path → Path
+target_of m from to = if is_dir (m to) then to ++ last from else to
+
+-- `deep` says whether something would have too long a path after the move
+abbrev pub move_to : {A : Type 0} → Bool → Plain A → Path → Path → Result (Plain A) Refusal
+move_to deep m from to =
+    if same_path to from then Err Exists
+    else if begins from to then Err IntoItself
+    else if is_some (m to) then Err Exists
+    else if is_none (m (parent to)) then Err NotFound
+    else if is_file (m (parent to)) then Err NotADirectory
+    else if deep then Err BadPath
+    else Ok (moved from to m)
+
+-- `is_deep` says of each target whether something would have too long a path under it
+abbrev pub rename : {A : Type 0} → (Path → Bool) → Plain A → Path → Path → Result (Plain A) Refusal
+rename is_deep m from to =
+    if same_path from [] then Err IsRoot
+    else if is_none (m from) then Err NotFound
+    else move_to (is_deep (target_of m from to)) m from (target_of m from to)
+
+-- where a path is hidden: beside it, under its hidden name
+abbrev pub hidden_path : Path → ℕ → ℕ → Path
+hidden_path p moment number = parent p ++ map (λ name. hidden_name moment number name) (last p)
+
+abbrev pub hide : {A : Type 0} → Plain A → Path → ℕ → ℕ → Result (Plain A) Refusal
+hide m p moment number =
+    if same_path p [] then Err IsRoot
+    else if is_none (m p) then Err NotFound
+    else if is_some (m (hidden_path p moment number)) then Err Exists
+    else Ok (moved p (hidden_path p moment number) m)
+
+-- of how many elements the longest front of p is at which something stands, where something stands at the root
+abbrev pub stood : {A : Type 0} → Plain A → Path → ℕ
+stood m [] = 0
+stood m (x ∷ p) = cond (is_none (m (x ∷ []))) 0 (stood (λ q. m (x ∷ q)) p + 1)

@@ -1,0 +1,9 @@
+pub mod Entry
+pub mod Plain
+pub mod Find
+pub mod Rows
+pub mod Edits
+pub mod Sort
+pub mod Inverses
+pub mod Follows
+pub mod Falls

@@ -1,0 +1,37 @@
+-- A node as the list of its paths, from itself down, each with what stands there.
+use Rattle.std.specs.Prelude.{ℕ, ◌<◌, List, [], ◌∷◌, ◌++◌}
+use Rattle.std.specs.List.Sorted.{IsStrictlySortedBy}
+use Rattle.std.specs.Map.{keys_of}
+use Rattle.gs_path.specs.Path.{name_cmp}
+use Rattle.gs_tree.specs.Entry.{Dir, File}
+use Rattle.gs_tree.specs.Plain.{Plain}
+use Rattle.gs_tree.specs.Find.{Rows, IsWithin, at}
+use Rattle.gs_tree.specs.declared.node.Kind.{Kind}
+use Rattle.gs_tree.specs.declared.node.Kind.TheVariants as kinds
+
+-- each path with one more element in front
+abbrev pub under : List ℕ → Rows ℕ → Rows ℕ
+under name [] = []
+under name (r ∷ rs) = (name ∷ r.0, r.1) ∷ under name rs
+
+abbrev pub joined : List (List ℕ × Rows ℕ) → Rows ℕ
+joined [] = []
+joined (c ∷ cs) = under c.0 c.1 ++ joined cs
+
+abbrev pub rows_of : Kind → Rows ℕ
+rows_of (kinds.File handles) = ([], File handles.items) ∷ []
+rows_of (kinds.Dir children) = ([], Dir) ∷ joined children.entries
+
+-- the paths of a node are no longer than this number says, below 255; from there on it says nothing
+abbrev pub Reaches : ℕ → Plain ℕ → Type 0
+Reaches n m = n < 255 → IsWithin n m
+
+-- the names rise
+abbrev pub IsLevel : Kind → Type 0
+IsLevel (kinds.File handles) = Unit {0}
+IsLevel (kinds.Dir children) = IsStrictlySortedBy name_cmp (keys_of children.entries)
+
+-- what holds of the fields of each node
+pub record IsNode (reach : ℕ) (kind : Kind) : Type 0 where
+  pub level : IsLevel kind
+  pub reaches : Reaches reach (at (rows_of kind))

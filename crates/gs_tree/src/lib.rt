@@ -1,0 +1,10 @@
+//! A tree of directories and files, each edit with what takes it back.
+#![tactic(auto)]
+
+mod inverse;
+mod node;
+mod tree;
+
+pub use inverse::TreeInverse;
+pub use node::{Leaf, Node, Sort};
+pub use tree::Tree;

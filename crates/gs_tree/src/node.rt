@@ -1,0 +1,273 @@
+ghost use Rattle.std.specs.Prelude.{◌≡◌, ◌≢◌, ◌↔◌, ◌<◌, ◌≤◌, ◌^◌, ℕ, [], false, true, is_some, ◌∷◌, ◌++◌, option_copied, is_ok, if◌then◌else◌, IfOk, IsTrue, length, List};
+ghost use Rattle.gs_path.specs.Path.{Path as AnyPath, begins};
+ghost use Rattle.gs_tree.specs.Entry.{Entry, Dir, File};
+ghost use Rattle.gs_tree.specs.Plain.{with_at, without, IsFree, Same};
+ghost use Rattle.gs_tree.specs.Find.{at, IsPartAt, DirsAbove, IsWithin};
+ghost use Rattle.gs_tree.specs.Edits.{moved};
+ghost use Rattle.gs_tree.specs.Sort.{sort_of, entry_of_leaf};
+ghost use Rattle.gs_tree.specs.Inverses.{row_of, IsBlankRow};
+ghost use Rattle.gs_tree.specs.Follows.{Sown};
+
+use gs_base::{Handle, Refusal};
+use gs_path::Name;
+use std::alloc::{AllocError, Global};
+use std::collections::BTreeMap;
+use std::marker::Model;
+
+/// What kind of thing stands at a path.
+#[derive(Clone, Copy, Debug, PartialEq, Eq)]
+pub enum Sort {
+    Missing,
+    Dir,
+    File,
+}
+
+/// What is made: an empty directory, or a file of no chunk.
+#[derive(Clone, Copy, Debug, PartialEq, Eq)]
+pub enum Leaf {
+    Dir,
+    File,
+}
+
+/// A directory or a file, with all under it.
+#[cycle(node)]
+#[derive(Drop)]
+pub struct Node {
+    kind: Kind,
+    /// No path below has more elements, where this is below 255.
+    reach: u8,
+}
+
+#[cycle(node)]
+#[derive(Drop)]
+enum Kind {
+    File(Vec<Handle>),
+    Dir(BTreeMap<Name, Node>),
+}
+
+impl Model for Node {
+    ghost use Rattle.std.specs.Prelude.{List, ℕ, length};
+    ghost use Rattle.std.specs.Coded.{coded_list, coded×};
+    ghost use Rattle.gs_path.specs.Path.{coded_path};
+    ghost use Rattle.gs_tree.specs.Entry.{Entry, coded_entry};
+
+    ghost Value = { List (List (List ℕ) × Entry ℕ) };
+
+    ghost coded = { coded_list (coded× coded_path coded_entry) };
+
+    ghost use Rattle.gs_tree.specs.Rows.{rows_of, IsNode};
+
+    ghost view = { λ a. rows_of a.kind };
+
+    ghost invariant = { λ a. IsNode a.reach a.kind };
+
+    ghost size = { length };
+
+    ghost use Rattle.gs_tree.specs.Falls.{deep_le-length-rows};
+
+    ghost size_decreases = { λ a h. deep_le-length-rows a.kind };
+}
+
+ghost use Rattle.gs_tree.specs.Rows.{Reaches};
+
+/// The number of the elements, or 255 where there are more.
+fn reach_of(elements: &[Name]) -> u8
+    ensures { result < 255 → length elements.now ≤ result }
+{
+    u8::try_from(elements.len()).unwrap_or(u8::MAX)
+}
+
+impl Node {
+    /// An empty directory, or a file of no chunk.
+    pub fn new(alloc: Global, leaf: Leaf) -> Node
+        ensures { result ≡ ([], entry_of_leaf leaf) ∷ [] }
+    {
+        let kind = match leaf {
+            Leaf::Dir => Kind::Dir(BTreeMap::new(alloc)),
+            Leaf::File => Kind::File(Vec::new(alloc)),
+        };
+        Node { kind, reach: 0 }
+    }
+
+    /// The least number that is known for the lengths of the paths below, or 255.
+    fn reach(&self) -> u8
+        ensures { Reaches result (at self.now) }
+    {
+        self.reach
+    }
+
+    /// What stands at a path below.
+    pub fn find(&self, path: &[Name]) -> Option<&Node>
+        ensures part { IsPartAt (at self.now) path.now (option_copied result) }
+        ensures above { is_some result ≡ true → DirsAbove (at self.now) path.now }
+    {
+        match path {
+            [] => Some(self),
+            [first, rest @ ..] => match &self.kind {
+                Kind::File(_) => None,
+                Kind::Dir(children) => match children.get(first) {
+                    None => None,
+                    Some(child) => child.find(rest),
+                },
+            },
+        }
+    }
+
+    /// What kind of thing this is.
+    fn sort(&self) -> Sort
+        ensures sort { result ≡ sort_of (at self.now []) }
+        ensures stands { result ≢ Sort.Missing }
+    {
+        match &self.kind {
+            Kind::File(_) => Sort::File,
+            Kind::Dir(_) => Sort::Dir,
+        }
+    }
+
+    /// What kind of thing stands at a path.
+    pub fn sort_at(&self, path: &[Name]) -> Sort
+        ensures sort { result ≡ sort_of (at self.now path.now) }
+        ensures free { result ≡ Sort.Missing → IsFree (at self.now) path.now }
+        ensures above { result ≢ Sort.Missing → DirsAbove (at self.now) path.now }
+    {
+        match self.find(path) {
+            None => Sort::Missing,
+            Some(node) => node.sort(),
+        }
+    }
+
+    /// Puts a node under a directory, in the place of what stands there.
+    pub fn graft(&mut self, parent: &[Name], name: Name, node: Node) -> Result<(), AllocError>
+        requires { at self.old parent.now ≡ Some Dir }
+        ensures { (q : AnyPath) → at self.new q ≡ (if is_ok result then with_at (parent.now ++ name ∷ []) (at node) (at self.old) q else at self.old q) }
+    {
+        let Kind::Dir(children) = &mut self.kind else {
+            return Ok(());
+        };
+        let [first, rest @ ..] = parent else {
+            let reach = node.reach().saturating_add(1);
+            children.insert(name, node)?;
+            self.reach = self.reach.max(reach);
+            return Ok(());
+        };
+        let Some(child) = children.get_mut(first) else {
+            return Ok(());
+        };
+        let grafted = child.graft(rest, name, node);
+        let reach = child.reach().saturating_add(1);
+        self.reach = self.reach.max(reach);
+        grafted
+    }
+
+    /// Takes out a node with all under it.
+    pub fn prune(&mut self, path: &[Name]) -> Option<Node>
+        requires { path.now ≢ [] }
+        ensures part { IsPartAt (at self.old) path.now result }
+        ensures rest { (q : AnyPath) → at self.new q ≡ without path.now (at self.old) q }
+    {
+        let Kind::Dir(children) = &mut self.kind else {
+            return None;
+        };
+        let [first, rest @ ..] = path else {
+            return None;
+        };
+        if rest.is_empty() {
+            return children.remove(first);
+        }
+        let Some(child) = children.get_mut(first) else {
+            return None;
+        };
+        child.prune(rest)
+    }
+
+    /// Puts a node in the place of what stands at a path, which takes no memory.
+    pub fn put(&mut self, path: &[Name], node: Node)
+        requires { at self.old path.now ≢ None }
+        ensures { (q : AnyPath) → at self.new q ≡ with_at path.now (at node) (at self.old) q }
+    {
+        let [first, rest @ ..] = path else {
+            *self = node;
+            return;
+        };
+        let Kind::Dir(children) = &mut self.kind else {
+            return;
+        };
+        let Some(child) = children.get_mut(first) else {
+            return;
+        };
+        child.put(rest, node);
+        let reach = child.reach().saturating_add(1);
+        self.reach = self.reach.max(reach);
+    }
+
+    /// Moves what stands at a path to a free place under a directory.
+    pub fn relocate(
+        &mut self,
+        alloc: Global,
+        from: &[Name],
+        parent: &[Name],
+        name: Name,
+        to: &[Name],
+    ) -> Result<(), AllocError>
+        requires target { to.now ≡ parent.now ++ name ∷ [] }
+        requires dir { at self.old parent.now ≡ Some Dir }
+        requires stands { is_some (at self.old from.now) ≡ true }
+        requires root { from.now ≢ [] }
+        requires apart { begins from.now to.now ≡ false }
+        requires free { IsFree (at self.old) to.now }
+        ensures { (q : AnyPath) → at self.new q ≡ (if is_ok result then moved from.now to.now (at self.old) q else at self.old q) }
+    {
+        self.graft(parent, name, Node::new(alloc, Leaf::Dir))?;
+        let Some(node) = self.prune(from) else {
+            return Ok(());
+        };
+        self.put(to, node);
+        Ok(())
+    }
+
+    /// Puts a leaf where nothing stands, and makes each directory above it that is missing. Answers how many elements of
+    /// the path stood.
+    pub fn sow(&mut self, alloc: Global, path: &[Name], leaf: Leaf) -> Result<usize, Refusal>
+        requires nothing { at self.old path.now ≡ None }
+        requires short { length path.now < 2 ^ 32 }
+        ensures { Sown (at self.old) path.now (entry_of_leaf leaf) result (at self.new) }
+    {
+        let Kind::Dir(children) = &mut self.kind else {
+            return Err(Refusal::NotADirectory);
+        };
+        let [first, rest @ ..] = path else {
+            return Ok(0);
+        };
+        if let Some(child) = children.get_mut(first) {
+            return match child.sow(alloc, rest, leaf) {
+                Ok(above) => {
+                    self.reach = self.reach.max(reach_of(path));
+                    Ok(above + 1)
+                }
+                Err(refusal) => Err(refusal),
+            };
+        }
+        let name = first.copy(alloc)?;
+        let below = row(alloc, rest, leaf)?;
+        children.insert(name, below)?;
+        self.reach = self.reach.max(reach_of(path));
+        Ok(0)
+    }
+}
+
+/// Directories in a row, one for each name but the last, and a leaf at its end.
+fn row(alloc: Global, names: &[Name], leaf: Leaf) -> Result<Node, AllocError>
+    ensures { IfOk result (λ n. Same (at n) (row_of names.now (entry_of_leaf leaf))) }
+{
+    let [first, rest @ ..] = names else {
+        return Ok(Node::new(alloc, leaf));
+    };
+    let mut children = BTreeMap::new(alloc);
+    let name = first.copy(alloc)?;
+    let below = row(alloc, rest, leaf)?;
+    children.insert(name, below)?;
+    Ok(Node {
+        kind: Kind::Dir(children),
+        reach: reach_of(names),
+    })
+}
