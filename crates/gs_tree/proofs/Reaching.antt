@@ -8,10 +8,11 @@ use Rattle.gs_path.specs.Path.{Name, Path, same_name, begins, path_cmp, name_cmp
 use Rattle.gs_tree.specs.Entry.{Entry, Dir, File}
 use Rattle.gs_tree.specs.Plain.{Plain, without}
 use Rattle.gs_tree.specs.Find.{Rows, at, IsWithin}
-use Rattle.std.specs.BTreeMap.{BTreeMap, IsOrdered}
+use Rattle.std.specs.BTreeMap.{BTreeMap, IsOrdered, is_at}
+use Rattle.std.specs.Map.{lookup}
 use Rattle.std.specs.Prelude.{Vec}
 use Rattle.std.specs.declared.alloc.Global.{Global}
-use Rattle.gs_tree.specs.Rows.{Reaches, IsNode, rows_of, joined}
+use Rattle.gs_tree.specs.Rows.{Reaches, IsNode, IsRooted, rows_of, joined}
 use Rattle.gs_tree.specs.Inverses.{row_of}
 use Rattle.gs_tree.specs.declared.node.Kind.{Kind}
 use Rattle.gs_tree.specs.declared.node.Kind.TheVariants as kinds
@@ -76,39 +77,54 @@ reaches_leaf e n small (y ∷ p) some = absurd (cc)
 reaches_seen : {m : Rows ℕ} (k : Kind) (n : ℕ) → rows_of k ≡ m → Reaches n (at (rows_of k)) → Reaches n (at m)
 reaches_seen k n view h = subst (λ r. Reaches n (at r)) view h
 
+-- a child that changes stands still
+pub rooted_updated : {m : Rows ℕ} {old new : BTreeMap Name (Rows ℕ)} {x : Name} (w : Option (Rows ℕ)) → Updates m old new x w → IsRooted (kinds.Dir old) → ((child : Rows ℕ) → w ≡ Some child → is_some (at child []) ≡ true) → IsRooted (kinds.Dir new)
+rooted_updated {old = old} {x = x} w u h stands n child is =
+    elim (same_name x n) as (λ b. cond b w (lookup (is_at (name_cmp n)) old.entries) ≡ Some child → is_some (at child []) ≡ true) [
+      | true ↦ λ e. stands child e
+      | false ↦ λ e. h n child e
+    ] (sym (u.lookups n) ∙ is)
+
+pub one_child : (a child : Rows ℕ) → is_some (at a []) ≡ true → Some a ≡ Some child → is_some (at child []) ≡ true
+one_child a child h e = let k : a ≡ child = cc in subst (λ r. is_some (at r []) ≡ true) k h
+
 -- a node whose one child has changed
-pub node_spliced : {m : Rows ℕ} {old new : BTreeMap Name (Rows ℕ)} {x : Name} {child : Rows ℕ} (k : Kind) (r s c n : ℕ) → Updates m old new x (Some child) → rows_of k ≡ m → Reaches r (at (rows_of k)) → Reaches c (at child) → s ≡ min (c + 1) 255 → n ≡ max r s → IsNode n (kinds.Dir new)
-node_spliced {m = m} {new = new} {x = x} {child = child} k r s c n u view old below e1 e2 = record {
+pub node_spliced : {m : Rows ℕ} {old new : BTreeMap Name (Rows ℕ)} {x : Name} {child : Rows ℕ} (k : Kind) (r s c n : ℕ) → Updates m old new x (Some child) → rows_of k ≡ m → IsNode r k → k ≡ kinds.Dir old → Reaches c (at child) → is_some (at child []) ≡ true → s ≡ min (c + 1) 255 → n ≡ max r s → IsNode n (kinds.Dir new)
+node_spliced {m = m} {new = new} {x = x} {child = child} k r s c n u view node is below stands e1 e2 = record {
   level = u.ordered;
-  reaches = reaches_splice x child (at m) (at (rows_of (kinds.Dir new))) r s c n (at-updated u) (reaches_seen k r view old) below e1 e2;
+  rooted = rooted_updated (Some child) u (subst IsRooted is node.rooted) (λ a e. one_child child a stands e);
+  reaches = reaches_splice x child (at m) (at (rows_of (kinds.Dir new))) r s c n (at-updated u) (reaches_seen k r view node.reaches) below e1 e2;
 }
 
 -- a node that lost what stood at a path
-pub node_without : {m : Rows ℕ} {old new : BTreeMap Name (Rows ℕ)} {x : Name} {w : Option (Rows ℕ)} (k : Kind) (n : ℕ) (p : Path) → Updates m old new x w → rows_of k ≡ m → Reaches n (at (rows_of k)) → ((q : Path) → at (rows_of (kinds.Dir new)) q ≡ without p (at m) q) → IsNode n (kinds.Dir new)
-node_without {m = m} {new = new} k n p u view old is = record {
+pub node_without : {m : Rows ℕ} {old new : BTreeMap Name (Rows ℕ)} {x : Name} {w : Option (Rows ℕ)} (k : Kind) (n : ℕ) (p : Path) → Updates m old new x w → rows_of k ≡ m → IsNode n k → k ≡ kinds.Dir old → ((child : Rows ℕ) → w ≡ Some child → is_some (at child []) ≡ true) → ((q : Path) → at (rows_of (kinds.Dir new)) q ≡ without p (at m) q) → IsNode n (kinds.Dir new)
+node_without {m = m} {new = new} {w = w} k n p u view node dir stands is = record {
   level = u.ordered;
-  reaches = reaches_without p (at m) (at (rows_of (kinds.Dir new))) n is (reaches_seen k n view old);
+  rooted = rooted_updated w u (subst IsRooted dir node.rooted) stands;
+  reaches = reaches_without p (at m) (at (rows_of (kinds.Dir new))) n is (reaches_seen k n view node.reaches);
 }
 
 -- a node with something made below
-pub node_leafed : {m : Rows ℕ} {old new : BTreeMap Name (Rows ℕ)} {x : Name} {w : Option (Rows ℕ)} (k : Kind) (r s n : ℕ) (p : Path) (e : Entry ℕ) → Updates m old new x w → rows_of k ≡ m → Reaches r (at (rows_of k)) → ((q : Path) → at (rows_of (kinds.Dir new)) q ≡ leafed p e (at m) q) → (s < 255 → length p ≤ s) → n ≡ max r s → IsNode n (kinds.Dir new)
-node_leafed {m = m} {new = new} k r s n p e u view old is long e2 = record {
+pub node_leafed : {m : Rows ℕ} {old new : BTreeMap Name (Rows ℕ)} {x : Name} {w : Option (Rows ℕ)} (k : Kind) (r s n : ℕ) (p : Path) (e : Entry ℕ) → Updates m old new x w → rows_of k ≡ m → IsNode r k → k ≡ kinds.Dir old → ((child : Rows ℕ) → w ≡ Some child → is_some (at child []) ≡ true) → ((q : Path) → at (rows_of (kinds.Dir new)) q ≡ leafed p e (at m) q) → (s < 255 → length p ≤ s) → n ≡ max r s → IsNode n (kinds.Dir new)
+node_leafed {m = m} {new = new} {w = w} k r s n p e u view node dir stands is long e2 = record {
   level = u.ordered;
-  reaches = reaches_leafed p e (at m) (at (rows_of (kinds.Dir new))) r s n is (reaches_seen k r view old) long e2;
+  rooted = rooted_updated w u (subst IsRooted dir node.rooted) stands;
+  reaches = reaches_leafed p e (at m) (at (rows_of (kinds.Dir new))) r s n is (reaches_seen k r view node.reaches) long e2;
 }
 
 pub node_blank_dir : (children : BTreeMap Name (Rows ℕ)) → children.entries ≡ [] → IsOrdered name_cmp children → IsNode 0 (kinds.Dir children)
 node_blank_dir children empty ordered = record {
   level = ordered;
+  rooted = λ n child is. let none : lookup (is_at (name_cmp n)) children.entries ≡ None = ap (lookup (is_at (name_cmp n))) empty in cc;
   reaches = subst (λ (es : List (Name × Rows ℕ)). Reaches 0 (at (([], Dir) ∷ joined es))) (sym empty) (reaches_leaf Dir 0);
 }
 
 pub node_blank_file : (handles : Vec ℕ Global) → IsNode 0 (kinds.File handles)
-node_blank_file handles = record { level = tt; reaches = reaches_leaf (File handles.items) 0 }
+node_blank_file handles = record { level = tt; rooted = tt; reaches = reaches_leaf (File handles.items) 0 }
 
 -- directories in a row
-pub node_row : (children : BTreeMap Name (Rows ℕ)) (p : Path) (e : Entry ℕ) (n : ℕ) → IsOrdered name_cmp children → ((q : Path) → at (rows_of (kinds.Dir children)) q ≡ row_of p e q) → (n < 255 → length p ≤ n) → IsNode n (kinds.Dir children)
-node_row children p e n ordered is long = record { level = ordered; reaches = λ small q some. row_within q small (ap is_some (sym (is q)) ∙ some) }
+pub node_row : (children : BTreeMap Name (Rows ℕ)) (p : Path) (e : Entry ℕ) (n : ℕ) → IsOrdered name_cmp children → IsRooted (kinds.Dir children) → ((q : Path) → at (rows_of (kinds.Dir children)) q ≡ row_of p e q) → (n < 255 → length p ≤ n) → IsNode n (kinds.Dir children)
+node_row children p e n ordered rooted is long = record { level = ordered; rooted = rooted; reaches = λ small q some. row_within q small (ap is_some (sym (is q)) ∙ some) }
   where
     dir : Option (Entry ℕ)
     dir = Some Dir
@@ -123,8 +139,41 @@ node_row children p e n ordered is long = record { level = ordered; reaches = λ
     ] refl some
 
 -- a node in which nothing has changed
-pub node_same : {m : Rows ℕ} {old new : BTreeMap Name (Rows ℕ)} {x : Name} {w : Option (Rows ℕ)} (k : Kind) (n : ℕ) → Updates m old new x w → rows_of k ≡ m → Reaches n (at (rows_of k)) → ((q : Path) → at (rows_of (kinds.Dir new)) q ≡ at m q) → IsNode n (kinds.Dir new)
-node_same {m = m} {new = new} k n u view old is = record {
+pub node_same : {m : Rows ℕ} {old new : BTreeMap Name (Rows ℕ)} {x : Name} {w : Option (Rows ℕ)} (k : Kind) (n : ℕ) → Updates m old new x w → rows_of k ≡ m → IsNode n k → k ≡ kinds.Dir old → ((child : Rows ℕ) → w ≡ Some child → is_some (at child []) ≡ true) → ((q : Path) → at (rows_of (kinds.Dir new)) q ≡ at m q) → IsNode n (kinds.Dir new)
+node_same {m = m} {new = new} {w = w} k n u view node dir stands is = record {
   level = u.ordered;
-  reaches = reaches_less (at m) (at (rows_of (kinds.Dir new))) n (λ q some. ap is_some (sym (is q)) ∙ some) (reaches_seen k n view old);
+  rooted = rooted_updated w u (subst IsRooted dir node.rooted) stands;
+  reaches = reaches_less (at m) (at (rows_of (kinds.Dir new))) n (λ q some. ap is_some (sym (is q)) ∙ some) (reaches_seen k n view node.reaches);
+}
+
+-- what is made in a row, or in a node, stands at its root
+pub row_stands : (below : Rows ℕ) (p : Path) (e : Entry ℕ) → ((q : Path) → at below q ≡ row_of p e q) → is_some (at below []) ≡ true
+row_stands below [] e is = ap is_some (is [])
+row_stands below (x ∷ p) e is = ap is_some (is [])
+
+pub leafed_stands : (child : Rows ℕ) (p : Path) (e : Entry ℕ) (f : Plain ℕ) → is_some (f []) ≡ true → ((q : Path) → at child q ≡ leafed p e f q) → is_some (at child []) ≡ true
+leafed_stands child [] e f some is = ap is_some (is [])
+leafed_stands child (x ∷ p) e f some is = ap is_some (is []) ∙ made (f []) some
+  where
+    made : (v : Option (Entry ℕ)) → is_some v ≡ true → is_some (cond (is_none v) (Some Dir) v) ≡ true
+    made None h = refl
+    made (Some a) h = refl
+
+-- a node of one child
+pub rooted_one : (old new : BTreeMap Name (Rows ℕ)) (x : Name) (below : Rows ℕ) → old.entries ≡ [] → ((n : Name) → lookup (is_at (name_cmp n)) new.entries ≡ cond (same_name x n) (Some below) (lookup (is_at (name_cmp n)) old.entries)) → is_some (at below []) ≡ true → IsRooted (kinds.Dir new)
+rooted_one old new x below empty lookups stands n child is =
+    elim (same_name x n) as (λ b. cond b (Some below) (lookup (is_at (name_cmp n)) old.entries) ≡ Some child → is_some (at child []) ≡ true) [
+      | true ↦ λ e. one_child below child stands e
+      | false ↦ λ e. let none : lookup (is_at (name_cmp n)) old.entries ≡ None = ap (lookup (is_at (name_cmp n))) empty in absurd (cc)
+    ] (sym (lookups n) ∙ is)
+
+pub pruned_stands : (p : Path) (f new : Plain ℕ) → (p ≡ [] → ⊥) → ((q : Path) → new q ≡ without p f q) → is_some (f []) ≡ true → is_some (new []) ≡ true
+pruned_stands [] f new ne is some = absurd (ne refl)
+pruned_stands (x ∷ p) f new ne is some = ap is_some (is []) ∙ some
+
+pub node_entries : (old new : BTreeMap Name (Rows ℕ)) (n : ℕ) → new.entries ≡ old.entries → IsOrdered name_cmp new → IsNode n (kinds.Dir old) → IsNode n (kinds.Dir new)
+node_entries old new n same ordered node = record {
+  level = ordered;
+  rooted = λ x child is. node.rooted x child (ap (lookup (is_at (name_cmp x))) (sym same) ∙ is);
+  reaches = subst (λ (es : List (Name × Rows ℕ)). Reaches n (at (([], Dir) ∷ joined es))) (sym same) node.reaches;
 }

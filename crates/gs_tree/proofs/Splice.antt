@@ -96,3 +96,6 @@ nil_of_length (y ∷ ys) e = absurd (omega arith)
 
 pub no_rest : (t : Path) (b : Bool) → b ≡ (length t == 0) → b ≡ true → t ≡ []
 no_rest t b e h = let z : length t ≡ 0 = grind (arith, nat_tests) in nil_of_length t z
+
+pub some_rest : (t : Path) (b : Bool) → b ≡ (length t == 0) → b ≡ false → t ≡ [] → ⊥
+some_rest t b e h z = let m : (length t == 0) ≡ true = ap (λ (q : Path). length q == 0) z in cc

@@ -1,5 +1,5 @@
 -- What a list of rows has at a path.
-use Rattle.std.specs.Prelude.{◌≡◌, ◌≤◌, ◌≢◌, ℕ, List, [], ◌∷◌, ◌++◌, length, Bool, true, Option, MatchOption, Some, None, is_some, ◌+◌, ◌&&◌, nat_lt}
+use Rattle.std.specs.Prelude.{◌≡◌, ◌≤◌, ◌<◌, ℕ, List, [], ◌∷◌, ◌++◌, length, Bool, true, Option, MatchOption, Some, None, is_some, ◌+◌, ◌&&◌, nat_lt}
 use Rattle.std.specs.List.{list_any}
 use Rattle.std.specs.FinMap.{find}
 use Rattle.gs_path.specs.Path.{Path, path_cmp, begins}
@@ -25,6 +25,10 @@ DirsAbove m (x ∷ p) = (m [] ≡ Some Dir) × DirsAbove (λ q. m (x ∷ q)) p
 -- no path at which something stands is longer
 abbrev pub IsWithin : {A : Type 0} → ℕ → Plain A → Type 0
 IsWithin n m = (q : Path) → is_some (m q) ≡ true → length q ≤ n
+
+-- each path at which something stands is shorter
+abbrev pub IsBelow : {A : Type 0} → ℕ → Plain A → Type 0
+IsBelow n m = (q : Path) → is_some (m q) ≡ true → length q < n
 
 -- the most elements of a path
 abbrev pub most_elements : ℕ

@@ -7,3 +7,4 @@ pub mod Sort
 pub mod Inverses
 pub mod Follows
 pub mod Falls
+pub mod Listing

@@ -6,5 +6,5 @@ mod node;
 mod tree;
 
 pub use inverse::TreeInverse;
-pub use node::{Leaf, Node, Sort};
+pub use node::Listed;
 pub use tree::Tree;

@@ -1,12 +1,16 @@
-ghost use Rattle.std.specs.Prelude.{◌≡◌, ◌≢◌, ◌↔◌, ◌<◌, ◌≤◌, ◌^◌, ℕ, [], false, true, is_some, ◌∷◌, ◌++◌, option_copied, is_ok, if◌then◌else◌, IfOk, IsTrue, length, List};
-ghost use Rattle.gs_path.specs.Path.{Path as AnyPath, begins};
-ghost use Rattle.gs_tree.specs.Entry.{Entry, Dir, File};
+ghost use Rattle.std.specs.Prelude.{◌≡◌, ◌≢◌, ◌<◌, ◌≤◌, [], false, true, is_some, ◌∷◌, ◌++◌, option_copied, is_ok, if◌then◌else◌, IfOk, OnOk, MatchBool, length, not, option_and_then};
+ghost use Rattle.std.specs.List.{list_all, list_any};
+ghost use Rattle.std.specs.BTreeMap.{keys, Updates, IsOrdered};
+ghost use Rattle.gs_path.specs.Element.{is_hidden};
+ghost use Rattle.gs_path.specs.Path.{Path as AnyPath, begins, same_name, name_cmp};
+ghost use Rattle.gs_tree.specs.Entry.{Dir, chunks_of};
 ghost use Rattle.gs_tree.specs.Plain.{with_at, without, IsFree, Same};
-ghost use Rattle.gs_tree.specs.Find.{at, IsPartAt, DirsAbove, IsWithin};
-ghost use Rattle.gs_tree.specs.Edits.{moved};
+ghost use Rattle.gs_tree.specs.Find.{at, IsPartAt, DirsAbove, IsBelow};
+ghost use Rattle.gs_tree.specs.Edits.{moved, is_dir};
 ghost use Rattle.gs_tree.specs.Sort.{sort_of, entry_of_leaf};
 ghost use Rattle.gs_tree.specs.Inverses.{row_of, IsBlankRow};
 ghost use Rattle.gs_tree.specs.Follows.{Sown};
+ghost use Rattle.gs_tree.specs.Listing.{IsListing, HasVisible};
 
 use gs_base::{Handle, Refusal};
 use gs_path::Name;
@@ -27,6 +31,13 @@ pub enum Sort {
 pub enum Leaf {
     Dir,
     File,
+}
+
+/// A visible child of a directory.
+#[derive(Debug, Drop)]
+pub struct Listed {
+    pub name: Name,
+    pub is_dir: bool,
 }
 
 /// A directory or a file, with all under it.
@@ -91,7 +102,8 @@ impl Node {
 
     /// The least number that is known for the lengths of the paths below, or 255.
     fn reach(&self) -> u8
-        ensures { Reaches result (at self.now) }
+        ensures bound { Reaches result (at self.now) }
+        ensures stands { is_some (at self.now []) ≡ true }
     {
         self.reach
     }
@@ -121,6 +133,16 @@ impl Node {
         match &self.kind {
             Kind::File(_) => Sort::File,
             Kind::Dir(_) => Sort::Dir,
+        }
+    }
+
+    /// Whether this is a directory.
+    fn is_dir(&self) -> bool
+        ensures { result ≡ is_dir (at self.now []) }
+    {
+        match &self.kind {
+            Kind::File(_) => false,
+            Kind::Dir(_) => true,
         }
     }
 
@@ -225,11 +247,10 @@ impl Node {
         Ok(())
     }
 
-    /// Puts a leaf where nothing stands, and makes each directory above it that is missing. Answers how many elements of
-    /// the path stood.
+    /// Puts a leaf where nothing stands, and makes each directory above it that is missing. Answers how many paths were
+    /// made.
     pub fn sow(&mut self, alloc: Global, path: &[Name], leaf: Leaf) -> Result<usize, Refusal>
         requires nothing { at self.old path.now ≡ None }
-        requires short { length path.now < 2 ^ 32 }
         ensures { Sown (at self.old) path.now (entry_of_leaf leaf) result (at self.new) }
     {
         let Kind::Dir(children) = &mut self.kind else {
@@ -240,9 +261,9 @@ impl Node {
         };
         if let Some(child) = children.get_mut(first) {
             return match child.sow(alloc, rest, leaf) {
-                Ok(above) => {
+                Ok(made) => {
                     self.reach = self.reach.max(reach_of(path));
-                    Ok(above + 1)
+                    Ok(made)
                 }
                 Err(refusal) => Err(refusal),
             };
@@ -251,8 +272,139 @@ impl Node {
         let below = row(alloc, rest, leaf)?;
         children.insert(name, below)?;
         self.reach = self.reach.max(reach_of(path));
-        Ok(0)
+        Ok(path.len())
     }
+}
+
+impl Node {
+    /// Whether each path below has fewer elements than this. It goes down only where the node's own number leaves it
+    /// open.
+    pub fn is_below(&self, limit: usize) -> bool
+        ensures { MatchBool result (IsBelow limit (at self.now)) (IsBelow limit (at self.now) → ⊥) }
+    {
+        if self.reach < u8::MAX && usize::from(self.reach) < limit {
+            return true;
+        }
+        if limit == 0 {
+            return false;
+        }
+        let Kind::Dir(children) = &self.kind else {
+            return true;
+        };
+        for child in children.values() {
+            if !child.is_below(limit - 1) {
+                return false;
+            }
+        }
+        true
+    }
+
+    /// Whether this is a row of directories along the path with an empty directory or a file of no chunk at its end, and
+    /// nothing else.
+    pub fn is_blank_row(&self, path: &[Name]) -> bool
+        ensures { MatchBool result (IsBlankRow (at self.now) path.now) (IsBlankRow (at self.now) path.now → ⊥) }
+    {
+        match (&self.kind, path) {
+            (Kind::File(handles), []) => handles.is_empty(),
+            (Kind::Dir(children), []) => children.is_empty(),
+            (Kind::File(_), _) => false,
+            (Kind::Dir(children), [first, rest @ ..]) => match children.get(first) {
+                Some(child) => all_named(children, first) && child.is_blank_row(rest),
+                None => false,
+            },
+        }
+    }
+
+    /// The visible children of a directory, in the order of their names.
+    pub fn list(&self, alloc: Global) -> Result<Vec<Listed>, AllocError>
+        ensures { IfOk result (λ listed. IsListing (at self.now) listed.items) }
+    {
+        let mut listed = Vec::new(alloc);
+        let Kind::Dir(children) = &self.kind else {
+            return Ok(listed);
+        };
+        for (name, child) in children {
+            if !name.is_hidden() {
+                let name = name.copy(alloc)?;
+                let is_dir = child.is_dir();
+                listed.push(Listed { name, is_dir })?;
+            }
+        }
+        Ok(listed)
+    }
+
+    /// Whether a directory has a visible child.
+    pub fn has_visible(&self) -> bool
+        ensures { MatchBool result (HasVisible (at self.now)) (HasVisible (at self.now) → ⊥) }
+    {
+        match &self.kind {
+            Kind::File(_) => false,
+            Kind::Dir(children) => any_visible(children),
+        }
+    }
+
+    /// The chunks of a file.
+    pub fn chunks(&self) -> Option<&[Handle]>
+        ensures { option_copied result ≡ option_and_then chunks_of (at self.now []) }
+    {
+        match &self.kind {
+            Kind::File(handles) => Some(handles),
+            Kind::Dir(_) => None,
+        }
+    }
+
+    /// The same tree, in memory of its own.
+    pub fn copy(&self, alloc: Global) -> Result<Node, AllocError>
+        ensures same { IfOk result (λ n. Same (at n) (at self.now)) }
+        ensures stands { IfOk result (λ n. is_some (at n []) ≡ true) }
+    {
+        let children = match &self.kind {
+            Kind::File(handles) => {
+                return Ok(Node {
+                    kind: Kind::File(Vec::from_slice(alloc, handles)?),
+                    reach: self.reach,
+                });
+            }
+            Kind::Dir(children) => children,
+        };
+        let mut copies = BTreeMap::new(alloc);
+        for (name, child) in children {
+            let name = name.copy(alloc)?;
+            let copy = child.copy(alloc)?;
+            add_child(&mut copies, name, copy)?;
+        }
+        Ok(Node {
+            kind: Kind::Dir(copies),
+            reach: self.reach,
+        })
+    }
+}
+
+/// Puts a child into a directory.
+fn add_child(
+    children: &mut BTreeMap<Name, Node>,
+    name: Name,
+    child: Node,
+) -> Result<(), AllocError>
+    ensures updates { OnOk result (Updates name_cmp children.old children.new name (Some child)) }
+    ensures ordered { IsOrdered name_cmp children.new }
+{
+    children.insert(name, child)?;
+    Ok(())
+}
+
+/// Whether each child has this name.
+fn all_named(children: &BTreeMap<Name, Node>, name: &Name) -> bool
+    ensures { result ≡ list_all (λ k. same_name k name.now) (keys children.now) }
+{
+    children.keys().all(|key| key == name)
+}
+
+/// Whether some child is visible.
+fn any_visible(children: &BTreeMap<Name, Node>) -> bool
+    ensures { result ≡ list_any (λ k. not (is_hidden k)) (keys children.now) }
+{
+    children.keys().any(|key| !key.is_hidden())
 }
 
 /// Directories in a row, one for each name but the last, and a leaf at its end.

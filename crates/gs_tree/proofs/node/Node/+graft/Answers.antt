@@ -40,11 +40,11 @@ returns t c q =
 pub invariant_of-self-in_default-parent : goal.invariant_of-self-in_default-parent
 invariant_of-self-in_default-parent t c =
     let u = updated c.insert.new.self (Some c.args.node) c.self.view_is c.self.invariant.level c.in-Dir.is c.in_ok-insert.ensures.ordered c.in_ok-insert.ensures.updates.0 in
-    node_spliced c.self.inside.kind c.self.inside.reach c.saturating_add-reach.result c.reach.result c.max-self-inside.result u c.self.view_is c.self.invariant.reaches c.reach.ensures c.saturating_add-reach.ensures c.max-self-inside.ensures
+    node_spliced c.self.inside.kind c.self.inside.reach c.saturating_add-reach.result c.reach.result c.max-self-inside.result u c.self.view_is c.self.invariant c.in-Dir.is c.reach.ensures.bound c.reach.ensures.stands c.saturating_add-reach.ensures c.max-self-inside.ensures
 
 pub invariant_of-self-2 : goal.invariant_of-self-2
 invariant_of-self-2 t c =
     let g = goes_to c.self.view_is c.self.invariant.level c.in-Dir.is c.in-len1-up.len_at_least c.first-item.is in
     let written = c.get_mut.follows.holds c.graft-grafted.new.self in
     let u = updates (c.get_mut.follows.lender c.graft-grafted.new.self) (Some c.graft-grafted.new.self) g written.4 (written.3 (subst IsSome c.in-Some.ensures.value refl)).0 in
-    node_spliced c.self.inside.kind c.self.inside.reach c.saturating_add-reach-2.result c.reach-2.result c.max-self-inside-2.result u c.self.view_is c.self.invariant.reaches c.reach-2.ensures c.saturating_add-reach-2.ensures c.max-self-inside-2.ensures
+    node_spliced c.self.inside.kind c.self.inside.reach c.saturating_add-reach-2.result c.reach-2.result c.max-self-inside-2.result u c.self.view_is c.self.invariant c.in-Dir.is c.reach-2.ensures.bound c.reach-2.ensures.stands c.saturating_add-reach-2.ensures c.max-self-inside-2.ensures

@@ -34,4 +34,4 @@ invariant_of-self-2 t c =
     let g = goes_to c.self.view_is c.self.invariant.level c.in-Dir.is c.in-len1-up.len_at_least c.first-item.is in
     let written = c.get_mut.follows.holds c.put.new.self in
     let u = updates (c.get_mut.follows.lender c.put.new.self) (Some c.put.new.self) g written.4 (written.3 (subst IsSome c.in-Some.ensures.value refl)).0 in
-    node_spliced c.self.inside.kind c.self.inside.reach c.saturating_add-reach.result c.reach.result c.max-self-inside.result u c.self.view_is c.self.invariant.reaches c.reach.ensures c.saturating_add-reach.ensures c.max-self-inside.ensures
+    node_spliced c.self.inside.kind c.self.inside.reach c.saturating_add-reach.result c.reach.result c.max-self-inside.result u c.self.view_is c.self.invariant c.in-Dir.is c.reach.ensures.bound c.reach.ensures.stands c.saturating_add-reach.ensures c.max-self-inside.ensures
