@@ -1,5 +1,5 @@
 -- The rules of one element of a path, and the names of what was deleted.
-use Rattle.std.specs.Prelude.{◌≡◌, ◌-◌, ◌^◌, ◌++◌, ◌&&◌, ◌==◌, ◌∷◌, [], ℕ, List, Bool, true, false, not, Option, Some, None, is_some, codes, decimal, bytes_eq, length, drop, replicate, nat_eq, nat_le, nat_lt, if◌then◌else◌, refl}
+use Rattle.std.specs.Prelude.{◌≡◌, ◌-◌, ◌^◌, ◌++◌, ◌&&◌, ◌==◌, ℕ, List, Bool, true, false, not, Option, Some, None, is_some, codes, decimal, bytes_eq, length, drop, replicate, nat_eq, nat_le, nat_lt, if◌then◌else◌, refl}
 use Rattle.std.specs.Fmt.{digits}
 use Rattle.std.specs.List.{list_all, starts_with, before_first, after_first}
 use Rattle.std.specs.Str.{all_ascii_digits}
