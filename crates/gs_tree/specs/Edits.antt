@@ -51,11 +51,12 @@ mkdirs m p =
     else if file_above m p then Err NotADirectory
     else Ok (with_dirs p m)
 
+-- an entry where nothing stands, with the directories above it that are missing
+abbrev pub made : {A : Type 0} → Plain A → Path → Entry A → Result (Plain A) Refusal
+made m p e = if file_above m p then Err NotADirectory else Ok (with_entry p e (with_dirs p m))
+
 abbrev pub create : {A : Type 0} → Plain A → Path → Result (Plain A) Refusal
-create m p =
-    if is_some (m p) then Err Exists
-    else if file_above m p then Err NotADirectory
-    else Ok (with_entry p (File []) (with_dirs p m))
+create m p = if is_some (m p) then Err Exists else made m p (File [])
 
 -- each path that begins with `from` has that front replaced
 abbrev pub moved : {A : Type 0} → Path → Path → Plain A → Plain A

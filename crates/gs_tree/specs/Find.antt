@@ -1,5 +1,5 @@
 -- What a list of rows has at a path.
-use Rattle.std.specs.Prelude.{◌≡◌, ◌≤◌, ◌<◌, ℕ, List, [], ◌∷◌, ◌++◌, length, Bool, true, Option, MatchOption, Some, None, is_some, ◌+◌, ◌&&◌, nat_lt}
+use Rattle.std.specs.Prelude.{◌≡◌, ◌≤◌, ◌<◌, ℕ, List, [], ◌∷◌, ◌++◌, length, Bool, true, Option, MatchOption, MatchBool, Some, None, is_some, ◌+◌, ◌&&◌, nat_lt}
 use Rattle.std.specs.List.{list_any}
 use Rattle.std.specs.FinMap.{find}
 use Rattle.gs_path.specs.Path.{Path, path_cmp, begins}
@@ -33,6 +33,13 @@ IsBelow n m = (q : Path) → is_some (m q) ≡ true → length q < n
 -- the most elements of a path
 abbrev pub most_elements : ℕ
 most_elements = 64
+
+-- something at or under `from` would have too long a path under `to`
+abbrev pub IsTooDeep : {A : Type 0} → Plain A → Path → Path → Type 0
+IsTooDeep m from to = (q : Path) × ((is_some (m (from ++ q)) ≡ true) × (most_elements < length to + length q))
+
+abbrev pub IsDepthTest : {A : Type 0} → Bool → Plain A → Path → Path → Type 0
+IsDepthTest deep m from to = MatchBool deep (IsTooDeep m from to) (IsTooDeep m from to → ⊥)
 
 -- whether something at or under `from` would have too long a path under `to`
 abbrev pub is_too_deep : {A : Type 0} → Rows A → Path → Path → Bool

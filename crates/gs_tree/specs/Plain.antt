@@ -1,7 +1,7 @@
 -- A tree as what stands at each path.
-use Rattle.std.specs.Prelude.{◌≡◌, cond, [], ◌∷◌, ◌++◌, Option, None}
+use Rattle.std.specs.Prelude.{◌≡◌, cond, [], ◌∷◌, ◌++◌, Option, Some, None}
 use Rattle.gs_path.specs.Path.{Path, begins}
-use Rattle.gs_tree.specs.Entry.{Entry}
+use Rattle.gs_tree.specs.Entry.{Entry, Dir}
 
 abbrev pub Plain : Type 0 → Type 0
 Plain A = Path → Option (Entry A)
@@ -27,6 +27,11 @@ part_at p whole q = whole (p ++ q)
 -- nothing stands at p or under it
 abbrev pub IsFree : {A : Type 0} → Plain A → Path → Type 0
 IsFree m p = (r : Path) → m (p ++ r) ≡ None
+
+-- the root alone
+abbrev pub rooted : {A : Type 0} → Plain A
+rooted [] = Some Dir
+rooted (x ∷ p) = None
 
 -- the same at each path
 abbrev pub Same : {A : Type 0} → Plain A → Plain A → Type 0

@@ -7,4 +7,4 @@ mod tree;
 
 pub use inverse::TreeInverse;
 pub use node::Listed;
-pub use tree::Tree;
+pub use tree::{Status, Tree};

@@ -137,7 +137,7 @@ impl Node {
     }
 
     /// Whether this is a directory.
-    fn is_dir(&self) -> bool
+    pub fn is_dir(&self) -> bool
         ensures { result ≡ is_dir (at self.now []) }
     {
         match &self.kind {
