@@ -30,7 +30,7 @@ begins_either (x ∷ t) (y ∷ f) r h g =
       | false ↦ λ b k. cc
     ] refl h
 
-free_at : (m : Plain ℕ) (p q : Path) → IsFree m p → begins p q ≡ true → m q ≡ None
+pub free_at : (m : Plain ℕ) (p q : Path) → IsFree m p → begins p q ≡ true → m q ≡ None
 free_at m p q free b = ap m (begins_parts p q b) ∙ free (after p q)
 
 -- a move taken back

@@ -6,3 +6,6 @@ pub mod Laws
 pub mod Children
 pub mod Listings
 pub mod Copying
+pub mod Moves
+pub mod Makes
+pub mod Depths

@@ -63,7 +63,7 @@ leafed-cons x y t r e f =
 pub leafed-root : (x : Name) (t : Path) (e : Entry ℕ) (f : Plain ℕ) → f [] ≡ Some Dir → leafed (x ∷ t) e f [] ≡ f []
 leafed-root x t e f h = ap (λ v. cond (is_none v) (Some Dir) v) h ∙ sym h
 
-leafed-nothing : (t r : Path) (e : Entry ℕ) (f : Plain ℕ) → f r ≡ None → leafed t e f r ≡ row_of t e r
+pub leafed-nothing : (t r : Path) (e : Entry ℕ) (f : Plain ℕ) → f r ≡ None → leafed t e f r ≡ row_of t e r
 leafed-nothing t r e f h = ap (λ v. cond (same_path t r) (Some e) (cond (begins r t && is_none v) (Some Dir) v)) h
     ∙ ap (λ (v : Option (Entry ℕ)). cond (same_path t r) (Some e) v) (both (begins r t) (Some Dir))
   where

@@ -138,7 +138,8 @@ impl Node {
 
     /// Whether this is a directory.
     pub fn is_dir(&self) -> bool
-        ensures { result ≡ is_dir (at self.now []) }
+        ensures dir { result ≡ is_dir (at self.now []) }
+        ensures stands { is_some (at self.now []) ≡ true }
     {
         match &self.kind {
             Kind::File(_) => false,
@@ -345,7 +346,8 @@ impl Node {
 
     /// The chunks of a file.
     pub fn chunks(&self) -> Option<&[Handle]>
-        ensures { option_copied result ≡ option_and_then chunks_of (at self.now []) }
+        ensures chunks { option_copied result ≡ option_and_then chunks_of (at self.now []) }
+        ensures stands { is_some (at self.now []) ≡ true }
     {
         match &self.kind {
             Kind::File(handles) => Some(handles),

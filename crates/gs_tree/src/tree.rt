@@ -1,13 +1,13 @@
-ghost use Rattle.std.specs.Prelude.{◌≡◌, ◌≢◌, ◌-◌, ◌++◌, ◌∷◌, [], Bool, false, true, is_none, length, IfOk, IfErr, MatchBool};
-ghost use Rattle.std.specs.FinMap as map;
+ghost use Rattle.std.specs.Prelude.{◌≡◌, ◌≢◌, ◌-◌, ◌++◌, ◌∷◌, [], Bool, false, true, is_some, length, map, IfOk, IfErr, MatchBool};
+ghost use Rattle.std.specs.FinMap as fin_map;
 ghost use Rattle.gs_path.specs.Path.{begins};
-ghost use Rattle.gs_tree.specs.Find.{at, IsBelow, IsTooDeep, IsDepthTest, is_too_deep};
+ghost use Rattle.gs_tree.specs.Find.{at, IsBelow, DirsAbove, IsDepthTest, is_too_deep};
 ghost use Rattle.gs_tree.specs.Plain.{Same, part_at, rooted};
-ghost use Rattle.gs_tree.specs.Edits.{mkdirs, create, rename, hide, move_to, made, target_of, parent};
+ghost use Rattle.gs_tree.specs.Edits.{mkdirs, create, rename, hide, move_to, made, target_of, parent, last};
 ghost use Rattle.gs_tree.specs.Sort.{entry_of_leaf};
-ghost use Rattle.gs_tree.specs.Inverses.{TakesBack};
+ghost use Rattle.gs_tree.specs.Inverses.{TakesBack, IsBlankRow};
 ghost use Rattle.gs_tree.specs.Follows.{Follows, Undoes};
-ghost use Rattle.gs_tree.specs.Listing.{HasVisible, Lists, StandsAs};
+ghost use Rattle.gs_tree.specs.Listing.{HasVisible, Lists, StandsAs, pairs_of};
 
 use crate::inverse::TreeInverse;
 use crate::node::{Leaf, Listed, Node, Sort};
@@ -88,7 +88,8 @@ fn move_to_target(
     target: Path,
 ) -> Result<TreeInverse, Refusal>
     requires root { from.now ≢ [] }
-    requires stands { is_none (at root.old from.now) ≡ false }
+    requires stands { is_some (at root.old from.now) ≡ true }
+    requires above { DirsAbove (at root.old) from.now }
     ensures edit { (deep : Bool) → IsDepthTest deep (at root.old) from.now target → Follows (move_to deep (at root.old) from.now target) result (at root.old) (at root.new) }
     ensures undo { IfOk result (λ i. TakesBack i (at root.old) (at root.new)) }
 {
@@ -148,8 +149,10 @@ fn rename_in(root: &mut Node, alloc: Global, from: &Path, to: &Path) -> Result<T
         Sort::Missing => return Err(Refusal::NotFound),
         Sort::Dir | Sort::File => {}
     }
-    let target = target_path(root, alloc, from, to)?;
-    move_to_target(root, alloc, from, target)
+    match target_path(root, alloc, from, to) {
+        Ok(target) => move_to_target(root, alloc, from, target),
+        Err(refusal) => Err(refusal),
+    }
 }
 
 /// Moves what stands at a path to a hidden name beside it.
@@ -199,15 +202,21 @@ fn unmake(root: &mut Node, path: &Path, above: usize) -> Result<(), Refusal>
         return Ok(());
     }
     let (first, below) = path.elements().split_at(above + 1);
-    let fits = match root.find(first) {
-        Some(node) => node.is_blank_row(below),
-        None => false,
-    };
-    if !fits {
+    if !is_row_at(root, first, below) {
         return Err(Refusal::BadLine);
     }
     let _ = root.prune(first);
     Ok(())
+}
+
+/// Whether there is a row of directories from a path on with a blank end, and nothing else.
+fn is_row_at(root: &Node, first: &[Name], below: &[Name]) -> bool
+    ensures { MatchBool result (IsBlankRow (part_at first.now (at root.now)) below.now) (IsBlankRow (part_at first.now (at root.now)) below.now → ⊥) }
+{
+    match root.find(first) {
+        Some(node) => node.is_blank_row(below),
+        None => false,
+    }
 }
 
 /// Moves what came from a path back to it, if that is free under a directory that doesn't move.
@@ -247,14 +256,22 @@ fn list_in(root: &Node, alloc: Global, path: &Path) -> Result<Vec<Listed>, Refus
     if node.is_dir() {
         return Ok(node.list(alloc)?);
     }
+    Ok(own_name(alloc, path)?)
+}
+
+/// What is listed of a file.
+fn own_name(alloc: Global, path: &Path) -> Result<Vec<Listed>, AllocError>
+    ensures { IfOk result (λ listed. pairs_of listed.items ≡ map (λ name. (name, false)) (last path.now)) }
+{
     let mut listed = Vec::new(alloc);
-    if let Some((name, _)) = path.elements().split_last() {
-        let name = name.copy(alloc)?;
-        listed.push(Listed {
-            name,
-            is_dir: false,
-        })?;
-    }
+    let Some((name, _)) = path.elements().split_last() else {
+        return Ok(listed);
+    };
+    let name = name.copy(alloc)?;
+    listed.push(Listed {
+        name,
+        is_dir: false,
+    })?;
     Ok(listed)
 }
 
@@ -266,21 +283,21 @@ pub struct Tree {
 }
 
 impl Model for Tree {
-    ghost use Rattle.std.specs.FinMap as map;
+    ghost use Rattle.std.specs.FinMap as fin_map;
     ghost use Rattle.std.specs.Prelude.{ℕ};
     ghost use Rattle.gs_path.specs.Path.{path_cmp, coded_path};
     ghost use Rattle.gs_tree.specs.Entry.{Entry, coded_entry};
 
-    ghost Value = { map.FinMap path_cmp (Entry ℕ) };
+    ghost Value = { fin_map.FinMap path_cmp (Entry ℕ) };
 
-    ghost coded = { map.code coded_path coded_entry };
+    ghost coded = { fin_map.code coded_path coded_entry };
 
-    ghost view = { λ a. map.from_entries a.root };
+    ghost view = { λ a. fin_map.from_entries a.root };
 }
 
 impl Tree {
     pub fn new(alloc: Global) -> Tree
-        ensures { Same (map.get result) rooted }
+        ensures { Same (fin_map.get result) rooted }
     {
         Tree {
             alloc,
@@ -291,8 +308,8 @@ impl Tree {
     /// Makes a directory and each directory above it that is missing (Hadoop's `FileSystem`, `mkdirs`). A directory that
     /// stands there already is accepted. Exists where a file stands there, NotADirectory where a file stands above.
     pub fn mkdirs(&mut self, path: &Path) -> Result<TreeInverse, Refusal>
-        ensures edit { Follows (mkdirs (map.get self.old) path.now) result (map.get self.old) (map.get self.new) }
-        ensures undo { IfOk result (λ i. TakesBack i (map.get self.old) (map.get self.new)) }
+        ensures edit { Follows (mkdirs (fin_map.get self.old) path.now) result (fin_map.get self.old) (fin_map.get self.new) }
+        ensures undo { IfOk result (λ i. TakesBack i (fin_map.get self.old) (fin_map.get self.new)) }
     {
         mkdirs_in(&mut self.root, self.alloc, path)
     }
@@ -300,8 +317,8 @@ impl Tree {
     /// Makes a file of no chunk and each directory above it that is missing. Exists where something stands there,
     /// NotADirectory where a file stands above.
     pub fn create(&mut self, path: &Path) -> Result<TreeInverse, Refusal>
-        ensures edit { Follows (create (map.get self.old) path.now) result (map.get self.old) (map.get self.new) }
-        ensures undo { IfOk result (λ i. TakesBack i (map.get self.old) (map.get self.new)) }
+        ensures edit { Follows (create (fin_map.get self.old) path.now) result (fin_map.get self.old) (fin_map.get self.new) }
+        ensures undo { IfOk result (λ i. TakesBack i (fin_map.get self.old) (fin_map.get self.new)) }
     {
         create_in(&mut self.root, self.alloc, path)
     }
@@ -310,8 +327,8 @@ impl Tree {
     /// the target is the source's name under it. It costs the depth of the paths; only where that leaves the length of
     /// the paths open, what lies under the source is gone through.
     pub fn rename(&mut self, from: &Path, to: &Path) -> Result<TreeInverse, Refusal>
-        ensures edit { Follows (rename (is_too_deep (map.entries self.old) from.now) (map.get self.old) from.now to.now) result (map.get self.old) (map.get self.new) }
-        ensures undo { IfOk result (λ i. TakesBack i (map.get self.old) (map.get self.new)) }
+        ensures edit { Follows (rename (is_too_deep (fin_map.entries self.old) from.now) (fin_map.get self.old) from.now to.now) result (fin_map.get self.old) (fin_map.get self.new) }
+        ensures undo { IfOk result (λ i. TakesBack i (fin_map.get self.old) (fin_map.get self.new)) }
     {
         rename_in(&mut self.root, self.alloc, from, to)
     }
@@ -323,15 +340,15 @@ impl Tree {
         moment: Moment,
         number: u64,
     ) -> Result<TreeInverse, Refusal>
-        ensures edit { Follows (hide (map.get self.old) path.now moment.0 number) result (map.get self.old) (map.get self.new) }
-        ensures undo { IfOk result (λ i. TakesBack i (map.get self.old) (map.get self.new)) }
+        ensures edit { Follows (hide (fin_map.get self.old) path.now moment.0 number) result (fin_map.get self.old) (fin_map.get self.new) }
+        ensures undo { IfOk result (λ i. TakesBack i (fin_map.get self.old) (fin_map.get self.new)) }
     {
         hide_in(&mut self.root, self.alloc, path, moment, number)
     }
 
     /// Takes an edit back. BadLine where the inverse doesn't fit.
     pub fn undo(&mut self, inverse: &TreeInverse) -> Result<(), Refusal>
-        ensures { Undoes inverse.now (map.get self.old) result (map.get self.new) }
+        ensures { Undoes inverse.now (fin_map.get self.old) result (fin_map.get self.new) }
     {
         match inverse {
             TreeInverse::Made(path, above) => unmake(&mut self.root, path, *above),
@@ -341,14 +358,14 @@ impl Tree {
 
     /// The visible children of a directory, in the order of their names, or a file's own name.
     pub fn list(&self, path: &Path) -> Result<Vec<Listed>, Refusal>
-        ensures { Lists (map.get self.now) path.now result }
+        ensures { Lists (fin_map.get self.now) path.now result }
     {
         list_in(&self.root, self.alloc, path)
     }
 
     /// What stands at a path. It takes no memory.
     pub fn status(&self, path: &Path) -> Result<Status<'_>, Refusal>
-        ensures { StandsAs (map.get self.now path.now) result }
+        ensures { StandsAs (fin_map.get self.now path.now) result }
     {
         let Some(node) = self.root.find(path.elements()) else {
             return Err(Refusal::NotFound);
@@ -361,7 +378,7 @@ impl Tree {
 
     /// Whether a directory at a path has a visible child. It takes no memory.
     pub fn has_visible(&self, path: &Path) -> bool
-        ensures { MatchBool result (HasVisible (part_at path.now (map.get self.now))) (HasVisible (part_at path.now (map.get self.now)) → ⊥) }
+        ensures { MatchBool result (HasVisible (part_at path.now (fin_map.get self.now))) (HasVisible (part_at path.now (fin_map.get self.now)) → ⊥) }
     {
         match self.root.find(path.elements()) {
             Some(node) => node.has_visible(),

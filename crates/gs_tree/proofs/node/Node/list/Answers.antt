@@ -22,7 +22,7 @@ loop-name-preserved-in-Continue-branch-2 c =
     let pair : Name × Bool = (c.in-Some.name.now, is_dir (at c.in-Some.child.now [])) in
     let pushed : pairs_of c.push.new.self.items ≡ front ++ pair ∷ [] =
     ap pairs_of c.in_ok-push.ensures.items ∙ map-append (λ (l : Listed). (l.name, l.is_dir)) c.loop-name.listed.items _
-    ∙ ap (λ n. front ++ (n, c.is_dir-is_dir.result) ∷ []) c.in_ok-name.ensures ∙ ap (λ d. front ++ (c.in-Some.name.now, d) ∷ []) c.is_dir-is_dir.ensures in
+    ∙ ap (λ n. front ++ (n, c.is_dir-is_dir.result) ∷ []) c.in_ok-name.ensures ∙ ap (λ d. front ++ (c.in-Some.name.now, d) ∷ []) c.is_dir-is_dir.ensures.dir in
     ap (λ l. l ++ shown_children c.next.new.self) pushed ∙ append_assoc front (pair ∷ []) (shown_children c.next.new.self)
     ∙ ap (λ l. front ++ l) (sym (ap shown_children c.in-Some.ensures.steps ∙ shown-visible (c.in-Some.name.now, c.in-Some.child.now) c.next.new.self seen)) ∙ c.loop-name.invariant
 

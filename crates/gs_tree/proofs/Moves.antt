@@ -1,0 +1,243 @@
+-- Which answer a move has once the tests on its target are made, and what takes it back.
+use Rattle.std.specs.FinMap.{get, from_entries, get-from_entries}
+use Rattle.std.proofs.Common.{length, ℕ, ◌≢◌, ◌≡◌, ◌⊎◌, inl, inr, ◌<◌, ◌+◌, ◌-◌, Bool, true, false, cond, ◌&&◌, [], ◌∷◌, ◌++◌, refl, sym, ap, ◌∙◌, subst, arith, append-nil, length-append, ◌≤◌, List, map, codes}
+use Rattle.std.specs.Prelude.{Option, Some, None, Result, Ok, Err, is_some, is_none, ◌==◌, MatchBool, take}
+use Rattle.gs_base.specs.declared.refusal.Refusal.{Refusal}
+use Rattle.gs_base.specs.declared.refusal.Refusal.TheVariants.{NotFound, NotADirectory, Exists, IntoItself, BadPath, Memory}
+use Rattle.gs_path.specs.Path.{Name, Path, path_cmp, path_total, begins, same_name, parent_of}
+use Rattle.gs_path.specs.Element.{hidden_name, hidden_mark, twenty_digits}
+use Rattle.gs_tree.specs.Entry.{Entry, Dir}
+use Rattle.gs_tree.specs.Entry as entry
+use Rattle.gs_tree.specs.declared.node.Sort.{Sort}
+use Rattle.gs_tree.specs.declared.node.Sort.TheVariants as sorts
+use Rattle.gs_tree.specs.Sort.{sort_of}
+use Rattle.gs_tree.specs.Plain.{Plain, after, without, part_at, IsFree, Same}
+use Rattle.gs_tree.specs.Find.{Rows, at, DirsAbove, IsBelow, IsTooDeep, IsDepthTest}
+use Rattle.gs_tree.specs.Edits.{rename, move_to, moved, hide, hidden_path, parent, last, target_of, same_path, is_file, is_dir}
+use Rattle.gs_tree.specs.Listing.{IsListingOf, pairs_of}
+use Rattle.gs_tree.specs.declared.node.Listed.{Listed}
+use Rattle.gs_tree.specs.Inverses.{TakesBack}
+use Rattle.gs_tree.specs.Follows.{Follows}
+use Rattle.gs_tree.specs.declared.inverse.TreeInverse.TheVariants.{Moved}
+use Rattle.gs_tree.proofs.Rows.{names_equiv}
+use Rattle.gs_tree.proofs.Splice.{one_name}
+use Rattle.gs_tree.proofs.Laws.{begins_append, with_at-append, free_at, moved-moved, not_above}
+use Rattle.gs_tree.proofs.Reaching.{begins-length}
+
+-- what a tree's map has is what its rows have
+pub seen : (rows : Rows ℕ) → get (from_entries {R = path_cmp} rows) ≡ at rows
+seen rows = λ i q. get-from_entries path_total rows q i
+
+pub parent-append : (p : Path) (x : Name) → parent (p ++ x ∷ []) ≡ p
+parent-append [] x = refl
+parent-append (y ∷ []) x = refl
+parent-append (y ∷ z ∷ p) x = ap (λ r. y ∷ r) (parent-append (z ∷ p) x)
+
+pub last-append : (p : Path) (x : Name) → last (p ++ x ∷ []) ≡ x ∷ []
+last-append [] x = refl
+last-append (y ∷ []) x = refl
+last-append (y ∷ z ∷ p) x = last-append (z ∷ p) x
+
+front_of : (r : Path) (y x : Name) → take (length (r ++ x ∷ [])) (y ∷ (r ++ x ∷ [])) ≡ y ∷ r
+front_of [] y x = refl
+front_of (z ∷ r) y x = ap (λ s. y ∷ s) (front_of r z x)
+
+pub parent_of-append : (p : Path) (x : Name) → parent_of (p ++ x ∷ []) ≡ Some p
+parent_of-append [] x = refl
+parent_of-append (y ∷ p) x = ap (λ r. Some r) (front_of p y x)
+
+-- the answer by what the target's parent is
+abbrev pub by_parent : Bool → Sort → Plain ℕ → Result (Plain ℕ) Refusal
+by_parent deep sorts.Missing n = Err NotFound
+by_parent deep sorts.File n = Err NotADirectory
+by_parent deep sorts.Dir n = cond deep (Err BadPath) (Ok n)
+
+by_sort : (deep : Bool) (v : Option (Entry ℕ)) (n : Plain ℕ) → cond (is_none v) (Err NotFound) (cond (is_file v) (Err NotADirectory) (cond deep (Err BadPath) (Ok n))) ≡ by_parent deep (sort_of v) n
+by_sort deep None n = refl
+by_sort deep (Some entry.Dir) n = refl
+by_sort deep (Some (entry.File handles)) n = refl
+
+pub nothing : (v : Option (Entry ℕ)) → sorts.Missing ≡ sort_of v → is_some v ≡ false
+nothing None e = refl
+nothing (Some entry.Dir) e = absurd (cc)
+nothing (Some (entry.File handles)) e = absurd (cc)
+
+pub stands_is : (v : Option (Entry ℕ)) → (sorts.Missing ≡ sort_of v → ⊥) → is_some v ≡ true
+stands_is None h = absurd (h refl)
+stands_is (Some e) h = refl
+
+pub some_is : (v : Option (Entry ℕ)) → is_some v ≡ true → is_none v ≡ false
+some_is None h = absurd (cc)
+some_is (Some e) h = refl
+
+pub none_is : (v : Option (Entry ℕ)) → sorts.Missing ≡ sort_of v → v ≡ None
+none_is None e = refl
+none_is (Some entry.Dir) e = absurd (cc)
+none_is (Some (entry.File handles)) e = absurd (cc)
+
+pub dir_is : (v : Option (Entry ℕ)) → sorts.Dir ≡ sort_of v → v ≡ Some Dir
+dir_is None h = absurd (cc)
+dir_is (Some entry.Dir) h = refl
+dir_is (Some (entry.File handles)) h = absurd (cc)
+
+move_to-is : (deep : Bool) (m : Plain ℕ) (from to : Path) → same_path to from ≡ false → begins from to ≡ false → is_some (m to) ≡ false → move_to deep m from to ≡ by_parent deep (sort_of (m (parent to))) (moved from to m)
+move_to-is deep m from to e1 e2 e3 =
+    ap (λ b. cond b (Err Exists) rest1) e1 ∙ ap (λ b. cond b (Err IntoItself) rest2) e2 ∙ ap (λ b. cond b (Err Exists) rest3) e3 ∙ by_sort deep (m (parent to)) (moved from to m)
+  where
+    rest3 : Result (Plain ℕ) Refusal
+    rest3 = cond (is_none (m (parent to))) (Err NotFound) (cond (is_file (m (parent to))) (Err NotADirectory) (cond deep (Err BadPath) (Ok (moved from to m))))
+
+    rest2 : Result (Plain ℕ) Refusal
+    rest2 = cond (is_some (m to)) (Err Exists) rest3
+
+    rest1 : Result (Plain ℕ) Refusal
+    rest1 = cond (begins from to) (Err IntoItself) rest2
+
+-- the same with what the code tested: s is the sort of the target's parent
+pub answer : (deep : Bool) (m : Plain ℕ) (from to par : Path) (x : Name) (s : Sort) → same_path to from ≡ false → begins from to ≡ false → sorts.Missing ≡ sort_of (m to) → to ≡ par ++ x ∷ [] → s ≡ sort_of (m par) → move_to deep m from to ≡ by_parent deep s (moved from to m)
+answer deep m from to par x s e1 e2 e3 split is =
+    move_to-is deep m from to e1 e2 (nothing (m to) e3) ∙ ap (λ v. by_parent deep v (moved from to m)) (ap (λ p. sort_of (m p)) (ap parent split ∙ parent-append par x) ∙ sym is)
+
+pub into_dir : (m : Plain ℕ) (from to par : Path) (x : Name) → sorts.Dir ≡ sort_of (m to) → from ≡ par ++ x ∷ [] → to ++ x ∷ [] ≡ target_of m from to
+into_dir m from to par x e split = sym (ap (λ b. cond b (to ++ last from) to) (ap is_dir (dir_is (m to) e)) ∙ ap (λ l. to ++ l) (ap last split ∙ last-append par x))
+
+pub rename-is : (deep : Bool) (m : Plain ℕ) (from to : Path) → (from ≢ []) → is_some (m from) ≡ true → rename (λ _. deep) m from to ≡ move_to deep m from (target_of m from to)
+rename-is deep m [] to h g = absurd (h refl)
+rename-is deep m (x ∷ from) to h g = ap (λ b. cond b (Err NotFound) (move_to deep m (x ∷ from) (target_of m (x ∷ from) to))) (some_is (m (x ∷ from)) g)
+
+pub missing-is : (deep : Bool) (m : Plain ℕ) (from to : Path) → (from ≢ []) → m from ≡ None → rename (λ _. deep) m from to ≡ Err NotFound
+missing-is deep m [] to h e = absurd (h refl)
+missing-is deep m (x ∷ from) to h e = ap (λ v. cond (is_none v) (Err NotFound) (move_to deep m (x ∷ from) (target_of m (x ∷ from) to))) e
+
+pub not_empty : (p p' : Path) (b : Bool) → p' ≡ p → b ≡ (length p' == 0) → b ≡ false → p ≢ []
+not_empty p p' b e h f z = let k : p' ≡ [] = e ∙ z in let m : (length p' == 0) ≡ true = ap (λ (q : Path). length q == 0) k in cc
+
+pub append_some : (par : Path) (x : Name) → par ++ x ∷ [] ≢ []
+append_some [] x e = cc
+append_some (y ∷ par) x e = cc
+
+-- a directory stands at the parent of what stands
+pub dir_above : (m : Plain ℕ) (p : Path) → p ≢ [] → DirsAbove m p → m (parent p) ≡ Some Dir
+dir_above m [] ne h = absurd (ne refl)
+dir_above m (x ∷ []) ne h = h.0
+dir_above m (x ∷ y ∷ p) ne h = dir_above (λ q. m (x ∷ q)) (y ∷ p) (λ e. cc) h.1
+
+parent-shorter : (p : Path) → p ≢ [] → length (parent p) < length p
+parent-shorter [] ne = absurd (ne refl)
+parent-shorter (x ∷ []) ne = omega arith
+parent-shorter (x ∷ y ∷ p) ne = let l = parent-shorter (y ∷ p) (λ e. cc) in omega arith
+
+not_itself : (p : Path) → p ≢ [] → begins p (parent p) ≡ false
+not_itself p ne = elim (begins p (parent p)) as (λ b. begins p (parent p) ≡ b → b ≡ false) [
+  | true ↦ λ b. let l = begins-length p (parent p) b in let k = parent-shorter p ne in absurd (omega arith)
+  | false ↦ λ b. refl
+] refl
+
+-- what is free isn't a front of what stands
+not_front : (m : Plain ℕ) (to p : Path) → IsFree m to → is_some (m p) ≡ true → begins to p ≡ false
+not_front m to p free some = elim (begins to p) as (λ b. begins to p ≡ b → b ≡ false) [
+  | true ↦ λ b. let n : is_some (m p) ≡ false = ap is_some (free_at m to p free b) in absurd (cc)
+  | false ↦ λ b. refl
+] refl
+
+-- a move is taken back by the move the other way
+pub takes_moved : (m new : Plain ℕ) (from to : Path) → ((q : Path) → new q ≡ moved from to m q) → from ≢ [] → IsFree m to → is_some (m from) ≡ true → begins from to ≡ false → DirsAbove m from → TakesBack (Moved from to) m new
+takes_moved m new from to is ne free some apart above =
+    let dir = dir_above m from ne above in
+    let seen_to : new to ≡ m from = ap new (sym (append-nil to)) ∙ is (to ++ []) ∙ with_at-append to (part_at from m) (without from m) [] ∙ ap m (append-nil from) in
+    let gone = λ (r : Path). is (from ++ r) ∙ ap (λ b. cond b (m (from ++ after to (from ++ r))) (without from m (from ++ r))) (not_above m from to free some apart r) ∙ ap (λ b. cond b None (m (from ++ r))) (begins_append from r) in
+    let stays = is (parent from) ∙ ap (λ b. cond b (m (from ++ after to (parent from))) (without from m (parent from))) (not_front m to (parent from) free (ap is_some dir)) ∙ ap (λ b. cond b None (m (parent from))) (not_itself from ne) ∙ dir in
+    let now : new ≡ moved from to m = λ i q. is q i in record {
+      fits = (ap is_some seen_to ∙ some, not_front m to from free some, gone, stays);
+      back = λ q. ap (λ (n : Plain ℕ). moved to from n q) now ∙ moved-moved m from to free q;
+    }
+
+-- what a test of depth says where all is short enough, and where it isn't
+pub deep_false : (deep : Bool) (m : Plain ℕ) (from to : Path) → IsDepthTest deep m from to → IsBelow (65 - length to) (part_at from m) → deep ≡ false
+deep_false true m from to h below = let l = below h.0 h.1.0 in let k = h.1.1 in absurd (omega arith)
+deep_false false m from to h below = refl
+
+within : (to q : Path) → (64 < length to + length q → ⊥) → length q < 65 - length to
+within to q k = omega (arith, k)
+
+pub deep_true : (deep : Bool) (m : Plain ℕ) (from to : Path) → IsDepthTest deep m from to → (IsBelow (65 - length to) (part_at from m) → ⊥) → deep ≡ true
+deep_true true m from to h never = refl
+deep_true false m from to h never = absurd (never (λ q some. within to q (λ l. h (q, (some, l)))))
+
+at_least : (a b : List ℕ) → length b ≤ length (a ++ b)
+at_least a b = omega (arith, length-append a b)
+
+-- hidden names are longer than the old ones
+pub hidden_apart : (par : Path) (x : Name) (moment number : ℕ) → begins (par ++ x ∷ []) (par ++ hidden_name moment number x ∷ []) ≡ false
+hidden_apart [] x moment number = elim (same_name x (hidden_name moment number x)) as (λ b. same_name x (hidden_name moment number x) ≡ b → (b && true) ≡ false) [
+  | true ↦ λ b. absurd (let e : length x ≡ length (hidden_name moment number x) = ap length (one_name x (hidden_name moment number x) b) in longer e)
+  | false ↦ λ b. refl
+] refl
+  where
+    longer : length x ≡ length (hidden_name moment number x) → ⊥
+    longer e =
+        let a = at_least hidden_mark (twenty_digits moment ++ (codes "." ++ (twenty_digits number ++ (codes "." ++ x)))) in
+        let b = at_least (twenty_digits moment) (codes "." ++ (twenty_digits number ++ (codes "." ++ x))) in
+        let c = at_least (codes ".") (twenty_digits number ++ (codes "." ++ x)) in
+        let d = at_least (twenty_digits number) (codes "." ++ x) in
+        let f = length-append (codes ".") x in omega arith
+hidden_apart (y ∷ par) x moment number = ap (λ b. b && begins (par ++ x ∷ []) (par ++ hidden_name moment number x ∷ [])) (names_equiv.refl y) ∙ hidden_apart par x moment number
+
+pub hidden_path-append : (par : Path) (x : Name) (moment number : ℕ) → hidden_path (par ++ x ∷ []) moment number ≡ par ++ hidden_name moment number x ∷ []
+hidden_path-append par x moment number =
+    ap (λ p. p ++ map (λ name. hidden_name moment number name) (last (par ++ x ∷ []))) (parent-append par x) ∙ ap (λ l. par ++ map (λ name. hidden_name moment number name) l) (last-append par x)
+
+-- hiding once the tests are made
+pub hide-is : (m : Plain ℕ) (p target : Path) (moment number : ℕ) → p ≢ [] → is_some (m p) ≡ true → hidden_path p moment number ≡ target → hide m p moment number ≡ cond (is_some (m target)) (Err Exists) (Ok (moved p target m))
+hide-is m [] target moment number ne some is = absurd (ne refl)
+hide-is m (x ∷ p) target moment number ne some is =
+    ap (λ b. cond b (Err NotFound) (cond (is_some (m (hidden_path (x ∷ p) moment number))) (Err Exists) (Ok (moved (x ∷ p) (hidden_path (x ∷ p) moment number) m)))) (some_is (m (x ∷ p)) some)
+    ∙ ap (λ t. cond (is_some (m t)) (Err Exists) (Ok (moved (x ∷ p) t m))) is
+
+pub hide-missing : (m : Plain ℕ) (p : Path) (moment number : ℕ) → p ≢ [] → m p ≡ None → hide m p moment number ≡ Err NotFound
+hide-missing m [] moment number ne none = absurd (ne refl)
+hide-missing m (x ∷ p) moment number ne none = ap (λ v. cond (is_none v) (Err NotFound) (cond (is_some (m (hidden_path (x ∷ p) moment number))) (Err Exists) (Ok (moved (x ∷ p) (hidden_path (x ∷ p) moment number) m)))) none
+
+parent_taken : (x : Name) (p : Path) → parent (x ∷ p) ≡ take (length p) (x ∷ p)
+parent_taken x [] = refl
+parent_taken x (y ∷ p) = ap (λ r. x ∷ r) (parent_taken y p)
+
+pub parent_is : (p par : Path) → parent_of p ≡ Some par → par ≡ parent p
+parent_is [] par e = absurd (cc)
+parent_is (x ∷ p) par e = let k : take (length p) (x ∷ p) ≡ par = cc in sym (parent_taken x p ∙ k)
+
+-- all that a move to a hidden name needs and gives: par is the source's parent and x its name
+pub record Hides (m : Plain ℕ) (p target par : Path) (x : Name) (moment number : ℕ) : Type 0 where
+  pub split : p ≡ par ++ x ∷ []
+  pub aim : target ≡ par ++ hidden_name moment number x ∷ []
+  pub stands : is_some (m p) ≡ true
+  pub above : DirsAbove m p
+
+pub hides_some : {m : Plain ℕ} {p target par : Path} {x : Name} {moment number : ℕ} → Hides m p target par x moment number → p ≢ []
+hides_some {par = par} {x = x} h z = append_some par x (sym h.split ∙ z)
+
+pub hides_aim : {m : Plain ℕ} {p target par : Path} {x : Name} {moment number : ℕ} → Hides m p target par x moment number → hidden_path p moment number ≡ target
+hides_aim {par = par} {x = x} {moment = moment} {number = number} h = ap (λ q. hidden_path q moment number) h.split ∙ hidden_path-append par x moment number ∙ sym h.aim
+
+pub hides_is : {m : Plain ℕ} {p target par : Path} {x : Name} {moment number : ℕ} → Hides m p target par x moment number → hide m p moment number ≡ cond (is_some (m target)) (Err Exists) (Ok (moved p target m))
+hides_is {m = m} {p = p} {target = target} {moment = moment} {number = number} h = hide-is m p target moment number (hides_some h) h.stands (hides_aim h)
+
+pub hides_apart : {m : Plain ℕ} {p target par : Path} {x : Name} {moment number : ℕ} → Hides m p target par x moment number → begins p target ≡ false
+hides_apart {target = target} {par = par} {x = x} {moment = moment} {number = number} h = ap (λ q. begins q target) h.split ∙ ap (begins (par ++ x ∷ [])) h.aim ∙ hidden_apart par x moment number
+
+pub hides_dir : {m : Plain ℕ} {p target par : Path} {x : Name} {moment number : ℕ} → Hides m p target par x moment number → m par ≡ Some Dir
+hides_dir {m = m} {p = p} {par = par} {x = x} h = ap m (sym (parent-append par x) ∙ ap parent (sym h.split)) ∙ dir_above m p (hides_some h) h.above
+
+pub follows_memory : (I : Type 0) (r : Result (Plain ℕ) Refusal) (f : Refusal) (old : Plain ℕ) → f ≡ Memory → Follows {I = I} r (Err f) old old
+follows_memory I (Ok m) f old e = (e, λ q. refl)
+follows_memory I (Err g) f old e = (inr e, λ q. refl)
+
+pub is_dir_some : (v : Option (Entry ℕ)) → is_dir v ≡ true → v ≡ Some Dir
+is_dir_some None e = absurd (cc)
+is_dir_some (Some entry.Dir) e = refl
+is_dir_some (Some (entry.File chunks)) e = absurd (cc)
+
+pub file_listing : (v : Option (Entry ℕ)) (m : Plain ℕ) (p : Path) (listed : List Listed) → is_some v ≡ true → is_dir v ≡ false → pairs_of listed ≡ map (λ name. (name, false)) (last p) → IsListingOf v m p listed
+file_listing None m p listed some dir h = absurd (cc)
+file_listing (Some entry.Dir) m p listed some dir h = absurd (cc)
+file_listing (Some (entry.File chunks)) m p listed some dir h = h

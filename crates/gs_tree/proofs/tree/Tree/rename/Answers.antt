@@ -1,0 +1,29 @@
+use Rattle.std.proofs.Common.{◌≡◌, ap, sym, ◌∙◌, subst, ℕ}
+use Rattle.std.specs.Prelude.{IfOk}
+use Rattle.std.specs.FinMap.{get, entries}
+use Rattle.gs_tree.specs.Find.{at, is_too_deep, IsDepthTest}
+use Rattle.gs_tree.specs.Plain.{Plain}
+use Rattle.gs_tree.specs.Edits.{rename, target_of}
+use Rattle.gs_tree.specs.Follows.{Follows}
+use Rattle.gs_tree.specs.Inverses.{TakesBack}
+use Rattle.gs_tree.proofs.Moves.{seen}
+use Rattle.gs_tree.proofs.Depths.{map_test}
+use Rattle.gs_tree.proofs.tree.Tree.rename.Goals as goal
+
+pub returns-clause-edit : goal.returns-clause-edit
+returns-clause-edit c =
+    let old : at c.self.inside.root ≡ get c.args.self.now = sym (seen c.self.inside.root) ∙ ap get c.self.view_is in
+    let from = c.args.from.now in
+    let to = c.args.to.now in
+    let m = get c.args.self.now in
+    let deep = is_too_deep (entries c.args.self.now) from (target_of m from to) in
+    let test : IsDepthTest deep (at c.self.inside.root) from (target_of (at c.self.inside.root) from to) =
+    subst (λ (k : Plain ℕ). IsDepthTest deep k from (target_of k from to)) (sym old) (map_test c.args.self.now from (target_of m from to)) in
+    let step = subst (λ (k : Plain ℕ). Follows (rename (λ _. deep) k from to) c.rename_in.result k (at c.rename_in.new.root)) old (c.rename_in.ensures.edit deep test) in
+    subst (λ (n : Plain ℕ). Follows (rename (λ _. deep) m from to) c.rename_in.result m n) (sym (seen c.rename_in.new.root)) step
+
+pub returns-clause-undo : goal.returns-clause-undo
+returns-clause-undo c =
+    let old : at c.self.inside.root ≡ get c.args.self.now = sym (seen c.self.inside.root) ∙ ap get c.self.view_is in
+    let step = subst (λ (m : Plain ℕ). IfOk c.rename_in.result (λ i. TakesBack i m (at c.rename_in.new.root))) old c.rename_in.ensures.undo in
+    subst (λ (n : Plain ℕ). IfOk c.rename_in.result (λ i. TakesBack i (get c.args.self.now) n)) (sym (seen c.rename_in.new.root)) step

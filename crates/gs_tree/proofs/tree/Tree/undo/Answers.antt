@@ -1,0 +1,27 @@
+use Rattle.std.proofs.Common.{◌≡◌, ap, sym, ◌∙◌, subst, ℕ}
+use Rattle.std.specs.FinMap.{get, from_entries}
+use Rattle.gs_path.specs.Path.{path_cmp}
+use Rattle.gs_tree.specs.Find.{at}
+use Rattle.gs_tree.specs.Plain.{Plain}
+use Rattle.gs_tree.specs.Follows.{Undoes}
+use Rattle.gs_tree.specs.declared.inverse.TreeInverse.{TreeInverse}
+use Rattle.gs_tree.specs.declared.inverse.TreeInverse.TheVariants.{Made, Moved}
+use Rattle.gs_tree.proofs.Moves.{seen}
+use Rattle.gs_tree.proofs.tree.Tree.undo.Goals as goal
+
+pub returns-in-Made : goal.returns-in-Made
+returns-in-Made c =
+    let old : at c.self.inside.root ≡ get c.args.self.now = sym (seen c.self.inside.root) ∙ ap get c.self.view_is in
+    let i = Made c.in-Made.path c.in-Made.above in
+    let step = subst (λ (m : Plain ℕ). Undoes i m c.unmake.result (at c.unmake.new.root)) old c.unmake.ensures in
+    subst (λ (j : TreeInverse). Undoes j (get c.args.self.now) c.unmake.result (get (from_entries {R = path_cmp} c.unmake.new.root))) (sym c.in-Made.is)
+    (subst (λ (n : Plain ℕ). Undoes i (get c.args.self.now) c.unmake.result n) (sym (seen c.unmake.new.root)) step)
+
+
+pub returns-in-Moved : goal.returns-in-Moved
+returns-in-Moved c =
+    let old : at c.self.inside.root ≡ get c.args.self.now = sym (seen c.self.inside.root) ∙ ap get c.self.view_is in
+    let i = Moved c.in-Moved.from c.in-Moved.to in
+    let step = subst (λ (m : Plain ℕ). Undoes i m c.move_back.result (at c.move_back.new.root)) old c.move_back.ensures in
+    subst (λ (j : TreeInverse). Undoes j (get c.args.self.now) c.move_back.result (get (from_entries {R = path_cmp} c.move_back.new.root))) (sym c.in-Moved.is)
+    (subst (λ (n : Plain ℕ). Undoes i (get c.args.self.now) c.move_back.result n) (sym (seen c.move_back.new.root)) step)
