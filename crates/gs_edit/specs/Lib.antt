@@ -1,5 +1,6 @@
 pub mod Table
 pub mod View
 pub mod Plain
+pub mod Edits
 pub mod Names
 pub mod Machine

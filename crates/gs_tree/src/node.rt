@@ -383,11 +383,7 @@ impl Node {
 }
 
 /// Puts a child into a directory.
-fn add_child(
-    children: &mut BTreeMap<Name, Node>,
-    name: Name,
-    child: Node,
-) -> Result<(), AllocError>
+fn add_child(children: &mut BTreeMap<Name, Node>, name: Name, child: Node) -> Result<(), AllocError>
     ensures updates { OnOk result (Updates name_cmp children.old children.new name (Some child)) }
     ensures ordered { IsOrdered name_cmp children.new }
 {

@@ -28,12 +28,7 @@ pub enum Status<'a> {
 }
 
 /// Makes a leaf where nothing stands.
-fn make(
-    root: &mut Node,
-    alloc: Global,
-    path: &Path,
-    leaf: Leaf,
-) -> Result<TreeInverse, Refusal>
+fn make(root: &mut Node, alloc: Global, path: &Path, leaf: Leaf) -> Result<TreeInverse, Refusal>
     requires { at root.old path.now ≡ None }
     ensures edit { Follows (made (at root.old) path.now (entry_of_leaf leaf)) result (at root.old) (at root.new) }
     ensures undo { IfOk result (λ i. TakesBack i (at root.old) (at root.new)) }
@@ -334,12 +329,7 @@ impl Tree {
     }
 
     /// Moves what stands at a path to its hidden name (GFS, section 4.4), with all under it.
-    pub fn hide(
-        &mut self,
-        path: &Path,
-        moment: Moment,
-        number: u64,
-    ) -> Result<TreeInverse, Refusal>
+    pub fn hide(&mut self, path: &Path, moment: Moment, number: u64) -> Result<TreeInverse, Refusal>
         ensures edit { Follows (hide (fin_map.get self.old) path.now moment.0 number) result (fin_map.get self.old) (fin_map.get self.new) }
         ensures undo { IfOk result (λ i. TakesBack i (fin_map.get self.old) (fin_map.get self.new)) }
     {

@@ -20,15 +20,21 @@ returns-in-Dir-sort_at c =
 pub returns-in-Missing-sort_at-2 : goal.returns-in-Missing-sort_at-2
 returns-in-Missing-sort_at-2 c =
     let split = sym c.elements-3.ensures ∙ c.in-Some.ensures.cases.0 in
-    let parent_is : parent c.args.from.now ≡ c.in-Some.parent.now = ap parent split ∙ parent-append c.in-Some.parent.now c.in-Some.name.now in
-    (inr (refl, λ fits. let s : sort_of (at c.args.root.now c.in-Some.parent.now) ≡ sorts.Dir = ap (λ p. sort_of (at c.args.root.now p)) (sym parent_is) ∙ ap sort_of fits.3 in
-        let r = c.sort_at-3.ensures.sort ∙ s in elim c.in-Missing-sort_at-2.is [ inl d ↦ cc (d, r) | inr f ↦ cc (f, r) ]), λ q. refl)
+    let parent_is : parent c.args.from.now ≡ c.in-Some.parent.now = ap parent split ∙ parent-append c.in-Some.parent.now c.in-Some.name.now in (
+      inr (
+        refl,
+        λ fits. let s : sort_of (at c.args.root.now c.in-Some.parent.now) ≡ sorts.Dir = ap (λ p. sort_of (at c.args.root.now p)) (sym parent_is) ∙ ap sort_of fits.3 in
+            let r = c.sort_at-3.ensures.sort ∙ s in elim c.in-Missing-sort_at-2.is [ inl d ↦ cc (d, r) | inr f ↦ cc (f, r) ],
+      ),
+      λ q. refl,
+    )
 
 pub returns : goal.returns
 returns c =
     let split = sym c.elements-3.ensures ∙ c.in-Some.ensures.cases.0 in
     let parent_is : parent c.args.from.now ≡ c.in-Some.parent.now = ap parent split ∙ parent-append c.in-Some.parent.now c.in-Some.name.now in
     let stands : sorts.Missing ≡ sort_of (at c.args.root.now c.args.to.now) → ⊥ =
-    λ e. let m = c.sort_at.ensures.sort ∙ ap (λ p. sort_of (at c.args.root.now p)) c.elements.ensures ∙ sym e in elim c.in-Dir.is [ inl d ↦ cc (d, m) | inr f ↦ cc (f, m) ] in
-    ((stands_is (at c.args.root.now c.args.to.now) stands, sym c.starts_with.ensures ∙ c.if-starts_with.false, λ r. ap (λ p. at c.args.root.now (p ++ r)) (sym c.elements-2.ensures) ∙ c.in-Missing-sort_at.ensures.free refl r, ap (at c.args.root.now) parent_is ∙ dir_is (at c.args.root.now c.in-Some.parent.now) c.in-Dir-sort_at-2.ensures.sort),
-      λ q. c.in_ok-relocate.ensures q ∙ ap (λ f. moved f c.elements-5.result.now (at c.args.root.now) q) c.elements-4.ensures ∙ ap (λ t. moved c.args.to.now t (at c.args.root.now) q) c.elements-5.ensures)
+    λ e. let m = c.sort_at.ensures.sort ∙ ap (λ p. sort_of (at c.args.root.now p)) c.elements.ensures ∙ sym e in elim c.in-Dir.is [ inl d ↦ cc (d, m) | inr f ↦ cc (f, m) ] in (
+      (stands_is (at c.args.root.now c.args.to.now) stands, sym c.starts_with.ensures ∙ c.if-starts_with.false, λ r. ap (λ p. at c.args.root.now (p ++ r)) (sym c.elements-2.ensures) ∙ c.in-Missing-sort_at.ensures.free refl r, ap (at c.args.root.now) parent_is ∙ dir_is (at c.args.root.now c.in-Some.parent.now) c.in-Dir-sort_at-2.ensures.sort),
+      λ q. c.in_ok-relocate.ensures q ∙ ap (λ f. moved f c.elements-5.result.now (at c.args.root.now) q) c.elements-4.ensures ∙ ap (λ t. moved c.args.to.now t (at c.args.root.now) q) c.elements-5.ensures,
+    )

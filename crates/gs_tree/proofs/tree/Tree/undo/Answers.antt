@@ -17,7 +17,6 @@ returns-in-Made c =
     subst (λ (j : TreeInverse). Undoes j (get c.args.self.now) c.unmake.result (get (from_entries {R = path_cmp} c.unmake.new.root))) (sym c.in-Made.is)
     (subst (λ (n : Plain ℕ). Undoes i (get c.args.self.now) c.unmake.result n) (sym (seen c.unmake.new.root)) step)
 
-
 pub returns-in-Moved : goal.returns-in-Moved
 returns-in-Moved c =
     let old : at c.self.inside.root ≡ get c.args.self.now = sym (seen c.self.inside.root) ∙ ap get c.self.view_is in

@@ -1,0 +1,267 @@
+//! The options of the program.
+#![tactic(auto)]
+
+ghost use Rattle.std.specs.Prelude.{◌≡◌, ◌≢◌, [], map, false, MatchResult, IfOk, string_bytes};
+ghost use Rattle.clap.specs.Words.{rule_of, rows_of, found_of, matches_of as clap_matches, app_of, with_rule};
+ghost use Rattle.clap.specs.Faults.{fault_of};
+ghost use Rattle.gs_options.specs.Options.{app, number_rule, flag_rule, number_in, flag_in, rows_sizes, rows_options, words_options, Gives, Refuses};
+
+use clap::error::ErrorKind;
+use clap::{Arg, ArgAction, ArgMatches, Command};
+use gs_base::{Config, Refusal};
+use std::alloc::{AllocError, Global};
+
+/// An option that takes a number.
+#[derive(Clone, Copy)]
+struct NumberOption<'a> {
+    name: &'a str,
+    /// What the help calls the number.
+    value_name: &'a str,
+    /// The number where the option isn't given.
+    default: &'a str,
+    help: &'a str,
+}
+
+fn number_argument<'a>(alloc: Global, option: NumberOption<'a>) -> Arg<'a>
+    ensures rule { rule_of result ≡ number_rule option.entry.name.now option.entry.default.now }
+    ensures local { result.global ≡ false }
+{
+    Arg::new(alloc, option.name)
+        .long(option.name)
+        .action(ArgAction::Set)
+        .value_name(option.value_name)
+        .value_parser(clap::value_parser!(u64))
+        .default_value(option.default)
+        .help(option.help)
+}
+
+fn with_number<'a>(
+    alloc: Global,
+    command: Command<'a>,
+    option: NumberOption<'a>,
+) -> Result<Command<'a>, AllocError>
+    ensures { IfOk result (λ c. app_of c ≡ with_rule (app_of command.entry) (number_rule option.entry.name.now option.entry.default.now)) }
+{
+    command.arg(number_argument(alloc, option))
+}
+
+fn flag_argument<'a>(alloc: Global, name: &'a str, help: &'a str) -> Arg<'a>
+    ensures rule { rule_of result ≡ flag_rule name.entry.now }
+    ensures local { result.global ≡ false }
+{
+    Arg::new(alloc, name)
+        .long(name)
+        .action(ArgAction::SetTrue)
+        .help(help)
+}
+
+fn with_flag<'a>(
+    alloc: Global,
+    command: Command<'a>,
+    name: &'a str,
+    help: &'a str,
+) -> Result<Command<'a>, AllocError>
+    ensures { IfOk result (λ c. app_of c ≡ with_rule (app_of command.entry) (flag_rule name.entry.now)) }
+{
+    command.arg(flag_argument(alloc, name, help))
+}
+
+const SERVERS: NumberOption<'static> = NumberOption {
+    name: "servers",
+    value_name: "N",
+    default: "3",
+    help: "How many chunkservers there are, 1 to 16",
+};
+
+const RACKS: NumberOption<'static> = NumberOption {
+    name: "racks",
+    value_name: "N",
+    default: "1",
+    help: "Over how many racks they are spread, 1 to 16",
+};
+
+const REPLICAS: NumberOption<'static> = NumberOption {
+    name: "replicas",
+    value_name: "N",
+    default: "3",
+    help: "On how many chunkservers a chunk is put, 1 to as many as there are",
+};
+
+const CHUNK: NumberOption<'static> = NumberOption {
+    name: "chunk",
+    value_name: "BYTES",
+    default: "67108864",
+    help: "The bytes of a chunk, 1 to 1024 whole blocks",
+};
+
+const BLOCK: NumberOption<'static> = NumberOption {
+    name: "block",
+    value_name: "BYTES",
+    default: "65536",
+    help: "The bytes of a block, 1 to 65536",
+};
+
+/// The command of which clap reads the words.
+#[tactic(auto, unfolding(crate::specs::Options::app))]
+fn command<'a>(alloc: Global) -> Result<Command<'a>, AllocError>
+    ensures { IfOk result (λ c. app_of c ≡ app) }
+{
+    let command = Command::new(alloc, "chunkstore");
+    let command = with_number(alloc, command, SERVERS)?;
+    let command = with_number(alloc, command, RACKS)?;
+    let command = with_number(alloc, command, REPLICAS)?;
+    let command = with_number(alloc, command, CHUNK)?;
+    let command = with_number(alloc, command, BLOCK)?;
+    with_flag(
+        alloc,
+        command,
+        "threads",
+        "Runs the nodes in threads, which isn't there yet",
+    )
+}
+
+/// What clap makes of the words.
+fn matches_of<'a>(alloc: Global, words: &'a [String]) -> Result<ArgMatches<'a>, Refusal>
+    ensures { let texts = map string_bytes words.entry.now in MatchResult result
+        (λ m. (fault_of app texts ≡ []) × (rows_of (found_of m) ≡ clap_matches app texts))
+        (λ e. Refuses e (fault_of app texts)) }
+{
+    match command(alloc)?.try_get_matches_from(words) {
+        Ok(matches) => Ok(matches),
+        Err(error) => match error.kind() {
+            ErrorKind::OutOfMemory => Err(Refusal::Memory),
+            _ => Err(Refusal::Config),
+        },
+    }
+}
+
+/// The number of an option.
+fn number_in(matches: &ArgMatches<'_>, id: &str) -> Option<u64>
+    ensures { result ≡ number_in id.now (rows_of (found_of matches.now)) }
+{
+    matches.get_one::<u64>(id)
+}
+
+/// Whether a flag is given.
+fn flag_in(matches: &ArgMatches<'_>, id: &str) -> bool
+    ensures { result ≡ flag_in id.now (rows_of (found_of matches.now)) }
+{
+    match matches.get_str(id) {
+        Some(text) => text == "true",
+        None => false,
+    }
+}
+
+/// The configuration of the sizes that clap has read.
+#[tactic(auto, unfolding(crate::specs::Options::rows_sizes))]
+fn config_in(matches: &ArgMatches<'_>) -> Result<Config, Refusal>
+    ensures { Gives result (rows_sizes (rows_of (found_of matches.now))) }
+{
+    let servers = number_in(matches, "servers").ok_or(Refusal::Config)?;
+    let racks = number_in(matches, "racks").ok_or(Refusal::Config)?;
+    let replicas = number_in(matches, "replicas").ok_or(Refusal::Config)?;
+    let block = number_in(matches, "block").ok_or(Refusal::Config)?;
+    let chunk = number_in(matches, "chunk").ok_or(Refusal::Config)?;
+    Config::new(servers, racks, replicas, block, chunk)
+}
+
+/// The configuration that the words of the command line name, of which the first is the program's own. `Config` refuses an
+/// option that isn't there, one that is given twice, a value that is no whole number or lacks, `--help`, `--threads`, and
+/// sizes of which there is no store.
+pub fn options(alloc: Global, words: &[String]) -> Result<Config, Refusal>
+    ensures { Gives result (words_options (map string_bytes words.now)) }
+{
+    let matches = matches_of(alloc, words)?;
+    if flag_in(&matches, "threads") {
+        return Err(Refusal::Config);
+    }
+    config_in(&matches)
+}
+
+/// What is wrong with words of which clap finds no fault, and which are refused.
+fn sizes_fault(matches: &ArgMatches<'_>) -> &'static str {
+    if flag_in(matches, "threads") {
+        "error: '--threads' isn't there yet\n"
+    } else {
+        "error: there is no store of these sizes\n"
+    }
+}
+
+/// What is wrong with words that are refused, or nothing where they ask for help.
+fn fault_text(alloc: Global, words: &[String]) -> Result<String, AllocError> {
+    match command(alloc)?.try_get_matches_from(words) {
+        Ok(matches) => String::from_str(alloc, sizes_fault(&matches)),
+        Err(error) => match error.kind() {
+            ErrorKind::OutOfMemory => Err(AllocError),
+            ErrorKind::DisplayHelp => Ok(String::new(alloc)),
+            _ => error.to_string(alloc),
+        },
+    }
+}
+
+/// The text for a person whose words `options` refuses: what is wrong with them, and then each option with its range and
+/// its default. Words that ask for help get the options alone.
+pub fn explanation(alloc: Global, words: &[String]) -> Result<String, AllocError> {
+    let mut text = fault_text(alloc, words)?;
+    if !text.is_empty() {
+        text.push('\n')?;
+    }
+    text.push_str(&command(alloc)?.render_help()?)?;
+    Ok(text)
+}
+
+#[cfg(test)]
+mod tests {
+    use super::*;
+    use std::test::Fail;
+
+    fn words_of(alloc: Global, line: &str) -> Result<Vec<String>, AllocError> {
+        let mut words = Vec::new(alloc);
+        for word in line.split(' ') {
+            words.push(String::from_str(alloc, word)?)?;
+        }
+        Ok(words)
+    }
+
+    #[test]
+    fn reads_options(rt: HostRuntime) -> Result<(), Fail> {
+        let alloc = rt.alloc();
+        let words = words_of(alloc, "chunkstore --racks=2 --chunk 16 --block 4")?;
+        let config = options(alloc, &words)?;
+        assert_eq!(rt; (config.servers, config.racks, config.replicas), (3, 2, 3));
+        assert_eq!(rt; (config.block, config.chunk), (4, 16));
+        Ok(())
+    }
+
+    #[test]
+    fn explains_a_refusal(rt: HostRuntime) -> Result<(), Fail> {
+        let alloc = rt.alloc();
+        for (line, want) in [
+            ("chunkstore --help", "Usage: chunkstore"),
+            (
+                "chunkstore --racks",
+                "error: a value is required for '--racks <N>'",
+            ),
+            (
+                "chunkstore --server 3",
+                "error: unexpected argument '--server' found",
+            ),
+            (
+                "chunkstore --servers 2",
+                "error: there is no store of these sizes",
+            ),
+            ("chunkstore --threads", "error: '--threads' isn't there yet"),
+        ] {
+            let words = words_of(alloc, line)?;
+            let number = options(alloc, &words).err().map(|refusal| refusal.number());
+            assert_eq!(rt; number, Some(35), "{line}");
+            let text = explanation(alloc, &words)?;
+            assert!(rt; text.starts_with(want), "{text}");
+            assert!(rt;
+                text.contains("--block <BYTES>") && text.contains("[default: 65536]"),
+                "{text}"
+            );
+        }
+        Ok(())
+    }
+}

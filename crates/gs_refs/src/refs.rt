@@ -1,0 +1,188 @@
+ghost use Rattle.std.specs.Prelude.{◌≡◌, IfOk, IfSome, IsSome, OnOk, OnErr, Some, None};
+ghost use Rattle.std.specs.FinMap as fin;
+ghost use Rattle.gs_refs.specs.Counts.{raised, lowered, taken_out, put_back, Follows, FollowsOrMemory, orphans, rises, rises_from, made_of, GivesOrMemory};
+
+use gs_base::{Handle, Refusal};
+use std::alloc::{AllocError, Global};
+use std::collections::BTreeMap;
+use std::marker::Model;
+
+/// The chunks that a master lists, each with the count of the files' entries that refer to it. A chunk without references
+/// stays listed until it is taken out.
+#[derive(Debug, Drop)]
+pub struct Refs {
+    counts: BTreeMap<Handle, u32>,
+}
+
+impl Model for Refs {
+    ghost use Rattle.std.specs.Prelude.{ℕ};
+    ghost use Rattle.std.specs.Ordering.{nat_cmp};
+    ghost use Rattle.std.specs.FinMap as fin;
+    ghost use Rattle.std.specs.Coded.{coded_ℕ};
+
+    ghost Value = { fin.FinMap nat_cmp ℕ };
+
+    ghost coded = { fin.code coded_ℕ coded_ℕ };
+
+    ghost view = { λ a. fin.from_entries a.counts.entries };
+}
+
+impl Refs {
+    /// No chunk is listed.
+    pub fn new(alloc: Global) -> Refs
+        ensures { result ≡ fin.empty }
+    {
+        Refs {
+            counts: BTreeMap::new(alloc),
+        }
+    }
+
+    /// How many references a chunk has, if it is listed.
+    pub fn count(&self, handle: Handle) -> Option<u32>
+        ensures { result ≡ fin.get self.now handle }
+    {
+        self.counts.get(&handle).copied()
+    }
+
+    /// One more reference to a chunk, which gets listed if it isn't. `Exhausted` after the last count.
+    pub fn raise(&mut self, handle: Handle) -> Result<(), Refusal>
+        ensures edit { FollowsOrMemory (raised self.old handle) result self.old self.new }
+
+        // A chunk that is listed takes no memory.
+        ensures listed { IsSome (fin.get self.old handle) → Follows (raised self.old handle) result self.old self.new }
+    {
+        match self.count(handle) {
+            None => self.write(handle, 1)?,
+            Some(u32::MAX) => return Err(Refusal::Exhausted),
+            Some(count) => self.set(handle, count + 1),
+        }
+        Ok(())
+    }
+
+    /// One reference less to a chunk, which stays listed. `BadLine` if it has none or isn't listed. It takes no memory.
+    pub fn lower(&mut self, handle: Handle) -> Result<(), Refusal>
+        ensures { Follows (lowered self.old handle) result self.old self.new }
+    {
+        match self.count(handle) {
+            None | Some(0) => return Err(Refusal::BadLine),
+            Some(count) => self.set(handle, count - 1),
+        }
+        Ok(())
+    }
+
+    /// Lists a chunk no more. `BadLine` unless it is listed without references. It takes no memory.
+    pub fn take_out(&mut self, handle: Handle) -> Result<(), Refusal>
+        ensures { Follows (taken_out self.old handle) result self.old self.new }
+    {
+        if self.count(handle) != Some(0) {
+            return Err(Refusal::BadLine);
+        }
+        self.remove(handle);
+        Ok(())
+    }
+
+    /// Lists a chunk without references. `BadLine` if it is listed.
+    pub fn put_back(&mut self, handle: Handle) -> Result<(), Refusal>
+        ensures { FollowsOrMemory (put_back self.old handle) result self.old self.new }
+    {
+        if self.count(handle).is_some() {
+            return Err(Refusal::BadLine);
+        }
+        self.write(handle, 0)?;
+        Ok(())
+    }
+
+    /// The listed chunks without references, ascending.
+    pub fn orphans(&self, alloc: Global) -> Result<Vec<Handle>, AllocError>
+        ensures { IfOk result (λ found. found.items ≡ orphans self.now) }
+    {
+        let mut found = Vec::new(alloc);
+        for (handle, count) in self.counts.iter() {
+            if *count == 0 {
+                found.push(*handle)?;
+            }
+        }
+        Ok(found)
+    }
+
+    /// The listed chunks with their counts, ascending.
+    pub fn entries(&self, alloc: Global) -> Result<Vec<(Handle, u32)>, AllocError>
+        ensures { IfOk result (λ entries. entries.items ≡ fin.entries self.now) }
+    {
+        let mut entries = Vec::new(alloc);
+        for (handle, count) in self.counts.iter() {
+            entries.push((*handle, *count))?;
+        }
+        Ok(entries)
+    }
+
+    /// The chunks of a list with their counts. `BadLine` where the handles don't strictly rise.
+    pub fn of(alloc: Global, entries: &[(Handle, u32)]) -> Result<Refs, Refusal>
+        ensures answer { GivesOrMemory (made_of entries.now) result }
+        ensures entries { IfOk result (λ refs. fin.entries refs ≡ entries.now) }
+    {
+        if !rise(entries) {
+            return Err(Refusal::BadLine);
+        }
+        Ok(listed(alloc, entries)?)
+    }
+
+    pub fn copy(&self, alloc: Global) -> Result<Refs, AllocError>
+        ensures { IfOk result (λ refs. refs ≡ self.now) }
+    {
+        let entries = self.entries(alloc)?;
+        listed(alloc, &entries)
+    }
+
+    /// Lists a chunk with a count, in place of the one that it has.
+    fn write(&mut self, handle: Handle, count: u32) -> Result<(), AllocError>
+        ensures ok { OnOk result (self.new ≡ fin.insert self.old handle count) }
+        ensures err { OnErr result (self.new ≡ self.old) }
+        ensures absent { OnErr result (fin.get self.old handle ≡ None) }
+    {
+        self.counts.insert(handle, count)?;
+        Ok(())
+    }
+
+    /// Changes the count of a listed chunk. It takes no memory.
+    fn set(&mut self, handle: Handle, count: u32)
+        requires { IsSome (fin.get self.old handle) }
+        ensures { self.new ≡ fin.insert self.old handle count }
+    {
+        let _written = self.write(handle, count);
+    }
+
+    fn remove(&mut self, handle: Handle)
+        ensures { self.new ≡ fin.remove self.old handle }
+    {
+        self.counts.remove(&handle);
+    }
+}
+
+/// The chunks of a list. Where a handle stands twice, its first count holds.
+fn listed(alloc: Global, entries: &[(Handle, u32)]) -> Result<Refs, AllocError>
+    ensures { IfOk result (λ refs. refs ≡ fin.from_entries entries.now) }
+{
+    let mut refs = Refs::new(alloc);
+    for (handle, count) in entries.iter().rev() {
+        refs.write(*handle, *count)?;
+    }
+    Ok(refs)
+}
+
+/// Whether the handles strictly rise.
+fn rise(entries: &[(Handle, u32)]) -> bool
+    ensures { result ≡ rises entries.now }
+{
+    let [(first, _), rest @ ..] = entries else {
+        return true;
+    };
+    let mut last = *first;
+    for (handle, _) in rest {
+        if *handle <= last {
+            return false;
+        }
+        last = *handle;
+    }
+    true
+}
