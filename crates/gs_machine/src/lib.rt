@@ -1,0 +1,8 @@
+//! The names of a store with its upgrades: tree commands, prepare, finalize and rollback.
+#![tactic(auto)]
+
+mod answer;
+mod machine;
+
+pub use answer::{Answer, text};
+pub use machine::Machine;
