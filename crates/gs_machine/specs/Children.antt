@@ -28,9 +28,9 @@ listed None p rows = Err NotFound
 listed (Some Dir) p rows = Ok (children p rows)
 listed (Some (File chunks)) p rows = Ok (map (λ name. (name, false)) (last p))
 
+abbrev pub some_of : {A : Type 0} → List A → Bool
+some_of [] = false
+some_of (x ∷ xs) = true
+
 abbrev pub has_children : {A : Type 0} → Path → Rows A → Bool
 has_children p rows = some_of (children p rows)
-  where
-    abbrev some_of : List (Name × Bool) → Bool
-    some_of [] = false
-    some_of (c ∷ cs) = true
