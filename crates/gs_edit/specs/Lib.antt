@@ -4,3 +4,4 @@ pub mod Plain
 pub mod Edits
 pub mod Names
 pub mod Machine
+pub mod Small

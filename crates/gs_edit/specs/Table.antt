@@ -1,5 +1,5 @@
 -- A plain tree as the rows of its finitely many paths, in their order. It computes.
-use Rattle.std.specs.Prelude.{◌≡◌, ◌++◌, List, [], ◌∷◌, map, if◌then◌else◌, Option, Some, None, Result, Ok, Err}
+use Rattle.std.specs.Prelude.{◌++◌, List, [], ◌∷◌, map, if◌then◌else◌, Option, Some, None, Result, Ok, Err}
 use Rattle.std.specs.FinMap.{put}
 use Rattle.gs_path.specs.Path.{Path, path_cmp, begins}
 use Rattle.gs_base.specs.declared.refusal.Refusal.{Refusal}

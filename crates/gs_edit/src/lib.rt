@@ -3,6 +3,8 @@
 
 mod edit;
 mod names;
+#[cfg(test)]
+mod tests;
 
 pub use edit::{Edit, Inverse};
 pub use names::Names;

@@ -1,5 +1,5 @@
 -- What is listed of a plain tree.
-use Rattle.std.specs.Prelude.{Bool, true, false, not, List, [], ◌∷◌, map, if◌then◌else◌, Option, Some, None, Result, Ok, Err}
+use Rattle.std.specs.Prelude.{Bool, true, false, List, [], ◌∷◌, map, if◌then◌else◌, Option, Some, None, Result, Ok, Err}
 use Rattle.std.specs.List.{filter_map}
 use Rattle.gs_base.specs.declared.refusal.Refusal.{Refusal}
 use Rattle.gs_base.specs.declared.refusal.Refusal.TheVariants.{NotFound}
@@ -7,9 +7,8 @@ use Rattle.gs_path.specs.Path.{Name, Path, begins}
 use Rattle.gs_path.specs.Element.{is_hidden}
 use Rattle.gs_tree.specs.Entry.{Entry, Dir, File}
 use Rattle.gs_tree.specs.Plain.{after}
-use Rattle.gs_tree.specs.Find.{Rows, at}
+use Rattle.gs_tree.specs.Find.{Rows}
 use Rattle.gs_tree.specs.Edits.{last}
-use Rattle.gs_tree.specs.Listing.{shown}
 
 -- the name of a visible child with whether it is a directory, of what stands under p
 abbrev pub child : {A : Type 0} → Path → Entry A → Option (Name × Bool)

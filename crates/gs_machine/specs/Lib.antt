@@ -5,3 +5,4 @@ pub mod Texts
 pub mod Views
 pub mod Leads
 pub mod Inside
+pub mod Steps

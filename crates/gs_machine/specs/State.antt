@@ -5,7 +5,7 @@ use Rattle.gs_base.specs.declared.refusal.Refusal.{Refusal}
 use Rattle.gs_base.specs.declared.refusal.Refusal.TheVariants.{IsRoot, NotEmpty, Exhausted, AlreadyUpgrading, NotUpgrading}
 use Rattle.gs_path.specs.Path.{Path}
 use Rattle.gs_path.specs.Rules.{parse, parse_hidden}
-use Rattle.gs_command.specs.Grammar.{Text, Request, Mkdir, Create, Ls, Mv, Rm, RollingUpgrade}
+use Rattle.gs_command.specs.Grammar.{Request, Mkdir, Create, Ls, Mv, Rm, RollingUpgrade}
 use Rattle.gs_command.specs.declared.Upgrade.{Upgrade}
 use Rattle.gs_command.specs.declared.Upgrade.TheVariants.{Query, Prepare, Finalize, Rollback}
 use Rattle.gs_tree.specs.Find.{Rows, at}

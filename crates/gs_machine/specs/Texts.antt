@@ -1,5 +1,5 @@
 -- The text of an answer.
-use Rattle.std.specs.Prelude.{◌++◌, ◌∷◌, ℕ, Bool, List, [], codes, decimal, flat_map, if◌then◌else◌}
+use Rattle.std.specs.Prelude.{◌++◌, ℕ, Bool, List, [], codes, decimal, flat_map, if◌then◌else◌}
 use Rattle.gs_base.specs.Refusals.{refusal_text}
 use Rattle.gs_path.specs.Path.{Name, path_text}
 use Rattle.gs_machine.specs.Reply.{Reply, Done, Names, Hidden, Missing, Epoch, Ordinary, Upgrading, Refused}

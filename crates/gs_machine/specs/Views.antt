@@ -1,8 +1,8 @@
 -- The machine's state as data.
 use Rattle.std.specs.Prelude.{ℕ, Option, refl}
 use Rattle.std.specs.Coded.{Coded, code_by, coded×, coded_ℕ, coded_list, coded_option}
-use Rattle.gs_path.specs.Path.{Path, coded_path}
-use Rattle.gs_tree.specs.Entry.{Entry, coded_entry}
+use Rattle.gs_path.specs.Path.{coded_path}
+use Rattle.gs_tree.specs.Entry.{coded_entry}
 use Rattle.gs_tree.specs.Find.{Rows}
 use Rattle.gs_machine.specs.State.{State}
 

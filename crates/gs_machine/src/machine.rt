@@ -81,53 +81,109 @@ impl Machine {
 }
 
 impl Machine {
-    fn mkdir(&mut self, path: &str) -> Result<Answer, Refusal> {
-        let path = Path::parse(self.alloc, path)?;
-        self.edit(Edit::Mkdirs(path))
-    }
+    ghost use Rattle.std.specs.Prelude.{◌≡◌, false, IfOk};
+    ghost use Rattle.gs_command.specs.Grammar.{Mkdir, Create, Ls, Mv, Rm, RollingUpgrade};
+    ghost use Rattle.gs_edit.specs.Edits.{edited};
+    ghost use Rattle.gs_machine.specs.State.{step_of, edits, deletes, prepares, finalizes, rolls_back, queries};
+    ghost use Rattle.gs_machine.specs.Steps.{StepIs};
 
-    fn create(&mut self, path: &str) -> Result<Answer, Refusal> {
-        let path = Path::parse(self.alloc, path)?;
-        self.edit(Edit::Create(path))
-    }
-
-    fn rename(&mut self, from: &str, to: &str) -> Result<Answer, Refusal> {
-        let from = Path::parse(self.alloc, from)?;
-        let to = Path::parse(self.alloc, to)?;
-        self.edit(Edit::Rename(from, to))
-    }
-
-    fn edit(&mut self, edit: Edit) -> Result<Answer, Refusal> {
-        make_edit(&mut self.names, &mut self.upgrade, &edit)?;
-        Ok(Answer::Done)
-    }
-
-    fn list(&self, path: &str) -> Result<Answer, Refusal> {
-        let path = Path::parse_hidden(self.alloc, path)?;
-        Ok(Answer::Names(self.names.tree().list(&path)?))
-    }
-
-    /// Deletes what stands at a path by hiding it.
-    fn delete(&mut self, path: &str, recursive: bool) -> Result<Answer, Refusal> {
-        let path = Path::parse(self.alloc, path)?;
-        if path.is_root() {
-            return Err(Refusal::IsRoot);
+    fn mkdir(&mut self, path: &str) -> Result<Answer, Refusal>
+        ensures { StepIs (step_of self.old (Mkdir path.now)) self.old result self.new }
+    {
+        match Path::parse(self.alloc, path) {
+            Ok(path) => self.edit(&Edit::Mkdirs(path)),
+            Err(refusal) => Err(refusal),
         }
-        if self.names.tree().status(&path).is_err() {
-            return Ok(Answer::Missing);
+    }
+
+    fn create(&mut self, path: &str) -> Result<Answer, Refusal>
+        ensures { StepIs (step_of self.old (Create path.now)) self.old result self.new }
+    {
+        match Path::parse(self.alloc, path) {
+            Ok(path) => self.edit(&Edit::Create(path)),
+            Err(refusal) => Err(refusal),
+        }
+    }
+
+    fn rename(&mut self, from: &str, to: &str) -> Result<Answer, Refusal>
+        ensures { StepIs (step_of self.old (Mv from.now to.now)) self.old result self.new }
+    {
+        let from = match Path::parse(self.alloc, from) {
+            Ok(from) => from,
+            Err(refusal) => return Err(refusal),
+        };
+        match Path::parse(self.alloc, to) {
+            Ok(to) => self.edit(&Edit::Rename(from, to)),
+            Err(refusal) => Err(refusal),
+        }
+    }
+
+    /// Makes an edit of the names.
+    fn edit(&mut self, edit: &Edit) -> Result<Answer, Refusal>
+        ensures { StepIs (edits self.old (edited edit.now self.old.plain.tree)) self.old result self.new }
+    {
+        match make_edit(&mut self.names, &mut self.upgrade, edit) {
+            Ok(()) => Ok(Answer::Done),
+            Err(refusal) => Err(refusal),
+        }
+    }
+
+    fn list(&self, path: &str) -> Result<Answer, Refusal>
+        ensures { StepIs (step_of self.now (Ls path.now)) self.now result self.now }
+    {
+        let path = match Path::parse_hidden(self.alloc, path) {
+            Ok(path) => path,
+            Err(refusal) => return Err(refusal),
+        };
+        match self.names.tree().list(&path) {
+            Ok(listed) => Ok(Answer::Names(listed)),
+            Err(refusal) => Err(refusal),
+        }
+    }
+
+    fn delete(&mut self, path: &str, recursive: bool) -> Result<Answer, Refusal>
+        ensures { StepIs (step_of self.old (Rm path.now recursive)) self.old result self.new }
+    {
+        match Path::parse(self.alloc, path) {
+            Ok(path) => self.delete_path(path, recursive),
+            Err(refusal) => Err(refusal),
+        }
+    }
+
+    /// Deletes what stands at a path by hiding it, after the tests.
+    fn delete_path(&mut self, path: Path, recursive: bool) -> Result<Answer, Refusal>
+        ensures { StepIs (deletes self.old path recursive) self.old result self.new }
+    {
+        let Some((name, _)) = path.elements().split_last() else {
+            return Err(Refusal::IsRoot);
+        };
+        match self.names.tree().status(&path) {
+            Ok(_) => {}
+            Err(_) => return Ok(Answer::Missing),
         }
         if !recursive && self.names.tree().has_visible(&path) {
             return Err(Refusal::NotEmpty);
         }
-        let number = next_number(self.hidden)?;
-        let hidden = hidden_path(self.alloc, &path, number)?;
+        let number = match next_number(self.hidden) {
+            Ok(number) => number,
+            Err(refusal) => return Err(refusal),
+        };
+        let hidden = match hidden_beside(self.alloc, &path, name, number) {
+            Ok(hidden) => hidden,
+            Err(_) => return Err(Refusal::Memory),
+        };
         let edit = Edit::Hide(path, Moment(0), number);
-        make_edit(&mut self.names, &mut self.upgrade, &edit)?;
+        match make_edit(&mut self.names, &mut self.upgrade, &edit) {
+            Ok(()) => {}
+            Err(refusal) => return Err(refusal),
+        }
         self.hidden = number;
         Ok(Answer::Hidden(hidden))
     }
 
-    fn upgrade(&mut self, upgrade: Upgrade) -> Result<Answer, Refusal> {
+    fn upgrade(&mut self, upgrade: Upgrade) -> Result<Answer, Refusal>
+        ensures { StepIs (step_of self.old (RollingUpgrade upgrade)) self.old result self.new }
+    {
         match upgrade {
             Upgrade::Query => Ok(self.query()),
             Upgrade::Prepare => self.prepare(),
@@ -136,7 +192,9 @@ impl Machine {
         }
     }
 
-    fn query(&self) -> Answer {
+    fn query(&self) -> Answer
+        ensures { reply_of result ≡ queries self.now self.now.plain.kept }
+    {
         match &self.upgrade {
             None => Answer::Ordinary(self.epoch),
             Some(_) => Answer::Upgrading(self.epoch),
@@ -144,11 +202,16 @@ impl Machine {
     }
 
     /// Begins an upgrade. It takes no memory that depends on the tree.
-    fn prepare(&mut self) -> Result<Answer, Refusal> {
+    fn prepare(&mut self) -> Result<Answer, Refusal>
+        ensures { StepIs (prepares self.old self.old.plain.kept) self.old result self.new }
+    {
         if self.upgrade.is_some() {
             return Err(Refusal::AlreadyUpgrading);
         }
-        let epoch = next_number(self.epoch)?;
+        let epoch = match next_number(self.epoch) {
+            Ok(epoch) => epoch,
+            Err(refusal) => return Err(refusal),
+        };
         self.upgrade = Some(Standing {
             inverses: Vec::new(self.alloc),
             before: Snapshot::of(&self.names),
@@ -157,24 +220,40 @@ impl Machine {
         Ok(Answer::Epoch(epoch))
     }
 
-    fn finalize(&mut self) -> Result<Answer, Refusal> {
+    fn finalize(&mut self) -> Result<Answer, Refusal>
+        ensures { StepIs (finalizes self.old self.old.plain.kept) self.old result self.new }
+    {
         if self.upgrade.is_none() {
             return Err(Refusal::NotUpgrading);
         }
-        let epoch = next_number(self.epoch)?;
+        let epoch = match next_number(self.epoch) {
+            Ok(epoch) => epoch,
+            Err(refusal) => return Err(refusal),
+        };
         self.upgrade = None;
         self.epoch = epoch;
         Ok(Answer::Epoch(epoch))
     }
 
     /// Puts the names of the prepare in place: the inverses are undone on a copy, the last edit's first.
-    fn roll_back(&mut self) -> Result<Answer, Refusal> {
+    fn roll_back(&mut self) -> Result<Answer, Refusal>
+        ensures { StepIs (rolls_back self.old self.old.plain.kept) self.old result self.new }
+    {
         let Some(upgrade) = &self.upgrade else {
             return Err(Refusal::NotUpgrading);
         };
-        let epoch = next_number(self.epoch)?;
-        let mut names = self.names.copy()?;
-        undo_all(&mut names, &upgrade.inverses)?;
+        let epoch = match next_number(self.epoch) {
+            Ok(epoch) => epoch,
+            Err(refusal) => return Err(refusal),
+        };
+        let mut names = match self.names.copy() {
+            Ok(names) => names,
+            Err(_) => return Err(Refusal::Memory),
+        };
+        match undo_all(&mut names, &upgrade.inverses) {
+            Ok(()) => {}
+            Err(refusal) => return Err(refusal),
+        }
         self.names = names;
         self.upgrade = None;
         self.epoch = epoch;
@@ -182,39 +261,64 @@ impl Machine {
     }
 }
 
+ghost use Rattle.std.specs.Prelude.{◌++◌, ◌∷◌, [], MatchResult};
+ghost use Rattle.gs_tree.specs.Edits.{parent};
+ghost use Rattle.gs_path.specs.Element.{hidden_name};
+ghost use Rattle.gs_edit.specs.View.{NamesView};
+ghost use Rattle.gs_machine.specs.Leads.{Leads};
+ghost use Rattle.gs_machine.specs.Steps.{MadeEdit};
+
 /// Makes an edit, and keeps what takes it back while an upgrade stands.
-fn make_edit(
-    names: &mut Names,
-    upgrade: &mut Option<Standing>,
-    edit: &Edit,
-) -> Result<(), Refusal> {
-    if let Some(upgrade) = upgrade {
-        upgrade.inverses.reserve(1)?;
-        let inverse = names.apply(edit)?;
-        upgrade.inverses.push_reserved(inverse);
-        return Ok(());
+fn make_edit(names: &mut Names, upgrade: &mut Option<Standing>, edit: &Edit) -> Result<(), Refusal>
+    ensures { MadeEdit edit.now names.old upgrade.old result names.new upgrade.new }
+{
+    match upgrade {
+        None => match names.apply(edit) {
+            Ok(_) => Ok(()),
+            Err(refusal) => Err(refusal),
+        },
+        Some(standing) => standing.edit(names, edit),
     }
-    names.apply(edit)?;
-    Ok(())
 }
 
 /// Takes edits back, the last first.
-fn undo_all(names: &mut Names, inverses: &[Inverse]) -> Result<(), Refusal> {
+fn undo_all(names: &mut Names, inverses: &[Inverse]) -> Result<(), Refusal>
+    ensures { (before : NamesView) → Leads inverses.now before names.old → MatchResult result (λ _. names.new ≡ before) (λ e. e ≡ Refusal.Memory) }
+{
     let [front @ .., last] = inverses else {
         return Ok(());
     };
-    names.undo(last)?;
-    undo_all(names, front)
+    match names.undo(last) {
+        Ok(()) => undo_all(names, front),
+        Err(refusal) => Err(refusal),
+    }
 }
 
 /// Where a path is hidden that is deleted at moment 0.
-fn hidden_path(alloc: Global, path: &Path, number: u64) -> Result<Path, Refusal> {
-    let hidden = match path.name() {
-        Some(name) => Name::hidden(alloc, Moment(0), number, name)?,
-        None => return Err(Refusal::IsRoot),
-    };
+fn hidden_beside(alloc: Global, path: &Path, name: &Name, number: u64) -> Result<Path, AllocError>
+    ensures { IfOk result (λ hidden. hidden ≡ parent path.now ++ hidden_name 0 number name.now ∷ []) }
+{
+    let hidden = Name::hidden(alloc, Moment(0), number, name)?;
     match path.parent(alloc)? {
-        Some(parent) => Ok(parent.join(alloc, &hidden)?),
-        None => Err(Refusal::IsRoot),
+        Some(parent) => parent.join(alloc, &hidden),
+        None => Path::root(alloc).join(alloc, &hidden),
+    }
+}
+
+impl Standing {
+    ghost use Rattle.gs_machine.specs.Steps.{StandingEdit};
+
+    /// Makes an edit of the names, and keeps what takes it back.
+    fn edit(&mut self, names: &mut Names, edit: &Edit) -> Result<(), Refusal>
+        ensures { StandingEdit edit.now names.old self.old result names.new self.new }
+    {
+        self.inverses.reserve(1)?;
+        match names.apply(edit) {
+            Ok(inverse) => {
+                self.inverses.push_reserved(inverse);
+                Ok(())
+            }
+            Err(refusal) => Err(refusal),
+        }
     }
 }

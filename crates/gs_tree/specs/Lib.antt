@@ -8,3 +8,4 @@ pub mod Inverses
 pub mod Follows
 pub mod Falls
 pub mod Listing
+pub mod Small

@@ -1,6 +1,6 @@
-use Rattle.std.proofs.Common.{◌≡◌, ◌∷◌, [], ℕ, List, length, ap, sym, ◌∙◌, refl, arith}
-use Rattle.std.specs.FinMap.{FinMap, entries, empty, from_entries, entries-insert, len-empty, len-entries, put}
-use Rattle.gs_path.specs.Path.{Path, path_cmp, path_total}
+use Rattle.std.proofs.Common.{◌≡◌, ◌∷◌, [], ℕ, length, ap, sym, ◌∙◌, refl, arith}
+use Rattle.std.specs.FinMap.{entries, empty, from_entries, entries-insert, len-empty, len-entries, put}
+use Rattle.gs_path.specs.Path.{path_cmp, path_total}
 use Rattle.gs_tree.specs.Entry.{Entry, Dir}
 use Rattle.gs_tree.specs.Find.{Rows}
 use Rattle.gs_edit.specs.Table.{root_rows}

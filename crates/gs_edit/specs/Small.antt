@@ -1,0 +1,58 @@
+-- Small examples of the edits of rows.
+use Rattle.std.specs.Prelude.{◌≡◌, ℕ, List, [], ◌∷◌, codes, Ok, Err, refl}
+use Rattle.std.specs.Fmt.{digits}
+use Rattle.gs_base.specs.declared.refusal.Refusal.TheVariants.{Exists, NotADirectory, IntoItself}
+use Rattle.gs_path.specs.Path.{Name, Path}
+use Rattle.gs_path.specs.Element.{twenty_digits}
+use Rattle.gs_tree.specs.Entry.{Dir, File}
+use Rattle.gs_tree.specs.Find.{Rows, at}
+use Rattle.gs_edit.specs.Table.{table, fronts, moved_path, root_rows}
+use Rattle.gs_edit.specs.Edits.{edited}
+use Rattle.gs_edit.specs.declared.edit.Edit.TheVariants.{Mkdirs, Create, Rename, Hide}
+
+abbrev a : Name
+a = codes "a"
+
+abbrev b : Name
+b = codes "b"
+
+abbrev f : Name
+f = codes "f"
+
+-- a/b and the file f
+abbrev small : Rows ℕ
+small = ([], Dir) ∷ (a ∷ [], Dir) ∷ (a ∷ b ∷ [], Dir) ∷ (f ∷ [], File (7 ∷ [])) ∷ []
+
+fronts_of_two : fronts (a ∷ b ∷ []) ≡ [] ∷ (a ∷ []) ∷ (a ∷ b ∷ []) ∷ []
+fronts_of_two = refl
+
+moved_with_its_parent : moved_path (a ∷ []) (f ∷ b ∷ []) (a ∷ b ∷ []) ≡ f ∷ b ∷ b ∷ []
+moved_with_its_parent = refl
+
+rows_in_order : table ((f ∷ []) ∷ (b ∷ []) ∷ (a ∷ b ∷ []) ∷ (a ∷ []) ∷ (f ∷ []) ∷ [] ∷ []) (at small) ≡ small
+rows_in_order = refl
+
+mkdirs_makes_parents : edited (Mkdirs (b ∷ a ∷ [])) small ≡ Ok (([], Dir) ∷ (a ∷ [], Dir) ∷ (a ∷ b ∷ [], Dir) ∷ (b ∷ [], Dir) ∷ (b ∷ a ∷ [], Dir) ∷ (f ∷ [], File (7 ∷ [])) ∷ [])
+mkdirs_makes_parents = refl
+
+create_in_the_root : edited {A = ℕ} (Create (f ∷ [])) root_rows ≡ Ok (([], Dir) ∷ (f ∷ [], File []) ∷ [])
+create_in_the_root = refl
+
+create_below_a_file : edited (Create (f ∷ a ∷ [])) small ≡ Err NotADirectory
+create_below_a_file = refl
+
+rename_takes_what_is_under : edited (Rename (a ∷ []) (b ∷ [])) small ≡ Ok (([], Dir) ∷ (b ∷ [], Dir) ∷ (b ∷ b ∷ [], Dir) ∷ (f ∷ [], File (7 ∷ [])) ∷ [])
+rename_takes_what_is_under = refl
+
+rename_into_a_directory : edited (Rename (f ∷ []) (a ∷ b ∷ [])) small ≡ Ok (([], Dir) ∷ (a ∷ [], Dir) ∷ (a ∷ b ∷ [], Dir) ∷ (a ∷ b ∷ f ∷ [], File (7 ∷ [])) ∷ [])
+rename_into_a_directory = refl
+
+rename_into_itself : edited (Rename (a ∷ []) (a ∷ b ∷ [])) small ≡ Err IntoItself
+rename_into_itself = refl
+
+rename_over_a_file : edited (Rename (a ∷ []) (f ∷ [])) small ≡ Err Exists
+rename_over_a_file = refl
+
+hide_moves_what_is_under : edited (Hide (a ∷ []) (record { 0 = 5 }) 12) small ≡ Ok (([], Dir) ∷ (codes ".deleted.00000000000000000005.00000000000000000012.a" ∷ [], Dir) ∷ (codes ".deleted.00000000000000000005.00000000000000000012.a" ∷ b ∷ [], Dir) ∷ (f ∷ [], File (7 ∷ [])) ∷ [])
+unfolding twenty_digits digits
+hide_moves_what_is_under = refl

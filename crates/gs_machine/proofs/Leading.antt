@@ -1,0 +1,48 @@
+-- Edits and the inverses that lead back over them.
+use Rattle.std.proofs.Common.{◌≡◌, ◌++◌, ◌∷◌, [], List, length, take, get_or, ◌-◌, ◌+◌, ◌<◌, ◌≤◌, refl, sym, ap, ◌∙◌, subst, arith, inl, inr}
+use Rattle.std.specs.Prelude.{Ok, Err}
+use Rattle.std.specs.FinMap.{same_map, slice_cmp-IsAntisymmetric, nat_cmp-IsAntisymmetric}
+use Rattle.std.proofs.lemmas.List.{take_more}
+use Rattle.std.proofs.Math.Seq.{take-length}
+use Rattle.gs_base.specs.declared.refusal.Refusal.{Refusal}
+use Rattle.gs_base.specs.declared.refusal.Refusal.TheVariants.{Memory}
+use Rattle.gs_path.specs.Path.{path_total}
+use Rattle.gs_edit.specs.View.{NamesView}
+use Rattle.gs_edit.specs.Names.{NamesTakenBack, Undoes}
+use Rattle.gs_edit.specs.declared.edit.Inverse.{Inverse}
+use Rattle.gs_edit.specs.declared.edit.Inverse.TheVariants as inverses
+use Rattle.gs_machine.specs.Leads.{Leads}
+
+pub same_names : (m n : NamesView) → m.tree ≡ n.tree → m.refs ≡ n.refs → m ≡ n
+same_names m n t r = λ i. record { tree = t i; refs = r i }
+
+pub undone_is : (i : Inverse) (mid old new : NamesView) → NamesTakenBack i mid old → Undoes i old (Ok tt) new → new ≡ mid
+undone_is (inverses.Tree i) mid old new back undone =
+    same_names new mid
+    (same_map path_total (slice_cmp-IsAntisymmetric (slice_cmp-IsAntisymmetric nat_cmp-IsAntisymmetric)) new.tree mid.tree (λ q. undone.0.1 q ∙ back.0.back q))
+    (undone.1 ∙ back.1)
+
+pub refused_is : (i : Inverse) (mid old new : NamesView) (e : Refusal) → NamesTakenBack i mid old → Undoes i old (Err e) new → e ≡ Memory
+refused_is (inverses.Tree i) mid old new e back undone = elim undone.0.0 [
+  | inl m ↦ m
+  | inr b ↦ absurd (b.1 back.0.fits)
+]
+
+pub leads_more : (is : List Inverse) (i : Inverse) (before now new : NamesView) → Leads is before now → NamesTakenBack i now new → Leads (is ++ i ∷ []) before new
+leads_more [] i before now new h back = (new, (subst (λ b. NamesTakenBack i b new) (sym h) back, refl))
+leads_more (j ∷ is) i before now new (mid, (first, rest)) back = (mid, (first, leads_more is i mid now new rest back))
+
+pub leads_last : (is : List Inverse) (i : Inverse) (before now : NamesView) → Leads (is ++ i ∷ []) before now → (mid : NamesView) × (Leads is before mid × NamesTakenBack i mid now)
+leads_last [] i before now (mid, (first, rest)) = (before, (refl, subst (λ b. NamesTakenBack i before b) rest first))
+leads_last (j ∷ is) i before now (mid, (first, rest)) = let (m, (more, last)) = leads_last is i mid now rest in (m, ((mid, (first, more)), last))
+
+-- the last of some items, and those before it
+pub parts_of : {A : Type 0} (xs : List A) (x : A) → 1 ≤ length xs → x ≡ get_or xs (length xs - 1) x → xs ≡ take (length xs - 1) xs ++ x ∷ []
+parts_of xs x some is =
+    let below : length xs - 1 < length xs = omega arith in
+    let whole : (length xs - 1) + 1 ≡ length xs = omega arith in
+    sym (take-length xs) ∙ ap (λ n. take n xs) (sym whole) ∙ take_more xs (length xs - 1) x below ∙ ap (λ y. take (length xs - 1) xs ++ y ∷ []) (sym is)
+
+pub no_items : {A : Type 0} (xs : List A) → length xs < 1 → xs ≡ []
+no_items [] h = refl
+no_items (x ∷ xs) h = absurd (omega arith)
