@@ -2,9 +2,11 @@
 #![tactic(auto)]
 
 mod config;
+mod members;
 mod numbers;
 mod refusal;
 
 pub use config::Config;
+pub use members::{Members, MembersIter};
 pub use numbers::{ClientId, Handle, Moment, ReqId, ServerId, Stamp, next_number};
 pub use refusal::{PathText, Refusal};

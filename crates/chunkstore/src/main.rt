@@ -1,0 +1,54 @@
+//! The program: the shell of a store, over standard input and standard output.
+#![tactic(auto)]
+
+use gs_base::Refusal;
+use gs_shell::RunFault;
+use std::env;
+use std::io::{self, BufReader, BufWriter};
+use std::process::ExitCode;
+use std::rt::Env;
+
+/// The words of the command line, of which the first is the program's own.
+fn words(rt: &(impl Env + AllocGlobal)) -> io::Result<Vec<String>> {
+    Ok(env::args(rt)?.collect(rt.alloc())?)
+}
+
+/// Says on standard error what is wrong with words that are refused.
+fn explain(rt: &(impl Eprint + AllocGlobal), words: &[String], refusal: &Refusal) {
+    let _ = match gs_options::explanation(rt.alloc(), words) {
+        Ok(text) => eprint!(rt; "{text}"),
+        Err(_) => eprintln!(rt; "chunkstore: {refusal}"),
+    };
+}
+
+/// Answers standard input on standard output.
+fn serve(rt: &(impl Input + Print + AllocGlobal)) -> Result<(), RunFault> {
+    let alloc = rt.alloc();
+    let Ok(mut reader) = BufReader::new(alloc, rt.reader()) else {
+        return Err(RunFault::Refused(Refusal::Memory));
+    };
+    let Ok(mut writer) = BufWriter::new(alloc, io::writer(rt)) else {
+        return Err(RunFault::Refused(Refusal::Memory));
+    };
+    gs_shell::run(alloc, &mut reader, &mut writer)
+}
+
+/// The status is 0 at the end of the input, 1 where a read or a write fails or the run can't begin, and 2 where the words of
+/// the command line are refused. Then nothing is read, and nothing stands on standard output.
+fn main(rt: HostRuntime) -> ExitCode {
+    let Ok(words) = words(&rt) else {
+        let _ = eprintln!(rt; "chunkstore: the arguments can't be read");
+        return ExitCode::from(2);
+    };
+    if let Err(refusal) = gs_options::options(rt.alloc(), &words) {
+        explain(&rt, &words, &refusal);
+        return ExitCode::from(2);
+    }
+    match serve(&rt) {
+        Ok(()) => ExitCode::SUCCESS,
+        Err(fault) => {
+            let _ = eprintln!(rt; "chunkstore: {fault}");
+            ExitCode::FAILURE
+        }
+    }
+}

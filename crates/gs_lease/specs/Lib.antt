@@ -1,0 +1,5 @@
+pub mod Chunks
+pub mod Live
+pub mod Primary
+pub mod Slots
+pub mod Transitions

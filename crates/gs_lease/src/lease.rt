@@ -1,0 +1,318 @@
+ghost use Rattle.std.specs.Prelude.{◌≡◌, Some, None, true};
+ghost use Rattle.gs_lease.specs.Transitions.{begun, begun_new, begun_again, asked_again, Begins, Settles, restored};
+
+use crate::view::{Proposed, Purpose, Term, View};
+use gs_base::{Members, Moment, Refusal, Stamp};
+use std::marker::Model;
+
+/// A chunk of which no member takes an edit. Only such a chunk is copied by a snapshot or on write. It is used up by
+/// what becomes of it.
+#[derive(Debug, Drop)]
+pub struct Quiet {
+    view: View,
+}
+
+impl Model for Quiet {
+    ghost use Rattle.std.specs.Prelude.{◌≡◌, None};
+    ghost use Rattle.gs_lease.specs.declared.view.View.{View};
+
+    ghost Value = { View };
+
+    ghost view = { λ q. q.view };
+
+    ghost invariant = { λ q. q.view.term ≡ None };
+}
+
+/// A chunk for which a view is proposed.
+#[derive(Debug, Drop)]
+pub struct Moving {
+    proposed: Proposed,
+}
+
+impl Model for Moving {
+    ghost use Rattle.gs_lease.specs.declared.view.Proposed.{Proposed};
+
+    ghost Value = { Proposed };
+
+    ghost view = { λ m. m.proposed };
+}
+
+/// A chunk whose primary may take edits.
+#[derive(Debug, Drop)]
+pub struct Leased {
+    view: View,
+    term: Term,
+}
+
+impl Model for Leased {
+    ghost use Rattle.std.specs.Prelude.{◌≡◌, Some};
+    ghost use Rattle.gs_lease.specs.declared.view.View.{View};
+
+    ghost Value = { View };
+
+    ghost view = { λ l. l.view };
+
+    ghost invariant = { λ l. l.view.term ≡ Some l.term };
+}
+
+/// What a proposal is settled to.
+#[derive(Debug, Drop)]
+pub enum Settled {
+    Quiet(Quiet),
+    Leased(Leased),
+}
+
+/// The state of a chunk.
+#[derive(Debug, Drop)]
+pub enum Lease {
+    Quiet(Quiet),
+    Moving(Moving),
+    Leased(Leased),
+}
+
+impl Quiet {
+    /// A chunk as a rollback leaves it.
+    pub fn rolled_back(stamp: Stamp, count: u64, members: Members) -> Quiet
+        ensures { result ≡ record { stamp = stamp; count = count; members = members; term = None } }
+    {
+        Quiet {
+            view: View {
+                stamp,
+                count,
+                members,
+                term: None,
+            },
+        }
+    }
+
+    pub fn view(&self) -> View
+        ensures view { result ≡ self.now }
+        ensures quiet { result.term ≡ None }
+    {
+        self.view
+    }
+
+    /// Proposes a view to the members.
+    pub fn begin(self, stamp: Stamp, purpose: Purpose) -> Moving
+        ensures { result ≡ begun self stamp purpose }
+    {
+        Moving {
+            proposed: begin(self.view, stamp, purpose),
+        }
+    }
+}
+
+impl Moving {
+    /// A new chunk whose first view is proposed to these servers.
+    pub fn fresh(stamp: Stamp, targets: Members) -> Moving
+        ensures { result ≡ begun_new stamp targets }
+    {
+        Moving {
+            proposed: Proposed {
+                settled: None,
+                stamp,
+                purpose: Purpose::Quiet,
+                asked: targets,
+            },
+        }
+    }
+
+    pub fn proposed(&self) -> Proposed
+        ensures { result ≡ self.now }
+    {
+        self.proposed
+    }
+
+    /// Proposes another view, again to the members of the settled one. `Old` where its stamp isn't above the one that is
+    /// proposed.
+    pub fn again(self, stamp: Stamp, purpose: Purpose) -> Result<Moving, (Moving, Refusal)>
+        ensures { Begins self self.stamp stamp (begun_again self stamp purpose) result }
+    {
+        if stamp <= self.proposed.stamp {
+            return Err((self, Refusal::Old));
+        }
+        let asked = asked_again(&self.proposed);
+        let settled = self.proposed.settled;
+        Ok(Moving {
+            proposed: Proposed {
+                settled,
+                stamp,
+                purpose,
+                asked,
+            },
+        })
+    }
+
+    /// Settles the view on the members that were chosen with their count of edits. A lease goes to the lowest member, for
+    /// a term of 60 from this moment. `NoReplica` where there is no member.
+    pub fn settle(
+        self,
+        choice: (Members, u64),
+        moment: Moment,
+    ) -> Result<Settled, (Moving, Refusal)>
+        ensures { Settles self choice.0 choice.1 moment result }
+    {
+        let (members, count) = choice;
+        let Some(primary) = members.first() else {
+            return Err((self, Refusal::NoReplica));
+        };
+        let term = if self.proposed.purpose == Purpose::Lease {
+            Some(Term {
+                primary,
+                end: Moment(moment.0.saturating_add(60)),
+            })
+        } else {
+            None
+        };
+        let view = View {
+            stamp: self.proposed.stamp,
+            count,
+            members,
+            term,
+        };
+        Ok(match term {
+            Some(term) => Settled::Leased(Leased { view, term }),
+            None => Settled::Quiet(Quiet { view }),
+        })
+    }
+}
+
+impl Leased {
+    pub fn view(&self) -> View
+        ensures { result ≡ self.now }
+    {
+        self.view
+    }
+
+    pub fn term(&self) -> Term
+        ensures { self.now.term ≡ Some result }
+    {
+        self.term
+    }
+
+    /// Proposes a view to the members. `Old` where its stamp isn't above that of the view.
+    pub fn revoke(self, stamp: Stamp, purpose: Purpose) -> Result<Moving, (Leased, Refusal)>
+        ensures { Begins self self.stamp stamp (begun self stamp purpose) result }
+    {
+        if stamp <= self.view.stamp {
+            return Err((self, Refusal::Old));
+        }
+        let proposed = begin(self.view, stamp, purpose);
+        Ok(Moving { proposed })
+    }
+}
+
+fn begin(view: View, stamp: Stamp, purpose: Purpose) -> Proposed
+    ensures { result ≡ begun view stamp purpose }
+{
+    let asked = view.members;
+    Proposed {
+        settled: Some(view),
+        stamp,
+        purpose,
+        asked,
+    }
+}
+
+fn asked_again(proposed: &Proposed) -> Members
+    ensures { result ≡ asked_again proposed.now }
+{
+    match proposed.settled {
+        Some(view) => view.members,
+        None => proposed.asked,
+    }
+}
+
+/// A chunk as the master's journal gives it back: its settled view, and the stamp that was proposed since, if one was.
+pub fn restore(view: View, moving: Option<Stamp>) -> Lease
+    ensures { result ≡ restored view moving }
+{
+    if let Some(stamp) = moving {
+        return Lease::Moving(Moving {
+            proposed: Proposed {
+                settled: Some(view),
+                stamp,
+                purpose: Purpose::Quiet,
+                asked: Members::none(),
+            },
+        });
+    }
+    let term = view.term;
+    match term {
+        Some(term) => Lease::Leased(Leased { view, term }),
+        None => Lease::Quiet(Quiet { view }),
+    }
+}
+
+impl From<Settled> for Lease {
+    ghost use Rattle.std.specs.Prelude.{◌≡◌};
+    ghost use Rattle.gs_lease.specs.Chunks.{lease_of};
+
+    ghost from_gives = { λ settled lease. lease ≡ lease_of settled };
+
+    fn from(settled: Settled) -> Lease {
+        match settled {
+            Settled::Quiet(quiet) => Lease::Quiet(quiet),
+            Settled::Leased(leased) => Lease::Leased(leased),
+        }
+    }
+}
+
+#[cfg(test)]
+mod tests {
+    use super::*;
+    use std::test::Fail;
+
+    fn version(version: u64) -> Stamp {
+        Stamp { epoch: 0, version }
+    }
+
+    #[test]
+    fn a_chunk_goes_through_its_states(rt: HostRuntime) -> Result<(), Fail> {
+        let all = Members::from_bits(6);
+        let new = Moving::fresh(version(1), all);
+        let new = match new.settle((Members::none(), 0), Moment(0)) {
+            Err((new, refusal)) => {
+                assert_eq!(rt; refusal.number(), 28);
+                new
+            }
+            Ok(_) => return Err(Fail::from("settled without members")),
+        };
+        let quiet = match new.settle((all, 0), Moment(0)) {
+            Ok(Settled::Quiet(quiet)) => quiet,
+            _ => return Err(Fail::from("not quiet")),
+        };
+        assert_eq!(rt; quiet.view().members.bits(), 6);
+        let moving = quiet.begin(version(2), Purpose::Quiet);
+        let moving = match moving.again(version(2), Purpose::Lease) {
+            Err((moving, refusal)) => {
+                assert_eq!(rt; refusal.number(), 19);
+                moving
+            }
+            Ok(_) => return Err(Fail::from("begun again under its own stamp")),
+        };
+        let moving = match moving.again(version(3), Purpose::Lease) {
+            Ok(moving) => moving,
+            Err(_) => return Err(Fail::from("not begun again")),
+        };
+        assert_eq!(rt; moving.proposed().asked.bits(), 6);
+        let leased = match moving.settle((all, 5), Moment(u64::MAX - 59)) {
+            Ok(Settled::Leased(leased)) => leased,
+            _ => return Err(Fail::from("not leased")),
+        };
+        assert_eq!(rt; leased.term().primary.number(), 1);
+        assert_eq!(rt; leased.term().end.0, u64::MAX);
+        let view = leased.view();
+        let moving = match leased.revoke(version(4), Purpose::Quiet) {
+            Ok(moving) => moving,
+            Err(_) => return Err(Fail::from("not revoked")),
+        };
+        let kept = moving.proposed().settled.ok_or("no view")?;
+        assert_eq!(rt; kept.count, 5);
+        assert!(rt; matches!(&restore(view, None), Lease::Leased(_)));
+        assert!(rt; matches!(&restore(view, Some(version(4))), Lease::Moving(_)));
+        let undone = Quiet::rolled_back(version(0), 5, all);
+        assert!(rt; matches!(&restore(undone.view(), None), Lease::Quiet(_)));
+        Ok(())
+    }
+}

@@ -1,0 +1,4 @@
+pub mod Indexes
+pub mod Locks
+pub mod Operations
+pub mod Tallies

@@ -1,0 +1,195 @@
+ghost use Rattle.std.specs.Prelude.{◌≡◌, OnOk};
+
+use crate::lock::Lock;
+use crate::tally::Tally;
+use gs_base::ReqId;
+use gs_path::Path;
+use std::alloc::{AllocError, Global};
+use std::cmp::Ordering;
+use std::marker::Model;
+
+/// An operation as a key.
+#[derive(Drop)]
+pub(crate) struct OpKey {
+    client: u32,
+    number: u64,
+}
+
+impl Model for OpKey {
+    ghost use Rattle.std.specs.Prelude.{List, ℕ, [], ◌∷◌};
+
+    ghost Value = { List ℕ };
+
+    ghost view = { λ k. k.client ∷ k.number ∷ [] };
+}
+
+impl OpKey {
+    ghost use Rattle.gs_lock.specs.Operations.{key_of};
+
+    pub(crate) fn of(op: ReqId) -> OpKey
+        ensures { result ≡ key_of op }
+    {
+        OpKey {
+            client: op.client.0,
+            number: op.number,
+        }
+    }
+}
+
+impl PartialEq for OpKey {
+    ghost use Rattle.std.specs.Cmp.{eq_by_cmp_equiv, partial_equiv_from_equiv};
+    ghost use Rattle.std.specs.Cmp.Lexicographic.{slice_cmp, nat_list_cmp_total};
+    ghost use Rattle.std.specs.Ordering.{eq_by_cmp, nat_cmp};
+
+    ghost eq = { eq_by_cmp (slice_cmp nat_cmp) };
+
+    ghost laws = { partial_equiv_from_equiv (eq_by_cmp_equiv nat_list_cmp_total) };
+
+    fn eq(&self, other: &OpKey) -> bool {
+        self.cmp(other) == Ordering::Equal
+    }
+}
+
+impl Eq for OpKey {
+    ghost use Rattle.std.specs.Cmp.{eq_by_cmp_equiv};
+    ghost use Rattle.std.specs.Cmp.Lexicographic.{nat_list_cmp_total};
+
+    ghost laws = { eq_by_cmp_equiv nat_list_cmp_total };
+}
+
+impl PartialOrd for OpKey {
+    ghost use Rattle.std.specs.Cmp.{partial_order_from_total};
+    ghost use Rattle.std.specs.Cmp.Lexicographic.{slice_cmp, nat_list_cmp_total};
+    ghost use Rattle.std.specs.Ordering.{as_partial_cmp, nat_cmp};
+
+    ghost partial_cmp = { as_partial_cmp (slice_cmp nat_cmp) };
+
+    ghost laws = { partial_order_from_total nat_list_cmp_total };
+
+    fn partial_cmp(&self, other: &OpKey) -> Option<Ordering> {
+        Some(self.cmp(other))
+    }
+}
+
+impl Ord for OpKey {
+    ghost use Rattle.std.specs.Prelude.{refl};
+    ghost use Rattle.std.specs.Cmp.Lexicographic.{slice_cmp, nat_list_cmp_total};
+    ghost use Rattle.std.specs.Ordering.{nat_cmp};
+
+    ghost cmp = { slice_cmp nat_cmp };
+
+    ghost total = { nat_list_cmp_total };
+
+    ghost matches_partial_cmp = { λ x y. refl };
+
+    ghost matches_eq = { λ x y. refl };
+
+    fn cmp(&self, other: &OpKey) -> Ordering {
+        match self.client.cmp(&other.client) {
+            Ordering::Equal => self.number.cmp(&other.number),
+            differs => differs,
+        }
+    }
+}
+
+/// How many locks read each path, write it, and belong to each operation.
+#[derive(Drop)]
+pub(crate) struct Index {
+    pub(crate) reads: Tally<Path>,
+    pub(crate) writes: Tally<Path>,
+    pub(crate) held: Tally<OpKey>,
+}
+
+impl Index {
+    ghost use Rattle.std.specs.Prelude.{[], nat_lt, ◌||◌};
+    ghost use Rattle.std.specs.List.{list_any};
+    ghost use Rattle.gs_lock.specs.Operations.{key_of};
+    ghost use Rattle.gs_lock.specs.Indexes.{reads_at, writes_at, held_at, in_the_way, IsIndexed, SameIndex, AddsLock, HasRoom, Fits, HasLock};
+
+    pub(crate) fn new(alloc: Global) -> Index
+        ensures { IsIndexed [] result }
+    {
+        Index {
+            reads: Tally::new(alloc),
+            writes: Tally::new(alloc),
+            held: Tally::new(alloc),
+        }
+    }
+
+    pub(crate) fn is_held(&self, op: ReqId) -> bool
+        ensures { result ≡ nat_lt 0 (held_at self.now (key_of op)) }
+    {
+        self.held.count(&OpKey::of(op)) > 0
+    }
+
+    /// Whether a lock is in the way of who reads and writes these paths.
+    pub(crate) fn is_in_the_way(&self, reads: &[Path], writes: &[Path]) -> bool
+        ensures { result ≡ in_the_way self.now reads.now writes.now }
+    {
+        self.is_any_written(reads) || self.is_any_locked(writes)
+    }
+
+    fn is_any_written(&self, paths: &[Path]) -> bool
+        ensures { result ≡ list_any (λ path. nat_lt 0 (writes_at self.now path)) paths.now }
+    {
+        paths.iter().any(|path| self.is_written(path))
+    }
+
+    fn is_any_locked(&self, paths: &[Path]) -> bool
+        ensures { result ≡ list_any (λ path. nat_lt 0 (reads_at self.now path) || nat_lt 0 (writes_at self.now path)) paths.now }
+    {
+        paths.iter().any(|path| self.is_locked(path))
+    }
+
+    fn is_written(&self, path: &Path) -> bool
+        ensures { result ≡ nat_lt 0 (writes_at self.now path.now) }
+    {
+        self.writes.count(path) > 0
+    }
+
+    fn is_locked(&self, path: &Path) -> bool
+        ensures { result ≡ (nat_lt 0 (reads_at self.now path.now) || nat_lt 0 (writes_at self.now path.now)) }
+    {
+        self.reads.count(path) > 0 || self.writes.count(path) > 0
+    }
+
+    /// Makes room for a lock, so that adding it takes no memory. `path` is a copy of its path.
+    pub(crate) fn reserve(&mut self, lock: &Lock, path: Path) -> Result<(), AllocError>
+        requires { path ≡ lock.now.path }
+        ensures same { SameIndex self.old self.new }
+        ensures room { OnOk result (HasRoom self.new lock.now) }
+    {
+        self.held.reserve(OpKey::of(lock.op))?;
+        if lock.writes {
+            return self.writes.reserve(path);
+        }
+        self.reads.reserve(path)
+    }
+
+    /// Adds a lock that has room. It takes no memory.
+    pub(crate) fn add(&mut self, lock: &Lock)
+        requires room { HasRoom self.old lock.now }
+        requires fits { Fits self.old lock.now }
+        ensures { AddsLock self.old self.new lock.now }
+    {
+        self.held.add(&OpKey::of(lock.op));
+        if lock.writes {
+            self.writes.add(&lock.path);
+        } else {
+            self.reads.add(&lock.path);
+        }
+    }
+
+    /// Takes a lock out. It takes no memory.
+    pub(crate) fn subtract(&mut self, lock: &Lock)
+        requires { HasLock self.old lock.now }
+        ensures { AddsLock self.new self.old lock.now }
+    {
+        self.held.subtract(&OpKey::of(lock.op));
+        if lock.writes {
+            self.writes.subtract(&lock.path);
+        } else {
+            self.reads.subtract(&lock.path);
+        }
+    }
+}

@@ -1,0 +1,10 @@
+//! Locks on paths that operations read and write, after section 4.1 of the GFS paper.
+#![tactic(auto)]
+
+mod index;
+mod lock;
+mod table;
+mod tally;
+
+pub use lock::Lock;
+pub use table::LockTable;

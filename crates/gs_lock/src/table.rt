@@ -1,0 +1,212 @@
+ghost use Rattle.std.specs.Prelude.{◌≡◌, ◌∷◌, [], ◌++◌, ◌-◌, ◌<◌, ◌≤◌, OnOk, OnErr, length, take};
+ghost use Rattle.gs_lock.specs.Operations.{same_op};
+ghost use Rattle.gs_lock.specs.Locks.{Takes, locks_on, conflicts_with, is_conflict, released, holds};
+
+use crate::index::Index;
+use crate::lock::Lock;
+use gs_base::{Refusal, ReqId};
+use gs_path::Path;
+use std::alloc::{AllocError, Global};
+use std::marker::Model;
+
+/// The locks of pending operations, seen as the list of them. Two operations conflict where one writes a path that the
+/// other reads or writes.
+#[derive(Drop)]
+pub struct LockTable {
+    alloc: Global,
+    locks: Vec<Lock>,
+    index: Index,
+}
+
+impl Model for LockTable {
+    ghost use Rattle.std.specs.Prelude.{List};
+    ghost use Rattle.gs_lock.specs.declared.lock.Lock.{Lock};
+    ghost use Rattle.gs_lock.specs.Indexes.{IsIndexed};
+
+    ghost Value = { List Lock };
+
+    ghost view = { λ t. t.locks.items };
+
+    ghost invariant = { λ t. IsIndexed t.locks.items t.index };
+}
+
+impl LockTable {
+    pub fn new(alloc: Global) -> LockTable
+        ensures { result ≡ [] }
+    {
+        LockTable {
+            alloc,
+            locks: Vec::new(alloc),
+            index: Index::new(alloc),
+        }
+    }
+
+    /// Locks the paths that an operation reads and writes, or refuses `Locked` where another operation is in the way. It
+    /// costs about the operation's own paths times the logarithm of the table. Where the operation holds locks already, it
+    /// looks at each lock of the table.
+    pub fn take(&mut self, op: ReqId, reads: &[Path], writes: &[Path]) -> Result<(), Refusal>
+        ensures { Takes self.old op reads.now writes.now result self.new }
+    {
+        if self.is_conflict(op, reads, writes) {
+            return Err(Refusal::Locked);
+        }
+        let before = self.locks.len();
+        if self.add_all(op, false, reads).is_err() || self.add_all(op, true, writes).is_err() {
+            self.cut(before);
+            return Err(Refusal::Memory);
+        }
+        Ok(())
+    }
+
+    /// Gives up all locks of an operation. It takes no memory.
+    pub fn release(&mut self, op: ReqId)
+        ensures { self.new ≡ released self.old op }
+    {
+        let mut i = 0;
+        while i < self.locks.len() {
+            if is_of(op, &self.locks[i]) {
+                let lock = self.locks.remove(i);
+                self.index.subtract(&lock);
+            } else {
+                i += 1;
+            }
+        }
+    }
+
+    /// Whether an operation holds a lock. It takes no memory.
+    #[tactic(auto, using(crate::proofs::Conflicts::holds_is))]
+    pub fn holds(&self, op: ReqId) -> bool
+        ensures { result ≡ holds self.now op }
+    {
+        self.index.is_held(op)
+    }
+
+    fn is_conflict(&self, op: ReqId, reads: &[Path], writes: &[Path]) -> bool
+        ensures { result ≡ is_conflict self.now op reads.now writes.now }
+    {
+        if self.holds(op) {
+            return self
+                .locks
+                .iter()
+                .any(|lock| conflicts_with(op, reads, writes, lock));
+        }
+        self.index.is_in_the_way(reads, writes)
+    }
+
+    fn add_all(&mut self, op: ReqId, writes: bool, paths: &[Path]) -> Result<(), AllocError>
+        ensures ok { OnOk result (self.new ≡ self.old ++ locks_on op writes paths.now) }
+        ensures begins { take (length self.old) self.new ≡ self.old }
+    {
+        for path in paths {
+            let path = path.copy(self.alloc)?;
+            self.push(Lock { op, path, writes })?;
+        }
+        Ok(())
+    }
+
+    #[tactic(auto, using(crate::proofs::Indexed::indexed_same))]
+    fn push(&mut self, lock: Lock) -> Result<(), AllocError>
+        ensures ok { OnOk result (self.new ≡ self.old ++ lock ∷ []) }
+        ensures err { OnErr result (self.new ≡ self.old) }
+    {
+        let path = lock.path.copy(self.alloc)?;
+        self.locks.reserve(1)?;
+        self.index.reserve(&lock, path)?;
+        self.index.add(&lock);
+        self.locks.push_reserved(lock);
+        Ok(())
+    }
+
+    fn cut(&mut self, len: usize)
+        ensures { self.new ≡ take len self.old }
+    {
+        while self.locks.len() > len {
+            if let Some(lock) = self.locks.pop() {
+                self.index.subtract(&lock);
+            }
+        }
+    }
+}
+
+fn is_of(op: ReqId, lock: &Lock) -> bool
+    ensures { result ≡ same_op op lock.now.op }
+{
+    op == lock.op
+}
+
+fn conflicts_with(op: ReqId, reads: &[Path], writes: &[Path], lock: &Lock) -> bool
+    ensures { result ≡ conflicts_with op reads.now writes.now lock.now }
+{
+    if is_of(op, lock) {
+        return false;
+    }
+    writes.contains(&lock.path) || lock.writes && reads.contains(&lock.path)
+}
+
+#[cfg(test)]
+mod tests {
+    use super::*;
+    use gs_base::ClientId;
+    use gs_path::Name;
+    use std::process::Abort;
+    use std::test::Fail;
+
+    fn path(alloc: Global, names: &[&str]) -> Result<Path, AllocError> {
+        let mut path = Path::root(alloc);
+        for name in names {
+            let bytes = Vec::from_slice(alloc, name.as_bytes())?;
+            path.push(Name::new(bytes))?;
+        }
+        Ok(path)
+    }
+
+    fn op(number: u64) -> ReqId {
+        ReqId {
+            client: ClientId(1),
+            number,
+        }
+    }
+
+    /// A take, and another where memory is refused once: the first has left nothing behind.
+    fn take(
+        rt: &impl Abort,
+        table: &mut LockTable,
+        op: ReqId,
+        reads: &[Path],
+        writes: &[Path],
+    ) -> Result<(), Refusal> {
+        let held = table.holds(op);
+        match table.take(op, reads, writes) {
+            Err(Refusal::Memory) => {
+                assert_eq!(rt; table.holds(op), held);
+                table.take(op, reads, writes)
+            }
+            answer => answer,
+        }
+    }
+
+    #[test]
+    fn locks_what_is_written(rt: HostRuntime) -> Result<(), Fail> {
+        let alloc = rt.alloc();
+        let root = [Path::root(alloc)];
+        let a = [path(alloc, &["a"])?];
+        let b = [path(alloc, &["b"])?];
+        let below = [path(alloc, &["a", "b"])?];
+        let above = [Path::root(alloc), path(alloc, &["a"])?];
+        let mut table = LockTable::new(alloc);
+        take(&rt, &mut table, op(1), &root, &a)?;
+        assert!(rt;
+            matches!(
+                &take(&rt, &mut table, op(2), &above, &below),
+                Err(Refusal::Locked)
+            )
+        );
+        assert!(rt; table.holds(op(1)) && !table.holds(op(2)));
+        take(&rt, &mut table, op(3), &root, &b)?;
+        take(&rt, &mut table, op(1), &a, &a)?;
+        table.release(op(1));
+        assert!(rt; !table.holds(op(1)) && table.holds(op(3)));
+        take(&rt, &mut table, op(2), &above, &below)?;
+        Ok(())
+    }
+}

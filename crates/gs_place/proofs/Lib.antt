@@ -1,0 +1,4 @@
+pub mod Best
+pub mod Firsts
+pub mod Most
+pub mod Picks

@@ -1,0 +1,8 @@
+//! On which servers replicas are put, and which chunk needs one most.
+#![tactic(auto)]
+
+mod need;
+mod placement;
+
+pub use need::{Need, most_needed};
+pub use placement::targets;
