@@ -118,6 +118,13 @@ mod tests {
         let (members, count) = proposal.choose()?;
         assert_eq!(rt; count, 7);
         assert_eq!(rt; members.bits(), 20);
+        assert_eq!(rt; members.len(), 2);
+        let mut left = members;
+        for member in members {
+            assert!(rt; left.contains(member));
+            left.remove(member);
+        }
+        assert!(rt; left.is_empty());
         Ok(())
     }
 }
