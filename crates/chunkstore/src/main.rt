@@ -15,9 +15,13 @@ fn words(rt: &(impl Env + AllocGlobal)) -> io::Result<Vec<String>> {
 
 /// Says on standard error what is wrong with words that are refused.
 fn explain(rt: &(impl Eprint + AllocGlobal), words: &[String], refusal: &Refusal) {
-    let _ = match gs_options::explanation(rt.alloc(), words) {
-        Ok(text) => eprint!(rt; "{text}"),
-        Err(_) => eprintln!(rt; "chunkstore: {refusal}"),
+    let text = match refusal {
+        Refusal::Memory => None,
+        _ => gs_options::explanation(rt.alloc(), words).ok(),
+    };
+    let _ = match text {
+        Some(text) => eprint!(rt; "{text}"),
+        None => eprintln!(rt; "chunkstore: {refusal}"),
     };
 }
 

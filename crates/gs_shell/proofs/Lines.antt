@@ -1,5 +1,5 @@
 -- The lines of an input, one after another.
-use Rattle.std.proofs.Common.{◌≡◌, ◌≢◌, ◌<◌, ◌++◌, ◌∷◌, [], ℕ, List, Bool, true, false, cond, eqb, length, All, Option, Some, None, IfSome, refl, sym, ap, subst, ◌∙◌, arith, append_assoc, append-nil, inl, inr, ◌⊎◌}
+use Rattle.std.proofs.Common.{◌≡◌, ◌≢◌, ◌<◌, ◌++◌, ◌∷◌, [], ℕ, List, Bool, true, false, cond, eqb, length, All, Option, Some, IfSome, refl, sym, ap, subst, ◌∙◌, arith, append_assoc, append-nil, inl, inr}
 use Rattle.std.proofs.lemmas.Grind.{flat_map-append}
 use Rattle.std.proofs.lemmas.List.Elements.{All-head, All-tail, All-nil}
 use Rattle.std.specs.Io.KnownBytes.{Appends, Keeps}
@@ -9,7 +9,7 @@ use Rattle.gs_line.specs.Line.{StaysInLine}
 use Rattle.gs_command.specs.Grammar.{Text}
 use Rattle.gs_machine.specs.State.{State}
 use Rattle.gs_machine.specs.Texts.{reply_text}
-use Rattle.gs_shell.specs.Run.{lines_of, onto, Runs, Replies, Answers, Turns, Wrote, Writes, WritesAnswers, StopsReading, unlines, answers_of, asked, memory_text, step}
+use Rattle.gs_shell.specs.Run.{lines_of, onto, Runs, Answers, Turns, Wrote, Writes, WritesAnswers, StopsReading, unlines, answers_of, asked, memory_text, step}
 
 pub lines_of-step : (xs : List ℕ) → 0 < length xs → lines_of xs ≡ take_through 10 xs ∷ lines_of (drop_through 10 xs)
 lines_of-step [] some = absurd (omega arith)

@@ -1,4 +1,4 @@
-use Rattle.std.proofs.Common.{◌≡◌, ◌≤◌, ℕ, List, Bool, true, false, cond, length, nat_le, Option, None, subst, sym, ap, ◌∙◌, refl, true≢false, rules, arith}
+use Rattle.std.proofs.Common.{◌≡◌, ◌≤◌, ℕ, List, Bool, true, false, cond, length, nat_le, Option, None, subst, sym, ap, ◌∙◌, refl, true≢false}
 use Rattle.std.proofs.lemmas.Bool.{le-leb}
 use Rattle.std.proofs.lemmas.Result.{IfOk-weaker, IfErr-weaker}
 use Rattle.std.specs.Prelude.{Vec}
@@ -8,7 +8,7 @@ use Rattle.gs_line.specs.declared.Line.{Line}
 use Rattle.gs_line.specs.declared.Line.TheVariants as line
 use Rattle.gs_command.specs.Grammar.{Text, Request, line_request}
 use Rattle.gs_machine.specs.State.{State}
-use Rattle.gs_shell.specs.Run.{Answers, AnswersContent, Replies, asked, memory_text}
+use Rattle.gs_shell.specs.Run.{Answers, AnswersContent, Replies, asked}
 use Rattle.gs_shell.proofs.answer.Goals as goal
 
 chosen : {A : Type 0} (b : Bool) (x y : A) → b ≡ true → x ≡ cond b x y

@@ -1,8 +1,8 @@
-use Rattle.std.proofs.Common.{[], true, false, IfSome, rules, ◌≡◌, subst, sym, refl, Option, Some, None, List, ℕ}
+use Rattle.std.proofs.Common.{true, false, IfSome, rules, ◌≡◌, subst, sym, refl, Option, Some, None, List, ℕ}
 use Rattle.gs_machine.specs.State.{State, start}
 use Rattle.gs_shell.specs.declared.RunFault.{RunFault}
 use Rattle.gs_shell.specs.declared.RunFault.TheVariants as fault
-use Rattle.gs_shell.specs.Run.{Wrote, Turns, TurnFails, RunFails}
+use Rattle.gs_shell.specs.Run.{Wrote, TurnFails, RunFails}
 use Rattle.gs_shell.proofs.Weaken.{if_some, if_err}
 use Rattle.gs_shell.proofs.Lines.{wrote_none, wrote_more, wrote_all, stops, stays-here}
 use Rattle.std.proofs.KnownBytes.{Keeps-refl}

@@ -1,4 +1,4 @@
-use Rattle.std.proofs.Common.{[], IfSome}
+use Rattle.std.proofs.Common.{IfSome}
 use Rattle.gs_machine.specs.State.{start}
 use Rattle.gs_shell.specs.Run.{Wrote}
 use Rattle.gs_shell.proofs.run.Given as goal

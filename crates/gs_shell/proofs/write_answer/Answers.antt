@@ -1,4 +1,4 @@
-use Rattle.std.proofs.Common.{◌≡◌, ◌++◌, ◌∷◌, [], List, ℕ, string_bytes, subst, sym, refl, codes}
+use Rattle.std.proofs.Common.{◌≡◌, ◌++◌, ◌∷◌, [], List, ℕ, string_bytes, subst, refl, codes}
 use Rattle.std.specs.Fmt.{digits, decimal}
 use Rattle.std.specs.Io.KnownBytes.{Appends}
 use Rattle.gs_shell.specs.Run.{memory_text}
