@@ -147,18 +147,8 @@ fn conflicts_with(op: ReqId, reads: &[Path], writes: &[Path], lock: &Lock) -> bo
 mod tests {
     use super::*;
     use gs_base::ClientId;
-    use gs_path::Name;
     use std::process::Abort;
     use std::test::Fail;
-
-    fn path(alloc: Global, names: &[&str]) -> Result<Path, AllocError> {
-        let mut path = Path::root(alloc);
-        for name in names {
-            let bytes = Vec::from_slice(alloc, name.as_bytes())?;
-            path.push(Name::new(bytes))?;
-        }
-        Ok(path)
-    }
 
     fn op(number: u64) -> ReqId {
         ReqId {
@@ -189,10 +179,10 @@ mod tests {
     fn locks_what_is_written(rt: HostRuntime) -> Result<(), Fail> {
         let alloc = rt.alloc();
         let root = [Path::root(alloc)];
-        let a = [path(alloc, &["a"])?];
-        let b = [path(alloc, &["b"])?];
-        let below = [path(alloc, &["a", "b"])?];
-        let above = [Path::root(alloc), path(alloc, &["a"])?];
+        let a = [Path::parse(alloc, "/a")?];
+        let b = [Path::parse(alloc, "/b")?];
+        let below = [Path::parse(alloc, "/a/b")?];
+        let above = [Path::root(alloc), Path::parse(alloc, "/a")?];
         let mut table = LockTable::new(alloc);
         take(&rt, &mut table, op(1), &root, &a)?;
         assert!(rt;
