@@ -128,10 +128,31 @@ clash_is true w r x e = absurd (false≢true (sym e))
 clash_is false true r x e = refl
 clash_is false false r x e = refl
 
-pub conflict_is : (locks : List Lock) (index : Index) (op : ReqId) (reads writes : List Path) → IsIndexed locks index → holds locks op ≡ false → in_the_way index reads writes ≡ is_conflict locks op reads writes
-conflict_is locks index op reads writes is none =
+-- what is in the way, whoever holds it
+abbrev clashes : List Path → List Path → Lock → Bool
+clashes reads writes l = (l.writes && is_among reads l.path) || is_among writes l.path
+
+way_is : (locks : List Lock) (index : Index) (reads writes : List Path) → IsIndexed locks index → in_the_way index reads writes ≡ list_any (clashes reads writes) locks
+way_is locks index reads writes is =
     ap (λ b. b || list_any (λ p. nat_lt 0 (reads_at index p) || nat_lt 0 (writes_at index p)) writes) (written locks index reads is)
     ∙ ap (λ b. list_any (λ l. l.writes && is_among reads l.path) locks || b) (locked locks index writes is)
     ∙ any_or (λ l. l.writes && is_among reads l.path) (λ l. is_among writes l.path) locks
-    ∙ any_same_where (λ l. same_op op l.op) (λ l. (l.writes && is_among reads l.path) || is_among writes l.path) (conflicts_with op reads writes)
+
+pub conflict_is : (locks : List Lock) (index : Index) (op : ReqId) (reads writes : List Path) → IsIndexed locks index → holds locks op ≡ false → in_the_way index reads writes ≡ is_conflict locks op reads writes
+conflict_is locks index op reads writes is none =
+    way_is locks index reads writes is
+    ∙ any_same_where (λ l. same_op op l.op) (clashes reads writes) (conflicts_with op reads writes)
     (λ l other. clash_is (same_op op l.op) l.writes (is_among reads l.path) (is_among writes l.path) other) locks none
+
+free_is : (s w r x : Bool) → ((w && r) || x) ≡ false → (not s && cond w (r || x) x) ≡ ((w && r) || x)
+free_is true w r x e = sym e
+free_is false true r x e = refl
+free_is false false r x e = refl
+
+-- where nothing is in the way there is no conflict
+pub free : (locks : List Lock) (index : Index) (op : ReqId) (reads writes : List Path) → IsIndexed locks index → in_the_way index reads writes ≡ false → is_conflict locks op reads writes ≡ false
+free locks index op reads writes is none =
+    let clear = sym (way_is locks index reads writes is) ∙ none in
+    any_same_where (clashes reads writes) (conflicts_with op reads writes) (clashes reads writes)
+    (λ l none'. free_is (same_op op l.op) l.writes (is_among reads l.path) (is_among writes l.path) none') locks clear
+    ∙ clear

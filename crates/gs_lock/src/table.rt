@@ -42,8 +42,8 @@ impl LockTable {
     }
 
     /// Locks the paths that an operation reads and writes, or refuses `Locked` where another operation is in the way. It
-    /// costs about the operation's own paths times the logarithm of the table. Where the operation holds locks already, it
-    /// looks at each lock of the table.
+    /// costs about these paths times the logarithm of the table. Only where a lock is in the way and the operation holds
+    /// locks already, it looks at each lock of the table, as the one in the way may be its own.
     pub fn take(&mut self, op: ReqId, reads: &[Path], writes: &[Path]) -> Result<(), Refusal>
         ensures { Takes self.old op reads.now writes.now result self.new }
     {
@@ -84,13 +84,15 @@ impl LockTable {
     fn is_conflict(&self, op: ReqId, reads: &[Path], writes: &[Path]) -> bool
         ensures { result ≡ is_conflict self.now op reads.now writes.now }
     {
-        if self.holds(op) {
-            return self
-                .locks
-                .iter()
-                .any(|lock| conflicts_with(op, reads, writes, lock));
+        if !self.index.is_in_the_way(reads, writes) {
+            return false;
         }
-        self.index.is_in_the_way(reads, writes)
+        if !self.holds(op) {
+            return true;
+        }
+        self.locks
+            .iter()
+            .any(|lock| conflicts_with(op, reads, writes, lock))
     }
 
     fn add_all(&mut self, op: ReqId, writes: bool, paths: &[Path]) -> Result<(), AllocError>

@@ -1,5 +1,5 @@
 -- The plain machine with its epoch and its count of deletions: what each request answers and leaves.
-use Rattle.std.specs.Prelude.{ℕ, ◌+◌, ◌==◌, ◌&&◌, not, Bool, [], List, if◌then◌else◌, Option, Some, None, Result, Ok, Err, is_none}
+use Rattle.std.specs.Prelude.{ℕ, ◌+◌, ◌==◌, ◌&&◌, not, Bool, true, false, [], List, if◌then◌else◌, Option, Some, None, Result, Ok, Err, is_none}
 use Rattle.gs_base.specs.Numbers.{last_number}
 use Rattle.gs_base.specs.declared.refusal.Refusal.{Refusal}
 use Rattle.gs_base.specs.declared.refusal.Refusal.TheVariants.{IsRoot, NotEmpty, Exhausted, AlreadyUpgrading, NotUpgrading}
@@ -87,3 +87,10 @@ step_of s (Ls p) = on_path s (parse_hidden p) (λ path. (names_reply (listed (at
 step_of s (Mv p q) = on_path s (parse p) (λ from. on_path s (parse q) (λ to. edits s (rename_rows s.plain.tree from to)))
 step_of s (Rm p recursive) = on_path s (parse p) (λ path. deletes s path recursive)
 step_of s (RollingUpgrade u) = upgrades s u
+
+-- the requests that are answered whether or not there is memory
+abbrev pub takes_no_memory : Request → Bool
+takes_no_memory (RollingUpgrade Query) = true
+takes_no_memory (RollingUpgrade Prepare) = true
+takes_no_memory (RollingUpgrade Finalize) = true
+takes_no_memory request = false

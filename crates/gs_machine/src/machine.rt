@@ -1,7 +1,7 @@
-ghost use Rattle.std.specs.Prelude.{◌≡◌, IfOk, OnErr};
+ghost use Rattle.std.specs.Prelude.{◌≡◌, true, IfOk, OnErr, IsOk};
 ghost use Rattle.gs_command.specs.Grammar.{request_of};
 ghost use Rattle.gs_machine.specs.Reply.{reply_of};
-ghost use Rattle.gs_machine.specs.State.{start, step_of};
+ghost use Rattle.gs_machine.specs.State.{start, step_of, takes_no_memory};
 
 use crate::answer::Answer;
 use gs_base::{Moment, Refusal, next_number};
@@ -59,10 +59,11 @@ impl Machine {
         }
     }
 
-    /// Answers a request. Where memory runs out the machine stays as it was.
+    /// Answers a request. Where memory runs out the machine stays as it was. A prepare, a finalize and a query take none.
     pub fn step(&mut self, command: Command<'_>) -> Result<Answer, AllocError>
         ensures ok { IfOk result (λ answer. (reply_of answer, self.new) ≡ step_of self.old (request_of command.entry)) }
         ensures err { OnErr result (self.new ≡ self.old) }
+        ensures no_memory { takes_no_memory (request_of command.entry) ≡ true → IsOk result }
     {
         let answer = match command {
             Command::Mkdir(path) => self.mkdir(path),
@@ -182,12 +183,13 @@ impl Machine {
     }
 
     fn upgrade(&mut self, upgrade: Upgrade) -> Result<Answer, Refusal>
-        ensures { StepIs (step_of self.old (RollingUpgrade upgrade)) self.old result self.new }
+        ensures step { StepIs (step_of self.old (RollingUpgrade upgrade)) self.old result self.new }
+        ensures no_memory { takes_no_memory (RollingUpgrade upgrade) ≡ true → IsOk result }
     {
         match upgrade {
             Upgrade::Query => Ok(self.query()),
-            Upgrade::Prepare => self.prepare(),
-            Upgrade::Finalize => self.finalize(),
+            Upgrade::Prepare => Ok(self.prepare()),
+            Upgrade::Finalize => Ok(self.finalize()),
             Upgrade::Rollback => self.roll_back(),
         }
     }
@@ -201,38 +203,38 @@ impl Machine {
         }
     }
 
-    /// Begins an upgrade. It takes no memory that depends on the tree.
-    fn prepare(&mut self) -> Result<Answer, Refusal>
-        ensures { StepIs (prepares self.old self.old.plain.kept) self.old result self.new }
+    /// Begins an upgrade.
+    fn prepare(&mut self) -> Answer
+        ensures { (reply_of result, self.new) ≡ prepares self.old self.old.plain.kept }
     {
         if self.upgrade.is_some() {
-            return Err(Refusal::AlreadyUpgrading);
+            return Answer::Refused(Refusal::AlreadyUpgrading);
         }
         let epoch = match next_number(self.epoch) {
             Ok(epoch) => epoch,
-            Err(refusal) => return Err(refusal),
+            Err(refusal) => return Answer::Refused(refusal),
         };
         self.upgrade = Some(Standing {
             inverses: Vec::new(self.alloc),
             before: Snapshot::of(&self.names),
         });
         self.epoch = epoch;
-        Ok(Answer::Epoch(epoch))
+        Answer::Epoch(epoch)
     }
 
-    fn finalize(&mut self) -> Result<Answer, Refusal>
-        ensures { StepIs (finalizes self.old self.old.plain.kept) self.old result self.new }
+    fn finalize(&mut self) -> Answer
+        ensures { (reply_of result, self.new) ≡ finalizes self.old self.old.plain.kept }
     {
         if self.upgrade.is_none() {
-            return Err(Refusal::NotUpgrading);
+            return Answer::Refused(Refusal::NotUpgrading);
         }
         let epoch = match next_number(self.epoch) {
             Ok(epoch) => epoch,
-            Err(refusal) => return Err(refusal),
+            Err(refusal) => return Answer::Refused(refusal),
         };
         self.upgrade = None;
         self.epoch = epoch;
-        Ok(Answer::Epoch(epoch))
+        Answer::Epoch(epoch)
     }
 
     /// Puts the names of the prepare in place: the inverses are undone on a copy, the last edit's first.

@@ -1,5 +1,5 @@
 -- The lines of an input, one after another.
-use Rattle.std.proofs.Common.{◌≡◌, ◌≢◌, ◌<◌, ◌++◌, ◌∷◌, [], ℕ, List, Bool, true, false, cond, eqb, length, All, Option, Some, IfSome, refl, sym, ap, subst, ◌∙◌, arith, append_assoc, append-nil, inl, inr}
+use Rattle.std.proofs.Common.{◌≡◌, ◌≢◌, ◌<◌, ◌≤◌, take, take_all, ◌++◌, ◌∷◌, [], ℕ, List, Bool, true, false, cond, eqb, length, All, Option, Some, IfSome, refl, sym, ap, subst, ◌∙◌, arith, append_assoc, append-nil, inl, inr}
 use Rattle.std.proofs.lemmas.Grind.{flat_map-append}
 use Rattle.std.proofs.lemmas.List.Elements.{All-head, All-tail, All-nil}
 use Rattle.std.specs.Io.KnownBytes.{Appends, Keeps}
@@ -9,7 +9,7 @@ use Rattle.gs_line.specs.Line.{StaysInLine}
 use Rattle.gs_command.specs.Grammar.{Text}
 use Rattle.gs_machine.specs.State.{State}
 use Rattle.gs_machine.specs.Texts.{reply_text}
-use Rattle.gs_shell.specs.Run.{lines_of, onto, Runs, Answers, Turns, Wrote, Writes, WritesAnswers, StopsReading, unlines, answers_of, asked, memory_text, step}
+use Rattle.gs_shell.specs.Run.{lines_of, onto, Runs, Answers, Turns, Wrote, Writes, WritesAnswers, StopsReading, StopsWriting, BreaksOff, AppendsBeginning, unlines, answers_of, asked, memory_text, step}
 
 pub lines_of-step : (xs : List ℕ) → 0 < length xs → lines_of xs ≡ take_through 10 xs ∷ lines_of (drop_through 10 xs)
 lines_of-step [] some = absurd (omega arith)
@@ -47,7 +47,7 @@ exact s (l ∷ ls) (t ∷ ts) end (mid, answers, rest) all = elim answers [
   | inr h ↦ absurd (All-head (λ x. x ≢ memory_text) t ts all h.0)
 ]
 
-written : (s : State) (lines texts : List Text) (end : State) (out out' : Option (List ℕ)) → Runs s lines texts end → Appends out out' (unlines texts) → WritesAnswers s lines out out'
+abbrev written : (s : State) (lines texts : List Text) (end : State) (out out' : Option (List ℕ)) → Runs s lines texts end → Appends out out' (unlines texts) → WritesAnswers s lines out out'
 written s lines texts end out out' runs whole = record {
   texts = texts;
   end = end;
@@ -90,6 +90,34 @@ stops s input left left' out mid out' now (texts, lines, rest, is, whole, parts,
   left_in_rest = subst (λ (o : Option (List ℕ)). StaysInLine o left') is stays;
   written = written s lines texts now out out' runs (Appends-kept out mid out' _ whole kept);
 }
+
+-- two writes that left nothing out
+pub begins-whole : (a b c d : Option (List ℕ)) (xs ys : List ℕ) (m n : ℕ) → length xs ≤ m → length ys ≤ n
+    → Appends a b (take m xs) → Appends b c (take n ys) → Keeps c d → AppendsBeginning a d (xs ++ ys)
+begins-whole a b c d xs ys m n all all' p q kept = (
+  length (xs ++ ys),
+  subst (Appends a d) (ap (λ l. l ++ take n ys) (take_all m xs all) ∙ ap (λ l. xs ++ l) (take_all n ys all') ∙ sym (take_all (length (xs ++ ys)) (xs ++ ys) (omega arith)))
+      (Appends-kept a c d _ (Appends-trans a b c _ _ p q) kept),
+)
+
+-- a write fails
+pub breaks : (s : State) (input : List ℕ) (left left' out mid out' : Option (List ℕ)) (now new : State)
+    → Wrote s input left out mid now → IfSome left (λ xs. BreaksOff xs left' mid out' now new) → StopsWriting s input left' out out'
+breaks s input left left' out mid out' now new (texts, lines, rest, is, whole, parts, runs) broken =
+    let (some, left_is, text, answers, begun) = subst (λ (o : Option (List ℕ)). IfSome o (λ xs. BreaksOff xs left' mid out' now new)) is broken in
+    record {
+      lines = lines;
+      line = take_through 10 rest;
+      rest = drop_through 10 rest;
+      parts = parts ∙ ap (λ l. lines ++ l) (lines_of-step rest some);
+      left_is = left_is;
+      between = mid;
+      written = written s lines texts now out mid runs whole;
+      text = text;
+      end = new;
+      answers = answers;
+      begun = begun;
+    }
 
 pub stays-here : (left : Option (List ℕ)) → StaysInLine left left
 stays-here left = ([], Consumes-nil left, All-nil (λ x. x ≢ 10))

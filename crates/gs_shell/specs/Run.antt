@@ -1,5 +1,5 @@
 -- What a run writes.
-use Rattle.std.specs.Prelude.{◌≡◌, ◌≢◌, ◌++◌, ◌∷◌, ◌⊎◌, ◌==◌, ◌<◌, Bool, true, false, ℕ, List, [], length, nat_le, if◌then◌else◌, Option, Some, None, IfSome, flat_map, codes, All, refl}
+use Rattle.std.specs.Prelude.{◌≡◌, ◌≢◌, ◌++◌, ◌∷◌, ◌⊎◌, ◌==◌, ◌<◌, Bool, true, false, ℕ, List, [], length, take, nat_le, if◌then◌else◌, Option, Some, None, IfSome, flat_map, codes, All, refl}
 use Rattle.std.specs.Io.KnownBytes.{Appends, Keeps}
 use Rattle.std.specs.Io.BufRead.{take_through, drop_through}
 use Rattle.gs_base.specs.declared.refusal.Refusal.TheVariants.{Memory, BadLine}
@@ -55,10 +55,19 @@ Turns xs left out out' old new true =
     (0 < length xs) × (left ≡ Some (drop_through 10 xs)) × (text : Text) × Answers old (take_through 10 xs) text new × Appends out out' (text ++ 10 ∷ [])
 Turns xs left out out' old new false = (xs ≡ []) × Keeps out out' × (new ≡ old)
 
--- a read that fails loses bytes of the next line at most; what a failed write leaves written isn't known
+-- no more than a beginning of some bytes is written
+abbrev pub AppendsBeginning : Option (List ℕ) → Option (List ℕ) → List ℕ → Type 0
+AppendsBeginning old new bytes = (count : ℕ) × Appends old new (take count bytes)
+
+-- the next line is read, and of its answer a beginning is written
+abbrev pub BreaksOff : List ℕ → Option (List ℕ) → Option (List ℕ) → Option (List ℕ) → State → State → Type 0
+BreaksOff xs left out out' old new =
+    (0 < length xs) × (left ≡ Some (drop_through 10 xs)) × (text : Text) × Answers old (take_through 10 xs) text new × AppendsBeginning out out' (text ++ 10 ∷ [])
+
+-- a read that fails loses bytes of the next line at most
 abbrev pub TurnFails : RunFault → Option (List ℕ) → Option (List ℕ) → Option (List ℕ) → Option (List ℕ) → State → State → Type 0
 TurnFails fault.Read before left out out' old new = StaysInLine before left × Keeps out out' × (new ≡ old)
-TurnFails fault.Write before left out out' old new = Unit {0}
+TurnFails fault.Write before left out out' old new = IfSome before (λ xs. BreaksOff xs left out out' old new)
 TurnFails (fault.Refused e) before left out out' old new = ⊥
 
 -- the lines may be answered so, one after another
@@ -98,10 +107,25 @@ pub record StopsReading (old_state : State) (input : List ℕ) (left old new : O
   pub left_in_rest : StaysInLine (Some rest) left
   pub written : WritesAnswers old_state lines old new
 
+-- A write fails behind some lines of the input, each of which is answered, and one more line, of whose answer a beginning
+-- is written.
+pub record StopsWriting (old_state : State) (input : List ℕ) (left old new : Option (List ℕ)) : Type 0 where
+  pub lines : List Text
+  pub line : Text
+  pub rest : List ℕ
+  pub parts : lines_of input ≡ lines ++ line ∷ lines_of rest
+  pub left_is : left ≡ Some rest
+  pub between : Option (List ℕ)
+  pub written : WritesAnswers old_state lines old between
+  pub text : Text
+  pub end : State
+  pub answers : Answers written.end line text end
+  pub begun : AppendsBeginning between new (text ++ 10 ∷ [])
+
 -- what is written where a run fails
 abbrev pub RunFails : RunFault → Option (List ℕ) → Option (List ℕ) → Option (List ℕ) → Option (List ℕ) → Type 0
 RunFails fault.Read before left out out' = IfSome before (λ input. StopsReading start input left out out')
-RunFails fault.Write before left out out' = Unit {0}
+RunFails fault.Write before left out out' = IfSome before (λ input. StopsWriting start input left out out')
 RunFails (fault.Refused e) before left out out' = ⊥
 
 -- so far: what is written answers the lines before the rest

@@ -1,18 +1,18 @@
 //! The shell of the store: a request on each line of the input, and its answer on a line of the output.
 #![tactic(auto)]
 
-ghost use Rattle.std.specs.Prelude.{◌≡◌, ◌≢◌, ◌++◌, ◌∷◌, List, ℕ, [], IfOk, OnOk, IfErr, OnErr, IfSome, string_bytes};
+ghost use Rattle.std.specs.Prelude.{◌≡◌, ◌≢◌, ◌≤◌, ◌++◌, ◌∷◌, List, ℕ, [], length, take, IfOk, OnOk, IfErr, OnErr, IfSome, string_bytes};
 ghost use Rattle.std.specs.Io.KnownBytes.{Appends};
 ghost use Rattle.gs_line.specs.Line.{IsLine};
 ghost use Rattle.gs_machine.specs.State.{start};
-ghost use Rattle.gs_shell.specs.Run.{AnswersContent, Answers, Turns, TurnFails, Writes, RunFails, memory_text};
+ghost use Rattle.gs_shell.specs.Run.{AnswersContent, Answers, AppendsBeginning, Turns, TurnFails, Writes, RunFails, memory_text};
 
 use gs_base::Refusal;
 use gs_command::LineError;
 use gs_line::Line;
 use gs_machine::{Answer, Machine};
 use std::alloc::{AllocError, Global};
-use std::io::{BufRead, Write};
+use std::io::{BufRead, ErrorKind, Write};
 use thiserror::Error;
 
 /// Why a run ends before its input does, with the text for standard error.
@@ -59,15 +59,35 @@ fn answer(alloc: Global, machine: &mut Machine, line: &Line) -> Result<String, A
 /// The answer where memory was lacking for another.
 const MEMORY: &str = "refused 33 Memory";
 
+/// Writes bytes until all are written or the writer takes no more, and says how many were written.
+fn write_out<W: Write>(writer: &mut W, bytes: &[u8]) -> usize
+    ensures bound { result ≤ length bytes.now }
+    ensures bytes { Appends (W.contents writer.old) (W.contents writer.new) (take result bytes.now) }
+{
+    let mut written = 0;
+    for _ in 0..u64::MAX {
+        if written == bytes.len() {
+            return written;
+        }
+        match writer.write(&bytes[written..]) {
+            Ok(0) => return written,
+            Ok(count) => written += count,
+            Err(error) if error.kind() == ErrorKind::Interrupted => {}
+            Err(_) => return written,
+        }
+    }
+    written
+}
+
 /// Writes a text as a line, which is flushed.
 fn write_line<W: Write>(writer: &mut W, text: &str) -> Result<(), RunFault>
     ensures ok { OnOk result (Appends (W.contents writer.old) (W.contents writer.new) (text.now ++ 10 ∷ [])) }
-    ensures err { IfErr result (λ e. e ≡ RunFault.Write) }
+    ensures err { OnErr result (AppendsBeginning (W.contents writer.old) (W.contents writer.new) (text.now ++ 10 ∷ [])) }
+    ensures fault { IfErr result (λ e. e ≡ RunFault.Write) }
 {
-    writer
-        .write_all(text.as_bytes())
-        .map_err(|_| RunFault::Write)?;
-    writer.write_all(b"\n").map_err(|_| RunFault::Write)?;
+    if write_out(writer, text.as_bytes()) < text.len() || write_out(writer, b"\n") < 1 {
+        return Err(RunFault::Write);
+    }
     writer.flush().map_err(|_| RunFault::Write)
 }
 
@@ -81,7 +101,9 @@ fn write_answer<W: Write>(
     requires { line.now ≢ Line.End }
     ensures ok { OnOk result ((whole : List ℕ) → IsLine whole line.now → (text : List ℕ) × Answers machine.old whole text machine.new
         × Appends (W.contents writer.old) (W.contents writer.new) (text ++ 10 ∷ [])) }
-    ensures err { IfErr result (λ e. e ≡ RunFault.Write) }
+    ensures err { OnErr result ((whole : List ℕ) → IsLine whole line.now → (text : List ℕ) × Answers machine.old whole text machine.new
+        × AppendsBeginning (W.contents writer.old) (W.contents writer.new) (text ++ 10 ∷ [])) }
+    ensures fault { IfErr result (λ e. e ≡ RunFault.Write) }
 {
     match answer(alloc, machine, line) {
         Ok(text) => write_line(writer, &text),
@@ -115,8 +137,9 @@ fn turn<R: BufRead, W: Write>(
 /// writer is flushed behind each answer. The store begins with its root alone, in epoch 0.
 ///
 /// Where memory is lacking, the answer is `refused 33 Memory`, and the run goes on. A read or a write that fails ends it:
-/// the fault is `Read` or `Write`. Of the line that a failed read stands in, nothing is answered. A failed write may leave
-/// a part of its answer written, and the request is done or not. After 18,446,744,073,709,551,615 lines the fault is
+/// the fault is `Read` or `Write`. Of the line that a failed read stands in, nothing is answered. A write fails that gives
+/// an error other than an interruption, or takes nothing: what stands written is the answers to the lines before, and then
+/// a beginning of the answer to the line that was read last. After 18,446,744,073,709,551,615 lines the fault is
 /// `Read`.
 pub fn run<R: BufRead, W: Write>(
     alloc: Global,

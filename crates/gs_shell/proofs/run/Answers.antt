@@ -4,7 +4,7 @@ use Rattle.gs_shell.specs.declared.RunFault.{RunFault}
 use Rattle.gs_shell.specs.declared.RunFault.TheVariants as fault
 use Rattle.gs_shell.specs.Run.{Wrote, TurnFails, RunFails}
 use Rattle.gs_shell.proofs.Weaken.{if_some, if_err}
-use Rattle.gs_shell.proofs.Lines.{wrote_none, wrote_more, wrote_all, stops, stays-here}
+use Rattle.gs_shell.proofs.Lines.{wrote_none, wrote_more, wrote_all, stops, breaks, stays-here}
 use Rattle.std.proofs.KnownBytes.{Keeps-refl}
 use Rattle.gs_shell.proofs.run.Goals as goal
 
@@ -20,11 +20,10 @@ returns-then-not-branch-clause-ok g c =
     let turn = rw none at c.in_ok-turn.ensures.ok in
     if_some (g.R.Read.remaining c.args.reader.now) _ _ (λ input so_far. wrote_all start input (g.R.Read.remaining c.loop.reader) (g.R.Read.remaining c.turn.new.reader) (g.W.Write.contents c.args.writer.now) (g.W.Write.contents c.loop.writer) (g.W.Write.contents c.turn.new.writer) c.loop.machine c.turn.new.machine so_far turn) c.loop.invariant
 
--- only a read that fails tells what is written
 fails : (f : RunFault) (before left left' out mid out' : Option (List ℕ)) (now new : State)
     → IfSome before (λ input. Wrote start input left out mid now) → TurnFails f left left' mid out' now new → RunFails f before left' out out'
 fails fault.Read before left left' out mid out' now new so_far h = if_some before _ _ (λ input w. stops start input left left' out mid out' now w h.0 h.1) so_far
-fails fault.Write before left left' out mid out' now new so_far h = tt
+fails fault.Write before left left' out mid out' now new so_far h = if_some before _ _ (λ input w. breaks start input left left' out mid out' now new w h) so_far
 fails (fault.Refused e) before left left' out mid out' now new so_far h = absurd h
 
 begins : (o out : Option (List ℕ)) (s : State) → s ≡ start → IfSome o (λ input. Wrote start input o out out s)

@@ -1,11 +1,14 @@
-use Rattle.std.proofs.Common.{◌≡◌, ◌<◌, ◌∷◌, [], List, ℕ, length, Some, ap, refl, rules, arith}
+use Rattle.std.proofs.Common.{◌≡◌, ◌<◌, ◌∷◌, [], List, ℕ, length, Some, ap, refl, sym, subst, rules, arith}
 use Rattle.std.proofs.BufReadLemmas.{take_through-nil, take_through_nonempty}
 use Rattle.std.proofs.KnownBytes.{Keeps-refl}
 use Rattle.std.specs.Io.BufRead.{take_through, drop_through}
 use Rattle.gs_line.specs.Line.{IsLine, content}
 use Rattle.gs_line.specs.declared.Line.{Line}
 use Rattle.gs_line.specs.declared.Line.TheVariants.{End, Text, TooLong, NoMemory}
-use Rattle.gs_shell.proofs.Weaken.{if_some, if_some₂}
+use Rattle.gs_shell.specs.Run.{TurnFails}
+use Rattle.gs_shell.specs.declared.RunFault.{RunFault}
+use Rattle.gs_shell.specs.declared.RunFault.TheVariants as fault
+use Rattle.gs_shell.proofs.Weaken.{if_some, if_some₂, if_err, if_ok}
 use Rattle.gs_shell.proofs.turn.Goals as goal
 
 -- what has some content is not empty
@@ -31,3 +34,20 @@ returns-in_ok-write_answer-in-Ok-clause-ok g c =
     if_some₂ (g.R.Read.remaining c.args.reader.now) (λ xs. IsLine (take_through 10 xs) c.in-Ok.line) (λ xs. g.R.Read.remaining c.next_line.new.reader ≡ Some (drop_through 10 xs)) _ (λ xs line rest.
     let (text, answers, out) = c.in_ok-write_answer-in-Ok.ensures.ok (take_through 10 xs) line in
     (take_through_nonempty 10 xs (nonempty (take_through 10 xs) c.in-Ok.line more line), rest, text, answers, out)) c.in-Ok.ensures.line c.in-Ok.ensures.rest
+
+pub returns-in_err-write_answer-in-Ok : goal.returns-in_err-write_answer-in-Ok
+returns-in_err-write_answer-in-Ok g c =
+    let before = g.R.Read.remaining c.args.reader.now in
+    let left = g.R.Read.remaining c.next_line.new.reader in
+    let out = g.W.Write.contents c.args.writer.now in
+    let out' = g.W.Write.contents c.write_answer.new.writer in
+    let more : c.in-Ok.line ≡ End → ⊥ = search rules in
+    let broken : TurnFails fault.Write before left out out' c.args.machine.now c.write_answer.new.machine =
+    if_some₂ before (λ xs. IsLine (take_through 10 xs) c.in-Ok.line) (λ xs. left ≡ Some (drop_through 10 xs)) _ (λ xs line rest.
+    let (text, answers, begun) = c.in_err-write_answer-in-Ok.ensures.err (take_through 10 xs) line in
+    (take_through_nonempty 10 xs (nonempty (take_through 10 xs) c.in-Ok.line more line), rest, text, answers, begun)) c.in-Ok.ensures.line c.in-Ok.ensures.rest in
+    record {
+      ok = if_ok c.from_residual.result _ _ c.from_residual.ensures.1;
+      err = if_err c.from_residual.result c.in_err-write_answer-in-Ok.field-0.0 _ c.from_residual.ensures.1
+          (subst (λ (f : RunFault). TurnFails f before left out out' c.args.machine.now c.write_answer.new.machine) (sym c.in_err-write_answer-in-Ok.ensures.fault) broken);
+    }
