@@ -1,0 +1,68 @@
+//! Runs one part of the store a number of times, so that `bench/run.py` can measure it from outside.
+#![tactic(auto)]
+
+mod names;
+
+use gs_base::Refusal;
+use std::alloc::Global;
+use std::process::ExitCode;
+use std::rt::Env;
+use std::{env, io};
+
+/// What is run.
+#[derive(Clone, Copy, Debug, PartialEq, Eq)]
+enum Part {
+    /// Names with so many files in one directory.
+    Build,
+    /// The same, and one copy of them.
+    Copy,
+}
+
+impl Part {
+    fn named(name: &str) -> Option<Part> {
+        match name {
+            "build" => Some(Part::Build),
+            "copy" => Some(Part::Copy),
+            _ => None,
+        }
+    }
+
+    fn run(self, alloc: Global, count: u64) -> Result<(), Refusal> {
+        match self {
+            Part::Build => names::build(alloc, count).map(|_| ()),
+            Part::Copy => names::copy(alloc, count),
+        }
+    }
+}
+
+/// The part and the number that the words name.
+fn asked(words: &[String]) -> Option<(Part, u64)> {
+    let [_, part, count] = words else {
+        return None;
+    };
+    let part = Part::named(part)?;
+    let count = count.parse().ok()?;
+    Some((part, count))
+}
+
+fn words(rt: &(impl Env + AllocGlobal)) -> io::Result<Vec<String>> {
+    Ok(env::args(rt)?.collect(rt.alloc())?)
+}
+
+/// The status is 0 where the part ran, 1 where it was refused, and 2 where the words name none.
+fn main(rt: HostRuntime) -> ExitCode {
+    let Ok(words) = words(&rt) else {
+        return ExitCode::from(2);
+    };
+    let Some((part, count)) = asked(&words) else {
+        let _ = eprintln!(rt; "usage: gs_parts PART COUNT");
+        return ExitCode::from(2);
+    };
+    match part.run(rt.alloc(), count) {
+        Ok(()) => ExitCode::SUCCESS,
+        Err(refusal) => {
+            let _ = eprintln!(rt; "gs_parts: {refusal}");
+            ExitCode::FAILURE
+        }
+    }
+}
