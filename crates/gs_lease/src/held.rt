@@ -104,29 +104,3 @@ impl Spent {
         self.stamp
     }
 }
-
-#[cfg(test)]
-mod tests {
-    use super::*;
-    use std::test::Fail;
-
-    #[test]
-    fn a_lease_ends_at_its_end(rt: HostRuntime) -> Result<(), Fail> {
-        let stamp = Stamp {
-            epoch: 0,
-            version: 2,
-        };
-        let held = Held::grant(stamp, Members::from_bits(7), Moment(60));
-        assert!(rt; held.check(Moment(59)).is_ok());
-        assert!(rt; matches!(&held.check(Moment(60)), Err(Refusal::LeaseOver)));
-        let held = held.renew(Moment(70)).renew(Moment(65));
-        assert_eq!(rt; held.granted().end, Moment(70));
-        assert_eq!(rt; held.granted().members.bits(), 7);
-        let Err(held) = held.expire(Moment(69)) else {
-            return Err(Fail::from("expired too early"));
-        };
-        let spent = held.expire(Moment(70)).ok().ok_or("not expired")?;
-        assert_eq!(rt; spent.stamp(), stamp);
-        Ok(())
-    }
-}

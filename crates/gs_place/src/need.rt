@@ -75,28 +75,3 @@ fn needs_more(config: &Config, need: &Need, other: &Need) -> bool
     }
     need.handle < other.handle
 }
-
-#[cfg(test)]
-mod tests {
-    use super::*;
-    use std::test::Fail;
-
-    #[test]
-    fn takes_the_chunk_that_needs_most(rt: HostRuntime) -> Result<(), Fail> {
-        let config = Config::new(4, 2, 3, 4, 16)?;
-        let mut needs = [Need {
-            handle: Handle::first(),
-            references: 1,
-            is_visible: false,
-            members: 2,
-        }; 3];
-        needs[1].handle = Handle::first().next()?;
-        assert_eq!(rt; most_needed(&config, &needs).map(|h| h.number()), Some(1));
-        needs[1].is_visible = true;
-        assert_eq!(rt; most_needed(&config, &needs).map(|h| h.number()), Some(2));
-        needs[2].members = 1;
-        assert_eq!(rt; most_needed(&config, &needs).map(|h| h.number()), Some(1));
-        assert!(rt; most_needed(&config, &[]).is_none());
-        Ok(())
-    }
-}

@@ -94,24 +94,3 @@ fn is_rack_used(config: &Config, taken: Members, server: ServerId) -> bool
     }
     false
 }
-
-#[cfg(test)]
-mod tests {
-    use super::*;
-    use std::test::Fail;
-
-    /// Three files of one chunk each, on two of three servers in two racks.
-    #[test]
-    fn spreads_three_chunks(rt: HostRuntime) -> Result<(), Fail> {
-        let config = Config::new(3, 2, 2, 4, 16)?;
-        let mut replicas = [0; 16];
-        for (counts, bits) in [([0, 0, 0], 3), ([1, 1, 0], 6), ([1, 2, 1], 3)] {
-            replicas[..3].copy_from_slice(&counts);
-            let chosen = targets(&config, &replicas, Members::none(), config.replicas)?;
-            assert_eq!(rt; chosen.bits(), bits);
-        }
-        let all = Members::from_bits(7);
-        assert!(rt; matches!(&targets(&config, &replicas, all, 1), Err(Refusal::NoServer)));
-        Ok(())
-    }
-}

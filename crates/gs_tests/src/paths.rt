@@ -1,5 +1,5 @@
-use crate::{Name, Path};
 use gs_base::{Moment, Refusal};
+use gs_path::{Name, Path};
 use std::alloc::Global;
 use std::test::Fail;
 
