@@ -1,0 +1,5 @@
+pub mod Counts
+pub mod Anew
+pub mod Verified
+pub mod Writing
+pub mod Following

@@ -1,0 +1,5 @@
+pub mod Chunk
+pub mod Stored
+pub mod Edits
+pub mod Inverses
+pub mod Follows
