@@ -5,7 +5,7 @@ use Rattle.std.proofs.Math.Nat.{div-mul-le_self, mul-le-mul_right, div-eq_of_lt,
 use Rattle.std.proofs.lemmas.Bool.{cases_lt}
 use Rattle.gs_block.specs.Stored.{Stored, IsStored, empty, count_of}
 
-one_times : (k : ℕ) → 1 * k ≡ k
+pub one_times : (k : ℕ) → 1 * k ≡ k
 one_times k = omega arith
 
 -- a block that is counted begins below the end

@@ -3,3 +3,6 @@ pub mod Anew
 pub mod Verified
 pub mod Writing
 pub mod Following
+pub mod Back
+pub mod Kept
+pub mod Matching

@@ -4,7 +4,7 @@ use Rattle.std.specs.Prelude.{◌≡◌, ℕ, ◌+◌, ◌-◌, ◌*◌, ◌/◌
 use Rattle.gs_base.specs.declared.refusal.Refusal.{Refusal}
 use Rattle.gs_base.specs.declared.refusal.Refusal.TheVariants.{Range, Damaged}
 use Rattle.gs_block.specs.Chunk.{written, appended, padded}
-use Rattle.gs_block.specs.Stored.{Stored, count_of, digests_from, digests_of, first_damaged}
+use Rattle.gs_block.specs.Stored.{Stored, empty, count_of, digests_from, first_damaged}
 
 -- the new bytes, with the blocks between the two places digested anew
 unfoldable pub with_bytes : Stored → ℕ → ℕ → List ℕ → Stored
@@ -43,8 +43,9 @@ pad s = cond (length s.bytes == s.chunk) (Ok s) (changed s (length s.bytes) s.ch
 -- The stored bytes of a range: fewer at the end. Range where it passes the size of the chunk.
 abbrev pub read : Stored → ℕ → ℕ → Result (List ℕ) Refusal
 read s offset many = cond (nat_lt s.chunk (offset + many)) (Err Range)
-    (cond (many == 0) (Ok [])
-    (unless_damaged (damaged_between s (min offset (length s.bytes)) (offset + many)) (take many (drop offset s.bytes))))
+    (cond (nat_lt offset (min (offset + many) (length s.bytes)))
+    (unless_damaged (damaged_between s offset (min (offset + many) (length s.bytes))) (take many (drop offset s.bytes)))
+    (Ok []))
 
 -- 1 is added modulo 256 to the first byte of a block, and its digest stays
 abbrev pub damage : Stored → ℕ → Result Stored Refusal
@@ -56,3 +57,28 @@ damage s i = cond (nat_lt i (length s.digests))
       digests = s.digests;
     }))
     (Err Range)
+
+abbrev bytes_of : Result Stored Refusal → Result (List ℕ) Refusal
+bytes_of (Ok s) = Ok s.bytes
+bytes_of (Err e) = Err e
+
+-- a chunk of 16 bytes in blocks of 4
+past_the_end : bytes_of (write (empty 4 16) 5 (98 ∷ [])) ≡ Ok (0 ∷ 0 ∷ 0 ∷ 0 ∷ 0 ∷ 98 ∷ [])
+unfolding damaged_between with_bytes written count_of
+past_the_end = refl
+
+past_the_size : write (empty 4 16) 14 (1 ∷ 2 ∷ 3 ∷ []) ≡ Err Range
+past_the_size = refl
+
+no_bytes : append (empty 4 16) [] ≡ Err Range
+no_bytes = refl
+
+four_zeros : bytes_of (pad (empty 4 4)) ≡ Ok (0 ∷ 0 ∷ 0 ∷ 0 ∷ [])
+unfolding damaged_between with_bytes count_of
+four_zeros = refl
+
+nothing_is_read : read (empty 4 16) 3 13 ≡ Ok []
+nothing_is_read = refl
+
+no_block : damage (empty 4 16) 0 ≡ Err Range
+no_block = refl

@@ -3,3 +3,4 @@ pub mod Stored
 pub mod Edits
 pub mod Inverses
 pub mod Follows
+pub mod Kept

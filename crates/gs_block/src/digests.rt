@@ -2,7 +2,7 @@ ghost use Rattle.std.specs.Prelude.{◌≡◌, ◌≤◌, ◌<◌, ◌+◌, ◌-
 ghost use Rattle.std.specs.Str.{bytes_eq};
 ghost use Rattle.sha2.specs.Sha256.{sha256};
 ghost use Rattle.sha2.specs.Hashers.{Holds256};
-ghost use Rattle.gs_block.specs.Stored.{count_of, block_at, digest_at, digests_from, is_intact, first_damaged};
+ghost use Rattle.gs_block.specs.Stored.{count_of, block_at, digest_at, digests_from, is_intact, first_damaged, are_digests};
 
 use sha2::{Digest as _, Sha256};
 
@@ -82,6 +82,17 @@ pub(crate) fn first_damaged(
         }
     }
     None
+}
+
+/// Whether these are the digests of all blocks.
+pub(crate) fn are_digests(bytes: &[u8], size: usize, digests: &[Digest]) -> bool
+    requires some { 1 ≤ size }
+    requires size_fits { size ≤ 65536 }
+    requires bytes_fit { length bytes.now ≤ 67108864 }
+    ensures test { result ≡ are_digests size bytes.now digests.now }
+{
+    let count = count_of(size, bytes.len());
+    digests.len() == count && first_damaged(bytes, size, digests, 0, count).is_none()
 }
 
 /// A hasher of the bytes of a place's block that stand before the place.

@@ -1,11 +1,13 @@
 use Rattle.std.proofs.Common.{◌≡◌, ◌≤◌, ◌+◌, ◌-◌, ◌/◌, ◌++◌, ◌<◌, length, take, drop, subst, sym, ap, ◌∙◌, min, max, arith}
 use Rattle.std.specs.Prelude.{Some, None, Ok, Err}
 use Rattle.gs_block.specs.Chunk.{written}
-use Rattle.gs_block.specs.Stored.{Stored, first_damaged, count_of}
+use Rattle.gs_block.specs.Stored.{Stored, IsStored, first_damaged, count_of}
 use Rattle.gs_block.specs.Edits.{damaged_between, with_bytes, changed}
 use Rattle.gs_block.specs.Follows.{Follows}
+use Rattle.gs_block.specs.Inverses.{inverse_of}
 use Rattle.gs_block.specs.declared.inverse.BlockInverse.{BlockInverse}
-use Rattle.gs_block.proofs.Following.{refused, accepted, stays_stored}
+use Rattle.gs_block.proofs.Following.{refused, accepted, stays_stored, new_is}
+use Rattle.gs_block.proofs.Kept.{write_back, write_keeps}
 use Rattle.gs_block.proofs.Writing.{length-written}
 use Rattle.gs_block.proofs.blocks.Blocks.put.Goals as goal
 
@@ -35,7 +37,7 @@ invariant_of-self-2 c =
     c.write_anew.ensures.each
 
 pub returns-clause-edit : goal.returns-clause-edit
-unfolding damaged_between with_bytes
+unfolding damaged_between
 returns-clause-edit c =
     let end = c.args.offset + length c.args.piece.now in
     let bytes = c.self.inside.bytes.items in
@@ -47,8 +49,20 @@ returns-clause-edit c =
     ap (λ a. first_damaged block bytes digests (a / block) (min (count_of block end) (length digests) - a / block)) (sym at_is) ∙ sym found ∙ c.in-None.is in
     let none : damaged_between c.args.self.now (min c.args.offset (length c.args.self.now.bytes)) end ≡ None =
     subst (λ (s : Stored). damaged_between s (min c.args.offset (length s.bytes)) end ≡ None) c.self.view_is f in
-    let new : Stored = record { block = block; chunk = c.self.inside.chunk; bytes = c.write_anew.new.bytes.items; digests = c.write_anew.new.digests.items } in
-    let is : new ≡ with_bytes c.args.self.now (min c.args.offset (length c.args.self.now.bytes)) end (written c.args.offset c.args.piece.now c.args.self.now.bytes) =
-    subst (λ (s : Stored). new ≡ with_bytes s (min c.args.offset (length s.bytes)) end (written c.args.offset c.args.piece.now s.bytes)) c.self.view_is
-    (λ i. record { block = block; chunk = c.self.inside.chunk; bytes = c.in_ok-write_anew.ensures.bytes i; digests = c.in_ok-write_anew.ensures.digests i }) in
-    accepted BlockInverse c.args.self.now new (min c.args.offset (length c.args.self.now.bytes)) end (written c.args.offset c.args.piece.now c.args.self.now.bytes) c.in_ok-inverse.inverse none is
+    let inside : Stored = record { block = block; chunk = c.self.inside.chunk; bytes = bytes; digests = digests } in
+    accepted BlockInverse c.args.self.now _ (min c.args.offset (length c.args.self.now.bytes)) end (written c.args.offset c.args.piece.now c.args.self.now.bytes) c.in_ok-inverse.inverse none
+    (new_is c.args.offset c.args.piece.now inside c.args.self.now c.write_anew.new.bytes.items c.write_anew.new.digests.items c.self.view_is c.in_ok-write_anew.ensures.bytes c.in_ok-write_anew.ensures.digests)
+
+pub returns-clause-undo : goal.returns-clause-undo
+returns-clause-undo c =
+    let inside : Stored = record { block = c.self.inside.block; chunk = c.self.inside.chunk; bytes = c.self.inside.bytes.items; digests = c.self.inside.digests.items } in
+    write_back c.args.self.now _ _ c.args.offset c.args.piece.now (subst IsStored c.self.view_is c.self.invariant)
+    (c.in_ok-inverse.ensures ∙ ap (λ a. inverse_of c.args.self.now a (c.args.offset + length c.args.piece.now))
+    (c.min-at.ensures ∙ ap (min c.args.offset) (c.len.ensures ∙ c.self.inside.bytes.ok.0) ∙ ap (λ (s : Stored). min c.args.offset (length s.bytes)) c.self.view_is))
+    (new_is c.args.offset c.args.piece.now inside c.args.self.now c.write_anew.new.bytes.items c.write_anew.new.digests.items c.self.view_is c.in_ok-write_anew.ensures.bytes c.in_ok-write_anew.ensures.digests)
+
+pub returns-clause-intact : goal.returns-clause-intact
+returns-clause-intact c =
+    let inside : Stored = record { block = c.self.inside.block; chunk = c.self.inside.chunk; bytes = c.self.inside.bytes.items; digests = c.self.inside.digests.items } in
+    write_keeps BlockInverse c.in_ok-inverse.inverse c.args.self.now _ c.args.offset c.args.piece.now (subst IsStored c.self.view_is c.self.invariant)
+    (new_is c.args.offset c.args.piece.now inside c.args.self.now c.write_anew.new.bytes.items c.write_anew.new.digests.items c.self.view_is c.in_ok-write_anew.ensures.bytes c.in_ok-write_anew.ensures.digests)
