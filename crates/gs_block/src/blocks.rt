@@ -295,12 +295,12 @@ mod tests {
     fn edits_a_chunk(rt: HostRuntime) -> Result<(), Fail> {
         let mut chunk = Blocks::new(rt.alloc(), 4, 16);
         chunk.write(0, b"abc")?;
-        assert_eq!(rt; *chunk.digests(), [ABC].as_slice());
+        assert_eq!(rt; chunk.digests(), [ABC].as_slice());
         let beyond = chunk.write(5, b"b")?;
-        assert_eq!(rt; *chunk.read(0, 16)?, b"abc\0\0b".as_slice());
+        assert_eq!(rt; chunk.read(0, 16)?, b"abc\0\0b".as_slice());
         assert_eq!(rt; chunk.digests().len(), 2);
         chunk.undo(&beyond)?;
-        assert_eq!(rt; *chunk.digests(), [ABC].as_slice());
+        assert_eq!(rt; chunk.digests(), [ABC].as_slice());
         assert!(rt; matches!(&chunk.undo(&beyond), Err(Refusal::BadLine)));
         assert!(rt; matches!(&chunk.write(14, b"abc"), Err(Refusal::Range)));
         chunk.append(b"0123456789abc")?;
@@ -311,7 +311,7 @@ mod tests {
         assert!(rt; matches!(&chunk.write(3, b"zzzzzz"), Err(Refusal::Damaged(1))));
         assert!(rt; matches!(&chunk.read(4, 1), Err(Refusal::Damaged(1))));
         assert!(rt; !chunk.matches(chunk.digests()));
-        assert_eq!(rt; *chunk.read(2, 2)?, b"c0".as_slice());
+        assert_eq!(rt; chunk.read(2, 2)?, b"c0".as_slice());
         Ok(())
     }
 }
