@@ -6,3 +6,4 @@ pub mod Following
 pub mod Back
 pub mod Kept
 pub mod Matching
+pub mod Whole

@@ -4,7 +4,7 @@ use Rattle.std.specs.Prelude.{◌≡◌, ℕ, ◌+◌, ◌-◌, ◌*◌, ◌/◌
 use Rattle.gs_base.specs.declared.refusal.Refusal.{Refusal}
 use Rattle.gs_base.specs.declared.refusal.Refusal.TheVariants.{Range, Damaged}
 use Rattle.gs_block.specs.Chunk.{written, appended, padded}
-use Rattle.gs_block.specs.Stored.{Stored, empty, count_of, digests_from, first_damaged}
+use Rattle.gs_block.specs.Stored.{Stored, empty, count_of, digests_from, digests_of, first_damaged}
 
 -- the new bytes, with the blocks between the two places digested anew
 unfoldable pub with_bytes : Stored → ℕ → ℕ → List ℕ → Stored
@@ -46,6 +46,15 @@ read s offset many = cond (nat_lt s.chunk (offset + many)) (Err Range)
     (cond (nat_lt offset (min (offset + many) (length s.bytes)))
     (unless_damaged (damaged_between s offset (min (offset + many) (length s.bytes))) (take many (drop offset s.bytes)))
     (Ok []))
+
+-- A chunk of these bytes, with their digests. Range where they pass the size of the chunk.
+abbrev pub chunk_of : ℕ → ℕ → List ℕ → Result Stored Refusal
+chunk_of block chunk bytes = cond (nat_lt chunk (length bytes)) (Err Range)
+    (Ok (record { block = block; chunk = chunk; bytes = bytes; digests = digests_of block bytes }))
+
+-- the same chunk, where every block has its digest
+abbrev pub copied : Stored → Result Stored Refusal
+copied s = unless_damaged (first_damaged s.block s.bytes s.digests 0 (length s.digests)) s
 
 -- 1 is added modulo 256 to the first byte of a block, and its digest stays
 abbrev pub damage : Stored → ℕ → Result Stored Refusal

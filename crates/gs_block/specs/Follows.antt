@@ -23,3 +23,10 @@ Answers view (Ok a) (Ok b) = view b ≡ a
 Answers view (Err e) (Ok b) = ⊥
 Answers view (Ok a) (Err f) = ⊥
 Answers view (Err e) (Err f) = f ≡ e
+
+-- it makes what the definition says, or it has no memory
+abbrev pub Makes : {A : Type 0} → Result A Refusal → Result A Refusal → Type 0
+Makes (Ok a) (Ok b) = b ≡ a
+Makes (Err e) (Ok b) = ⊥
+Makes (Ok a) (Err f) = f ≡ Memory
+Makes (Err e) (Err f) = (f ≡ e) ⊎ (f ≡ Memory)

@@ -2,9 +2,9 @@ ghost use Rattle.std.specs.Prelude.{◌≡◌, ◌≤◌, ◌<◌, ◌+◌, ◌-
 ghost use Rattle.sha2.specs.Hashers.{Holds256};
 ghost use Rattle.gs_block.specs.Chunk.{written};
 ghost use Rattle.gs_block.specs.Stored.{Stored, empty, digests_of, are_digests};
-ghost use Rattle.gs_block.specs.Edits.{changed, write, append, pad, read, damage};
+ghost use Rattle.gs_block.specs.Edits.{changed, chunk_of, copied, write, append, pad, read, damage};
 ghost use Rattle.gs_block.specs.Inverses.{fits, undo, inverse_of};
-ghost use Rattle.gs_block.specs.Follows.{Follows, Does, Answers};
+ghost use Rattle.gs_block.specs.Follows.{Follows, Does, Answers, Makes};
 ghost use Rattle.gs_block.specs.Kept.{KeepsIntact};
 
 use crate::digests::{
@@ -51,6 +51,42 @@ impl Blocks {
             bytes: Vec::new(alloc),
             digests: Vec::new(alloc),
         }
+    }
+
+    /// A chunk of these bytes, with their digests. `Range` where they pass the size of the chunk.
+    pub fn of(alloc: Global, block: u64, chunk: u64, bytes: &[u8]) -> Result<Blocks, Refusal>
+        requires some { 1 ≤ block }
+        requires block_fits { block ≤ 65536 }
+        requires chunk_fits { chunk ≤ 67108864 }
+        ensures { Makes (chunk_of block chunk bytes.now) result }
+    {
+        let mut blocks = Blocks::new(alloc, block, chunk);
+        if bytes.is_empty() {
+            return Ok(blocks);
+        }
+        match blocks.write(0, bytes) {
+            Ok(_inverse) => {}
+            Err(refusal) => return Err(refusal),
+        }
+        Ok(blocks)
+    }
+
+    /// A chunk of the same bytes. Every block is verified first: `Damaged` names the lowest that fails.
+    pub fn copy(&self) -> Result<Blocks, Refusal>
+        ensures { Makes (copied self.now) result }
+    {
+        let count = self.digests.len();
+        match first_damaged(&self.bytes, self.block, &self.digests, 0, count) {
+            Some(index) => return Err(Refusal::Damaged(index as u64)),
+            None => {}
+        }
+        Ok(Blocks {
+            alloc: self.alloc,
+            block: self.block,
+            chunk: self.chunk,
+            bytes: Vec::from_slice(self.alloc, &self.bytes)?,
+            digests: Vec::from_slice(self.alloc, &self.digests)?,
+        })
     }
 
     /// What takes back an edit of the bytes from `at` on and below `end`.
