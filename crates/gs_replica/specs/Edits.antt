@@ -71,3 +71,12 @@ on_chunk r (Err e) = Err e
 
 abbrev pub damage : ℕ → Held → Result Held Refusal
 damage block r = on_chunk r (blocks.damage r.chunk block)
+
+-- a replica of this chunk under a stamp, with this count and these requests
+abbrev pub held_of : Stamp → ℕ → fin.FinMap nat_cmp Done → Result Stored Refusal → Result Held Refusal
+held_of stamp count done (Ok s) = Ok (record { chunk = s; count = count; done = done; promise = stamp })
+held_of stamp count done (Err e) = Err e
+
+-- Damaged names the lowest block of the replica that is copied without its digest
+abbrev pub copied : Stamp → Held → Result Held Refusal
+copied stamp r = held_of stamp r.count r.done (blocks.copied r.chunk)

@@ -1,4 +1,4 @@
-ghost use Rattle.std.specs.Prelude.{◌≡◌, OnOk, OnErr, None, is_some, true};
+ghost use Rattle.std.specs.Prelude.{◌≡◌, IfOk, OnOk, OnErr, None, is_some, true};
 ghost use Rattle.std.specs.FinMap as fin;
 ghost use Rattle.gs_replica.specs.Undo.{entry_before};
 
@@ -37,6 +37,15 @@ impl DoneTable {
         DoneTable {
             entries: BTreeMap::new(alloc),
         }
+    }
+
+    /// A table of the same requests.
+    pub fn copy(&self) -> Result<DoneTable, AllocError>
+        ensures { IfOk result (λ table. table ≡ self.now) }
+    {
+        Ok(DoneTable {
+            entries: self.entries.clone()?,
+        })
     }
 
     /// A client's last applied request.

@@ -3,9 +3,10 @@ ghost use Rattle.std.specs.FinMap as fin;
 ghost use Rattle.gs_block.specs.Stored.{Stored, are_digests};
 ghost use Rattle.gs_block.specs.Edits as blocks;
 ghost use Rattle.gs_block.specs.Inverses as inverses;
-ghost use Rattle.gs_block.specs.Follows.{Follows, Does, Answers};
+ghost use Rattle.gs_block.specs.Kept.{KeepsIntact};
+ghost use Rattle.gs_block.specs.Follows.{Follows, Does, Answers, Makes};
 ghost use Rattle.gs_replica.specs.Held.{Held};
-ghost use Rattle.gs_replica.specs.Edits.{fresh, promise, apply, is_before, is_same, is_old, edited, outcome_of, with_edit, damage};
+ghost use Rattle.gs_replica.specs.Edits.{fresh, promise, apply, is_before, is_same, is_old, edited, outcome_of, with_edit, damage, held_of, copied};
 ghost use Rattle.gs_replica.specs.Undo.{undo};
 
 use crate::done::DoneTable;
@@ -72,6 +73,43 @@ impl Replica {
         }
     }
 
+    /// A replica of the bytes, the count and the requests that a copy carries, which has promised a stamp. `Range` where the
+    /// bytes pass the size of the chunk.
+    pub fn of(
+        alloc: Global,
+        block: u64,
+        chunk: u64,
+        stamp: Stamp,
+        bytes: &[u8],
+        count: u64,
+        done: DoneTable,
+    ) -> Result<Replica, Refusal>
+        requires some { 1 ≤ block }
+        requires block_fits { block ≤ 65536 }
+        requires chunk_fits { chunk ≤ 67108864 }
+        ensures { Makes (held_of stamp count done (blocks.chunk_of block chunk bytes.now)) result }
+    {
+        Ok(Replica {
+            blocks: Blocks::of(alloc, block, chunk, bytes)?,
+            count,
+            done,
+            promise: stamp,
+        })
+    }
+
+    /// A replica of the same bytes, count and requests, which has promised a stamp. Every block is verified first:
+    /// `Damaged` names the lowest that fails.
+    pub fn copy(&self, stamp: Stamp) -> Result<Replica, Refusal>
+        ensures { Makes (copied stamp self.now) result }
+    {
+        Ok(Replica {
+            blocks: self.blocks.copy()?,
+            count: self.count,
+            done: self.done.copy()?,
+            promise: stamp,
+        })
+    }
+
     /// Promises to take no edit below a stamp. `Old` where a greater one is promised. It takes no memory.
     pub fn promise(&mut self, stamp: Stamp) -> Result<(), Refusal>
         ensures { Does (promise stamp self.old) result self.old self.new }
@@ -96,6 +134,7 @@ impl Replica {
     ) -> Result<ReplicaInverse, Refusal>
         ensures edit { Follows (apply stamp number req op bytes.now self.old) result self.old self.new }
         ensures undo { IfOk result (λ i. undo i self.new ≡ Ok self.old) }
+        ensures intact { KeepsIntact result self.old.chunk self.new.chunk }
     {
         if !is_same(stamp, self.promise) {
             return Err(Refusal::Stamp(self.promise));
@@ -120,6 +159,7 @@ impl Replica {
         requires { number ≡ self.old.count + 1 }
         ensures edit { Follows (with_edit self.old req op (edited op bytes.now self.old.chunk)) result self.old self.new }
         ensures undo { IfOk result (λ i. undo i self.new ≡ Ok self.old) }
+        ensures intact { KeepsIntact result self.old.chunk self.new.chunk }
     {
         let before = self.done.get(req.client);
         let outcome = outcome_of(op, self.blocks.len());
@@ -196,6 +236,13 @@ impl Replica {
         self.done.get(client)
     }
 
+    /// Each client's last applied request.
+    pub fn done_table(&self) -> &DoneTable
+        ensures { result.now ≡ self.now.done }
+    {
+        &self.done
+    }
+
     /// The stored digests, one for each block.
     pub fn digests(&self) -> &[Digest]
         ensures { result.now ≡ self.now.chunk.digests }
@@ -242,6 +289,7 @@ fn outcome_of(op: Op, len: u64) -> Outcome
 fn edit(blocks: &mut Blocks, op: Op, bytes: &[u8]) -> Result<BlockInverse, Refusal>
     ensures edit { Follows (edited op bytes.now blocks.old) result blocks.old blocks.new }
     ensures undo { IfOk result (λ i. inverses.undo i blocks.new ≡ Ok blocks.old) }
+    ensures intact { KeepsIntact result blocks.old blocks.new }
 {
     match op {
         Op::Write(offset) => blocks.write(offset, bytes),
@@ -255,4 +303,74 @@ fn take_back(blocks: &mut Blocks, inverse: &BlockInverse)
     ensures { (s : Stored) → inverses.undo inverse.now blocks.old ≡ Ok s → blocks.new ≡ s }
 {
     let _undone = blocks.undo(inverse);
+}
+
+#[cfg(test)]
+mod tests {
+    use super::*;
+    use std::test::Fail;
+
+    /// The request of client 1 of this number.
+    fn request(number: u64) -> ReqId {
+        let client = ClientId(1);
+        ReqId { client, number }
+    }
+
+    /// Numbered edits of a chunk of 16 bytes in blocks of 4, each with its answer.
+    #[test]
+    fn takes_numbered_edits(rt: HostRuntime) -> Result<(), Fail> {
+        let [first, second] = [1, 2].map(|version| Stamp { epoch: 0, version });
+        let mut replica = Replica::new(rt.alloc(), 4, 16, first);
+        replica.apply(first, 1, request(1), Op::Write(0), b"abc")?;
+        assert!(rt;
+            matches!(
+                &replica.apply(second, 2, request(2), Op::Append, b"d"),
+                Err(Refusal::Stamp(_))
+            )
+        );
+        replica.promise(second)?;
+        assert!(rt; matches!(&replica.promise(first), Err(Refusal::Old)));
+        assert!(rt;
+            matches!(
+                &replica.apply(second, 3, request(2), Op::Append, b"d"),
+                Err(Refusal::Gap(1))
+            )
+        );
+        assert!(rt;
+            matches!(
+                &replica.apply(second, 2, request(1), Op::Append, b"d"),
+                Err(Refusal::Old)
+            )
+        );
+        assert!(rt;
+            matches!(
+                &replica.apply(second, 2, request(2), Op::Append, b""),
+                Err(Refusal::Range)
+            )
+        );
+        let append = replica.apply(second, 2, request(2), Op::Append, b"def")?;
+        assert!(rt;
+            matches!(
+                &replica.done(ClientId(1)),
+                Some(Done {
+                    number: 2,
+                    outcome: Outcome::Appended(3)
+                })
+            )
+        );
+        assert_eq!(rt; replica.read(0, 16)?, b"abcdef".as_slice());
+        replica.undo(&append)?;
+        assert_eq!(rt; replica.len(), 3);
+        assert_eq!(rt; replica.count(), 1);
+        assert!(rt; matches!(&replica.undo(&append), Err(Refusal::BadLine)));
+        replica.damage(0)?;
+        assert!(rt; !replica.is_intact());
+        assert!(rt;
+            matches!(
+                &replica.apply(second, 2, request(2), Op::Pad, b""),
+                Err(Refusal::Damaged(0))
+            )
+        );
+        Ok(())
+    }
 }
