@@ -14,7 +14,7 @@ STAGE = os.path.join(BENCH, "out", "stage")
 CRATE = os.path.join(STAGE, "crates", "gs_parts")
 PROGRAM = os.path.join(CRATE, "out", "gs_parts")
 FOLDERS = ["src", "specs", "proofs"]
-CRATES = "gs_parts: gs_base gs_path gs_edit"
+CRATES = "gs_parts: gs_base gs_path gs_edit gs_block sha2"
 REPEATS = 3
 LEAST_SECONDS = 0.005
 

@@ -6,6 +6,9 @@ use std::alloc::Global;
 /// The bytes of a block.
 const BLOCK: u64 = 65_536;
 
+/// The bytes of a chunk: 16 blocks.
+const CHUNK: u64 = 1_048_576;
+
 fn piece(alloc: Global) -> Result<Vec<u8>, Refusal> {
     let mut piece = Vec::new(alloc);
     piece.resize(65_536, 7)?;
@@ -24,25 +27,33 @@ pub(crate) fn digest(alloc: Global, count: u64) -> Result<(), Refusal> {
     Ok(())
 }
 
+/// A full chunk.
+fn full(alloc: Global, piece: &[u8]) -> Result<Blocks, Refusal> {
+    let mut chunk = Blocks::new(alloc, BLOCK, CHUNK);
+    for _ in 0..16 {
+        chunk.append(piece)?;
+    }
+    Ok(chunk)
+}
+
 /// Whole blocks, each written over one that stands there.
 pub(crate) fn write(alloc: Global, count: u64) -> Result<(), Refusal> {
     let piece = piece(alloc)?;
-    let mut chunk = Blocks::new(alloc, BLOCK, BLOCK);
-    chunk.append(&piece)?;
-    for _ in 0..count {
-        chunk.write(0, &piece)?;
+    let mut chunk = full(alloc, &piece)?;
+    for i in 0..count {
+        chunk.write(i % 16 * BLOCK, &piece)?;
     }
     Ok(())
 }
 
-/// Appends of 100 bytes, to a block at a time.
+/// Appends of 100 bytes, to a new chunk where one is full.
 pub(crate) fn append(alloc: Global, count: u64) -> Result<(), Refusal> {
     let piece = [7; 100];
-    let mut chunk = Blocks::new(alloc, BLOCK, BLOCK);
+    let mut chunk = Blocks::new(alloc, BLOCK, CHUNK);
     for _ in 0..count {
         match chunk.append(&piece) {
             Ok(_) => {}
-            Err(Refusal::Range) => chunk = Blocks::new(alloc, BLOCK, BLOCK),
+            Err(Refusal::Range) => chunk = Blocks::new(alloc, BLOCK, CHUNK),
             Err(refusal) => return Err(refusal),
         }
     }
@@ -52,10 +63,9 @@ pub(crate) fn append(alloc: Global, count: u64) -> Result<(), Refusal> {
 /// Whole blocks that are read.
 pub(crate) fn read(alloc: Global, count: u64) -> Result<(), Refusal> {
     let piece = piece(alloc)?;
-    let mut chunk = Blocks::new(alloc, BLOCK, BLOCK);
-    chunk.append(&piece)?;
-    for _ in 0..count {
-        chunk.read(0, BLOCK)?;
+    let chunk = full(alloc, &piece)?;
+    for i in 0..count {
+        chunk.read(i % 16 * BLOCK, BLOCK)?;
     }
     Ok(())
 }

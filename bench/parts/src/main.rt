@@ -1,6 +1,7 @@
 //! Runs one part of the store a number of times, so that `bench/run.py` can measure it from outside.
 #![tactic(auto)]
 
+mod blocks;
 mod names;
 
 use gs_base::Refusal;
@@ -16,6 +17,14 @@ enum Part {
     Build,
     /// The same, and one copy of them.
     Copy,
+    /// Digests of a block by the library alone.
+    Digest,
+    /// Whole blocks written over blocks.
+    Write,
+    /// Appends of 100 bytes.
+    Append,
+    /// Whole blocks read.
+    Read,
 }
 
 impl Part {
@@ -23,6 +32,10 @@ impl Part {
         match name {
             "build" => Some(Part::Build),
             "copy" => Some(Part::Copy),
+            "digest" => Some(Part::Digest),
+            "write" => Some(Part::Write),
+            "append" => Some(Part::Append),
+            "read" => Some(Part::Read),
             _ => None,
         }
     }
@@ -31,6 +44,10 @@ impl Part {
         match self {
             Part::Build => names::build(alloc, count).map(|_| ()),
             Part::Copy => names::copy(alloc, count),
+            Part::Digest => blocks::digest(alloc, count),
+            Part::Write => blocks::write(alloc, count),
+            Part::Append => blocks::append(alloc, count),
+            Part::Read => blocks::read(alloc, count),
         }
     }
 }

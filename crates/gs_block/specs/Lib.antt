@@ -1,0 +1,6 @@
+pub mod Chunk
+pub mod Stored
+pub mod Edits
+pub mod Inverses
+pub mod Follows
+pub mod Kept

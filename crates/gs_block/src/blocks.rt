@@ -1,0 +1,353 @@
+ghost use Rattle.std.specs.Prelude.{◌≡◌, ◌≤◌, ◌<◌, ◌+◌, ◌-◌, ◌/◌, ◌%◌, ◌*◌, ◌↔◌, ◌++◌, ◌==◌, ◌||◌, nat_lt, nat_le, List, ℕ, IfOk, IsTrue, length, take, drop, min, max, Ok};
+ghost use Rattle.sha2.specs.Hashers.{Holds256};
+ghost use Rattle.gs_block.specs.Chunk.{written};
+ghost use Rattle.gs_block.specs.Stored.{Stored, empty, digests_of, are_digests};
+ghost use Rattle.gs_block.specs.Edits.{changed, chunk_of, copied, write, append, pad, read, damage};
+ghost use Rattle.gs_block.specs.Inverses.{fits, undo, inverse_of};
+ghost use Rattle.gs_block.specs.Follows.{Follows, Does, Answers, Makes};
+ghost use Rattle.gs_block.specs.Kept.{KeepsIntact};
+
+use crate::digests::{
+    Digest, are_digests, count_of, first_damaged, first_damaged_between, hasher_to,
+};
+use crate::inverse::BlockInverse;
+use crate::parts::{copy_of_part, put_over, write_anew};
+use gs_base::Refusal;
+use std::alloc::{AllocError, Global};
+use std::marker::Model;
+
+/// The bytes of a chunk in blocks, each with its digest.
+#[derive(Debug, Drop)]
+pub struct Blocks {
+    alloc: Global,
+    block: usize,
+    chunk: usize,
+    bytes: Vec<u8>,
+    digests: Vec<Digest>,
+}
+
+impl Model for Blocks {
+    ghost use Rattle.gs_block.specs.Stored.{Stored, IsStored};
+
+    ghost Value = { Stored };
+
+    ghost view = { λ b. record { block = b.block; chunk = b.chunk; bytes = b.bytes.items; digests = b.digests.items } };
+
+    ghost invariant = { λ b. IsStored (record { block = b.block; chunk = b.chunk; bytes = b.bytes.items; digests = b.digests.items }) };
+}
+
+impl Blocks {
+    /// A chunk of no bytes yet, of blocks of `block` bytes and at most `chunk` bytes.
+    pub fn new(alloc: Global, block: u64, chunk: u64) -> Blocks
+        requires some { 1 ≤ block }
+        requires block_fits { block ≤ 65536 }
+        requires chunk_fits { chunk ≤ 67108864 }
+        ensures { result ≡ empty block chunk }
+    {
+        Blocks {
+            alloc,
+            block: block as usize,
+            chunk: chunk as usize,
+            bytes: Vec::new(alloc),
+            digests: Vec::new(alloc),
+        }
+    }
+
+    /// A chunk of these bytes, with their digests. `Range` where they pass the size of the chunk.
+    pub fn of(alloc: Global, block: u64, chunk: u64, bytes: &[u8]) -> Result<Blocks, Refusal>
+        requires some { 1 ≤ block }
+        requires block_fits { block ≤ 65536 }
+        requires chunk_fits { chunk ≤ 67108864 }
+        ensures { Makes (chunk_of block chunk bytes.now) result }
+    {
+        let mut blocks = Blocks::new(alloc, block, chunk);
+        if bytes.is_empty() {
+            return Ok(blocks);
+        }
+        match blocks.write(0, bytes) {
+            Ok(_inverse) => {}
+            Err(refusal) => return Err(refusal),
+        }
+        Ok(blocks)
+    }
+
+    /// A chunk of the same bytes. Every block is verified first: `Damaged` names the lowest that fails.
+    pub fn copy(&self) -> Result<Blocks, Refusal>
+        ensures { Makes (copied self.now) result }
+    {
+        let count = self.digests.len();
+        match first_damaged(&self.bytes, self.block, &self.digests, 0, count) {
+            Some(index) => return Err(Refusal::Damaged(index as u64)),
+            None => {}
+        }
+        Ok(Blocks {
+            alloc: self.alloc,
+            block: self.block,
+            chunk: self.chunk,
+            bytes: Vec::from_slice(self.alloc, &self.bytes)?,
+            digests: Vec::from_slice(self.alloc, &self.digests)?,
+        })
+    }
+
+    /// What takes back an edit of the bytes from `at` on and below `end`.
+    #[tactic(auto, using(crate::proofs::Counts::first_counted))]
+    fn inverse(&self, at: usize, end: usize) -> Result<BlockInverse, AllocError>
+        requires within { at ≤ length self.now.bytes }
+        requires order { at ≤ end }
+        requires fits { end ≤ self.now.chunk }
+        ensures { IfOk result (λ i. i ≡ inverse_of self.now at end) }
+    {
+        let held = self.bytes.len();
+        let first = at / self.block;
+        let last = count_of(self.block, end);
+        let bytes = copy_of_part(self.alloc, &self.bytes, at, end)?;
+        let digests = copy_of_part(self.alloc, &self.digests, first, last)?;
+        Ok(BlockInverse {
+            at,
+            old_length: held,
+            new_length: held.max(end),
+            bytes,
+            digests,
+        })
+    }
+
+    /// Writes a piece at an offset. First it verifies each stored block with a byte from the lesser of the offset and the
+    /// end on and below the end of the piece.
+    fn put(&mut self, offset: usize, piece: &[u8]) -> Result<BlockInverse, Refusal>
+        requires { offset + length piece.now ≤ self.old.chunk }
+        ensures edit { Follows (changed self.old (min offset (length self.old.bytes)) (offset + length piece.now) (written offset piece.now self.old.bytes)) result self.old self.new }
+        ensures inverse { IfOk result (λ i. i ≡ inverse_of self.old (min offset (length self.old.bytes)) (offset + length piece.now)) }
+        ensures undo { IfOk result (λ i. undo i self.new ≡ Ok self.old) }
+        ensures intact { KeepsIntact result self.old self.new }
+    {
+        let at = offset.min(self.bytes.len());
+        let end = offset + piece.len();
+        let hasher = hasher_to(&self.bytes, self.block, at);
+        let copy = hasher.clone()?;
+        match first_damaged_between(copy, &self.bytes, self.block, &self.digests, at, end) {
+            Some(index) => return Err(Refusal::Damaged(index as u64)),
+            None => {}
+        }
+        let inverse = self.inverse(at, end)?;
+        write_anew(
+            hasher,
+            &mut self.bytes,
+            self.block,
+            &mut self.digests,
+            offset,
+            piece,
+        )?;
+        Ok(inverse)
+    }
+
+    /// Writes a piece at an offset, with zeros before it where the offset lies past the end. `Range` for no bytes, and where
+    /// the piece would end past the size of the chunk. Each stored block with a byte from the lesser of the offset and the
+    /// end on and below the end of the piece is verified first: `Damaged` names the lowest that fails. After section 5.2 of
+    /// the GFS paper, where a write verifies the first and the last block of its range; here it verifies all.
+    pub fn write(&mut self, offset: u64, piece: &[u8]) -> Result<BlockInverse, Refusal>
+        ensures edit { Follows (write self.old offset piece.now) result self.old self.new }
+        ensures inverse { IfOk result (λ i. i ≡ inverse_of self.old (min offset (length self.old.bytes)) (offset + length piece.now)) }
+        ensures undo { IfOk result (λ i. undo i self.new ≡ Ok self.old) }
+        ensures intact { KeepsIntact result self.old self.new }
+    {
+        if is_outside(self.chunk, offset, piece) {
+            return Err(Refusal::Range);
+        }
+        self.put(offset as usize, piece)
+    }
+
+    /// Writes a piece at the end. `Range` for no bytes, and where the piece does not fit. The last block is verified first if
+    /// it is short.
+    pub fn append(&mut self, piece: &[u8]) -> Result<BlockInverse, Refusal>
+        ensures edit { Follows (append self.old piece.now) result self.old self.new }
+        ensures inverse { IfOk result (λ i. i ≡ inverse_of self.old (length self.old.bytes) (length self.old.bytes + length piece.now)) }
+        ensures undo { IfOk result (λ i. undo i self.new ≡ Ok self.old) }
+        ensures intact { KeepsIntact result self.old self.new }
+    {
+        let held = self.bytes.len();
+        if is_outside(self.chunk, held as u64, piece) {
+            return Err(Refusal::Range);
+        }
+        self.put(held, piece)
+    }
+
+    /// Fills the chunk up with zeros. A full chunk stays as it is. The last block is verified first if it is short.
+    pub fn pad(&mut self) -> Result<BlockInverse, Refusal>
+        ensures edit { Follows (pad self.old) result self.old self.new }
+        ensures inverse { IfOk result (λ i. i ≡ inverse_of self.old (length self.old.bytes) self.old.chunk) }
+        ensures undo { IfOk result (λ i. undo i self.new ≡ Ok self.old) }
+        ensures intact { KeepsIntact result self.old self.new }
+    {
+        let held = self.bytes.len();
+        if held == self.chunk {
+            return Ok(self.inverse(held, held)?);
+        }
+        let chunk = self.chunk;
+        self.put(chunk, &[])
+    }
+
+    /// Whether an inverse can be taken back: the length is that which the edit left, and what the inverse holds lies below
+    /// the length that the edit found.
+    #[tactic(auto, unfolding(crate::specs::Inverses::fits))]
+    fn fits(&self, inverse: &BlockInverse) -> bool
+        ensures { result ≡ fits inverse.now self.now }
+    {
+        self.bytes.len() == inverse.new_length
+            && inverse.old_length <= inverse.new_length
+            && is_within(inverse.at, inverse.bytes.len(), inverse.old_length)
+            && is_within(
+                inverse.at / self.block,
+                inverse.digests.len(),
+                count_of(self.block, inverse.old_length),
+            )
+    }
+
+    /// Takes an edit back: puts the bytes that it overwrote and the digests of the blocks that it touched in their places,
+    /// and cuts to the length before it. No block is verified, so damage since the edit still shows. It takes no memory.
+    /// `BadLine` where the inverse does not fit, as when another edit has been taken since that changed the length.
+    pub fn undo(&mut self, inverse: &BlockInverse) -> Result<(), Refusal>
+        ensures { Does (undo inverse.now self.old) result self.old self.new }
+    {
+        if !self.fits(inverse) {
+            return Err(Refusal::BadLine);
+        }
+        put_over(&mut self.bytes, inverse.at, &inverse.bytes);
+        self.bytes.truncate(inverse.old_length);
+        put_over(&mut self.digests, inverse.at / self.block, &inverse.digests);
+        self.digests
+            .truncate(count_of(self.block, inverse.old_length));
+        Ok(())
+    }
+
+    /// The stored bytes of a range, which are fewer where the bytes end in it or before it. `Range` where the range passes
+    /// the size of the chunk. Each stored block with a byte of the range is verified first: `Damaged` names the lowest that
+    /// fails.
+    pub fn read(&self, offset: u64, many: u64) -> Result<&[u8], Refusal>
+        ensures { Answers (λ part. part.now) (read self.now offset many) result }
+    {
+        if offset.saturating_add(many) > self.chunk as u64 {
+            return Err(Refusal::Range);
+        }
+        let start = offset as usize;
+        let end = (start + many as usize).min(self.bytes.len());
+        if end <= start {
+            return Ok(&self.bytes[..0]);
+        }
+        let last = count_of(self.block, end).min(self.digests.len());
+        match first_damaged(
+            &self.bytes,
+            self.block,
+            &self.digests,
+            start / self.block,
+            last,
+        ) {
+            Some(index) => Err(Refusal::Damaged(index as u64)),
+            None => Ok(part_of(&self.bytes, start, end)),
+        }
+    }
+
+    /// How many bytes are stored.
+    pub fn len(&self) -> u64
+        ensures { result ≡ length self.now.bytes }
+    {
+        self.bytes.len() as u64
+    }
+
+    pub fn is_empty(&self) -> bool
+        ensures { result ≡ (length self.now.bytes == 0) }
+    {
+        self.bytes.is_empty()
+    }
+
+    /// The stored digests, one for each block.
+    pub fn digests(&self) -> &[Digest]
+        ensures { result.now ≡ self.now.digests }
+    {
+        &self.digests
+    }
+
+    /// Whether these are the digests of the bytes, block by block.
+    pub fn matches(&self, digests: &[Digest]) -> bool
+        ensures test { result ≡ are_digests self.now.block self.now.bytes digests.now }
+        ensures digests { IsTrue result ↔ (digests.now ≡ digests_of self.now.block self.now.bytes) }
+    {
+        are_digests(&self.bytes, self.block, digests)
+    }
+
+    /// Adds 1 modulo 256 to the first byte of a block and leaves the digest, as a fault of a disk would. `Range` where there
+    /// is no such block.
+    #[tactic(auto, using(crate::proofs::Counts::starts))]
+    pub fn damage(&mut self, block: u64) -> Result<(), Refusal>
+        ensures { Does (damage self.old block) result self.old self.new }
+    {
+        let index = block as usize;
+        if index >= self.digests.len() {
+            return Err(Refusal::Range);
+        }
+        let first = index * self.block;
+        self.bytes[first] = self.bytes[first].wrapping_add(1);
+        Ok(())
+    }
+}
+
+/// The bytes from one place on and below another.
+fn part_of(bytes: &[u8], start: usize, end: usize) -> &[u8]
+    requires order { start ≤ end }
+    requires within { end ≤ length bytes.now }
+    ensures { result.now ≡ take (end - start) (drop start bytes.now) }
+{
+    &bytes[start..end]
+}
+
+/// Whether as many items from `start` on end at or before `end`.
+fn is_within(start: usize, many: usize, end: usize) -> bool
+    ensures { result ≡ nat_le (start + many) end }
+{
+    many <= end && start <= end - many
+}
+
+/// Whether a piece has no bytes or would end past the size of the chunk.
+fn is_outside(chunk: usize, offset: u64, piece: &[u8]) -> bool
+    requires { chunk ≤ 67108864 }
+    ensures { result ≡ ((length piece.now == 0) || nat_lt chunk (offset + length piece.now)) }
+{
+    piece.is_empty() || offset.saturating_add(piece.len() as u64) > chunk as u64
+}
+
+#[cfg(test)]
+mod tests {
+    use super::*;
+    use std::test::Fail;
+
+    /// The digest of `abc`, of the examples of FIPS 180-4.
+    const ABC: [u8; 32] = [
+        0xba, 0x78, 0x16, 0xbf, 0x8f, 0x01, 0xcf, 0xea, 0x41, 0x41, 0x40, 0xde, 0x5d, 0xae, 0x22,
+        0x23, 0xb0, 0x03, 0x61, 0xa3, 0x96, 0x17, 0x7a, 0x9c, 0xb4, 0x10, 0xff, 0x61, 0xf2, 0x00,
+        0x15, 0xad,
+    ];
+
+    /// Edits of a chunk of 16 bytes in blocks of 4, each with what it leaves.
+    #[test]
+    fn edits_a_chunk(rt: HostRuntime) -> Result<(), Fail> {
+        let mut chunk = Blocks::new(rt.alloc(), 4, 16);
+        chunk.write(0, b"abc")?;
+        assert_eq!(rt; chunk.digests(), [ABC].as_slice());
+        let beyond = chunk.write(5, b"b")?;
+        assert_eq!(rt; chunk.read(0, 16)?, b"abc\0\0b".as_slice());
+        assert_eq!(rt; chunk.digests().len(), 2);
+        chunk.undo(&beyond)?;
+        assert_eq!(rt; chunk.digests(), [ABC].as_slice());
+        assert!(rt; matches!(&chunk.undo(&beyond), Err(Refusal::BadLine)));
+        assert!(rt; matches!(&chunk.write(14, b"abc"), Err(Refusal::Range)));
+        chunk.append(b"0123456789abc")?;
+        assert_eq!(rt; chunk.len(), 16);
+        chunk.pad()?;
+        assert!(rt; matches!(&chunk.append(b"d"), Err(Refusal::Range)));
+        chunk.damage(1)?;
+        assert!(rt; matches!(&chunk.write(3, b"zzzzzz"), Err(Refusal::Damaged(1))));
+        assert!(rt; matches!(&chunk.read(4, 1), Err(Refusal::Damaged(1))));
+        assert!(rt; !chunk.matches(chunk.digests()));
+        assert_eq!(rt; chunk.read(2, 2)?, b"c0".as_slice());
+        Ok(())
+    }
+}

@@ -1,0 +1,11 @@
+//! The bytes of a chunk in blocks, each with its digest, which is compared with the bytes before any use of them.
+#![tactic(auto)]
+
+mod blocks;
+mod digests;
+mod inverse;
+mod parts;
+
+pub use blocks::Blocks;
+pub use digests::Digest;
+pub use inverse::BlockInverse;

@@ -1,0 +1,82 @@
+-- Numbered edits of a replica.
+use Rattle.std.specs.Prelude.{◌≡◌, ℕ, ◌+◌, ◌-◌, ◌==◌, ◌&&◌, ◌||◌, not, Bool, cond, nat_lt, nat_le, List, length, Option, Some, None, is_some, Result, Ok, Err, true, false}
+use Rattle.std.specs.FinMap as fin
+use Rattle.std.specs.Ordering.{nat_cmp}
+use Rattle.gs_base.specs.declared.numbers.Stamp.{Stamp}
+use Rattle.gs_base.specs.declared.numbers.ReqId.{ReqId}
+use Rattle.gs_base.specs.declared.refusal.Refusal.{Refusal}
+use Rattle.gs_base.specs.declared.refusal.Refusal.TheVariants as refusals
+use Rattle.gs_block.specs.Stored.{Stored, empty}
+use Rattle.gs_block.specs.Edits as blocks
+use Rattle.gs_block.specs.Inverses as inverses
+use Rattle.gs_replica.specs.declared.op.Op.{Op}
+use Rattle.gs_replica.specs.declared.op.Op.TheVariants.{Write, Append, Pad}
+use Rattle.gs_replica.specs.declared.op.Outcome.{Outcome}
+use Rattle.gs_replica.specs.declared.op.Outcome.TheVariants.{Written, Appended, Padded}
+use Rattle.gs_replica.specs.declared.op.Done.{Done}
+use Rattle.gs_replica.specs.Held.{Held}
+
+-- stamps are ordered by epoch first
+abbrev pub is_before : Stamp → Stamp → Bool
+is_before a b = nat_lt a.epoch b.epoch || ((a.epoch == b.epoch) && nat_lt a.version b.version)
+
+abbrev pub is_same : Stamp → Stamp → Bool
+is_same a b = (a.epoch == b.epoch) && (a.version == b.version)
+
+-- a replica without edits
+abbrev pub fresh : ℕ → ℕ → Stamp → Held
+fresh block chunk stamp = record { chunk = empty block chunk; count = 0; done = fin.empty; promise = stamp }
+
+-- Old below the promise
+abbrev pub promise : Stamp → Held → Result Held Refusal
+promise stamp r = cond (is_before stamp r.promise) (Err refusals.Old) (Ok (record { chunk = r.chunk; count = r.count; done = r.done; promise = stamp }))
+
+-- the plain edit of the chunk
+abbrev pub edited : Op → List ℕ → Stored → Result Stored Refusal
+edited (Write offset) bytes s = blocks.write s offset bytes
+edited Append bytes s = blocks.append s bytes
+edited Pad bytes s = blocks.pad s
+
+abbrev pub outcome_of : Op → Stored → Outcome
+outcome_of (Write offset) s = Written
+outcome_of Append s = Appended (length s.bytes)
+outcome_of Pad s = Padded
+
+-- whether a request's number isn't above the client's last
+abbrev pub is_old : ℕ → Option Done → Bool
+is_old number None = false
+is_old number (Some done) = nat_le number done.number
+
+abbrev pub done_by : ℕ → Op → Stored → Done
+done_by number op s = record { number = number; outcome = outcome_of op s }
+
+abbrev pub with_edit : Held → ReqId → Op → Result Stored Refusal → Result Held Refusal
+with_edit r req op (Ok s) = Ok (record { chunk = s; count = r.count + 1; done = fin.insert r.done req.client.0 (done_by req.number op r.chunk); promise = r.promise })
+with_edit r req op (Err e) = Err e
+
+-- An edit is taken under the promised stamp alone (Stamp), as the next number (Gap), and of a request above the client's
+-- last (Old); then the chunk decides (Range, Damaged).
+abbrev pub apply : Stamp → ℕ → ReqId → Op → List ℕ → Held → Result Held Refusal
+apply stamp number req op bytes r =
+    cond (is_same stamp r.promise)
+    (cond (number == (r.count + 1))
+    (cond (is_old req.number (fin.get r.done req.client.0)) (Err refusals.Old) (with_edit r req op (edited op bytes r.chunk)))
+    (Err (refusals.Gap r.count)))
+    (Err (refusals.Stamp r.promise))
+
+-- the same chunk otherwise, or the refusal
+abbrev pub on_chunk : Held → Result Stored Refusal → Result Held Refusal
+on_chunk r (Ok s) = Ok (record { chunk = s; count = r.count; done = r.done; promise = r.promise })
+on_chunk r (Err e) = Err e
+
+abbrev pub damage : ℕ → Held → Result Held Refusal
+damage block r = on_chunk r (blocks.damage r.chunk block)
+
+-- a replica of this chunk under a stamp, with this count and these requests
+abbrev pub held_of : Stamp → ℕ → fin.FinMap nat_cmp Done → Result Stored Refusal → Result Held Refusal
+held_of stamp count done (Ok s) = Ok (record { chunk = s; count = count; done = done; promise = stamp })
+held_of stamp count done (Err e) = Err e
+
+-- Damaged names the lowest block of the replica that is copied without its digest
+abbrev pub copied : Stamp → Held → Result Held Refusal
+copied stamp r = held_of stamp r.count r.done (blocks.copied r.chunk)

@@ -1,0 +1,90 @@
+ghost use Rattle.std.specs.Prelude.{◌≡◌, IfOk, OnOk, OnErr, None, is_some, true};
+ghost use Rattle.std.specs.FinMap as fin;
+ghost use Rattle.gs_replica.specs.Undo.{entry_before};
+
+use crate::op::Done;
+use gs_base::ClientId;
+use std::alloc::{AllocError, Global};
+use std::collections::BTreeMap;
+use std::marker::Model;
+
+/// The last applied request of each client that has one.
+#[derive(Debug, Drop)]
+pub struct DoneTable {
+    entries: BTreeMap<u32, Done>,
+}
+
+impl Model for DoneTable {
+    ghost use Rattle.std.specs.Prelude.{ℕ};
+    ghost use Rattle.std.specs.Ordering.{nat_cmp};
+    ghost use Rattle.std.specs.FinMap as fin;
+    ghost use Rattle.std.specs.Coded.{coded_ℕ};
+    ghost use Rattle.gs_replica.specs.declared.op.Done.{Done};
+    ghost use Rattle.gs_replica.specs.contracts.op.Done as done_code;
+
+    ghost Value = { fin.FinMap nat_cmp Done };
+
+    ghost coded = { fin.code coded_ℕ done_code.the_row.coded };
+
+    ghost view = { λ a. fin.from_entries a.entries.entries };
+}
+
+impl DoneTable {
+    /// No client has a request.
+    pub fn new(alloc: Global) -> DoneTable
+        ensures { result ≡ fin.empty }
+    {
+        DoneTable {
+            entries: BTreeMap::new(alloc),
+        }
+    }
+
+    /// A table of the same requests.
+    pub fn copy(&self) -> Result<DoneTable, AllocError>
+        ensures { IfOk result (λ table. table ≡ self.now) }
+    {
+        Ok(DoneTable {
+            entries: self.entries.clone()?,
+        })
+    }
+
+    /// A client's last applied request.
+    pub fn get(&self, client: ClientId) -> Option<Done>
+        ensures { result ≡ fin.get self.now client.0 }
+    {
+        self.entries.get(&client.0).copied()
+    }
+
+    /// Takes a client's request as its last. A client that has one takes no memory.
+    pub fn put(&mut self, client: ClientId, done: Done) -> Result<(), AllocError>
+        ensures ok { OnOk result (self.new ≡ fin.insert self.old client.0 done) }
+        ensures err { OnErr result (self.new ≡ self.old) }
+        ensures absent { OnErr result (fin.get self.old client.0 ≡ None) }
+    {
+        match self.entries.insert(client.0, done) {
+            Ok(_replaced) => {}
+            Err(_) => return Err(AllocError),
+        }
+        Ok(())
+    }
+
+    /// Forgets a client's request. It takes no memory.
+    pub fn remove(&mut self, client: ClientId)
+        ensures { self.new ≡ fin.remove self.old client.0 }
+    {
+        self.entries.remove(&client.0);
+    }
+
+    /// Puts a client's request back as it was before one that stands in the table. It takes no memory.
+    pub fn restore(&mut self, client: ClientId, before: Option<Done>)
+        requires { is_some (fin.get self.old client.0) ≡ true }
+        ensures { self.new ≡ entry_before self.old client.0 before }
+    {
+        match before {
+            Some(done) => {
+                let _put = self.put(client, done);
+            }
+            None => self.remove(client),
+        }
+    }
+}
