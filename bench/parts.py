@@ -58,24 +58,45 @@ def seconds(part, count):
     return min(once() for _ in range(REPEATS))
 
 
-# Each row is a part, and the part whose time is taken off it.
-ROWS = [("build", None), ("copy", "build")]
+# A part of the names, and the part whose time is taken off it.
+NAMES = [("build", None), ("copy", "build")]
+# Parts on blocks of 64 KB, the first of which is the library's digest alone.
+BLOCKS = ["digest", "write", "append", "read"]
 
 
-def show(part, less, sizes):
-    times = [seconds(part, n) - (seconds(less, n) if less else 0) for n in sizes]
+def row(name, times, more=()):
     shown = [f"{1000 * t:,.1f}" if t >= LEAST_SECONDS else "-" for t in times]
     growths = [f"{b / a:.2f}" if min(a, b) >= LEAST_SECONDS else "-" for a, b in zip(times, times[1:])]
-    print(f"{part:<12}", *(f"{s:>14}" for s in shown), *(f"{g:>8}" for g in growths), flush=True)
+    print(f"{name:<12}", *(f"{s:>14}" for s in shown), *(f"{g:>8}" for g in growths), *(f"{m:>10}" for m in more), flush=True)
+
+
+def head(sizes, more=()):
+    print(f"{'milliseconds':<12}", *(f"{'n = ' + str(s):>14}" for s in sizes), f"{'2n/n':>8}", f"{'4n/2n':>8}", *(f"{m:>10}" for m in more), flush=True)
+
+
+def show_names(n):
+    sizes = [n, 2 * n, 4 * n]
+    head(sizes)
+    for part, less in NAMES:
+        row(part, [seconds(part, m) - (seconds(less, m) if less else 0) for m in sizes])
+
+
+def show_blocks(n):
+    sizes = [n, 2 * n, 4 * n]
+    head(sizes, ["digests"])
+    digests = None
+    for part in BLOCKS:
+        start = seconds(part, 0)
+        times = [seconds(part, m) - start for m in sizes]
+        digests = digests or times[-1]
+        row(part, times, [f"{times[-1] / digests:.2f}"])
 
 
 def main():
     n = int(sys.argv[1]) if len(sys.argv) > 1 else 25000
-    sizes = [n, 2 * n, 4 * n]
     build()
-    print(f"{'milliseconds':<12}", *(f"{'n = ' + str(s):>14}" for s in sizes), f"{'2n/n':>8}", f"{'4n/2n':>8}", flush=True)
-    for part, less in ROWS:
-        show(part, less, sizes)
+    show_names(n)
+    show_blocks(n // 50)
 
 
 if __name__ == "__main__":
