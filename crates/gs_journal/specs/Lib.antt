@@ -1,0 +1,9 @@
+pub mod Bodies
+pub mod Disk
+pub mod Forms
+pub mod History
+pub mod Items
+pub mod Memory
+pub mod Past
+pub mod Reading
+pub mod Records
