@@ -1,1 +1,3 @@
+mod Moments
+mod Steps
 mod Times

@@ -2,12 +2,15 @@
 #![tactic(auto)]
 
 mod disk;
+mod failing;
 mod form;
 mod history;
 mod memory;
+mod stage;
 mod version;
 
 pub use disk::Disk;
+pub use failing::FailingDisk;
 pub use form::is_of_form;
 pub use memory::MemoryDisk;
 pub use version::Version;
