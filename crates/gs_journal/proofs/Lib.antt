@@ -1,3 +1,5 @@
+mod Complete
+mod Frames
 mod Moments
 mod Steps
 mod Times

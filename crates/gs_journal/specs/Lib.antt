@@ -3,7 +3,9 @@ pub mod Disk
 pub mod Forms
 pub mod History
 pub mod Items
+pub mod Journal
 pub mod Memory
 pub mod Past
 pub mod Reading
 pub mod Records
+pub mod Stage
