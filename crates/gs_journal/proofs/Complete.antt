@@ -56,3 +56,13 @@ at_rest front gate so_far shut = (
   },
   ends_there front (gate ∷ []) so_far (closed gate [] shut),
 )
+
+-- any bytes that are read as one record more
+pub complete_more : (front part : List ℕ) (r : Entry) → IsComplete front → ((more : List ℕ) → records_behind 0 (part ++ more) ≡ r ∷ records_behind 0 more) → IsComplete (front ++ part)
+complete_more front part r so_far reads =
+    let all : (rest : List ℕ) → records_of ((front ++ part) ++ rest) ≡ records_of front ++ r ∷ records_behind 0 rest =
+    λ rest. ap records_of (append_assoc front part rest) ∙ so_far.goes_on (part ++ rest) ∙ ap (λ (rs : List Entry). records_of front ++ rs) (reads rest) in
+    let here : records_of (front ++ part) ≡ records_of front ++ r ∷ [] = ap records_of (sym (append-nil (front ++ part))) ∙ all [] in record {
+      header = omega (arith, so_far.header, length-append front part);
+      goes_on = λ rest. all rest ∙ sym (append_assoc (records_of front) (r ∷ []) (records_behind 0 rest)) ∙ ap (λ (rs : List Entry). rs ++ records_behind 0 rest) (sym here);
+    }

@@ -1,5 +1,7 @@
 mod Complete
+mod Crash
 mod Frames
 mod Moments
+mod Scan
 mod Steps
 mod Times

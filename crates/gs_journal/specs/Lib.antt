@@ -1,6 +1,7 @@
 pub mod Bodies
 pub mod Disk
 pub mod Forms
+pub mod Frames
 pub mod History
 pub mod Items
 pub mod Journal

@@ -4,8 +4,10 @@
 mod disk;
 mod failing;
 mod form;
+mod frame;
 mod history;
 mod memory;
+mod record;
 mod stage;
 mod version;
 
@@ -13,4 +15,5 @@ pub use disk::Disk;
 pub use failing::FailingDisk;
 pub use form::is_of_form;
 pub use memory::MemoryDisk;
+pub use record::Record;
 pub use version::Version;
