@@ -1,7 +1,9 @@
 mod Complete
 mod Crash
 mod Frames
+mod Making
 mod Moments
 mod Scan
+mod Standing
 mod Steps
 mod Times

@@ -2,6 +2,7 @@
 #![tactic(auto)]
 
 mod disk;
+mod ends;
 mod failing;
 mod form;
 mod frame;

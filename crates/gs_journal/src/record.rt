@@ -59,7 +59,8 @@ impl Record {
 
     /// What is written behind the gate: the length of the body, the kind, the body, and a closed gate.
     pub(crate) fn bytes(&self) -> &[u8]
-        ensures { result.now ≡ frame self.now ++ 0 ∷ [] }
+        ensures written { result.now ≡ frame self.now ++ 0 ∷ [] }
+        ensures fits { length self.now.1 < 2 ^ 32 }
     {
         &self.bytes
     }
