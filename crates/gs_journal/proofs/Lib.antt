@@ -3,7 +3,9 @@ mod Crash
 mod Frames
 mod Making
 mod Moments
+mod Pairs
 mod Scan
+mod Settled
 mod Standing
 mod Steps
 mod Times

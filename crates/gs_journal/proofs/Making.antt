@@ -1,8 +1,7 @@
 -- What a crash leaves while a disk is made anew.
-use Rattle.std.proofs.Common.{◌≡◌, ◌≢◌, ◌⊎◌, inl, inr, ⊎_elim, ℕ, ◌+◌, ◌≤◌, ◌<◌, false, List, [], ◌∷◌, ◌++◌, length, take, drop, get_or, slice_index, sym, ◌∙◌, ap, subst, arith}
+use Rattle.std.proofs.Common.{◌≡◌, ◌≢◌, inl, inr, ⊎_elim, ℕ, ◌<◌, false, List, [], ◌∷◌, length, drop, get_or, sym, ◌∙◌, ap, arith}
 use Rattle.std.proofs.lemmas.Bool.{cases_eq}
 use Rattle.std.proofs.lemmas.Bool.Decides.{nat_tests}
-use Rattle.gs_journal.specs.Disk.{Torn, Cut}
 use Rattle.gs_journal.specs.Stage.{IsClosing, IsOpening}
 use Rattle.gs_journal.specs.Records.{is_begun}
 use Rattle.gs_journal.specs.Journal.{IsUnmade, IsMaking}

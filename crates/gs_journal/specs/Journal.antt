@@ -1,5 +1,5 @@
 -- When a journal's disks are at rest, and what the calls of a journal answer.
-use Rattle.std.specs.Prelude.{◌≡◌, ◌≢◌, ◌⊎◌, ◌+◌, ◌<◌, ◌≤◌, ◌++◌, ℕ, true, false, if◌then◌else◌, List, [], ◌∷◌, length, take, get_or}
+use Rattle.std.specs.Prelude.{◌≡◌, ◌≢◌, ◌⊎◌, ◌+◌, ◌≤◌, ◌++◌, ℕ, false, List, [], ◌∷◌, length, take, get_or}
 use Rattle.gs_journal.specs.Records.{Entry, header_length, is_begun, records_behind, records_of}
 
 -- The bytes are a header and whole records: what stands behind them is read on from there.

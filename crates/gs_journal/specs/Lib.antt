@@ -9,4 +9,5 @@ pub mod Memory
 pub mod Past
 pub mod Reading
 pub mod Records
+pub mod Sound
 pub mod Stage
