@@ -7,6 +7,7 @@ pub mod Items
 pub mod Journal
 pub mod Memory
 pub mod Past
+pub mod Places
 pub mod Reading
 pub mod Records
 pub mod Sound

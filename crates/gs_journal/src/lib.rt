@@ -9,8 +9,10 @@ mod frame;
 mod history;
 mod journal;
 mod memory;
+mod place;
 mod record;
 mod stage;
+mod start;
 mod version;
 
 pub use disk::Disk;
