@@ -1,8 +1,10 @@
+mod Checkpoint
 mod Complete
 mod Crash
 mod Frames
 mod Making
 mod Moments
+mod Opening
 mod Pairs
 mod Scan
 mod Settled

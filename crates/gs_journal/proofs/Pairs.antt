@@ -47,3 +47,13 @@ nothing_done seen may_leave moment left_since first second r only_a only_b stays
   later_second = omega arith;
   each = λ a b left_a left_b. inl (ap (λ (x : List ℕ). standing x b) (only_a a (stays_a a left_a)) ∙ ap (standing (seen first)) (only_b b (stays_b b left_b)));
 }
+
+-- a call that leaves the disks alone leaves what holds of them
+pub nothing_changed : {D : Type 0} (seen : D → List ℕ) (may_leave : D → List ℕ → Type 0) (moment : D → ℕ) (left_since : D → ℕ → List ℕ → Type 0) (first second : D) (Q : List ℕ → List ℕ → Type 0)
+    → Only (seen first) (may_leave first) → Only (seen second) (may_leave second) → Stays seen may_leave moment left_since first → Stays seen may_leave moment left_since second
+    → Q (seen first) (seen second) → LeavesPairs moment left_since first second first second Q
+nothing_changed seen may_leave moment left_since first second Q only_a only_b stays_a stays_b q = record {
+  later_first = omega arith;
+  later_second = omega arith;
+  each = λ a b left_a left_b. subst (λ (x : List ℕ). Q x b) (sym (only_a a (stays_a a left_a))) (subst (Q (seen first)) (sym (only_b b (stays_b b left_b))) q);
+}

@@ -66,7 +66,7 @@ front_begun n old c is begun =
     )
 
 -- which disk counts goes by the headers
-counts_by : (a a' b b' : List ℕ) → is_begun a ≡ is_begun a' → generation_of a ≡ generation_of a' → is_begun b ≡ is_begun b' → generation_of b ≡ generation_of b' → second_counts a b ≡ second_counts a' b'
+pub counts_by : (a a' b b' : List ℕ) → is_begun a ≡ is_begun a' → generation_of a ≡ generation_of a' → is_begun b ≡ is_begun b' → generation_of b ≡ generation_of b' → second_counts a b ≡ second_counts a' b'
 counts_by a a' b b' begun gen begun' gen' =
     ap (λ (x : Bool). x && (if is_begun a then nat_le (suc (generation_of a)) (generation_of b) else true)) begun'
     ∙ ap (λ (x : Bool). is_begun b' && (if x then nat_le (suc (generation_of a)) (generation_of b) else true)) begun
@@ -87,10 +87,10 @@ standing_none a b counts begun =
 second_begun : (a b : List ℕ) → second_counts a b ≡ true → is_begun b ≡ true
 second_begun a b counts = and_left _ _ counts
 
-second_unbegun : (a b : List ℕ) → is_begun b ≡ false → second_counts a b ≡ false
+pub second_unbegun : (a b : List ℕ) → is_begun b ≡ false → second_counts a b ≡ false
 second_unbegun a b begun = ap (λ (x : Bool). x && (if is_begun a then nat_le (suc (generation_of a)) (generation_of b) else true)) begun
 
-first_unbegun : (a b : List ℕ) → is_begun a ≡ false → second_counts a b ≡ is_begun b
+pub first_unbegun : (a b : List ℕ) → is_begun a ≡ false → second_counts a b ≡ is_begun b
 first_unbegun a b begun = ap (λ (x : Bool). is_begun b && (if x then nat_le (suc (generation_of a)) (generation_of b) else true)) begun ∙ and_true' (is_begun b)
   where
     and_true' : (x : Bool) → (x && true) ≡ x

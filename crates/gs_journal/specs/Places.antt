@@ -1,13 +1,13 @@
 -- What is found of two disks that are opened.
-use Rattle.std.specs.Prelude.{◌≡◌, ◌≢◌, ◌⊎◌, ◌+◌, ◌<◌, ℕ, Bool, true, false, if◌then◌else◌, Option, Some, None, Result, Ok, Err, List, length, get_or}
+use Rattle.std.specs.Prelude.{◌≡◌, ◌≢◌, ◌⊎◌, ◌+◌, ◌<◌, ◌^◌, ℕ, true, false, if◌then◌else◌, Option, Some, None, Result, Ok, Err, List, length, get_or}
 use Rattle.gs_base.specs.declared.refusal.Refusal.{Refusal}
 use Rattle.gs_base.specs.declared.refusal.Refusal.TheVariants.{Device, Memory, BadLine}
-use Rattle.gs_journal.specs.Disk.{Only}
-use Rattle.gs_journal.specs.Records.{Text, is_begun, version_of, generation_of, second_counts, standing, text_of}
+use Rattle.gs_journal.specs.Records.{Text, header_length, is_begun, version_of, generation_of, second_counts, standing, text_of}
 use Rattle.gs_journal.specs.Forms.{is_text}
 use Rattle.gs_journal.specs.Frames.{IsEnd}
 use Rattle.gs_journal.specs.Journal.{IsAtRest}
 use Rattle.gs_journal.specs.declared.place.Place.{Place}
+use Rattle.gs_journal.specs.declared.version.Version.TheVariants.{Two}
 
 -- the place is that of a disk that may count, whose records are of their form
 pub record IsPlace (p : Place) (bytes : List ℕ) : Type 0 where
@@ -16,11 +16,16 @@ pub record IsPlace (p : Place) (bytes : List ℕ) : Type 0 where
   pub version : p.version ≡ version_of bytes
   pub generation : p.generation ≡ generation_of bytes
   pub gate : p.has_gate ≡ true → (p.end < length bytes) × (get_or bytes p.end 1 ≢ 1)
+  pub fits : p.has_gate ≡ true → p.end + 1 < 2 ^ 64
   pub form : is_text (text_of bytes) ≡ true
 
 abbrev pub FindsPlace : Option Place → List ℕ → List ℕ → Type 0
 FindsPlace None first second = (second_counts first second ≡ false) × (is_begun first ≡ false)
 FindsPlace (Some p) first second = (second_counts first second ≡ p.is_second) × IsPlace p (if p.is_second then second else first)
+
+-- the place on the first disk of a new journal
+abbrev pub IsFresh : Place → Type 0
+IsFresh p = (p.is_second ≡ false) × (p.version ≡ Two) × (p.generation ≡ 1) × (p.end ≡ header_length)
 
 -- the place is that of the disk that counts, which is at rest
 pub record IsReady (p : Place) (first second : List ℕ) : Type 0 where

@@ -1,7 +1,7 @@
 -- What a journal keeps of its two disks.
-use Rattle.std.specs.Prelude.{◌≡◌, ◌⊎◌, ◌+◌, ◌<◌, ◌++◌, ℕ, true, false, if◌then◌else◌, List, [], ◌∷◌}
+use Rattle.std.specs.Prelude.{◌≡◌, ◌⊎◌, ◌+◌, ◌-◌, ◌^◌, ◌<◌, ◌++◌, ℕ, true, false, if◌then◌else◌, List, [], ◌∷◌}
 use Rattle.gs_base.specs.declared.refusal.Refusal.{Refusal}
-use Rattle.gs_base.specs.declared.refusal.Refusal.TheVariants.{Device, Full}
+use Rattle.gs_base.specs.declared.refusal.Refusal.TheVariants.{Device, Exhausted, Full, Memory}
 use Rattle.gs_journal.specs.Disk.{Only}
 use Rattle.gs_journal.specs.Records.{Entry, Text, is_begun, version_of, generation_of, second_counts, standing}
 use Rattle.gs_journal.specs.Journal.{IsAtRest}
@@ -49,3 +49,19 @@ abbrev pub HasReason : {D : Type 0} → (D → List ℕ) → (D → ℕ) → Jou
 HasReason seen failures old new size e =
     ((e ≡ Full) × (new ≡ old) × (old.limit < size))
     ⊎ ((e ≡ Device) × ((failures_of_both failures old < failures_of_both failures new) ⊎ ((old.is_failed ≡ true) × (new ≡ old))))
+
+-- the text from before a call, or the one that it makes
+abbrev pub IsOldOrNew : Text → Text → Text → Type 0
+IsOldOrNew old new t = (t ≡ old) ⊎ (t ≡ new)
+
+-- Why a checkpoint is refused: the generation is the last that there is, or memory is refused, and nothing is changed; or
+-- as an append is.
+abbrev pub HasCheckpointReason : {D : Type 0} → (D → List ℕ) → (D → ℕ) → Journal D → Journal D → ℕ → Refusal → Type 0
+HasCheckpointReason seen failures old new size e =
+    ((e ≡ Exhausted) × (new ≡ old) × (old.generation ≡ 2 ^ 64 - 1)) ⊎ (((e ≡ Memory) × (new ≡ old)) ⊎ HasReason seen failures old new size e)
+
+-- why a journal's records aren't read
+abbrev pub HasReadReason : {D : Type 0} → (D → ℕ) → Journal D → Journal D → Refusal → Type 0
+HasReadReason failures old new e =
+    ((e ≡ Memory) × (failures_of_both failures new ≡ failures_of_both failures old))
+    ⊎ ((e ≡ Device) × ((failures_of_both failures old < failures_of_both failures new) ⊎ (old.is_failed ≡ true)))

@@ -30,7 +30,7 @@ pub(crate) fn repair<D: Disk>(disk: &mut D, end: usize, has_gate: bool) -> Resul
     requires end { IsEnd end (D.seen disk.old) }
     requires gate { has_gate ≡ true → (end < length (D.seen disk.old)) × (get_or (D.seen disk.old) end 1 ≢ 1) }
     requires durable { Only (D.seen disk.old) (D.may_leave disk.old) }
-    requires fits { end + 1 < 2 ^ 64 }
+    requires fits { has_gate ≡ true → end + 1 < 2 ^ 64 }
     ensures rest { OnOk result (IsAtRest end (D.seen disk.new)) }
     ensures same { OnOk result (Continues (D.seen disk.old) (records_of (D.seen disk.old)) (D.seen disk.new)) }
     ensures durable { OnOk result (Only (D.seen disk.new) (D.may_leave disk.new)) }

@@ -1,12 +1,16 @@
 // Headers and records as they stand on a disk.
-ghost use Rattle.std.specs.Prelude.{◌≡◌, ◌≤◌, length, true, IfSome, is_some};
+ghost use Rattle.std.specs.Prelude.{◌≡◌, ◌≤◌, ◌<◌, ◌^◌, length, true, IfSome, IfOk, IfErr, is_some};
+ghost use Rattle.gs_base.specs.declared.refusal.Refusal.TheVariants.{Memory};
 ghost use Rattle.gs_journal.specs.Records.{header_length, records_of};
 ghost use Rattle.gs_journal.specs.Forms.{are_of_form};
 ghost use Rattle.gs_journal.specs.Frames.{FindsRecord, FindsHeader, IsEnd};
 
 use crate::form::is_of_form;
+use crate::record::Record;
 use crate::version::Version;
 use byteorder::{BigEndian, ByteOrder};
+use gs_base::Refusal;
+use std::alloc::Global;
 
 /// How many bytes a header has: a gate, a mark of four, and a generation of eight.
 pub(crate) const HEADER: usize = 13;
@@ -49,7 +53,8 @@ pub(crate) fn header_of(bytes: &[u8]) -> Option<Header>
 
 /// The record at the front, if its gate is open and it is whole.
 pub(crate) fn record_at(bytes: &[u8]) -> Option<Found<'_>>
-    ensures { FindsRecord result bytes.now }
+    ensures fits { IfSome result (λ found. length found.body.now < 2 ^ 32) }
+    ensures found { FindsRecord result bytes.now }
 {
     let (gate, behind) = bytes.split_first()?;
     if *gate != 1 || behind.len() < 5 {
@@ -84,4 +89,19 @@ pub(crate) fn end_of_records(bytes: &[u8], version: Version) -> Option<usize>
         is_first = false;
     }
     Some(end)
+}
+
+/// The records of a disk.
+pub(crate) fn records_in(alloc: Global, bytes: &[u8]) -> Result<Vec<Record>, Refusal>
+    requires { header_length ≤ length bytes.now }
+    ensures records { IfOk result (λ records. records.items ≡ records_of bytes.now) }
+    ensures refused { IfErr result (λ e. e ≡ Memory) }
+{
+    let mut records = Vec::new(alloc);
+    let mut rest = &bytes[HEADER..];
+    while let Some(found) = record_at(rest) {
+        records.push(Record::new(alloc, found.kind, found.body)?)?;
+        rest = found.rest;
+    }
+    Ok(records)
 }

@@ -1,13 +1,19 @@
 // A journal on two disks, of which one counts.
-ghost use Rattle.std.specs.Prelude.{◌≡◌, ◌<◌, ◌≤◌, ◌^◌, ◌+◌, ◌-◌, length, OnOk, IfErr};
+ghost use Rattle.std.specs.Prelude.{◌≡◌, ◌<◌, ◌≤◌, ◌^◌, ◌+◌, ◌-◌, ◌++◌, [], ◌∷◌, length, true, false, OnOk, IfOk, IfErr};
 ghost use Rattle.gs_journal.specs.Disk.{HasCause, LeavesPairs};
-ghost use Rattle.gs_journal.specs.Records.{frame, standing};
+ghost use Rattle.gs_base.specs.declared.refusal.Refusal.TheVariants.{BadLine};
+ghost use Rattle.gs_journal.specs.Records.{frame, header, standing};
+ghost use Rattle.gs_journal.specs.Forms.{is_text};
+ghost use Rattle.gs_journal.specs.Places.{WhyClosed, MightHaveStood};
 
 use crate::disk::Disk;
-use crate::ends::append_to;
+use crate::ends::{append_to, make};
+use crate::frame::HEADER;
 use crate::record::Record;
+use crate::start::{begin, start};
 use crate::version::Version;
 use gs_base::Refusal;
+use std::alloc::Global;
 
 /// A journal: records that are on one of two disks, whole or not at all, whenever a crash comes. The disk that counts is
 /// the one of the greater generation; the other is made anew by the next checkpoint.
@@ -26,8 +32,79 @@ pub struct Journal<D: Disk> {
     is_failed: bool,
 }
 
+/// The kind of a checkpoint.
+const CHECKPOINT: u8 = 9;
+
+/// Two disks that weren't opened, and why.
+#[derive(Drop)]
+pub struct Unopened<D: Disk> {
+    pub refusal: Refusal,
+    pub first: D,
+    pub second: D,
+}
+
 impl<D: Disk> Journal<D> {
-    ghost use Rattle.gs_journal.specs.Sound.{counting, text, with_record, failures_of_both, IsSettled, IsOpen, IsSound, IsWithOrWithout, HasReason};
+    ghost use Rattle.gs_journal.specs.Sound.{counting, text, with_record, failures_of_both, IsSettled, IsOpen, IsSound, IsWithOrWithout, IsOldOrNew, HasReason, HasCheckpointReason};
+    ghost use Rattle.gs_journal.specs.declared.version.Version.TheVariants.{Two};
+
+    /// Opens two disks, whatever a crash or a failure left on them. What a crash has torn behind the records is taken away.
+    /// Where neither disk counts, the first is made: a new journal has no records. No disk takes more than `limit` bytes by
+    /// an append or a checkpoint.
+    ///
+    /// The refusal is `BadLine` where a record isn't of its form; the disks have the bytes that they had. It is `Device`
+    /// where a disk fails, and `Memory` where memory is refused. The disks are handed back.
+    pub fn open(
+        alloc: Global,
+        mut first: D,
+        mut second: D,
+        limit: u32,
+    ) -> Result<Journal<D>, Unopened<D>>
+        ensures settled { IfOk result (λ j. IsOpen j × IsSettled D.seen D.may_leave j) }
+        ensures text { IfOk result (λ j. text D.seen j ≡ standing (D.seen first) (D.seen second)) }
+        ensures form { OnOk result (is_text (standing (D.seen first) (D.seen second)) ≡ true) }
+        ensures limit { IfOk result (λ j. j.limit ≡ limit) }
+        ensures refused { IfErr result (λ u. WhyClosed (standing (D.seen first) (D.seen second))
+            (D.failures first + D.failures second) (D.failures u.first + D.failures u.second) u.refusal) }
+        ensures unchanged { IfErr result (λ u. u.refusal ≡ BadLine → (D.seen u.first ≡ D.seen first) × (D.seen u.second ≡ D.seen second)) }
+        // A crash at any moment of the call leaves what one just before it might have left.
+        ensures any_moment { IfOk result (λ j. LeavesPairs D.moment D.left_since first second j.first j.second
+            (λ a b. MightHaveStood (D.may_leave first) (D.may_leave second) (standing a b))) }
+        ensures any_moment_refused { IfErr result (λ u. LeavesPairs D.moment D.left_since first second u.first u.second
+            (λ a b. MightHaveStood (D.may_leave first) (D.may_leave second) (standing a b))) }
+    {
+        match start(alloc, &mut first, &mut second) {
+            Ok(place) => Ok(Journal {
+                first,
+                second,
+                is_second: place.is_second,
+                version: place.version,
+                generation: place.generation,
+                end: place.end,
+                limit,
+                is_failed: false,
+            }),
+            Err(refusal) => Err(Unopened {
+                refusal,
+                first,
+                second,
+            }),
+        }
+    }
+
+    /// The disks, the first one first.
+    pub fn into_disks(self) -> (D, D)
+        ensures { (result.0 ≡ self.first) × (result.1 ≡ self.second) }
+    {
+        (self.first, self.second)
+    }
+
+    /// The version that the journal is written in.
+    pub fn version(&self) -> Version
+        requires sound { IsSound D.seen D.may_leave self.now }
+        ensures { IsOpen self.now → result ≡ (text D.seen self.now).0 }
+    {
+        self.version
+    }
 
     /// How many bytes the disk that counts may still grow by.
     pub fn room(&self) -> u32
@@ -68,6 +145,75 @@ impl<D: Disk> Journal<D> {
                 Err(refusal)
             }
         }
+    }
+
+    /// Puts one record in the place of all: a checkpoint of this body, on the other disk, which counts from then on. New
+    /// checkpoints are of the second version.
+    ///
+    /// `Exhausted` where the generation is the last that there is, `Full` where the disk would have more bytes than the
+    /// limit, and `Memory` where memory is refused: nothing is changed. `Device` where a disk fails, or has failed since the
+    /// journal was opened: the checkpoint stands, or the records from before do, once it is opened again.
+    pub fn checkpoint(&mut self, alloc: Global, body: &[u8]) -> Result<(), Refusal>
+        requires sound { IsSound D.seen D.may_leave self.old }
+        requires fits { length body.now < 2 ^ 32 }
+        ensures sound { IsSound D.seen D.may_leave self.new }
+        ensures made { OnOk result (IsOpen self.new × (text D.seen self.new ≡ (Two, (9, body.now) ∷ []))) }
+        ensures refused { IfErr result (HasCheckpointReason D.seen D.failures self.old self.new (20 + length body.now)) }
+        // A crash at any moment of the call leaves the records from before it, or the checkpoint alone.
+        ensures any_moment { IsOpen self.old → LeavesPairs D.moment D.left_since self.old.first self.old.second self.new.first self.new.second
+            (λ a b. IsOldOrNew (text D.seen self.old) (Two, (9, body.now) ∷ []) (standing a b)) }
+    {
+        if self.is_failed {
+            return Err(Refusal::Device);
+        }
+        if self.generation == u64::MAX {
+            return Err(Refusal::Exhausted);
+        }
+        if body.len() + 20 > self.limit as usize {
+            return Err(Refusal::Full);
+        }
+        let Ok(entry) = Record::new(alloc, CHECKPOINT, body) else {
+            return Err(Refusal::Memory);
+        };
+        let Ok(bytes) = begin(alloc, self.generation + 1, 1, entry.bytes()) else {
+            return Err(Refusal::Memory);
+        };
+        match self.make_other(&entry, &bytes) {
+            Ok(()) => Ok(()),
+            Err(refusal) => {
+                self.is_failed = true;
+                Err(refusal)
+            }
+        }
+    }
+
+    /// Makes the other disk, of the next generation and with this record alone.
+    fn make_other(&mut self, entry: &Record, bytes: &[u8]) -> Result<(), Refusal>
+        requires settled { IsSettled D.seen D.may_leave self.old }
+        requires next { self.old.generation + 1 < 2 ^ 64 }
+        requires text { 1 ∷ bytes.now ≡ header Two (self.old.generation + 1) ++ 1 ∷ (frame entry.now ++ 0 ∷ []) }
+        ensures settled { OnOk result (IsSettled D.seen D.may_leave self.new) }
+        ensures made { OnOk result (text D.seen self.new ≡ (Two, entry.now ∷ [])) }
+        ensures flag { self.new.is_failed ≡ self.old.is_failed }
+        ensures cause { HasCause (failures_of_both D.failures self.old) (failures_of_both D.failures self.new) result }
+        ensures any_moment { LeavesPairs D.moment D.left_since self.old.first self.old.second self.new.first self.new.second
+            (λ a b. IsOldOrNew (text D.seen self.old) (Two, entry.now ∷ []) (standing a b)) }
+    {
+        let end = HEADER + entry.bytes().len();
+        if self.is_second {
+            make(&mut self.first, bytes)?;
+            self.is_second = false;
+            self.version = Version::Two;
+            self.generation += 1;
+            self.end = end;
+            return Ok(());
+        }
+        make(&mut self.second, bytes)?;
+        self.is_second = true;
+        self.version = Version::Two;
+        self.generation += 1;
+        self.end = end;
+        Ok(())
     }
 
     /// Adds a record that there is room for.

@@ -18,7 +18,7 @@ mod version;
 pub use disk::Disk;
 pub use failing::FailingDisk;
 pub use form::is_of_form;
-pub use journal::Journal;
+pub use journal::{Journal, Unopened};
 pub use memory::MemoryDisk;
 pub use record::Record;
 pub use version::Version;

@@ -1,5 +1,5 @@
 // Which of two disks counts, and where its records end.
-ghost use Rattle.std.specs.Prelude.{◌≡◌, true, false, IfOk, IfErr};
+ghost use Rattle.std.specs.Prelude.{◌≡◌, true, false, IfOk, IfErr, OnOk};
 ghost use Rattle.gs_base.specs.declared.refusal.Refusal.TheVariants.{BadLine};
 ghost use Rattle.gs_journal.specs.Records.{is_begun, version_of, generation_of, standing, text_of};
 ghost use Rattle.gs_journal.specs.Forms.{is_text};
@@ -44,6 +44,7 @@ impl Place {
     /// The place on the disk that counts, if one does.
     pub(crate) fn of(first: &[u8], second: &[u8]) -> Result<Option<Place>, Refusal>
         ensures place { IfOk result (λ o. FindsPlace o first.now second.now) }
+        ensures form { OnOk result (is_text (standing first.now second.now) ≡ true) }
         ensures refused { IfErr result (λ e. (e ≡ BadLine) × (is_text (standing first.now second.now) ≡ false)) }
     {
         let Some(later) = header_of(second) else {
