@@ -1,4 +1,5 @@
 pub mod Bodies
+pub mod Calls
 pub mod Disk
 pub mod Forms
 pub mod Frames

@@ -1,6 +1,7 @@
 // A disk of which one call fails.
 ghost use Rattle.std.specs.Prelude.{◌≡◌, ◌+◌, ◌++◌};
 ghost use Rattle.gs_journal.specs.History.{failures_of};
+ghost use Rattle.gs_journal.specs.Calls.{next_call};
 
 use crate::disk::Disk;
 use crate::history::History;
@@ -56,7 +57,9 @@ impl<D: Disk> FailingDisk<D> {
 }
 
 /// Counts a call, and says whether it fails.
-fn takes_call(passing: &mut Option<u64>) -> bool {
+fn takes_call(passing: &mut Option<u64>) -> bool
+    ensures { (result, passing.new) ≡ next_call passing.old }
+{
     match *passing {
         None => true,
         Some(0) => {

@@ -1,16 +1,16 @@
 // A journal on two disks, of which one counts.
-ghost use Rattle.std.specs.Prelude.{◌≡◌, ◌<◌, ◌≤◌, ◌^◌, ◌+◌, ◌-◌, ◌++◌, [], ◌∷◌, length, true, false, OnOk, IfOk, IfErr};
+ghost use Rattle.std.specs.Prelude.{◌≡◌, ◌<◌, ◌≤◌, ◌^◌, ◌+◌, ◌-◌, ◌++◌, [], ◌∷◌, length, true, false, not, OnOk, IfOk, IfErr};
 ghost use Rattle.gs_journal.specs.Disk.{HasCause, LeavesPairs};
-ghost use Rattle.gs_base.specs.declared.refusal.Refusal.TheVariants.{BadLine};
+ghost use Rattle.gs_base.specs.declared.refusal.Refusal.TheVariants.{BadLine, Memory};
 ghost use Rattle.gs_journal.specs.Records.{frame, header, standing};
 ghost use Rattle.gs_journal.specs.Forms.{is_text};
 ghost use Rattle.gs_journal.specs.Places.{WhyClosed, MightHaveStood};
 
 use crate::disk::Disk;
 use crate::ends::{append_to, make};
-use crate::frame::HEADER;
+use crate::frame::{HEADER, records_in};
 use crate::record::Record;
-use crate::start::{begin, start};
+use crate::start::{begin, read_all, start};
 use crate::version::Version;
 use gs_base::Refusal;
 use std::alloc::Global;
@@ -44,7 +44,7 @@ pub struct Unopened<D: Disk> {
 }
 
 impl<D: Disk> Journal<D> {
-    ghost use Rattle.gs_journal.specs.Sound.{counting, text, with_record, failures_of_both, IsSettled, IsOpen, IsSound, IsWithOrWithout, IsOldOrNew, HasReason, HasCheckpointReason};
+    ghost use Rattle.gs_journal.specs.Sound.{counting, text, with_record, failures_of_both, IsSettled, IsOpen, IsSound, IsWithOrWithout, IsOldOrNew, HasReason, HasCheckpointReason, HasReadReason};
     ghost use Rattle.gs_journal.specs.declared.version.Version.TheVariants.{Two};
 
     /// Opens two disks, whatever a crash or a failure left on them. What a crash has torn behind the records is taken away.
@@ -104,6 +104,44 @@ impl<D: Disk> Journal<D> {
         ensures { IsOpen self.now → result ≡ (text D.seen self.now).0 }
     {
         self.version
+    }
+
+    /// Whether no disk has failed since the journal was opened.
+    pub fn is_open(&self) -> bool
+        ensures { result ≡ not self.now.is_failed }
+    {
+        !self.is_failed
+    }
+
+    /// A record of this kind and body. It refuses `Memory` alone.
+    pub fn record(alloc: Global, kind: u8, body: &[u8]) -> Result<Record, Refusal>
+        requires { length body.now < 2 ^ 32 }
+        ensures made { IfOk result (λ r. r ≡ (kind, body.now)) }
+        ensures refused { IfErr result (λ e. e ≡ Memory) }
+    {
+        Record::new(alloc, kind, body)
+    }
+
+    /// The records, read anew: the journal keeps no list of them. `Memory` where memory is refused, and `Device` where a disk
+    /// fails, or has failed since the journal was opened; a read that fails leaves the journal open.
+    pub fn records(&mut self, alloc: Global) -> Result<Vec<Record>, Refusal>
+        requires sound { IsSound D.seen D.may_leave self.old }
+        ensures sound { IsSound D.seen D.may_leave self.new }
+        ensures records { IfOk result (λ records. records.items ≡ (text D.seen self.old).1) }
+        ensures same { (text D.seen self.new ≡ text D.seen self.old) × (self.new.is_failed ≡ self.old.is_failed) × (self.new.limit ≡ self.old.limit) }
+        ensures refused { IfErr result (HasReadReason D.failures self.old self.new) }
+        ensures any_moment { IsOpen self.old → LeavesPairs D.moment D.left_since self.old.first self.old.second self.new.first self.new.second
+            (λ a b. standing a b ≡ text D.seen self.old) }
+    {
+        if self.is_failed {
+            return Err(Refusal::Device);
+        }
+        if self.is_second {
+            let bytes = read_all(alloc, &mut self.second)?;
+            return records_in(alloc, &bytes);
+        }
+        let bytes = read_all(alloc, &mut self.first)?;
+        records_in(alloc, &bytes)
     }
 
     /// How many bytes the disk that counts may still grow by.

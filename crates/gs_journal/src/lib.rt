@@ -13,6 +13,7 @@ mod place;
 mod record;
 mod stage;
 mod start;
+mod stopping;
 mod version;
 
 pub use disk::Disk;
@@ -21,4 +22,5 @@ pub use form::is_of_form;
 pub use journal::{Journal, Unopened};
 pub use memory::MemoryDisk;
 pub use record::Record;
+pub use stopping::StoppingDisk;
 pub use version::Version;
