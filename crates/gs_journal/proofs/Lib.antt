@@ -1,0 +1,13 @@
+mod Checkpoint
+mod Complete
+mod Crash
+mod Frames
+mod Making
+mod Moments
+mod Opening
+mod Pairs
+mod Scan
+mod Settled
+mod Standing
+mod Steps
+mod Times

@@ -1,0 +1,21 @@
+-- What one step may leave of known bytes.
+use Rattle.std.proofs.Common.{◌≡◌, ℕ, zero, suc, List, [], ◌∷◌, length, take, refl, ap, subst, arith, length-take}
+use Rattle.std.proofs.lemmas.List.{take_all}
+use Rattle.gs_journal.specs.Disk.{Torn, Cut, Only, Follows}
+
+pub take_length : (n : ℕ) (xs : List ℕ) → take (length (take n xs)) xs ≡ take n xs
+take_length zero xs = refl
+take_length (suc n) [] = refl
+take_length (suc n) (x ∷ xs) = ap (λ (l : List ℕ). x ∷ l) (take_length n xs)
+
+-- a crash before the step
+pub torn_same : (at n : ℕ) (c : List ℕ) → Torn at n c c
+torn_same at n c = record { before = take_length at c; after = refl; no_shorter = omega arith; no_longer = omega arith }
+
+pub cut_same : (n : ℕ) (c : List ℕ) → Cut n c c
+cut_same n c = record { no_shorter = omega (arith, length-take n c); front = take_all (length c) c (omega arith) }
+
+-- a step from known bytes
+pub from_known : (step : List ℕ → List ℕ → Type 0) (bytes : List ℕ) (old new : List ℕ → Type 0) → Only bytes old → Follows step old new → (c : List ℕ) → new c → step bytes c
+from_known step bytes old new only follows c left =
+    let from = follows c left in subst (λ f. step f c) (only from.0 from.1) from.2

@@ -1,0 +1,71 @@
+use Rattle.std.proofs.Common.{inl, subst}
+use Rattle.gs_journal.specs.Places.{FindsPlace}
+use Rattle.gs_journal.proofs.Moments.{weaker}
+use Rattle.gs_journal.proofs.Opening.{untouched_first, untouched_second, made_ready, second_ready, first_ready, like_first, like_second}
+use Rattle.gs_journal.proofs.start.put_right.Goals as goal
+
+pub returns-in_err-place-clause-left_second : goal.returns-in_err-place-clause-left_second
+returns-in_err-place-clause-left_second g c =
+    let d = g.D.Disk in untouched_second d.seen d.may_leave d.moment d.left_since c.args.second.now c.requires.durable_second (g.met.D.Disk.only_now c.args.second.now)
+
+pub returns-in_default-clause-left_second : goal.returns-in_default-clause-left_second
+returns-in_default-clause-left_second g c =
+    let d = g.D.Disk in untouched_second d.seen d.may_leave d.moment d.left_since c.args.second.now c.requires.durable_second (g.met.D.Disk.only_now c.args.second.now)
+
+pub returns-in_default-clause-ready : goal.returns-in_default-clause-ready
+returns-in_default-clause-ready g c =
+    let d = g.D.Disk in
+    let found = subst (λ o. FindsPlace o (d.seen c.args.first.now) (d.seen c.args.second.now)) c.in_default.is c.requires.place in
+    (made_ready c.in_ok-place.place (d.seen c.args.first.now) (d.seen c.args.second.now) _ c.in_ok-place.ensures.place found.0 found.1 c.in_ok-place.ensures.seen).0
+
+pub returns-in_err-repair-clause-left_first : goal.returns-in_err-repair-clause-left_first
+returns-in_err-repair-clause-left_first g c =
+    let d = g.D.Disk in untouched_first d.seen d.may_leave d.moment d.left_since c.args.first.now c.requires.durable_first (g.met.D.Disk.only_now c.args.first.now) (d.seen c.args.second.now)
+
+pub returns-in_err-repair-clause-left_second : goal.returns-in_err-repair-clause-left_second
+returns-in_err-repair-clause-left_second g c =
+    weaker g.D.Disk.moment g.D.Disk.left_since _ _ _ _ c.repair.ensures.any_moment (λ x same. like_second _ x same)
+
+pub returns-then-place-clause-left_first : goal.returns-then-place-clause-left_first
+returns-then-place-clause-left_first g c =
+    let d = g.D.Disk in untouched_first d.seen d.may_leave d.moment d.left_since c.args.first.now c.requires.durable_first (g.met.D.Disk.only_now c.args.first.now) (d.seen c.args.second.now)
+
+pub returns-then-place-clause-left_second : goal.returns-then-place-clause-left_second
+returns-then-place-clause-left_second g c =
+    weaker g.D.Disk.moment g.D.Disk.left_since _ _ _ _ c.repair.ensures.any_moment (λ x same. like_second _ x same)
+
+pub returns-then-place-clause-ready : goal.returns-then-place-clause-ready
+returns-then-place-clause-ready g c =
+    let d = g.D.Disk in
+    let found = subst (λ o. FindsPlace o (d.seen c.args.first.now) (d.seen c.args.second.now)) c.in-Some.is c.requires.place in
+    (second_ready c.in-Some.place (d.seen c.args.first.now) (d.seen c.args.second.now) _ c.if-place.true found.0 found.1 c.in_ok-repair.ensures.rest c.in_ok-repair.ensures.same).0
+
+pub returns-then-place-clause-same : goal.returns-then-place-clause-same
+returns-then-place-clause-same g c =
+    let d = g.D.Disk in like_second (d.seen c.args.second.now) _ c.in_ok-repair.ensures.same (d.seen c.args.first.now)
+
+pub returns-in_err-repair-2-clause-left_first : goal.returns-in_err-repair-2-clause-left_first
+returns-in_err-repair-2-clause-left_first g c =
+    weaker g.D.Disk.moment g.D.Disk.left_since _ _ _ _ c.repair-2.ensures.any_moment (λ x same d. inl (like_first _ x same d))
+
+pub returns-in_err-repair-2-clause-left_second : goal.returns-in_err-repair-2-clause-left_second
+returns-in_err-repair-2-clause-left_second g c =
+    let d = g.D.Disk in untouched_second d.seen d.may_leave d.moment d.left_since c.args.second.now c.requires.durable_second (g.met.D.Disk.only_now c.args.second.now)
+
+pub returns-clause-left_first : goal.returns-clause-left_first
+returns-clause-left_first g c =
+    weaker g.D.Disk.moment g.D.Disk.left_since _ _ _ _ c.repair-2.ensures.any_moment (λ x same d. inl (like_first _ x same d))
+
+pub returns-clause-left_second : goal.returns-clause-left_second
+returns-clause-left_second g c =
+    let d = g.D.Disk in untouched_second d.seen d.may_leave d.moment d.left_since c.args.second.now c.requires.durable_second (g.met.D.Disk.only_now c.args.second.now)
+
+pub returns-clause-ready : goal.returns-clause-ready
+returns-clause-ready g c =
+    let d = g.D.Disk in
+    let found = subst (λ o. FindsPlace o (d.seen c.args.first.now) (d.seen c.args.second.now)) c.in-Some.is c.requires.place in
+    (first_ready c.in-Some.place (d.seen c.args.first.now) (d.seen c.args.second.now) _ c.if-place.false found.0 found.1 c.in_ok-repair-2.ensures.rest c.in_ok-repair-2.ensures.same).0
+
+pub returns-clause-same : goal.returns-clause-same
+returns-clause-same g c =
+    let d = g.D.Disk in like_first (d.seen c.args.first.now) _ c.in_ok-repair-2.ensures.same (d.seen c.args.second.now)

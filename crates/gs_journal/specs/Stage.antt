@@ -1,0 +1,11 @@
+-- What a crash may leave while a disk's end is changed.
+use Rattle.std.specs.Prelude.{◌⊎◌, ◌+◌, ◌++◌, ℕ, List, length, take}
+use Rattle.gs_journal.specs.Disk.{Torn, Cut}
+
+-- while the bytes behind the first `len` give way to a closed gate
+abbrev pub IsClosing : ℕ → List ℕ → List ℕ → Type 0
+IsClosing len old c = Cut len old c ⊎ Torn len 1 (take len old) c
+
+-- while bytes are put behind the last gate, and then while it is opened
+abbrev pub IsOpening : ℕ → List ℕ → List ℕ → List ℕ → Type 0
+IsOpening gate bytes old c = Torn (gate + 1) (length bytes) old c ⊎ Torn gate 1 (old ++ bytes) c
