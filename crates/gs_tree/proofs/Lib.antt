@@ -9,3 +9,5 @@ pub mod Copying
 pub mod Moves
 pub mod Makes
 pub mod Depths
+pub mod Removals
+pub mod Chunks

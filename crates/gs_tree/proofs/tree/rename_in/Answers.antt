@@ -1,5 +1,5 @@
-use Rattle.std.proofs.Common.{◌≡◌, ap, sym, ◌∙◌, subst, inl, inr, refl, ℕ, [], ◌++◌, append-nil}
-use Rattle.std.specs.Prelude.{Err, Result, is_some, true}
+use Rattle.std.proofs.Common.{◌≡◌, ap, sym, ◌∙◌, subst, inl, inr, refl, ℕ}
+use Rattle.std.specs.Prelude.{Err, Result}
 use Rattle.gs_base.specs.declared.refusal.Refusal.{Refusal}
 use Rattle.gs_base.specs.declared.refusal.Refusal.TheVariants.{NotFound}
 use Rattle.gs_path.specs.Path.{Path}
