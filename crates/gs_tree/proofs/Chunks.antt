@@ -124,7 +124,7 @@ takes_added p chunk m new file is =
     }
 
 pub takes_changed : (p : Path) (index chunk had : ℕ) (m new : Plain ℕ) → is_file (m p) ≡ true → SwapsChunk p index chunk m (Ok had) new → TakesBack (Changed p index had) m new
-takes_changed p index chunk had m new file (inside, again, is) =
+takes_changed p index chunk had m new file (inside, again, is, own) =
     let now = chunks_now p (set (chunks_in (m p)) index chunk) m new is in record {
       fits = ap (λ l. nat_lt index (length l)) now ∙ ap (nat_lt index) (length-set (chunks_in (m p)) index chunk) ∙ inside;
       back = chunks_back p (set (chunks_in (m p)) index chunk) m new file is (set (chunks_in (new p)) index had) (ap (λ (l : List ℕ). set l index had) now ∙ again);

@@ -1,5 +1,5 @@
 -- What a call has to do with what the plain tree does: the same, or it has no memory and changes nothing.
-use Rattle.std.specs.Prelude.{◌≡◌, ◌⊎◌, ◌<◌, ◌+◌, Result, Ok, Err, Some, ℕ, Bool, true, false, cond, is_none, length, nat_lt, slice_set, []}
+use Rattle.std.specs.Prelude.{◌≡◌, ◌⊎◌, ◌<◌, ◌+◌, Result, Ok, Err, Some, ℕ, Bool, true, false, cond, is_none, length, nat_lt, slice_get, slice_set, []}
 use Rattle.gs_base.specs.declared.refusal.Refusal.{Refusal}
 use Rattle.gs_base.specs.declared.refusal.Refusal.TheVariants.{Memory, NotADirectory, BadLine, BadPath, Range}
 use Rattle.gs_path.specs.Path.{Path, begins}
@@ -50,5 +50,5 @@ TestsPlace m from to (Err e) = (deep : Bool) (new : Plain ℕ) → placed deep m
 abbrev pub SwapsChunk : Path → ℕ → ℕ → Plain ℕ → Result ℕ Refusal → Plain ℕ → Type 0
 SwapsChunk path index chunk old (Ok had) new =
     (nat_lt index (length (chunks_in (old path))) ≡ true) × (slice_set (slice_set (chunks_in (old path)) index chunk) index had ≡ chunks_in (old path))
-    × Same new (with_chunks path (slice_set (chunks_in (old path)) index chunk) old)
+    × Same new (with_chunks path (slice_set (chunks_in (old path)) index chunk) old) × (slice_get (chunks_in (old path)) index ≡ Some had)
 SwapsChunk path index chunk old (Err e) new = (e ≡ Range) × (nat_lt index (length (chunks_in (old path))) ≡ false) × Same new old

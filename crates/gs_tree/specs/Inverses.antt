@@ -1,9 +1,9 @@
 -- What takes an edit back, and where it fits.
-use Rattle.std.specs.Prelude.{◌≡◌, ◌≢◌, ◌⊎◌, ◌≤◌, ◌+◌, ◌-◌, ℕ, true, false, cond, [], ◌∷◌, List, take, drop, length, nat_lt, slice_set, Some, None, is_some}
+use Rattle.std.specs.Prelude.{◌≡◌, ◌≢◌, ◌⊎◌, ◌≤◌, ◌+◌, ◌-◌, ℕ, true, false, cond, [], ◌∷◌, List, take, drop, length, nat_lt, slice_get, slice_set, Some, None, is_some}
 use Rattle.gs_path.specs.Path.{Path, begins}
 use Rattle.gs_tree.specs.Entry.{Entry, Dir, File}
 use Rattle.gs_tree.specs.Plain.{Plain, Same, IsFree, with_at, without, part_at}
-use Rattle.gs_tree.specs.Find.{at}
+use Rattle.gs_tree.specs.Find.{Rows, at}
 use Rattle.gs_tree.specs.Edits.{moved, parent, same_path, chunks_in, with_chunks}
 use Rattle.gs_tree.specs.declared.inverse.TreeInverse.{TreeInverse}
 use Rattle.gs_tree.specs.declared.inverse.TreeInverse.TheVariants.{Made, Moved, Removed, Added, Changed, Copied}
@@ -55,3 +55,20 @@ Fits (Copied path) m = (path ≢ []) × (is_some (m path) ≡ true)
 pub record TakesBack (i : TreeInverse) (old new : Plain ℕ) : Type 0 where
   pub fits : Fits i new
   pub back : Same (after_undo i new) old
+
+-- an inverse of an edit that leaves each file's chunks
+abbrev pub LeavesChunks : TreeInverse → Type 0
+LeavesChunks (Made path above) = Unit {0}
+LeavesChunks (Moved from to) = Unit {0}
+LeavesChunks (Removed path node) = ⊥
+LeavesChunks (Added path) = ⊥
+LeavesChunks (Changed path index chunk) = ⊥
+LeavesChunks (Copied path) = ⊥
+
+-- what stood at a path, with all under it
+abbrev pub IsRemoved : Plain ℕ → Path → TreeInverse → Type 0
+IsRemoved m path i = (node : Rows ℕ) × (Same (part_at path m) (at node) × (i ≡ Removed path node))
+
+-- the chunk that a file had at a place
+abbrev pub IsChanged : Plain ℕ → Path → ℕ → TreeInverse → Type 0
+IsChanged m path index i = (had : ℕ) × ((slice_get (chunks_in (m path)) index ≡ Some had) × (i ≡ Changed path index had))

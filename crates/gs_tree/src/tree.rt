@@ -6,7 +6,7 @@ ghost use Rattle.gs_tree.specs.Plain.{Same, IsFree, with_at, part_at, rooted};
 ghost use Rattle.gs_tree.specs.Entry.{Dir};
 ghost use Rattle.gs_tree.specs.Edits.{mkdirs, create, rename, hide, unhide, remove, add_chunk, set_chunk, snapshot, visible, beside, renamed_beside, old_name, move_to, made, target_of, is_file, parent, last};
 ghost use Rattle.gs_tree.specs.Sort.{entry_of_leaf};
-ghost use Rattle.gs_tree.specs.Inverses.{TakesBack, IsBlankRow};
+ghost use Rattle.gs_tree.specs.Inverses.{TakesBack, IsBlankRow, LeavesChunks, IsChanged, IsRemoved};
 ghost use Rattle.gs_tree.specs.Follows.{Follows, Undoes, TestsPlace, SwapsChunk};
 ghost use Rattle.gs_tree.specs.Listing.{HasVisible, Lists, StandsAs, pairs_of};
 
@@ -33,6 +33,7 @@ fn make(root: &mut Node, alloc: Global, path: &Path, leaf: Leaf) -> Result<TreeI
     requires { at root.old path.now ≡ None }
     ensures edit { Follows (made (at root.old) path.now (entry_of_leaf leaf)) result (at root.old) (at root.new) }
     ensures undo { IfOk result (λ i. TakesBack i (at root.old) (at root.new)) }
+    ensures inverse { IfOk result (λ i. LeavesChunks i) }
 {
     let copy = path.copy(alloc)?;
     let made = root.sow(alloc, path.elements(), leaf)?;
@@ -44,6 +45,7 @@ fn make(root: &mut Node, alloc: Global, path: &Path, leaf: Leaf) -> Result<TreeI
 fn mkdirs_in(root: &mut Node, alloc: Global, path: &Path) -> Result<TreeInverse, Refusal>
     ensures edit { Follows (mkdirs (at root.old) path.now) result (at root.old) (at root.new) }
     ensures undo { IfOk result (λ i. TakesBack i (at root.old) (at root.new)) }
+    ensures inverse { IfOk result (λ i. LeavesChunks i) }
 {
     match root.sort_at(path.elements()) {
         Sort::File => Err(Refusal::Exists),
@@ -59,6 +61,7 @@ fn mkdirs_in(root: &mut Node, alloc: Global, path: &Path) -> Result<TreeInverse,
 fn create_in(root: &mut Node, alloc: Global, path: &Path) -> Result<TreeInverse, Refusal>
     ensures edit { Follows (create (at root.old) path.now) result (at root.old) (at root.new) }
     ensures undo { IfOk result (λ i. TakesBack i (at root.old) (at root.new)) }
+    ensures inverse { IfOk result (λ i. LeavesChunks i) }
 {
     match root.sort_at(path.elements()) {
         Sort::File | Sort::Dir => Err(Refusal::Exists),
@@ -112,6 +115,7 @@ fn move_to_target(
     requires above { DirsAbove (at root.old) from.now }
     ensures edit { (deep : Bool) → IsDepthTest deep (at root.old) from.now target → Follows (move_to deep (at root.old) from.now target) result (at root.old) (at root.new) }
     ensures undo { IfOk result (λ i. TakesBack i (at root.old) (at root.new)) }
+    ensures inverse { IfOk result (λ i. LeavesChunks i) }
 {
     match test_place(root, from, &target) {
         Ok(()) => {}
@@ -150,6 +154,7 @@ fn snapshot_in(
 ) -> Result<TreeInverse, Refusal>
     ensures edit { (deep : Bool) → IsDepthTest deep (visible (part_at from.now (at root.old))) [] to.now → Follows (snapshot (λ _. deep) (at root.old) from.now to.now) result (at root.old) (at root.new) }
     ensures undo { IfOk result (λ i. TakesBack i (at root.old) (at root.new)) }
+    ensures inverse { IfOk result (λ i. i ≡ TreeInverse.Copied to.now) }
 {
     if from.elements().is_empty() {
         return Err(Refusal::IsRoot);
@@ -176,6 +181,7 @@ fn put_copy(root: &mut Node, alloc: Global, to: &Path, copy: Node) -> Result<Tre
     requires stands { is_some (at copy []) ≡ true }
     ensures edit { (deep : Bool) → IsDepthTest deep (at copy) [] to.now → Follows (if deep then Err Refusal.BadPath else Ok (with_at to.now (at copy) (at root.old))) result (at root.old) (at root.new) }
     ensures undo { IfOk result (λ i. TakesBack i (at root.old) (at root.new)) }
+    ensures inverse { IfOk result (λ i. i ≡ TreeInverse.Copied to.now) }
 {
     let Some((name, parent)) = to.elements().split_last() else {
         return Err(Refusal::Memory);
@@ -225,6 +231,7 @@ fn target_path(root: &Node, alloc: Global, from: &Path, to: &Path) -> Result<Pat
 fn rename_in(root: &mut Node, alloc: Global, from: &Path, to: &Path) -> Result<TreeInverse, Refusal>
     ensures edit { (deep : Bool) → IsDepthTest deep (at root.old) from.now (target_of (at root.old) from.now to.now) → Follows (rename (λ _. deep) (at root.old) from.now to.now) result (at root.old) (at root.new) }
     ensures undo { IfOk result (λ i. TakesBack i (at root.old) (at root.new)) }
+    ensures inverse { IfOk result (λ i. LeavesChunks i) }
 {
     if from.elements().is_empty() {
         return Err(Refusal::IsRoot);
@@ -249,6 +256,7 @@ fn rename_beside(
     requires { path.now ≢ [] }
     ensures edit { Follows (renamed_beside (at root.old) path.now name) result (at root.old) (at root.new) }
     ensures undo { IfOk result (λ i. TakesBack i (at root.old) (at root.new)) }
+    ensures inverse { IfOk result (λ i. LeavesChunks i) }
 {
     let Some((_, parent)) = path.elements().split_last() else {
         return Err(Refusal::NotFound);
@@ -277,6 +285,7 @@ fn hide_in(
 ) -> Result<TreeInverse, Refusal>
     ensures edit { Follows (hide (at root.old) path.now moment.0 number) result (at root.old) (at root.new) }
     ensures undo { IfOk result (λ i. TakesBack i (at root.old) (at root.new)) }
+    ensures inverse { IfOk result (λ i. LeavesChunks i) }
 {
     let Some((name, _)) = path.elements().split_last() else {
         return Err(Refusal::IsRoot);
@@ -289,6 +298,7 @@ fn hide_in(
 fn unhide_in(root: &mut Node, alloc: Global, path: &Path) -> Result<TreeInverse, Refusal>
     ensures edit { Follows (unhide (at root.old) path.now) result (at root.old) (at root.new) }
     ensures undo { IfOk result (λ i. TakesBack i (at root.old) (at root.new)) }
+    ensures inverse { IfOk result (λ i. LeavesChunks i) }
 {
     match hidden_by(alloc, path)? {
         Some(name) => rename_beside(root, alloc, path, name),
@@ -314,6 +324,7 @@ fn hidden_by(alloc: Global, path: &Path) -> Result<Option<Name>, AllocError>
 fn remove_in(root: &mut Node, alloc: Global, path: &Path) -> Result<TreeInverse, Refusal>
     ensures edit { Follows (remove (at root.old) path.now) result (at root.old) (at root.new) }
     ensures undo { IfOk result (λ i. TakesBack i (at root.old) (at root.new)) }
+    ensures inverse { IfOk result (λ i. IsRemoved (at root.old) path.now i) }
 {
     let hidden = hidden_by(alloc, path)?;
     if hidden.is_none() {
@@ -360,6 +371,7 @@ fn add_chunk_in(
 ) -> Result<TreeInverse, Refusal>
     ensures edit { Follows (add_chunk (at root.old) path.now chunk) result (at root.old) (at root.new) }
     ensures undo { IfOk result (λ i. TakesBack i (at root.old) (at root.new)) }
+    ensures inverse { IfOk result (λ i. i ≡ TreeInverse.Added path.now) }
 {
     match root.sort_at(path.elements()) {
         Sort::Missing => return Err(Refusal::NotFound),
@@ -425,6 +437,7 @@ fn set_chunk_in(
 ) -> Result<TreeInverse, Refusal>
     ensures edit { Follows (set_chunk (at root.old) path.now index chunk) result (at root.old) (at root.new) }
     ensures undo { IfOk result (λ i. TakesBack i (at root.old) (at root.new)) }
+    ensures inverse { IfOk result (λ i. IsChanged (at root.old) path.now index i) }
 {
     match root.sort_at(path.elements()) {
         Sort::Missing => return Err(Refusal::NotFound),
@@ -584,6 +597,7 @@ impl Tree {
     pub fn mkdirs(&mut self, path: &Path) -> Result<TreeInverse, Refusal>
         ensures edit { Follows (mkdirs (fin_map.get self.old) path.now) result (fin_map.get self.old) (fin_map.get self.new) }
         ensures undo { IfOk result (λ i. TakesBack i (fin_map.get self.old) (fin_map.get self.new)) }
+        ensures inverse { IfOk result (λ i. LeavesChunks i) }
     {
         mkdirs_in(&mut self.root, self.alloc, path)
     }
@@ -593,6 +607,7 @@ impl Tree {
     pub fn create(&mut self, path: &Path) -> Result<TreeInverse, Refusal>
         ensures edit { Follows (create (fin_map.get self.old) path.now) result (fin_map.get self.old) (fin_map.get self.new) }
         ensures undo { IfOk result (λ i. TakesBack i (fin_map.get self.old) (fin_map.get self.new)) }
+        ensures inverse { IfOk result (λ i. LeavesChunks i) }
     {
         create_in(&mut self.root, self.alloc, path)
     }
@@ -603,6 +618,7 @@ impl Tree {
     pub fn rename(&mut self, from: &Path, to: &Path) -> Result<TreeInverse, Refusal>
         ensures edit { Follows (rename (is_too_deep (fin_map.entries self.old) from.now) (fin_map.get self.old) from.now to.now) result (fin_map.get self.old) (fin_map.get self.new) }
         ensures undo { IfOk result (λ i. TakesBack i (fin_map.get self.old) (fin_map.get self.new)) }
+        ensures inverse { IfOk result (λ i. LeavesChunks i) }
     {
         rename_in(&mut self.root, self.alloc, from, to)
     }
@@ -611,6 +627,7 @@ impl Tree {
     pub fn hide(&mut self, path: &Path, moment: Moment, number: u64) -> Result<TreeInverse, Refusal>
         ensures edit { Follows (hide (fin_map.get self.old) path.now moment.0 number) result (fin_map.get self.old) (fin_map.get self.new) }
         ensures undo { IfOk result (λ i. TakesBack i (fin_map.get self.old) (fin_map.get self.new)) }
+        ensures inverse { IfOk result (λ i. LeavesChunks i) }
     {
         hide_in(&mut self.root, self.alloc, path, moment, number)
     }
@@ -620,6 +637,7 @@ impl Tree {
     pub fn unhide(&mut self, path: &Path) -> Result<TreeInverse, Refusal>
         ensures edit { Follows (unhide (fin_map.get self.old) path.now) result (fin_map.get self.old) (fin_map.get self.new) }
         ensures undo { IfOk result (λ i. TakesBack i (fin_map.get self.old) (fin_map.get self.new)) }
+        ensures inverse { IfOk result (λ i. LeavesChunks i) }
     {
         unhide_in(&mut self.root, self.alloc, path)
     }
@@ -629,6 +647,7 @@ impl Tree {
     pub fn remove(&mut self, path: &Path) -> Result<TreeInverse, Refusal>
         ensures edit { Follows (remove (fin_map.get self.old) path.now) result (fin_map.get self.old) (fin_map.get self.new) }
         ensures undo { IfOk result (λ i. TakesBack i (fin_map.get self.old) (fin_map.get self.new)) }
+        ensures inverse { IfOk result (λ i. IsRemoved (fin_map.get self.old) path.now i) }
     {
         remove_in(&mut self.root, self.alloc, path)
     }
@@ -637,6 +656,7 @@ impl Tree {
     pub fn add_chunk(&mut self, path: &Path, chunk: Handle) -> Result<TreeInverse, Refusal>
         ensures edit { Follows (add_chunk (fin_map.get self.old) path.now chunk) result (fin_map.get self.old) (fin_map.get self.new) }
         ensures undo { IfOk result (λ i. TakesBack i (fin_map.get self.old) (fin_map.get self.new)) }
+        ensures inverse { IfOk result (λ i. i ≡ TreeInverse.Added path.now) }
     {
         add_chunk_in(&mut self.root, self.alloc, path, chunk)
     }
@@ -650,6 +670,7 @@ impl Tree {
     ) -> Result<TreeInverse, Refusal>
         ensures edit { Follows (set_chunk (fin_map.get self.old) path.now index chunk) result (fin_map.get self.old) (fin_map.get self.new) }
         ensures undo { IfOk result (λ i. TakesBack i (fin_map.get self.old) (fin_map.get self.new)) }
+        ensures inverse { IfOk result (λ i. IsChanged (fin_map.get self.old) path.now index i) }
     {
         set_chunk_in(&mut self.root, self.alloc, path, index, chunk)
     }
@@ -659,6 +680,7 @@ impl Tree {
     pub fn snapshot(&mut self, from: &Path, to: &Path) -> Result<TreeInverse, Refusal>
         ensures edit { Follows (snapshot (is_copied_too_deep (fin_map.entries self.old) from.now) (fin_map.get self.old) from.now to.now) result (fin_map.get self.old) (fin_map.get self.new) }
         ensures undo { IfOk result (λ i. TakesBack i (fin_map.get self.old) (fin_map.get self.new)) }
+        ensures inverse { IfOk result (λ i. i ≡ TreeInverse.Copied to.now) }
     {
         snapshot_in(&mut self.root, self.alloc, from, to)
     }

@@ -27,6 +27,7 @@ returns-in-Some c =
       edit = subst (λ (r : Result (Plain ℕ) Refusal). Follows r (Ok (Removed c.in_ok-source.source c.in-Some.node)) (at c.args.root.now) (at c.prune.new.self)) (sym is) now;
       undo = subst (λ (s : Path). TakesBack (Removed s c.in-Some.node) (at c.args.root.now) (at c.prune.new.self)) (sym c.in_ok-source.ensures)
           (takes_removed (at c.args.root.now) (at c.prune.new.self) c.args.path.now c.in-Some.node ne above now part);
+      inverse = (c.in-Some.node, (part, ap (λ s. Removed s c.in-Some.node) c.in_ok-source.ensures));
     }
 
 pub returns : goal.returns

@@ -25,6 +25,7 @@ returns-in-Err c =
     let ne = not_empty c.args.from.now c.elements.result.now c.is_empty.result c.elements.ensures c.is_empty.ensures c.if-is_empty.false in record {
       edit = λ deep test. refused TreeInverse c.in-Err.refusal (at c.args.root.now) (snapshot-is deep (at c.args.root.now) c.args.from.now c.args.to.now ne some ∙ c.in-Err.ensures deep (copied c.args.from.now c.args.to.now (at c.args.root.now)));
       undo = tt;
+      inverse = tt;
     }
 
 pub returns : goal.returns
@@ -40,4 +41,5 @@ returns c =
           let same = subst (λ (k : Plain ℕ). Follows (cond deep (Err BadPath) (Ok (with_at c.args.to.now k (at c.args.root.now)))) c.put_copy.result (at c.args.root.now) (at c.put_copy.new.root)) part step in
           subst (λ (r : Result (Plain ℕ) Refusal). Follows r c.put_copy.result (at c.args.root.now) (at c.put_copy.new.root)) (sym is) same;
       undo = c.put_copy.ensures.undo;
+      inverse = c.put_copy.ensures.inverse;
     }

@@ -1,3 +1,4 @@
+use Rattle.std.proofs.lemmas.Option.{slice_get_read}
 use Rattle.std.proofs.Common.{◌≡◌, ap, ◌∙◌, ℕ, List, refl, get_or, set, length, arith}
 use Rattle.std.proofs.lemmas.Bool.{lt-ltb, le-ltb}
 use Rattle.std.proofs.lemmas.List.{set-set, set-get_or}
@@ -29,4 +30,5 @@ returns c =
           (λ r. c.exchange-chunks.ensures.has r ∙ ap (λ p. with_chunks p c.new.result.items (at c.args.root.now) r) c.elements.ensures)
           (λ r. c.exchange-2.ensures.has r ∙ ap (λ p. with_chunks p (set c.exchange-chunks.result.items c.args.index c.args.chunk) (at c.exchange-chunks.new.self) r) c.elements-2.ensures) q
           ∙ ap (λ (l : List ℕ). with_chunks c.args.path.now (set l c.args.index c.args.chunk) (at c.args.root.now) q) had,
+      slice_get_read cs (length cs) c.args.index c.index-had.result.now refl (omega arith) own,
     )

@@ -5,7 +5,7 @@ use Rattle.gs_tree.specs.Find.{at}
 use Rattle.gs_tree.specs.Plain.{Plain}
 use Rattle.gs_tree.specs.Edits.{remove}
 use Rattle.gs_tree.specs.Follows.{Follows}
-use Rattle.gs_tree.specs.Inverses.{TakesBack}
+use Rattle.gs_tree.specs.Inverses.{TakesBack, IsRemoved}
 use Rattle.gs_tree.proofs.Moves.{seen}
 use Rattle.gs_tree.proofs.tree.Tree.remove.Goals as goal
 
@@ -20,3 +20,8 @@ returns-clause-undo c =
     let old : at c.self.inside.root ≡ get c.args.self.now = sym (seen c.self.inside.root) ∙ ap get c.self.view_is in
     let step = subst (λ (m : Plain ℕ). IfOk c.remove_in.result (λ i. TakesBack i m (at c.remove_in.new.root))) old c.remove_in.ensures.undo in
     subst (λ (n : Plain ℕ). IfOk c.remove_in.result (λ i. TakesBack i (get c.args.self.now) n)) (sym (seen c.remove_in.new.root)) step
+
+pub returns-clause-inverse : goal.returns-clause-inverse
+returns-clause-inverse c =
+    let old : at c.self.inside.root ≡ get c.args.self.now = sym (seen c.self.inside.root) ∙ ap get c.self.view_is in
+    subst (λ (m : Plain ℕ). IfOk c.remove_in.result (λ i. IsRemoved m c.args.path.now i)) old c.remove_in.ensures.inverse
