@@ -35,7 +35,7 @@ rows_in_order = refl
 mkdirs_makes_parents : edited (Mkdirs (b ∷ a ∷ [])) small ≡ Ok (([], Dir) ∷ (a ∷ [], Dir) ∷ (a ∷ b ∷ [], Dir) ∷ (b ∷ [], Dir) ∷ (b ∷ a ∷ [], Dir) ∷ (f ∷ [], File (7 ∷ [])) ∷ [])
 mkdirs_makes_parents = refl
 
-create_in_the_root : edited {A = ℕ} (Create (f ∷ [])) root_rows ≡ Ok (([], Dir) ∷ (f ∷ [], File []) ∷ [])
+create_in_the_root : edited (Create (f ∷ [])) root_rows ≡ Ok (([], Dir) ∷ (f ∷ [], File []) ∷ [])
 create_in_the_root = refl
 
 create_below_a_file : edited (Create (f ∷ a ∷ [])) small ≡ Err NotADirectory
