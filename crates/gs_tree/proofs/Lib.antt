@@ -11,3 +11,4 @@ pub mod Makes
 pub mod Depths
 pub mod Removals
 pub mod Chunks
+pub mod Mapped
