@@ -1,20 +1,21 @@
 -- Where something can stand after an edit, and what an edit leaves as rows.
-use Rattle.std.proofs.Common.{◌≡◌, inl, inr, ◌++◌, ◌&&◌, ℕ, Bool, true, false, cond, List, [], ◌∷◌, map, refl, sym, ap, ◌∙◌, subst}
-use Rattle.std.specs.Prelude.{Some, None, Result, Ok, Err, is_some, is_none}
+use Rattle.std.proofs.Common.{◌≡◌, inl, inr, ◌++◌, ◌&&◌, ℕ, Bool, true, false, not, nat_lt, set, length, cond, List, [], ◌∷◌, map, refl, sym, ap, ◌∙◌, subst}
+use Rattle.std.specs.Prelude.{Option, Some, None, Result, Ok, Err, is_some, is_none}
 use Rattle.std.specs.Cmp.{Equal-is, eq_by_cmp_equiv}
 use Rattle.std.specs.Cmp.Lexicographic.{nat_list_cmp_total}
 use Rattle.std.specs.FinMap.{FinMap, get, entries, slice_cmp-IsAntisymmetric, nat_cmp-IsAntisymmetric}
 use Rattle.gs_base.specs.declared.refusal.Refusal.{Refusal}
 use Rattle.gs_base.specs.declared.numbers.Moment.{Moment}
-use Rattle.gs_base.specs.declared.refusal.Refusal.TheVariants.{NotADirectory, Exists, NotFound, IntoItself, BadPath, IsRoot}
+use Rattle.gs_base.specs.declared.refusal.Refusal.TheVariants.{NotADirectory, IsADirectory, Exists, NotFound, IntoItself, BadPath, IsRoot, Range}
 use Rattle.gs_path.specs.Path.{Name, Path, path_cmp, name_cmp, same_name, begins}
 use Rattle.gs_tree.specs.Entry.{Entry, Dir, File}
 use Rattle.gs_tree.specs.Plain.{Plain, after, without}
 use Rattle.gs_tree.specs.Find.{Rows, at, is_too_deep}
-use Rattle.gs_tree.specs.Edits.{same_path, with_dirs, with_entry, moved, mkdirs, create, rename, hide, move_to, is_file, file_above, target_of, hidden_path, parent}
+use Rattle.gs_tree.specs.Edits.{same_path, with_dirs, with_entry, with_chunks, chunks_in, moved, mkdirs, create, rename, hide, unhide, unhidden, old_name, beside, add_chunk, set_chunk, move_to, is_file, is_dir, file_above, target_of, hidden_path, parent}
+use Rattle.gs_edit.specs.Plain.{unhide_target}
 use Rattle.gs_tree.specs.Follows.{Follows}
 use Rattle.gs_edit.specs.Table.{tabled, paths_of, fronts, moved_path}
-use Rattle.gs_edit.specs.Edits.{Applies, edited}
+use Rattle.gs_edit.specs.Edits.{AppliesRows, edited}
 use Rattle.gs_edit.specs.declared.edit.Edit.{Edit}
 use Rattle.gs_edit.specs.declared.edit.Edit.TheVariants as edits
 use Rattle.gs_edit.proofs.Tables.{among, Covers, among-left, among-right, among-map, among-paths_of, same_path-is, table-entries, entries-same, seen}
@@ -129,33 +130,83 @@ covered-hide rows p moment number =
     (unless ps (is_some (at rows target)) Exists (Ok (moved p target (at rows))) (covers-moved rows p target)))
 
 -- what follows the plain tree's command, as rows
-pub applies : {I : Type 0} (edit : Edit) (ps : List Path) (r : Result (Plain ℕ) Refusal) (result : Result I Refusal) (old new : FinMap path_cmp (Entry ℕ)) → edited edit (entries old) ≡ tabled ps r → Covered ps r → Follows r result (get old) (get new) → Applies edit (entries old) result (entries new)
+pub applies : {I : Type 0} (edit : Edit) (ps : List Path) (r : Result (Plain ℕ) Refusal) (result : Result I Refusal) (old new : FinMap path_cmp (Entry ℕ)) → edited edit (entries old) ≡ tabled ps r → Covered ps r → Follows r result (get old) (get new) → AppliesRows edit (entries old) result (entries new)
 applies edit ps (Ok m) (Ok i) old new is c h = is ∙ ap Ok (table-entries ps m new c h)
 applies edit ps (Err e) (Ok i) old new is c h = absurd h
 applies edit ps (Ok m) (Err f) old new is c h = (inr h.0, entries-same new old h.1)
 applies edit ps (Err e) (Err f) old new is c (inl same, left) = (inl (is ∙ ap Err (sym same)), entries-same new old left)
 applies edit ps (Err e) (Err f) old new is c (inr memory, left) = (inr memory, entries-same new old left)
 
-pub applies-mkdirs : {I : Type 0} (p : Path) (result : Result I Refusal) (old new : FinMap path_cmp (Entry ℕ)) → Follows (mkdirs (get old) p) result (get old) (get new) → Applies (edits.Mkdirs p) (entries old) result (entries new)
+pub applies-mkdirs : {I : Type 0} (p : Path) (result : Result I Refusal) (old new : FinMap path_cmp (Entry ℕ)) → Follows (mkdirs (get old) p) result (get old) (get new) → AppliesRows (edits.Mkdirs p) (entries old) result (entries new)
 applies-mkdirs p result old new h =
     let rows = entries old in
     applies (edits.Mkdirs p) (paths_of rows ++ fronts p) (mkdirs (at rows) p) result old new refl (covered-mkdirs rows p)
     (subst (λ (m : Plain ℕ). Follows (mkdirs m p) result (get old) (get new)) (seen old) h)
 
-pub applies-create : {I : Type 0} (p : Path) (result : Result I Refusal) (old new : FinMap path_cmp (Entry ℕ)) → Follows (create (get old) p) result (get old) (get new) → Applies (edits.Create p) (entries old) result (entries new)
+pub applies-create : {I : Type 0} (p : Path) (result : Result I Refusal) (old new : FinMap path_cmp (Entry ℕ)) → Follows (create (get old) p) result (get old) (get new) → AppliesRows (edits.Create p) (entries old) result (entries new)
 applies-create p result old new h =
     let rows = entries old in
     applies (edits.Create p) (paths_of rows ++ fronts p) (create (at rows) p) result old new refl (covered-create rows p)
     (subst (λ (m : Plain ℕ). Follows (create m p) result (get old) (get new)) (seen old) h)
 
-pub applies-rename : {I : Type 0} (from to : Path) (result : Result I Refusal) (old new : FinMap path_cmp (Entry ℕ)) → Follows (rename (is_too_deep (entries old) from) (get old) from to) result (get old) (get new) → Applies (edits.Rename from to) (entries old) result (entries new)
+pub applies-rename : {I : Type 0} (from to : Path) (result : Result I Refusal) (old new : FinMap path_cmp (Entry ℕ)) → Follows (rename (is_too_deep (entries old) from) (get old) from to) result (get old) (get new) → AppliesRows (edits.Rename from to) (entries old) result (entries new)
 applies-rename from to result old new h =
     let rows = entries old in
     applies (edits.Rename from to) (paths_of rows ++ map (moved_path from (target_of (at rows) from to)) (paths_of rows)) (rename (is_too_deep rows from) (at rows) from to) result old new refl (covered-rename rows from to)
     (subst (λ (m : Plain ℕ). Follows (rename (is_too_deep rows from) m from to) result (get old) (get new)) (seen old) h)
 
-pub applies-hide : {I : Type 0} (p : Path) (moment : Moment) (number : ℕ) (result : Result I Refusal) (old new : FinMap path_cmp (Entry ℕ)) → Follows (hide (get old) p moment.0 number) result (get old) (get new) → Applies (edits.Hide p moment number) (entries old) result (entries new)
+pub applies-hide : {I : Type 0} (p : Path) (moment : Moment) (number : ℕ) (result : Result I Refusal) (old new : FinMap path_cmp (Entry ℕ)) → Follows (hide (get old) p moment.0 number) result (get old) (get new) → AppliesRows (edits.Hide p moment number) (entries old) result (entries new)
 applies-hide p moment number result old new h =
     let rows = entries old in
     applies (edits.Hide p moment number) (paths_of rows ++ map (moved_path p (hidden_path p moment.0 number)) (paths_of rows)) (hide (at rows) p moment.0 number) result old new refl (covered-hide rows p moment.0 number)
     (subst (λ (m : Plain ℕ). Follows (hide m p moment.0 number) result (get old) (get new)) (seen old) h)
+
+covers-chunks : (rows : Rows ℕ) (p : Path) (chunks : List ℕ) → is_some (at rows p) ≡ true → Covers (paths_of rows) (with_chunks p chunks (at rows))
+covers-chunks rows p chunks stands q some =
+    elim (same_path p q) as (λ b. same_path p q ≡ b → is_some (cond b (Some (File chunks)) (at rows q)) ≡ true → among (paths_of rows) q ≡ true) [
+      | true ↦ λ b h. ap (among (paths_of rows)) (sym (same_path-is p q b)) ∙ among-paths_of rows p stands
+      | false ↦ λ b h. among-paths_of rows q h
+    ] refl some
+
+covered-add : (rows : Rows ℕ) (p : Path) (chunk : ℕ) → Covered (paths_of rows) (add_chunk (at rows) p chunk)
+covered-add rows p chunk = each (at rows p) refl
+  where
+    each : (v : Option (Entry ℕ)) → at rows p ≡ v → Covered (paths_of rows) (cond (is_none v) (Err NotFound) (cond (is_dir v) (Err IsADirectory) (Ok (with_chunks p (chunks_in v ++ chunk ∷ []) (at rows)))))
+    each None e = tt
+    each (Some Dir) e = tt
+    each (Some (File cs)) e = covers-chunks rows p (cs ++ chunk ∷ []) (ap is_some e)
+
+covered-set : (rows : Rows ℕ) (p : Path) (index chunk : ℕ) → Covered (paths_of rows) (set_chunk (at rows) p index chunk)
+covered-set rows p index chunk = each (at rows p) refl
+  where
+    each : (v : Option (Entry ℕ)) → at rows p ≡ v → Covered (paths_of rows) (cond (is_none v) (Err NotFound) (cond (is_dir v) (Err IsADirectory) (cond (not (nat_lt index (length (chunks_in v)))) (Err Range) (Ok (with_chunks p (set (chunks_in v) index chunk) (at rows))))))
+    each None e = tt
+    each (Some Dir) e = tt
+    each (Some (File cs)) e = unless (paths_of rows) (not (nat_lt index (length cs))) Range (Ok (with_chunks p (set cs index chunk) (at rows))) (covers-chunks rows p (set cs index chunk) (ap is_some e))
+
+covered-unhide : (rows : Rows ℕ) (p : Path) (name : Option Name) → Covered (paths_of rows ++ map (moved_path p (unhide_target p name)) (paths_of rows)) (unhidden (at rows) p name)
+covered-unhide rows p None = tt
+covered-unhide rows p (Some name) =
+    let target = beside p name in
+    let ps = paths_of rows ++ map (moved_path p target) (paths_of rows) in
+    unless ps (is_none (at rows p)) NotFound _
+    (unless ps (is_some (at rows target)) Exists (Ok (moved p target (at rows))) (covers-moved rows p target))
+
+pub applies-unhide : {I : Type 0} (p : Path) (result : Result I Refusal) (old new : FinMap path_cmp (Entry ℕ)) → Follows (unhide (get old) p) result (get old) (get new) → AppliesRows (edits.Unhide p) (entries old) result (entries new)
+applies-unhide p result old new h =
+    let rows = entries old in
+    applies (edits.Unhide p) (paths_of rows ++ map (moved_path p (unhide_target p (old_name p))) (paths_of rows)) (unhide (at rows) p) result old new refl (covered-unhide rows p (old_name p))
+    (subst (λ (m : Plain ℕ). Follows (unhide m p) result (get old) (get new)) (seen old) h)
+
+-- the edit's rows, for a chunk that is added or changed
+pub applies-add : {I : Type 0} (p : Path) (chunk : ℕ) (result : Result I Refusal) (old new : FinMap path_cmp (Entry ℕ)) → Follows (add_chunk (get old) p chunk) result (get old) (get new) → AppliesRows (edits.AddChunk p chunk) (entries old) result (entries new)
+applies-add p chunk result old new h =
+    let rows = entries old in
+    applies (edits.AddChunk p chunk) (paths_of rows) (add_chunk (at rows) p chunk) result old new refl (covered-add rows p chunk)
+    (subst (λ (m : Plain ℕ). Follows (add_chunk m p chunk) result (get old) (get new)) (seen old) h)
+
+pub applies-set : {I : Type 0} (p : Path) (index before chunk : ℕ) (result : Result I Refusal) (old new : FinMap path_cmp (Entry ℕ)) → Follows (set_chunk (get old) p index chunk) result (get old) (get new) → AppliesRows (edits.Cow p index before chunk) (entries old) result (entries new)
+applies-set p index before chunk result old new h =
+    let rows = entries old in
+    applies (edits.Cow p index before chunk) (paths_of rows) (set_chunk (at rows) p index chunk) result old new refl (covered-set rows p index chunk)
+    (subst (λ (m : Plain ℕ). Follows (set_chunk m p index chunk) result (get old) (get new)) (seen old) h)

@@ -1,2 +1,4 @@
 pub mod Tables
 pub mod Covers
+pub mod References
+pub mod Applied

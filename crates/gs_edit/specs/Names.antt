@@ -1,22 +1,91 @@
 -- What takes an edit of the names back.
-use Rattle.std.specs.Prelude.{◌≡◌, Result}
-use Rattle.std.specs.FinMap as map
+use Rattle.std.specs.Prelude.{◌≡◌, ◌⊎◌, ◌+◌, ◌-◌, ◌==◌, ◌&&◌, not, if◌then◌else◌, ℕ, Bool, true, false, List, Option, Some, None, Result, Ok, Err, is_some, slice_get, length, nat_lt}
+use Rattle.std.specs.FinMap as fin
 use Rattle.gs_base.specs.declared.refusal.Refusal.{Refusal}
+use Rattle.gs_base.specs.declared.refusal.Refusal.TheVariants.{Memory, BadLine}
+use Rattle.gs_refs.specs.Counts.{Counts, last_count, put_each}
+use Rattle.gs_tree.specs.Plain.{Plain, Same}
+use Rattle.gs_tree.specs.Edits.{chunks_in}
 use Rattle.gs_tree.specs.Inverses as tree
-use Rattle.gs_tree.specs.Follows as tree_follows
+use Rattle.gs_tree.specs.declared.inverse.TreeInverse.{TreeInverse}
+use Rattle.gs_tree.specs.declared.inverse.TreeInverse.TheVariants.{Made, Moved, Removed, Added, Changed, Copied}
 use Rattle.gs_edit.specs.Table.{root_rows}
+use Rattle.gs_edit.specs.Edits.{count_or_zero}
 use Rattle.gs_edit.specs.View.{NamesView}
 use Rattle.gs_edit.specs.declared.edit.Inverse.{Inverse}
 use Rattle.gs_edit.specs.declared.edit.Inverse.TheVariants as inverses
 
 -- the root alone, and no chunk
 abbrev pub blank : NamesView
-blank = record { tree = map.from_entries root_rows; refs = map.empty }
+blank = record { tree = fin.from_entries root_rows; refs = fin.empty }
+
+abbrev pub is_one : Option ℕ → Bool
+is_one None = false
+is_one (Some n) = n == 1
+
+-- a listed chunk may have one more reference
+abbrev pub has_room : Option ℕ → Bool
+has_room None = false
+has_room (Some n) = nat_lt n last_count
+
+abbrev pub last_chunk : List ℕ → Option ℕ
+last_chunk chunks = slice_get chunks (length chunks - 1)
+
+-- without a chunk of one reference, which goes back to another
+abbrev pub returned : Counts → ℕ → ℕ → Counts
+returned refs chunk old = fin.insert (fin.remove refs chunk) old (count_or_zero (fin.get refs old) + 1)
+
+-- the counts once a chunk that was added is taken out, which has one reference
+abbrev pub without_added : Counts → Option ℕ → Option Counts
+without_added refs None = None
+without_added refs (Some chunk) = if is_one (fin.get refs chunk) then Some (fin.remove refs chunk) else None
+
+-- the counts once a chunk that was put into a place is taken out, which has one reference, and the old one put back
+abbrev pub without_changed : Counts → Option ℕ → ℕ → Option Counts
+without_changed refs None old = None
+without_changed refs (Some chunk) old =
+    if is_one (fin.get refs chunk) && (not (chunk == old) && has_room (fin.get refs old)) then Some (returned refs chunk old) else None
+
+-- the counts once an edit of the tree is taken back, if the inverse fits them
+abbrev pub counts_back : TreeInverse → Plain ℕ → Counts → Option Counts
+counts_back (Made path above) m refs = Some refs
+counts_back (Moved from to) m refs = Some refs
+counts_back (Removed path node) m refs = None
+counts_back (Added path) m refs = without_added refs (last_chunk (chunks_in (m path)))
+counts_back (Changed path index old) m refs = without_changed refs (slice_get (chunks_in (m path)) index) old
+counts_back (Copied path) m refs = None
+
+abbrev pub accepted : Result Counts Refusal → Option Counts
+accepted (Ok refs) = Some refs
+accepted (Err e) = None
+
+-- what an inverse makes of the counts, if it fits them
+abbrev pub counts_after : Inverse → NamesView → Option Counts
+counts_after (inverses.Tree i) names = counts_back i (fin.get names.tree) names.refs
+counts_after (inverses.Remember chunks) names = accepted (put_each names.refs chunks.items)
+
+abbrev pub tree_after : Inverse → NamesView → Plain ℕ
+tree_after (inverses.Tree i) names = tree.after_undo i (fin.get names.tree)
+tree_after (inverses.Remember chunks) names = fin.get names.tree
+
+abbrev pub FitsTree : Inverse → NamesView → Type 0
+FitsTree (inverses.Tree i) names = tree.Fits i (fin.get names.tree)
+FitsTree (inverses.Remember chunks) names = Unit {0}
 
 -- the inverse fits the new names, and what it is to lead to from there is the old
-abbrev pub NamesTakenBack : Inverse → NamesView → NamesView → Type 0
-NamesTakenBack (inverses.Tree i) old new = tree.TakesBack i (map.get old.tree) (map.get new.tree) × (new.refs ≡ old.refs)
+pub record NamesTakenBack (i : Inverse) (old new : NamesView) : Type 0 where
+  pub fits : FitsTree i new
+  pub tree : Same (tree_after i new) (fin.get old.tree)
+  pub refs : counts_after i new ≡ Some old.refs
 
 -- an inverse is undone exactly where it fits, memory aside; a refusal changes nothing
 abbrev pub Undoes : Inverse → NamesView → Result (Unit {0}) Refusal → NamesView → Type 0
-Undoes (inverses.Tree i) old result new = tree_follows.Undoes i (map.get old.tree) result (map.get new.tree) × (new.refs ≡ old.refs)
+Undoes i old (Ok _) new = FitsTree i old × Same (fin.get new.tree) (tree_after i old) × (counts_after i old ≡ Some new.refs)
+Undoes i old (Err f) new = ((f ≡ Memory) ⊎ ((f ≡ BadLine) × (FitsTree i old → is_some (counts_after i old) ≡ true → ⊥))) × (new ≡ old)
+
+abbrev pub TakesOneBack : TreeInverse → NamesView → Result (Unit {0}) Refusal → NamesView → Type 0
+TakesOneBack i old result new = Undoes (inverses.Tree i) old result new
+
+abbrev pub kept_of : Result TreeInverse Refusal → Result Inverse Refusal
+kept_of (Ok i) = Ok (inverses.Tree i)
+kept_of (Err e) = Err e

@@ -1,14 +1,15 @@
 -- Small examples of the edits of rows.
-use Rattle.std.specs.Prelude.{◌≡◌, ℕ, List, [], ◌∷◌, codes, Ok, Err, refl}
+use Rattle.std.specs.Prelude.{◌≡◌, ℕ, List, [], ◌∷◌, codes, Some, false, Ok, Err, refl}
 use Rattle.std.specs.Fmt.{digits}
-use Rattle.gs_base.specs.declared.refusal.Refusal.TheVariants.{Exists, NotADirectory, IntoItself}
+use Rattle.gs_base.specs.declared.refusal.Refusal.TheVariants.{Exists, NotADirectory, IntoItself, NotHidden, Range}
 use Rattle.gs_path.specs.Path.{Name, Path}
 use Rattle.gs_path.specs.Element.{twenty_digits}
 use Rattle.gs_tree.specs.Entry.{Dir, File}
 use Rattle.gs_tree.specs.Find.{Rows, at}
 use Rattle.gs_edit.specs.Table.{table, fronts, moved_path, root_rows}
-use Rattle.gs_edit.specs.Edits.{edited}
-use Rattle.gs_edit.specs.declared.edit.Edit.TheVariants.{Mkdirs, Create, Rename, Hide}
+use Rattle.gs_edit.specs.Edits.{edited, holds_chunk, has_reference}
+use Rattle.gs_edit.specs.Names.{is_one}
+use Rattle.gs_edit.specs.declared.edit.Edit.TheVariants.{Mkdirs, Create, Rename, Hide, Unhide, AddChunk, Cow}
 
 abbrev a : Name
 a = codes "a"
@@ -35,7 +36,7 @@ rows_in_order = refl
 mkdirs_makes_parents : edited (Mkdirs (b ∷ a ∷ [])) small ≡ Ok (([], Dir) ∷ (a ∷ [], Dir) ∷ (a ∷ b ∷ [], Dir) ∷ (b ∷ [], Dir) ∷ (b ∷ a ∷ [], Dir) ∷ (f ∷ [], File (7 ∷ [])) ∷ [])
 mkdirs_makes_parents = refl
 
-create_in_the_root : edited {A = ℕ} (Create (f ∷ [])) root_rows ≡ Ok (([], Dir) ∷ (f ∷ [], File []) ∷ [])
+create_in_the_root : edited (Create (f ∷ [])) root_rows ≡ Ok (([], Dir) ∷ (f ∷ [], File []) ∷ [])
 create_in_the_root = refl
 
 create_below_a_file : edited (Create (f ∷ a ∷ [])) small ≡ Err NotADirectory
@@ -56,3 +57,30 @@ rename_over_a_file = refl
 hide_moves_what_is_under : edited (Hide (a ∷ []) (record { 0 = 5 }) 12) small ≡ Ok (([], Dir) ∷ (codes ".deleted.00000000000000000005.00000000000000000012.a" ∷ [], Dir) ∷ (codes ".deleted.00000000000000000005.00000000000000000012.a" ∷ b ∷ [], Dir) ∷ (f ∷ [], File (7 ∷ [])) ∷ [])
 unfolding twenty_digits digits
 hide_moves_what_is_under = refl
+
+abbrev hidden_a : Name
+hidden_a = codes ".deleted.00000000000000000005.00000000000000000012.a"
+
+unhide_moves_back : edited (Unhide (hidden_a ∷ [])) (([], Dir) ∷ (hidden_a ∷ [], Dir) ∷ (hidden_a ∷ b ∷ [], Dir) ∷ []) ≡ Ok (([], Dir) ∷ (a ∷ [], Dir) ∷ (a ∷ b ∷ [], Dir) ∷ [])
+unhide_moves_back = refl
+
+unhide_of_a_plain_name : edited (Unhide (a ∷ [])) small ≡ Err NotHidden
+unhide_of_a_plain_name = refl
+
+a_chunk_at_the_end : edited (AddChunk (f ∷ []) 9) small ≡ Ok (([], Dir) ∷ (a ∷ [], Dir) ∷ (a ∷ b ∷ [], Dir) ∷ (f ∷ [], File (7 ∷ 9 ∷ [])) ∷ [])
+a_chunk_at_the_end = refl
+
+a_chunk_in_the_place_of_another : edited (Cow (f ∷ []) 0 7 9) small ≡ Ok (([], Dir) ∷ (a ∷ [], Dir) ∷ (a ∷ b ∷ [], Dir) ∷ (f ∷ [], File (9 ∷ [])) ∷ [])
+a_chunk_in_the_place_of_another = refl
+
+no_chunk_at_a_place : edited (Cow (f ∷ []) 1 7 9) small ≡ Err Range
+no_chunk_at_a_place = refl
+
+another_chunk_at_a_place : holds_chunk (Some 7) 8 ≡ false
+another_chunk_at_a_place = refl
+
+a_chunk_without_references : has_reference (Some 0) ≡ false
+a_chunk_without_references = refl
+
+one_reference_is_the_last : is_one (Some 2) ≡ false
+one_reference_is_the_last = refl

@@ -15,3 +15,6 @@ abbrev pub coded_names : Coded NamesView
 coded_names =
     code_by (map.FinMap path_cmp (Entry ℕ) × map.FinMap nat_cmp ℕ) (coded× (map.code coded_path coded_entry) (map.code coded_ℕ coded_ℕ))
     (λ v. (v.tree, v.refs)) (λ p. record { tree = p.0; refs = p.1 }) (λ _. refl)
+
+abbrev pub names_of : map.FinMap path_cmp (Entry ℕ) → map.FinMap nat_cmp ℕ → NamesView
+names_of tree refs = record { tree = tree; refs = refs }

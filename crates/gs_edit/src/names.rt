@@ -1,26 +1,260 @@
-ghost use Rattle.std.specs.Prelude.{◌≡◌, IfOk};
+ghost use Rattle.std.specs.Prelude.{◌≡◌, ◌&&◌, ℕ, Vec, true, not, ◌==◌, IfOk, is_none, slice_get};
+ghost use Rattle.gs_edit.specs.Edits.{holds_chunk, has_reference};
 ghost use Rattle.std.specs.FinMap as fin_map;
-ghost use Rattle.gs_tree.specs.Inverses.{TakesBack};
+ghost use Rattle.gs_tree.specs.Edits.{chunks_in};
 ghost use Rattle.gs_edit.specs.Edits.{Applies};
+ghost use Rattle.gs_edit.specs.Names.{NamesTakenBack, Undoes, TakesOneBack, last_chunk, returned, is_one, has_room, kept_of};
+ghost use Rattle.gs_edit.specs.View.{names_of};
 
 use crate::edit::{Edit, Inverse};
-use gs_base::Refusal;
+use gs_base::{Handle, Refusal};
+use gs_path::Path;
 use gs_refs::Refs;
-use gs_tree::{Tree, TreeInverse};
+use gs_tree::{Status, Tree, TreeInverse};
 use std::alloc::{AllocError, Global};
 use std::marker::Model;
 
-/// Makes an edit of the tree.
-fn edit_tree(tree: &mut Tree, edit: &Edit) -> Result<TreeInverse, Refusal>
-    ensures edit { Applies edit.now (fin_map.entries tree.old) result (fin_map.entries tree.new) }
-    ensures undo { IfOk result (λ i. TakesBack i (fin_map.get tree.old) (fin_map.get tree.new)) }
+/// What takes an edit back that leaves the references.
+fn kept(made: Result<TreeInverse, Refusal>) -> Result<Inverse, Refusal>
+    ensures { result ≡ kept_of made }
+{
+    match made {
+        Ok(inverse) => Ok(Inverse::Tree(inverse)),
+        Err(refusal) => Err(refusal),
+    }
+}
+
+/// Makes an edit.
+fn apply_in(
+    tree: &mut Tree,
+    refs: &mut Refs,
+    alloc: Global,
+    edit: &Edit,
+) -> Result<Inverse, Refusal>
+    ensures edit { Applies edit.now (names_of tree.old refs.old) result (names_of tree.new refs.new) }
+    ensures undo { IfOk result (λ i. NamesTakenBack i (names_of tree.old refs.old) (names_of tree.new refs.new)) }
 {
     match edit {
-        Edit::Mkdirs(path) => tree.mkdirs(path),
-        Edit::Create(path) => tree.create(path),
-        Edit::Rename(from, to) => tree.rename(from, to),
-        Edit::Hide(path, moment, number) => tree.hide(path, *moment, *number),
+        Edit::Mkdirs(path) => kept(tree.mkdirs(path)),
+        Edit::Create(path) => kept(tree.create(path)),
+        Edit::Rename(from, to) => kept(tree.rename(from, to)),
+        Edit::Hide(path, moment, number) => kept(tree.hide(path, *moment, *number)),
+        Edit::Unhide(path) => kept(tree.unhide(path)),
+        Edit::AddChunk(path, chunk) => add_chunk(tree, refs, path, *chunk),
+        Edit::Cow(path, index, old, new) => change_chunk(tree, refs, path, *index, *old, *new),
+        Edit::Forget(chunks) => forget(tree, refs, alloc, chunks),
     }
+}
+
+/// Adds a chunk to a file, and lists it.
+fn add_chunk(
+    tree: &mut Tree,
+    refs: &mut Refs,
+    path: &Path,
+    chunk: Handle,
+) -> Result<Inverse, Refusal>
+    ensures edit { Applies (Edit.AddChunk path.now chunk) (names_of tree.old refs.old) result (names_of tree.new refs.new) }
+    ensures undo { IfOk result (λ i. NamesTakenBack i (names_of tree.old refs.old) (names_of tree.new refs.new)) }
+{
+    if refs.count(chunk).is_some() {
+        return Err(Refusal::BadLine);
+    }
+    match refs.raise(chunk) {
+        Ok(()) => {}
+        Err(refusal) => return Err(refusal),
+    }
+    match tree.add_chunk(path, chunk) {
+        Ok(inverse) => Ok(Inverse::Tree(inverse)),
+        Err(refusal) => {
+            let _ = refs.unlist(chunk);
+            Err(refusal)
+        }
+    }
+}
+
+/// Puts a chunk in the place of one of a file's, and lists it. The other has one reference less.
+fn change_chunk(
+    tree: &mut Tree,
+    refs: &mut Refs,
+    path: &Path,
+    index: usize,
+    old: Handle,
+    new: Handle,
+) -> Result<Inverse, Refusal>
+    ensures edit { Applies (Edit.Cow path.now index old new) (names_of tree.old refs.old) result (names_of tree.new refs.new) }
+    ensures undo { IfOk result (λ i. NamesTakenBack i (names_of tree.old refs.old) (names_of tree.new refs.new)) }
+{
+    if !may_change(tree, refs, path, index, old, new) {
+        return Err(Refusal::BadLine);
+    }
+    match refs.raise(new) {
+        Ok(()) => {}
+        Err(refusal) => return Err(refusal),
+    }
+    match tree.set_chunk(path, index, new) {
+        Ok(inverse) => {
+            let _ = refs.lower(old);
+            Ok(Inverse::Tree(inverse))
+        }
+        Err(refusal) => {
+            let _ = refs.unlist(new);
+            Err(refusal)
+        }
+    }
+}
+
+/// Lists chunks without references no more.
+fn forget(
+    tree: &mut Tree,
+    refs: &mut Refs,
+    alloc: Global,
+    chunks: &[Handle],
+) -> Result<Inverse, Refusal>
+    ensures edit { (listed : Vec ℕ Global) → listed.items ≡ chunks.now → Applies (Edit.Forget listed) (names_of tree.old refs.old) result (names_of tree.new refs.new) }
+    ensures undo { IfOk result (λ i. NamesTakenBack i (names_of tree.old refs.old) (names_of tree.new refs.new)) }
+{
+    let copy = Vec::from_slice(alloc, chunks)?;
+    match refs.take_out_each(chunks) {
+        Ok(()) => Ok(Inverse::Remember(copy)),
+        Err(refusal) => Err(refusal),
+    }
+}
+
+/// Whether a chunk isn't listed, and another has a reference and the place that is told, if there is one.
+fn may_change(tree: &Tree, refs: &Refs, path: &Path, index: usize, old: Handle, new: Handle) -> bool
+    ensures { result ≡ (is_none (fin_map.get refs.now new) && (holds_chunk (slice_get (chunks_in (fin_map.get tree.now path.now)) index) old && has_reference (fin_map.get refs.now old))) }
+{
+    refs.count(new).is_none() && holds(tree, path, index, old) && is_referred_to(refs, old)
+}
+
+/// Whether a chunk has a reference.
+fn is_referred_to(refs: &Refs, chunk: Handle) -> bool
+    ensures { result ≡ has_reference (fin_map.get refs.now chunk) }
+{
+    match refs.count(chunk) {
+        Some(count) => count > 0,
+        None => false,
+    }
+}
+
+/// Whether a file has a chunk at a place, or no chunk there.
+fn holds(tree: &Tree, path: &Path, index: usize, chunk: Handle) -> bool
+    ensures { result ≡ holds_chunk (slice_get (chunks_in (fin_map.get tree.now path.now)) index) chunk }
+{
+    match chunk_at(tree, path, index) {
+        Some(own) => own == chunk,
+        None => true,
+    }
+}
+
+/// The chunk that a file has at a place.
+fn chunk_at(tree: &Tree, path: &Path, index: usize) -> Option<Handle>
+    ensures { result ≡ slice_get (chunks_in (fin_map.get tree.now path.now)) index }
+{
+    match tree.status(path) {
+        Ok(Status::File(chunks)) => chunks.get(index).copied(),
+        Ok(Status::Dir) => None,
+        Err(_) => None,
+    }
+}
+
+/// The last chunk of a file.
+fn last_chunk_of(tree: &Tree, path: &Path) -> Option<Handle>
+    ensures { result ≡ last_chunk (chunks_in (fin_map.get tree.now path.now)) }
+{
+    match tree.status(path) {
+        Ok(Status::File(chunks)) => chunks.last().copied(),
+        Ok(Status::Dir) => None,
+        Err(_) => None,
+    }
+}
+
+/// Takes an edit of the tree back.
+fn undo_in(tree: &mut Tree, refs: &mut Refs, inverse: &TreeInverse) -> Result<(), Refusal>
+    ensures { TakesOneBack inverse.now (names_of tree.old refs.old) result (names_of tree.new refs.new) }
+{
+    match inverse {
+        TreeInverse::Made(..) | TreeInverse::Moved(..) => tree.undo(inverse),
+        TreeInverse::Added(path) => undo_add(tree, refs, inverse, path),
+        TreeInverse::Changed(path, index, old) => undo_change(
+            tree, refs, inverse, path, *index, *old,
+        ),
+        TreeInverse::Removed(..) | TreeInverse::Copied(_) => Err(Refusal::BadLine),
+    }
+}
+
+/// Takes the last chunk of a file out, and lists it no more.
+fn undo_add(
+    tree: &mut Tree,
+    refs: &mut Refs,
+    inverse: &TreeInverse,
+    path: &Path,
+) -> Result<(), Refusal>
+    requires { inverse.now ≡ TreeInverse.Added path.now }
+    ensures { TakesOneBack inverse.now (names_of tree.old refs.old) result (names_of tree.new refs.new) }
+{
+    let Some(chunk) = last_chunk_of(tree, path) else {
+        return Err(Refusal::BadLine);
+    };
+    if refs.count(chunk) != Some(1) {
+        return Err(Refusal::BadLine);
+    }
+    match tree.undo(inverse) {
+        Ok(()) => {
+            let _ = refs.unlist(chunk);
+            Ok(())
+        }
+        Err(refusal) => Err(refusal),
+    }
+}
+
+/// Puts a chunk back that a file had at a place. The one that stands there is listed no more.
+fn undo_change(
+    tree: &mut Tree,
+    refs: &mut Refs,
+    inverse: &TreeInverse,
+    path: &Path,
+    index: usize,
+    old: Handle,
+) -> Result<(), Refusal>
+    requires { inverse.now ≡ TreeInverse.Changed path.now index old }
+    ensures { TakesOneBack inverse.now (names_of tree.old refs.old) result (names_of tree.new refs.new) }
+{
+    let Some(chunk) = chunk_at(tree, path, index) else {
+        return Err(Refusal::BadLine);
+    };
+    if !may_return(refs, chunk, old) {
+        return Err(Refusal::BadLine);
+    }
+    match tree.undo(inverse) {
+        Ok(()) => {
+            give_back(refs, chunk, old);
+            Ok(())
+        }
+        Err(refusal) => Err(refusal),
+    }
+}
+
+/// Whether a chunk of one reference can give it to another that is listed.
+fn may_return(refs: &Refs, chunk: Handle, old: Handle) -> bool
+    ensures { result ≡ (is_one (fin_map.get refs.now chunk) && (not (chunk == old) && has_room (fin_map.get refs.now old))) }
+{
+    if refs.count(chunk) != Some(1) || chunk == old {
+        return false;
+    }
+    match refs.count(old) {
+        None => false,
+        Some(count) => count < u32::MAX,
+    }
+}
+
+/// Gives the one reference of a chunk to another, and lists the first no more.
+fn give_back(refs: &mut Refs, chunk: Handle, old: Handle)
+    requires { (is_one (fin_map.get refs.old chunk) && (not (chunk == old) && has_room (fin_map.get refs.old old))) ≡ true }
+    ensures { refs.new ≡ returned refs.old chunk old }
+{
+    let _ = refs.unlist(chunk);
+    let _ = refs.raise(old);
 }
 
 /// The tree of a store, and of each chunk how often it stands in it.
@@ -42,7 +276,7 @@ impl Model for Names {
 }
 
 impl Names {
-    ghost use Rattle.gs_edit.specs.Names.{NamesTakenBack, Undoes, blank};
+    ghost use Rattle.gs_edit.specs.Names.{blank};
 
     /// The root alone, and no chunk.
     pub fn new(alloc: Global) -> Names
@@ -61,27 +295,32 @@ impl Names {
         &self.tree
     }
 
-    /// Makes an edit, and answers what takes it back. The refusals are those of the tree's call, in its order. Memory
-    /// leaves the names as they were, as every refusal does.
+    pub fn refs(&self) -> &Refs
+        ensures { result.now ≡ self.now.refs }
+    {
+        &self.refs
+    }
+
+    /// Makes an edit, and answers what takes it back. BadLine where the edit isn't given what it asks for: a chunk that
+    /// isn't listed yet, the chunk of a place, chunks without references. Else the refusals are those of the tree's call,
+    /// in its order. Every refusal, Memory too, leaves the names as they were.
     pub fn apply(&mut self, edit: &Edit) -> Result<Inverse, Refusal>
-        ensures edit { Applies edit.now (fin_map.entries self.old.tree) result (fin_map.entries self.new.tree) }
-        ensures refs { self.new.refs ≡ self.old.refs }
+        ensures edit { Applies edit.now self.old result self.new }
 
         // What takes the edit back fits the new names, and leads from them to the old.
         ensures undo { IfOk result (λ i. NamesTakenBack i self.old self.new) }
     {
-        match edit_tree(&mut self.tree, edit) {
-            Ok(inverse) => Ok(Inverse::Tree(inverse)),
-            Err(refusal) => Err(refusal),
-        }
+        apply_in(&mut self.tree, &mut self.refs, self.alloc, edit)
     }
 
-    /// Takes an edit back. BadLine where the inverse doesn't fit; on names that its edit has just left, Memory alone.
+    /// Takes an edit back. BadLine where the inverse doesn't fit, by path, handle or count; on names that its edit has
+    /// just left, Memory alone.
     pub fn undo(&mut self, inverse: &Inverse) -> Result<(), Refusal>
         ensures { Undoes inverse.now self.old result self.new }
     {
         match inverse {
-            Inverse::Tree(inverse) => self.tree.undo(inverse),
+            Inverse::Tree(inverse) => undo_in(&mut self.tree, &mut self.refs, inverse),
+            Inverse::Remember(chunks) => self.refs.put_back_each(self.alloc, chunks),
         }
     }
 

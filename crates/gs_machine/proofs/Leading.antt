@@ -1,6 +1,6 @@
 -- Edits and the inverses that lead back over them.
 use Rattle.std.proofs.Common.{◌≡◌, ◌++◌, ◌∷◌, [], List, length, take, get_or, ◌-◌, ◌+◌, ◌<◌, ◌≤◌, refl, sym, ap, ◌∙◌, subst, arith, inl, inr}
-use Rattle.std.specs.Prelude.{Ok, Err}
+use Rattle.std.specs.Prelude.{Ok, Err, Some, is_some}
 use Rattle.std.specs.FinMap.{same_map, slice_cmp-IsAntisymmetric, nat_cmp-IsAntisymmetric}
 use Rattle.std.proofs.lemmas.List.{take_more}
 use Rattle.std.proofs.Math.Seq.{take-length}
@@ -10,22 +10,22 @@ use Rattle.gs_path.specs.Path.{path_total}
 use Rattle.gs_edit.specs.View.{NamesView}
 use Rattle.gs_edit.specs.Names.{NamesTakenBack, Undoes}
 use Rattle.gs_edit.specs.declared.edit.Inverse.{Inverse}
-use Rattle.gs_edit.specs.declared.edit.Inverse.TheVariants as inverses
 use Rattle.gs_machine.specs.Leads.{Leads}
 
 pub same_names : (m n : NamesView) → m.tree ≡ n.tree → m.refs ≡ n.refs → m ≡ n
 same_names m n t r = λ i. record { tree = t i; refs = r i }
 
 pub undone_is : (i : Inverse) (mid old new : NamesView) → NamesTakenBack i mid old → Undoes i old (Ok tt) new → new ≡ mid
-undone_is (inverses.Tree i) mid old new back undone =
+undone_is i mid old new back undone =
+    let refs : Some new.refs ≡ Some mid.refs = sym undone.2 ∙ back.refs in
     same_names new mid
-    (same_map path_total (slice_cmp-IsAntisymmetric (slice_cmp-IsAntisymmetric nat_cmp-IsAntisymmetric)) new.tree mid.tree (λ q. undone.0.1 q ∙ back.0.back q))
-    (undone.1 ∙ back.1)
+    (same_map path_total (slice_cmp-IsAntisymmetric (slice_cmp-IsAntisymmetric nat_cmp-IsAntisymmetric)) new.tree mid.tree (λ q. undone.1 q ∙ back.tree q))
+    (let k : new.refs ≡ mid.refs = cc in k)
 
 pub refused_is : (i : Inverse) (mid old new : NamesView) (e : Refusal) → NamesTakenBack i mid old → Undoes i old (Err e) new → e ≡ Memory
-refused_is (inverses.Tree i) mid old new e back undone = elim undone.0.0 [
+refused_is i mid old new e back undone = elim undone.0 [
   | inl m ↦ m
-  | inr b ↦ absurd (b.1 back.0.fits)
+  | inr b ↦ absurd (b.1 back.fits (ap is_some back.refs))
 ]
 
 pub leads_more : (is : List Inverse) (i : Inverse) (before now new : NamesView) → Leads is before now → NamesTakenBack i now new → Leads (is ++ i ∷ []) before new

@@ -1,6 +1,7 @@
 ghost use Rattle.std.specs.Prelude.{◌≡◌, true, IfOk, OnErr, IsOk};
 ghost use Rattle.gs_command.specs.Grammar.{request_of};
 ghost use Rattle.gs_machine.specs.Reply.{reply_of};
+ghost use Rattle.gs_edit.specs.Edits.{KeepsRefs};
 ghost use Rattle.gs_machine.specs.State.{start, step_of, takes_no_memory};
 
 use crate::answer::Answer;
@@ -121,6 +122,7 @@ impl Machine {
 
     /// Makes an edit of the names.
     fn edit(&mut self, edit: &Edit) -> Result<Answer, Refusal>
+        requires { KeepsRefs edit.now }
         ensures { StepIs (edits self.old (edited edit.now self.old.plain.tree)) self.old result self.new }
     {
         match make_edit(&mut self.names, &mut self.upgrade, edit) {
@@ -272,6 +274,7 @@ ghost use Rattle.gs_machine.specs.Steps.{MadeEdit};
 
 /// Makes an edit, and keeps what takes it back while an upgrade stands.
 fn make_edit(names: &mut Names, upgrade: &mut Option<Standing>, edit: &Edit) -> Result<(), Refusal>
+    requires { KeepsRefs edit.now }
     ensures { MadeEdit edit.now names.old upgrade.old result names.new upgrade.new }
 {
     match upgrade {
@@ -312,6 +315,7 @@ impl Standing {
 
     /// Makes an edit of the names, and keeps what takes it back.
     fn edit(&mut self, names: &mut Names, edit: &Edit) -> Result<(), Refusal>
+        requires { KeepsRefs edit.now }
         ensures { StandingEdit edit.now names.old self.old result names.new self.new }
     {
         self.inverses.reserve(1)?;

@@ -1,5 +1,6 @@
 -- Counts of references as a map from the number of a handle to its count.
-use Rattle.std.specs.Prelude.{◌≡◌, ◌+◌, ◌-◌, ◌&&◌, ◌==◌, ◌∷◌, [], ℕ, List, Bool, true, false, Option, Some, None, Result, Ok, Err, ◌⊎◌, map, filter, nat_lt, if◌then◌else◌, refl}
+use Rattle.std.specs.Prelude.{◌≡◌, ◌+◌, ◌-◌, ◌&&◌, ◌==◌, ◌∷◌, [], ℕ, List, Bool, true, false, Option, Some, None, Result, Ok, Err, ◌⊎◌, map, filter, nat_lt, is_none, if◌then◌else◌, refl}
+use Rattle.std.specs.List.{list_all}
 use Rattle.std.specs.Ordering.{nat_cmp}
 use Rattle.std.specs.FinMap as fin
 use Rattle.gs_base.specs.declared.refusal.Refusal.{Refusal}
@@ -36,6 +37,14 @@ taken_from m handle (Some n) = if n == 0 then Ok (fin.remove m handle) else Err 
 abbrev pub taken_out : Counts → ℕ → Result Counts Refusal
 taken_out m handle = taken_from m handle (fin.get m handle)
 
+-- without a listed handle that has one reference
+abbrev pub unlisted_from : Counts → ℕ → Option ℕ → Result Counts Refusal
+unlisted_from m handle None = Err BadLine
+unlisted_from m handle (Some n) = if n == 1 then Ok (fin.remove m handle) else Err BadLine
+
+abbrev pub unlisted : Counts → ℕ → Result Counts Refusal
+unlisted m handle = unlisted_from m handle (fin.get m handle)
+
 -- with a handle that isn't listed, which has no references
 abbrev pub put_from : Counts → ℕ → Option ℕ → Result Counts Refusal
 put_from m handle None = Ok (fin.insert m handle 0)
@@ -70,6 +79,34 @@ abbrev pub rises : List (ℕ × ℕ) → Bool
 rises [] = true
 rises (e ∷ es) = rises_from e.0 es
 
+abbrev pub ascends_from : ℕ → List ℕ → Bool
+ascends_from handle [] = true
+ascends_from handle (h ∷ hs) = nat_lt handle h && ascends_from h hs
+
+abbrev pub ascends : List ℕ → Bool
+ascends [] = true
+ascends (h ∷ hs) = ascends_from h hs
+
+abbrev pub without_each : Counts → List ℕ → Counts
+without_each m [] = m
+without_each m (h ∷ hs) = without_each (fin.remove m h) hs
+
+abbrev pub with_each : Counts → List ℕ → Counts
+with_each m [] = m
+with_each m (h ∷ hs) = with_each (fin.insert m h 0) hs
+
+abbrev pub is_at_zero : Option ℕ → Bool
+is_at_zero None = false
+is_at_zero (Some n) = n == 0
+
+-- without the handles of a list that rises, each of which is listed without references
+abbrev pub taken_each : Counts → List ℕ → Result Counts Refusal
+taken_each m hs = if ascends hs && list_all (λ h. is_at_zero (fin.get m h)) hs then Ok (without_each m hs) else Err BadLine
+
+-- with the handles of a list that rises, none of which is listed, each without references
+abbrev pub put_each : Counts → List ℕ → Result Counts Refusal
+put_each m hs = if ascends hs && list_all (λ h. is_none (fin.get m h)) hs then Ok (with_each m hs) else Err BadLine
+
 -- the map of entries whose handles rise
 abbrev pub made_of : List (ℕ × ℕ) → Result Counts Refusal
 made_of es = if rises es then Ok (fin.from_entries es) else Err BadLine
@@ -78,6 +115,12 @@ made_of es = if rises es then Ok (fin.from_entries es) else Err BadLine
 abbrev pub GivesOrMemory : Result Counts Refusal → Result Counts Refusal → Type 0
 GivesOrMemory expected (Ok m) = expected ≡ Ok m
 GivesOrMemory expected (Err e) = (expected ≡ Err e) ⊎ (e ≡ Memory)
+
+ascending : ascends (1 ∷ 2 ∷ 5 ∷ []) ≡ true
+ascending = refl
+
+not_ascending : ascends (1 ∷ 5 ∷ 5 ∷ []) ≡ false
+not_ascending = refl
 
 two_orphans : without_references ((1, 0) ∷ (2, 3) ∷ (5, 0) ∷ []) ≡ 1 ∷ 5 ∷ []
 two_orphans = refl

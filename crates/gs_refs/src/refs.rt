@@ -1,6 +1,7 @@
-ghost use Rattle.std.specs.Prelude.{◌≡◌, IfOk, IfSome, IsSome, OnOk, OnErr, Some, None};
+ghost use Rattle.std.specs.Prelude.{◌≡◌, IfOk, IfSome, IsSome, OnOk, OnErr, Some, None, is_none};
 ghost use Rattle.std.specs.FinMap as fin;
-ghost use Rattle.gs_refs.specs.Counts.{raised, lowered, taken_out, put_back, Follows, FollowsOrMemory, orphans, rises, rises_from, made_of, GivesOrMemory};
+ghost use Rattle.gs_refs.specs.Counts.{raised, lowered, taken_out, put_back, unlisted, taken_each, put_each, without_each, with_each, is_at_zero, ascends, ascends_from, Follows, FollowsOrMemory, orphans, rises, rises_from, made_of, GivesOrMemory};
+ghost use Rattle.std.specs.List.{list_all};
 
 use gs_base::{Handle, Refusal};
 use std::alloc::{AllocError, Global};
@@ -92,6 +93,47 @@ impl Refs {
         Ok(())
     }
 
+    /// Lists a chunk of one reference no more. `BadLine` where it has another count or isn't listed. It takes no memory.
+    pub fn unlist(&mut self, handle: Handle) -> Result<(), Refusal>
+        ensures { Follows (unlisted self.old handle) result self.old self.new }
+    {
+        if self.count(handle) != Some(1) {
+            return Err(Refusal::BadLine);
+        }
+        self.remove(handle);
+        Ok(())
+    }
+
+    /// Lists the chunks of a list no more. `BadLine` unless their handles rise and each is listed without references. It
+    /// takes no memory.
+    pub fn take_out_each(&mut self, handles: &[Handle]) -> Result<(), Refusal>
+        ensures { Follows (taken_each self.old handles.now) result self.old self.new }
+    {
+        if !ascend(handles) || !self.each_is_at_zero(handles) {
+            return Err(Refusal::BadLine);
+        }
+        for handle in handles {
+            self.remove(*handle);
+        }
+        Ok(())
+    }
+
+    /// Lists the chunks of a list without references. `BadLine` unless their handles rise and none is listed. It copies
+    /// the counts.
+    pub fn put_back_each(&mut self, alloc: Global, handles: &[Handle]) -> Result<(), Refusal>
+        ensures { FollowsOrMemory (put_each self.old handles.now) result self.old self.new }
+    {
+        if !ascend(handles) || !self.lists_none(handles) {
+            return Err(Refusal::BadLine);
+        }
+        let mut refs = self.copy(alloc)?;
+        for handle in handles {
+            refs.write(*handle, 0)?;
+        }
+        *self = refs;
+        Ok(())
+    }
+
     /// The listed chunks without references, ascending.
     pub fn orphans(&self, alloc: Global) -> Result<Vec<Handle>, AllocError>
         ensures { IfOk result (λ found. found.items ≡ orphans self.now) }
@@ -152,6 +194,20 @@ impl Refs {
         let _written = self.write(handle, count);
     }
 
+    /// Whether each chunk of a list is listed without references.
+    fn each_is_at_zero(&self, handles: &[Handle]) -> bool
+        ensures { result ≡ list_all (λ h. is_at_zero (fin.get self.now h)) handles.now }
+    {
+        handles.iter().all(|handle| self.count(*handle) == Some(0))
+    }
+
+    /// Whether no chunk of a list is listed.
+    fn lists_none(&self, handles: &[Handle]) -> bool
+        ensures { result ≡ list_all (λ h. is_none (fin.get self.now h)) handles.now }
+    {
+        handles.iter().all(|handle| self.count(*handle).is_none())
+    }
+
     fn remove(&mut self, handle: Handle)
         ensures { self.new ≡ fin.remove self.old handle }
     {
@@ -168,6 +224,23 @@ fn listed(alloc: Global, entries: &[(Handle, u32)]) -> Result<Refs, AllocError>
         refs.write(*handle, *count)?;
     }
     Ok(refs)
+}
+
+/// Whether the handles strictly rise.
+fn ascend(handles: &[Handle]) -> bool
+    ensures { result ≡ ascends handles.now }
+{
+    let [first, rest @ ..] = handles else {
+        return true;
+    };
+    let mut last = *first;
+    for handle in rest {
+        if *handle <= last {
+            return false;
+        }
+        last = *handle;
+    }
+    true
 }
 
 /// Whether the handles strictly rise.

@@ -1,24 +1,21 @@
 -- What holds of the children one by one.
-use Rattle.std.proofs.Common.{◌≡◌, ◌+◌, ◌<◌, ◌≤◌, ℕ, Bool, true, false, not, cond, ◌&&◌, ◌||◌, List, [], ◌∷◌, ◌++◌, length, map, refl, sym, ap, ◌∙◌, subst, arith}
+use Rattle.std.proofs.Common.{◌≡◌, ◌+◌, ◌<◌, ◌≤◌, ℕ, Bool, true, false, not, cond, ◌&&◌, ◌||◌, List, [], ◌∷◌, ◌++◌, length, refl, sym, ap, ◌∙◌, subst, arith}
 use Rattle.std.specs.Prelude.{Option, Some, None, is_some, MatchBool}
-use Rattle.std.specs.Option.{option_or, option_map}
-use Rattle.std.specs.List.{list_any, list_all, AllByRecursion}
+use Rattle.std.specs.Option.{option_or}
+use Rattle.std.specs.List.{list_any, list_all}
 use Rattle.std.specs.List.Sorted.{IsStrictlySortedBy}
 use Rattle.std.specs.Map.{lookup, keys_of, values_of}
-use Rattle.std.specs.BTreeMap.{BTreeMap, is_at}
-use Rattle.std.specs.Ordering.{eq_by_cmp}
-use Rattle.std.specs.FinMap.{find, is_sorted}
+use Rattle.std.specs.BTreeMap.{is_at}
 use Rattle.gs_path.specs.Path.{Name, Path, same_name, name_cmp}
 use Rattle.gs_path.specs.Element.{is_hidden}
 use Rattle.gs_tree.specs.Entry.{Entry, Dir, File}
-use Rattle.gs_tree.specs.Plain.{Plain}
 use Rattle.gs_tree.specs.Find.{Rows, at, IsBelow}
-use Rattle.gs_tree.specs.Rows.{under, joined, rows_of, IsLevel, IsRooted}
+use Rattle.gs_tree.specs.Rows.{under, joined, rows_of}
 use Rattle.gs_tree.specs.Inverses.{row_of, IsBlank, IsBlankRow}
 use Rattle.gs_tree.specs.Listing.{HasVisible}
 use Rattle.gs_tree.specs.declared.node.Kind.{Kind}
 use Rattle.gs_tree.specs.declared.node.Kind.TheVariants as kinds
-use Rattle.gs_tree.proofs.Rows.{names_equiv, at-append, at-under, at-joined, at-joined_root, at_child, sorted_tail}
+use Rattle.gs_tree.proofs.Rows.{names_equiv, at-append, at-under, at-joined, at-joined_root, at_child}
 use Rattle.gs_tree.proofs.Splice.{one_name}
 use Rattle.gs_tree.proofs.Sowing.{row_of-cons, row_empty}
 

@@ -1,8 +1,8 @@
 -- Laws of the edits: what the steps of a move come to, and that each edit is taken back.
 use Rattle.std.proofs.Common.{ℕ, ◌≡◌, true, false, cond, ◌&&◌, [], ◌∷◌, ◌++◌, refl, append-nil, sym, ap, ◌∙◌}
-use Rattle.std.specs.Prelude.{Option, Some, None, is_some, is_none}
+use Rattle.std.specs.Prelude.{Option, None, is_some}
 use Rattle.gs_path.specs.Path.{Path, same_name, begins}
-use Rattle.gs_tree.specs.Entry.{Entry, Dir}
+use Rattle.gs_tree.specs.Entry.{Entry}
 use Rattle.gs_tree.specs.Plain.{Plain, after, with_at, without, part_at, IsFree}
 use Rattle.gs_tree.specs.Edits.{moved}
 use Rattle.gs_tree.proofs.Rows.{names_equiv}

@@ -9,3 +9,6 @@ pub mod Copying
 pub mod Moves
 pub mod Makes
 pub mod Depths
+pub mod Removals
+pub mod Chunks
+pub mod Mapped

@@ -1,9 +1,7 @@
 -- What a directory lists.
-use Rattle.std.proofs.Common.{◌≡◌, ℕ, Bool, true, false, not, cond, ◌&&◌, List, [], ◌∷◌, ◌++◌, length, map, refl, sym, ap, ◌∙◌, subst, arith}
+use Rattle.std.proofs.Common.{◌≡◌, ℕ, Bool, true, false, cond, ◌&&◌, List, [], ◌∷◌, refl, sym, ap, ◌∙◌}
 use Rattle.std.specs.Prelude.{Option, Some, None, is_some, IsTrue}
-use Rattle.std.specs.Option.{option_map}
-use Rattle.std.specs.declared.cmp.Ordering.{Ordering}
-use Rattle.std.specs.declared.cmp.Ordering.TheVariants.{Less, Equal, Greater}
+use Rattle.std.specs.declared.cmp.Ordering.TheVariants.{Less}
 use Rattle.std.specs.Ordering.{is_lt}
 use Rattle.std.specs.List.{AllByRecursion}
 use Rattle.std.specs.List.Sorted.{IsStrictlySortedBy}
@@ -11,14 +9,14 @@ use Rattle.std.specs.Map.{lookup, keys_of}
 use Rattle.std.specs.BTreeMap.{is_at}
 use Rattle.std.specs.FinMap.{find, is_sorted}
 use Rattle.std.specs.FinMap.Entries.{below_all}
-use Rattle.gs_path.specs.Path.{Name, Path, same_name, name_cmp}
+use Rattle.gs_path.specs.Path.{Name, same_name, name_cmp}
 use Rattle.gs_path.specs.Element.{is_hidden}
 use Rattle.gs_tree.specs.Entry.{Entry, Dir, File}
 use Rattle.gs_tree.specs.Entry as entry
 use Rattle.gs_tree.specs.Find.{Rows, at}
 use Rattle.gs_tree.specs.Rows.{joined}
 use Rattle.gs_tree.specs.Edits.{is_dir}
-use Rattle.gs_tree.specs.Listing.{shown, is_dir_entry, pairs_of, IsListing}
+use Rattle.gs_tree.specs.Listing.{shown, pairs_of, IsListing}
 use Rattle.gs_tree.specs.declared.node.Listed.{Listed}
 use Rattle.gs_tree.proofs.Rows.{at-joined, at_child, sorted_tail}
 use Rattle.gs_tree.proofs.Splice.{one_name}

@@ -1,19 +1,18 @@
 -- What is made is taken back.
-use Rattle.std.proofs.Common.{◌≡◌, ◌+◌, ◌-◌, ◌<◌, ◌≤◌, ℕ, Bool, true, false, cond, ◌&&◌, ◌||◌, ◌⊎◌, inl, inr, List, [], ◌∷◌, ◌++◌, length, take, drop, refl, sym, ap, ◌∙◌, subst, arith, nat_lt}
-use Rattle.std.specs.Prelude.{Option, Some, None, is_none, is_some, Result, Ok, Err}
+use Rattle.std.proofs.Common.{◌≡◌, ◌+◌, ◌-◌, ◌<◌, ℕ, Bool, true, false, cond, ◌&&◌, ◌||◌, inl, inr, [], ◌∷◌, ◌++◌, length, refl, sym, ap, ◌∙◌, subst, arith, nat_lt}
+use Rattle.std.specs.Prelude.{Some, None, is_none, Result, Ok, Err}
 use Rattle.std.proofs.lemmas.List.{take-append-drop}
 use Rattle.std.proofs.lemmas.Bool.{lt-ltb, le-ltb}
 use Rattle.gs_base.specs.declared.refusal.Refusal.{Refusal}
 use Rattle.gs_base.specs.declared.refusal.Refusal.TheVariants.{Exists, NotADirectory}
-use Rattle.gs_path.specs.Path.{Name, Path, same_name, begins}
-use Rattle.gs_tree.specs.Entry.{Entry, Dir, File}
-use Rattle.gs_tree.specs.Entry as entry
+use Rattle.gs_path.specs.Path.{Path, same_name, begins}
+use Rattle.gs_tree.specs.Entry.{Entry, Dir}
 use Rattle.gs_tree.specs.declared.node.Leaf.{Leaf}
 use Rattle.gs_tree.specs.declared.node.Leaf.TheVariants as leaves
 use Rattle.gs_tree.specs.Sort.{entry_of_leaf}
 use Rattle.gs_tree.specs.Plain.{Plain, IsFree, Same, without, part_at}
 use Rattle.gs_tree.specs.Find.{DirsAbove}
-use Rattle.gs_tree.specs.Edits.{with_dirs, with_entry, file_above, is_file, is_dir, stood, same_path, mkdirs, made}
+use Rattle.gs_tree.specs.Edits.{with_dirs, with_entry, file_above, is_file, stood, same_path, mkdirs, made}
 use Rattle.gs_tree.specs.Inverses.{row_of, first_made, below_first, after_undo, IsBlank, IsBlankRow, TakesBack}
 use Rattle.gs_tree.specs.Follows.{IsSown, Follows}
 use Rattle.gs_tree.specs.declared.inverse.TreeInverse.TheVariants.{Made}

@@ -1,19 +1,20 @@
 -- Which answer a move has once the tests on its target are made, and what takes it back.
 use Rattle.std.specs.FinMap.{get, from_entries, get-from_entries}
-use Rattle.std.proofs.Common.{length, ℕ, ◌≢◌, ◌≡◌, ◌⊎◌, inl, inr, ◌<◌, ◌+◌, ◌-◌, Bool, true, false, cond, ◌&&◌, [], ◌∷◌, ◌++◌, refl, sym, ap, ◌∙◌, subst, arith, append-nil, length-append, ◌≤◌, List, map, codes}
-use Rattle.std.specs.Prelude.{Option, Some, None, Result, Ok, Err, is_some, is_none, ◌==◌, MatchBool, take}
+use Rattle.std.proofs.Common.{length, ℕ, ◌≢◌, ◌≡◌, inl, inr, ◌<◌, ◌+◌, ◌-◌, Bool, true, false, cond, ◌&&◌, [], ◌∷◌, ◌++◌, refl, sym, ap, ◌∙◌, subst, arith, append-nil, length-append, ◌≤◌, List, map}
+use Rattle.std.specs.Prelude.{Option, Some, None, Result, Ok, Err, is_some, is_none, ◌==◌, take}
 use Rattle.gs_base.specs.declared.refusal.Refusal.{Refusal}
 use Rattle.gs_base.specs.declared.refusal.Refusal.TheVariants.{NotFound, NotADirectory, Exists, IntoItself, BadPath, Memory}
 use Rattle.gs_path.specs.Path.{Name, Path, path_cmp, path_total, begins, same_name, parent_of}
-use Rattle.gs_path.specs.Element.{hidden_name, hidden_mark, twenty_digits}
+use Rattle.gs_path.specs.Element.{hidden_name, hidden_parts}
+use Rattle.std.specs.Option.{option_map}
 use Rattle.gs_tree.specs.Entry.{Entry, Dir}
 use Rattle.gs_tree.specs.Entry as entry
 use Rattle.gs_tree.specs.declared.node.Sort.{Sort}
 use Rattle.gs_tree.specs.declared.node.Sort.TheVariants as sorts
 use Rattle.gs_tree.specs.Sort.{sort_of}
-use Rattle.gs_tree.specs.Plain.{Plain, after, without, part_at, IsFree, Same}
-use Rattle.gs_tree.specs.Find.{Rows, at, DirsAbove, IsBelow, IsTooDeep, IsDepthTest}
-use Rattle.gs_tree.specs.Edits.{rename, move_to, moved, hide, hidden_path, parent, last, target_of, same_path, is_file, is_dir}
+use Rattle.gs_tree.specs.Plain.{Plain, after, without, part_at, IsFree}
+use Rattle.gs_tree.specs.Find.{Rows, at, DirsAbove, IsBelow, IsDepthTest}
+use Rattle.gs_tree.specs.Edits.{rename, move_to, placed, moved, hide, unhide, unhidden, renamed_beside, beside, old_name, snapshot, copied, parent, last, target_of, same_path, is_file, is_dir}
 use Rattle.gs_tree.specs.Listing.{IsListingOf, pairs_of}
 use Rattle.gs_tree.specs.declared.node.Listed.{Listed}
 use Rattle.gs_tree.specs.Inverses.{TakesBack}
@@ -80,12 +81,12 @@ dir_is None h = absurd (cc)
 dir_is (Some entry.Dir) h = refl
 dir_is (Some (entry.File handles)) h = absurd (cc)
 
-move_to-is : (deep : Bool) (m : Plain ℕ) (from to : Path) → same_path to from ≡ false → begins from to ≡ false → is_some (m to) ≡ false → move_to deep m from to ≡ by_parent deep (sort_of (m (parent to))) (moved from to m)
-move_to-is deep m from to e1 e2 e3 =
-    ap (λ b. cond b (Err Exists) rest1) e1 ∙ ap (λ b. cond b (Err IntoItself) rest2) e2 ∙ ap (λ b. cond b (Err Exists) rest3) e3 ∙ by_sort deep (m (parent to)) (moved from to m)
+placed-is : (deep : Bool) (m : Plain ℕ) (from to : Path) (new : Plain ℕ) → same_path to from ≡ false → begins from to ≡ false → is_some (m to) ≡ false → placed deep m from to new ≡ by_parent deep (sort_of (m (parent to))) new
+placed-is deep m from to new e1 e2 e3 =
+    ap (λ b. cond b (Err Exists) rest1) e1 ∙ ap (λ b. cond b (Err IntoItself) rest2) e2 ∙ ap (λ b. cond b (Err Exists) rest3) e3 ∙ by_sort deep (m (parent to)) new
   where
     rest3 : Result (Plain ℕ) Refusal
-    rest3 = cond (is_none (m (parent to))) (Err NotFound) (cond (is_file (m (parent to))) (Err NotADirectory) (cond deep (Err BadPath) (Ok (moved from to m))))
+    rest3 = cond (is_none (m (parent to))) (Err NotFound) (cond (is_file (m (parent to))) (Err NotADirectory) (cond deep (Err BadPath) (Ok new)))
 
     rest2 : Result (Plain ℕ) Refusal
     rest2 = cond (is_some (m to)) (Err Exists) rest3
@@ -94,9 +95,22 @@ move_to-is deep m from to e1 e2 e3 =
     rest1 = cond (begins from to) (Err IntoItself) rest2
 
 -- the same with what the code tested: s is the sort of the target's parent
-pub answer : (deep : Bool) (m : Plain ℕ) (from to par : Path) (x : Name) (s : Sort) → same_path to from ≡ false → begins from to ≡ false → sorts.Missing ≡ sort_of (m to) → to ≡ par ++ x ∷ [] → s ≡ sort_of (m par) → move_to deep m from to ≡ by_parent deep s (moved from to m)
-answer deep m from to par x s e1 e2 e3 split is =
-    move_to-is deep m from to e1 e2 (nothing (m to) e3) ∙ ap (λ v. by_parent deep v (moved from to m)) (ap (λ p. sort_of (m p)) (ap parent split ∙ parent-append par x) ∙ sym is)
+pub answer : (deep : Bool) (m : Plain ℕ) (from to par : Path) (x : Name) (s : Sort) (new : Plain ℕ) → same_path to from ≡ false → begins from to ≡ false → sorts.Missing ≡ sort_of (m to) → to ≡ par ++ x ∷ [] → s ≡ sort_of (m par) → placed deep m from to new ≡ by_parent deep s new
+answer deep m from to par x s new e1 e2 e3 split is =
+    placed-is deep m from to new e1 e2 (nothing (m to) e3) ∙ ap (λ v. by_parent deep v new) (ap (λ p. sort_of (m p)) (ap parent split ∙ parent-append par x) ∙ sym is)
+
+pub taken_answer : (deep : Bool) (m : Plain ℕ) (from to : Path) (new : Plain ℕ) → same_path to from ≡ false → begins from to ≡ false → is_some (m to) ≡ true → placed deep m from to new ≡ Err Exists
+taken_answer deep m from to new e1 e2 e3 =
+    ap (λ b. cond b (Err Exists) rest1) e1 ∙ ap (λ b. cond b (Err IntoItself) rest2) e2 ∙ ap (λ b. cond b (Err Exists) rest3) e3
+  where
+    rest3 : Result (Plain ℕ) Refusal
+    rest3 = cond (is_none (m (parent to))) (Err NotFound) (cond (is_file (m (parent to))) (Err NotADirectory) (cond deep (Err BadPath) (Ok new)))
+
+    rest2 : Result (Plain ℕ) Refusal
+    rest2 = cond (is_some (m to)) (Err Exists) rest3
+
+    rest1 : Result (Plain ℕ) Refusal
+    rest1 = cond (begins from to) (Err IntoItself) rest2
 
 pub into_dir : (m : Plain ℕ) (from to par : Path) (x : Name) → sorts.Dir ≡ sort_of (m to) → from ≡ par ++ x ∷ [] → to ++ x ∷ [] ≡ target_of m from to
 into_dir m from to par x e split = sym (ap (λ b. cond b (to ++ last from) to) (ap is_dir (dir_is (m to) e)) ∙ ap (λ l. to ++ l) (ap last split ∙ last-append par x))
@@ -127,14 +141,14 @@ parent-shorter [] ne = absurd (ne refl)
 parent-shorter (x ∷ []) ne = omega arith
 parent-shorter (x ∷ y ∷ p) ne = let l = parent-shorter (y ∷ p) (λ e. cc) in omega arith
 
-not_itself : (p : Path) → p ≢ [] → begins p (parent p) ≡ false
+pub not_itself : (p : Path) → p ≢ [] → begins p (parent p) ≡ false
 not_itself p ne = elim (begins p (parent p)) as (λ b. begins p (parent p) ≡ b → b ≡ false) [
   | true ↦ λ b. let l = begins-length p (parent p) b in let k = parent-shorter p ne in absurd (omega arith)
   | false ↦ λ b. refl
 ] refl
 
 -- what is free isn't a front of what stands
-not_front : (m : Plain ℕ) (to p : Path) → IsFree m to → is_some (m p) ≡ true → begins to p ≡ false
+pub not_front : (m : Plain ℕ) (to p : Path) → IsFree m to → is_some (m p) ≡ true → begins to p ≡ false
 not_front m to p free some = elim (begins to p) as (λ b. begins to p ≡ b → b ≡ false) [
   | true ↦ λ b. let n : is_some (m p) ≡ false = ap is_some (free_at m to p free b) in absurd (cc)
   | false ↦ λ b. refl
@@ -167,36 +181,10 @@ deep_true false m from to h never = absurd (never (λ q some. within to q (λ l.
 at_least : (a b : List ℕ) → length b ≤ length (a ++ b)
 at_least a b = omega (arith, length-append a b)
 
--- hidden names are longer than the old ones
-pub hidden_apart : (par : Path) (x : Name) (moment number : ℕ) → begins (par ++ x ∷ []) (par ++ hidden_name moment number x ∷ []) ≡ false
-hidden_apart [] x moment number = elim (same_name x (hidden_name moment number x)) as (λ b. same_name x (hidden_name moment number x) ≡ b → (b && true) ≡ false) [
-  | true ↦ λ b. absurd (let e : length x ≡ length (hidden_name moment number x) = ap length (one_name x (hidden_name moment number x) b) in longer e)
-  | false ↦ λ b. refl
-] refl
-  where
-    longer : length x ≡ length (hidden_name moment number x) → ⊥
-    longer e =
-        let a = at_least hidden_mark (twenty_digits moment ++ (codes "." ++ (twenty_digits number ++ (codes "." ++ x)))) in
-        let b = at_least (twenty_digits moment) (codes "." ++ (twenty_digits number ++ (codes "." ++ x))) in
-        let c = at_least (codes ".") (twenty_digits number ++ (codes "." ++ x)) in
-        let d = at_least (twenty_digits number) (codes "." ++ x) in
-        let f = length-append (codes ".") x in omega arith
-hidden_apart (y ∷ par) x moment number = ap (λ b. b && begins (par ++ x ∷ []) (par ++ hidden_name moment number x ∷ [])) (names_equiv.refl y) ∙ hidden_apart par x moment number
-
-pub hidden_path-append : (par : Path) (x : Name) (moment number : ℕ) → hidden_path (par ++ x ∷ []) moment number ≡ par ++ hidden_name moment number x ∷ []
-hidden_path-append par x moment number =
-    ap (λ p. p ++ map (λ name. hidden_name moment number name) (last (par ++ x ∷ []))) (parent-append par x) ∙ ap (λ l. par ++ map (λ name. hidden_name moment number name) l) (last-append par x)
-
--- hiding once the tests are made
-pub hide-is : (m : Plain ℕ) (p target : Path) (moment number : ℕ) → p ≢ [] → is_some (m p) ≡ true → hidden_path p moment number ≡ target → hide m p moment number ≡ cond (is_some (m target)) (Err Exists) (Ok (moved p target m))
-hide-is m [] target moment number ne some is = absurd (ne refl)
-hide-is m (x ∷ p) target moment number ne some is =
-    ap (λ b. cond b (Err NotFound) (cond (is_some (m (hidden_path (x ∷ p) moment number))) (Err Exists) (Ok (moved (x ∷ p) (hidden_path (x ∷ p) moment number) m)))) (some_is (m (x ∷ p)) some)
-    ∙ ap (λ t. cond (is_some (m t)) (Err Exists) (Ok (moved (x ∷ p) t m))) is
-
-pub hide-missing : (m : Plain ℕ) (p : Path) (moment number : ℕ) → p ≢ [] → m p ≡ None → hide m p moment number ≡ Err NotFound
-hide-missing m [] moment number ne none = absurd (ne refl)
-hide-missing m (x ∷ p) moment number ne none = ap (λ v. cond (is_none v) (Err NotFound) (cond (is_some (m (hidden_path (x ∷ p) moment number))) (Err Exists) (Ok (moved (x ∷ p) (hidden_path (x ∷ p) moment number) m)))) none
+-- of two names in a directory, one begins with the other only where they are the same
+beside_begins : (par : Path) (x y : Name) → begins (par ++ x ∷ []) (par ++ y ∷ []) ≡ same_name x y
+beside_begins [] x y = elim (same_name x y) as (λ b. (b && true) ≡ b) [ true ↦ refl | false ↦ refl ]
+beside_begins (z ∷ par) x y = ap (λ b. b && begins (par ++ x ∷ []) (par ++ y ∷ [])) (names_equiv.refl z) ∙ beside_begins par x y
 
 parent_taken : (x : Name) (p : Path) → parent (x ∷ p) ≡ take (length p) (x ∷ p)
 parent_taken x [] = refl
@@ -206,31 +194,65 @@ pub parent_is : (p par : Path) → parent_of p ≡ Some par → par ≡ parent p
 parent_is [] par e = absurd (cc)
 parent_is (x ∷ p) par e = let k : take (length p) (x ∷ p) ≡ par = cc in sym (parent_taken x p ∙ k)
 
--- all that a move to a hidden name needs and gives: par is the source's parent and x its name
-pub record Hides (m : Plain ℕ) (p target par : Path) (x : Name) (moment number : ℕ) : Type 0 where
+-- what stands at p, whose parent is par, moves to a name beside it
+pub record Aside (m : Plain ℕ) (p target par : Path) (x name : Name) : Type 0 where
   pub split : p ≡ par ++ x ∷ []
-  pub aim : target ≡ par ++ hidden_name moment number x ∷ []
+  pub aim : target ≡ beside p name
   pub stands : is_some (m p) ≡ true
   pub above : DirsAbove m p
 
-pub hides_some : {m : Plain ℕ} {p target par : Path} {x : Name} {moment number : ℕ} → Hides m p target par x moment number → p ≢ []
-hides_some {par = par} {x = x} h z = append_some par x (sym h.split ∙ z)
+pub aside_some : {m : Plain ℕ} {p target par : Path} {x name : Name} → Aside m p target par x name → p ≢ []
+aside_some {par = par} {x = x} h z = append_some par x (sym h.split ∙ z)
 
-pub hides_aim : {m : Plain ℕ} {p target par : Path} {x : Name} {moment number : ℕ} → Hides m p target par x moment number → hidden_path p moment number ≡ target
-hides_aim {par = par} {x = x} {moment = moment} {number = number} h = ap (λ q. hidden_path q moment number) h.split ∙ hidden_path-append par x moment number ∙ sym h.aim
+pub aside_target : {m : Plain ℕ} {p target par : Path} {x name : Name} → Aside m p target par x name → target ≡ par ++ name ∷ []
+aside_target {par = par} {x = x} {name = name} h = h.aim ∙ ap (λ q. parent q ++ name ∷ []) h.split ∙ ap (λ q. q ++ name ∷ []) (parent-append par x)
 
-pub hides_is : {m : Plain ℕ} {p target par : Path} {x : Name} {moment number : ℕ} → Hides m p target par x moment number → hide m p moment number ≡ cond (is_some (m target)) (Err Exists) (Ok (moved p target m))
-hides_is {m = m} {p = p} {target = target} {moment = moment} {number = number} h = hide-is m p target moment number (hides_some h) h.stands (hides_aim h)
+pub aside_is : {m : Plain ℕ} {p target par : Path} {x name : Name} → Aside m p target par x name → renamed_beside m p name ≡ cond (is_some (m target)) (Err Exists) (Ok (moved p target m))
+aside_is {m = m} {p = p} {name = name} h =
+    ap (λ b. cond b (Err NotFound) (cond (is_some (m (beside p name))) (Err Exists) (Ok (moved p (beside p name) m)))) (some_is (m p) h.stands)
+    ∙ ap (λ t. cond (is_some (m t)) (Err Exists) (Ok (moved p t m))) (sym h.aim)
 
-pub hides_apart : {m : Plain ℕ} {p target par : Path} {x : Name} {moment number : ℕ} → Hides m p target par x moment number → begins p target ≡ false
-hides_apart {target = target} {par = par} {x = x} {moment = moment} {number = number} h = ap (λ q. begins q target) h.split ∙ ap (begins (par ++ x ∷ [])) h.aim ∙ hidden_apart par x moment number
+pub aside_apart : {m : Plain ℕ} {p target par : Path} {x name : Name} → Aside m p target par x name → IsFree m target → begins p target ≡ false
+aside_apart {m = m} {p = p} {target = target} {par = par} {x = x} {name = name} h free =
+    elim (same_name x name) as (λ b. same_name x name ≡ b → begins p target ≡ false) [
+      | true ↦ λ b. let same : p ≡ target = h.split ∙ ap (λ n. par ++ n ∷ []) (one_name x name b) ∙ sym (aside_target h) in
+          let gone : is_some (m p) ≡ false = ap (λ q. is_some (m q)) (same ∙ sym (append-nil target)) ∙ ap is_some (free []) in absurd (let s = h.stands in cc)
+      | false ↦ λ b. ap (λ q. begins q target) h.split ∙ ap (begins (par ++ x ∷ [])) (aside_target h) ∙ beside_begins par x name ∙ b
+    ] refl
 
-pub hides_dir : {m : Plain ℕ} {p target par : Path} {x : Name} {moment number : ℕ} → Hides m p target par x moment number → m par ≡ Some Dir
-hides_dir {m = m} {p = p} {par = par} {x = x} h = ap m (sym (parent-append par x) ∙ ap parent (sym h.split)) ∙ dir_above m p (hides_some h) h.above
+pub aside_dir : {m : Plain ℕ} {p target par : Path} {x name : Name} → Aside m p target par x name → m par ≡ Some Dir
+aside_dir {m = m} {p = p} {par = par} {x = x} h = ap m (sym (parent-append par x) ∙ ap parent (sym h.split)) ∙ dir_above m p (aside_some h) h.above
+
+-- to hide is to rename beside
+pub hide-beside : (m : Plain ℕ) (p par : Path) (x : Name) (moment number : ℕ) → p ≡ par ++ x ∷ [] → hide m p moment number ≡ renamed_beside m p (hidden_name moment number x)
+hide-beside m [] par x moment number e = absurd (append_some par x (sym e))
+hide-beside m (y ∷ p) par x moment number e =
+    ap (λ l. cond (is_none (m (y ∷ p))) (Err NotFound) (cond (is_some (m (parent (y ∷ p) ++ map (λ n. hidden_name moment number n) l))) (Err Exists) (Ok (moved (y ∷ p) (parent (y ∷ p) ++ map (λ n. hidden_name moment number n) l) m))))
+    (ap last e ∙ last-append par x)
+
+pub old_name-append : (par : Path) (x : Name) → old_name (par ++ x ∷ []) ≡ option_map (λ parts. parts.2) (hidden_parts x)
+old_name-append [] x = refl
+old_name-append (y ∷ []) x = refl
+old_name-append (y ∷ z ∷ p) x = old_name-append (z ∷ p) x
+
+pub unhide-is : (m : Plain ℕ) (p : Path) (name : Option Name) → name ≡ old_name p → unhide m p ≡ unhidden m p name
+unhide-is m p name e = ap (unhidden m p) (sym e)
 
 pub follows_memory : (I : Type 0) (r : Result (Plain ℕ) Refusal) (f : Refusal) (old : Plain ℕ) → f ≡ Memory → Follows {I = I} r (Err f) old old
 follows_memory I (Ok m) f old e = (e, λ q. refl)
 follows_memory I (Err g) f old e = (inr e, λ q. refl)
+
+-- a refusal that the plain tree gives
+pub refused : (I : Type 0) {r : Result (Plain ℕ) Refusal} (f : Refusal) (old : Plain ℕ) → r ≡ Err f → Follows {I = I} r (Err f) old old
+refused I f old e = subst (λ (s : Result (Plain ℕ) Refusal). Follows {I = I} s (Err f) old old) (sym e) (inl refl, λ q. refl)
+
+pub snapshot-is : (deep : Bool) (m : Plain ℕ) (from to : Path) → (from ≢ []) → is_some (m from) ≡ true → snapshot (λ _. deep) m from to ≡ placed deep m from to (copied from to m)
+snapshot-is deep m [] to h g = absurd (h refl)
+snapshot-is deep m (x ∷ from) to h g = ap (λ b. cond b (Err NotFound) (placed deep m (x ∷ from) to (copied (x ∷ from) to m))) (some_is (m (x ∷ from)) g)
+
+pub snapshot-missing : (deep : Bool) (m : Plain ℕ) (from to : Path) → (from ≢ []) → m from ≡ None → snapshot (λ _. deep) m from to ≡ Err NotFound
+snapshot-missing deep m [] to h e = absurd (h refl)
+snapshot-missing deep m (x ∷ from) to h e = ap (λ v. cond (is_none v) (Err NotFound) (placed deep m (x ∷ from) to (copied (x ∷ from) to m))) e
 
 pub is_dir_some : (v : Option (Entry ℕ)) → is_dir v ≡ true → v ≡ Some Dir
 is_dir_some None e = absurd (cc)

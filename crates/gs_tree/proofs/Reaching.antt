@@ -1,13 +1,12 @@
 -- How long the paths below a node are.
-use Rattle.std.proofs.Common.{◌≡◌, ◌+◌, ◌<◌, ◌≤◌, ℕ, Bool, true, false, cond, ◌&&◌, ◌⊎◌, inl, inr, List, [], ◌∷◌, length, max, min, refl, sym, ap, ◌∙◌, subst, arith}
+use Rattle.std.proofs.Common.{◌≡◌, ◌+◌, ◌<◌, ◌≤◌, ℕ, true, false, cond, ◌&&◌, ◌⊎◌, inl, inr, List, [], ◌∷◌, length, max, min, refl, sym, ap, ◌∙◌, subst, arith}
 use Rattle.std.specs.Prelude.{Option, Some, None, is_none, is_some}
-use Rattle.std.specs.Ordering.{eq_by_cmp}
 use Rattle.std.specs.Cmp.{Equal-is}
 use Rattle.std.specs.FinMap.{slice_cmp-IsAntisymmetric, nat_cmp-IsAntisymmetric}
 use Rattle.gs_path.specs.Path.{Name, Path, same_name, begins, path_cmp, name_cmp}
 use Rattle.gs_tree.specs.Entry.{Entry, Dir, File}
 use Rattle.gs_tree.specs.Plain.{Plain, without}
-use Rattle.gs_tree.specs.Find.{Rows, at, IsWithin}
+use Rattle.gs_tree.specs.Find.{Rows, at}
 use Rattle.std.specs.BTreeMap.{BTreeMap, IsOrdered, is_at}
 use Rattle.std.specs.Map.{lookup}
 use Rattle.std.specs.Prelude.{Vec}

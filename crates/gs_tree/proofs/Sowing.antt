@@ -1,9 +1,9 @@
 -- What is made on the way down.
-use Rattle.std.proofs.Common.{◌≡◌, ◌+◌, ◌<◌, ◌≤◌, ℕ, suc, Bool, true, false, cond, ◌&&◌, ◌||◌, List, [], ◌∷◌, ◌++◌, length, take, refl, sym, ap, ◌∙◌, arith, add-one}
-use Rattle.std.specs.Prelude.{Option, Some, None, is_none, is_some}
+use Rattle.std.proofs.Common.{◌≡◌, ◌+◌, ℕ, Bool, true, false, cond, ◌&&◌, ◌||◌, List, [], ◌∷◌, ◌++◌, refl, sym, ap, ◌∙◌, add-one}
+use Rattle.std.specs.Prelude.{Option, Some, None, is_none}
 use Rattle.std.specs.declared.cmp.Ordering.{Ordering}
 use Rattle.std.specs.declared.cmp.Ordering.TheVariants.{Less, Equal, Greater}
-use Rattle.std.specs.Ordering.{is_eq, ordering_then, eq_by_cmp}
+use Rattle.std.specs.Ordering.{is_eq, ordering_then}
 use Rattle.std.specs.BTreeMap.{BTreeMap}
 use Rattle.gs_path.specs.Path.{Name, Path, same_name, begins, name_cmp, path_cmp}
 use Rattle.gs_tree.specs.Entry.{Entry, Dir, File}

@@ -1,8 +1,9 @@
 -- What a list of rows has at a path.
-use Rattle.std.specs.Prelude.{◌≡◌, ◌≤◌, ◌<◌, ℕ, List, [], ◌∷◌, ◌++◌, length, Bool, true, Option, MatchOption, MatchBool, Some, None, is_some, ◌+◌, ◌&&◌, nat_lt}
+use Rattle.std.specs.Prelude.{◌≡◌, ◌≤◌, ◌<◌, ℕ, List, [], ◌∷◌, ◌++◌, length, Bool, true, Option, MatchOption, MatchBool, Some, None, is_some, ◌+◌, ◌&&◌, not, nat_lt}
 use Rattle.std.specs.List.{list_any}
 use Rattle.std.specs.FinMap.{find}
 use Rattle.gs_path.specs.Path.{Path, path_cmp, begins}
+use Rattle.gs_path.specs.Element.{is_hidden}
 use Rattle.gs_tree.specs.Entry.{Entry, Dir}
 use Rattle.gs_tree.specs.Plain.{Plain, after}
 
@@ -44,3 +45,8 @@ IsDepthTest deep m from to = MatchBool deep (IsTooDeep m from to) (IsTooDeep m f
 -- whether something at or under `from` would have too long a path under `to`
 abbrev pub is_too_deep : {A : Type 0} → Rows A → Path → Path → Bool
 is_too_deep rows from to = list_any (λ r. begins from r.0 && nat_lt most_elements (length to + length (after from r.0))) rows
+
+-- the same of what is visible there, which a snapshot copies
+abbrev pub is_copied_too_deep : {A : Type 0} → Rows A → Path → Path → Bool
+is_copied_too_deep rows from to =
+    list_any (λ r. begins from r.0 && (not (list_any is_hidden (after from r.0)) && nat_lt most_elements (length to + length (after from r.0)))) rows

@@ -1,11 +1,12 @@
 -- What takes an edit back, and where it fits.
-use Rattle.std.specs.Prelude.{◌≡◌, ◌⊎◌, ◌≤◌, ◌+◌, ℕ, Bool, true, false, cond, [], ◌∷◌, List, take, drop, length, nat_lt, Option, Some, None, is_some}
+use Rattle.std.specs.Prelude.{◌≡◌, ◌≢◌, ◌⊎◌, ◌≤◌, ◌+◌, ◌-◌, ℕ, true, false, cond, [], ◌∷◌, List, take, drop, length, nat_lt, slice_get, slice_set, Some, None, is_some}
 use Rattle.gs_path.specs.Path.{Path, begins}
 use Rattle.gs_tree.specs.Entry.{Entry, Dir, File}
-use Rattle.gs_tree.specs.Plain.{Plain, Same, IsFree, without, part_at}
-use Rattle.gs_tree.specs.Edits.{moved, parent, same_path}
+use Rattle.gs_tree.specs.Plain.{Plain, Same, IsFree, with_at, without, part_at}
+use Rattle.gs_tree.specs.Find.{Rows, at}
+use Rattle.gs_tree.specs.Edits.{moved, parent, same_path, chunks_in, with_chunks}
 use Rattle.gs_tree.specs.declared.inverse.TreeInverse.{TreeInverse}
-use Rattle.gs_tree.specs.declared.inverse.TreeInverse.TheVariants.{Made, Moved}
+use Rattle.gs_tree.specs.declared.inverse.TreeInverse.TheVariants.{Made, Moved, Removed, Added, Changed, Copied}
 
 -- the first path that was made, of a path of which `above` elements stood
 abbrev pub first_made : Path → ℕ → Path
@@ -14,10 +15,17 @@ first_made path above = take (above + 1) path
 abbrev pub below_first : Path → ℕ → Path
 below_first path above = drop (above + 1) path
 
+abbrev pub all_but_last : List ℕ → List ℕ
+all_but_last chunks = take (length chunks - 1) chunks
+
 -- what stands at each path once an inverse is undone
-abbrev pub after_undo : {A : Type 0} → TreeInverse → Plain A → Plain A
+abbrev pub after_undo : TreeInverse → Plain ℕ → Plain ℕ
 after_undo (Made path above) m = cond (nat_lt above (length path)) (without (first_made path above) m) m
 after_undo (Moved from to) m = moved to from m
+after_undo (Removed path node) m = with_at path (at node) m
+after_undo (Added path) m = with_chunks path (all_but_last (chunks_in (m path))) m
+after_undo (Changed path index chunk) m = with_chunks path (slice_set (chunks_in (m path)) index chunk) m
+after_undo (Copied path) m = without path m
 
 -- a directory, or a file without chunks
 abbrev pub IsBlank : {A : Type 0} → Entry A → Type 0
@@ -32,13 +40,35 @@ row_of p e q = cond (same_path p q) (Some e) (cond (begins q p) (Some Dir) None)
 abbrev pub IsBlankRow : {A : Type 0} → Plain A → Path → Type 0
 IsBlankRow {A} m p = (e : Entry A) × (IsBlank e × Same m (row_of p e))
 
--- What was made stands there with nothing else under it; or what was moved stands there, and its old place is free under
--- a directory that doesn't move with it.
-abbrev pub Fits : {A : Type 0} → TreeInverse → Plain A → Type 0
+-- What was made stands there with nothing else under it. What was moved stands there, and its old place is free under a
+-- directory that doesn't move with it. The place of what was removed is free under a directory. The file to which a chunk
+-- was added has one, and that of which a chunk was changed still has its place. What was copied stands, and isn't the root.
+abbrev pub Fits : TreeInverse → Plain ℕ → Type 0
 Fits (Made path above) m = (length path ≤ above) ⊎ IsBlankRow (part_at (first_made path above) m) (below_first path above)
 Fits (Moved from to) m = (is_some (m to) ≡ true) × (begins to from ≡ false) × IsFree m from × (m (parent from) ≡ Some Dir)
+Fits (Removed path node) m = IsFree m path × (m (parent path) ≡ Some Dir)
+Fits (Added path) m = nat_lt 0 (length (chunks_in (m path))) ≡ true
+Fits (Changed path index chunk) m = nat_lt index (length (chunks_in (m path))) ≡ true
+Fits (Copied path) m = (path ≢ []) × (is_some (m path) ≡ true)
 
 -- an inverse that fits the new state and leads back to the old
-pub record TakesBack {A : Type 0} (i : TreeInverse) (old new : Plain A) : Type 0 where
+pub record TakesBack (i : TreeInverse) (old new : Plain ℕ) : Type 0 where
   pub fits : Fits i new
   pub back : Same (after_undo i new) old
+
+-- an inverse of an edit that leaves each file's chunks
+abbrev pub LeavesChunks : TreeInverse → Type 0
+LeavesChunks (Made path above) = Unit {0}
+LeavesChunks (Moved from to) = Unit {0}
+LeavesChunks (Removed path node) = ⊥
+LeavesChunks (Added path) = ⊥
+LeavesChunks (Changed path index chunk) = ⊥
+LeavesChunks (Copied path) = ⊥
+
+-- what stood at a path, with all under it
+abbrev pub IsRemoved : Plain ℕ → Path → TreeInverse → Type 0
+IsRemoved m path i = (node : Rows ℕ) × (Same (part_at path m) (at node) × (i ≡ Removed path node))
+
+-- the chunk that a file had at a place
+abbrev pub IsChanged : Plain ℕ → Path → ℕ → TreeInverse → Type 0
+IsChanged m path index i = (had : ℕ) × ((slice_get (chunks_in (m path)) index ≡ Some had) × (i ≡ Changed path index had))

@@ -1,5 +1,6 @@
 pub mod Entry
 pub mod Plain
+pub mod Mapped
 pub mod Find
 pub mod Rows
 pub mod Edits

@@ -1,5 +1,7 @@
 -- A tree as what stands at each path.
-use Rattle.std.specs.Prelude.{◌≡◌, cond, [], ◌∷◌, ◌++◌, Option, Some, None}
+use Rattle.std.specs.Prelude.{◌≡◌, ◌&&◌, Bool, not, cond, if◌then◌else◌, [], ◌∷◌, ◌++◌, Option, Some, None}
+use Rattle.std.specs.List.{list_any}
+use Rattle.gs_path.specs.Element.{is_hidden}
 use Rattle.gs_path.specs.Path.{Path, begins}
 use Rattle.gs_tree.specs.Entry.{Entry, Dir}
 
@@ -23,6 +25,10 @@ without p whole q = cond (begins p q) None (whole q)
 -- all at p and under it, seen from there
 abbrev pub part_at : {A : Type 0} → Path → Plain A → Plain A
 part_at p whole q = whole (p ++ q)
+
+-- all, or all but what has a hidden element in its path
+abbrev pub kept : {A : Type 0} → Bool → Plain A → Plain A
+kept all m q = if not all && list_any is_hidden q then None else m q
 
 -- nothing stands at p or under it
 abbrev pub IsFree : {A : Type 0} → Plain A → Path → Type 0

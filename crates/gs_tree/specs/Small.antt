@@ -2,16 +2,16 @@
 use Rattle.std.specs.Prelude.{◌≡◌, ℕ, List, [], ◌∷◌, map, replicate, codes, Option, Some, None, Ok, Err, Result, true, false, refl}
 use Rattle.std.specs.Fmt.{digits}
 use Rattle.gs_base.specs.declared.refusal.Refusal.{Refusal}
-use Rattle.gs_base.specs.declared.refusal.Refusal.TheVariants.{NotFound, Exists, NotADirectory, IntoItself, IsRoot, BadPath}
+use Rattle.gs_base.specs.declared.refusal.Refusal.TheVariants.{NotFound, Exists, NotADirectory, IsADirectory, IntoItself, IsRoot, BadPath, NotHidden, Range}
 use Rattle.gs_path.specs.Path.{Name, Path}
 use Rattle.gs_path.specs.Element.{twenty_digits}
 use Rattle.gs_tree.specs.Entry.{Entry, Dir, File}
 use Rattle.gs_tree.specs.Plain.{Plain}
-use Rattle.gs_tree.specs.Find.{Rows, at, is_too_deep}
-use Rattle.gs_tree.specs.Edits.{mkdirs, create, rename, hide, stood}
+use Rattle.gs_tree.specs.Find.{Rows, at, is_too_deep, is_copied_too_deep}
+use Rattle.gs_tree.specs.Edits.{mkdirs, create, rename, hide, unhide, remove, add_chunk, set_chunk, snapshot, stood}
 use Rattle.gs_tree.specs.Inverses.{after_undo}
 use Rattle.gs_tree.specs.Listing.{shown}
-use Rattle.gs_tree.specs.declared.inverse.TreeInverse.TheVariants.{Made, Moved}
+use Rattle.gs_tree.specs.declared.inverse.TreeInverse.TheVariants.{Made, Moved, Removed, Added}
 
 -- what an edit leaves at these paths
 abbrev look : Result (Plain ℕ) Refusal → List Path → Result (List (Option (Entry ℕ))) Refusal
@@ -109,3 +109,79 @@ hidden_names_are_not_shown = refl
 
 files_are_shown : shown f (small (f ∷ [])) ≡ Some false
 files_are_shown = refl
+
+-- a file with two chunks in a directory beside what was deleted there, and a deleted directory
+abbrev hidden_f : Name
+hidden_f = codes ".deleted.00000000000000000005.00000000000000000012.f"
+
+abbrev full_rows : Rows ℕ
+full_rows =
+    ([], Dir) ∷ (a ∷ [], Dir) ∷ (a ∷ hidden_f ∷ [], File (9 ∷ [])) ∷ (a ∷ b ∷ [], File (7 ∷ 8 ∷ [])) ∷ (hidden_f ∷ [], Dir)
+    ∷ (hidden_f ∷ a ∷ [], File []) ∷ []
+
+abbrev full : Plain ℕ
+full = at full_rows
+
+unhide_moves_back : look (unhide full (a ∷ hidden_f ∷ [])) ((a ∷ hidden_f ∷ []) ∷ (a ∷ f ∷ []) ∷ []) ≡ Ok (None ∷ Some (File (9 ∷ [])) ∷ [])
+unhide_moves_back = refl
+
+unhide_takes_what_is_under : look (unhide full (hidden_f ∷ [])) ((hidden_f ∷ a ∷ []) ∷ (f ∷ a ∷ []) ∷ []) ≡ Ok (None ∷ Some (File []) ∷ [])
+unhide_takes_what_is_under = refl
+
+unhide_of_a_plain_name : look (unhide full (a ∷ b ∷ [])) [] ≡ Err NotHidden
+unhide_of_a_plain_name = refl
+
+unhide_of_nothing : look (unhide small (hidden_f ∷ [])) [] ≡ Err NotFound
+unhide_of_nothing = refl
+
+unhide_over_a_file : look (unhide (at ((hidden_f ∷ [], Dir) ∷ small_rows)) (hidden_f ∷ [])) [] ≡ Err Exists
+unhide_over_a_file = refl
+
+remove_takes_what_is_under : look (remove full (hidden_f ∷ [])) ((hidden_f ∷ []) ∷ (hidden_f ∷ a ∷ []) ∷ (a ∷ []) ∷ []) ≡ Ok (None ∷ None ∷ Some Dir ∷ [])
+remove_takes_what_is_under = refl
+
+remove_of_a_plain_name : look (remove full (a ∷ [])) [] ≡ Err NotHidden
+remove_of_a_plain_name = refl
+
+removed_put_back : map (after_undo (Removed (b ∷ []) (([], Dir) ∷ (f ∷ [], File (3 ∷ [])) ∷ [])) small) ((b ∷ []) ∷ (b ∷ f ∷ []) ∷ (f ∷ []) ∷ []) ≡ Some Dir ∷ Some (File (3 ∷ [])) ∷ Some (File (7 ∷ [])) ∷ []
+removed_put_back = refl
+
+add_chunk_at_the_end : look (add_chunk full (a ∷ b ∷ []) 3) ((a ∷ b ∷ []) ∷ (a ∷ []) ∷ []) ≡ Ok (Some (File (7 ∷ 8 ∷ 3 ∷ [])) ∷ Some Dir ∷ [])
+add_chunk_at_the_end = refl
+
+add_chunk_to_a_directory : look (add_chunk full (a ∷ []) 3) [] ≡ Err IsADirectory
+add_chunk_to_a_directory = refl
+
+set_chunk_in_the_middle : look (set_chunk full (a ∷ b ∷ []) 0 3) ((a ∷ b ∷ []) ∷ []) ≡ Ok (Some (File (3 ∷ 8 ∷ [])) ∷ [])
+set_chunk_in_the_middle = refl
+
+set_chunk_past_the_end : look (set_chunk full (a ∷ b ∷ []) 2 3) [] ≡ Err Range
+set_chunk_past_the_end = refl
+
+added_taken_back : map (after_undo (Added (a ∷ b ∷ [])) full) ((a ∷ b ∷ []) ∷ []) ≡ Some (File (7 ∷ [])) ∷ []
+added_taken_back = refl
+
+abbrev snapped : Path → Path → Result (Plain ℕ) Refusal
+snapped from to = snapshot (is_copied_too_deep full_rows from) full from to
+
+snapshot_leaves_out_what_is_hidden : look (snapped (a ∷ []) (b ∷ [])) ((b ∷ []) ∷ (b ∷ b ∷ []) ∷ (b ∷ hidden_f ∷ []) ∷ (a ∷ b ∷ []) ∷ []) ≡ Ok (Some Dir ∷ Some (File (7 ∷ 8 ∷ [])) ∷ None ∷ Some (File (7 ∷ 8 ∷ [])) ∷ [])
+snapshot_leaves_out_what_is_hidden = refl
+
+snapshot_onto_itself : look (snapped (a ∷ []) (a ∷ [])) [] ≡ Err Exists
+snapshot_onto_itself = refl
+
+snapshot_under_itself : look (snapped (a ∷ []) (a ∷ f ∷ f ∷ [])) [] ≡ Err IntoItself
+snapshot_under_itself = refl
+
+snapshot_without_a_parent : look (snapped (a ∷ []) (f ∷ f ∷ [])) [] ≡ Err NotFound
+snapshot_without_a_parent = refl
+
+snapshot_below_a_file : look (snapped (hidden_f ∷ []) (a ∷ b ∷ f ∷ [])) [] ≡ Err NotADirectory
+snapshot_below_a_file = refl
+
+-- what is hidden is not too deep, as it isn't copied
+snapshot_to_64_elements : is_copied_too_deep {A = ℕ} ((f ∷ [], Dir) ∷ (f ∷ hidden_f ∷ [], Dir) ∷ []) (f ∷ []) (replicate 64 a) ≡ false
+snapshot_to_64_elements = refl
+
+snapshot_to_65_elements : is_copied_too_deep {A = ℕ} ((f ∷ [], Dir) ∷ (f ∷ a ∷ [], Dir) ∷ []) (f ∷ []) (replicate 64 a) ≡ true
+snapshot_to_65_elements = refl

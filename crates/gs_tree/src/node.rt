@@ -6,7 +6,8 @@ ghost use Rattle.gs_path.specs.Path.{Path as AnyPath, begins, same_name, name_cm
 ghost use Rattle.gs_tree.specs.Entry.{Dir, chunks_of};
 ghost use Rattle.gs_tree.specs.Plain.{with_at, without, IsFree, Same};
 ghost use Rattle.gs_tree.specs.Find.{at, IsPartAt, DirsAbove, IsBelow};
-ghost use Rattle.gs_tree.specs.Edits.{moved, is_dir};
+ghost use Rattle.gs_tree.specs.Edits.{moved, is_dir, is_file, chunks_in, with_chunks, visible};
+ghost use Rattle.gs_tree.specs.Plain.{kept};
 ghost use Rattle.gs_tree.specs.Sort.{sort_of, entry_of_leaf};
 ghost use Rattle.gs_tree.specs.Inverses.{row_of, IsBlankRow};
 ghost use Rattle.gs_tree.specs.Follows.{Sown};
@@ -17,6 +18,7 @@ use gs_path::Name;
 use std::alloc::{AllocError, Global};
 use std::collections::BTreeMap;
 use std::marker::Model;
+use std::mem;
 
 /// What kind of thing stands at a path.
 #[derive(Clone, Copy, Debug, PartialEq, Eq)]
@@ -223,6 +225,39 @@ impl Node {
         self.reach = self.reach.max(reach);
     }
 
+    /// Gives a file other chunks and answers those that it had, which takes no memory.
+    pub fn exchange(&mut self, path: &[Name], chunks: Vec<Handle>) -> Vec<Handle>
+        requires { is_file (at self.old path.now) ≡ true }
+        ensures had { result.items ≡ chunks_in (at self.old path.now) }
+        ensures has { (q : AnyPath) → at self.new q ≡ with_chunks path.now chunks.items (at self.old) q }
+    {
+        let [first, rest @ ..] = path else {
+            return self.exchange_own(chunks);
+        };
+        let Kind::Dir(children) = &mut self.kind else {
+            return chunks;
+        };
+        let Some(child) = children.get_mut(first) else {
+            return chunks;
+        };
+        let had = child.exchange(rest, chunks);
+        let reach = child.reach().saturating_add(1);
+        self.reach = self.reach.max(reach);
+        had
+    }
+
+    /// The same of the file that this is.
+    fn exchange_own(&mut self, chunks: Vec<Handle>) -> Vec<Handle>
+        requires { is_file (at self.old []) ≡ true }
+        ensures had { result.items ≡ chunks_in (at self.old []) }
+        ensures has { (q : AnyPath) → at self.new q ≡ with_chunks [] chunks.items (at self.old) q }
+    {
+        match &mut self.kind {
+            Kind::File(own) => mem::replace(own, chunks),
+            Kind::Dir(_) => chunks,
+        }
+    }
+
     /// Moves what stands at a path to a free place under a directory.
     pub fn relocate(
         &mut self,
@@ -360,6 +395,22 @@ impl Node {
         ensures same { IfOk result (λ n. Same (at n) (at self.now)) }
         ensures stands { IfOk result (λ n. is_some (at n []) ≡ true) }
     {
+        self.copy_kept(alloc, true)
+    }
+
+    /// All but the hidden children, and theirs, in memory of its own.
+    pub fn copy_visible(&self, alloc: Global) -> Result<Node, AllocError>
+        ensures same { IfOk result (λ n. Same (at n) (visible (at self.now))) }
+        ensures stands { IfOk result (λ n. is_some (at n []) ≡ true) }
+    {
+        self.copy_kept(alloc, false)
+    }
+
+    /// A copy of all, or of what is visible.
+    fn copy_kept(&self, alloc: Global, all: bool) -> Result<Node, AllocError>
+        ensures same { IfOk result (λ n. Same (at n) (kept all (at self.now))) }
+        ensures stands { IfOk result (λ n. is_some (at n []) ≡ true) }
+    {
         let children = match &self.kind {
             Kind::File(handles) => {
                 return Ok(Node {
@@ -371,9 +422,11 @@ impl Node {
         };
         let mut copies = BTreeMap::new(alloc);
         for (name, child) in children {
-            let name = name.copy(alloc)?;
-            let copy = child.copy(alloc)?;
-            add_child(&mut copies, name, copy)?;
+            if all || !name.is_hidden() {
+                let name = name.copy(alloc)?;
+                let copy = child.copy_kept(alloc, all)?;
+                add_child(&mut copies, name, copy)?;
+            }
         }
         Ok(Node {
             kind: Kind::Dir(copies),

@@ -1,12 +1,13 @@
-ghost use Rattle.std.specs.Prelude.{◌≡◌, ◌≢◌, ◌-◌, ◌++◌, ◌∷◌, [], Bool, false, true, is_some, length, map, IfOk, IfErr, MatchBool};
+ghost use Rattle.std.specs.Prelude.{◌≡◌, ◌≢◌, ◌-◌, ◌++◌, ◌∷◌, [], Bool, false, true, is_some, length, map, IfOk, IfErr, MatchBool, Some, Ok, Err, if◌then◌else◌};
 ghost use Rattle.std.specs.FinMap as fin_map;
 ghost use Rattle.gs_path.specs.Path.{begins};
-ghost use Rattle.gs_tree.specs.Find.{at, IsBelow, DirsAbove, IsDepthTest, is_too_deep};
-ghost use Rattle.gs_tree.specs.Plain.{Same, part_at, rooted};
-ghost use Rattle.gs_tree.specs.Edits.{mkdirs, create, rename, hide, move_to, made, target_of, parent, last};
+ghost use Rattle.gs_tree.specs.Find.{at, IsBelow, DirsAbove, IsDepthTest, is_too_deep, is_copied_too_deep};
+ghost use Rattle.gs_tree.specs.Plain.{Same, IsFree, with_at, part_at, rooted};
+ghost use Rattle.gs_tree.specs.Entry.{Dir};
+ghost use Rattle.gs_tree.specs.Edits.{mkdirs, create, rename, hide, unhide, remove, add_chunk, set_chunk, snapshot, visible, beside, renamed_beside, old_name, move_to, made, target_of, is_file, parent, last};
 ghost use Rattle.gs_tree.specs.Sort.{entry_of_leaf};
-ghost use Rattle.gs_tree.specs.Inverses.{TakesBack, IsBlankRow};
-ghost use Rattle.gs_tree.specs.Follows.{Follows, Undoes};
+ghost use Rattle.gs_tree.specs.Inverses.{TakesBack, IsBlankRow, LeavesChunks, IsChanged, IsRemoved};
+ghost use Rattle.gs_tree.specs.Follows.{Follows, Undoes, TestsPlace, SwapsChunk};
 ghost use Rattle.gs_tree.specs.Listing.{HasVisible, Lists, StandsAs, pairs_of};
 
 use crate::inverse::TreeInverse;
@@ -32,6 +33,7 @@ fn make(root: &mut Node, alloc: Global, path: &Path, leaf: Leaf) -> Result<TreeI
     requires { at root.old path.now ≡ None }
     ensures edit { Follows (made (at root.old) path.now (entry_of_leaf leaf)) result (at root.old) (at root.new) }
     ensures undo { IfOk result (λ i. TakesBack i (at root.old) (at root.new)) }
+    ensures inverse { IfOk result (λ i. LeavesChunks i) }
 {
     let copy = path.copy(alloc)?;
     let made = root.sow(alloc, path.elements(), leaf)?;
@@ -43,6 +45,7 @@ fn make(root: &mut Node, alloc: Global, path: &Path, leaf: Leaf) -> Result<TreeI
 fn mkdirs_in(root: &mut Node, alloc: Global, path: &Path) -> Result<TreeInverse, Refusal>
     ensures edit { Follows (mkdirs (at root.old) path.now) result (at root.old) (at root.new) }
     ensures undo { IfOk result (λ i. TakesBack i (at root.old) (at root.new)) }
+    ensures inverse { IfOk result (λ i. LeavesChunks i) }
 {
     match root.sort_at(path.elements()) {
         Sort::File => Err(Refusal::Exists),
@@ -58,6 +61,7 @@ fn mkdirs_in(root: &mut Node, alloc: Global, path: &Path) -> Result<TreeInverse,
 fn create_in(root: &mut Node, alloc: Global, path: &Path) -> Result<TreeInverse, Refusal>
     ensures edit { Follows (create (at root.old) path.now) result (at root.old) (at root.new) }
     ensures undo { IfOk result (λ i. TakesBack i (at root.old) (at root.new)) }
+    ensures inverse { IfOk result (λ i. LeavesChunks i) }
 {
     match root.sort_at(path.elements()) {
         Sort::File | Sort::Dir => Err(Refusal::Exists),
@@ -75,6 +79,30 @@ fn fits_under(root: &Node, from: &[Name], depth: usize) -> bool
     }
 }
 
+/// The tests on a place to which something is moved or copied, but for the length of the paths there.
+fn test_place(root: &Node, from: &Path, target: &Path) -> Result<(), Refusal>
+    ensures { TestsPlace (at root.now) from.now target.now result }
+{
+    if *target == *from {
+        return Err(Refusal::Exists);
+    }
+    if target.starts_with(from) {
+        return Err(Refusal::IntoItself);
+    }
+    match root.sort_at(target.elements()) {
+        Sort::Missing => {}
+        Sort::Dir | Sort::File => return Err(Refusal::Exists),
+    }
+    let Some((_, parent)) = target.elements().split_last() else {
+        return Err(Refusal::NotFound);
+    };
+    match root.sort_at(parent) {
+        Sort::Missing => Err(Refusal::NotFound),
+        Sort::File => Err(Refusal::NotADirectory),
+        Sort::Dir => Ok(()),
+    }
+}
+
 /// Moves what stands at a path to a target, after the tests on the target.
 fn move_to_target(
     root: &mut Node,
@@ -87,25 +115,15 @@ fn move_to_target(
     requires above { DirsAbove (at root.old) from.now }
     ensures edit { (deep : Bool) → IsDepthTest deep (at root.old) from.now target → Follows (move_to deep (at root.old) from.now target) result (at root.old) (at root.new) }
     ensures undo { IfOk result (λ i. TakesBack i (at root.old) (at root.new)) }
+    ensures inverse { IfOk result (λ i. LeavesChunks i) }
 {
-    if target == *from {
-        return Err(Refusal::Exists);
-    }
-    if target.starts_with(from) {
-        return Err(Refusal::IntoItself);
-    }
-    match root.sort_at(target.elements()) {
-        Sort::Missing => {}
-        Sort::Dir | Sort::File => return Err(Refusal::Exists),
+    match test_place(root, from, &target) {
+        Ok(()) => {}
+        Err(refusal) => return Err(refusal),
     }
     let Some((name, parent)) = target.elements().split_last() else {
         return Err(Refusal::NotFound);
     };
-    match root.sort_at(parent) {
-        Sort::Missing => return Err(Refusal::NotFound),
-        Sort::File => return Err(Refusal::NotADirectory),
-        Sort::Dir => {}
-    }
     if !fits_under(root, from.elements(), target.elements().len()) {
         return Err(Refusal::BadPath);
     }
@@ -113,6 +131,83 @@ fn move_to_target(
     let name = name.copy(alloc)?;
     root.relocate(alloc, from.elements(), parent, name, target.elements())?;
     Ok(TreeInverse::Moved(source, target))
+}
+
+/// A copy of what is visible at a path.
+fn visible_at(root: &Node, alloc: Global, path: &Path) -> Result<Node, Refusal>
+    requires { is_some (at root.now path.now) ≡ true }
+    ensures same { IfOk result (λ n. Same (at n) (visible (part_at path.now (at root.now)))) }
+    ensures err { IfErr result (λ e. e ≡ Refusal.Memory) }
+{
+    match root.find(path.elements()) {
+        Some(node) => Ok(node.copy_visible(alloc)?),
+        None => Err(Refusal::Memory),
+    }
+}
+
+/// Puts a copy of what is visible at a path to a target, after the tests.
+fn snapshot_in(
+    root: &mut Node,
+    alloc: Global,
+    from: &Path,
+    to: &Path,
+) -> Result<TreeInverse, Refusal>
+    ensures edit { (deep : Bool) → IsDepthTest deep (visible (part_at from.now (at root.old))) [] to.now → Follows (snapshot (λ _. deep) (at root.old) from.now to.now) result (at root.old) (at root.new) }
+    ensures undo { IfOk result (λ i. TakesBack i (at root.old) (at root.new)) }
+    ensures inverse { IfOk result (λ i. i ≡ TreeInverse.Copied to.now) }
+{
+    if from.elements().is_empty() {
+        return Err(Refusal::IsRoot);
+    }
+    match root.sort_at(from.elements()) {
+        Sort::Missing => return Err(Refusal::NotFound),
+        Sort::Dir | Sort::File => {}
+    }
+    match test_place(root, from, to) {
+        Ok(()) => {}
+        Err(refusal) => return Err(refusal),
+    }
+    let copy = match visible_at(root, alloc, from) {
+        Ok(copy) => copy,
+        Err(refusal) => return Err(refusal),
+    };
+    put_copy(root, alloc, to, copy)
+}
+
+/// Puts a copy to a free place under a directory, if all its paths are short enough there.
+fn put_copy(root: &mut Node, alloc: Global, to: &Path, copy: Node) -> Result<TreeInverse, Refusal>
+    requires free { IsFree (at root.old) to.now }
+    requires dir { at root.old (parent to.now) ≡ Some Dir }
+    requires stands { is_some (at copy []) ≡ true }
+    ensures edit { (deep : Bool) → IsDepthTest deep (at copy) [] to.now → Follows (if deep then Err Refusal.BadPath else Ok (with_at to.now (at copy) (at root.old))) result (at root.old) (at root.new) }
+    ensures undo { IfOk result (λ i. TakesBack i (at root.old) (at root.new)) }
+    ensures inverse { IfOk result (λ i. i ≡ TreeInverse.Copied to.now) }
+{
+    let Some((name, parent)) = to.elements().split_last() else {
+        return Err(Refusal::Memory);
+    };
+    if !copy.is_below(TOO_MANY_ELEMENTS.saturating_sub(to.elements().len())) {
+        return Err(Refusal::BadPath);
+    }
+    let target = to.copy(alloc)?;
+    let name = name.copy(alloc)?;
+    root.graft(parent, name, copy)?;
+    Ok(TreeInverse::Copied(target))
+}
+
+/// Takes out a copy.
+fn drop_copy(root: &mut Node, path: &Path) -> Result<(), Refusal>
+    ensures { Undoes (TreeInverse.Copied path.now) (at root.old) result (at root.new) }
+{
+    if path.elements().is_empty() {
+        return Err(Refusal::BadLine);
+    }
+    match root.sort_at(path.elements()) {
+        Sort::Missing => return Err(Refusal::BadLine),
+        Sort::Dir | Sort::File => {}
+    }
+    let _ = root.prune(path.elements());
+    Ok(())
 }
 
 /// Where a rename leads: the target, or the source's name under the target if that is a directory.
@@ -136,6 +231,7 @@ fn target_path(root: &Node, alloc: Global, from: &Path, to: &Path) -> Result<Pat
 fn rename_in(root: &mut Node, alloc: Global, from: &Path, to: &Path) -> Result<TreeInverse, Refusal>
     ensures edit { (deep : Bool) → IsDepthTest deep (at root.old) from.now (target_of (at root.old) from.now to.now) → Follows (rename (λ _. deep) (at root.old) from.now to.now) result (at root.old) (at root.new) }
     ensures undo { IfOk result (λ i. TakesBack i (at root.old) (at root.new)) }
+    ensures inverse { IfOk result (λ i. LeavesChunks i) }
 {
     if from.elements().is_empty() {
         return Err(Refusal::IsRoot);
@@ -150,6 +246,35 @@ fn rename_in(root: &mut Node, alloc: Global, from: &Path, to: &Path) -> Result<T
     }
 }
 
+/// Moves what stands at a path to another name beside it.
+fn rename_beside(
+    root: &mut Node,
+    alloc: Global,
+    path: &Path,
+    name: Name,
+) -> Result<TreeInverse, Refusal>
+    requires { path.now ≢ [] }
+    ensures edit { Follows (renamed_beside (at root.old) path.now name) result (at root.old) (at root.new) }
+    ensures undo { IfOk result (λ i. TakesBack i (at root.old) (at root.new)) }
+    ensures inverse { IfOk result (λ i. LeavesChunks i) }
+{
+    let Some((_, parent)) = path.elements().split_last() else {
+        return Err(Refusal::NotFound);
+    };
+    match root.sort_at(path.elements()) {
+        Sort::Missing => return Err(Refusal::NotFound),
+        Sort::Dir | Sort::File => {}
+    }
+    let target = with_name(alloc, path, &name)?;
+    match root.sort_at(target.elements()) {
+        Sort::Missing => {}
+        Sort::Dir | Sort::File => return Err(Refusal::Exists),
+    }
+    let source = path.copy(alloc)?;
+    root.relocate(alloc, path.elements(), parent, name, target.elements())?;
+    Ok(TreeInverse::Moved(source, target))
+}
+
 /// Moves what stands at a path to a hidden name beside it.
 fn hide_in(
     root: &mut Node,
@@ -160,28 +285,195 @@ fn hide_in(
 ) -> Result<TreeInverse, Refusal>
     ensures edit { Follows (hide (at root.old) path.now moment.0 number) result (at root.old) (at root.new) }
     ensures undo { IfOk result (λ i. TakesBack i (at root.old) (at root.new)) }
+    ensures inverse { IfOk result (λ i. LeavesChunks i) }
 {
-    let Some((name, parent)) = path.elements().split_last() else {
+    let Some((name, _)) = path.elements().split_last() else {
         return Err(Refusal::IsRoot);
     };
+    let hidden = Name::hidden(alloc, moment, number, name)?;
+    rename_beside(root, alloc, path, hidden)
+}
+
+/// Moves what is hidden at a path back to its old name.
+fn unhide_in(root: &mut Node, alloc: Global, path: &Path) -> Result<TreeInverse, Refusal>
+    ensures edit { Follows (unhide (at root.old) path.now) result (at root.old) (at root.new) }
+    ensures undo { IfOk result (λ i. TakesBack i (at root.old) (at root.new)) }
+    ensures inverse { IfOk result (λ i. LeavesChunks i) }
+{
+    match hidden_by(alloc, path)? {
+        Some(name) => rename_beside(root, alloc, path, name),
+        None => Err(Refusal::NotHidden),
+    }
+}
+
+/// The old name of what is hidden at a path.
+fn hidden_by(alloc: Global, path: &Path) -> Result<Option<Name>, AllocError>
+    ensures old { IfOk result (λ name. name ≡ old_name path.now) }
+    ensures root { IfOk result (λ name. is_some name ≡ true → path.now ≢ []) }
+{
+    let Some((name, _)) = path.elements().split_last() else {
+        return Ok(None);
+    };
+    match name.hidden_parts(alloc)? {
+        Some(parts) => Ok(Some(parts.old)),
+        None => Ok(None),
+    }
+}
+
+/// Takes out what is hidden at a path.
+fn remove_in(root: &mut Node, alloc: Global, path: &Path) -> Result<TreeInverse, Refusal>
+    ensures edit { Follows (remove (at root.old) path.now) result (at root.old) (at root.new) }
+    ensures undo { IfOk result (λ i. TakesBack i (at root.old) (at root.new)) }
+    ensures inverse { IfOk result (λ i. IsRemoved (at root.old) path.now i) }
+{
+    let hidden = hidden_by(alloc, path)?;
+    if hidden.is_none() {
+        return Err(Refusal::NotHidden);
+    }
     match root.sort_at(path.elements()) {
         Sort::Missing => return Err(Refusal::NotFound),
         Sort::Dir | Sort::File => {}
     }
-    let hidden = Name::hidden(alloc, moment, number, name)?;
-    let target = beside(alloc, path, &hidden)?;
-    match root.sort_at(target.elements()) {
-        Sort::Missing => {}
-        Sort::Dir | Sort::File => return Err(Refusal::Exists),
-    }
     let source = path.copy(alloc)?;
-    root.relocate(alloc, path.elements(), parent, hidden, target.elements())?;
-    Ok(TreeInverse::Moved(source, target))
+    match root.prune(path.elements()) {
+        Some(node) => Ok(TreeInverse::Removed(source, node)),
+        None => Err(Refusal::NotFound),
+    }
+}
+
+/// Puts what was removed back, if its place is free under a directory.
+fn plant(root: &mut Node, alloc: Global, path: &Path, node: &Node) -> Result<(), Refusal>
+    ensures { Undoes (TreeInverse.Removed path.now node.now) (at root.old) result (at root.new) }
+{
+    match root.sort_at(path.elements()) {
+        Sort::Missing => {}
+        Sort::Dir | Sort::File => return Err(Refusal::BadLine),
+    }
+    let Some((name, parent)) = path.elements().split_last() else {
+        return Err(Refusal::BadLine);
+    };
+    match root.sort_at(parent) {
+        Sort::Dir => {}
+        Sort::Missing | Sort::File => return Err(Refusal::BadLine),
+    }
+    let name = name.copy(alloc)?;
+    let copy = node.copy(alloc)?;
+    root.graft(parent, name, copy)?;
+    Ok(())
+}
+
+/// Adds a chunk to a file.
+fn add_chunk_in(
+    root: &mut Node,
+    alloc: Global,
+    path: &Path,
+    chunk: Handle,
+) -> Result<TreeInverse, Refusal>
+    ensures edit { Follows (add_chunk (at root.old) path.now chunk) result (at root.old) (at root.new) }
+    ensures undo { IfOk result (λ i. TakesBack i (at root.old) (at root.new)) }
+    ensures inverse { IfOk result (λ i. i ≡ TreeInverse.Added path.now) }
+{
+    match root.sort_at(path.elements()) {
+        Sort::Missing => return Err(Refusal::NotFound),
+        Sort::Dir => return Err(Refusal::IsADirectory),
+        Sort::File => {}
+    }
+    let copy = path.copy(alloc)?;
+    let mut chunks = root.exchange(path.elements(), Vec::new(alloc));
+    let added = chunks.push(chunk).is_ok();
+    let _ = root.exchange(path.elements(), chunks);
+    if !added {
+        return Err(Refusal::Memory);
+    }
+    Ok(TreeInverse::Added(copy))
+}
+
+/// Takes out the last chunk of a file.
+fn drop_chunk(root: &mut Node, alloc: Global, path: &Path) -> Result<(), Refusal>
+    ensures { Undoes (TreeInverse.Added path.now) (at root.old) result (at root.new) }
+{
+    match root.sort_at(path.elements()) {
+        Sort::File => {}
+        Sort::Missing | Sort::Dir => return Err(Refusal::BadLine),
+    }
+    let mut chunks = root.exchange(path.elements(), Vec::new(alloc));
+    let dropped = chunks.pop();
+    let _ = root.exchange(path.elements(), chunks);
+    match dropped {
+        Some(_) => Ok(()),
+        None => Err(Refusal::BadLine),
+    }
+}
+
+/// Puts a chunk in the place of one of a file's, and answers that. Range where the file has no such chunk.
+fn swap_chunk(
+    root: &mut Node,
+    alloc: Global,
+    path: &Path,
+    index: usize,
+    chunk: Handle,
+) -> Result<Handle, Refusal>
+    requires { is_file (at root.old path.now) ≡ true }
+    ensures { SwapsChunk path.now index chunk (at root.old) result (at root.new) }
+{
+    let mut chunks = root.exchange(path.elements(), Vec::new(alloc));
+    if index >= chunks.len() {
+        let _ = root.exchange(path.elements(), chunks);
+        return Err(Refusal::Range);
+    }
+    let had = chunks[index];
+    chunks[index] = chunk;
+    let _ = root.exchange(path.elements(), chunks);
+    Ok(had)
+}
+
+/// Changes a chunk of a file.
+fn set_chunk_in(
+    root: &mut Node,
+    alloc: Global,
+    path: &Path,
+    index: usize,
+    chunk: Handle,
+) -> Result<TreeInverse, Refusal>
+    ensures edit { Follows (set_chunk (at root.old) path.now index chunk) result (at root.old) (at root.new) }
+    ensures undo { IfOk result (λ i. TakesBack i (at root.old) (at root.new)) }
+    ensures inverse { IfOk result (λ i. IsChanged (at root.old) path.now index i) }
+{
+    match root.sort_at(path.elements()) {
+        Sort::Missing => return Err(Refusal::NotFound),
+        Sort::Dir => return Err(Refusal::IsADirectory),
+        Sort::File => {}
+    }
+    let copy = path.copy(alloc)?;
+    match swap_chunk(root, alloc, path, index, chunk) {
+        Ok(old) => Ok(TreeInverse::Changed(copy, index, old)),
+        Err(refusal) => Err(refusal),
+    }
+}
+
+/// Puts the chunk back that a file had at a place.
+fn reset_chunk(
+    root: &mut Node,
+    alloc: Global,
+    path: &Path,
+    index: usize,
+    chunk: Handle,
+) -> Result<(), Refusal>
+    ensures { Undoes (TreeInverse.Changed path.now index chunk) (at root.old) result (at root.new) }
+{
+    match root.sort_at(path.elements()) {
+        Sort::File => {}
+        Sort::Missing | Sort::Dir => return Err(Refusal::BadLine),
+    }
+    match swap_chunk(root, alloc, path, index, chunk) {
+        Ok(_) => Ok(()),
+        Err(_) => Err(Refusal::BadLine),
+    }
 }
 
 /// The path with another last element.
-fn beside(alloc: Global, path: &Path, name: &Name) -> Result<Path, AllocError>
-    ensures { IfOk result (λ target. target ≡ parent path.now ++ name.now ∷ []) }
+fn with_name(alloc: Global, path: &Path, name: &Name) -> Result<Path, AllocError>
+    ensures { IfOk result (λ target. target ≡ beside path.now name.now) }
 {
     match path.parent(alloc)? {
         Some(parent) => parent.join(alloc, name),
@@ -305,6 +597,7 @@ impl Tree {
     pub fn mkdirs(&mut self, path: &Path) -> Result<TreeInverse, Refusal>
         ensures edit { Follows (mkdirs (fin_map.get self.old) path.now) result (fin_map.get self.old) (fin_map.get self.new) }
         ensures undo { IfOk result (λ i. TakesBack i (fin_map.get self.old) (fin_map.get self.new)) }
+        ensures inverse { IfOk result (λ i. LeavesChunks i) }
     {
         mkdirs_in(&mut self.root, self.alloc, path)
     }
@@ -314,6 +607,7 @@ impl Tree {
     pub fn create(&mut self, path: &Path) -> Result<TreeInverse, Refusal>
         ensures edit { Follows (create (fin_map.get self.old) path.now) result (fin_map.get self.old) (fin_map.get self.new) }
         ensures undo { IfOk result (λ i. TakesBack i (fin_map.get self.old) (fin_map.get self.new)) }
+        ensures inverse { IfOk result (λ i. LeavesChunks i) }
     {
         create_in(&mut self.root, self.alloc, path)
     }
@@ -324,6 +618,7 @@ impl Tree {
     pub fn rename(&mut self, from: &Path, to: &Path) -> Result<TreeInverse, Refusal>
         ensures edit { Follows (rename (is_too_deep (fin_map.entries self.old) from.now) (fin_map.get self.old) from.now to.now) result (fin_map.get self.old) (fin_map.get self.new) }
         ensures undo { IfOk result (λ i. TakesBack i (fin_map.get self.old) (fin_map.get self.new)) }
+        ensures inverse { IfOk result (λ i. LeavesChunks i) }
     {
         rename_in(&mut self.root, self.alloc, from, to)
     }
@@ -332,8 +627,62 @@ impl Tree {
     pub fn hide(&mut self, path: &Path, moment: Moment, number: u64) -> Result<TreeInverse, Refusal>
         ensures edit { Follows (hide (fin_map.get self.old) path.now moment.0 number) result (fin_map.get self.old) (fin_map.get self.new) }
         ensures undo { IfOk result (λ i. TakesBack i (fin_map.get self.old) (fin_map.get self.new)) }
+        ensures inverse { IfOk result (λ i. LeavesChunks i) }
     {
         hide_in(&mut self.root, self.alloc, path, moment, number)
+    }
+
+    /// Moves what was hidden back to its old name. NotHidden where the last element of the path isn't a hidden name,
+    /// Exists where something stands at the old one.
+    pub fn unhide(&mut self, path: &Path) -> Result<TreeInverse, Refusal>
+        ensures edit { Follows (unhide (fin_map.get self.old) path.now) result (fin_map.get self.old) (fin_map.get self.new) }
+        ensures undo { IfOk result (λ i. TakesBack i (fin_map.get self.old) (fin_map.get self.new)) }
+        ensures inverse { IfOk result (λ i. LeavesChunks i) }
+    {
+        unhide_in(&mut self.root, self.alloc, path)
+    }
+
+    /// Takes out what was hidden (GFS, section 4.4), with all under it. It costs the depth of the path; the inverse keeps
+    /// what was taken out.
+    pub fn remove(&mut self, path: &Path) -> Result<TreeInverse, Refusal>
+        ensures edit { Follows (remove (fin_map.get self.old) path.now) result (fin_map.get self.old) (fin_map.get self.new) }
+        ensures undo { IfOk result (λ i. TakesBack i (fin_map.get self.old) (fin_map.get self.new)) }
+        ensures inverse { IfOk result (λ i. IsRemoved (fin_map.get self.old) path.now i) }
+    {
+        remove_in(&mut self.root, self.alloc, path)
+    }
+
+    /// Adds a chunk at the end of a file.
+    pub fn add_chunk(&mut self, path: &Path, chunk: Handle) -> Result<TreeInverse, Refusal>
+        ensures edit { Follows (add_chunk (fin_map.get self.old) path.now chunk) result (fin_map.get self.old) (fin_map.get self.new) }
+        ensures undo { IfOk result (λ i. TakesBack i (fin_map.get self.old) (fin_map.get self.new)) }
+        ensures inverse { IfOk result (λ i. i ≡ TreeInverse.Added path.now) }
+    {
+        add_chunk_in(&mut self.root, self.alloc, path, chunk)
+    }
+
+    /// Puts another chunk in the place of one of a file's. Range where the file has none at that place.
+    pub fn set_chunk(
+        &mut self,
+        path: &Path,
+        index: usize,
+        chunk: Handle,
+    ) -> Result<TreeInverse, Refusal>
+        ensures edit { Follows (set_chunk (fin_map.get self.old) path.now index chunk) result (fin_map.get self.old) (fin_map.get self.new) }
+        ensures undo { IfOk result (λ i. TakesBack i (fin_map.get self.old) (fin_map.get self.new)) }
+        ensures inverse { IfOk result (λ i. IsChanged (fin_map.get self.old) path.now index i) }
+    {
+        set_chunk_in(&mut self.root, self.alloc, path, index, chunk)
+    }
+
+    /// Copies what stands at a path with all that is visible under it (GFS, section 3.4). A file's copy has the same
+    /// chunks. It costs what is copied.
+    pub fn snapshot(&mut self, from: &Path, to: &Path) -> Result<TreeInverse, Refusal>
+        ensures edit { Follows (snapshot (is_copied_too_deep (fin_map.entries self.old) from.now) (fin_map.get self.old) from.now to.now) result (fin_map.get self.old) (fin_map.get self.new) }
+        ensures undo { IfOk result (λ i. TakesBack i (fin_map.get self.old) (fin_map.get self.new)) }
+        ensures inverse { IfOk result (λ i. i ≡ TreeInverse.Copied to.now) }
+    {
+        snapshot_in(&mut self.root, self.alloc, from, to)
     }
 
     /// Takes an edit back. BadLine where the inverse doesn't fit.
@@ -343,6 +692,12 @@ impl Tree {
         match inverse {
             TreeInverse::Made(path, above) => unmake(&mut self.root, path, *above),
             TreeInverse::Moved(from, to) => move_back(&mut self.root, self.alloc, from, to),
+            TreeInverse::Removed(path, node) => plant(&mut self.root, self.alloc, path, node),
+            TreeInverse::Added(path) => drop_chunk(&mut self.root, self.alloc, path),
+            TreeInverse::Changed(path, index, chunk) => {
+                reset_chunk(&mut self.root, self.alloc, path, *index, *chunk)
+            }
+            TreeInverse::Copied(path) => drop_copy(&mut self.root, path),
         }
     }
 

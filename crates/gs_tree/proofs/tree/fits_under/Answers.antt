@@ -1,4 +1,4 @@
-use Rattle.std.proofs.Common.{◌≡◌, ◌++◌, ◌-◌, ap, sym, ◌∙◌, subst, ℕ}
+use Rattle.std.proofs.Common.{◌≡◌, sym, subst, ℕ}
 use Rattle.std.specs.Bool.{MatchBool}
 use Rattle.gs_tree.specs.Plain.{Plain, part_at}
 use Rattle.gs_tree.specs.Find.{at, IsBelow}

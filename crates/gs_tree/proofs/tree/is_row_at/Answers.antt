@@ -1,4 +1,4 @@
-use Rattle.std.proofs.Common.{◌≡◌, ◌++◌, [], ap, sym, ◌∙◌, subst, ℕ, append-nil, ◌∷◌}
+use Rattle.std.proofs.Common.{◌≡◌, [], ap, sym, ◌∙◌, subst, ℕ}
 use Rattle.std.specs.Bool.{MatchBool}
 use Rattle.std.specs.Prelude.{is_some, false}
 use Rattle.gs_tree.specs.Plain.{Plain, part_at}

@@ -1,4 +1,4 @@
-use Rattle.std.proofs.Common.{◌≡◌, ◌++◌, [], ap, sym, ◌∙◌, subst, ℕ, refl, inl, inr, append-nil, rules, true, false}
+use Rattle.std.proofs.Common.{◌≡◌, ◌++◌, [], ap, sym, ◌∙◌, subst, ℕ, refl, inl, append-nil}
 use Rattle.gs_tree.specs.Plain.{Plain, part_at}
 use Rattle.gs_tree.specs.Find.{at}
 use Rattle.gs_tree.specs.Listing.{IsListing, IsListingOf}

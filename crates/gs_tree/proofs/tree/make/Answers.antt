@@ -1,4 +1,4 @@
-use Rattle.std.proofs.Common.{sym, subst, ap, ◌∙◌, length}
+use Rattle.std.proofs.Common.{sym, subst, ap, length}
 use Rattle.gs_path.specs.Path.{Path}
 use Rattle.gs_tree.specs.Find.{at}
 use Rattle.gs_tree.specs.Inverses.{TakesBack}

@@ -1,4 +1,4 @@
-use Rattle.std.proofs.Common.{◌≡◌, sym, subst, ap, ◌∙◌, ℕ, refl, length}
+use Rattle.std.proofs.Common.{subst, ap, ◌∙◌, ℕ, length}
 use Rattle.std.specs.Prelude.{Result}
 use Rattle.gs_base.specs.declared.refusal.Refusal.{Refusal}
 use Rattle.gs_path.specs.Path.{Path}

@@ -1,13 +1,10 @@
-use Rattle.std.proofs.Common.{◌≡◌, ◌++◌, ◌∷◌, [], ap, sym, ◌∙◌, subst, ℕ, refl, inl, inr, append-nil, false, true}
-use Rattle.std.specs.Prelude.{is_some, Some}
-use Rattle.gs_path.specs.Path.{Path}
-use Rattle.gs_tree.specs.Entry.{Dir}
-use Rattle.gs_tree.specs.Plain.{IsFree}
+use Rattle.std.proofs.Common.{◌≡◌, ◌++◌, [], ap, sym, ◌∙◌, refl, inl, inr, append-nil, false}
+use Rattle.std.specs.Prelude.{is_some}
 use Rattle.gs_tree.specs.Find.{at}
 use Rattle.gs_tree.specs.Edits.{parent, moved}
 use Rattle.gs_tree.specs.Sort.{sort_of}
 use Rattle.gs_tree.specs.declared.node.Sort.TheVariants as sorts
-use Rattle.gs_tree.proofs.Moves.{stands_is, nothing, dir_is, parent-append}
+use Rattle.gs_tree.proofs.Moves.{stands_is, dir_is, parent-append}
 use Rattle.gs_tree.proofs.tree.move_back.Goals as goal
 
 pub returns-in-Dir-sort_at : goal.returns-in-Dir-sort_at

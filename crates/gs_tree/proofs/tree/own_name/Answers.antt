@@ -1,4 +1,4 @@
-use Rattle.std.proofs.Common.{◌≡◌, ◌∷◌, ◌++◌, [], map, ap, sym, ◌∙◌, subst, refl}
+use Rattle.std.proofs.Common.{◌≡◌, ◌∷◌, ◌++◌, [], map, ap, sym, ◌∙◌}
 use Rattle.std.specs.Prelude.{false}
 use Rattle.gs_tree.specs.Listing.{pairs_of}
 use Rattle.gs_tree.specs.Edits.{last}

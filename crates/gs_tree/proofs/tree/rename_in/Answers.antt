@@ -1,5 +1,5 @@
-use Rattle.std.proofs.Common.{◌≡◌, ap, sym, ◌∙◌, subst, inl, inr, refl, ℕ, [], ◌++◌, append-nil}
-use Rattle.std.specs.Prelude.{Err, Result, is_some, true}
+use Rattle.std.proofs.Common.{◌≡◌, ap, sym, ◌∙◌, subst, inl, inr, refl, ℕ}
+use Rattle.std.specs.Prelude.{Err, Result}
 use Rattle.gs_base.specs.declared.refusal.Refusal.{Refusal}
 use Rattle.gs_base.specs.declared.refusal.Refusal.TheVariants.{NotFound}
 use Rattle.gs_path.specs.Path.{Path}
@@ -23,6 +23,7 @@ pub returns-in-Err : goal.returns-in-Err
 returns-in-Err c = record {
   edit = λ deep test. follows_memory TreeInverse (rename (λ _. deep) (at c.args.root.now) c.args.from.now c.args.to.now) c.in-Err.refusal (at c.args.root.now) c.in-Err.ensures.err;
   undo = tt;
+  inverse = tt;
 }
 
 pub returns-in-Ok : goal.returns-in-Ok
@@ -35,4 +36,5 @@ returns-in-Ok c =
           let step = subst (λ (t : Path). Follows (move_to deep (at c.args.root.now) c.args.from.now t) c.move_to_target.result (at c.args.root.now) (at c.move_to_target.new.root)) c.in-Ok.ensures.ok (c.move_to_target.ensures.edit deep (subst (λ (t : Path). IsDepthTest deep (at c.args.root.now) c.args.from.now t) (sym c.in-Ok.ensures.ok) test)) in
           subst (λ (r : Result (Plain ℕ) Refusal). Follows r c.move_to_target.result (at c.args.root.now) (at c.move_to_target.new.root)) (sym is) step;
       undo = c.move_to_target.ensures.undo;
+      inverse = c.move_to_target.ensures.inverse;
     }

@@ -1,8 +1,7 @@
-use Rattle.std.proofs.Common.{◌≡◌, ◌++◌, ◌+◌, ◌<◌, ◌≤◌, ap, sym, ◌∙◌, subst, ℕ, refl, inl, inr, true, false, cond, rules, take, drop, length, arith, append-nil, []}
+use Rattle.std.proofs.Common.{◌≡◌, ◌+◌, ◌<◌, ◌≤◌, ap, sym, ◌∙◌, subst, refl, inl, inr, true, false, cond, rules, take, drop, length, arith}
 use Rattle.std.proofs.lemmas.Bool.{lt-ltb}
-use Rattle.std.specs.Bool.{MatchBool}
 use Rattle.gs_path.specs.Path.{Path}
-use Rattle.gs_tree.specs.Plain.{Plain, part_at, without}
+use Rattle.gs_tree.specs.Plain.{part_at, without}
 use Rattle.gs_tree.specs.Find.{at}
 use Rattle.gs_tree.specs.Inverses.{IsBlankRow, first_made, below_first}
 use Rattle.gs_tree.proofs.tree.unmake.Goals as goal

@@ -1,13 +1,16 @@
 use Rattle.std.proofs.Common.{◌≡◌, ◌++◌, ◌∷◌, [], ap, sym, ◌∙◌, subst, refl}
-use Rattle.std.specs.FinMap.{same_entries_map}
+use Rattle.std.specs.FinMap.{entries}
+use Rattle.std.specs.Prelude.{Ok, Err}
+use Rattle.gs_edit.specs.declared.edit.Inverse.{Inverse}
+use Rattle.gs_edit.proofs.Applied.{rows_applied}
 use Rattle.gs_edit.specs.View.{NamesView}
 use Rattle.gs_machine.specs.Leads.{Leads}
-use Rattle.gs_machine.proofs.Leading.{leads_more, same_names}
+use Rattle.gs_machine.proofs.Leading.{leads_more}
 use Rattle.gs_machine.proofs.machine.Standing.edit.Goals as goal
 
 pub returns-in-Ok : goal.returns-in-Ok
 returns-in-Ok c = (
-  c.in-Ok.ensures.edit,
+  rows_applied c.args.edit.now c.requires (Ok c.in-Ok.inverse) c.args.names.now c.apply.new.self c.in-Ok.ensures.edit,
   refl,
   λ leads.
       let items = c.push_reserved.ensures.items ∙ ap (λ l. l ++ c.in-Ok.inverse ∷ []) c.in_ok-reserve.ensures.items in
@@ -17,10 +20,10 @@ returns-in-Ok c = (
 
 pub returns-in-Err : goal.returns-in-Err
 returns-in-Err c = (
-  c.in-Err.ensures.edit.0,
-  c.in-Err.ensures.edit.1,
+  (rows_applied {I = Inverse} c.args.edit.now c.requires (Err c.in-Err.refusal) c.args.names.now c.apply.new.self c.in-Err.ensures.edit).0,
+  ap (λ (v : NamesView). entries v.tree) c.in-Err.ensures.edit.1,
   refl,
   λ leads.
-      let same : c.apply.new.self ≡ c.args.names.now = same_names c.apply.new.self c.args.names.now (same_entries_map c.apply.new.self.tree c.args.names.now.tree c.in-Err.ensures.edit.1) c.in-Err.ensures.refs in
+      let same : c.apply.new.self ≡ c.args.names.now = c.in-Err.ensures.edit.1 in
       subst (λ is. Leads is c.args.self.now.before.value c.apply.new.self) (sym c.in_ok-reserve.ensures.items) (subst (λ (n : NamesView). Leads c.args.self.now.inverses.items c.args.self.now.before.value n) (sym same) leads),
 )

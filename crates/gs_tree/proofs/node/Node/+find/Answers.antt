@@ -1,4 +1,3 @@
-use Rattle.std.proofs.Common.{refl}
 use Rattle.gs_tree.proofs.Rows.{goes_to, part_none, part_below, dirs_above}
 use Rattle.gs_tree.proofs.node.Node.+find.Goals as goal
 

@@ -1,5 +1,4 @@
-use Rattle.std.proofs.Common.{◌≡◌, ◌+◌, ◌-◌, ◌<◌, ◌∷◌, ◌++◌, [], ℕ, true, false, refl, sym, ap, ◌∙◌, subst, arith, rules, append_assoc, append-nil}
-use Rattle.std.specs.Map.{values_of}
+use Rattle.std.proofs.Common.{◌≡◌, ◌+◌, ◌-◌, ◌<◌, ◌∷◌, ◌++◌, [], true, false, refl, sym, ap, ◌∙◌, subst, arith, rules, append_assoc, append-nil}
 use Rattle.gs_tree.specs.Entry.{File}
 use Rattle.gs_tree.specs.Find.{at, IsBelow}
 use Rattle.gs_tree.specs.Rows.{rows_of, joined}

@@ -1,4 +1,4 @@
-use Rattle.std.proofs.Common.{◌≡◌, ◌∷◌, ◌++◌, [], ℕ, true, false, refl, sym, ap, ◌∙◌, subst, arith, rules, length}
+use Rattle.std.proofs.Common.{◌≡◌, ◌∷◌, false, refl, sym, ap, ◌∙◌, subst, arith, rules, length}
 use Rattle.std.specs.Bool.{MatchBool}
 use Rattle.std.proofs.lemmas.Grind.{common_steps}
 use Rattle.gs_tree.specs.Find.{at}

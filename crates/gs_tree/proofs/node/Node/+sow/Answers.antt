@@ -1,4 +1,4 @@
-use Rattle.std.proofs.Common.{arith, ◌∷◌, ◌≡◌, ◌<◌, ◌+◌, ap, sym, ◌∙◌, subst, refl, inl, inr, cond, length, ℕ, true, [], false}
+use Rattle.std.proofs.Common.{arith, ◌∷◌, ◌≡◌, ◌+◌, ap, sym, ◌∙◌, subst, refl, inl, inr, cond, length, ℕ, true, []}
 use Rattle.std.specs.Prelude.{Some, is_none, is_some}
 use Rattle.std.specs.Option.{IsSome}
 use Rattle.std.proofs.lemmas.Grind.{common_steps}

@@ -1,5 +1,5 @@
 use Rattle.gs_path.specs.Path.{Name}
-use Rattle.std.proofs.Common.{◌≡◌, Bool, false, rules, ◌∷◌, ◌++◌, [], map, refl, sym, ap, ◌∙◌, subst, append_assoc, append-nil}
+use Rattle.std.proofs.Common.{◌≡◌, Bool, false, rules, ◌∷◌, ◌++◌, [], refl, sym, ap, ◌∙◌, subst, append_assoc, append-nil}
 use Rattle.std.proofs.lemmas.List.{map-append}
 use Rattle.gs_path.specs.Element.{is_hidden}
 use Rattle.gs_tree.specs.Find.{at}

@@ -1,4 +1,4 @@
-use Rattle.std.proofs.Common.{ap, sym, ◌∙◌, append-nil, [], refl}
+use Rattle.std.proofs.Common.{ap, sym, ◌∙◌, append-nil, []}
 use Rattle.gs_tree.specs.Find.{at}
 use Rattle.gs_tree.specs.Sort.{sort_of}
 use Rattle.gs_tree.proofs.node.Node.sort_at.Goals as goal

@@ -5,7 +5,7 @@ use Rattle.gs_tree.specs.Find.{at}
 use Rattle.gs_tree.specs.Plain.{Plain}
 use Rattle.gs_tree.specs.Follows.{Undoes}
 use Rattle.gs_tree.specs.declared.inverse.TreeInverse.{TreeInverse}
-use Rattle.gs_tree.specs.declared.inverse.TreeInverse.TheVariants.{Made, Moved}
+use Rattle.gs_tree.specs.declared.inverse.TreeInverse.TheVariants.{Made, Moved, Removed, Added, Changed, Copied}
 use Rattle.gs_tree.proofs.Moves.{seen}
 use Rattle.gs_tree.proofs.tree.Tree.undo.Goals as goal
 
@@ -24,3 +24,35 @@ returns-in-Moved c =
     let step = subst (λ (m : Plain ℕ). Undoes i m c.move_back.result (at c.move_back.new.root)) old c.move_back.ensures in
     subst (λ (j : TreeInverse). Undoes j (get c.args.self.now) c.move_back.result (get (from_entries {R = path_cmp} c.move_back.new.root))) (sym c.in-Moved.is)
     (subst (λ (n : Plain ℕ). Undoes i (get c.args.self.now) c.move_back.result n) (sym (seen c.move_back.new.root)) step)
+
+pub returns-in-Removed : goal.returns-in-Removed
+returns-in-Removed c =
+    let old : at c.self.inside.root ≡ get c.args.self.now = sym (seen c.self.inside.root) ∙ ap get c.self.view_is in
+    let i = Removed c.in-Removed.path c.in-Removed.node in
+    let step = subst (λ (m : Plain ℕ). Undoes i m c.plant.result (at c.plant.new.root)) old c.plant.ensures in
+    subst (λ (j : TreeInverse). Undoes j (get c.args.self.now) c.plant.result (get (from_entries {R = path_cmp} c.plant.new.root))) (sym c.in-Removed.is)
+    (subst (λ (n : Plain ℕ). Undoes i (get c.args.self.now) c.plant.result n) (sym (seen c.plant.new.root)) step)
+
+pub returns-in-Added : goal.returns-in-Added
+returns-in-Added c =
+    let old : at c.self.inside.root ≡ get c.args.self.now = sym (seen c.self.inside.root) ∙ ap get c.self.view_is in
+    let i = Added c.in-Added.path in
+    let step = subst (λ (m : Plain ℕ). Undoes i m c.drop_chunk.result (at c.drop_chunk.new.root)) old c.drop_chunk.ensures in
+    subst (λ (j : TreeInverse). Undoes j (get c.args.self.now) c.drop_chunk.result (get (from_entries {R = path_cmp} c.drop_chunk.new.root))) (sym c.in-Added.is)
+    (subst (λ (n : Plain ℕ). Undoes i (get c.args.self.now) c.drop_chunk.result n) (sym (seen c.drop_chunk.new.root)) step)
+
+pub returns-in-Changed : goal.returns-in-Changed
+returns-in-Changed c =
+    let old : at c.self.inside.root ≡ get c.args.self.now = sym (seen c.self.inside.root) ∙ ap get c.self.view_is in
+    let i = Changed c.in-Changed.path c.in-Changed.index c.in-Changed.chunk in
+    let step = subst (λ (m : Plain ℕ). Undoes i m c.reset_chunk.result (at c.reset_chunk.new.root)) old c.reset_chunk.ensures in
+    subst (λ (j : TreeInverse). Undoes j (get c.args.self.now) c.reset_chunk.result (get (from_entries {R = path_cmp} c.reset_chunk.new.root))) (sym c.in-Changed.is)
+    (subst (λ (n : Plain ℕ). Undoes i (get c.args.self.now) c.reset_chunk.result n) (sym (seen c.reset_chunk.new.root)) step)
+
+pub returns-in-Copied : goal.returns-in-Copied
+returns-in-Copied c =
+    let old : at c.self.inside.root ≡ get c.args.self.now = sym (seen c.self.inside.root) ∙ ap get c.self.view_is in
+    let i = Copied c.in-Copied.path in
+    let step = subst (λ (m : Plain ℕ). Undoes i m c.drop_copy.result (at c.drop_copy.new.root)) old c.drop_copy.ensures in
+    subst (λ (j : TreeInverse). Undoes j (get c.args.self.now) c.drop_copy.result (get (from_entries {R = path_cmp} c.drop_copy.new.root))) (sym c.in-Copied.is)
+    (subst (λ (n : Plain ℕ). Undoes i (get c.args.self.now) c.drop_copy.result n) (sym (seen c.drop_copy.new.root)) step)

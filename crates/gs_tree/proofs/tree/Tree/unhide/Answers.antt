@@ -1,0 +1,22 @@
+use Rattle.std.proofs.Common.{◌≡◌, ap, sym, ◌∙◌, subst, ℕ}
+use Rattle.std.specs.Prelude.{IfOk}
+use Rattle.std.specs.FinMap.{get}
+use Rattle.gs_tree.specs.Find.{at}
+use Rattle.gs_tree.specs.Plain.{Plain}
+use Rattle.gs_tree.specs.Edits.{unhide}
+use Rattle.gs_tree.specs.Follows.{Follows}
+use Rattle.gs_tree.specs.Inverses.{TakesBack}
+use Rattle.gs_tree.proofs.Moves.{seen}
+use Rattle.gs_tree.proofs.tree.Tree.unhide.Goals as goal
+
+pub returns-clause-edit : goal.returns-clause-edit
+returns-clause-edit c =
+    let old : at c.self.inside.root ≡ get c.args.self.now = sym (seen c.self.inside.root) ∙ ap get c.self.view_is in
+    let step = subst (λ (m : Plain ℕ). Follows (unhide m c.args.path.now) c.unhide_in.result m (at c.unhide_in.new.root)) old c.unhide_in.ensures.edit in
+    subst (λ (n : Plain ℕ). Follows (unhide (get c.args.self.now) c.args.path.now) c.unhide_in.result (get c.args.self.now) n) (sym (seen c.unhide_in.new.root)) step
+
+pub returns-clause-undo : goal.returns-clause-undo
+returns-clause-undo c =
+    let old : at c.self.inside.root ≡ get c.args.self.now = sym (seen c.self.inside.root) ∙ ap get c.self.view_is in
+    let step = subst (λ (m : Plain ℕ). IfOk c.unhide_in.result (λ i. TakesBack i m (at c.unhide_in.new.root))) old c.unhide_in.ensures.undo in
+    subst (λ (n : Plain ℕ). IfOk c.unhide_in.result (λ i. TakesBack i (get c.args.self.now) n)) (sym (seen c.unhide_in.new.root)) step
