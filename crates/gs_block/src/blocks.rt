@@ -326,6 +326,13 @@ mod tests {
         0x15, 0xad,
     ];
 
+    /// The digest of the 56 bytes that pad into a second block, of the same examples.
+    const FIFTY_SIX: [u8; 32] = [
+        0x24, 0x8d, 0x6a, 0x61, 0xd2, 0x06, 0x38, 0xb8, 0xe5, 0xc0, 0x26, 0x93, 0x0c, 0x3e, 0x60,
+        0x39, 0xa3, 0x3c, 0xe4, 0x59, 0x64, 0xff, 0x21, 0x67, 0xf6, 0xec, 0xed, 0xd4, 0x19, 0xdb,
+        0x06, 0xc1,
+    ];
+
     /// Edits of a chunk of 16 bytes in blocks of 4, each with what it leaves.
     #[test]
     fn edits_a_chunk(rt: HostRuntime) -> Result<(), Fail> {
@@ -343,6 +350,9 @@ mod tests {
         assert_eq!(rt; chunk.len(), 16);
         chunk.pad()?;
         assert!(rt; matches!(&chunk.append(b"d"), Err(Refusal::Range)));
+        let text = b"abcdbcdecdefdefgefghfghighijhijkijkljklmklmnlmnomnopnopq";
+        let copy = Blocks::of(rt.alloc(), 64, 64, text)?.copy()?;
+        assert_eq!(rt; copy.digests(), [FIFTY_SIX].as_slice());
         chunk.damage(1)?;
         assert!(rt; matches!(&chunk.write(3, b"zzzzzz"), Err(Refusal::Damaged(1))));
         assert!(rt; matches!(&chunk.read(4, 1), Err(Refusal::Damaged(1))));
