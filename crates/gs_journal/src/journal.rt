@@ -279,7 +279,7 @@ impl<D: Disk> Journal<D> {
 #[cfg(test)]
 mod tests {
     use super::*;
-    use crate::{MemoryDisk, StoppingDisk};
+    use crate::{FailingDisk, MemoryDisk, StoppingDisk};
     use std::test::Fail;
 
     // Mkdirs of `/a` by client 1 under number 1.
@@ -380,6 +380,80 @@ mod tests {
             };
             let found = count(alloc, first.into_disk(), second.into_disk())?;
             assert!(rt; found == 1 || (!made && (found == 4 || (!added && found == 3))));
+        }
+        Ok(())
+    }
+
+    #[test]
+    fn a_call_that_fails_is_told_and_closes_the_journal(rt: HostRuntime) -> Result<(), Fail> {
+        let alloc = rt.alloc();
+        let entry = Record::new(alloc, 1, &MKDIRS)?;
+        for calls in 0..40 {
+            let mut first = FailingDisk::new(MemoryDisk::new(THREE.to_vec(alloc)?));
+            let mut second = FailingDisk::new(MemoryDisk::new(Vec::new(alloc)));
+            if calls < 20 {
+                first.fail_after(calls);
+            } else {
+                second.fail_after(calls - 20);
+            }
+            let (first, second) = match Journal::open(alloc, first, second, 1_000) {
+                Err(unopened) => {
+                    assert_eq!(rt; unopened.refusal.number(), 32);
+                    (unopened.first, unopened.second)
+                }
+                Ok(mut journal) => {
+                    let added = journal.append(&entry).is_ok();
+                    assert_eq!(rt; journal.is_open(), added);
+                    assert!(rt; added || journal.append(&entry).is_err());
+                    journal.into_disks()
+                }
+            };
+            let found = count(alloc, first.into_disk(), second.into_disk())?;
+            assert!(rt; 3 <= found && found <= 4);
+        }
+        Ok(())
+    }
+
+    #[test]
+    fn torn_bytes_are_no_record(rt: HostRuntime) -> Result<(), Fail> {
+        let alloc = rt.alloc();
+        for byte in 0..=255u8 {
+            let mut behind = THREE.to_vec(alloc)?;
+            behind.extend_from_slice(&[byte; 14])?;
+            let none = MemoryDisk::new(Vec::new(alloc));
+            assert_eq!(rt; count(alloc, MemoryDisk::new(behind), none)?, 3);
+            let mut gate = THREE[..55].to_vec(alloc)?;
+            gate.extend_from_slice(&[byte, 0, 0, 0, 8, 7, 0, 0, 0, 0, 0, 0, 0, 8, 0])?;
+            let none = MemoryDisk::new(Vec::new(alloc));
+            let want = if byte == 1 { 4 } else { 3 };
+            assert_eq!(rt; count(alloc, MemoryDisk::new(gate), none)?, want);
+        }
+        Ok(())
+    }
+
+    #[test]
+    fn records_that_are_not_of_their_form_are_refused(rt: HostRuntime) -> Result<(), Fail> {
+        let alloc = rt.alloc();
+        // a holder: its server is 16, it is of the first version, it is right; a finalize with a byte too few
+        for (version, kind, length, server, number) in [
+            (b'2', 10, 9, 16, 34),
+            (b'1', 10, 9, 0, 34),
+            (b'2', 10, 9, 15, 0),
+            (b'2', 6, 9, 0, 34),
+            (b'2', 11, 9, 0, 34),
+        ] {
+            let mut bytes = Vec::new(alloc);
+            bytes.extend_from_slice(&[1, b'G', b'S', b'J', version, 0, 0, 0, 0, 0, 0, 0, 1])?;
+            bytes.extend_from_slice(&[
+                1, 0, 0, 0, length, kind, 0, 0, 0, 0, 0, 0, 0, 2, server, 0,
+            ])?;
+            let first = MemoryDisk::new(bytes);
+            let second = MemoryDisk::new(Vec::new(alloc));
+            let found = match Journal::open(alloc, first, second, 1_000) {
+                Err(unopened) => unopened.refusal.number(),
+                Ok(_) => 0,
+            };
+            assert_eq!(rt; found, number);
         }
         Ok(())
     }
