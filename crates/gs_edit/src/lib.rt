@@ -3,8 +3,6 @@
 
 mod edit;
 mod names;
-#[cfg(test)]
-mod tests;
 
 pub use edit::{Edit, Inverse};
 pub use names::Names;

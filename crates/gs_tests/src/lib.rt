@@ -2,7 +2,11 @@
 #![tactic(auto)]
 
 #[cfg(test)]
+mod blocks;
+#[cfg(test)]
 mod commands;
+#[cfg(test)]
+mod journal;
 #[cfg(test)]
 mod leases;
 #[cfg(test)]
@@ -10,11 +14,17 @@ mod lines;
 #[cfg(test)]
 mod locks;
 #[cfg(test)]
+mod names;
+#[cfg(test)]
 mod options;
 #[cfg(test)]
 mod paths;
 #[cfg(test)]
 mod placement;
+#[cfg(test)]
+mod references;
+#[cfg(test)]
+mod replicas;
 #[cfg(test)]
 mod shell;
 #[cfg(test)]

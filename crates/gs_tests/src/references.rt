@@ -1,5 +1,5 @@
-use crate::Refs;
 use gs_base::{Handle, Refusal};
+use gs_refs::Refs;
 use std::test::Fail;
 
 /// The number of a refusal, or 0.

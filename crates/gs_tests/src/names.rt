@@ -1,5 +1,5 @@
-use crate::{Edit, Inverse, Names};
 use gs_base::{Handle, Moment, Refusal};
+use gs_edit::{Edit, Inverse, Names};
 use gs_path::Path;
 use std::alloc::Global;
 use std::test::Fail;

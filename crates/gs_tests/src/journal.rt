@@ -1,0 +1,177 @@
+use gs_base::Refusal;
+use gs_journal::{FailingDisk, Journal, MemoryDisk, Record, StoppingDisk};
+use std::alloc::Global;
+use std::test::Fail;
+
+// Mkdirs of `/a` by client 1 under number 1.
+const MKDIRS: [u8; 17] = [0, 0, 0, 1, 0, 0, 0, 0, 0, 0, 0, 1, 1, 0, 2, b'/', b'a'];
+
+// A header of generation 1, three finalizes, and a closed gate.
+const THREE: [u8; 56] = [
+    1, b'G', b'S', b'J', b'2', 0, 0, 0, 0, 0, 0, 0, 1, //
+    1, 0, 0, 0, 8, 6, 0, 0, 0, 0, 0, 0, 0, 2, //
+    1, 0, 0, 0, 8, 6, 0, 0, 0, 0, 0, 0, 0, 4, //
+    1, 0, 0, 0, 8, 6, 0, 0, 0, 0, 0, 0, 0, 6, //
+    0,
+];
+
+// The checkpoint of a new store.
+const EMPTY: [u8; 61] = [
+    0, 0, 0, 0, 0, 0, 0, 1, 0, 0, 0, 0, 0, 0, 0, 1, 0, 0, 0, 0, 0, 0, 0, 1, 0, 0, 0, 0, 0, 0, 0, 0,
+    0, 0, 0, 0, 0, 0, 0, 0, 0, 0, 0, 0, 0, 0, 0, 0, 0, 0, 0, 0, 0, 0, 0, 0, 0, 0, 0, 0, 0,
+];
+
+#[test]
+fn records_are_written_as_laid_down(rt: HostRuntime) -> Result<(), Fail> {
+    let alloc = rt.alloc();
+    let first = MemoryDisk::new(Vec::new(alloc));
+    let second = MemoryDisk::new(Vec::new(alloc));
+    let Ok(mut journal) = Journal::open(alloc, first, second, 1_000) else {
+        assert!(rt; false);
+        return Ok(());
+    };
+    let entry = Record::new(alloc, 1, &MKDIRS)?;
+    journal.append(&entry)?;
+    assert_eq!(rt; journal.room(), 1_000 - 13 - 23 - 1);
+    journal.checkpoint(alloc, &EMPTY)?;
+    assert_eq!(rt; journal.room(), 1_000 - 13 - 67 - 1);
+    let (first, second) = journal.into_disks();
+    let mut want = Vec::new(alloc);
+    want.extend_from_slice(&[1, b'G', b'S', b'J', b'2', 0, 0, 0, 0, 0, 0, 0, 1])?;
+    want.extend_from_slice(&[1, 0, 0, 0, 17, 1])?;
+    want.extend_from_slice(&MKDIRS)?;
+    want.push(0)?;
+    assert_eq!(rt; first.bytes(), want.as_slice());
+    let mut want = Vec::new(alloc);
+    want.extend_from_slice(&[1, b'G', b'S', b'J', b'2', 0, 0, 0, 0, 0, 0, 0, 2])?;
+    want.extend_from_slice(&[1, 0, 0, 0, 61, 9])?;
+    want.extend_from_slice(&EMPTY)?;
+    want.push(0)?;
+    assert_eq!(rt; second.bytes(), want.as_slice());
+    Ok(())
+}
+
+// How many records there are, or 99 where the disks aren't opened.
+fn count(alloc: Global, first: MemoryDisk, second: MemoryDisk) -> Result<usize, Refusal> {
+    match Journal::open(alloc, first, second, 1_000) {
+        Err(_) => Ok(99),
+        Ok(mut journal) => Ok(journal.records(alloc)?.len()),
+    }
+}
+
+#[test]
+fn whole_records_are_read_at_every_length(rt: HostRuntime) -> Result<(), Fail> {
+    let alloc = rt.alloc();
+    let entry = Record::new(alloc, 1, &MKDIRS)?;
+    for length in 0..=THREE.len() {
+        let whole = if length < 13 { 0 } else { (length - 13) / 14 };
+        let first = MemoryDisk::new(THREE[..length].to_vec(alloc)?);
+        let second = MemoryDisk::new(Vec::new(alloc));
+        let Ok(mut journal) = Journal::open(alloc, first, second, 1_000) else {
+            assert!(rt; false);
+            return Ok(());
+        };
+        assert_eq!(rt; journal.records(alloc)?.len(), whole);
+        journal.append(&entry)?;
+        let (first, second) = journal.into_disks();
+        assert_eq!(rt; count(alloc, first, second)?, whole + 1);
+    }
+    Ok(())
+}
+
+#[test]
+fn a_stop_leaves_the_old_records_or_the_new(rt: HostRuntime) -> Result<(), Fail> {
+    let alloc = rt.alloc();
+    let entry = Record::new(alloc, 1, &MKDIRS)?;
+    for calls in 0..40 {
+        let on_first = if calls < 20 { calls } else { 100 };
+        let on_second = if calls < 20 { 100 } else { calls - 20 };
+        let first = StoppingDisk::new(MemoryDisk::new(THREE.to_vec(alloc)?), on_first);
+        let second = StoppingDisk::new(MemoryDisk::new(Vec::new(alloc)), on_second);
+        let mut added = false;
+        let mut made = false;
+        let (first, second) = match Journal::open(alloc, first, second, 1_000) {
+            Err(unopened) => (unopened.first, unopened.second),
+            Ok(mut journal) => {
+                added = journal.append(&entry).is_ok();
+                made = journal.checkpoint(alloc, &EMPTY).is_ok();
+                journal.into_disks()
+            }
+        };
+        let found = count(alloc, first.into_disk(), second.into_disk())?;
+        assert!(rt; found == 1 || (!made && (found == 4 || (!added && found == 3))));
+    }
+    Ok(())
+}
+
+#[test]
+fn a_call_that_fails_is_told_and_closes_the_journal(rt: HostRuntime) -> Result<(), Fail> {
+    let alloc = rt.alloc();
+    let entry = Record::new(alloc, 1, &MKDIRS)?;
+    for calls in 0..40 {
+        let mut first = FailingDisk::new(MemoryDisk::new(THREE.to_vec(alloc)?));
+        let mut second = FailingDisk::new(MemoryDisk::new(Vec::new(alloc)));
+        if calls < 20 {
+            first.fail_after(calls);
+        } else {
+            second.fail_after(calls - 20);
+        }
+        let (first, second) = match Journal::open(alloc, first, second, 1_000) {
+            Err(unopened) => {
+                assert_eq!(rt; unopened.refusal.number(), 32);
+                (unopened.first, unopened.second)
+            }
+            Ok(mut journal) => {
+                let added = journal.append(&entry).is_ok();
+                assert_eq!(rt; journal.is_open(), added);
+                assert!(rt; added || journal.append(&entry).is_err());
+                journal.into_disks()
+            }
+        };
+        let found = count(alloc, first.into_disk(), second.into_disk())?;
+        assert!(rt; 3 <= found && found <= 4);
+    }
+    Ok(())
+}
+
+#[test]
+fn torn_bytes_are_no_record(rt: HostRuntime) -> Result<(), Fail> {
+    let alloc = rt.alloc();
+    for byte in 0..=255u8 {
+        let mut behind = THREE.to_vec(alloc)?;
+        behind.extend_from_slice(&[byte; 14])?;
+        let none = MemoryDisk::new(Vec::new(alloc));
+        assert_eq!(rt; count(alloc, MemoryDisk::new(behind), none)?, 3);
+        let mut gate = THREE[..55].to_vec(alloc)?;
+        gate.extend_from_slice(&[byte, 0, 0, 0, 8, 7, 0, 0, 0, 0, 0, 0, 0, 8, 0])?;
+        let none = MemoryDisk::new(Vec::new(alloc));
+        let want = if byte == 1 { 4 } else { 3 };
+        assert_eq!(rt; count(alloc, MemoryDisk::new(gate), none)?, want);
+    }
+    Ok(())
+}
+
+#[test]
+fn records_that_are_not_of_their_form_are_refused(rt: HostRuntime) -> Result<(), Fail> {
+    let alloc = rt.alloc();
+    // a holder: its server is 16, it is of the first version, it is right; a finalize with a byte too few
+    for (version, kind, length, server, number) in [
+        (b'2', 10, 9, 16, 34),
+        (b'1', 10, 9, 0, 34),
+        (b'2', 10, 9, 15, 0),
+        (b'2', 6, 9, 0, 34),
+        (b'2', 11, 9, 0, 34),
+    ] {
+        let mut bytes = Vec::new(alloc);
+        bytes.extend_from_slice(&[1, b'G', b'S', b'J', version, 0, 0, 0, 0, 0, 0, 0, 1])?;
+        bytes.extend_from_slice(&[1, 0, 0, 0, length, kind, 0, 0, 0, 0, 0, 0, 0, 2, server, 0])?;
+        let first = MemoryDisk::new(bytes);
+        let second = MemoryDisk::new(Vec::new(alloc));
+        let found = match Journal::open(alloc, first, second, 1_000) {
+            Err(unopened) => unopened.refusal.number(),
+            Ok(_) => 0,
+        };
+        assert_eq!(rt; found, number);
+    }
+    Ok(())
+}
