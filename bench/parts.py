@@ -1,49 +1,22 @@
 #!/usr/bin/env python3
 """Measures parts of the store that no request reaches yet, by a small program over their crates. No test."""
 
-import filecmp
 import os
-import shutil
 import subprocess
 import sys
 import time
 
-BENCH = os.path.dirname(os.path.abspath(__file__))
-ROOT = os.path.dirname(BENCH)
-STAGE = os.path.join(BENCH, "out", "stage")
-CRATE = os.path.join(STAGE, "crates", "gs_parts")
-PROGRAM = os.path.join(CRATE, "out", "gs_parts")
-FOLDERS = ["src", "specs", "proofs"]
-CRATES = "gs_parts: gs_base gs_path gs_edit gs_block sha2"
+ROOT = os.path.dirname(os.path.dirname(os.path.abspath(__file__)))
+CRATE = os.path.join(ROOT, "crates", "gs_bench")
+PROGRAM = os.path.join(CRATE, "out", "gs_bench")
 REPEATS = 3
 LEAST_SECONDS = 0.005
 
 
-def mirror(source, target):
-    """Makes a folder hold what another holds. A file that is the same stays untouched."""
-    os.makedirs(target, exist_ok=True)
-    for name in set(os.listdir(target)) - set(os.listdir(source)):
-        path = os.path.join(target, name)
-        shutil.rmtree(path) if os.path.isdir(path) else os.remove(path)
-    for name in os.listdir(source):
-        old, new = os.path.join(source, name), os.path.join(target, name)
-        if os.path.isdir(old):
-            mirror(old, new)
-        elif not os.path.exists(new) or not filecmp.cmp(old, new, shallow=False):
-            shutil.copyfile(old, new)
-
-
 def build():
-    """A copy of the crates with the measuring program beside them, since the gate needs no such program."""
-    for crate in os.listdir(os.path.join(ROOT, "crates")):
-        for folder in FOLDERS:
-            source = os.path.join(ROOT, "crates", crate, folder)
-            if os.path.isdir(source):
-                mirror(source, os.path.join(STAGE, "crates", crate, folder))
-    mirror(os.path.join(BENCH, "parts", "src"), os.path.join(CRATE, "src"))
-    with open(os.path.join(ROOT, "crates.txt")) as known, open(os.path.join(STAGE, "crates.txt"), "w") as staged:
-        staged.write(known.read() + CRATES + "\n")
-    log = os.path.join(BENCH, "out", "build.log")
+    """Proves the measuring program and builds it, where it isn't built."""
+    log = os.path.join(CRATE, "out", "build.log")
+    os.makedirs(os.path.dirname(log), exist_ok=True)
     print(f"building; see {os.path.relpath(log, ROOT)}", file=sys.stderr, flush=True)
     with open(log, "w") as out:
         subprocess.run(["rt", "run", "--", "build", "1"], cwd=CRATE, stdout=out, stderr=out, check=True)

@@ -72,13 +72,13 @@ fn main(rt: HostRuntime) -> ExitCode {
         return ExitCode::from(2);
     };
     let Some((part, count)) = asked(&words) else {
-        let _ = eprintln!(rt; "usage: gs_parts PART COUNT");
+        let _ = eprintln!(rt; "usage: gs_bench PART COUNT");
         return ExitCode::from(2);
     };
     match part.run(rt.alloc(), count) {
         Ok(()) => ExitCode::SUCCESS,
         Err(refusal) => {
-            let _ = eprintln!(rt; "gs_parts: {refusal}");
+            let _ = eprintln!(rt; "gs_bench: {refusal}");
             ExitCode::FAILURE
         }
     }
