@@ -4,6 +4,7 @@ pub mod Mapped
 pub mod Find
 pub mod Rows
 pub mod Edits
+pub mod Chunks
 pub mod Sort
 pub mod Inverses
 pub mod Follows
