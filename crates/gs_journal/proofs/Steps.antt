@@ -1,6 +1,6 @@
 -- What one step may leave of known bytes.
-use Rattle.std.proofs.Common.{◌≡◌, ℕ, zero, suc, List, [], ◌∷◌, length, take, refl, ap, subst, arith, length-take}
-use Rattle.std.proofs.lemmas.List.{take_all}
+use Rattle.std.proofs.Common.{◌≡◌, ◌≤◌, ◌+◌, ◌-◌, ℕ, zero, suc, List, [], ◌∷◌, length, take, drop, refl, sym, ◌∙◌, ap, subst, arith, length-take}
+use Rattle.std.proofs.lemmas.List.{take_all, drop-drop}
 use Rattle.gs_journal.specs.Disk.{Torn, Cut, Only, Follows}
 
 pub take_length : (n : ℕ) (xs : List ℕ) → take (length (take n xs)) xs ≡ take n xs
@@ -19,3 +19,15 @@ cut_same n c = record { no_shorter = omega (arith, length-take n c); front = tak
 pub from_known : (step : List ℕ → List ℕ → Type 0) (bytes : List ℕ) (old new : List ℕ → Type 0) → Only bytes old → Follows step old new → (c : List ℕ) → new c → step bytes c
 from_known step bytes old new only follows c left =
     let from = follows c left in subst (λ f. step f c) (only from.0 from.1) from.2
+
+-- a shorter write tears no more than a longer one at the same place
+pub torn_wider : (at k n : ℕ) → k ≤ n → (old new : List ℕ) → Torn at k old new → Torn at n old new
+torn_wider at k n le old new torn =
+    let parts : at + n ≡ at + k + (n - k) = omega (arith, le) in
+    let of_parts : (bytes : List ℕ) → drop (at + n) bytes ≡ drop (n - k) (drop (at + k) bytes) = λ bytes. ap (λ i. drop i bytes) parts ∙ sym (drop-drop (n - k) (at + k) bytes) in
+    record {
+      before = torn.before;
+      after = of_parts new ∙ ap (drop (n - k)) torn.after ∙ sym (of_parts old);
+      no_shorter = torn.no_shorter;
+      no_longer = omega (arith, le, torn.no_longer);
+    }

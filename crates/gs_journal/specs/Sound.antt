@@ -1,5 +1,5 @@
 -- What a journal keeps of its two disks.
-use Rattle.std.specs.Prelude.{◌≡◌, ◌⊎◌, ◌+◌, ◌-◌, ◌^◌, ◌<◌, ◌++◌, ℕ, true, false, if◌then◌else◌, List, [], ◌∷◌}
+use Rattle.std.specs.Prelude.{◌≡◌, ◌⊎◌, ◌+◌, ◌-◌, ◌^◌, ◌<◌, ◌++◌, ℕ, Bool, not, true, false, if◌then◌else◌, List, [], ◌∷◌}
 use Rattle.gs_base.specs.declared.refusal.Refusal.{Refusal}
 use Rattle.gs_base.specs.declared.refusal.Refusal.TheVariants.{Device, Exhausted, Full, Memory}
 use Rattle.gs_journal.specs.Disk.{Only}
@@ -49,6 +49,18 @@ abbrev pub HasReason : {D : Type 0} → (D → List ℕ) → (D → ℕ) → Jou
 HasReason seen failures old new size e =
     ((e ≡ Full) × (new ≡ old) × (old.limit < size))
     ⊎ ((e ≡ Device) × ((failures_of_both failures old < failures_of_both failures new) ⊎ ((old.is_failed ≡ true) × (new ≡ old))))
+
+abbrev pub disk_of : {D : Type 0} → Bool → Journal D → D
+disk_of is_second j = if is_second then j.second else j.first
+
+-- The call leaves the disk that doesn't count, to the last of what is known of it: only the other one takes part. So a
+-- crash in it finds that disk as the calls before have left it.
+abbrev pub LeavesOther : {D : Type 0} → Journal D → Journal D → Type 0
+LeavesOther old new = disk_of (not old.is_second) new ≡ disk_of (not old.is_second) old
+
+-- the call leaves the disk that counted before it
+abbrev pub LeavesCounting : {D : Type 0} → Journal D → Journal D → Type 0
+LeavesCounting old new = disk_of old.is_second new ≡ disk_of old.is_second old
 
 -- the text from before a call, or the one that it makes
 abbrev pub IsOldOrNew : Text → Text → Text → Type 0

@@ -44,7 +44,7 @@ pub struct Unopened<D: Disk> {
 }
 
 impl<D: Disk> Journal<D> {
-    ghost use Rattle.gs_journal.specs.Sound.{counting, text, with_record, failures_of_both, IsSettled, IsOpen, IsSound, IsWithOrWithout, IsOldOrNew, HasReason, HasCheckpointReason, HasReadReason};
+    ghost use Rattle.gs_journal.specs.Sound.{counting, text, with_record, failures_of_both, IsSettled, IsOpen, IsSound, IsWithOrWithout, IsOldOrNew, LeavesOther, LeavesCounting, HasReason, HasCheckpointReason, HasReadReason};
     ghost use Rattle.gs_journal.specs.declared.version.Version.TheVariants.{Two};
 
     /// Opens two disks, whatever a crash or a failure left on them. What a crash has torn behind the records is taken away.
@@ -132,6 +132,7 @@ impl<D: Disk> Journal<D> {
         ensures refused { IfErr result (HasReadReason D.failures self.old self.new) }
         ensures any_moment { IsOpen self.old → LeavesPairs D.moment D.left_since self.old.first self.old.second self.new.first self.new.second
             (λ a b. standing a b ≡ text D.seen self.old) }
+        ensures other { LeavesOther self.old self.new }
     {
         if self.is_failed {
             return Err(Refusal::Device);
@@ -168,6 +169,7 @@ impl<D: Disk> Journal<D> {
         // A crash at any moment of the call leaves the records from before it, with the new one or without.
         ensures any_moment { IsOpen self.old → LeavesPairs D.moment D.left_since self.old.first self.old.second self.new.first self.new.second
             (λ a b. IsWithOrWithout (text D.seen self.old) entry.now (standing a b)) }
+        ensures other { LeavesOther self.old self.new }
     {
         if self.is_failed {
             return Err(Refusal::Device);
@@ -200,6 +202,7 @@ impl<D: Disk> Journal<D> {
         // A crash at any moment of the call leaves the records from before it, or the checkpoint alone.
         ensures any_moment { IsOpen self.old → LeavesPairs D.moment D.left_since self.old.first self.old.second self.new.first self.new.second
             (λ a b. IsOldOrNew (text D.seen self.old) (Two, (9, body.now) ∷ []) (standing a b)) }
+        ensures counting { LeavesCounting self.old self.new }
     {
         if self.is_failed {
             return Err(Refusal::Device);
@@ -236,6 +239,7 @@ impl<D: Disk> Journal<D> {
         ensures cause { HasCause (failures_of_both D.failures self.old) (failures_of_both D.failures self.new) result }
         ensures any_moment { LeavesPairs D.moment D.left_since self.old.first self.old.second self.new.first self.new.second
             (λ a b. IsOldOrNew (text D.seen self.old) (Two, entry.now ∷ []) (standing a b)) }
+        ensures counting { LeavesCounting self.old self.new }
     {
         let end = HEADER + entry.bytes().len();
         if self.is_second {
@@ -264,6 +268,7 @@ impl<D: Disk> Journal<D> {
         ensures cause { HasCause (failures_of_both D.failures self.old) (failures_of_both D.failures self.new) result }
         ensures any_moment { LeavesPairs D.moment D.left_since self.old.first self.old.second self.new.first self.new.second
             (λ a b. IsWithOrWithout (text D.seen self.old) entry.now (standing a b)) }
+        ensures other { LeavesOther self.old self.new }
     {
         if self.is_second {
             append_to(&mut self.second, self.end, entry)?;

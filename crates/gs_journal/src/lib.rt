@@ -14,6 +14,7 @@ mod record;
 mod stage;
 mod start;
 mod stopping;
+mod tearing;
 mod version;
 
 pub use disk::Disk;
@@ -23,4 +24,5 @@ pub use journal::{Journal, Unopened};
 pub use memory::MemoryDisk;
 pub use record::Record;
 pub use stopping::StoppingDisk;
+pub use tearing::TearingDisk;
 pub use version::Version;

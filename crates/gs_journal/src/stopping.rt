@@ -43,7 +43,7 @@ impl<D: Disk> StoppingDisk<D> {
 }
 
 /// Counts a call, and says whether it passes.
-fn takes_call(passing: &mut u64) -> bool
+pub(crate) fn takes_call(passing: &mut u64) -> bool
     ensures counted { passing.new ≡ passing.old - 1 }
     ensures passes { result ≡ not (passing.old == 0) }
 {
