@@ -2,6 +2,8 @@
 #![tactic(auto)]
 
 mod blocks;
+mod counting;
+mod journals;
 mod names;
 
 use gs_base::Refusal;
@@ -25,6 +27,10 @@ enum Part {
     Append,
     /// Whole blocks read.
     Read,
+    /// Records added to a journal.
+    Record,
+    /// The same, and one opening of it.
+    Open,
 }
 
 impl Part {
@@ -36,18 +42,23 @@ impl Part {
             "write" => Some(Part::Write),
             "append" => Some(Part::Append),
             "read" => Some(Part::Read),
+            "record" => Some(Part::Record),
+            "open" => Some(Part::Open),
             _ => None,
         }
     }
 
-    fn run(self, alloc: Global, count: u64) -> Result<(), Refusal> {
+    /// Runs the part so often, and answers how many bytes were written to disks, where it has any.
+    fn run(self, alloc: Global, count: u64) -> Result<u64, Refusal> {
         match self {
-            Part::Build => names::build(alloc, count).map(|_| ()),
-            Part::Copy => names::copy(alloc, count),
-            Part::Digest => blocks::digest(alloc, count),
-            Part::Write => blocks::write(alloc, count),
-            Part::Append => blocks::append(alloc, count),
-            Part::Read => blocks::read(alloc, count),
+            Part::Build => names::build(alloc, count).map(|_| 0),
+            Part::Copy => names::copy(alloc, count).map(|()| 0),
+            Part::Digest => blocks::digest(alloc, count).map(|()| 0),
+            Part::Write => blocks::write(alloc, count).map(|()| 0),
+            Part::Append => blocks::append(alloc, count).map(|()| 0),
+            Part::Read => blocks::read(alloc, count).map(|()| 0),
+            Part::Record => journals::append(alloc, count),
+            Part::Open => journals::open(alloc, count),
         }
     }
 }
@@ -76,7 +87,11 @@ fn main(rt: HostRuntime) -> ExitCode {
         return ExitCode::from(2);
     };
     match part.run(rt.alloc(), count) {
-        Ok(()) => ExitCode::SUCCESS,
+        Ok(0) => ExitCode::SUCCESS,
+        Ok(written) => {
+            let _ = eprintln!(rt; "{written} bytes written");
+            ExitCode::SUCCESS
+        }
         Err(refusal) => {
             let _ = eprintln!(rt; "gs_bench: {refusal}");
             ExitCode::FAILURE

@@ -1,5 +1,5 @@
 use gs_base::Refusal;
-use gs_journal::{FailingDisk, Journal, MemoryDisk, Record, StoppingDisk};
+use gs_journal::{FailingDisk, Journal, MemoryDisk, Record, StoppingDisk, TearingDisk};
 use std::alloc::Global;
 use std::test::Fail;
 
@@ -100,6 +100,49 @@ fn a_stop_leaves_the_old_records_or_the_new(rt: HostRuntime) -> Result<(), Fail>
         };
         let found = count(alloc, first.into_disk(), second.into_disk())?;
         assert!(rt; found == 1 || (!made && (found == 4 || (!added && found == 3))));
+    }
+    Ok(())
+}
+
+// How many records there are after an append and a checkpoint of three records, where a write of a disk leaves bytes of its
+// own, and how many there may be.
+fn torn(
+    alloc: Global,
+    on_first: u64,
+    on_second: u64,
+    torn: [u8; 40],
+) -> Result<(usize, usize), Refusal> {
+    let entry = Record::new(alloc, 1, &MKDIRS)?;
+    let three = MemoryDisk::new(THREE.to_vec(alloc)?);
+    let first = TearingDisk::new(three, on_first, torn.to_vec(alloc)?);
+    let none = MemoryDisk::new(Vec::new(alloc));
+    let second = TearingDisk::new(none, on_second, torn.to_vec(alloc)?);
+    let Ok(mut journal) = Journal::open(alloc, first, second, 1_000) else {
+        return Ok((3, 3));
+    };
+    let added = journal.append(&entry).is_ok();
+    let made = journal.checkpoint(alloc, &EMPTY).is_ok();
+    let (first, second) = journal.into_disks();
+    let least = if made {
+        1
+    } else if added {
+        4
+    } else {
+        3
+    };
+    Ok((count(alloc, first.into_disk(), second.into_disk())?, least))
+}
+
+#[test]
+fn a_torn_write_leaves_the_old_records_or_the_new(rt: HostRuntime) -> Result<(), Fail> {
+    let alloc = rt.alloc();
+    for calls in 0..20 {
+        for byte in [0, 1, 255] {
+            let (found, least) = torn(alloc, calls, 100, [byte; 40])?;
+            assert!(rt; found == least || (found, least) == (1, 4) || (found, least) == (4, 3));
+            let (found, least) = torn(alloc, 100, calls, [byte; 40])?;
+            assert!(rt; found == least || (found, least) == (1, 4) || (found, least) == (4, 3));
+        }
     }
     Ok(())
 }
