@@ -9,6 +9,7 @@ ghost use Rattle.gs_tree.specs.Sort.{entry_of_leaf};
 ghost use Rattle.gs_tree.specs.Inverses.{TakesBack, IsBlankRow, LeavesChunks, IsChanged, IsRemoved};
 ghost use Rattle.gs_tree.specs.Follows.{Follows, Undoes, TestsPlace, SwapsChunk};
 ghost use Rattle.gs_tree.specs.Listing.{HasVisible, Lists, StandsAs, pairs_of};
+ghost use Rattle.gs_tree.specs.Chunks.{chunks_under, visible_chunks_under};
 
 use crate::inverse::TreeInverse;
 use crate::node::{Leaf, Listed, Node, Sort};
@@ -728,6 +729,31 @@ impl Tree {
         match self.root.find(path.elements()) {
             Some(node) => node.has_visible(),
             None => false,
+        }
+    }
+
+    /// The chunks of the files at and under a path, in the order of the paths, each as often as the files have it. None
+    /// where nothing stands at the path.
+    pub fn chunks_under(&self, alloc: Global, path: &Path) -> Result<Vec<Handle>, AllocError>
+        ensures { IfOk result (λ found. found.items ≡ chunks_under path.now (fin_map.entries self.now)) }
+    {
+        match self.root.find(path.elements()) {
+            Some(node) => node.all_chunks(alloc),
+            None => Ok(Vec::new(alloc)),
+        }
+    }
+
+    /// The same of the files that a snapshot of the path copies: those without a hidden element below it.
+    pub fn visible_chunks_under(
+        &self,
+        alloc: Global,
+        path: &Path,
+    ) -> Result<Vec<Handle>, AllocError>
+        ensures { IfOk result (λ found. found.items ≡ visible_chunks_under path.now (fin_map.entries self.now)) }
+    {
+        match self.root.find(path.elements()) {
+            Some(node) => node.visible_chunks(alloc),
+            None => Ok(Vec::new(alloc)),
         }
     }
 
