@@ -1,19 +1,25 @@
 -- The chunks under a path of a map, from a part that stands there.
 use Rattle.std.proofs.Common.{◌≡◌, ◌&&◌, ◌++◌, ℕ, Bool, true, false, not, cond, T, [], ◌∷◌, map, refl, sym, ap, ◌∙◌, subst}
-use Rattle.std.specs.Prelude.{Option, Some, None}
+use Rattle.std.specs.Prelude.{Option, Some, None, Result, Ok, Err, IfOk, is_some, is_none}
 use Rattle.std.specs.List.{list_any}
 use Rattle.std.specs.Ordering.{is_eq}
 use Rattle.std.specs.FinMap.{FinMap, get, entries, get-entries, entries_sorted, is_sorted}
 use Rattle.std.specs.FinMap.Entries.{where_key, find-where_key, is_sorted-where_key, is_sorted-put, find-put, same_entries}
+use Rattle.gs_base.specs.declared.refusal.Refusal.{Refusal}
+use Rattle.gs_base.specs.declared.refusal.Refusal.TheVariants.{BadPath, NotFound, Exists, NotADirectory, IntoItself, IsRoot}
 use Rattle.gs_path.specs.Path.{Path, path_cmp, path_total, begins}
 use Rattle.gs_path.specs.Element.{is_hidden}
 use Rattle.gs_tree.specs.Entry.{Entry}
-use Rattle.gs_tree.specs.Plain.{Same, after, part_at}
+use Rattle.gs_tree.specs.Plain.{Plain, Same, after, part_at}
 use Rattle.gs_tree.specs.Find.{Rows, at}
-use Rattle.gs_tree.specs.Edits.{same_path, visible}
+use Rattle.gs_tree.specs.Edits.{same_path, visible, snapshot, copied, placed, parent, is_file}
+use Rattle.gs_tree.specs.Inverses.{IsRemoved, removed_chunks}
+use Rattle.gs_tree.specs.Follows.{Follows, Undoes}
+use Rattle.gs_tree.specs.declared.inverse.TreeInverse.{TreeInverse}
+use Rattle.gs_tree.specs.declared.inverse.TreeInverse.TheVariants.{Removed}
 use Rattle.gs_tree.specs.Chunks.{all_chunks, chunks_under, visible_chunks_under, visible_under, by_path, part_chunks}
 use Rattle.gs_tree.proofs.Splice.{begins_parts}
-use Rattle.gs_tree.proofs.Laws.{begins_append}
+use Rattle.gs_tree.proofs.Laws.{begins_append, with_at-append}
 use Rattle.gs_tree.proofs.Reaching.{same_path-is}
 use Rattle.gs_tree.proofs.Depths.{paths_antisymmetric}
 use Rattle.gs_tree.proofs.Gathering.{prefixed, cmp-prefixed, sorted-prefixed, all_chunks-prefixed, from_true}
@@ -114,3 +120,40 @@ chunks_of_copy old new from to same =
     let rows = part_rows to (entries new) in
     let part = λ (q : Path). get-entries new (to ++ q) ∙ sym (at-part_rows to (entries new) q) in
     chunks_under-part new to rows part ∙ sym (visible_under-part old from rows (λ q. sym (same q) ∙ part q))
+
+-- what is answered where a test lets through
+past : {I : Type 0} (b : Bool) (e : Refusal) (rest : Result (Plain ℕ) Refusal) (i : I) (old new : Plain ℕ) → Follows (cond b (Err e) rest) (Ok i) old new → Follows rest (Ok i) old new
+past true e rest i old new h = absurd h
+past false e rest i old new h = h
+
+placed_is : {I : Type 0} (deep : Bool) (m : Plain ℕ) (from to : Path) (all : Plain ℕ) (i : I) (new : Plain ℕ) → Follows (placed deep m from to all) (Ok i) m new → Same new all
+placed_is deep m from to all i new h =
+    let h1 = past (same_path to from) Exists _ i m new h in
+    let h2 = past (begins from to) IntoItself _ i m new h1 in
+    let h3 = past (is_some (m to)) Exists _ i m new h2 in
+    let h4 = past (is_none (m (parent to))) NotFound _ i m new h3 in
+    let h5 = past (is_file (m (parent to))) NotADirectory _ i m new h4 in
+    past deep BadPath (Ok all) i m new h5
+
+-- an accepted snapshot
+pub snapshot_is : {I : Type 0} (is_deep : Path → Bool) (m : Plain ℕ) (from to : Path) (i : I) (new : Plain ℕ) → Follows (snapshot is_deep m from to) (Ok i) m new → Same new (copied from to m)
+snapshot_is is_deep m from to i new h =
+    let h1 = past (same_path from []) IsRoot _ i m new h in
+    let h2 = past (is_none (m from)) NotFound _ i m new h1 in
+    placed_is (is_deep to) m from to (copied from to m) i new h2
+
+-- a snapshot's copy has the chunks that were visible at its source
+pub snapshot_chunks : {I : Type 0} (r : Result I Refusal) (is_deep : Path → Bool) (old new : FinMap path_cmp (Entry ℕ)) (from to : Path) → Follows (snapshot is_deep (get old) from to) r (get old) (get new) → IfOk r (λ _. chunks_under to (entries new) ≡ visible_chunks_under from (entries old))
+snapshot_chunks (Err e) is_deep old new from to h = tt
+snapshot_chunks (Ok i) is_deep old new from to h =
+    let is = snapshot_is is_deep (get old) from to i (get new) h in
+    chunks_of_copy old new from to (λ q. is (to ++ q) ∙ with_at-append to (visible (part_at from (get old))) (get old) q)
+
+-- what a remove answers has the chunks that stood under the path
+pub remove_chunks : (r : Result TreeInverse Refusal) (old : FinMap path_cmp (Entry ℕ)) (p : Path) → IfOk r (λ i. IsRemoved (get old) p i) → IfOk r (λ i. removed_chunks i ≡ chunks_under p (entries old))
+remove_chunks (Err e) old p h = tt
+remove_chunks (Ok i) old p (node, (same, is)) = ap removed_chunks is ∙ sym (chunks_under-part old p node same)
+
+-- and where it is planted again they stand under the path again
+pub planted_chunks : (old new : FinMap path_cmp (Entry ℕ)) (p : Path) (node : Rows ℕ) → Undoes (Removed p node) (get old) (Ok tt) (get new) → chunks_under p (entries new) ≡ removed_chunks (Removed p node)
+planted_chunks old new p node h = chunks_under-part new p node (λ q. h.1 (p ++ q) ∙ with_at-append p (at node) (get old) q)
