@@ -11,4 +11,6 @@ pub mod Makes
 pub mod Depths
 pub mod Removals
 pub mod Chunks
+pub mod Gathering
+pub mod Under
 pub mod Mapped

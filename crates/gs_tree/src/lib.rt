@@ -6,5 +6,5 @@ mod node;
 mod tree;
 
 pub use inverse::TreeInverse;
-pub use node::Listed;
+pub use node::{Listed, Node};
 pub use tree::{Status, Tree};

@@ -12,6 +12,9 @@ ghost use Rattle.gs_tree.specs.Sort.{sort_of, entry_of_leaf};
 ghost use Rattle.gs_tree.specs.Inverses.{row_of, IsBlankRow};
 ghost use Rattle.gs_tree.specs.Follows.{Sown};
 ghost use Rattle.gs_tree.specs.Listing.{IsListing, HasVisible};
+ghost use Rattle.std.specs.FinMap.{is_sorted};
+ghost use Rattle.gs_path.specs.Path.{path_cmp};
+ghost use Rattle.gs_tree.specs.Chunks.{all_chunks, part_chunks, visible_under, kept_rows};
 
 use gs_base::{Handle, Refusal};
 use gs_path::Name;
@@ -388,6 +391,44 @@ impl Node {
             Kind::File(handles) => Some(handles),
             Kind::Dir(_) => None,
         }
+    }
+
+    /// The chunks of all files at and under this, in the order of the paths.
+    pub fn all_chunks(&self, alloc: Global) -> Result<Vec<Handle>, AllocError>
+        ensures { IfOk result (λ found. found.items ≡ part_chunks self.now) }
+    {
+        let mut found = Vec::new(alloc);
+        self.collect(&mut found, true)?;
+        Ok(found)
+    }
+
+    /// The chunks of the files at and under this that have no hidden element below this, in the order of the paths.
+    pub fn visible_chunks(&self, alloc: Global) -> Result<Vec<Handle>, AllocError>
+        ensures { IfOk result (λ found. found.items ≡ part_chunks (visible_under [] self.now)) }
+    {
+        let mut found = Vec::new(alloc);
+        self.collect(&mut found, false)?;
+        Ok(found)
+    }
+
+    /// Adds the chunks of all files, or of the visible ones.
+    fn collect(&self, found: &mut Vec<Handle>, all: bool) -> Result<(), AllocError>
+        ensures chunks { OnOk result (found.new.items ≡ found.old.items ++ all_chunks (kept_rows all self.now)) }
+        ensures rise { OnOk result (is_sorted path_cmp (kept_rows all self.now) ≡ true) }
+    {
+        let children = match &self.kind {
+            Kind::File(handles) => {
+                found.extend_from_slice(handles)?;
+                return Ok(());
+            }
+            Kind::Dir(children) => children,
+        };
+        for (name, child) in children {
+            if all || !name.is_hidden() {
+                child.collect(found, all)?;
+            }
+        }
+        Ok(())
     }
 
     /// The same tree, in memory of its own.

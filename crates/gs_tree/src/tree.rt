@@ -6,9 +6,10 @@ ghost use Rattle.gs_tree.specs.Plain.{Same, IsFree, with_at, part_at, rooted};
 ghost use Rattle.gs_tree.specs.Entry.{Dir};
 ghost use Rattle.gs_tree.specs.Edits.{mkdirs, create, rename, hide, unhide, remove, add_chunk, set_chunk, snapshot, visible, beside, renamed_beside, old_name, move_to, made, target_of, is_file, parent, last};
 ghost use Rattle.gs_tree.specs.Sort.{entry_of_leaf};
-ghost use Rattle.gs_tree.specs.Inverses.{TakesBack, IsBlankRow, LeavesChunks, IsChanged, IsRemoved};
+ghost use Rattle.gs_tree.specs.Inverses.{TakesBack, IsBlankRow, LeavesChunks, IsChanged, IsRemoved, takes_memory, removed_chunks};
 ghost use Rattle.gs_tree.specs.Follows.{Follows, Undoes, TestsPlace, SwapsChunk};
 ghost use Rattle.gs_tree.specs.Listing.{HasVisible, Lists, StandsAs, pairs_of};
+ghost use Rattle.gs_tree.specs.Chunks.{chunks_under, visible_chunks_under};
 
 use crate::inverse::TreeInverse;
 use crate::node::{Leaf, Listed, Node, Sort};
@@ -197,7 +198,8 @@ fn put_copy(root: &mut Node, alloc: Global, to: &Path, copy: Node) -> Result<Tre
 
 /// Takes out a copy.
 fn drop_copy(root: &mut Node, path: &Path) -> Result<(), Refusal>
-    ensures { Undoes (TreeInverse.Copied path.now) (at root.old) result (at root.new) }
+    ensures undo { Undoes (TreeInverse.Copied path.now) (at root.old) result (at root.new) }
+    ensures memory { IfErr result (λ e. e ≡ Refusal.BadLine) }
 {
     if path.elements().is_empty() {
         return Err(Refusal::BadLine);
@@ -390,7 +392,8 @@ fn add_chunk_in(
 
 /// Takes out the last chunk of a file.
 fn drop_chunk(root: &mut Node, alloc: Global, path: &Path) -> Result<(), Refusal>
-    ensures { Undoes (TreeInverse.Added path.now) (at root.old) result (at root.new) }
+    ensures undo { Undoes (TreeInverse.Added path.now) (at root.old) result (at root.new) }
+    ensures memory { IfErr result (λ e. e ≡ Refusal.BadLine) }
 {
     match root.sort_at(path.elements()) {
         Sort::File => {}
@@ -459,7 +462,8 @@ fn reset_chunk(
     index: usize,
     chunk: Handle,
 ) -> Result<(), Refusal>
-    ensures { Undoes (TreeInverse.Changed path.now index chunk) (at root.old) result (at root.new) }
+    ensures undo { Undoes (TreeInverse.Changed path.now index chunk) (at root.old) result (at root.new) }
+    ensures memory { IfErr result (λ e. e ≡ Refusal.BadLine) }
 {
     match root.sort_at(path.elements()) {
         Sort::File => {}
@@ -483,7 +487,8 @@ fn with_name(alloc: Global, path: &Path, name: &Name) -> Result<Path, AllocError
 
 /// Takes out what was made, if it stands there and nothing else under it.
 fn unmake(root: &mut Node, path: &Path, above: usize) -> Result<(), Refusal>
-    ensures { Undoes (TreeInverse.Made path.now above) (at root.old) result (at root.new) }
+    ensures undo { Undoes (TreeInverse.Made path.now above) (at root.old) result (at root.new) }
+    ensures memory { IfErr result (λ e. e ≡ Refusal.BadLine) }
 {
     if above >= path.elements().len() {
         return Ok(());
@@ -648,6 +653,7 @@ impl Tree {
         ensures edit { Follows (remove (fin_map.get self.old) path.now) result (fin_map.get self.old) (fin_map.get self.new) }
         ensures undo { IfOk result (λ i. TakesBack i (fin_map.get self.old) (fin_map.get self.new)) }
         ensures inverse { IfOk result (λ i. IsRemoved (fin_map.get self.old) path.now i) }
+        ensures chunks { IfOk result (λ i. removed_chunks i ≡ chunks_under path.now (fin_map.entries self.old)) }
     {
         remove_in(&mut self.root, self.alloc, path)
     }
@@ -681,13 +687,16 @@ impl Tree {
         ensures edit { Follows (snapshot (is_copied_too_deep (fin_map.entries self.old) from.now) (fin_map.get self.old) from.now to.now) result (fin_map.get self.old) (fin_map.get self.new) }
         ensures undo { IfOk result (λ i. TakesBack i (fin_map.get self.old) (fin_map.get self.new)) }
         ensures inverse { IfOk result (λ i. i ≡ TreeInverse.Copied to.now) }
+        ensures chunks { IfOk result (λ _. chunks_under to.now (fin_map.entries self.new) ≡ visible_chunks_under from.now (fin_map.entries self.old)) }
     {
         snapshot_in(&mut self.root, self.alloc, from, to)
     }
 
-    /// Takes an edit back. BadLine where the inverse doesn't fit.
+    /// Takes an edit back. BadLine where the inverse doesn't fit; Memory only where something is moved back or planted
+    /// again.
     pub fn undo(&mut self, inverse: &TreeInverse) -> Result<(), Refusal>
-        ensures { Undoes inverse.now (fin_map.get self.old) result (fin_map.get self.new) }
+        ensures undo { Undoes inverse.now (fin_map.get self.old) result (fin_map.get self.new) }
+        ensures memory { IfErr result (λ e. takes_memory inverse.now ≡ false → e ≡ Refusal.BadLine) }
     {
         match inverse {
             TreeInverse::Made(path, above) => unmake(&mut self.root, path, *above),
@@ -728,6 +737,31 @@ impl Tree {
         match self.root.find(path.elements()) {
             Some(node) => node.has_visible(),
             None => false,
+        }
+    }
+
+    /// The chunks of the files at and under a path, in the order of the paths, each as often as the files have it. None
+    /// where nothing stands at the path.
+    pub fn chunks_under(&self, alloc: Global, path: &Path) -> Result<Vec<Handle>, AllocError>
+        ensures { IfOk result (λ found. found.items ≡ chunks_under path.now (fin_map.entries self.now)) }
+    {
+        match self.root.find(path.elements()) {
+            Some(node) => node.all_chunks(alloc),
+            None => Ok(Vec::new(alloc)),
+        }
+    }
+
+    /// The same of the files that a snapshot of the path copies: those without a hidden element below it.
+    pub fn visible_chunks_under(
+        &self,
+        alloc: Global,
+        path: &Path,
+    ) -> Result<Vec<Handle>, AllocError>
+        ensures { IfOk result (λ found. found.items ≡ visible_chunks_under path.now (fin_map.entries self.now)) }
+    {
+        match self.root.find(path.elements()) {
+            Some(node) => node.visible_chunks(alloc),
+            None => Ok(Vec::new(alloc)),
         }
     }
 

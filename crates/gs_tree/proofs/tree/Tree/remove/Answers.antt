@@ -7,6 +7,7 @@ use Rattle.gs_tree.specs.Edits.{remove}
 use Rattle.gs_tree.specs.Follows.{Follows}
 use Rattle.gs_tree.specs.Inverses.{TakesBack, IsRemoved}
 use Rattle.gs_tree.proofs.Moves.{seen}
+use Rattle.gs_tree.proofs.Under.{remove_chunks}
 use Rattle.gs_tree.proofs.tree.Tree.remove.Goals as goal
 
 pub returns-clause-edit : goal.returns-clause-edit
@@ -25,3 +26,6 @@ pub returns-clause-inverse : goal.returns-clause-inverse
 returns-clause-inverse c =
     let old : at c.self.inside.root ≡ get c.args.self.now = sym (seen c.self.inside.root) ∙ ap get c.self.view_is in
     subst (λ (m : Plain ℕ). IfOk c.remove_in.result (λ i. IsRemoved m c.args.path.now i)) old c.remove_in.ensures.inverse
+
+pub returns-clause-chunks : goal.returns-clause-chunks
+returns-clause-chunks c = remove_chunks c.remove_in.result c.args.self.now c.args.path.now (returns-clause-inverse c)
