@@ -247,15 +247,15 @@ fn undo_remove(
     requires { inverse.now ≡ TreeInverse.Removed path.now node.now }
     ensures { TakesOneBack inverse.now (names_of tree.old refs.old) result (names_of tree.new refs.new) }
 {
-    let chunks = node.all_chunks(alloc)?;
-    match refs.raise_each(&chunks) {
+    let planted = node.all_chunks(alloc)?;
+    match refs.raise_each(&planted) {
         Ok(()) => {}
         Err(_) => return Err(Refusal::BadLine),
     }
     match tree.undo(inverse) {
         Ok(()) => Ok(()),
         Err(refusal) => {
-            let _ = refs.lower_each(&chunks);
+            let _ = refs.lower_each(&planted);
             Err(refusal)
         }
     }
@@ -272,15 +272,15 @@ fn undo_snapshot(
     requires { inverse.now ≡ TreeInverse.Copied path.now }
     ensures { TakesOneBack inverse.now (names_of tree.old refs.old) result (names_of tree.new refs.new) }
 {
-    let chunks = tree.chunks_under(alloc, path)?;
-    match refs.lower_each(&chunks) {
+    let copied = tree.chunks_under(alloc, path)?;
+    match refs.lower_each(&copied) {
         Ok(()) => {}
         Err(_) => return Err(Refusal::BadLine),
     }
     match tree.undo(inverse) {
         Ok(()) => Ok(()),
         Err(refusal) => {
-            let _ = refs.raise_each(&chunks);
+            let _ = refs.raise_each(&copied);
             Err(refusal)
         }
     }
