@@ -1,17 +1,20 @@
 -- The counts of a list's chunks, raised and lowered one after the other.
-use Rattle.std.proofs.Common.{◌≡◌, ℕ, ◌+◌, ◌-◌, ◌<◌, ◌≤◌, ◌++◌, ◌∷◌, ◌&&◌, ◌==◌, [], Bool, true, false, cond, List, nat_lt, Option, Some, None, Result, Ok, Err, refl, sym, ap, ◌∙◌, arith, take, drop, drop-cons, length, get_or, suc, add-one}
+use Rattle.std.proofs.Common.{◌≡◌, ℕ, ◌+◌, ◌-◌, ◌<◌, ◌≤◌, T, ◌++◌, ◌∷◌, ◌&&◌, ◌==◌, [], Bool, true, false, cond, List, nat_lt, Option, Some, None, Result, Ok, Err, refl, sym, ap, ◌∙◌, arith, take, drop, drop-cons, length, get_or, suc, add-one}
 use Rattle.std.proofs.Math.Seq.{take-suc}
 use Rattle.std.proofs.lemmas.List.Folds.{list_all-append}
-use Rattle.std.specs.Prelude.{is_some}
+use Rattle.std.specs.Prelude.{is_some, is_ok, MatchBool}
 use Rattle.std.specs.List.{list_all}
 use Rattle.std.proofs.lemmas.Bool.{and_parts, leb-true, ltb-true, lt-ltb}
 use Rattle.std.proofs.lemmas.Bool.Decides.{nat_tests}
 use Rattle.std.specs.Cmp.{Equal-is, nat_cmp_total, eq_by_cmp_equiv}
 use Rattle.std.specs.FinMap as fin
-use Rattle.std.specs.Ordering.{nat_cmp, eq_by_cmp}
+use Rattle.std.specs.FinMap.Entries.{below_all, is_sorted}
+use Rattle.std.specs.Ordering.{nat_cmp, eq_by_cmp, is_lt, is_eq}
+use Rattle.std.specs.declared.cmp.Ordering.{Ordering}
+use Rattle.std.specs.declared.cmp.Ordering.TheVariants.{Less, Equal, Greater}
 use Rattle.gs_base.specs.declared.refusal.Refusal.{Refusal}
 use Rattle.gs_base.specs.declared.refusal.Refusal.TheVariants.{Exhausted, BadLine}
-use Rattle.gs_refs.specs.Counts.{Counts, last_count, raised_listed, raised_listed_from, lowered, lowered_from, raised_each, lowered_each, and_then, occurrences, has_count}
+use Rattle.gs_refs.specs.Counts.{Counts, last_count, raised_listed, raised_listed_from, lowered, lowered_from, raised_each, lowered_each, and_then, occurrences, has_count, count_or_zero, is_zero, IsCountOf}
 
 abbrev same : ℕ → ℕ → Bool
 same q h = eq_by_cmp nat_cmp q h
@@ -272,3 +275,103 @@ take_next hs i h below is = ap (λ k. take k hs) (add-one i) ∙ take-suc hs i h
 
 pub drop_next : (hs : List ℕ) (i h : ℕ) → i < length hs → h ≡ get_or hs i h → drop i hs ≡ h ∷ drop (i + 1) hs
 drop_next hs i h below is = drop-cons hs i h below ∙ ap (λ x. x ∷ drop (suc i) hs) (sym is) ∙ ap (λ k. h ∷ drop k hs) (sym (add-one i))
+
+-- one reference less of a handle, seen at each
+less_at : (m : Counts) (h k q : ℕ) → 0 < k → fin.get m h ≡ Some k → count_or_zero (fin.get m q) ≡ cond (same q h) 1 0 + count_or_zero (fin.get (fin.insert m h (k - 1)) q)
+less_at m h k q some e =
+    elim (same q h) as (λ b. same q h ≡ b → count_or_zero (fin.get m q) ≡ cond b 1 0 + count_or_zero (cond b (Some (k - 1)) (fin.get m q))) [
+      | true ↦ λ b. ap count_or_zero (ap (fin.get m) (same-is q h b) ∙ e) ∙ omega (arith, some)
+      | false ↦ λ b. omega arith
+    ] refl
+    ∙ ap (λ v. cond (same q h) 1 0 + count_or_zero v) (sym (fin.get-insert nat_cmp_total m h (k - 1) q))
+
+-- a count is the sum of what is taken from it and what is left
+pub lowered-sum : (hs : List ℕ) (m n : Counts) (q : ℕ) → lowered_each m hs ≡ Ok n → count_or_zero (fin.get m q) ≡ occurrences q hs + count_or_zero (fin.get n q)
+lowered-sum [] m n q is = ap (λ c. count_or_zero (fin.get c q)) (ok_is m n is) ∙ omega arith
+lowered-sum (h ∷ hs) m n q is =
+    let s = step_down m n h hs is in
+    less_at m h s.had q s.some s.count ∙ ap (λ k. cond (same q h) 1 0 + k) (lowered-sum hs (fin.insert m h (s.had - 1)) n q s.rest) ∙ omega arith
+
+-- what has a reference
+record Referred (v : Option ℕ) : Type 0 where
+  had : ℕ
+  is : v ≡ Some had
+  some : 0 < had
+
+referred : (v : Option ℕ) → 0 < count_or_zero v → Referred v
+referred None h = absurd (omega (arith, h))
+referred (Some k) h = record { had = k; is = refl; some = h }
+
+-- what stands in no list more often than its count says can be lowered
+pub enough : (hs : List ℕ) (m : Counts) → ((q : ℕ) → occurrences q hs ≤ count_or_zero (fin.get m q)) → is_ok (lowered_each m hs) ≡ true
+enough [] m few = refl
+enough (h ∷ hs) m few =
+    let first : 0 < count_or_zero (fin.get m h) = (let f = few h in let one : occurrences h (h ∷ hs) ≡ 1 + occurrences h hs = ap (λ b. cond b 1 0 + occurrences h hs) (same_itself h) in omega arith) in
+    let r = referred (fin.get m h) first in
+    let some = r.some in
+    let not_none : (r.had == 0) ≡ false = grind (arith, nat_tests) in
+    ap (λ v. is_ok (and_then (lowered_from m h v) (λ c. lowered_each c hs))) r.is
+    ∙ ap (λ b. is_ok (and_then (cond b (Err BadLine) (Ok (fin.insert m h (r.had - 1)))) (λ c. lowered_each c hs))) not_none
+    ∙ enough hs (fin.insert m h (r.had - 1)) (λ q. (let f = few q in let l = less_at m h r.had q r.some r.is in omega arith))
+
+-- no handle has a count above zero
+abbrev AllZero : Counts → Type 0
+AllZero m = (q : ℕ) → count_or_zero (fin.get m q) ≡ 0
+
+zero_found : (es : List (ℕ × ℕ)) (q : ℕ) → list_all (λ e. e.1 == 0) es ≡ true → count_or_zero (fin.find nat_cmp q es) ≡ 0
+zero_found [] q all = refl
+zero_found (e ∷ es) q all =
+    let parts = and_parts (e.1 == 0) (list_all (λ f. f.1 == 0) es) all in
+    let here : e.1 ≡ 0 = (let p = parts.0 in grind (arith, nat_tests)) in
+    let there = zero_found es q parts.1 in
+    elim (same q e.0) as (λ b. count_or_zero (cond b (Some e.1) (fin.find nat_cmp q es)) ≡ 0) [
+      | true ↦ here
+      | false ↦ there
+    ]
+
+pub zero_at : (m : Counts) → is_zero m ≡ true → AllZero m
+zero_at m all q = ap count_or_zero (fin.get-entries m q) ∙ zero_found (fin.entries m) q all
+
+t_true : (b : Bool) → T b → b ≡ true
+t_true true h = refl
+t_true false h = absurd h
+
+not_same : (o : Ordering) → is_lt o ≡ true → is_eq o ≡ false
+not_same Less h = refl
+not_same Equal h = absurd (cc)
+not_same Greater h = absurd (cc)
+
+-- a handle before all of a list isn't found there
+not_below : (es : List (ℕ × ℕ)) (x : ℕ) → below_all nat_cmp x es ≡ true → fin.find nat_cmp x es ≡ None
+not_below [] x h = refl
+not_below (e ∷ es) x h =
+    let parts = and_parts (is_lt (nat_cmp x e.0)) (below_all nat_cmp x es) h in
+    ap (λ b. cond b (Some e.1) (fin.find nat_cmp x es)) (not_same (nat_cmp x e.0) parts.0) ∙ not_below es x parts.1
+
+zeros : (es : List (ℕ × ℕ)) → is_sorted nat_cmp es ≡ true → ((q : ℕ) → count_or_zero (fin.find nat_cmp q es) ≡ 0) → list_all (λ e. e.1 == 0) es ≡ true
+zeros [] sorted none = refl
+zeros (e ∷ es) sorted none =
+    let parts = and_parts (below_all nat_cmp e.0 es) (is_sorted nat_cmp es) sorted in
+    let here : e.1 ≡ 0 = ap (λ b. count_or_zero (cond b (Some e.1) (fin.find nat_cmp e.0 es))) (sym (same_itself e.0)) ∙ none e.0 in
+    let test : (e.1 == 0) ≡ true = grind (arith, nat_tests) in
+    ap (λ b. b && list_all (λ f. f.1 == 0) es) test
+    ∙ zeros es parts.1 (λ q. later e es q parts.0 (same q e.0) refl (none q))
+  where
+    later : (e : ℕ × ℕ) (es : List (ℕ × ℕ)) (q : ℕ) → below_all nat_cmp e.0 es ≡ true → (b : Bool) → same q e.0 ≡ b → count_or_zero (cond b (Some e.1) (fin.find nat_cmp q es)) ≡ 0 → count_or_zero (fin.find nat_cmp q es) ≡ 0
+    later e es q below true t h = ap (λ k. count_or_zero (fin.find nat_cmp k es)) (same-is q e.0 t) ∙ ap count_or_zero (not_below es e.0 below)
+    later e es q below false t h = h
+
+pub zero_everywhere : (m : Counts) → AllZero m → is_zero m ≡ true
+zero_everywhere m none = zeros (fin.entries m) (t_true _ (fin.entries_sorted m)) (λ q. ap count_or_zero (sym (fin.get-entries m q)) ∙ none q)
+
+-- the counts are a list's where it can be taken from them and leaves none
+pub is_count_of : (hs : List ℕ) (m n : Counts) → lowered_each m hs ≡ Ok n → MatchBool (is_zero n) (IsCountOf hs m) (IsCountOf hs m → ⊥)
+is_count_of hs m n is = each (is_zero n) refl
+  where
+    each : (b : Bool) → is_zero n ≡ b → MatchBool b (IsCountOf hs m) (IsCountOf hs m → ⊥)
+    each true e = λ q. lowered-sum hs m n q is ∙ ap (λ k. occurrences q hs + k) (zero_at n e q) ∙ omega arith
+    each false e = λ same_counts. (let t : true ≡ false = sym (zero_everywhere n (λ q. (let s = lowered-sum hs m n q is in let c = same_counts q in omega arith))) ∙ e in cc)
+
+pub isnt_count_of : (hs : List ℕ) (m : Counts) (e : Refusal) → lowered_each m hs ≡ Err e → IsCountOf hs m → ⊥
+isnt_count_of hs m e refused same_counts =
+    let t : true ≡ false = sym (enough hs m (λ q. (let c = same_counts q in omega arith))) ∙ ap is_ok refused in cc

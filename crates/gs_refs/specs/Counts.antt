@@ -62,6 +62,18 @@ abbrev pub occurrences : ℕ → List ℕ → ℕ
 occurrences handle [] = 0
 occurrences handle (h ∷ hs) = cond (eq_by_cmp nat_cmp handle h) 1 0 + occurrences handle hs
 
+abbrev pub count_or_zero : Option ℕ → ℕ
+count_or_zero None = 0
+count_or_zero (Some n) = n
+
+-- each handle's count is how often it stands in a list; one that doesn't stand there may be listed without references
+abbrev pub IsCountOf : List ℕ → Counts → Type 0
+IsCountOf hs m = (handle : ℕ) → count_or_zero (fin.get m handle) ≡ occurrences handle hs
+
+-- no listed handle has references
+abbrev pub is_zero : Counts → Bool
+is_zero m = list_all (λ e. e.1 == 0) (fin.entries m)
+
 -- without a listed handle that has no references
 abbrev pub taken_from : Counts → ℕ → Option ℕ → Result Counts Refusal
 taken_from m handle None = Err BadLine

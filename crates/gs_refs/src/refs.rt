@@ -1,6 +1,6 @@
-ghost use Rattle.std.specs.Prelude.{◌≡◌, IfOk, IfSome, IsSome, OnOk, OnErr, Some, None, Ok, is_none, is_ok, true};
+ghost use Rattle.std.specs.Prelude.{◌≡◌, IfOk, IfSome, IsSome, OnOk, OnErr, Some, None, Ok, MatchBool, is_none, is_ok, true};
 ghost use Rattle.std.specs.FinMap as fin;
-ghost use Rattle.gs_refs.specs.Counts.{raised, lowered, raised_listed, raised_each, lowered_each, has_count, taken_out, put_back, unlisted, taken_each, put_each, without_each, with_each, is_at_zero, ascends, ascends_from, Follows, FollowsOrMemory, orphans, rises, rises_from, made_of, GivesOrMemory};
+ghost use Rattle.gs_refs.specs.Counts.{raised, lowered, raised_listed, raised_each, lowered_each, has_count, IsCountOf, is_zero, taken_out, put_back, unlisted, taken_each, put_each, without_each, with_each, is_at_zero, ascends, ascends_from, Follows, FollowsOrMemory, orphans, rises, rises_from, made_of, GivesOrMemory};
 ghost use Rattle.std.specs.List.{list_all};
 
 use gs_base::{Handle, Refusal};
@@ -170,6 +170,17 @@ impl Refs {
         Ok(())
     }
 
+    /// Whether the count of each chunk is how often it stands in a list. It copies the counts.
+    pub fn counts(&self, alloc: Global, handles: &[Handle]) -> Result<bool, AllocError>
+        ensures { IfOk result (λ same. MatchBool same (IsCountOf handles.now self.now) (IsCountOf handles.now self.now → ⊥)) }
+    {
+        let mut rest = self.copy(alloc)?;
+        match rest.lower_each(handles) {
+            Ok(()) => Ok(rest.is_zero()),
+            Err(_) => Ok(false),
+        }
+    }
+
     /// The listed chunks without references, ascending.
     pub fn orphans(&self, alloc: Global) -> Result<Vec<Handle>, AllocError>
         ensures { IfOk result (λ found. found.items ≡ orphans self.now) }
@@ -260,6 +271,18 @@ impl Refs {
         for handle in handles {
             let _ = self.raise_listed(*handle);
         }
+    }
+
+    /// Whether no listed chunk has references.
+    fn is_zero(&self) -> bool
+        ensures { result ≡ is_zero self.now }
+    {
+        for (_, count) in self.counts.iter() {
+            if *count != 0 {
+                return false;
+            }
+        }
+        true
     }
 
     /// Whether each chunk of a list is listed without references.

@@ -67,3 +67,15 @@ fn counts_the_chunks_of_a_list(rt: HostRuntime) -> Result<(), Fail> {
     assert_eq!(rt; refs.count(second), Some(u32::MAX - 1));
     Ok(())
 }
+
+#[test]
+fn counts_what_a_list_has(rt: HostRuntime) -> Result<(), Fail> {
+    let alloc = rt.alloc();
+    let first = Handle::first();
+    let second = first.next()?;
+    let refs = Refs::of(alloc, &[(first, 2), (second, 0)])?;
+    assert!(rt; refs.counts(alloc, &[first, first])?);
+    assert!(rt; !refs.counts(alloc, &[first])?);
+    assert!(rt; !refs.counts(alloc, &[first, first, second])?);
+    Ok(())
+}
