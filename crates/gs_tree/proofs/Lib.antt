@@ -13,4 +13,5 @@ pub mod Removals
 pub mod Chunks
 pub mod Gathering
 pub mod Under
+pub mod Building
 pub mod Mapped

@@ -3,7 +3,7 @@ ghost use Rattle.std.specs.List.{list_all, list_any};
 ghost use Rattle.std.specs.BTreeMap.{keys, Updates, IsOrdered};
 ghost use Rattle.gs_path.specs.Element.{is_hidden};
 ghost use Rattle.gs_path.specs.Path.{Path as AnyPath, begins, same_name, name_cmp};
-ghost use Rattle.gs_tree.specs.Entry.{Dir, chunks_of};
+ghost use Rattle.gs_tree.specs.Entry.{Dir, File, chunks_of};
 ghost use Rattle.gs_tree.specs.Plain.{with_at, without, IsFree, Same};
 ghost use Rattle.gs_tree.specs.Find.{at, IsPartAt, DirsAbove, IsBelow};
 ghost use Rattle.gs_tree.specs.Edits.{moved, is_dir, is_file, chunks_in, with_chunks, visible};
@@ -103,6 +103,16 @@ impl Node {
             Leaf::File => Kind::File(Vec::new(alloc)),
         };
         Node { kind, reach: 0 }
+    }
+
+    /// A file of these chunks.
+    pub fn file(alloc: Global, chunks: &[Handle]) -> Result<Node, AllocError>
+        ensures { IfOk result (λ node. node ≡ ([], File chunks.now) ∷ []) }
+    {
+        Ok(Node {
+            kind: Kind::File(Vec::from_slice(alloc, chunks)?),
+            reach: 0,
+        })
     }
 
     /// The least number that is known for the lengths of the paths below, or 255.
