@@ -26,7 +26,7 @@ use Rattle.gs_tree.proofs.Reaching.{same_path-is}
 use Rattle.gs_tree.proofs.Depths.{paths_antisymmetric}
 use Rattle.gs_tree.proofs.Gathering.{both, first, second, is_true, from_true}
 
-less : (o : Ordering) → is_lt o ≡ true → o ≡ Less
+pub less : (o : Ordering) → is_lt o ≡ true → o ≡ Less
 less Less h = refl
 less Equal h = absurd (cc)
 less Greater h = absurd (cc)

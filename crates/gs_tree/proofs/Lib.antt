@@ -14,4 +14,6 @@ pub mod Chunks
 pub mod Gathering
 pub mod Under
 pub mod Building
+pub mod Entering
+pub mod Root
 pub mod Mapped

@@ -1,5 +1,5 @@
 -- A tree as the list of what stands below its root, and which lists are a tree.
-use Rattle.std.specs.Prelude.{◌≡◌, ◌⊎◌, ◌++◌, ◌&&◌, ℕ, Bool, true, false, List, [], ◌∷◌, map, length, drop, replicate, codes, nat_le, Result, Ok, Err, None, is_some, refl}
+use Rattle.std.specs.Prelude.{◌≡◌, ◌⊎◌, ◌++◌, ◌&&◌, ℕ, Bool, true, false, List, [], ◌∷◌, map, length, replicate, codes, nat_le, Result, Ok, Err, None, is_some, refl}
 use Rattle.std.specs.List.{list_all}
 use Rattle.std.specs.Ordering.{is_lt}
 use Rattle.std.specs.declared.cmp.Ordering.TheVariants.{Less}
@@ -31,7 +31,8 @@ rooted_rows rows = ([], Dir) ∷ rows
 
 -- all rows but the first, which is the root's
 abbrev pub below_root : {A : Type 0} → Rows A → Rows A
-below_root rows = drop 1 rows
+below_root [] = []
+below_root (r ∷ rows) = rows
 
 -- each path with a front
 abbrev pub prefixed : {A : Type 0} → Path → Rows A → Rows A

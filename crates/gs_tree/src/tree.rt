@@ -10,7 +10,8 @@ ghost use Rattle.gs_tree.specs.Inverses.{TakesBack, IsBlankRow, LeavesChunks, Is
 ghost use Rattle.gs_tree.specs.Follows.{Follows, Undoes, TestsPlace, SwapsChunk};
 ghost use Rattle.gs_tree.specs.Listing.{HasVisible, Lists, StandsAs, pairs_of};
 ghost use Rattle.gs_tree.specs.Chunks.{chunks_under, visible_chunks_under};
-ghost use Rattle.gs_tree.specs.Build.{rows_of_entries, path_of_entry, kind_of_entry, IsUpTo, AddsLast, BuildsNode, Builds};
+ghost use Rattle.std.specs.List.{list_all};
+ghost use Rattle.gs_tree.specs.Build.{rooted_rows, is_short, is_tree, rows_of_entries, path_of_entry, kind_of_entry, IsUpTo, AddsLast, BuildsNode, Builds};
 
 use crate::entry::TreeEntry;
 use crate::inverse::TreeInverse;
@@ -629,6 +630,12 @@ impl Model for Tree {
     ghost coded = { fin_map.code coded_path coded_entry };
 
     ghost view = { λ a. fin_map.from_entries a.root };
+
+    ghost use Rattle.std.specs.Prelude.{◌≡◌, [], Some};
+    ghost use Rattle.gs_tree.specs.Find.{at};
+    ghost use Rattle.gs_tree.specs.Entry.{Dir};
+
+    ghost invariant = { λ a. at a.root [] ≡ Some Dir };
 }
 
 impl Tree {
@@ -807,6 +814,17 @@ impl Tree {
             Some(node) => node.visible_chunks(alloc),
             None => Ok(Vec::new(alloc)),
         }
+    }
+
+    /// What stands at each path but the root, in the order of the paths.
+    pub fn entries(&self, alloc: Global) -> Result<Vec<TreeEntry>, AllocError>
+        ensures rows { IfOk result (λ listed. rooted_rows (rows_of_entries listed.items) ≡ fin_map.entries self.now) }
+        ensures tree { IfOk result (λ listed. list_all (λ r. is_short r.0) (fin_map.entries self.now) ≡ is_tree (rows_of_entries listed.items)) }
+    {
+        let mut listed = Vec::new(alloc);
+        self.root
+            .list_below(alloc, &Path::root(alloc), &mut listed)?;
+        Ok(listed)
     }
 
     /// The tree of these entries and the root. BadLine where they aren't those of a tree: the paths have to rise, the
