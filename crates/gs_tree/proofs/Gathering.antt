@@ -1,5 +1,5 @@
 -- The chunks of a node's children, one after another, and that the rows of a node rise.
-use Rattle.std.proofs.Common.{◌≡◌, ◌&&◌, ◌||◌, ◌++◌, ℕ, Bool, true, false, not, cond, T, List, [], ◌∷◌, map, refl, sym, ap, ◌∙◌, subst, append_assoc, append-nil}
+use Rattle.std.proofs.Common.{◌≡◌, ◌&&◌, ◌||◌, ◌++◌, ℕ, Bool, true, false, not, cond, T, List, [], ◌∷◌, refl, sym, ap, ◌∙◌, subst, append_assoc, append-nil}
 use Rattle.std.specs.Prelude.{Some}
 use Rattle.std.specs.declared.cmp.Ordering.TheVariants.{Less}
 use Rattle.std.specs.Ordering.{is_lt, ordering_then}
@@ -18,6 +18,7 @@ use Rattle.gs_tree.specs.Find.{Rows}
 use Rattle.gs_tree.specs.Rows.{under, joined}
 use Rattle.gs_tree.specs.Edits.{chunks_in}
 use Rattle.gs_tree.specs.Chunks.{all_chunks, kept_rows}
+use Rattle.gs_tree.specs.Build.{prefixed}
 
 pub both : (a b : Bool) → T a → T b → T (a && b)
 both true b p q = q
@@ -41,10 +42,6 @@ from_true b h = subst T (sym h) tt
 pub all_chunks-append : {A : Type 0} (a b : Rows A) → all_chunks (a ++ b) ≡ all_chunks a ++ all_chunks b
 all_chunks-append [] b = refl
 all_chunks-append (r ∷ a) b = ap (λ l. chunks_in (Some r.1) ++ l) (all_chunks-append a b) ∙ sym (append_assoc (chunks_in (Some r.1)) (all_chunks a) (all_chunks b))
-
--- each path with a front
-abbrev pub prefixed : {A : Type 0} → Path → Rows A → Rows A
-prefixed p rows = map (λ r. (p ++ r.0, r.1)) rows
 
 pub all_chunks-prefixed : {A : Type 0} (p : Path) (rows : Rows A) → all_chunks (prefixed p rows) ≡ all_chunks rows
 all_chunks-prefixed p [] = refl

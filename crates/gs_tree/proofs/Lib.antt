@@ -13,4 +13,7 @@ pub mod Removals
 pub mod Chunks
 pub mod Gathering
 pub mod Under
+pub mod Building
+pub mod Entering
+pub mod Root
 pub mod Mapped

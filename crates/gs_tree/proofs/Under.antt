@@ -22,7 +22,8 @@ use Rattle.gs_tree.proofs.Splice.{begins_parts}
 use Rattle.gs_tree.proofs.Laws.{begins_append, with_at-append}
 use Rattle.gs_tree.proofs.Reaching.{same_path-is}
 use Rattle.gs_tree.proofs.Depths.{paths_antisymmetric}
-use Rattle.gs_tree.proofs.Gathering.{prefixed, cmp-prefixed, sorted-prefixed, all_chunks-prefixed, from_true}
+use Rattle.gs_tree.specs.Build.{prefixed}
+use Rattle.gs_tree.proofs.Gathering.{cmp-prefixed, sorted-prefixed, all_chunks-prefixed, from_true}
 
 pub at-by_path : (rows : Rows ℕ) (q : Path) → at (by_path rows) q ≡ at rows q
 at-by_path [] q = refl

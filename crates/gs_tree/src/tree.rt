@@ -10,7 +10,10 @@ ghost use Rattle.gs_tree.specs.Inverses.{TakesBack, IsBlankRow, LeavesChunks, Is
 ghost use Rattle.gs_tree.specs.Follows.{Follows, Undoes, TestsPlace, SwapsChunk};
 ghost use Rattle.gs_tree.specs.Listing.{HasVisible, Lists, StandsAs, pairs_of};
 ghost use Rattle.gs_tree.specs.Chunks.{chunks_under, visible_chunks_under};
+ghost use Rattle.std.specs.List.{list_all};
+ghost use Rattle.gs_tree.specs.Build.{rooted_rows, is_short, is_tree, rows_of_entries, path_of_entry, kind_of_entry, IsUpTo, AddsLast, BuildsNode, Builds};
 
+use crate::entry::TreeEntry;
 use crate::inverse::TreeInverse;
 use crate::node::{Leaf, Listed, Node, Sort};
 use gs_base::{Handle, Moment, Refusal};
@@ -567,6 +570,48 @@ fn own_name(alloc: Global, path: &Path) -> Result<Vec<Listed>, AllocError>
     Ok(listed)
 }
 
+/// Puts one more entry behind the last of a tree. BadLine where its path isn't behind the last, has too many elements, or
+/// its parent isn't a directory.
+fn add_last(root: &mut Node, alloc: Global, last: &Path, entry: &TreeEntry) -> Result<(), Refusal>
+    requires { IsUpTo (at root.old) last.now }
+    ensures { AddsLast (at root.old) last.now (path_of_entry entry.now) (kind_of_entry entry.now) result (at root.new) }
+{
+    let path = entry.path();
+    if *path <= *last {
+        return Err(Refusal::BadLine);
+    }
+    if path.elements().len() >= TOO_MANY_ELEMENTS {
+        return Err(Refusal::BadLine);
+    }
+    let Some((name, parent)) = path.elements().split_last() else {
+        return Err(Refusal::BadLine);
+    };
+    match root.sort_at(parent) {
+        Sort::Dir => {}
+        Sort::Missing | Sort::File => return Err(Refusal::BadLine),
+    }
+    let name = name.copy(alloc)?;
+    let node = entry.node(alloc)?;
+    root.graft(parent, name, node)?;
+    Ok(())
+}
+
+/// The tree of entries.
+fn built(alloc: Global, entries: &[TreeEntry]) -> Result<Node, Refusal>
+    ensures { BuildsNode (rows_of_entries entries.now) result }
+{
+    let mut root = Node::new(alloc, Leaf::Dir);
+    let mut last = Path::root(alloc);
+    for entry in entries {
+        match add_last(&mut root, alloc, &last, entry) {
+            Ok(()) => {}
+            Err(refusal) => return Err(refusal),
+        }
+        last = entry.path().copy(alloc)?;
+    }
+    Ok(root)
+}
+
 /// A tree of directories and files. It begins with the root, a directory that always stands.
 #[derive(Drop)]
 pub struct Tree {
@@ -585,6 +630,12 @@ impl Model for Tree {
     ghost coded = { fin_map.code coded_path coded_entry };
 
     ghost view = { λ a. fin_map.from_entries a.root };
+
+    ghost use Rattle.std.specs.Prelude.{◌≡◌, [], Some};
+    ghost use Rattle.gs_tree.specs.Find.{at};
+    ghost use Rattle.gs_tree.specs.Entry.{Dir};
+
+    ghost invariant = { λ a. at a.root [] ≡ Some Dir };
 }
 
 impl Tree {
@@ -762,6 +813,28 @@ impl Tree {
         match self.root.find(path.elements()) {
             Some(node) => node.visible_chunks(alloc),
             None => Ok(Vec::new(alloc)),
+        }
+    }
+
+    /// What stands at each path but the root, in the order of the paths.
+    pub fn entries(&self, alloc: Global) -> Result<Vec<TreeEntry>, AllocError>
+        ensures rows { IfOk result (λ listed. rooted_rows (rows_of_entries listed.items) ≡ fin_map.entries self.now) }
+        ensures tree { IfOk result (λ listed. list_all (λ r. is_short r.0) (fin_map.entries self.now) ≡ is_tree (rows_of_entries listed.items)) }
+    {
+        let mut listed = Vec::new(alloc);
+        self.root
+            .list_below(alloc, &Path::root(alloc), &mut listed)?;
+        Ok(listed)
+    }
+
+    /// The tree of these entries and the root. BadLine where they aren't those of a tree: the paths have to rise, the
+    /// root's not among them, each has at most 64 elements and a directory as its parent.
+    pub fn of(alloc: Global, entries: &[TreeEntry]) -> Result<Tree, Refusal>
+        ensures { Builds (rows_of_entries entries.now) result }
+    {
+        match built(alloc, entries) {
+            Ok(root) => Ok(Tree { alloc, root }),
+            Err(refusal) => Err(refusal),
         }
     }
 

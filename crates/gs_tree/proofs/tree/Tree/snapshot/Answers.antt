@@ -9,6 +9,8 @@ use Rattle.gs_tree.specs.Inverses.{TakesBack}
 use Rattle.gs_tree.proofs.Moves.{seen}
 use Rattle.gs_tree.proofs.Depths.{copied_map_test}
 use Rattle.gs_tree.proofs.Under.{snapshot_chunks}
+use Rattle.gs_tree.proofs.Root.{root_follows, snapshot-root}
+use Rattle.gs_tree.proofs.Depths.{copied_test}
 use Rattle.gs_tree.proofs.tree.Tree.snapshot.Goals as goal
 
 pub returns-clause-edit : goal.returns-clause-edit
@@ -32,3 +34,11 @@ returns-clause-undo c =
 pub returns-clause-chunks : goal.returns-clause-chunks
 returns-clause-chunks c =
     snapshot_chunks c.snapshot_in.result (is_copied_too_deep (entries c.args.self.now) c.args.from.now) c.args.self.now (from_entries c.snapshot_in.new.root) c.args.from.now c.args.to.now (returns-clause-edit c)
+
+pub invariant_of-self : goal.invariant_of-self
+invariant_of-self c =
+    let rows = c.self.inside.root in
+    let from = c.args.from.now in
+    let to = c.args.to.now in
+    let deep = is_copied_too_deep rows from to in
+    root_follows _ c.snapshot_in.result (at rows) (at c.snapshot_in.new.root) (snapshot-root (λ _. deep) (at rows) from to c.self.invariant) (c.snapshot_in.ensures.edit deep (copied_test rows from to)) c.self.invariant

@@ -7,6 +7,7 @@ use Rattle.gs_tree.specs.Follows.{Undoes}
 use Rattle.gs_tree.specs.declared.inverse.TreeInverse.{TreeInverse}
 use Rattle.gs_tree.specs.declared.inverse.TreeInverse.TheVariants.{Made, Moved, Removed, Added, Changed, Copied}
 use Rattle.gs_tree.proofs.Moves.{seen}
+use Rattle.gs_tree.proofs.Root.{root_undone}
 use Rattle.gs_tree.proofs.tree.Tree.undo.Goals as goal
 
 pub returns-in-Made-clause-undo : goal.returns-in-Made-clause-undo
@@ -56,3 +57,18 @@ returns-in-Copied-clause-undo c =
     let step = subst (λ (m : Plain ℕ). Undoes i m c.drop_copy.result (at c.drop_copy.new.root)) old c.drop_copy.ensures.undo in
     subst (λ (j : TreeInverse). Undoes j (get c.args.self.now) c.drop_copy.result (get (from_entries {R = path_cmp} c.drop_copy.new.root))) (sym c.in-Copied.is)
     (subst (λ (n : Plain ℕ). Undoes i (get c.args.self.now) c.drop_copy.result n) (sym (seen c.drop_copy.new.root)) step)
+
+pub invariant_of-self-in-Moved : goal.invariant_of-self-in-Moved
+invariant_of-self-in-Moved c = root_undone (Moved c.in-Moved.from c.in-Moved.to) c.move_back.result (at c.self.inside.root) (at c.move_back.new.root) c.move_back.ensures c.self.invariant
+
+pub invariant_of-self-in-Removed : goal.invariant_of-self-in-Removed
+invariant_of-self-in-Removed c = root_undone (Removed c.in-Removed.path c.in-Removed.node) c.plant.result (at c.self.inside.root) (at c.plant.new.root) c.plant.ensures c.self.invariant
+
+pub invariant_of-self-in-Added : goal.invariant_of-self-in-Added
+invariant_of-self-in-Added c = root_undone (Added c.in-Added.path) c.drop_chunk.result (at c.self.inside.root) (at c.drop_chunk.new.root) c.drop_chunk.ensures.undo c.self.invariant
+
+pub invariant_of-self-in-Changed : goal.invariant_of-self-in-Changed
+invariant_of-self-in-Changed c = root_undone (Changed c.in-Changed.path c.in-Changed.index c.in-Changed.chunk) c.reset_chunk.result (at c.self.inside.root) (at c.reset_chunk.new.root) c.reset_chunk.ensures.undo c.self.invariant
+
+pub invariant_of-self-in-Copied : goal.invariant_of-self-in-Copied
+invariant_of-self-in-Copied c = root_undone (Copied c.in-Copied.path) c.drop_copy.result (at c.self.inside.root) (at c.drop_copy.new.root) c.drop_copy.ensures.undo c.self.invariant
