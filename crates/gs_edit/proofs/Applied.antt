@@ -1,33 +1,33 @@
 -- An edit of the tree and of the counts, as the names see it.
-use Rattle.std.proofs.Common.{◌≡◌, ◌≢◌, ℕ, ◌-◌, ◌<◌, ◌⊎◌, inl, inr, ◌&&◌, Bool, true, false, not, cond, List, [], ◌∷◌, ◌++◌, length, set, get_or, nat_lt, refl, sym, ap, ◌∙◌, subst, arith, ◌==◌, length-append}
-use Rattle.std.specs.Prelude.{Option, Some, None, Result, Ok, Err, is_some, is_none, slice_get}
-use Rattle.std.proofs.lemmas.Bool.{ltb-true, and_parts}
+use Rattle.std.proofs.Common.{◌≡◌, ℕ, ◌-◌, inl, inr, ◌&&◌, Bool, true, false, not, cond, List, [], ◌∷◌, ◌++◌, length, set, nat_lt, refl, sym, ap, ◌∙◌, arith}
+use Rattle.std.specs.Prelude.{Option, Some, None, Result, Ok, Err, is_none, slice_get}
+use Rattle.std.proofs.lemmas.Bool.{ltb-true}
 use Rattle.std.proofs.lemmas.List.{get_or_push, length_push, length-set, get_or-set_same}
 use Rattle.std.proofs.lemmas.Option.{slice_get_read}
 use Rattle.std.specs.FinMap.{FinMap, get, insert, entries, get-entries, find, same_map}
 use Rattle.gs_base.specs.declared.refusal.Refusal.{Refusal}
-use Rattle.gs_base.specs.declared.refusal.Refusal.TheVariants.{Memory, BadLine, NotFound, IsADirectory, Range}
+use Rattle.gs_base.specs.declared.refusal.Refusal.TheVariants.{BadLine, NotFound, IsADirectory, Range}
 use Rattle.gs_refs.specs.Counts.{Counts}
 use Rattle.gs_path.specs.Path.{Path, path_cmp, path_total}
 use Rattle.gs_tree.specs.Entry.{Entry, Dir, File}
 use Rattle.gs_tree.specs.Entry as entry
 use Rattle.gs_tree.specs.Plain.{Plain, Same}
-use Rattle.gs_tree.specs.Find.{Rows, at}
+use Rattle.gs_tree.specs.Find.{Rows}
 use Rattle.gs_tree.specs.Edits.{add_chunk, set_chunk, with_chunks, chunks_in, is_dir}
 use Rattle.gs_tree.specs.Follows as tree
-use Rattle.gs_tree.specs.Inverses.{LeavesChunks, TakesBack}
+use Rattle.gs_tree.specs.Inverses.{LeavesChunks}
 use Rattle.gs_tree.specs.declared.inverse.TreeInverse.{TreeInverse}
 use Rattle.gs_tree.specs.declared.inverse.TreeInverse.TheVariants.{Made, Moved, Removed, Added, Changed, Copied}
-use Rattle.gs_tree.proofs.Chunks.{chunks_at, chunks_now}
+use Rattle.gs_tree.proofs.Chunks.{chunks_now}
 use Rattle.gs_edit.specs.View.{NamesView, names_of}
-use Rattle.gs_edit.specs.Edits.{Applies, AppliesRows, KeepsRefs, edited, named, renamed, admits, counted, handed_over, holds_chunk, has_reference, with_counts}
-use Rattle.gs_edit.specs.Names.{NamesTakenBack, Undoes, counts_back, last_chunk, kept_of}
+use Rattle.gs_edit.specs.Edits.{Applies, AppliesRows, KeepsRefs, edited, renamed, admits, counted, handed_over, holds_chunk, has_reference, with_counts}
+use Rattle.gs_edit.specs.Names.{Undoes, last_chunk, kept_of}
 use Rattle.gs_edit.specs.declared.edit.Edit.{Edit}
 use Rattle.gs_edit.specs.declared.edit.Edit.TheVariants as edits
 use Rattle.gs_edit.proofs.Covers.{applies-add, applies-set}
 use Rattle.std.proofs.lemmas.Bool.Decides.{nat_tests}
 use Rattle.gs_edit.specs.declared.edit.Inverse.TheVariants as inverses
-use Rattle.gs_edit.proofs.Tables.{paths_antisymmetric, seen}
+use Rattle.gs_edit.proofs.Tables.{paths_antisymmetric}
 
 pub same_names : (t u : FinMap path_cmp (Entry ℕ)) (m n : Counts) → t ≡ u → m ≡ n → names_of t m ≡ names_of u n
 same_names t u m n e f = λ i. names_of (e i) (f i)
@@ -137,7 +137,7 @@ held (Some own) had old e h = let k : own ≡ had = cc in let o : own ≡ old = 
 
 -- an edit that isn't given what it asks for
 pub not_admitted : (edit : Edit) (t : FinMap path_cmp (Entry ℕ)) (m : Counts) → admits edit (entries t) m ≡ false → renamed edit (names_of t m) ≡ Err BadLine
-not_admitted edit t m h = ap (λ b. cond b (with_counts (edited edit (entries t)) (counted edit m)) (Err BadLine)) h
+not_admitted edit t m h = ap (λ b. cond b (with_counts (edited edit (entries t)) (counted edit (entries t) m)) (Err BadLine)) h
 
 -- what the names' edit says of the tree, where the counts stay
 pub rows_applied : {I : Type 0} (edit : Edit) → KeepsRefs edit → (r : Result I Refusal) (old new : NamesView) → Applies edit old r new → AppliesRows edit (entries old.tree) r (entries new.tree)

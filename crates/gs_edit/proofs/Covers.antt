@@ -6,12 +6,14 @@ use Rattle.std.specs.Cmp.Lexicographic.{nat_list_cmp_total}
 use Rattle.std.specs.FinMap.{FinMap, get, entries, slice_cmp-IsAntisymmetric, nat_cmp-IsAntisymmetric}
 use Rattle.gs_base.specs.declared.refusal.Refusal.{Refusal}
 use Rattle.gs_base.specs.declared.numbers.Moment.{Moment}
-use Rattle.gs_base.specs.declared.refusal.Refusal.TheVariants.{NotADirectory, IsADirectory, Exists, NotFound, IntoItself, BadPath, IsRoot, Range}
+use Rattle.gs_base.specs.declared.refusal.Refusal.TheVariants.{NotADirectory, IsADirectory, Exists, NotFound, IntoItself, BadPath, IsRoot, Range, NotHidden}
+use Rattle.std.specs.List.{list_any}
+use Rattle.gs_path.specs.Element.{is_hidden}
 use Rattle.gs_path.specs.Path.{Name, Path, path_cmp, name_cmp, same_name, begins}
 use Rattle.gs_tree.specs.Entry.{Entry, Dir, File}
 use Rattle.gs_tree.specs.Plain.{Plain, after, without}
-use Rattle.gs_tree.specs.Find.{Rows, at, is_too_deep}
-use Rattle.gs_tree.specs.Edits.{same_path, with_dirs, with_entry, with_chunks, chunks_in, moved, mkdirs, create, rename, hide, unhide, unhidden, old_name, beside, add_chunk, set_chunk, move_to, is_file, is_dir, file_above, target_of, hidden_path, parent}
+use Rattle.gs_tree.specs.Find.{Rows, at, is_too_deep, is_copied_too_deep}
+use Rattle.gs_tree.specs.Edits.{same_path, with_dirs, with_entry, with_chunks, chunks_in, moved, mkdirs, create, rename, hide, unhide, unhidden, remove, snapshot, copied, visible, old_name, beside, add_chunk, set_chunk, move_to, is_file, is_dir, file_above, target_of, hidden_path, parent}
 use Rattle.gs_edit.specs.Plain.{unhide_target}
 use Rattle.gs_tree.specs.Follows.{Follows}
 use Rattle.gs_edit.specs.Table.{tabled, paths_of, fronts, moved_path}
@@ -72,17 +74,32 @@ covers-entry rows p e q some =
 moved_path-append : (from to r : Path) → moved_path from to (from ++ r) ≡ to ++ r
 moved_path-append from to r = ap (λ b. cond b (to ++ after from (from ++ r)) (from ++ r)) (begins_append from r) ∙ ap (λ s. to ++ s) (after_append from r)
 
+stays : (from : Path) (rows : Rows ℕ) (q : Path) → is_some (without from (at rows) q) ≡ true → is_some (at rows q) ≡ true
+stays from rows q h = elim (begins from q) as (λ b. is_some (cond b None (at rows q)) ≡ true → is_some (at rows q) ≡ true) [
+  | true ↦ λ k. absurd (cc)
+  | false ↦ λ k. k
+] h
+
 pub covers-moved : (rows : Rows ℕ) (from to : Path) → Covers (paths_of rows ++ map (moved_path from to) (paths_of rows)) (moved from to (at rows))
 covers-moved rows from to q some =
     elim (begins to q) as (λ b. begins to q ≡ b → is_some (cond b (at rows (from ++ after to q)) (without from (at rows) q)) ≡ true → among (paths_of rows ++ map (moved_path from to) (paths_of rows)) q ≡ true) [
       | true ↦ λ b h. among-right (paths_of rows) (map (moved_path from to) (paths_of rows)) q
           (ap (among (map (moved_path from to) (paths_of rows))) (sym (moved_path-append from to (after to q) ∙ begins_parts to q b))
           ∙ among-map (moved_path from to) (paths_of rows) (from ++ after to q) (among-paths_of rows (from ++ after to q) h))
-      | false ↦ λ b h. among-left (paths_of rows) (map (moved_path from to) (paths_of rows)) q (among-paths_of rows q (stays q h))
+      | false ↦ λ b h. among-left (paths_of rows) (map (moved_path from to) (paths_of rows)) q (among-paths_of rows q (stays from rows q h))
+    ] refl some
+
+pub covers-copied : (rows : Rows ℕ) (from to : Path) → Covers (paths_of rows ++ map (moved_path from to) (paths_of rows)) (copied from to (at rows))
+covers-copied rows from to q some =
+    elim (begins to q) as (λ b. begins to q ≡ b → is_some (cond b (visible (λ r. at rows (from ++ r)) (after to q)) (at rows q)) ≡ true → among (paths_of rows ++ map (moved_path from to) (paths_of rows)) q ≡ true) [
+      | true ↦ λ b h. among-right (paths_of rows) (map (moved_path from to) (paths_of rows)) q
+          (ap (among (map (moved_path from to) (paths_of rows))) (sym (moved_path-append from to (after to q) ∙ begins_parts to q b))
+          ∙ among-map (moved_path from to) (paths_of rows) (from ++ after to q) (among-paths_of rows (from ++ after to q) (shown (after to q) h)))
+      | false ↦ λ b h. among-left (paths_of rows) (map (moved_path from to) (paths_of rows)) q (among-paths_of rows q h)
     ] refl some
   where
-    stays : (q : Path) → is_some (without from (at rows) q) ≡ true → is_some (at rows q) ≡ true
-    stays q h = elim (begins from q) as (λ b. is_some (cond b None (at rows q)) ≡ true → is_some (at rows q) ≡ true) [
+    shown : (r : Path) → is_some (visible (λ s. at rows (from ++ s)) r) ≡ true → is_some (at rows (from ++ r)) ≡ true
+    shown r h = elim (list_any is_hidden r) as (λ b. is_some (cond b None (at rows (from ++ r))) ≡ true → is_some (at rows (from ++ r)) ≡ true) [
       | true ↦ λ k. absurd (cc)
       | false ↦ λ k. k
     ] h
@@ -128,6 +145,23 @@ covered-hide rows p moment number =
     unless ps (same_path p []) IsRoot _
     (unless ps (is_none (at rows p)) NotFound _
     (unless ps (is_some (at rows target)) Exists (Ok (moved p target (at rows))) (covers-moved rows p target)))
+
+pub covered-remove : (rows : Rows ℕ) (p : Path) → Covered (paths_of rows) (remove (at rows) p)
+covered-remove rows p =
+    unless (paths_of rows) (is_none (old_name p)) NotHidden _
+    (unless (paths_of rows) (is_none (at rows p)) NotFound (Ok (without p (at rows))) (λ q some. among-paths_of rows q (stays p rows q some)))
+
+pub covered-snapshot : (rows : Rows ℕ) (from to : Path) → Covered (paths_of rows ++ map (moved_path from to) (paths_of rows)) (snapshot (is_copied_too_deep rows from) (at rows) from to)
+covered-snapshot rows from to =
+    let ps = paths_of rows ++ map (moved_path from to) (paths_of rows) in
+    unless ps (same_path from []) IsRoot _
+    (unless ps (is_none (at rows from)) NotFound _
+    (unless ps (same_path to from) Exists _
+    (unless ps (begins from to) IntoItself _
+    (unless ps (is_some (at rows to)) Exists _
+    (unless ps (is_none (at rows (parent to))) NotFound _
+    (unless ps (is_file (at rows (parent to))) NotADirectory _
+    (unless ps (is_copied_too_deep rows from to) BadPath (Ok (copied from to (at rows))) (covers-copied rows from to))))))))
 
 -- what follows the plain tree's command, as rows
 pub applies : {I : Type 0} (edit : Edit) (ps : List Path) (r : Result (Plain ℕ) Refusal) (result : Result I Refusal) (old new : FinMap path_cmp (Entry ℕ)) → edited edit (entries old) ≡ tabled ps r → Covered ps r → Follows r result (get old) (get new) → AppliesRows edit (entries old) result (entries new)
@@ -210,3 +244,15 @@ applies-set p index before chunk result old new h =
     let rows = entries old in
     applies (edits.Cow p index before chunk) (paths_of rows) (set_chunk (at rows) p index chunk) result old new refl (covered-set rows p index chunk)
     (subst (λ (m : Plain ℕ). Follows (set_chunk m p index chunk) result (get old) (get new)) (seen old) h)
+
+pub applies-remove : {I : Type 0} (p : Path) (result : Result I Refusal) (old new : FinMap path_cmp (Entry ℕ)) → Follows (remove (get old) p) result (get old) (get new) → AppliesRows (edits.Remove p) (entries old) result (entries new)
+applies-remove p result old new h =
+    let rows = entries old in
+    applies (edits.Remove p) (paths_of rows) (remove (at rows) p) result old new refl (covered-remove rows p)
+    (subst (λ (m : Plain ℕ). Follows (remove m p) result (get old) (get new)) (seen old) h)
+
+pub applies-snapshot : {I : Type 0} (from to : Path) (result : Result I Refusal) (old new : FinMap path_cmp (Entry ℕ)) → Follows (snapshot (is_copied_too_deep (entries old) from) (get old) from to) result (get old) (get new) → AppliesRows (edits.Snapshot from to) (entries old) result (entries new)
+applies-snapshot from to result old new h =
+    let rows = entries old in
+    applies (edits.Snapshot from to) (paths_of rows ++ map (moved_path from to) (paths_of rows)) (snapshot (is_copied_too_deep rows from) (at rows) from to) result old new refl (covered-snapshot rows from to)
+    (subst (λ (m : Plain ℕ). Follows (snapshot (is_copied_too_deep rows from) m from to) result (get old) (get new)) (seen old) h)

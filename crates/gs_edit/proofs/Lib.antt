@@ -2,3 +2,4 @@ pub mod Tables
 pub mod Covers
 pub mod References
 pub mod Applied
+pub mod Gathered

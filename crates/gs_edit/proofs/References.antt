@@ -1,6 +1,6 @@
 -- What edits make of the counts, and that inverses take it back.
-use Rattle.std.proofs.Common.{◌≡◌, ◌≢◌, ℕ, ◌+◌, ◌-◌, ◌<◌, ◌≤◌, ◌⊎◌, inl, inr, ◌&&◌, ◌||◌, Bool, true, false, not, cond, List, [], ◌∷◌, ◌++◌, length, set, nat_lt, nat_le, refl, sym, ap, ◌∙◌, subst, arith, ◌==◌}
-use Rattle.std.specs.Prelude.{Option, Some, None, Result, Ok, Err, is_some, is_none, slice_get}
+use Rattle.std.proofs.Common.{◌≡◌, ℕ, ◌+◌, ◌-◌, ◌<◌, ◌≤◌, ◌&&◌, ◌||◌, Bool, true, false, not, cond, List, [], ◌∷◌, nat_lt, nat_le, refl, sym, ap, ◌∙◌, arith, ◌==◌}
+use Rattle.std.specs.Prelude.{Option, Some, None, Result, Ok, Err, is_some, is_none}
 use Rattle.std.proofs.lemmas.Bool.{ltb-true, lt-ltb, and_parts, leb-true}
 use Rattle.std.specs.List.{list_any, list_all}
 use Rattle.std.proofs.lemmas.Bool.Decides.{nat_tests}
@@ -8,7 +8,7 @@ use Rattle.std.specs.Cmp.{Equal-is, nat_cmp_total, eq_by_cmp_equiv}
 use Rattle.std.specs.Ordering.{nat_cmp, eq_by_cmp}
 use Rattle.std.specs.FinMap as fin
 use Rattle.gs_base.specs.declared.refusal.Refusal.{Refusal}
-use Rattle.gs_base.specs.declared.refusal.Refusal.TheVariants.{Memory, BadLine, Exhausted}
+use Rattle.gs_base.specs.declared.refusal.Refusal.TheVariants.{BadLine, Exhausted}
 use Rattle.gs_refs.specs.Counts.{Counts, last_count, raised, raised_from, lowered, lowered_from, unlisted, unlisted_from, taken_each, put_each, without_each, with_each, is_at_zero, ascends, Follows}
 use Rattle.gs_edit.specs.Edits.{handed_over, count_or_zero, has_reference}
 use Rattle.gs_edit.specs.Names.{is_one, has_room, returned, without_added, without_changed, accepted}

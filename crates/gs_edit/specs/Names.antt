@@ -1,11 +1,14 @@
 -- What takes an edit of the names back.
 use Rattle.std.specs.Prelude.{◌≡◌, ◌⊎◌, ◌+◌, ◌-◌, ◌==◌, ◌&&◌, not, if◌then◌else◌, ℕ, Bool, true, false, List, Option, Some, None, Result, Ok, Err, is_some, slice_get, length, nat_lt}
 use Rattle.std.specs.FinMap as fin
+use Rattle.gs_path.specs.Path.{path_cmp}
 use Rattle.gs_base.specs.declared.refusal.Refusal.{Refusal}
 use Rattle.gs_base.specs.declared.refusal.Refusal.TheVariants.{Memory, BadLine}
-use Rattle.gs_refs.specs.Counts.{Counts, last_count, put_each}
+use Rattle.gs_refs.specs.Counts.{Counts, last_count, put_each, raised_each, lowered_each}
 use Rattle.gs_tree.specs.Plain.{Plain, Same}
 use Rattle.gs_tree.specs.Edits.{chunks_in}
+use Rattle.gs_tree.specs.Entry.{Entry}
+use Rattle.gs_tree.specs.Chunks.{chunks_under, part_chunks}
 use Rattle.gs_tree.specs.Inverses as tree
 use Rattle.gs_tree.specs.declared.inverse.TreeInverse.{TreeInverse}
 use Rattle.gs_tree.specs.declared.inverse.TreeInverse.TheVariants.{Made, Moved, Removed, Added, Changed, Copied}
@@ -46,22 +49,23 @@ without_changed refs None old = None
 without_changed refs (Some chunk) old =
     if is_one (fin.get refs chunk) && (not (chunk == old) && has_room (fin.get refs old)) then Some (returned refs chunk old) else None
 
--- the counts once an edit of the tree is taken back, if the inverse fits them
-abbrev pub counts_back : TreeInverse → Plain ℕ → Counts → Option Counts
-counts_back (Made path above) m refs = Some refs
-counts_back (Moved from to) m refs = Some refs
-counts_back (Removed path node) m refs = None
-counts_back (Added path) m refs = without_added refs (last_chunk (chunks_in (m path)))
-counts_back (Changed path index old) m refs = without_changed refs (slice_get (chunks_in (m path)) index) old
-counts_back (Copied path) m refs = None
-
 abbrev pub accepted : Result Counts Refusal → Option Counts
 accepted (Ok refs) = Some refs
 accepted (Err e) = None
 
+-- The counts once an edit of the tree is taken back, if the inverse fits them: what was removed refers to its chunks again,
+-- and what was copied no more.
+abbrev pub counts_back : TreeInverse → fin.FinMap path_cmp (Entry ℕ) → Counts → Option Counts
+counts_back (Made path above) t refs = Some refs
+counts_back (Moved from to) t refs = Some refs
+counts_back (Removed path node) t refs = accepted (raised_each refs (part_chunks node))
+counts_back (Added path) t refs = without_added refs (last_chunk (chunks_in (fin.get t path)))
+counts_back (Changed path index old) t refs = without_changed refs (slice_get (chunks_in (fin.get t path)) index) old
+counts_back (Copied path) t refs = accepted (lowered_each refs (chunks_under path (fin.entries t)))
+
 -- what an inverse makes of the counts, if it fits them
 abbrev pub counts_after : Inverse → NamesView → Option Counts
-counts_after (inverses.Tree i) names = counts_back i (fin.get names.tree) names.refs
+counts_after (inverses.Tree i) names = counts_back i names.tree names.refs
 counts_after (inverses.Remember chunks) names = accepted (put_each names.refs chunks.items)
 
 abbrev pub tree_after : Inverse → NamesView → Plain ℕ

@@ -1,15 +1,16 @@
 -- Small examples of the edits of rows.
-use Rattle.std.specs.Prelude.{◌≡◌, ℕ, List, [], ◌∷◌, codes, Some, false, Ok, Err, refl}
+use Rattle.std.specs.Prelude.{◌≡◌, ℕ, [], ◌∷◌, codes, Some, false, Ok, Err, refl}
 use Rattle.std.specs.Fmt.{digits}
-use Rattle.gs_base.specs.declared.refusal.Refusal.TheVariants.{Exists, NotADirectory, IntoItself, NotHidden, Range}
-use Rattle.gs_path.specs.Path.{Name, Path}
+use Rattle.gs_base.specs.declared.refusal.Refusal.TheVariants.{Exists, NotADirectory, IntoItself, IsRoot, NotHidden, Range}
+use Rattle.gs_path.specs.Path.{Name}
 use Rattle.gs_path.specs.Element.{twenty_digits}
 use Rattle.gs_tree.specs.Entry.{Dir, File}
 use Rattle.gs_tree.specs.Find.{Rows, at}
+use Rattle.gs_tree.specs.Chunks.{chunks_under, visible_chunks_under}
 use Rattle.gs_edit.specs.Table.{table, fronts, moved_path, root_rows}
 use Rattle.gs_edit.specs.Edits.{edited, holds_chunk, has_reference}
 use Rattle.gs_edit.specs.Names.{is_one}
-use Rattle.gs_edit.specs.declared.edit.Edit.TheVariants.{Mkdirs, Create, Rename, Hide, Unhide, AddChunk, Cow}
+use Rattle.gs_edit.specs.declared.edit.Edit.TheVariants.{Mkdirs, Create, Rename, Hide, Unhide, Remove, AddChunk, Cow, Snapshot}
 
 abbrev a : Name
 a = codes "a"
@@ -66,6 +67,36 @@ unhide_moves_back = refl
 
 unhide_of_a_plain_name : edited (Unhide (a ∷ [])) small ≡ Err NotHidden
 unhide_of_a_plain_name = refl
+
+-- the file f beside a deleted directory with a file of two chunks, one of them twice
+abbrev with_hidden : Rows ℕ
+with_hidden = ([], Dir) ∷ (hidden_a ∷ [], Dir) ∷ (hidden_a ∷ f ∷ [], File (7 ∷ 8 ∷ 7 ∷ [])) ∷ (f ∷ [], File (7 ∷ [])) ∷ []
+
+remove_takes_what_is_under : edited (Remove (hidden_a ∷ [])) with_hidden ≡ Ok (([], Dir) ∷ (f ∷ [], File (7 ∷ [])) ∷ [])
+remove_takes_what_is_under = refl
+
+remove_of_a_plain_name : edited (Remove (f ∷ [])) with_hidden ≡ Err NotHidden
+remove_of_a_plain_name = refl
+
+-- each chunk as often as it stood there
+removed_references : chunks_under (hidden_a ∷ []) with_hidden ≡ 7 ∷ 8 ∷ 7 ∷ []
+removed_references = refl
+
+snapshot_of_a_file : edited (Snapshot (f ∷ []) (b ∷ [])) small ≡ Ok (([], Dir) ∷ (a ∷ [], Dir) ∷ (a ∷ b ∷ [], Dir) ∷ (b ∷ [], File (7 ∷ [])) ∷ (f ∷ [], File (7 ∷ [])) ∷ [])
+snapshot_of_a_file = refl
+
+snapshot_of_the_root : edited (Snapshot [] (b ∷ [])) small ≡ Err IsRoot
+snapshot_of_the_root = refl
+
+-- a directory with a file, and a deleted one
+abbrev half_hidden : Rows ℕ
+half_hidden = ([], Dir) ∷ (a ∷ [], Dir) ∷ (a ∷ hidden_a ∷ [], File (8 ∷ [])) ∷ (a ∷ f ∷ [], File (7 ∷ [])) ∷ []
+
+snapshot_leaves_out_what_is_hidden : edited (Snapshot (a ∷ []) (b ∷ [])) half_hidden ≡ Ok (([], Dir) ∷ (a ∷ [], Dir) ∷ (a ∷ hidden_a ∷ [], File (8 ∷ [])) ∷ (a ∷ f ∷ [], File (7 ∷ [])) ∷ (b ∷ [], Dir) ∷ (b ∷ f ∷ [], File (7 ∷ [])) ∷ [])
+snapshot_leaves_out_what_is_hidden = refl
+
+copied_references : visible_chunks_under (a ∷ []) half_hidden ≡ 7 ∷ []
+copied_references = refl
 
 a_chunk_at_the_end : edited (AddChunk (f ∷ []) 9) small ≡ Ok (([], Dir) ∷ (a ∷ [], Dir) ∷ (a ∷ b ∷ [], Dir) ∷ (f ∷ [], File (7 ∷ 9 ∷ [])) ∷ [])
 a_chunk_at_the_end = refl

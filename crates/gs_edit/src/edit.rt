@@ -15,10 +15,14 @@ pub enum Edit {
     Hide(Path, Moment, u64),
     /// Moves a hidden path back to its old name.
     Unhide(Path),
+    /// Takes out what is hidden at a path, with all under it. Its chunks stay listed.
+    Remove(Path),
     /// Adds a chunk that isn't listed to the end of a file.
     AddChunk(Path, Handle),
     /// Puts a chunk that isn't listed, the second, in the place of one of a file's, the first.
     Cow(Path, usize, Handle, Handle),
+    /// Copies what is visible at and under the first path to the second. The copies have the same chunks.
+    Snapshot(Path, Path),
     /// Lists chunks without references no more. Their handles rise.
     Forget(Vec<Handle>),
 }
@@ -27,7 +31,8 @@ pub enum Edit {
 #[derive(Drop)]
 pub enum Inverse {
     /// The tree's own inverse. The references go with it: a chunk that was added or changed is listed no more, and the
-    /// one in whose place it stood has its reference again.
+    /// one in whose place it stood has its reference again. The chunks of what was removed have theirs again, and those
+    /// of a copy lose them.
     Tree(TreeInverse),
     /// Lists chunks without references again.
     Remember(Vec<Handle>),

@@ -10,7 +10,7 @@ use crate::edit::{Edit, Inverse};
 use gs_base::{Handle, Refusal};
 use gs_path::Path;
 use gs_refs::Refs;
-use gs_tree::{Status, Tree, TreeInverse};
+use gs_tree::{Node, Status, Tree, TreeInverse};
 use std::alloc::{AllocError, Global};
 use std::marker::Model;
 
@@ -40,8 +40,10 @@ fn apply_in(
         Edit::Rename(from, to) => kept(tree.rename(from, to)),
         Edit::Hide(path, moment, number) => kept(tree.hide(path, *moment, *number)),
         Edit::Unhide(path) => kept(tree.unhide(path)),
+        Edit::Remove(path) => remove(tree, refs, alloc, path),
         Edit::AddChunk(path, chunk) => add_chunk(tree, refs, path, *chunk),
         Edit::Cow(path, index, old, new) => change_chunk(tree, refs, path, *index, *old, *new),
+        Edit::Snapshot(from, to) => snapshot(tree, refs, alloc, from, to),
         Edit::Forget(chunks) => forget(tree, refs, alloc, chunks),
     }
 }
@@ -98,6 +100,50 @@ fn change_chunk(
         }
         Err(refusal) => {
             let _ = refs.unlist(new);
+            Err(refusal)
+        }
+    }
+}
+
+/// Takes out what is hidden at a path. Its chunks have a reference less for each time that they stood there.
+fn remove(tree: &mut Tree, refs: &mut Refs, alloc: Global, path: &Path) -> Result<Inverse, Refusal>
+    ensures edit { Applies (Edit.Remove path.now) (names_of tree.old refs.old) result (names_of tree.new refs.new) }
+    ensures undo { IfOk result (λ i. NamesTakenBack i (names_of tree.old refs.old) (names_of tree.new refs.new)) }
+{
+    let chunks = tree.chunks_under(alloc, path)?;
+    match refs.lower_each(&chunks) {
+        Ok(()) => {}
+        Err(_) => return Err(Refusal::BadLine),
+    }
+    match tree.remove(path) {
+        Ok(inverse) => Ok(Inverse::Tree(inverse)),
+        Err(refusal) => {
+            let _ = refs.raise_each(&chunks);
+            Err(refusal)
+        }
+    }
+}
+
+/// Copies what is visible at a path. Its chunks have a reference more for each time that they stand there.
+fn snapshot(
+    tree: &mut Tree,
+    refs: &mut Refs,
+    alloc: Global,
+    from: &Path,
+    to: &Path,
+) -> Result<Inverse, Refusal>
+    ensures edit { Applies (Edit.Snapshot from.now to.now) (names_of tree.old refs.old) result (names_of tree.new refs.new) }
+    ensures undo { IfOk result (λ i. NamesTakenBack i (names_of tree.old refs.old) (names_of tree.new refs.new)) }
+{
+    let chunks = tree.visible_chunks_under(alloc, from)?;
+    let inverse = match tree.snapshot(from, to) {
+        Ok(inverse) => inverse,
+        Err(refusal) => return Err(refusal),
+    };
+    match refs.raise_each(&chunks) {
+        Ok(()) => Ok(Inverse::Tree(inverse)),
+        Err(refusal) => {
+            let _ = tree.undo(&inverse);
             Err(refusal)
         }
     }
@@ -170,7 +216,12 @@ fn last_chunk_of(tree: &Tree, path: &Path) -> Option<Handle>
 }
 
 /// Takes an edit of the tree back.
-fn undo_in(tree: &mut Tree, refs: &mut Refs, inverse: &TreeInverse) -> Result<(), Refusal>
+fn undo_in(
+    tree: &mut Tree,
+    refs: &mut Refs,
+    alloc: Global,
+    inverse: &TreeInverse,
+) -> Result<(), Refusal>
     ensures { TakesOneBack inverse.now (names_of tree.old refs.old) result (names_of tree.new refs.new) }
 {
     match inverse {
@@ -179,7 +230,59 @@ fn undo_in(tree: &mut Tree, refs: &mut Refs, inverse: &TreeInverse) -> Result<()
         TreeInverse::Changed(path, index, old) => undo_change(
             tree, refs, inverse, path, *index, *old,
         ),
-        TreeInverse::Removed(..) | TreeInverse::Copied(_) => Err(Refusal::BadLine),
+        TreeInverse::Removed(path, node) => undo_remove(tree, refs, alloc, inverse, path, node),
+        TreeInverse::Copied(path) => undo_snapshot(tree, refs, alloc, inverse, path),
+    }
+}
+
+/// Puts what was removed back. Its chunks have a reference again for each time that they stand there.
+fn undo_remove(
+    tree: &mut Tree,
+    refs: &mut Refs,
+    alloc: Global,
+    inverse: &TreeInverse,
+    path: &Path,
+    node: &Node,
+) -> Result<(), Refusal>
+    requires { inverse.now ≡ TreeInverse.Removed path.now node.now }
+    ensures { TakesOneBack inverse.now (names_of tree.old refs.old) result (names_of tree.new refs.new) }
+{
+    let planted = node.all_chunks(alloc)?;
+    match refs.raise_each(&planted) {
+        Ok(()) => {}
+        Err(_) => return Err(Refusal::BadLine),
+    }
+    match tree.undo(inverse) {
+        Ok(()) => Ok(()),
+        Err(refusal) => {
+            let _ = refs.lower_each(&planted);
+            Err(refusal)
+        }
+    }
+}
+
+/// Takes a copy out. Its chunks have a reference less for each time that they stood there.
+fn undo_snapshot(
+    tree: &mut Tree,
+    refs: &mut Refs,
+    alloc: Global,
+    inverse: &TreeInverse,
+    path: &Path,
+) -> Result<(), Refusal>
+    requires { inverse.now ≡ TreeInverse.Copied path.now }
+    ensures { TakesOneBack inverse.now (names_of tree.old refs.old) result (names_of tree.new refs.new) }
+{
+    let copied = tree.chunks_under(alloc, path)?;
+    match refs.lower_each(&copied) {
+        Ok(()) => {}
+        Err(_) => return Err(Refusal::BadLine),
+    }
+    match tree.undo(inverse) {
+        Ok(()) => Ok(()),
+        Err(refusal) => {
+            let _ = refs.raise_each(&copied);
+            Err(refusal)
+        }
     }
 }
 
@@ -302,8 +405,10 @@ impl Names {
     }
 
     /// Makes an edit, and answers what takes it back. BadLine where the edit isn't given what it asks for: a chunk that
-    /// isn't listed yet, the chunk of a place, chunks without references. Else the refusals are those of the tree's call,
-    /// in its order. Every refusal, Memory too, leaves the names as they were.
+    /// isn't listed yet, the chunk of a place, chunks without references, a reference for each time that a chunk stands
+    /// in what is removed. Else the refusals are those of the tree's call, in its order, then those of the counts:
+    /// Exhausted where a snapshot would refer to a chunk more often than a count can say. Every refusal, Memory too, leaves
+    /// the names as they were.
     pub fn apply(&mut self, edit: &Edit) -> Result<Inverse, Refusal>
         ensures edit { Applies edit.now self.old result self.new }
 
@@ -319,7 +424,9 @@ impl Names {
         ensures { Undoes inverse.now self.old result self.new }
     {
         match inverse {
-            Inverse::Tree(inverse) => undo_in(&mut self.tree, &mut self.refs, inverse),
+            Inverse::Tree(inverse) => {
+                undo_in(&mut self.tree, &mut self.refs, self.alloc, inverse)
+            },
             Inverse::Remember(chunks) => self.refs.put_back_each(self.alloc, chunks),
         }
     }

@@ -1,7 +1,7 @@
 -- Counts of references as a map from the number of a handle to its count.
-use Rattle.std.specs.Prelude.{◌≡◌, ◌+◌, ◌-◌, ◌&&◌, ◌==◌, ◌∷◌, [], ℕ, List, Bool, true, false, Option, Some, None, Result, Ok, Err, ◌⊎◌, map, filter, nat_lt, is_none, if◌then◌else◌, refl}
+use Rattle.std.specs.Prelude.{◌≡◌, ◌+◌, ◌-◌, ◌&&◌, ◌==◌, ◌∷◌, [], ℕ, List, Bool, true, false, Option, Some, None, Result, Ok, Err, ◌⊎◌, map, filter, nat_lt, nat_le, is_none, cond, if◌then◌else◌, refl}
 use Rattle.std.specs.List.{list_all}
-use Rattle.std.specs.Ordering.{nat_cmp}
+use Rattle.std.specs.Ordering.{nat_cmp, eq_by_cmp}
 use Rattle.std.specs.FinMap as fin
 use Rattle.gs_base.specs.declared.refusal.Refusal.{Refusal}
 use Rattle.gs_base.specs.declared.refusal.Refusal.TheVariants.{Exhausted, BadLine, Memory}
@@ -28,6 +28,51 @@ lowered_from m handle (Some n) = if n == 0 then Err BadLine else Ok (fin.insert 
 
 abbrev pub lowered : Counts → ℕ → Result Counts Refusal
 lowered m handle = lowered_from m handle (fin.get m handle)
+
+-- one more reference to a listed handle
+abbrev pub raised_listed_from : Counts → ℕ → Option ℕ → Result Counts Refusal
+raised_listed_from m handle None = Err BadLine
+raised_listed_from m handle (Some n) = if nat_lt n last_count then Ok (fin.insert m handle (n + 1)) else Err Exhausted
+
+abbrev pub raised_listed : Counts → ℕ → Result Counts Refusal
+raised_listed m handle = raised_listed_from m handle (fin.get m handle)
+
+-- what comes of accepted counts, or the refusal
+abbrev pub and_then : Result Counts Refusal → (Counts → Result Counts Refusal) → Result Counts Refusal
+and_then (Ok m) next = next m
+and_then (Err e) next = Err e
+
+-- one more reference to each handle of a list, as often as it stands there; the first that can't have it is refused
+abbrev pub raised_each : Counts → List ℕ → Result Counts Refusal
+raised_each m [] = Ok m
+raised_each m (h ∷ hs) = and_then (raised_listed m h) (λ n. raised_each n hs)
+
+-- one reference less to each
+abbrev pub lowered_each : Counts → List ℕ → Result Counts Refusal
+lowered_each m [] = Ok m
+lowered_each m (h ∷ hs) = and_then (lowered m h) (λ n. lowered_each n hs)
+
+-- a handle is listed with a count
+abbrev pub has_count : Option ℕ → Bool
+has_count None = false
+has_count (Some n) = nat_le n last_count
+
+-- how often a handle stands in a list
+abbrev pub occurrences : ℕ → List ℕ → ℕ
+occurrences handle [] = 0
+occurrences handle (h ∷ hs) = cond (eq_by_cmp nat_cmp handle h) 1 0 + occurrences handle hs
+
+abbrev pub count_or_zero : Option ℕ → ℕ
+count_or_zero None = 0
+count_or_zero (Some n) = n
+
+-- each handle's count is how often it stands in a list; one that doesn't stand there may be listed without references
+abbrev pub IsCountOf : List ℕ → Counts → Type 0
+IsCountOf hs m = (handle : ℕ) → count_or_zero (fin.get m handle) ≡ occurrences handle hs
+
+-- no listed handle has references
+abbrev pub is_zero : Counts → Bool
+is_zero m = list_all (λ e. e.1 == 0) (fin.entries m)
 
 -- without a listed handle that has no references
 abbrev pub taken_from : Counts → ℕ → Option ℕ → Result Counts Refusal
@@ -145,3 +190,9 @@ stays_listed m = refl
 
 still_referred_to : (m : Counts) → taken_from m 7 (Some 1) ≡ Err BadLine
 still_referred_to m = refl
+
+only_listed_chunks_are_raised : (m : Counts) → raised_listed_from m 7 None ≡ Err BadLine
+only_listed_chunks_are_raised m = refl
+
+twice_in_a_list : occurrences 7 (7 ∷ 8 ∷ 7 ∷ []) ≡ 2
+twice_in_a_list = refl

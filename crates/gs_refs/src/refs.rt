@@ -1,6 +1,6 @@
-ghost use Rattle.std.specs.Prelude.{◌≡◌, IfOk, IfSome, IsSome, OnOk, OnErr, Some, None, is_none};
+ghost use Rattle.std.specs.Prelude.{◌≡◌, IfOk, IfSome, IsSome, OnOk, OnErr, Some, None, Ok, MatchBool, is_none, is_ok, true};
 ghost use Rattle.std.specs.FinMap as fin;
-ghost use Rattle.gs_refs.specs.Counts.{raised, lowered, taken_out, put_back, unlisted, taken_each, put_each, without_each, with_each, is_at_zero, ascends, ascends_from, Follows, FollowsOrMemory, orphans, rises, rises_from, made_of, GivesOrMemory};
+ghost use Rattle.gs_refs.specs.Counts.{raised, lowered, raised_listed, raised_each, lowered_each, has_count, IsCountOf, is_zero, taken_out, put_back, unlisted, taken_each, put_each, without_each, with_each, is_at_zero, ascends, ascends_from, Follows, FollowsOrMemory, orphans, rises, rises_from, made_of, GivesOrMemory};
 ghost use Rattle.std.specs.List.{list_all};
 
 use gs_base::{Handle, Refusal};
@@ -52,17 +52,17 @@ impl Refs {
         // A chunk that is listed takes no memory.
         ensures listed { IsSome (fin.get self.old handle) → Follows (raised self.old handle) result self.old self.new }
     {
-        match self.count(handle) {
-            None => self.write(handle, 1)?,
-            Some(u32::MAX) => return Err(Refusal::Exhausted),
-            Some(count) => self.set(handle, count + 1),
+        if self.count(handle).is_none() {
+            self.write(handle, 1)?;
+            return Ok(());
         }
-        Ok(())
+        self.raise_listed(handle)
     }
 
     /// One reference less to a chunk, which stays listed. `BadLine` if it has none or isn't listed. It takes no memory.
     pub fn lower(&mut self, handle: Handle) -> Result<(), Refusal>
-        ensures { Follows (lowered self.old handle) result self.old self.new }
+        ensures edit { Follows (lowered self.old handle) result self.old self.new }
+        ensures count { IfOk result (λ _. has_count (fin.get self.old handle) ≡ true) }
     {
         match self.count(handle) {
             None | Some(0) => return Err(Refusal::BadLine),
@@ -104,6 +104,42 @@ impl Refs {
         Ok(())
     }
 
+    /// One more reference to each chunk of a list, as often as it stands there. `BadLine` where one isn't listed,
+    /// `Exhausted` after the last count: what the first chunk that can't have it is refused. It takes no memory.
+    pub fn raise_each(&mut self, handles: &[Handle]) -> Result<(), Refusal>
+        ensures edit { Follows (raised_each self.old handles.now) result self.old self.new }
+        ensures back { IfOk result (λ _. lowered_each self.new handles.now ≡ Ok self.old) }
+    {
+        for (index, handle) in handles.iter().enumerate() {
+            match self.raise_listed(*handle) {
+                Ok(()) => {}
+                Err(refusal) => {
+                    self.lower_back(&handles[..index]);
+                    return Err(refusal);
+                }
+            }
+        }
+        Ok(())
+    }
+
+    /// One reference less to each chunk of a list, as often as it stands there. Each stays listed. `BadLine` where one has
+    /// none left or isn't listed. It takes no memory.
+    pub fn lower_each(&mut self, handles: &[Handle]) -> Result<(), Refusal>
+        ensures edit { Follows (lowered_each self.old handles.now) result self.old self.new }
+        ensures back { IfOk result (λ _. raised_each self.new handles.now ≡ Ok self.old) }
+    {
+        for (index, handle) in handles.iter().enumerate() {
+            match self.lower(*handle) {
+                Ok(()) => {}
+                Err(refusal) => {
+                    self.raise_back(&handles[..index]);
+                    return Err(refusal);
+                }
+            }
+        }
+        Ok(())
+    }
+
     /// Lists the chunks of a list no more. `BadLine` unless their handles rise and each is listed without references. It
     /// takes no memory.
     pub fn take_out_each(&mut self, handles: &[Handle]) -> Result<(), Refusal>
@@ -132,6 +168,17 @@ impl Refs {
         }
         *self = refs;
         Ok(())
+    }
+
+    /// Whether the count of each chunk is how often it stands in a list. It copies the counts.
+    pub fn counts(&self, alloc: Global, handles: &[Handle]) -> Result<bool, AllocError>
+        ensures { IfOk result (λ same. MatchBool same (IsCountOf handles.now self.now) (IsCountOf handles.now self.now → ⊥)) }
+    {
+        let mut rest = self.copy(alloc)?;
+        match rest.lower_each(handles) {
+            Ok(()) => Ok(rest.is_zero()),
+            Err(_) => Ok(false),
+        }
     }
 
     /// The listed chunks without references, ascending.
@@ -192,6 +239,50 @@ impl Refs {
         ensures { self.new ≡ fin.insert self.old handle count }
     {
         let _written = self.write(handle, count);
+    }
+
+    /// One more reference to a listed chunk.
+    fn raise_listed(&mut self, handle: Handle) -> Result<(), Refusal>
+        ensures { Follows (raised_listed self.old handle) result self.old self.new }
+    {
+        match self.count(handle) {
+            None => return Err(Refusal::BadLine),
+            Some(u32::MAX) => return Err(Refusal::Exhausted),
+            Some(count) => self.set(handle, count + 1),
+        }
+        Ok(())
+    }
+
+    /// One reference less to each chunk of a list, where each has it.
+    fn lower_back(&mut self, handles: &[Handle])
+        requires { is_ok (lowered_each self.old handles.now) ≡ true }
+        ensures { lowered_each self.old handles.now ≡ Ok self.new }
+    {
+        for handle in handles {
+            let _ = self.lower(*handle);
+        }
+    }
+
+    /// One more reference to each chunk of a list, where each can have it.
+    fn raise_back(&mut self, handles: &[Handle])
+        requires { is_ok (raised_each self.old handles.now) ≡ true }
+        ensures { raised_each self.old handles.now ≡ Ok self.new }
+    {
+        for handle in handles {
+            let _ = self.raise_listed(*handle);
+        }
+    }
+
+    /// Whether no listed chunk has references.
+    fn is_zero(&self) -> bool
+        ensures { result ≡ is_zero self.now }
+    {
+        for (_, count) in self.counts.iter() {
+            if *count != 0 {
+                return false;
+            }
+        }
+        true
     }
 
     /// Whether each chunk of a list is listed without references.

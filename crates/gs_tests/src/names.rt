@@ -60,6 +60,49 @@ fn hides(alloc: Global, names: &mut Names, inverses: &mut Vec<Inverse>) -> Resul
     )
 }
 
+/// A file of two chunks.
+fn file_of_two(
+    alloc: Global,
+    names: &mut Names,
+    inverses: &mut Vec<Inverse>,
+) -> Result<(), Refusal> {
+    let first = Handle::first();
+    make(names, inverses, Edit::Create(Path::parse(alloc, "/f")?))?;
+    make(
+        names,
+        inverses,
+        Edit::AddChunk(Path::parse(alloc, "/f")?, first),
+    )?;
+    make(
+        names,
+        inverses,
+        Edit::AddChunk(Path::parse(alloc, "/f")?, first.next()?),
+    )
+}
+
+fn removes(alloc: Global, names: &mut Names, inverses: &mut Vec<Inverse>) -> Result<(), Refusal> {
+    let hidden = "/.deleted.00000000000000000005.00000000000000000012.f";
+    make(
+        names,
+        inverses,
+        Edit::Hide(Path::parse(alloc, "/f")?, Moment(5), 12),
+    )?;
+    make(
+        names,
+        inverses,
+        Edit::Remove(Path::parse_hidden(alloc, hidden)?),
+    )
+}
+
+fn snapshots(alloc: Global, names: &mut Names, inverses: &mut Vec<Inverse>) -> Result<(), Refusal> {
+    let copy = Path::parse(alloc, "/g")?;
+    make(
+        names,
+        inverses,
+        Edit::Snapshot(Path::parse(alloc, "/f")?, copy),
+    )
+}
+
 fn take_back(names: &mut Names, inverses: &[Inverse]) -> Result<(), Refusal> {
     for inverse in inverses.iter().rev() {
         names.undo(inverse)?;
@@ -80,5 +123,35 @@ fn edits_and_takes_back(rt: HostRuntime) -> Result<(), Fail> {
     let second = Handle::first().next()?;
     assert_eq!(rt; names.refs().count(second), None);
     assert_eq!(rt; copy.refs().count(second), Some(1));
+    Ok(())
+}
+
+#[test]
+fn removes_and_plants_again(rt: HostRuntime) -> Result<(), Fail> {
+    let alloc = rt.alloc();
+    let second = Handle::first().next()?;
+    let mut names = Names::new(alloc);
+    let mut inverses: Vec<Inverse> = Vec::new(alloc);
+    file_of_two(alloc, &mut names, &mut Vec::new(alloc))?;
+    removes(alloc, &mut names, &mut inverses)?;
+    assert_eq!(rt; names.refs().count(second), Some(0));
+    take_back(&mut names, &inverses)?;
+    assert_eq!(rt; names.refs().count(second), Some(1));
+    Ok(())
+}
+
+#[test]
+fn snapshots_and_takes_the_copy_out(rt: HostRuntime) -> Result<(), Fail> {
+    let alloc = rt.alloc();
+    let second = Handle::first().next()?;
+    let mut names = Names::new(alloc);
+    let mut inverses: Vec<Inverse> = Vec::new(alloc);
+    file_of_two(alloc, &mut names, &mut Vec::new(alloc))?;
+    snapshots(alloc, &mut names, &mut inverses)?;
+    assert_eq!(rt; names.refs().count(second), Some(2));
+    assert!(rt; snapshots(alloc, &mut names, &mut Vec::new(alloc)).is_err());
+    assert_eq!(rt; names.refs().count(second), Some(2));
+    take_back(&mut names, &inverses)?;
+    assert_eq!(rt; names.refs().count(second), Some(1));
     Ok(())
 }

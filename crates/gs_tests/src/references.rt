@@ -48,3 +48,34 @@ fn reads_entries_that_rise(rt: HostRuntime) -> Result<(), Fail> {
     assert!(rt; Refs::of(alloc, &[(first, 1), (first, 1)]).is_err());
     Ok(())
 }
+
+#[test]
+fn counts_the_chunks_of_a_list(rt: HostRuntime) -> Result<(), Fail> {
+    let alloc = rt.alloc();
+    let first = Handle::first();
+    let second = first.next()?;
+    let mut refs = Refs::of(alloc, &[(first, 0), (second, u32::MAX - 1)])?;
+    refs.raise_each(&[first, second, first])?;
+    assert_eq!(rt; refs.count(first), Some(2));
+    assert_eq!(rt; refs.count(second), Some(u32::MAX));
+    assert_eq!(rt; number(refs.raise_each(&[first, second])), 31);
+    assert_eq!(rt; number(refs.raise_each(&[first, second.next()?])), 34);
+    assert_eq!(rt; number(refs.lower_each(&[second, first, first, first])), 34);
+    assert_eq!(rt; refs.count(first), Some(2));
+    refs.lower_each(&[first, first, second])?;
+    assert_eq!(rt; refs.count(first), Some(0));
+    assert_eq!(rt; refs.count(second), Some(u32::MAX - 1));
+    Ok(())
+}
+
+#[test]
+fn counts_what_a_list_has(rt: HostRuntime) -> Result<(), Fail> {
+    let alloc = rt.alloc();
+    let first = Handle::first();
+    let second = first.next()?;
+    let refs = Refs::of(alloc, &[(first, 2), (second, 0)])?;
+    assert!(rt; refs.counts(alloc, &[first, first])?);
+    assert!(rt; !refs.counts(alloc, &[first])?);
+    assert!(rt; !refs.counts(alloc, &[first, first, second])?);
+    Ok(())
+}

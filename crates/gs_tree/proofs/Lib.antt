@@ -11,4 +11,9 @@ pub mod Makes
 pub mod Depths
 pub mod Removals
 pub mod Chunks
+pub mod Gathering
+pub mod Under
+pub mod Building
+pub mod Entering
+pub mod Root
 pub mod Mapped

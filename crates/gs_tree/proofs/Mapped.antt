@@ -1,15 +1,14 @@
 -- Each command of a plain tree commutes with a map over the payload.
-use Rattle.std.proofs.Common.{◌≡◌, ℕ, Bool, true, false, not, cond, ◌&&◌, ◌||◌, List, [], ◌∷◌, ◌++◌, map, length, set, nat_lt, refl, sym, ap, ◌∙◌}
+use Rattle.std.proofs.Common.{◌≡◌, ℕ, Bool, true, false, not, cond, ◌&&◌, ◌||◌, [], ◌∷◌, ◌++◌, map, length, set, nat_lt, refl, sym, ap, ◌∙◌}
 use Rattle.std.specs.Prelude.{Option, Some, None, Result, Ok, Err, is_some, is_none}
-use Rattle.std.specs.Option.{option_map}
 use Rattle.std.specs.List.{list_any}
 use Rattle.gs_base.specs.declared.refusal.Refusal.{Refusal}
 use Rattle.gs_base.specs.declared.refusal.Refusal.TheVariants.{BadPath, NotFound, Exists, NotADirectory, IsADirectory, IntoItself, IsRoot, NotHidden, Range}
 use Rattle.gs_path.specs.Path.{Name, Path, begins}
 use Rattle.gs_path.specs.Element.{is_hidden}
 use Rattle.gs_tree.specs.Entry.{Entry, Dir, File}
-use Rattle.gs_tree.specs.Plain.{Plain, after, with_at, without, part_at}
-use Rattle.gs_tree.specs.Edits.{mkdirs, create, made, rename, move_to, placed, hide, hidden_path, unhide, unhidden, renamed_beside, beside, old_name, remove, add_chunk, set_chunk, snapshot, copied, visible, moved, with_dirs, with_entry, with_chunks, chunks_in, is_dir, is_file, file_above, same_path, target_of, parent, last}
+use Rattle.gs_tree.specs.Plain.{Plain, after, without, part_at}
+use Rattle.gs_tree.specs.Edits.{mkdirs, create, rename, placed, hide, hidden_path, unhide, unhidden, beside, old_name, remove, add_chunk, set_chunk, snapshot, copied, visible, moved, with_dirs, with_entry, with_chunks, chunks_in, is_dir, is_file, file_above, same_path, target_of, parent, last}
 use Rattle.gs_tree.specs.Mapped.{mapped_entry, mapped_at, mapped, mapped_result}
 use Rattle.std.proofs.lemmas.List.{map-set, map-append, length-map}
 

@@ -1,10 +1,11 @@
 -- What takes an edit back, and where it fits.
-use Rattle.std.specs.Prelude.{◌≡◌, ◌≢◌, ◌⊎◌, ◌≤◌, ◌+◌, ◌-◌, ℕ, true, false, cond, [], ◌∷◌, List, take, drop, length, nat_lt, slice_get, slice_set, Some, None, is_some}
+use Rattle.std.specs.Prelude.{◌≡◌, ◌≢◌, ◌⊎◌, ◌≤◌, ◌+◌, ◌-◌, ℕ, Bool, true, false, cond, [], ◌∷◌, List, take, drop, length, nat_lt, slice_get, slice_set, Some, None, is_some}
 use Rattle.gs_path.specs.Path.{Path, begins}
 use Rattle.gs_tree.specs.Entry.{Entry, Dir, File}
 use Rattle.gs_tree.specs.Plain.{Plain, Same, IsFree, with_at, without, part_at}
 use Rattle.gs_tree.specs.Find.{Rows, at}
 use Rattle.gs_tree.specs.Edits.{moved, parent, same_path, chunks_in, with_chunks}
+use Rattle.gs_tree.specs.Chunks.{part_chunks}
 use Rattle.gs_tree.specs.declared.inverse.TreeInverse.{TreeInverse}
 use Rattle.gs_tree.specs.declared.inverse.TreeInverse.TheVariants.{Made, Moved, Removed, Added, Changed, Copied}
 
@@ -72,3 +73,21 @@ IsRemoved m path i = (node : Rows ℕ) × (Same (part_at path m) (at node) × (i
 -- the chunk that a file had at a place
 abbrev pub IsChanged : Plain ℕ → Path → ℕ → TreeInverse → Type 0
 IsChanged m path index i = (had : ℕ) × ((slice_get (chunks_in (m path)) index ≡ Some had) × (i ≡ Changed path index had))
+
+-- whether something is copied to undo it: the name of what moves back, or all that was removed
+abbrev pub takes_memory : TreeInverse → Bool
+takes_memory (Made path above) = false
+takes_memory (Moved from to) = true
+takes_memory (Removed path node) = true
+takes_memory (Added path) = false
+takes_memory (Changed path index chunk) = false
+takes_memory (Copied path) = false
+
+-- the chunks of what was removed, in the order of the paths
+abbrev pub removed_chunks : TreeInverse → List ℕ
+removed_chunks (Made path above) = []
+removed_chunks (Moved from to) = []
+removed_chunks (Removed path node) = part_chunks node
+removed_chunks (Added path) = []
+removed_chunks (Changed path index chunk) = []
+removed_chunks (Copied path) = []

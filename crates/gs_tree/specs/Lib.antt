@@ -10,4 +10,5 @@ pub mod Inverses
 pub mod Follows
 pub mod Falls
 pub mod Listing
+pub mod Build
 pub mod Small

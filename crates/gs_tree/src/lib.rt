@@ -1,10 +1,12 @@
 //! A tree of directories and files, each edit with what takes it back.
 #![tactic(auto)]
 
+mod entry;
 mod inverse;
 mod node;
 mod tree;
 
+pub use entry::TreeEntry;
 pub use inverse::TreeInverse;
-pub use node::Listed;
+pub use node::{Listed, Node};
 pub use tree::{Status, Tree};

@@ -3,7 +3,7 @@ ghost use Rattle.std.specs.List.{list_all, list_any};
 ghost use Rattle.std.specs.BTreeMap.{keys, Updates, IsOrdered};
 ghost use Rattle.gs_path.specs.Element.{is_hidden};
 ghost use Rattle.gs_path.specs.Path.{Path as AnyPath, begins, same_name, name_cmp};
-ghost use Rattle.gs_tree.specs.Entry.{Dir, chunks_of};
+ghost use Rattle.gs_tree.specs.Entry.{Dir, File, chunks_of};
 ghost use Rattle.gs_tree.specs.Plain.{with_at, without, IsFree, Same};
 ghost use Rattle.gs_tree.specs.Find.{at, IsPartAt, DirsAbove, IsBelow};
 ghost use Rattle.gs_tree.specs.Edits.{moved, is_dir, is_file, chunks_in, with_chunks, visible};
@@ -12,9 +12,14 @@ ghost use Rattle.gs_tree.specs.Sort.{sort_of, entry_of_leaf};
 ghost use Rattle.gs_tree.specs.Inverses.{row_of, IsBlankRow};
 ghost use Rattle.gs_tree.specs.Follows.{Sown};
 ghost use Rattle.gs_tree.specs.Listing.{IsListing, HasVisible};
+ghost use Rattle.std.specs.FinMap.{is_sorted};
+ghost use Rattle.gs_path.specs.Path.{path_cmp};
+ghost use Rattle.gs_tree.specs.Chunks.{all_chunks, part_chunks, visible_under, kept_rows};
+ghost use Rattle.gs_tree.specs.Build.{rows_of_entries, path_of_entry, kind_of_entry, prefixed, below_root, IsSound};
 
+use crate::entry::TreeEntry;
 use gs_base::{Handle, Refusal};
-use gs_path::Name;
+use gs_path::{Name, Path};
 use std::alloc::{AllocError, Global};
 use std::collections::BTreeMap;
 use std::marker::Model;
@@ -100,6 +105,16 @@ impl Node {
             Leaf::File => Kind::File(Vec::new(alloc)),
         };
         Node { kind, reach: 0 }
+    }
+
+    /// A file of these chunks.
+    pub fn file(alloc: Global, chunks: &[Handle]) -> Result<Node, AllocError>
+        ensures { IfOk result (λ node. node ≡ ([], File chunks.now) ∷ []) }
+    {
+        Ok(Node {
+            kind: Kind::File(Vec::from_slice(alloc, chunks)?),
+            reach: 0,
+        })
     }
 
     /// The least number that is known for the lengths of the paths below, or 255.
@@ -387,6 +402,77 @@ impl Node {
         match &self.kind {
             Kind::File(handles) => Some(handles),
             Kind::Dir(_) => None,
+        }
+    }
+
+    /// The chunks of all files at and under this, in the order of the paths.
+    pub fn all_chunks(&self, alloc: Global) -> Result<Vec<Handle>, AllocError>
+        ensures { IfOk result (λ found. found.items ≡ part_chunks self.now) }
+    {
+        let mut found = Vec::new(alloc);
+        self.collect(&mut found, true)?;
+        Ok(found)
+    }
+
+    /// The chunks of the files at and under this that have no hidden element below this, in the order of the paths.
+    pub fn visible_chunks(&self, alloc: Global) -> Result<Vec<Handle>, AllocError>
+        ensures { IfOk result (λ found. found.items ≡ part_chunks (visible_under [] self.now)) }
+    {
+        let mut found = Vec::new(alloc);
+        self.collect(&mut found, false)?;
+        Ok(found)
+    }
+
+    /// Adds the chunks of all files, or of the visible ones.
+    fn collect(&self, found: &mut Vec<Handle>, all: bool) -> Result<(), AllocError>
+        ensures chunks { OnOk result (found.new.items ≡ found.old.items ++ all_chunks (kept_rows all self.now)) }
+        ensures rise { OnOk result (is_sorted path_cmp (kept_rows all self.now) ≡ true) }
+    {
+        let children = match &self.kind {
+            Kind::File(handles) => {
+                found.extend_from_slice(handles)?;
+                return Ok(());
+            }
+            Kind::Dir(children) => children,
+        };
+        for (name, child) in children {
+            if all || !name.is_hidden() {
+                child.collect(found, all)?;
+            }
+        }
+        Ok(())
+    }
+
+    /// Adds what stands below this, which stands at a path, in the order of the paths.
+    pub fn list_below(
+        &self,
+        alloc: Global,
+        path: &Path,
+        listed: &mut Vec<TreeEntry>,
+    ) -> Result<(), AllocError>
+        ensures rows { OnOk result (rows_of_entries listed.new.items ≡ rows_of_entries listed.old.items ++ prefixed path.now (below_root self.now)) }
+        ensures sound { OnOk result (IsSound self.now) }
+    {
+        let Kind::Dir(children) = &self.kind else {
+            return Ok(());
+        };
+        for (name, child) in children {
+            let path = path.join(alloc, name)?;
+            let entry = child.own_entry(alloc, &path)?;
+            listed.push(entry)?;
+            child.list_below(alloc, &path, listed)?;
+        }
+        Ok(())
+    }
+
+    /// The entry of this, which stands at a path.
+    fn own_entry(&self, alloc: Global, path: &Path) -> Result<TreeEntry, AllocError>
+        ensures { IfOk result (λ e. prefixed path.now self.now ≡ (path_of_entry e, kind_of_entry e) ∷ prefixed path.now (below_root self.now)) }
+    {
+        let path = path.copy(alloc)?;
+        match &self.kind {
+            Kind::File(handles) => Ok(TreeEntry::File(path, Vec::from_slice(alloc, handles)?)),
+            Kind::Dir(_) => Ok(TreeEntry::Dir(path)),
         }
     }
 

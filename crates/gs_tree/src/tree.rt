@@ -6,10 +6,14 @@ ghost use Rattle.gs_tree.specs.Plain.{Same, IsFree, with_at, part_at, rooted};
 ghost use Rattle.gs_tree.specs.Entry.{Dir};
 ghost use Rattle.gs_tree.specs.Edits.{mkdirs, create, rename, hide, unhide, remove, add_chunk, set_chunk, snapshot, visible, beside, renamed_beside, old_name, move_to, made, target_of, is_file, parent, last};
 ghost use Rattle.gs_tree.specs.Sort.{entry_of_leaf};
-ghost use Rattle.gs_tree.specs.Inverses.{TakesBack, IsBlankRow, LeavesChunks, IsChanged, IsRemoved};
+ghost use Rattle.gs_tree.specs.Inverses.{TakesBack, IsBlankRow, LeavesChunks, IsChanged, IsRemoved, takes_memory, removed_chunks};
 ghost use Rattle.gs_tree.specs.Follows.{Follows, Undoes, TestsPlace, SwapsChunk};
 ghost use Rattle.gs_tree.specs.Listing.{HasVisible, Lists, StandsAs, pairs_of};
+ghost use Rattle.gs_tree.specs.Chunks.{chunks_under, visible_chunks_under};
+ghost use Rattle.std.specs.List.{list_all};
+ghost use Rattle.gs_tree.specs.Build.{rooted_rows, is_short, is_tree, rows_of_entries, path_of_entry, kind_of_entry, IsUpTo, AddsLast, BuildsNode, Builds};
 
+use crate::entry::TreeEntry;
 use crate::inverse::TreeInverse;
 use crate::node::{Leaf, Listed, Node, Sort};
 use gs_base::{Handle, Moment, Refusal};
@@ -197,7 +201,8 @@ fn put_copy(root: &mut Node, alloc: Global, to: &Path, copy: Node) -> Result<Tre
 
 /// Takes out a copy.
 fn drop_copy(root: &mut Node, path: &Path) -> Result<(), Refusal>
-    ensures { Undoes (TreeInverse.Copied path.now) (at root.old) result (at root.new) }
+    ensures undo { Undoes (TreeInverse.Copied path.now) (at root.old) result (at root.new) }
+    ensures memory { IfErr result (λ e. e ≡ Refusal.BadLine) }
 {
     if path.elements().is_empty() {
         return Err(Refusal::BadLine);
@@ -390,7 +395,8 @@ fn add_chunk_in(
 
 /// Takes out the last chunk of a file.
 fn drop_chunk(root: &mut Node, alloc: Global, path: &Path) -> Result<(), Refusal>
-    ensures { Undoes (TreeInverse.Added path.now) (at root.old) result (at root.new) }
+    ensures undo { Undoes (TreeInverse.Added path.now) (at root.old) result (at root.new) }
+    ensures memory { IfErr result (λ e. e ≡ Refusal.BadLine) }
 {
     match root.sort_at(path.elements()) {
         Sort::File => {}
@@ -459,7 +465,8 @@ fn reset_chunk(
     index: usize,
     chunk: Handle,
 ) -> Result<(), Refusal>
-    ensures { Undoes (TreeInverse.Changed path.now index chunk) (at root.old) result (at root.new) }
+    ensures undo { Undoes (TreeInverse.Changed path.now index chunk) (at root.old) result (at root.new) }
+    ensures memory { IfErr result (λ e. e ≡ Refusal.BadLine) }
 {
     match root.sort_at(path.elements()) {
         Sort::File => {}
@@ -483,7 +490,8 @@ fn with_name(alloc: Global, path: &Path, name: &Name) -> Result<Path, AllocError
 
 /// Takes out what was made, if it stands there and nothing else under it.
 fn unmake(root: &mut Node, path: &Path, above: usize) -> Result<(), Refusal>
-    ensures { Undoes (TreeInverse.Made path.now above) (at root.old) result (at root.new) }
+    ensures undo { Undoes (TreeInverse.Made path.now above) (at root.old) result (at root.new) }
+    ensures memory { IfErr result (λ e. e ≡ Refusal.BadLine) }
 {
     if above >= path.elements().len() {
         return Ok(());
@@ -562,6 +570,48 @@ fn own_name(alloc: Global, path: &Path) -> Result<Vec<Listed>, AllocError>
     Ok(listed)
 }
 
+/// Puts one more entry behind the last of a tree. BadLine where its path isn't behind the last, has too many elements, or
+/// its parent isn't a directory.
+fn add_last(root: &mut Node, alloc: Global, last: &Path, entry: &TreeEntry) -> Result<(), Refusal>
+    requires { IsUpTo (at root.old) last.now }
+    ensures { AddsLast (at root.old) last.now (path_of_entry entry.now) (kind_of_entry entry.now) result (at root.new) }
+{
+    let path = entry.path();
+    if *path <= *last {
+        return Err(Refusal::BadLine);
+    }
+    if path.elements().len() >= TOO_MANY_ELEMENTS {
+        return Err(Refusal::BadLine);
+    }
+    let Some((name, parent)) = path.elements().split_last() else {
+        return Err(Refusal::BadLine);
+    };
+    match root.sort_at(parent) {
+        Sort::Dir => {}
+        Sort::Missing | Sort::File => return Err(Refusal::BadLine),
+    }
+    let name = name.copy(alloc)?;
+    let node = entry.node(alloc)?;
+    root.graft(parent, name, node)?;
+    Ok(())
+}
+
+/// The tree of entries.
+fn built(alloc: Global, entries: &[TreeEntry]) -> Result<Node, Refusal>
+    ensures { BuildsNode (rows_of_entries entries.now) result }
+{
+    let mut root = Node::new(alloc, Leaf::Dir);
+    let mut last = Path::root(alloc);
+    for entry in entries {
+        match add_last(&mut root, alloc, &last, entry) {
+            Ok(()) => {}
+            Err(refusal) => return Err(refusal),
+        }
+        last = entry.path().copy(alloc)?;
+    }
+    Ok(root)
+}
+
 /// A tree of directories and files. It begins with the root, a directory that always stands.
 #[derive(Drop)]
 pub struct Tree {
@@ -580,6 +630,12 @@ impl Model for Tree {
     ghost coded = { fin_map.code coded_path coded_entry };
 
     ghost view = { λ a. fin_map.from_entries a.root };
+
+    ghost use Rattle.std.specs.Prelude.{◌≡◌, [], Some};
+    ghost use Rattle.gs_tree.specs.Find.{at};
+    ghost use Rattle.gs_tree.specs.Entry.{Dir};
+
+    ghost invariant = { λ a. at a.root [] ≡ Some Dir };
 }
 
 impl Tree {
@@ -648,6 +704,7 @@ impl Tree {
         ensures edit { Follows (remove (fin_map.get self.old) path.now) result (fin_map.get self.old) (fin_map.get self.new) }
         ensures undo { IfOk result (λ i. TakesBack i (fin_map.get self.old) (fin_map.get self.new)) }
         ensures inverse { IfOk result (λ i. IsRemoved (fin_map.get self.old) path.now i) }
+        ensures chunks { IfOk result (λ i. removed_chunks i ≡ chunks_under path.now (fin_map.entries self.old)) }
     {
         remove_in(&mut self.root, self.alloc, path)
     }
@@ -681,13 +738,16 @@ impl Tree {
         ensures edit { Follows (snapshot (is_copied_too_deep (fin_map.entries self.old) from.now) (fin_map.get self.old) from.now to.now) result (fin_map.get self.old) (fin_map.get self.new) }
         ensures undo { IfOk result (λ i. TakesBack i (fin_map.get self.old) (fin_map.get self.new)) }
         ensures inverse { IfOk result (λ i. i ≡ TreeInverse.Copied to.now) }
+        ensures chunks { IfOk result (λ _. chunks_under to.now (fin_map.entries self.new) ≡ visible_chunks_under from.now (fin_map.entries self.old)) }
     {
         snapshot_in(&mut self.root, self.alloc, from, to)
     }
 
-    /// Takes an edit back. BadLine where the inverse doesn't fit.
+    /// Takes an edit back. BadLine where the inverse doesn't fit; Memory only where something is moved back or planted
+    /// again.
     pub fn undo(&mut self, inverse: &TreeInverse) -> Result<(), Refusal>
-        ensures { Undoes inverse.now (fin_map.get self.old) result (fin_map.get self.new) }
+        ensures undo { Undoes inverse.now (fin_map.get self.old) result (fin_map.get self.new) }
+        ensures memory { IfErr result (λ e. takes_memory inverse.now ≡ false → e ≡ Refusal.BadLine) }
     {
         match inverse {
             TreeInverse::Made(path, above) => unmake(&mut self.root, path, *above),
@@ -728,6 +788,53 @@ impl Tree {
         match self.root.find(path.elements()) {
             Some(node) => node.has_visible(),
             None => false,
+        }
+    }
+
+    /// The chunks of the files at and under a path, in the order of the paths, each as often as the files have it. None
+    /// where nothing stands at the path.
+    pub fn chunks_under(&self, alloc: Global, path: &Path) -> Result<Vec<Handle>, AllocError>
+        ensures { IfOk result (λ found. found.items ≡ chunks_under path.now (fin_map.entries self.now)) }
+    {
+        match self.root.find(path.elements()) {
+            Some(node) => node.all_chunks(alloc),
+            None => Ok(Vec::new(alloc)),
+        }
+    }
+
+    /// The same of the files that a snapshot of the path copies: those without a hidden element below it.
+    pub fn visible_chunks_under(
+        &self,
+        alloc: Global,
+        path: &Path,
+    ) -> Result<Vec<Handle>, AllocError>
+        ensures { IfOk result (λ found. found.items ≡ visible_chunks_under path.now (fin_map.entries self.now)) }
+    {
+        match self.root.find(path.elements()) {
+            Some(node) => node.visible_chunks(alloc),
+            None => Ok(Vec::new(alloc)),
+        }
+    }
+
+    /// What stands at each path but the root, in the order of the paths.
+    pub fn entries(&self, alloc: Global) -> Result<Vec<TreeEntry>, AllocError>
+        ensures rows { IfOk result (λ listed. rooted_rows (rows_of_entries listed.items) ≡ fin_map.entries self.now) }
+        ensures tree { IfOk result (λ listed. list_all (λ r. is_short r.0) (fin_map.entries self.now) ≡ is_tree (rows_of_entries listed.items)) }
+    {
+        let mut listed = Vec::new(alloc);
+        self.root
+            .list_below(alloc, &Path::root(alloc), &mut listed)?;
+        Ok(listed)
+    }
+
+    /// The tree of these entries and the root. BadLine where they aren't those of a tree: the paths have to rise, the
+    /// root's not among them, each has at most 64 elements and a directory as its parent.
+    pub fn of(alloc: Global, entries: &[TreeEntry]) -> Result<Tree, Refusal>
+        ensures { Builds (rows_of_entries entries.now) result }
+    {
+        match built(alloc, entries) {
+            Ok(root) => Ok(Tree { alloc, root }),
+            Err(refusal) => Err(refusal),
         }
     }
 

@@ -29,7 +29,7 @@ returns-in-Ok-set_chunk-clause-edit c =
     let (n, ref) = referred c.args.refs.now c.args.old rest.1 in
     set_applies c.args.path.now c.args.index c.args.old c.args.new c.in-Ok-set_chunk.inverse c.args.tree.now c.set_chunk.new.self c.args.refs.now c.lower.new.self
     (admits_seen c.args.path.now c.args.index c.args.old c.args.new c.args.tree.now c.args.refs.now true tests)
-    (handed_now c.args.refs.now c.raise.new.self c.lower.new.self c.args.old c.args.new n c.lower.result parts.0 ref c.in-Ok.ensures.edit c.lower.ensures) c.in-Ok-set_chunk.ensures.edit
+    (handed_now c.args.refs.now c.raise.new.self c.lower.new.self c.args.old c.args.new n c.lower.result parts.0 ref c.in-Ok.ensures.edit c.lower.ensures.edit) c.in-Ok-set_chunk.ensures.edit
 
 pub returns-in-Ok-set_chunk-clause-undo : goal.returns-in-Ok-set_chunk-clause-undo
 returns-in-Ok-set_chunk-clause-undo c =
@@ -41,7 +41,7 @@ returns-in-Ok-set_chunk-clause-undo c =
     let old_is = held (slice_get (chunks_in (get c.args.tree.now c.args.path.now)) c.args.index) had c.args.old own rest.0 in
     let exact : c.in-Ok-set_chunk.inverse ≡ Changed c.args.path.now c.args.index c.args.old = is ∙ ap (λ h. Changed c.args.path.now c.args.index h) old_is in
     let back : TakesBack (Changed c.args.path.now c.args.index c.args.old) (get c.args.tree.now) (get c.set_chunk.new.self) = subst (λ (i : TreeInverse). TakesBack i (get c.args.tree.now) (get c.set_chunk.new.self)) exact c.in-Ok-set_chunk.ensures.undo in
-    let now = handed_now c.args.refs.now c.raise.new.self c.lower.new.self c.args.old c.args.new n c.lower.result parts.0 ref c.in-Ok.ensures.edit c.lower.ensures in
+    let now = handed_now c.args.refs.now c.raise.new.self c.lower.new.self c.args.old c.args.new n c.lower.result parts.0 ref c.in-Ok.ensures.edit c.lower.ensures.edit in
     subst (λ (i : TreeInverse). NamesTakenBack (inverses.Tree i) (names_of c.args.tree.now c.args.refs.now) (names_of c.set_chunk.new.self c.lower.new.self)) (sym exact) (record {
       fits = back.fits;
       tree = back.back;

@@ -6,8 +6,8 @@ use Rattle.gs_tree.specs.Edits.{chunks_in, with_chunks}
 use Rattle.gs_tree.proofs.Chunks.{file_is, chunks_restored}
 use Rattle.gs_tree.proofs.tree.drop_chunk.Goals as goal
 
-pub returns-in-None : goal.returns-in-None
-returns-in-None c =
+pub returns-in-None-clause-undo : goal.returns-in-None-clause-undo
+returns-in-None-clause-undo c =
     let file = file_is (at c.args.root.now c.args.path.now) (c.in-File.ensures.sort ∙ ap (λ p. sort_of (at c.args.root.now p)) c.elements.ensures) in
     let had = c.exchange-chunks.ensures.had ∙ ap (λ p. chunks_in (at c.args.root.now p)) c.elements-2.ensures in
     let len : length c.exchange-chunks.result.items ≡ length (chunks_in (at c.args.root.now c.args.path.now)) = ap length had in

@@ -6,8 +6,8 @@ use Rattle.gs_tree.specs.Find.{at}
 use Rattle.gs_tree.specs.Inverses.{IsBlankRow, first_made, below_first}
 use Rattle.gs_tree.proofs.tree.unmake.Goals as goal
 
-pub returns-then-not-is_row_at : goal.returns-then-not-is_row_at
-returns-then-not-is_row_at c =
+pub returns-then-not-is_row_at-clause-undo : goal.returns-then-not-is_row_at-clause-undo
+returns-then-not-is_row_at-clause-undo c =
     let out : c.is_row_at.result ≡ false = search rules in
     let never = rw out at c.is_row_at.ensures in
     let front : c.split_at.result.0.now ≡ first_made c.args.path.now c.args.above = c.split_at.ensures.front ∙ ap (take (c.args.above + 1)) c.elements-2.ensures in
@@ -25,8 +25,8 @@ returns-then-not-is_row_at c =
 pub prune-requires : goal.prune-requires
 prune-requires c = λ z. let k : length c.split_at.result.0.now ≡ 0 = ap length z in let l = c.split_at.ensures.front_len in absurd (omega arith)
 
-pub returns : goal.returns
-returns c =
+pub returns-clause-undo : goal.returns-clause-undo
+returns-clause-undo c =
     let yes : c.is_row_at.result ≡ true = search rules in
     let row = rw yes at c.is_row_at.ensures in
     let front : c.split_at.result.0.now ≡ first_made c.args.path.now c.args.above = c.split_at.ensures.front ∙ ap (take (c.args.above + 1)) c.elements-2.ensures in

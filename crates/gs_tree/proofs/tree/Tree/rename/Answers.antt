@@ -8,6 +8,8 @@ use Rattle.gs_tree.specs.Follows.{Follows}
 use Rattle.gs_tree.specs.Inverses.{TakesBack}
 use Rattle.gs_tree.proofs.Moves.{seen}
 use Rattle.gs_tree.proofs.Depths.{map_test}
+use Rattle.gs_tree.proofs.Root.{root_follows, rename-root}
+use Rattle.gs_tree.proofs.Depths.{rows_test}
 use Rattle.gs_tree.proofs.tree.Tree.rename.Goals as goal
 
 pub returns-clause-edit : goal.returns-clause-edit
@@ -27,3 +29,12 @@ returns-clause-undo c =
     let old : at c.self.inside.root ≡ get c.args.self.now = sym (seen c.self.inside.root) ∙ ap get c.self.view_is in
     let step = subst (λ (m : Plain ℕ). IfOk c.rename_in.result (λ i. TakesBack i m (at c.rename_in.new.root))) old c.rename_in.ensures.undo in
     subst (λ (n : Plain ℕ). IfOk c.rename_in.result (λ i. TakesBack i (get c.args.self.now) n)) (sym (seen c.rename_in.new.root)) step
+
+pub invariant_of-self : goal.invariant_of-self
+invariant_of-self c =
+    let rows = c.self.inside.root in
+    let from = c.args.from.now in
+    let to = c.args.to.now in
+    let target = target_of (at rows) from to in
+    let deep = is_too_deep rows from target in
+    root_follows _ c.rename_in.result (at rows) (at c.rename_in.new.root) (rename-root (λ _. deep) (at rows) from to c.self.invariant) (c.rename_in.ensures.edit deep (rows_test rows from target)) c.self.invariant
