@@ -25,14 +25,16 @@ def build():
 def seconds(part, count):
     def once():
         begin = time.perf_counter()
-        subprocess.run([PROGRAM, part, str(count)], check=True)
+        subprocess.run([PROGRAM, part, str(count)], check=True, stderr=subprocess.DEVNULL)
         return time.perf_counter() - begin
 
     return min(once() for _ in range(REPEATS))
 
 
 # A part of the names, and the part whose time is taken off it.
-NAMES = [("build", None), ("copy", "build")]
+NAMES = [("build", None), ("copy", "build"), ("chunks", "build"), ("remove", "chunks"), ("plant", "remove"), ("snapshot", "chunks")]
+# The same of the journal.
+JOURNAL = [("record", None), ("open", "record")]
 # Parts on blocks of 64 KB, the first of which is the library's digest alone.
 BLOCKS = ["digest", "write", "append", "read"]
 
@@ -47,11 +49,22 @@ def head(sizes, more=()):
     print(f"{'milliseconds':<12}", *(f"{'n = ' + str(s):>14}" for s in sizes), f"{'2n/n':>8}", f"{'4n/2n':>8}", *(f"{m:>10}" for m in more), flush=True)
 
 
-def show_names(n):
+def show_differences(parts, n):
     sizes = [n, 2 * n, 4 * n]
     head(sizes)
-    for part, less in NAMES:
+    for part, less in parts:
         row(part, [seconds(part, m) - (seconds(less, m) if less else 0) for m in sizes])
+
+
+def written(part, count):
+    """The bytes that the part says it has written to its disks."""
+    said = subprocess.run([PROGRAM, part, str(count)], check=True, stderr=subprocess.PIPE, text=True).stderr
+    return int(said.split()[0])
+
+
+def show_journal(n):
+    show_differences(JOURNAL, n)
+    print(f"bytes written for each record of 14 bytes: {(written('record', 2 * n) - written('record', n)) / n:.2f}", flush=True)
 
 
 def show_blocks(n):
@@ -68,7 +81,8 @@ def show_blocks(n):
 def main():
     n = int(sys.argv[1]) if len(sys.argv) > 1 else 25000
     build()
-    show_names(n)
+    show_differences(NAMES, n)
+    show_journal(10 * n)
     show_blocks(n // 50)
 
 

@@ -19,6 +19,14 @@ enum Part {
     Build,
     /// The same, and one copy of them.
     Copy,
+    /// Names with so many files of one chunk each.
+    Chunks,
+    /// The same, hidden and removed.
+    Remove,
+    /// The same, planted again.
+    Plant,
+    /// The files of one chunk each, and a snapshot of their directory.
+    Snapshot,
     /// Digests of a block by the library alone.
     Digest,
     /// Whole blocks written over blocks.
@@ -38,6 +46,10 @@ impl Part {
         match name {
             "build" => Some(Part::Build),
             "copy" => Some(Part::Copy),
+            "chunks" => Some(Part::Chunks),
+            "remove" => Some(Part::Remove),
+            "plant" => Some(Part::Plant),
+            "snapshot" => Some(Part::Snapshot),
             "digest" => Some(Part::Digest),
             "write" => Some(Part::Write),
             "append" => Some(Part::Append),
@@ -53,6 +65,10 @@ impl Part {
         match self {
             Part::Build => names::build(alloc, count).map(|_| 0),
             Part::Copy => names::copy(alloc, count).map(|()| 0),
+            Part::Chunks => names::chunks(alloc, count).map(|_| 0),
+            Part::Remove => names::remove(alloc, count).map(|()| 0),
+            Part::Plant => names::plant(alloc, count).map(|()| 0),
+            Part::Snapshot => names::snapshot(alloc, count).map(|()| 0),
             Part::Digest => blocks::digest(alloc, count).map(|()| 0),
             Part::Write => blocks::write(alloc, count).map(|()| 0),
             Part::Append => blocks::append(alloc, count).map(|()| 0),
