@@ -1,6 +1,6 @@
 -- A tree built of rows, one after another.
-use Rattle.std.proofs.Common.{◌≡◌, ◌≢◌, ◌≤◌, ◌&&◌, ◌++◌, ℕ, Bool, true, false, cond, T, [], ◌∷◌, length, refl, sym, ap, ◌∙◌, append_assoc, append-nil}
-use Rattle.std.specs.Prelude.{Option, Some, None}
+use Rattle.std.proofs.Common.{◌≡◌, ◌≢◌, ◌≤◌, ◌&&◌, inl, inr, ◌++◌, ℕ, Bool, true, false, cond, T, [], ◌∷◌, length, refl, sym, ap, ◌∙◌, append_assoc, append-nil}
+use Rattle.std.specs.Prelude.{Option, Some, None, Result, Ok, Err, IfOk, IfErr}
 use Rattle.std.specs.Option.{option_or}
 use Rattle.std.specs.List.{list_all}
 use Rattle.std.specs.declared.cmp.Ordering.{Ordering}
@@ -9,7 +9,7 @@ use Rattle.std.specs.Ordering.{is_lt, is_le, is_eq, ordering_then, ordering_reve
 use Rattle.std.proofs.lemmas.Bool.{le-leb}
 use Rattle.std.specs.Cmp.Lexicographic.{nat_list_cmp_total}
 use Rattle.std.proofs.lemmas.Cmp.{tied_itself}
-use Rattle.std.specs.FinMap.{FinMap, get, entries, get-entries, entries_sorted, is_sorted}
+use Rattle.std.specs.FinMap.{FinMap, get, entries, get-entries, entries_sorted, is_sorted, same_entries_map}
 use Rattle.std.specs.FinMap.Entries.{below_all, same_entries}
 use Rattle.gs_path.specs.Path.{Path, path_cmp, path_total, begins}
 use Rattle.gs_tree.specs.Entry.{Entry, Dir}
@@ -19,7 +19,9 @@ use Rattle.gs_tree.specs.declared.node.Sort.TheVariants as sorts
 use Rattle.gs_tree.specs.Plain.{Plain, Same, after, with_at}
 use Rattle.gs_tree.specs.Find.{Rows, at}
 use Rattle.gs_tree.specs.Edits.{same_path, is_dir, parent, with_entry}
-use Rattle.gs_tree.specs.Build.{rooted_rows, rise_behind, is_short, has_place, is_tree, IsUpTo, may_follow}
+use Rattle.gs_base.specs.declared.refusal.Refusal.{Refusal}
+use Rattle.gs_base.specs.declared.refusal.Refusal.TheVariants.{Memory}
+use Rattle.gs_tree.specs.Build.{Builds, rooted_rows, rise_behind, is_short, has_place, is_tree, IsUpTo, may_follow}
 use Rattle.gs_tree.proofs.Rows.{at-append}
 use Rattle.gs_tree.proofs.Splice.{begins_parts}
 use Rattle.gs_tree.proofs.Reaching.{same_path-is}
@@ -31,11 +33,11 @@ less Less h = refl
 less Equal h = absurd (cc)
 less Greater h = absurd (cc)
 
-left_true : (a b : Bool) → (a && b) ≡ true → a ≡ true
+pub left_true : (a b : Bool) → (a && b) ≡ true → a ≡ true
 left_true true b h = refl
 left_true false b h = absurd (cc)
 
-right_true : (a b : Bool) → (a && b) ≡ true → b ≡ true
+pub right_true : (a b : Bool) → (a && b) ≡ true → b ≡ true
 right_true true b h = h
 right_true false b h = absurd (cc)
 
@@ -253,3 +255,8 @@ no_place m last p h = last_false (is_lt (path_cmp last p)) (has_place m p) (last
 
 pub follows : (m : Plain ℕ) (last p : Path) → path_cmp last p ≡ Less → length p ≤ 64 → m (parent p) ≡ Some Dir → may_follow m last p ≡ true
 follows m last p behind short dir = ap (λ o. is_lt o && has_place m p) behind ∙ ap (λ b. b && is_dir (m (parent p))) (le-leb (length p) 64 short) ∙ ap is_dir dir
+
+-- what is built of a tree's rows is the tree
+pub built_again : (tree : FinMap path_cmp (Entry ℕ)) (rows : Rows ℕ) (built : Result (FinMap path_cmp (Entry ℕ)) Refusal) → rooted_rows rows ≡ entries tree → is_tree rows ≡ true → Builds rows built → IfOk built (λ t. t ≡ tree) × IfErr built (λ e. e ≡ Memory)
+built_again tree rows (Ok t) is whole h = (same_entries_map t tree (h.1 ∙ is), tt)
+built_again tree rows (Err e) is whole h = (tt, elim h [ inl memory ↦ memory | inr bad ↦ absurd (let k = bad.1 in cc) ])

@@ -16,4 +16,5 @@ pub mod Under
 pub mod Building
 pub mod Entering
 pub mod Root
+pub mod Apart
 pub mod Mapped

@@ -11,4 +11,5 @@ pub mod Follows
 pub mod Falls
 pub mod Listing
 pub mod Build
+pub mod Commands
 pub mod Small

@@ -4,6 +4,7 @@
 mod entry;
 mod inverse;
 mod node;
+pub mod promises;
 mod tree;
 
 pub use entry::TreeEntry;

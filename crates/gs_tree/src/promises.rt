@@ -1,0 +1,40 @@
+//! What holds of each tree, whatever was done to it.
+
+ghost use Rattle.std.specs.Prelude.{◌≡◌, ℕ, Bool, true, false, List, Result, Ok, IfOk, IfErr};
+ghost use Rattle.std.specs.List.{list_all};
+ghost use Rattle.std.specs.FinMap.{FinMap, entries as rows_of_map};
+ghost use Rattle.gs_base.specs.declared.refusal.Refusal.{Refusal};
+ghost use Rattle.gs_base.specs.declared.refusal.Refusal.TheVariants.{Memory};
+ghost use Rattle.gs_path.specs.Path.{Path, path_cmp, begins};
+ghost use Rattle.gs_tree.specs.Entry.{Entry};
+ghost use Rattle.gs_tree.specs.Plain.{Plain};
+ghost use Rattle.gs_tree.specs.Find.{Rows};
+ghost use Rattle.gs_tree.specs.Edits.{mkdirs, create, rename, hide, unhide, remove, add_chunk, set_chunk, snapshot};
+ghost use Rattle.gs_tree.specs.Mapped.{mapped, mapped_result};
+ghost use Rattle.gs_tree.specs.Build.{rooted_rows, is_tree, Builds};
+ghost use Rattle.gs_tree.specs.Commands.{Command, done, touched, IsClosed};
+
+/// Each command gives the same in a tree whose files hold the texts of the chunks: it looks at no chunk.
+pub fn texts_follow_chunks()
+    ensures mkdirs { (text : ℕ → List ℕ) (m : Plain ℕ) (p : Path) → mkdirs (mapped text m) p ≡ mapped_result text (mkdirs m p) }
+    ensures create { (text : ℕ → List ℕ) (m : Plain ℕ) (p : Path) → create (mapped text m) p ≡ mapped_result text (create m p) }
+    ensures rename { (text : ℕ → List ℕ) (is_deep : Path → Bool) (m : Plain ℕ) (from to : Path) → rename is_deep (mapped text m) from to ≡ mapped_result text (rename is_deep m from to) }
+    ensures hide { (text : ℕ → List ℕ) (m : Plain ℕ) (p : Path) (moment number : ℕ) → hide (mapped text m) p moment number ≡ mapped_result text (hide m p moment number) }
+    ensures unhide { (text : ℕ → List ℕ) (m : Plain ℕ) (p : Path) → unhide (mapped text m) p ≡ mapped_result text (unhide m p) }
+    ensures remove { (text : ℕ → List ℕ) (m : Plain ℕ) (p : Path) → remove (mapped text m) p ≡ mapped_result text (remove m p) }
+    ensures add_chunk { (text : ℕ → List ℕ) (m : Plain ℕ) (p : Path) (chunk : ℕ) → add_chunk (mapped text m) p (text chunk) ≡ mapped_result text (add_chunk m p chunk) }
+    ensures set_chunk { (text : ℕ → List ℕ) (m : Plain ℕ) (p : Path) (index chunk : ℕ) → set_chunk (mapped text m) p index (text chunk) ≡ mapped_result text (set_chunk m p index chunk) }
+    ensures snapshot { (text : ℕ → List ℕ) (is_deep : Path → Bool) (m : Plain ℕ) (from to : Path) → snapshot is_deep (mapped text m) from to ≡ mapped_result text (snapshot is_deep m from to) }
+{}
+
+/// The two sides of a snapshot are apart: neither path begins with the other, and an edit of which each path is at or under
+/// the one leaves what stands at and under the other.
+pub fn snapshots_stay_apart()
+    ensures apart { (is_deep : Path → Bool) (m n : Plain ℕ) (from to : Path) → IsClosed m → snapshot is_deep m from to ≡ Ok n → (begins from to ≡ false) × (begins to from ≡ false) }
+    ensures stay { (c : Command ℕ) (m n : Plain ℕ) (one other q : Path) → begins one other ≡ false → begins other one ≡ false → list_all (begins one) (touched c m) ≡ true → done c m ≡ Ok n → begins other q ≡ true → n q ≡ m q }
+{}
+
+/// The entries of a tree build it again, memory aside.
+pub fn entries_build_their_tree()
+    ensures { (tree : FinMap path_cmp (Entry ℕ)) (rows : Rows ℕ) (built : Result (FinMap path_cmp (Entry ℕ)) Refusal) → rooted_rows rows ≡ rows_of_map tree → is_tree rows ≡ true → Builds rows built → IfOk built (λ t. t ≡ tree) × IfErr built (λ e. e ≡ Memory) }
+{}
