@@ -1,17 +1,17 @@
 -- An edit of the tree that changes the counts of a list of chunks.
-use Rattle.std.proofs.Common.{◌≡◌, inl, inr, ℕ, false, cond, List, refl, sym, ap, ◌∙◌, subst}
-use Rattle.std.specs.Prelude.{Result, Ok, Err, is_ok, IfErr}
+use Rattle.std.proofs.Common.{◌≡◌, inl, inr, ℕ, Bool, true, false, cond, List, [], ◌∷◌, filter, refl, sym, ap, ◌∙◌, subst}
+use Rattle.std.specs.Prelude.{Result, Ok, Err, is_ok, IfErr, MatchBool}
 use Rattle.std.specs.FinMap.{FinMap, get, entries}
 use Rattle.gs_base.specs.declared.refusal.Refusal.{Refusal}
 use Rattle.gs_base.specs.declared.refusal.Refusal.TheVariants.{Memory, BadLine}
-use Rattle.gs_path.specs.Path.{Path, path_cmp}
+use Rattle.gs_path.specs.Path.{Path, path_cmp, begins}
 use Rattle.gs_refs.specs.Counts as refs
 use Rattle.gs_refs.specs.Counts.{Counts, raised_each, lowered_each}
 use Rattle.gs_tree.specs.Entry.{Entry}
-use Rattle.gs_tree.specs.Find.{is_copied_too_deep}
+use Rattle.gs_tree.specs.Find.{Rows, is_copied_too_deep}
 use Rattle.gs_tree.specs.Edits.{remove, snapshot}
 use Rattle.gs_tree.specs.Follows as tree
-use Rattle.gs_tree.specs.Chunks.{chunks_under, visible_chunks_under, part_chunks}
+use Rattle.gs_tree.specs.Chunks.{all_chunks, chunks_under, visible_chunks_under, part_chunks}
 use Rattle.gs_tree.specs.Inverses.{TakesBack, takes_memory}
 use Rattle.gs_tree.specs.declared.inverse.TreeInverse.{TreeInverse}
 use Rattle.gs_tree.specs.declared.inverse.TreeInverse.TheVariants.{Removed}
@@ -79,3 +79,19 @@ surely_undone i t u w (Err e) free back h bad = absurd (elim h.0 [
   | inl memory ↦ let k : Memory ≡ BadLine = sym memory ∙ bad free in cc
   | inr unfit ↦ unfit.1 back.fits
 ])
+
+every_row : (rows : Rows ℕ) → filter (λ r. begins [] r.0) rows ≡ rows
+every_row [] = refl
+every_row (r ∷ rows) = ap (λ rest. r ∷ rest) (every_row rows)
+
+-- the chunks under the root
+pub chunks_of_all : (rows : Rows ℕ) → chunks_under [] rows ≡ all_chunks rows
+chunks_of_all rows = ap (λ (l : Rows ℕ). all_chunks l) (every_row rows)
+
+pub if_true : (P Q : Type 0) (b : Bool) → b ≡ true → MatchBool b P Q → P
+if_true P Q true e h = h
+if_true P Q false e h = absurd (cc)
+
+pub if_false : (P Q : Type 0) (b : Bool) → b ≡ false → MatchBool b P Q → Q
+if_false P Q true e h = absurd (cc)
+if_false P Q false e h = h

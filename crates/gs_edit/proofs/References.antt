@@ -9,8 +9,8 @@ use Rattle.std.specs.Ordering.{nat_cmp, eq_by_cmp}
 use Rattle.std.specs.FinMap as fin
 use Rattle.gs_base.specs.declared.refusal.Refusal.{Refusal}
 use Rattle.gs_base.specs.declared.refusal.Refusal.TheVariants.{BadLine, Exhausted}
-use Rattle.gs_refs.specs.Counts.{Counts, last_count, raised, raised_from, lowered, lowered_from, unlisted, unlisted_from, taken_each, put_each, without_each, with_each, is_at_zero, ascends, Follows}
-use Rattle.gs_edit.specs.Edits.{handed_over, count_or_zero, has_reference}
+use Rattle.gs_refs.specs.Counts.{Counts, count_or_zero, last_count, raised, raised_from, lowered, lowered_from, unlisted, unlisted_from, taken_each, put_each, without_each, with_each, is_at_zero, ascends, Follows}
+use Rattle.gs_edit.specs.Edits.{handed_over, has_reference}
 use Rattle.gs_edit.specs.Names.{is_one, has_room, returned, without_added, without_changed, accepted}
 
 abbrev same : ℕ → ℕ → Bool

@@ -3,7 +3,7 @@ use Rattle.std.specs.Prelude.{◌≡◌, ◌⊎◌, ◌&&◌, ◌==◌, ◌-◌,
 use Rattle.std.specs.FinMap as fin
 use Rattle.gs_base.specs.declared.refusal.Refusal.{Refusal}
 use Rattle.gs_base.specs.declared.refusal.Refusal.TheVariants.{Memory, BadLine}
-use Rattle.gs_refs.specs.Counts.{Counts, last_count, taken_each, raised_each, lowered_each}
+use Rattle.gs_refs.specs.Counts.{Counts, count_or_zero, last_count, taken_each, raised_each, lowered_each}
 use Rattle.gs_tree.specs.Find.{Rows, at}
 use Rattle.gs_tree.specs.Edits.{chunks_in}
 use Rattle.gs_tree.specs.Chunks.{chunks_under, visible_chunks_under}
@@ -48,10 +48,6 @@ admits (edits.AddChunk p chunk) rows refs = is_none (fin.get refs chunk)
 admits (edits.Cow p index old new) rows refs = is_none (fin.get refs new) && (holds_chunk (slice_get (chunks_in (at rows p)) index) old && has_reference (fin.get refs old))
 admits (edits.Snapshot from to) rows refs = true
 admits (edits.Forget chunks) rows refs = true
-
-abbrev pub count_or_zero : Option ℕ → ℕ
-count_or_zero None = 0
-count_or_zero (Some n) = n
 
 -- one reference of a chunk goes to another that wasn't listed
 abbrev pub handed_over : Counts → ℕ → ℕ → Counts

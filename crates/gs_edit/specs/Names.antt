@@ -4,16 +4,15 @@ use Rattle.std.specs.FinMap as fin
 use Rattle.gs_path.specs.Path.{path_cmp}
 use Rattle.gs_base.specs.declared.refusal.Refusal.{Refusal}
 use Rattle.gs_base.specs.declared.refusal.Refusal.TheVariants.{Memory, BadLine}
-use Rattle.gs_refs.specs.Counts.{Counts, last_count, put_each, raised_each, lowered_each}
+use Rattle.gs_refs.specs.Counts.{Counts, count_or_zero, IsCountOf, last_count, put_each, raised_each, lowered_each}
 use Rattle.gs_tree.specs.Plain.{Plain, Same}
 use Rattle.gs_tree.specs.Edits.{chunks_in}
 use Rattle.gs_tree.specs.Entry.{Entry}
-use Rattle.gs_tree.specs.Chunks.{chunks_under, part_chunks}
+use Rattle.gs_tree.specs.Chunks.{all_chunks, chunks_under, part_chunks}
 use Rattle.gs_tree.specs.Inverses as tree
 use Rattle.gs_tree.specs.declared.inverse.TreeInverse.{TreeInverse}
 use Rattle.gs_tree.specs.declared.inverse.TreeInverse.TheVariants.{Made, Moved, Removed, Added, Changed, Copied}
 use Rattle.gs_edit.specs.Table.{root_rows}
-use Rattle.gs_edit.specs.Edits.{count_or_zero}
 use Rattle.gs_edit.specs.View.{NamesView}
 use Rattle.gs_edit.specs.declared.edit.Inverse.{Inverse}
 use Rattle.gs_edit.specs.declared.edit.Inverse.TheVariants as inverses
@@ -93,3 +92,12 @@ TakesOneBack i old result new = Undoes (inverses.Tree i) old result new
 abbrev pub kept_of : Result TreeInverse Refusal → Result Inverse Refusal
 kept_of (Ok i) = Ok (inverses.Tree i)
 kept_of (Err e) = Err e
+
+-- the count of each chunk is how often it stands in the tree's files; one that stands in none may be listed
+abbrev pub IsCounted : NamesView → Type 0
+IsCounted names = IsCountOf (all_chunks (fin.entries names.tree)) names.refs
+
+-- names are made of a tree and counts exactly where these are the tree's, memory aside
+abbrev pub GivesNames : NamesView → Result NamesView Refusal → Type 0
+GivesNames expected (Ok names) = (names ≡ expected) × IsCounted expected
+GivesNames expected (Err e) = ((e ≡ BadLine) × (IsCounted expected → ⊥)) ⊎ (e ≡ Memory)

@@ -3,7 +3,7 @@ ghost use Rattle.gs_edit.specs.Edits.{holds_chunk, has_reference};
 ghost use Rattle.std.specs.FinMap as fin_map;
 ghost use Rattle.gs_tree.specs.Edits.{chunks_in};
 ghost use Rattle.gs_edit.specs.Edits.{Applies};
-ghost use Rattle.gs_edit.specs.Names.{NamesTakenBack, Undoes, TakesOneBack, last_chunk, returned, is_one, has_room, kept_of};
+ghost use Rattle.gs_edit.specs.Names.{NamesTakenBack, Undoes, TakesOneBack, last_chunk, returned, is_one, has_room, kept_of, GivesNames};
 ghost use Rattle.gs_edit.specs.View.{names_of};
 
 use crate::edit::{Edit, Inverse};
@@ -390,6 +390,17 @@ impl Names {
             tree: Tree::new(alloc),
             refs: Refs::new(alloc),
         }
+    }
+
+    /// The names of a tree and of counts. BadLine where a chunk's count isn't how often it stands in the tree's files.
+    pub fn of(alloc: Global, tree: Tree, refs: Refs) -> Result<Names, Refusal>
+        ensures { GivesNames (names_of tree refs) result }
+    {
+        let chunks = tree.chunks_under(alloc, &Path::root(alloc))?;
+        if !refs.counts(alloc, &chunks)? {
+            return Err(Refusal::BadLine);
+        }
+        Ok(Names { alloc, tree, refs })
     }
 
     pub fn tree(&self) -> &Tree
