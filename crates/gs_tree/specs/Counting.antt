@@ -1,5 +1,6 @@
 -- How the chunks of a tree come and go, however they are counted.
 use Rattle.std.specs.Prelude.{◌≡◌, ◌+◌, ◌-◌, ◌++◌, ℕ, List, [], ◌∷◌, take, drop, length}
+use Rattle.std.proofs.Common.{length-append}
 use Rattle.std.specs.FinMap.{FinMap, get, entries}
 use Rattle.gs_path.specs.Path.{path_cmp}
 use Rattle.gs_tree.specs.Entry.{Entry}
@@ -36,3 +37,6 @@ put_back_by (Removed path node) = part_chunks node
 put_back_by (Added path) = []
 put_back_by (Changed path index chunk) = chunk ∷ []
 put_back_by (Copied path) = []
+
+lengths_add_up : IsAdditive length
+lengths_add_up xs ys = length-append xs ys

@@ -12,7 +12,7 @@ ghost use Rattle.gs_tree.specs.Find.{Rows};
 ghost use Rattle.gs_tree.specs.Edits.{mkdirs, create, rename, hide, unhide, remove, add_chunk, set_chunk, snapshot};
 ghost use Rattle.gs_tree.specs.Mapped.{mapped, mapped_result};
 ghost use Rattle.gs_tree.specs.Build.{rooted_rows, is_tree, Builds};
-ghost use Rattle.gs_tree.specs.Inverses.{Fits, after_undo};
+ghost use Rattle.gs_tree.specs.Inverses.{Fits, TakesBack, after_undo};
 ghost use Rattle.gs_tree.specs.Chunks.{all_chunks};
 ghost use Rattle.gs_tree.specs.Counting.{IsAdditive, dropped_by, put_back_by};
 ghost use Rattle.gs_tree.specs.declared.inverse.TreeInverse.{TreeInverse};
@@ -44,7 +44,8 @@ pub fn entries_build_their_tree()
 {}
 
 /// The chunks of a tree before and after an inverse is undone, however they are counted: those that go and those that come
-/// make the difference. For an edit read it from the end: its inverse leads from the new tree to the old.
-pub fn undoing_balances_the_chunks()
-    ensures { (count : List ℕ → ℕ) (i : TreeInverse) (old new : FinMap path_cmp (Entry ℕ)) → IsAdditive count → Fits i (get old) → Same (get new) (after_undo i (get old)) → count (all_chunks (rows_of_map new)) + count (dropped_by i old) ≡ count (all_chunks (rows_of_map old)) + count (put_back_by i) }
+/// make the difference. So too of an edit, whose inverse leads from the new tree to the old.
+pub fn inverses_balance_the_chunks()
+    ensures undo { (count : List ℕ → ℕ) (i : TreeInverse) (old new : FinMap path_cmp (Entry ℕ)) → IsAdditive count → Fits i (get old) → Same (get new) (after_undo i (get old)) → count (all_chunks (rows_of_map new)) + count (dropped_by i old) ≡ count (all_chunks (rows_of_map old)) + count (put_back_by i) }
+    ensures edit { (count : List ℕ → ℕ) (i : TreeInverse) (old new : FinMap path_cmp (Entry ℕ)) → IsAdditive count → TakesBack i (get old) (get new) → count (all_chunks (rows_of_map old)) + count (dropped_by i new) ≡ count (all_chunks (rows_of_map new)) + count (put_back_by i) }
 {}
