@@ -1,6 +1,6 @@
 -- What a command changes stands at and under its paths, so what stands apart from them stays.
 use Rattle.std.proofs.Common.{◌≡◌, ◌&&◌, ◌++◌, ℕ, Bool, true, false, cond, not, List, [], ◌∷◌, length, nat_lt, slice_set, refl, sym, ap, ◌∙◌, append_assoc}
-use Rattle.std.specs.Prelude.{Option, Some, None, Result, Ok, Err, is_some, is_none}
+use Rattle.std.specs.Prelude.{Option, Some, None, Result, Ok, Err, is_some, is_none, IfOk}
 use Rattle.std.specs.List.{list_all}
 use Rattle.gs_base.specs.declared.refusal.Refusal.{Refusal}
 use Rattle.gs_base.specs.declared.refusal.Refusal.TheVariants.{BadPath, NotFound, Exists, NotADirectory, IsADirectory, IntoItself, IsRoot, NotHidden, Range}
@@ -175,3 +175,7 @@ sides_apart is_deep m n from to closed is =
     some : (v : Option (Entry ℕ)) → is_none v ≡ false → is_some v ≡ true
     some None h = absurd (cc)
     some (Some e) h = refl
+
+pub if_ok : {I P : Type 0} (r : Result I Refusal) → P → IfOk r (λ _. P)
+if_ok (Ok i) h = h
+if_ok (Err e) h = tt

@@ -17,4 +17,5 @@ pub mod Building
 pub mod Entering
 pub mod Root
 pub mod Apart
+pub mod Counting
 pub mod Mapped
