@@ -3,3 +3,4 @@ pub mod Covers
 pub mod References
 pub mod Applied
 pub mod Gathered
+pub mod Scanned

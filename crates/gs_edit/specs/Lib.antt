@@ -4,4 +4,5 @@ pub mod Plain
 pub mod Edits
 pub mod Names
 pub mod Machine
+pub mod Scan
 pub mod Small

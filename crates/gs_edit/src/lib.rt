@@ -3,6 +3,8 @@
 
 mod edit;
 mod names;
+mod scan;
 
 pub use edit::{Edit, Inverse};
 pub use names::Names;
+pub use scan::Scan;

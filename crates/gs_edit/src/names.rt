@@ -5,9 +5,11 @@ ghost use Rattle.gs_tree.specs.Edits.{chunks_in};
 ghost use Rattle.gs_edit.specs.Edits.{Applies};
 ghost use Rattle.gs_edit.specs.Names.{NamesTakenBack, Undoes, TakesOneBack, last_chunk, returned, is_one, has_room, kept_of, GivesNames};
 ghost use Rattle.gs_edit.specs.View.{names_of};
+ghost use Rattle.gs_edit.specs.Scan.{Scans};
 
 use crate::edit::{Edit, Inverse};
-use gs_base::{Handle, Refusal};
+use crate::scan::{Scan, what_goes};
+use gs_base::{Handle, Moment, Refusal};
 use gs_path::Path;
 use gs_refs::Refs;
 use gs_tree::{Node, Status, Tree, TreeInverse};
@@ -440,6 +442,15 @@ impl Names {
             },
             Inverse::Remember(chunks) => self.refs.put_back_each(self.alloc, chunks),
         }
+    }
+
+    /// What a scan at a moment takes out: what was deleted more than 259,200 seconds before it, and then each chunk
+    /// without references. It changes nothing. BadLine where a chunk stands in what it removes more often than its count
+    /// says.
+    pub fn scan(&self, moment: Moment) -> Result<Scan, Refusal>
+        ensures { Scans moment.0 (fin_map.entries self.now.tree) self.now.refs result }
+    {
+        what_goes(self.alloc, &self.tree, &self.refs, moment)
     }
 
     /// The same names, in memory of their own.
