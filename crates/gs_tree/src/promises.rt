@@ -8,15 +8,15 @@ ghost use Rattle.gs_base.specs.declared.refusal.Refusal.TheVariants.{Memory};
 ghost use Rattle.gs_path.specs.Path.{Path, path_cmp, begins};
 ghost use Rattle.gs_tree.specs.Entry.{Entry};
 ghost use Rattle.gs_tree.specs.Plain.{Plain, Same};
-ghost use Rattle.gs_tree.specs.Find.{Rows};
+ghost use Rattle.gs_tree.specs.Find.{Rows, IsWithin, most_elements};
 ghost use Rattle.gs_tree.specs.Edits.{mkdirs, create, rename, hide, unhide, remove, add_chunk, set_chunk, snapshot};
 ghost use Rattle.gs_tree.specs.Mapped.{mapped, mapped_result};
-ghost use Rattle.gs_tree.specs.Build.{rooted_rows, is_tree, Builds};
+ghost use Rattle.gs_tree.specs.Build.{rooted_rows, is_short, is_tree, Builds};
 ghost use Rattle.gs_tree.specs.Inverses.{Fits, TakesBack, after_undo};
 ghost use Rattle.gs_tree.specs.Chunks.{all_chunks};
 ghost use Rattle.gs_tree.specs.Counting.{IsAdditive, dropped_by, put_back_by};
 ghost use Rattle.gs_tree.specs.declared.inverse.TreeInverse.{TreeInverse};
-ghost use Rattle.gs_tree.specs.Commands.{Command, done, touched, IsClosed};
+ghost use Rattle.gs_tree.specs.Commands.{Command, done, touched, made_path, TestsDepth, IsClosed};
 
 /// Each command gives the same in a tree whose files hold the texts of the chunks: it looks at no chunk.
 pub fn texts_follow_chunks()
@@ -48,4 +48,10 @@ pub fn entries_build_their_tree()
 pub fn inverses_balance_the_chunks()
     ensures undo { (count : List ℕ → ℕ) (i : TreeInverse) (old new : FinMap path_cmp (Entry ℕ)) → IsAdditive count → Fits i (get old) → Same (get new) (after_undo i (get old)) → count (all_chunks (rows_of_map new)) + count (dropped_by i old) ≡ count (all_chunks (rows_of_map old)) + count (put_back_by i) }
     ensures edit { (count : List ℕ → ℕ) (i : TreeInverse) (old new : FinMap path_cmp (Entry ℕ)) → IsAdditive count → TakesBack i (get old) (get new) → count (all_chunks (rows_of_map old)) + count (dropped_by i new) ≡ count (all_chunks (rows_of_map new)) + count (put_back_by i) }
+{}
+
+/// No path of a tree gets more than 64 elements: an accepted command leaves none longer, if none was, and the path that it
+/// makes isn't.
+pub fn paths_stay_short()
+    ensures { (c : Command ℕ) (m n : Plain ℕ) → TestsDepth c m → is_short (made_path c) ≡ true → IsWithin most_elements m → done c m ≡ Ok n → IsWithin most_elements n }
 {}
