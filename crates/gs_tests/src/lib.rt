@@ -28,4 +28,6 @@ mod replicas;
 #[cfg(test)]
 mod shell;
 #[cfg(test)]
+mod trees;
+#[cfg(test)]
 mod views;

@@ -1,6 +1,6 @@
 -- What a command changes stands at and under its paths, so what stands apart from them stays.
 use Rattle.std.proofs.Common.{◌≡◌, ◌&&◌, ◌++◌, ℕ, Bool, true, false, cond, not, List, [], ◌∷◌, length, nat_lt, slice_set, refl, sym, ap, ◌∙◌, append_assoc}
-use Rattle.std.specs.Prelude.{Option, Some, None, Result, Ok, Err, is_some, is_none}
+use Rattle.std.specs.Prelude.{Option, Some, None, Result, Ok, Err, is_some, is_none, IfOk}
 use Rattle.std.specs.List.{list_all}
 use Rattle.gs_base.specs.declared.refusal.Refusal.{Refusal}
 use Rattle.gs_base.specs.declared.refusal.Refusal.TheVariants.{BadPath, NotFound, Exists, NotADirectory, IsADirectory, IntoItself, IsRoot, NotHidden, Range}
@@ -15,15 +15,15 @@ use Rattle.gs_tree.proofs.Reaching.{same_path-is}
 use Rattle.gs_tree.proofs.Moves.{not_front}
 use Rattle.gs_tree.proofs.Building.{left_true, right_true}
 
-past : (b : Bool) (e : Refusal) (rest : Result (Plain ℕ) Refusal) (n : Plain ℕ) → cond b (Err e) rest ≡ Ok n → rest ≡ Ok n
+pub past : (b : Bool) (e : Refusal) (rest : Result (Plain ℕ) Refusal) (n : Plain ℕ) → cond b (Err e) rest ≡ Ok n → rest ≡ Ok n
 past true e rest n h = absurd (cc)
 past false e rest n h = h
 
-through : (b : Bool) (e : Refusal) (rest : Result (Plain ℕ) Refusal) (n : Plain ℕ) → cond b (Err e) rest ≡ Ok n → b ≡ false
+pub through : (b : Bool) (e : Refusal) (rest : Result (Plain ℕ) Refusal) (n : Plain ℕ) → cond b (Err e) rest ≡ Ok n → b ≡ false
 through true e rest n h = absurd (cc)
 through false e rest n h = refl
 
-same_answer : (m n : Plain ℕ) (q : Path) → ◌≡◌ {A = Result (Plain ℕ) Refusal} (Ok m) (Ok n) → n q ≡ m q
+pub same_answer : (m n : Plain ℕ) (q : Path) → ◌≡◌ {A = Result (Plain ℕ) Refusal} (Ok m) (Ok n) → n q ≡ m q
 same_answer m n q h = let k : m ≡ n = cc in ap (λ (f : Plain ℕ). f q) (sym k)
 
 begins-trans : (a b c : Path) → begins a b ≡ true → begins b c ≡ true → begins a c ≡ true
@@ -71,7 +71,7 @@ moved_leaves from to q m f t = ap (λ b. cond b (part_at from m (after to q)) (w
 copied_leaves : (from to q : Path) (m : Plain ℕ) → begins to q ≡ false → copied from to m q ≡ m q
 copied_leaves from to q m t = ap (λ b. cond b (visible (part_at from m) (after to q)) (m q)) t
 
-placed_answer : (deep : Bool) (m : Plain ℕ) (from to : Path) (new n : Plain ℕ) → placed deep m from to new ≡ Ok n → ◌≡◌ {A = Result (Plain ℕ) Refusal} (Ok new) (Ok n)
+pub placed_answer : (deep : Bool) (m : Plain ℕ) (from to : Path) (new n : Plain ℕ) → placed deep m from to new ≡ Ok n → ◌≡◌ {A = Result (Plain ℕ) Refusal} (Ok new) (Ok n)
 placed_answer deep m from to new n h =
     let h1 = past (same_path to from) Exists _ n h in
     let h2 = past (begins from to) IntoItself _ n h1 in
@@ -175,3 +175,7 @@ sides_apart is_deep m n from to closed is =
     some : (v : Option (Entry ℕ)) → is_none v ≡ false → is_some v ≡ true
     some None h = absurd (cc)
     some (Some e) h = refl
+
+pub if_ok : {I P : Type 0} (r : Result I Refusal) → P → IfOk r (λ _. P)
+if_ok (Ok i) h = h
+if_ok (Err e) h = tt

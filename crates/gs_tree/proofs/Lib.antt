@@ -17,4 +17,6 @@ pub mod Building
 pub mod Entering
 pub mod Root
 pub mod Apart
+pub mod Short
+pub mod Counting
 pub mod Mapped

@@ -136,7 +136,7 @@ dir_above m [] ne h = absurd (ne refl)
 dir_above m (x ∷ []) ne h = h.0
 dir_above m (x ∷ y ∷ p) ne h = dir_above (λ q. m (x ∷ q)) (y ∷ p) (λ e. cc) h.1
 
-parent-shorter : (p : Path) → p ≢ [] → length (parent p) < length p
+pub parent-shorter : (p : Path) → p ≢ [] → length (parent p) < length p
 parent-shorter [] ne = absurd (ne refl)
 parent-shorter (x ∷ []) ne = omega arith
 parent-shorter (x ∷ y ∷ p) ne = let l = parent-shorter (y ∷ p) (λ e. cc) in omega arith

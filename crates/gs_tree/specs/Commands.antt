@@ -2,8 +2,9 @@
 use Rattle.std.specs.Prelude.{◌≡◌, ◌++◌, ℕ, Bool, List, [], ◌∷◌, Option, Some, None, Result}
 use Rattle.gs_base.specs.declared.refusal.Refusal.{Refusal}
 use Rattle.gs_path.specs.Path.{Name, Path}
-use Rattle.gs_tree.specs.Plain.{Plain}
-use Rattle.gs_tree.specs.Edits.{mkdirs, create, rename, hide, unhide, remove, add_chunk, set_chunk, snapshot, target_of, hidden_path, beside, old_name}
+use Rattle.gs_tree.specs.Plain.{Plain, part_at}
+use Rattle.gs_tree.specs.Find.{IsDepthTest}
+use Rattle.gs_tree.specs.Edits.{mkdirs, create, rename, hide, unhide, remove, add_chunk, set_chunk, snapshot, target_of, hidden_path, beside, old_name, visible}
 
 -- `is_deep` as `rename` and `snapshot` take it
 pub data Command (A : Type 0) : Type 0 where
@@ -46,3 +47,27 @@ touched (Snapshot is_deep from to) m = to ∷ []
 -- below what doesn't stand nothing stands
 abbrev pub IsClosed : {A : Type 0} → Plain A → Type 0
 IsClosed m = (q r : Path) → m q ≡ None → m (q ++ r) ≡ None
+
+-- the path that a command makes, which it doesn't test; the root where it makes none
+abbrev pub made_path : {A : Type 0} → Command A → Path
+made_path (Mkdirs p) = p
+made_path (Create p) = p
+made_path (Rename is_deep from to) = []
+made_path (Hide p moment number) = []
+made_path (Unhide p) = []
+made_path (Remove p) = []
+made_path (AddChunk p chunk) = []
+made_path (SetChunk p index chunk) = []
+made_path (Snapshot is_deep from to) = []
+
+-- `is_deep` says whether something would have too long a path
+abbrev pub TestsDepth : {A : Type 0} → Command A → Plain A → Type 0
+TestsDepth (Mkdirs p) m = Unit {0}
+TestsDepth (Create p) m = Unit {0}
+TestsDepth (Rename is_deep from to) m = IsDepthTest (is_deep (target_of m from to)) m from (target_of m from to)
+TestsDepth (Hide p moment number) m = Unit {0}
+TestsDepth (Unhide p) m = Unit {0}
+TestsDepth (Remove p) m = Unit {0}
+TestsDepth (AddChunk p chunk) m = Unit {0}
+TestsDepth (SetChunk p index chunk) m = Unit {0}
+TestsDepth (Snapshot is_deep from to) m = IsDepthTest (is_deep to) (visible (part_at from m)) [] to

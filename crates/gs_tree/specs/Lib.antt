@@ -12,4 +12,5 @@ pub mod Falls
 pub mod Listing
 pub mod Build
 pub mod Commands
+pub mod Counting
 pub mod Small

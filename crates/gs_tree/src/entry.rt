@@ -25,7 +25,7 @@ impl TreeEntry {
     }
 
     /// The directory, with nothing in it, or the file, in memory of its own.
-    pub fn node(&self, alloc: Global) -> Result<Node, AllocError>
+    pub(crate) fn node(&self, alloc: Global) -> Result<Node, AllocError>
         ensures { IfOk result (λ node. node ≡ ([], kind_of_entry self.now) ∷ []) }
     {
         match self {

@@ -97,7 +97,7 @@ fn reach_of(elements: &[Name]) -> u8
 
 impl Node {
     /// An empty directory, or a file of no chunk.
-    pub fn new(alloc: Global, leaf: Leaf) -> Node
+    pub(crate) fn new(alloc: Global, leaf: Leaf) -> Node
         ensures { result ≡ ([], entry_of_leaf leaf) ∷ [] }
     {
         let kind = match leaf {
@@ -108,7 +108,7 @@ impl Node {
     }
 
     /// A file of these chunks.
-    pub fn file(alloc: Global, chunks: &[Handle]) -> Result<Node, AllocError>
+    pub(crate) fn file(alloc: Global, chunks: &[Handle]) -> Result<Node, AllocError>
         ensures { IfOk result (λ node. node ≡ ([], File chunks.now) ∷ []) }
     {
         Ok(Node {
@@ -126,7 +126,7 @@ impl Node {
     }
 
     /// What stands at a path below.
-    pub fn find(&self, path: &[Name]) -> Option<&Node>
+    pub(crate) fn find(&self, path: &[Name]) -> Option<&Node>
         ensures part { IsPartAt (at self.now) path.now (option_copied result) }
         ensures above { is_some result ≡ true → DirsAbove (at self.now) path.now }
     {
@@ -154,7 +154,7 @@ impl Node {
     }
 
     /// Whether this is a directory.
-    pub fn is_dir(&self) -> bool
+    pub(crate) fn is_dir(&self) -> bool
         ensures dir { result ≡ is_dir (at self.now []) }
         ensures stands { is_some (at self.now []) ≡ true }
     {
@@ -165,7 +165,7 @@ impl Node {
     }
 
     /// What kind of thing stands at a path.
-    pub fn sort_at(&self, path: &[Name]) -> Sort
+    pub(crate) fn sort_at(&self, path: &[Name]) -> Sort
         ensures sort { result ≡ sort_of (at self.now path.now) }
         ensures free { result ≡ Sort.Missing → IsFree (at self.now) path.now }
         ensures above { result ≢ Sort.Missing → DirsAbove (at self.now) path.now }
@@ -177,7 +177,12 @@ impl Node {
     }
 
     /// Puts a node under a directory, in the place of what stands there.
-    pub fn graft(&mut self, parent: &[Name], name: Name, node: Node) -> Result<(), AllocError>
+    pub(crate) fn graft(
+        &mut self,
+        parent: &[Name],
+        name: Name,
+        node: Node,
+    ) -> Result<(), AllocError>
         requires { at self.old parent.now ≡ Some Dir }
         ensures { (q : AnyPath) → at self.new q ≡ (if is_ok result then with_at (parent.now ++ name ∷ []) (at node) (at self.old) q else at self.old q) }
     {
@@ -200,7 +205,7 @@ impl Node {
     }
 
     /// Takes out a node with all under it.
-    pub fn prune(&mut self, path: &[Name]) -> Option<Node>
+    pub(crate) fn prune(&mut self, path: &[Name]) -> Option<Node>
         requires { path.now ≢ [] }
         ensures part { IsPartAt (at self.old) path.now result }
         ensures rest { (q : AnyPath) → at self.new q ≡ without path.now (at self.old) q }
@@ -221,7 +226,7 @@ impl Node {
     }
 
     /// Puts a node in the place of what stands at a path, which takes no memory.
-    pub fn put(&mut self, path: &[Name], node: Node)
+    pub(crate) fn put(&mut self, path: &[Name], node: Node)
         requires { at self.old path.now ≢ None }
         ensures { (q : AnyPath) → at self.new q ≡ with_at path.now (at node) (at self.old) q }
     {
@@ -241,7 +246,7 @@ impl Node {
     }
 
     /// Gives a file other chunks and answers those that it had, which takes no memory.
-    pub fn exchange(&mut self, path: &[Name], chunks: Vec<Handle>) -> Vec<Handle>
+    pub(crate) fn exchange(&mut self, path: &[Name], chunks: Vec<Handle>) -> Vec<Handle>
         requires { is_file (at self.old path.now) ≡ true }
         ensures had { result.items ≡ chunks_in (at self.old path.now) }
         ensures has { (q : AnyPath) → at self.new q ≡ with_chunks path.now chunks.items (at self.old) q }
@@ -274,7 +279,7 @@ impl Node {
     }
 
     /// Moves what stands at a path to a free place under a directory.
-    pub fn relocate(
+    pub(crate) fn relocate(
         &mut self,
         alloc: Global,
         from: &[Name],
@@ -300,7 +305,7 @@ impl Node {
 
     /// Puts a leaf where nothing stands, and makes each directory above it that is missing. Answers how many paths were
     /// made.
-    pub fn sow(&mut self, alloc: Global, path: &[Name], leaf: Leaf) -> Result<usize, Refusal>
+    pub(crate) fn sow(&mut self, alloc: Global, path: &[Name], leaf: Leaf) -> Result<usize, Refusal>
         requires nothing { at self.old path.now ≡ None }
         ensures { Sown (at self.old) path.now (entry_of_leaf leaf) result (at self.new) }
     {
@@ -330,7 +335,7 @@ impl Node {
 impl Node {
     /// Whether each path below has fewer elements than this. It goes down only where the node's own number leaves it
     /// open.
-    pub fn is_below(&self, limit: usize) -> bool
+    pub(crate) fn is_below(&self, limit: usize) -> bool
         ensures { MatchBool result (IsBelow limit (at self.now)) (IsBelow limit (at self.now) → ⊥) }
     {
         if self.reach < u8::MAX && usize::from(self.reach) < limit {
@@ -352,7 +357,7 @@ impl Node {
 
     /// Whether this is a row of directories along the path with an empty directory or a file of no chunk at its end, and
     /// nothing else.
-    pub fn is_blank_row(&self, path: &[Name]) -> bool
+    pub(crate) fn is_blank_row(&self, path: &[Name]) -> bool
         ensures { MatchBool result (IsBlankRow (at self.now) path.now) (IsBlankRow (at self.now) path.now → ⊥) }
     {
         match (&self.kind, path) {
@@ -367,7 +372,7 @@ impl Node {
     }
 
     /// The visible children of a directory, in the order of their names.
-    pub fn list(&self, alloc: Global) -> Result<Vec<Listed>, AllocError>
+    pub(crate) fn list(&self, alloc: Global) -> Result<Vec<Listed>, AllocError>
         ensures { IfOk result (λ listed. IsListing (at self.now) listed.items) }
     {
         let mut listed = Vec::new(alloc);
@@ -385,7 +390,7 @@ impl Node {
     }
 
     /// Whether a directory has a visible child.
-    pub fn has_visible(&self) -> bool
+    pub(crate) fn has_visible(&self) -> bool
         ensures { MatchBool result (HasVisible (at self.now)) (HasVisible (at self.now) → ⊥) }
     {
         match &self.kind {
@@ -395,7 +400,7 @@ impl Node {
     }
 
     /// The chunks of a file.
-    pub fn chunks(&self) -> Option<&[Handle]>
+    pub(crate) fn chunks(&self) -> Option<&[Handle]>
         ensures chunks { option_copied result ≡ option_and_then chunks_of (at self.now []) }
         ensures stands { is_some (at self.now []) ≡ true }
     {
@@ -415,7 +420,7 @@ impl Node {
     }
 
     /// The chunks of the files at and under this that have no hidden element below this, in the order of the paths.
-    pub fn visible_chunks(&self, alloc: Global) -> Result<Vec<Handle>, AllocError>
+    pub(crate) fn visible_chunks(&self, alloc: Global) -> Result<Vec<Handle>, AllocError>
         ensures { IfOk result (λ found. found.items ≡ part_chunks (visible_under [] self.now)) }
     {
         let mut found = Vec::new(alloc);
@@ -444,7 +449,7 @@ impl Node {
     }
 
     /// Adds what stands below this, which stands at a path, in the order of the paths.
-    pub fn list_below(
+    pub(crate) fn list_below(
         &self,
         alloc: Global,
         path: &Path,
@@ -477,7 +482,7 @@ impl Node {
     }
 
     /// The same tree, in memory of its own.
-    pub fn copy(&self, alloc: Global) -> Result<Node, AllocError>
+    pub(crate) fn copy(&self, alloc: Global) -> Result<Node, AllocError>
         ensures same { IfOk result (λ n. Same (at n) (at self.now)) }
         ensures stands { IfOk result (λ n. is_some (at n []) ≡ true) }
     {
@@ -485,7 +490,7 @@ impl Node {
     }
 
     /// All but the hidden children, and theirs, in memory of its own.
-    pub fn copy_visible(&self, alloc: Global) -> Result<Node, AllocError>
+    pub(crate) fn copy_visible(&self, alloc: Global) -> Result<Node, AllocError>
         ensures same { IfOk result (λ n. Same (at n) (visible (at self.now))) }
         ensures stands { IfOk result (λ n. is_some (at n []) ≡ true) }
     {

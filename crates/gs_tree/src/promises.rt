@@ -1,18 +1,22 @@
 //! What holds of each tree, whatever was done to it.
 
-ghost use Rattle.std.specs.Prelude.{◌≡◌, ℕ, Bool, true, false, List, Result, Ok, IfOk, IfErr};
+ghost use Rattle.std.specs.Prelude.{◌≡◌, ◌+◌, ℕ, Bool, true, false, List, Result, Ok, IfOk, IfErr};
 ghost use Rattle.std.specs.List.{list_all};
-ghost use Rattle.std.specs.FinMap.{FinMap, entries as rows_of_map};
+ghost use Rattle.std.specs.FinMap.{FinMap, get, entries as rows_of_map};
 ghost use Rattle.gs_base.specs.declared.refusal.Refusal.{Refusal};
 ghost use Rattle.gs_base.specs.declared.refusal.Refusal.TheVariants.{Memory};
 ghost use Rattle.gs_path.specs.Path.{Path, path_cmp, begins};
 ghost use Rattle.gs_tree.specs.Entry.{Entry};
-ghost use Rattle.gs_tree.specs.Plain.{Plain};
-ghost use Rattle.gs_tree.specs.Find.{Rows};
+ghost use Rattle.gs_tree.specs.Plain.{Plain, Same};
+ghost use Rattle.gs_tree.specs.Find.{Rows, IsWithin, most_elements};
 ghost use Rattle.gs_tree.specs.Edits.{mkdirs, create, rename, hide, unhide, remove, add_chunk, set_chunk, snapshot};
 ghost use Rattle.gs_tree.specs.Mapped.{mapped, mapped_result};
-ghost use Rattle.gs_tree.specs.Build.{rooted_rows, is_tree, Builds};
-ghost use Rattle.gs_tree.specs.Commands.{Command, done, touched, IsClosed};
+ghost use Rattle.gs_tree.specs.Build.{rooted_rows, is_short, is_tree, Builds};
+ghost use Rattle.gs_tree.specs.Inverses.{Fits, TakesBack, after_undo};
+ghost use Rattle.gs_tree.specs.Chunks.{all_chunks};
+ghost use Rattle.gs_tree.specs.Counting.{IsAdditive, dropped_by, put_back_by};
+ghost use Rattle.gs_tree.specs.declared.inverse.TreeInverse.{TreeInverse};
+ghost use Rattle.gs_tree.specs.Commands.{Command, done, touched, made_path, TestsDepth, IsClosed};
 
 /// Each command gives the same in a tree whose files hold the texts of the chunks: it looks at no chunk.
 pub fn texts_follow_chunks()
@@ -37,4 +41,17 @@ pub fn snapshots_stay_apart()
 /// The entries of a tree build it again, memory aside.
 pub fn entries_build_their_tree()
     ensures { (tree : FinMap path_cmp (Entry ℕ)) (rows : Rows ℕ) (built : Result (FinMap path_cmp (Entry ℕ)) Refusal) → rooted_rows rows ≡ rows_of_map tree → is_tree rows ≡ true → Builds rows built → IfOk built (λ t. t ≡ tree) × IfErr built (λ e. e ≡ Memory) }
+{}
+
+/// The chunks of a tree before and after an inverse is undone, however they are counted: those that go and those that come
+/// make the difference. So too of an edit, whose inverse leads from the new tree to the old.
+pub fn inverses_balance_the_chunks()
+    ensures undo { (count : List ℕ → ℕ) (i : TreeInverse) (old new : FinMap path_cmp (Entry ℕ)) → IsAdditive count → Fits i (get old) → Same (get new) (after_undo i (get old)) → count (all_chunks (rows_of_map new)) + count (dropped_by i old) ≡ count (all_chunks (rows_of_map old)) + count (put_back_by i) }
+    ensures edit { (count : List ℕ → ℕ) (i : TreeInverse) (old new : FinMap path_cmp (Entry ℕ)) → IsAdditive count → TakesBack i (get old) (get new) → count (all_chunks (rows_of_map old)) + count (dropped_by i new) ≡ count (all_chunks (rows_of_map new)) + count (put_back_by i) }
+{}
+
+/// No path of a tree gets more than 64 elements: an accepted command leaves none longer, if none was, and the path that it
+/// makes isn't.
+pub fn paths_stay_short()
+    ensures { (c : Command ℕ) (m n : Plain ℕ) → TestsDepth c m → is_short (made_path c) ≡ true → IsWithin most_elements m → done c m ≡ Ok n → IsWithin most_elements n }
 {}

@@ -159,6 +159,7 @@ fn snapshot_in(
     ensures edit { (deep : Bool) → IsDepthTest deep (visible (part_at from.now (at root.old))) [] to.now → Follows (snapshot (λ _. deep) (at root.old) from.now to.now) result (at root.old) (at root.new) }
     ensures undo { IfOk result (λ i. TakesBack i (at root.old) (at root.new)) }
     ensures inverse { IfOk result (λ i. i ≡ TreeInverse.Copied to.now) }
+    ensures apart { IfOk result (λ _. (begins from.now to.now ≡ false) × (begins to.now from.now ≡ false)) }
 {
     if from.elements().is_empty() {
         return Err(Refusal::IsRoot);
@@ -733,11 +734,12 @@ impl Tree {
     }
 
     /// Copies what stands at a path with all that is visible under it (GFS, section 3.4). A file's copy has the same
-    /// chunks. It costs what is copied.
+    /// chunks, and neither path begins with the other. It costs what is copied.
     pub fn snapshot(&mut self, from: &Path, to: &Path) -> Result<TreeInverse, Refusal>
         ensures edit { Follows (snapshot (is_copied_too_deep (fin_map.entries self.old) from.now) (fin_map.get self.old) from.now to.now) result (fin_map.get self.old) (fin_map.get self.new) }
         ensures undo { IfOk result (λ i. TakesBack i (fin_map.get self.old) (fin_map.get self.new)) }
         ensures inverse { IfOk result (λ i. i ≡ TreeInverse.Copied to.now) }
+        ensures apart { IfOk result (λ _. (begins from.now to.now ≡ false) × (begins to.now from.now ≡ false)) }
         ensures chunks { IfOk result (λ _. chunks_under to.now (fin_map.entries self.new) ≡ visible_chunks_under from.now (fin_map.entries self.old)) }
     {
         snapshot_in(&mut self.root, self.alloc, from, to)

@@ -9,7 +9,8 @@ use Rattle.gs_tree.specs.Plain.{Plain, with_at, part_at}
 use Rattle.gs_tree.specs.Find.{at, IsDepthTest}
 use Rattle.gs_tree.specs.Edits.{copied, visible}
 use Rattle.gs_tree.specs.Follows.{Follows}
-use Rattle.gs_tree.proofs.Moves.{refused, snapshot-is, snapshot-missing, not_empty, stands_is, none_is}
+use Rattle.gs_tree.proofs.Apart.{if_ok}
+use Rattle.gs_tree.proofs.Moves.{not_front, refused, snapshot-is, snapshot-missing, not_empty, stands_is, none_is}
 use Rattle.gs_tree.proofs.tree.snapshot_in.Goals as goal
 
 pub returns-in-Missing-clause-edit : goal.returns-in-Missing-clause-edit
@@ -26,6 +27,7 @@ returns-in-Err c =
       edit = λ deep test. refused TreeInverse c.in-Err.refusal (at c.args.root.now) (snapshot-is deep (at c.args.root.now) c.args.from.now c.args.to.now ne some ∙ c.in-Err.ensures deep (copied c.args.from.now c.args.to.now (at c.args.root.now)));
       undo = tt;
       inverse = tt;
+      apart = tt;
     }
 
 pub returns : goal.returns
@@ -42,4 +44,5 @@ returns c =
           subst (λ (r : Result (Plain ℕ) Refusal). Follows r c.put_copy.result (at c.args.root.now) (at c.put_copy.new.root)) (sym is) same;
       undo = c.put_copy.ensures.undo;
       inverse = c.put_copy.ensures.inverse;
+      apart = if_ok c.put_copy.result (c.in-Ok.ensures.apart, not_front (at c.args.root.now) c.args.to.now c.args.from.now c.in-Ok.ensures.free some);
     }
