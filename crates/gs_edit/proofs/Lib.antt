@@ -4,3 +4,4 @@ pub mod References
 pub mod Applied
 pub mod Gathered
 pub mod Scanned
+pub mod Occurring

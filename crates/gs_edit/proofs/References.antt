@@ -13,13 +13,13 @@ use Rattle.gs_refs.specs.Counts.{Counts, count_or_zero, last_count, raised, rais
 use Rattle.gs_edit.specs.Edits.{handed_over, has_reference}
 use Rattle.gs_edit.specs.Names.{is_one, has_room, returned, without_added, without_changed, accepted}
 
-abbrev same : ℕ → ℕ → Bool
+abbrev pub same : ℕ → ℕ → Bool
 same a b = eq_by_cmp nat_cmp a b
 
 same_itself : (a : ℕ) → same a a ≡ true
 same_itself a = (eq_by_cmp_equiv nat_cmp_total).refl a
 
-same-is : (a b : ℕ) → same a b ≡ true → a ≡ b
+pub same-is : (a b : ℕ) → same a b ≡ true → a ≡ b
 same-is a b e = fin.nat_cmp-IsAntisymmetric a b ((Equal-is (nat_cmp a b)).0 e)
 
 pub same_counts : (m n : Counts) → ((q : ℕ) → fin.get m q ≡ fin.get n q) → m ≡ n
@@ -44,7 +44,7 @@ get-put_other m c v q e = fin.get-insert nat_cmp_total m c v q ∙ ap (λ b. con
 pub get-removed_other : (m : Counts) (c q : ℕ) → same q c ≡ false → fin.get (fin.remove m c) q ≡ fin.get m q
 get-removed_other m c q e = fin.get-remove nat_cmp_total m c q ∙ ap (λ b. cond b None (fin.get m q)) e
 
-none_is : (v : Option ℕ) → is_none v ≡ true → v ≡ None
+pub none_is : (v : Option ℕ) → is_none v ≡ true → v ≡ None
 none_is None h = refl
 none_is (Some n) h = absurd (cc)
 
@@ -63,7 +63,7 @@ pub unlisted_now : (m new : Counts) (c : ℕ) (r : Result (Unit {0}) Refusal) �
 unlisted_now m new c (Ok _) one h = let k : Ok new ≡ Ok (fin.remove m c) = sym h ∙ ap (unlisted_from m c) one in cc
 unlisted_now m new c (Err e) one h = absurd (let k : Ok (fin.remove m c) ≡ Err e = sym (ap (unlisted_from m c) one) ∙ h.0 in cc)
 
-one_is : (v : Option ℕ) → is_one v ≡ true → v ≡ Some 1
+pub one_is : (v : Option ℕ) → is_one v ≡ true → v ≡ Some 1
 one_is None h = absurd (cc)
 one_is (Some n) h = ap (λ k. Some k) (grind (arith, nat_tests))
 
@@ -133,7 +133,7 @@ handed_back m old c n none ref =
     ap (λ b. cond b (Some (returned over c old)) None) tests ∙ ap (λ v. Some v) back
 
 -- a handle among others
-abbrev among : ℕ → List ℕ → Bool
+abbrev pub among : ℕ → List ℕ → Bool
 among q hs = list_any (λ h. same q h) hs
 
 get-without : (hs : List ℕ) (m : Counts) (q : ℕ) → fin.get (without_each m hs) q ≡ cond (among q hs) None (fin.get m q)
@@ -149,7 +149,7 @@ get-without (h ∷ hs) m q =
     none_twice true = refl
     none_twice false = refl
 
-get-with : (hs : List ℕ) (m : Counts) (q : ℕ) → fin.get (with_each m hs) q ≡ cond (among q hs) (Some 0) (fin.get m q)
+pub get-with : (hs : List ℕ) (m : Counts) (q : ℕ) → fin.get (with_each m hs) q ≡ cond (among q hs) (Some 0) (fin.get m q)
 get-with [] m q = refl
 get-with (h ∷ hs) m q =
     get-with hs (fin.insert m h 0) q ∙ ap (λ v. cond (among q hs) (Some 0) v) (fin.get-insert nat_cmp_total m h 0 q)
@@ -162,7 +162,7 @@ get-with (h ∷ hs) m q =
     zero_twice true = refl
     zero_twice false = refl
 
-all_among : (f : ℕ → Bool) (hs : List ℕ) (q : ℕ) → list_all f hs ≡ true → among q hs ≡ true → f q ≡ true
+pub all_among : (f : ℕ → Bool) (hs : List ℕ) (q : ℕ) → list_all f hs ≡ true → among q hs ≡ true → f q ≡ true
 all_among f [] q all in_hs = absurd (cc)
 all_among f (h ∷ hs) q all in_hs =
     let parts = and_parts (f h) (list_all f hs) all in

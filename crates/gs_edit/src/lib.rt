@@ -3,6 +3,7 @@
 
 mod edit;
 mod names;
+pub mod promises;
 mod scan;
 
 pub use edit::{Edit, Inverse};

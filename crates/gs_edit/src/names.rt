@@ -2,7 +2,7 @@ ghost use Rattle.std.specs.Prelude.{◌≡◌, ◌&&◌, ℕ, Vec, true, not, �
 ghost use Rattle.gs_edit.specs.Edits.{holds_chunk, has_reference};
 ghost use Rattle.std.specs.FinMap as fin_map;
 ghost use Rattle.gs_tree.specs.Edits.{chunks_in};
-ghost use Rattle.gs_edit.specs.Edits.{Applies};
+ghost use Rattle.gs_edit.specs.Edits.{Applies, AppliesRows, KeepsRefs};
 ghost use Rattle.gs_edit.specs.Names.{NamesTakenBack, Undoes, TakesOneBack, last_chunk, returned, is_one, has_room, kept_of, GivesNames};
 ghost use Rattle.gs_edit.specs.View.{names_of};
 ghost use Rattle.gs_edit.specs.Scan.{Scans};
@@ -424,6 +424,9 @@ impl Names {
     /// the names as they were.
     pub fn apply(&mut self, edit: &Edit) -> Result<Inverse, Refusal>
         ensures edit { Applies edit.now self.old result self.new }
+
+        // Of the tree alone, where the edit leaves the counts.
+        ensures rows { KeepsRefs edit.now → AppliesRows edit.now (fin_map.entries self.old.tree) result (fin_map.entries self.new.tree) }
 
         // What takes the edit back fits the new names, and leads from them to the old.
         ensures undo { IfOk result (λ i. NamesTakenBack i self.old self.new) }

@@ -1,6 +1,7 @@
 use gs_base::{Handle, Moment, Refusal};
 use gs_edit::{Edit, Inverse, Names};
 use gs_path::Path;
+use gs_refs::Refs;
 use std::alloc::Global;
 use std::test::Fail;
 
@@ -82,15 +83,23 @@ fn file_of_two(
 
 fn removes(alloc: Global, names: &mut Names, inverses: &mut Vec<Inverse>) -> Result<(), Refusal> {
     let hidden = "/.deleted.00000000000000000005.00000000000000000012.f";
-    make(
-        names,
-        inverses,
-        Edit::Hide(Path::parse(alloc, "/f")?, Moment(5), 12),
-    )?;
+    hides_the_file(alloc, names, inverses)?;
     make(
         names,
         inverses,
         Edit::Remove(Path::parse_hidden(alloc, hidden)?),
+    )
+}
+
+fn hides_the_file(
+    alloc: Global,
+    names: &mut Names,
+    inverses: &mut Vec<Inverse>,
+) -> Result<(), Refusal> {
+    make(
+        names,
+        inverses,
+        Edit::Hide(Path::parse(alloc, "/f")?, Moment(5), 12),
     )
 }
 
@@ -153,5 +162,33 @@ fn snapshots_and_takes_the_copy_out(rt: HostRuntime) -> Result<(), Fail> {
     assert_eq!(rt; names.refs().count(second), Some(2));
     take_back(&mut names, &inverses)?;
     assert_eq!(rt; names.refs().count(second), Some(1));
+    Ok(())
+}
+
+#[test]
+fn scans_what_is_over(rt: HostRuntime) -> Result<(), Fail> {
+    let alloc = rt.alloc();
+    let first = Handle::first();
+    let mut names = Names::new(alloc);
+    file_of_two(alloc, &mut names, &mut Vec::new(alloc))?;
+    hides_the_file(alloc, &mut names, &mut Vec::new(alloc))?;
+    assert!(rt; names.scan(Moment(259_205))?.removed.is_empty());
+    let scan = names.scan(Moment(259_206))?;
+    assert_eq!(rt; scan.removed.len(), 1);
+    assert_eq!(rt;
+        scan.forgotten.as_slice(),
+        [first, first.next()?].as_slice()
+    );
+    Ok(())
+}
+
+#[test]
+fn names_are_of_a_tree_and_its_counts(rt: HostRuntime) -> Result<(), Fail> {
+    let alloc = rt.alloc();
+    let mut names = Names::new(alloc);
+    file_of_two(alloc, &mut names, &mut Vec::new(alloc))?;
+    let again = Names::of(alloc, names.tree().copy()?, names.refs().copy(alloc)?)?;
+    assert_eq!(rt; again.refs().count(Handle::first()), Some(1));
+    assert!(rt; Names::of(alloc, names.tree().copy()?, Refs::new(alloc)).is_err());
     Ok(())
 }

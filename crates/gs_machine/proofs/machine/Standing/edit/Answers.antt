@@ -1,8 +1,5 @@
 use Rattle.std.proofs.Common.{◌≡◌, ◌++◌, ◌∷◌, [], ap, sym, ◌∙◌, subst, refl}
 use Rattle.std.specs.FinMap.{entries}
-use Rattle.std.specs.Prelude.{Ok, Err}
-use Rattle.gs_edit.specs.declared.edit.Inverse.{Inverse}
-use Rattle.gs_edit.proofs.Applied.{rows_applied}
 use Rattle.gs_edit.specs.View.{NamesView}
 use Rattle.gs_machine.specs.Leads.{Leads}
 use Rattle.gs_machine.proofs.Leading.{leads_more}
@@ -10,7 +7,7 @@ use Rattle.gs_machine.proofs.machine.Standing.edit.Goals as goal
 
 pub returns-in-Ok : goal.returns-in-Ok
 returns-in-Ok c = (
-  rows_applied c.args.edit.now c.requires (Ok c.in-Ok.inverse) c.args.names.now c.apply.new.self c.in-Ok.ensures.edit,
+  c.in-Ok.ensures.rows c.requires,
   refl,
   λ leads.
       let items = c.push_reserved.ensures.items ∙ ap (λ l. l ++ c.in-Ok.inverse ∷ []) c.in_ok-reserve.ensures.items in
@@ -20,7 +17,7 @@ returns-in-Ok c = (
 
 pub returns-in-Err : goal.returns-in-Err
 returns-in-Err c = (
-  (rows_applied {I = Inverse} c.args.edit.now c.requires (Err c.in-Err.refusal) c.args.names.now c.apply.new.self c.in-Err.ensures.edit).0,
+  (c.in-Err.ensures.rows c.requires).0,
   ap (λ (v : NamesView). entries v.tree) c.in-Err.ensures.edit.1,
   refl,
   λ leads.
