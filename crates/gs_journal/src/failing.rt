@@ -1,5 +1,5 @@
 // A disk of which one call fails.
-ghost use Rattle.std.specs.Prelude.{◌≡◌, ◌+◌, ◌++◌};
+ghost use Rattle.std.specs.Prelude.{◌≡◌, ◌+◌, ◌++◌, Some, None};
 ghost use Rattle.gs_journal.specs.History.{failures_of};
 ghost use Rattle.gs_journal.specs.Calls.{next_call};
 
@@ -30,6 +30,7 @@ impl<D: Disk> FailingDisk<D> {
     /// `calls` more calls pass, and the one behind them fails.
     pub fn fail_after(&mut self, calls: u64)
         ensures disk { self.new.disk ≡ self.old.disk }
+        ensures passing { self.new.passing ≡ Some calls }
     {
         self.passing = Some(calls);
     }
@@ -37,6 +38,7 @@ impl<D: Disk> FailingDisk<D> {
     /// No call fails any more.
     pub fn pass(&mut self)
         ensures disk { self.new.disk ≡ self.old.disk }
+        ensures passing { self.new.passing ≡ None }
     {
         self.passing = None;
     }
