@@ -1,18 +1,21 @@
 -- What undoing gives stays when an edit of touched blocks is taken back.
-use Rattle.std.proofs.Common.{◌≡◌, ◌≢◌, ℕ, ◌+◌, ◌-◌, ◌*◌, ◌/◌, ◌%◌, ◌<◌, ◌≤◌, arith, refl, sym, ap, subst, List, ◌∷◌, take, length, replicate, get_or, map, ◌∙◌, min, ⊎_elim, ◌⊎◌, inl, inr, Bool, true, false, cond, zero, suc, true≢false, length-take}
-use Rattle.std.specs.Prelude.{Option, Some, None, Ok, Err, is_some, nat_le, ◌&&◌, slice_index_or, not}
+use Rattle.std.proofs.Common.{◌≡◌, ◌≢◌, ℕ, ◌+◌, ◌-◌, ◌*◌, ◌/◌, ◌%◌, ◌<◌, ◌≤◌, arith, refl, sym, ap, subst, List, ◌∷◌, take, drop, length, replicate, get_or, map, ◌∙◌, min, ⊎_elim, ◌⊎◌, inl, inr, Bool, true, false, cond, zero, suc, true≢false, length-take}
+use Rattle.std.specs.Prelude.{Option, Some, None, Result, Ok, Err, is_some, nat_le, nat_lt, ◌&&◌, ◌||◌, slice_index_or, not}
 use Rattle.std.proofs.lemmas.Bool.{cases_lt, cases_eq}
-use Rattle.std.proofs.lemmas.List.{places, ext_get_or, get_or-take, get_or-map}
+use Rattle.std.proofs.lemmas.List.{ext_get_or, get_or-map, get_or-take, get_or_past, places}
 use Rattle.std.proofs.lemmas.Bool.Decides.{nat_tests}
 use Rattle.std.proofs.lemmas.List.FromFn.{length-map-range_with_len}
 use Rattle.std.specs.List.{range_with_len}
 use Rattle.gs_block.proofs.Following.{length-replaced}
+use Rattle.gs_base.specs.declared.refusal.Refusal.{Refusal}
 use Rattle.gs_base.specs.declared.refusal.Refusal.TheVariants.{BadLine}
 use Rattle.gs_block.specs.Stored.{Stored, count_of}
-use Rattle.gs_block.specs.Inverses.{Inverse, undo, fits, restored, replaced}
-use Rattle.gs_block.specs.Images.{Images, AreFirst, IsImage, begun, or_same, byte_of, byte_before, bytes_before, touched, all_touched, covers, undone}
+use Rattle.gs_block.specs.Inverses.{Inverse, undo, fits, restored, replaced, inverse_of}
+use Rattle.gs_block.specs.Kept.{Outside}
+use Rattle.gs_block.proofs.Counts.{count_mono}
+use Rattle.gs_block.specs.Images.{AreFirst, Images, IsImage, Missing, all_touched, begun, byte_before, byte_of, bytes_before, covers, missing, or_same, touch, touched, undone}
 use Rattle.gs_block.proofs.Back.{FitsAt, fits_at}
-use Rattle.gs_block.proofs.Sealed.{same_places, place_of, block_counted, block_mono}
+use Rattle.gs_block.proofs.Sealed.{block_counted, block_mono, place_of, same_places, touched_stays, with_copies}
 
 pub touched_step : (xs : List Bool) (i end : ℕ) → i < end → all_touched xs i (end - i) ≡ (slice_index_or xs i true && all_touched xs (i + 1) (end - (i + 1)))
 touched_step xs i end below =
@@ -145,3 +148,49 @@ covered i inverse s new covers_it h first =
       ap (undone i) (sym is) ∙ same,
       subst (AreFirst i) is (same_block i s (restored inverse s) refl first (let l : i.long ≤ length (take inverse.old_length (replaced s.bytes inverse.at inverse.bytes)) = omega arith in l)),
     )
+
+lt_so : (m n : ℕ) → m < n → nat_lt m n ≡ true
+lt_so m n h = grind (arith, nat_tests)
+
+le_so : (m n : ℕ) → m ≤ n → nat_le m n ≡ true
+le_so m n h = grind (arith, nat_tests)
+
+touch_at : (first last k : ℕ) (xs : List Bool) → first ≤ k → k < last → slice_index_or (touch first last xs) k true ≡ true
+unfolding touch
+touch_at first last k xs low high = ⊎_elim
+    (λ (below : k < length xs). place_of (λ j. (nat_le first j && nat_lt j last) || slice_index_or xs j false) (length xs) k true below
+    ∙ ap (λ b. (b && nat_lt k last) || slice_index_or xs k false) (le_so first k low)
+    ∙ ap (λ b. (true && b) || slice_index_or xs k false) (lt_so k last high))
+    (λ (above : length xs ≤ k). get_or_past (touch first last xs) k true (let n = length-map-range_with_len (λ j. (nat_le first j && nat_lt j last) || slice_index_or xs j false) 0 (length xs) in omega arith))
+    (cases_lt k (length xs))
+
+all_so : (xs : List Bool) (first many : ℕ) → ((k : ℕ) → first ≤ k → k < first + many → slice_index_or xs k true ≡ true) → all_touched xs first many ≡ true
+all_so xs first zero each = refl
+all_so xs first (suc many) each =
+    ap (λ b. b && all_touched xs (first + 1) many) (each first (omega arith) (omega arith))
+    ∙ all_so xs (first + 1) many (λ k low high. each k (omega arith) (omega arith))
+
+must_fit : (b : Bool) (x y : Stored) → (let r : Result Stored Refusal = cond b (Ok x) (Err BadLine) in r) ≡ Ok y → b ≡ true
+must_fit true x y h = refl
+must_fit false x y h = absurd (cc)
+
+three : (a b c : Bool) → a ≡ true → b ≡ true → c ≡ true → (a && (b && c)) ≡ true
+three a b c ha hb hc = rw (ha, hb, hc) refl
+
+-- the images that an edit leaves cover its inverse
+pub kept_covers : (i : Images) (m : Missing) (s new : Stored) (start end : ℕ) → AreFirst i s → m ≡ missing i s start end → Outside start end s new → start ≤ length s.bytes → start ≤ end →
+    undo (inverse_of s start end) new ≡ Ok s → covers i.long (touched (with_copies i m)) (inverse_of s start end) new ≡ true
+unfolding covers inverse_of
+kept_covers i m s new start end first is out within order back =
+    let xs = touched (with_copies i m) in
+    let marked : xs ≡ touch (start / s.block) (count_of s.block end) (touched i) = touched_stays i m s start end first is in
+    let part = take (end - start) (drop start s.bytes) in
+    let long = length-take (end - start) (drop start s.bytes) in
+    let up = count_mono s.block (start + length part) end first.some_block (omega arith) in
+    let all : all_touched xs (start / s.block) (count_of s.block (start + length part) - start / s.block) ≡ true =
+    all_so xs (start / s.block) (count_of s.block (start + length part) - start / s.block)
+    (λ k low high. ap (λ ys. slice_index_or ys k true) marked ∙ touch_at (start / s.block) (count_of s.block end) k (touched i) low (omega arith)) in
+    three (fits (inverse_of s start end) new) (nat_le i.long (length s.bytes)) (all_touched xs (start / new.block) (count_of new.block (start + length part) - start / new.block))
+    (must_fit (fits (inverse_of s start end) new) (restored (inverse_of s start end) new) s back)
+    (le_so i.long (length s.bytes) first.within)
+    (subst (λ b. all_touched xs (start / b) (count_of b (start + length part) - start / b) ≡ true) (sym out.block) all)

@@ -277,6 +277,14 @@ impl Blocks {
         self.block
     }
 
+    /// The most bytes of the chunk.
+    pub fn capacity(&self) -> u64
+        ensures size { result ≡ self.now.chunk }
+        ensures stored { IsStored self.now }
+    {
+        self.chunk as u64
+    }
+
     /// The stored bytes.
     pub(crate) fn stored(&self) -> &[u8]
         ensures { result.now ≡ self.now.bytes }

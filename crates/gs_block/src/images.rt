@@ -88,6 +88,7 @@ impl Images {
         ensures undone { (s new : Stored) → (start end : ℕ) → AreFirst self.old s → copies ≡ missing self.old s start end → Outside start end s new → undone self.new new ≡ undone self.old s }
         ensures first { (s new : Stored) → (start end : ℕ) → AreFirst self.old s → copies ≡ missing self.old s start end → Outside start end s new → AreFirst self.new new }
         ensures touched { (s : Stored) → (start end : ℕ) → AreFirst self.old s → copies ≡ missing self.old s start end → touched self.new ≡ touch (start / s.block) (count_of s.block end) (touched self.old) }
+        ensures covers { (s new : Stored) → (start end : ℕ) → AreFirst self.old s → copies ≡ missing self.old s start end → Outside start end s new → start ≤ length s.bytes → start ≤ end → inverses.undo (inverses.inverse_of s start end) new ≡ Ok s → covers self.new.long (touched self.new) (inverses.inverse_of s start end) new ≡ true }
     {
         keep_copies(&mut self.blocks, copies.first, copies.copies);
     }

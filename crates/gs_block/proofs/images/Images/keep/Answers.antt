@@ -1,6 +1,8 @@
-use Rattle.std.proofs.Common.{◌≡◌, ◌++◌, ◌/◌, length, take, drop, ap, sym, subst, ◌∙◌}
+use Rattle.std.proofs.Common.{true, ◌≡◌, ◌++◌, ◌/◌, length, take, drop, ap, sym, subst, ◌∙◌}
 use Rattle.std.proofs.lemmas.List.{take_at}
-use Rattle.gs_block.specs.Images.{Images, Missing, kept_images, undone, touched, touch, AreFirst}
+use Rattle.gs_block.specs.Images.{Images, Missing, kept_images, undone, touched, touch, covers, AreFirst}
+use Rattle.gs_block.specs.Inverses.{inverse_of}
+use Rattle.gs_block.proofs.Undoing.{kept_covers}
 use Rattle.gs_block.specs.Stored.{count_of}
 use Rattle.gs_block.proofs.Sealed.{with_copies, undone_stays, first_stays, touched_stays}
 use Rattle.gs_block.proofs.images.Images.keep.Goals as goal
@@ -31,3 +33,7 @@ returns-clause-first c = λ s new start end first is out.
 pub returns-clause-touched : goal.returns-clause-touched
 returns-clause-touched c = λ s start end first is.
     subst (λ (i : Images). touched i ≡ touch (start / s.block) (count_of s.block end) (touched c.args.self.now)) (sym (left c)) (touched_stays c.args.self.now c.args.copies s start end first is)
+
+pub returns-clause-covers : goal.returns-clause-covers
+returns-clause-covers c = λ s new start end first is out within order back.
+    subst (λ (i : Images). covers i.long (touched i) (inverse_of s start end) new ≡ true) (sym (left c)) (kept_covers c.args.self.now c.args.copies s new start end first is out within order back)
