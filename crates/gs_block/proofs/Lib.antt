@@ -8,5 +8,6 @@ pub mod Kept
 pub mod Sealed
 pub mod Undoing
 pub mod Damaging
+pub mod Restoring
 pub mod Matching
 pub mod Whole

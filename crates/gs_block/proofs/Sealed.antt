@@ -10,7 +10,7 @@ use Rattle.std.proofs.lemmas.Nat.{le-div, div-add-mod'}
 use Rattle.std.proofs.Math.Nat.{div-mul-le_self, mod-lt, add-mul}
 use Rattle.std.proofs.lemmas.List.FromFn.{length-map-range_with_len, get_or-map-range_with_len}
 use Rattle.gs_block.specs.Stored.{Stored, count_of}
-use Rattle.gs_block.specs.Images.{Images, Missing, AreFirst, IsImage, byte_of, byte_before, bytes_before, block_before, missing_of, missing_at, copies_from, missing, or_else, kept_at, kept_images, touched, touch, undone}
+use Rattle.gs_block.specs.Images.{AreFirst, Images, IsImage, Missing, block_before, byte_before, byte_of, bytes_before, copies_from, image_or, kept_at, kept_images, missing, missing_at, missing_of, or_else, touch, touched, undone}
 use Rattle.gs_block.specs.Kept.{Outside}
 use Rattle.gs_block.proofs.Counts.{count_mono, one_times}
 
@@ -101,12 +101,7 @@ block_counted size many k some below =
 pub block_mono : (size j k : ℕ) → 1 ≤ size → j ≤ k → j / size ≤ k / size
 block_mono size j k some le = le-div (j / size) k size (omega arith) (let most = div-mul-le_self j size in omega arith)
 
-image_or : Option (List ℕ) → List ℕ → List ℕ
-image_or None bytes = bytes
-image_or (Some image) bytes = image
-
 filled : (o : Option (List ℕ)) (bytes : List ℕ) → or_else (missing_of o bytes) o ≡ Some (image_or o bytes)
-unfolding image_or
 filled None bytes = refl
 filled (Some image) bytes = refl
 
@@ -132,7 +127,7 @@ kept_out size long images old first last k (inr above) =
 
 image_byte : (size long k : ℕ) (o : Option (List ℕ)) (old : List ℕ) (new : ℕ) → 1 ≤ size → k < long →
     byte_of (Some (image_or o (block_before size long (k / size) old))) (k % size) new ≡ byte_of o (k % size) (get_or old k 0)
-unfolding block_before image_or
+unfolding block_before
 image_byte size long k (Some image) old new some below = refl
 image_byte size long k None old new some below =
     let e : k / size * size + k % size ≡ k = div-add-mod' k size in
@@ -249,14 +244,13 @@ touched_kept size long images old start end some counted =
     ∙ ap (λ b. (nat_le (start / size) k && nat_lt k (count_of size end)) || b) (sym (get_or-map is_some images k None false within))
     ∙ sym (place_of g (length (map is_some images)) k false (omega arith)))
 
-length-block : (size long k : ℕ) (old : List ℕ) → long ≤ length old → length (block_before size long k old) ≡ min size (long - k * size)
+pub length-block : (size long k : ℕ) (old : List ℕ) → long ≤ length old → length (block_before size long k old) ≡ min size (long - k * size)
 unfolding block_before
 length-block size long k old within =
     let e : length (take (min size (long - k * size)) (drop (k * size) old)) ≡ min (min size (long - k * size)) (length old - k * size) = search (rules, places) in
     omega arith
 
 image_long : (many : ℕ) (o : Option (List ℕ)) (bytes : List ℕ) → IsImage many o → length bytes ≡ many → IsImage many (Some (image_or o bytes))
-unfolding image_or
 image_long many None bytes h e = e
 image_long many (Some image) bytes h e = h
 

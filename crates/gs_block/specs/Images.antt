@@ -4,7 +4,7 @@ use Rattle.std.specs.List.{range_with_len}
 use Rattle.gs_base.specs.declared.refusal.Refusal.{Refusal}
 use Rattle.gs_block.specs.Stored.{Stored, count_of}
 use Rattle.gs_block.specs.Edits as edits
-use Rattle.gs_block.specs.Inverses.{Inverse, fits}
+use Rattle.gs_block.specs.Inverses.{Inverse, fits, replaced}
 
 -- the length and the digests as sealed, and for each sealed block its bytes as sealed where an edit has touched it since
 pub record Images : Type 0 where
@@ -34,6 +34,16 @@ undone i s = record { block = s.block; chunk = s.chunk; bytes = bytes_before s.b
 -- the bytes of a block as far as they are sealed
 unfoldable pub block_before : ℕ → ℕ → ℕ → List ℕ → List ℕ
 block_before size long k bytes = take (min size (long - k * size)) (drop (k * size) bytes)
+
+-- an image, or the bytes where there is none
+abbrev pub image_or : Option (List ℕ) → List ℕ → List ℕ
+image_or None bytes = bytes
+image_or (Some image) bytes = image
+
+-- an image put into its place, where there is one
+abbrev pub put_image : List ℕ → ℕ → Option (List ℕ) → List ℕ
+put_image bytes at None = bytes
+put_image bytes at (Some image) = replaced bytes at image
 
 -- whether each sealed block was touched
 abbrev pub touched : Images → List Bool

@@ -1,7 +1,7 @@
 ghost use Rattle.std.specs.Prelude.{◌≡◌, ◌≤◌, ◌<◌, ◌+◌, ◌-◌, ◌/◌, ◌%◌, ◌*◌, ◌↔◌, ◌++◌, ◌==◌, ◌||◌, nat_lt, nat_le, List, ℕ, IfOk, OnOk, IsTrue, replicate, false, length, take, drop, min, max, Ok};
 ghost use Rattle.sha2.specs.Hashers.{Holds256};
 ghost use Rattle.gs_block.specs.Chunk.{written};
-ghost use Rattle.gs_block.specs.Stored.{Stored, IsStored, empty, digests_of, are_digests};
+ghost use Rattle.gs_block.specs.Stored.{Stored, IsStored, empty, digests_of, first_damaged, are_digests};
 ghost use Rattle.gs_block.specs.Edits.{changed, chunk_of, copied, write, append, pad, read, damage};
 ghost use Rattle.gs_block.specs.Inverses.{fits, undo, inverse_of};
 ghost use Rattle.gs_block.specs.Follows.{Follows, Does, Answers, Makes};
@@ -11,7 +11,7 @@ ghost use Rattle.gs_block.specs.Images.{Images, AreFirst, begun, undone, touched
 use crate::digests::{
     Digest, are_digests, count_of, first_damaged, first_damaged_between, hasher_to,
 };
-use crate::images::{Images, no_images};
+use crate::images::{Images, first_damaged_before, no_images, put_back};
 use crate::inverse::BlockInverse;
 use crate::parts::{copy_of_part, put_over, write_anew};
 use gs_base::Refusal;
@@ -207,6 +207,34 @@ impl Blocks {
             digests,
             blocks,
         })
+    }
+
+    /// The lowest block that undoing all edits since the seal gives without its sealed digest.
+    pub fn damaged_before(&self, images: &Images) -> Option<u64>
+        requires { AreFirst images.now self.now }
+        ensures { result ≡ first_damaged self.now.block (undone images.now self.now).bytes images.now.digests 0 (length images.now.digests) }
+    {
+        let found = first_damaged_before(
+            &images.blocks,
+            &self.bytes,
+            self.block,
+            images.long,
+            &images.digests,
+        );
+        match found {
+            Some(index) => Some(index as u64),
+            None => None,
+        }
+    }
+
+    /// Undoes all edits since the seal: puts the first images into their places, cuts to the sealed length and takes the
+    /// sealed digests. No block is verified. It takes no memory.
+    pub fn restore(&mut self, images: Images)
+        requires { AreFirst images self.old }
+        ensures { self.new ≡ undone images self.old }
+    {
+        put_back(&mut self.bytes, self.block, images.long, &images.blocks);
+        self.digests = images.digests;
     }
 
     /// Whether an inverse can be taken back: the length is that which the edit left, and what the inverse holds lies below

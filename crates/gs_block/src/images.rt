@@ -1,13 +1,14 @@
-ghost use Rattle.std.specs.Prelude.{true, ◌≡◌, ◌≤◌, ◌<◌, ◌+◌, ◌-◌, ◌*◌, ◌/◌, List, ℕ, Bool, IfOk, IsTrue, length, map, min, not, replicate, is_some, Option, Some, None, Ok, slice_index_or};
-ghost use Rattle.gs_block.specs.Stored.{Stored, count_of, first_damaged};
+ghost use Rattle.std.specs.Prelude.{true, [], ◌≡◌, ◌≤◌, ◌<◌, ◌+◌, ◌-◌, ◌*◌, ◌/◌, List, ℕ, Bool, IfOk, IsTrue, length, map, min, not, replicate, is_some, Option, Some, None, Ok, slice_index_or};
+ghost use Rattle.gs_block.specs.Stored.{Stored, count_of, is_intact, first_damaged};
+ghost use Rattle.sha2.specs.Sha256.{sha256};
 ghost use Rattle.gs_block.specs.Inverses as inverses;
 ghost use Rattle.gs_block.specs.Kept.{Outside};
-ghost use Rattle.gs_block.specs.Images.{Images, Missing, AreFirst, IsImage, undone, touched, touch, all_touched, covers, bytes_before, block_before, missing_of, copies_from, or_else, kept_images, missing};
+ghost use Rattle.gs_block.specs.Images.{Images, Missing, AreFirst, IsImage, undone, touched, touch, all_touched, covers, bytes_before, block_before, missing_of, copies_from, image_or, put_image, or_else, kept_images, missing};
 
 use crate::blocks::Blocks;
-use crate::digests::{Digest, count_of, digest_of};
+use crate::digests::{Digest, count_of, digest_of, is_same};
 use crate::inverse::BlockInverse;
-use crate::parts::{copy_of_part, put_over};
+use crate::parts::put_over;
 use std::alloc::{AllocError, Global};
 use std::marker::Model;
 
@@ -142,8 +143,22 @@ fn is_untouched(images: &[Option<Image>], index: usize) -> bool
     index < images.len() && images[index].is_none()
 }
 
-/// A copy of a block as far as it is sealed.
+/// The bytes of a block as far as they are sealed.
 #[tactic(auto, using(crate::proofs::Counts::starts), unfolding(crate::specs::Images::block_before))]
+fn sealed_part(bytes: &[u8], size: usize, long: usize, index: usize) -> &[u8]
+    requires some { 1 ≤ size }
+    requires size_fits { size ≤ 65536 }
+    requires bytes_fit { length bytes.now ≤ 67108864 }
+    requires within { long ≤ length bytes.now }
+    requires counted { index < count_of size long }
+    ensures { result.now ≡ block_before size long index bytes.now }
+{
+    let start = index * size;
+    let end = (start + size).min(long);
+    &bytes[start..end]
+}
+
+/// A copy of a block as far as it is sealed.
 fn image_of(
     alloc: Global,
     bytes: &[u8],
@@ -158,11 +173,106 @@ fn image_of(
     requires counted { index < count_of size long }
     ensures { IfOk result (λ image. image ≡ block_before size long index bytes.now) }
 {
-    let start = index * size;
-    let end = (start + size).min(long);
     Ok(Image {
-        bytes: copy_of_part(alloc, bytes, start, end)?,
+        bytes: Vec::from_slice(alloc, sealed_part(bytes, size, long, index))?,
     })
+}
+
+/// The digest of a block as undoing gives it.
+fn digest_before(
+    image: &Option<Image>,
+    bytes: &[u8],
+    size: usize,
+    long: usize,
+    index: usize,
+) -> Digest
+    requires some { 1 ≤ size }
+    requires size_fits { size ≤ 65536 }
+    requires bytes_fit { length bytes.now ≤ 67108864 }
+    requires within { long ≤ length bytes.now }
+    requires counted { index < count_of size long }
+    ensures { result ≡ sha256 (image_or image.now (block_before size long index bytes.now)) }
+{
+    match image {
+        Some(image) => digest_of(&image.bytes),
+        None => digest_of(sealed_part(bytes, size, long, index)),
+    }
+}
+
+/// Whether a block as undoing gives it has its sealed digest.
+fn is_intact_before(
+    images: &[Option<Image>],
+    bytes: &[u8],
+    size: usize,
+    long: usize,
+    digests: &[Digest],
+    index: usize,
+) -> bool
+    requires some { 1 ≤ size }
+    requires size_fits { size ≤ 65536 }
+    requires bytes_fit { length bytes.now ≤ 67108864 }
+    requires within { long ≤ length bytes.now }
+    requires counted { length images.now ≡ count_of size long }
+    requires each { length digests.now ≡ count_of size long }
+    requires below { index < length digests.now }
+    requires whole { (k : ℕ) → k < length images.now → IsImage (min size (long - k * size)) (slice_index_or images.now k None) }
+    ensures { result ≡ is_intact size (bytes_before size images.now long bytes.now) digests.now index }
+{
+    let digest = digest_before(&images[index], bytes, size, long, index);
+    is_same(&digest, &digests[index])
+}
+
+/// The lowest sealed block that undoing gives without its digest.
+#[tactic(auto, using(crate::proofs::Verified::damaged_more, crate::proofs::Verified::damaged_here, crate::proofs::Verified::damaged_none))]
+pub(crate) fn first_damaged_before(
+    images: &[Option<Image>],
+    bytes: &[u8],
+    size: usize,
+    long: usize,
+    digests: &[Digest],
+) -> Option<usize>
+    requires some { 1 ≤ size }
+    requires size_fits { size ≤ 65536 }
+    requires bytes_fit { length bytes.now ≤ 67108864 }
+    requires within { long ≤ length bytes.now }
+    requires counted { length images.now ≡ count_of size long }
+    requires each { length digests.now ≡ count_of size long }
+    requires whole { (k : ℕ) → k < length images.now → IsImage (min size (long - k * size)) (slice_index_or images.now k None) }
+    ensures { result ≡ first_damaged size (bytes_before size images.now long bytes.now) digests.now 0 (length digests.now) }
+{
+    for index in 0..digests.len() {
+        if !is_intact_before(images, bytes, size, long, digests, index) {
+            return Some(index);
+        }
+    }
+    None
+}
+
+/// Puts an image into its place, where there is one.
+fn put_image(bytes: &mut Vec<u8>, at: usize, image: &Option<Image>)
+    requires { at + length (image_or image.now []) ≤ length bytes.old.items }
+    ensures { bytes.new.items ≡ put_image bytes.old.items at image.now }
+{
+    match image {
+        Some(image) => put_over(bytes, at, &image.bytes),
+        None => {}
+    }
+}
+
+/// Puts the images into their places and cuts to the sealed length.
+pub(crate) fn put_back(bytes: &mut Vec<u8>, size: usize, long: usize, images: &[Option<Image>])
+    requires some { 1 ≤ size }
+    requires size_fits { size ≤ 65536 }
+    requires bytes_fit { length bytes.old.items ≤ 67108864 }
+    requires within { long ≤ length bytes.old.items }
+    requires counted { length images.now ≡ count_of size long }
+    requires whole { (k : ℕ) → k < length images.now → IsImage (min size (long - k * size)) (slice_index_or images.now k None) }
+    ensures { bytes.new.items ≡ bytes_before size images.now long bytes.old.items }
+{
+    for index in 0..images.len() {
+        put_image(bytes, index * size, &images[index]);
+    }
+    bytes.truncate(long);
 }
 
 /// A copy of a block as far as it is sealed, where it has no image.
