@@ -11,8 +11,10 @@ use Rattle.gs_block.specs.Images.{Images, missing, byte_before, bytes_before, co
 use Rattle.gs_block.specs.Inverses as inverses
 use Rattle.gs_replica.specs.declared.live.ReplicaInverse.{ReplicaInverse}
 use Rattle.gs_replica.specs.Held.{Held}
-use Rattle.gs_replica.specs.Seals.{Sealed, State, with_seal, can_undo, undo}
+use Rattle.gs_replica.specs.Seals.{Sealed, State, with_seal, can_undo, undo, damaged_before, roll_back_to, HandsBack}
 use Rattle.gs_replica.specs.Undo as undos
+use Rattle.gs_base.specs.declared.numbers.Stamp.{Stamp}
+use Rattle.gs_block.specs.Edits.{unless_damaged}
 
 abbrev pub state : Held → Option Sealed → State
 state h t = record { held = h; sealed = t }
@@ -101,3 +103,13 @@ does_keep B (Ok b) (Ok h) old new P d p gives = gives (ap (λ (x : Held). Ok x) 
 does_keep B (Err e) (Ok h) old new P d p gives = absurd d
 does_keep B (Ok b) (Err g) old new P d p gives = absurd d
 does_keep B (Err e) (Err g) old new P d p gives = subst P (sym d.1) p
+
+-- what undoing gives where each block of it has its digest
+abbrev rolled : Stamp → Sealed → State
+rolled promise t = record { held = record { chunk = t.undone; count = t.count; done = t.done; promise = promise }; sealed = None }
+
+pub rolls_back : (t : Sealed) (promise : Stamp) (after old : State) → damaged_before t.undone ≡ None → after ≡ rolled promise t → HandsBack (roll_back_to promise (Some t)) (Ok after) old
+rolls_back t promise after old none is = subst (λ o. HandsBack (unless_damaged o (rolled promise t)) (Ok after) old) (sym none) is
+
+pub hands_back : (t : Sealed) (promise : Stamp) (after old : State) (block : ℕ) → damaged_before t.undone ≡ Some block → after ≡ old → HandsBack (roll_back_to promise (Some t)) (Err (after, refusals.Damaged block)) old
+hands_back t promise after old block found is = subst (λ o. HandsBack (unless_damaged o (rolled promise t)) (Err (after, refusals.Damaged block)) old) (sym found) (is, refl)

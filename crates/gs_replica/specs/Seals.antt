@@ -1,5 +1,5 @@
 -- Seals: a replica that can be taken back to where it was sealed, whatever edits came since.
-use Rattle.std.specs.Prelude.{ℕ, ◌/◌, ◌==◌, ◌&&◌, not, cond, Bool, true, false, List, length, replicate, Option, Some, None, Result, Ok, Err, refl}
+use Rattle.std.specs.Prelude.{◌≡◌, ℕ, ◌/◌, ◌==◌, ◌&&◌, not, cond, Bool, true, false, List, [], ◌∷◌, length, replicate, Option, Some, None, Result, Ok, Err, refl}
 use Rattle.std.specs.Coded.{Coded, code_by, coded×, coded_ℕ, coded_list, coded_bool, coded_option}
 use Rattle.std.specs.FinMap as fin
 use Rattle.std.specs.Ordering.{nat_cmp}
@@ -12,6 +12,7 @@ use Rattle.gs_block.specs.Stored.{Stored, count_of, first_damaged}
 use Rattle.gs_block.specs.Edits.{unless_damaged}
 use Rattle.gs_block.specs.Images.{touch, covers, damage_before}
 use Rattle.gs_replica.specs.declared.op.Op.{Op}
+use Rattle.gs_replica.specs.declared.op.Op.TheVariants.{Write, Append}
 use Rattle.gs_replica.specs.declared.op.Done.{Done}
 use Rattle.gs_replica.specs.contracts.op.Done as dones
 use Rattle.gs_replica.specs.declared.live.ReplicaInverse.{ReplicaInverse}
@@ -58,6 +59,13 @@ seal r = record { held = r.held; sealed = Some (sealed_of r.held) }
 
 abbrev pub unseal : State → State
 unseal r = record { held = r.held; sealed = None }
+
+abbrev pub stamp_of : Option Sealed → Option Stamp
+stamp_of None = None
+stamp_of (Some t) = Some t.stamp
+
+abbrev pub sealed_at : State → Option Stamp
+sealed_at r = stamp_of r.sealed
 
 -- an edit touches blocks and leaves what undoing gives
 abbrev pub touch_seal : Op → List ℕ → Stored → Sealed → Sealed
@@ -107,3 +115,39 @@ roll_back_to promise (Some t) = unless_damaged (damaged_before t.undone) (record
 
 abbrev pub roll_back : State → Result State Refusal
 roll_back r = roll_back_to r.held.promise r.sealed
+
+-- it gives what the definition says, or hands the old back with its refusal
+abbrev pub HandsBack : Result State Refusal → Result State (State × Refusal) → State → Type 0
+HandsBack (Ok a) (Ok b) old = b ≡ a
+HandsBack (Err e) (Ok b) old = ⊥
+HandsBack (Ok a) (Err f) old = ⊥
+HandsBack (Err e) (Err f) old = (f.0 ≡ old) × (f.1 ≡ e)
+
+-- a replica of 6 bytes in blocks of 4 after one edit, sealed
+abbrev sealed_chunk : Stored
+sealed_chunk = record { block = 4; chunk = 16; bytes = 97 ∷ 98 ∷ 99 ∷ 100 ∷ 101 ∷ 102 ∷ []; digests = [] ∷ [] ∷ [] }
+
+abbrev sealed_held : Stamp → Held
+sealed_held stamp = record { chunk = sealed_chunk; count = 1; done = fin.empty; promise = stamp }
+
+nothing_is_touched : (stamp : Stamp) → (sealed_of (sealed_held stamp)).touched ≡ false ∷ false ∷ []
+nothing_is_touched stamp = refl
+
+-- five bytes at the start touch both blocks, and an append of ten the second
+both_are_touched : (stamp : Stamp) → (touch_seal (Write 0) (122 ∷ 122 ∷ 122 ∷ 122 ∷ 122 ∷ []) sealed_chunk (sealed_of (sealed_held stamp))).touched ≡ true ∷ true ∷ []
+unfolding touch count_of
+both_are_touched stamp = refl
+
+the_second_is_touched : (stamp : Stamp) → (touch_seal Append (replicate 10 122) sealed_chunk (sealed_of (sealed_held stamp))).touched ≡ false ∷ true ∷ []
+unfolding touch count_of
+the_second_is_touched stamp = refl
+
+-- an edit leaves what undoing gives
+undoing_gives_the_sealed_bytes : (stamp : Stamp) → (touch_seal Append (replicate 10 122) sealed_chunk (sealed_of (sealed_held stamp))).undone ≡ sealed_chunk
+undoing_gives_the_sealed_bytes stamp = refl
+
+not_at_the_sealed_count : (stamp : Stamp) (i : ReplicaInverse) → can_undo i (sealed_held stamp) (Some (sealed_of (sealed_held stamp))) ≡ false
+not_at_the_sealed_count stamp i = refl
+
+an_unsealed_is_handed_back : (stamp : Stamp) → roll_back (record { held = sealed_held stamp; sealed = None }) ≡ Err refusals.BadLine
+an_unsealed_is_handed_back stamp = refl

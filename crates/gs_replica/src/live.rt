@@ -13,7 +13,7 @@ ghost use Rattle.gs_replica.specs.Undo.{undo};
 use crate::done::DoneTable;
 use crate::op::{Done, Op, Outcome};
 use gs_base::{ClientId, Refusal, ReqId, Stamp};
-use gs_block::{BlockInverse, Blocks, Digest};
+use gs_block::{BlockInverse, Blocks, Digest, Images};
 use std::alloc::Global;
 use std::marker::Model;
 
@@ -210,6 +210,22 @@ impl Live {
         self.done.restore(inverse.client, inverse.before);
         self.count -= 1;
         Ok(())
+    }
+
+    /// What undoing all edits since a seal gives, under the promise that was made since. No block is verified. It takes no
+    /// memory.
+    pub(crate) fn restored(self, images: Images, count: u64, requests: DoneTable) -> Live
+        requires { AreFirst images self.chunk }
+        ensures { result ≡ record { chunk = undone images self.chunk; count = count; done = requests; promise = self.promise } }
+    {
+        let mut blocks = self.blocks;
+        blocks.restore(images);
+        Live {
+            blocks,
+            count,
+            done: requests,
+            promise: self.promise,
+        }
     }
 
     /// The stored bytes of a range, as `Blocks::read` gives them.

@@ -5,7 +5,7 @@ ghost use Rattle.gs_block.specs.Edits as blocks;
 ghost use Rattle.gs_block.specs.Kept.{KeepsIntact};
 ghost use Rattle.gs_block.specs.Follows.{Follows, Does, Answers, Makes};
 ghost use Rattle.gs_replica.specs.Edits.{fresh, held_of, copied};
-ghost use Rattle.gs_replica.specs.Seals.{State, with_seal, holding, seal, unseal, apply, undo, promise, damage};
+ghost use Rattle.gs_replica.specs.Seals.{State, with_seal, holding, seal, unseal, apply, undo, promise, damage, roll_back, sealed_at, HandsBack};
 
 use crate::done::DoneTable;
 use crate::live::{Live, ReplicaInverse};
@@ -132,11 +132,46 @@ impl Replica {
         Ok(())
     }
 
+    /// The promise that stood when the replica was sealed, if it is.
+    pub fn sealed_at(&self) -> Option<Stamp>
+        ensures { result ≡ sealed_at self.now }
+    {
+        match &self.seal {
+            Some(seal) => Some(seal.stamp),
+            None => None,
+        }
+    }
+
     /// Forgets the seal.
     pub fn unseal(&mut self)
         ensures { self.new ≡ unseal self.old }
     {
         self.seal = None;
+    }
+
+    /// Takes the replica back to where it was sealed: the bytes, digests, count and requests as sealed stand again, under the
+    /// promise that was made since, and the seal goes. `Damaged` names the lowest block that undoing gives without its sealed
+    /// digest, and the replica is handed back as it was; `BadLine` where it is not sealed. It takes no memory.
+    pub fn roll_back(self) -> Result<Replica, (Replica, Refusal)>
+        ensures { HandsBack (roll_back self) result self }
+    {
+        let Replica { live, seal } = self;
+        match seal {
+            Some(seal) => match live.blocks().damaged_before(&seal.images) {
+                Some(block) => {
+                    let sealed = Replica {
+                        live,
+                        seal: Some(seal),
+                    };
+                    Err((sealed, Refusal::Damaged(block)))
+                }
+                None => Ok(Replica {
+                    live: live.restored(seal.images, seal.count, seal.done),
+                    seal: None,
+                }),
+            },
+            None => Err((Replica { live, seal: None }, Refusal::BadLine)),
+        }
     }
 
     /// The stored bytes of a range, as `Blocks::read` gives them.
