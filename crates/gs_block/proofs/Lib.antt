@@ -9,5 +9,6 @@ pub mod Sealed
 pub mod Undoing
 pub mod Damaging
 pub mod Restoring
+pub mod Holding
 pub mod Matching
 pub mod Whole

@@ -62,6 +62,11 @@ all_touched xs first (suc many) = slice_index_or xs first true && all_touched xs
 unfoldable pub covers : ℕ → List Bool → Inverse → Stored → Bool
 covers long xs i s = fits i s && (nat_le long i.old_length && all_touched xs (i.at / s.block) (count_of s.block (i.at + length i.bytes) - i.at / s.block))
 
+-- the bytes of the images of touched blocks, from a block on
+abbrev pub image_bytes : ℕ → ℕ → ℕ → List Bool → ℕ
+image_bytes size long k [] = 0
+image_bytes size long k (x ∷ xs) = cond x (min size (long - k * size)) 0 + image_bytes size long (k + 1) xs
+
 -- damage of a chunk reaches what undoing gives where the block isn't touched
 abbrev pub or_same : Result Stored Refusal → Stored → Stored
 or_same (Ok s) old = s
@@ -144,3 +149,14 @@ behind_the_sealed = refl
 
 not_all : all_touched (false ∷ true ∷ []) 0 2 ≡ false
 not_all = refl
+
+six_bytes_of_images : image_bytes 4 6 0 (true ∷ true ∷ []) ≡ 6
+six_bytes_of_images = refl
+
+a_touched_block_needs_no_copy : (missing (record { long = 6; digests = [] ∷ [] ∷ []; blocks = Some (1 ∷ 2 ∷ 3 ∷ 4 ∷ []) ∷ None ∷ [] }) overwritten 0 1).copies ≡ None ∷ []
+unfolding missing missing_at block_before count_of
+a_touched_block_needs_no_copy = refl
+
+none_behind_the_sealed : (missing (record { long = 4; digests = [] ∷ []; blocks = None ∷ [] }) overwritten 4 9).copies ≡ []
+unfolding missing missing_at block_before count_of
+none_behind_the_sealed = refl

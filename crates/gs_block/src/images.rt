@@ -3,7 +3,7 @@ ghost use Rattle.gs_block.specs.Stored.{Stored, count_of, is_intact, first_damag
 ghost use Rattle.sha2.specs.Sha256.{sha256};
 ghost use Rattle.gs_block.specs.Inverses as inverses;
 ghost use Rattle.gs_block.specs.Kept.{Outside};
-ghost use Rattle.gs_block.specs.Images.{Images, Missing, AreFirst, IsImage, undone, touched, touch, all_touched, covers, bytes_before, block_before, missing_of, copies_from, image_or, put_image, or_else, kept_images, missing};
+ghost use Rattle.gs_block.specs.Images.{Images, Missing, AreFirst, IsImage, undone, touched, touch, all_touched, covers, bytes_before, block_before, missing_of, copies_from, image_or, put_image, image_bytes, or_else, kept_images, missing};
 
 use crate::blocks::Blocks;
 use crate::digests::{Digest, count_of, digest_of, is_same};
@@ -94,6 +94,15 @@ impl Images {
         keep_copies(&mut self.blocks, copies.first, copies.copies);
     }
 
+    /// How many bytes the images hold: never more than were sealed.
+    pub fn held(&self, blocks: &Blocks) -> u64
+        requires { AreFirst self.now blocks.now }
+        ensures bytes { result ≡ image_bytes blocks.now.block self.now.long 0 (touched self.now) }
+        ensures at_most { result ≤ self.now.long }
+    {
+        held_bytes(&self.blocks, blocks.block_size(), self.long) as u64
+    }
+
     /// Whether an inverse fits, puts bytes into blocks with an image alone, and cuts nothing that is sealed. Then what undoing
     /// gives stays when it is taken back.
     pub fn covers(&self, blocks: &Blocks, inverse: &BlockInverse) -> bool
@@ -121,6 +130,30 @@ pub(crate) fn no_images(alloc: Global, many: usize) -> Result<Vec<Option<Image>>
         images.push(None)?;
     }
     Ok(images)
+}
+
+/// How many bytes an image has, if it is there.
+fn len_of(image: &Option<Image>) -> usize
+    ensures { result ≡ length (image_or image.now []) }
+{
+    match image {
+        Some(image) => image.bytes.len(),
+        None => 0,
+    }
+}
+
+/// How many bytes the images hold.
+fn held_bytes(images: &[Option<Image>], size: usize, long: usize) -> usize
+    requires some { 1 ≤ size }
+    requires whole { (k : ℕ) → k < length images.now → IsImage (min size (long - k * size)) (slice_index_or images.now k None) }
+    ensures bytes { result ≡ image_bytes size long 0 (map is_some images.now) }
+    ensures at_most { result ≤ long }
+{
+    let mut many = 0;
+    for index in 0..images.len() {
+        many += len_of(&images[index]);
+    }
+    many
 }
 
 /// Whether each sealed block from `first` on and below `last` has an image.

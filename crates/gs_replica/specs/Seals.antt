@@ -10,7 +10,7 @@ use Rattle.gs_base.specs.declared.refusal.Refusal.{Refusal}
 use Rattle.gs_base.specs.declared.refusal.Refusal.TheVariants as refusals
 use Rattle.gs_block.specs.Stored.{Stored, count_of, first_damaged}
 use Rattle.gs_block.specs.Edits.{unless_damaged}
-use Rattle.gs_block.specs.Images.{touch, covers, damage_before}
+use Rattle.gs_block.specs.Images.{touch, covers, damage_before, image_bytes}
 use Rattle.gs_replica.specs.declared.op.Op.{Op}
 use Rattle.gs_replica.specs.declared.op.Op.TheVariants.{Write, Append}
 use Rattle.gs_replica.specs.declared.op.Done.{Done}
@@ -59,6 +59,15 @@ seal r = record { held = r.held; sealed = Some (sealed_of r.held) }
 
 abbrev pub unseal : State → State
 unseal r = record { held = r.held; sealed = None }
+
+-- the bytes that first images hold, and those that were sealed
+abbrev pub images_of : Option Sealed → ℕ
+images_of None = 0
+images_of (Some t) = image_bytes t.undone.block (length t.undone.bytes) 0 t.touched
+
+abbrev pub sealed_length : Option Sealed → ℕ
+sealed_length None = 0
+sealed_length (Some t) = length t.undone.bytes
 
 abbrev pub stamp_of : Option Sealed → Option Stamp
 stamp_of None = None

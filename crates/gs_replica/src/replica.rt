@@ -5,12 +5,12 @@ ghost use Rattle.gs_block.specs.Edits as blocks;
 ghost use Rattle.gs_block.specs.Kept.{KeepsIntact};
 ghost use Rattle.gs_block.specs.Follows.{Follows, Does, Answers, Makes};
 ghost use Rattle.gs_replica.specs.Edits.{fresh, held_of, copied};
-ghost use Rattle.gs_replica.specs.Seals.{State, with_seal, holding, seal, unseal, apply, undo, promise, damage, roll_back, sealed_at, HandsBack};
+ghost use Rattle.gs_replica.specs.Seals.{State, with_seal, holding, seal, unseal, apply, undo, promise, damage, roll_back, sealed_at, images_of, sealed_length, HandsBack};
 
 use crate::done::DoneTable;
 use crate::live::{Live, ReplicaInverse};
 use crate::op::{Done, Op};
-use crate::seal::{Seal, apply_sealed, begin, damage_sealed, undo_sealed};
+use crate::seal::{Seal, apply_sealed, begin, damage_sealed, image_bytes, undo_sealed};
 use gs_base::{ClientId, Refusal, ReqId, Stamp};
 use gs_block::Digest;
 use std::alloc::{AllocError, Global};
@@ -139,6 +139,17 @@ impl Replica {
         match &self.seal {
             Some(seal) => Some(seal.stamp),
             None => None,
+        }
+    }
+
+    /// How many bytes the first images of the seal hold: never more than were sealed, and 0 without a seal.
+    pub fn image_bytes(&self) -> u64
+        ensures bytes { result ≡ images_of self.now.sealed }
+        ensures at_most { result ≤ sealed_length self.now.sealed }
+    {
+        match &self.seal {
+            Some(seal) => image_bytes(&self.live, seal),
+            None => 0,
         }
     }
 

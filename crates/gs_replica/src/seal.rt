@@ -8,7 +8,7 @@ ghost use Rattle.gs_block.specs.Images.{AreFirst};
 ghost use Rattle.gs_block.specs.Kept.{KeepsIntact};
 ghost use Rattle.gs_block.specs.Follows.{Follows, Does};
 ghost use Rattle.gs_replica.specs.Held.{Held};
-ghost use Rattle.gs_replica.specs.Seals.{State, Sealed, sealed_of, apply, undo, damage, can_undo, holding, on_seal, damage_seal, with_seal};
+ghost use Rattle.gs_replica.specs.Seals.{images_of, sealed_length, State, Sealed, sealed_of, apply, undo, damage, can_undo, holding, on_seal, damage_seal, with_seal};
 ghost use Rattle.gs_replica.specs.View.{seen, state_of, Belongs};
 
 use crate::done::DoneTable;
@@ -112,4 +112,13 @@ pub(crate) fn damage_sealed(live: &mut Live, seal: &Seal, block: u64) -> Result<
     ensures belongs { Belongs live.new seal.now }
 {
     live.damage(block)
+}
+
+/// How many bytes the first images hold.
+pub(crate) fn image_bytes(live: &Live, seal: &Seal) -> u64
+    requires belongs { Belongs live.now seal.now }
+    ensures bytes { result ≡ images_of (Some (seen live.now seal.now)) }
+    ensures at_most { result ≤ sealed_length (Some (seen live.now seal.now)) }
+{
+    seal.images.held(live.blocks())
 }
