@@ -82,6 +82,20 @@ fn rolls_back_to_the_seal(rt: HostRuntime) -> Result<(), Fail> {
     Ok(())
 }
 
+/// The images are those of the two sealed blocks, however many edits come.
+#[test]
+fn keeps_first_images(rt: HostRuntime) -> Result<(), Fail> {
+    let mut replica = Replica::new(rt.alloc(), 4, 16, stamp(1));
+    write(&mut replica, 1, Op::Append, b"abcdef")?;
+    replica.seal()?;
+    assert_eq!(rt; replica.image_bytes(), 0);
+    write(&mut replica, 2, Op::Write(5), b"y")?;
+    assert_eq!(rt; replica.image_bytes(), 2);
+    let edited = sealed(rt.alloc())?;
+    assert_eq!(rt; edited.image_bytes(), 6);
+    Ok(())
+}
+
 /// Damage of a touched block does not reach what undoing gives; damage of another one does.
 #[test]
 fn hands_a_damaged_replica_back(rt: HostRuntime) -> Result<(), Fail> {
