@@ -1,6 +1,5 @@
 -- Digests that are taken anew one by one.
-use Rattle.std.proofs.Common.{◌≡◌, ℕ, ◌+◌, ◌-◌, ◌*◌, ◌/◌, ◌%◌, ◌<◌, ◌≤◌, arith, refl, sym, ap, subst, List, [], ◌∷◌, ◌++◌, take, drop, length, set, get_or, map, ◌∙◌}
-use Rattle.std.specs.List.{range_with_len}
+use Rattle.std.proofs.Common.{◌≡◌, ℕ, ◌+◌, ◌-◌, ◌*◌, ◌/◌, ◌%◌, ◌<◌, ◌≤◌, arith, sym, ap, subst, List, [], ◌++◌, take, drop, length, set, get_or, ◌∙◌}
 use Rattle.std.proofs.Math.Seq.{paste}
 use Rattle.std.proofs.lemmas.List.Edits.{paste_more, paste_all, paste_none}
 use Rattle.std.proofs.lemmas.List.FromFn.{get_or-map-range_with_len, length-map-range_with_len}

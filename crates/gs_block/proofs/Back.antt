@@ -1,16 +1,14 @@
 -- An edit that is taken back.
-use Rattle.std.proofs.Common.{true≢false, ◌≡◌, ℕ, ◌+◌, ◌-◌, ◌*◌, ◌/◌, ◌%◌, ◌<◌, ◌≤◌, arith, refl, sym, ap, subst, List, [], ◌∷◌, ◌++◌, take, drop, length, replicate, get_or, ◌∙◌, min, max, rules, ⊎_elim, append_assoc, length-take, length-drop}
+use Rattle.std.proofs.Common.{true≢false, ◌≡◌, ℕ, ◌+◌, ◌-◌, ◌/◌, ◌<◌, ◌≤◌, arith, refl, sym, ap, subst, List, ◌++◌, take, drop, length, ◌∙◌, min, max, rules, ⊎_elim, append_assoc, length-take, length-drop}
 use Rattle.std.proofs.lemmas.Bool.Decides.{nat_tests}
-use Rattle.std.specs.Prelude.{Bool, Ok, Err, cond, true, false, nat_le, ◌&&◌, ◌==◌, Result}
-use Rattle.gs_base.specs.declared.refusal.Refusal.{Refusal}
+use Rattle.std.specs.Prelude.{Bool, Ok, Err, cond, true, false, nat_le, ◌&&◌, ◌==◌}
 use Rattle.gs_base.specs.declared.refusal.Refusal.TheVariants.{BadLine}
-use Rattle.std.proofs.lemmas.List.{places, same_lists, take_all, take_at, take-append-drop}
+use Rattle.std.proofs.lemmas.List.{places, take_all, take_at, take-append-drop}
 use Rattle.std.proofs.lemmas.List.Edits.{split_between}
 use Rattle.std.proofs.lemmas.Bool.{cases_lt}
-use Rattle.gs_block.specs.Stored.{Stored, IsStored, count_of, digests_from}
-use Rattle.gs_block.specs.Edits.{with_bytes}
+use Rattle.gs_block.specs.Stored.{Stored, IsStored, count_of}
 use Rattle.gs_block.specs.Inverses.{Inverse, inverse_of, replaced, restored, fits, undo}
-use Rattle.gs_block.proofs.Counts.{first_counted, count_mono, count_max}
+use Rattle.gs_block.proofs.Counts.{first_counted}
 
 -- what stood between two places is put back over what has the same before them and behind them
 pub back : {A : Type 0} (xs new : List A) (at end : ℕ) → at ≤ length xs → at ≤ end → take at new ≡ take at xs → drop end new ≡ drop end xs →

@@ -1,9 +1,9 @@
 -- How many blocks so many bytes take.
-use Rattle.std.proofs.Common.{◌≡◌, ℕ, ◌+◌, ◌-◌, ◌*◌, ◌/◌, ◌%◌, ◌<◌, ◌≤◌, arith, refl, sym, ap, subst, ◌∙◌, length, ⊎_elim, max}
+use Rattle.std.proofs.Common.{◌≡◌, ℕ, ◌+◌, ◌-◌, ◌*◌, ◌/◌, ◌<◌, ◌≤◌, arith, sym, ap, ◌∙◌, ⊎_elim, max}
 use Rattle.std.proofs.lemmas.Nat.{le-div}
-use Rattle.std.proofs.Math.Nat.{div-mul-le_self, mul-le-mul_right, div-eq_of_lt, add-mul, le-mul_of_pos_right}
+use Rattle.std.proofs.Math.Nat.{div-mul-le_self, mul-le-mul_right, div-eq_of_lt, add-mul}
 use Rattle.std.proofs.lemmas.Bool.{cases_lt}
-use Rattle.gs_block.specs.Stored.{Stored, IsStored, empty, count_of}
+use Rattle.gs_block.specs.Stored.{IsStored, empty, count_of}
 
 pub one_times : (k : ℕ) → 1 * k ≡ k
 one_times k = omega arith

@@ -1,6 +1,6 @@
 -- Edits that follow their definition.
-use Rattle.std.proofs.Common.{◌≡◌, ℕ, ◌+◌, ◌-◌, ◌*◌, ◌/◌, ◌%◌, ◌<◌, ◌≤◌, arith, refl, sym, ap, subst, List, [], ◌∷◌, ◌++◌, take, drop, length, replicate, ◌∙◌, min, max, inl, inr, rules, length-take}
-use Rattle.std.specs.Prelude.{Option, Some, None, Result, Ok, Err, cond, false, true, nat_lt, ◌==◌, ◌||◌}
+use Rattle.std.proofs.Common.{◌≡◌, ℕ, ◌+◌, ◌-◌, ◌/◌, ◌<◌, ◌≤◌, arith, refl, sym, ap, subst, List, [], ◌++◌, take, drop, length, ◌∙◌, min, inl, rules, length-take}
+use Rattle.std.specs.Prelude.{Some, None, Result, Ok, Err, cond, false, true, nat_lt, ◌==◌, ◌||◌}
 use Rattle.gs_base.specs.declared.refusal.Refusal.{Refusal}
 use Rattle.gs_base.specs.declared.refusal.Refusal.TheVariants.{Damaged, Range, BadLine}
 use Rattle.gs_block.specs.Stored.{Stored, IsStored, count_of, digests_from}
@@ -89,7 +89,7 @@ asked_part offset many bytes some = same_lists _ _ (search (rules, places)) (λ 
 pub undo_does : (i : Inverse) (s new : Stored) → fits i s ≡ true → new ≡ restored i s → Does {B = Unit {0}} (undo i s) (Ok tt) s new
 undo_does i s new fit is = subst (λ b. Does {B = Unit {0}} (cond b (Ok (restored i s)) (Err BadLine)) (Ok tt) s new) (sym fit) is
 
-length-replaced : {A : Type 0} (xs : List A) (at : ℕ) (ys : List A) → at + length ys ≤ length xs → length (replaced xs at ys) ≡ length xs
+pub length-replaced : {A : Type 0} (xs : List A) (at : ℕ) (ys : List A) → at + length ys ≤ length xs → length (replaced xs at ys) ≡ length xs
 length-replaced xs at ys within =
     let e : length (replaced xs at ys) ≡ min at (length xs) + (length ys + (length xs - (at + length ys))) = search (rules, places) in
     omega arith

@@ -1,18 +1,17 @@
 -- A write leaves the blocks that it doesn't touch, and what it touches can be taken back.
-use Rattle.std.proofs.Common.{◌≡◌, ℕ, ◌+◌, ◌-◌, ◌*◌, ◌/◌, ◌%◌, ◌<◌, ◌≤◌, arith, refl, sym, ap, subst, List, [], ◌∷◌, ◌++◌, take, drop, length, replicate, get_or, ◌∙◌, min, max, rules, ⊎_elim, map}
-use Rattle.std.specs.Prelude.{Ok, Err, cond, true, false, Result, slice_index_or, nat_eq}
+use Rattle.std.proofs.Common.{◌≡◌, ℕ, ◌+◌, ◌-◌, ◌*◌, ◌/◌, ◌<◌, ◌≤◌, arith, refl, sym, ap, subst, List, [], ◌∷◌, ◌++◌, take, drop, length, ◌∙◌, min, max, rules, ⊎_elim}
+use Rattle.std.specs.Prelude.{Ok, true, slice_index_or, nat_eq}
 use Rattle.std.proofs.lemmas.Bool.Decides.{nat_tests}
 use Rattle.sha2.specs.Sha256.{sha256}
 use Rattle.std.specs.Str.{bytes_eq}
-use Rattle.gs_base.specs.declared.refusal.Refusal.{Refusal}
-use Rattle.std.proofs.lemmas.List.{places, same_lists, take_all, take_at, drop_at, take-take, drop-take, drop-drop, take-append-drop}
+use Rattle.std.proofs.lemmas.List.{places, same_lists, take-take, drop-take, drop-drop}
 use Rattle.std.proofs.lemmas.List.FromFn.{length-map-range_with_len, get_or-map-range_with_len}
 use Rattle.std.proofs.lemmas.Bool.{cases_lt}
 use Rattle.std.proofs.Math.Nat.{div-mul-le_self, lt-div-mul-add, mul-le-mul_right, add-mul}
 use Rattle.gs_block.specs.Chunk.{written}
 use Rattle.gs_block.specs.Stored.{Stored, IsStored, count_of, block_at, digest_at, digests_from, is_intact}
 use Rattle.gs_block.specs.Edits.{with_bytes}
-use Rattle.gs_block.specs.Kept.{IsIntactAt, KeepsIntact}
+use Rattle.gs_block.specs.Kept.{KeepsIntact, Outside}
 use Rattle.gs_block.specs.Inverses.{Inverse, inverse_of, undo}
 use Rattle.gs_block.proofs.Counts.{first_counted, one_times}
 use Rattle.gs_block.proofs.Back.{leads_back}
@@ -137,3 +136,27 @@ write_keeps B b s new offset piece stored new_is =
     subst (λ n. KeepsIntact {B = B} (Ok b) s n) (sym new_is)
     (λ i. keeps_at s.block s.bytes (written offset piece s.bytes) s.digests at (offset + length piece) i stored.some_block (omega arith) (let l : at / s.block ≤ length s.digests = omega arith in l)
     (sym (take-written offset piece s.bytes)) (drop-written offset piece s.bytes))
+
+-- a write leaves the bytes outside of its span
+pub write_outside : (s new : Stored) (offset : ℕ) (piece : List ℕ) →
+    new ≡ with_bytes s (min offset (length s.bytes)) (offset + length piece) (written offset piece s.bytes) → Outside (min offset (length s.bytes)) (offset + length piece) s new
+unfolding with_bytes
+write_outside s new offset piece new_is =
+    let long = length-written offset piece s.bytes in
+    subst (Outside (min offset (length s.bytes)) (offset + length piece) s) (sym new_is)
+    (record {
+      block = refl;
+      chunk = refl;
+      before = sym (take-written offset piece s.bytes);
+      behind = drop-written offset piece s.bytes;
+      longer = omega arith;
+    })
+
+pub stays_outside : (at end : ℕ) (s : Stored) → Outside at end s s
+stays_outside at end s = record {
+  block = refl;
+  chunk = refl;
+  before = refl;
+  behind = refl;
+  longer = omega arith;
+}

@@ -5,5 +5,10 @@ pub mod Writing
 pub mod Following
 pub mod Back
 pub mod Kept
+pub mod Sealed
+pub mod Undoing
+pub mod Damaging
+pub mod Restoring
+pub mod Holding
 pub mod Matching
 pub mod Whole

@@ -1,5 +1,5 @@
 -- Digests that are those of all blocks.
-use Rattle.std.proofs.Common.{◌≡◌, ℕ, ◌+◌, ◌-◌, ◌<◌, ◌≤◌, arith, refl, sym, ap, subst, List, [], ◌∷◌, length, get_or, map, ◌∙◌, ⊎_elim, Bool, true, false, cond, zero, suc, true≢false, ◌≢◌}
+use Rattle.std.proofs.Common.{◌≡◌, ℕ, ◌+◌, ◌<◌, ◌≤◌, arith, refl, sym, ap, List, [], ◌∷◌, length, ◌∙◌, ⊎_elim, Bool, true, false, cond, zero, suc, true≢false, ◌≢◌}
 use Rattle.std.specs.Prelude.{Option, Some, None, slice_index_or, nat_eq, ◌==◌, ◌&&◌, ◌↔◌, IsTrue, is_none}
 use Rattle.std.specs.Str.{bytes_eq}
 use Rattle.std.proofs.lemmas.Bool.{cases_eq}

@@ -1,6 +1,6 @@
 -- A chunk that is made of bytes by one write.
-use Rattle.std.proofs.Common.{◌≡◌, ◌≢◌, ℕ, ◌+◌, ◌-◌, ◌*◌, ◌/◌, ◌<◌, ◌≤◌, arith, refl, sym, ap, subst, List, [], ◌∷◌, ◌++◌, take, drop, length, replicate, ◌∙◌, min, max, rules}
-use Rattle.std.specs.Prelude.{Result, Ok, Err, cond, false, true, nat_lt, ◌==◌, ◌||◌, Option, Some, None}
+use Rattle.std.proofs.Common.{◌≡◌, ◌≢◌, ℕ, ◌+◌, ◌-◌, ◌/◌, ◌≤◌, arith, sym, ap, subst, List, [], ◌++◌, take, drop, length, ◌∙◌, min, rules}
+use Rattle.std.specs.Prelude.{Result, Ok, Err, cond, false, nat_lt, ◌==◌, ◌||◌, None}
 use Rattle.std.proofs.lemmas.Bool.Decides.{nat_tests}
 use Rattle.std.proofs.lemmas.List.{places, same_lists, append-nil}
 use Rattle.std.proofs.Math.Nat.{zero-div}

@@ -1,7 +1,6 @@
 -- A write by parts: zeros behind the end, then the piece over what stands there.
-use Rattle.std.proofs.Common.{◌≡◌, ℕ, ◌+◌, ◌-◌, ◌*◌, ◌/◌, ◌%◌, ◌<◌, ◌≤◌, arith, refl, sym, ap, subst, List, [], ◌∷◌, ◌++◌, take, drop, length, replicate, get_or, ◌∙◌, min, max, rules, ⊎_elim}
+use Rattle.std.proofs.Common.{◌≡◌, ℕ, ◌+◌, ◌-◌, ◌≤◌, arith, sym, ap, List, [], ◌++◌, take, drop, length, replicate, ◌∙◌, min, max, rules}
 use Rattle.std.proofs.lemmas.List.{places, same_lists, take-append-le}
-use Rattle.std.proofs.lemmas.Bool.{cases_lt}
 use Rattle.gs_block.specs.Chunk.{written}
 use Rattle.gs_block.specs.Stored.{count_of}
 use Rattle.gs_block.specs.Inverses.{replaced}

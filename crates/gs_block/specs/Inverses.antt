@@ -1,5 +1,5 @@
 -- What takes an edit of a stored chunk back.
-use Rattle.std.specs.Prelude.{◌≡◌, ℕ, ◌+◌, ◌-◌, ◌/◌, ◌==◌, ◌&&◌, Bool, true, false, cond, nat_le, max, List, [], ◌∷◌, ◌++◌, length, take, drop, Result, Ok, Err, refl}
+use Rattle.std.specs.Prelude.{ℕ, ◌+◌, ◌-◌, ◌/◌, ◌==◌, ◌&&◌, Bool, cond, nat_le, max, List, ◌++◌, length, take, drop, Result, Ok, Err}
 use Rattle.gs_base.specs.declared.refusal.Refusal.{Refusal}
 use Rattle.gs_base.specs.declared.refusal.Refusal.TheVariants.{BadLine}
 use Rattle.gs_block.specs.Stored.{Stored, count_of}

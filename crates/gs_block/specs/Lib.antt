@@ -4,3 +4,4 @@ pub mod Edits
 pub mod Inverses
 pub mod Follows
 pub mod Kept
+pub mod Images

@@ -1,6 +1,6 @@
 -- The bytes of a chunk as they are stored: in blocks, of which the last may be short, each with the digest that was taken
 -- when it was last written.
-use Rattle.std.specs.Prelude.{◌≡◌, ℕ, ◌+◌, ◌-◌, ◌*◌, ◌/◌, ◌%◌, ◌≤◌, ◌==◌, ◌&&◌, is_none, Bool, true, false, cond, List, [], ◌∷◌, length, take, drop, map, slice_index, slice_index_or, slice_set, slice_get, Option, Some, None, refl, zero, suc}
+use Rattle.std.specs.Prelude.{◌≡◌, ℕ, ◌+◌, ◌-◌, ◌*◌, ◌/◌, ◌≤◌, ◌==◌, ◌&&◌, is_none, Bool, cond, List, [], ◌∷◌, length, take, drop, map, slice_index_or, Option, Some, None, refl, zero, suc}
 use Rattle.std.specs.List.{range_with_len}
 use Rattle.std.specs.Str.{bytes_eq}
 use Rattle.sha2.specs.Sha256.{sha256}

@@ -1,15 +1,17 @@
-ghost use Rattle.std.specs.Prelude.{◌≡◌, ◌≤◌, ◌<◌, ◌+◌, ◌-◌, ◌/◌, ◌%◌, ◌*◌, ◌↔◌, ◌++◌, ◌==◌, ◌||◌, nat_lt, nat_le, List, ℕ, IfOk, IsTrue, length, take, drop, min, max, Ok};
+ghost use Rattle.std.specs.Prelude.{◌≡◌, ◌≤◌, ◌<◌, ◌+◌, ◌-◌, ◌/◌, ◌%◌, ◌*◌, ◌↔◌, ◌++◌, ◌==◌, ◌||◌, nat_lt, nat_le, List, ℕ, IfOk, OnOk, IsTrue, replicate, false, length, take, drop, min, max, Ok};
 ghost use Rattle.sha2.specs.Hashers.{Holds256};
 ghost use Rattle.gs_block.specs.Chunk.{written};
-ghost use Rattle.gs_block.specs.Stored.{Stored, empty, digests_of, are_digests};
+ghost use Rattle.gs_block.specs.Stored.{Stored, IsStored, empty, digests_of, first_damaged, are_digests};
 ghost use Rattle.gs_block.specs.Edits.{changed, chunk_of, copied, write, append, pad, read, damage};
 ghost use Rattle.gs_block.specs.Inverses.{fits, undo, inverse_of};
 ghost use Rattle.gs_block.specs.Follows.{Follows, Does, Answers, Makes};
-ghost use Rattle.gs_block.specs.Kept.{KeepsIntact};
+ghost use Rattle.gs_block.specs.Kept.{KeepsIntact, KeepsOutside};
+ghost use Rattle.gs_block.specs.Images.{Images, AreFirst, begun, undone, touched, damage_before};
 
 use crate::digests::{
     Digest, are_digests, count_of, first_damaged, first_damaged_between, hasher_to,
 };
+use crate::images::{Images, first_damaged_before, no_images, put_back};
 use crate::inverse::BlockInverse;
 use crate::parts::{copy_of_part, put_over, write_anew};
 use gs_base::Refusal;
@@ -119,6 +121,7 @@ impl Blocks {
         ensures inverse { IfOk result (λ i. i ≡ inverse_of self.old (min offset (length self.old.bytes)) (offset + length piece.now)) }
         ensures undo { IfOk result (λ i. undo i self.new ≡ Ok self.old) }
         ensures intact { KeepsIntact result self.old self.new }
+        ensures outside { KeepsOutside result (min offset (length self.old.bytes)) (offset + length piece.now) self.old self.new }
     {
         let at = offset.min(self.bytes.len());
         let end = offset + piece.len();
@@ -149,6 +152,7 @@ impl Blocks {
         ensures inverse { IfOk result (λ i. i ≡ inverse_of self.old (min offset (length self.old.bytes)) (offset + length piece.now)) }
         ensures undo { IfOk result (λ i. undo i self.new ≡ Ok self.old) }
         ensures intact { KeepsIntact result self.old self.new }
+        ensures outside { KeepsOutside result (min offset (length self.old.bytes)) (offset + length piece.now) self.old self.new }
     {
         if is_outside(self.chunk, offset, piece) {
             return Err(Refusal::Range);
@@ -163,6 +167,7 @@ impl Blocks {
         ensures inverse { IfOk result (λ i. i ≡ inverse_of self.old (length self.old.bytes) (length self.old.bytes + length piece.now)) }
         ensures undo { IfOk result (λ i. undo i self.new ≡ Ok self.old) }
         ensures intact { KeepsIntact result self.old self.new }
+        ensures outside { KeepsOutside result (length self.old.bytes) (length self.old.bytes + length piece.now) self.old self.new }
     {
         let held = self.bytes.len();
         if is_outside(self.chunk, held as u64, piece) {
@@ -177,6 +182,7 @@ impl Blocks {
         ensures inverse { IfOk result (λ i. i ≡ inverse_of self.old (length self.old.bytes) self.old.chunk) }
         ensures undo { IfOk result (λ i. undo i self.new ≡ Ok self.old) }
         ensures intact { KeepsIntact result self.old self.new }
+        ensures outside { KeepsOutside result (length self.old.bytes) self.old.chunk self.old self.new }
     {
         let held = self.bytes.len();
         if held == self.chunk {
@@ -186,10 +192,55 @@ impl Blocks {
         self.put(chunk, &[])
     }
 
+    /// Begins the first images of the chunk as it stands. No block has one yet.
+    pub fn seal(&self) -> Result<Images, AllocError>
+        ensures begun { IfOk result (λ images. images ≡ begun self.now) }
+        ensures first { IfOk result (λ images. AreFirst images self.now) }
+        ensures undone { IfOk result (λ images. undone images self.now ≡ self.now) }
+        ensures touched { IfOk result (λ images. touched images ≡ replicate (length self.now.digests) false) }
+    {
+        let digests = Vec::from_slice(self.alloc, &self.digests)?;
+        let blocks = no_images(self.alloc, digests.len())?;
+        Ok(Images {
+            alloc: self.alloc,
+            long: self.bytes.len(),
+            digests,
+            blocks,
+        })
+    }
+
+    /// The lowest block that undoing all edits since the seal gives without its sealed digest.
+    pub fn damaged_before(&self, images: &Images) -> Option<u64>
+        requires { AreFirst images.now self.now }
+        ensures { result ≡ first_damaged self.now.block (undone images.now self.now).bytes images.now.digests 0 (length images.now.digests) }
+    {
+        let found = first_damaged_before(
+            &images.blocks,
+            &self.bytes,
+            self.block,
+            images.long,
+            &images.digests,
+        );
+        match found {
+            Some(index) => Some(index as u64),
+            None => None,
+        }
+    }
+
+    /// Undoes all edits since the seal: puts the first images into their places, cuts to the sealed length and takes the
+    /// sealed digests. No block is verified. It takes no memory.
+    pub fn restore(&mut self, images: Images)
+        requires { AreFirst images self.old }
+        ensures { self.new ≡ undone images self.old }
+    {
+        put_back(&mut self.bytes, self.block, images.long, &images.blocks);
+        self.digests = images.digests;
+    }
+
     /// Whether an inverse can be taken back: the length is that which the edit left, and what the inverse holds lies below
     /// the length that the edit found.
     #[tactic(auto, unfolding(crate::specs::Inverses::fits))]
-    fn fits(&self, inverse: &BlockInverse) -> bool
+    pub(crate) fn fits(&self, inverse: &BlockInverse) -> bool
         ensures { result ≡ fits inverse.now self.now }
     {
         self.bytes.len() == inverse.new_length
@@ -246,6 +297,29 @@ impl Blocks {
         }
     }
 
+    /// The bytes of a block.
+    pub(crate) fn block_size(&self) -> usize
+        ensures size { result ≡ self.now.block }
+        ensures stored { IsStored self.now }
+    {
+        self.block
+    }
+
+    /// The most bytes of the chunk.
+    pub fn capacity(&self) -> u64
+        ensures size { result ≡ self.now.chunk }
+        ensures stored { IsStored self.now }
+    {
+        self.chunk as u64
+    }
+
+    /// The stored bytes.
+    pub(crate) fn stored(&self) -> &[u8]
+        ensures { result.now ≡ self.now.bytes }
+    {
+        &self.bytes
+    }
+
     /// How many bytes are stored.
     pub fn len(&self) -> u64
         ensures { result ≡ length self.now.bytes }
@@ -278,7 +352,8 @@ impl Blocks {
     /// is no such block.
     #[tactic(auto, using(crate::proofs::Counts::starts))]
     pub fn damage(&mut self, block: u64) -> Result<(), Refusal>
-        ensures { Does (damage self.old block) result self.old self.new }
+        ensures damage { Does (damage self.old block) result self.old self.new }
+        ensures images { (i : Images) → AreFirst i self.old → OnOk result ((undone i self.new ≡ damage_before block (touched i) (undone i self.old)) × AreFirst i self.new) }
     {
         let index = block as usize;
         if index >= self.digests.len() {

@@ -40,7 +40,7 @@ pub(crate) fn digest_of(block: &[u8]) -> Digest
     Sha256::digest(block)
 }
 
-fn is_same(left: &Digest, right: &Digest) -> bool
+pub(crate) fn is_same(left: &Digest, right: &Digest) -> bool
     ensures { result ≡ bytes_eq left.now right.now }
 {
     left == right

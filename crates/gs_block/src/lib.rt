@@ -3,9 +3,11 @@
 
 mod blocks;
 mod digests;
+mod images;
 mod inverse;
 mod parts;
 
 pub use blocks::Blocks;
 pub use digests::Digest;
+pub use images::{Images, Missing};
 pub use inverse::BlockInverse;

@@ -1,5 +1,5 @@
 -- Numbered edits of a replica.
-use Rattle.std.specs.Prelude.{◌≡◌, ℕ, ◌+◌, ◌-◌, ◌==◌, ◌&&◌, ◌||◌, not, Bool, cond, nat_lt, nat_le, List, length, Option, Some, None, is_some, Result, Ok, Err, true, false}
+use Rattle.std.specs.Prelude.{ℕ, ◌+◌, ◌==◌, ◌&&◌, ◌||◌, Bool, cond, min, nat_lt, nat_le, List, length, Option, Some, None, Result, Ok, Err, false}
 use Rattle.std.specs.FinMap as fin
 use Rattle.std.specs.Ordering.{nat_cmp}
 use Rattle.gs_base.specs.declared.numbers.Stamp.{Stamp}
@@ -8,7 +8,6 @@ use Rattle.gs_base.specs.declared.refusal.Refusal.{Refusal}
 use Rattle.gs_base.specs.declared.refusal.Refusal.TheVariants as refusals
 use Rattle.gs_block.specs.Stored.{Stored, empty}
 use Rattle.gs_block.specs.Edits as blocks
-use Rattle.gs_block.specs.Inverses as inverses
 use Rattle.gs_replica.specs.declared.op.Op.{Op}
 use Rattle.gs_replica.specs.declared.op.Op.TheVariants.{Write, Append, Pad}
 use Rattle.gs_replica.specs.declared.op.Outcome.{Outcome}
@@ -36,6 +35,17 @@ abbrev pub edited : Op → List ℕ → Stored → Result Stored Refusal
 edited (Write offset) bytes s = blocks.write s offset bytes
 edited Append bytes s = blocks.append s bytes
 edited Pad bytes s = blocks.pad s
+
+-- an edit touches the bytes between these two places
+abbrev pub start_of : Op → Stored → ℕ
+start_of (Write offset) s = min offset (length s.bytes)
+start_of Append s = length s.bytes
+start_of Pad s = length s.bytes
+
+abbrev pub end_of : Op → List ℕ → Stored → ℕ
+end_of (Write offset) bytes s = offset + length bytes
+end_of Append bytes s = length s.bytes + length bytes
+end_of Pad bytes s = s.chunk
 
 abbrev pub outcome_of : Op → Stored → Outcome
 outcome_of (Write offset) s = Written

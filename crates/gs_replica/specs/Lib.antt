@@ -1,3 +1,5 @@
 pub mod Held
 pub mod Edits
 pub mod Undo
+pub mod Seals
+pub mod View

@@ -2,9 +2,12 @@
 #![tactic(auto)]
 
 mod done;
+mod live;
 mod op;
 mod replica;
+mod seal;
 
 pub use done::DoneTable;
+pub use live::ReplicaInverse;
 pub use op::{Done, Op, Outcome};
-pub use replica::{Replica, ReplicaInverse};
+pub use replica::Replica;

@@ -1,80 +1,57 @@
-ghost use Rattle.std.specs.Prelude.{◌≡◌, ◌≤◌, ◌<◌, ◌+◌, ◌-◌, ◌==◌, List, ℕ, IfOk, OnOk, OnErr, length, Ok, Err, is_some};
+ghost use Rattle.std.specs.Prelude.{◌≡◌, ◌≤◌, List, ℕ, IfOk, OnOk, OnErr, length, Ok, Option, Some, None, is_some};
 ghost use Rattle.std.specs.FinMap as fin;
 ghost use Rattle.gs_block.specs.Stored.{Stored, are_digests};
 ghost use Rattle.gs_block.specs.Edits as blocks;
-ghost use Rattle.gs_block.specs.Inverses as inverses;
 ghost use Rattle.gs_block.specs.Kept.{KeepsIntact};
 ghost use Rattle.gs_block.specs.Follows.{Follows, Does, Answers, Makes};
-ghost use Rattle.gs_replica.specs.Held.{Held};
-ghost use Rattle.gs_replica.specs.Edits.{fresh, promise, apply, is_before, is_same, is_old, edited, outcome_of, with_edit, damage, held_of, copied};
-ghost use Rattle.gs_replica.specs.Undo.{undo};
+ghost use Rattle.gs_replica.specs.Edits.{fresh, held_of, copied};
+ghost use Rattle.gs_replica.specs.Seals.{State, with_seal, holding, seal, unseal, apply, undo, promise, damage, roll_back, sealed_at, images_of, sealed_length, HandsBack};
 
 use crate::done::DoneTable;
-use crate::op::{Done, Op, Outcome};
+use crate::live::{Live, ReplicaInverse};
+use crate::op::{Done, Op};
+use crate::seal::{Seal, apply_sealed, begin, damage_sealed, image_bytes, undo_sealed};
 use gs_base::{ClientId, Refusal, ReqId, Stamp};
-use gs_block::{BlockInverse, Blocks, Digest};
-use std::alloc::Global;
+use gs_block::Digest;
+use std::alloc::{AllocError, Global};
 use std::marker::Model;
 
-/// A replica of a chunk.
+/// A replica of a chunk, which may be sealed.
 #[derive(Debug, Drop)]
 pub struct Replica {
-    blocks: Blocks,
-    count: u64,
-    done: DoneTable,
-    promise: Stamp,
+    live: Live,
+    seal: Option<Seal>,
 }
 
 impl Model for Replica {
-    ghost use Rattle.gs_replica.specs.Held.{Held, coded_held};
+    ghost use Rattle.gs_replica.specs.Seals.{State, coded_state};
+    ghost use Rattle.gs_replica.specs.View.{seen_in, BelongsIn};
 
-    ghost Value = { Held };
+    ghost Value = { State };
 
-    ghost coded = { coded_held };
+    ghost coded = { coded_state };
 
-    ghost view = { λ r. record { chunk = r.blocks; count = r.count; done = r.done; promise = r.promise } };
-}
+    ghost view = { λ r. record { held = r.live; sealed = seen_in r.live r.seal } };
 
-/// What takes an edit of a replica back: the bytes that it overwrote, the count that it left, and the client's request
-/// before it.
-#[derive(Debug, Drop)]
-pub struct ReplicaInverse {
-    pub(crate) blocks: BlockInverse,
-    pub(crate) count: u64,
-    pub(crate) client: ClientId,
-    pub(crate) before: Option<Done>,
-}
-
-fn is_before(stamp: Stamp, other: Stamp) -> bool
-    ensures { result ≡ is_before stamp other }
-{
-    stamp.epoch < other.epoch || stamp.epoch == other.epoch && stamp.version < other.version
-}
-
-fn is_same(stamp: Stamp, other: Stamp) -> bool
-    ensures { result ≡ is_same stamp other }
-{
-    stamp.epoch == other.epoch && stamp.version == other.version
+    ghost invariant = { λ r. BelongsIn r.live r.seal };
 }
 
 impl Replica {
-    /// A replica without edits, which has promised a stamp.
+    /// A replica without edits, which has promised a stamp and is not sealed.
     pub fn new(alloc: Global, block: u64, chunk: u64, stamp: Stamp) -> Replica
         requires some { 1 ≤ block }
         requires block_fits { block ≤ 65536 }
         requires chunk_fits { chunk ≤ 67108864 }
-        ensures { result ≡ fresh block chunk stamp }
+        ensures { result ≡ record { held = fresh block chunk stamp; sealed = None } }
     {
         Replica {
-            blocks: Blocks::new(alloc, block, chunk),
-            count: 0,
-            done: DoneTable::new(alloc),
-            promise: stamp,
+            live: Live::new(alloc, block, chunk, stamp),
+            seal: None,
         }
     }
 
-    /// A replica of the bytes, the count and the requests that a copy carries, which has promised a stamp. `Range` where the
-    /// bytes pass the size of the chunk.
+    /// A replica of the bytes, the count and the requests that a copy carries, which has promised a stamp and is not sealed.
+    /// `Range` where the bytes pass the size of the chunk.
     pub fn of(
         alloc: Global,
         block: u64,
@@ -87,26 +64,22 @@ impl Replica {
         requires some { 1 ≤ block }
         requires block_fits { block ≤ 65536 }
         requires chunk_fits { chunk ≤ 67108864 }
-        ensures { Makes (held_of stamp count done (blocks.chunk_of block chunk bytes.now)) result }
+        ensures { Makes (with_seal None (held_of stamp count done (blocks.chunk_of block chunk bytes.now))) result }
     {
         Ok(Replica {
-            blocks: Blocks::of(alloc, block, chunk, bytes)?,
-            count,
-            done,
-            promise: stamp,
+            live: Live::of(alloc, block, chunk, stamp, bytes, count, done)?,
+            seal: None,
         })
     }
 
-    /// A replica of the same bytes, count and requests, which has promised a stamp. Every block is verified first:
-    /// `Damaged` names the lowest that fails.
+    /// A replica of the same bytes, count and requests, which has promised a stamp and is not sealed. Every block is verified
+    /// first: `Damaged` names the lowest that fails.
     pub fn copy(&self, stamp: Stamp) -> Result<Replica, Refusal>
-        ensures { Makes (copied stamp self.now) result }
+        ensures { Makes (with_seal None (copied stamp self.now.held)) result }
     {
         Ok(Replica {
-            blocks: self.blocks.copy()?,
-            count: self.count,
-            done: self.done.copy()?,
-            promise: stamp,
+            live: self.live.copy(stamp)?,
+            seal: None,
         })
     }
 
@@ -114,16 +87,12 @@ impl Replica {
     pub fn promise(&mut self, stamp: Stamp) -> Result<(), Refusal>
         ensures { Does (promise stamp self.old) result self.old self.new }
     {
-        if is_before(stamp, self.promise) {
-            return Err(Refusal::Old);
-        }
-        self.promise = stamp;
-        Ok(())
+        self.live.promise(stamp)
     }
 
     /// Applies an edit. `Stamp` with the promise where the stamp is not the promised one, `Gap` with the count where the
     /// number is not the count and 1, `Old` where the request's number is not above the client's last applied one, then
-    /// `Range` and `Damaged` as the chunk decides.
+    /// `Range` and `Damaged` as the chunk decides. A sealed replica keeps what undoing gives.
     pub fn apply(
         &mut self,
         stamp: Stamp,
@@ -133,174 +102,153 @@ impl Replica {
         bytes: &[u8],
     ) -> Result<ReplicaInverse, Refusal>
         ensures edit { Follows (apply stamp number req op bytes.now self.old) result self.old self.new }
-        ensures undo { IfOk result (λ i. undo i self.new ≡ Ok self.old) }
-        ensures intact { KeepsIntact result self.old.chunk self.new.chunk }
+        ensures undo { IfOk result (λ i. undo i self.new ≡ Ok (holding self.old.held self.new)) }
+        ensures intact { KeepsIntact result self.old.held.chunk self.new.held.chunk }
     {
-        if !is_same(stamp, self.promise) {
-            return Err(Refusal::Stamp(self.promise));
+        match &mut self.seal {
+            Some(seal) => apply_sealed(&mut self.live, seal, stamp, number, req, op, bytes),
+            None => self.live.apply(stamp, number, req, op, bytes),
         }
-        if number == 0 || number - 1 != self.count {
-            return Err(Refusal::Gap(self.count));
-        }
-        if is_old(req.number, self.done.get(req.client)) {
-            return Err(Refusal::Old);
-        }
-        self.take(number, req, op, bytes)
     }
 
-    /// Applies an edit after the tests on its number and request.
-    fn take(
-        &mut self,
-        number: u64,
-        req: ReqId,
-        op: Op,
-        bytes: &[u8],
-    ) -> Result<ReplicaInverse, Refusal>
-        requires { number ≡ self.old.count + 1 }
-        ensures edit { Follows (with_edit self.old req op (edited op bytes.now self.old.chunk)) result self.old self.new }
-        ensures undo { IfOk result (λ i. undo i self.new ≡ Ok self.old) }
-        ensures intact { KeepsIntact result self.old.chunk self.new.chunk }
-    {
-        let before = self.done.get(req.client);
-        let outcome = outcome_of(op, self.blocks.len());
-        let blocks = edit(&mut self.blocks, op, bytes)?;
-        let done = Done {
-            number: req.number,
-            outcome,
-        };
-        match self.done.put(req.client, done) {
-            Ok(()) => {}
-            Err(refused) => {
-                take_back(&mut self.blocks, &blocks);
-                return Err(Refusal::from(refused));
-            }
-        }
-        self.count = number;
-        Ok(ReplicaInverse {
-            blocks,
-            count: number,
-            client: req.client,
-            before,
-        })
-    }
-
-    /// Takes the last edit back. `BadLine` where the count is not that which the edit left, or the inverse does not fit the
-    /// chunk. It takes no memory.
+    /// Takes the last edit back, and leaves what undoing all gives. `BadLine` where the count is not that which the edit left,
+    /// or the inverse does not fit the chunk; on a sealed replica also at its sealed count, in a block that no edit has
+    /// touched since, and below the sealed length. It takes no memory.
     pub fn undo(&mut self, inverse: &ReplicaInverse) -> Result<(), Refusal>
         ensures { Does (undo inverse.now self.old) result self.old self.new }
     {
-        if self.count != inverse.count
-            || self.count == 0
-            || self.done.get(inverse.client).is_none()
-        {
-            return Err(Refusal::BadLine);
+        match &self.seal {
+            Some(seal) => undo_sealed(&mut self.live, seal, inverse),
+            None => self.live.undo(inverse),
         }
-        self.blocks.undo(&inverse.blocks)?;
-        self.done.restore(inverse.client, inverse.before);
-        self.count -= 1;
+    }
+
+    /// Seals the replica as it stands, in place of an earlier seal.
+    pub fn seal(&mut self) -> Result<(), AllocError>
+        ensures ok { OnOk result (self.new ≡ seal self.old) }
+        ensures err { OnErr result (self.new ≡ self.old) }
+    {
+        self.seal = Some(begin(&self.live)?);
         Ok(())
+    }
+
+    /// The promise that stood when the replica was sealed, if it is.
+    pub fn sealed_at(&self) -> Option<Stamp>
+        ensures { result ≡ sealed_at self.now }
+    {
+        match &self.seal {
+            Some(seal) => Some(seal.stamp),
+            None => None,
+        }
+    }
+
+    /// How many bytes the first images of the seal hold: never more than were sealed, and 0 without a seal.
+    pub fn image_bytes(&self) -> u64
+        ensures bytes { result ≡ images_of self.now.sealed }
+        ensures at_most { result ≤ sealed_length self.now.sealed }
+    {
+        match &self.seal {
+            Some(seal) => image_bytes(&self.live, seal),
+            None => 0,
+        }
+    }
+
+    /// Forgets the seal.
+    pub fn unseal(&mut self)
+        ensures { self.new ≡ unseal self.old }
+    {
+        self.seal = None;
+    }
+
+    /// Takes the replica back to where it was sealed: the bytes, digests, count and requests as sealed stand again, under the
+    /// promise that was made since, and the seal goes. `Damaged` names the lowest block that undoing gives without its sealed
+    /// digest, and the replica is handed back as it was; `BadLine` where it is not sealed. It takes no memory.
+    pub fn roll_back(self) -> Result<Replica, (Replica, Refusal)>
+        ensures { HandsBack (roll_back self) result self }
+    {
+        let Replica { live, seal } = self;
+        match seal {
+            Some(seal) => match live.blocks().damaged_before(&seal.images) {
+                Some(block) => {
+                    let sealed = Replica {
+                        live,
+                        seal: Some(seal),
+                    };
+                    Err((sealed, Refusal::Damaged(block)))
+                }
+                None => Ok(Replica {
+                    live: live.restored(seal.images, seal.count, seal.done),
+                    seal: None,
+                }),
+            },
+            None => Err((Replica { live, seal: None }, Refusal::BadLine)),
+        }
     }
 
     /// The stored bytes of a range, as `Blocks::read` gives them.
     pub fn read(&self, offset: u64, many: u64) -> Result<&[u8], Refusal>
-        ensures { Answers (λ part. part.now) (blocks.read self.now.chunk offset many) result }
+        ensures { Answers (λ part. part.now) (blocks.read self.now.held.chunk offset many) result }
     {
-        self.blocks.read(offset, many)
+        self.live.read(offset, many)
     }
 
     /// How many bytes are stored.
     pub fn len(&self) -> u64
-        ensures { result ≡ length self.now.chunk.bytes }
+        ensures { result ≡ length self.now.held.chunk.bytes }
     {
-        self.blocks.len()
+        self.live.len()
     }
 
     /// How many edits are applied.
     pub fn count(&self) -> u64
-        ensures { result ≡ self.now.count }
+        ensures { result ≡ self.now.held.count }
     {
-        self.count
+        self.live.count()
     }
 
     /// The stamp below which no edit is taken.
     pub fn promised(&self) -> Stamp
-        ensures { result ≡ self.now.promise }
+        ensures { result ≡ self.now.held.promise }
     {
-        self.promise
+        self.live.promised()
     }
 
     /// A client's last applied request.
     pub fn done(&self, client: ClientId) -> Option<Done>
-        ensures { result ≡ fin.get self.now.done client.0 }
+        ensures { result ≡ fin.get self.now.held.done client.0 }
     {
-        self.done.get(client)
+        self.live.done(client)
     }
 
     /// Each client's last applied request.
     pub fn done_table(&self) -> &DoneTable
-        ensures { result.now ≡ self.now.done }
+        ensures { result.now ≡ self.now.held.done }
     {
-        &self.done
+        self.live.done_table()
     }
 
     /// The stored digests, one for each block.
     pub fn digests(&self) -> &[Digest]
-        ensures { result.now ≡ self.now.chunk.digests }
+        ensures { result.now ≡ self.now.held.chunk.digests }
     {
-        self.blocks.digests()
+        self.live.digests()
     }
 
     /// Whether each block has its stored digest.
     pub fn is_intact(&self) -> bool
-        ensures { result ≡ are_digests self.now.chunk.block self.now.chunk.bytes self.now.chunk.digests }
+        ensures { result ≡ are_digests self.now.held.chunk.block self.now.held.chunk.bytes self.now.held.chunk.digests }
     {
-        self.blocks.matches(self.blocks.digests())
+        self.live.is_intact()
     }
 
-    /// Adds 1 modulo 256 to the first byte of a block and leaves its digest. `Range` where there is no such block.
+    /// Adds 1 modulo 256 to the first byte of a block and leaves its digest. `Range` where there is no such block. It reaches
+    /// what undoing gives where no edit has touched the block since the seal.
     pub fn damage(&mut self, block: u64) -> Result<(), Refusal>
         ensures { Does (damage block self.old) result self.old self.new }
     {
-        self.blocks.damage(block)
+        match &self.seal {
+            Some(seal) => damage_sealed(&mut self.live, seal, block),
+            None => self.live.damage(block),
+        }
     }
-}
-
-/// Whether a request's number is not above the client's last.
-fn is_old(number: u64, last: Option<Done>) -> bool
-    ensures { result ≡ is_old number last }
-{
-    match last {
-        Some(done) => number <= done.number,
-        None => false,
-    }
-}
-
-fn outcome_of(op: Op, len: u64) -> Outcome
-    ensures { (s : Stored) → len ≡ length s.bytes → result ≡ outcome_of op s }
-{
-    match op {
-        Op::Write(_) => Outcome::Written,
-        Op::Append => Outcome::Appended(len),
-        Op::Pad => Outcome::Padded,
-    }
-}
-
-/// The edit of the chunk.
-fn edit(blocks: &mut Blocks, op: Op, bytes: &[u8]) -> Result<BlockInverse, Refusal>
-    ensures edit { Follows (edited op bytes.now blocks.old) result blocks.old blocks.new }
-    ensures undo { IfOk result (λ i. inverses.undo i blocks.new ≡ Ok blocks.old) }
-    ensures intact { KeepsIntact result blocks.old blocks.new }
-{
-    match op {
-        Op::Write(offset) => blocks.write(offset, bytes),
-        Op::Append => blocks.append(bytes),
-        Op::Pad => blocks.pad(),
-    }
-}
-
-/// Takes an edit back that its inverse fits.
-fn take_back(blocks: &mut Blocks, inverse: &BlockInverse)
-    ensures { (s : Stored) → inverses.undo inverse.now blocks.old ≡ Ok s → blocks.new ≡ s }
-{
-    let _undone = blocks.undo(inverse);
 }

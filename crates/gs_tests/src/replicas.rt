@@ -1,5 +1,5 @@
 use gs_base::{ClientId, Refusal, ReqId, Stamp};
-use gs_replica::{Op, Replica};
+use gs_replica::{Op, Replica, ReplicaInverse};
 use std::alloc::Global;
 use std::test::Fail;
 
@@ -39,5 +39,81 @@ fn takes_numbered_edits(rt: HostRuntime) -> Result<(), Fail> {
     replica.damage(1)?;
     assert_eq!(rt; refused(&mut replica, 2, 3, 3, b"g"), 27);
     assert_eq!(rt; replica.count(), 2);
+    Ok(())
+}
+
+/// Applies an edit by client 1 whose number is also its request's.
+fn write(
+    replica: &mut Replica,
+    number: u64,
+    op: Op,
+    bytes: &[u8],
+) -> Result<ReplicaInverse, Refusal> {
+    let req = ReqId {
+        client: ClientId(1),
+        number,
+    };
+    replica.apply(stamp(1), number, req, op, bytes)
+}
+
+/// A replica of `abcdef` after one edit, sealed, and then edited three times.
+fn sealed(alloc: Global) -> Result<Replica, Refusal> {
+    let mut replica = Replica::new(alloc, 4, 16, stamp(1));
+    write(&mut replica, 1, Op::Append, b"abcdef")?;
+    replica.seal()?;
+    write(&mut replica, 2, Op::Write(0), b"zzzzz")?;
+    write(&mut replica, 3, Op::Write(0), b"y")?;
+    write(&mut replica, 4, Op::Append, b"0123456789")?;
+    Ok(replica)
+}
+
+#[test]
+fn rolls_back_to_the_seal(rt: HostRuntime) -> Result<(), Fail> {
+    let replica = sealed(rt.alloc())?;
+    assert_eq!(rt; replica.read(0, 16)?, b"yzzzzf0123456789".as_slice());
+    assert_eq!(rt; replica.sealed_at().is_some(), true);
+    match replica.roll_back() {
+        Ok(back) => {
+            assert_eq!(rt; back.read(0, 16)?, b"abcdef".as_slice());
+            assert_eq!(rt; back.count(), 1);
+        }
+        Err((_replica, refusal)) => assert_eq!(rt; refusal.number(), 0),
+    }
+    Ok(())
+}
+
+/// The images are those of the two sealed blocks, however many edits come.
+#[test]
+fn keeps_first_images(rt: HostRuntime) -> Result<(), Fail> {
+    let mut replica = Replica::new(rt.alloc(), 4, 16, stamp(1));
+    write(&mut replica, 1, Op::Append, b"abcdef")?;
+    replica.seal()?;
+    assert_eq!(rt; replica.image_bytes(), 0);
+    write(&mut replica, 2, Op::Write(5), b"y")?;
+    assert_eq!(rt; replica.image_bytes(), 2);
+    let edited = sealed(rt.alloc())?;
+    assert_eq!(rt; edited.image_bytes(), 6);
+    Ok(())
+}
+
+/// Damage of a touched block does not reach what undoing gives; damage of another one does.
+#[test]
+fn hands_a_damaged_replica_back(rt: HostRuntime) -> Result<(), Fail> {
+    let mut replica = Replica::new(rt.alloc(), 4, 16, stamp(1));
+    write(&mut replica, 1, Op::Append, b"abcdef")?;
+    replica.seal()?;
+    let inverse = write(&mut replica, 2, Op::Write(5), b"z")?;
+    replica.undo(&inverse)?;
+    assert!(rt; matches!(&replica.undo(&inverse), Err(Refusal::BadLine)));
+    replica.damage(1)?;
+    replica.damage(0)?;
+    match replica.roll_back() {
+        Ok(_back) => assert!(rt; false),
+        Err((mut held, refusal)) => {
+            assert!(rt; matches!(&refusal, Refusal::Damaged(0)));
+            held.unseal();
+            assert!(rt; held.sealed_at().is_none());
+        }
+    }
     Ok(())
 }

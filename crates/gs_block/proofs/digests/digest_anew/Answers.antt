@@ -1,7 +1,7 @@
-use Rattle.std.proofs.Common.{◌≡◌, ◌≤◌, ◌<◌, ◌+◌, ◌-◌, ◌*◌, ◌/◌, ◌%◌, ◌++◌, ℕ, length, take, drop, arith, ap, sym, ◌∙◌, set, length-set}
+use Rattle.std.proofs.Common.{◌≡◌, ◌≤◌, ◌<◌, ◌*◌, ◌/◌, ◌%◌, ◌++◌, length, take, drop, arith, ap, ◌∙◌, set, length-set}
 use Rattle.sha2.specs.Sha256.{sha256}
 use Rattle.gs_block.specs.Stored.{count_of, digest_at}
-use Rattle.gs_block.proofs.Anew.{anew_to, anew_start, anew_more, head_digest}
+use Rattle.gs_block.proofs.Anew.{anew_start, anew_more, head_digest}
 use Rattle.gs_block.proofs.Counts.{count_mono}
 use Rattle.gs_block.proofs.digests.digest_anew.Goals as goal
 

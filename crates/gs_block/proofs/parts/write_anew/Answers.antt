@@ -1,10 +1,10 @@
-use Rattle.std.proofs.Common.{◌≡◌, ◌≤◌, ◌<◌, ◌+◌, ◌-◌, ◌*◌, ◌/◌, ◌%◌, ◌++◌, List, ℕ, length, take, drop, replicate, arith, ap, sym, subst, ◌∙◌, min}
+use Rattle.std.proofs.Common.{◌≡◌, ◌≤◌, ◌+◌, ◌-◌, ◌*◌, ◌/◌, ◌%◌, ◌++◌, length, take, drop, replicate, arith, ap, sym, subst, ◌∙◌, min}
 use Rattle.std.proofs.lemmas.List.{take_at}
 use Rattle.sha2.specs.Hashers.{Holds256}
 use Rattle.gs_block.specs.Chunk.{written}
 use Rattle.gs_block.specs.Stored.{count_of, digests_from}
 use Rattle.gs_block.specs.Inverses.{replaced}
-use Rattle.gs_block.proofs.Writing.{written_by_parts, length-written, take-written, each_written, anew_room}
+use Rattle.gs_block.proofs.Writing.{written_by_parts, take-written, each_written, anew_room}
 use Rattle.gs_block.proofs.Verified.{head_same}
 use Rattle.gs_block.proofs.Counts.{first_counted}
 use Rattle.gs_block.proofs.parts.write_anew.Goals as goal

@@ -1,4 +1,4 @@
-use Rattle.std.proofs.Common.{◌≡◌, ◌-◌, ◌/◌, ℕ, List, length, take, drop, subst, sym, ap, ◌∙◌, max}
+use Rattle.std.proofs.Common.{◌≡◌, ◌-◌, ◌/◌, ℕ, List, length, take, drop, subst, ap, ◌∙◌, max}
 use Rattle.gs_block.specs.Stored.{Stored, count_of}
 use Rattle.gs_block.specs.Inverses.{Inverse, inverse_of}
 use Rattle.gs_block.proofs.blocks.Blocks.inverse.Goals as goal

@@ -1,4 +1,4 @@
-use Rattle.std.proofs.Common.{◌≡◌, List, ℕ, ap, ◌∙◌}
+use Rattle.std.proofs.Common.{List, ℕ, ap, ◌∙◌}
 use Rattle.gs_block.specs.Stored.{Stored, are_digests}
 use Rattle.gs_block.proofs.Matching.{digests_iff}
 use Rattle.gs_block.proofs.blocks.Blocks.matches.Goals as goal

@@ -1,13 +1,12 @@
-use Rattle.std.proofs.Common.{◌≡◌, ◌≤◌, ◌+◌, ◌-◌, ◌/◌, ◌++◌, ◌<◌, length, take, drop, subst, sym, ap, ◌∙◌, min, max, arith}
-use Rattle.std.specs.Prelude.{Some, None, Ok, Err}
+use Rattle.std.proofs.Common.{◌≡◌, ◌≤◌, ◌+◌, ◌-◌, ◌/◌, length, subst, sym, ap, ◌∙◌, min, arith}
+use Rattle.std.specs.Prelude.{Some, None}
 use Rattle.gs_block.specs.Chunk.{written}
 use Rattle.gs_block.specs.Stored.{Stored, IsStored, first_damaged, count_of}
-use Rattle.gs_block.specs.Edits.{damaged_between, with_bytes, changed}
-use Rattle.gs_block.specs.Follows.{Follows}
+use Rattle.gs_block.specs.Edits.{damaged_between}
 use Rattle.gs_block.specs.Inverses.{inverse_of}
 use Rattle.gs_block.specs.declared.inverse.BlockInverse.{BlockInverse}
 use Rattle.gs_block.proofs.Following.{refused, accepted, stays_stored, new_is}
-use Rattle.gs_block.proofs.Kept.{write_back, write_keeps}
+use Rattle.gs_block.proofs.Kept.{write_back, write_keeps, write_outside}
 use Rattle.gs_block.proofs.Writing.{length-written}
 use Rattle.gs_block.proofs.blocks.Blocks.put.Goals as goal
 
@@ -65,4 +64,10 @@ pub returns-clause-intact : goal.returns-clause-intact
 returns-clause-intact c =
     let inside : Stored = record { block = c.self.inside.block; chunk = c.self.inside.chunk; bytes = c.self.inside.bytes.items; digests = c.self.inside.digests.items } in
     write_keeps BlockInverse c.in_ok-inverse.inverse c.args.self.now _ c.args.offset c.args.piece.now (subst IsStored c.self.view_is c.self.invariant)
+    (new_is c.args.offset c.args.piece.now inside c.args.self.now c.write_anew.new.bytes.items c.write_anew.new.digests.items c.self.view_is c.in_ok-write_anew.ensures.bytes c.in_ok-write_anew.ensures.digests)
+
+pub returns-clause-outside : goal.returns-clause-outside
+returns-clause-outside c =
+    let inside : Stored = record { block = c.self.inside.block; chunk = c.self.inside.chunk; bytes = c.self.inside.bytes.items; digests = c.self.inside.digests.items } in
+    write_outside c.args.self.now _ c.args.offset c.args.piece.now
     (new_is c.args.offset c.args.piece.now inside c.args.self.now c.write_anew.new.bytes.items c.write_anew.new.digests.items c.self.view_is c.in_ok-write_anew.ensures.bytes c.in_ok-write_anew.ensures.digests)

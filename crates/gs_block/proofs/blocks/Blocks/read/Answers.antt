@@ -1,7 +1,7 @@
 use Rattle.std.proofs.Common.{◌≡◌, ◌+◌, ◌-◌, ◌≤◌, ◌<◌, ◌/◌, ℕ, List, length, take, drop, subst, sym, ap, ◌∙◌, min, arith, Bor}
 use Rattle.std.specs.Prelude.{Some, None, Ok, Err}
 use Rattle.gs_base.specs.declared.refusal.Refusal.TheVariants.{Damaged}
-use Rattle.gs_block.specs.Stored.{Stored, IsStored, count_of, first_damaged}
+use Rattle.gs_block.specs.Stored.{Stored, count_of, first_damaged}
 use Rattle.gs_block.specs.Edits.{damaged_between, read}
 use Rattle.gs_block.specs.Follows.{Answers}
 use Rattle.gs_block.proofs.Following.{read_refused, read_given, asked_part}

@@ -1,6 +1,6 @@
-use Rattle.std.proofs.Common.{◌≡◌, ◌+◌, ◌≤◌, ◌/◌, ℕ, List, length, take, subst, sym, ap, ◌∙◌, min, arith}
-use Rattle.gs_block.specs.Stored.{Stored, IsStored, count_of}
-use Rattle.gs_block.specs.Inverses.{Inverse, undo, fits, restored, replaced}
+use Rattle.std.proofs.Common.{◌≡◌, ◌≤◌, ◌/◌, ℕ, List, length, take, subst, sym, ap, ◌∙◌, arith}
+use Rattle.gs_block.specs.Stored.{Stored, count_of}
+use Rattle.gs_block.specs.Inverses.{Inverse, restored, replaced}
 use Rattle.gs_block.proofs.Back.{FitsAt, fits_at}
 use Rattle.gs_block.proofs.Counts.{count_mono}
 use Rattle.gs_block.proofs.Following.{undo_does, restored_stored}

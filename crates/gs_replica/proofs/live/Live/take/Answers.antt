@@ -3,10 +3,10 @@ use Rattle.std.specs.Prelude.{Ok}
 use Rattle.std.specs.FinMap as fin
 use Rattle.gs_replica.specs.Held.{Held}
 use Rattle.gs_replica.specs.Undo.{undo}
-use Rattle.gs_replica.specs.declared.replica.ReplicaInverse.{ReplicaInverse}
+use Rattle.gs_replica.specs.declared.live.ReplicaInverse.{ReplicaInverse}
 use Rattle.gs_replica.specs.declared.op.Done.{Done}
 use Rattle.gs_replica.proofs.Back.{leads_back}
-use Rattle.gs_replica.proofs.replica.Replica.take.Goals as goal
+use Rattle.gs_replica.proofs.live.Live.take.Goals as goal
 
 pub returns-clause-undo : goal.returns-clause-undo
 returns-clause-undo c =

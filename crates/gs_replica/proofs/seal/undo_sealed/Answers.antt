@@ -1,0 +1,72 @@
+use Rattle.std.proofs.Common.{◌≡◌, ◌≢◌, length, sym, ap, subst, ◌∙◌, arith, true}
+use Rattle.std.specs.Prelude.{Ok}
+use Rattle.gs_block.specs.Stored.{Stored}
+use Rattle.gs_block.specs.Images.{Images, AreFirst, undone, touched, covers}
+use Rattle.gs_block.specs.Inverses as inverses
+use Rattle.gs_replica.specs.declared.seal.Seal.{Seal}
+use Rattle.gs_replica.specs.Held.{Held}
+use Rattle.gs_replica.specs.Undo as undos
+use Rattle.gs_replica.specs.Seals.{Sealed}
+use Rattle.gs_replica.specs.View.{seen, Belongs}
+use Rattle.gs_replica.proofs.Sealing.{undo_does, undo_refused, undone_chunk, long_undone, does_keep, can, cannot_same, cannot_uncovered}
+use Rattle.gs_replica.proofs.seal.undo_sealed.Goals as goal
+
+pub returns-then-count-seal-clause-undo : goal.returns-then-count-seal-clause-undo
+returns-then-count-seal-clause-undo c =
+    let old : Held = c.args.live.now in
+    let seal : Seal = c.args.seal.now in
+    let t : Sealed = seen old seal in
+    undo_refused (Unit {0}) c.args.inverse.now old t
+    (cannot_same old.count seal.count (covers (length t.undone.bytes) t.touched c.args.inverse.now.blocks old.chunk) (sym c.count.ensures ∙ c.if-count-seal.true))
+
+pub returns-then-not-covers-clause-undo : goal.returns-then-not-covers-clause-undo
+returns-then-not-covers-clause-undo c =
+    let old : Held = c.args.live.now in
+    let seal : Seal = c.args.seal.now in
+    let t : Sealed = seen old seal in
+    let i = c.args.inverse.now.blocks in
+    undo_refused (Unit {0}) c.args.inverse.now old t
+    (cannot_uncovered old.count seal.count (covers (length t.undone.bytes) t.touched i old.chunk) (λ (e : old.count ≡ seal.count). c.if-count-seal.false (c.count.ensures ∙ e))
+    (ap (λ n. covers n t.touched i old.chunk) (long_undone seal.images old.chunk) ∙ ap (covers seal.images.long (touched seal.images) i) (sym c.blocks-2.ensures) ∙ sym c.covers.ensures.test ∙ c.if-not-covers.true))
+
+-- what undoing gives is kept where the edit is taken back
+kept : (c : goal.After-undo) → undos.undo c.args.inverse.now c.args.live.now ≡ Ok c.undo.new.self → (undone c.args.seal.now.images c.undo.new.self.chunk ≡ undone c.args.seal.now.images c.args.live.now.chunk) × AreFirst c.args.seal.now.images c.undo.new.self.chunk
+kept c gives =
+    let images : Images = c.args.seal.now.images in
+    let new : Held = c.undo.new.self in
+    let i = c.args.inverse.now.blocks in
+    subst (λ (s : Stored). inverses.undo i s ≡ Ok new.chunk → AreFirst images s → (undone images new.chunk ≡ undone images s) × AreFirst images new.chunk) c.blocks-2.ensures
+    (λ back first. c.covers.ensures.keeps new.chunk c.if-not-covers.false back first)
+    (undone_chunk c.args.inverse.now c.args.live.now new gives).0 c.requires.belongs.first
+
+pub returns-clause-undo : goal.returns-clause-undo
+returns-clause-undo c =
+    let old : Held = c.args.live.now in
+    let new : Held = c.undo.new.self in
+    let seal : Seal = c.args.seal.now in
+    let t : Sealed = seen old seal in
+    let i = c.args.inverse.now.blocks in
+    let covered : covers seal.images.long (touched seal.images) i old.chunk ≡ true = ap (covers seal.images.long (touched seal.images) i) (sym c.blocks-2.ensures) ∙ sym c.covers.ensures.test ∙ c.if-not-covers.false in
+    undo_does (Unit {0}) c.undo.result c.args.inverse.now old new (λ h. seen h seal)
+    (can old.count seal.count (covers (length t.undone.bytes) t.touched i old.chunk) (λ (e : old.count ≡ seal.count). c.if-count-seal.false (c.count.ensures ∙ e))
+    (ap (λ n. covers n t.touched i old.chunk) (long_undone seal.images old.chunk) ∙ covered))
+    c.undo.ensures
+    (λ b ok gives k. record {
+      undone = (kept c gives).0 k;
+      count = seal.count;
+      done = seal.done;
+      stamp = seal.stamp;
+      touched = touched seal.images;
+    })
+
+pub returns-clause-belongs : goal.returns-clause-belongs
+returns-clause-belongs c =
+    let old : Held = c.args.live.now in
+    let new : Held = c.undo.new.self in
+    let seal : Seal = c.args.seal.now in
+    let later = c.requires.belongs.later in
+    does_keep (Unit {0}) c.undo.result (undos.undo c.args.inverse.now old) old new (λ h. Belongs h seal) c.undo.ensures c.requires.belongs
+    (λ gives.
+    let count = (undone_chunk c.args.inverse.now old new gives).1 in
+    let other : old.count ≢ seal.count = λ (e : old.count ≡ seal.count). c.if-count-seal.false (c.count.ensures ∙ e) in
+    record { first = (kept c gives).1; later = omega arith })

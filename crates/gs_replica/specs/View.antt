@@ -1,0 +1,25 @@
+-- How a seal in memory is seen.
+use Rattle.std.specs.Prelude.{◌≤◌, Option, Some, None}
+use Rattle.gs_block.specs.Images.{AreFirst, undone, touched}
+use Rattle.gs_replica.specs.declared.seal.Seal.{Seal}
+use Rattle.gs_replica.specs.Held.{Held}
+use Rattle.gs_replica.specs.Seals.{Sealed, State}
+
+abbrev pub seen : Held → Seal → Sealed
+seen h s = record { undone = undone s.images h.chunk; count = s.count; done = s.done; stamp = s.stamp; touched = touched s.images }
+
+abbrev pub state_of : Held → Seal → State
+state_of h s = record { held = h; sealed = Some (seen h s) }
+
+-- the images are of this chunk, and no edit was undone that came before the seal
+pub record Belongs (h : Held) (s : Seal) : Type 0 where
+  pub first : AreFirst s.images h.chunk
+  pub later : s.count ≤ h.count
+
+abbrev pub seen_in : Held → Option Seal → Option Sealed
+seen_in h None = None
+seen_in h (Some s) = Some (seen h s)
+
+abbrev pub BelongsIn : Held → Option Seal → Type 0
+BelongsIn h None = Unit {0}
+BelongsIn h (Some s) = Belongs h s

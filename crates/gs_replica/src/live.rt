@@ -1,0 +1,343 @@
+ghost use Rattle.std.specs.Prelude.{◌≡◌, ◌≤◌, ◌<◌, ◌+◌, ◌-◌, ◌==◌, List, ℕ, IfOk, OnOk, OnErr, length, Ok, Err, is_some};
+ghost use Rattle.std.specs.FinMap as fin;
+ghost use Rattle.gs_block.specs.Stored.{Stored, are_digests};
+ghost use Rattle.gs_block.specs.Edits as blocks;
+ghost use Rattle.gs_block.specs.Inverses as inverses;
+ghost use Rattle.gs_block.specs.Kept.{KeepsIntact, KeepsOutside};
+ghost use Rattle.gs_block.specs.Follows.{Follows, Does, Answers, Makes};
+ghost use Rattle.gs_block.specs.Images.{Images, AreFirst, undone, touched, damage_before};
+ghost use Rattle.gs_replica.specs.Held.{Held};
+ghost use Rattle.gs_replica.specs.Edits.{fresh, promise, apply, is_before, is_same, is_old, edited, outcome_of, with_edit, damage, held_of, copied, start_of, end_of};
+ghost use Rattle.gs_replica.specs.Undo.{undo};
+
+use crate::done::DoneTable;
+use crate::op::{Done, Op, Outcome};
+use gs_base::{ClientId, Refusal, ReqId, Stamp};
+use gs_block::{BlockInverse, Blocks, Digest, Images};
+use std::alloc::Global;
+use std::marker::Model;
+
+/// The part of a replica that edits change.
+#[derive(Debug, Drop)]
+pub(crate) struct Live {
+    blocks: Blocks,
+    count: u64,
+    done: DoneTable,
+    promise: Stamp,
+}
+
+impl Model for Live {
+    ghost use Rattle.gs_replica.specs.Held.{Held, coded_held};
+
+    ghost Value = { Held };
+
+    ghost coded = { coded_held };
+
+    ghost view = { λ r. record { chunk = r.blocks; count = r.count; done = r.done; promise = r.promise } };
+}
+
+/// What takes an edit of a replica back: the bytes that it overwrote, the count that it left, and the client's request
+/// before it.
+#[derive(Debug, Drop)]
+pub struct ReplicaInverse {
+    pub(crate) blocks: BlockInverse,
+    pub(crate) count: u64,
+    pub(crate) client: ClientId,
+    pub(crate) before: Option<Done>,
+}
+
+fn is_before(stamp: Stamp, other: Stamp) -> bool
+    ensures { result ≡ is_before stamp other }
+{
+    stamp.epoch < other.epoch || stamp.epoch == other.epoch && stamp.version < other.version
+}
+
+fn is_same(stamp: Stamp, other: Stamp) -> bool
+    ensures { result ≡ is_same stamp other }
+{
+    stamp.epoch == other.epoch && stamp.version == other.version
+}
+
+impl Live {
+    /// A replica without edits, which has promised a stamp.
+    pub(crate) fn new(alloc: Global, block: u64, chunk: u64, stamp: Stamp) -> Live
+        requires some { 1 ≤ block }
+        requires block_fits { block ≤ 65536 }
+        requires chunk_fits { chunk ≤ 67108864 }
+        ensures { result ≡ fresh block chunk stamp }
+    {
+        Live {
+            blocks: Blocks::new(alloc, block, chunk),
+            count: 0,
+            done: DoneTable::new(alloc),
+            promise: stamp,
+        }
+    }
+
+    /// A replica of the bytes, the count and the requests that a copy carries, which has promised a stamp. `Range` where the
+    /// bytes pass the size of the chunk.
+    pub(crate) fn of(
+        alloc: Global,
+        block: u64,
+        chunk: u64,
+        stamp: Stamp,
+        bytes: &[u8],
+        count: u64,
+        done: DoneTable,
+    ) -> Result<Live, Refusal>
+        requires some { 1 ≤ block }
+        requires block_fits { block ≤ 65536 }
+        requires chunk_fits { chunk ≤ 67108864 }
+        ensures { Makes (held_of stamp count done (blocks.chunk_of block chunk bytes.now)) result }
+    {
+        Ok(Live {
+            blocks: Blocks::of(alloc, block, chunk, bytes)?,
+            count,
+            done,
+            promise: stamp,
+        })
+    }
+
+    /// A replica of the same bytes, count and requests, which has promised a stamp. Every block is verified first:
+    /// `Damaged` names the lowest that fails.
+    pub(crate) fn copy(&self, stamp: Stamp) -> Result<Live, Refusal>
+        ensures { Makes (copied stamp self.now) result }
+    {
+        Ok(Live {
+            blocks: self.blocks.copy()?,
+            count: self.count,
+            done: self.done.copy()?,
+            promise: stamp,
+        })
+    }
+
+    /// Promises to take no edit below a stamp. `Old` where a greater one is promised. It takes no memory.
+    pub(crate) fn promise(&mut self, stamp: Stamp) -> Result<(), Refusal>
+        ensures { Does (promise stamp self.old) result self.old self.new }
+    {
+        if is_before(stamp, self.promise) {
+            return Err(Refusal::Old);
+        }
+        self.promise = stamp;
+        Ok(())
+    }
+
+    /// Applies an edit. `Stamp` with the promise where the stamp is not the promised one, `Gap` with the count where the
+    /// number is not the count and 1, `Old` where the request's number is not above the client's last applied one, then
+    /// `Range` and `Damaged` as the chunk decides.
+    pub(crate) fn apply(
+        &mut self,
+        stamp: Stamp,
+        number: u64,
+        req: ReqId,
+        op: Op,
+        bytes: &[u8],
+    ) -> Result<ReplicaInverse, Refusal>
+        ensures edit { Follows (apply stamp number req op bytes.now self.old) result self.old self.new }
+        ensures undo { IfOk result (λ i. undo i self.new ≡ Ok self.old) }
+        ensures intact { KeepsIntact result self.old.chunk self.new.chunk }
+        ensures span { IfOk result (λ i. i.blocks ≡ inverses.inverse_of self.old.chunk (start_of op self.old.chunk) (end_of op bytes.now self.old.chunk)) }
+        ensures outside { KeepsOutside result (start_of op self.old.chunk) (end_of op bytes.now self.old.chunk) self.old.chunk self.new.chunk }
+        ensures back { IfOk result (λ i. inverses.undo i.blocks self.new.chunk ≡ Ok self.old.chunk) }
+        ensures count { OnOk result (self.new.count ≡ self.old.count + 1) }
+        ensures refused { OnErr result (self.new ≡ self.old) }
+    {
+        if !is_same(stamp, self.promise) {
+            return Err(Refusal::Stamp(self.promise));
+        }
+        if number == 0 || number - 1 != self.count {
+            return Err(Refusal::Gap(self.count));
+        }
+        if is_old(req.number, self.done.get(req.client)) {
+            return Err(Refusal::Old);
+        }
+        self.take(number, req, op, bytes)
+    }
+
+    /// Applies an edit after the tests on its number and request.
+    fn take(
+        &mut self,
+        number: u64,
+        req: ReqId,
+        op: Op,
+        bytes: &[u8],
+    ) -> Result<ReplicaInverse, Refusal>
+        requires { number ≡ self.old.count + 1 }
+        ensures edit { Follows (with_edit self.old req op (edited op bytes.now self.old.chunk)) result self.old self.new }
+        ensures undo { IfOk result (λ i. undo i self.new ≡ Ok self.old) }
+        ensures intact { KeepsIntact result self.old.chunk self.new.chunk }
+        ensures span { IfOk result (λ i. i.blocks ≡ inverses.inverse_of self.old.chunk (start_of op self.old.chunk) (end_of op bytes.now self.old.chunk)) }
+        ensures outside { KeepsOutside result (start_of op self.old.chunk) (end_of op bytes.now self.old.chunk) self.old.chunk self.new.chunk }
+        ensures back { IfOk result (λ i. inverses.undo i.blocks self.new.chunk ≡ Ok self.old.chunk) }
+        ensures count { OnOk result (self.new.count ≡ self.old.count + 1) }
+        ensures refused { OnErr result (self.new ≡ self.old) }
+    {
+        let before = self.done.get(req.client);
+        let outcome = outcome_of(op, self.blocks.len());
+        let blocks = edit(&mut self.blocks, op, bytes)?;
+        let done = Done {
+            number: req.number,
+            outcome,
+        };
+        match self.done.put(req.client, done) {
+            Ok(()) => {}
+            Err(refused) => {
+                take_back(&mut self.blocks, &blocks);
+                return Err(Refusal::from(refused));
+            }
+        }
+        self.count = number;
+        Ok(ReplicaInverse {
+            blocks,
+            count: number,
+            client: req.client,
+            before,
+        })
+    }
+
+    /// Takes the last edit back. `BadLine` where the count is not that which the edit left, or the inverse does not fit the
+    /// chunk. It takes no memory.
+    pub(crate) fn undo(&mut self, inverse: &ReplicaInverse) -> Result<(), Refusal>
+        ensures { Does (undo inverse.now self.old) result self.old self.new }
+    {
+        if self.count != inverse.count
+            || self.count == 0
+            || self.done.get(inverse.client).is_none()
+        {
+            return Err(Refusal::BadLine);
+        }
+        self.blocks.undo(&inverse.blocks)?;
+        self.done.restore(inverse.client, inverse.before);
+        self.count -= 1;
+        Ok(())
+    }
+
+    /// What undoing all edits since a seal gives, under the promise that was made since. No block is verified. It takes no
+    /// memory.
+    pub(crate) fn restored(self, images: Images, count: u64, requests: DoneTable) -> Live
+        requires { AreFirst images self.chunk }
+        ensures { result ≡ record { chunk = undone images self.chunk; count = count; done = requests; promise = self.promise } }
+    {
+        let mut blocks = self.blocks;
+        blocks.restore(images);
+        Live {
+            blocks,
+            count,
+            done: requests,
+            promise: self.promise,
+        }
+    }
+
+    /// The stored bytes of a range, as `Blocks::read` gives them.
+    pub(crate) fn read(&self, offset: u64, many: u64) -> Result<&[u8], Refusal>
+        ensures { Answers (λ part. part.now) (blocks.read self.now.chunk offset many) result }
+    {
+        self.blocks.read(offset, many)
+    }
+
+    /// The stored bytes in blocks.
+    pub(crate) fn blocks(&self) -> &Blocks
+        ensures { result.now ≡ self.now.chunk }
+    {
+        &self.blocks
+    }
+
+    /// How many bytes are stored.
+    pub(crate) fn len(&self) -> u64
+        ensures { result ≡ length self.now.chunk.bytes }
+    {
+        self.blocks.len()
+    }
+
+    /// How many edits are applied.
+    pub(crate) fn count(&self) -> u64
+        ensures { result ≡ self.now.count }
+    {
+        self.count
+    }
+
+    /// The stamp below which no edit is taken.
+    pub(crate) fn promised(&self) -> Stamp
+        ensures { result ≡ self.now.promise }
+    {
+        self.promise
+    }
+
+    /// A client's last applied request.
+    pub(crate) fn done(&self, client: ClientId) -> Option<Done>
+        ensures { result ≡ fin.get self.now.done client.0 }
+    {
+        self.done.get(client)
+    }
+
+    /// Each client's last applied request.
+    pub(crate) fn done_table(&self) -> &DoneTable
+        ensures { result.now ≡ self.now.done }
+    {
+        &self.done
+    }
+
+    /// The stored digests, one for each block.
+    pub(crate) fn digests(&self) -> &[Digest]
+        ensures { result.now ≡ self.now.chunk.digests }
+    {
+        self.blocks.digests()
+    }
+
+    /// Whether each block has its stored digest.
+    pub(crate) fn is_intact(&self) -> bool
+        ensures { result ≡ are_digests self.now.chunk.block self.now.chunk.bytes self.now.chunk.digests }
+    {
+        self.blocks.matches(self.blocks.digests())
+    }
+
+    /// Adds 1 modulo 256 to the first byte of a block and leaves its digest. `Range` where there is no such block.
+    pub(crate) fn damage(&mut self, block: u64) -> Result<(), Refusal>
+        ensures damage { Does (damage block self.old) result self.old self.new }
+        ensures images { (i : Images) → AreFirst i self.old.chunk → OnOk result ((undone i self.new.chunk ≡ damage_before block (touched i) (undone i self.old.chunk)) × AreFirst i self.new.chunk) }
+    {
+        self.blocks.damage(block)
+    }
+}
+
+/// Whether a request's number is not above the client's last.
+fn is_old(number: u64, last: Option<Done>) -> bool
+    ensures { result ≡ is_old number last }
+{
+    match last {
+        Some(done) => number <= done.number,
+        None => false,
+    }
+}
+
+fn outcome_of(op: Op, len: u64) -> Outcome
+    ensures { (s : Stored) → len ≡ length s.bytes → result ≡ outcome_of op s }
+{
+    match op {
+        Op::Write(_) => Outcome::Written,
+        Op::Append => Outcome::Appended(len),
+        Op::Pad => Outcome::Padded,
+    }
+}
+
+/// The edit of the chunk.
+fn edit(blocks: &mut Blocks, op: Op, bytes: &[u8]) -> Result<BlockInverse, Refusal>
+    ensures edit { Follows (edited op bytes.now blocks.old) result blocks.old blocks.new }
+    ensures undo { IfOk result (λ i. inverses.undo i blocks.new ≡ Ok blocks.old) }
+    ensures intact { KeepsIntact result blocks.old blocks.new }
+    ensures span { IfOk result (λ i. i ≡ inverses.inverse_of blocks.old (start_of op blocks.old) (end_of op bytes.now blocks.old)) }
+    ensures outside { KeepsOutside result (start_of op blocks.old) (end_of op bytes.now blocks.old) blocks.old blocks.new }
+{
+    match op {
+        Op::Write(offset) => blocks.write(offset, bytes),
+        Op::Append => blocks.append(bytes),
+        Op::Pad => blocks.pad(),
+    }
+}
+
+/// Takes an edit back that its inverse fits.
+fn take_back(blocks: &mut Blocks, inverse: &BlockInverse)
+    ensures { (s : Stored) → inverses.undo inverse.now blocks.old ≡ Ok s → blocks.new ≡ s }
+{
+    let _undone = blocks.undo(inverse);
+}

@@ -1,0 +1,124 @@
+ghost use Rattle.std.specs.Prelude.{◌≡◌, ◌≤◌, ◌+◌, ◌==◌, ℕ, IfOk, OnOk, Option, Some, None, Ok, Result, length};
+ghost use Rattle.std.specs.Prelude.{min};
+ghost use Rattle.gs_block.specs.Stored.{Stored, IsStored};
+ghost use Rattle.gs_replica.specs.Edits.{start_of, end_of};
+ghost use Rattle.gs_replica.specs.Edits as edits;
+ghost use Rattle.gs_replica.specs.Undo as undos;
+ghost use Rattle.gs_block.specs.Images.{AreFirst};
+ghost use Rattle.gs_block.specs.Kept.{KeepsIntact};
+ghost use Rattle.gs_block.specs.Follows.{Follows, Does};
+ghost use Rattle.gs_replica.specs.Held.{Held};
+ghost use Rattle.gs_replica.specs.Seals.{images_of, sealed_length, State, Sealed, sealed_of, apply, undo, damage, can_undo, holding, on_seal, damage_seal, with_seal};
+ghost use Rattle.gs_replica.specs.View.{seen, state_of, Belongs};
+
+use crate::done::DoneTable;
+use crate::live::{Live, ReplicaInverse};
+use crate::op::Op;
+use gs_base::{Refusal, ReqId, Stamp};
+use gs_block::{Blocks, Images};
+use std::alloc::AllocError;
+
+/// What takes a replica back to where it was sealed.
+#[derive(Debug, Drop)]
+pub(crate) struct Seal {
+    pub(crate) stamp: Stamp,
+    pub(crate) count: u64,
+    pub(crate) images: Images,
+    pub(crate) done: DoneTable,
+}
+
+/// The first images of a replica as it stands: none yet.
+pub(crate) fn begin(live: &Live) -> Result<Seal, AllocError>
+    ensures sealed { IfOk result (λ seal. seen live.now seal ≡ sealed_of live.now) }
+    ensures belongs { IfOk result (λ seal. Belongs live.now seal) }
+{
+    Ok(Seal {
+        stamp: live.promised(),
+        count: live.count(),
+        images: live.blocks().seal()?,
+        done: live.done_table().copy()?,
+    })
+}
+
+/// Applies an edit to a sealed replica. The images of the blocks that it is the first to touch are copied before it and
+/// taken up after it.
+pub(crate) fn apply_sealed(
+    live: &mut Live,
+    seal: &mut Seal,
+    stamp: Stamp,
+    number: u64,
+    req: ReqId,
+    op: Op,
+    bytes: &[u8],
+) -> Result<ReplicaInverse, Refusal>
+    requires belongs { Belongs live.old seal.old }
+    ensures edit { Follows (apply stamp number req op bytes.now (state_of live.old seal.old)) result (state_of live.old seal.old) (state_of live.new seal.new) }
+    ensures undo { IfOk result (λ i. undo i (state_of live.new seal.new) ≡ Ok (holding live.old (state_of live.new seal.new))) }
+    ensures intact { KeepsIntact result live.old.chunk live.new.chunk }
+    ensures belongs { Belongs live.new seal.new }
+{
+    let (start, end) = span(live.blocks(), op, bytes);
+    let missing = seal.images.missing(live.blocks(), start, end)?;
+    match live.apply(stamp, number, req, op, bytes) {
+        Ok(inverse) => {
+            seal.images.keep(missing);
+            Ok(inverse)
+        }
+        Err(refusal) => Err(refusal),
+    }
+}
+
+/// The places between which an edit changes bytes.
+fn span(blocks: &Blocks, op: Op, bytes: &[u8]) -> (u64, u64)
+    ensures start { result.0 ≡ start_of op blocks.now }
+    ensures end { (long : ℕ) → long ≤ 67108864 → min result.1 long ≡ min (end_of op bytes.now blocks.now) long }
+    ensures stored { IsStored blocks.now }
+    ensures within { start_of op blocks.now ≤ length blocks.now.bytes }
+    ensures order { start_of op blocks.now ≤ end_of op bytes.now blocks.now }
+{
+    let held = blocks.len();
+    let capacity = blocks.capacity();
+    let many = bytes.len() as u64;
+    match op {
+        Op::Write(offset) => (offset.min(held), offset.saturating_add(many)),
+        Op::Append => (held, held + many),
+        Op::Pad => (held, capacity),
+    }
+}
+
+/// Takes the last edit of a sealed replica back, and leaves its images.
+pub(crate) fn undo_sealed(
+    live: &mut Live,
+    seal: &Seal,
+    inverse: &ReplicaInverse,
+) -> Result<(), Refusal>
+    requires belongs { Belongs live.old seal.now }
+    ensures undo { Does (undo inverse.now (state_of live.old seal.now)) result (state_of live.old seal.now) (state_of live.new seal.now) }
+    ensures belongs { Belongs live.new seal.now }
+{
+    if live.count() == seal.count {
+        return Err(Refusal::BadLine);
+    }
+    if !seal.images.covers(live.blocks(), &inverse.blocks) {
+        return Err(Refusal::BadLine);
+    }
+    live.undo(inverse)
+}
+
+/// Adds 1 modulo 256 to the first byte of a block of a sealed replica.
+pub(crate) fn damage_sealed(live: &mut Live, seal: &Seal, block: u64) -> Result<(), Refusal>
+    requires belongs { Belongs live.old seal.now }
+    ensures damage { Does (damage block (state_of live.old seal.now)) result (state_of live.old seal.now) (state_of live.new seal.now) }
+    ensures belongs { Belongs live.new seal.now }
+{
+    live.damage(block)
+}
+
+/// How many bytes the first images hold.
+pub(crate) fn image_bytes(live: &Live, seal: &Seal) -> u64
+    requires belongs { Belongs live.now seal.now }
+    ensures bytes { result ≡ images_of (Some (seen live.now seal.now)) }
+    ensures at_most { result ≤ sealed_length (Some (seen live.now seal.now)) }
+{
+    seal.images.held(live.blocks())
+}
