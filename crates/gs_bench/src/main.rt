@@ -5,6 +5,7 @@ mod blocks;
 mod counting;
 mod journals;
 mod names;
+mod script;
 
 use gs_base::Refusal;
 use std::alloc::Global;
@@ -35,6 +36,8 @@ enum Part {
     Append,
     /// Whole blocks read.
     Read,
+    /// All ten edits of names, each taken back, for runs in which growths are refused.
+    Script,
     /// Records added to a journal.
     Record,
     /// The same, and one opening of it.
@@ -54,13 +57,15 @@ impl Part {
             "write" => Some(Part::Write),
             "append" => Some(Part::Append),
             "read" => Some(Part::Read),
+            "script" => Some(Part::Script),
             "record" => Some(Part::Record),
             "open" => Some(Part::Open),
             _ => None,
         }
     }
 
-    /// Runs the part so often, and answers how many bytes were written to disks, where it has any.
+    /// Runs the part so often, and answers how many bytes were written to disks, where it has any, or how many calls of
+    /// the script lacked memory.
     fn run(self, alloc: Global, count: u64) -> Result<u64, Refusal> {
         match self {
             Part::Build => names::build(alloc, count).map(|_| 0),
@@ -73,6 +78,7 @@ impl Part {
             Part::Write => blocks::write(alloc, count).map(|()| 0),
             Part::Append => blocks::append(alloc, count).map(|()| 0),
             Part::Read => blocks::read(alloc, count).map(|()| 0),
+            Part::Script => script::run(alloc),
             Part::Record => journals::append(alloc, count),
             Part::Open => journals::open(alloc, count),
         }
@@ -105,7 +111,12 @@ fn main(rt: HostRuntime) -> ExitCode {
     match part.run(rt.alloc(), count) {
         Ok(0) => ExitCode::SUCCESS,
         Ok(written) => {
-            let _ = eprintln!(rt; "{written} bytes written");
+            let what = if part == Part::Script {
+                "calls made again"
+            } else {
+                "bytes written"
+            };
+            let _ = eprintln!(rt; "{written} {what}");
             ExitCode::SUCCESS
         }
         Err(refusal) => {
