@@ -64,6 +64,7 @@ def written(part, count):
 
 def show_journal(n):
     show_differences(JOURNAL, n)
+    print(f"records added a second, in memory: {4 * n / (seconds('record', 4 * n) - seconds('record', 0)):,.0f}", flush=True)
     print(f"bytes written for each record of 14 bytes: {(written('record', 2 * n) - written('record', n)) / n:.2f}", flush=True)
 
 
