@@ -1,4 +1,4 @@
-ghost use Rattle.std.specs.Prelude.{◌≡◌, ◌≤◌, ◌<◌, ◌+◌, ◌-◌, ◌==◌, List, ℕ, IfOk, OnOk, OnErr, length, Ok, Err, is_some};
+ghost use Rattle.std.specs.Prelude.{◌≡◌, ◌≤◌, ◌<◌, ◌+◌, ◌-◌, ◌==◌, List, ℕ, IfOk, OnOk, OnErr, length, Ok, Err, None, is_some};
 ghost use Rattle.std.specs.FinMap as fin;
 ghost use Rattle.gs_block.specs.Stored.{Stored, are_digests};
 ghost use Rattle.gs_block.specs.Edits as blocks;
@@ -7,7 +7,7 @@ ghost use Rattle.gs_block.specs.Kept.{KeepsIntact, KeepsOutside};
 ghost use Rattle.gs_block.specs.Follows.{Follows, Does, Answers, Makes};
 ghost use Rattle.gs_block.specs.Images.{Images, AreFirst, undone, touched, damage_before};
 ghost use Rattle.gs_replica.specs.Held.{Held};
-ghost use Rattle.gs_replica.specs.Edits.{fresh, promise, apply, is_before, is_same, is_old, edited, outcome_of, with_edit, damage, held_of, copied, start_of, end_of};
+ghost use Rattle.gs_replica.specs.Edits.{fresh, promise, apply, judged, Refuses, Judges, is_before, is_same, is_old, edited, outcome_of, with_edit, damage, held_of, copied, start_of, end_of};
 ghost use Rattle.gs_replica.specs.Undo.{undo};
 
 use crate::done::DoneTable;
@@ -134,6 +134,7 @@ impl Live {
         bytes: &[u8],
     ) -> Result<ReplicaInverse, Refusal>
         ensures edit { Follows (apply stamp number req op bytes.now self.old) result self.old self.new }
+        ensures judged { Refuses (judged stamp number req self.old) result }
         ensures undo { IfOk result (λ i. undo i self.new ≡ Ok self.old) }
         ensures intact { KeepsIntact result self.old.chunk self.new.chunk }
         ensures span { IfOk result (λ i. i.blocks ≡ inverses.inverse_of self.old.chunk (start_of op self.old.chunk) (end_of op bytes.now self.old.chunk)) }
@@ -141,6 +142,16 @@ impl Live {
         ensures back { IfOk result (λ i. inverses.undo i.blocks self.new.chunk ≡ Ok self.old.chunk) }
         ensures count { OnOk result (self.new.count ≡ self.old.count + 1) }
         ensures refused { OnErr result (self.new ≡ self.old) }
+    {
+        self.judge(stamp, number, req)?;
+        self.take(number, req, op, bytes)
+    }
+
+    /// Judges an edit by its stamp, number and request, as `apply` says. It takes no memory.
+    pub(crate) fn judge(&self, stamp: Stamp, number: u64, req: ReqId) -> Result<(), Refusal>
+        ensures judged { Judges (judged stamp number req self.now) result }
+        ensures accepted { OnOk result (judged stamp number req self.now ≡ None) }
+        ensures next { OnOk result (number ≡ self.now.count + 1) }
     {
         if !is_same(stamp, self.promise) {
             return Err(Refusal::Stamp(self.promise));
@@ -151,11 +162,11 @@ impl Live {
         if is_old(req.number, self.done.get(req.client)) {
             return Err(Refusal::Old);
         }
-        self.take(number, req, op, bytes)
+        Ok(())
     }
 
-    /// Applies an edit after the tests on its number and request.
-    fn take(
+    /// Applies an edit that is judged.
+    pub(crate) fn take(
         &mut self,
         number: u64,
         req: ReqId,

@@ -1,7 +1,7 @@
 ghost use Rattle.std.specs.Prelude.{◌≡◌, ◌≤◌, ◌+◌, ◌==◌, ℕ, IfOk, OnOk, Option, Some, None, Ok, Result, length};
 ghost use Rattle.std.specs.Prelude.{min};
 ghost use Rattle.gs_block.specs.Stored.{Stored, IsStored};
-ghost use Rattle.gs_replica.specs.Edits.{start_of, end_of};
+ghost use Rattle.gs_replica.specs.Edits.{start_of, end_of, Refuses};
 ghost use Rattle.gs_replica.specs.Edits as edits;
 ghost use Rattle.gs_replica.specs.Undo as undos;
 ghost use Rattle.gs_block.specs.Images.{AreFirst};
@@ -40,7 +40,7 @@ pub(crate) fn begin(live: &Live) -> Result<Seal, AllocError>
     })
 }
 
-/// Applies an edit to a sealed replica. The images of the blocks that it is the first to touch are copied before it and
+/// Applies an edit to a sealed replica. It is judged before anything is copied. The images of the blocks that it is the first to touch are copied before it and
 /// taken up after it.
 pub(crate) fn apply_sealed(
     live: &mut Live,
@@ -53,13 +53,15 @@ pub(crate) fn apply_sealed(
 ) -> Result<ReplicaInverse, Refusal>
     requires belongs { Belongs live.old seal.old }
     ensures edit { Follows (apply stamp number req op bytes.now (state_of live.old seal.old)) result (state_of live.old seal.old) (state_of live.new seal.new) }
+    ensures judged { Refuses (edits.judged stamp number req live.old) result }
     ensures undo { IfOk result (λ i. undo i (state_of live.new seal.new) ≡ Ok (holding live.old (state_of live.new seal.new))) }
     ensures intact { KeepsIntact result live.old.chunk live.new.chunk }
     ensures belongs { Belongs live.new seal.new }
 {
+    live.judge(stamp, number, req)?;
     let (start, end) = span(live.blocks(), op, bytes);
     let missing = seal.images.missing(live.blocks(), start, end)?;
-    match live.apply(stamp, number, req, op, bytes) {
+    match live.take(number, req, op, bytes) {
         Ok(inverse) => {
             seal.images.keep(missing);
             Ok(inverse)

@@ -1,5 +1,5 @@
 use Rattle.std.proofs.Common.{◌≡◌, ◌+◌, ◌≤◌, Some, length, min, sym, ap, subst, ◌∙◌, arith, true}
-use Rattle.std.specs.Prelude.{Ok}
+use Rattle.std.specs.Prelude.{Ok, Err}
 use Rattle.gs_block.specs.Stored.{Stored, IsStored}
 use Rattle.gs_block.specs.Images.{missing, touched, covers}
 use Rattle.gs_block.specs.Inverses as inverses
@@ -11,13 +11,13 @@ use Rattle.gs_replica.specs.Edits.{start_of, end_of}
 use Rattle.gs_replica.specs.Edits as edits
 use Rattle.gs_replica.specs.Seals.{Sealed, touch_seal}
 use Rattle.gs_replica.specs.View.{seen, state_of}
-use Rattle.gs_replica.proofs.Sealing.{state, follows_ok, follows_err, undo_back, long_undone, missing_same, can}
+use Rattle.gs_replica.proofs.Sealing.{state, once_judged, follows_ok, follows_err, undo_back, long_undone, missing_same, can}
 use Rattle.gs_replica.proofs.seal.apply_sealed.Goals as goal
 
 pub returns-in-Err-clause-edit : goal.returns-in-Err-clause-edit
 returns-in-Err-clause-edit c =
     follows_err ReplicaInverse c.in-Err.refusal (edits.apply c.args.stamp c.args.number c.args.req c.args.op c.args.bytes.now c.args.live.now) (Some (touch_seal c.args.op c.args.bytes.now c.args.live.now.chunk (seen c.args.live.now c.args.seal.now)))
-    c.args.live.now c.apply.new.self (state_of c.args.live.now c.args.seal.now) (state_of c.apply.new.self c.args.seal.now) c.in-Err.ensures.edit
+    c.args.live.now c.take.new.self (state_of c.args.live.now c.args.seal.now) (state_of c.take.new.self c.args.seal.now) (once_judged ReplicaInverse c.args.stamp c.args.number c.args.req c.args.op c.args.bytes.now (Err c.in-Err.refusal) c.args.live.now c.take.new.self c.in_ok-judge.ensures.accepted c.in-Err.ensures.edit)
     (ap (λ (h : Held). state_of h c.args.seal.now) c.in-Err.ensures.refused)
 
 pub returns-in-Ok-clause-edit : goal.returns-in-Ok-clause-edit
@@ -25,7 +25,7 @@ returns-in-Ok-clause-edit c =
     let op = c.args.op in
     let bytes = c.args.bytes.now in
     let old : Held = c.args.live.now in
-    let new : Held = c.apply.new.self in
+    let new : Held = c.take.new.self in
     let seal : Seal = c.args.seal.now in
     let start = start_of op old.chunk in
     let end = end_of op bytes old.chunk in
@@ -54,7 +54,7 @@ returns-in-Ok-clause-edit c =
       stamp = seal.stamp;
       touched = c.keep.ensures.touched old.chunk start end first miss k;
     } in
-    follows_ok ReplicaInverse c.in-Ok.inverse (edits.apply c.args.stamp c.args.number c.args.req op bytes old) (Some t) old new (state_of old seal) (state_of new after) c.in-Ok.ensures.edit
+    follows_ok ReplicaInverse c.in-Ok.inverse (edits.apply c.args.stamp c.args.number c.args.req op bytes old) (Some t) old new (state_of old seal) (state_of new after) (once_judged ReplicaInverse c.args.stamp c.args.number c.args.req c.args.op c.args.bytes.now (Ok c.in-Ok.inverse) c.args.live.now c.take.new.self c.in_ok-judge.ensures.accepted c.in-Ok.ensures.edit)
     (ap (λ (x : Sealed). state new (Some x)) is)
 
 pub returns-in-Ok-clause-undo : goal.returns-in-Ok-clause-undo
@@ -62,7 +62,7 @@ returns-in-Ok-clause-undo c =
     let op = c.args.op in
     let bytes = c.args.bytes.now in
     let old : Held = c.args.live.now in
-    let new : Held = c.apply.new.self in
+    let new : Held = c.take.new.self in
     let seal : Seal = c.args.seal.now in
     let start = start_of op old.chunk in
     let end = end_of op bytes old.chunk in
