@@ -68,14 +68,14 @@ held_or : Result Held Refusal → Held → Held
 held_or (Ok h) old = h
 held_or (Err e) old = old
 
-gives_chunk : (i : ReplicaInverse) (r h : Held) (t : Bool) (u : Result Stored Refusal) → (let m : Result Held Refusal = cond t (undos.without_edit r i u) (Err refusals.BadLine) in m) ≡ Ok h → (u ≡ Ok h.chunk) × (h.count ≡ r.count - 1)
+gives_chunk : (i : ReplicaInverse) (r h : Held) (t : Bool) (u : Result Stored Refusal) → (let m : Result Held Refusal = cond t (undos.without_edit r i u) (Err refusals.BadLine) in m) ≡ Ok h → (u ≡ Ok h.chunk) × (h.count ≡ r.count - 1) × (h.done ≡ undos.entry_before r.done i.client.0 i.before)
 unfolding held_or
-gives_chunk i r h true (Ok s) e = let same = ap (λ m. held_or m r) e in (ap (λ (x : Held). Ok x.chunk) same, ap (λ (x : Held). x.count) (sym same))
+gives_chunk i r h true (Ok s) e = let same = ap (λ m. held_or m r) e in (ap (λ (x : Held). Ok x.chunk) same, ap (λ (x : Held). x.count) (sym same), ap (λ (x : Held). x.done) (sym same))
 gives_chunk i r h true (Err g) e = absurd (cc)
 gives_chunk i r h false u e = absurd (cc)
 
--- the chunk and the count after an edit is taken back
-pub undone_chunk : (i : ReplicaInverse) (r h : Held) → undos.undo i r ≡ Ok h → (inverses.undo i.blocks r.chunk ≡ Ok h.chunk) × (h.count ≡ r.count - 1)
+-- the chunk, the count and the requests after an edit is taken back
+pub undone_chunk : (i : ReplicaInverse) (r h : Held) → undos.undo i r ≡ Ok h → (inverses.undo i.blocks r.chunk ≡ Ok h.chunk) × (h.count ≡ r.count - 1) × (h.done ≡ undos.entry_before r.done i.client.0 i.before)
 undone_chunk i r h e = gives_chunk i r h _ (inverses.undo i.blocks r.chunk) e
 
 pub long_undone : (i : Images) (s : Stored) → length (bytes_before s.block i.blocks i.long s.bytes) ≡ i.long
@@ -104,6 +104,12 @@ cannot_same m n b h = ap (λ c. not c && b) (eq_is m n h)
 
 pub cannot_uncovered : (m n : ℕ) (b : Bool) → m ≢ n → b ≡ false → (not (m == n) && b) ≡ false
 cannot_uncovered m n b h e = ap (λ c. not c && b) (eq_not m n h) ∙ e
+
+pub both : (a b : Bool) → a ≡ true → b ≡ true → (a && b) ≡ true
+both a b ha hb = ap (λ c. c && b) ha ∙ hb
+
+pub fails_second : (a b : Bool) → a ≡ true → b ≡ false → (a && b) ≡ false
+fails_second a b ha hb = ap (λ c. c && b) ha ∙ hb
 
 -- what holds of the old and of what the definition gives holds of the new
 pub does_keep : (B : Type 0) (r : Result B Refusal) (m : Result Held Refusal) (old new : Held) (P : Held → Type 0) → Does {B = B} m r old new → P old → (m ≡ Ok new → P new) → P new

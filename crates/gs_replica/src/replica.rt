@@ -114,8 +114,9 @@ impl Replica {
     }
 
     /// Takes the last edit back, and leaves what undoing all gives. `BadLine` where the count is not that which the edit left,
-    /// or the inverse does not fit the chunk; on a sealed replica also at its sealed count, in a block that no edit has
-    /// touched since, and below the sealed length. It takes no memory.
+    /// or the inverse does not fit the chunk; on a sealed replica also at its sealed count, for a client that no edit has
+    /// changed since, where a client would be left without a request that had one then, in a block that no edit has touched
+    /// since, and below the sealed length. It takes no memory.
     pub fn undo(&mut self, inverse: &ReplicaInverse) -> Result<(), Refusal>
         ensures { Does (undo inverse.now self.old) result self.old self.new }
     {
@@ -179,7 +180,7 @@ impl Replica {
                     Err((sealed, Refusal::Damaged(block)))
                 }
                 None => Ok(Replica {
-                    live: live.restored(seal.images, seal.count, seal.done),
+                    live: live.restored(seal.images, seal.count, seal.first),
                     seal: None,
                 }),
             },
