@@ -21,7 +21,7 @@ back_entry m k d b e = fin.same_map nat_cmp_total fin.nat_cmp-IsAntisymmetric _ 
     (λ (n : q ≡ k → ⊥). grind (arith, common_steps, fin.gets))
     (cases_eq q k))
 
-back_none : {V : Type 0} (m : fin.FinMap nat_cmp V) (k : ℕ) (d : V) → fin.get m k ≡ None → fin.remove (fin.insert m k d) k ≡ m
+pub back_none : {V : Type 0} (m : fin.FinMap nat_cmp V) (k : ℕ) (d : V) → fin.get m k ≡ None → fin.remove (fin.insert m k d) k ≡ m
 back_none m k d e = fin.same_map nat_cmp_total fin.nat_cmp-IsAntisymmetric _ _ (λ q. ⊎_elim
     (λ (s : q ≡ k). grind (arith, common_steps, fin.gets))
     (λ (n : q ≡ k → ⊥). grind (arith, common_steps, fin.gets))

@@ -1,3 +1,4 @@
 pub mod Tables
 pub mod Back
 pub mod Sealing
+pub mod Firsts

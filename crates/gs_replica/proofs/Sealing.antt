@@ -1,5 +1,5 @@
 -- Edits of a sealed replica and what takes them back.
-use Rattle.std.proofs.Common.{◌≡◌, ◌≢◌, ℕ, ◌-◌, ◌/◌, cond, Bool, true, false, length, min, Option, Some, None, refl, sym, ap, subst, ◌∙◌, arith}
+use Rattle.std.proofs.Common.{◌≡◌, ◌≢◌, ℕ, ◌-◌, ◌/◌, cond, Bool, true, false, List, length, min, Option, Some, None, refl, sym, ap, subst, ◌∙◌, arith}
 use Rattle.std.specs.Prelude.{Result, Ok, Err, not, ◌==◌, ◌&&◌}
 use Rattle.std.proofs.lemmas.Bool.Decides.{nat_tests}
 use Rattle.std.proofs.lemmas.List.FromFn.{length-map-range_with_len}
@@ -14,6 +14,9 @@ use Rattle.gs_replica.specs.Held.{Held}
 use Rattle.gs_replica.specs.Seals.{Sealed, State, with_seal, can_undo, undo, damaged_before, roll_back_to, HandsBack}
 use Rattle.gs_replica.specs.Undo as undos
 use Rattle.gs_base.specs.declared.numbers.Stamp.{Stamp}
+use Rattle.gs_base.specs.declared.numbers.ReqId.{ReqId}
+use Rattle.gs_replica.specs.declared.op.Op.{Op}
+use Rattle.gs_replica.specs.Edits as edits
 use Rattle.gs_block.specs.Edits.{unless_damaged}
 
 abbrev pub state : Held → Option Sealed → State
@@ -32,6 +35,11 @@ follows_unsealed B (Ok b) (Ok h) old new f = ap (λ (x : Held). state x None) f
 follows_unsealed B (Err e) (Ok h) old new f = (f.0, ap (λ (x : Held). state x None) f.1)
 follows_unsealed B (Ok b) (Err g) old new f = f
 follows_unsealed B (Err e) (Err g) old new f = (f.0, ap (λ (x : Held). state x None) f.1)
+
+-- an edit that is judged is decided by the chunk
+pub once_judged : (B : Type 0) (stamp : Stamp) (number : ℕ) (req : ReqId) (op : Op) (bytes : List ℕ) (r : Result B Refusal) (old new : Held) → edits.judged stamp number req old ≡ None →
+    Follows {B = B} (edits.with_edit old req op (edits.edited op bytes old.chunk)) r old new → Follows {B = B} (edits.apply stamp number req op bytes old) r old new
+once_judged B stamp number req op bytes r old new judged f = subst (λ o. Follows {B = B} (edits.unless_refused o (edits.with_edit old req op (edits.edited op bytes old.chunk))) r old new) (sym judged) f
 
 -- what a call that takes no memory does to a sealed replica
 pub does_sealed : (B : Type 0) (r : Result B Refusal) (m : Result Held Refusal) (old new : Held) (f : Held → Sealed) (target : Sealed) → Does {B = B} m r old new → ((b : B) → r ≡ Ok b → m ≡ Ok new → f new ≡ target) →
@@ -60,14 +68,14 @@ held_or : Result Held Refusal → Held → Held
 held_or (Ok h) old = h
 held_or (Err e) old = old
 
-gives_chunk : (i : ReplicaInverse) (r h : Held) (t : Bool) (u : Result Stored Refusal) → (let m : Result Held Refusal = cond t (undos.without_edit r i u) (Err refusals.BadLine) in m) ≡ Ok h → (u ≡ Ok h.chunk) × (h.count ≡ r.count - 1)
+gives_chunk : (i : ReplicaInverse) (r h : Held) (t : Bool) (u : Result Stored Refusal) → (let m : Result Held Refusal = cond t (undos.without_edit r i u) (Err refusals.BadLine) in m) ≡ Ok h → (u ≡ Ok h.chunk) × (h.count ≡ r.count - 1) × (h.done ≡ undos.entry_before r.done i.client.0 i.before)
 unfolding held_or
-gives_chunk i r h true (Ok s) e = let same = ap (λ m. held_or m r) e in (ap (λ (x : Held). Ok x.chunk) same, ap (λ (x : Held). x.count) (sym same))
+gives_chunk i r h true (Ok s) e = let same = ap (λ m. held_or m r) e in (ap (λ (x : Held). Ok x.chunk) same, ap (λ (x : Held). x.count) (sym same), ap (λ (x : Held). x.done) (sym same))
 gives_chunk i r h true (Err g) e = absurd (cc)
 gives_chunk i r h false u e = absurd (cc)
 
--- the chunk and the count after an edit is taken back
-pub undone_chunk : (i : ReplicaInverse) (r h : Held) → undos.undo i r ≡ Ok h → (inverses.undo i.blocks r.chunk ≡ Ok h.chunk) × (h.count ≡ r.count - 1)
+-- the chunk, the count and the requests after an edit is taken back
+pub undone_chunk : (i : ReplicaInverse) (r h : Held) → undos.undo i r ≡ Ok h → (inverses.undo i.blocks r.chunk ≡ Ok h.chunk) × (h.count ≡ r.count - 1) × (h.done ≡ undos.entry_before r.done i.client.0 i.before)
 undone_chunk i r h e = gives_chunk i r h _ (inverses.undo i.blocks r.chunk) e
 
 pub long_undone : (i : Images) (s : Stored) → length (bytes_before s.block i.blocks i.long s.bytes) ≡ i.long
@@ -96,6 +104,12 @@ cannot_same m n b h = ap (λ c. not c && b) (eq_is m n h)
 
 pub cannot_uncovered : (m n : ℕ) (b : Bool) → m ≢ n → b ≡ false → (not (m == n) && b) ≡ false
 cannot_uncovered m n b h e = ap (λ c. not c && b) (eq_not m n h) ∙ e
+
+pub both : (a b : Bool) → a ≡ true → b ≡ true → (a && b) ≡ true
+both a b ha hb = ap (λ c. c && b) ha ∙ hb
+
+pub fails_second : (a b : Bool) → a ≡ true → b ≡ false → (a && b) ≡ false
+fails_second a b ha hb = ap (λ c. c && b) ha ∙ hb
 
 -- what holds of the old and of what the definition gives holds of the new
 pub does_keep : (B : Type 0) (r : Result B Refusal) (m : Result Held Refusal) (old new : Held) (P : Held → Type 0) → Does {B = B} m r old new → P old → (m ≡ Ok new → P new) → P new

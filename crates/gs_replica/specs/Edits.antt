@@ -1,5 +1,5 @@
 -- Numbered edits of a replica.
-use Rattle.std.specs.Prelude.{ℕ, ◌+◌, ◌==◌, ◌&&◌, ◌||◌, Bool, cond, min, nat_lt, nat_le, List, length, Option, Some, None, Result, Ok, Err, false}
+use Rattle.std.specs.Prelude.{◌≡◌, ℕ, ◌+◌, ◌==◌, ◌&&◌, ◌||◌, Bool, cond, min, nat_lt, nat_le, List, length, Option, Some, None, Result, Ok, Err, false}
 use Rattle.std.specs.FinMap as fin
 use Rattle.std.specs.Ordering.{nat_cmp}
 use Rattle.gs_base.specs.declared.numbers.Stamp.{Stamp}
@@ -65,14 +65,35 @@ with_edit r req op (Ok s) = Ok (record { chunk = s; count = r.count + 1; done = 
 with_edit r req op (Err e) = Err e
 
 -- An edit is taken under the promised stamp alone (Stamp), as the next number (Gap), and of a request above the client's
--- last (Old); then the chunk decides (Range, Damaged).
-abbrev pub apply : Stamp → ℕ → ReqId → Op → List ℕ → Held → Result Held Refusal
-apply stamp number req op bytes r =
+-- last (Old).
+abbrev pub judged : Stamp → ℕ → ReqId → Held → Option Refusal
+judged stamp number req r =
     cond (is_same stamp r.promise)
     (cond (number == (r.count + 1))
-    (cond (is_old req.number (fin.get r.done req.client.0)) (Err refusals.Old) (with_edit r req op (edited op bytes r.chunk)))
-    (Err (refusals.Gap r.count)))
-    (Err (refusals.Stamp r.promise))
+    (cond (is_old req.number (fin.get r.done req.client.0)) (Some refusals.Old) None)
+    (Some (refusals.Gap r.count)))
+    (Some (refusals.Stamp r.promise))
+
+abbrev pub unless_refused : Option Refusal → Result Held Refusal → Result Held Refusal
+unless_refused None edit = edit
+unless_refused (Some e) edit = Err e
+
+-- then the chunk decides (Range, Damaged)
+abbrev pub apply : Stamp → ℕ → ReqId → Op → List ℕ → Held → Result Held Refusal
+apply stamp number req op bytes r = unless_refused (judged stamp number req r) (with_edit r req op (edited op bytes r.chunk))
+
+-- a refusal is answered whatever memory there is
+abbrev pub Refuses : {B : Type 0} → Option Refusal → Result B Refusal → Type 0
+Refuses None result = Unit {0}
+Refuses (Some e) (Ok b) = ⊥
+Refuses (Some e) (Err f) = f ≡ e
+
+-- exactly what is refused is answered so
+abbrev pub Judges : {B : Type 0} → Option Refusal → Result B Refusal → Type 0
+Judges None (Ok b) = Unit {0}
+Judges None (Err f) = ⊥
+Judges (Some e) (Ok b) = ⊥
+Judges (Some e) (Err f) = f ≡ e
 
 -- the same chunk otherwise, or the refusal
 abbrev pub on_chunk : Held → Result Stored Refusal → Result Held Refusal

@@ -1,5 +1,6 @@
 pub mod Held
 pub mod Edits
 pub mod Undo
+pub mod First
 pub mod Seals
 pub mod View

@@ -1,7 +1,9 @@
 ghost use Rattle.std.specs.Prelude.{◌≡◌, IfOk, OnOk, OnErr, None, is_some, true};
 ghost use Rattle.std.specs.FinMap as fin;
 ghost use Rattle.gs_replica.specs.Undo.{entry_before};
+ghost use Rattle.gs_replica.specs.First.{done_before, HasSealed};
 
+use crate::first::FirstEntries;
 use crate::op::Done;
 use gs_base::ClientId;
 use std::alloc::{AllocError, Global};
@@ -11,6 +13,7 @@ use std::marker::Model;
 /// The last applied request of each client that has one.
 #[derive(Debug, Drop)]
 pub struct DoneTable {
+    alloc: Global,
     entries: BTreeMap<u32, Done>,
 }
 
@@ -35,6 +38,7 @@ impl DoneTable {
         ensures { result ≡ fin.empty }
     {
         DoneTable {
+            alloc,
             entries: BTreeMap::new(alloc),
         }
     }
@@ -44,6 +48,7 @@ impl DoneTable {
         ensures { IfOk result (λ table. table ≡ self.now) }
     {
         Ok(DoneTable {
+            alloc: self.alloc,
             entries: self.entries.clone()?,
         })
     }
@@ -75,9 +80,10 @@ impl DoneTable {
         self.entries.remove(&client.0);
     }
 
-    /// Puts a client's request back as it was before one that stands in the table. It takes no memory.
+    /// Puts a client's request back as it was before, where that is one, in place of one that stands in the table. It takes no
+    /// memory.
     pub fn restore(&mut self, client: ClientId, before: Option<Done>)
-        requires { is_some (fin.get self.old client.0) ≡ true }
+        requires { is_some before ≡ true → is_some (fin.get self.old client.0) ≡ true }
         ensures { self.new ≡ entry_before self.old client.0 before }
     {
         match before {
@@ -85,6 +91,24 @@ impl DoneTable {
                 let _put = self.put(client, done);
             }
             None => self.remove(client),
+        }
+    }
+
+    /// First entries of a replica as it stands: none yet.
+    pub(crate) fn seal(&self) -> FirstEntries
+        ensures { result ≡ fin.empty }
+    {
+        FirstEntries::new(self.alloc)
+    }
+
+    /// Puts each client's first entry back. It takes no memory.
+    pub(crate) fn put_back(&mut self, first: FirstEntries)
+        requires { HasSealed first self.old }
+        ensures { self.new ≡ done_before first self.old }
+    {
+        let mut left = first;
+        while let Some((client, before)) = left.pop_first() {
+            self.restore(client, before);
         }
     }
 }

@@ -2,6 +2,7 @@
 #![tactic(auto)]
 
 mod done;
+mod first;
 mod live;
 mod op;
 mod replica;

@@ -1,4 +1,4 @@
-ghost use Rattle.std.specs.Prelude.{◌≡◌, ◌≤◌, ◌<◌, ◌+◌, ◌-◌, ◌==◌, List, ℕ, IfOk, OnOk, OnErr, length, Ok, Err, is_some};
+ghost use Rattle.std.specs.Prelude.{◌≡◌, ◌≤◌, ◌<◌, ◌+◌, ◌-◌, ◌==◌, List, ℕ, IfOk, OnOk, OnErr, length, Ok, Err, None, is_some};
 ghost use Rattle.std.specs.FinMap as fin;
 ghost use Rattle.gs_block.specs.Stored.{Stored, are_digests};
 ghost use Rattle.gs_block.specs.Edits as blocks;
@@ -7,10 +7,12 @@ ghost use Rattle.gs_block.specs.Kept.{KeepsIntact, KeepsOutside};
 ghost use Rattle.gs_block.specs.Follows.{Follows, Does, Answers, Makes};
 ghost use Rattle.gs_block.specs.Images.{Images, AreFirst, undone, touched, damage_before};
 ghost use Rattle.gs_replica.specs.Held.{Held};
-ghost use Rattle.gs_replica.specs.Edits.{fresh, promise, apply, is_before, is_same, is_old, edited, outcome_of, with_edit, damage, held_of, copied, start_of, end_of};
+ghost use Rattle.gs_replica.specs.Edits.{fresh, promise, apply, judged, Refuses, Judges, is_before, is_same, is_old, edited, outcome_of, with_edit, damage, held_of, copied, start_of, end_of, done_by};
 ghost use Rattle.gs_replica.specs.Undo.{undo};
+ghost use Rattle.gs_replica.specs.First.{done_before, HasSealed};
 
 use crate::done::DoneTable;
+use crate::first::FirstEntries;
 use crate::op::{Done, Op, Outcome};
 use gs_base::{ClientId, Refusal, ReqId, Stamp};
 use gs_block::{BlockInverse, Blocks, Digest, Images};
@@ -134,6 +136,7 @@ impl Live {
         bytes: &[u8],
     ) -> Result<ReplicaInverse, Refusal>
         ensures edit { Follows (apply stamp number req op bytes.now self.old) result self.old self.new }
+        ensures judged { Refuses (judged stamp number req self.old) result }
         ensures undo { IfOk result (λ i. undo i self.new ≡ Ok self.old) }
         ensures intact { KeepsIntact result self.old.chunk self.new.chunk }
         ensures span { IfOk result (λ i. i.blocks ≡ inverses.inverse_of self.old.chunk (start_of op self.old.chunk) (end_of op bytes.now self.old.chunk)) }
@@ -141,6 +144,16 @@ impl Live {
         ensures back { IfOk result (λ i. inverses.undo i.blocks self.new.chunk ≡ Ok self.old.chunk) }
         ensures count { OnOk result (self.new.count ≡ self.old.count + 1) }
         ensures refused { OnErr result (self.new ≡ self.old) }
+    {
+        self.judge(stamp, number, req)?;
+        self.take(number, req, op, bytes)
+    }
+
+    /// Judges an edit by its stamp, number and request, as `apply` says. It takes no memory.
+    pub(crate) fn judge(&self, stamp: Stamp, number: u64, req: ReqId) -> Result<(), Refusal>
+        ensures judged { Judges (judged stamp number req self.now) result }
+        ensures accepted { OnOk result (judged stamp number req self.now ≡ None) }
+        ensures next { OnOk result (number ≡ self.now.count + 1) }
     {
         if !is_same(stamp, self.promise) {
             return Err(Refusal::Stamp(self.promise));
@@ -151,11 +164,11 @@ impl Live {
         if is_old(req.number, self.done.get(req.client)) {
             return Err(Refusal::Old);
         }
-        self.take(number, req, op, bytes)
+        Ok(())
     }
 
-    /// Applies an edit after the tests on its number and request.
-    fn take(
+    /// Applies an edit that is judged.
+    pub(crate) fn take(
         &mut self,
         number: u64,
         req: ReqId,
@@ -170,6 +183,9 @@ impl Live {
         ensures outside { KeepsOutside result (start_of op self.old.chunk) (end_of op bytes.now self.old.chunk) self.old.chunk self.new.chunk }
         ensures back { IfOk result (λ i. inverses.undo i.blocks self.new.chunk ≡ Ok self.old.chunk) }
         ensures count { OnOk result (self.new.count ≡ self.old.count + 1) }
+        ensures done { OnOk result (self.new.done ≡ fin.insert self.old.done req.client.0 (done_by req.number op self.old.chunk)) }
+        ensures client { IfOk result (λ i. i.client ≡ req.client) }
+        ensures before { IfOk result (λ i. i.before ≡ fin.get self.old.done req.client.0) }
         ensures refused { OnErr result (self.new ≡ self.old) }
     {
         let before = self.done.get(req.client);
@@ -214,16 +230,19 @@ impl Live {
 
     /// What undoing all edits since a seal gives, under the promise that was made since. No block is verified. It takes no
     /// memory.
-    pub(crate) fn restored(self, images: Images, count: u64, requests: DoneTable) -> Live
-        requires { AreFirst images self.chunk }
-        ensures { result ≡ record { chunk = undone images self.chunk; count = count; done = requests; promise = self.promise } }
+    pub(crate) fn restored(self, images: Images, count: u64, first: FirstEntries) -> Live
+        requires first { AreFirst images self.chunk }
+        requires has { HasSealed first self.done }
+        ensures { result ≡ record { chunk = undone images self.chunk; count = count; done = done_before first self.done; promise = self.promise } }
     {
         let mut blocks = self.blocks;
+        let mut done = self.done;
         blocks.restore(images);
+        done.put_back(first);
         Live {
             blocks,
             count,
-            done: requests,
+            done,
             promise: self.promise,
         }
     }
@@ -294,6 +313,7 @@ impl Live {
     /// Adds 1 modulo 256 to the first byte of a block and leaves its digest. `Range` where there is no such block.
     pub(crate) fn damage(&mut self, block: u64) -> Result<(), Refusal>
         ensures damage { Does (damage block self.old) result self.old self.new }
+        ensures done { self.new.done ≡ self.old.done }
         ensures images { (i : Images) → AreFirst i self.old.chunk → OnOk result ((undone i self.new.chunk ≡ damage_before block (touched i) (undone i self.old.chunk)) × AreFirst i self.new.chunk) }
     {
         self.blocks.damage(block)

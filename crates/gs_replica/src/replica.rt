@@ -4,7 +4,7 @@ ghost use Rattle.gs_block.specs.Stored.{Stored, are_digests};
 ghost use Rattle.gs_block.specs.Edits as blocks;
 ghost use Rattle.gs_block.specs.Kept.{KeepsIntact};
 ghost use Rattle.gs_block.specs.Follows.{Follows, Does, Answers, Makes};
-ghost use Rattle.gs_replica.specs.Edits.{fresh, held_of, copied};
+ghost use Rattle.gs_replica.specs.Edits.{fresh, held_of, copied, judged, Refuses};
 ghost use Rattle.gs_replica.specs.Seals.{State, with_seal, holding, seal, unseal, apply, undo, promise, damage, roll_back, sealed_at, images_of, sealed_length, HandsBack};
 
 use crate::done::DoneTable;
@@ -92,7 +92,8 @@ impl Replica {
 
     /// Applies an edit. `Stamp` with the promise where the stamp is not the promised one, `Gap` with the count where the
     /// number is not the count and 1, `Old` where the request's number is not above the client's last applied one, then
-    /// `Range` and `Damaged` as the chunk decides. A sealed replica keeps what undoing gives.
+    /// `Range` and `Damaged` as the chunk decides. The first three are answered whatever memory there is. A sealed replica keeps
+    /// what undoing gives.
     pub fn apply(
         &mut self,
         stamp: Stamp,
@@ -102,6 +103,7 @@ impl Replica {
         bytes: &[u8],
     ) -> Result<ReplicaInverse, Refusal>
         ensures edit { Follows (apply stamp number req op bytes.now self.old) result self.old self.new }
+        ensures judged { Refuses (judged stamp number req self.old.held) result }
         ensures undo { IfOk result (λ i. undo i self.new ≡ Ok (holding self.old.held self.new)) }
         ensures intact { KeepsIntact result self.old.held.chunk self.new.held.chunk }
     {
@@ -112,8 +114,9 @@ impl Replica {
     }
 
     /// Takes the last edit back, and leaves what undoing all gives. `BadLine` where the count is not that which the edit left,
-    /// or the inverse does not fit the chunk; on a sealed replica also at its sealed count, in a block that no edit has
-    /// touched since, and below the sealed length. It takes no memory.
+    /// or the inverse does not fit the chunk; on a sealed replica also at its sealed count, for a client that no edit has
+    /// changed since, where a client would be left without a request that had one then, in a block that no edit has touched
+    /// since, and below the sealed length. It takes no memory.
     pub fn undo(&mut self, inverse: &ReplicaInverse) -> Result<(), Refusal>
         ensures { Does (undo inverse.now self.old) result self.old self.new }
     {
@@ -177,7 +180,7 @@ impl Replica {
                     Err((sealed, Refusal::Damaged(block)))
                 }
                 None => Ok(Replica {
-                    live: live.restored(seal.images, seal.count, seal.done),
+                    live: live.restored(seal.images, seal.count, seal.first),
                     seal: None,
                 }),
             },

@@ -1,7 +1,7 @@
 ghost use Rattle.std.specs.Prelude.{◌≡◌, ◌≤◌, ◌+◌, ◌==◌, ℕ, IfOk, OnOk, Option, Some, None, Ok, Result, length};
 ghost use Rattle.std.specs.Prelude.{min};
 ghost use Rattle.gs_block.specs.Stored.{Stored, IsStored};
-ghost use Rattle.gs_replica.specs.Edits.{start_of, end_of};
+ghost use Rattle.gs_replica.specs.Edits.{start_of, end_of, Refuses};
 ghost use Rattle.gs_replica.specs.Edits as edits;
 ghost use Rattle.gs_replica.specs.Undo as undos;
 ghost use Rattle.gs_block.specs.Images.{AreFirst};
@@ -11,7 +11,7 @@ ghost use Rattle.gs_replica.specs.Held.{Held};
 ghost use Rattle.gs_replica.specs.Seals.{images_of, sealed_length, State, Sealed, sealed_of, apply, undo, damage, can_undo, holding, on_seal, damage_seal, with_seal};
 ghost use Rattle.gs_replica.specs.View.{seen, state_of, Belongs};
 
-use crate::done::DoneTable;
+use crate::first::FirstEntries;
 use crate::live::{Live, ReplicaInverse};
 use crate::op::Op;
 use gs_base::{Refusal, ReqId, Stamp};
@@ -24,10 +24,10 @@ pub(crate) struct Seal {
     pub(crate) stamp: Stamp,
     pub(crate) count: u64,
     pub(crate) images: Images,
-    pub(crate) done: DoneTable,
+    pub(crate) first: FirstEntries,
 }
 
-/// The first images of a replica as it stands: none yet.
+/// The first images and entries of a replica as it stands: none yet.
 pub(crate) fn begin(live: &Live) -> Result<Seal, AllocError>
     ensures sealed { IfOk result (λ seal. seen live.now seal ≡ sealed_of live.now) }
     ensures belongs { IfOk result (λ seal. Belongs live.now seal) }
@@ -36,12 +36,13 @@ pub(crate) fn begin(live: &Live) -> Result<Seal, AllocError>
         stamp: live.promised(),
         count: live.count(),
         images: live.blocks().seal()?,
-        done: live.done_table().copy()?,
+        first: live.done_table().seal(),
     })
 }
 
-/// Applies an edit to a sealed replica. The images of the blocks that it is the first to touch are copied before it and
-/// taken up after it.
+/// Applies an edit to a sealed replica. It is judged before anything is copied. The images of the blocks that it is the first
+/// to touch are copied before it and taken up after it; its client's first entry is taken before it, and forgotten where the
+/// edit is refused.
 pub(crate) fn apply_sealed(
     live: &mut Live,
     seal: &mut Seal,
@@ -53,18 +54,24 @@ pub(crate) fn apply_sealed(
 ) -> Result<ReplicaInverse, Refusal>
     requires belongs { Belongs live.old seal.old }
     ensures edit { Follows (apply stamp number req op bytes.now (state_of live.old seal.old)) result (state_of live.old seal.old) (state_of live.new seal.new) }
+    ensures judged { Refuses (edits.judged stamp number req live.old) result }
     ensures undo { IfOk result (λ i. undo i (state_of live.new seal.new) ≡ Ok (holding live.old (state_of live.new seal.new))) }
     ensures intact { KeepsIntact result live.old.chunk live.new.chunk }
     ensures belongs { Belongs live.new seal.new }
 {
+    live.judge(stamp, number, req)?;
     let (start, end) = span(live.blocks(), op, bytes);
     let missing = seal.images.missing(live.blocks(), start, end)?;
-    match live.apply(stamp, number, req, op, bytes) {
+    let is_first = seal.first.keep(req.client, live.done(req.client))?;
+    match live.take(number, req, op, bytes) {
         Ok(inverse) => {
             seal.images.keep(missing);
             Ok(inverse)
         }
-        Err(refusal) => Err(refusal),
+        Err(refusal) => {
+            seal.first.take_back(req.client, is_first);
+            Err(refusal)
+        }
     }
 }
 
@@ -97,6 +104,9 @@ pub(crate) fn undo_sealed(
     ensures belongs { Belongs live.new seal.now }
 {
     if live.count() == seal.count {
+        return Err(Refusal::BadLine);
+    }
+    if !seal.first.fits(inverse.client, inverse.before) {
         return Err(Refusal::BadLine);
     }
     if !seal.images.covers(live.blocks(), &inverse.blocks) {

@@ -117,3 +117,32 @@ fn hands_a_damaged_replica_back(rt: HostRuntime) -> Result<(), Fail> {
     }
     Ok(())
 }
+
+/// The number of a client's last request, or 0.
+fn last(replica: &Replica, client: u32) -> u64 {
+    match replica.done(ClientId(client)) {
+        Some(done) => done.number,
+        None => 0,
+    }
+}
+
+/// A client that came after the seal has no request again, and another its sealed one, not a later one.
+#[test]
+fn puts_requests_back(rt: HostRuntime) -> Result<(), Fail> {
+    let mut replica = sealed(rt.alloc())?;
+    let req = ReqId {
+        client: ClientId(2),
+        number: 7,
+    };
+    replica.apply(stamp(1), 5, req, Op::Write(0), b"x")?;
+    assert_eq!(rt; last(&replica, 1), 4);
+    assert_eq!(rt; last(&replica, 2), 7);
+    match replica.roll_back() {
+        Ok(back) => {
+            assert_eq!(rt; last(&back, 1), 1);
+            assert_eq!(rt; last(&back, 2), 0);
+        }
+        Err((_replica, refusal)) => assert_eq!(rt; refusal.number(), 0),
+    }
+    Ok(())
+}

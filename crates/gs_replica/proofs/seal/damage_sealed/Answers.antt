@@ -5,6 +5,7 @@ use Rattle.gs_replica.specs.declared.seal.Seal.{Seal}
 use Rattle.gs_replica.specs.Held.{Held}
 use Rattle.gs_replica.specs.Edits as edits
 use Rattle.gs_replica.specs.Seals.{damage_seal}
+use Rattle.gs_replica.specs.First.{done_before}
 use Rattle.gs_replica.specs.View.{seen}
 use Rattle.gs_replica.proofs.Sealing.{does_sealed}
 use Rattle.gs_replica.proofs.seal.damage_sealed.Goals as goal
@@ -18,7 +19,8 @@ returns-clause-damage c =
     (λ b ok gives k. record {
       undone = (subst (λ r. OnOk r ((undone seal.images new.chunk ≡ damage_before c.args.block (touched seal.images) (undone seal.images old.chunk)) × AreFirst seal.images new.chunk)) ok (c.damage.ensures.images seal.images c.requires.belongs.first)).0 k;
       count = seal.count;
-      done = seal.done;
+      done = done_before seal.first (c.damage.ensures.done k);
       stamp = seal.stamp;
       touched = touched seal.images;
+      first = seal.first;
     })

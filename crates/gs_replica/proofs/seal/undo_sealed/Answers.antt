@@ -1,5 +1,9 @@
 use Rattle.std.proofs.Common.{◌≡◌, ◌≢◌, length, sym, ap, subst, ◌∙◌, arith, true}
-use Rattle.std.specs.Prelude.{Ok}
+use Rattle.std.specs.Prelude.{Ok, ◌&&◌}
+use Rattle.std.specs.FinMap as fin
+use Rattle.gs_replica.specs.First.{done_before, fits, HasSealed}
+use Rattle.gs_replica.proofs.Firsts.{undone_over, has_undone}
+use Rattle.gs_replica.specs.declared.live.ReplicaInverse.{ReplicaInverse}
 use Rattle.gs_block.specs.Stored.{Stored}
 use Rattle.gs_block.specs.Images.{Images, AreFirst, undone, touched, covers}
 use Rattle.gs_block.specs.Inverses as inverses
@@ -8,26 +12,21 @@ use Rattle.gs_replica.specs.Held.{Held}
 use Rattle.gs_replica.specs.Undo as undos
 use Rattle.gs_replica.specs.Seals.{Sealed}
 use Rattle.gs_replica.specs.View.{seen, Belongs}
-use Rattle.gs_replica.proofs.Sealing.{undo_does, undo_refused, undone_chunk, long_undone, does_keep, can, cannot_same, cannot_uncovered}
+use Rattle.gs_replica.proofs.Sealing.{undo_does, undo_refused, undone_chunk, long_undone, does_keep, can, cannot_uncovered, both, fails_second}
 use Rattle.gs_replica.proofs.seal.undo_sealed.Goals as goal
-
-pub returns-then-count-seal-clause-undo : goal.returns-then-count-seal-clause-undo
-returns-then-count-seal-clause-undo c =
-    let old : Held = c.args.live.now in
-    let seal : Seal = c.args.seal.now in
-    let t : Sealed = seen old seal in
-    undo_refused (Unit {0}) c.args.inverse.now old t
-    (cannot_same old.count seal.count (covers (length t.undone.bytes) t.touched c.args.inverse.now.blocks old.chunk) (sym c.count.ensures ∙ c.if-count-seal.true))
 
 pub returns-then-not-covers-clause-undo : goal.returns-then-not-covers-clause-undo
 returns-then-not-covers-clause-undo c =
     let old : Held = c.args.live.now in
     let seal : Seal = c.args.seal.now in
     let t : Sealed = seen old seal in
-    let i = c.args.inverse.now.blocks in
-    undo_refused (Unit {0}) c.args.inverse.now old t
-    (cannot_uncovered old.count seal.count (covers (length t.undone.bytes) t.touched i old.chunk) (λ (e : old.count ≡ seal.count). c.if-count-seal.false (c.count.ensures ∙ e))
-    (ap (λ n. covers n t.touched i old.chunk) (long_undone seal.images old.chunk) ∙ ap (covers seal.images.long (touched seal.images) i) (sym c.blocks-2.ensures) ∙ sym c.covers.ensures.test ∙ c.if-not-covers.true))
+    let inverse : ReplicaInverse = c.args.inverse.now in
+    let i = inverse.blocks in
+    let fit : fits (fin.get seal.first inverse.client.0) inverse.before ≡ true = sym c.fits.ensures ∙ c.if-not-fits.false in
+    undo_refused (Unit {0}) inverse old t
+    (cannot_uncovered old.count seal.count (fits (fin.get seal.first inverse.client.0) inverse.before && covers (length t.undone.bytes) t.touched i old.chunk) (λ (e : old.count ≡ seal.count). c.if-count-seal.false (c.count.ensures ∙ e))
+    (fails_second (fits (fin.get seal.first inverse.client.0) inverse.before) (covers (length t.undone.bytes) t.touched i old.chunk) fit
+    (ap (λ n. covers n t.touched i old.chunk) (long_undone seal.images old.chunk) ∙ ap (covers seal.images.long (touched seal.images) i) (sym c.blocks-2.ensures) ∙ sym c.covers.ensures.test ∙ c.if-not-covers.true)))
 
 -- what undoing gives is kept where the edit is taken back
 kept : (c : goal.After-undo) → undos.undo c.args.inverse.now c.args.live.now ≡ Ok c.undo.new.self → (undone c.args.seal.now.images c.undo.new.self.chunk ≡ undone c.args.seal.now.images c.args.live.now.chunk) × AreFirst c.args.seal.now.images c.undo.new.self.chunk
@@ -39,24 +38,38 @@ kept c gives =
     (λ back first. c.covers.ensures.keeps new.chunk c.if-not-covers.false back first)
     (undone_chunk c.args.inverse.now c.args.live.now new gives).0 c.requires.belongs.first
 
+-- so are the requests as sealed
+requests : (c : goal.After-undo) → undos.undo c.args.inverse.now c.args.live.now ≡ Ok c.undo.new.self → (done_before c.args.seal.now.first c.undo.new.self.done ≡ done_before c.args.seal.now.first c.args.live.now.done) × HasSealed c.args.seal.now.first c.undo.new.self.done
+requests c gives =
+    let old : Held = c.args.live.now in
+    let first = c.args.seal.now.first in
+    let i : ReplicaInverse = c.args.inverse.now in
+    let fit : fits (fin.get first i.client.0) i.before ≡ true = sym c.fits.ensures ∙ c.if-not-fits.false in
+    let done = (undone_chunk i old c.undo.new.self gives).2 in
+    (ap (done_before first) done ∙ undone_over first old.done i.client.0 i.before fit, subst (HasSealed first) (sym done) (has_undone first old.done i.client.0 i.before fit c.requires.belongs.has))
+
 pub returns-clause-undo : goal.returns-clause-undo
 returns-clause-undo c =
     let old : Held = c.args.live.now in
     let new : Held = c.undo.new.self in
     let seal : Seal = c.args.seal.now in
     let t : Sealed = seen old seal in
-    let i = c.args.inverse.now.blocks in
+    let inverse : ReplicaInverse = c.args.inverse.now in
+    let i = inverse.blocks in
+    let fit : fits (fin.get seal.first inverse.client.0) inverse.before ≡ true = sym c.fits.ensures ∙ c.if-not-fits.false in
     let covered : covers seal.images.long (touched seal.images) i old.chunk ≡ true = ap (covers seal.images.long (touched seal.images) i) (sym c.blocks-2.ensures) ∙ sym c.covers.ensures.test ∙ c.if-not-covers.false in
-    undo_does (Unit {0}) c.undo.result c.args.inverse.now old new (λ h. seen h seal)
-    (can old.count seal.count (covers (length t.undone.bytes) t.touched i old.chunk) (λ (e : old.count ≡ seal.count). c.if-count-seal.false (c.count.ensures ∙ e))
-    (ap (λ n. covers n t.touched i old.chunk) (long_undone seal.images old.chunk) ∙ covered))
+    undo_does (Unit {0}) c.undo.result inverse old new (λ h. seen h seal)
+    (can old.count seal.count (fits (fin.get seal.first inverse.client.0) inverse.before && covers (length t.undone.bytes) t.touched i old.chunk) (λ (e : old.count ≡ seal.count). c.if-count-seal.false (c.count.ensures ∙ e))
+    (both (fits (fin.get seal.first inverse.client.0) inverse.before) (covers (length t.undone.bytes) t.touched i old.chunk) fit
+    (ap (λ n. covers n t.touched i old.chunk) (long_undone seal.images old.chunk) ∙ covered)))
     c.undo.ensures
     (λ b ok gives k. record {
       undone = (kept c gives).0 k;
       count = seal.count;
-      done = seal.done;
+      done = (requests c gives).0 k;
       stamp = seal.stamp;
       touched = touched seal.images;
+      first = seal.first;
     })
 
 pub returns-clause-belongs : goal.returns-clause-belongs
@@ -69,4 +82,4 @@ returns-clause-belongs c =
     (λ gives.
     let count = (undone_chunk c.args.inverse.now old new gives).1 in
     let other : old.count ≢ seal.count = λ (e : old.count ≡ seal.count). c.if-count-seal.false (c.count.ensures ∙ e) in
-    record { first = (kept c gives).1; later = omega arith })
+    record { first = (kept c gives).1; later = omega arith; has = (requests c gives).1 })
