@@ -83,7 +83,7 @@ def main():
     n = int(sys.argv[1]) if len(sys.argv) > 1 else 25000
     build()
     show_differences(NAMES, n)
-    show_journal(10 * n)
+    show_journal(40 * n)
     show_blocks(n // 50)
 
 
