@@ -4,10 +4,12 @@ use Rattle.std.specs.Prelude.{Option, Some, None, Result, Ok, Err, is_none, slic
 use Rattle.std.proofs.lemmas.Bool.{and_parts}
 use Rattle.std.proofs.lemmas.Bool.Decides.{nat_tests}
 use Rattle.std.specs.List.{list_all}
+use Rattle.std.specs.List.Sorted.{IsStrictlySortedBy}
 use Rattle.std.proofs.lemmas.Option.{slice_get_cases, get_or_from_slice_get}
 use Rattle.std.proofs.lemmas.List.{drop_all}
 use Rattle.std.specs.Cmp.{nat_cmp_total}
-use Rattle.std.specs.FinMap.{FinMap, get, remove, entries, get-insert, get-remove}
+use Rattle.std.specs.Ordering.{nat_cmp}
+use Rattle.std.specs.FinMap.{FinMap, get, remove, entries, get-empty, get-insert, get-remove}
 use Rattle.gs_base.specs.declared.refusal.Refusal.{Refusal}
 use Rattle.gs_base.specs.declared.refusal.Refusal.TheVariants.{BadLine}
 use Rattle.gs_path.specs.Path.{path_cmp}
@@ -18,10 +20,12 @@ use Rattle.gs_tree.specs.Edits.{chunks_in}
 use Rattle.gs_tree.specs.Chunks.{all_chunks, chunks_under, part_chunks}
 use Rattle.gs_tree.specs.Counting.{IsAdditive, dropped_by, put_back_by}
 use Rattle.gs_tree.proofs.Counting.{undone_counts}
+use Rattle.gs_tree.proofs.Entering.{sound-dir, sound_entries}
 use Rattle.gs_tree.specs.declared.inverse.TreeInverse.{TreeInverse}
 use Rattle.gs_tree.specs.declared.inverse.TreeInverse.TheVariants.{Made, Moved, Removed, Added, Changed, Copied}
+use Rattle.gs_edit.specs.Table.{root_rows}
 use Rattle.gs_edit.specs.View.{NamesView}
-use Rattle.gs_edit.specs.Names.{NamesTakenBack, Undoes, IsCounted, counts_back, accepted, without_added, without_changed, returned, last_chunk, is_one, has_room}
+use Rattle.gs_edit.specs.Names.{blank, NamesTakenBack, Undoes, IsCounted, counts_back, accepted, without_added, without_changed, returned, last_chunk, is_one, has_room}
 use Rattle.gs_edit.specs.declared.edit.Inverse.{Inverse}
 use Rattle.gs_edit.specs.declared.edit.Inverse.TheVariants as inverses
 use Rattle.gs_edit.proofs.Applied.{same_tree}
@@ -158,3 +162,9 @@ undo_counted (inverses.Tree i) old new (Ok _) u counted h =
 undo_counted (inverses.Remember chunks) old new (Ok _) u counted h =
     let rows : new.tree ≡ old.tree = same_tree new.tree old.tree u.1 in
     put_counts chunks.items old.refs new.refs h u.2 ∙ counted h ∙ ap (λ (t : FinMap path_cmp (Entry ℕ)). occurrences h (all_chunks (entries t))) (sym rows)
+
+-- new names have no chunk and no count
+pub blank_counted : IsCounted blank
+unfolding IsStrictlySortedBy
+blank_counted handle =
+    ap count_or_zero (get-empty nat_cmp handle) ∙ sym (ap (λ rows. occurrences handle (all_chunks rows)) (sound_entries root_rows (sound-dir [] tt tt)))
