@@ -6,6 +6,7 @@ use Rattle.std.specs.Str.Parse.{digits_value, without_leading_plus}
 use Rattle.clap.specs.Faults.{fault_of}
 use Rattle.clap.specs.Walk.{is_empty}
 use Rattle.clap.specs.Words.{App, Rule, Row, Text, new_app, new_rule, with_rule, Kinds, matches_of, one_of, first_of}
+use Rattle.clap.specs.declared.builder.ArgAction.{ArgAction}
 use Rattle.clap.specs.declared.builder.ArgAction.TheVariants.{Set, SetTrue}
 use Rattle.clap.specs.declared.builder.value_parser.ValueParser.TheVariants as vp
 use Rattle.gs_base.specs.Configs.{is_config}
@@ -13,11 +14,13 @@ use Rattle.gs_base.specs.declared.config.Config.{Config}
 use Rattle.gs_base.specs.declared.refusal.Refusal.{Refusal}
 use Rattle.gs_base.specs.declared.refusal.Refusal.TheVariants as refusal
 
+-- an option that is named by two dashes and its name
+abbrev pub named_rule : Text → ArgAction → Rule
+named_rule name action = record (new_rule name) { long = Some name; action = Some action }
+
 -- an option that takes a whole number below 2 ^ 64, and the text of what stands for it where it isn't given
 abbrev pub number_rule : Text → Text → Rule
-number_rule name default = record (new_rule name) {
-  long = Some name;
-  action = Some Set;
+number_rule name default = record (named_rule name Set) {
   value_names = 1;
   parser = Some (vp.Unsigned 0 18446744073709551615);
   defaults = default ∷ [];
@@ -25,7 +28,7 @@ number_rule name default = record (new_rule name) {
 
 -- an option with no value
 abbrev pub flag_rule : Text → Rule
-flag_rule name = record (new_rule name) { long = Some name; action = Some SetTrue }
+flag_rule name = named_rule name SetTrue
 
 unfoldable pub app : App
 app = with_rule (with_rule (with_rule (with_rule (with_rule (with_rule (new_app (codes "chunkstore"))

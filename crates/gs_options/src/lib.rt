@@ -4,7 +4,7 @@
 ghost use Rattle.std.specs.Prelude.{◌≡◌, ◌≢◌, [], map, false, MatchResult, IfOk, string_bytes};
 ghost use Rattle.clap.specs.Words.{rule_of, rows_of, found_of, matches_of as clap_matches, app_of, with_rule};
 ghost use Rattle.clap.specs.Faults.{fault_of};
-ghost use Rattle.gs_options.specs.Options.{app, number_rule, flag_rule, number_in, flag_in, rows_sizes, rows_options, words_options, Gives, Refuses};
+ghost use Rattle.gs_options.specs.Options.{app, named_rule, number_rule, flag_rule, number_in, flag_in, rows_sizes, rows_options, words_options, Gives, Refuses};
 
 use clap::error::ErrorKind;
 use clap::{Arg, ArgAction, ArgMatches, Command};
@@ -22,17 +22,22 @@ struct NumberOption<'a> {
     help: &'a str,
 }
 
+/// An option that is named by two dashes and its name.
+fn named_argument<'a>(alloc: Global, name: &'a str, help: &'a str, action: ArgAction) -> Arg<'a>
+    ensures rule { rule_of result ≡ named_rule name.entry.now action }
+    ensures local { result.global ≡ false }
+{
+    Arg::new(alloc, name).long(name).help(help).action(action)
+}
+
 fn number_argument<'a>(alloc: Global, option: NumberOption<'a>) -> Arg<'a>
     ensures rule { rule_of result ≡ number_rule option.entry.name.now option.entry.default.now }
     ensures local { result.global ≡ false }
 {
-    Arg::new(alloc, option.name)
-        .long(option.name)
-        .action(ArgAction::Set)
+    named_argument(alloc, option.name, option.help, ArgAction::Set)
         .value_name(option.value_name)
         .value_parser(clap::value_parser!(u64))
         .default_value(option.default)
-        .help(option.help)
 }
 
 fn with_number<'a>(
@@ -45,16 +50,6 @@ fn with_number<'a>(
     command.arg(number_argument(alloc, option))
 }
 
-fn flag_argument<'a>(alloc: Global, name: &'a str, help: &'a str) -> Arg<'a>
-    ensures rule { rule_of result ≡ flag_rule name.entry.now }
-    ensures local { result.global ≡ false }
-{
-    Arg::new(alloc, name)
-        .long(name)
-        .action(ArgAction::SetTrue)
-        .help(help)
-}
-
 fn with_flag<'a>(
     alloc: Global,
     command: Command<'a>,
@@ -63,7 +58,7 @@ fn with_flag<'a>(
 ) -> Result<Command<'a>, AllocError>
     ensures { IfOk result (λ c. app_of c ≡ with_rule (app_of command.entry) (flag_rule name.entry.now)) }
 {
-    command.arg(flag_argument(alloc, name, help))
+    command.arg(named_argument(alloc, name, help, ArgAction::SetTrue))
 }
 
 const SERVERS: NumberOption<'static> = NumberOption {
