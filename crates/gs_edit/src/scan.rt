@@ -1,9 +1,9 @@
 //! What a scan takes out of a tree.
-ghost use Rattle.std.specs.Prelude.{◌≡◌, ◌++◌, IfOk, OnOk, map, filter};
+ghost use Rattle.std.specs.Prelude.{◌≡◌, ◌++◌, ◌+◌, nat_lt, IfOk, OnOk, map, filter};
 ghost use Rattle.std.specs.FinMap as fin_map;
 ghost use Rattle.gs_tree.specs.Build.{path_of_entry};
 ghost use Rattle.gs_refs.specs.Counts.{GivesOrMemory};
-ghost use Rattle.gs_edit.specs.Scan.{is_over, goes, of_length, longest, by_length, scan_paths, lowered_under, Scans};
+ghost use Rattle.gs_edit.specs.Scan.{kept_for, is_over, goes, of_length, longest, by_length, scan_paths, lowered_under, Scans};
 
 use gs_base::{Handle, Moment, Refusal};
 use gs_path::{Name, Path};
@@ -23,12 +23,19 @@ pub struct Scan {
 /// How long what was deleted is kept, in seconds.
 const KEPT_FOR: u64 = 259_200;
 
+/// Whether what was deleted at a moment isn't kept any more at another.
+fn is_past(deleted: Moment, moment: Moment) -> bool
+    ensures { result ≡ nat_lt (deleted.0 + kept_for) moment.0 }
+{
+    deleted.0.saturating_add(KEPT_FOR) < moment.0
+}
+
 /// Whether a name is that of something deleted longer before a moment than it is kept.
 fn is_over(alloc: Global, name: &Name, moment: Moment) -> Result<bool, AllocError>
     ensures { IfOk result (λ over. over ≡ is_over moment.0 name.now) }
 {
     match name.hidden_parts(alloc)? {
-        Some(parts) => Ok(parts.moment.0.saturating_add(KEPT_FOR) < moment.0),
+        Some(parts) => Ok(is_past(parts.moment, moment)),
         None => Ok(false),
     }
 }
