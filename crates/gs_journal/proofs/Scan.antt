@@ -2,7 +2,8 @@
 use Rattle.std.proofs.Common.{◌≡◌, ℕ, suc, ◌+◌, ◌-◌, ◌≤◌, Bool, true, false, List, [], ◌∷◌, ◌++◌, length, take, drop, slice_index, sym, ◌∙◌, ap, subst, arith, length-drop, take-append-drop}
 use Rattle.std.proofs.lemmas.List.{length-take-le, drop-drop}
 use Rattle.std.proofs.Math.Seq.{take-add}
-use Rattle.std.specs.Prelude.{◌&&◌}
+use Rattle.std.specs.Prelude.{◌&&◌, ◌==◌}
+use Rattle.std.proofs.lemmas.Bool.Decides.{nat_tests}
 use Rattle.gs_journal.specs.Records.{Entry, body_length, entry_of, records_behind, records_of, header_length}
 use Rattle.gs_journal.specs.Bodies.{is_of_form}
 use Rattle.gs_journal.specs.Forms.{are_of_form}
@@ -12,6 +13,10 @@ use Rattle.gs_journal.specs.declared.frame.Found.{Found}
 use Rattle.gs_journal.specs.declared.version.Version.{Version}
 use Rattle.gs_journal.proofs.Frames.{records_behind_drop, records_frame, whole_front}
 use Rattle.gs_journal.proofs.Complete.{complete_header, complete_more}
+
+-- a gate that is found open
+pub open_is_one : (gate : ℕ) → (gate == 1) ≡ true → gate ≡ 1
+open_is_one gate is = grind (arith, nat_tests)
 
 -- the record that stands behind an open gate
 pub found_here : (found : Found) (gate n : ℕ) (behind bytes : List ℕ) → bytes ≡ gate ∷ behind → gate ≡ 1 → n ≡ body_length behind → 5 + n ≤ length behind

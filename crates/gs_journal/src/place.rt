@@ -4,7 +4,7 @@ ghost use Rattle.gs_base.specs.declared.refusal.Refusal.TheVariants.{BadLine};
 ghost use Rattle.gs_journal.specs.Records.{is_begun, version_of, generation_of, standing, text_of};
 ghost use Rattle.gs_journal.specs.Forms.{is_text};
 
-use crate::frame::{Header, end_of_records, header_of};
+use crate::frame::{Header, end_of_records, header_of, is_open};
 use crate::version::Version;
 use gs_base::Refusal;
 
@@ -36,7 +36,7 @@ impl Place {
                 version: header.version,
                 generation: header.generation,
                 end,
-                has_gate: end < bytes.len() && bytes[end] != 1,
+                has_gate: end < bytes.len() && !is_open(bytes[end]),
             }),
         }
     }
