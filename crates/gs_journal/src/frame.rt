@@ -16,14 +16,14 @@ use std::alloc::Global;
 pub(crate) const HEADER: usize = 13;
 
 /// What a disk's header says.
-#[derive(Clone, Copy, Debug)]
+#[derive(Clone, Copy)]
 pub(crate) struct Header {
     pub(crate) version: Version,
     pub(crate) generation: u64,
 }
 
 /// A record as it stands on a disk.
-#[derive(Clone, Copy, Debug)]
+#[derive(Clone, Copy)]
 pub(crate) struct Found<'a> {
     pub(crate) kind: u8,
     pub(crate) body: &'a [u8],

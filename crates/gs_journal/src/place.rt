@@ -9,7 +9,7 @@ use crate::version::Version;
 use gs_base::Refusal;
 
 /// Which disk counts, what its header says, where its records end, and whether a closed gate stands there.
-#[derive(Clone, Copy, Debug)]
+#[derive(Clone, Copy)]
 pub(crate) struct Place {
     pub(crate) is_second: bool,
     pub(crate) version: Version,
