@@ -1,5 +1,5 @@
 -- Journals of which one disk changes.
-use Rattle.std.proofs.Common.{◌≡◌, ℕ, ◌+◌, Bool, true, false, List, [], ◌∷◌, ◌++◌, length, sym, ◌∙◌, ap, subst, arith, length-append}
+use Rattle.std.proofs.Common.{◌≡◌, ◌<◌, ◌≤◌, ◌-◌, ℕ, ◌+◌, Bool, true, false, List, [], ◌∷◌, ◌++◌, length, sym, ◌∙◌, ap, subst, arith, length-append}
 use Rattle.std.specs.Prelude.{if◌then◌else◌}
 use Rattle.gs_journal.specs.Disk.{Only}
 use Rattle.gs_journal.specs.Records.{Entry, Text, frame, is_begun, version_of, generation_of, records_of, second_counts, standing}
@@ -77,3 +77,15 @@ module _ {D : Type 0} (seen : D → List ℕ) (may_leave : D → List ℕ → Ty
 pub grown : (r : Entry) (bytes : List ℕ) → bytes ≡ frame r ++ 0 ∷ [] → (end : ℕ) (x : List ℕ) → IsAtRest (end + (1 + length (frame r))) x → IsAtRest (end + length bytes) x
 grown r bytes is end x rest =
     let size : 1 + length (frame r) ≡ length bytes = omega (arith, ap length is, length-append (frame r) (0 ∷ [])) in subst (λ (n : ℕ). IsAtRest (end + n) x) size rest
+
+-- what a record has, with the closed gate behind it
+pub written_length : (r : Entry) (bytes : List ℕ) → bytes ≡ frame r ++ 0 ∷ [] → length bytes ≡ 1 + length (frame r)
+written_length r bytes is = omega (arith, ap length is, length-append (frame r) (0 ∷ []))
+
+-- there is no room for it
+pub too_long : (limit size room written framed : ℕ) → room ≡ limit - size → room < written → written ≡ 1 + framed → limit < size + (1 + framed)
+too_long limit size room written framed is above long = omega (arith, is, above, long)
+
+-- or there is
+pub has_room : (limit size end room written framed : ℕ) → room ≡ limit - size → written ≤ room → written ≡ 1 + framed → size ≡ end + 1 → end + 1 + (1 + framed) ≤ limit
+has_room limit size end room written framed is fits long ends = omega (arith, is, fits, long, ends)

@@ -5,6 +5,10 @@ pub returns-in_err-size-clause-any_moment : goal.returns-in_err-size-clause-any_
 returns-in_err-size-clause-any_moment g c =
     let d = g.D.Disk in nothing_more d.seen d.may_leave d.moment d.left_since _ _ (g.met.D.Disk.only_now c.args.disk.now) c.length.ensures.time c.length.ensures.crash
 
+pub returns-in_err-bytes-clause-any_moment : goal.returns-in_err-bytes-clause-any_moment
+returns-in_err-bytes-clause-any_moment g c =
+    let d = g.D.Disk in nothing_more d.seen d.may_leave d.moment d.left_since _ _ (g.met.D.Disk.only_now c.args.disk.now) c.length.ensures.time c.length.ensures.crash
+
 pub returns-in_err-read-clause-any_moment : goal.returns-in_err-read-clause-any_moment
 returns-in_err-read-clause-any_moment g c =
     let d = g.D.Disk in
