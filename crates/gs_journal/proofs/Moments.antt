@@ -40,24 +40,24 @@ module _ {D : Type 0} (moment : D → ℕ) (left_since : D → ℕ → List ℕ 
   }
 
 module _ {D : Type 0} (seen : D → List ℕ) (may_leave : D → List ℕ → Type 0) (moment : D → ℕ) (left_since : D → ℕ → List ℕ → Type 0) where
-  -- what a disk is left as since this moment
-  abbrev pub LeavesNow : D → Type 0
-  LeavesNow d = (c : List ℕ) → left_since d (moment d) c → may_leave d c
+  -- what a disk that isn't touched is left as
+  abbrev pub Stays : D → Type 0
+  Stays d = (c : List ℕ) → left_since d (moment d) c → may_leave d c
 
   -- a call that adds nothing to what a crash may leave
-  pub nothing_more : (old new : D) → LeavesNow old → Elapses (moment old) (moment new) (left_since old) (left_since new) (may_leave new)
+  pub nothing_more : (old new : D) → Stays old → Elapses (moment old) (moment new) (left_since old) (left_since new) (may_leave new)
       → ((c : List ℕ) → may_leave new c → may_leave old c) → LeavesOnly moment left_since old new (may_leave old)
   nothing_more old new now time fewer = one_call moment left_since old new (may_leave old) (may_leave new) now time fewer
 
   -- a step from known bytes
-  pub stepped : (step : List ℕ → List ℕ → Type 0) (old new : D) → ((c : List ℕ) → step c c) → Only (seen old) (may_leave old) → LeavesNow old
+  pub stepped : (step : List ℕ → List ℕ → Type 0) (old new : D) → ((c : List ℕ) → step c c) → Only (seen old) (may_leave old) → Stays old
       → Elapses (moment old) (moment new) (left_since old) (left_since new) (may_leave new) → Follows step (may_leave old) (may_leave new) → LeavesOnly moment left_since old new (step (seen old))
   stepped step old new stays only now time follows =
       one_call moment left_since old new (step (seen old)) (may_leave new) (λ c left. subst (step (seen old)) (sym (only c (now c left))) (stays (seen old))) time
       (from_known step (seen old) (may_leave old) (may_leave new) only follows)
 
   -- and the wait behind it
-  pub stepped_through : (step : List ℕ → List ℕ → Type 0) (old mid new : D) → ((c : List ℕ) → step c c) → Only (seen old) (may_leave old) → LeavesNow old
+  pub stepped_through : (step : List ℕ → List ℕ → Type 0) (old mid new : D) → ((c : List ℕ) → step c c) → Only (seen old) (may_leave old) → Stays old
       → Elapses (moment old) (moment mid) (left_since old) (left_since mid) (may_leave mid) → Follows step (may_leave old) (may_leave mid)
       → Elapses (moment mid) (moment new) (left_since mid) (left_since new) (may_leave new) → ((c : List ℕ) → may_leave new c → may_leave mid c) → LeavesOnly moment left_since old new (step (seen old))
   stepped_through step old mid new stays only now time follows waited fewer =
