@@ -1,6 +1,7 @@
 -- How a run of device calls goes on.
-use Rattle.std.proofs.Common.{inl, inr, ⊎_elim, ℕ, List, arith}
-use Rattle.gs_journal.specs.Disk.{Elapses, LeavesOnly}
+use Rattle.std.proofs.Common.{inl, inr, ⊎_elim, ℕ, List, sym, subst, arith}
+use Rattle.gs_journal.proofs.Steps.{from_known}
+use Rattle.gs_journal.specs.Disk.{Elapses, LeavesOnly, Only, Follows}
 
 module _ {D : Type 0} (moment : D → ℕ) (left_since : D → ℕ → List ℕ → Type 0) where
   -- before the first call
@@ -37,3 +38,28 @@ module _ {D : Type 0} (moment : D → ℕ) (left_since : D → ℕ → List ℕ 
     each = λ c left. p c (one.each c left);
     before = λ t c le left. ⊎_elim (λ was. inl was) (λ now. inr (p c now)) (one.before t c le left);
   }
+
+module _ {D : Type 0} (seen : D → List ℕ) (may_leave : D → List ℕ → Type 0) (moment : D → ℕ) (left_since : D → ℕ → List ℕ → Type 0) where
+  -- what a disk that isn't touched is left as
+  abbrev pub Stays : D → Type 0
+  Stays d = (c : List ℕ) → left_since d (moment d) c → may_leave d c
+
+  -- a call that adds nothing to what a crash may leave
+  pub nothing_more : (old new : D) → Stays old → Elapses (moment old) (moment new) (left_since old) (left_since new) (may_leave new)
+      → ((c : List ℕ) → may_leave new c → may_leave old c) → LeavesOnly moment left_since old new (may_leave old)
+  nothing_more old new now time fewer = one_call moment left_since old new (may_leave old) (may_leave new) now time fewer
+
+  -- a step from known bytes
+  pub stepped : (step : List ℕ → List ℕ → Type 0) (old new : D) → ((c : List ℕ) → step c c) → Only (seen old) (may_leave old) → Stays old
+      → Elapses (moment old) (moment new) (left_since old) (left_since new) (may_leave new) → Follows step (may_leave old) (may_leave new) → LeavesOnly moment left_since old new (step (seen old))
+  stepped step old new stays only now time follows =
+      one_call moment left_since old new (step (seen old)) (may_leave new) (λ c left. subst (step (seen old)) (sym (only c (now c left))) (stays (seen old))) time
+      (from_known step (seen old) (may_leave old) (may_leave new) only follows)
+
+  -- and the wait behind it
+  pub stepped_through : (step : List ℕ → List ℕ → Type 0) (old mid new : D) → ((c : List ℕ) → step c c) → Only (seen old) (may_leave old) → Stays old
+      → Elapses (moment old) (moment mid) (left_since old) (left_since mid) (may_leave mid) → Follows step (may_leave old) (may_leave mid)
+      → Elapses (moment mid) (moment new) (left_since mid) (left_since new) (may_leave new) → ((c : List ℕ) → may_leave new c → may_leave mid c) → LeavesOnly moment left_since old new (step (seen old))
+  stepped_through step old mid new stays only now time follows waited fewer =
+      goes_on moment left_since old mid new (step (seen old)) (may_leave new) (stepped step old mid stays only now time follows) waited
+      (λ c left. from_known step (seen old) (may_leave old) (may_leave mid) only follows c (fewer c left))

@@ -9,8 +9,7 @@ use Rattle.gs_journal.specs.Places.{IsPlace, IsFresh, IsReady, IsLikeFirst, IsLi
 use Rattle.gs_journal.specs.declared.place.Place.{Place}
 use Rattle.gs_journal.specs.declared.version.Version.TheVariants.{Two}
 use Rattle.gs_journal.specs.Disk.{Only, LeavesOnly, LeavesPairs}
-use Rattle.gs_journal.proofs.Moments.{started, weaker, both}
-use Rattle.gs_journal.proofs.Pairs.{Stays}
+use Rattle.gs_journal.proofs.Moments.{Stays, started, weaker, both}
 use Rattle.gs_journal.proofs.Complete.{complete_header, at_rest}
 use Rattle.gs_journal.proofs.Standing.{SameHeader, same_header, counts_by, fresh_while_made, standing_first, standing_none, first_unbegun, second_unbegun}
 

@@ -4,14 +4,11 @@ use Rattle.gs_journal.specs.Disk.{Only, LeavesOnly, LeavesPairs}
 use Rattle.gs_journal.specs.Records.{Entry, Text, is_begun, records_of, second_counts, standing}
 use Rattle.gs_journal.specs.Journal.{IsBeforeOrAfter}
 use Rattle.gs_journal.specs.Sound.{with_record, IsWithOrWithout}
+use Rattle.gs_journal.proofs.Moments.{Stays}
 use Rattle.gs_journal.proofs.Standing.{standing_first, standing_second, first_continues, second_continues}
 
 module _ {D : Type 0} (seen : D → List ℕ) (may_leave : D → List ℕ → Type 0) (moment : D → ℕ) (left_since : D → ℕ → List ℕ → Type 0) where
-  -- what a disk that isn't touched is left as
-  abbrev pub Stays : D → Type 0
-  Stays d = (c : List ℕ) → left_since d (moment d) c → may_leave d c
-
-  pub only_first : (first second first' : D) (P : List ℕ → Type 0) (Q : List ℕ → List ℕ → Type 0) → Only (seen second) (may_leave second) → Stays second
+  pub only_first : (first second first' : D) (P : List ℕ → Type 0) (Q : List ℕ → List ℕ → Type 0) → Only (seen second) (may_leave second) → Stays seen may_leave moment left_since second
       → LeavesOnly moment left_since first first' P → ((c : List ℕ) → P c → Q c (seen second)) → LeavesPairs moment left_since first second first' second Q
   only_first first second first' P Q only stays leaves q = record {
     later_first = leaves.later;
@@ -19,7 +16,7 @@ module _ {D : Type 0} (seen : D → List ℕ) (may_leave : D → List ℕ → Ty
     each = λ a b left_a left_b. subst (Q a) (sym (only b (stays b left_b))) (q a (leaves.each a left_a));
   }
 
-  pub only_second : (first second second' : D) (P : List ℕ → Type 0) (Q : List ℕ → List ℕ → Type 0) → Only (seen first) (may_leave first) → Stays first
+  pub only_second : (first second second' : D) (P : List ℕ → Type 0) (Q : List ℕ → List ℕ → Type 0) → Only (seen first) (may_leave first) → Stays seen may_leave moment left_since first
       → LeavesOnly moment left_since second second' P → ((c : List ℕ) → P c → Q (seen first) c) → LeavesPairs moment left_since first second first second' Q
   only_second first second second' P Q only stays leaves q = record {
     later_first = omega arith;

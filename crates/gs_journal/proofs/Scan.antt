@@ -1,8 +1,9 @@
 -- How the records of a disk are gone over.
-use Rattle.std.proofs.Common.{◌≡◌, ℕ, suc, ◌+◌, ◌-◌, ◌≤◌, Bool, true, false, List, [], ◌∷◌, ◌++◌, length, take, drop, slice_index, sym, ◌∙◌, ap, subst, arith, length-drop, take-append-drop}
+use Rattle.std.proofs.Common.{append_assoc, ◌<◌, ◌≡◌, ℕ, suc, ◌+◌, ◌-◌, ◌≤◌, Bool, true, false, List, [], ◌∷◌, ◌++◌, length, take, drop, slice_index, sym, ◌∙◌, ap, subst, arith, length-drop, take-append-drop}
 use Rattle.std.proofs.lemmas.List.{length-take-le, drop-drop}
 use Rattle.std.proofs.Math.Seq.{take-add}
-use Rattle.std.specs.Prelude.{◌&&◌}
+use Rattle.std.specs.Prelude.{◌&&◌, ◌==◌}
+use Rattle.std.proofs.lemmas.Bool.Decides.{nat_tests}
 use Rattle.gs_journal.specs.Records.{Entry, body_length, entry_of, records_behind, records_of, header_length}
 use Rattle.gs_journal.specs.Bodies.{is_of_form}
 use Rattle.gs_journal.specs.Forms.{are_of_form}
@@ -12,6 +13,10 @@ use Rattle.gs_journal.specs.declared.frame.Found.{Found}
 use Rattle.gs_journal.specs.declared.version.Version.{Version}
 use Rattle.gs_journal.proofs.Frames.{records_behind_drop, records_frame, whole_front}
 use Rattle.gs_journal.proofs.Complete.{complete_header, complete_more}
+
+-- a gate that is found open
+pub open_is_one : (gate : ℕ) → (gate == 1) ≡ true → gate ≡ 1
+open_is_one gate is = grind (arith, nat_tests)
 
 -- the record that stands behind an open gate
 pub found_here : (found : Found) (gate n : ℕ) (behind bytes : List ℕ) → bytes ≡ gate ∷ behind → gate ≡ 1 → n ≡ body_length behind → 5 + n ≤ length behind
@@ -80,3 +85,20 @@ scan_ends version bytes is_first end rest s none = (
   record { within = s.within; complete = s.complete; no_more = ap (records_behind 0) (sym s.behind) ∙ none },
   sym s.form ∙ ap (are_of_form version is_first) none,
 )
+
+-- the measure of going over them
+pub shorter : (found : Found) (rest : List ℕ) → IsFound found rest → length found.rest.now < length rest
+shorter found rest is = omega (arith, is.within, ap length is.rest, length-drop (6 + length found.body.now) rest)
+
+-- what is kept while the records are read
+pub reading_starts : (bytes rest : List ℕ) (read : List Entry) → read ≡ [] → rest ≡ drop 13 bytes → read ++ records_behind 0 rest ≡ records_of bytes
+reading_starts bytes rest read none is = ap (λ (rs : List Entry). rs ++ records_behind 0 rest) none ∙ ap (records_behind 0) is ∙ sym (records_behind_drop 13 bytes)
+
+pub reading_goes_on : (bytes rest : List ℕ) (read more : List Entry) (found : Found) (r : Entry) → IsFound found rest → r ≡ (found.kind, found.body.now) → more ≡ read ++ r ∷ []
+    → read ++ records_behind 0 rest ≡ records_of bytes → more ++ records_behind 0 found.rest.now ≡ records_of bytes
+reading_goes_on bytes rest read more found r at is pushed so_far =
+    ap (λ (rs : List Entry). rs ++ records_behind 0 found.rest.now) pushed
+    ∙ append_assoc read (r ∷ []) (records_behind 0 found.rest.now)
+    ∙ ap (λ (e : Entry). read ++ e ∷ records_behind 0 found.rest.now) is
+    ∙ ap (λ (rs : List Entry). read ++ rs) (sym (first_found found rest at))
+    ∙ so_far

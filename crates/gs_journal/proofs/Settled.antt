@@ -1,5 +1,5 @@
 -- Journals of which one disk changes.
-use Rattle.std.proofs.Common.{◌≡◌, ℕ, ◌+◌, Bool, true, false, List, [], ◌∷◌, ◌++◌, length, sym, ◌∙◌, ap, subst, arith, length-append}
+use Rattle.std.proofs.Common.{◌≡◌, ◌<◌, ◌≤◌, ◌-◌, ℕ, ◌+◌, Bool, true, false, List, [], ◌∷◌, ◌++◌, length, sym, ◌∙◌, ap, subst, arith, length-append}
 use Rattle.std.specs.Prelude.{if◌then◌else◌}
 use Rattle.gs_journal.specs.Disk.{Only}
 use Rattle.gs_journal.specs.Records.{Entry, Text, frame, is_begun, version_of, generation_of, records_of, second_counts, standing}
@@ -73,7 +73,49 @@ module _ {D : Type 0} (seen : D → List ℕ) (may_leave : D → List ℕ → Ty
         ap (λ (f : List ℕ). standing (seen j'.first) f) (sym other) ∙ next.2 ∙ ap (λ (t : Text). with_record t r) (sym (standing_first (seen j.first) (seen j.second) k.1 k.0.begun)),
       )
 
+  -- the second disk was read
+  pub reread_second : (j : Journal D) (d : D) → IsSettled seen may_leave j → seen d ≡ seen j.second → Only (seen d) (may_leave d)
+      → IsSettled seen may_leave (record { first = j.first; second = d; is_second = j.is_second; version = j.version; generation = j.generation; end = j.end; limit = j.limit; is_failed = j.is_failed })
+  reread_second j d s is only =
+      let same : (if j.is_second then seen d else seen j.first) ≡ counting seen j = ap (λ (x : List ℕ). if j.is_second then x else seen j.first) is in
+      record {
+        counts = ap (second_counts (seen j.first)) is ∙ s.counts;
+        begun = ap is_begun same ∙ s.begun;
+        rest = subst (IsAtRest j.end) (sym same) s.rest;
+        version = s.version ∙ ap version_of (sym same);
+        generation = s.generation ∙ ap generation_of (sym same);
+        first = s.first;
+        second = only;
+      }
+
+  -- the first disk was read
+  pub reread_first : (j : Journal D) (d : D) → IsSettled seen may_leave j → seen d ≡ seen j.first → Only (seen d) (may_leave d)
+      → IsSettled seen may_leave (record { first = d; second = j.second; is_second = j.is_second; version = j.version; generation = j.generation; end = j.end; limit = j.limit; is_failed = j.is_failed })
+  reread_first j d s is only =
+      let same : (if j.is_second then seen j.second else seen d) ≡ counting seen j = ap (λ (x : List ℕ). if j.is_second then seen j.second else x) is in
+      record {
+        counts = ap (λ (x : List ℕ). second_counts x (seen j.second)) is ∙ s.counts;
+        begun = ap is_begun same ∙ s.begun;
+        rest = subst (IsAtRest j.end) (sym same) s.rest;
+        version = s.version ∙ ap version_of (sym same);
+        generation = s.generation ∙ ap generation_of (sym same);
+        first = only;
+        second = s.second;
+      }
+
 -- where the records end, by the bytes that were written
 pub grown : (r : Entry) (bytes : List ℕ) → bytes ≡ frame r ++ 0 ∷ [] → (end : ℕ) (x : List ℕ) → IsAtRest (end + (1 + length (frame r))) x → IsAtRest (end + length bytes) x
 grown r bytes is end x rest =
     let size : 1 + length (frame r) ≡ length bytes = omega (arith, ap length is, length-append (frame r) (0 ∷ [])) in subst (λ (n : ℕ). IsAtRest (end + n) x) size rest
+
+-- what a record has, with the closed gate behind it
+pub written_length : (r : Entry) (bytes : List ℕ) → bytes ≡ frame r ++ 0 ∷ [] → length bytes ≡ 1 + length (frame r)
+written_length r bytes is = omega (arith, ap length is, length-append (frame r) (0 ∷ []))
+
+-- there is no room for it
+pub too_long : (limit size room written framed : ℕ) → room ≡ limit - size → room < written → written ≡ 1 + framed → limit < size + (1 + framed)
+too_long limit size room written framed is above long = omega (arith, is, above, long)
+
+-- or there is
+pub has_room : (limit size end room written framed : ℕ) → room ≡ limit - size → written ≤ room → written ≡ 1 + framed → size ≡ end + 1 → end + 1 + (1 + framed) ≤ limit
+has_room limit size end room written framed is fits long ends = omega (arith, is, fits, long, ends)

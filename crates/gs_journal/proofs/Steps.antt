@@ -1,7 +1,7 @@
 -- What one step may leave of known bytes.
-use Rattle.std.proofs.Common.{◌≡◌, ◌≤◌, ◌+◌, ◌-◌, ℕ, zero, suc, List, [], ◌∷◌, length, take, drop, refl, sym, ◌∙◌, ap, subst, arith, length-take}
-use Rattle.std.proofs.lemmas.List.{take_all, drop-drop}
-use Rattle.gs_journal.specs.Disk.{Torn, Cut, Only, Follows}
+use Rattle.std.proofs.Common.{◌≡◌, ◌≤◌, ◌+◌, ◌-◌, ℕ, zero, suc, List, [], ◌∷◌, ◌++◌, length, take, drop, refl, sym, ◌∙◌, ap, subst, arith, length-take}
+use Rattle.std.proofs.lemmas.List.{append-nil, take_all, drop_all, drop-drop}
+use Rattle.gs_journal.specs.Disk.{Torn, Cut, Holds, Only, Follows}
 
 pub take_length : (n : ℕ) (xs : List ℕ) → take (length (take n xs)) xs ≡ take n xs
 take_length zero xs = refl
@@ -31,3 +31,11 @@ torn_wider at k n le old new torn =
       no_shorter = torn.no_shorter;
       no_longer = omega (arith, le, torn.no_longer);
     }
+
+-- bytes that are put behind all that stands
+pub put_behind : (gate : ℕ) (bytes old new : List ℕ) → length old ≡ gate + 1 → Holds old (gate + 1) bytes new → new ≡ old ++ bytes
+put_behind gate bytes old new last holds =
+    holds
+    ∙ ap (λ (l : List ℕ). l ++ bytes ++ drop (gate + 1 + length bytes) old) (take_all (gate + 1) old (omega (arith, last)))
+    ∙ ap (λ (l : List ℕ). old ++ bytes ++ l) (drop_all (gate + 1 + length bytes) old (omega (arith, last)))
+    ∙ append-nil (old ++ bytes)

@@ -18,7 +18,8 @@ pub struct FailingDisk<D: Disk> {
 impl<D: Disk> FailingDisk<D> {
     /// A disk of which no call fails until `fail_after` says so.
     pub fn new(disk: D) -> Self
-        ensures { result.disk ≡ disk }
+        ensures disk { result.disk ≡ disk }
+        ensures passing { result.passing ≡ None }
     {
         FailingDisk {
             disk,

@@ -9,7 +9,7 @@ use crate::version::Version;
 use byteorder::{BigEndian, ByteOrder};
 
 /// What a byte has to be.
-#[derive(Clone, Copy, Debug)]
+#[derive(Clone, Copy)]
 enum Test {
     Server,
     Primary,
@@ -21,7 +21,7 @@ enum Test {
 }
 
 /// What a list is of.
-#[derive(Clone, Copy, Debug)]
+#[derive(Clone, Copy)]
 enum Listed {
     Text,
     EndOfEpoch,

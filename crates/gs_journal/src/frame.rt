@@ -1,5 +1,5 @@
 // Headers and records as they stand on a disk.
-ghost use Rattle.std.specs.Prelude.{◌≡◌, ◌≤◌, ◌<◌, ◌^◌, length, true, IfSome, IfOk, IfErr, is_some};
+ghost use Rattle.std.specs.Prelude.{◌≡◌, ◌==◌, ◌≤◌, ◌<◌, ◌^◌, length, true, IfSome, IfOk, IfErr, is_some};
 ghost use Rattle.gs_base.specs.declared.refusal.Refusal.TheVariants.{Memory};
 ghost use Rattle.gs_journal.specs.Records.{header_length, records_of};
 ghost use Rattle.gs_journal.specs.Forms.{are_of_form};
@@ -16,25 +16,35 @@ use std::alloc::Global;
 pub(crate) const HEADER: usize = 13;
 
 /// What a disk's header says.
-#[derive(Clone, Copy, Debug)]
+#[derive(Clone, Copy)]
 pub(crate) struct Header {
     pub(crate) version: Version,
     pub(crate) generation: u64,
 }
 
 /// A record as it stands on a disk.
-#[derive(Clone, Copy, Debug)]
+#[derive(Clone, Copy)]
 pub(crate) struct Found<'a> {
     pub(crate) kind: u8,
     pub(crate) body: &'a [u8],
     pub(crate) rest: &'a [u8],
 }
 
+/// The gate before a header or a record that stands.
+const OPEN: u8 = 1;
+
+/// Whether a gate is open. Any other byte is a closed one.
+pub(crate) fn is_open(gate: u8) -> bool
+    ensures { result ≡ (gate == 1) }
+{
+    gate == OPEN
+}
+
 /// The header of a disk that may count.
 pub(crate) fn header_of(bytes: &[u8]) -> Option<Header>
     ensures { FindsHeader result bytes.now }
 {
-    if bytes.len() < HEADER || bytes[0] != 1 {
+    if bytes.len() < HEADER || !is_open(bytes[0]) {
         return None;
     }
     if bytes[1] != b'G' || bytes[2] != b'S' || bytes[3] != b'J' {
@@ -57,7 +67,7 @@ pub(crate) fn record_at(bytes: &[u8]) -> Option<Found<'_>>
     ensures found { FindsRecord result bytes.now }
 {
     let (gate, behind) = bytes.split_first()?;
-    if *gate != 1 || behind.len() < 5 {
+    if !is_open(*gate) || behind.len() < 5 {
         return None;
     }
     let length = BigEndian::read_u32(behind) as usize;

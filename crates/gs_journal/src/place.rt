@@ -1,21 +1,31 @@
 // Which of two disks counts, and where its records end.
-ghost use Rattle.std.specs.Prelude.{◌≡◌, true, false, IfOk, IfErr, OnOk};
+ghost use Rattle.std.specs.Prelude.{◌≡◌, ◌==◌, not, get_or, true, false, IfOk, IfErr, OnOk};
 ghost use Rattle.gs_base.specs.declared.refusal.Refusal.TheVariants.{BadLine};
 ghost use Rattle.gs_journal.specs.Records.{is_begun, version_of, generation_of, standing, text_of};
 ghost use Rattle.gs_journal.specs.Forms.{is_text};
 
-use crate::frame::{Header, end_of_records, header_of};
+use crate::frame::{Header, end_of_records, header_of, is_open};
 use crate::version::Version;
 use gs_base::Refusal;
 
 /// Which disk counts, what its header says, where its records end, and whether a closed gate stands there.
-#[derive(Clone, Copy, Debug)]
+#[derive(Clone, Copy)]
 pub(crate) struct Place {
     pub(crate) is_second: bool,
     pub(crate) version: Version,
     pub(crate) generation: u64,
     pub(crate) end: usize,
     pub(crate) has_gate: bool,
+}
+
+/// Whether a closed gate stands there.
+fn is_closed_at(bytes: &[u8], at: usize) -> bool
+    ensures { result ≡ not (get_or bytes.now at 1 == 1) }
+{
+    match bytes.get(at) {
+        Some(gate) => !is_open(*gate),
+        None => false,
+    }
 }
 
 impl Place {
@@ -36,7 +46,7 @@ impl Place {
                 version: header.version,
                 generation: header.generation,
                 end,
-                has_gate: end < bytes.len() && bytes[end] != 1,
+                has_gate: is_closed_at(bytes, end),
             }),
         }
     }

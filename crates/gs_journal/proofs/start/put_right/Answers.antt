@@ -1,7 +1,7 @@
 use Rattle.std.proofs.Common.{inl, subst}
 use Rattle.gs_journal.specs.Places.{FindsPlace}
 use Rattle.gs_journal.proofs.Moments.{weaker}
-use Rattle.gs_journal.proofs.Opening.{untouched_first, untouched_second, made_ready, second_ready, first_ready, like_first, like_second}
+use Rattle.gs_journal.proofs.Opening.{untouched_first, untouched_second, first_place, second_place, made_ready, second_ready, first_ready, like_first, like_second}
 use Rattle.gs_journal.proofs.start.put_right.Goals as goal
 
 pub returns-in_err-place-clause-left_second : goal.returns-in_err-place-clause-left_second
@@ -69,3 +69,63 @@ returns-clause-ready g c =
 pub returns-clause-same : goal.returns-clause-same
 returns-clause-same g c =
     let d = g.D.Disk in like_first (d.seen c.args.first.now) _ c.in_ok-repair-2.ensures.same (d.seen c.args.second.now)
+
+pub make_first-requires-clause-unbegun : goal.make_first-requires-clause-unbegun
+make_first-requires-clause-unbegun g c =
+    let d = g.D.Disk in
+    let found = subst (λ o. FindsPlace o (d.seen c.args.first.now) (d.seen c.args.second.now)) c.in_default.is c.requires.place in
+    found.1
+
+pub returns-in_err-place-clause-left_first : goal.returns-in_err-place-clause-left_first
+returns-in_err-place-clause-left_first g c =
+    let d = g.D.Disk in
+    let found = subst (λ o. FindsPlace o (d.seen c.args.first.now) (d.seen c.args.second.now)) c.in_default.is c.requires.place in
+    c.make_first.ensures.any_moment (d.seen c.args.second.now) found.0
+
+pub returns-in_default-clause-left_first : goal.returns-in_default-clause-left_first
+returns-in_default-clause-left_first g c =
+    let d = g.D.Disk in
+    let found = subst (λ o. FindsPlace o (d.seen c.args.first.now) (d.seen c.args.second.now)) c.in_default.is c.requires.place in
+    c.make_first.ensures.any_moment (d.seen c.args.second.now) found.0
+
+pub returns-in_default-clause-same : goal.returns-in_default-clause-same
+returns-in_default-clause-same g c =
+    let d = g.D.Disk in
+    let found = subst (λ o. FindsPlace o (d.seen c.args.first.now) (d.seen c.args.second.now)) c.in_default.is c.requires.place in
+    (made_ready c.in_ok-place.place (d.seen c.args.first.now) (d.seen c.args.second.now) _ c.in_ok-place.ensures.place found.0 found.1 c.in_ok-place.ensures.seen).1
+
+pub repair-requires-clause-end : goal.repair-requires-clause-end
+repair-requires-clause-end g c =
+    let d = g.D.Disk in
+    let found = subst (λ o. FindsPlace o (d.seen c.args.first.now) (d.seen c.args.second.now)) c.in-Some.is c.requires.place in
+    (second_place c.in-Some.place (d.seen c.args.first.now) (d.seen c.args.second.now) c.if-place.true found.1).end
+
+pub repair-requires-clause-gate : goal.repair-requires-clause-gate
+repair-requires-clause-gate g c =
+    let d = g.D.Disk in
+    let found = subst (λ o. FindsPlace o (d.seen c.args.first.now) (d.seen c.args.second.now)) c.in-Some.is c.requires.place in
+    (second_place c.in-Some.place (d.seen c.args.first.now) (d.seen c.args.second.now) c.if-place.true found.1).gate
+
+pub repair-requires-clause-fits : goal.repair-requires-clause-fits
+repair-requires-clause-fits g c =
+    let d = g.D.Disk in
+    let found = subst (λ o. FindsPlace o (d.seen c.args.first.now) (d.seen c.args.second.now)) c.in-Some.is c.requires.place in
+    (second_place c.in-Some.place (d.seen c.args.first.now) (d.seen c.args.second.now) c.if-place.true found.1).fits
+
+pub repair-requires-2-clause-end : goal.repair-requires-2-clause-end
+repair-requires-2-clause-end g c =
+    let d = g.D.Disk in
+    let found = subst (λ o. FindsPlace o (d.seen c.args.first.now) (d.seen c.args.second.now)) c.in-Some.is c.requires.place in
+    (first_place c.in-Some.place (d.seen c.args.first.now) (d.seen c.args.second.now) c.if-place.false found.1).end
+
+pub repair-requires-2-clause-gate : goal.repair-requires-2-clause-gate
+repair-requires-2-clause-gate g c =
+    let d = g.D.Disk in
+    let found = subst (λ o. FindsPlace o (d.seen c.args.first.now) (d.seen c.args.second.now)) c.in-Some.is c.requires.place in
+    (first_place c.in-Some.place (d.seen c.args.first.now) (d.seen c.args.second.now) c.if-place.false found.1).gate
+
+pub repair-requires-2-clause-fits : goal.repair-requires-2-clause-fits
+repair-requires-2-clause-fits g c =
+    let d = g.D.Disk in
+    let found = subst (λ o. FindsPlace o (d.seen c.args.first.now) (d.seen c.args.second.now)) c.in-Some.is c.requires.place in
+    (first_place c.in-Some.place (d.seen c.args.first.now) (d.seen c.args.second.now) c.if-place.false found.1).fits

@@ -2,6 +2,7 @@ use Rattle.std.proofs.Common.{List, ℕ, ap, ◌≡◌}
 use Rattle.gs_journal.specs.Records.{standing}
 use Rattle.gs_journal.specs.Sound.{text}
 use Rattle.gs_journal.proofs.Pairs.{only_first, only_second}
+use Rattle.gs_journal.proofs.Settled.{reread_first, reread_second}
 use Rattle.gs_journal.proofs.journal.Journal.records.Goals as goal
 
 pub returns-in_err-bytes-clause-any_moment : goal.returns-in_err-bytes-clause-any_moment
@@ -27,3 +28,19 @@ returns-clause-any_moment g c is_open =
     let d = g.D.Disk in let j = c.args.self.now in let s = c.requires.sound is_open in
     only_first d.seen d.may_leave d.moment d.left_since _ _ _ _ (λ x y. standing x y ≡ text d.seen j) s.second (g.met.D.Disk.only_now j.second) c.read_all-2.ensures.any_moment
     (λ x left. ap (λ (l : List ℕ). standing l (d.seen j.second)) (s.first x left))
+
+pub returns-in_err-bytes-clause-sound : goal.returns-in_err-bytes-clause-sound
+returns-in_err-bytes-clause-sound g c is_open =
+    let d = g.D.Disk in reread_second d.seen d.may_leave c.args.self.now c.read_all.new.disk (c.requires.sound is_open) c.read_all.ensures.seen c.read_all.ensures.durable
+
+pub returns-then-self-2-clause-sound : goal.returns-then-self-2-clause-sound
+returns-then-self-2-clause-sound g c is_open =
+    let d = g.D.Disk in reread_second d.seen d.may_leave c.args.self.now c.read_all.new.disk (c.requires.sound is_open) c.read_all.ensures.seen c.read_all.ensures.durable
+
+pub returns-in_err-bytes-2-clause-sound : goal.returns-in_err-bytes-2-clause-sound
+returns-in_err-bytes-2-clause-sound g c is_open =
+    let d = g.D.Disk in reread_first d.seen d.may_leave c.args.self.now c.read_all-2.new.disk (c.requires.sound is_open) c.read_all-2.ensures.seen c.read_all-2.ensures.durable
+
+pub returns-clause-sound : goal.returns-clause-sound
+returns-clause-sound g c is_open =
+    let d = g.D.Disk in reread_first d.seen d.may_leave c.args.self.now c.read_all-2.new.disk (c.requires.sound is_open) c.read_all-2.ensures.seen c.read_all-2.ensures.durable
