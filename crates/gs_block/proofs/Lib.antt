@@ -11,4 +11,3 @@ pub mod Damaging
 pub mod Restoring
 pub mod Holding
 pub mod Matching
-pub mod Whole

@@ -1,6 +1,6 @@
 -- First images put back into their places.
-use Rattle.std.proofs.Common.{◌≡◌, ◌≢◌, ℕ, ◌+◌, ◌-◌, ◌*◌, ◌/◌, ◌%◌, ◌<◌, ◌≤◌, arith, refl, sym, ap, subst, List, [], ◌∷◌, ◌++◌, take, drop, length, get_or, map, ◌∙◌, min, ⊎_elim, ◌⊎◌, inl, inr, Bool, true, false, cond, length-take, length-drop}
-use Rattle.std.specs.Prelude.{Option, Some, None, nat_lt, slice_index_or}
+use Rattle.std.proofs.Common.{◌≡◌, ◌≢◌, ℕ, ◌+◌, ◌-◌, ◌*◌, ◌/◌, ◌%◌, ◌<◌, ◌≤◌, arith, refl, sym, ap, subst, List, [], take, drop, length, get_or, map, ◌∙◌, min, ⊎_elim, ◌⊎◌, inl, inr, true, false, cond, length-take, length-drop}
+use Rattle.std.specs.Prelude.{Option, Some, None, Ok, nat_lt, slice_index_or}
 use Rattle.std.specs.Str.{bytes_eq}
 use Rattle.sha2.specs.Sha256.{sha256}
 use Rattle.std.specs.List.{range_with_len}
@@ -9,13 +9,15 @@ use Rattle.std.proofs.lemmas.Bool.Decides.{nat_tests}
 use Rattle.std.proofs.lemmas.List.{places, ext_get_or, get_or-take, get_or-drop}
 use Rattle.std.proofs.lemmas.List.FromFn.{length-map-range_with_len}
 use Rattle.std.proofs.lemmas.Nat.{div-add-mod', le-div}
-use Rattle.std.proofs.Math.Nat.{mod-lt, lt-div-mul-add, div-mul-le_self, mul-le-mul_right, add-mul}
-use Rattle.gs_block.specs.Stored.{count_of, block_at, digest_at, is_intact}
+use Rattle.std.proofs.Math.Nat.{mod-lt, div-mul-le_self, mul-le-mul_right, add-mul}
+use Rattle.gs_block.specs.Stored.{Stored, IsStored, count_of, block_at, digest_at, is_intact, first_damaged}
+use Rattle.gs_block.specs.Edits.{unless_damaged, copied}
+use Rattle.gs_block.specs.Follows.{Makes}
 use Rattle.gs_block.specs.Inverses.{replaced}
-use Rattle.gs_block.specs.Images.{IsImage, byte_of, byte_before, bytes_before, block_before, image_or, put_image}
+use Rattle.gs_block.specs.Images.{Images, AreFirst, undone, IsImage, byte_of, byte_before, bytes_before, block_before, image_or, put_image}
 use Rattle.gs_block.proofs.Counts.{starts, one_times}
 use Rattle.gs_block.proofs.Following.{length-replaced}
-use Rattle.gs_block.proofs.Sealed.{place_of, block_counted, length-block}
+use Rattle.gs_block.proofs.Sealed.{place_of, same_places, block_counted, length-block}
 
 -- the block of a place and its place in the block
 in_block : (size i j : ℕ) → 1 ≤ size → j < size → (i * size + j) / size ≡ i
@@ -180,3 +182,26 @@ intact_before size long k images bytes digests some within whole = ap (λ b. byt
 pub long_bytes : (size long : ℕ) (images : List (Option (List ℕ))) (bytes : List ℕ) → length (bytes_before size images long bytes) ≡ long
 unfolding bytes_before
 long_bytes size long images bytes = length-map-range_with_len (byte_before size images bytes) 0 long
+
+-- the bytes behind the sealed length are none of what undoing gives
+pub cut_bytes : (size long : ℕ) (images : List (Option (List ℕ))) (bytes : List ℕ) → bytes_before size images long (take long bytes) ≡ bytes_before size images long bytes
+unfolding bytes_before byte_before
+cut_bytes size long images bytes = same_places (byte_before size images (take long bytes)) (byte_before size images bytes) long 0
+    (λ k below. ap (byte_of (get_or images (k / size) None) (k % size)) (get_or-take long bytes k 0 below))
+
+-- what undoing gives is in blocks as what stands
+pub undone_stored : (i : Images) (s : Stored) → IsStored s → AreFirst i s → IsStored (undone i s)
+undone_stored i s stored first =
+    let long = long_bytes s.block i.long i.blocks s.bytes in
+    let within = first.within in
+    let fit = stored.bytes_fit in
+    record {
+      some_block = stored.some_block;
+      block_fits = stored.block_fits;
+      chunk_fits = stored.chunk_fits;
+      bytes_fit = omega arith;
+      each = first.each ∙ ap (count_of s.block) (sym long);
+    }
+
+pub made_copy : (s new : Stored) → first_damaged s.block s.bytes s.digests 0 (length s.digests) ≡ None → new ≡ s → Makes (copied s) (Ok new)
+made_copy s new none is = subst (λ o. Makes (unless_damaged o s) (Ok new)) (sym none) is

@@ -2,7 +2,7 @@
 -- lesser of its offset and the old end to its own end.
 use Rattle.std.specs.Prelude.{◌≡◌, ℕ, ◌+◌, ◌-◌, ◌*◌, ◌/◌, ◌%◌, ◌||◌, ◌==◌, cond, nat_lt, min, List, [], ◌∷◌, ◌++◌, length, take, drop, slice_index, slice_set, Option, Some, None, Result, Ok, Err, refl}
 use Rattle.gs_base.specs.declared.refusal.Refusal.{Refusal}
-use Rattle.gs_base.specs.declared.refusal.Refusal.TheVariants.{Range, Damaged}
+use Rattle.gs_base.specs.declared.refusal.Refusal.TheVariants.{Range, Damaged, BadLine}
 use Rattle.gs_block.specs.Chunk.{written, appended, padded}
 use Rattle.gs_block.specs.Stored.{Stored, empty, count_of, digests_from, digests_of, first_damaged}
 
@@ -52,6 +52,13 @@ abbrev pub chunk_of : ℕ → ℕ → List ℕ → Result Stored Refusal
 chunk_of block chunk bytes = cond (nat_lt chunk (length bytes)) (Err Range)
     (Ok (record { block = block; chunk = chunk; bytes = bytes; digests = digests_of block bytes }))
 
+-- A chunk of these bytes under these digests, whatever the bytes digest to. Range where the bytes pass the size of the chunk,
+-- and BadLine where the digests aren't as many as the blocks.
+abbrev pub carried : ℕ → ℕ → List ℕ → List (List ℕ) → Result Stored Refusal
+carried block chunk bytes digests = cond (nat_lt chunk (length bytes)) (Err Range)
+    (cond (length digests == count_of block (length bytes)) (Ok (record { block = block; chunk = chunk; bytes = bytes; digests = digests }))
+    (Err BadLine))
+
 -- the same chunk, where every block has its digest
 abbrev pub copied : Stored → Result Stored Refusal
 copied s = unless_damaged (first_damaged s.block s.bytes s.digests 0 (length s.digests)) s
@@ -91,3 +98,15 @@ nothing_is_read = refl
 
 no_block : damage (empty 4 16) 0 ≡ Err Range
 no_block = refl
+
+-- five bytes in two blocks of 4
+carried_with_both_digests : bytes_of (carried 4 16 (1 ∷ 2 ∷ 3 ∷ 4 ∷ 5 ∷ []) ([] ∷ [] ∷ [])) ≡ Ok (1 ∷ 2 ∷ 3 ∷ 4 ∷ 5 ∷ [])
+unfolding count_of
+carried_with_both_digests = refl
+
+a_digest_too_few : carried 4 16 (1 ∷ 2 ∷ 3 ∷ 4 ∷ 5 ∷ []) ([] ∷ []) ≡ Err BadLine
+unfolding count_of
+a_digest_too_few = refl
+
+too_many_bytes : carried 4 4 (1 ∷ 2 ∷ 3 ∷ 4 ∷ 5 ∷ []) ([] ∷ [] ∷ []) ≡ Err Range
+too_many_bytes = refl

@@ -2,14 +2,14 @@ ghost use Rattle.std.specs.Prelude.{◌≡◌, ◌≤◌, ◌<◌, ◌+◌, ◌-
 ghost use Rattle.sha2.specs.Hashers.{Holds256};
 ghost use Rattle.gs_block.specs.Chunk.{written};
 ghost use Rattle.gs_block.specs.Stored.{Stored, IsStored, empty, digests_of, first_damaged, are_digests};
-ghost use Rattle.gs_block.specs.Edits.{changed, chunk_of, copied, write, append, pad, read, damage};
+ghost use Rattle.gs_block.specs.Edits.{changed, chunk_of, carried, copied, write, append, pad, read, damage};
 ghost use Rattle.gs_block.specs.Inverses.{fits, undo, inverse_of};
 ghost use Rattle.gs_block.specs.Follows.{Follows, Does, Answers, Makes};
 ghost use Rattle.gs_block.specs.Kept.{KeepsIntact, KeepsOutside};
 ghost use Rattle.gs_block.specs.Images.{Images, AreFirst, begun, undone, touched, damage_before};
 
 use crate::digests::{
-    Digest, are_digests, count_of, first_damaged, first_damaged_between, hasher_to,
+    Digest, are_digests, count_of, digests_of, first_damaged, first_damaged_between, hasher_to,
 };
 use crate::images::{Images, first_damaged_before, no_images, put_back};
 use crate::inverse::BlockInverse;
@@ -55,22 +55,67 @@ impl Blocks {
         }
     }
 
-    /// A chunk of these bytes, with their digests. `Range` where they pass the size of the chunk.
-    pub fn of(alloc: Global, block: u64, chunk: u64, bytes: &[u8]) -> Result<Blocks, Refusal>
+    /// A chunk of these bytes, with their digests. It takes the bytes as they are and copies none. `Range` where they pass the
+    /// size of the chunk.
+    pub fn of(alloc: Global, block: u64, chunk: u64, bytes: Vec<u8>) -> Result<Blocks, Refusal>
         requires some { 1 ≤ block }
         requires block_fits { block ≤ 65536 }
         requires chunk_fits { chunk ≤ 67108864 }
-        ensures { Makes (chunk_of block chunk bytes.now) result }
+        ensures { Makes (chunk_of block chunk bytes.items) result }
     {
-        let mut blocks = Blocks::new(alloc, block, chunk);
-        if bytes.is_empty() {
-            return Ok(blocks);
+        let chunk = chunk as usize;
+        if bytes.len() > chunk {
+            return Err(Refusal::Range);
         }
-        match blocks.write(0, bytes) {
-            Ok(_inverse) => {}
-            Err(refusal) => return Err(refusal),
+        let block = block as usize;
+        let digests = digests_of(alloc, &bytes, block)?;
+        Ok(Blocks {
+            alloc,
+            block,
+            chunk,
+            bytes,
+            digests,
+        })
+    }
+
+    /// A chunk of these bytes under these digests. It takes both as they are: it copies no byte and digests none, so a block
+    /// that has not its digest shows when it is verified. `Range` where the bytes pass the size of the chunk, and `BadLine`
+    /// where the digests are not as many as the blocks.
+    pub fn carried(
+        alloc: Global,
+        block: u64,
+        chunk: u64,
+        bytes: Vec<u8>,
+        digests: Vec<Digest>,
+    ) -> Result<Blocks, Refusal>
+        requires some { 1 ≤ block }
+        requires block_fits { block ≤ 65536 }
+        requires chunk_fits { chunk ≤ 67108864 }
+        ensures { Answers (λ blocks. blocks) (carried block chunk bytes.items digests.items) result }
+    {
+        let block = block as usize;
+        let chunk = chunk as usize;
+        if bytes.len() > chunk {
+            return Err(Refusal::Range);
         }
-        Ok(blocks)
+        if digests.len() != count_of(block, bytes.len()) {
+            return Err(Refusal::BadLine);
+        }
+        Ok(Blocks {
+            alloc,
+            block,
+            chunk,
+            bytes,
+            digests,
+        })
+    }
+
+    /// The bytes and the digests, which go on without the chunk. No block is verified.
+    pub fn into_parts(self) -> (Vec<u8>, Vec<Digest>)
+        ensures bytes { result.0.items ≡ self.bytes }
+        ensures digests { result.1.items ≡ self.digests }
+    {
+        (self.bytes, self.digests)
     }
 
     /// A chunk of the same bytes. Every block is verified first: `Damaged` names the lowest that fails.
@@ -225,6 +270,27 @@ impl Blocks {
             Some(index) => Some(index as u64),
             None => None,
         }
+    }
+
+    /// What undoing all edits since the seal gives, as a chunk of its own. Every block of it is verified first: `Damaged` names
+    /// the lowest without its sealed digest.
+    pub fn copy_before(&self, images: &Images) -> Result<Blocks, Refusal>
+        requires { AreFirst images.now self.now }
+        ensures { Makes (copied (undone images.now self.now)) result }
+    {
+        match self.damaged_before(images) {
+            Some(block) => return Err(Refusal::Damaged(block)),
+            None => {}
+        }
+        let mut bytes = Vec::from_slice(self.alloc, &self.bytes[..images.long])?;
+        put_back(&mut bytes, self.block, images.long, &images.blocks);
+        Ok(Blocks {
+            alloc: self.alloc,
+            block: self.block,
+            chunk: self.chunk,
+            bytes,
+            digests: Vec::from_slice(self.alloc, &images.digests)?,
+        })
     }
 
     /// Undoes all edits since the seal: puts the first images into their places, cuts to the sealed length and takes the

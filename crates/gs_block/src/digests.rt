@@ -1,10 +1,11 @@
-ghost use Rattle.std.specs.Prelude.{◌≡◌, ◌≤◌, ◌<◌, ◌+◌, ◌-◌, ◌*◌, ◌/◌, ◌%◌, ◌++◌, List, ℕ, length, take, drop, slice_index_or, min};
+ghost use Rattle.std.specs.Prelude.{◌≡◌, ◌≤◌, ◌<◌, ◌+◌, ◌-◌, ◌*◌, ◌/◌, ◌%◌, ◌++◌, List, ℕ, length, take, drop, slice_index_or, min, IfOk};
 ghost use Rattle.std.specs.Str.{bytes_eq};
 ghost use Rattle.sha2.specs.Sha256.{sha256};
 ghost use Rattle.sha2.specs.Hashers.{Holds256};
-ghost use Rattle.gs_block.specs.Stored.{count_of, block_at, digest_at, digests_from, is_intact, first_damaged, are_digests};
+ghost use Rattle.gs_block.specs.Stored.{count_of, block_at, digest_at, digests_from, digests_of, is_intact, first_damaged, are_digests};
 
 use sha2::{Digest as _, Sha256};
+use std::alloc::{AllocError, Global};
 
 /// A digest under SHA-256 (FIPS 180-4).
 pub type Digest = [u8; 32];
@@ -82,6 +83,24 @@ pub(crate) fn first_damaged(
         }
     }
     None
+}
+
+/// The digests of all blocks.
+pub(crate) fn digests_of(
+    alloc: Global,
+    bytes: &[u8],
+    size: usize,
+) -> Result<Vec<Digest>, AllocError>
+    requires some { 1 ≤ size }
+    requires size_fits { size ≤ 65536 }
+    requires bytes_fit { length bytes.now ≤ 67108864 }
+    ensures { IfOk result (λ digests. digests.items ≡ digests_of size bytes.now) }
+{
+    let mut digests = Vec::new(alloc);
+    for index in 0..count_of(size, bytes.len()) {
+        digests.push(digest_of(block_of(bytes, size, index)))?;
+    }
+    Ok(digests)
 }
 
 /// Whether these are the digests of all blocks.

@@ -11,7 +11,7 @@ use Rattle.gs_block.specs.Images.{Images, missing, byte_before, bytes_before, co
 use Rattle.gs_block.specs.Inverses as inverses
 use Rattle.gs_replica.specs.declared.live.ReplicaInverse.{ReplicaInverse}
 use Rattle.gs_replica.specs.Held.{Held}
-use Rattle.gs_replica.specs.Seals.{Sealed, State, with_seal, can_undo, undo, damaged_before, roll_back_to, HandsBack}
+use Rattle.gs_replica.specs.Seals.{Sealed, State, with_seal, can_undo, undo, lowest_damaged, roll_back_to, HandsBack}
 use Rattle.gs_replica.specs.Undo as undos
 use Rattle.gs_base.specs.declared.numbers.Stamp.{Stamp}
 use Rattle.gs_base.specs.declared.numbers.ReqId.{ReqId}
@@ -90,6 +90,9 @@ missing_same i s start few many same = λ k. record {
   copies = ap (λ n. copies_from s.block i.long i.blocks s.bytes (start / s.block) (count_of s.block n - start / s.block)) same k;
 }
 
+pub not_same : (m n : ℕ) → (m == n) ≡ false → m ≢ n
+not_same m n h = grind (arith, nat_tests)
+
 eq_not : (m n : ℕ) → m ≢ n → (m == n) ≡ false
 eq_not m n h = grind (arith, nat_tests)
 
@@ -119,11 +122,11 @@ does_keep B (Ok b) (Err g) old new P d p gives = absurd d
 does_keep B (Err e) (Err g) old new P d p gives = subst P (sym d.1) p
 
 -- what undoing gives where each block of it has its digest
-abbrev rolled : Stamp → Sealed → State
+abbrev pub rolled : Stamp → Sealed → State
 rolled promise t = record { held = record { chunk = t.undone; count = t.count; done = t.done; promise = promise }; sealed = None }
 
-pub rolls_back : (t : Sealed) (promise : Stamp) (after old : State) → damaged_before t.undone ≡ None → after ≡ rolled promise t → HandsBack (roll_back_to promise (Some t)) (Ok after) old
+pub rolls_back : (t : Sealed) (promise : Stamp) (after old : State) → lowest_damaged t.undone ≡ None → after ≡ rolled promise t → HandsBack (roll_back_to promise (Some t)) (Ok after) old
 rolls_back t promise after old none is = subst (λ o. HandsBack (unless_damaged o (rolled promise t)) (Ok after) old) (sym none) is
 
-pub hands_back : (t : Sealed) (promise : Stamp) (after old : State) (block : ℕ) → damaged_before t.undone ≡ Some block → after ≡ old → HandsBack (roll_back_to promise (Some t)) (Err (after, refusals.Damaged block)) old
+pub hands_back : (t : Sealed) (promise : Stamp) (after old : State) (block : ℕ) → lowest_damaged t.undone ≡ Some block → after ≡ old → HandsBack (roll_back_to promise (Some t)) (Err (after, refusals.Damaged block)) old
 hands_back t promise after old block found is = subst (λ o. HandsBack (unless_damaged o (rolled promise t)) (Err (after, refusals.Damaged block)) old) (sym found) (is, refl)

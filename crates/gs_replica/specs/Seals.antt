@@ -118,15 +118,15 @@ damage_seal block t = record { undone = damage_before block t.touched t.undone; 
 abbrev pub damage : ℕ → State → Result State Refusal
 damage block r = with_seal (on_seal (damage_seal block) r.sealed) (edits.damage block r.held)
 
--- the lowest block that undoing gives without its sealed digest
-abbrev pub damaged_before : Stored → Option ℕ
-damaged_before s = first_damaged s.block s.bytes s.digests 0 (length s.digests)
+-- the lowest block without its digest
+abbrev pub lowest_damaged : Stored → Option ℕ
+lowest_damaged s = first_damaged s.block s.bytes s.digests 0 (length s.digests)
 
 -- What undoing gives stands again, under the promise that was made since. Damaged where a block of it hasn't its sealed
 -- digest, and BadLine where the replica isn't sealed.
 abbrev pub roll_back_to : Stamp → Option Sealed → Result State Refusal
 roll_back_to promise None = Err refusals.BadLine
-roll_back_to promise (Some t) = unless_damaged (damaged_before t.undone) (record { held = record { chunk = t.undone; count = t.count; done = t.done; promise = promise }; sealed = None })
+roll_back_to promise (Some t) = unless_damaged (lowest_damaged t.undone) (record { held = record { chunk = t.undone; count = t.count; done = t.done; promise = promise }; sealed = None })
 
 abbrev pub roll_back : State → Result State Refusal
 roll_back r = roll_back_to r.held.promise r.sealed

@@ -111,4 +111,14 @@ impl DoneTable {
             self.restore(client, before);
         }
     }
+
+    /// A table of the requests as they were sealed: each client's first entry laid over what stands.
+    pub(crate) fn copy_before(&self, first: &FirstEntries) -> Result<DoneTable, AllocError>
+        requires { HasSealed first.now self.now }
+        ensures { IfOk result (λ table. table ≡ done_before first.now self.now) }
+    {
+        let mut done = self.copy()?;
+        done.put_back(first.copy()?);
+        Ok(done)
+    }
 }

@@ -38,6 +38,15 @@ impl FirstEntries {
         }
     }
 
+    /// The same entries.
+    pub(crate) fn copy(&self) -> Result<FirstEntries, AllocError>
+        ensures { IfOk result (λ entries. entries ≡ self.now) }
+    {
+        Ok(FirstEntries {
+            entries: self.entries.clone()?,
+        })
+    }
+
     /// A client's first entry.
     fn get(&self, client: ClientId) -> Option<Option<Done>>
         ensures { result ≡ fin.get self.now client.0 }

@@ -3,12 +3,15 @@
 
 mod done;
 mod first;
+mod image;
 mod live;
 mod op;
+pub mod promises;
 mod replica;
 mod seal;
 
 pub use done::DoneTable;
+pub use image::{Image, SealedImage};
 pub use live::ReplicaInverse;
 pub use op::{Done, Op, Outcome};
 pub use replica::Replica;

@@ -1,7 +1,8 @@
 ghost use Rattle.std.specs.Prelude.{◌≡◌, ◌≤◌, ◌<◌, ◌+◌, ◌-◌, ◌==◌, List, ℕ, IfOk, OnOk, OnErr, length, Ok, Err, None, is_some};
 ghost use Rattle.std.specs.FinMap as fin;
-ghost use Rattle.gs_block.specs.Stored.{Stored, are_digests};
+ghost use Rattle.gs_block.specs.Stored.{Stored, IsStored, are_digests};
 ghost use Rattle.gs_block.specs.Edits as blocks;
+ghost use Rattle.gs_block.specs.Edits.{unless_damaged};
 ghost use Rattle.gs_block.specs.Inverses as inverses;
 ghost use Rattle.gs_block.specs.Kept.{KeepsIntact, KeepsOutside};
 ghost use Rattle.gs_block.specs.Follows.{Follows, Does, Answers, Makes};
@@ -10,9 +11,12 @@ ghost use Rattle.gs_replica.specs.Held.{Held};
 ghost use Rattle.gs_replica.specs.Edits.{fresh, promise, apply, judged, Refuses, Judges, is_before, is_same, is_old, edited, outcome_of, with_edit, damage, held_of, copied, start_of, end_of, done_by};
 ghost use Rattle.gs_replica.specs.Undo.{undo};
 ghost use Rattle.gs_replica.specs.First.{done_before, HasSealed};
+ghost use Rattle.gs_replica.specs.Seals.{lowest_damaged};
+ghost use Rattle.gs_replica.specs.Copies.{image_of};
 
 use crate::done::DoneTable;
 use crate::first::FirstEntries;
+use crate::image::{Image, SealedImage};
 use crate::op::{Done, Op, Outcome};
 use gs_base::{ClientId, Refusal, ReqId, Stamp};
 use gs_block::{BlockInverse, Blocks, Digest, Images};
@@ -76,27 +80,58 @@ impl Live {
         }
     }
 
-    /// A replica of the bytes, the count and the requests that a copy carries, which has promised a stamp. `Range` where the
-    /// bytes pass the size of the chunk.
+    /// A replica of an image, which has promised a stamp. `Range` where its bytes pass the size of the chunk.
     pub(crate) fn of(
         alloc: Global,
         block: u64,
         chunk: u64,
         stamp: Stamp,
-        bytes: &[u8],
-        count: u64,
-        done: DoneTable,
+        image: Image,
     ) -> Result<Live, Refusal>
         requires some { 1 ≤ block }
         requires block_fits { block ≤ 65536 }
         requires chunk_fits { chunk ≤ 67108864 }
-        ensures { Makes (held_of stamp count done (blocks.chunk_of block chunk bytes.now)) result }
+        ensures { Makes (held_of stamp image.count image.done (blocks.chunk_of block chunk image.bytes)) result }
     {
         Ok(Live {
-            blocks: Blocks::of(alloc, block, chunk, bytes)?,
+            blocks: Blocks::of(alloc, block, chunk, image.bytes)?,
+            count: image.count,
+            done: image.done,
+            promise: stamp,
+        })
+    }
+
+    /// A replica as a sealed image says, with its digests as they are carried. `Range` where its bytes pass the size of the
+    /// chunk, and `BadLine` where its digests are not as many as the blocks. It takes no memory.
+    pub(crate) fn carried(
+        alloc: Global,
+        block: u64,
+        chunk: u64,
+        sealed: SealedImage,
+    ) -> Result<Live, Refusal>
+        requires some { 1 ≤ block }
+        requires block_fits { block ≤ 65536 }
+        requires chunk_fits { chunk ≤ 67108864 }
+        ensures { Answers (λ live. live) (held_of sealed.stamp sealed.image.count sealed.image.done (blocks.carried block chunk sealed.image.bytes sealed.digests)) result }
+    {
+        let Image { bytes, count, done } = sealed.image;
+        Ok(Live {
+            blocks: Blocks::carried(alloc, block, chunk, bytes, sealed.digests)?,
             count,
             done,
-            promise: stamp,
+            promise: sealed.stamp,
+        })
+    }
+
+    /// What a copy carries of the replica as it stands. Every block is verified first: `Damaged` names the lowest that fails.
+    pub(crate) fn image(&self) -> Result<Image, Refusal>
+        ensures { Makes (unless_damaged (lowest_damaged self.now.chunk) (image_of self.now)) result }
+    {
+        let (bytes, _digests) = self.blocks.copy()?.into_parts();
+        Ok(Image {
+            bytes,
+            count: self.count,
+            done: self.done.copy()?,
         })
     }
 
@@ -252,6 +287,14 @@ impl Live {
         ensures { Answers (λ part. part.now) (blocks.read self.now.chunk offset many) result }
     {
         self.blocks.read(offset, many)
+    }
+
+    /// The most bytes of the chunk.
+    pub(crate) fn capacity(&self) -> u64
+        ensures size { result ≡ self.now.chunk.chunk }
+        ensures stored { IsStored self.now.chunk }
+    {
+        self.blocks.capacity()
     }
 
     /// The stored bytes in blocks.

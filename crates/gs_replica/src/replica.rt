@@ -4,13 +4,18 @@ ghost use Rattle.gs_block.specs.Stored.{Stored, are_digests};
 ghost use Rattle.gs_block.specs.Edits as blocks;
 ghost use Rattle.gs_block.specs.Kept.{KeepsIntact};
 ghost use Rattle.gs_block.specs.Follows.{Follows, Does, Answers, Makes};
-ghost use Rattle.gs_replica.specs.Edits.{fresh, held_of, copied, judged, Refuses};
+ghost use Rattle.gs_replica.specs.Edits.{fresh, copied, judged, Refuses};
 ghost use Rattle.gs_replica.specs.Seals.{State, with_seal, holding, seal, unseal, apply, undo, promise, damage, roll_back, sealed_at, images_of, sealed_length, HandsBack};
+ghost use Rattle.gs_replica.specs.Copies.{image, sealed_image, of_image, of_sealed};
+ghost use Rattle.gs_replica.specs.Whole.{IsWhole};
 
 use crate::done::DoneTable;
+use crate::image::{Image, SealedImage};
 use crate::live::{Live, ReplicaInverse};
 use crate::op::{Done, Op};
-use crate::seal::{Seal, apply_sealed, begin, damage_sealed, image_bytes, undo_sealed};
+use crate::seal::{
+    Seal, apply_sealed, begin, damage_sealed, image_bytes, sealed_image, undo_sealed,
+};
 use gs_base::{ClientId, Refusal, ReqId, Stamp};
 use gs_block::Digest;
 use std::alloc::{AllocError, Global};
@@ -50,26 +55,66 @@ impl Replica {
         }
     }
 
-    /// A replica of the bytes, the count and the requests that a copy carries, which has promised a stamp and is not sealed.
-    /// `Range` where the bytes pass the size of the chunk.
+    /// A replica of an image that a copy carries, which has promised a stamp and is not sealed. It takes the bytes as they are,
+    /// and their digests anew. `Range` where they pass the size of the chunk.
     pub fn of(
         alloc: Global,
         block: u64,
         chunk: u64,
         stamp: Stamp,
-        bytes: &[u8],
-        count: u64,
-        done: DoneTable,
+        image: Image,
     ) -> Result<Replica, Refusal>
         requires some { 1 ≤ block }
         requires block_fits { block ≤ 65536 }
         requires chunk_fits { chunk ≤ 67108864 }
-        ensures { Makes (with_seal None (held_of stamp count done (blocks.chunk_of block chunk bytes.now))) result }
+        ensures { Makes (of_image block chunk stamp image) result }
     {
         Ok(Replica {
-            live: Live::of(alloc, block, chunk, stamp, bytes, count, done)?,
+            live: Live::of(alloc, block, chunk, stamp, image)?,
             seal: None,
         })
+    }
+
+    /// A replica that stands as a sealed image says, under the promise that it carries, and is sealed there. It takes the bytes
+    /// and the digests as they are; `roll_back` verifies them. `Range` where the bytes pass the size of the chunk, and
+    /// `BadLine` where the digests are not as many as the blocks.
+    pub fn of_sealed(
+        alloc: Global,
+        block: u64,
+        chunk: u64,
+        sealed: SealedImage,
+    ) -> Result<Replica, Refusal>
+        requires some { 1 ≤ block }
+        requires block_fits { block ≤ 65536 }
+        requires chunk_fits { chunk ≤ 67108864 }
+        ensures { Makes (of_sealed block chunk sealed) result }
+    {
+        let live = Live::carried(alloc, block, chunk, sealed)?;
+        let seal = begin(&live)?;
+        Ok(Replica {
+            live,
+            seal: Some(seal),
+        })
+    }
+
+    /// What a copy carries of the replica as it stands, sealed or not. Every block is verified first: `Damaged` names the lowest
+    /// that fails.
+    pub fn image(&self) -> Result<Image, Refusal>
+        ensures { Makes (image self.now) result }
+    {
+        self.live.image()
+    }
+
+    /// What undoing gives, as a copy carries it beside the image, with the promise and the digests as sealed. The replica stays
+    /// sealed as it is. `BadLine` where it is not sealed, and `Damaged` with the lowest block that undoing gives without its
+    /// sealed digest, as `roll_back` is refused.
+    pub fn sealed_image(&self) -> Result<SealedImage, Refusal>
+        ensures { Makes (sealed_image self.now) result }
+    {
+        match &self.seal {
+            Some(seal) => sealed_image(&self.live, seal),
+            None => Err(Refusal::BadLine),
+        }
     }
 
     /// A replica of the same bytes, count and requests, which has promised a stamp and is not sealed. Every block is verified
@@ -200,6 +245,14 @@ impl Replica {
         ensures { result ≡ length self.now.held.chunk.bytes }
     {
         self.live.len()
+    }
+
+    /// The most bytes of the chunk.
+    pub fn capacity(&self) -> u64
+        ensures size { result ≡ self.now.held.chunk.chunk }
+        ensures whole { IsWhole self.now }
+    {
+        self.live.capacity()
     }
 
     /// How many edits are applied.

@@ -1,17 +1,18 @@
-ghost use Rattle.std.specs.Prelude.{◌≡◌, ◌≤◌, ◌+◌, ◌==◌, ℕ, IfOk, OnOk, Option, Some, None, Ok, Result, length};
-ghost use Rattle.std.specs.Prelude.{min};
+ghost use Rattle.std.specs.Prelude.{◌≡◌, ◌≤◌, ◌+◌, ◌==◌, ℕ, IfOk, OnOk, Option, Some, None, Ok, Result, length, min};
 ghost use Rattle.gs_block.specs.Stored.{Stored, IsStored};
 ghost use Rattle.gs_replica.specs.Edits.{start_of, end_of, Refuses};
 ghost use Rattle.gs_replica.specs.Edits as edits;
 ghost use Rattle.gs_replica.specs.Undo as undos;
 ghost use Rattle.gs_block.specs.Images.{AreFirst};
 ghost use Rattle.gs_block.specs.Kept.{KeepsIntact};
-ghost use Rattle.gs_block.specs.Follows.{Follows, Does};
+ghost use Rattle.gs_block.specs.Follows.{Follows, Does, Makes};
 ghost use Rattle.gs_replica.specs.Held.{Held};
 ghost use Rattle.gs_replica.specs.Seals.{images_of, sealed_length, State, Sealed, sealed_of, apply, undo, damage, can_undo, holding, on_seal, damage_seal, with_seal};
+ghost use Rattle.gs_replica.specs.Copies.{sealed_image_of};
 ghost use Rattle.gs_replica.specs.View.{seen, state_of, Belongs};
 
 use crate::first::FirstEntries;
+use crate::image::{Image, SealedImage};
 use crate::live::{Live, ReplicaInverse};
 use crate::op::Op;
 use gs_base::{Refusal, ReqId, Stamp};
@@ -93,6 +94,13 @@ fn span(blocks: &Blocks, op: Op, bytes: &[u8]) -> (u64, u64)
     }
 }
 
+/// Whether a replica has its sealed count.
+fn is_at(live: &Live, seal: &Seal) -> bool
+    ensures { result ≡ (live.now.count == seal.now.count) }
+{
+    live.count() == seal.count
+}
+
 /// Takes the last edit of a sealed replica back, and leaves its images.
 pub(crate) fn undo_sealed(
     live: &mut Live,
@@ -103,7 +111,7 @@ pub(crate) fn undo_sealed(
     ensures undo { Does (undo inverse.now (state_of live.old seal.now)) result (state_of live.old seal.now) (state_of live.new seal.now) }
     ensures belongs { Belongs live.new seal.now }
 {
-    if live.count() == seal.count {
+    if is_at(live, seal) {
         return Err(Refusal::BadLine);
     }
     if !seal.first.fits(inverse.client, inverse.before) {
@@ -122,6 +130,25 @@ pub(crate) fn damage_sealed(live: &mut Live, seal: &Seal, block: u64) -> Result<
     ensures belongs { Belongs live.new seal.now }
 {
     live.damage(block)
+}
+
+/// What undoing gives, as a copy carries it. Every block of it is verified first: `Damaged` names the lowest without its
+/// sealed digest.
+pub(crate) fn sealed_image(live: &Live, seal: &Seal) -> Result<SealedImage, Refusal>
+    requires belongs { Belongs live.now seal.now }
+    ensures { Makes (sealed_image_of (Some (seen live.now seal.now))) result }
+{
+    let (bytes, digests) = live.blocks().copy_before(&seal.images)?.into_parts();
+    let image = Image {
+        bytes,
+        count: seal.count,
+        done: live.done_table().copy_before(&seal.first)?,
+    };
+    Ok(SealedImage {
+        image,
+        stamp: seal.stamp,
+        digests,
+    })
 }
 
 /// How many bytes the first images hold.

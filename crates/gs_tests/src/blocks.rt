@@ -32,7 +32,8 @@ fn edits_a_chunk(rt: HostRuntime) -> Result<(), Fail> {
     chunk.pad()?;
     assert!(rt; matches!(&chunk.append(b"d"), Err(Refusal::Range)));
     let text = b"abcdbcdecdefdefgefghfghighijhijkijkljklmklmnlmnomnopnopq";
-    let copy = Blocks::of(rt.alloc(), 64, 64, text)?.copy()?;
+    let bytes = Vec::from_slice(rt.alloc(), text)?;
+    let copy = Blocks::of(rt.alloc(), 64, 64, bytes)?.copy()?;
     assert_eq!(rt; copy.digests(), [FIFTY_SIX].as_slice());
     chunk.damage(1)?;
     assert!(rt; matches!(&chunk.write(3, b"zzzzzz"), Err(Refusal::Damaged(1))));

@@ -1,6 +1,6 @@
-use Rattle.std.proofs.Common.{◌≡◌, ◌+◌, ◌-◌, ◌*◌, ◌<◌, ◌≤◌, ℕ, List, [], length, take, map, get_or, min, refl, ap, sym, subst, ◌∙◌, arith, rules}
-use Rattle.std.specs.Prelude.{Option, None, is_some}
-use Rattle.gs_block.specs.Images.{IsImage, image_or, image_bytes}
+use Rattle.std.proofs.Common.{◌≡◌, ◌+◌, ◌<◌, ◌≤◌, [], length, take, map, get_or, refl, ap, sym, ◌∙◌, arith, rules}
+use Rattle.std.specs.Prelude.{None, is_some}
+use Rattle.gs_block.specs.Images.{image_or, image_bytes}
 use Rattle.gs_block.proofs.Holding.{at_most, held_more, held_all}
 use Rattle.gs_block.proofs.Sealed.{same_default}
 use Rattle.gs_block.proofs.images.held_bytes.Goals as goal

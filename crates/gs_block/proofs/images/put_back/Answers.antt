@@ -1,7 +1,7 @@
-use Rattle.std.proofs.Common.{◌≡◌, ◌+◌, ◌-◌, ◌*◌, ◌<◌, ◌≤◌, ℕ, List, length, take, get_or, min, ap, sym, subst, ◌∙◌, arith, rules}
-use Rattle.std.specs.Prelude.{Option, None}
+use Rattle.std.proofs.Common.{◌≡◌, ◌+◌, ◌-◌, ◌*◌, ◌<◌, ◌≤◌, length, min, ap, sym, subst, ◌∙◌, arith, rules}
+use Rattle.std.specs.Prelude.{None}
 use Rattle.gs_block.specs.Stored.{count_of}
-use Rattle.gs_block.specs.Images.{IsImage, put_image, image_or, bytes_before}
+use Rattle.gs_block.specs.Images.{IsImage, put_image}
 use Rattle.gs_block.proofs.Counts.{starts}
 use Rattle.gs_block.proofs.Restoring.{PutTo, put_none, put_more, put_all, image_fits}
 use Rattle.gs_block.proofs.Sealed.{same_default}

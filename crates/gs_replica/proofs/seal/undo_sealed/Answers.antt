@@ -12,7 +12,7 @@ use Rattle.gs_replica.specs.Held.{Held}
 use Rattle.gs_replica.specs.Undo as undos
 use Rattle.gs_replica.specs.Seals.{Sealed}
 use Rattle.gs_replica.specs.View.{seen, Belongs}
-use Rattle.gs_replica.proofs.Sealing.{undo_does, undo_refused, undone_chunk, long_undone, does_keep, can, cannot_uncovered, both, fails_second}
+use Rattle.gs_replica.proofs.Sealing.{undo_does, undo_refused, undone_chunk, long_undone, does_keep, not_same, can, cannot_uncovered, both, fails_second}
 use Rattle.gs_replica.proofs.seal.undo_sealed.Goals as goal
 
 pub returns-then-not-covers-clause-undo : goal.returns-then-not-covers-clause-undo
@@ -24,7 +24,7 @@ returns-then-not-covers-clause-undo c =
     let i = inverse.blocks in
     let fit : fits (fin.get seal.first inverse.client.0) inverse.before ≡ true = sym c.fits.ensures ∙ c.if-not-fits.false in
     undo_refused (Unit {0}) inverse old t
-    (cannot_uncovered old.count seal.count (fits (fin.get seal.first inverse.client.0) inverse.before && covers (length t.undone.bytes) t.touched i old.chunk) (λ (e : old.count ≡ seal.count). c.if-count-seal.false (c.count.ensures ∙ e))
+    (cannot_uncovered old.count seal.count (fits (fin.get seal.first inverse.client.0) inverse.before && covers (length t.undone.bytes) t.touched i old.chunk) (not_same old.count seal.count (sym c.is_at.ensures ∙ c.if-is_at.false))
     (fails_second (fits (fin.get seal.first inverse.client.0) inverse.before) (covers (length t.undone.bytes) t.touched i old.chunk) fit
     (ap (λ n. covers n t.touched i old.chunk) (long_undone seal.images old.chunk) ∙ ap (covers seal.images.long (touched seal.images) i) (sym c.blocks-2.ensures) ∙ sym c.covers.ensures.test ∙ c.if-not-covers.true)))
 
@@ -59,7 +59,7 @@ returns-clause-undo c =
     let fit : fits (fin.get seal.first inverse.client.0) inverse.before ≡ true = sym c.fits.ensures ∙ c.if-not-fits.false in
     let covered : covers seal.images.long (touched seal.images) i old.chunk ≡ true = ap (covers seal.images.long (touched seal.images) i) (sym c.blocks-2.ensures) ∙ sym c.covers.ensures.test ∙ c.if-not-covers.false in
     undo_does (Unit {0}) c.undo.result inverse old new (λ h. seen h seal)
-    (can old.count seal.count (fits (fin.get seal.first inverse.client.0) inverse.before && covers (length t.undone.bytes) t.touched i old.chunk) (λ (e : old.count ≡ seal.count). c.if-count-seal.false (c.count.ensures ∙ e))
+    (can old.count seal.count (fits (fin.get seal.first inverse.client.0) inverse.before && covers (length t.undone.bytes) t.touched i old.chunk) (not_same old.count seal.count (sym c.is_at.ensures ∙ c.if-is_at.false))
     (both (fits (fin.get seal.first inverse.client.0) inverse.before) (covers (length t.undone.bytes) t.touched i old.chunk) fit
     (ap (λ n. covers n t.touched i old.chunk) (long_undone seal.images old.chunk) ∙ covered)))
     c.undo.ensures
@@ -81,5 +81,5 @@ returns-clause-belongs c =
     does_keep (Unit {0}) c.undo.result (undos.undo c.args.inverse.now old) old new (λ h. Belongs h seal) c.undo.ensures c.requires.belongs
     (λ gives.
     let count = (undone_chunk c.args.inverse.now old new gives).1 in
-    let other : old.count ≢ seal.count = λ (e : old.count ≡ seal.count). c.if-count-seal.false (c.count.ensures ∙ e) in
+    let other : old.count ≢ seal.count = not_same old.count seal.count (sym c.is_at.ensures ∙ c.if-is_at.false) in
     record { first = (kept c gives).1; later = omega arith; has = (requests c gives).1 })

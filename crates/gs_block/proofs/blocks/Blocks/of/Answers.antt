@@ -1,12 +1,17 @@
-use Rattle.std.proofs.Common.{sym, ◌∙◌, length}
-use Rattle.gs_block.specs.declared.inverse.BlockInverse.{BlockInverse}
-use Rattle.gs_block.proofs.Whole.{makes_whole, refuses_whole, not_zero}
+use Rattle.std.proofs.Common.{◌≤◌, length, ap, ◌∙◌, arith}
+use Rattle.std.proofs.lemmas.List.FromFn.{length-map-range_with_len}
+use Rattle.gs_block.specs.Stored.{count_of, digest_at}
 use Rattle.gs_block.proofs.blocks.Blocks.of.Goals as goal
 
-pub returns-in-Err : goal.returns-in-Err
-returns-in-Err c = refuses_whole BlockInverse c.in-Err.refusal c.write.result c.args.block c.args.chunk c.args.bytes.now c.new-blocks.result c.write.new.self
-    (not_zero (length c.args.bytes.now) (sym c.is_empty.ensures ∙ c.if-is_empty.false)) c.new-blocks.ensures c.write.ensures.edit c.in-Err.is
-
-pub returns : goal.returns
-returns c = makes_whole BlockInverse c.in-Ok._inverse c.write.result c.args.block c.args.chunk c.args.bytes.now c.new-blocks.result c.write.new.self
-    (not_zero (length c.args.bytes.now) (sym c.is_empty.ensures ∙ c.if-is_empty.false)) c.new-blocks.ensures c.write.ensures.edit c.in-Ok.is
+pub invariant_of-result : goal.invariant_of-result
+invariant_of-result c =
+    let size = c.args.block in
+    let bytes = c.args.bytes.items in
+    let few = c.if-len-chunk.false in
+    record {
+      some_block = c.requires.some;
+      block_fits = c.requires.block_fits;
+      chunk_fits = c.requires.chunk_fits;
+      bytes_fit = (let l : length bytes ≤ c.args.chunk = omega arith in l);
+      each = ap length c.in_ok-digests.ensures ∙ length-map-range_with_len (digest_at size c.deref.result.now) 0 (count_of size (length c.deref.result.now)) ∙ ap (λ xs. count_of size (length xs)) c.deref.ensures.value;
+    }

@@ -1,5 +1,5 @@
-use Rattle.std.proofs.Common.{◌≡◌, ◌≤◌, ℕ, List, length, ap, sym, subst, ◌∙◌, arith}
-use Rattle.gs_block.specs.Stored.{Stored, IsStored, count_of}
+use Rattle.std.proofs.Common.{◌≡◌, ◌≤◌, length, ap, sym, subst, ◌∙◌, arith}
+use Rattle.gs_block.specs.Stored.{Stored, count_of}
 use Rattle.gs_block.specs.Images.{Images}
 use Rattle.gs_block.proofs.Following.{stays_stored}
 use Rattle.gs_block.proofs.Restoring.{long_bytes}

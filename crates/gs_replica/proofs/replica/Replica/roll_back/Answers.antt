@@ -6,7 +6,7 @@ use Rattle.gs_block.specs.Stored.{Stored, first_damaged}
 use Rattle.gs_block.specs.Images.{undone}
 use Rattle.gs_replica.specs.declared.seal.Seal.{Seal}
 use Rattle.gs_replica.specs.Held.{Held}
-use Rattle.gs_replica.specs.Seals.{State, damaged_before, roll_back, HandsBack}
+use Rattle.gs_replica.specs.Seals.{State, lowest_damaged, roll_back, HandsBack}
 use Rattle.gs_replica.specs.View.{seen, seen_in, state_of}
 use Rattle.gs_replica.proofs.Sealing.{state, rolls_back, hands_back}
 use Rattle.gs_replica.proofs.replica.Replica.roll_back.Goals as goal
@@ -16,7 +16,7 @@ returns-in-Some-damaged_before c =
     let live : Held = c.self.inside.live in
     let seal : Seal = c.in-Some.seal in
     let block = c.in-Some-damaged_before.block in
-    let found : damaged_before (undone seal.images live.chunk) ≡ Some block =
+    let found : lowest_damaged (undone seal.images live.chunk) ≡ Some block =
     ap (λ (s : Stored). first_damaged s.block (undone seal.images s).bytes seal.images.digests 0 (length seal.images.digests)) (sym c.blocks-in-Some.ensures) ∙ sym c.damaged_before.ensures ∙ c.in-Some-damaged_before.is in
     let answer : State → Result State (State × Refusal) = λ s. Err (s, refusals.Damaged block) in
     subst (λ (s : State). HandsBack (roll_back s) (answer (state_of live seal)) s) c.self.view_is
@@ -27,7 +27,7 @@ pub returns-in-None-damaged_before : goal.returns-in-None-damaged_before
 returns-in-None-damaged_before c =
     let live : Held = c.self.inside.live in
     let seal : Seal = c.in-Some.seal in
-    let none : damaged_before (undone seal.images live.chunk) ≡ None =
+    let none : lowest_damaged (undone seal.images live.chunk) ≡ None =
     ap (λ (s : Stored). first_damaged s.block (undone seal.images s).bytes seal.images.digests 0 (length seal.images.digests)) (sym c.blocks-in-Some.ensures) ∙ sym c.damaged_before.ensures ∙ c.in-None-damaged_before.is in
     let after = state c.restored.result None in
     subst (λ (s : State). HandsBack (roll_back s) (Ok after) s) c.self.view_is

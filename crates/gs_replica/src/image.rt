@@ -1,0 +1,107 @@
+ghost use Rattle.std.specs.Prelude.{◌≡◌};
+
+use crate::done::DoneTable;
+use gs_base::Stamp;
+use gs_block::Digest;
+use std::marker::Model;
+
+/// What a copy carries of a replica as it stands: its bytes, how many edits it has applied, and each client's last applied
+/// request.
+#[derive(Debug, Drop)]
+pub struct Image {
+    pub(crate) bytes: Vec<u8>,
+    pub(crate) count: u64,
+    pub(crate) done: DoneTable,
+}
+
+impl Model for Image {
+    ghost use Rattle.gs_replica.specs.Copies.{Image, coded_image};
+
+    ghost Value = { Image };
+
+    ghost coded = { coded_image };
+
+    ghost view = { λ i. record { bytes = i.bytes.items; count = i.count; done = i.done } };
+}
+
+impl Image {
+    /// An image of these bytes, this count and these requests.
+    pub fn new(bytes: Vec<u8>, count: u64, done: DoneTable) -> Image
+        ensures { result ≡ record { bytes = bytes.items; count = count; done = done } }
+    {
+        Image { bytes, count, done }
+    }
+
+    pub fn bytes(&self) -> &[u8]
+        ensures { result.now ≡ self.now.bytes }
+    {
+        &self.bytes
+    }
+
+    /// How many edits are applied.
+    pub fn count(&self) -> u64
+        ensures { result ≡ self.now.count }
+    {
+        self.count
+    }
+
+    /// Each client's last applied request.
+    pub fn done_table(&self) -> &DoneTable
+        ensures { result.now ≡ self.now.done }
+    {
+        &self.done
+    }
+}
+
+/// What a copy carries beside the image of a sealed replica: what undoing gives, the promise that stood when it was sealed,
+/// and the digests as sealed.
+#[derive(Debug, Drop)]
+pub struct SealedImage {
+    pub(crate) image: Image,
+    pub(crate) stamp: Stamp,
+    pub(crate) digests: Vec<Digest>,
+}
+
+impl Model for SealedImage {
+    ghost use Rattle.gs_replica.specs.Copies.{SealedImage, coded_sealed_image};
+
+    ghost Value = { SealedImage };
+
+    ghost coded = { coded_sealed_image };
+
+    ghost view = { λ i. record { image = i.image; stamp = i.stamp; digests = i.digests.items } };
+}
+
+impl SealedImage {
+    /// An image that was sealed under a promise, with its digests then.
+    pub fn new(image: Image, stamp: Stamp, digests: Vec<Digest>) -> SealedImage
+        ensures { result ≡ record { image = image; stamp = stamp; digests = digests.items } }
+    {
+        SealedImage {
+            image,
+            stamp,
+            digests,
+        }
+    }
+
+    /// What undoing gives.
+    pub fn image(&self) -> &Image
+        ensures { result.now ≡ self.now.image }
+    {
+        &self.image
+    }
+
+    /// The promise that stood when the replica was sealed.
+    pub fn stamp(&self) -> Stamp
+        ensures { result ≡ self.now.stamp }
+    {
+        self.stamp
+    }
+
+    /// The sealed digests, one for each block.
+    pub fn digests(&self) -> &[Digest]
+        ensures { result.now ≡ self.now.digests }
+    {
+        &self.digests
+    }
+}
