@@ -164,11 +164,21 @@ fn edits_a_chunk(rt: HostRuntime) -> Result<(), Fail> {
     Ok(())
 }
 
-/// Reads of a damaged block, and of others.
-fn read_beside(rt: &impl Abort, player: &Player) -> Result<(), Refusal> {
-    assert_eq!(rt; part(player, 4, 1)?.as_str(), "refused 27 Damaged 1");
-    assert_eq!(rt; part(player, 2, 2)?.as_str(), "6330");
+fn read(
+    rt: &impl Abort,
+    player: &Player,
+    offset: u64,
+    many: u64,
+    want: &str,
+) -> Result<(), Refusal> {
+    assert_eq!(rt; part(player, offset, many)?.as_str(), want);
     Ok(())
+}
+
+/// Reads of a damaged block, and beside it.
+fn read_both(rt: &impl Abort, player: &Player) -> Result<(), Refusal> {
+    read(rt, player, 4, 1, "refused 27 Damaged 1")?;
+    read(rt, player, 2, 2, "6330")
 }
 
 /// A damaged block is neither read nor written in part, and is whole again once its first byte has come round.
@@ -183,7 +193,7 @@ fn leaves_a_damaged_chunk(rt: HostRuntime) -> Result<(), Fail> {
     ];
     let mut player = new_player(rt.alloc());
     play_all(&rt, &mut player, &rows)?;
-    read_beside(&rt, &player)?;
+    read_both(&rt, &player)?;
     play_all(&rt, &mut player, &[(Call::Mend(1), "", full, 4)])?;
     Ok(())
 }
