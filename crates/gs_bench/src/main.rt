@@ -5,6 +5,7 @@ mod blocks;
 mod counting;
 mod journals;
 mod names;
+mod replica;
 mod script;
 
 use gs_base::Refusal;
@@ -38,6 +39,8 @@ enum Part {
     Read,
     /// All ten edits of names, each taken back, for runs in which growths are refused.
     Script,
+    /// Edits of a replica, sealed and rolled back, for such runs too.
+    Replica,
     /// Records added to a journal.
     Record,
     /// The same, and one opening of it.
@@ -58,14 +61,15 @@ impl Part {
             "append" => Some(Part::Append),
             "read" => Some(Part::Read),
             "script" => Some(Part::Script),
+            "replica" => Some(Part::Replica),
             "record" => Some(Part::Record),
             "open" => Some(Part::Open),
             _ => None,
         }
     }
 
-    /// Runs the part so often, and answers how many bytes were written to disks, where it has any, or how many calls of
-    /// the script lacked memory.
+    /// Runs the part so often, and answers how many bytes were written to disks, where it has any, or how many
+    /// calls lacked memory.
     fn run(self, alloc: Global, count: u64) -> Result<u64, Refusal> {
         match self {
             Part::Build => names::build(alloc, count).map(|_| 0),
@@ -79,6 +83,7 @@ impl Part {
             Part::Append => blocks::append(alloc, count).map(|()| 0),
             Part::Read => blocks::read(alloc, count).map(|()| 0),
             Part::Script => script::run(alloc),
+            Part::Replica => replica::run(alloc),
             Part::Record => journals::append(alloc, count),
             Part::Open => journals::open(alloc, count),
         }
@@ -111,10 +116,9 @@ fn main(rt: HostRuntime) -> ExitCode {
     match part.run(rt.alloc(), count) {
         Ok(0) => ExitCode::SUCCESS,
         Ok(written) => {
-            let what = if part == Part::Script {
-                "calls made again"
-            } else {
-                "bytes written"
+            let what = match part {
+                Part::Script | Part::Replica => "calls made again",
+                _ => "bytes written",
             };
             let _ = eprintln!(rt; "{written} {what}");
             ExitCode::SUCCESS

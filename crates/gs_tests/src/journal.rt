@@ -1,5 +1,5 @@
 use gs_base::Refusal;
-use gs_journal::{FailingDisk, Journal, MemoryDisk, Record, StoppingDisk, TearingDisk};
+use gs_journal::{Disk, FailingDisk, Journal, MemoryDisk, Record, StoppingDisk, TearingDisk};
 use std::alloc::Global;
 use std::test::Fail;
 
@@ -21,33 +21,70 @@ const EMPTY: [u8; 61] = [
     0, 0, 0, 0, 0, 0, 0, 0, 0, 0, 0, 0, 0, 0, 0, 0, 0, 0, 0, 0, 0, 0, 0, 0, 0, 0, 0, 0, 0,
 ];
 
+// A header of generation 1, the mkdirs, and a closed gate.
+const APPENDED: [u8; 37] = [
+    1, b'G', b'S', b'J', b'2', 0, 0, 0, 0, 0, 0, 0, 1, //
+    1, 0, 0, 0, 17, 1, //
+    0, 0, 0, 1, 0, 0, 0, 0, 0, 0, 0, 1, 1, 0, 2, b'/', b'a', //
+    0, //
+];
+
+// A header of generation 2, the checkpoint of a new store, and a closed gate.
+const CHECKPOINTED: [u8; 81] = [
+    1, b'G', b'S', b'J', b'2', 0, 0, 0, 0, 0, 0, 0, 2, //
+    1, 0, 0, 0, 61, 9, //
+    0, 0, 0, 0, 0, 0, 0, 1, 0, 0, 0, 0, 0, 0, 0, 1, 0, 0, 0, 0, 0, 0, 0, 1, //
+    0, 0, 0, 0, 0, 0, 0, 0, 0, 0, 0, 0, 0, 0, 0, 0, 0, 0, 0, 0, 0, 0, 0, 0, //
+    0, 0, 0, 0, 0, 0, 0, 0, 0, 0, 0, 0, 0, //
+    0, //
+];
+
+// The disks after a record was added to a journal and a checkpoint was made, whether each was, and the room behind each.
+#[derive(Drop)]
+struct Edited<D> {
+    added: bool,
+    made: bool,
+    rooms: (u32, u32),
+    first: D,
+    second: D,
+}
+
+fn edit<D: Disk + Drop>(alloc: Global, first: D, second: D) -> Result<Edited<D>, Refusal> {
+    let entry = Record::new(alloc, 1, &MKDIRS)?;
+    match Journal::open(alloc, first, second, 1_000) {
+        Err(unopened) => Ok(Edited {
+            added: false,
+            made: false,
+            rooms: (0, 0),
+            first: unopened.first,
+            second: unopened.second,
+        }),
+        Ok(mut journal) => {
+            let added = journal.append(&entry).is_ok();
+            let room = journal.room();
+            let made = journal.checkpoint(alloc, &EMPTY).is_ok();
+            let rooms = (room, journal.room());
+            let (first, second) = journal.into_disks();
+            Ok(Edited {
+                added,
+                made,
+                rooms,
+                first,
+                second,
+            })
+        }
+    }
+}
+
 #[test]
 fn records_are_written_as_laid_down(rt: HostRuntime) -> Result<(), Fail> {
     let alloc = rt.alloc();
     let first = MemoryDisk::new(Vec::new(alloc));
     let second = MemoryDisk::new(Vec::new(alloc));
-    let Ok(mut journal) = Journal::open(alloc, first, second, 1_000) else {
-        assert!(rt; false);
-        return Ok(());
-    };
-    let entry = Record::new(alloc, 1, &MKDIRS)?;
-    journal.append(&entry)?;
-    assert_eq!(rt; journal.room(), 1_000 - 13 - 23 - 1);
-    journal.checkpoint(alloc, &EMPTY)?;
-    assert_eq!(rt; journal.room(), 1_000 - 13 - 67 - 1);
-    let (first, second) = journal.into_disks();
-    let mut want = Vec::new(alloc);
-    want.extend_from_slice(&[1, b'G', b'S', b'J', b'2', 0, 0, 0, 0, 0, 0, 0, 1])?;
-    want.extend_from_slice(&[1, 0, 0, 0, 17, 1])?;
-    want.extend_from_slice(&MKDIRS)?;
-    want.push(0)?;
-    assert_eq!(rt; first.bytes(), want.as_slice());
-    let mut want = Vec::new(alloc);
-    want.extend_from_slice(&[1, b'G', b'S', b'J', b'2', 0, 0, 0, 0, 0, 0, 0, 2])?;
-    want.extend_from_slice(&[1, 0, 0, 0, 61, 9])?;
-    want.extend_from_slice(&EMPTY)?;
-    want.push(0)?;
-    assert_eq!(rt; second.bytes(), want.as_slice());
+    let edited = edit(alloc, first, second)?;
+    assert_eq!(rt; edited.rooms, (1_000 - 13 - 23 - 1, 1_000 - 13 - 67 - 1));
+    assert_eq!(rt; edited.first.bytes(), APPENDED.as_slice());
+    assert_eq!(rt; edited.second.bytes(), CHECKPOINTED.as_slice());
     Ok(())
 }
 
@@ -79,56 +116,56 @@ fn whole_records_are_read_at_every_length(rt: HostRuntime) -> Result<(), Fail> {
     Ok(())
 }
 
+// How many records there are after an append and a checkpoint of three records, where the disks stop after so many calls
+// each, with whether the append and the checkpoint were made.
+fn stopped(alloc: Global, on_first: u64, on_second: u64) -> Result<(usize, bool, bool), Refusal> {
+    let first = StoppingDisk::new(MemoryDisk::new(THREE.to_vec(alloc)?), on_first);
+    let second = StoppingDisk::new(MemoryDisk::new(Vec::new(alloc)), on_second);
+    let Edited {
+        added,
+        made,
+        first,
+        second,
+        ..
+    } = edit(alloc, first, second)?;
+    let found = count(alloc, first.into_disk(), second.into_disk())?;
+    Ok((found, added, made))
+}
+
 #[test]
 fn a_stop_leaves_the_old_records_or_the_new(rt: HostRuntime) -> Result<(), Fail> {
     let alloc = rt.alloc();
-    let entry = Record::new(alloc, 1, &MKDIRS)?;
     for calls in 0..40 {
         let on_first = if calls < 20 { calls } else { 100 };
         let on_second = if calls < 20 { 100 } else { calls - 20 };
-        let first = StoppingDisk::new(MemoryDisk::new(THREE.to_vec(alloc)?), on_first);
-        let second = StoppingDisk::new(MemoryDisk::new(Vec::new(alloc)), on_second);
-        let mut added = false;
-        let mut made = false;
-        let (first, second) = match Journal::open(alloc, first, second, 1_000) {
-            Err(unopened) => (unopened.first, unopened.second),
-            Ok(mut journal) => {
-                added = journal.append(&entry).is_ok();
-                made = journal.checkpoint(alloc, &EMPTY).is_ok();
-                journal.into_disks()
-            }
-        };
-        let found = count(alloc, first.into_disk(), second.into_disk())?;
+        let (found, added, made) = stopped(alloc, on_first, on_second)?;
         assert!(rt; found == 1 || (!made && (found == 4 || (!added && found == 3))));
     }
     Ok(())
 }
 
-// How many records there are after an append and a checkpoint of three records, where a write of a disk leaves bytes of its
-// own, and how many there may be.
+// The same where a write of a disk leaves bytes of its own, with how many records there may be.
 fn torn(
     alloc: Global,
     on_first: u64,
     on_second: u64,
     torn: [u8; 40],
 ) -> Result<(usize, usize), Refusal> {
-    let entry = Record::new(alloc, 1, &MKDIRS)?;
     let three = MemoryDisk::new(THREE.to_vec(alloc)?);
     let first = TearingDisk::new(three, on_first, torn.to_vec(alloc)?);
     let none = MemoryDisk::new(Vec::new(alloc));
     let second = TearingDisk::new(none, on_second, torn.to_vec(alloc)?);
-    let Ok(mut journal) = Journal::open(alloc, first, second, 1_000) else {
-        return Ok((3, 3));
-    };
-    let added = journal.append(&entry).is_ok();
-    let made = journal.checkpoint(alloc, &EMPTY).is_ok();
-    let (first, second) = journal.into_disks();
-    let least = if made {
-        1
-    } else if added {
-        4
-    } else {
-        3
+    let Edited {
+        added,
+        made,
+        first,
+        second,
+        ..
+    } = edit(alloc, first, second)?;
+    let least = match (made, added) {
+        (true, _) => 1,
+        (false, true) => 4,
+        (false, false) => 3,
     };
     Ok((count(alloc, first.into_disk(), second.into_disk())?, least))
 }

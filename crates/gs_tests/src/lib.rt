@@ -28,6 +28,8 @@ mod replicas;
 #[cfg(test)]
 mod shell;
 #[cfg(test)]
+mod texts;
+#[cfg(test)]
 mod trees;
 #[cfg(test)]
 mod views;

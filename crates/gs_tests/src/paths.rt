@@ -1,26 +1,74 @@
 use gs_base::{Moment, Refusal};
 use gs_path::{Name, Path};
 use std::alloc::Global;
+use std::process::Abort;
 use std::test::Fail;
+
+fn text(alloc: Global, path: &Path) -> Result<String, Refusal> {
+    Ok(path.text(alloc)?)
+}
+
+fn name_of(alloc: Global, path: &Path) -> Result<Name, Refusal> {
+    let name = path.name().ok_or(Refusal::IsRoot)?;
+    Ok(name.copy(alloc)?)
+}
+
+fn parent_of(alloc: Global, path: &Path) -> Result<Path, Refusal> {
+    path.parent(alloc)?.ok_or(Refusal::IsRoot)
+}
+
+fn joined(alloc: Global, parent: &Path, path: &Path) -> Result<Path, Refusal> {
+    let name = name_of(alloc, path)?;
+    Ok(parent.join(alloc, &name)?)
+}
+
+/// A path with its own name below it.
+fn pushed(alloc: Global, text: &str) -> Result<Path, Refusal> {
+    let mut path = Path::parse(alloc, text)?;
+    let name = name_of(alloc, &path)?;
+    path.push(name)?;
+    Ok(path)
+}
 
 #[test]
 fn reads_and_writes_paths(rt: HostRuntime) -> Result<(), Fail> {
-    let alloc = rt.alloc();
-    let mut path = Path::parse(alloc, "/a/é b")?;
+    let path = Path::parse(rt.alloc(), "/a/é b")?;
     assert_eq!(rt; path.elements().len(), 2);
-    let name = path.name().ok_or("a name")?.copy(alloc)?;
+    let name = name_of(rt.alloc(), &path)?;
     assert_eq!(rt; name.as_str(), "é b");
     assert_eq!(rt; name.bytes().len(), 4);
-    let parent = path.parent(alloc)?.ok_or("a parent")?;
-    assert_eq!(rt; parent.text(alloc)?.as_str(), "/a");
-    let joined = parent.join(alloc, &name)?;
-    assert!(rt; joined == path && joined > parent);
-    assert!(rt; path.starts_with(&parent) && !parent.starts_with(&path));
-    let root = Path::root(alloc);
-    assert!(rt; root.is_root() && !path.is_root());
-    assert_eq!(rt; root.text(alloc)?.as_str(), "/");
-    path.push(name)?;
-    assert_eq!(rt; path.copy(alloc)?.text(alloc)?.as_str(), "/a/é b/é b");
+    Ok(())
+}
+
+fn stands_below(rt: &impl Abort, alloc: Global, path: &Path, parent: &Path) -> Result<(), Refusal> {
+    assert_eq!(rt; text(alloc, parent)?.as_str(), "/a");
+    assert!(rt; path.starts_with(parent) && !parent.starts_with(path));
+    let joined = joined(alloc, parent, path)?;
+    assert!(rt; joined == *path && joined > *parent);
+    Ok(())
+}
+
+#[test]
+fn stands_below_its_parent(rt: HostRuntime) -> Result<(), Fail> {
+    let path = Path::parse(rt.alloc(), "/a/é b")?;
+    let parent = parent_of(rt.alloc(), &path)?;
+    stands_below(&rt, rt.alloc(), &path, &parent)?;
+    Ok(())
+}
+
+#[test]
+fn knows_the_root(rt: HostRuntime) -> Result<(), Fail> {
+    let root = Path::root(rt.alloc());
+    assert_eq!(rt; text(rt.alloc(), &root)?.as_str(), "/");
+    assert!(rt; root.is_root());
+    Ok(())
+}
+
+#[test]
+fn grows_by_a_name(rt: HostRuntime) -> Result<(), Fail> {
+    let path = pushed(rt.alloc(), "/a/é b")?.copy(rt.alloc())?;
+    assert!(rt; !path.is_root());
+    assert_eq!(rt; text(rt.alloc(), &path)?.as_str(), "/a/é b/é b");
     Ok(())
 }
 

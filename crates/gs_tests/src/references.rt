@@ -1,5 +1,7 @@
 use gs_base::{Handle, Refusal};
 use gs_refs::Refs;
+use std::alloc::Global;
+use std::process::Abort;
 use std::test::Fail;
 
 /// The number of a refusal, or 0.
@@ -10,12 +12,22 @@ fn number(answer: Result<(), Refusal>) -> u8 {
     }
 }
 
-#[test]
-fn counts_references(rt: HostRuntime) -> Result<(), Fail> {
-    let alloc = rt.alloc();
-    let first = Handle::first();
-    let second = first.next()?;
-    let mut refs = Refs::new(alloc);
+/// One chunk that is listed once, as an orphan, and put back.
+fn orphan(rt: &impl Abort, alloc: Global, refs: &mut Refs, chunk: Handle) -> Result<(), Refusal> {
+    assert_eq!(rt; number(refs.lower(chunk)), 34);
+    assert_eq!(rt; refs.orphans(alloc)?.as_slice(), [chunk].as_slice());
+    assert_eq!(rt; number(refs.put_back(chunk)), 34);
+    refs.take_out(chunk)?;
+    assert_eq!(rt; refs.count(chunk), None);
+    refs.put_back(chunk)
+}
+
+fn raise_and_lower(
+    rt: &impl Abort,
+    refs: &mut Refs,
+    first: Handle,
+    second: Handle,
+) -> Result<(), Refusal> {
     assert_eq!(rt; number(refs.lower(first)), 34);
     assert_eq!(rt; refs.count(first), None);
     refs.raise(second)?;
@@ -24,16 +36,32 @@ fn counts_references(rt: HostRuntime) -> Result<(), Fail> {
     refs.lower(first)?;
     assert_eq!(rt; refs.count(first), Some(1));
     assert_eq!(rt; number(refs.take_out(first)), 34);
-    refs.lower(first)?;
-    assert_eq!(rt; number(refs.lower(first)), 34);
-    assert_eq!(rt; refs.orphans(alloc)?.as_slice(), [first].as_slice());
-    assert_eq!(rt; number(refs.put_back(first)), 34);
-    refs.take_out(first)?;
-    assert_eq!(rt; refs.count(first), None);
-    refs.put_back(first)?;
-    let entries = refs.copy(alloc)?.entries(alloc)?;
+    refs.lower(first)
+}
+
+fn entries(alloc: Global, refs: &Refs) -> Result<Vec<(Handle, u32)>, Refusal> {
+    let copy = refs.copy(alloc)?;
+    Ok(copy.entries(alloc)?)
+}
+
+#[test]
+fn counts_references(rt: HostRuntime) -> Result<(), Fail> {
+    let first = Handle::first();
+    let second = first.next()?;
+    let mut refs = Refs::new(rt.alloc());
+    raise_and_lower(&rt, &mut refs, first, second)?;
+    orphan(&rt, rt.alloc(), &mut refs, first)?;
+    let entries = entries(rt.alloc(), &refs)?;
     assert_eq!(rt; entries.as_slice(), [(first, 0), (second, 1)].as_slice());
     Ok(())
+}
+
+/// The number of the refusal of these entries, or 0.
+fn refused(alloc: Global, entries: &[(Handle, u32)]) -> u8 {
+    match Refs::of(alloc, entries) {
+        Ok(_) => 0,
+        Err(refusal) => refusal.number(),
+    }
 }
 
 #[test]
@@ -44,17 +72,18 @@ fn reads_entries_that_rise(rt: HostRuntime) -> Result<(), Fail> {
     let mut refs = Refs::of(alloc, &[(first, 0), (second, u32::MAX)])?;
     assert_eq!(rt; number(refs.raise(second)), 31);
     assert_eq!(rt; refs.count(second), Some(u32::MAX));
-    assert!(rt; Refs::of(alloc, &[(second, 1), (first, 1)]).is_err());
-    assert!(rt; Refs::of(alloc, &[(first, 1), (first, 1)]).is_err());
+    assert_eq!(rt; refused(alloc, &[(second, 1), (first, 1)]), 34);
+    assert_eq!(rt; refused(alloc, &[(first, 1), (first, 1)]), 34);
     Ok(())
 }
 
-#[test]
-fn counts_the_chunks_of_a_list(rt: HostRuntime) -> Result<(), Fail> {
-    let alloc = rt.alloc();
-    let first = Handle::first();
-    let second = first.next()?;
-    let mut refs = Refs::of(alloc, &[(first, 0), (second, u32::MAX - 1)])?;
+/// The chunks of lists, counted and counted back. A list that is refused changes nothing.
+fn raise_and_lower_each(
+    rt: &impl Abort,
+    refs: &mut Refs,
+    first: Handle,
+    second: Handle,
+) -> Result<(), Refusal> {
     refs.raise_each(&[first, second, first])?;
     assert_eq!(rt; refs.count(first), Some(2));
     assert_eq!(rt; refs.count(second), Some(u32::MAX));
@@ -62,7 +91,15 @@ fn counts_the_chunks_of_a_list(rt: HostRuntime) -> Result<(), Fail> {
     assert_eq!(rt; number(refs.raise_each(&[first, second.next()?])), 34);
     assert_eq!(rt; number(refs.lower_each(&[second, first, first, first])), 34);
     assert_eq!(rt; refs.count(first), Some(2));
-    refs.lower_each(&[first, first, second])?;
+    refs.lower_each(&[first, first, second])
+}
+
+#[test]
+fn counts_the_chunks_of_a_list(rt: HostRuntime) -> Result<(), Fail> {
+    let first = Handle::first();
+    let second = first.next()?;
+    let mut refs = Refs::of(rt.alloc(), &[(first, 0), (second, u32::MAX - 1)])?;
+    raise_and_lower_each(&rt, &mut refs, first, second)?;
     assert_eq!(rt; refs.count(first), Some(0));
     assert_eq!(rt; refs.count(second), Some(u32::MAX - 1));
     Ok(())
@@ -74,8 +111,9 @@ fn counts_what_a_list_has(rt: HostRuntime) -> Result<(), Fail> {
     let first = Handle::first();
     let second = first.next()?;
     let refs = Refs::of(alloc, &[(first, 2), (second, 0)])?;
-    assert!(rt; refs.counts(alloc, &[first, first])?);
-    assert!(rt; !refs.counts(alloc, &[first])?);
-    assert!(rt; !refs.counts(alloc, &[first, first, second])?);
+    let has_two = refs.counts(alloc, &[first, first])?;
+    let has_one = refs.counts(alloc, &[first])?;
+    let has_three = refs.counts(alloc, &[first, first, second])?;
+    assert_eq!(rt; (has_one, has_two, has_three), (false, true, false));
     Ok(())
 }
