@@ -27,23 +27,58 @@ pub(crate) fn digest(alloc: Global, count: u64) -> Result<(), Refusal> {
     Ok(())
 }
 
+fn write_piece(chunk: &mut Blocks, offset: u64, piece: &[u8]) -> Result<(), Refusal> {
+    let _inverse = chunk.write(offset, piece)?;
+    Ok(())
+}
+
+fn append_piece(chunk: &mut Blocks, piece: &[u8]) -> Result<(), Refusal> {
+    let _inverse = chunk.append(piece)?;
+    Ok(())
+}
+
+fn read_block(chunk: &Blocks, offset: u64) -> Result<(), Refusal> {
+    let _block = chunk.read(offset, BLOCK)?;
+    Ok(())
+}
+
+fn fill(chunk: &mut Blocks, piece: &[u8]) -> Result<(), Refusal> {
+    for _ in 0..16 {
+        append_piece(chunk, piece)?;
+    }
+    Ok(())
+}
+
 /// A full chunk.
 fn full(alloc: Global, piece: &[u8]) -> Result<Blocks, Refusal> {
     let mut chunk = Blocks::new(alloc, BLOCK, CHUNK);
-    for _ in 0..16 {
-        chunk.append(piece)?;
-    }
+    fill(&mut chunk, piece)?;
     Ok(chunk)
+}
+
+fn write_each(chunk: &mut Blocks, piece: &[u8], count: u64) -> Result<(), Refusal> {
+    for i in 0..count {
+        write_piece(chunk, i % 16 * BLOCK, piece)?;
+    }
+    Ok(())
 }
 
 /// Whole blocks, each written over one that stands there.
 pub(crate) fn write(alloc: Global, count: u64) -> Result<(), Refusal> {
     let piece = piece(alloc)?;
     let mut chunk = full(alloc, &piece)?;
-    for i in 0..count {
-        chunk.write(i % 16 * BLOCK, &piece)?;
+    write_each(&mut chunk, &piece, count)
+}
+
+/// Appends to a chunk, or to a new one where it is full.
+fn append_or_renew(alloc: Global, chunk: &mut Blocks, piece: &[u8]) -> Result<(), Refusal> {
+    match append_piece(chunk, piece) {
+        Err(Refusal::Range) => {
+            *chunk = Blocks::new(alloc, BLOCK, CHUNK);
+            Ok(())
+        }
+        answer => answer,
     }
-    Ok(())
 }
 
 /// Appends of 100 bytes, to a new chunk where one is full.
@@ -51,11 +86,14 @@ pub(crate) fn append(alloc: Global, count: u64) -> Result<(), Refusal> {
     let piece = [7; 100];
     let mut chunk = Blocks::new(alloc, BLOCK, CHUNK);
     for _ in 0..count {
-        match chunk.append(&piece) {
-            Ok(_) => {}
-            Err(Refusal::Range) => chunk = Blocks::new(alloc, BLOCK, CHUNK),
-            Err(refusal) => return Err(refusal),
-        }
+        append_or_renew(alloc, &mut chunk, &piece)?;
+    }
+    Ok(())
+}
+
+fn read_each(chunk: &Blocks, count: u64) -> Result<(), Refusal> {
+    for i in 0..count {
+        read_block(chunk, i % 16 * BLOCK)?;
     }
     Ok(())
 }
@@ -64,8 +102,5 @@ pub(crate) fn append(alloc: Global, count: u64) -> Result<(), Refusal> {
 pub(crate) fn read(alloc: Global, count: u64) -> Result<(), Refusal> {
     let piece = piece(alloc)?;
     let chunk = full(alloc, &piece)?;
-    for i in 0..count {
-        chunk.read(i % 16 * BLOCK, BLOCK)?;
-    }
-    Ok(())
+    read_each(&chunk, count)
 }

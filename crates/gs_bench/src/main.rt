@@ -15,7 +15,7 @@ use std::rt::Env;
 use std::{env, io};
 
 /// What is run.
-#[derive(Clone, Copy, Debug, PartialEq, Eq)]
+#[derive(Clone, Copy)]
 enum Part {
     /// Names with so many files in one directory.
     Build,
