@@ -32,6 +32,12 @@ enum Step {
     Unseal,
     Damage(u64),
     RollBack,
+    /// Goes on with a copy under a promise.
+    Copy(u64),
+    /// Goes on with what is made of the image, under a promise.
+    Carry(u64),
+    /// Goes on with what is made of the sealed image.
+    CarrySealed,
 }
 
 /// An edit by client 1 under the first stamp, whose number is also its request's.
@@ -131,6 +137,23 @@ fn roll_back(player: &mut Player) -> Result<(), Refusal> {
     }
 }
 
+fn copy(player: &mut Player, version: u64) -> Result<(), Refusal> {
+    player.replica = player.replica.copy(stamp(version))?;
+    Ok(())
+}
+
+fn carry(player: &mut Player, version: u64) -> Result<(), Refusal> {
+    let image = player.replica.image()?;
+    player.replica = Replica::of(player.alloc, 4, 16, stamp(version), image)?;
+    Ok(())
+}
+
+fn carry_sealed(player: &mut Player) -> Result<(), Refusal> {
+    let image = player.replica.sealed_image()?;
+    player.replica = Replica::of_sealed(player.alloc, 4, 16, image)?;
+    Ok(())
+}
+
 fn make(player: &mut Player, step: &Step) -> Result<(), Refusal> {
     match step {
         Step::Apply(edit) => apply(player, edit),
@@ -143,6 +166,9 @@ fn make(player: &mut Player, step: &Step) -> Result<(), Refusal> {
         }
         Step::Damage(block) => damage(player, *block),
         Step::RollBack => roll_back(player),
+        Step::Copy(version) => copy(player, *version),
+        Step::Carry(version) => carry(player, *version),
+        Step::CarrySealed => carry_sealed(player),
     }
 }
 
@@ -325,6 +351,54 @@ fn puts_requests_back(rt: HostRuntime) -> Result<(), Fail> {
     let rows = [
         (other, "", full, [5, 6, 1, 4, 7]),
         (Step::RollBack, "", ABCDEF, [1, 0, 0, 1, 0]),
+    ];
+    play_sealed(&rt, &mut new_player(rt.alloc()), &edits(), &rows)?;
+    Ok(())
+}
+
+/// What is made of an image stands as its source did, and what is made of a sealed image as it was sealed.
+#[test]
+fn copies_carry_images(rt: HostRuntime) -> Result<(), Fail> {
+    let four = [4, 0, 0, 4, 0];
+    let stood = [
+        (Step::Carry(2), "", FULL, four),
+        (append(1, 5, 5, b"g"), "refused 22 Stamp 0.2", FULL, four),
+        (Step::CarrySealed, "refused 34 BadLine", FULL, four),
+        (Step::Copy(3), "", FULL, four),
+        (append(2, 5, 5, b"g"), "refused 22 Stamp 0.3", FULL, four),
+    ];
+    play_sealed(&rt, &mut new_player(rt.alloc()), &edits(), &stood)?;
+    let was_sealed = [
+        (Step::CarrySealed, "", ABCDEF, [1, 0, 1, 1, 0]),
+        (
+            own(2, Op::Write(5), b"y"),
+            "",
+            "616263646579",
+            [2, 2, 1, 2, 0],
+        ),
+        (Step::RollBack, "", ABCDEF, [1, 0, 0, 1, 0]),
+    ];
+    play_sealed(&rt, &mut new_player(rt.alloc()), &edits(), &was_sealed)?;
+    Ok(())
+}
+
+/// A damaged block that is not sealed hinders the image, and not the sealed one.
+#[test]
+fn carries_what_is_not_damaged(rt: HostRuntime) -> Result<(), Fail> {
+    let damaged = "refused 27 Damaged 3";
+    let numbers = [4, 6, 1, 4, 0];
+    let rows = [
+        (Step::Damage(3), "", damaged, numbers),
+        (Step::Copy(2), damaged, damaged, numbers),
+        (Step::Carry(2), damaged, damaged, numbers),
+        (Step::CarrySealed, "", ABCDEF, [1, 0, 1, 1, 0]),
+        (Step::Damage(0), "", "refused 27 Damaged 0", [1, 0, 1, 1, 0]),
+        (
+            Step::CarrySealed,
+            "refused 27 Damaged 0",
+            "refused 27 Damaged 0",
+            [1, 0, 1, 1, 0],
+        ),
     ];
     play_sealed(&rt, &mut new_player(rt.alloc()), &edits(), &rows)?;
     Ok(())
