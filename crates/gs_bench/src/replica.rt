@@ -12,15 +12,20 @@ enum Step {
     Seal,
     /// Copies the replica, and compares the copy.
     Copy,
+    /// Makes a replica of its image, and compares it.
+    Carry,
+    /// Makes a replica of its sealed image, and compares what that rolls back to.
+    CarrySealed,
 }
 
 /// Edits by two clients, a seal between them, and edits of both sealed blocks behind it.
-const STEPS: [Step; 13] = [
+const STEPS: [Step; 16] = [
     Step::Promise(2),
     Step::Apply(1, 1, Op::Append, b"abc"),
     Step::Apply(2, 1, Op::Append, b"def"),
     Step::Apply(1, 2, Op::Write(1), b"xy"),
     Step::Copy,
+    Step::Carry,
     Step::Seal,
     Step::Promise(3),
     Step::Apply(1, 3, Op::Write(0), b"zzzzz"),
@@ -29,13 +34,17 @@ const STEPS: [Step; 13] = [
     Step::Apply(1, 4, Op::Append, b"0123"),
     Step::Apply(2, 2, Op::Pad, b""),
     Step::Copy,
+    Step::Carry,
+    Step::CarrySealed,
 ];
 
-/// A replica of 16 bytes in blocks of 4, with what takes its last edit back.
+/// A replica of 16 bytes in blocks of 4, with what takes its last edit back, and what it held as it was sealed.
 #[derive(Drop)]
 struct Player {
+    alloc: Global,
     replica: Replica,
     last: Option<ReplicaInverse>,
+    sealed: u64,
 }
 
 fn stamp(version: u64) -> Stamp {
@@ -71,12 +80,24 @@ fn promise(player: &mut Player, version: u64) -> Result<(), Refusal> {
 }
 
 fn seal(player: &mut Player) -> Result<(), Refusal> {
-    Ok(player.replica.seal()?)
+    player.replica.seal()?;
+    player.sealed = held(&player.replica)?;
+    Ok(())
 }
 
 fn copy(replica: &Replica) -> Result<(), Refusal> {
     let copy = replica.copy(stamp(4))?;
     same(held(replica)?, held(&copy)?)
+}
+
+fn carry(alloc: Global, replica: &Replica) -> Result<(), Refusal> {
+    let made = Replica::of(alloc, 4, 16, stamp(4), replica.image()?)?;
+    same(held(replica)?, held(&made)?)
+}
+
+fn carry_sealed(alloc: Global, replica: &Replica, sealed: u64) -> Result<(), Refusal> {
+    let made = Replica::of_sealed(alloc, 4, 16, replica.sealed_image()?)?;
+    same(sealed, rolled_back(made)?)
 }
 
 fn make(player: &mut Player, step: &Step) -> Result<(), Refusal> {
@@ -86,6 +107,8 @@ fn make(player: &mut Player, step: &Step) -> Result<(), Refusal> {
         Step::Promise(version) => promise(player, *version),
         Step::Seal => seal(player),
         Step::Copy => copy(&player.replica),
+        Step::Carry => carry(player.alloc, &player.replica),
+        Step::CarrySealed => carry_sealed(player.alloc, &player.replica, player.sealed),
     }
 }
 
@@ -162,17 +185,13 @@ fn play(player: &mut Player, step: &Step) -> Result<u64, Refusal> {
     }
 }
 
-/// Plays the steps. Answers how many were made again, and what was held as the replica was sealed.
-fn play_all(player: &mut Player) -> Result<(u64, u64), Refusal> {
+/// Plays the steps. Answers how many were made again.
+fn play_all(player: &mut Player) -> Result<u64, Refusal> {
     let mut again: u64 = 0;
-    let mut sealed = 0;
     for step in &STEPS {
-        if matches!(step, Step::Seal) {
-            sealed = held(&player.replica)?;
-        }
         again = again.wrapping_add(play(player, step)?);
     }
-    Ok((again, sealed))
+    Ok(again)
 }
 
 /// What a replica holds that is rolled back.
@@ -184,14 +203,16 @@ fn rolled_back(replica: Replica) -> Result<u64, Refusal> {
 }
 
 /// Edits a replica, seals it, edits it further and rolls it back. Answers how many calls lacked memory and were made again.
-/// BadLine where one of these changed something, where a copy isn't like what was copied, or where rolling back doesn't give
-/// what was sealed.
+/// BadLine where one of these changed something, where a copy or what is made of an image isn't like its source, or where
+/// rolling back doesn't give what was sealed.
 pub(crate) fn run(alloc: Global) -> Result<u64, Refusal> {
     let mut player = Player {
+        alloc,
         replica: Replica::new(alloc, 4, 16, stamp(1)),
         last: None,
+        sealed: 0,
     };
-    let (again, sealed) = play_all(&mut player)?;
-    same(sealed, rolled_back(player.replica)?)?;
+    let again = play_all(&mut player)?;
+    same(player.sealed, rolled_back(player.replica)?)?;
     Ok(again)
 }
