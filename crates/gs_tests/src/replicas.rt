@@ -262,6 +262,16 @@ fn play_sealed(
     play_all(rt, player, rest)
 }
 
+/// The same on a replica of its own.
+fn tell(rt: &impl Abort, alloc: Global, rows: &[Row], rest: &[Row]) -> Result<(), Refusal> {
+    play_sealed(rt, &mut new_player(alloc), rows, rest)
+}
+
+/// Plays rows on a new replica.
+fn play_new(rt: &impl Abort, alloc: Global, rows: &[Row]) -> Result<(), Refusal> {
+    play_all(rt, &mut new_player(alloc), rows)
+}
+
 #[test]
 fn takes_numbered_edits(rt: HostRuntime) -> Result<(), Fail> {
     let damaged = "refused 27 Damaged 1";
@@ -279,7 +289,7 @@ fn takes_numbered_edits(rt: HostRuntime) -> Result<(), Fail> {
         (Step::Damage(1), "", damaged, two),
         (append(2, 3, 3, b"g"), damaged, damaged, two),
     ];
-    play_all(&rt, &mut new_player(rt.alloc()), &rows)?;
+    play_new(&rt, rt.alloc(), &rows)?;
     Ok(())
 }
 
@@ -288,8 +298,7 @@ fn takes_numbered_edits(rt: HostRuntime) -> Result<(), Fail> {
 #[test]
 fn rolls_back_to_the_seal(rt: HostRuntime) -> Result<(), Fail> {
     for count in 0..=3 {
-        let mut player = new_player(rt.alloc());
-        play_sealed(&rt, &mut player, &edits()[..count], &BACK)?;
+        tell(&rt, rt.alloc(), &edits()[..count], &BACK)?;
     }
     Ok(())
 }
@@ -299,7 +308,7 @@ fn rolls_back_to_the_seal(rt: HostRuntime) -> Result<(), Fail> {
 fn keeps_the_images_that_are_needed(rt: HostRuntime) -> Result<(), Fail> {
     let write = own(2, Op::Write(5), b"y");
     let rows = [(write, "", "616263646579", [2, 2, 1, 2, 0])];
-    play_sealed(&rt, &mut new_player(rt.alloc()), &rows, &BACK)?;
+    tell(&rt, rt.alloc(), &rows, &BACK)?;
     Ok(())
 }
 
@@ -319,7 +328,7 @@ fn hands_a_damaged_replica_back(rt: HostRuntime) -> Result<(), Fail> {
         (Step::RollBack, first, first, undone),
         (Step::Unseal, "", first, [1, 0, 0, 1, 0]),
     ];
-    play_sealed(&rt, &mut new_player(rt.alloc()), &rows, &[])?;
+    tell(&rt, rt.alloc(), &rows, &[])?;
     Ok(())
 }
 
@@ -332,7 +341,7 @@ fn rolls_back_over_damage(rt: HostRuntime) -> Result<(), Fail> {
         (write, "", "61626364657a", [2, 2, 1, 2, 0]),
         (Step::Damage(1), "", damaged, [2, 2, 1, 2, 0]),
     ];
-    play_sealed(&rt, &mut new_player(rt.alloc()), &rows, &BACK)?;
+    tell(&rt, rt.alloc(), &rows, &BACK)?;
     Ok(())
 }
 
@@ -352,7 +361,7 @@ fn puts_requests_back(rt: HostRuntime) -> Result<(), Fail> {
         (other, "", full, [5, 6, 1, 4, 7]),
         (Step::RollBack, "", ABCDEF, [1, 0, 0, 1, 0]),
     ];
-    play_sealed(&rt, &mut new_player(rt.alloc()), &edits(), &rows)?;
+    tell(&rt, rt.alloc(), &edits(), &rows)?;
     Ok(())
 }
 
@@ -367,7 +376,7 @@ fn copies_carry_images(rt: HostRuntime) -> Result<(), Fail> {
         (Step::Copy(3), "", FULL, four),
         (append(2, 5, 5, b"g"), "refused 22 Stamp 0.3", FULL, four),
     ];
-    play_sealed(&rt, &mut new_player(rt.alloc()), &edits(), &stood)?;
+    tell(&rt, rt.alloc(), &edits(), &stood)?;
     let was_sealed = [
         (Step::CarrySealed, "", ABCDEF, [1, 0, 1, 1, 0]),
         (
@@ -378,7 +387,7 @@ fn copies_carry_images(rt: HostRuntime) -> Result<(), Fail> {
         ),
         (Step::RollBack, "", ABCDEF, [1, 0, 0, 1, 0]),
     ];
-    play_sealed(&rt, &mut new_player(rt.alloc()), &edits(), &was_sealed)?;
+    tell(&rt, rt.alloc(), &edits(), &was_sealed)?;
     Ok(())
 }
 
@@ -400,6 +409,6 @@ fn carries_what_is_not_damaged(rt: HostRuntime) -> Result<(), Fail> {
             [1, 0, 1, 1, 0],
         ),
     ];
-    play_sealed(&rt, &mut new_player(rt.alloc()), &edits(), &rows)?;
+    tell(&rt, rt.alloc(), &edits(), &rows)?;
     Ok(())
 }
