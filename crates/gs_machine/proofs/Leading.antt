@@ -1,9 +1,7 @@
 -- Edits and the inverses that lead back over them.
-use Rattle.std.proofs.Common.{◌≡◌, ◌++◌, ◌∷◌, [], List, length, take, get_or, ◌-◌, ◌+◌, ◌<◌, ◌≤◌, refl, sym, ap, ◌∙◌, subst, arith, inl, inr}
+use Rattle.std.proofs.Common.{◌≡◌, ◌++◌, ◌∷◌, [], List, refl, sym, ap, ◌∙◌, subst, inl, inr}
 use Rattle.std.specs.Prelude.{Ok, Err, Some, is_some}
 use Rattle.std.specs.FinMap.{same_map, slice_cmp-IsAntisymmetric, nat_cmp-IsAntisymmetric}
-use Rattle.std.proofs.lemmas.List.{take_more}
-use Rattle.std.proofs.Math.Seq.{take-length}
 use Rattle.gs_base.specs.declared.refusal.Refusal.{Refusal}
 use Rattle.gs_base.specs.declared.refusal.Refusal.TheVariants.{Memory}
 use Rattle.gs_path.specs.Path.{path_total}
@@ -35,14 +33,3 @@ leads_more (j ∷ is) i before now new (mid, (first, rest)) back = (mid, (first,
 pub leads_last : (is : List Inverse) (i : Inverse) (before now : NamesView) → Leads (is ++ i ∷ []) before now → (mid : NamesView) × (Leads is before mid × NamesTakenBack i mid now)
 leads_last [] i before now (mid, (first, rest)) = (before, (refl, subst (λ b. NamesTakenBack i before b) rest first))
 leads_last (j ∷ is) i before now (mid, (first, rest)) = let (m, (more, last)) = leads_last is i mid now rest in (m, ((mid, (first, more)), last))
-
--- the last of some items, and those before it
-pub parts_of : {A : Type 0} (xs : List A) (x : A) → 1 ≤ length xs → x ≡ get_or xs (length xs - 1) x → xs ≡ take (length xs - 1) xs ++ x ∷ []
-parts_of xs x some is =
-    let below : length xs - 1 < length xs = omega arith in
-    let whole : (length xs - 1) + 1 ≡ length xs = omega arith in
-    sym (take-length xs) ∙ ap (λ n. take n xs) (sym whole) ∙ take_more xs (length xs - 1) x below ∙ ap (λ y. take (length xs - 1) xs ++ y ∷ []) (sym is)
-
-pub no_items : {A : Type 0} (xs : List A) → length xs < 1 → xs ≡ []
-no_items [] h = refl
-no_items (x ∷ xs) h = absurd (omega arith)

@@ -290,13 +290,13 @@ fn make_edit(names: &mut Names, upgrade: &mut Option<Standing>, edit: &Edit) -> 
 fn undo_all(names: &mut Names, inverses: &[Inverse]) -> Result<(), Refusal>
     ensures { (before : NamesView) → Leads inverses.now before names.old → MatchResult result (λ _. names.new ≡ before) (λ e. e ≡ Refusal.Memory) }
 {
-    let [front @ .., last] = inverses else {
-        return Ok(());
-    };
-    match names.undo(last) {
-        Ok(()) => undo_all(names, front),
-        Err(refusal) => Err(refusal),
+    for inverse in inverses.iter().rev() {
+        match names.undo(inverse) {
+            Ok(()) => {}
+            Err(refusal) => return Err(refusal),
+        }
     }
+    Ok(())
 }
 
 /// Where a path is hidden that is deleted at moment 0.

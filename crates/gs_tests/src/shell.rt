@@ -1,5 +1,5 @@
 use gs_shell::RunFault;
-use std::alloc::Global;
+use std::alloc::{AllocError, Global};
 use std::io::{self, BufRead, ErrorKind, Read, Write};
 use std::test::Fail;
 
@@ -15,7 +15,9 @@ fn output_of(alloc: Global, script: &[u8]) -> Result<String, Fail> {
 
 #[test]
 fn answers_scripts(rt: HostRuntime) -> Result<(), Fail> {
-    let rows: [(&[u8], &str); 10] = [
+    let rows: [(&[u8], &str); 11] = [
+        // No line at all.
+        (b"", ""),
         // A directory that is there again, and a file at its place.
         (
             b"mkdir /a/b\nmkdir /a/b\ncreate /a\n",
@@ -70,6 +72,28 @@ fn answers_scripts(rt: HostRuntime) -> Result<(), Fail> {
     for (script, output) in rows {
         assert_eq!(rt; output_of(rt.alloc(), script)?.as_str(), output);
     }
+    Ok(())
+}
+
+/// A script that makes so many files after a prepare, and rolls back.
+fn files_rolled_back(alloc: Global, count: u32) -> Result<String, AllocError> {
+    let mut script = String::from_str(alloc, "rollingUpgrade prepare\n")?;
+    for number in 0..count {
+        let line = format!(in alloc; "create /f{number}\n")?;
+        script.push_str(&line)?;
+    }
+    script.push_str("rollingUpgrade rollback\nls /\n")?;
+    Ok(script)
+}
+
+// A rollback of more edits than a stack would hold calls.
+#[test]
+fn rolls_back_many_edits(rt: HostRuntime) -> Result<(), Fail> {
+    let alloc = rt.alloc();
+    let script = files_rolled_back(alloc, 100_000)?;
+    let output = output_of(alloc, script.as_bytes())?;
+    assert_eq!(rt; output.as_str().split('\n').count(), 100_004);
+    assert!(rt; output.as_str().ends_with("ok\nok 2\nok\n"), "the end");
     Ok(())
 }
 

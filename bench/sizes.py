@@ -1,0 +1,167 @@
+#!/usr/bin/env python3
+"""Runs the built program at sizes a hundred times those of its tests and more, and looks at how it ends.
+
+    bench/sizes.py [PART OF 1 TO 100]
+
+prints for each size the lines, the seconds and the greatest memory in use, and ends with status 1 where a run ends by a
+signal or with another status than 0, answers fewer or more lines than it was given, or answers something else than is
+expected at the end. A number makes each size that many hundredths of its own."""
+
+import itertools
+import os
+import subprocess
+import sys
+import tempfile
+import time
+
+ROOT = os.path.dirname(os.path.dirname(os.path.abspath(__file__)))
+SHELL = os.path.join(ROOT, "chunkstore")
+PROGRAM = os.path.join(ROOT, "crates", "chunkstore", "out", "chunkstore")
+MILLION = 1_000_000
+DEPTH = 64
+LONG_LINE = 50_000_000
+SHOWN = 60
+
+
+class Size:
+    """A script of lines, each answered by one line, and what stands at the end of the answers."""
+
+    def __init__(self, name, lines, last):
+        self.name = name
+        self.lines = lines
+        self.last = last
+
+
+def names(prefix, n):
+    """Names that rise by their bytes."""
+    width = len(str(n))
+    return [f"{prefix}{i:0{width}}" for i in range(n)]
+
+
+def edits_since_prepare(n):
+    files = names("f", n)
+    lines = itertools.chain(["rollingUpgrade prepare"], (f"create /{f}" for f in files), ["rollingUpgrade rollback", "ls /"])
+    return Size("edits since prepare, rolled back", lines, ["ok 2", "ok"])
+
+
+def mixed_edits_since_prepare(n):
+    """Each group makes a directory and a file, moves it to and fro and deletes it."""
+    groups = n // 5
+
+    def group(i):
+        return [f"mkdir /a/d{i}", f"create /a/d{i}/f", f"mv /a/d{i} /b/d{i}", f"mv /b/d{i} /a/d{i}", f"rm -r /a/d{i}"]
+
+    lines = itertools.chain(
+        ["mkdir /a", "mkdir /b", "create /a/kept", "rollingUpgrade prepare"],
+        itertools.chain.from_iterable(map(group, range(groups))),
+        ["rollingUpgrade rollback", "ls /a", "ls /b"],
+    )
+    return Size("mixed edits since prepare, rolled back", lines, ["ok 2", "ok kept", "ok"])
+
+
+def one_directory(n):
+    files = names("f", n)
+    lines = itertools.chain(["mkdir /a"], (f"create /a/{f}" for f in files), ["ls /a"])
+    return Size("entries in one directory, listed", lines, ["ok", "ok " + " ".join(files)])
+
+
+def deep_paths(n):
+    """Every path has as many elements as one may have, and all is moved and rolled back there."""
+    top = "/" + "/".join(["d"] * (DEPTH - 2))
+    count = n // DEPTH
+    lines = itertools.chain(
+        ["rollingUpgrade prepare"],
+        (f"mkdir {top}/x{i}/y" for i in range(count)),
+        (f"mv {top}/x{i}/y {top}/x{i}/z" for i in range(count)),
+        (f"ls {top}/x{i}" for i in range(count)),
+        [f"ls {top}/x0/z", f"mkdir {top}/x0/z/past", "mv /d /e", "rollingUpgrade rollback", "ls /"],
+    )
+    return Size(f"paths of {DEPTH} elements", lines, ["ok", "refused 1 BadPath", "ok", "ok 2", "ok"])
+
+
+def rename_to_and_fro(n):
+    files = names("f", n)
+    lines = itertools.chain(
+        ["mkdir /a", "mkdir /b"],
+        (f"create /a/{f}" for f in files),
+        ["rollingUpgrade prepare", "mv /a /b", "mv /b/a /c", "mv /c /a", "rm -r /a", "rollingUpgrade rollback", "ls /"],
+    )
+    return Size("entries renamed to and fro", lines, ["ok 2", "ok a/ b/"])
+
+
+def long_lines(n):
+    """Lines far past the greatest length of one, of one element, of many and of many words."""
+    lines = [
+        "create /" + "a" * n,
+        "mkdir " + "/a" * (n // 2),
+        "mv /" + " /" * (n // 2),
+        "\x00" * n,
+        "ls /",
+    ]
+    return Size("bytes in a line", iter(lines), ["refused 34 BadLine"] * 4 + ["ok"])
+
+
+SIZES = [
+    (edits_since_prepare, MILLION),
+    (mixed_edits_since_prepare, MILLION),
+    (one_directory, MILLION),
+    (deep_paths, MILLION),
+    (rename_to_and_fro, MILLION),
+    (long_lines, LONG_LINE),
+]
+
+
+def write_script(lines, target):
+    count = 0
+    for line in lines:
+        target.write(line.encode() + b"\n")
+        count += 1
+    target.seek(0)
+    return count
+
+
+def run(source, target):
+    """The status of a run (below 0: the signal that ended it), its seconds and its greatest memory in bytes."""
+    begin = time.perf_counter()
+    child = subprocess.Popen([PROGRAM], stdin=source, stdout=target)
+    _, status, usage = os.wait4(child.pid, 0)
+    child.returncode = os.waitstatus_to_exitcode(status)
+    return child.returncode, time.perf_counter() - begin, usage.ru_maxrss * 1024
+
+
+def judge(count, status, answers, last):
+    """What is wrong with a run, if anything."""
+    if status != 0:
+        return f"status {status}"
+    if len(answers) != count:
+        return f"{len(answers):,} answers to {count:,} lines"
+    found = answers[len(answers) - len(last):]
+    for answer, wanted in zip(found, last):
+        if answer != wanted:
+            return f"answered {answer[:SHOWN]!r} and not {wanted[:SHOWN]!r}"
+    return None
+
+
+def try_size(make, n):
+    """Runs one size, prints its row, and tells whether all was well."""
+    size = make(n)
+    with tempfile.TemporaryFile() as source, tempfile.TemporaryFile() as target:
+        count = write_script(size.lines, source)
+        status, seconds, memory = run(source, target)
+        target.seek(0)
+        answers = target.read().decode(errors="replace").splitlines()
+    wrong = judge(count, status, answers, size.last)
+    print(f"{n:>12,} {size.name:<40} {count:>10,} {seconds:>9.2f} {memory / 1e6:>9.1f}  {wrong or 'well'}", flush=True)
+    return wrong is None
+
+
+def main():
+    part = int(sys.argv[1]) if len(sys.argv) > 1 else 100
+    subprocess.run([SHELL, "--build"], check=True)
+    print(f"{'n':>12} {'':<40} {'lines':>10} {'seconds':>9} {'MB':>9}", flush=True)
+    well = [try_size(make, n * part // 100) for make, n in SIZES]
+    return 0 if all(well) else 1
+
+
+if __name__ == "__main__":
+    sys.exit(main())
