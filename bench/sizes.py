@@ -21,6 +21,7 @@ MILLION = 1_000_000
 DEPTH = 64
 LONG_LINE = 50_000_000
 SHOWN = 60
+MEASURE = "--measure"
 
 
 class Size:
@@ -120,13 +121,21 @@ def write_script(lines, target):
     return count
 
 
-def run(source, target):
-    """The status of a run (below 0: the signal that ended it), its seconds and its greatest memory in bytes."""
+def measure():
+    """Runs the program on this process's input and output, and tells on standard error how it ended, its seconds and its
+    greatest memory. A process of its own, since a program's memory is counted from that of the process that starts it."""
     begin = time.perf_counter()
-    child = subprocess.Popen([PROGRAM], stdin=source, stdout=target)
+    child = subprocess.Popen([PROGRAM])
     _, status, usage = os.wait4(child.pid, 0)
     child.returncode = os.waitstatus_to_exitcode(status)
-    return child.returncode, time.perf_counter() - begin, usage.ru_maxrss * 1024
+    print(child.returncode, time.perf_counter() - begin, usage.ru_maxrss * 1024, file=sys.stderr)
+
+
+def run(source, target):
+    """The status of a run (below 0: the signal that ended it), its seconds and its greatest memory in bytes."""
+    ran = subprocess.run([sys.executable, __file__, MEASURE], stdin=source, stdout=target, stderr=subprocess.PIPE, text=True, check=True)
+    status, seconds, memory = ran.stderr.split()[-3:]
+    return int(status), float(seconds), int(memory)
 
 
 def judge(count, status, answers, last):
@@ -156,6 +165,8 @@ def try_size(make, n):
 
 
 def main():
+    if sys.argv[1:] == [MEASURE]:
+        return measure()
     part = int(sys.argv[1]) if len(sys.argv) > 1 else 100
     subprocess.run([SHELL, "--build"], check=True)
     print(f"{'n':>12} {'':<40} {'lines':>10} {'seconds':>9} {'MB':>9}", flush=True)

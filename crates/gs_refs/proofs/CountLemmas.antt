@@ -1,16 +1,13 @@
 -- The map of a list of entries, as a tree map changes it.
-use Rattle.std.proofs.Common.{◌≡◌, ℕ, ◌<◌, ◌++◌, ◌∷◌, [], true, cond, List, map, nat_lt, Option, Some, None, refl, sym, ap, ◌∙◌, arith}
-use Rattle.std.proofs.lemmas.Bool.{and_parts, ltb-true}
+use Rattle.std.proofs.Common.{◌≡◌, ℕ, ◌++◌, ◌∷◌, [], cond, List, map, Option, Some, None, refl, sym, ap, ◌∙◌}
 use Rattle.std.proofs.lemmas.List.{nil_from_length}
 use Rattle.std.specs.BTreeMap.{is_at}
-use Rattle.std.specs.Cmp.{nat_cmp_is, nat_cmp_total, eq_by_cmp_equiv}
+use Rattle.std.specs.Cmp.{nat_cmp_total, eq_by_cmp_equiv}
 use Rattle.std.specs.FinMap as fin
-use Rattle.std.specs.List.{AllByRecursion}
 use Rattle.std.specs.List.Sorted.{IsStrictlySortedBy}
 use Rattle.std.specs.Map.{lookup}
 use Rattle.std.specs.Ordering.{nat_cmp, eq_by_cmp}
-use Rattle.std.specs.declared.cmp.Ordering.TheVariants.{Less}
-use Rattle.gs_refs.specs.Counts.{Counts, rises, rises_from}
+use Rattle.gs_refs.specs.Counts.{Counts}
 
 find_lookup : (es : List (ℕ × ℕ)) (q : ℕ) → fin.find nat_cmp q es ≡ lookup (is_at (nat_cmp q)) es
 find_lookup [] q = refl
@@ -54,34 +51,3 @@ onto_last (f ∷ es) e m = ap (λ n. fin.insert n f.0 f.1) (onto_last es e m)
 pub onto_empty : (es : List (ℕ × ℕ)) → onto es fin.empty ≡ fin.from_entries es
 onto_empty [] = refl
 onto_empty (e ∷ es) = ap (λ n. fin.insert n e.0 e.1) (onto_empty es)
-
--- all handles of a list that rises are above the one before it
-above_all : (x y : ℕ) (es : List (ℕ × ℕ)) → x < y → rises_from y es ≡ true → AllByRecursion (λ z. nat_cmp x z ≡ Less) (map (λ e. e.0) es)
-above_all x y [] less h = tt
-above_all x y (e ∷ es) less h =
-    let parts = and_parts (nat_lt y e.0) (rises_from e.0 es) h in
-    let next : y < e.0 = ltb-true y e.0 parts.0 in
-    let far : x < e.0 = omega arith in
-    (sym (nat_cmp_is x e.0 Less far), above_all x e.0 es far parts.1)
-
-above_rest : (y : ℕ) (es : List (ℕ × ℕ)) → rises_from y es ≡ true → AllByRecursion (λ z. nat_cmp y z ≡ Less) (map (λ e. e.0) es)
-above_rest y [] h = tt
-above_rest y (f ∷ fs) h =
-    let parts = and_parts (nat_lt y f.0) (rises_from f.0 fs) h in
-    let next : y < f.0 = ltb-true y f.0 parts.0 in
-    (sym (nat_cmp_is y f.0 Less next), above_all y f.0 fs next parts.1)
-
-sorted_from : (x : ℕ) (es : List (ℕ × ℕ)) → rises_from x es ≡ true → IsStrictlySortedBy nat_cmp (map (λ e. e.0) es)
-unfolding IsStrictlySortedBy
-sorted_from x [] h = tt
-sorted_from x (e ∷ es) h =
-    let parts = and_parts (nat_lt x e.0) (rises_from e.0 es) h in
-    (above_rest e.0 es parts.1, sorted_from e.0 es parts.1)
-
-sorted_whole : (es : List (ℕ × ℕ)) → rises es ≡ true → IsStrictlySortedBy nat_cmp (map (λ e. e.0) es)
-unfolding IsStrictlySortedBy
-sorted_whole [] h = tt
-sorted_whole (e ∷ es) h = (above_rest e.0 es h, sorted_from e.0 es h)
-
-pub entries-from_rising : (es : List (ℕ × ℕ)) → rises es ≡ true → fin.entries (fin.from_entries {R = nat_cmp} es) ≡ es
-entries-from_rising es h = entries-from_entries es (sorted_whole es h)

@@ -74,14 +74,6 @@ IsCountOf hs m = (handle : ℕ) → count_or_zero (fin.get m handle) ≡ occurre
 abbrev pub is_zero : Counts → Bool
 is_zero m = list_all (λ e. e.1 == 0) (fin.entries m)
 
--- without a listed handle that has no references
-abbrev pub taken_from : Counts → ℕ → Option ℕ → Result Counts Refusal
-taken_from m handle None = Err BadLine
-taken_from m handle (Some n) = if n == 0 then Ok (fin.remove m handle) else Err BadLine
-
-abbrev pub taken_out : Counts → ℕ → Result Counts Refusal
-taken_out m handle = taken_from m handle (fin.get m handle)
-
 -- without a listed handle that has one reference
 abbrev pub unlisted_from : Counts → ℕ → Option ℕ → Result Counts Refusal
 unlisted_from m handle None = Err BadLine
@@ -89,14 +81,6 @@ unlisted_from m handle (Some n) = if n == 1 then Ok (fin.remove m handle) else E
 
 abbrev pub unlisted : Counts → ℕ → Result Counts Refusal
 unlisted m handle = unlisted_from m handle (fin.get m handle)
-
--- with a handle that isn't listed, which has no references
-abbrev pub put_from : Counts → ℕ → Option ℕ → Result Counts Refusal
-put_from m handle None = Ok (fin.insert m handle 0)
-put_from m handle (Some n) = Err BadLine
-
-abbrev pub put_back : Counts → ℕ → Result Counts Refusal
-put_back m handle = put_from m handle (fin.get m handle)
 
 -- an edit that takes no memory: what is expected, and unchanged at a refusal
 abbrev pub Follows : Result Counts Refusal → Result (Unit {0}) Refusal → Counts → Counts → Type 0
@@ -116,14 +100,6 @@ abbrev pub orphans : Counts → List ℕ
 orphans m = without_references (fin.entries m)
 
 -- the handles strictly rise, after one or from the first
-abbrev pub rises_from : ℕ → List (ℕ × ℕ) → Bool
-rises_from handle [] = true
-rises_from handle (e ∷ es) = nat_lt handle e.0 && rises_from e.0 es
-
-abbrev pub rises : List (ℕ × ℕ) → Bool
-rises [] = true
-rises (e ∷ es) = rises_from e.0 es
-
 abbrev pub ascends_from : ℕ → List ℕ → Bool
 ascends_from handle [] = true
 ascends_from handle (h ∷ hs) = nat_lt handle h && ascends_from h hs
@@ -152,10 +128,6 @@ taken_each m hs = if ascends hs && list_all (λ h. is_at_zero (fin.get m h)) hs 
 abbrev pub put_each : Counts → List ℕ → Result Counts Refusal
 put_each m hs = if ascends hs && list_all (λ h. is_none (fin.get m h)) hs then Ok (with_each m hs) else Err BadLine
 
--- the map of entries whose handles rise
-abbrev pub made_of : List (ℕ × ℕ) → Result Counts Refusal
-made_of es = if rises es then Ok (fin.from_entries es) else Err BadLine
-
 -- what a maker of counts answers: what is expected, and Memory alone in its place
 abbrev pub GivesOrMemory : Result Counts Refusal → Result Counts Refusal → Type 0
 GivesOrMemory expected (Ok m) = expected ≡ Ok m
@@ -170,12 +142,6 @@ not_ascending = refl
 two_orphans : without_references ((1, 0) ∷ (2, 3) ∷ (5, 0) ∷ []) ≡ 1 ∷ 5 ∷ []
 two_orphans = refl
 
-rising : rises ((1, 0) ∷ (2, 3) ∷ (5, 0) ∷ []) ≡ true
-rising = refl
-
-twice : rises ((1, 0) ∷ (2, 3) ∷ (2, 3) ∷ []) ≡ false
-twice = refl
-
 first_reference : (m : Counts) → raised_from m 7 None ≡ Ok (fin.insert m 7 1)
 first_reference m = refl
 
@@ -187,9 +153,6 @@ none_to_lower m = refl
 
 stays_listed : (m : Counts) → lowered_from m 7 (Some 1) ≡ Ok (fin.insert m 7 0)
 stays_listed m = refl
-
-still_referred_to : (m : Counts) → taken_from m 7 (Some 1) ≡ Err BadLine
-still_referred_to m = refl
 
 only_listed_chunks_are_raised : (m : Counts) → raised_listed_from m 7 None ≡ Err BadLine
 only_listed_chunks_are_raised m = refl

@@ -1,6 +1,6 @@
 ghost use Rattle.std.specs.Prelude.{◌≡◌, IfOk, IfSome, IsSome, OnOk, OnErr, Some, None, Ok, MatchBool, is_none, is_ok, true};
 ghost use Rattle.std.specs.FinMap as fin;
-ghost use Rattle.gs_refs.specs.Counts.{raised, lowered, raised_listed, raised_each, lowered_each, has_count, IsCountOf, is_zero, taken_out, put_back, unlisted, taken_each, put_each, without_each, with_each, is_at_zero, ascends, ascends_from, Follows, FollowsOrMemory, orphans, rises, rises_from, made_of, GivesOrMemory};
+ghost use Rattle.gs_refs.specs.Counts.{raised, lowered, raised_listed, raised_each, lowered_each, has_count, IsCountOf, is_zero, unlisted, taken_each, put_each, without_each, with_each, is_at_zero, ascends, ascends_from, Follows, FollowsOrMemory, orphans, Counts};
 ghost use Rattle.std.specs.List.{list_all};
 
 use gs_base::{Handle, Refusal};
@@ -68,28 +68,6 @@ impl Refs {
             None | Some(0) => return Err(Refusal::BadLine),
             Some(count) => self.set(handle, count - 1),
         }
-        Ok(())
-    }
-
-    /// Lists a chunk no more. `BadLine` unless it is listed without references. It takes no memory.
-    pub fn take_out(&mut self, handle: Handle) -> Result<(), Refusal>
-        ensures { Follows (taken_out self.old handle) result self.old self.new }
-    {
-        if self.count(handle) != Some(0) {
-            return Err(Refusal::BadLine);
-        }
-        self.remove(handle);
-        Ok(())
-    }
-
-    /// Lists a chunk without references. `BadLine` if it is listed.
-    pub fn put_back(&mut self, handle: Handle) -> Result<(), Refusal>
-        ensures { FollowsOrMemory (put_back self.old handle) result self.old self.new }
-    {
-        if self.count(handle).is_some() {
-            return Err(Refusal::BadLine);
-        }
-        self.write(handle, 0)?;
         Ok(())
     }
 
@@ -205,22 +183,25 @@ impl Refs {
         Ok(entries)
     }
 
-    /// The chunks of a list with their counts. `BadLine` where the handles don't strictly rise.
-    pub fn of(alloc: Global, entries: &[(Handle, u32)]) -> Result<Refs, Refusal>
-        ensures answer { GivesOrMemory (made_of entries.now) result }
-        ensures entries { IfOk result (λ refs. fin.entries refs ≡ entries.now) }
+    /// The chunks of a list with their counts, in any order. Where a handle stands twice, its first count holds.
+    pub fn of(alloc: Global, entries: &[(Handle, u32)]) -> Result<Refs, AllocError>
+        ensures counts { IfOk result (λ refs. refs ≡ fin.from_entries entries.now) }
+
+        // The entries of counts make these counts again.
+        ensures back { (counts : Counts) → entries.now ≡ fin.entries counts → IfOk result (λ refs. refs ≡ counts) }
     {
-        if !rise(entries) {
-            return Err(Refusal::BadLine);
+        let mut refs = Refs::new(alloc);
+        for (handle, count) in entries.iter().rev() {
+            refs.write(*handle, *count)?;
         }
-        Ok(listed(alloc, entries)?)
+        Ok(refs)
     }
 
     pub fn copy(&self, alloc: Global) -> Result<Refs, AllocError>
         ensures { IfOk result (λ refs. refs ≡ self.now) }
     {
         let entries = self.entries(alloc)?;
-        listed(alloc, &entries)
+        Refs::of(alloc, &entries)
     }
 
     /// Lists a chunk with a count, in place of the one that it has.
@@ -306,17 +287,6 @@ impl Refs {
     }
 }
 
-/// The chunks of a list. Where a handle stands twice, its first count holds.
-fn listed(alloc: Global, entries: &[(Handle, u32)]) -> Result<Refs, AllocError>
-    ensures { IfOk result (λ refs. refs ≡ fin.from_entries entries.now) }
-{
-    let mut refs = Refs::new(alloc);
-    for (handle, count) in entries.iter().rev() {
-        refs.write(*handle, *count)?;
-    }
-    Ok(refs)
-}
-
 /// Whether the handles strictly rise.
 fn ascend(handles: &[Handle]) -> bool
     ensures { result ≡ ascends handles.now }
@@ -326,23 +296,6 @@ fn ascend(handles: &[Handle]) -> bool
     };
     let mut last = *first;
     for handle in rest {
-        if *handle <= last {
-            return false;
-        }
-        last = *handle;
-    }
-    true
-}
-
-/// Whether the handles strictly rise.
-fn rise(entries: &[(Handle, u32)]) -> bool
-    ensures { result ≡ rises entries.now }
-{
-    let [(first, _), rest @ ..] = entries else {
-        return true;
-    };
-    let mut last = *first;
-    for (handle, _) in rest {
         if *handle <= last {
             return false;
         }
