@@ -1,1 +1,4 @@
 pub mod Bits
+pub mod SameLaws
+pub mod Tells
+mod ToldBack

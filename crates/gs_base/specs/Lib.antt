@@ -4,3 +4,6 @@ pub mod MemberLaws
 pub mod Members
 pub mod Numbers
 pub mod Refusals
+pub mod Same
+pub mod Stamps
+pub mod Told

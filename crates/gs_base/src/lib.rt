@@ -4,7 +4,9 @@
 mod config;
 mod members;
 mod numbers;
+pub mod promises;
 mod refusal;
+mod told;
 
 pub use config::Config;
 pub use members::{Members, MembersIter};

@@ -148,6 +148,15 @@ pub struct Stamp {
 }
 
 impl Stamp {
+    ghost use Rattle.gs_base.specs.Stamps.{is_before};
+
+    /// Whether this stamp comes before the other: by epoch first.
+    pub fn is_before(self, other: Stamp) -> bool
+        ensures { result ≡ is_before self other }
+    {
+        self < other
+    }
+
     /// The stamp of the same epoch with the next version, or `Exhausted` after the last. It takes no memory.
     pub fn next(self) -> Result<Stamp, Refusal>
         ensures version { IsNext self.version result (λ next. next.version) }

@@ -32,6 +32,35 @@ impl PathText {
     {
         self.text.as_str()
     }
+
+    pub fn copy(&self, alloc: Global) -> Result<PathText, AllocError>
+        ensures { IfOk result (λ copy. copy ≡ self.now) }
+    {
+        Ok(PathText {
+            text: String::from_str(alloc, &self.text)?,
+        })
+    }
+}
+
+impl PartialEq for PathText {
+    ghost use Rattle.std.specs.Cmp.{partial_equiv_from_equiv};
+    ghost use Rattle.std.specs.Cmp.Lexicographic.{nat_list_eq_equiv};
+    ghost use Rattle.std.specs.Prelude.{nat_eq};
+    ghost use Rattle.std.specs.Cmp.Lexicographic.{pointwise};
+
+    ghost eq = { pointwise nat_eq };
+
+    ghost laws = { partial_equiv_from_equiv nat_list_eq_equiv };
+
+    fn eq(&self, other: &PathText) -> bool {
+        self.text == other.text
+    }
+}
+
+impl Eq for PathText {
+    ghost use Rattle.std.specs.Cmp.Lexicographic.{nat_list_eq_equiv};
+
+    ghost laws = { nat_list_eq_equiv };
 }
 
 /// Why a call was refused. The number and the name of each stand in its line, and behind them its detail where it has
@@ -215,6 +244,51 @@ impl Refusal {
     {
         self.to_string(alloc)
     }
+
+    pub fn copy(&self, alloc: Global) -> Result<Refusal, AllocError>
+        ensures { IfOk result (λ copy. copy ≡ self.now) }
+    {
+        Ok(match self {
+            Refusal::BadPath => Refusal::BadPath,
+            Refusal::HiddenName => Refusal::HiddenName,
+            Refusal::NotFound => Refusal::NotFound,
+            Refusal::Exists => Refusal::Exists,
+            Refusal::NotADirectory => Refusal::NotADirectory,
+            Refusal::IsADirectory => Refusal::IsADirectory,
+            Refusal::NotEmpty => Refusal::NotEmpty,
+            Refusal::IntoItself => Refusal::IntoItself,
+            Refusal::IsRoot => Refusal::IsRoot,
+            Refusal::Locked => Refusal::Locked,
+            Refusal::Preparing => Refusal::Preparing,
+            Refusal::RollingBack => Refusal::RollingBack,
+            Refusal::NotUpgrading => Refusal::NotUpgrading,
+            Refusal::AlreadyUpgrading => Refusal::AlreadyUpgrading,
+            Refusal::NotQuiet(handle) => Refusal::NotQuiet(*handle),
+            Refusal::Unrestored(handle) => Refusal::Unrestored(*handle),
+            Refusal::NoServer => Refusal::NoServer,
+            Refusal::Epoch(epoch) => Refusal::Epoch(*epoch),
+            Refusal::Old => Refusal::Old,
+            Refusal::NotPrimary => Refusal::NotPrimary,
+            Refusal::LeaseOver => Refusal::LeaseOver,
+            Refusal::Stamp(stamp) => Refusal::Stamp(*stamp),
+            Refusal::Gap(count) => Refusal::Gap(*count),
+            Refusal::NoData => Refusal::NoData,
+            Refusal::Range => Refusal::Range,
+            Refusal::TooLong => Refusal::TooLong,
+            Refusal::Damaged(block) => Refusal::Damaged(*block),
+            Refusal::NoReplica => Refusal::NoReplica,
+            Refusal::Unsure => Refusal::Unsure,
+            Refusal::Full => Refusal::Full,
+            Refusal::Exhausted => Refusal::Exhausted,
+            Refusal::Device => Refusal::Device,
+            Refusal::Memory => Refusal::Memory,
+            Refusal::BadLine => Refusal::BadLine,
+            Refusal::Config => Refusal::Config,
+            Refusal::Pending(path) => Refusal::Pending(path.copy(alloc)?),
+            Refusal::Stray => Refusal::Stray,
+            Refusal::NotHidden => Refusal::NotHidden,
+        })
+    }
 }
 
 impl fmt::Display for Refusal {
@@ -263,4 +337,53 @@ impl<T: Drop> From<AllocFailed<T>> for Refusal {
     fn from(_error: AllocFailed<T>) -> Refusal {
         Refusal::Memory
     }
+}
+
+impl Refusal {
+    ghost use Rattle.gs_base.specs.Same.{first_detail, second_detail, path_detail};
+
+    fn numbers(&self) -> (u64, u64)
+        ensures { result ≡ (first_detail self.now, second_detail self.now) }
+    {
+        match self {
+            Refusal::NotQuiet(handle) | Refusal::Unrestored(handle) => (handle.number(), 0),
+            Refusal::Epoch(detail) | Refusal::Gap(detail) | Refusal::Damaged(detail) => (
+                *detail, 0,
+            ),
+            Refusal::Stamp(stamp) => (stamp.epoch, stamp.version),
+            _ => (0, 0),
+        }
+    }
+
+    fn path(&self) -> &str
+        ensures { result.now ≡ path_detail self.entry.now }
+    {
+        match self {
+            Refusal::Pending(path) => path.as_str(),
+            _ => "",
+        }
+    }
+}
+
+impl PartialEq for Refusal {
+    ghost use Rattle.gs_base.specs.Same.{is_same};
+    ghost use Rattle.gs_base.specs.Same.{is_same-equiv};
+    ghost use Rattle.std.specs.Cmp.{partial_equiv_from_equiv};
+
+    ghost eq = { is_same };
+
+    ghost laws = { partial_equiv_from_equiv is_same-equiv };
+
+    #[tactic(auto, unfolding(crate::specs::Same::is_same))]
+    fn eq(&self, other: &Refusal) -> bool {
+        self.number() == other.number()
+            && self.numbers() == other.numbers()
+            && self.path() == other.path()
+    }
+}
+
+impl Eq for Refusal {
+    ghost use Rattle.gs_base.specs.Same.{is_same-equiv};
+
+    ghost laws = { is_same-equiv };
 }
