@@ -1,4 +1,4 @@
-use Rattle.std.proofs.Common.{◌≡◌, ◌≢◌, false, true, get_or, eqb, length, true≢false, rules, arith, sym, ◌∙◌, eq-eqb}
+use Rattle.std.proofs.Common.{◌≡◌, false, get_or, eqb, length, true≢false, rules, arith, sym, ◌∙◌, eq-eqb}
 use Rattle.gs_base.proofs.Tells.{number_begins, number_read, one_digit}
 use Rattle.gs_base.proofs.told.number_in.Goals as goal
 use Rattle.gs_base.proofs.told.number_in.Goals.{else-text-gt1-via-then-text-gt1+else-starts_with-2, else-text-gt1-via-else-text-gt1}
