@@ -127,6 +127,17 @@ module _ {K V : Type 0} {R : K → K → Ordering} (o : IsTotalOrder R) where
   below_live k [] h = tt
   below_live k (e ∷ es) h = kept k e.0 e.1 es h.0 (below_live k es h.1)
 
+  sorted_one : (k : K) (slot : Option V) (es : List (K × Option V)) → Below R k (map (λ e. e.0) es) → IsStrictlySortedBy R (map (λ e. e.0) (live_entries es))
+      → IsStrictlySortedBy R (map (λ e. e.0) (live_entries ((k, slot) ∷ es)))
+  unfolding IsStrictlySortedBy
+  sorted_one k None es above later = later
+  sorted_one k (Some v) es above later = (below_live k es above, later)
+
+  pub sorted_live : (es : List (K × Option V)) → IsStrictlySortedBy R (map (λ e. e.0) es) → IsStrictlySortedBy R (map (λ e. e.0) (live_entries es))
+  unfolding IsStrictlySortedBy
+  sorted_live [] rising = tt
+  sorted_live (e ∷ es) rising = sorted_one e.0 e.1 es rising.0 (sorted_live es rising.1)
+
   put_front : (k : K) (v : V) (ls : List (K × V)) → Below R k (map (λ e. e.0) ls) → fin.put R k v ls ≡ (k, v) ∷ ls
   put_front k v [] h = refl
   put_front k v (e ∷ ls) h = rw h.0 refl

@@ -1,6 +1,7 @@
-ghost use Rattle.std.specs.Prelude.{◌≡◌, OnOk, OnErr, OnSome, IfOk, Some, None, [], is_some, length, ◌<◌, ◌^◌};
+ghost use Rattle.std.specs.Prelude.{◌≡◌, OnOk, OnErr, OnSome, IfOk, Some, None, [], is_some, length, map, ◌<◌, ◌^◌};
 ghost use Rattle.std.specs.Option.{option_copied, option_flatten};
 ghost use Rattle.std.specs.FinMap as fin;
+ghost use Rattle.std.specs.List.Sorted.{IsStrictlySortedBy};
 ghost use Rattle.gs_table.specs.Slots.{live, live_entries, HasRoom, KeepsRoom, GivesUpRoom, IsWritten};
 
 use crate::entries::Entries;
@@ -50,6 +51,7 @@ impl<K: Key + Drop, V: Drop> Table<K, V> {
     /// What lives, in the order of the keys.
     pub fn iter(&self) -> Entries<'_, K, V>
         ensures entries { result ≡ fin.entries (live K.cmp self.entry.now) }
+        ensures ordered { IsStrictlySortedBy K.cmp (map (λ entry. entry.0) result) }
         ensures fits { length result < 2 ^ 63 }
     {
         Entries {
