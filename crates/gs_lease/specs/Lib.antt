@@ -1,5 +1,5 @@
 pub mod Chunks
-pub mod Live
 pub mod Primary
-pub mod Slots
+pub mod Told
 pub mod Transitions
+pub mod Views

@@ -1,7 +1,8 @@
-ghost use Rattle.std.specs.Prelude.{◌≡◌, Some, None, true};
-ghost use Rattle.gs_lease.specs.Transitions.{begun, begun_new, begun_again, asked_again, Begins, Settles, restored};
+ghost use Rattle.std.specs.Prelude.{◌≡◌, Some, None, true, []};
+ghost use Rattle.gs_lease.specs.Transitions.{begun, begun_new, begun_again, asked_again, Begins, ViewFor, Settles, SettlesAs, term_of, is_any_asked, fits, settled_on, restored};
+ghost use Rattle.gs_lease.specs.Views.{as_view};
 
-use crate::view::{Proposed, Purpose, Term, View};
+use crate::view::{Proposed, Purpose, QuietView, Term, View};
 use gs_base::{Members, Moment, Refusal, Stamp};
 use std::marker::Model;
 
@@ -9,18 +10,15 @@ use std::marker::Model;
 /// what becomes of it.
 #[derive(Debug, Drop)]
 pub struct Quiet {
-    view: View,
+    view: QuietView,
 }
 
 impl Model for Quiet {
-    ghost use Rattle.std.specs.Prelude.{◌≡◌, None};
-    ghost use Rattle.gs_lease.specs.declared.view.View.{View};
+    ghost use Rattle.gs_lease.specs.declared.view.QuietView.{QuietView};
 
-    ghost Value = { View };
+    ghost Value = { QuietView };
 
     ghost view = { λ q. q.view };
-
-    ghost invariant = { λ q. q.view.term ≡ None };
 }
 
 /// A chunk for which a view is proposed.
@@ -73,31 +71,30 @@ pub enum Lease {
 impl Quiet {
     /// A chunk as a rollback leaves it.
     pub fn rolled_back(stamp: Stamp, count: u64, members: Members) -> Quiet
-        ensures { result ≡ record { stamp = stamp; count = count; members = members; term = None } }
+        ensures { result ≡ record { stamp = stamp; count = count; members = members } }
     {
         Quiet {
-            view: View {
+            view: QuietView {
                 stamp,
                 count,
                 members,
-                term: None,
             },
         }
     }
 
+    /// The view of the chunk, which has no primary.
     pub fn view(&self) -> View
-        ensures view { result ≡ self.now }
-        ensures quiet { result.term ≡ None }
+        ensures { result ≡ as_view self.now }
     {
-        self.view
+        View::from(self.view)
     }
 
     /// Proposes a view to the members.
     pub fn begin(self, stamp: Stamp, purpose: Purpose) -> Moving
-        ensures { result ≡ begun self stamp purpose }
+        ensures { result ≡ begun (as_view self) stamp purpose }
     {
         Moving {
-            proposed: begin(self.view, stamp, purpose),
+            proposed: begin(View::from(self.view), stamp, purpose),
         }
     }
 }
@@ -115,6 +112,13 @@ impl Moving {
                 asked: targets,
             },
         }
+    }
+
+    /// A new chunk that was proposed before a restart, of which nobody is asked any more.
+    pub(crate) fn begun_before(stamp: Stamp) -> Moving
+        ensures { result ≡ record { settled = None; stamp = stamp; purpose = Purpose.Quiet; asked = [] } }
+    {
+        Moving::fresh(stamp, Members::none())
     }
 
     pub fn proposed(&self) -> Proposed
@@ -143,8 +147,26 @@ impl Moving {
         })
     }
 
-    /// Settles the view on the members that were chosen with their count of edits. A lease goes to the lowest member, for
-    /// a term of 60 from this moment. `NoReplica` where there is no member.
+    /// The view that a settling gives on the members that were chosen with their count of edits. A lease goes to the lowest
+    /// member, for a term of 60 from this moment. `NoReplica` where no member of it was asked: the target of a copy alone
+    /// settles nothing.
+    pub fn view_for(&self, choice: (Members, u64), moment: Moment) -> Result<View, Refusal>
+        ensures { ViewFor self.now choice.0 choice.1 moment result }
+    {
+        let (members, count) = choice;
+        if !is_any_asked(self.proposed.asked, members) {
+            return Err(Refusal::NoReplica);
+        }
+        let term = term_of(self.proposed.purpose, members, moment);
+        Ok(View {
+            stamp: self.proposed.stamp,
+            count,
+            members,
+            term,
+        })
+    }
+
+    /// Settles the chunk on the view that `view_for` gives.
     pub fn settle(
         self,
         choice: (Members, u64),
@@ -152,28 +174,75 @@ impl Moving {
     ) -> Result<Settled, (Moving, Refusal)>
         ensures { Settles self choice.0 choice.1 moment result }
     {
-        let (members, count) = choice;
-        let Some(primary) = members.first() else {
-            return Err((self, Refusal::NoReplica));
-        };
-        let term = if self.proposed.purpose == Purpose::Lease {
-            Some(Term {
-                primary,
-                end: Moment(moment.0.saturating_add(60)),
-            })
-        } else {
-            None
-        };
-        let view = View {
-            stamp: self.proposed.stamp,
-            count,
-            members,
-            term,
-        };
-        Ok(match term {
-            Some(term) => Settled::Leased(Leased { view, term }),
-            None => Settled::Quiet(Quiet { view }),
-        })
+        match self.view_for(choice, moment) {
+            Ok(view) => Ok(on_view(view)),
+            Err(refusal) => Err((self, refusal)),
+        }
+    }
+
+    /// Settles the chunk on the view that a record tells. `BadLine` where the view isn't of the stamp that is proposed, has no
+    /// member that was asked, or has a primary where none was proposed. It takes no memory.
+    pub fn settle_as(self, view: View) -> Result<Settled, (Moving, Refusal)>
+        ensures { SettlesAs self view result }
+    {
+        if !fits(&self.proposed, &view) {
+            return Err((self, Refusal::BadLine));
+        }
+        Ok(on_view(view))
+    }
+}
+
+fn term_of(purpose: Purpose, members: Members, moment: Moment) -> Option<Term>
+    ensures { result ≡ term_of purpose members moment }
+{
+    if purpose != Purpose::Lease {
+        return None;
+    }
+    let primary = members.first()?;
+    Some(Term {
+        primary,
+        end: Moment(moment.0.saturating_add(60)),
+    })
+}
+
+fn is_any_asked(asked: Members, members: Members) -> bool
+    ensures { result ≡ is_any_asked asked members }
+{
+    let mut left = members;
+    while let Some(member) = left.pop_first() {
+        if asked.contains(member) {
+            return true;
+        }
+    }
+    false
+}
+
+/// Whether a view could be what this proposal is settled on.
+fn fits(proposed: &Proposed, view: &View) -> bool
+    ensures { result ≡ fits proposed.now view.now }
+{
+    if view.stamp != proposed.stamp || !is_any_asked(proposed.asked, view.members) {
+        return false;
+    }
+    match proposed.purpose {
+        Purpose::Lease => view.term.is_some(),
+        Purpose::Quiet | Purpose::Copy(_) => view.term.is_none(),
+    }
+}
+
+fn on_view(view: View) -> Settled
+    ensures { result ≡ settled_on view }
+{
+    let term = view.term;
+    match term {
+        Some(term) => Settled::Leased(Leased { view, term }),
+        None => Settled::Quiet(Quiet {
+            view: QuietView {
+                stamp: view.stamp,
+                count: view.count,
+                members: view.members,
+            },
+        }),
     }
 }
 
@@ -237,16 +306,12 @@ pub fn restore(view: View, moving: Option<Stamp>) -> Lease
             },
         });
     }
-    let term = view.term;
-    match term {
-        Some(term) => Lease::Leased(Leased { view, term }),
-        None => Lease::Quiet(Quiet { view }),
-    }
+    Lease::from(on_view(view))
 }
 
 impl From<Settled> for Lease {
     ghost use Rattle.std.specs.Prelude.{◌≡◌};
-    ghost use Rattle.gs_lease.specs.Chunks.{lease_of};
+    ghost use Rattle.gs_lease.specs.Transitions.{lease_of};
 
     ghost from_gives = { λ settled lease. lease ≡ lease_of settled };
 

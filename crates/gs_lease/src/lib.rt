@@ -3,12 +3,14 @@
 
 mod held;
 mod lease;
+pub mod promises;
 mod quiet;
-mod table;
+mod told;
 mod view;
 
+pub use gs_table::Table;
 pub use held::{Grant, Held, Spent};
 pub use lease::{Lease, Leased, Moving, Quiet, Settled, restore};
 pub use quiet::AllQuiet;
-pub use table::Table;
-pub use view::{Proposed, Purpose, Term, View};
+pub use told::Told;
+pub use view::{Proposed, Purpose, QuietView, Term, View};

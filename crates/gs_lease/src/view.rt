@@ -18,6 +18,31 @@ pub struct View {
     pub term: Option<Term>,
 }
 
+/// A view without a primary.
+#[derive(Clone, Copy, Debug, PartialEq, Eq)]
+pub struct QuietView {
+    pub stamp: Stamp,
+    /// How many edits each member had.
+    pub count: u64,
+    pub members: Members,
+}
+
+impl From<QuietView> for View {
+    ghost use Rattle.std.specs.Prelude.{◌≡◌};
+    ghost use Rattle.gs_lease.specs.Views.{as_view};
+
+    ghost from_gives = { λ quiet view. view ≡ as_view quiet };
+
+    fn from(quiet: QuietView) -> View {
+        View {
+            stamp: quiet.stamp,
+            count: quiet.count,
+            members: quiet.members,
+            term: None,
+        }
+    }
+}
+
 /// What a view is proposed for.
 #[derive(Clone, Copy, Debug, PartialEq, Eq)]
 pub enum Purpose {

@@ -1,5 +1,5 @@
 use gs_base::{Handle, Members, Moment, Refusal, Stamp};
-use gs_lease::{AllQuiet, Held, Lease, Moving, Purpose, Quiet, Settled, Table, restore};
+use gs_lease::{AllQuiet, Held, Lease, Moving, Purpose, Quiet, Settled, Table, Told, restore};
 use std::test::Fail;
 
 #[test]
@@ -62,11 +62,14 @@ fn a_chunk_goes_through_its_states(rt: HostRuntime) -> Result<(), Fail> {
     assert_eq!(rt; leased.term().primary.number(), 1);
     assert_eq!(rt; leased.term().end.0, u64::MAX);
     let view = leased.view();
+    assert!(rt; matches!(&Told { settled: Some(view), proposed: None }.chunk(), Some(Lease::Leased(_))));
     let moving = match leased.revoke(version(4), Purpose::Quiet) {
         Ok(moving) => moving,
         Err(_) => return Err(Fail::from("not revoked")),
     };
-    let kept = moving.proposed().settled.ok_or("no view")?;
+    let told = Told::of(&Lease::Moving(moving));
+    assert_eq!(rt; told.proposed, Some(version(4)));
+    let kept = told.settled.ok_or("no view")?;
     assert_eq!(rt; kept.count, 5);
     assert!(rt; matches!(&restore(view, None), Lease::Leased(_)));
     assert!(rt; matches!(&restore(view, Some(version(4))), Lease::Moving(_)));
@@ -75,7 +78,7 @@ fn a_chunk_goes_through_its_states(rt: HostRuntime) -> Result<(), Fail> {
     Ok(())
 }
 
-fn lowest_not_quiet(table: &Table<Lease>) -> Option<u64> {
+fn lowest_not_quiet(table: &Table<Handle, Lease>) -> Option<u64> {
     match &AllQuiet::of(table) {
         Ok(_) => None,
         Err(Refusal::NotQuiet(handle)) => Some(handle.number()),
@@ -102,6 +105,7 @@ fn names_the_lowest_chunk_that_moves(rt: HostRuntime) -> Result<(), Fail> {
     table.put(middle, Lease::Moving(Moving::fresh(stamp, all)));
     table.put(high, Lease::Moving(Moving::fresh(stamp, all)));
     assert_eq!(rt; lowest_not_quiet(&table), Some(2));
+    assert_eq!(rt; table.len(), 3);
     assert!(rt; table.get(high).is_some());
     assert!(rt; table.take(high).is_some() && table.take(middle).is_some());
     assert!(rt; table.get(high).is_none());
