@@ -8,14 +8,10 @@ use Rattle.std.specs.List.{list_all}
 use Rattle.std.specs.Option.{option_map}
 use Rattle.gs_place.specs.declared.need.Need.{Need}
 use Rattle.gs_place.specs.Order.{rank}
-use Rattle.gs_place.specs.Needs.{shortfall, is_needy, needs_more, needier, most_needed_of, IsMostNeeded}
+use Rattle.gs_place.specs.Needs.{shortfall, is_needy, needs_more, needier, IsMost, most_needed_of, IsMostNeeded}
+use Rattle.gs_place.specs.declared.need.Needed.{Needed}
+use Rattle.gs_place.specs.Offered.{IsNeeded}
 use Rattle.gs_place.proofs.Firsts.{precedes_itself, precedes_better_down, precedes_neither}
-
--- of these chunks that which needs most
-abbrev pub IsMost : ℕ → List Need → Option Need → Type 0
-IsMost replicas needs None = (o : Need) → Contains needs o → is_needy replicas o ≡ false
-IsMost replicas needs (Some b) =
-    Contains needs b × (is_needy replicas b ≡ true) × ((o : Need) → Contains needs o → is_needy replicas o ≡ true → needs_more replicas o b ≡ false)
 
 clash : (b : Bool) → b ≡ true → b ≡ false → ⊥
 clash b t f = false≢true (sym f ∙ t)
@@ -151,18 +147,21 @@ pub most_needed_is : (replicas : ℕ) (needs : List Need) (most : Option Need) �
 most_needed_is replicas needs None is = is
 most_needed_is replicas needs (Some b) is = record { need = b; among = is.0; handle_is = refl; needy = is.1; most = is.2 }
 
--- ---- at the loop's steps and at its end
-pub most_step : (replicas : ℕ) (needs : List Need) (i : ℕ) (n : Need) (most new : Option Need) → i < length needs → n ≡ get_or needs i n → new ≡ needier replicas most n
-    → IsMost replicas (take i needs) most → IsMost replicas (take (i + 1) needs) new
-most_step replicas needs i n most new below item is h =
-    subst (λ m. IsMost replicas (take (i + 1) needs) m) (sym is)
-    (subst (λ ns. IsMost replicas ns (needier replicas most n)) (ap (λ x. take i needs ++ x ∷ []) item ∙ sym (take_more needs i n below)) (most_push replicas (take i needs) n most h))
+-- ---- as they are offered
+pub needed_more : (replicas : ℕ) (needs : List Need) (n : Need) (old new : Needed) → new.replicas ≡ old.replicas → new.most ≡ needier old.replicas old.most n
+    → IsNeeded replicas needs old → IsNeeded replicas (needs ++ n ∷ []) new
+needed_more replicas needs n old new same is h = record {
+  replicas_are = same ∙ h.replicas_are;
+  most = subst (IsMost replicas (needs ++ n ∷ [])) (sym (is ∙ ap (λ r. needier r old.most n) h.replicas_are)) (most_push replicas needs n old.most h.most);
+}
 
-pub most_all : (replicas : ℕ) (needs : List Need) (i : ℕ) (most : Option Need) → length needs ≤ i → IsMost replicas (take i needs) most → IsMost replicas needs most
-most_all replicas needs i most done h = subst (λ ns. IsMost replicas ns most) (take_all i needs done) h
+pub needed_item : (replicas : ℕ) (needs : List Need) (i : ℕ) (n : Need) (needed : Needed) → i < length needs → n ≡ get_or needs i n
+    → IsNeeded replicas (take i needs ++ n ∷ []) needed → IsNeeded replicas (take (i + 1) needs) needed
+needed_item replicas needs i n needed below item h =
+    subst (λ ns. IsNeeded replicas ns needed) (ap (λ x. take i needs ++ x ∷ []) item ∙ sym (take_more needs i n below)) h
 
-pub most_one : (replicas : ℕ) (needs : List Need) (i : ℕ) (most : Option Need) (b : Need) → length needs ≤ i → IsMost replicas (take i needs) most → most ≡ Some b → IsMost replicas needs (Some b)
-most_one replicas needs i most b done h is = subst (IsMost replicas needs) is (most_all replicas needs i most done h)
+pub needed_all : (replicas : ℕ) (needs : List Need) (i : ℕ) (needed : Needed) → length needs ≤ i → IsNeeded replicas (take i needs) needed → IsNeeded replicas needs needed
+needed_all replicas needs i needed done h = subst (λ ns. IsNeeded replicas ns needed) (take_all i needs done) h
 
-pub most_no : (replicas : ℕ) (needs : List Need) (i : ℕ) (most : Option Need) → length needs ≤ i → IsMost replicas (take i needs) most → most ≡ None → IsMost replicas needs None
-most_no replicas needs i most done h is = subst (IsMost replicas needs) is (most_all replicas needs i most done h)
+pub most_at : (replicas : ℕ) (needs : List Need) (needed : Needed) (most : Option Need) → needed.most ≡ most → IsNeeded replicas needs needed → IsMost replicas needs most
+most_at replicas needs needed most is h = subst (IsMost replicas needs) is h.most

@@ -1,3 +1,4 @@
 pub mod Order
 pub mod Needs
 pub mod Targets
+pub mod Offered

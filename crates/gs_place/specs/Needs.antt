@@ -27,6 +27,12 @@ pub record IsMostNeeded (replicas : ℕ) (needs : List Need) (handle : Handle) :
   pub needy : is_needy replicas need ≡ true
   pub most : (other : Need) → Contains needs other → is_needy replicas other ≡ true → needs_more replicas other need ≡ false
 
+-- the needy chunk of the list that needs most, and none exactly where none is needy
+abbrev pub IsMost : ℕ → List Need → Option Need → Type 0
+IsMost replicas needs None = (other : Need) → Contains needs other → is_needy replicas other ≡ false
+IsMost replicas needs (Some most) =
+    Contains needs most × (is_needy replicas most ≡ true) × ((other : Need) → Contains needs other → is_needy replicas other ≡ true → needs_more replicas other most ≡ false)
+
 -- the same as a function
 abbrev pub most_needed_of : ℕ → List Need → Option Handle
 most_needed_of replicas needs =

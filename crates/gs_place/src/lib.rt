@@ -4,5 +4,5 @@
 mod need;
 mod placement;
 
-pub use need::{Need, most_needed};
+pub use need::{Need, Needed, most_needed};
 pub use placement::targets;

@@ -1,4 +1,4 @@
-ghost use Rattle.std.specs.Prelude.{◌≡◌, MatchOption, Contains, false};
+ghost use Rattle.std.specs.Prelude.{◌≡◌, ◌++◌, ◌∷◌, [], ℕ, List, MatchOption, Contains, false};
 ghost use Rattle.gs_place.specs.Needs.{shortfall, is_needy, needs_more, needier, most_needed_of, IsMostNeeded};
 
 use gs_base::{Config, Handle};
@@ -22,26 +22,60 @@ pub fn most_needed(config: &Config, needs: &[Need]) -> Option<Handle>
     ensures function { result ≡ most_needed_of config.now.replicas needs.now }
     ensures most { MatchOption result ((need : Need) → Contains needs.now need → is_needy config.now.replicas need ≡ false) (IsMostNeeded config.now.replicas needs.now) }
 {
-    let mut most = None;
+    let mut needed = Needed::new(config);
     for need in needs {
-        most = needier(config, most, *need);
+        needed.offer(*need);
     }
-    let Some(need) = most else {
-        return None;
-    };
-    Some(need.handle)
+    needed.handle()
+}
+
+/// The chunk that needs a new replica most of those that were offered. It keeps no list of them.
+#[derive(Clone, Copy, Debug)]
+pub struct Needed {
+    replicas: u64,
+    most: Option<Need>,
+}
+
+impl Needed {
+    ghost use Rattle.gs_place.specs.Offered.{IsNeeded};
+
+    /// Of no chunk.
+    pub fn new(config: &Config) -> Needed
+        ensures { IsNeeded config.now.replicas [] result }
+    {
+        Needed {
+            replicas: config.replicas,
+            most: None,
+        }
+    }
+
+    /// Offers one more chunk.
+    pub fn offer(&mut self, need: Need)
+        ensures { (replicas : ℕ) (needs : List Need) → IsNeeded replicas needs self.old → IsNeeded replicas (needs ++ need ∷ []) self.new }
+    {
+        self.most = needier(self.replicas, self.most, need);
+    }
+
+    /// The chunk that needs a new replica most of all that were offered.
+    pub fn handle(&self) -> Option<Handle>
+        ensures function { (replicas : ℕ) (needs : List Need) → IsNeeded replicas needs self.now → result ≡ most_needed_of replicas needs }
+        ensures most { (replicas : ℕ) (needs : List Need) → IsNeeded replicas needs self.now → MatchOption result ((need : Need) → Contains needs need → is_needy replicas need ≡ false) (IsMostNeeded replicas needs) }
+    {
+        let need = self.most?;
+        Some(need.handle)
+    }
 }
 
 /// The chunk that needs more, of one that is needy and another, if that is needy.
-fn needier(config: &Config, most: Option<Need>, need: Need) -> Option<Need>
-    ensures { result ≡ needier config.now.replicas most need }
+fn needier(replicas: u64, most: Option<Need>, need: Need) -> Option<Need>
+    ensures { result ≡ needier replicas most need }
 {
-    if !is_needy(config, &need) {
+    if !is_needy(replicas, &need) {
         return most;
     }
     match most {
         Some(other) => {
-            if needs_more(config, &need, &other) {
+            if needs_more(replicas, &need, &other) {
                 Some(need)
             } else {
                 Some(other)
@@ -51,22 +85,22 @@ fn needier(config: &Config, most: Option<Need>, need: Need) -> Option<Need>
     }
 }
 
-fn is_needy(config: &Config, need: &Need) -> bool
-    ensures { result ≡ is_needy config.now.replicas need.now }
+fn is_needy(replicas: u64, need: &Need) -> bool
+    ensures { result ≡ is_needy replicas need.now }
 {
-    need.references > 0 && need.members > 0 && need.members < config.replicas
+    need.references > 0 && need.members > 0 && need.members < replicas
 }
 
-fn shortfall(config: &Config, need: &Need) -> u64
-    ensures { result ≡ shortfall config.now.replicas need.now }
+fn shortfall(replicas: u64, need: &Need) -> u64
+    ensures { result ≡ shortfall replicas need.now }
 {
-    config.replicas.saturating_sub(need.members)
+    replicas.saturating_sub(need.members)
 }
 
-fn needs_more(config: &Config, need: &Need, other: &Need) -> bool
-    ensures { result ≡ needs_more config.now.replicas need.now other.now }
+fn needs_more(replicas: u64, need: &Need, other: &Need) -> bool
+    ensures { result ≡ needs_more replicas need.now other.now }
 {
-    let (lacks, other_lacks) = (shortfall(config, need), shortfall(config, other));
+    let (lacks, other_lacks) = (shortfall(replicas, need), shortfall(replicas, other));
     if lacks != other_lacks {
         return other_lacks < lacks;
     }
