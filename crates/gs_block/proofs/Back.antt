@@ -39,7 +39,7 @@ held_le xs at end within =
 all_true : (a b c d : Bool) → a ≡ true → b ≡ true → c ≡ true → d ≡ true → (a && (b && (c && d))) ≡ true
 all_true a b c d ha hb hc hd = rw (ha, hb, hc, hd) refl
 
-eq_true : (m n : ℕ) → m ≡ n → (m == n) ≡ true
+pub eq_true : (m n : ℕ) → m ≡ n → (m == n) ≡ true
 eq_true m n e = grind (arith, nat_tests)
 
 le_true : (m n : ℕ) → m ≤ n → nat_le m n ≡ true
@@ -100,7 +100,7 @@ second_so : (a b : Bool) → (a && b) ≡ true → b ≡ true
 second_so true b h = h
 second_so false b h = absurd (true≢false (sym h))
 
-true_eq : (m n : ℕ) → (m == n) ≡ true → m ≡ n
+pub true_eq : (m n : ℕ) → (m == n) ≡ true → m ≡ n
 true_eq m n h = grind (arith, nat_tests)
 
 true_le : (m n : ℕ) → nat_le m n ≡ true → m ≤ n

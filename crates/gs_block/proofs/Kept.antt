@@ -41,7 +41,7 @@ ends_before size at i below =
     omega arith
 
 -- a block that isn't counted begins behind the end
-begins_behind : (size end i : ℕ) → 1 ≤ size → count_of size end ≤ i → end ≤ i * size
+pub begins_behind : (size end i : ℕ) → 1 ≤ size → count_of size end ≤ i → end ≤ i * size
 unfolding count_of
 begins_behind size end i some above =
     let up : (end + size - 1) / size * size ≤ i * size = mul-le-mul_right size above in
@@ -89,7 +89,7 @@ above_last : (ds mid : List (List ℕ)) (first last i : ℕ) → last ≤ i → 
     slice_index_or (take first ds ++ (mid ++ drop last ds)) i [] ≡ slice_index_or ds i []
 above_last ds mid first last i above order within long = grind (arith, places)
 
-length_of_parts : (ds mid : List (List ℕ)) (first last : ℕ) → first ≤ last → first ≤ length ds → length mid ≡ last - first →
+pub length_of_parts : (ds mid : List (List ℕ)) (first last : ℕ) → first ≤ last → first ≤ length ds → length mid ≡ last - first →
     length (take first ds ++ (mid ++ drop last ds)) ≡ max last (length ds)
 length_of_parts ds mid first last order within long =
     let e : length (take first ds ++ (mid ++ drop last ds)) ≡ min first (length ds) + (length mid + (length ds - last)) = search (rules, places) in

@@ -11,3 +11,6 @@ pub mod Damaging
 pub mod Restoring
 pub mod Holding
 pub mod Matching
+pub mod Standing
+pub mod Edited
+pub mod Telling

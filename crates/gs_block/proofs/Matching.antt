@@ -20,7 +20,7 @@ and_second false b h = absurd (true≢false (sym h))
 same_number : (m n : ℕ) → nat_eq m n ≡ true → m ≡ n
 same_number m n h = grind (arith, nat_tests)
 
-same_bytes : (xs ys : List ℕ) → bytes_eq xs ys ≡ true → xs ≡ ys
+pub same_bytes : (xs ys : List ℕ) → bytes_eq xs ys ≡ true → xs ≡ ys
 same_bytes [] [] h = refl
 same_bytes [] (y ∷ ys) h = absurd (true≢false (sym h))
 same_bytes (x ∷ xs) [] h = absurd (true≢false (sym h))

@@ -5,3 +5,4 @@ pub mod Inverses
 pub mod Follows
 pub mod Kept
 pub mod Images
+pub mod Written

@@ -6,6 +6,7 @@ mod digests;
 mod images;
 mod inverse;
 mod parts;
+pub mod promises;
 
 pub use blocks::Blocks;
 pub use digests::Digest;

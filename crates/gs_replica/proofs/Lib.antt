@@ -3,3 +3,13 @@ pub mod Back
 pub mod Sealing
 pub mod Firsts
 pub mod Carrying
+pub mod Standing
+pub mod Listing
+pub mod Keeping
+pub mod Own
+pub mod Stood
+pub mod Taking
+pub mod Returning
+pub mod Carried
+pub mod Requests
+pub mod Running

@@ -64,9 +64,13 @@ pub undo_back : (i : ReplicaInverse) (old new : Held) (t : Sealed) → can_undo 
 undo_back i old new t can back =
     ap (λ b. cond b (with_seal (Some t) (undos.undo i new)) (Err refusals.BadLine)) can ∙ ap (with_seal (Some t)) back
 
-held_or : Result Held Refusal → Held → Held
+unfoldable pub held_or : Result Held Refusal → Held → Held
 held_or (Ok h) old = h
 held_or (Err e) old = old
+
+unfoldable pub state_or : Result State Refusal → State → State
+state_or (Ok r) old = r
+state_or (Err e) old = old
 
 gives_chunk : (i : ReplicaInverse) (r h : Held) (t : Bool) (u : Result Stored Refusal) → (let m : Result Held Refusal = cond t (undos.without_edit r i u) (Err refusals.BadLine) in m) ≡ Ok h → (u ≡ Ok h.chunk) × (h.count ≡ r.count - 1) × (h.done ≡ undos.entry_before r.done i.client.0 i.before)
 unfolding held_or

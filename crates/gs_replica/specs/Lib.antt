@@ -6,3 +6,5 @@ pub mod Seals
 pub mod Copies
 pub mod Whole
 pub mod View
+pub mod Stands
+pub mod Calls

@@ -1,12 +1,22 @@
 //! What holds of each replica and its copies, whatever was done to them.
 
-ghost use Rattle.std.specs.Prelude.{◌≡◌, Ok, None};
+ghost use Rattle.std.specs.Prelude.{◌≡◌, ◌≤◌, ◌<◌, ℕ, length, true, List, [], ◌∷◌, ◌++◌, take, drop, ◌+◌, is_ok, Ok, Some, None};
+ghost use Rattle.std.specs.FinMap as fin;
 ghost use Rattle.std.specs.Result.{result_err};
 ghost use Rattle.gs_base.specs.declared.numbers.Stamp.{Stamp};
-ghost use Rattle.gs_replica.specs.Edits.{copied};
-ghost use Rattle.gs_replica.specs.Seals.{State, with_seal, roll_back};
-ghost use Rattle.gs_replica.specs.Copies.{SealedImage, image, sealed_image, of_image, of_sealed, and_then, under};
+ghost use Rattle.gs_base.specs.declared.numbers.ReqId.{ReqId};
+ghost use Rattle.gs_replica.specs.declared.op.Op.{Op};
+ghost use Rattle.gs_replica.specs.declared.op.Done.{Done};
+ghost use Rattle.gs_replica.specs.declared.live.ReplicaInverse.{ReplicaInverse};
+ghost use Rattle.gs_block.specs.Edits as blocks;
+ghost use Rattle.gs_block.specs.Stored.{block_at, digests_of, is_intact};
+ghost use Rattle.gs_replica.specs.Edits.{fresh, copied, is_old};
+ghost use Rattle.gs_replica.specs.Held.{Held};
+ghost use Rattle.gs_replica.specs.Seals.{State, with_seal, seal, unseal, apply, undo, damage, promise, lowest_damaged, roll_back, sealed_at};
+ghost use Rattle.gs_replica.specs.Copies.{Image, SealedImage, image_of, image, sealed_image, of_image, of_sealed, and_then, under};
 ghost use Rattle.gs_replica.specs.Whole.{IsWhole};
+ghost use Rattle.gs_replica.specs.Calls.{Call, LeadsTo, LeadsSparing};
+ghost use Rattle.gs_replica.specs.Stands.{Edit, Listed, after, StandsFor, IsToldFrom, IsTaken, SealedAt, SealToldFrom, IsTouched, replica_of};
 
 /// A replica that is made of a sealed image rolls back to what its source would have rolled back to, under the promise that the
 /// image carries. A source gives an image exactly where it could roll back, and is refused as that would be. What is made gives
@@ -21,4 +31,72 @@ pub fn carried_seals_roll_back()
 /// refused exactly where a copy would be.
 pub fn images_stand_as_their_source()
     ensures { (r : State) (stamp : Stamp) → IsWhole r → and_then (image r) (of_image r.held.chunk.block r.held.chunk.chunk stamp) ≡ with_seal None (copied stamp r.held) }
+{}
+
+/// What a replica stands for, call by call: the list of the edits that it has taken. A call that digests bytes anew, or tells
+/// what they are, has for a premise that digests tell the replica's blocks from those of the list, where they differ.
+pub fn replicas_stand_for_their_edits()
+    ensures new { (block chunk : ℕ) (stamp : Stamp) → 1 ≤ block → block ≤ 65536 → chunk ≤ 67108864 → StandsFor block chunk (fresh block chunk stamp) [] }
+    ensures apply { (block chunk : ℕ) (r r2 : State) (edits : List Edit) (stamp : Stamp) (number : ℕ) (req : ReqId) (op : Op) (bytes : List ℕ) → StandsFor block chunk r.held edits → IsToldFrom block chunk r.held edits → apply stamp number req op bytes r ≡ Ok r2 → StandsFor block chunk r2.held (edits ++ (record { req = req; op = op; bytes = bytes }) ∷ []) }
+    ensures promise { (block chunk : ℕ) (r r2 : State) (edits : List Edit) (stamp : Stamp) → StandsFor block chunk r.held edits → promise stamp r ≡ Ok r2 → StandsFor block chunk r2.held edits }
+    ensures damage { (block chunk : ℕ) (r r2 : State) (edits : List Edit) (index : ℕ) → StandsFor block chunk r.held edits → damage index r ≡ Ok r2 → StandsFor block chunk r2.held edits }
+    ensures intact { (block chunk : ℕ) (r : Held) (edits : List Edit) (i : ℕ) → StandsFor block chunk r edits → IsToldFrom block chunk r edits → i < length r.chunk.digests → is_intact block r.chunk.bytes r.chunk.digests i ≡ true → block_at block i r.chunk.bytes ≡ block_at block i (replica_of chunk edits).bytes }
+    ensures read { (block chunk : ℕ) (r : State) (edits : List Edit) (offset many : ℕ) (part : List ℕ) → StandsFor block chunk r.held edits → IsToldFrom block chunk r.held edits → blocks.read r.held.chunk offset many ≡ Ok part → part ≡ take many (drop offset (replica_of chunk edits).bytes) }
+{}
+
+/// An undamaged replica takes the next edit of each list that is taken, under its promise and as the next number. Then it is
+/// undamaged.
+pub fn undamaged_replicas_take_what_is_taken()
+    ensures takes { (block chunk : ℕ) (r : State) (edits : List Edit) (e : Edit) → StandsFor block chunk r.held edits → lowest_damaged r.held.chunk ≡ None → IsTaken chunk (edits ++ e ∷ []) → is_ok (apply r.held.promise (length edits + 1) e.req e.op e.bytes r) ≡ true }
+    ensures stays { (block chunk : ℕ) (r r2 : State) (edits : List Edit) (stamp : Stamp) (number : ℕ) (req : ReqId) (op : Op) (bytes : List ℕ) → StandsFor block chunk r.held edits → lowest_damaged r.held.chunk ≡ None → apply stamp number req op bytes r ≡ Ok r2 → lowest_damaged r2.held.chunk ≡ None }
+{}
+
+/// Copies of a replica stand for the same list, and have no damaged block. An image is what the list gives.
+pub fn copies_stand_for_the_same_edits()
+    ensures copy { (block chunk : ℕ) (r : State) (h : Held) (edits : List Edit) (stamp : Stamp) → StandsFor block chunk r.held edits → copied stamp r.held ≡ Ok h → StandsFor block chunk h edits × (lowest_damaged h.chunk ≡ None) }
+    ensures image { (block chunk : ℕ) (r : State) (i : Image) (edits : List Edit) → StandsFor block chunk r.held edits → IsToldFrom block chunk r.held edits → image r ≡ Ok i → i ≡ replica_of chunk edits }
+    ensures of_image { (block chunk : ℕ) (r : State) (edits : List Edit) (stamp : Stamp) → 1 ≤ block → block ≤ 65536 → chunk ≤ 67108864 → IsTaken chunk edits → of_image block chunk stamp (replica_of chunk edits) ≡ Ok r → StandsFor block chunk r.held edits × (lowest_damaged r.held.chunk ≡ None) }
+{}
+
+/// A replica that was sealed while it stood for a list of edits gives what that list gives, whatever was done to it since. A
+/// rollback that is not refused leaves it without a damaged block; a sealed image that is not refused carries it.
+pub fn seals_give_what_was_sealed()
+    ensures seal { (block chunk : ℕ) (r : State) (edits : List Edit) → StandsFor block chunk r.held edits → SealedAt block chunk (seal r) edits }
+    ensures apply { (block chunk : ℕ) (r r2 : State) (edits : List Edit) (stamp : Stamp) (number : ℕ) (req : ReqId) (op : Op) (bytes : List ℕ) → SealedAt block chunk r edits → apply stamp number req op bytes r ≡ Ok r2 → SealedAt block chunk r2 edits }
+    ensures undo { (block chunk : ℕ) (r r2 : State) (edits : List Edit) (i : ReplicaInverse) → SealedAt block chunk r edits → undo i r ≡ Ok r2 → SealedAt block chunk r2 edits }
+    ensures promise { (block chunk : ℕ) (r r2 : State) (edits : List Edit) (stamp : Stamp) → SealedAt block chunk r edits → promise stamp r ≡ Ok r2 → SealedAt block chunk r2 edits }
+    ensures damage { (block chunk : ℕ) (r r2 : State) (edits : List Edit) (index : ℕ) → SealedAt block chunk r edits → damage index r ≡ Ok r2 → SealedAt block chunk r2 edits }
+    ensures roll_back { (block chunk : ℕ) (r r2 : State) (edits : List Edit) → SealedAt block chunk r edits → roll_back r ≡ Ok r2 → StandsFor block chunk r2.held edits × (lowest_damaged r2.held.chunk ≡ None) × (r2.sealed ≡ None) × (r2.held.promise ≡ r.held.promise) }
+    ensures rolled_back { (block chunk : ℕ) (r r2 : State) (edits : List Edit) → SealedAt block chunk r edits → roll_back r ≡ Ok r2 → IsToldFrom block chunk r2.held edits → image_of r2.held ≡ replica_of chunk edits }
+    ensures sealed_image { (block chunk : ℕ) (r : State) (i : SealedImage) (edits : List Edit) → SealedAt block chunk r edits → SealToldFrom block chunk r.sealed edits → sealed_image r ≡ Ok i → (i.image ≡ replica_of chunk edits) × (i.digests ≡ digests_of block (replica_of chunk edits).bytes) × (sealed_at r ≡ Some i.stamp) }
+    ensures of_sealed { (block chunk : ℕ) (r : State) (i : SealedImage) (edits : List Edit) → 1 ≤ block → block ≤ 65536 → chunk ≤ 67108864 → IsTaken chunk edits → i.image ≡ replica_of chunk edits → i.digests ≡ digests_of block (replica_of chunk edits).bytes → of_sealed block chunk i ≡ Ok r → StandsFor block chunk r.held edits × (lowest_damaged r.held.chunk ≡ None) × SealedAt block chunk r edits }
+{}
+
+/// What a rollback gives stays what it was at the seal, through every call: edits, edits that are undone, promises, and damage
+/// of blocks that were touched. It is refused no more than it was, and stands under the promise that was made since.
+pub fn rollbacks_stay()
+    ensures seal { (r : State) → lowest_damaged r.held.chunk ≡ None → roll_back (seal r) ≡ Ok (unseal r) }
+    ensures apply { (r r2 : State) (stamp : Stamp) (number : ℕ) (req : ReqId) (op : Op) (bytes : List ℕ) → apply stamp number req op bytes r ≡ Ok r2 → roll_back r2 ≡ under r2.held.promise (roll_back r) }
+    ensures undo { (r r2 : State) (i : ReplicaInverse) → undo i r ≡ Ok r2 → roll_back r2 ≡ under r2.held.promise (roll_back r) }
+    ensures promise { (r r2 : State) (stamp : Stamp) → promise stamp r ≡ Ok r2 → roll_back r2 ≡ under r2.held.promise (roll_back r) }
+    ensures damage { (r r2 : State) (index : ℕ) → IsTouched r.sealed index → damage index r ≡ Ok r2 → roll_back r2 ≡ under r2.held.promise (roll_back r) }
+{}
+
+/// What a list of edits gives: as many edits as it has, and what its beginning gives with the edits behind that. The beginning
+/// of a list that is taken is taken, and each request stands in it once: where it ends, none would be taken again.
+pub fn lists_are_taken_once()
+    ensures count { (chunk : ℕ) (edits : List Edit) → (replica_of chunk edits).count ≡ length edits }
+    ensures more { (chunk : ℕ) (edits more : List Edit) → replica_of chunk (edits ++ more) ≡ after chunk (replica_of chunk edits) more }
+    ensures beginning { (chunk : ℕ) (edits more : List Edit) → IsTaken chunk (edits ++ more) → IsTaken chunk edits }
+    ensures once { (chunk : ℕ) (before behind : List Edit) (e : Edit) → IsTaken chunk (before ++ e ∷ behind) → is_old e.req.number (fin.get (replica_of chunk (before ++ e ∷ behind)).done e.req.client.0) ≡ true }
+    ensures listed { (chunk : ℕ) (edits : List Edit) (client : ℕ) (d : Done) → fin.get (replica_of chunk edits).done client ≡ Some d → Listed chunk edits client d }
+{}
+
+/// Over a whole run of calls. A replica that was sealed while it stood for a list rolls back, where it is not refused, to an
+/// undamaged one that stands for that list and holds exactly what it gives. Where it was undamaged and no block was damaged but
+/// touched ones, it is not refused.
+pub fn sealed_replicas_go_back()
+    ensures stands { (block chunk : ℕ) (r end r2 : State) (edits : List Edit) (calls : List Call) → StandsFor block chunk r.held edits → LeadsTo (seal r) calls end → roll_back end ≡ Ok r2 → StandsFor block chunk r2.held edits × (lowest_damaged r2.held.chunk ≡ None) × (IsToldFrom block chunk r2.held edits → image_of r2.held ≡ replica_of chunk edits) }
+    ensures carries { (block chunk : ℕ) (r end : State) (i : SealedImage) (edits : List Edit) (calls : List Call) → StandsFor block chunk r.held edits → LeadsTo (seal r) calls end → SealToldFrom block chunk end.sealed edits → sealed_image end ≡ Ok i → i.image ≡ replica_of chunk edits }
+    ensures same { (r end : State) (calls : List Call) → lowest_damaged r.held.chunk ≡ None → LeadsSparing (seal r) calls end → roll_back end ≡ under end.held.promise (Ok (unseal r)) }
 {}
