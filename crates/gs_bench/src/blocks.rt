@@ -1,5 +1,5 @@
 use gs_base::Refusal;
-use gs_block::Blocks;
+use gs_block::{Blocks, Sizes};
 use sha2::{Digest, Sha256};
 use std::alloc::Global;
 
@@ -8,6 +8,11 @@ const BLOCK: u64 = 65_536;
 
 /// The bytes of a chunk: 16 blocks.
 const CHUNK: u64 = 1_048_576;
+
+const SIZES: Sizes = Sizes {
+    block: BLOCK,
+    chunk: CHUNK,
+};
 
 fn piece(alloc: Global) -> Result<Vec<u8>, Refusal> {
     let mut piece = Vec::new(alloc);
@@ -51,7 +56,7 @@ fn fill(chunk: &mut Blocks, piece: &[u8]) -> Result<(), Refusal> {
 
 /// A full chunk.
 fn full(alloc: Global, piece: &[u8]) -> Result<Blocks, Refusal> {
-    let mut chunk = Blocks::new(alloc, BLOCK, CHUNK);
+    let mut chunk = Blocks::new(alloc, SIZES);
     fill(&mut chunk, piece)?;
     Ok(chunk)
 }
@@ -74,7 +79,7 @@ pub(crate) fn write(alloc: Global, count: u64) -> Result<(), Refusal> {
 fn append_or_renew(alloc: Global, chunk: &mut Blocks, piece: &[u8]) -> Result<(), Refusal> {
     match append_piece(chunk, piece) {
         Err(Refusal::Range) => {
-            *chunk = Blocks::new(alloc, BLOCK, CHUNK);
+            *chunk = Blocks::new(alloc, SIZES);
             Ok(())
         }
         answer => answer,
@@ -84,7 +89,7 @@ fn append_or_renew(alloc: Global, chunk: &mut Blocks, piece: &[u8]) -> Result<()
 /// Appends of 100 bytes, to a new chunk where one is full.
 pub(crate) fn append(alloc: Global, count: u64) -> Result<(), Refusal> {
     let piece = [7; 100];
-    let mut chunk = Blocks::new(alloc, BLOCK, CHUNK);
+    let mut chunk = Blocks::new(alloc, SIZES);
     for _ in 0..count {
         append_or_renew(alloc, &mut chunk, &piece)?;
     }

@@ -1,6 +1,13 @@
 use gs_base::{ClientId, Refusal, ReqId, Stamp};
+use gs_block::Sizes;
 use gs_replica::{Done, Op, Outcome, Replica, ReplicaInverse};
 use std::alloc::Global;
+
+/// A chunk of 16 bytes in blocks of 4.
+const SIZES: Sizes = Sizes {
+    block: 4,
+    chunk: 16,
+};
 
 /// A call on a replica.
 enum Step {
@@ -91,12 +98,12 @@ fn copy(replica: &Replica) -> Result<(), Refusal> {
 }
 
 fn carry(alloc: Global, replica: &Replica) -> Result<(), Refusal> {
-    let made = Replica::of(alloc, 4, 16, stamp(4), replica.image()?)?;
+    let made = Replica::of(alloc, SIZES, stamp(4), replica.image()?)?;
     same(held(replica)?, held(&made)?)
 }
 
 fn carry_sealed(alloc: Global, replica: &Replica, sealed: u64) -> Result<(), Refusal> {
-    let made = Replica::of_sealed(alloc, 4, 16, replica.sealed_image()?)?;
+    let made = Replica::of_sealed(alloc, SIZES, replica.sealed_image()?)?;
     same(sealed, rolled_back(made)?)
 }
 
@@ -198,7 +205,7 @@ fn play_all(player: &mut Player) -> Result<u64, Refusal> {
 fn rolled_back(replica: Replica) -> Result<u64, Refusal> {
     match replica.roll_back() {
         Ok(back) => held(&back),
-        Err((_sealed, refusal)) => Err(refusal),
+        Err(refused) => Err(refused.refusal),
     }
 }
 
@@ -208,7 +215,7 @@ fn rolled_back(replica: Replica) -> Result<u64, Refusal> {
 pub(crate) fn run(alloc: Global) -> Result<u64, Refusal> {
     let mut player = Player {
         alloc,
-        replica: Replica::new(alloc, 4, 16, stamp(1)),
+        replica: Replica::new(alloc, SIZES, stamp(1)),
         last: None,
         sealed: 0,
     };

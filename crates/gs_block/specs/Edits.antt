@@ -1,6 +1,6 @@
 -- Edits of a stored chunk. Each stored block that an edit touches is verified first. An edit touches the bytes from the
 -- lesser of its offset and the old end to its own end.
-use Rattle.std.specs.Prelude.{◌≡◌, ℕ, ◌+◌, ◌-◌, ◌*◌, ◌/◌, ◌%◌, ◌||◌, ◌==◌, cond, nat_lt, min, List, [], ◌∷◌, ◌++◌, length, take, drop, slice_index, slice_set, Option, Some, None, Result, Ok, Err, refl}
+use Rattle.std.specs.Prelude.{◌≡◌, ℕ, ◌+◌, ◌-◌, ◌*◌, ◌/◌, ◌%◌, ◌||◌, ◌==◌, Bool, cond, nat_lt, min, List, [], ◌∷◌, ◌++◌, length, take, drop, slice_index, slice_set, Option, Some, None, Result, Ok, Err, refl}
 use Rattle.gs_base.specs.declared.refusal.Refusal.{Refusal}
 use Rattle.gs_base.specs.declared.refusal.Refusal.TheVariants.{Range, Damaged, BadLine}
 use Rattle.gs_block.specs.Chunk.{written, appended, padded}
@@ -27,13 +27,20 @@ unless_damaged (Some i) a = Err (Damaged i)
 abbrev pub changed : Stored → ℕ → ℕ → List ℕ → Result Stored Refusal
 changed s at end bytes = unless_damaged (damaged_between s at end) (with_bytes s at end bytes)
 
--- Range for no bytes, and past the size of the chunk
+-- whether a piece has no bytes, or would end past the size of the chunk
+abbrev pub is_outside : Stored → ℕ → List ℕ → Bool
+is_outside s offset piece = (length piece == 0) || nat_lt s.chunk (offset + length piece)
+
+-- Range for such a piece
+abbrev pub out_of_range : Stored → ℕ → List ℕ → Option Refusal
+out_of_range s offset piece = cond (is_outside s offset piece) (Some Range) None
+
 abbrev pub write : Stored → ℕ → List ℕ → Result Stored Refusal
-write s offset piece = cond ((length piece == 0) || nat_lt s.chunk (offset + length piece)) (Err Range)
+write s offset piece = cond (is_outside s offset piece) (Err Range)
     (changed s (min offset (length s.bytes)) (offset + length piece) (written offset piece s.bytes))
 
 abbrev pub append : Stored → List ℕ → Result Stored Refusal
-append s piece = cond ((length piece == 0) || nat_lt s.chunk (length s.bytes + length piece)) (Err Range)
+append s piece = cond (is_outside s (length s.bytes) piece) (Err Range)
     (changed s (length s.bytes) (length s.bytes + length piece) (appended piece s.bytes))
 
 -- a full chunk is padded already
@@ -62,6 +69,10 @@ carried block chunk bytes digests = cond (nat_lt chunk (length bytes)) (Err Rang
 -- the same chunk, where every block has its digest
 abbrev pub copied : Stored → Result Stored Refusal
 copied s = unless_damaged (first_damaged s.block s.bytes s.digests 0 (length s.digests)) s
+
+-- its bytes alone
+abbrev pub copied_bytes : Stored → Result (List ℕ) Refusal
+copied_bytes s = unless_damaged (first_damaged s.block s.bytes s.digests 0 (length s.digests)) s.bytes
 
 -- 1 is added modulo 256 to the first byte of a block, and its digest stays
 abbrev pub damage : Stored → ℕ → Result Stored Refusal

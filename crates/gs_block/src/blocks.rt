@@ -2,9 +2,9 @@ ghost use Rattle.std.specs.Prelude.{◌≡◌, ◌≤◌, ◌<◌, ◌+◌, ◌-
 ghost use Rattle.sha2.specs.Hashers.{Holds256};
 ghost use Rattle.gs_block.specs.Chunk.{written};
 ghost use Rattle.gs_block.specs.Stored.{Stored, IsStored, empty, digests_of, first_damaged, are_digests};
-ghost use Rattle.gs_block.specs.Edits.{changed, chunk_of, carried, copied, write, append, pad, read, damage};
+ghost use Rattle.gs_block.specs.Edits.{changed, chunk_of, carried, copied, copied_bytes, is_outside, out_of_range, write, append, pad, read, damage};
 ghost use Rattle.gs_block.specs.Inverses.{fits, undo, inverse_of};
-ghost use Rattle.gs_block.specs.Follows.{Follows, Does, Answers, Makes};
+ghost use Rattle.gs_block.specs.Follows.{Follows, Does, Answers, Makes, Gives, Refuses, HandsBack, MakesOf};
 ghost use Rattle.gs_block.specs.Kept.{KeepsIntact, KeepsOutside};
 ghost use Rattle.gs_block.specs.Images.{Images, AreFirst, begun, undone, touched, damage_before};
 
@@ -14,9 +14,18 @@ use crate::digests::{
 use crate::images::{Images, first_damaged_before, no_images, put_back};
 use crate::inverse::BlockInverse;
 use crate::parts::{copy_of_part, put_over, write_anew};
+use crate::refused::Refused;
+use crate::sizes::Sizes;
 use gs_base::Refusal;
 use std::alloc::{AllocError, Global};
 use std::marker::Model;
+
+/// The bytes of a chunk and the digests of its blocks, without the chunk.
+#[derive(Debug, Drop)]
+pub struct BlockParts {
+    pub bytes: Vec<u8>,
+    pub digests: Vec<Digest>,
+}
 
 /// The bytes of a chunk in blocks, each with its digest.
 #[derive(Debug, Drop)]
@@ -39,17 +48,14 @@ impl Model for Blocks {
 }
 
 impl Blocks {
-    /// A chunk of no bytes yet, of blocks of `block` bytes and at most `chunk` bytes.
-    pub fn new(alloc: Global, block: u64, chunk: u64) -> Blocks
-        requires some { 1 ≤ block }
-        requires block_fits { block ≤ 65536 }
-        requires chunk_fits { chunk ≤ 67108864 }
-        ensures { result ≡ empty block chunk }
+    /// A chunk of no bytes yet.
+    pub fn new(alloc: Global, sizes: Sizes) -> Blocks
+        ensures { result ≡ empty sizes.block sizes.chunk }
     {
         Blocks {
             alloc,
-            block: block as usize,
-            chunk: chunk as usize,
+            block: sizes.block as usize,
+            chunk: sizes.chunk as usize,
             bytes: Vec::new(alloc),
             digests: Vec::new(alloc),
         }
@@ -57,25 +63,30 @@ impl Blocks {
 
     /// A chunk of these bytes, with their digests. It takes the bytes as they are and copies none. `Range` where they pass the
     /// size of the chunk.
-    pub fn of(alloc: Global, block: u64, chunk: u64, bytes: Vec<u8>) -> Result<Blocks, Refusal>
-        requires some { 1 ≤ block }
-        requires block_fits { block ≤ 65536 }
-        requires chunk_fits { chunk ≤ 67108864 }
-        ensures { Makes (chunk_of block chunk bytes.items) result }
+    pub fn of(alloc: Global, sizes: Sizes, bytes: Vec<u8>) -> Result<Blocks, Refused<Vec<u8>>>
+        ensures { MakesOf bytes (chunk_of sizes.block sizes.chunk bytes.items) result }
     {
-        let chunk = chunk as usize;
+        let block = sizes.block as usize;
+        let chunk = sizes.chunk as usize;
         if bytes.len() > chunk {
-            return Err(Refusal::Range);
+            return Err(Refused {
+                refusal: Refusal::Range,
+                given: bytes,
+            });
         }
-        let block = block as usize;
-        let digests = digests_of(alloc, &bytes, block)?;
-        Ok(Blocks {
-            alloc,
-            block,
-            chunk,
-            bytes,
-            digests,
-        })
+        match digests_of(alloc, &bytes, block) {
+            Ok(digests) => Ok(Blocks {
+                alloc,
+                block,
+                chunk,
+                bytes,
+                digests,
+            }),
+            Err(refused) => Err(Refused {
+                refusal: Refusal::from(refused),
+                given: bytes,
+            }),
+        }
     }
 
     /// A chunk of these bytes under these digests. It takes both as they are: it copies no byte and digests none, so a block
@@ -83,50 +94,61 @@ impl Blocks {
     /// where the digests are not as many as the blocks.
     pub fn carried(
         alloc: Global,
-        block: u64,
-        chunk: u64,
-        bytes: Vec<u8>,
-        digests: Vec<Digest>,
-    ) -> Result<Blocks, Refusal>
-        requires some { 1 ≤ block }
-        requires block_fits { block ≤ 65536 }
-        requires chunk_fits { chunk ≤ 67108864 }
-        ensures { Answers (λ blocks. blocks) (carried block chunk bytes.items digests.items) result }
+        sizes: Sizes,
+        parts: BlockParts,
+    ) -> Result<Blocks, Refused<BlockParts>>
+        ensures { HandsBack parts (carried sizes.block sizes.chunk parts.bytes.items parts.digests.items) result }
     {
-        let block = block as usize;
-        let chunk = chunk as usize;
-        if bytes.len() > chunk {
-            return Err(Refusal::Range);
+        let block = sizes.block as usize;
+        let chunk = sizes.chunk as usize;
+        if parts.bytes.len() > chunk {
+            return Err(Refused {
+                refusal: Refusal::Range,
+                given: parts,
+            });
         }
-        if digests.len() != count_of(block, bytes.len()) {
-            return Err(Refusal::BadLine);
+        if parts.digests.len() != count_of(block, parts.bytes.len()) {
+            return Err(Refused {
+                refusal: Refusal::BadLine,
+                given: parts,
+            });
         }
         Ok(Blocks {
             alloc,
             block,
             chunk,
-            bytes,
-            digests,
+            bytes: parts.bytes,
+            digests: parts.digests,
         })
     }
 
     /// The bytes and the digests, which go on without the chunk. No block is verified.
-    pub fn into_parts(self) -> (Vec<u8>, Vec<Digest>)
-        ensures bytes { result.0.items ≡ self.bytes }
-        ensures digests { result.1.items ≡ self.digests }
+    pub fn into_parts(self) -> BlockParts
+        ensures bytes { result.bytes.items ≡ self.bytes }
+        ensures digests { result.digests.items ≡ self.digests }
     {
-        (self.bytes, self.digests)
+        BlockParts {
+            bytes: self.bytes,
+            digests: self.digests,
+        }
+    }
+
+    /// Verifies every block: `Damaged` names the lowest that fails.
+    fn verify(&self) -> Result<(), Refusal>
+        ensures { Answers (λ _. self.now) (copied self.now) result }
+    {
+        let count = self.digests.len();
+        match first_damaged(&self.bytes, self.block, &self.digests, 0, count) {
+            Some(index) => Err(Refusal::Damaged(index as u64)),
+            None => Ok(()),
+        }
     }
 
     /// A chunk of the same bytes. Every block is verified first: `Damaged` names the lowest that fails.
     pub fn copy(&self) -> Result<Blocks, Refusal>
         ensures { Makes (copied self.now) result }
     {
-        let count = self.digests.len();
-        match first_damaged(&self.bytes, self.block, &self.digests, 0, count) {
-            Some(index) => return Err(Refusal::Damaged(index as u64)),
-            None => {}
-        }
+        self.verify()?;
         Ok(Blocks {
             alloc: self.alloc,
             block: self.block,
@@ -134,6 +156,14 @@ impl Blocks {
             bytes: Vec::from_slice(self.alloc, &self.bytes)?,
             digests: Vec::from_slice(self.alloc, &self.digests)?,
         })
+    }
+
+    /// A copy of the bytes alone. Every block is verified first: `Damaged` names the lowest that fails.
+    pub fn copy_bytes(&self) -> Result<Vec<u8>, Refusal>
+        ensures { Gives (λ bytes. bytes.items) (copied_bytes self.now) result }
+    {
+        self.verify()?;
+        Ok(Vec::from_slice(self.alloc, &self.bytes)?)
     }
 
     /// What takes back an edit of the bytes from `at` on and below `end`.
@@ -188,34 +218,43 @@ impl Blocks {
         Ok(inverse)
     }
 
+    /// Whether a piece has no bytes, or would end past the size of the chunk if it was written at an offset.
+    pub fn is_outside(&self, offset: u64, piece: &[u8]) -> bool
+        ensures { result ≡ is_outside self.now offset piece.now }
+    {
+        piece.is_empty() || offset.saturating_add(piece.len() as u64) > self.chunk as u64
+    }
+
     /// Writes a piece at an offset, with zeros before it where the offset lies past the end. `Range` for no bytes, and where
-    /// the piece would end past the size of the chunk. Each stored block with a byte from the lesser of the offset and the
+    /// the piece would end past the size of the chunk, whatever memory there is. Each stored block with a byte from the lesser of the offset and the
     /// end on and below the end of the piece is verified first: `Damaged` names the lowest that fails. After section 5.2 of
     /// the GFS paper, where a write verifies the first and the last block of its range; here it verifies all.
     pub fn write(&mut self, offset: u64, piece: &[u8]) -> Result<BlockInverse, Refusal>
         ensures edit { Follows (write self.old offset piece.now) result self.old self.new }
+        ensures range { Refuses (out_of_range self.old offset piece.now) result }
         ensures inverse { IfOk result (λ i. i ≡ inverse_of self.old (min offset (length self.old.bytes)) (offset + length piece.now)) }
         ensures undo { IfOk result (λ i. undo i self.new ≡ Ok self.old) }
         ensures intact { KeepsIntact result self.old self.new }
         ensures outside { KeepsOutside result (min offset (length self.old.bytes)) (offset + length piece.now) self.old self.new }
     {
-        if is_outside(self.chunk, offset, piece) {
+        if self.is_outside(offset, piece) {
             return Err(Refusal::Range);
         }
         self.put(offset as usize, piece)
     }
 
-    /// Writes a piece at the end. `Range` for no bytes, and where the piece does not fit. The last block is verified first if
+    /// Writes a piece at the end. `Range` for no bytes, and where the piece does not fit, whatever memory there is. The last block is verified first if
     /// it is short.
     pub fn append(&mut self, piece: &[u8]) -> Result<BlockInverse, Refusal>
         ensures edit { Follows (append self.old piece.now) result self.old self.new }
+        ensures range { Refuses (out_of_range self.old (length self.old.bytes) piece.now) result }
         ensures inverse { IfOk result (λ i. i ≡ inverse_of self.old (length self.old.bytes) (length self.old.bytes + length piece.now)) }
         ensures undo { IfOk result (λ i. undo i self.new ≡ Ok self.old) }
         ensures intact { KeepsIntact result self.old self.new }
         ensures outside { KeepsOutside result (length self.old.bytes) (length self.old.bytes + length piece.now) self.old self.new }
     {
         let held = self.bytes.len();
-        if is_outside(self.chunk, held as u64, piece) {
+        if self.is_outside(held as u64, piece) {
             return Err(Refusal::Range);
         }
         self.put(held, piece)
@@ -445,12 +484,4 @@ fn is_within(start: usize, many: usize, end: usize) -> bool
     ensures { result ≡ nat_le (start + many) end }
 {
     many <= end && start <= end - many
-}
-
-/// Whether a piece has no bytes or would end past the size of the chunk.
-fn is_outside(chunk: usize, offset: u64, piece: &[u8]) -> bool
-    requires { chunk ≤ 67108864 }
-    ensures { result ≡ ((length piece.now == 0) || nat_lt chunk (offset + length piece.now)) }
-{
-    piece.is_empty() || offset.saturating_add(piece.len() as u64) > chunk as u64
 }

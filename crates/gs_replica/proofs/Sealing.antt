@@ -6,12 +6,13 @@ use Rattle.std.proofs.lemmas.List.FromFn.{length-map-range_with_len}
 use Rattle.gs_base.specs.declared.refusal.Refusal.{Refusal}
 use Rattle.gs_base.specs.declared.refusal.Refusal.TheVariants as refusals
 use Rattle.gs_block.specs.Stored.{Stored, count_of}
-use Rattle.gs_block.specs.Follows.{Follows, Does}
+use Rattle.gs_block.specs.Follows.{Follows, Does, HandsBack, Refuses}
+use Rattle.gs_block.specs.declared.refused.Refused.{Refused}
 use Rattle.gs_block.specs.Images.{Images, missing, byte_before, bytes_before, copies_from}
 use Rattle.gs_block.specs.Inverses as inverses
 use Rattle.gs_replica.specs.declared.live.ReplicaInverse.{ReplicaInverse}
 use Rattle.gs_replica.specs.Held.{Held}
-use Rattle.gs_replica.specs.Seals.{Sealed, State, with_seal, can_undo, undo, lowest_damaged, roll_back_to, HandsBack}
+use Rattle.gs_replica.specs.Seals.{Sealed, State, with_seal, can_undo, undo, lowest_damaged, roll_back_to}
 use Rattle.gs_replica.specs.Undo as undos
 use Rattle.gs_base.specs.declared.numbers.Stamp.{Stamp}
 use Rattle.gs_base.specs.declared.numbers.ReqId.{ReqId}
@@ -35,6 +36,10 @@ follows_unsealed B (Ok b) (Ok h) old new f = ap (λ (x : Held). state x None) f
 follows_unsealed B (Err e) (Ok h) old new f = (f.0, ap (λ (x : Held). state x None) f.1)
 follows_unsealed B (Ok b) (Err g) old new f = f
 follows_unsealed B (Err e) (Err g) old new f = (f.0, ap (λ (x : Held). state x None) f.1)
+
+-- what is foreseen is answered
+pub refuses : (B : Type 0) (o : Option Refusal) (e : Refusal) (r : Result B Refusal) → o ≡ Some e → r ≡ Err e → Refuses {B = B} o r
+refuses B o e r is answer = subst (λ p. Refuses {B = B} p r) (sym is) (subst (λ q. Refuses {B = B} (Some e) q) (sym answer) refl)
 
 -- an edit that is judged is decided by the chunk
 pub once_judged : (B : Type 0) (stamp : Stamp) (number : ℕ) (req : ReqId) (op : Op) (bytes : List ℕ) (r : Result B Refusal) (old new : Held) → edits.judged stamp number req old ≡ None →
@@ -129,8 +134,11 @@ does_keep B (Err e) (Err g) old new P d p gives = subst P (sym d.1) p
 abbrev pub rolled : Stamp → Sealed → State
 rolled promise t = record { held = record { chunk = t.undone; count = t.count; done = t.done; promise = promise }; sealed = None }
 
-pub rolls_back : (t : Sealed) (promise : Stamp) (after old : State) → lowest_damaged t.undone ≡ None → after ≡ rolled promise t → HandsBack (roll_back_to promise (Some t)) (Ok after) old
-rolls_back t promise after old none is = subst (λ o. HandsBack (unless_damaged o (rolled promise t)) (Ok after) old) (sym none) is
+pub rolls_back : (t : Sealed) (promise : Stamp) (after old : State) → lowest_damaged t.undone ≡ None → after ≡ rolled promise t → HandsBack old (roll_back_to promise (Some t)) (Ok after)
+rolls_back t promise after old none is = subst (λ o. HandsBack old (unless_damaged o (rolled promise t)) (Ok after)) (sym none) is
 
-pub hands_back : (t : Sealed) (promise : Stamp) (after old : State) (block : ℕ) → lowest_damaged t.undone ≡ Some block → after ≡ old → HandsBack (roll_back_to promise (Some t)) (Err (after, refusals.Damaged block)) old
-hands_back t promise after old block found is = subst (λ o. HandsBack (unless_damaged o (rolled promise t)) (Err (after, refusals.Damaged block)) old) (sym found) (is, refl)
+abbrev pub refused : Refusal → State → Refused State
+refused refusal given = record { refusal = refusal; given = given }
+
+pub hands_back : (t : Sealed) (promise : Stamp) (after old : State) (block : ℕ) → lowest_damaged t.undone ≡ Some block → after ≡ old → HandsBack old (roll_back_to promise (Some t)) (Err (refused (refusals.Damaged block) after))
+hands_back t promise after old block found is = subst (λ o. HandsBack old (unless_damaged o (rolled promise t)) (Err (refused (refusals.Damaged block) after))) (sym found) (refl, is)

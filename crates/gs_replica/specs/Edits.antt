@@ -1,5 +1,5 @@
 -- Numbered edits of a replica.
-use Rattle.std.specs.Prelude.{◌≡◌, ℕ, ◌+◌, ◌==◌, ◌&&◌, ◌||◌, Bool, cond, min, nat_lt, nat_le, List, length, Option, Some, None, Result, Ok, Err, false}
+use Rattle.std.specs.Prelude.{ℕ, ◌+◌, ◌==◌, ◌&&◌, ◌||◌, Bool, cond, min, nat_lt, nat_le, List, length, Option, Some, None, Result, Ok, Err, false}
 use Rattle.std.specs.FinMap as fin
 use Rattle.std.specs.Ordering.{nat_cmp}
 use Rattle.gs_base.specs.declared.numbers.Stamp.{Stamp}
@@ -82,18 +82,20 @@ unless_refused (Some e) edit = Err e
 abbrev pub apply : Stamp → ℕ → ReqId → Op → List ℕ → Held → Result Held Refusal
 apply stamp number req op bytes r = unless_refused (judged stamp number req r) (with_edit r req op (edited op bytes r.chunk))
 
--- a refusal is answered whatever memory there is
-abbrev pub Refuses : {B : Type 0} → Option Refusal → Result B Refusal → Type 0
-Refuses None result = Unit {0}
-Refuses (Some e) (Ok b) = ⊥
-Refuses (Some e) (Err f) = f ≡ e
+-- whether an edit has no bytes, or would end past the size of the chunk
+abbrev pub is_outside : Op → List ℕ → Stored → Bool
+is_outside (Write offset) bytes s = blocks.is_outside s offset bytes
+is_outside Append bytes s = blocks.is_outside s (length s.bytes) bytes
+is_outside Pad bytes s = false
 
--- exactly what is refused is answered so
-abbrev pub Judges : {B : Type 0} → Option Refusal → Result B Refusal → Type 0
-Judges None (Ok b) = Unit {0}
-Judges None (Err f) = ⊥
-Judges (Some e) (Ok b) = ⊥
-Judges (Some e) (Err f) = f ≡ e
+-- the first refusal, or the one behind it
+abbrev pub or_then : Option Refusal → Option Refusal → Option Refusal
+or_then (Some e) behind = Some e
+or_then None behind = behind
+
+-- what is refused before any block is verified: by stamp, number and request, and Range
+abbrev pub foreseen : Stamp → ℕ → ReqId → Op → List ℕ → Held → Option Refusal
+foreseen stamp number req op bytes r = or_then (judged stamp number req r) (cond (is_outside op bytes r.chunk) (Some refusals.Range) None)
 
 -- the same chunk otherwise, or the refusal
 abbrev pub on_chunk : Held → Result Stored Refusal → Result Held Refusal

@@ -131,13 +131,6 @@ roll_back_to promise (Some t) = unless_damaged (lowest_damaged t.undone) (record
 abbrev pub roll_back : State → Result State Refusal
 roll_back r = roll_back_to r.held.promise r.sealed
 
--- it gives what the definition says, or hands the old back with its refusal
-abbrev pub HandsBack : Result State Refusal → Result State (State × Refusal) → State → Type 0
-HandsBack (Ok a) (Ok b) old = b ≡ a
-HandsBack (Err e) (Ok b) old = ⊥
-HandsBack (Ok a) (Err f) old = ⊥
-HandsBack (Err e) (Err f) old = (f.0 ≡ old) × (f.1 ≡ e)
-
 -- a replica of 6 bytes in blocks of 4 after one edit, sealed
 abbrev sealed_chunk : Stored
 sealed_chunk = record { block = 4; chunk = 16; bytes = 97 ∷ 98 ∷ 99 ∷ 100 ∷ 101 ∷ 102 ∷ []; digests = [] ∷ [] ∷ [] }

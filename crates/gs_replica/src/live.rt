@@ -1,25 +1,25 @@
-ghost use Rattle.std.specs.Prelude.{◌≡◌, ◌≤◌, ◌<◌, ◌+◌, ◌-◌, ◌==◌, List, ℕ, IfOk, OnOk, OnErr, length, Ok, Err, None, is_some};
+ghost use Rattle.std.specs.Prelude.{◌≡◌, ◌≤◌, ◌<◌, ◌+◌, ◌-◌, ◌==◌, List, ℕ, IfOk, OnOk, OnErr, IfErr, length, Ok, Err, Some, None, is_some};
 ghost use Rattle.std.specs.FinMap as fin;
 ghost use Rattle.gs_block.specs.Stored.{Stored, IsStored, are_digests};
 ghost use Rattle.gs_block.specs.Edits as blocks;
 ghost use Rattle.gs_block.specs.Edits.{unless_damaged};
 ghost use Rattle.gs_block.specs.Inverses as inverses;
 ghost use Rattle.gs_block.specs.Kept.{KeepsIntact, KeepsOutside};
-ghost use Rattle.gs_block.specs.Follows.{Follows, Does, Answers, Makes};
+ghost use Rattle.gs_block.specs.Follows.{Follows, Does, Answers, Makes, Refuses, Judges, HandsBack, MakesOf};
 ghost use Rattle.gs_block.specs.Images.{Images, AreFirst, undone, touched, damage_before};
 ghost use Rattle.gs_replica.specs.Held.{Held};
-ghost use Rattle.gs_replica.specs.Edits.{fresh, promise, apply, judged, Refuses, Judges, is_before, is_same, is_old, edited, outcome_of, with_edit, damage, held_of, copied, start_of, end_of, done_by};
+ghost use Rattle.gs_replica.specs.Edits.{fresh, promise, apply, judged, foreseen, is_outside, is_before, is_same, is_old, edited, outcome_of, with_edit, damage, held_of, copied, start_of, end_of, done_by};
 ghost use Rattle.gs_replica.specs.Undo.{undo};
 ghost use Rattle.gs_replica.specs.First.{done_before, HasSealed};
 ghost use Rattle.gs_replica.specs.Seals.{lowest_damaged};
-ghost use Rattle.gs_replica.specs.Copies.{image_of};
+ghost use Rattle.gs_replica.specs.Copies.{SealedImage, image_of, carried_of};
 
 use crate::done::DoneTable;
 use crate::first::FirstEntries;
 use crate::image::{Image, SealedImage};
 use crate::op::{Done, Op, Outcome};
 use gs_base::{ClientId, Refusal, ReqId, Stamp};
-use gs_block::{BlockInverse, Blocks, Digest, Images};
+use gs_block::{BlockInverse, BlockParts, Blocks, Digest, Images, Refused, Sizes};
 use std::alloc::Global;
 use std::marker::Model;
 
@@ -66,14 +66,11 @@ fn is_same(stamp: Stamp, other: Stamp) -> bool
 
 impl Live {
     /// A replica without edits, which has promised a stamp.
-    pub(crate) fn new(alloc: Global, block: u64, chunk: u64, stamp: Stamp) -> Live
-        requires some { 1 ≤ block }
-        requires block_fits { block ≤ 65536 }
-        requires chunk_fits { chunk ≤ 67108864 }
-        ensures { result ≡ fresh block chunk stamp }
+    pub(crate) fn new(alloc: Global, sizes: Sizes, stamp: Stamp) -> Live
+        ensures { result ≡ fresh sizes.block sizes.chunk stamp }
     {
         Live {
-            blocks: Blocks::new(alloc, block, chunk),
+            blocks: Blocks::new(alloc, sizes),
             count: 0,
             done: DoneTable::new(alloc),
             promise: stamp,
@@ -83,53 +80,79 @@ impl Live {
     /// A replica of an image, which has promised a stamp. `Range` where its bytes pass the size of the chunk.
     pub(crate) fn of(
         alloc: Global,
-        block: u64,
-        chunk: u64,
+        sizes: Sizes,
         stamp: Stamp,
         image: Image,
-    ) -> Result<Live, Refusal>
-        requires some { 1 ≤ block }
-        requires block_fits { block ≤ 65536 }
-        requires chunk_fits { chunk ≤ 67108864 }
-        ensures { Makes (held_of stamp image.count image.done (blocks.chunk_of block chunk image.bytes)) result }
+    ) -> Result<Live, Refused<Image>>
+        ensures { MakesOf image (held_of stamp image.count image.done (blocks.chunk_of sizes.block sizes.chunk image.bytes)) result }
     {
-        Ok(Live {
-            blocks: Blocks::of(alloc, block, chunk, image.bytes)?,
-            count: image.count,
-            done: image.done,
-            promise: stamp,
-        })
+        let Image { bytes, count, done } = image;
+        match Blocks::of(alloc, sizes, bytes) {
+            Ok(blocks) => Ok(Live {
+                blocks,
+                count,
+                done,
+                promise: stamp,
+            }),
+            Err(refused) => Err(Refused {
+                refusal: refused.refusal,
+                given: Image {
+                    bytes: refused.given,
+                    count,
+                    done,
+                },
+            }),
+        }
     }
 
     /// A replica as a sealed image says, with its digests as they are carried. `Range` where its bytes pass the size of the
     /// chunk, and `BadLine` where its digests are not as many as the blocks. It takes no memory.
     pub(crate) fn carried(
         alloc: Global,
-        block: u64,
-        chunk: u64,
+        sizes: Sizes,
         sealed: SealedImage,
-    ) -> Result<Live, Refusal>
-        requires some { 1 ≤ block }
-        requires block_fits { block ≤ 65536 }
-        requires chunk_fits { chunk ≤ 67108864 }
-        ensures { Answers (λ live. live) (held_of sealed.stamp sealed.image.count sealed.image.done (blocks.carried block chunk sealed.image.bytes sealed.digests)) result }
+    ) -> Result<Live, Refused<SealedImage>>
+        ensures made { HandsBack sealed (held_of sealed.stamp sealed.image.count sealed.image.done (blocks.carried sizes.block sizes.chunk sealed.image.bytes sealed.digests)) result }
+        ensures same { IfOk result (λ live. carried_of live ≡ sealed) }
     {
-        let Image { bytes, count, done } = sealed.image;
-        Ok(Live {
-            blocks: Blocks::carried(alloc, block, chunk, bytes, sealed.digests)?,
-            count,
-            done,
-            promise: sealed.stamp,
-        })
+        let SealedImage {
+            image,
+            stamp,
+            digests,
+        } = sealed;
+        let Image { bytes, count, done } = image;
+        match Blocks::carried(alloc, sizes, BlockParts { bytes, digests }) {
+            Ok(blocks) => Ok(Live {
+                blocks,
+                count,
+                done,
+                promise: stamp,
+            }),
+            Err(refused) => Err(Refused {
+                refusal: refused.refusal,
+                given: sealed_image_of(refused.given, count, done, stamp),
+            }),
+        }
+    }
+
+    /// The sealed image as which a replica stands that is sealed there.
+    pub(crate) fn into_sealed_image(self) -> SealedImage
+        ensures { result ≡ carried_of self }
+    {
+        sealed_image_of(
+            self.blocks.into_parts(),
+            self.count,
+            self.done,
+            self.promise,
+        )
     }
 
     /// What a copy carries of the replica as it stands. Every block is verified first: `Damaged` names the lowest that fails.
     pub(crate) fn image(&self) -> Result<Image, Refusal>
         ensures { Makes (unless_damaged (lowest_damaged self.now.chunk) (image_of self.now)) result }
     {
-        let (bytes, _digests) = self.blocks.copy()?.into_parts();
         Ok(Image {
-            bytes,
+            bytes: self.blocks.copy_bytes()?,
             count: self.count,
             done: self.done.copy()?,
         })
@@ -161,7 +184,7 @@ impl Live {
 
     /// Applies an edit. `Stamp` with the promise where the stamp is not the promised one, `Gap` with the count where the
     /// number is not the count and 1, `Old` where the request's number is not above the client's last applied one, then
-    /// `Range` and `Damaged` as the chunk decides.
+    /// `Range` and `Damaged` as the chunk decides. All but `Damaged` are answered whatever memory there is.
     pub(crate) fn apply(
         &mut self,
         stamp: Stamp,
@@ -171,7 +194,7 @@ impl Live {
         bytes: &[u8],
     ) -> Result<ReplicaInverse, Refusal>
         ensures edit { Follows (apply stamp number req op bytes.now self.old) result self.old self.new }
-        ensures judged { Refuses (judged stamp number req self.old) result }
+        ensures judged { Refuses (foreseen stamp number req op bytes.now self.old) result }
         ensures undo { IfOk result (λ i. undo i self.new ≡ Ok self.old) }
         ensures intact { KeepsIntact result self.old.chunk self.new.chunk }
         ensures span { IfOk result (λ i. i.blocks ≡ inverses.inverse_of self.old.chunk (start_of op self.old.chunk) (end_of op bytes.now self.old.chunk)) }
@@ -180,12 +203,45 @@ impl Live {
         ensures count { OnOk result (self.new.count ≡ self.old.count + 1) }
         ensures refused { OnErr result (self.new ≡ self.old) }
     {
-        self.judge(stamp, number, req)?;
+        self.foresee(stamp, number, req, op, bytes)?;
         self.take(number, req, op, bytes)
     }
 
-    /// Judges an edit by its stamp, number and request, as `apply` says. It takes no memory.
-    pub(crate) fn judge(&self, stamp: Stamp, number: u64, req: ReqId) -> Result<(), Refusal>
+    /// Whether an edit has no bytes, or would end past the size of the chunk.
+    fn is_outside(&self, op: Op, bytes: &[u8]) -> bool
+        ensures { result ≡ is_outside op bytes.now self.now.chunk }
+    {
+        match op {
+            Op::Write(offset) => self.blocks.is_outside(offset, bytes),
+            Op::Append => self.blocks.is_outside(self.blocks.len(), bytes),
+            Op::Pad => false,
+        }
+    }
+
+    /// Judges an edit by its stamp, number, request and length, as `apply` says. It takes no memory.
+    pub(crate) fn foresee(
+        &self,
+        stamp: Stamp,
+        number: u64,
+        req: ReqId,
+        op: Op,
+        bytes: &[u8],
+    ) -> Result<(), Refusal>
+        ensures judged { Judges (foreseen stamp number req op bytes.now self.now) result }
+        ensures accepted { OnOk result (judged stamp number req self.now ≡ None) }
+        ensures next { OnOk result (number ≡ self.now.count + 1) }
+        ensures told { IfErr result (λ refusal. foreseen stamp number req op bytes.now self.now ≡ Some refusal) }
+        ensures refused { IfErr result (λ refusal. apply stamp number req op bytes.now self.now ≡ Err refusal) }
+    {
+        self.judge(stamp, number, req)?;
+        if self.is_outside(op, bytes) {
+            return Err(Refusal::Range);
+        }
+        Ok(())
+    }
+
+    /// Judges an edit by its stamp, number and request.
+    fn judge(&self, stamp: Stamp, number: u64, req: ReqId) -> Result<(), Refusal>
         ensures judged { Judges (judged stamp number req self.now) result }
         ensures accepted { OnOk result (judged stamp number req self.now ≡ None) }
         ensures next { OnOk result (number ≡ self.now.count + 1) }
@@ -360,6 +416,21 @@ impl Live {
         ensures images { (i : Images) → AreFirst i self.old.chunk → OnOk result ((undone i self.new.chunk ≡ damage_before block (touched i) (undone i self.old.chunk)) × AreFirst i self.new.chunk) }
     {
         self.blocks.damage(block)
+    }
+}
+
+/// The sealed image of these bytes and digests.
+fn sealed_image_of(parts: BlockParts, count: u64, done: DoneTable, stamp: Stamp) -> SealedImage
+    ensures { result ≡ record { image = record { bytes = parts.bytes.items; count = count; done = done }; stamp = stamp; digests = parts.digests.items } }
+{
+    SealedImage {
+        image: Image {
+            bytes: parts.bytes,
+            count,
+            done,
+        },
+        stamp,
+        digests: parts.digests,
     }
 }
 

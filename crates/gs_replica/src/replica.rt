@@ -3,9 +3,9 @@ ghost use Rattle.std.specs.FinMap as fin;
 ghost use Rattle.gs_block.specs.Stored.{Stored, are_digests};
 ghost use Rattle.gs_block.specs.Edits as blocks;
 ghost use Rattle.gs_block.specs.Kept.{KeepsIntact};
-ghost use Rattle.gs_block.specs.Follows.{Follows, Does, Answers, Makes};
-ghost use Rattle.gs_replica.specs.Edits.{fresh, copied, judged, Refuses};
-ghost use Rattle.gs_replica.specs.Seals.{State, with_seal, holding, seal, unseal, apply, undo, promise, damage, roll_back, sealed_at, images_of, sealed_length, HandsBack};
+ghost use Rattle.gs_block.specs.Follows.{Follows, Does, Answers, Makes, Refuses, HandsBack, MakesOf};
+ghost use Rattle.gs_replica.specs.Edits.{fresh, copied, foreseen};
+ghost use Rattle.gs_replica.specs.Seals.{State, with_seal, holding, seal, unseal, apply, undo, promise, damage, roll_back, sealed_at, images_of, sealed_length};
 ghost use Rattle.gs_replica.specs.Copies.{image, sealed_image, of_image, of_sealed};
 ghost use Rattle.gs_replica.specs.Whole.{IsWhole};
 
@@ -17,7 +17,7 @@ use crate::seal::{
     Seal, apply_sealed, begin, damage_sealed, image_bytes, sealed_image, undo_sealed,
 };
 use gs_base::{ClientId, Refusal, ReqId, Stamp};
-use gs_block::Digest;
+use gs_block::{Digest, Refused, Sizes};
 use std::alloc::{AllocError, Global};
 use std::marker::Model;
 
@@ -43,14 +43,11 @@ impl Model for Replica {
 
 impl Replica {
     /// A replica without edits, which has promised a stamp and is not sealed.
-    pub fn new(alloc: Global, block: u64, chunk: u64, stamp: Stamp) -> Replica
-        requires some { 1 ≤ block }
-        requires block_fits { block ≤ 65536 }
-        requires chunk_fits { chunk ≤ 67108864 }
-        ensures { result ≡ record { held = fresh block chunk stamp; sealed = None } }
+    pub fn new(alloc: Global, sizes: Sizes, stamp: Stamp) -> Replica
+        ensures { result ≡ record { held = fresh sizes.block sizes.chunk stamp; sealed = None } }
     {
         Replica {
-            live: Live::new(alloc, block, chunk, stamp),
+            live: Live::new(alloc, sizes, stamp),
             seal: None,
         }
     }
@@ -59,20 +56,14 @@ impl Replica {
     /// and their digests anew. `Range` where they pass the size of the chunk.
     pub fn of(
         alloc: Global,
-        block: u64,
-        chunk: u64,
+        sizes: Sizes,
         stamp: Stamp,
         image: Image,
-    ) -> Result<Replica, Refusal>
-        requires some { 1 ≤ block }
-        requires block_fits { block ≤ 65536 }
-        requires chunk_fits { chunk ≤ 67108864 }
-        ensures { Makes (of_image block chunk stamp image) result }
+    ) -> Result<Replica, Refused<Image>>
+        ensures { MakesOf image (of_image sizes.block sizes.chunk stamp image) result }
     {
-        Ok(Replica {
-            live: Live::of(alloc, block, chunk, stamp, image)?,
-            seal: None,
-        })
+        let live = Live::of(alloc, sizes, stamp, image)?;
+        Ok(Replica { live, seal: None })
     }
 
     /// A replica that stands as a sealed image says, under the promise that it carries, and is sealed there. It takes the bytes
@@ -80,21 +71,22 @@ impl Replica {
     /// `BadLine` where the digests are not as many as the blocks.
     pub fn of_sealed(
         alloc: Global,
-        block: u64,
-        chunk: u64,
+        sizes: Sizes,
         sealed: SealedImage,
-    ) -> Result<Replica, Refusal>
-        requires some { 1 ≤ block }
-        requires block_fits { block ≤ 65536 }
-        requires chunk_fits { chunk ≤ 67108864 }
-        ensures { Makes (of_sealed block chunk sealed) result }
+    ) -> Result<Replica, Refused<SealedImage>>
+        ensures { MakesOf sealed (of_sealed sizes.block sizes.chunk sealed) result }
     {
-        let live = Live::carried(alloc, block, chunk, sealed)?;
-        let seal = begin(&live)?;
-        Ok(Replica {
-            live,
-            seal: Some(seal),
-        })
+        let live = Live::carried(alloc, sizes, sealed)?;
+        match begin(&live) {
+            Ok(seal) => Ok(Replica {
+                live,
+                seal: Some(seal),
+            }),
+            Err(refused) => Err(Refused {
+                refusal: Refusal::from(refused),
+                given: live.into_sealed_image(),
+            }),
+        }
     }
 
     /// What a copy carries of the replica as it stands, sealed or not. Every block is verified first: `Damaged` names the lowest
@@ -137,8 +129,8 @@ impl Replica {
 
     /// Applies an edit. `Stamp` with the promise where the stamp is not the promised one, `Gap` with the count where the
     /// number is not the count and 1, `Old` where the request's number is not above the client's last applied one, then
-    /// `Range` and `Damaged` as the chunk decides. The first three are answered whatever memory there is. A sealed replica keeps
-    /// what undoing gives.
+    /// `Range` and `Damaged` as the chunk decides. All but `Damaged` are answered whatever memory there is. A sealed replica
+    /// keeps what undoing gives.
     pub fn apply(
         &mut self,
         stamp: Stamp,
@@ -148,7 +140,7 @@ impl Replica {
         bytes: &[u8],
     ) -> Result<ReplicaInverse, Refusal>
         ensures edit { Follows (apply stamp number req op bytes.now self.old) result self.old self.new }
-        ensures judged { Refuses (judged stamp number req self.old.held) result }
+        ensures judged { Refuses (foreseen stamp number req op bytes.now self.old.held) result }
         ensures undo { IfOk result (λ i. undo i self.new ≡ Ok (holding self.old.held self.new)) }
         ensures intact { KeepsIntact result self.old.held.chunk self.new.held.chunk }
     {
@@ -211,25 +203,31 @@ impl Replica {
     /// Takes the replica back to where it was sealed: the bytes, digests, count and requests as sealed stand again, under the
     /// promise that was made since, and the seal goes. `Damaged` names the lowest block that undoing gives without its sealed
     /// digest, and the replica is handed back as it was; `BadLine` where it is not sealed. It takes no memory.
-    pub fn roll_back(self) -> Result<Replica, (Replica, Refusal)>
-        ensures { HandsBack (roll_back self) result self }
+    pub fn roll_back(self) -> Result<Replica, Refused<Replica>>
+        ensures { HandsBack self (roll_back self) result }
     {
         let Replica { live, seal } = self;
         match seal {
             Some(seal) => match live.blocks().damaged_before(&seal.images) {
                 Some(block) => {
-                    let sealed = Replica {
+                    let given = Replica {
                         live,
                         seal: Some(seal),
                     };
-                    Err((sealed, Refusal::Damaged(block)))
+                    Err(Refused {
+                        refusal: Refusal::Damaged(block),
+                        given,
+                    })
                 }
                 None => Ok(Replica {
                     live: live.restored(seal.images, seal.count, seal.first),
                     seal: None,
                 }),
             },
-            None => Err((Replica { live, seal: None }, Refusal::BadLine)),
+            None => Err(Refused {
+                refusal: Refusal::BadLine,
+                given: Replica { live, seal: None },
+            }),
         }
     }
 

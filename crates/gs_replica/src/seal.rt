@@ -1,11 +1,11 @@
 ghost use Rattle.std.specs.Prelude.{◌≡◌, ◌≤◌, ◌+◌, ◌==◌, ℕ, IfOk, OnOk, Option, Some, None, Ok, Result, length, min};
 ghost use Rattle.gs_block.specs.Stored.{Stored, IsStored};
-ghost use Rattle.gs_replica.specs.Edits.{start_of, end_of, Refuses};
+ghost use Rattle.gs_replica.specs.Edits.{start_of, end_of};
 ghost use Rattle.gs_replica.specs.Edits as edits;
 ghost use Rattle.gs_replica.specs.Undo as undos;
 ghost use Rattle.gs_block.specs.Images.{AreFirst};
 ghost use Rattle.gs_block.specs.Kept.{KeepsIntact};
-ghost use Rattle.gs_block.specs.Follows.{Follows, Does, Makes};
+ghost use Rattle.gs_block.specs.Follows.{Follows, Does, Makes, Refuses};
 ghost use Rattle.gs_replica.specs.Held.{Held};
 ghost use Rattle.gs_replica.specs.Seals.{images_of, sealed_length, State, Sealed, sealed_of, apply, undo, damage, can_undo, holding, on_seal, damage_seal, with_seal};
 ghost use Rattle.gs_replica.specs.Copies.{sealed_image_of};
@@ -16,7 +16,7 @@ use crate::image::{Image, SealedImage};
 use crate::live::{Live, ReplicaInverse};
 use crate::op::Op;
 use gs_base::{Refusal, ReqId, Stamp};
-use gs_block::{Blocks, Images};
+use gs_block::{BlockParts, Blocks, Images};
 use std::alloc::AllocError;
 
 /// What takes a replica back to where it was sealed.
@@ -55,12 +55,12 @@ pub(crate) fn apply_sealed(
 ) -> Result<ReplicaInverse, Refusal>
     requires belongs { Belongs live.old seal.old }
     ensures edit { Follows (apply stamp number req op bytes.now (state_of live.old seal.old)) result (state_of live.old seal.old) (state_of live.new seal.new) }
-    ensures judged { Refuses (edits.judged stamp number req live.old) result }
+    ensures judged { Refuses (edits.foreseen stamp number req op bytes.now live.old) result }
     ensures undo { IfOk result (λ i. undo i (state_of live.new seal.new) ≡ Ok (holding live.old (state_of live.new seal.new))) }
     ensures intact { KeepsIntact result live.old.chunk live.new.chunk }
     ensures belongs { Belongs live.new seal.new }
 {
-    live.judge(stamp, number, req)?;
+    live.foresee(stamp, number, req, op, bytes)?;
     let (start, end) = span(live.blocks(), op, bytes);
     let missing = seal.images.missing(live.blocks(), start, end)?;
     let is_first = seal.first.keep(req.client, live.done(req.client))?;
@@ -138,7 +138,7 @@ pub(crate) fn sealed_image(live: &Live, seal: &Seal) -> Result<SealedImage, Refu
     requires belongs { Belongs live.now seal.now }
     ensures { Makes (sealed_image_of (Some (seen live.now seal.now))) result }
 {
-    let (bytes, digests) = live.blocks().copy_before(&seal.images)?.into_parts();
+    let BlockParts { bytes, digests } = live.blocks().copy_before(&seal.images)?.into_parts();
     let image = Image {
         bytes,
         count: seal.count,

@@ -1,6 +1,6 @@
 use crate::texts::{hex, line};
 use gs_base::Refusal;
-use gs_block::{BlockInverse, Blocks, Digest};
+use gs_block::{BlockInverse, Blocks, Digest, Sizes};
 use std::alloc::Global;
 use std::process::Abort;
 use std::test::Fail;
@@ -38,7 +38,13 @@ struct Player {
 fn new_player(alloc: Global) -> Player {
     Player {
         alloc,
-        chunk: Blocks::new(alloc, 4, 16),
+        chunk: Blocks::new(
+            alloc,
+            Sizes {
+                block: 4,
+                chunk: 16,
+            },
+        ),
         last: None,
     }
 }
@@ -202,7 +208,11 @@ fn leaves_a_damaged_chunk(rt: HostRuntime) -> Result<(), Fail> {
 }
 
 fn chunk_of(alloc: Global, bytes: &[u8]) -> Result<Blocks, Refusal> {
-    Blocks::of(alloc, 64, 64, bytes.to_vec(alloc)?)
+    let sizes = Sizes {
+        block: 64,
+        chunk: 64,
+    };
+    Ok(Blocks::of(alloc, sizes, bytes.to_vec(alloc)?)?)
 }
 
 fn copy_of(chunk: &Blocks) -> Result<Blocks, Refusal> {

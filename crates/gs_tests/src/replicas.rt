@@ -1,10 +1,17 @@
 use crate::texts::{hex, line};
 use gs_base::{ClientId, Refusal, ReqId, Stamp};
+use gs_block::{Refused, Sizes};
 use gs_replica::{Op, Replica, ReplicaInverse};
 use std::alloc::Global;
 use std::mem;
 use std::process::Abort;
 use std::test::Fail;
+
+/// A chunk of 16 bytes in blocks of 4.
+const SIZES: Sizes = Sizes {
+    block: 4,
+    chunk: 16,
+};
 
 fn stamp(version: u64) -> Stamp {
     Stamp { epoch: 0, version }
@@ -79,7 +86,7 @@ struct Player {
 fn new_player(alloc: Global) -> Player {
     Player {
         alloc,
-        replica: Replica::new(alloc, 4, 16, stamp(1)),
+        replica: Replica::new(alloc, SIZES, stamp(1)),
         last: None,
     }
 }
@@ -124,14 +131,14 @@ fn damage(player: &mut Player, block: u64) -> Result<(), Refusal> {
 }
 
 fn roll_back(player: &mut Player) -> Result<(), Refusal> {
-    let empty = Replica::new(player.alloc, 4, 16, stamp(1));
+    let empty = Replica::new(player.alloc, SIZES, stamp(1));
     match mem::replace(&mut player.replica, empty).roll_back() {
         Ok(back) => {
             player.replica = back;
             Ok(())
         }
-        Err((held, refusal)) => {
-            player.replica = held;
+        Err(Refused { refusal, given }) => {
+            player.replica = given;
             Err(refusal)
         }
     }
@@ -144,13 +151,13 @@ fn copy(player: &mut Player, version: u64) -> Result<(), Refusal> {
 
 fn carry(player: &mut Player, version: u64) -> Result<(), Refusal> {
     let image = player.replica.image()?;
-    player.replica = Replica::of(player.alloc, 4, 16, stamp(version), image)?;
+    player.replica = Replica::of(player.alloc, SIZES, stamp(version), image)?;
     Ok(())
 }
 
 fn carry_sealed(player: &mut Player) -> Result<(), Refusal> {
     let image = player.replica.sealed_image()?;
-    player.replica = Replica::of_sealed(player.alloc, 4, 16, image)?;
+    player.replica = Replica::of_sealed(player.alloc, SIZES, image)?;
     Ok(())
 }
 

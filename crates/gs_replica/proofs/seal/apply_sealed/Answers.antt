@@ -1,4 +1,4 @@
-use Rattle.std.proofs.Common.{◌≡◌, ◌+◌, ◌≤◌, Some, length, min, sym, ap, subst, ◌∙◌, arith, true}
+use Rattle.std.proofs.Common.{◌≡◌, ◌+◌, ◌≤◌, Some, length, min, sym, ap, subst, ◌∙◌, arith, true, rules}
 use Rattle.std.specs.Prelude.{Ok, Err, cond, ◌&&◌}
 use Rattle.gs_block.specs.Stored.{Stored, IsStored}
 use Rattle.gs_block.specs.Images.{missing, touched, covers}
@@ -15,7 +15,7 @@ use Rattle.std.specs.FinMap as fin
 use Rattle.gs_replica.specs.First.{First, keep_first, done_before, fits, HasSealed}
 use Rattle.gs_replica.proofs.Firsts.{kept_over, has_kept, fits_kept, back_kept}
 use Rattle.gs_replica.specs.View.{seen, state_of, Belongs}
-use Rattle.gs_replica.proofs.Sealing.{state, once_judged, follows_ok, follows_err, undo_back, long_undone, missing_same, can, both}
+use Rattle.gs_replica.proofs.Sealing.{state, once_judged, follows_ok, follows_err, undo_back, long_undone, missing_same, can, both, refuses}
 use Rattle.gs_replica.proofs.seal.apply_sealed.Goals as goal
 
 -- the first entries after a refusal
@@ -33,7 +33,7 @@ returns-in-Err-clause-edit c =
     let seal : Seal = c.args.seal.now in
     let after : Seal = record { stamp = seal.stamp; count = seal.count; images = seal.images; first = c.take_back.new.self } in
     follows_err ReplicaInverse c.in-Err.refusal (edits.apply c.args.stamp c.args.number c.args.req c.args.op c.args.bytes.now old) (Some (touch_seal c.args.req c.args.op c.args.bytes.now old (seen old seal)))
-    old c.take.new.self (state_of old seal) (state_of c.take.new.self after) (once_judged ReplicaInverse c.args.stamp c.args.number c.args.req c.args.op c.args.bytes.now (Err c.in-Err.refusal) old c.take.new.self c.in_ok-judge.ensures.accepted c.in-Err.ensures.edit)
+    old c.take.new.self (state_of old seal) (state_of c.take.new.self after) (once_judged ReplicaInverse c.args.stamp c.args.number c.args.req c.args.op c.args.bytes.now (Err c.in-Err.refusal) old c.take.new.self c.in_ok-foresee.ensures.accepted c.in-Err.ensures.edit)
     (ap (λ (h : Held). state_of h after) c.in-Err.ensures.refused ∙ ap (λ (f : First). state_of old (let s : Seal = record { stamp = seal.stamp; count = seal.count; images = seal.images; first = f } in s)) (taken_back c))
 
 pub returns-in-Err-clause-belongs : goal.returns-in-Err-clause-belongs
@@ -90,7 +90,7 @@ returns-in-Ok-clause-edit c =
       touched = c.keep-in-Ok.ensures.touched old.chunk start end first miss k;
       first = kept c k;
     } in
-    follows_ok ReplicaInverse c.in-Ok.inverse (edits.apply c.args.stamp c.args.number c.args.req op bytes old) (Some t) old new (state_of old seal) (state_of new after) (once_judged ReplicaInverse c.args.stamp c.args.number c.args.req c.args.op c.args.bytes.now (Ok c.in-Ok.inverse) c.args.live.now c.take.new.self c.in_ok-judge.ensures.accepted c.in-Ok.ensures.edit)
+    follows_ok ReplicaInverse c.in-Ok.inverse (edits.apply c.args.stamp c.args.number c.args.req op bytes old) (Some t) old new (state_of old seal) (state_of new after) (once_judged ReplicaInverse c.args.stamp c.args.number c.args.req c.args.op c.args.bytes.now (Ok c.in-Ok.inverse) c.args.live.now c.take.new.self c.in_ok-foresee.ensures.accepted c.in-Ok.ensures.edit)
     (ap (λ (x : Sealed). state new (Some x)) is)
 
 pub returns-in-Ok-clause-undo : goal.returns-in-Ok-clause-undo
@@ -172,3 +172,6 @@ returns-in-Ok-clause-belongs c =
       later = omega arith;
       has = subst (λ (f : First). HasSealed f new.done) (sym (kept c)) (subst (HasSealed (keep_first client (fin.get old.done client) seal.first)) (sym c.in-Ok.ensures.done) (has_kept seal.first old.done client (done_by c.args.req.number op old.chunk) c.requires.belongs.has));
     }
+
+pub returns-in_err-foresee-clause-judged : goal.returns-in_err-foresee-clause-judged
+returns-in_err-foresee-clause-judged c = refuses _ _ _ _ c.in_err-foresee.ensures.told (search rules)

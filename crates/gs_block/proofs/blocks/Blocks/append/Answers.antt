@@ -1,8 +1,7 @@
 use Rattle.std.proofs.Common.{◌≡◌, ◌+◌, length, subst, sym, ap, ◌∙◌, min}
-use Rattle.std.specs.Prelude.{◌==◌, ◌||◌, nat_lt, false}
 use Rattle.gs_block.specs.Chunk.{written}
 use Rattle.gs_block.specs.Stored.{Stored}
-use Rattle.gs_block.specs.Edits.{changed}
+use Rattle.gs_block.specs.Edits.{changed, is_outside}
 use Rattle.gs_block.specs.Follows.{Follows}
 use Rattle.gs_block.specs.declared.inverse.BlockInverse.{BlockInverse}
 use Rattle.gs_block.proofs.Following.{append_follows}
@@ -14,6 +13,5 @@ returns-clause-edit c =
     let piece = c.args.piece.now in
     let held : c.len-held.result ≡ length s.bytes = c.len-held.ensures ∙ c.self.inside.bytes.ok.0 ∙ ap (λ (t : Stored). length t.bytes) c.self.view_is in
     append_follows BlockInverse c.put.result s c.put.new.self piece
-    (subst (λ (t : Stored). ((length piece == 0) || nat_lt t.chunk (length t.bytes + length piece)) ≡ false) c.self.view_is
-    (ap (λ h. (length piece == 0) || nat_lt c.self.inside.chunk (h + length piece)) (sym (c.len-held.ensures ∙ c.self.inside.bytes.ok.0)) ∙ sym c.is_outside.ensures ∙ c.if-is_outside.false))
+    (ap (λ h. is_outside s h piece) (sym held) ∙ sym c.is_outside.ensures ∙ c.if-is_outside.false)
     (subst (λ h. Follows {B = BlockInverse} (changed s (min h (length s.bytes)) (h + length piece) (written h piece s.bytes)) c.put.result s c.put.new.self) held c.put.ensures.edit)

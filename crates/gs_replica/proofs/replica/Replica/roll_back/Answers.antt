@@ -1,14 +1,15 @@
 use Rattle.std.proofs.Common.{◌≡◌, Some, None, refl, sym, ap, subst, ◌∙◌}
 use Rattle.std.specs.Prelude.{Ok, Err, Result, length}
-use Rattle.gs_base.specs.declared.refusal.Refusal.{Refusal}
 use Rattle.gs_base.specs.declared.refusal.Refusal.TheVariants as refusals
 use Rattle.gs_block.specs.Stored.{Stored, first_damaged}
 use Rattle.gs_block.specs.Images.{undone}
+use Rattle.gs_block.specs.Follows.{HandsBack}
+use Rattle.gs_block.specs.declared.refused.Refused.{Refused}
 use Rattle.gs_replica.specs.declared.seal.Seal.{Seal}
 use Rattle.gs_replica.specs.Held.{Held}
-use Rattle.gs_replica.specs.Seals.{State, lowest_damaged, roll_back, HandsBack}
+use Rattle.gs_replica.specs.Seals.{State, lowest_damaged, roll_back}
 use Rattle.gs_replica.specs.View.{seen, seen_in, state_of}
-use Rattle.gs_replica.proofs.Sealing.{state, rolls_back, hands_back}
+use Rattle.gs_replica.proofs.Sealing.{state, refused, rolls_back, hands_back}
 use Rattle.gs_replica.proofs.replica.Replica.roll_back.Goals as goal
 
 pub returns-in-Some-damaged_before : goal.returns-in-Some-damaged_before
@@ -18,9 +19,9 @@ returns-in-Some-damaged_before c =
     let block = c.in-Some-damaged_before.block in
     let found : lowest_damaged (undone seal.images live.chunk) ≡ Some block =
     ap (λ (s : Stored). first_damaged s.block (undone seal.images s).bytes seal.images.digests 0 (length seal.images.digests)) (sym c.blocks-in-Some.ensures) ∙ sym c.damaged_before.ensures ∙ c.in-Some-damaged_before.is in
-    let answer : State → Result State (State × Refusal) = λ s. Err (s, refusals.Damaged block) in
-    subst (λ (s : State). HandsBack (roll_back s) (answer (state_of live seal)) s) c.self.view_is
-    (subst (λ o. HandsBack (roll_back (state live (seen_in live o))) (answer (state_of live seal)) (state live (seen_in live o))) (sym c.in-Some.is)
+    let answer : State → Result State (Refused State) = λ s. Err (refused (refusals.Damaged block) s) in
+    subst (λ (s : State). HandsBack s (roll_back s) (answer (state_of live seal))) c.self.view_is
+    (subst (λ o. HandsBack (state live (seen_in live o)) (roll_back (state live (seen_in live o))) (answer (state_of live seal))) (sym c.in-Some.is)
     (hands_back (seen live seal) live.promise (state_of live seal) (state_of live seal) block found refl))
 
 pub returns-in-None-damaged_before : goal.returns-in-None-damaged_before
@@ -30,13 +31,13 @@ returns-in-None-damaged_before c =
     let none : lowest_damaged (undone seal.images live.chunk) ≡ None =
     ap (λ (s : Stored). first_damaged s.block (undone seal.images s).bytes seal.images.digests 0 (length seal.images.digests)) (sym c.blocks-in-Some.ensures) ∙ sym c.damaged_before.ensures ∙ c.in-None-damaged_before.is in
     let after = state c.restored.result None in
-    subst (λ (s : State). HandsBack (roll_back s) (Ok after) s) c.self.view_is
-    (subst (λ o. HandsBack (roll_back (state live (seen_in live o))) (Ok after) (state live (seen_in live o))) (sym c.in-Some.is)
+    subst (λ (s : State). HandsBack s (roll_back s) (Ok after)) c.self.view_is
+    (subst (λ o. HandsBack (state live (seen_in live o)) (roll_back (state live (seen_in live o))) (Ok after)) (sym c.in-Some.is)
     (rolls_back (seen live seal) live.promise after (state_of live seal) none (ap (λ (h : Held). state h None) c.restored.ensures)))
 
 pub returns-in-None : goal.returns-in-None
 returns-in-None c =
     let live : Held = c.self.inside.live in
-    let answer : Result State (State × Refusal) = Err (state live None, refusals.BadLine) in
-    subst (λ (s : State). HandsBack (roll_back s) answer s) c.self.view_is
-    (subst (λ o. HandsBack (roll_back (state live (seen_in live o))) answer (state live (seen_in live o))) (sym c.in-None.is) (refl, refl))
+    let answer : Result State (Refused State) = Err (refused refusals.BadLine (state live None)) in
+    subst (λ (s : State). HandsBack s (roll_back s) answer) c.self.view_is
+    (subst (λ o. HandsBack (state live (seen_in live o)) (roll_back (state live (seen_in live o))) answer) (sym c.in-None.is) (refl, refl))
