@@ -1,10 +1,16 @@
 //! What holds of each chunk that was written with some bytes, whatever was damaged since.
 
 ghost use Rattle.std.specs.Prelude.{◌≡◌, ◌≤◌, ◌<◌, ℕ, List, [], Bool, Ok, None, length, take, drop, true};
+ghost use Rattle.gs_base.specs.Configs.{is_config};
 ghost use Rattle.gs_block.specs.Chunk.{written, appended, padded};
 ghost use Rattle.gs_block.specs.Stored.{Stored, empty, block_at, is_intact, first_damaged};
 ghost use Rattle.gs_block.specs.Edits.{write, append, pad, read, damage};
 ghost use Rattle.gs_block.specs.Written.{WasWritten, ToldApart, TellsApart, HasBlocks};
+
+/// The sizes of each configuration are those of chunks.
+pub fn configurations_have_sizes()
+    ensures { (servers racks replicas block chunk : ℕ) → is_config servers racks replicas block chunk ≡ true → (1 ≤ block) × (block ≤ 65536) × (chunk ≤ 67108864) }
+{}
 
 /// What a chunk was written with, call by call: an edit that is accepted edits it plainly, and damage leaves it. A call that
 /// digests bytes anew has for a premise that digests tell the stored blocks from those that were written, where they differ.

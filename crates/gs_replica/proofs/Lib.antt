@@ -13,3 +13,4 @@ pub mod Returning
 pub mod Carried
 pub mod Requests
 pub mod Running
+pub mod Same

@@ -1,4 +1,4 @@
-ghost use Rattle.std.specs.Prelude.{◌≡◌, IfOk, OnOk, OnErr, None, is_some, true};
+ghost use Rattle.std.specs.Prelude.{◌≡◌, ◌↔◌, IsTrue, IfOk, OnOk, OnErr, None, is_some, true};
 ghost use Rattle.std.specs.FinMap as fin;
 ghost use Rattle.gs_replica.specs.Undo.{entry_before};
 ghost use Rattle.gs_replica.specs.First.{done_before, HasSealed};
@@ -51,6 +51,16 @@ impl DoneTable {
             alloc: self.alloc,
             entries: self.entries.clone()?,
         })
+    }
+
+    /// Whether another table is of the same requests.
+    pub fn is_same(&self, other: &DoneTable) -> bool
+        ensures { IsTrue result ↔ (self.now ≡ other.now) }
+    {
+        if self.entries.len() != other.entries.len() {
+            return false;
+        }
+        self.entries == other.entries
     }
 
     /// A client's last applied request.

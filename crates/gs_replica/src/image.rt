@@ -1,8 +1,9 @@
-ghost use Rattle.std.specs.Prelude.{◌≡◌};
+ghost use Rattle.std.specs.Prelude.{◌≡◌, ◌↔◌, IsTrue, IfOk};
 
 use crate::done::DoneTable;
 use gs_base::Stamp;
 use gs_block::Digest;
+use std::alloc::{AllocError, Global};
 use std::marker::Model;
 
 /// What a copy carries of a replica as it stands: its bytes, how many edits it has applied, and each client's last applied
@@ -30,6 +31,26 @@ impl Image {
         ensures { result ≡ record { bytes = bytes.items; count = count; done = done } }
     {
         Image { bytes, count, done }
+    }
+
+    /// A copy of the image.
+    pub fn copy(&self, alloc: Global) -> Result<Image, AllocError>
+        ensures { IfOk result (λ image. image ≡ self.now) }
+    {
+        Ok(Image {
+            bytes: Vec::from_slice(alloc, &self.bytes)?,
+            count: self.count,
+            done: self.done.copy()?,
+        })
+    }
+
+    /// Whether another image is the same.
+    pub fn is_same(&self, other: &Image) -> bool
+        ensures { IsTrue result ↔ (self.now ≡ other.now) }
+    {
+        self.count == other.count
+            && self.bytes.as_slice() == other.bytes.as_slice()
+            && self.done.is_same(&other.done)
     }
 
     pub fn bytes(&self) -> &[u8]
@@ -84,6 +105,26 @@ impl SealedImage {
         }
     }
 
+    /// A copy of the image.
+    pub fn copy(&self, alloc: Global) -> Result<SealedImage, AllocError>
+        ensures { IfOk result (λ image. image ≡ self.now) }
+    {
+        Ok(SealedImage {
+            image: self.image.copy(alloc)?,
+            stamp: self.stamp,
+            digests: Vec::from_slice(alloc, &self.digests)?,
+        })
+    }
+
+    /// Whether another image is the same.
+    pub fn is_same(&self, other: &SealedImage) -> bool
+        ensures { IsTrue result ↔ (self.now ≡ other.now) }
+    {
+        self.stamp == other.stamp
+            && are_same(&self.digests, &other.digests)
+            && self.image.is_same(&other.image)
+    }
+
     /// What undoing gives.
     pub fn image(&self) -> &Image
         ensures { result.now ≡ self.now.image }
@@ -104,4 +145,11 @@ impl SealedImage {
     {
         &self.digests
     }
+}
+
+/// Whether digests are the same in the same order.
+fn are_same(left: &[Digest], right: &[Digest]) -> bool
+    ensures { IsTrue result ↔ (left.now ≡ right.now) }
+{
+    left == right
 }

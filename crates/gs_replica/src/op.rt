@@ -19,7 +19,7 @@ pub enum Outcome {
 }
 
 /// The greatest number of a client's requests that was applied, and what it answered.
-#[derive(Clone, Copy, Debug)]
+#[derive(Clone, Copy, Debug, PartialEq, Eq)]
 pub struct Done {
     pub number: u64,
     pub outcome: Outcome,

@@ -247,10 +247,16 @@ impl Replica {
 
     /// The most bytes of the chunk.
     pub fn capacity(&self) -> u64
-        ensures size { result ≡ self.now.held.chunk.chunk }
-        ensures whole { IsWhole self.now }
+        ensures { result ≡ self.now.held.chunk.chunk }
     {
         self.live.capacity()
+    }
+
+    /// Every replica is whole. A caller whose proof asks this of a replica calls it; it changes nothing.
+    pub fn whole(&self)
+        ensures { IsWhole self.now }
+    {
+        let _capacity = self.live.capacity();
     }
 
     /// How many edits are applied.

@@ -151,13 +151,21 @@ fn copy(player: &mut Player, version: u64) -> Result<(), Refusal> {
 
 fn carry(player: &mut Player, version: u64) -> Result<(), Refusal> {
     let image = player.replica.image()?;
-    player.replica = Replica::of(player.alloc, SIZES, stamp(version), image)?;
+    let copy = image.copy(player.alloc)?;
+    if !copy.is_same(&image) {
+        return Err(Refusal::BadLine);
+    }
+    player.replica = Replica::of(player.alloc, SIZES, stamp(version), copy)?;
     Ok(())
 }
 
 fn carry_sealed(player: &mut Player) -> Result<(), Refusal> {
     let image = player.replica.sealed_image()?;
-    player.replica = Replica::of_sealed(player.alloc, SIZES, image)?;
+    let copy = image.copy(player.alloc)?;
+    if !copy.is_same(&image) {
+        return Err(Refusal::BadLine);
+    }
+    player.replica = Replica::of_sealed(player.alloc, SIZES, copy)?;
     Ok(())
 }
 

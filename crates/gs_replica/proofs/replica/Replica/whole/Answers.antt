@@ -2,10 +2,10 @@ use Rattle.std.proofs.Common.{subst}
 use Rattle.gs_replica.specs.Held.{Held}
 use Rattle.gs_replica.specs.Whole.{IsWhole}
 use Rattle.gs_replica.proofs.Carrying.{has_undone}
-use Rattle.gs_replica.proofs.replica.Replica.capacity.Goals as goal
+use Rattle.gs_replica.proofs.replica.Replica.whole.Goals as goal
 
-pub returns-clause-whole : goal.returns-clause-whole
-returns-clause-whole c =
+pub returns : goal.returns
+returns c =
     let live : Held = c.self.inside.live in
-    let stored = c.capacity.ensures.stored in
+    let stored = c.capacity-capacity.ensures.stored in
     subst IsWhole c.self.view_is (record { stands = stored; undoing = has_undone live c.self.inside.seal stored c.self.invariant })
