@@ -3,7 +3,8 @@ use Rattle.std.proofs.Common.{◌≡◌, ℕ, ◌+◌, ◌-◌, ◌*◌, ◌<◌
 use Rattle.std.specs.Prelude.{Option, Some, None, is_some}
 use Rattle.std.proofs.Math.Nat.{add-mul}
 use Rattle.std.proofs.lemmas.List.{length-map, map-append, take_more, take_all}
-use Rattle.gs_block.specs.Images.{IsImage, image_or, image_bytes}
+use Rattle.gs_block.specs.Images.{IsImage, image_bytes}
+use Rattle.gs_block.specs.Inside.{image_or}
 use Rattle.gs_block.proofs.Counts.{one_times}
 
 here_most : (x : Bool) (n : ℕ) → cond x n 0 ≤ n

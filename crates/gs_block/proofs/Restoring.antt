@@ -14,7 +14,8 @@ use Rattle.gs_block.specs.Stored.{Stored, IsStored, count_of, block_at, digest_a
 use Rattle.gs_block.specs.Edits.{unless_damaged, copied}
 use Rattle.gs_block.specs.Follows.{Makes}
 use Rattle.gs_block.specs.Inverses.{replaced}
-use Rattle.gs_block.specs.Images.{Images, AreFirst, undone, IsImage, byte_of, byte_before, bytes_before, block_before, image_or, put_image}
+use Rattle.gs_block.specs.Images.{Images, AreFirst, undone, IsImage, byte_of, byte_before, bytes_before, block_before}
+use Rattle.gs_block.specs.Inside.{image_or, put_image}
 use Rattle.gs_block.proofs.Counts.{starts, one_times}
 use Rattle.gs_block.proofs.Following.{length-replaced}
 use Rattle.gs_block.proofs.Sealed.{place_of, same_places, block_counted, length-block}

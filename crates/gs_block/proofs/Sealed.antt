@@ -10,7 +10,8 @@ use Rattle.std.proofs.lemmas.Nat.{le-div, div-add-mod'}
 use Rattle.std.proofs.Math.Nat.{div-mul-le_self, mod-lt, add-mul}
 use Rattle.std.proofs.lemmas.List.FromFn.{length-map-range_with_len, get_or-map-range_with_len}
 use Rattle.gs_block.specs.Stored.{Stored, count_of}
-use Rattle.gs_block.specs.Images.{AreFirst, Images, IsImage, Missing, block_before, byte_before, byte_of, bytes_before, copies_from, image_or, kept_at, kept_images, missing, missing_at, missing_of, or_else, touch, touched, undone}
+use Rattle.gs_block.specs.Images.{AreFirst, Images, IsImage, Missing, block_before, byte_before, byte_of, bytes_before, copies_from, missing, missing_at, missing_of, touch, touched, undone}
+use Rattle.gs_block.specs.Inside.{image_or, kept_at, kept_images, or_else}
 use Rattle.gs_block.specs.Kept.{Outside}
 use Rattle.gs_block.proofs.Counts.{count_mono, one_times}
 

@@ -45,13 +45,6 @@ Refuses None result = Unit {0}
 Refuses (Some e) (Ok b) = ⊥
 Refuses (Some e) (Err f) = f ≡ e
 
--- exactly what is refused is answered so
-abbrev pub Judges : {B : Type 0} → Option Refusal → Result B Refusal → Type 0
-Judges None (Ok b) = Unit {0}
-Judges None (Err f) = ⊥
-Judges (Some e) (Ok b) = ⊥
-Judges (Some e) (Err f) = f ≡ e
-
 -- it answers what the definition says, or hands back what it was given
 abbrev pub HandsBack : {A G : Type 0} → G → Result A Refusal → Result A (Refused G) → Type 0
 HandsBack given (Ok a) (Ok b) = b ≡ a

@@ -4,7 +4,7 @@ use Rattle.std.specs.List.{range_with_len}
 use Rattle.gs_base.specs.declared.refusal.Refusal.{Refusal}
 use Rattle.gs_block.specs.Stored.{Stored, count_of}
 use Rattle.gs_block.specs.Edits as edits
-use Rattle.gs_block.specs.Inverses.{Inverse, fits, replaced}
+use Rattle.gs_block.specs.Inverses.{Inverse, fits}
 
 -- the length and the digests as sealed, and for each sealed block its bytes as sealed where an edit has touched it since
 pub record Images : Type 0 where
@@ -34,16 +34,6 @@ undone i s = record { block = s.block; chunk = s.chunk; bytes = bytes_before s.b
 -- the bytes of a block as far as they are sealed
 unfoldable pub block_before : ℕ → ℕ → ℕ → List ℕ → List ℕ
 block_before size long k bytes = take (min size (long - k * size)) (drop (k * size) bytes)
-
--- an image, or the bytes where there is none
-abbrev pub image_or : Option (List ℕ) → List ℕ → List ℕ
-image_or None bytes = bytes
-image_or (Some image) bytes = image
-
--- an image put into its place, where there is one
-abbrev pub put_image : List ℕ → ℕ → Option (List ℕ) → List ℕ
-put_image bytes at None = bytes
-put_image bytes at (Some image) = replaced bytes at image
 
 -- whether each sealed block was touched
 abbrev pub touched : Images → List Bool
@@ -109,17 +99,6 @@ missing i s at end = record {
   first = at / s.block;
   copies = copies_from s.block i.long i.blocks s.bytes (at / s.block) (count_of s.block (min end i.long) - at / s.block);
 }
-
--- the images with copies in their places from the first on, where there is one
-abbrev pub or_else : Option (List ℕ) → Option (List ℕ) → Option (List ℕ)
-or_else None old = old
-or_else (Some copy) old = Some copy
-
-unfoldable pub kept_at : List (Option (List ℕ)) → ℕ → List (Option (List ℕ)) → ℕ → Option (List ℕ)
-kept_at images first copies k = cond (nat_le first k) (or_else (slice_index_or copies (k - first) None) (slice_index_or images k None)) (slice_index_or images k None)
-
-abbrev pub kept_images : List (Option (List ℕ)) → ℕ → List (Option (List ℕ)) → List (Option (List ℕ))
-kept_images images first copies = map (kept_at images first copies) (range_with_len 0 (length images))
 
 -- a chunk of 6 bytes in blocks of 4, sealed; then its first 5 bytes are overwritten
 abbrev sealed_chunk : Stored

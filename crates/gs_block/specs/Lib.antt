@@ -6,3 +6,4 @@ pub mod Follows
 pub mod Kept
 pub mod Images
 pub mod Written
+pub mod Inside

@@ -3,7 +3,8 @@ ghost use Rattle.gs_block.specs.Stored.{Stored, count_of, is_intact, first_damag
 ghost use Rattle.sha2.specs.Sha256.{sha256};
 ghost use Rattle.gs_block.specs.Inverses as inverses;
 ghost use Rattle.gs_block.specs.Kept.{Outside};
-ghost use Rattle.gs_block.specs.Images.{Images, Missing, AreFirst, IsImage, undone, touched, touch, all_touched, covers, bytes_before, block_before, missing_of, copies_from, image_or, put_image, image_bytes, or_else, kept_images, missing};
+ghost use Rattle.gs_block.specs.Images.{Images, Missing, AreFirst, IsImage, undone, touched, touch, all_touched, covers, bytes_before, block_before, missing_of, copies_from, image_bytes, missing};
+ghost use Rattle.gs_block.specs.Inside.{image_or, put_image, or_else, kept_images};
 
 use crate::blocks::Blocks;
 use crate::digests::{Digest, count_of, digest_of, is_same};

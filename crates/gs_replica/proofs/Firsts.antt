@@ -9,7 +9,8 @@ use Rattle.std.specs.Ordering.{nat_cmp, eq_by_cmp}
 use Rattle.gs_replica.specs.declared.op.Done.{Done}
 use Rattle.gs_replica.specs.Undo.{entry_before}
 use Rattle.gs_replica.proofs.Back.{back_none}
-use Rattle.gs_replica.specs.First.{First, keep_first, put_back, done_before, fits, HasSealed}
+use Rattle.gs_replica.specs.First.{First, keep_first, put_back, done_before, fits}
+use Rattle.gs_replica.specs.Inside.{HasSealed}
 
 abbrev Table : Type 0
 Table = fin.FinMap nat_cmp Done

@@ -41,10 +41,6 @@ coded_sealed_image =
 abbrev pub image_of : Held → Image
 image_of h = record { bytes = h.chunk.bytes; count = h.count; done = h.done }
 
--- what stands as a sealed image carries it
-abbrev pub carried_of : Held → SealedImage
-carried_of h = record { image = image_of h; stamp = h.promise; digests = h.chunk.digests }
-
 abbrev pub image : State → Result Image Refusal
 image r = blocks.unless_damaged (lowest_damaged r.held.chunk) (image_of r.held)
 

@@ -28,10 +28,6 @@ fits None before = false
 fits (Some None) before = true
 fits (Some (Some sealed)) before = is_some before
 
--- each client that had a request when the replica was sealed has one
-abbrev pub HasSealed : First → fin.FinMap nat_cmp Done → Type 0
-HasSealed first done = (client : ℕ) (sealed : Done) → fin.get first client ≡ Some (Some sealed) → is_some (fin.get done client) ≡ true
-
 -- two clients' entries: one had none, the other this
 two_are_put_back : (done : fin.FinMap nat_cmp Done) (sealed : Done) → put_back ((1, None) ∷ (2, Some sealed) ∷ []) done ≡ fin.remove (fin.insert done 2 sealed) 1
 two_are_put_back done sealed = refl

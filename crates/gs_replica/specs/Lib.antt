@@ -8,3 +8,4 @@ pub mod Whole
 pub mod View
 pub mod Stands
 pub mod Calls
+pub mod Inside

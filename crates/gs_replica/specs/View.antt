@@ -3,7 +3,8 @@ use Rattle.std.specs.Prelude.{◌≤◌, Option, Some, None}
 use Rattle.gs_block.specs.Images.{AreFirst, undone, touched}
 use Rattle.gs_replica.specs.declared.seal.Seal.{Seal}
 use Rattle.gs_replica.specs.Held.{Held}
-use Rattle.gs_replica.specs.First.{done_before, HasSealed}
+use Rattle.gs_replica.specs.First.{done_before}
+use Rattle.gs_replica.specs.Inside.{HasSealed}
 use Rattle.gs_replica.specs.Seals.{Sealed, State}
 
 abbrev pub seen : Held → Seal → Sealed

@@ -1,7 +1,8 @@
 ghost use Rattle.std.specs.Prelude.{◌≡◌, ◌↔◌, IsTrue, IfOk, OnOk, OnErr, None, is_some, true};
 ghost use Rattle.std.specs.FinMap as fin;
 ghost use Rattle.gs_replica.specs.Undo.{entry_before};
-ghost use Rattle.gs_replica.specs.First.{done_before, HasSealed};
+ghost use Rattle.gs_replica.specs.First.{done_before};
+ghost use Rattle.gs_replica.specs.Inside.{HasSealed};
 
 use crate::first::FirstEntries;
 use crate::op::Done;

@@ -5,14 +5,15 @@ ghost use Rattle.gs_block.specs.Edits as blocks;
 ghost use Rattle.gs_block.specs.Edits.{unless_damaged};
 ghost use Rattle.gs_block.specs.Inverses as inverses;
 ghost use Rattle.gs_block.specs.Kept.{KeepsIntact, KeepsOutside};
-ghost use Rattle.gs_block.specs.Follows.{Follows, Does, Answers, Makes, Refuses, Judges, HandsBack, MakesOf};
+ghost use Rattle.gs_block.specs.Follows.{Follows, Does, Answers, Makes, Refuses, HandsBack, MakesOf};
 ghost use Rattle.gs_block.specs.Images.{Images, AreFirst, undone, touched, damage_before};
 ghost use Rattle.gs_replica.specs.Held.{Held};
 ghost use Rattle.gs_replica.specs.Edits.{fresh, promise, apply, judged, foreseen, is_outside, is_before, is_same, is_old, edited, outcome_of, with_edit, damage, held_of, copied, start_of, end_of, done_by};
 ghost use Rattle.gs_replica.specs.Undo.{undo};
-ghost use Rattle.gs_replica.specs.First.{done_before, HasSealed};
+ghost use Rattle.gs_replica.specs.First.{done_before};
+ghost use Rattle.gs_replica.specs.Inside.{HasSealed, Judges, carried_of};
 ghost use Rattle.gs_replica.specs.Seals.{lowest_damaged};
-ghost use Rattle.gs_replica.specs.Copies.{SealedImage, image_of, carried_of};
+ghost use Rattle.gs_replica.specs.Copies.{SealedImage, image_of};
 
 use crate::done::DoneTable;
 use crate::first::FirstEntries;

@@ -1,6 +1,7 @@
 use Rattle.std.proofs.Common.{◌≡◌, ◌+◌, ◌<◌, ◌≤◌, [], length, take, map, get_or, refl, ap, sym, ◌∙◌, arith, rules}
 use Rattle.std.specs.Prelude.{None, is_some}
-use Rattle.gs_block.specs.Images.{image_or, image_bytes}
+use Rattle.gs_block.specs.Images.{image_bytes}
+use Rattle.gs_block.specs.Inside.{image_or}
 use Rattle.gs_block.proofs.Holding.{at_most, held_more, held_all}
 use Rattle.gs_block.proofs.Sealed.{same_default}
 use Rattle.gs_block.proofs.images.held_bytes.Goals as goal

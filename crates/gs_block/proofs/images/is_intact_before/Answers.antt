@@ -2,7 +2,8 @@ use Rattle.std.proofs.Common.{◌≡◌, ◌<◌, [], length, get_or, ap, ◌∙
 use Rattle.std.specs.Prelude.{None}
 use Rattle.std.specs.Str.{bytes_eq}
 use Rattle.sha2.specs.Sha256.{sha256}
-use Rattle.gs_block.specs.Images.{image_or, block_before}
+use Rattle.gs_block.specs.Images.{block_before}
+use Rattle.gs_block.specs.Inside.{image_or}
 use Rattle.gs_block.proofs.Restoring.{intact_before}
 use Rattle.gs_block.proofs.Sealed.{same_default}
 use Rattle.gs_block.proofs.images.is_intact_before.Goals as goal

@@ -1,6 +1,6 @@
 use Rattle.std.proofs.Common.{◌≡◌, ◌+◌, ◌<◌, [], ◌∷◌, length, length-append, length-set, ap, ◌∙◌, arith, refl, ℕ, suc, get_or, set}
 use Rattle.std.specs.Prelude.{None}
-use Rattle.gs_block.specs.Images.{kept_images, or_else}
+use Rattle.gs_block.specs.Inside.{kept_images, or_else}
 use Rattle.gs_block.proofs.Sealed.{kept_none, kept_more, same_default}
 use Rattle.gs_block.proofs.images.keep_copies.Goals as goal
 

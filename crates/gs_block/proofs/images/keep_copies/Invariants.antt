@@ -1,5 +1,5 @@
 use Rattle.std.proofs.Common.{◌≡◌, ◌+◌, ◌-◌, ◌≤◌, length}
-use Rattle.gs_block.specs.Images.{kept_images}
+use Rattle.gs_block.specs.Inside.{kept_images}
 use Rattle.gs_block.proofs.images.keep_copies.Given as goal
 
 abbrev pub invariant-loop-copy : goal.invariant-loop-copy

@@ -1,7 +1,8 @@
 use Rattle.std.proofs.Common.{◌≡◌, ◌+◌, ◌-◌, ◌*◌, ◌<◌, ◌≤◌, length, min, ap, sym, subst, ◌∙◌, arith, rules}
 use Rattle.std.specs.Prelude.{None}
 use Rattle.gs_block.specs.Stored.{count_of}
-use Rattle.gs_block.specs.Images.{IsImage, put_image}
+use Rattle.gs_block.specs.Images.{IsImage}
+use Rattle.gs_block.specs.Inside.{put_image}
 use Rattle.gs_block.proofs.Counts.{starts}
 use Rattle.gs_block.proofs.Restoring.{PutTo, put_none, put_more, put_all, image_fits}
 use Rattle.gs_block.proofs.Sealed.{same_default}

@@ -12,7 +12,8 @@ use Rattle.gs_replica.specs.Edits.{start_of, end_of, done_by}
 use Rattle.gs_replica.specs.Edits as edits
 use Rattle.gs_replica.specs.Seals.{Sealed, touch_seal}
 use Rattle.std.specs.FinMap as fin
-use Rattle.gs_replica.specs.First.{First, keep_first, done_before, fits, HasSealed}
+use Rattle.gs_replica.specs.First.{First, keep_first, done_before, fits}
+use Rattle.gs_replica.specs.Inside.{HasSealed}
 use Rattle.gs_replica.proofs.Firsts.{kept_over, has_kept, fits_kept, back_kept}
 use Rattle.gs_replica.specs.View.{seen, state_of, Belongs}
 use Rattle.gs_replica.proofs.Sealing.{state, once_judged, follows_ok, follows_err, undo_back, long_undone, missing_same, can, both, refuses}

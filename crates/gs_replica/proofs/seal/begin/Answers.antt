@@ -2,7 +2,8 @@ use Rattle.std.proofs.Common.{◌≡◌, false, length, replicate, ap, sym, subs
 use Rattle.gs_block.specs.Stored.{Stored}
 use Rattle.gs_block.specs.Images.{AreFirst, undone}
 use Rattle.gs_replica.specs.Held.{Held}
-use Rattle.gs_replica.specs.First.{done_before, HasSealed}
+use Rattle.gs_replica.specs.First.{done_before}
+use Rattle.gs_replica.specs.Inside.{HasSealed}
 use Rattle.gs_replica.proofs.Firsts.{nothing_over, has_nothing}
 use Rattle.gs_replica.proofs.seal.begin.Goals as goal
 

@@ -1,7 +1,8 @@
 use Rattle.std.proofs.Common.{◌≡◌, ◌≢◌, length, sym, ap, subst, ◌∙◌, arith, true}
 use Rattle.std.specs.Prelude.{Ok, ◌&&◌}
 use Rattle.std.specs.FinMap as fin
-use Rattle.gs_replica.specs.First.{done_before, fits, HasSealed}
+use Rattle.gs_replica.specs.First.{done_before, fits}
+use Rattle.gs_replica.specs.Inside.{HasSealed}
 use Rattle.gs_replica.proofs.Firsts.{undone_over, has_undone}
 use Rattle.gs_replica.specs.declared.live.ReplicaInverse.{ReplicaInverse}
 use Rattle.gs_block.specs.Stored.{Stored}

@@ -1,6 +1,7 @@
 use Rattle.std.proofs.Common.{true, ◌≡◌, ◌++◌, ◌/◌, length, take, drop, ap, sym, subst, ◌∙◌}
 use Rattle.std.proofs.lemmas.List.{take_at}
-use Rattle.gs_block.specs.Images.{Images, Missing, kept_images, undone, touched, touch, covers, AreFirst}
+use Rattle.gs_block.specs.Images.{Images, Missing, undone, touched, touch, covers, AreFirst}
+use Rattle.gs_block.specs.Inside.{kept_images}
 use Rattle.gs_block.specs.Inverses.{inverse_of}
 use Rattle.gs_block.proofs.Undoing.{kept_covers}
 use Rattle.gs_block.specs.Stored.{count_of}

@@ -2,7 +2,8 @@ use Rattle.std.proofs.Common.{◌≡◌, Option, ap, sym, subst, ◌∙◌}
 use Rattle.std.specs.FinMap as fin
 use Rattle.gs_replica.specs.declared.op.Done.{Done}
 use Rattle.gs_replica.specs.Undo.{entry_before}
-use Rattle.gs_replica.specs.First.{First, done_before, HasSealed}
+use Rattle.gs_replica.specs.First.{First, done_before}
+use Rattle.gs_replica.specs.Inside.{HasSealed}
 use Rattle.gs_replica.proofs.Firsts.{popped_over, has_popped, nothing_over}
 use Rattle.gs_replica.proofs.done.DoneTable.put_back.Goals as goal
 

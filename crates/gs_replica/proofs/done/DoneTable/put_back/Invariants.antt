@@ -1,6 +1,7 @@
 use Rattle.std.proofs.Common.{◌≡◌}
 use Rattle.std.specs.FinMap as fin
-use Rattle.gs_replica.specs.First.{done_before, HasSealed}
+use Rattle.gs_replica.specs.First.{done_before}
+use Rattle.gs_replica.specs.Inside.{HasSealed}
 use Rattle.gs_replica.proofs.done.DoneTable.put_back.Given as goal
 
 abbrev pub invariant-loop-client : goal.invariant-loop-client
