@@ -62,7 +62,16 @@ fn a_chunk_goes_through_its_states(rt: HostRuntime) -> Result<(), Fail> {
     assert_eq!(rt; leased.term().primary.number(), 1);
     assert_eq!(rt; leased.term().end.0, u64::MAX);
     let view = leased.view();
-    assert!(rt; matches!(&Told { settled: Some(view), proposed: None }.chunk(), Some(Lease::Leased(_))));
+    assert!(rt;
+        matches!(
+            &Told {
+                settled: Some(view),
+                proposed: None
+            }
+            .chunk(),
+            Some(Lease::Leased(_))
+        )
+    );
     let moving = match leased.revoke(version(4), Purpose::Quiet) {
         Ok(moving) => moving,
         Err(_) => return Err(Fail::from("not revoked")),
