@@ -4,8 +4,8 @@
     bench/sizes.py [PART OF 1 TO 100]
 
 prints for each size the lines, the seconds and the greatest memory in use, and ends with status 1 where a run ends by a
-signal or with another status than 0, answers fewer or more lines than it was given, or answers something else than is
-expected at the end. A number makes each size that many hundredths of its own."""
+signal or with another status than 0, answers fewer or more lines than it was given, refuses more or fewer than it should, or answers something else
+than is expected at the end. A number makes each size that many hundredths of its own."""
 
 import itertools
 import os
@@ -20,17 +20,19 @@ PROGRAM = os.path.join(ROOT, "crates", "chunkstore", "out", "chunkstore")
 MILLION = 1_000_000
 DEPTH = 64
 LONG_LINE = 50_000_000
+LEAST_LONG_LINE = 2_500_000
 SHOWN = 60
 MEASURE = "--measure"
 
 
 class Size:
-    """A script of lines, each answered by one line, and what stands at the end of the answers."""
+    """A script of lines, each answered by one line, what stands at the end of the answers, and how many are refusals."""
 
-    def __init__(self, name, lines, last):
+    def __init__(self, name, lines, last, refusals=0):
         self.name = name
         self.lines = lines
         self.last = last
+        self.refusals = refusals
 
 
 def names(prefix, n):
@@ -77,7 +79,7 @@ def deep_paths(n):
         (f"ls {top}/x{i}" for i in range(count)),
         [f"ls {top}/x0/z", f"mkdir {top}/x0/z/past", "mv /d /e", "rollingUpgrade rollback", "ls /"],
     )
-    return Size(f"paths of {DEPTH} elements", lines, ["ok", "refused 1 BadPath", "ok", "ok 2", "ok"])
+    return Size(f"paths of {DEPTH} elements", lines, ["ok", "refused 1 BadPath", "ok", "ok 2", "ok"], refusals=1)
 
 
 def rename_to_and_fro(n):
@@ -92,6 +94,7 @@ def rename_to_and_fro(n):
 
 def long_lines(n):
     """Lines far past the greatest length of one, of one element, of many and of many words."""
+    n = max(n, LEAST_LONG_LINE)
     lines = [
         "create /" + "a" * n,
         "mkdir " + "/a" * (n // 2),
@@ -99,7 +102,7 @@ def long_lines(n):
         "\x00" * n,
         "ls /",
     ]
-    return Size("bytes in a line", iter(lines), ["refused 34 BadLine"] * 4 + ["ok"])
+    return Size("bytes in a line", iter(lines), ["refused 34 BadLine"] * 4 + ["ok"], refusals=4)
 
 
 SIZES = [
@@ -138,14 +141,16 @@ def run(source, target):
     return int(status), float(seconds), int(memory)
 
 
-def judge(count, status, answers, last):
+def judge(count, status, answers, size):
     """What is wrong with a run, if anything."""
     if status != 0:
         return f"status {status}"
     if len(answers) != count:
         return f"{len(answers):,} answers to {count:,} lines"
-    found = answers[len(answers) - len(last):]
-    for answer, wanted in zip(found, last):
+    refusals = sum(answer.startswith("refused") for answer in answers)
+    if refusals != size.refusals:
+        return f"{refusals:,} refusals"
+    for answer, wanted in zip(answers[len(answers) - len(size.last):], size.last):
         if answer != wanted:
             return f"answered {answer[:SHOWN]!r} and not {wanted[:SHOWN]!r}"
     return None
@@ -159,7 +164,7 @@ def try_size(make, n):
         status, seconds, memory = run(source, target)
         target.seek(0)
         answers = target.read().decode(errors="replace").splitlines()
-    wrong = judge(count, status, answers, size.last)
+    wrong = judge(count, status, answers, size)
     print(f"{n:>12,} {size.name:<40} {count:>10,} {seconds:>9.2f} {memory / 1e6:>9.1f}  {wrong or 'well'}", flush=True)
     return wrong is None
 
