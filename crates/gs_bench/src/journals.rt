@@ -1,6 +1,3 @@
-ghost use Rattle.std.specs.Prelude.{IfOk};
-ghost use Rattle.gs_journal.specs.Sound.{IsSound};
-
 use crate::counting::CountingDisk;
 use gs_base::Refusal;
 use gs_journal::{Disk, Journal, MemoryDisk, Record};
@@ -12,9 +9,7 @@ const LIMIT: u32 = u32::MAX;
 /// A finalize with epoch 2, as the journal's kind 6 has it.
 const FINALIZE: [u8; 8] = [0, 0, 0, 0, 0, 0, 0, 2];
 
-fn opened<D: Disk + Drop>(alloc: Global, first: D, second: D) -> Result<Journal<D>, Refusal>
-    ensures { IfOk result (λ j. IsSound D.seen D.may_leave j) }
-{
+fn opened<D: Disk + Drop>(alloc: Global, first: D, second: D) -> Result<Journal<D>, Refusal> {
     match Journal::open(alloc, first, second, LIMIT) {
         Ok(journal) => Ok(journal),
         Err(unopened) => Err(unopened.refusal),
@@ -22,9 +17,7 @@ fn opened<D: Disk + Drop>(alloc: Global, first: D, second: D) -> Result<Journal<
 }
 
 /// Adds a record so often.
-fn fill<D: Disk>(journal: &mut Journal<D>, record: &Record, count: u64) -> Result<(), Refusal>
-    requires { IsSound D.seen D.may_leave journal.old }
-{
+fn fill<D: Disk>(journal: &mut Journal<D>, record: &Record, count: u64) -> Result<(), Refusal> {
     for _ in 0..count {
         journal.append(record)?;
     }

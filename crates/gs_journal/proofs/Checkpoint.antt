@@ -2,9 +2,10 @@
 use Rattle.std.proofs.Common.{◌≡◌, inl, inr, ℕ, suc, ◌+◌, ◌<◌, ◌^◌, true, false, List, [], ◌∷◌, ◌++◌, length, sym, ◌∙◌, ap, subst, arith, append_assoc, length-append}
 use Rattle.gs_journal.specs.Disk.{Only}
 use Rattle.gs_journal.specs.Records.{Entry, frame, entry_of, header, is_begun, version_of, generation_of, records_of, second_counts, standing, text_of}
-use Rattle.gs_journal.specs.Journal.{IsAtRest, IsMaking}
-use Rattle.gs_journal.specs.Sound.{text, IsSettled, IsOldOrNew}
-use Rattle.gs_journal.specs.declared.journal.Journal.{Journal}
+use Rattle.gs_journal.specs.inner.Rest.{IsAtRest, IsMaking}
+use Rattle.gs_journal.specs.Journal.{IsOldOrNew}
+use Rattle.gs_journal.specs.inner.Pair.{text, IsSettled}
+use Rattle.gs_journal.specs.declared.pair.Pair.{Pair}
 use Rattle.gs_journal.specs.declared.version.Version.TheVariants.{Two}
 use Rattle.gs_journal.proofs.Frames.{frame_is}
 use Rattle.gs_journal.proofs.Complete.{complete_next, at_rest}
@@ -50,7 +51,7 @@ module _ (a b bytes : List ℕ) (r : Entry) where
 
 module _ {D : Type 0} (seen : D → List ℕ) (may_leave : D → List ℕ → Type 0) where
   -- the first disk was made anew while the second counted
-  pub new_first : (j j' : Journal D) (r : Entry) (bytes written : List ℕ) → IsSettled seen may_leave j → j.is_second ≡ true → j.generation + 1 < 2 ^ 64 → length r.1 < 2 ^ 32 → 1 ∷ bytes ≡ header Two (j.generation + 1) ++ 1 ∷ (frame r ++ 0 ∷ [])
+  pub new_first : (j j' : Pair D) (r : Entry) (bytes written : List ℕ) → IsSettled seen may_leave j → j.is_second ≡ true → j.generation + 1 < 2 ^ 64 → length r.1 < 2 ^ 32 → 1 ∷ bytes ≡ header Two (j.generation + 1) ++ 1 ∷ (frame r ++ 0 ∷ [])
       → written ≡ frame r ++ 0 ∷ [] → seen j'.first ≡ 1 ∷ bytes → j'.second ≡ j.second → j'.is_second ≡ false → j'.version ≡ Two → j'.generation ≡ j.generation + 1 → j'.end ≡ 13 + length written → Only (seen j'.first) (may_leave j'.first)
       → IsSettled seen may_leave j' × (text seen j' ≡ (Two, r ∷ []))
   new_first j j' r bytes written s is fits short made wrote first second side version generation end only =
@@ -66,7 +67,7 @@ module _ {D : Type 0} (seen : D → List ℕ) (may_leave : D → List ℕ → Ty
       )
 
   -- the second disk was made anew while the first counted
-  pub new_second : (j j' : Journal D) (r : Entry) (bytes written : List ℕ) → IsSettled seen may_leave j → j.is_second ≡ false → j.generation + 1 < 2 ^ 64 → length r.1 < 2 ^ 32 → 1 ∷ bytes ≡ header Two (j.generation + 1) ++ 1 ∷ (frame r ++ 0 ∷ [])
+  pub new_second : (j j' : Pair D) (r : Entry) (bytes written : List ℕ) → IsSettled seen may_leave j → j.is_second ≡ false → j.generation + 1 < 2 ^ 64 → length r.1 < 2 ^ 32 → 1 ∷ bytes ≡ header Two (j.generation + 1) ++ 1 ∷ (frame r ++ 0 ∷ [])
       → written ≡ frame r ++ 0 ∷ [] → seen j'.second ≡ 1 ∷ bytes → j'.first ≡ j.first → j'.is_second ≡ true → j'.version ≡ Two → j'.generation ≡ j.generation + 1 → j'.end ≡ 13 + length written → Only (seen j'.second) (may_leave j'.second)
       → IsSettled seen may_leave j' × (text seen j' ≡ (Two, r ∷ []))
   new_second j j' r bytes written s is fits short made wrote second first side version generation end only =
@@ -82,14 +83,14 @@ module _ {D : Type 0} (seen : D → List ℕ) (may_leave : D → List ℕ → Ty
       )
 
   -- what a crash leaves in between
-  pub new_while_first : (j : Journal D) (r : Entry) (bytes c : List ℕ) → IsSettled seen may_leave j → j.is_second ≡ true → j.generation + 1 < 2 ^ 64 → length r.1 < 2 ^ 32 → 1 ∷ bytes ≡ header Two (j.generation + 1) ++ 1 ∷ (frame r ++ 0 ∷ [])
+  pub new_while_first : (j : Pair D) (r : Entry) (bytes c : List ℕ) → IsSettled seen may_leave j → j.is_second ≡ true → j.generation + 1 < 2 ^ 64 → length r.1 < 2 ^ 32 → 1 ∷ bytes ≡ header Two (j.generation + 1) ++ 1 ∷ (frame r ++ 0 ∷ [])
       → IsMaking bytes (seen j.first) c → IsOldOrNew (text seen j) (Two, r ∷ []) (standing c (seen j.second))
   new_while_first j r bytes c s is fits short made making =
       let k = known_second seen may_leave j s is in
       let same : j.generation + 1 ≡ suc (generation_of (seen j.second)) = omega (arith, k.0.generation) in
       first_making (seen j.first) (seen j.second) bytes r c k.1 (subst (λ (n : ℕ). IsNew n r (1 ∷ bytes)) same (new_disk (j.generation + 1) r (1 ∷ bytes) fits short made)) making
 
-  pub new_while_second : (j : Journal D) (r : Entry) (bytes c : List ℕ) → IsSettled seen may_leave j → j.is_second ≡ false → j.generation + 1 < 2 ^ 64 → length r.1 < 2 ^ 32 → 1 ∷ bytes ≡ header Two (j.generation + 1) ++ 1 ∷ (frame r ++ 0 ∷ [])
+  pub new_while_second : (j : Pair D) (r : Entry) (bytes c : List ℕ) → IsSettled seen may_leave j → j.is_second ≡ false → j.generation + 1 < 2 ^ 64 → length r.1 < 2 ^ 32 → 1 ∷ bytes ≡ header Two (j.generation + 1) ++ 1 ∷ (frame r ++ 0 ∷ [])
       → IsMaking bytes (seen j.second) c → IsOldOrNew (text seen j) (Two, r ∷ []) (standing (seen j.first) c)
   new_while_second j r bytes c s is fits short made making =
       let k = known_first seen may_leave j s is in

@@ -2,7 +2,7 @@
 use Rattle.std.proofs.Common.{◌≡◌, ◌≢◌, ℕ, ◌+◌, ◌≤◌, List, [], ◌∷◌, ◌++◌, length, take, drop, get_or, refl, sym, ◌∙◌, ap, subst, arith, append_assoc, length-append, take-append-drop}
 use Rattle.std.proofs.lemmas.List.{append-nil, take_at, drop_at, drop_all, drop_more, take-append-le, get_or_at}
 use Rattle.gs_journal.specs.Records.{Entry, entry_of, records_behind, records_of, header_length}
-use Rattle.gs_journal.specs.Journal.{IsComplete, IsAtRest}
+use Rattle.gs_journal.specs.inner.Rest.{IsComplete, IsAtRest}
 use Rattle.gs_journal.proofs.Frames.{records_behind_drop, IsFrame, records_frame, closed}
 
 -- a header alone

@@ -4,10 +4,10 @@ use Rattle.std.proofs.Math.Seq.{take-add}
 use Rattle.std.proofs.lemmas.Bool.{cases_eq}
 use Rattle.std.proofs.lemmas.List.{append-nil, drop_at, take_all, take_more, drop_more, length-take-le, take-append-le}
 use Rattle.gs_journal.specs.Disk.{Torn, Cut}
-use Rattle.gs_journal.specs.Stage.{IsClosing, IsOpening}
+use Rattle.gs_journal.specs.inner.Stage.{IsClosing, IsOpening}
 use Rattle.gs_journal.specs.Records.{Entry, frame, entry_of, records_behind, records_of, header_length}
-use Rattle.gs_journal.specs.Journal.{IsComplete, IsAtRest, Continues, IsBeforeOrAfter}
-use Rattle.gs_journal.specs.Frames.{IsEnd}
+use Rattle.gs_journal.specs.inner.Rest.{IsComplete, IsAtRest, Continues, IsBeforeOrAfter}
+use Rattle.gs_journal.specs.inner.Frames.{IsEnd}
 use Rattle.gs_journal.proofs.Frames.{IsFrame, frame_is, records_frame, closed, one_byte, front_of_end}
 use Rattle.gs_journal.proofs.Complete.{complete_next, ends_there, at_rest_parts, at_rest_records, at_rest}
 

@@ -11,3 +11,4 @@ mod Settled
 mod Standing
 mod Steps
 mod Times
+mod Views

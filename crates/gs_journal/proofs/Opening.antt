@@ -4,11 +4,13 @@ use Rattle.std.proofs.lemmas.Bool.Decides.{nat_tests}
 use Rattle.std.specs.Prelude.{if◌then◌else◌, Bool}
 use Rattle.byteorder.specs.Numbers.{big_number-reads_back}
 use Rattle.gs_journal.specs.Records.{Text, fresh, header, is_begun, version_of, generation_of, records_of, second_counts, standing, text_of}
-use Rattle.gs_journal.specs.Journal.{IsAtRest, Continues, IsMaking, IsComplete}
-use Rattle.gs_journal.specs.Places.{IsPlace, IsFresh, IsReady, IsLikeFirst, IsLikeSecond, MightHaveStood}
+use Rattle.gs_journal.specs.inner.Rest.{IsAtRest, Continues, IsMaking, IsComplete}
+use Rattle.gs_journal.specs.Journal.{MightHaveStood}
+use Rattle.gs_journal.specs.inner.Places.{IsPlace, IsFresh, IsReady, IsLikeFirst, IsLikeSecond}
 use Rattle.gs_journal.specs.declared.place.Place.{Place}
 use Rattle.gs_journal.specs.declared.version.Version.TheVariants.{Two}
-use Rattle.gs_journal.specs.Disk.{Only, LeavesOnly, LeavesPairs}
+use Rattle.gs_journal.specs.Disk.{Only, LeavesPairs}
+use Rattle.gs_journal.specs.inner.Stage.{LeavesOnly}
 use Rattle.gs_journal.proofs.Moments.{Stays, started, weaker, both}
 use Rattle.gs_journal.proofs.Complete.{complete_header, at_rest}
 use Rattle.gs_journal.proofs.Standing.{SameHeader, same_header, counts_by, fresh_while_made, standing_first, standing_none, first_unbegun, second_unbegun}

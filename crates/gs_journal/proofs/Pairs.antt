@@ -1,9 +1,10 @@
 -- What a crash leaves of two disks while one of them changes.
 use Rattle.std.proofs.Common.{◌≡◌, inl, inr, ℕ, true, false, List, [], ◌∷◌, ◌++◌, sym, ◌∙◌, ap, subst, arith}
-use Rattle.gs_journal.specs.Disk.{Only, LeavesOnly, LeavesPairs}
+use Rattle.gs_journal.specs.Disk.{Only, LeavesPairs}
+use Rattle.gs_journal.specs.inner.Stage.{LeavesOnly}
 use Rattle.gs_journal.specs.Records.{Entry, Text, is_begun, records_of, second_counts, standing}
-use Rattle.gs_journal.specs.Journal.{IsBeforeOrAfter}
-use Rattle.gs_journal.specs.Sound.{with_record, IsWithOrWithout}
+use Rattle.gs_journal.specs.inner.Rest.{IsBeforeOrAfter}
+use Rattle.gs_journal.specs.Journal.{with_record, IsWithOrWithout}
 use Rattle.gs_journal.proofs.Moments.{Stays}
 use Rattle.gs_journal.proofs.Standing.{standing_first, standing_second, first_continues, second_continues}
 
@@ -34,16 +35,6 @@ module _ (a b : List ℕ) (r : Entry) where
   second_before_or_after c counts (inl before) = inl ((second_continues a b (records_of b) c counts before).1 ∙ sym (standing_second a b counts))
   second_before_or_after c counts (inr after) =
       inr ((second_continues a b (records_of b ++ r ∷ []) c counts after).1 ∙ ap (λ (t : Text). with_record t r) (sym (standing_second a b counts)))
-
--- a call that leaves the disks alone
-pub nothing_done : {D : Type 0} (seen : D → List ℕ) (may_leave : D → List ℕ → Type 0) (moment : D → ℕ) (left_since : D → ℕ → List ℕ → Type 0) (first second : D) (r : Entry)
-    → Only (seen first) (may_leave first) → Only (seen second) (may_leave second) → Stays seen may_leave moment left_since first → Stays seen may_leave moment left_since second
-    → LeavesPairs moment left_since first second first second (λ a b. IsWithOrWithout (standing (seen first) (seen second)) r (standing a b))
-nothing_done seen may_leave moment left_since first second r only_a only_b stays_a stays_b = record {
-  later_first = omega arith;
-  later_second = omega arith;
-  each = λ a b left_a left_b. inl (ap (λ (x : List ℕ). standing x b) (only_a a (stays_a a left_a)) ∙ ap (standing (seen first)) (only_b b (stays_b b left_b)));
-}
 
 -- a call that leaves the disks alone leaves what holds of them
 pub nothing_changed : {D : Type 0} (seen : D → List ℕ) (may_leave : D → List ℕ → Type 0) (moment : D → ℕ) (left_since : D → ℕ → List ℕ → Type 0) (first second : D) (Q : List ℕ → List ℕ → Type 0)

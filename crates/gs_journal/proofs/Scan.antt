@@ -7,8 +7,8 @@ use Rattle.std.proofs.lemmas.Bool.Decides.{nat_tests}
 use Rattle.gs_journal.specs.Records.{Entry, body_length, entry_of, records_behind, records_of, header_length}
 use Rattle.gs_journal.specs.Bodies.{is_of_form}
 use Rattle.gs_journal.specs.Forms.{are_of_form}
-use Rattle.gs_journal.specs.Frames.{IsFound, IsEnd}
-use Rattle.gs_journal.specs.Journal.{IsComplete}
+use Rattle.gs_journal.specs.inner.Frames.{IsFound, IsEnd}
+use Rattle.gs_journal.specs.inner.Rest.{IsComplete}
 use Rattle.gs_journal.specs.declared.frame.Found.{Found}
 use Rattle.gs_journal.specs.declared.version.Version.{Version}
 use Rattle.gs_journal.proofs.Frames.{records_behind_drop, records_frame, whole_front}

@@ -1,50 +1,51 @@
 -- Journals of which one disk changes.
-use Rattle.std.proofs.Common.{◌≡◌, ◌<◌, ◌≤◌, ◌-◌, ℕ, ◌+◌, Bool, true, false, List, [], ◌∷◌, ◌++◌, length, sym, ◌∙◌, ap, subst, arith, length-append}
+use Rattle.std.proofs.Common.{◌≡◌, ℕ, ◌+◌, Bool, true, false, List, [], ◌∷◌, ◌++◌, length, sym, ◌∙◌, ap, subst, arith, length-append}
 use Rattle.std.specs.Prelude.{if◌then◌else◌}
 use Rattle.gs_journal.specs.Disk.{Only}
 use Rattle.gs_journal.specs.Records.{Entry, Text, frame, is_begun, version_of, generation_of, records_of, second_counts, standing}
-use Rattle.gs_journal.specs.Journal.{IsAtRest, Continues}
-use Rattle.gs_journal.specs.Sound.{counting, text, with_record, IsSettled}
-use Rattle.gs_journal.specs.declared.journal.Journal.{Journal}
+use Rattle.gs_journal.specs.inner.Rest.{IsAtRest, Continues}
+use Rattle.gs_journal.specs.Journal.{with_record}
+use Rattle.gs_journal.specs.inner.Pair.{counting, text, IsSettled}
+use Rattle.gs_journal.specs.declared.pair.Pair.{Pair}
 use Rattle.gs_journal.proofs.Standing.{same_header, standing_first, standing_second, first_continues, second_continues}
 
 -- what is known of the disk that counts
-pub record Known {D : Type 0} (seen : D → List ℕ) (j : Journal D) (bytes : List ℕ) : Type 0 where
+pub record Known {D : Type 0} (seen : D → List ℕ) (j : Pair D) (bytes : List ℕ) : Type 0 where
   pub begun : is_begun bytes ≡ true
   pub rest : IsAtRest j.end bytes
   pub version : j.version ≡ version_of bytes
   pub generation : j.generation ≡ generation_of bytes
 
 module _ {D : Type 0} (seen : D → List ℕ) (may_leave : D → List ℕ → Type 0) where
-  counting_second : (j : Journal D) → j.is_second ≡ true → counting seen j ≡ seen j.second
+  counting_second : (j : Pair D) → j.is_second ≡ true → counting seen j ≡ seen j.second
   counting_second j is = ap (λ (b : Bool). if b then seen j.second else seen j.first) is
 
-  counting_first : (j : Journal D) → j.is_second ≡ false → counting seen j ≡ seen j.first
+  counting_first : (j : Pair D) → j.is_second ≡ false → counting seen j ≡ seen j.first
   counting_first j is = ap (λ (b : Bool). if b then seen j.second else seen j.first) is
 
-  known : (j : Journal D) (bytes : List ℕ) → IsSettled seen may_leave j → counting seen j ≡ bytes → Known seen j bytes
+  known : (j : Pair D) (bytes : List ℕ) → IsSettled seen may_leave j → counting seen j ≡ bytes → Known seen j bytes
   known j bytes s is = subst (Known seen j) is (record { begun = s.begun; rest = s.rest; version = s.version; generation = s.generation })
 
-  pub known_second : (j : Journal D) → IsSettled seen may_leave j → j.is_second ≡ true → Known seen j (seen j.second) × (second_counts (seen j.first) (seen j.second) ≡ true)
+  pub known_second : (j : Pair D) → IsSettled seen may_leave j → j.is_second ≡ true → Known seen j (seen j.second) × (second_counts (seen j.first) (seen j.second) ≡ true)
   known_second j s is = (known j (seen j.second) s (counting_second j is), s.counts ∙ is)
 
-  pub known_first : (j : Journal D) → IsSettled seen may_leave j → j.is_second ≡ false → Known seen j (seen j.first) × (second_counts (seen j.first) (seen j.second) ≡ false)
+  pub known_first : (j : Pair D) → IsSettled seen may_leave j → j.is_second ≡ false → Known seen j (seen j.first) × (second_counts (seen j.first) (seen j.second) ≡ false)
   known_first j s is = (known j (seen j.first) s (counting_first j is), s.counts ∙ is)
 
-  pub settled_second : (j : Journal D) → j.is_second ≡ true → second_counts (seen j.first) (seen j.second) ≡ true → Known seen j (seen j.second)
+  pub settled_second : (j : Pair D) → j.is_second ≡ true → second_counts (seen j.first) (seen j.second) ≡ true → Known seen j (seen j.second)
       → Only (seen j.first) (may_leave j.first) → Only (seen j.second) (may_leave j.second) → IsSettled seen may_leave j
   settled_second j is counts k first second =
       let moved = subst (Known seen j) (sym (counting_second j is)) k in
       record { counts = counts ∙ sym is; begun = moved.begun; rest = moved.rest; version = moved.version; generation = moved.generation; first = first; second = second }
 
-  pub settled_first : (j : Journal D) → j.is_second ≡ false → second_counts (seen j.first) (seen j.second) ≡ false → Known seen j (seen j.first)
+  pub settled_first : (j : Pair D) → j.is_second ≡ false → second_counts (seen j.first) (seen j.second) ≡ false → Known seen j (seen j.first)
       → Only (seen j.first) (may_leave j.first) → Only (seen j.second) (may_leave j.second) → IsSettled seen may_leave j
   settled_first j is counts k first second =
       let moved = subst (Known seen j) (sym (counting_first j is)) k in
       record { counts = counts ∙ sym is; begun = moved.begun; rest = moved.rest; version = moved.version; generation = moved.generation; first = first; second = second }
 
   -- one record more on the second disk
-  pub more_on_second : (j j' : Journal D) (r : Entry) → IsSettled seen may_leave j → j.is_second ≡ true → j'.is_second ≡ j.is_second → j'.first ≡ j.first → j'.version ≡ j.version → j'.generation ≡ j.generation
+  pub more_on_second : (j j' : Pair D) (r : Entry) → IsSettled seen may_leave j → j.is_second ≡ true → j'.is_second ≡ j.is_second → j'.first ≡ j.first → j'.version ≡ j.version → j'.generation ≡ j.generation
       → IsAtRest j'.end (seen j'.second) → Continues (seen j.second) (records_of (seen j.second) ++ r ∷ []) (seen j'.second) → Only (seen j'.second) (may_leave j'.second)
       → IsSettled seen may_leave j' × (text seen j' ≡ with_record (text seen j) r)
   more_on_second j j' r s is same_side same_first same_version same_generation rest goes_on only =
@@ -59,7 +60,7 @@ module _ {D : Type 0} (seen : D → List ℕ) (may_leave : D → List ℕ → Ty
       )
 
   -- one record more on the first disk
-  pub more_on_first : (j j' : Journal D) (r : Entry) → IsSettled seen may_leave j → j.is_second ≡ false → j'.is_second ≡ j.is_second → j'.second ≡ j.second → j'.version ≡ j.version → j'.generation ≡ j.generation
+  pub more_on_first : (j j' : Pair D) (r : Entry) → IsSettled seen may_leave j → j.is_second ≡ false → j'.is_second ≡ j.is_second → j'.second ≡ j.second → j'.version ≡ j.version → j'.generation ≡ j.generation
       → IsAtRest j'.end (seen j'.first) → Continues (seen j.first) (records_of (seen j.first) ++ r ∷ []) (seen j'.first) → Only (seen j'.first) (may_leave j'.first)
       → IsSettled seen may_leave j' × (text seen j' ≡ with_record (text seen j) r)
   more_on_first j j' r s is same_side same_second same_version same_generation rest goes_on only =
@@ -74,8 +75,8 @@ module _ {D : Type 0} (seen : D → List ℕ) (may_leave : D → List ℕ → Ty
       )
 
   -- the second disk was read
-  pub reread_second : (j : Journal D) (d : D) → IsSettled seen may_leave j → seen d ≡ seen j.second → Only (seen d) (may_leave d)
-      → IsSettled seen may_leave (record { first = j.first; second = d; is_second = j.is_second; version = j.version; generation = j.generation; end = j.end; limit = j.limit; is_failed = j.is_failed })
+  pub reread_second : (j : Pair D) (d : D) → IsSettled seen may_leave j → seen d ≡ seen j.second → Only (seen d) (may_leave d)
+      → IsSettled seen may_leave (record { first = j.first; second = d; is_second = j.is_second; version = j.version; generation = j.generation; end = j.end })
   reread_second j d s is only =
       let same : (if j.is_second then seen d else seen j.first) ≡ counting seen j = ap (λ (x : List ℕ). if j.is_second then x else seen j.first) is in
       record {
@@ -89,8 +90,8 @@ module _ {D : Type 0} (seen : D → List ℕ) (may_leave : D → List ℕ → Ty
       }
 
   -- the first disk was read
-  pub reread_first : (j : Journal D) (d : D) → IsSettled seen may_leave j → seen d ≡ seen j.first → Only (seen d) (may_leave d)
-      → IsSettled seen may_leave (record { first = d; second = j.second; is_second = j.is_second; version = j.version; generation = j.generation; end = j.end; limit = j.limit; is_failed = j.is_failed })
+  pub reread_first : (j : Pair D) (d : D) → IsSettled seen may_leave j → seen d ≡ seen j.first → Only (seen d) (may_leave d)
+      → IsSettled seen may_leave (record { first = d; second = j.second; is_second = j.is_second; version = j.version; generation = j.generation; end = j.end })
   reread_first j d s is only =
       let same : (if j.is_second then seen j.second else seen d) ≡ counting seen j = ap (λ (x : List ℕ). if j.is_second then seen j.second else x) is in
       record {
@@ -107,15 +108,3 @@ module _ {D : Type 0} (seen : D → List ℕ) (may_leave : D → List ℕ → Ty
 pub grown : (r : Entry) (bytes : List ℕ) → bytes ≡ frame r ++ 0 ∷ [] → (end : ℕ) (x : List ℕ) → IsAtRest (end + (1 + length (frame r))) x → IsAtRest (end + length bytes) x
 grown r bytes is end x rest =
     let size : 1 + length (frame r) ≡ length bytes = omega (arith, ap length is, length-append (frame r) (0 ∷ [])) in subst (λ (n : ℕ). IsAtRest (end + n) x) size rest
-
--- what a record has, with the closed gate behind it
-pub written_length : (r : Entry) (bytes : List ℕ) → bytes ≡ frame r ++ 0 ∷ [] → length bytes ≡ 1 + length (frame r)
-written_length r bytes is = omega (arith, ap length is, length-append (frame r) (0 ∷ []))
-
--- there is no room for it
-pub too_long : (limit size room written framed : ℕ) → room ≡ limit - size → room < written → written ≡ 1 + framed → limit < size + (1 + framed)
-too_long limit size room written framed is above long = omega (arith, is, above, long)
-
--- or there is
-pub has_room : (limit size end room written framed : ℕ) → room ≡ limit - size → written ≤ room → written ≡ 1 + framed → size ≡ end + 1 → end + 1 + (1 + framed) ≤ limit
-has_room limit size end room written framed is fits long ends = omega (arith, is, fits, long, ends)

@@ -6,7 +6,7 @@ use Rattle.std.specs.Prelude.{◌&&◌, nat_le, if◌then◌else◌}
 use Rattle.byteorder.specs.Endian.{big_number}
 use Rattle.byteorder.specs.Numbers.{big_from-take}
 use Rattle.gs_journal.specs.Records.{Entry, fresh, text_of, header_length, has_mark, is_begun, version_of, generation_of, second_counts, standing}
-use Rattle.gs_journal.specs.Journal.{Continues, IsUnmade}
+use Rattle.gs_journal.specs.inner.Rest.{Continues, IsUnmade}
 
 byte_of_front : (k n : ℕ) (bytes : List ℕ) → k < n → slice_index (take n bytes) k ≡ slice_index bytes k
 byte_of_front k n bytes below = get_or-take n bytes k 0 below

@@ -39,13 +39,6 @@ abbrev pub HasCause : {T : Type 0} → ℕ → ℕ → Result T Refusal → Type
 HasCause before now (Ok x) = now ≡ before
 HasCause before now (Err e) = (e ≡ Device) × (before < now)
 
--- A crash at any moment since old leaves bytes that have P.
-pub record LeavesOnly {D : Type 0} (moment : D → ℕ) (left_since : D → ℕ → List ℕ → Type 0) (old new : D) (P : List ℕ → Type 0) : Type 0 where
-  pub later : moment old ≤ moment new
-  pub each : (c : List ℕ) → left_since new (moment old) c → P c
-  -- for a run that began earlier
-  pub before : (t : ℕ) (c : List ℕ) → t ≤ moment old → left_since new t c → left_since old t c ⊎ P c
-
 -- A crash at any moment since two disks were as they had been leaves bytes on them that have P. That holds even where it
 -- leaves one disk as at one moment and the other as at another.
 pub record LeavesPairs {D : Type 0} (moment : D → ℕ) (left_since : D → ℕ → List ℕ → Type 0) (old_first old_second first second : D) (P : List ℕ → List ℕ → Type 0) : Type 0 where

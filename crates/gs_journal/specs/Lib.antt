@@ -2,14 +2,8 @@ pub mod Bodies
 pub mod Calls
 pub mod Disk
 pub mod Forms
-pub mod Frames
-pub mod History
-pub mod Items
 pub mod Journal
 pub mod Memory
-pub mod Past
-pub mod Places
 pub mod Reading
 pub mod Records
-pub mod Sound
-pub mod Stage
+pub mod inner

@@ -1,9 +1,10 @@
 // What is done to the end of a disk, and to a disk that is made anew.
 ghost use Rattle.std.specs.Prelude.{◌≡◌, ◌≢◌, ◌<◌, ◌^◌, ◌+◌, ◌++◌, true, [], ◌∷◌, length, get_or, OnOk};
-ghost use Rattle.gs_journal.specs.Disk.{Only, HasCause, LeavesOnly};
+ghost use Rattle.gs_journal.specs.Disk.{Only, HasCause};
+ghost use Rattle.gs_journal.specs.inner.Stage.{LeavesOnly};
 ghost use Rattle.gs_journal.specs.Records.{frame, records_of};
-ghost use Rattle.gs_journal.specs.Journal.{IsAtRest, Continues, IsBeforeOrAfter, IsMaking};
-ghost use Rattle.gs_journal.specs.Frames.{IsEnd};
+ghost use Rattle.gs_journal.specs.inner.Rest.{IsAtRest, Continues, IsBeforeOrAfter, IsMaking};
+ghost use Rattle.gs_journal.specs.inner.Frames.{IsEnd};
 
 use crate::disk::Disk;
 use crate::record::Record;

@@ -1,6 +1,6 @@
 // A disk of which one call fails.
 ghost use Rattle.std.specs.Prelude.{◌≡◌, ◌+◌, ◌++◌, Some, None};
-ghost use Rattle.gs_journal.specs.History.{failures_of};
+ghost use Rattle.gs_journal.specs.inner.History.{failures_of};
 ghost use Rattle.gs_journal.specs.Calls.{next_call};
 
 use crate::disk::Disk;

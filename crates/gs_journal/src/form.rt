@@ -3,7 +3,7 @@ ghost use Rattle.std.specs.Prelude.{◌≡◌, ◌*◌, ◌≤◌, ◌<◌, ◌^
 ghost use Rattle.byteorder.specs.Endian.{big_number};
 ghost use Rattle.gs_journal.specs.Reading as reading;
 ghost use Rattle.gs_journal.specs.Bodies as bodies;
-ghost use Rattle.gs_journal.specs.Items.{passes, part_of};
+ghost use Rattle.gs_journal.specs.inner.Items.{passes, part_of};
 
 use crate::version::Version;
 use byteorder::{BigEndian, ByteOrder};

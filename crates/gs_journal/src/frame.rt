@@ -3,7 +3,7 @@ ghost use Rattle.std.specs.Prelude.{◌≡◌, ◌==◌, ◌≤◌, ◌<◌, ◌
 ghost use Rattle.gs_base.specs.declared.refusal.Refusal.TheVariants.{Memory};
 ghost use Rattle.gs_journal.specs.Records.{header_length, records_of};
 ghost use Rattle.gs_journal.specs.Forms.{are_of_form};
-ghost use Rattle.gs_journal.specs.Frames.{FindsRecord, FindsHeader, IsEnd};
+ghost use Rattle.gs_journal.specs.inner.Frames.{FindsRecord, FindsHeader, IsEnd};
 
 use crate::form::is_of_form;
 use crate::record::Record;

@@ -1,6 +1,6 @@
 // What a disk in memory has held.
 ghost use Rattle.std.specs.Prelude.{◌≡◌, ◌∷◌, suc};
-ghost use Rattle.gs_journal.specs.History.{contents, failures_of};
+ghost use Rattle.gs_journal.specs.inner.History.{contents, failures_of};
 
 use std::alloc::Global;
 use std::snapshot::Snapshot;

@@ -9,6 +9,7 @@ mod frame;
 mod history;
 mod journal;
 mod memory;
+mod pair;
 mod place;
 mod record;
 mod stage;

@@ -1,8 +1,8 @@
 // A disk in memory.
 ghost use Rattle.std.specs.Prelude.{◌≡◌, ◌⊎◌, ◌≤◌, ℕ, List, [], ◌∷◌, ◌++◌, length, take, drop, OnOk, OnErr, refl};
 ghost use Rattle.std.proofs.Common.{inl};
-ghost use Rattle.gs_journal.specs.History.{contents, failures_of};
-ghost use Rattle.gs_journal.specs.Past.{HeldSince, only_bytes};
+ghost use Rattle.gs_journal.specs.inner.History.{contents, failures_of};
+ghost use Rattle.gs_journal.specs.inner.Past.{HeldSince, only_bytes};
 ghost use Rattle.gs_journal.specs.Disk.{Holds};
 
 use crate::disk::Disk;

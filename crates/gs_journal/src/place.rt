@@ -29,7 +29,7 @@ fn is_closed_at(bytes: &[u8], at: usize) -> bool
 }
 
 impl Place {
-    ghost use Rattle.gs_journal.specs.Places.{IsPlace, FindsPlace};
+    ghost use Rattle.gs_journal.specs.inner.Places.{IsPlace, FindsPlace};
 
     /// The place on a disk that may count.
     fn on(bytes: &[u8], header: Header, is_second: bool) -> Result<Place, Refusal>

@@ -1,7 +1,7 @@
 // The steps that change a disk, each on the disk before it ends.
 ghost use Rattle.std.specs.Prelude.{◌≡◌, ◌⊎◌, ◌≤◌, ◌<◌, ◌^◌, ◌+◌, ◌++◌, [], ◌∷◌, List, ℕ, length, take, OnOk};
-ghost use Rattle.gs_journal.specs.Stage.{IsClosing, IsOpening};
-ghost use Rattle.gs_journal.specs.Disk.{Only, Torn, Cut, Holds, HasCause, LeavesOnly};
+ghost use Rattle.gs_journal.specs.inner.Stage.{IsClosing, IsOpening, LeavesOnly};
+ghost use Rattle.gs_journal.specs.Disk.{Only, Torn, Cut, Holds, HasCause};
 
 use crate::disk::Disk;
 use gs_base::Refusal;

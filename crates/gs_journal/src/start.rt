@@ -1,10 +1,12 @@
 // How two disks are opened.
-ghost use Rattle.std.specs.Prelude.{◌≡◌, ◌+◌, ◌++◌, ◌∷◌, ◌<◌, ◌^◌, [], true, false, IfOk, IfErr, OnOk, List, ℕ};
-ghost use Rattle.gs_base.specs.declared.refusal.Refusal.TheVariants.{BadLine, Memory};
-ghost use Rattle.gs_journal.specs.Disk.{Only, LeavesOnly, LeavesPairs};
+ghost use Rattle.std.specs.Prelude.{◌≡◌, ◌≢◌, ◌+◌, ◌++◌, ◌∷◌, ◌<◌, ◌^◌, [], true, false, IfOk, IfErr, OnOk, List, ℕ};
+ghost use Rattle.gs_base.specs.declared.refusal.Refusal.TheVariants.{Device, Memory};
+ghost use Rattle.gs_journal.specs.Disk.{Only, LeavesPairs};
 ghost use Rattle.gs_journal.specs.Records.{header, is_begun, second_counts, standing};
 ghost use Rattle.gs_journal.specs.Forms.{is_text};
-ghost use Rattle.gs_journal.specs.Places.{FindsPlace, IsFresh, IsReady, ReadRefuses, WhyClosed, IsLikeFirst, IsLikeSecond, MightHaveStood};
+ghost use Rattle.gs_journal.specs.Journal.{WhyClosed, MightHaveStood};
+ghost use Rattle.gs_journal.specs.inner.Places.{FindsPlace, IsFresh, IsReady, ReadRefuses, IsLikeFirst, IsLikeSecond};
+ghost use Rattle.gs_journal.specs.inner.Stage.{LeavesOnly};
 ghost use Rattle.gs_journal.specs.declared.version.Version.TheVariants.{Two};
 
 use crate::disk::Disk;
@@ -86,6 +88,7 @@ pub(crate) fn make_first<D: Disk>(alloc: Global, disk: &mut D) -> Result<Place, 
     ensures durable { OnOk result (Only (D.seen disk.new) (D.may_leave disk.new)) }
     ensures any_moment { (second : List ℕ) → second_counts (D.seen disk.old) second ≡ false
         → LeavesOnly D.moment D.left_since disk.old disk.new (IsLikeFirst (D.seen disk.old) second) }
+    ensures unchanged { IfErr result (λ e. e ≢ Device → D.seen disk.new ≡ D.seen disk.old) }
     ensures cause { ReadRefuses (D.failures disk.old) (D.failures disk.new) result }
 {
     let text = begin(alloc, 1, 0, &[])?;
@@ -115,6 +118,7 @@ pub(crate) fn put_right<D: Disk>(
     ensures durable_second { OnOk result (Only (D.seen second.new) (D.may_leave second.new)) }
     ensures left_first { LeavesOnly D.moment D.left_since first.old first.new (IsLikeFirst (D.seen first.old) (D.seen second.old)) }
     ensures left_second { LeavesOnly D.moment D.left_since second.old second.new (IsLikeSecond (D.seen second.old)) }
+    ensures unchanged { IfErr result (λ e. e ≢ Device → (D.seen first.new ≡ D.seen first.old) × (D.seen second.new ≡ D.seen second.old)) }
     ensures cause { ReadRefuses (D.failures first.old + D.failures second.old) (D.failures first.new + D.failures second.new) result }
 {
     let Some(place) = place else {
@@ -140,7 +144,7 @@ pub(crate) fn start<D: Disk>(alloc: Global, first: &mut D, second: &mut D) -> Re
         (λ a b. MightHaveStood (D.may_leave first.old) (D.may_leave second.old) (standing a b)) }
     ensures refused { IfErr result (WhyClosed (standing (D.seen first.old) (D.seen second.old))
         (D.failures first.old + D.failures second.old) (D.failures first.new + D.failures second.new)) }
-    ensures unchanged { IfErr result (λ e. e ≡ BadLine → (D.seen first.new ≡ D.seen first.old) × (D.seen second.new ≡ D.seen second.old)) }
+    ensures unchanged { IfErr result (λ e. e ≢ Device → (D.seen first.new ≡ D.seen first.old) × (D.seen second.new ≡ D.seen second.old)) }
 {
     let place = survey(alloc, first, second)?;
     let place = put_right(alloc, first, second, place)?;

@@ -1,6 +1,6 @@
 // A disk that stops.
 ghost use Rattle.std.specs.Prelude.{◌≡◌, ◌+◌, ◌-◌, ◌==◌, not};
-ghost use Rattle.gs_journal.specs.History.{failures_of};
+ghost use Rattle.gs_journal.specs.inner.History.{failures_of};
 
 use crate::disk::Disk;
 use crate::history::History;

@@ -1,5 +1,5 @@
 use Rattle.std.proofs.Common.{inl, List, ℕ, subst}
-use Rattle.gs_journal.specs.Stage.{IsOpening}
+use Rattle.gs_journal.specs.inner.Stage.{IsOpening}
 use Rattle.gs_journal.proofs.Moments.{weaker, both}
 use Rattle.gs_journal.proofs.Making.{while_closing, while_opening}
 use Rattle.gs_journal.proofs.ends.make.Goals as goal

@@ -1,6 +1,6 @@
 use Rattle.std.proofs.Common.{◌≡◌, ◌-◌}
 use Rattle.gs_journal.specs.Reading.{list, times}
-use Rattle.gs_journal.specs.Items.{part_of}
+use Rattle.gs_journal.specs.inner.Items.{part_of}
 use Rattle.gs_journal.proofs.form.list.Given as goal
 
 abbrev pub invariant-loop : goal.invariant-loop

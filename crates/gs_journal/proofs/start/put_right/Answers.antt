@@ -1,5 +1,5 @@
 use Rattle.std.proofs.Common.{inl, subst}
-use Rattle.gs_journal.specs.Places.{FindsPlace}
+use Rattle.gs_journal.specs.inner.Places.{FindsPlace}
 use Rattle.gs_journal.proofs.Moments.{weaker}
 use Rattle.gs_journal.proofs.Opening.{untouched_first, untouched_second, first_place, second_place, made_ready, second_ready, first_ready, like_first, like_second}
 use Rattle.gs_journal.proofs.start.put_right.Goals as goal

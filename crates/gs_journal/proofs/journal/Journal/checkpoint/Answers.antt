@@ -1,57 +1,46 @@
-use Rattle.std.proofs.Common.{refl, inl, inr, subst, arith, ◌∷◌, []}
+use Rattle.std.proofs.Common.{rules, refl, inl, subst, ◌∷◌, []}
 use Rattle.gs_journal.specs.Disk.{LeavesPairs}
 use Rattle.gs_journal.specs.Records.{Entry, standing}
-use Rattle.gs_journal.specs.Sound.{text, IsOldOrNew}
+use Rattle.gs_journal.specs.Journal.{IsOldOrNew, checkpointed}
+use Rattle.gs_journal.specs.inner.Pair.{text}
 use Rattle.gs_journal.specs.declared.version.Version.TheVariants.{Two}
-use Rattle.gs_journal.proofs.Pairs.{nothing_changed}
+use Rattle.gs_journal.proofs.Views.{stands, moved, unmoved, comes_about, on_ok}
 use Rattle.gs_journal.proofs.journal.Journal.checkpoint.Goals as goal
-
-pub returns-then-self-clause-refused : goal.returns-then-self-clause-refused
-returns-then-self-clause-refused g c = inr (inr (inr (refl, inr (c.if-self.true, refl))))
-
-pub returns-then-self-2-clause-refused : goal.returns-then-self-2-clause-refused
-returns-then-self-2-clause-refused g c = inl (refl, refl, c.if-self-2.true)
-
-pub returns-then-body-self-clause-refused : goal.returns-then-body-self-clause-refused
-returns-then-body-self-clause-refused g c = inr (inr (inl (refl, refl, omega (arith, c.if-body-self.true))))
-
-pub returns-in_default-clause-refused : goal.returns-in_default-clause-refused
-returns-in_default-clause-refused g c = inr (inl (refl, refl))
-
-pub returns-in_default-begin-clause-refused : goal.returns-in_default-begin-clause-refused
-returns-in_default-begin-clause-refused g c = inr (inl (refl, refl))
-
-pub returns-clause-refused : goal.returns-clause-refused
-returns-clause-refused g c = inr (inr (inr (c.in-Err.ensures.cause.0, inl c.in-Err.ensures.cause.1)))
 
 pub returns-then-self-2-clause-any_moment : goal.returns-then-self-2-clause-any_moment
 returns-then-self-2-clause-any_moment g c is_open =
-    let d = g.D.Disk in let s = c.requires.sound is_open in
-    nothing_changed d.seen d.may_leave d.moment d.left_since c.args.self.now.first c.args.self.now.second _ s.first s.second (g.met.D.Disk.only_now c.args.self.now.first) (g.met.D.Disk.only_now c.args.self.now.second) (inl refl)
+    let d = g.D.Disk in let j = c.self.inside in
+    unmoved d.seen d.may_leave d.moment d.left_since j.disks j.limit j.is_failed c.args.self.now (λ t a b. IsOldOrNew t (checkpointed c.args.body.now) (standing a b)) c.self.view_is (c.self.invariant c.if-self.false) g.met.D.Disk.only_now (inl refl)
 
 pub returns-then-body-self-clause-any_moment : goal.returns-then-body-self-clause-any_moment
 returns-then-body-self-clause-any_moment g c is_open =
-    let d = g.D.Disk in let s = c.requires.sound is_open in
-    nothing_changed d.seen d.may_leave d.moment d.left_since c.args.self.now.first c.args.self.now.second _ s.first s.second (g.met.D.Disk.only_now c.args.self.now.first) (g.met.D.Disk.only_now c.args.self.now.second) (inl refl)
+    let d = g.D.Disk in let j = c.self.inside in
+    unmoved d.seen d.may_leave d.moment d.left_since j.disks j.limit j.is_failed c.args.self.now (λ t a b. IsOldOrNew t (checkpointed c.args.body.now) (standing a b)) c.self.view_is (c.self.invariant c.if-self.false) g.met.D.Disk.only_now (inl refl)
 
 pub returns-in_default-clause-any_moment : goal.returns-in_default-clause-any_moment
 returns-in_default-clause-any_moment g c is_open =
-    let d = g.D.Disk in let s = c.requires.sound is_open in
-    nothing_changed d.seen d.may_leave d.moment d.left_since c.args.self.now.first c.args.self.now.second _ s.first s.second (g.met.D.Disk.only_now c.args.self.now.first) (g.met.D.Disk.only_now c.args.self.now.second) (inl refl)
+    let d = g.D.Disk in let j = c.self.inside in
+    unmoved d.seen d.may_leave d.moment d.left_since j.disks j.limit j.is_failed c.args.self.now (λ t a b. IsOldOrNew t (checkpointed c.args.body.now) (standing a b)) c.self.view_is (c.self.invariant c.if-self.false) g.met.D.Disk.only_now (inl refl)
 
 pub returns-in_default-begin-clause-any_moment : goal.returns-in_default-begin-clause-any_moment
 returns-in_default-begin-clause-any_moment g c is_open =
-    let d = g.D.Disk in let s = c.requires.sound is_open in
-    nothing_changed d.seen d.may_leave d.moment d.left_since c.args.self.now.first c.args.self.now.second _ s.first s.second (g.met.D.Disk.only_now c.args.self.now.first) (g.met.D.Disk.only_now c.args.self.now.second) (inl refl)
+    let d = g.D.Disk in let j = c.self.inside in
+    unmoved d.seen d.may_leave d.moment d.left_since j.disks j.limit j.is_failed c.args.self.now (λ t a b. IsOldOrNew t (checkpointed c.args.body.now) (standing a b)) c.self.view_is (c.self.invariant c.if-self.false) g.met.D.Disk.only_now (inl refl)
 
-pub returns-in-Ok-make_other-clause-any_moment : goal.returns-in-Ok-make_other-clause-any_moment
-returns-in-Ok-make_other-clause-any_moment g c is_open =
-    let d = g.D.Disk in
-    subst (λ (e : Entry). LeavesPairs d.moment d.left_since c.args.self.now.first c.args.self.now.second c.make_other.new.self.first c.make_other.new.self.second (λ x y. IsOldOrNew (text d.seen c.args.self.now) (Two, e ∷ []) (standing x y)))
-    c.in-Ok.ensures.made c.make_other.ensures.any_moment
+pub returns-clause-stands : goal.returns-clause-stands
+returns-clause-stands g c =
+    let d = g.D.Disk in let j = c.self.inside in
+    stands d.seen d.may_leave c.make_other-made.new.self j.limit _ (search rules) (on_ok _ c.make_other-made.result _ c.in_ok-made.was c.make_other-made.ensures.settled)
 
 pub returns-clause-any_moment : goal.returns-clause-any_moment
 returns-clause-any_moment g c is_open =
-    let d = g.D.Disk in
-    subst (λ (e : Entry). LeavesPairs d.moment d.left_since c.args.self.now.first c.args.self.now.second c.make_other.new.self.first c.make_other.new.self.second (λ x y. IsOldOrNew (text d.seen c.args.self.now) (Two, e ∷ []) (standing x y)))
-    c.in-Ok.ensures.made c.make_other.ensures.any_moment
+    let d = g.D.Disk in let j = c.self.inside in
+    (moved d.seen d.may_leave d.moment d.left_since j.disks j.limit j.is_failed c.args.self.now (λ t a b. IsOldOrNew t (checkpointed c.args.body.now) (standing a b)) _ _ c.self.view_is
+    (subst (λ (e : Entry). LeavesPairs d.moment d.left_since j.disks.first j.disks.second c.make_other-made.new.self.first c.make_other-made.new.self.second (λ x y. IsOldOrNew (text d.seen j.disks) (Two, e ∷ []) (standing x y))) c.in-Ok.ensures.made c.make_other-made.ensures.any_moment))
+
+pub returns-in_err-made-clause-either : goal.returns-in_err-made-clause-either
+returns-in_err-made-clause-either g c =
+    let d = g.D.Disk in let j = c.self.inside in
+    comes_about d.seen d.may_leave d.moment d.left_since _ _ _ _ _ g.met.D.Disk.shows g.met.D.Disk.counts_now
+    (moved d.seen d.may_leave d.moment d.left_since j.disks j.limit j.is_failed c.args.self.now (λ t a b. IsOldOrNew t (checkpointed c.args.body.now) (standing a b)) _ _ c.self.view_is
+    (subst (λ (e : Entry). LeavesPairs d.moment d.left_since j.disks.first j.disks.second c.make_other-made.new.self.first c.make_other-made.new.self.second (λ x y. IsOldOrNew (text d.seen j.disks) (Two, e ∷ []) (standing x y))) c.in-Ok.ensures.made c.make_other-made.ensures.any_moment))

@@ -1,46 +1,18 @@
-use Rattle.std.proofs.Common.{List, ℕ, ap, ◌≡◌}
 use Rattle.gs_journal.specs.Records.{standing}
-use Rattle.gs_journal.specs.Sound.{text}
-use Rattle.gs_journal.proofs.Pairs.{only_first, only_second}
-use Rattle.gs_journal.proofs.Settled.{reread_first, reread_second}
+use Rattle.std.proofs.Common.{◌≡◌}
+use Rattle.gs_journal.proofs.Views.{stands, moved}
 use Rattle.gs_journal.proofs.journal.Journal.records.Goals as goal
 
-pub returns-in_err-bytes-clause-any_moment : goal.returns-in_err-bytes-clause-any_moment
-returns-in_err-bytes-clause-any_moment g c is_open =
-    let d = g.D.Disk in let j = c.args.self.now in let s = c.requires.sound is_open in
-    only_second d.seen d.may_leave d.moment d.left_since _ _ _ _ (λ x y. standing x y ≡ text d.seen j) s.first (g.met.D.Disk.only_now j.first) c.read_all.ensures.any_moment
-    (λ x left. ap (standing (d.seen j.first)) (s.second x left))
+pub returns-in-Ok-clause-stands : goal.returns-in-Ok-clause-stands
+returns-in-Ok-clause-stands g c =
+    let d = g.D.Disk in let j = c.self.inside in stands d.seen d.may_leave c.records.new.self j.limit j.is_failed c.if-self.false c.records.ensures.settled
 
-pub returns-then-self-2-clause-any_moment : goal.returns-then-self-2-clause-any_moment
-returns-then-self-2-clause-any_moment g c is_open =
-    let d = g.D.Disk in let j = c.args.self.now in let s = c.requires.sound is_open in
-    only_second d.seen d.may_leave d.moment d.left_since _ _ _ _ (λ x y. standing x y ≡ text d.seen j) s.first (g.met.D.Disk.only_now j.first) c.read_all.ensures.any_moment
-    (λ x left. ap (standing (d.seen j.first)) (s.second x left))
+pub returns-in-Ok-clause-any_moment : goal.returns-in-Ok-clause-any_moment
+returns-in-Ok-clause-any_moment g c is_open =
+    let d = g.D.Disk in let j = c.self.inside in
+    moved d.seen d.may_leave d.moment d.left_since j.disks j.limit j.is_failed c.args.self.now (λ t a b. standing a b ≡ t) _ _ c.self.view_is c.records.ensures.any_moment
 
-pub returns-in_err-bytes-2-clause-any_moment : goal.returns-in_err-bytes-2-clause-any_moment
-returns-in_err-bytes-2-clause-any_moment g c is_open =
-    let d = g.D.Disk in let j = c.args.self.now in let s = c.requires.sound is_open in
-    only_first d.seen d.may_leave d.moment d.left_since _ _ _ _ (λ x y. standing x y ≡ text d.seen j) s.second (g.met.D.Disk.only_now j.second) c.read_all-2.ensures.any_moment
-    (λ x left. ap (λ (l : List ℕ). standing l (d.seen j.second)) (s.first x left))
-
-pub returns-clause-any_moment : goal.returns-clause-any_moment
-returns-clause-any_moment g c is_open =
-    let d = g.D.Disk in let j = c.args.self.now in let s = c.requires.sound is_open in
-    only_first d.seen d.may_leave d.moment d.left_since _ _ _ _ (λ x y. standing x y ≡ text d.seen j) s.second (g.met.D.Disk.only_now j.second) c.read_all-2.ensures.any_moment
-    (λ x left. ap (λ (l : List ℕ). standing l (d.seen j.second)) (s.first x left))
-
-pub returns-in_err-bytes-clause-sound : goal.returns-in_err-bytes-clause-sound
-returns-in_err-bytes-clause-sound g c is_open =
-    let d = g.D.Disk in reread_second d.seen d.may_leave c.args.self.now c.read_all.new.disk (c.requires.sound is_open) c.read_all.ensures.seen c.read_all.ensures.durable
-
-pub returns-then-self-2-clause-sound : goal.returns-then-self-2-clause-sound
-returns-then-self-2-clause-sound g c is_open =
-    let d = g.D.Disk in reread_second d.seen d.may_leave c.args.self.now c.read_all.new.disk (c.requires.sound is_open) c.read_all.ensures.seen c.read_all.ensures.durable
-
-pub returns-in_err-bytes-2-clause-sound : goal.returns-in_err-bytes-2-clause-sound
-returns-in_err-bytes-2-clause-sound g c is_open =
-    let d = g.D.Disk in reread_first d.seen d.may_leave c.args.self.now c.read_all-2.new.disk (c.requires.sound is_open) c.read_all-2.ensures.seen c.read_all-2.ensures.durable
-
-pub returns-clause-sound : goal.returns-clause-sound
-returns-clause-sound g c is_open =
-    let d = g.D.Disk in reread_first d.seen d.may_leave c.args.self.now c.read_all-2.new.disk (c.requires.sound is_open) c.read_all-2.ensures.seen c.read_all-2.ensures.durable
+pub returns-after-matches-clause-any_moment : goal.returns-after-matches-clause-any_moment
+returns-after-matches-clause-any_moment g c is_open =
+    let d = g.D.Disk in let j = c.self.inside in
+    moved d.seen d.may_leave d.moment d.left_since j.disks j.limit j.is_failed c.args.self.now (λ t a b. standing a b ≡ t) _ _ c.self.view_is c.records.ensures.any_moment

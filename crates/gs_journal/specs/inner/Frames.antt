@@ -1,7 +1,7 @@
 -- What the code finds in a disk's bytes.
 use Rattle.std.specs.Prelude.{◌≡◌, ◌≤◌, ◌+◌, ◌++◌, ℕ, true, false, Option, Some, None, List, [], ◌∷◌, length, take, drop}
 use Rattle.gs_journal.specs.Records.{is_begun, version_of, generation_of, records_behind}
-use Rattle.gs_journal.specs.Journal.{IsComplete}
+use Rattle.gs_journal.specs.inner.Rest.{IsComplete}
 use Rattle.gs_journal.specs.declared.frame.Header.{Header}
 use Rattle.gs_journal.specs.declared.frame.Found.{Found}
 

@@ -1,7 +1,7 @@
 use Rattle.std.proofs.Common.{refl, ◌+◌, length}
 use Rattle.gs_journal.proofs.Pairs.{only_first, only_second, first_before_or_after, second_before_or_after}
 use Rattle.gs_journal.proofs.Settled.{known_first, known_second, more_on_first, more_on_second, grown}
-use Rattle.gs_journal.proofs.journal.Journal.put.Goals as goal
+use Rattle.gs_journal.proofs.pair.Pair.put.Goals as goal
 
 pub returns-in_err-append_to-clause-any_moment : goal.returns-in_err-append_to-clause-any_moment
 returns-in_err-append_to-clause-any_moment g c =
@@ -31,8 +31,6 @@ returns-then-self-clause-added g c =
       version = j.version;
       generation = j.generation;
       end = j.end + length c.bytes.result.now;
-      limit = j.limit;
-      is_failed = j.is_failed;
     })
     c.args.entry.now c.requires.settled c.if-self.true refl refl refl refl (grown c.args.entry.now c.bytes.result.now c.bytes.ensures.written j.end _ e.rest) e.added e.durable).1
 
@@ -66,7 +64,5 @@ returns-clause-added g c =
       version = j.version;
       generation = j.generation;
       end = j.end + length c.bytes-2.result.now;
-      limit = j.limit;
-      is_failed = j.is_failed;
     })
     c.args.entry.now c.requires.settled c.if-self.false refl refl refl refl (grown c.args.entry.now c.bytes-2.result.now c.bytes-2.ensures.written j.end _ e.rest) e.added e.durable).1

@@ -2,7 +2,7 @@ use Rattle.std.proofs.Common.{refl, ◌+◌, length, true, false}
 use Rattle.gs_journal.specs.declared.version.Version.TheVariants.{Two}
 use Rattle.gs_journal.proofs.Pairs.{only_first, only_second}
 use Rattle.gs_journal.proofs.Checkpoint.{new_first, new_second, new_while_first, new_while_second}
-use Rattle.gs_journal.proofs.journal.Journal.make_other.Goals as goal
+use Rattle.gs_journal.proofs.pair.Pair.make_other.Goals as goal
 
 pub returns-in_err-make-clause-any_moment : goal.returns-in_err-make-clause-any_moment
 returns-in_err-make-clause-any_moment g c =
@@ -39,8 +39,6 @@ returns-then-self-clause-settled g c =
       version = Two;
       generation = j.generation + 1;
       end = 13 + length c.bytes.result.now;
-      limit = j.limit;
-      is_failed = j.is_failed;
     })
     c.args.entry.now c.args.bytes.now c.bytes.result.now c.requires.settled c.if-self.true c.requires.next c.bytes.ensures.fits c.requires.text c.bytes.ensures.written c.in_ok-make.ensures.seen refl refl refl refl refl
     c.in_ok-make.ensures.durable).0
@@ -56,8 +54,6 @@ returns-then-self-clause-made g c =
       version = Two;
       generation = j.generation + 1;
       end = 13 + length c.bytes.result.now;
-      limit = j.limit;
-      is_failed = j.is_failed;
     })
     c.args.entry.now c.args.bytes.now c.bytes.result.now c.requires.settled c.if-self.true c.requires.next c.bytes.ensures.fits c.requires.text c.bytes.ensures.written c.in_ok-make.ensures.seen refl refl refl refl refl
     c.in_ok-make.ensures.durable).1
@@ -73,8 +69,6 @@ returns-clause-settled g c =
       version = Two;
       generation = j.generation + 1;
       end = 13 + length c.bytes.result.now;
-      limit = j.limit;
-      is_failed = j.is_failed;
     })
     c.args.entry.now c.args.bytes.now c.bytes.result.now c.requires.settled c.if-self.false c.requires.next c.bytes.ensures.fits c.requires.text c.bytes.ensures.written c.in_ok-make-2.ensures.seen refl refl refl refl refl
     c.in_ok-make-2.ensures.durable).0
@@ -90,8 +84,6 @@ returns-clause-made g c =
       version = Two;
       generation = j.generation + 1;
       end = 13 + length c.bytes.result.now;
-      limit = j.limit;
-      is_failed = j.is_failed;
     })
     c.args.entry.now c.args.bytes.now c.bytes.result.now c.requires.settled c.if-self.false c.requires.next c.bytes.ensures.fits c.requires.text c.bytes.ensures.written c.in_ok-make-2.ensures.seen refl refl refl refl refl
     c.in_ok-make-2.ensures.durable).1

@@ -1,11 +1,11 @@
 -- What is found of two disks that are opened.
 use Rattle.std.specs.Prelude.{◌≡◌, ◌≢◌, ◌⊎◌, ◌+◌, ◌<◌, ◌^◌, ℕ, true, false, if◌then◌else◌, Option, Some, None, Result, Ok, Err, List, length, get_or}
 use Rattle.gs_base.specs.declared.refusal.Refusal.{Refusal}
-use Rattle.gs_base.specs.declared.refusal.Refusal.TheVariants.{Device, Memory, BadLine}
-use Rattle.gs_journal.specs.Records.{Text, header_length, is_begun, version_of, generation_of, second_counts, standing, text_of}
+use Rattle.gs_base.specs.declared.refusal.Refusal.TheVariants.{Device, Memory}
+use Rattle.gs_journal.specs.Records.{header_length, is_begun, version_of, generation_of, second_counts, standing, text_of}
 use Rattle.gs_journal.specs.Forms.{is_text}
-use Rattle.gs_journal.specs.Frames.{IsEnd}
-use Rattle.gs_journal.specs.Journal.{IsAtRest}
+use Rattle.gs_journal.specs.inner.Frames.{IsEnd}
+use Rattle.gs_journal.specs.inner.Rest.{IsAtRest}
 use Rattle.gs_journal.specs.declared.place.Place.{Place}
 use Rattle.gs_journal.specs.declared.version.Version.TheVariants.{Two}
 
@@ -40,11 +40,6 @@ abbrev pub ReadRefuses : {T : Type 0} → ℕ → ℕ → Result T Refusal → T
 ReadRefuses before now (Ok x) = now ≡ before
 ReadRefuses before now (Err e) = ((e ≡ Device) × (before < now)) ⊎ ((e ≡ Memory) × (now ≡ before))
 
--- Why disks aren't opened: no call of a disk failed and a record isn't of its form; or a disk failed; or memory was refused.
-abbrev pub WhyClosed : Text → ℕ → ℕ → Refusal → Type 0
-WhyClosed text before now e =
-    ((e ≡ BadLine) × (is_text text ≡ false) × (now ≡ before)) ⊎ (((e ≡ Device) × (before < now)) ⊎ ((e ≡ Memory) × (now ≡ before)))
-
 -- what a crash may leave of the first disk while it is put right, beside any second
 abbrev pub IsLikeFirst : List ℕ → List ℕ → List ℕ → Type 0
 IsLikeFirst first second c = (d : List ℕ) → (standing c d ≡ standing first d) ⊎ (standing c d ≡ standing first second)
@@ -52,7 +47,3 @@ IsLikeFirst first second c = (d : List ℕ) → (standing c d ≡ standing first
 -- what a crash may leave of the second
 abbrev pub IsLikeSecond : List ℕ → List ℕ → Type 0
 IsLikeSecond second c = (d : List ℕ) → standing d c ≡ standing d second
-
--- what two disks say that a crash might have left before
-abbrev pub MightHaveStood : (List ℕ → Type 0) → (List ℕ → Type 0) → Text → Type 0
-MightHaveStood first second text = (a : List ℕ) × (b : List ℕ) × first a × second b × (text ≡ standing a b)

@@ -1,0 +1,70 @@
+-- What contracts see of a journal, by its disks.
+use Rattle.std.proofs.Common.{◌≡◌, ℕ, ◌+◌, ◌-◌, ◌≤◌, Bool, false, refl, Option, Some, None, Result, Ok, List, [], ◌∷◌, ◌++◌, length, sym, ◌∙◌, ap, subst, arith, length-append}
+use Rattle.std.specs.Prelude.{if◌then◌else◌, nat_le, IfSome, OnOk}
+use Rattle.std.proofs.lemmas.Bool.{cond-true}
+use Rattle.std.proofs.lemmas.Bool.Decides.{nat_tests}
+use Rattle.gs_base.specs.declared.refusal.Refusal.{Refusal}
+use Rattle.gs_base.specs.declared.refusal.Refusal.TheVariants.{Device, Full}
+use Rattle.gs_journal.specs.Disk.{LeavesPairs}
+use Rattle.gs_journal.specs.Records.{Entry, Text, frame, generation_of, second_counts, standing}
+use Rattle.gs_journal.specs.Journal.{State, Stands, record_size, append_refusal}
+use Rattle.gs_journal.specs.inner.Pair.{text, counting, IsSettled}
+use Rattle.gs_journal.specs.declared.pair.Pair.{Pair}
+use Rattle.gs_journal.proofs.Moments.{Stays}
+use Rattle.gs_journal.proofs.Pairs.{nothing_changed}
+
+module _ {D : Type 0} (seen : D → List ℕ) (may_leave : D → List ℕ → Type 0) where
+  abbrev pub state_of : Pair D → ℕ → Bool → State D
+  state_of p limit is_failed =
+      record { text = text seen p; size = p.end + 1; limit = limit; generation = p.generation; is_failed = is_failed; first = p.first; second = p.second }
+
+  -- what each crash leaves of disks that are settled
+  pub lasts : (p : Pair D) → IsSettled seen may_leave p → (a b : List ℕ) → may_leave p.first a → may_leave p.second b → standing a b ≡ text seen p
+  lasts p s a b left_a left_b = ap (λ (x : List ℕ). standing x b) (s.first a left_a) ∙ ap (standing (seen p.first)) (s.second b left_b)
+
+  pub stands : (p : Pair D) (limit : ℕ) (is_failed : Bool) → is_failed ≡ false → IsSettled seen may_leave p → Stands seen may_leave (state_of p limit is_failed)
+  stands p limit is_failed is_open s =
+      let same : (if second_counts (seen p.first) (seen p.second) then seen p.second else seen p.first) ≡ counting seen p =
+      ap (λ (b : Bool). if b then seen p.second else seen p.first) s.counts in record {
+        is_open = is_open;
+        text = refl;
+        size = ap length same ∙ s.rest.length;
+        generation = ap generation_of same ∙ sym s.generation;
+        lasts = lasts p s;
+      }
+
+module _ {D : Type 0} (seen : D → List ℕ) (may_leave : D → List ℕ → Type 0) (moment : D → ℕ) (left_since : D → ℕ → List ℕ → Type 0) where
+  -- what a call leaves, by the value that contracts see
+  pub moved : (p : Pair D) (limit : ℕ) (is_failed : Bool) (v : State D) (Q : Text → List ℕ → List ℕ → Type 0) (a b : D) → state_of seen may_leave p limit is_failed ≡ v
+      → LeavesPairs moment left_since p.first p.second a b (Q (text seen p)) → LeavesPairs moment left_since v.first v.second a b (Q v.text)
+  moved p limit is_failed v Q a b is leaves = subst (λ (w : State D). LeavesPairs moment left_since w.first w.second a b (Q w.text)) is leaves
+
+  -- a call that does nothing
+  pub unmoved : (p : Pair D) (limit : ℕ) (is_failed : Bool) (v : State D) (Q : Text → List ℕ → List ℕ → Type 0) → state_of seen may_leave p limit is_failed ≡ v → IsSettled seen may_leave p
+      → ((d : D) → Stays seen may_leave moment left_since d) → Q (text seen p) (seen p.first) (seen p.second) → LeavesPairs moment left_since v.first v.second v.first v.second (Q v.text)
+  unmoved p limit is_failed v Q is s stays q =
+      subst (λ (w : State D). LeavesPairs moment left_since w.first w.second w.first w.second (Q w.text)) is
+      (nothing_changed seen may_leave moment left_since p.first p.second (Q (text seen p)) s.first s.second (stays p.first) (stays p.second) q)
+
+  -- what the disks say behind a call is one of the things that a crash in it leaves
+  pub comes_about : (first second a b : D) (Q : List ℕ → List ℕ → Type 0) → ((d : D) → may_leave d (seen d)) → ((d : D) (t : ℕ) (c : List ℕ) → t ≤ moment d → may_leave d c → left_since d t c)
+      → LeavesPairs moment left_since first second a b Q → Q (seen a) (seen b)
+  comes_about first second a b Q shows counts_now leaves =
+      leaves.each (seen a) (seen b) (counts_now a (moment first) (seen a) leaves.later_first (shows a)) (counts_now b (moment second) (seen b) leaves.later_second (shows b))
+
+-- the tests of an append
+module _ {D : Type 0} (j : State D) (r : Entry) where
+  pub append_none : j.is_failed ≡ false → j.size + record_size r ≤ j.limit → append_refusal j r ≡ None
+  append_none is_open fits =
+      ap (λ (b : Bool). if b then Some Device else if nat_le (j.size + record_size r) j.limit then None else Some Full) is_open
+      ∙ cond-true (nat_le (j.size + record_size r) j.limit) None (Some Full) (grind (arith, nat_tests))
+
+  pub unjudged : (P : Refusal → Type 0) → append_refusal j r ≡ None → IfSome (append_refusal j r) P
+  unjudged P none = subst (λ (o : Option Refusal). IfSome o P) (sym none) tt
+
+  pub room_fits : (room : ℕ) (bytes : List ℕ) → bytes ≡ frame r ++ 0 ∷ [] → room ≡ j.limit - j.size → length bytes ≤ room → j.size + record_size r ≤ j.limit
+  room_fits room bytes is left within = omega (arith, ap length is, length-append (frame r) (0 ∷ []), left, within)
+
+-- what holds of a result that is known
+pub on_ok : {T E : Type 0} (P : Type 0) (r : Result T E) (x : T) → r ≡ Ok x → OnOk r P → P
+on_ok P r x is on = subst (λ (s : Result _ _). OnOk s P) is on
