@@ -1,6 +1,6 @@
 pub mod Bodies
-pub mod Calls
 pub mod Disk
+pub mod Faults
 pub mod Forms
 pub mod Journal
 pub mod Memory

@@ -6,6 +6,8 @@ ghost use Rattle.gs_journal.specs.Records.{standing};
 ghost use Rattle.gs_journal.specs.Forms.{is_text};
 
 use crate::disk::Disk;
+use crate::fault::Fault;
+use crate::faulty::FaultyDisk;
 use crate::pair::Pair;
 use crate::record::Record;
 use crate::start::{begin, start};
@@ -247,5 +249,23 @@ impl<D: Disk> Journal<D> {
         self.is_failed = made.is_err();
         made?;
         Ok(())
+    }
+}
+
+impl<D: Disk> Journal<FaultyDisk<D>> {
+    ghost use Rattle.gs_journal.specs.Faults.{armed};
+
+    /// Gives the first disk a fault in place of the one that it has.
+    pub fn arm_first(&mut self, fault: Fault)
+        ensures { self.new ≡ record self.old { first = armed self.old.first fault } }
+    {
+        self.disks.first.arm(fault);
+    }
+
+    /// Gives the second disk a fault in place of the one that it has.
+    pub fn arm_second(&mut self, fault: Fault)
+        ensures { self.new ≡ record self.old { second = armed self.old.second fault } }
+    {
+        self.disks.second.arm(fault);
     }
 }

@@ -3,7 +3,8 @@
 
 mod disk;
 mod ends;
-mod failing;
+mod fault;
+mod faulty;
 mod form;
 mod frame;
 mod history;
@@ -11,19 +12,17 @@ mod journal;
 mod memory;
 mod pair;
 mod place;
+pub mod promises;
 mod record;
 mod stage;
 mod start;
-mod stopping;
-mod tearing;
 mod version;
 
 pub use disk::Disk;
-pub use failing::FailingDisk;
+pub use fault::Fault;
+pub use faulty::FaultyDisk;
 pub use form::is_of_form;
 pub use journal::{Journal, Unopened};
 pub use memory::MemoryDisk;
 pub use record::Record;
-pub use stopping::StoppingDisk;
-pub use tearing::TearingDisk;
 pub use version::Version;

@@ -1,5 +1,5 @@
 use gs_base::Refusal;
-use gs_journal::{Disk, FailingDisk, Journal, MemoryDisk, Record, StoppingDisk, TearingDisk};
+use gs_journal::{Disk, Fault, FaultyDisk, Journal, MemoryDisk, Record};
 use std::alloc::Global;
 use std::test::Fail;
 
@@ -119,8 +119,8 @@ fn whole_records_are_read_at_every_length(rt: HostRuntime) -> Result<(), Fail> {
 // How many records there are after an append and a checkpoint of three records, where the disks stop after so many calls
 // each, with whether the append and the checkpoint were made.
 fn stopped(alloc: Global, on_first: u64, on_second: u64) -> Result<(usize, bool, bool), Refusal> {
-    let first = StoppingDisk::new(MemoryDisk::new(THREE.to_vec(alloc)?), on_first);
-    let second = StoppingDisk::new(MemoryDisk::new(Vec::new(alloc)), on_second);
+    let first = FaultyDisk::new(MemoryDisk::new(THREE.to_vec(alloc)?), Fault::Stop(on_first));
+    let second = FaultyDisk::new(MemoryDisk::new(Vec::new(alloc)), Fault::Stop(on_second));
     let Edited {
         added,
         made,
@@ -152,9 +152,9 @@ fn torn(
     torn: [u8; 40],
 ) -> Result<(usize, usize), Refusal> {
     let three = MemoryDisk::new(THREE.to_vec(alloc)?);
-    let first = TearingDisk::new(three, on_first, torn.to_vec(alloc)?);
+    let first = FaultyDisk::new(three, Fault::Tear(on_first, torn.to_vec(alloc)?));
     let none = MemoryDisk::new(Vec::new(alloc));
-    let second = TearingDisk::new(none, on_second, torn.to_vec(alloc)?);
+    let second = FaultyDisk::new(none, Fault::Tear(on_second, torn.to_vec(alloc)?));
     let Edited {
         added,
         made,
@@ -188,28 +188,21 @@ fn a_torn_write_leaves_the_old_records_or_the_new(rt: HostRuntime) -> Result<(),
 fn a_call_that_fails_is_told_and_closes_the_journal(rt: HostRuntime) -> Result<(), Fail> {
     let alloc = rt.alloc();
     let entry = Record::new(alloc, 1, &MKDIRS)?;
-    for calls in 0..40 {
-        let mut first = FailingDisk::new(MemoryDisk::new(THREE.to_vec(alloc)?));
-        let mut second = FailingDisk::new(MemoryDisk::new(Vec::new(alloc)));
-        if calls < 20 {
-            first.fail_after(calls);
-        } else {
-            second.fail_after(calls - 20);
-        }
-        let (first, second) = match Journal::open(alloc, first, second, 1_000) {
-            Err(unopened) => {
-                assert_eq!(rt; unopened.refusal.number(), 32);
-                (unopened.first, unopened.second)
-            }
-            Ok(mut journal) => {
-                let added = journal.append(&entry).is_ok();
-                assert_eq!(rt; journal.is_open(), added);
-                assert!(rt; added || journal.append(&entry).is_err());
-                journal.into_disks()
-            }
+    for calls in 0..6 {
+        let first = FaultyDisk::new(MemoryDisk::new(THREE.to_vec(alloc)?), Fault::Never);
+        let second = FaultyDisk::new(MemoryDisk::new(Vec::new(alloc)), Fault::Never);
+        let Ok(mut journal) = Journal::open(alloc, first, second, 1_000) else {
+            assert!(rt; false);
+            return Ok(());
         };
+        journal.arm_first(Fault::Fail(calls));
+        // an append has four calls: two writes, and a sync behind each
+        let added = journal.append(&entry).is_ok();
+        assert_eq!(rt; (added, journal.is_open()), (4 <= calls, 4 <= calls));
+        assert!(rt; added || journal.append(&entry).is_err());
+        let (first, second) = journal.into_disks();
         let found = count(alloc, first.into_disk(), second.into_disk())?;
-        assert!(rt; 3 <= found && found <= 4);
+        assert!(rt; found == 4 || !added && found == 3);
     }
     Ok(())
 }
