@@ -64,7 +64,7 @@ pub struct Unopened<D: Disk> {
 }
 
 impl<D: Disk> Journal<D> {
-    ghost use Rattle.gs_journal.specs.Journal.{Stands, Stays, Adds, Makes, Closes, Wants, append_refusal, checkpoint_refusal, checkpointed, IsWithOrWithout, IsOldOrNew, LeavesOther, LeavesCounting, WhyClosed, MightHaveStood};
+    ghost use Rattle.gs_journal.specs.Journal.{failures_of_both, Stands, Stays, Adds, Makes, Closes, Wants, append_refusal, checkpoint_refusal, checkpointed, IsWithOrWithout, IsOldOrNew, LeavesOther, LeavesCounting, WhyClosed, MightHaveStood};
 
     /// Opens two disks, whatever a crash or a failure left on them. What a crash has torn behind the records is taken away.
     /// Where neither disk counts, the first is made: a new journal has no records. No disk takes more than `limit` bytes by
@@ -82,6 +82,7 @@ impl<D: Disk> Journal<D> {
         ensures text { IfOk result (λ j. j.text ≡ standing (D.seen first) (D.seen second)) }
         ensures form { OnOk result (is_text (standing (D.seen first) (D.seen second)) ≡ true) }
         ensures limit { IfOk result (λ j. j.limit ≡ limit) }
+        ensures quiet { IfOk result (λ j. failures_of_both D.failures j ≡ D.failures first + D.failures second) }
         ensures refused { IfErr result (λ u. WhyClosed (standing (D.seen first) (D.seen second))
             (D.failures first + D.failures second) (D.failures u.first + D.failures u.second) u.refusal) }
         ensures unchanged { IfErr result (λ u. u.refusal ≢ Device → (D.seen u.first ≡ D.seen first) × (D.seen u.second ≡ D.seen second)) }
@@ -154,6 +155,7 @@ impl<D: Disk> Journal<D> {
         ensures records { IfOk result (λ records. records.items ≡ self.old.text.1) }
         ensures stands { OnOk result (Stands D.seen D.may_leave self.new) }
         ensures stays { Stays self.old self.new }
+        ensures quiet { OnOk result (failures_of_both D.failures self.new ≡ failures_of_both D.failures self.old) }
         ensures refused { IfErr result (λ e. self.old.is_failed ≡ false → Closes D.failures self.old self.new e ⊎ Wants D.failures self.old self.new e) }
         // A crash at any moment of the call leaves the records.
         ensures any_moment { self.old.is_failed ≡ false → LeavesPairs D.moment D.left_since self.old.first self.old.second self.new.first self.new.second
@@ -192,6 +194,7 @@ impl<D: Disk> Journal<D> {
         ensures judged { IfSome (append_refusal self.old entry.now) (λ e. (result ≡ Err e) × (self.new ≡ self.old)) }
         ensures added { OnOk result (Adds self.old entry.now self.new) }
         ensures stands { OnOk result (Stands D.seen D.may_leave self.new) }
+        ensures quiet { OnOk result (failures_of_both D.failures self.new ≡ failures_of_both D.failures self.old) }
         ensures failed { IfErr result (λ e. append_refusal self.old entry.now ≡ None → Closes D.failures self.old self.new e) }
         ensures either { IsWithOrWithout self.old.text entry.now self.new.text }
         // A crash at any moment of the call leaves the records from before it, with the new one or without.
@@ -222,6 +225,7 @@ impl<D: Disk> Journal<D> {
         ensures judged { IfSome (checkpoint_refusal self.old body.now) (λ e. (result ≡ Err e) × (self.new ≡ self.old)) }
         ensures made { OnOk result (Makes self.old body.now self.new) }
         ensures stands { OnOk result (Stands D.seen D.may_leave self.new) }
+        ensures quiet { OnOk result (failures_of_both D.failures self.new ≡ failures_of_both D.failures self.old) }
         ensures failed { IfErr result (λ e. checkpoint_refusal self.old body.now ≡ None →
             Closes D.failures self.old self.new e ⊎ ((e ≡ Memory) × (self.new ≡ self.old))) }
         ensures either { IsOldOrNew self.old.text (checkpointed body.now) self.new.text }

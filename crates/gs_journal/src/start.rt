@@ -142,6 +142,7 @@ pub(crate) fn start<D: Disk>(alloc: Global, first: &mut D, second: &mut D) -> Re
     ensures durable_second { OnOk result (Only (D.seen second.new) (D.may_leave second.new)) }
     ensures any_moment { LeavesPairs D.moment D.left_since first.old second.old first.new second.new
         (λ a b. MightHaveStood (D.may_leave first.old) (D.may_leave second.old) (standing a b)) }
+    ensures failures { OnOk result (D.failures first.new + D.failures second.new ≡ D.failures first.old + D.failures second.old) }
     ensures refused { IfErr result (WhyClosed (standing (D.seen first.old) (D.seen second.old))
         (D.failures first.old + D.failures second.old) (D.failures first.new + D.failures second.new)) }
     ensures unchanged { IfErr result (λ e. e ≢ Device → (D.seen first.new ≡ D.seen first.old) × (D.seen second.new ≡ D.seen second.old)) }
