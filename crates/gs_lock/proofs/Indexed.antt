@@ -15,7 +15,7 @@ use Rattle.gs_lock.specs.declared.index.Index.{Index}
 use Rattle.gs_base.specs.declared.numbers.ReqId.{ReqId}
 use Rattle.gs_lock.specs.Locks.{same_path, released}
 use Rattle.gs_lock.specs.Operations.{key_of, key_cmp, same_op}
-use Rattle.gs_lock.specs.Indexes.{IsIndexed, SameIndex, AddsLock, HasLock, reads_path, writes_path, is_of}
+use Rattle.gs_lock.specs.Indexes.{IsIndexed, IsTight, SameIndex, AddsLock, HasLock, reads_path, writes_path, is_of}
 
 joined : (all front back one rest both : ℕ) → all ≡ front + back → back ≡ one + rest → both ≡ front + rest → all ≡ both + one
 joined all front back one rest both a b c = omega arith
@@ -27,16 +27,18 @@ count_mid t xs ys l = mid (λ x. cond (t x) 1 0)
     mid f = joined (sum_by f (xs ++ l ∷ ys)) (sum_by f xs) (sum_by f (l ∷ ys)) (f l) (sum_by f ys) (sum_by f (xs ++ ys))
         (sum_by-append f xs (l ∷ ys)) (sum_by-cons f l ys) (sum_by-append f xs ys)
 
-pub indexed_same : (locks : List Lock) (old new : Index) → IsIndexed locks old → SameIndex old new → IsIndexed locks new
-indexed_same locks old new is same = record {
+pub indexed_same : (locks : List Lock) (old new : Index) → IsIndexed locks old → SameIndex old new → (IsTight old → IsTight new) → IsIndexed locks new
+indexed_same locks old new is same tight = record {
+  tight = tight is.tight;
   reads = λ p. same.reads p ∙ is.reads p;
   writes = λ p. same.writes p ∙ is.writes p;
   held = λ k. same.held k ∙ is.held k;
 }
 
 -- a lock more, a lock less
-pub indexed_more : (xs ys : List Lock) (l : Lock) (old new : Index) → IsIndexed (xs ++ ys) old → AddsLock old new l → IsIndexed (xs ++ l ∷ ys) new
-indexed_more xs ys l old new is adds = record {
+pub indexed_more : (xs ys : List Lock) (l : Lock) (old new : Index) → IsIndexed (xs ++ ys) old → AddsLock old new l → (IsTight old → IsTight new) → IsIndexed (xs ++ l ∷ ys) new
+indexed_more xs ys l old new is adds tight = record {
+  tight = tight is.tight;
   reads = λ p. adds.reads p ∙ ap (λ n. n + cond (reads_path p l) 1 0) (is.reads p) ∙ sym (count_mid (reads_path p) xs ys l);
   writes = λ p. adds.writes p ∙ ap (λ n. n + cond (writes_path p l) 1 0) (is.writes p) ∙ sym (count_mid (writes_path p) xs ys l);
   held = λ k. adds.held k ∙ ap (λ n. n + cond (is_of k l) 1 0) (is.held k) ∙ sym (count_mid (is_of k) xs ys l);
@@ -45,8 +47,9 @@ indexed_more xs ys l old new is adds = record {
 less : (old new one all rest : ℕ) → old ≡ new + one → old ≡ all → all ≡ rest + one → new ≡ rest
 less old new one all rest a b c = omega arith
 
-pub indexed_less : (xs ys : List Lock) (l : Lock) (old new : Index) → IsIndexed (xs ++ l ∷ ys) old → AddsLock new old l → IsIndexed (xs ++ ys) new
-indexed_less xs ys l old new is adds = record {
+pub indexed_less : (xs ys : List Lock) (l : Lock) (old new : Index) → IsIndexed (xs ++ l ∷ ys) old → AddsLock new old l → (IsTight old → IsTight new) → IsIndexed (xs ++ ys) new
+indexed_less xs ys l old new is adds tight = record {
+  tight = tight is.tight;
   reads = λ p. less _ _ _ _ _ (adds.reads p) (is.reads p) (count_mid (reads_path p) xs ys l);
   writes = λ p. less _ _ _ _ _ (adds.writes p) (is.writes p) (count_mid (writes_path p) xs ys l);
   held = λ k. less _ _ _ _ _ (adds.held k) (is.held k) (count_mid (is_of k) xs ys l);
@@ -81,9 +84,9 @@ has_lock xs ys l index is = record {
 pub last_indexed : (xs ys : List Lock) (l : Lock) (index : Index) → xs ≡ ys ++ l ∷ [] → IsIndexed xs index → HasLock index l
 last_indexed xs ys l index is h = has_lock ys [] l index (subst (λ zs. IsIndexed zs index) is h)
 
-pub cut_indexed : (xs ys : List Lock) (l : Lock) (old new : Index) → xs ≡ ys ++ l ∷ [] → IsIndexed xs old → AddsLock new old l → IsIndexed ys new
-cut_indexed xs ys l old new is h adds =
-    subst (λ zs. IsIndexed zs new) (append-nil ys) (indexed_less ys [] l old new (subst (λ zs. IsIndexed zs old) is h) adds)
+pub cut_indexed : (xs ys : List Lock) (l : Lock) (old new : Index) → xs ≡ ys ++ l ∷ [] → IsIndexed xs old → AddsLock new old l → (IsTight old → IsTight new) → IsIndexed ys new
+cut_indexed xs ys l old new is h adds tight =
+    subst (λ zs. IsIndexed zs new) (append-nil ys) (indexed_less ys [] l old new (subst (λ zs. IsIndexed zs old) is h) adds tight)
 
 pub cut_front : (n : ℕ) (xs ys all : List Lock) (l : Lock) → xs ≡ ys ++ l ∷ [] → n < length xs → take n xs ≡ all → take n ys ≡ all
 cut_front n xs ys all l is below front =
@@ -116,16 +119,16 @@ out_indexed xs i l index below is h = has_lock (take i xs) (drop (suc i) xs) l i
 
 -- the locks that are left: the same are released, those before i stay kept, and the index is theirs
 pub out_step : (op : ReqId) (xs new all : List Lock) (i : ℕ) (l : Lock) (index index' : Index) → i < length xs → l ≡ get_or xs i l → same_op op l.op ≡ true → new ≡ take i xs ++ drop (suc i) xs
-    → AddsLock index' index l → released xs op ≡ all → list_all (λ lock. not (same_op op lock.op)) (take i xs) ≡ true → IsIndexed xs index
+    → AddsLock index' index l → (IsTight index → IsTight index') → released xs op ≡ all → list_all (λ lock. not (same_op op lock.op)) (take i xs) ≡ true → IsIndexed xs index
     → (released new op ≡ all) × (list_all (λ lock. not (same_op op lock.op)) (take i new) ≡ true) × (i ≤ length new) × IsIndexed new index'
-out_step op xs new all i l index index' below is own new_is adds rel front h =
+out_step op xs new all i l index index' below is own new_is adds tight rel front h =
     let split : xs ≡ take i xs ++ l ∷ drop (suc i) xs = split_at xs i l below is in
     let size : length (take i xs) ≡ i = length-take-le i xs (omega arith) in (
       ap (λ zs. released zs op) new_is ∙ sym (filter_out (λ lock. not (same_op op lock.op)) (take i xs) (drop (suc i) xs) l (ap not own)) ∙ ap (λ zs. released zs op) (sym split) ∙ rel,
       ap (λ zs. list_all (λ lock. not (same_op op lock.op)) (take i zs)) new_is
           ∙ ap (list_all (λ lock. not (same_op op lock.op))) (take-append-le i (take i xs) (drop (suc i) xs) (omega arith) ∙ take_all i (take i xs) (omega arith)) ∙ front,
       (let e = ap length new_is ∙ length-append (take i xs) (drop (suc i) xs) in omega arith),
-      subst (λ zs. IsIndexed zs index') (sym new_is) (indexed_less (take i xs) (drop (suc i) xs) l index index' (subst (λ zs. IsIndexed zs index) split h) adds),
+      subst (λ zs. IsIndexed zs index') (sym new_is) (indexed_less (take i xs) (drop (suc i) xs) l index index' (subst (λ zs. IsIndexed zs index) split h) adds tight),
     )
 
 pub out_end : (op : ReqId) (xs all : List Lock) (i : ℕ) → length xs ≤ i → released xs op ≡ all → list_all (λ lock. not (same_op op lock.op)) (take i xs) ≡ true → xs ≡ all

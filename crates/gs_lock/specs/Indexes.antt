@@ -7,7 +7,7 @@ use Rattle.gs_lock.specs.declared.lock.Lock.{Lock}
 use Rattle.gs_lock.specs.declared.index.Index.{Index}
 use Rattle.gs_lock.specs.Locks.{same_path}
 use Rattle.gs_lock.specs.Operations.{key_of, key_cmp}
-use Rattle.gs_lock.specs.Tallies.{count_in, HasNumber}
+use Rattle.gs_lock.specs.Tallies.{count_in, IsTight as IsTightTally}
 
 abbrev pub reads_at : Index → Path → ℕ
 reads_at index path = count_in path_cmp index.reads.counts path
@@ -31,29 +31,39 @@ writes_path path lock = lock.writes && same_path lock.path path
 abbrev pub is_of : List ℕ → Lock → Bool
 is_of key lock = is_at (key_cmp (key_of lock.op)) key
 
+-- nothing is kept of a path or an operation that no lock names
+pub record IsTight (index : Index) : Type 0 where
+  pub reads : IsTightTally path_cmp index.reads.counts
+  pub writes : IsTightTally path_cmp index.writes.counts
+  pub held : IsTightTally key_cmp index.held.counts
+
 -- the index of these locks
 pub record IsIndexed (locks : List Lock) (index : Index) : Type 0 where
   pub reads : (path : Path) → reads_at index path ≡ count_by (reads_path path) locks
   pub writes : (path : Path) → writes_at index path ≡ count_by (writes_path path) locks
   pub held : (key : List ℕ) → held_at index key ≡ count_by (is_of key) locks
+  pub tight : IsTight index
 
 pub record SameIndex (old new : Index) : Type 0 where
   pub reads : (path : Path) → reads_at new path ≡ reads_at old path
   pub writes : (path : Path) → writes_at new path ≡ writes_at old path
   pub held : (key : List ℕ) → held_at new key ≡ held_at old key
 
+pub record SamePaths (old new : Index) : Type 0 where
+  pub reads : (path : Path) → reads_at new path ≡ reads_at old path
+  pub writes : (path : Path) → writes_at new path ≡ writes_at old path
+
+-- one more lock reads the path, or writes it
+pub record CountsPath (old new : Index) (writes : Bool) (path : Path) : Type 0 where
+  pub reads : (other : Path) → reads_at new other ≡ reads_at old other + cond (not writes && same_path path other) 1 0
+  pub writes_are : (other : Path) → writes_at new other ≡ writes_at old other + cond (writes && same_path path other) 1 0
+
 pub record AddsLock (old new : Index) (lock : Lock) : Type 0 where
   pub reads : (path : Path) → reads_at new path ≡ reads_at old path + cond (reads_path path lock) 1 0
   pub writes : (path : Path) → writes_at new path ≡ writes_at old path + cond (writes_path path lock) 1 0
   pub held : (key : List ℕ) → held_at new key ≡ held_at old key + cond (is_of key lock) 1 0
 
--- the lock can be added without memory
-pub record HasRoom (index : Index) (lock : Lock) : Type 0 where
-  pub reads : lock.writes ≡ false → HasNumber path_cmp index.reads.counts lock.path
-  pub writes : lock.writes ≡ true → HasNumber path_cmp index.writes.counts lock.path
-  pub held : HasNumber key_cmp index.held.counts (key_of lock.op)
-
--- and no number becomes too great
+-- no number becomes too great
 pub record Fits (index : Index) (lock : Lock) : Type 0 where
   pub reads : reads_at index lock.path + 1 < 2 ^ 64
   pub writes : writes_at index lock.path + 1 < 2 ^ 64

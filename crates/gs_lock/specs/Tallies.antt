@@ -1,5 +1,5 @@
 -- How often keys stand in a list.
-use Rattle.std.specs.Prelude.{◌≡◌, ℕ, ◌+◌, true, cond, is_some, unwrap_or}
+use Rattle.std.specs.Prelude.{◌≡◌, ◌≢◌, ℕ, ◌+◌, Some, cond, unwrap_or}
 use Rattle.std.specs.declared.cmp.Ordering.{Ordering}
 use Rattle.std.specs.BTreeMap.{BTreeMap, get, is_at}
 
@@ -17,6 +17,6 @@ module _ {K : Type 0} (cmp : K → K → Ordering) where
   pub record Subtracts (old new : BTreeMap K ℕ) (key : K) : Type 0 where
     pub counts : (other : K) → count_in new other + cond (is_at (cmp key) other) 1 0 ≡ count_in old other
 
-  -- the key has a number, perhaps 0
-  pub record HasNumber (counts : BTreeMap K ℕ) (key : K) : Type 0 where
-    pub has : is_some (get cmp counts key) ≡ true
+  -- a key that stands nowhere has no number
+  pub record IsTight (counts : BTreeMap K ℕ) : Type 0 where
+    pub none : (key : K) → get cmp counts key ≢ Some 0

@@ -1,4 +1,4 @@
-ghost use Rattle.std.specs.Prelude.{◌≡◌, OnOk};
+ghost use Rattle.std.specs.Prelude.{◌≡◌, ◌+◌, ◌<◌, ◌^◌, OnOk, OnErr};
 
 use crate::lock::Lock;
 use crate::tally::Tally;
@@ -104,7 +104,7 @@ impl Index {
     ghost use Rattle.std.specs.Prelude.{[], nat_lt, ◌||◌};
     ghost use Rattle.std.specs.List.{list_any};
     ghost use Rattle.gs_lock.specs.Operations.{key_of};
-    ghost use Rattle.gs_lock.specs.Indexes.{reads_at, writes_at, held_at, in_the_way, IsIndexed, SameIndex, AddsLock, HasRoom, Fits, HasLock};
+    ghost use Rattle.gs_lock.specs.Indexes.{reads_at, writes_at, held_at, in_the_way, IsIndexed, IsTight, SameIndex, SamePaths, CountsPath, AddsLock, Fits, HasLock};
 
     pub(crate) fn new(alloc: Global) -> Index
         ensures { IsIndexed [] result }
@@ -153,37 +153,44 @@ impl Index {
         self.reads.count(path) > 0 || self.writes.count(path) > 0
     }
 
-    /// Makes room for a lock, so that adding it takes no memory. `path` is a copy of its path.
-    pub(crate) fn reserve(&mut self, lock: &Lock, path: Path) -> Result<(), AllocError>
-        requires { path ≡ lock.now.path }
-        ensures same { SameIndex self.old self.new }
-        ensures room { OnOk result (HasRoom self.new lock.now) }
+    /// Adds a lock. `path` is a copy of its path. It keeps nothing of a lock for which memory is refused.
+    pub(crate) fn add(&mut self, lock: &Lock, path: Path) -> Result<(), AllocError>
+        requires path { path ≡ lock.now.path }
+        requires fits { Fits self.old lock.now }
+        ensures ok { OnOk result (AddsLock self.old self.new lock.now) }
+        ensures err { OnErr result (SameIndex self.old self.new) }
+        ensures tight { IsTight self.old → IsTight self.new }
     {
-        self.held.reserve(OpKey::of(lock.op))?;
-        if lock.writes {
-            return self.writes.reserve(path);
+        self.held.add(OpKey::of(lock.op))?;
+        match self.count(lock.writes, path) {
+            Ok(()) => Ok(()),
+            Err(error) => {
+                self.held.subtract(&OpKey::of(lock.op));
+                Err(error)
+            }
         }
-        self.reads.reserve(path)
     }
 
-    /// Adds a lock that has room. It takes no memory.
-    pub(crate) fn add(&mut self, lock: &Lock)
-        requires room { HasRoom self.old lock.now }
-        requires fits { Fits self.old lock.now }
-        ensures { AddsLock self.old self.new lock.now }
+    /// Counts one more lock that reads or writes a path.
+    fn count(&mut self, writes: bool, path: Path) -> Result<(), AllocError>
+        requires reads { reads_at self.old path + 1 < 2 ^ 64 }
+        requires writes { writes_at self.old path + 1 < 2 ^ 64 }
+        ensures ok { OnOk result (CountsPath self.old self.new writes path) }
+        ensures err { OnErr result (SamePaths self.old self.new) }
+        ensures held { self.new.held ≡ self.old.held }
+        ensures tight { IsTight self.old → IsTight self.new }
     {
-        self.held.add(&OpKey::of(lock.op));
-        if lock.writes {
-            self.writes.add(&lock.path);
-        } else {
-            self.reads.add(&lock.path);
+        if writes {
+            return self.writes.add(path);
         }
+        self.reads.add(path)
     }
 
     /// Takes a lock out. It takes no memory.
     pub(crate) fn subtract(&mut self, lock: &Lock)
         requires { HasLock self.old lock.now }
-        ensures { AddsLock self.new self.old lock.now }
+        ensures adds { AddsLock self.new self.old lock.now }
+        ensures tight { IsTight self.old → IsTight self.new }
     {
         self.held.subtract(&OpKey::of(lock.op));
         if lock.writes {

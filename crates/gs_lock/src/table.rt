@@ -113,8 +113,7 @@ impl LockTable {
     {
         let path = lock.path.copy(self.alloc)?;
         self.locks.reserve(1)?;
-        self.index.reserve(&lock, path)?;
-        self.index.add(&lock);
+        self.index.add(&lock, path)?;
         self.locks.push_reserved(lock);
         Ok(())
     }

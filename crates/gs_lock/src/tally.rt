@@ -1,5 +1,5 @@
-ghost use Rattle.std.specs.Prelude.{◌≡◌, ℕ, ◌+◌, ◌<◌, ◌^◌, OnOk, true};
-ghost use Rattle.gs_lock.specs.Tallies.{count_in, SameCounts, Adds, Subtracts, HasNumber};
+ghost use Rattle.std.specs.Prelude.{◌≡◌, ℕ, ◌+◌, ◌<◌, ◌^◌, OnOk, OnErr, true};
+ghost use Rattle.gs_lock.specs.Tallies.{count_in, SameCounts, Adds, Subtracts, IsTight};
 
 use std::alloc::{AllocError, Global};
 use std::collections::BTreeMap;
@@ -12,7 +12,8 @@ pub(crate) struct Tally<K: Ord> {
 
 impl<K: Ord + Drop> Tally<K> {
     pub(crate) fn new(alloc: Global) -> Self
-        ensures { (key : K) → count_in K.cmp result.counts key ≡ 0 }
+        ensures none { (key : K) → count_in K.cmp result.counts key ≡ 0 }
+        ensures tight { IsTight K.cmp result.counts }
     {
         Self {
             counts: BTreeMap::new(alloc),
@@ -28,33 +29,26 @@ impl<K: Ord + Drop> Tally<K> {
         }
     }
 
-    /// Makes room for a key, so that adding it takes no memory.
-    pub(crate) fn reserve(&mut self, key: K) -> Result<(), AllocError>
-        ensures same { SameCounts K.cmp self.old.counts self.new.counts }
-        ensures room { OnOk result (HasNumber K.cmp self.new.counts key) }
+    /// Adds a key.
+    pub(crate) fn add(&mut self, key: K) -> Result<(), AllocError>
+        requires { count_in K.cmp self.old.counts key + 1 < 2 ^ 64 }
+        ensures ok { OnOk result (Adds K.cmp self.old.counts self.new.counts key) }
+        ensures err { OnErr result (SameCounts K.cmp self.old.counts self.new.counts) }
+        ensures tight { IsTight K.cmp self.old.counts → IsTight K.cmp self.new.counts }
     {
-        if self.counts.contains_key(&key) {
+        if let Some(count) = self.counts.get_mut(&key) {
+            *count += 1;
             return Ok(());
         }
-        self.counts.insert(key, 0)?;
+        self.counts.insert(key, 1)?;
         Ok(())
-    }
-
-    /// Adds a key that has room. It takes no memory.
-    pub(crate) fn add(&mut self, key: &K)
-        requires room { HasNumber K.cmp self.old.counts key.now }
-        requires fits { count_in K.cmp self.old.counts key.now + 1 < 2 ^ 64 }
-        ensures { Adds K.cmp self.old.counts self.new.counts key.now }
-    {
-        if let Some(count) = self.counts.get_mut(key) {
-            *count += 1;
-        }
     }
 
     /// Takes a key out once that stands in the list. It takes no memory.
     pub(crate) fn subtract(&mut self, key: &K)
         requires { 0 < count_in K.cmp self.old.counts key.now }
-        ensures { Subtracts K.cmp self.old.counts self.new.counts key.now }
+        ensures subtracts { Subtracts K.cmp self.old.counts self.new.counts key.now }
+        ensures tight { IsTight K.cmp self.old.counts → IsTight K.cmp self.new.counts }
     {
         if self.count(key) == 1 {
             self.counts.remove(key);

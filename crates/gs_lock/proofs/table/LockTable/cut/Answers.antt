@@ -9,5 +9,5 @@ pub loop-self-preserved-in-Some : goal.loop-self-preserved-in-Some
 loop-self-preserved-in-Some c =
     let below : c.args.len < length c.loop-self.self-inside.locks.items = omega arith in (
       cut_front c.args.len _ c.pop.new.self.items _ c.in-Some.lock c.in-Some.ensures.items below c.loop-self.invariant.0,
-      cut_indexed _ c.pop.new.self.items c.in-Some.lock _ _ c.in-Some.ensures.items c.loop-self.invariant.1 c.subtract.ensures,
+      cut_indexed _ c.pop.new.self.items c.in-Some.lock _ _ c.in-Some.ensures.items c.loop-self.invariant.1 c.subtract.ensures.adds c.subtract.ensures.tight,
     )

@@ -17,7 +17,7 @@ loop-i-preserved-then-is_of c =
     ∙ sym c.is_of.ensures ∙ c.if-is_of.true
     in
     out_step c.args.op c.loop-i.self-inside.locks.items c.remove-lock.new.self.items _ c.loop-i.i c.remove-lock.result _ _ below c.remove-lock.ensures.value own
-    c.remove-lock.ensures.items c.subtract.ensures c.loop-i.invariant.0 c.loop-i.invariant.1 c.loop-i.invariant.3
+    c.remove-lock.ensures.items c.subtract.ensures.adds c.subtract.ensures.tight c.loop-i.invariant.0 c.loop-i.invariant.1 c.loop-i.invariant.3
 
 pub returns : goal.returns
 returns c =
