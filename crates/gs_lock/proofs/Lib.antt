@@ -1,2 +1,3 @@
 pub mod Conflicts
 pub mod Indexed
+pub mod Ways

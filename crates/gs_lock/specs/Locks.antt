@@ -5,7 +5,7 @@ use Rattle.std.specs.BTreeMap.{is_at}
 use Rattle.gs_base.specs.declared.numbers.ReqId.{ReqId}
 use Rattle.gs_base.specs.declared.refusal.Refusal.{Refusal}
 use Rattle.gs_base.specs.declared.refusal.Refusal.TheVariants as refusals
-use Rattle.gs_path.specs.Path.{Path, path_cmp}
+use Rattle.gs_path.specs.Path.{Path, path_cmp, begins}
 use Rattle.gs_lock.specs.declared.lock.Lock.{Lock}
 use Rattle.gs_lock.specs.Operations.{same_op}
 
@@ -22,6 +22,24 @@ conflicts_with op reads writes lock =
 
 abbrev pub is_conflict : List Lock → ReqId → List Path → List Path → Bool
 is_conflict locks op reads writes = list_any (conflicts_with op reads writes) locks
+
+-- the path and all above it
+abbrev pub beginnings : Path → List Path
+beginnings [] = [] ∷ []
+beginnings (name ∷ path) = [] ∷ map (λ front. name ∷ front) (beginnings path)
+
+abbrev pub all_beginnings : List Path → List Path
+all_beginnings [] = []
+all_beginnings (path ∷ paths) = beginnings path ++ all_beginnings paths
+
+-- who reads or writes a path reads what is above it: a lock is in the way that writes one of these paths or one above them, or
+-- reads one that is to be written
+abbrev pub is_in_the_way : ReqId → List Path → List Path → Lock → Bool
+is_in_the_way op reads writes lock =
+    not (same_op op lock.op) && cond lock.writes (list_any (begins lock.path) reads || list_any (begins lock.path) writes) (is_among writes lock.path)
+
+abbrev pub stands_in_the_way : List Lock → ReqId → List Path → List Path → Bool
+stands_in_the_way locks op reads writes = list_any (is_in_the_way op reads writes) locks
 
 abbrev pub locks_on : ReqId → Bool → List Path → List Lock
 locks_on op writes paths = map (λ path. record { op = op; path = path; writes = writes }) paths
@@ -59,6 +77,10 @@ b_of_a = codes "a" ∷ codes "b" ∷ []
 
 abbrev one : List Lock
 one = taken [] first_op (root ∷ []) (a ∷ [])
+
+-- who writes `/a` is in the way of who reads what is under it
+reads_under_what_is_written : stands_in_the_way one second_op (b_of_a ∷ []) [] ≡ true
+reads_under_what_is_written = refl
 
 -- who writes `/a` is in the way of who reads it, but not of who reads the root, nor of itself
 reads_what_is_written : is_conflict one second_op (root ∷ a ∷ []) (b_of_a ∷ []) ≡ true

@@ -1,6 +1,8 @@
-ghost use Rattle.std.specs.Prelude.{◌≡◌, ◌∷◌, [], ◌++◌, ◌-◌, ◌<◌, ◌≤◌, OnOk, OnErr, length, take};
+ghost use Rattle.std.specs.Prelude.{◌≡◌, ◌∷◌, [], ◌++◌, ◌-◌, ◌<◌, ◌≤◌, OnOk, OnErr, length, map, take};
 ghost use Rattle.gs_lock.specs.Operations.{same_op};
-ghost use Rattle.gs_lock.specs.Locks.{Takes, locks_on, conflicts_with, is_conflict, released, holds};
+ghost use Rattle.std.specs.List.{list_any};
+ghost use Rattle.gs_path.specs.Path.{begins};
+ghost use Rattle.gs_lock.specs.Locks.{same_path, is_in_the_way, stands_in_the_way, Takes, locks_on, conflicts_with, is_conflict, released, holds};
 
 use crate::index::Index;
 use crate::lock::Lock;
@@ -81,6 +83,16 @@ impl LockTable {
         self.index.is_held(op)
     }
 
+    /// Whether a lock of another operation is in the way of one that reads and writes these paths and reads all above them. It
+    /// looks at each lock of the table, and takes no memory.
+    pub fn is_in_the_way(&self, op: ReqId, reads: &[&Path], writes: &[&Path]) -> bool
+        ensures { result ≡ stands_in_the_way self.now op (map (λ path. path.now) reads.entry.now) (map (λ path. path.now) writes.entry.now) }
+    {
+        self.locks
+            .iter()
+            .any(|lock| is_in_the_way(op, reads, writes, lock))
+    }
+
     fn is_conflict(&self, op: ReqId, reads: &[Path], writes: &[Path]) -> bool
         ensures { result ≡ is_conflict self.now op reads.now writes.now }
     {
@@ -142,4 +154,29 @@ fn conflicts_with(op: ReqId, reads: &[Path], writes: &[Path], lock: &Lock) -> bo
         return false;
     }
     writes.contains(&lock.path) || lock.writes && reads.contains(&lock.path)
+}
+
+fn is_in_the_way(op: ReqId, reads: &[&Path], writes: &[&Path], lock: &Lock) -> bool
+    ensures { result ≡ is_in_the_way op (map (λ path. path.now) reads.entry.now) (map (λ path. path.now) writes.entry.now) lock.now }
+{
+    let is_own = is_of(op, lock);
+    if is_own {
+        return false;
+    }
+    if lock.writes {
+        return is_any_under(&lock.path, reads) || is_any_under(&lock.path, writes);
+    }
+    is_any(&lock.path, writes)
+}
+
+fn is_any_under(front: &Path, paths: &[&Path]) -> bool
+    ensures { result ≡ list_any (λ path. begins front.now path.now) paths.entry.now }
+{
+    paths.iter().any(|path| path.starts_with(front))
+}
+
+fn is_any(path: &Path, paths: &[&Path]) -> bool
+    ensures { result ≡ list_any (λ other. same_path other.now path.now) paths.entry.now }
+{
+    paths.iter().any(|other| **other == *path)
 }
