@@ -19,7 +19,7 @@ use Rattle.gs_lock.specs.Operations.{key_of, key_cmp, same_op}
 use Rattle.gs_lock.specs.Indexes.{IsIndexed, in_the_way, reads_at, writes_at, held_at, reads_path, writes_path, is_of}
 
 -- ---- tests of some element
-any_same : {X : Type 0} (p q : X → Bool) → ((x : X) → p x ≡ q x) → (xs : List X) → list_any p xs ≡ list_any q xs
+pub any_same : {X : Type 0} (p q : X → Bool) → ((x : X) → p x ≡ q x) → (xs : List X) → list_any p xs ≡ list_any q xs
 any_same p q same [] = refl
 any_same p q same (x ∷ xs) = ap (λ b. b || list_any p xs) (same x) ∙ ap (λ b. q x || b) (any_same p q same xs)
 
@@ -41,7 +41,7 @@ any_swap : {X Y : Type 0} (r : X → Y → Bool) (xs : List X) (ys : List Y) →
 any_swap r [] ys = sym (any_none ys)
 any_swap r (x ∷ xs) ys = ap (λ b. list_any (r x) ys || b) (any_swap r xs ys) ∙ any_or (r x) (λ y. list_any (λ x'. r x' y) xs) ys
 
-and_any : {X : Type 0} (b : Bool) (p : X → Bool) (xs : List X) → list_any (λ x. b && p x) xs ≡ (b && list_any p xs)
+pub and_any : {X : Type 0} (b : Bool) (p : X → Bool) (xs : List X) → list_any (λ x. b && p x) xs ≡ (b && list_any p xs)
 and_any true p xs = refl
 and_any false p xs = any_none xs
 
@@ -65,7 +65,7 @@ any_same_where t p q same (x ∷ xs) none =
     neither false b h = (refl, h)
 
 -- ---- the locks of an operation
-eq_then : (a b : Ordering) → is_eq (ordering_then a b) ≡ (is_eq a && is_eq b)
+pub eq_then : (a b : Ordering) → is_eq (ordering_then a b) ≡ (is_eq a && is_eq b)
 eq_then Less b = refl
 eq_then Equal b = refl
 eq_then Greater b = refl

@@ -3,6 +3,7 @@
 
 mod index;
 mod lock;
+pub mod promises;
 mod table;
 mod tally;
 
