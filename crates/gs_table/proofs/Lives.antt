@@ -1,7 +1,7 @@
 -- What lives in a table's slots, after a slot is written.
-use Rattle.std.proofs.Common.{◌≡◌, suc, ◌≤◌, length, arith, List, [], ◌∷◌, Option, Some, None, Bool, true, false, cond, Result, Ok, Err, map, refl, ap, sym, ◌∙◌}
+use Rattle.std.proofs.Common.{◌≡◌, suc, ◌≤◌, length, arith, List, [], ◌∷◌, Option, Some, None, Bool, true, false, cond, Result, Ok, Err, map, refl, ap, sym, ◌∙◌, subst}
 use Rattle.std.proofs.lemmas.Bool.{false≢true}
-use Rattle.std.specs.Prelude.{is_some, OnOk, OnErr, OnSome}
+use Rattle.std.specs.Prelude.{is_some, OnOk, OnErr, OnSome, IfOk}
 use Rattle.std.specs.declared.cmp.Ordering.{Ordering}
 use Rattle.std.specs.declared.cmp.Ordering.TheVariants.{Less, Equal, Greater}
 use Rattle.std.specs.Ordering.{eq_by_cmp, is_eq}
@@ -168,3 +168,9 @@ has_slot (Some x) b is no_slot = absurd (false≢true (sym no_slot ∙ is))
 pub on_some : {A : Type 0} (o : Option A) (P : Type 0) → P → OnSome o P
 on_some None P h = tt
 on_some (Some x) P h = h
+
+pub on_ok : {A E : Type 0} (r : Result A E) (x : A) (Q : Type 0) → r ≡ Ok x → OnOk r Q → Q
+on_ok r x Q is h = subst (λ r'. OnOk r' Q) is h
+
+pub if_ok : {A E : Type 0} (r : Result A E) (x : A) (P : A → Type 0) → r ≡ Ok x → IfOk r P → P x
+if_ok r x P is h = subst (λ r'. IfOk r' P) is h

@@ -104,7 +104,7 @@ impl<K: Key + Drop, V: Drop> Table<K, V> {
         ensures put { live K.cmp self.new ≡ fin.insert (live K.cmp self.old) key value }
         ensures keeps { KeepsRoom K.cmp self.old self.new }
     {
-        let _old = self.write(key, Some(value));
+        self.write(key, Some(value)).unwrap();
     }
 
     /// Takes out what stands at a key, and leaves its room. It takes no memory.
@@ -116,10 +116,7 @@ impl<K: Key + Drop, V: Drop> Table<K, V> {
         if !self.has(key) {
             return None;
         }
-        match self.write(key, None) {
-            Ok(old) => old,
-            Err(_) => None,
-        }
+        self.write(key, None).unwrap()
     }
 
     /// Takes out what stands at a key, and gives up its room. It takes no memory.
