@@ -11,7 +11,7 @@ ghost use Rattle.gs_block.specs.Images.{Images, AreFirst, begun, undone, touched
 use crate::digests::{
     Digest, are_digests, count_of, digests_of, first_damaged, first_damaged_between, hasher_to,
 };
-use crate::images::{Images, first_damaged_before, no_images, put_back};
+use crate::images::{Images, SealedBytes, first_damaged_before, no_images, put_back};
 use crate::inverse::BlockInverse;
 use crate::parts::{copy_of_part, put_over, write_anew};
 use crate::refused::Refused;
@@ -298,13 +298,12 @@ impl Blocks {
         requires { AreFirst images.now self.now }
         ensures { result ≡ first_damaged self.now.block (undone images.now self.now).bytes images.now.digests 0 (length images.now.digests) }
     {
-        let found = first_damaged_before(
-            &images.blocks,
-            &self.bytes,
-            self.block,
-            images.long,
-            &images.digests,
-        );
+        let sealed = SealedBytes {
+            bytes: &self.bytes,
+            size: self.block,
+            long: images.long,
+        };
+        let found = first_damaged_before(&images.blocks, sealed, &images.digests);
         match found {
             Some(index) => Some(index as u64),
             None => None,

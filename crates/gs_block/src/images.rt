@@ -71,15 +71,12 @@ impl Images {
         let size = blocks.block_size();
         let first = start as usize / size;
         let last = count_of(size, end.min(self.long as u64) as usize);
-        let copies = missing_copies(
-            self.alloc,
-            &self.blocks,
-            blocks.stored(),
+        let sealed = SealedBytes {
+            bytes: blocks.stored(),
             size,
-            self.long,
-            first,
-            last,
-        )?;
+            long: self.long,
+        };
+        let copies = missing_copies(self.alloc, &self.blocks, sealed, first, last)?;
         Ok(Missing { first, copies })
     }
 
@@ -177,82 +174,65 @@ fn is_untouched(images: &[Option<Image>], index: usize) -> bool
     index < images.len() && images[index].is_none()
 }
 
+/// Stored bytes in blocks, of which the first are sealed.
+#[derive(Clone, Copy)]
+pub(crate) struct SealedBytes<'a> {
+    pub(crate) bytes: &'a [u8],
+    pub(crate) size: usize,
+    /// How many are sealed.
+    pub(crate) long: usize,
+    ghost some: { 1 ≤ size },
+    ghost size_fits: { size ≤ 65536 },
+    ghost bytes_fit: { length bytes.now ≤ 67108864 },
+    ghost within: { long ≤ length bytes.now },
+}
+
 /// The bytes of a block as far as they are sealed.
 #[tactic(auto, using(crate::proofs::Counts::starts), unfolding(crate::specs::Images::block_before))]
-fn sealed_part(bytes: &[u8], size: usize, long: usize, index: usize) -> &[u8]
-    requires some { 1 ≤ size }
-    requires size_fits { size ≤ 65536 }
-    requires bytes_fit { length bytes.now ≤ 67108864 }
-    requires within { long ≤ length bytes.now }
-    requires counted { index < count_of size long }
-    ensures { result.now ≡ block_before size long index bytes.now }
+fn sealed_part(sealed: SealedBytes<'_>, index: usize) -> &[u8]
+    requires counted { index < count_of sealed.size sealed.long }
+    ensures { result.now ≡ block_before sealed.entry.size sealed.entry.long index sealed.entry.bytes.now }
 {
-    let start = index * size;
-    let end = (start + size).min(long);
-    &bytes[start..end]
+    let start = index * sealed.size;
+    let end = (start + sealed.size).min(sealed.long);
+    &sealed.bytes[start..end]
 }
 
 /// A copy of a block as far as it is sealed.
-fn image_of(
-    alloc: Global,
-    bytes: &[u8],
-    size: usize,
-    long: usize,
-    index: usize,
-) -> Result<Image, AllocError>
-    requires some { 1 ≤ size }
-    requires size_fits { size ≤ 65536 }
-    requires bytes_fit { length bytes.now ≤ 67108864 }
-    requires within { long ≤ length bytes.now }
-    requires counted { index < count_of size long }
-    ensures { IfOk result (λ image. image ≡ block_before size long index bytes.now) }
+fn image_of(alloc: Global, sealed: SealedBytes<'_>, index: usize) -> Result<Image, AllocError>
+    requires counted { index < count_of sealed.size sealed.long }
+    ensures { IfOk result (λ image. image ≡ block_before sealed.entry.size sealed.entry.long index sealed.entry.bytes.now) }
 {
     Ok(Image {
-        bytes: Vec::from_slice(alloc, sealed_part(bytes, size, long, index))?,
+        bytes: Vec::from_slice(alloc, sealed_part(sealed, index))?,
     })
 }
 
 /// The digest of a block as undoing gives it.
-fn digest_before(
-    image: &Option<Image>,
-    bytes: &[u8],
-    size: usize,
-    long: usize,
-    index: usize,
-) -> Digest
-    requires some { 1 ≤ size }
-    requires size_fits { size ≤ 65536 }
-    requires bytes_fit { length bytes.now ≤ 67108864 }
-    requires within { long ≤ length bytes.now }
-    requires counted { index < count_of size long }
-    ensures { result ≡ sha256 (image_or image.now (block_before size long index bytes.now)) }
+fn digest_before(image: &Option<Image>, sealed: SealedBytes<'_>, index: usize) -> Digest
+    requires counted { index < count_of sealed.size sealed.long }
+    ensures { result ≡ sha256 (image_or image.now (block_before sealed.entry.size sealed.entry.long index sealed.entry.bytes.now)) }
 {
     match image {
         Some(image) => digest_of(&image.bytes),
-        None => digest_of(sealed_part(bytes, size, long, index)),
+        None => digest_of(sealed_part(sealed, index)),
     }
 }
 
 /// Whether a block as undoing gives it has its sealed digest.
 fn is_intact_before(
     images: &[Option<Image>],
-    bytes: &[u8],
-    size: usize,
-    long: usize,
+    sealed: SealedBytes<'_>,
     digests: &[Digest],
     index: usize,
 ) -> bool
-    requires some { 1 ≤ size }
-    requires size_fits { size ≤ 65536 }
-    requires bytes_fit { length bytes.now ≤ 67108864 }
-    requires within { long ≤ length bytes.now }
-    requires counted { length images.now ≡ count_of size long }
-    requires each { length digests.now ≡ count_of size long }
+    requires counted { length images.now ≡ count_of sealed.size sealed.long }
+    requires each { length digests.now ≡ count_of sealed.size sealed.long }
     requires below { index < length digests.now }
-    requires whole { (k : ℕ) → k < length images.now → IsImage (min size (long - k * size)) (slice_index_or images.now k None) }
-    ensures { result ≡ is_intact size (bytes_before size images.now long bytes.now) digests.now index }
+    requires whole { (k : ℕ) → k < length images.now → IsImage (min sealed.size (sealed.long - k * sealed.size)) (slice_index_or images.now k None) }
+    ensures { result ≡ is_intact sealed.entry.size (bytes_before sealed.entry.size images.now sealed.entry.long sealed.entry.bytes.now) digests.now index }
 {
-    let digest = digest_before(&images[index], bytes, size, long, index);
+    let digest = digest_before(&images[index], sealed, index);
     is_same(&digest, &digests[index])
 }
 
@@ -260,22 +240,16 @@ fn is_intact_before(
 #[tactic(auto, using(crate::proofs::Verified::damaged_more, crate::proofs::Verified::damaged_here, crate::proofs::Verified::damaged_none))]
 pub(crate) fn first_damaged_before(
     images: &[Option<Image>],
-    bytes: &[u8],
-    size: usize,
-    long: usize,
+    sealed: SealedBytes<'_>,
     digests: &[Digest],
 ) -> Option<usize>
-    requires some { 1 ≤ size }
-    requires size_fits { size ≤ 65536 }
-    requires bytes_fit { length bytes.now ≤ 67108864 }
-    requires within { long ≤ length bytes.now }
-    requires counted { length images.now ≡ count_of size long }
-    requires each { length digests.now ≡ count_of size long }
-    requires whole { (k : ℕ) → k < length images.now → IsImage (min size (long - k * size)) (slice_index_or images.now k None) }
-    ensures { result ≡ first_damaged size (bytes_before size images.now long bytes.now) digests.now 0 (length digests.now) }
+    requires counted { length images.now ≡ count_of sealed.size sealed.long }
+    requires each { length digests.now ≡ count_of sealed.size sealed.long }
+    requires whole { (k : ℕ) → k < length images.now → IsImage (min sealed.size (sealed.long - k * sealed.size)) (slice_index_or images.now k None) }
+    ensures { result ≡ first_damaged sealed.entry.size (bytes_before sealed.entry.size images.now sealed.entry.long sealed.entry.bytes.now) digests.now 0 (length digests.now) }
 {
     for index in 0..digests.len() {
-        if !is_intact_before(images, bytes, size, long, digests, index) {
+        if !is_intact_before(images, sealed, digests, index) {
             return Some(index);
         }
     }
@@ -313,21 +287,15 @@ pub(crate) fn put_back(bytes: &mut Vec<u8>, size: usize, long: usize, images: &[
 fn missing_copy(
     alloc: Global,
     image: &Option<Image>,
-    bytes: &[u8],
-    size: usize,
-    long: usize,
+    sealed: SealedBytes<'_>,
     index: usize,
 ) -> Result<Option<Image>, AllocError>
-    requires some { 1 ≤ size }
-    requires size_fits { size ≤ 65536 }
-    requires bytes_fit { length bytes.now ≤ 67108864 }
-    requires within { long ≤ length bytes.now }
-    requires counted { index < count_of size long }
-    ensures { IfOk result (λ copy. copy ≡ missing_of image.now (block_before size long index bytes.now)) }
+    requires counted { index < count_of sealed.size sealed.long }
+    ensures { IfOk result (λ copy. copy ≡ missing_of image.now (block_before sealed.entry.size sealed.entry.long index sealed.entry.bytes.now)) }
 {
     match image {
         Some(_image) => Ok(None),
-        None => Ok(Some(image_of(alloc, bytes, size, long, index)?)),
+        None => Ok(Some(image_of(alloc, sealed, index)?)),
     }
 }
 
@@ -335,23 +303,17 @@ fn missing_copy(
 fn missing_copies(
     alloc: Global,
     images: &[Option<Image>],
-    bytes: &[u8],
-    size: usize,
-    long: usize,
+    sealed: SealedBytes<'_>,
     first: usize,
     last: usize,
 ) -> Result<Vec<Option<Image>>, AllocError>
-    requires some { 1 ≤ size }
-    requires size_fits { size ≤ 65536 }
-    requires bytes_fit { length bytes.now ≤ 67108864 }
-    requires within { long ≤ length bytes.now }
-    requires counted { length images.now ≡ count_of size long }
+    requires counted { length images.now ≡ count_of sealed.size sealed.long }
     requires below { last ≤ length images.now }
-    ensures { IfOk result (λ copies. copies.items ≡ copies_from size long images.now bytes.now first (last - first)) }
+    ensures { IfOk result (λ copies. copies.items ≡ copies_from sealed.entry.size sealed.entry.long images.now sealed.entry.bytes.now first (last - first)) }
 {
     let mut copies = Vec::new(alloc);
     for index in first..last {
-        let copy = missing_copy(alloc, &images[index], bytes, size, long, index)?;
+        let copy = missing_copy(alloc, &images[index], sealed, index)?;
         copies.push(copy)?;
     }
     Ok(copies)

@@ -5,4 +5,4 @@ use Rattle.gs_block.proofs.images.first_damaged_before.Given as goal
 
 abbrev pub invariant-loop-index : goal.invariant-loop-index
 invariant-loop-index l =
-    first_damaged l.fn.size (bytes_before l.fn.size l.fn.images l.fn.long l.fn.bytes) l.fn.digests 0 (length l.fn.digests) ≡ first_damaged l.fn.size (bytes_before l.fn.size l.fn.images l.fn.long l.fn.bytes) l.fn.digests l.index (length l.fn.digests - l.index)
+    first_damaged l.fn.sealed.size (bytes_before l.fn.sealed.size l.fn.images l.fn.sealed.long l.fn.sealed.bytes.now) l.fn.digests 0 (length l.fn.digests) ≡ first_damaged l.fn.sealed.size (bytes_before l.fn.sealed.size l.fn.images l.fn.sealed.long l.fn.sealed.bytes.now) l.fn.digests l.index (length l.fn.digests - l.index)
