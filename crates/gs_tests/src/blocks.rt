@@ -1,5 +1,5 @@
 use crate::texts::{hex, line};
-use gs_base::Refusal;
+use gs_base::{Config, Refusal};
 use gs_block::{BlockInverse, Blocks, Digest, Sizes};
 use std::alloc::Global;
 use std::process::Abort;
@@ -208,10 +208,7 @@ fn leaves_a_damaged_chunk(rt: HostRuntime) -> Result<(), Fail> {
 }
 
 fn chunk_of(alloc: Global, bytes: &[u8]) -> Result<Blocks, Refusal> {
-    let sizes = Sizes {
-        block: 64,
-        chunk: 64,
-    };
+    let sizes = Sizes::of(Config::new(1, 1, 1, 64, 64)?);
     Ok(Blocks::of(alloc, sizes, bytes.to_vec(alloc)?)?)
 }
 
