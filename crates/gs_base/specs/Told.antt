@@ -1,5 +1,5 @@
 -- A refusal as a journal tells it: by its number, and by its detail as a text.
-use Rattle.std.specs.Prelude.{◌≡◌, ◌<◌, ◌≤◌, ◌^◌, ℕ, List, [], Option, Some, None, ⊤, decimal}
+use Rattle.std.specs.Prelude.{◌≡◌, ◌<◌, ◌≤◌, ◌^◌, ℕ, List, [], Option, Some, None, ⊤, decimal, refl}
 use Rattle.gs_base.specs.Numbers.{stamp_text}
 use Rattle.gs_base.specs.Refusals.{number_of}
 use Rattle.gs_base.specs.declared.numbers.Stamp.{Stamp as AnyStamp}
@@ -111,3 +111,13 @@ IsNumberIn text None = (n : ℕ) → IsNumber n → ¬ (decimal n ≡ text)
 abbrev pub IsStampIn : List ℕ → Option AnyStamp → Type 0
 IsStampIn text (Some s) = IsStamp s × (stamp_text s ≡ text)
 IsStampIn text None = (s : AnyStamp) → IsStamp s → ¬ (stamp_text s ≡ text)
+
+-- what a record says of the refusals `22 Stamp 0.3`, `23 Gap 7` and `19 Old`
+a_stamp_told : Tells 22 (stamp_text (record { epoch = 0; version = 3 })) (Stamp (record { epoch = 0; version = 3 }))
+a_stamp_told = (refl, refl)
+
+a_count_told : Tells 23 (decimal 7) (Gap 7)
+a_count_told = (refl, refl)
+
+no_detail_told : Tells 19 [] Old
+no_detail_told = (refl, refl)

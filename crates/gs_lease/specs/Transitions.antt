@@ -1,6 +1,6 @@
 -- How a chunk goes from one state to the next. A quiet or leased chunk is seen as its view, a moving one as what is
 -- proposed.
-use Rattle.std.specs.Prelude.{◌≡◌, ℕ, ◌+◌, Bool, true, false, List, [], Option, Some, None, Result, Ok, Err, min, ◌&&◌, is_some, is_none, slice_get}
+use Rattle.std.specs.Prelude.{◌≡◌, ℕ, ◌+◌, Bool, true, false, List, [], ◌∷◌, Option, Some, None, Result, Ok, Err, min, ◌&&◌, is_some, is_none, slice_get, refl}
 use Rattle.std.specs.Option.{option_map}
 use Rattle.std.specs.List.{list_any}
 use Rattle.gs_base.specs.Members.{is_member}
@@ -56,6 +56,13 @@ settled_view proposed members count moment =
 -- whether a member was asked
 abbrev pub is_any_asked : List ℕ → List ℕ → Bool
 is_any_asked asked members = list_any (is_member asked) members
+
+-- of a copy to server 2 that servers 0 and 1 were asked for, its target alone is nobody who was asked
+target_alone : is_any_asked (0 ∷ 1 ∷ []) (2 ∷ []) ≡ false
+target_alone = refl
+
+target_and_another : is_any_asked (0 ∷ 1 ∷ []) (1 ∷ 2 ∷ []) ≡ true
+target_and_another = refl
 
 -- a chunk on a settled view: leased where the view has a primary, else quiet
 abbrev pub settled_on : View → Settled
