@@ -1,6 +1,6 @@
 use gs_base::Refusal;
 
-/// A call that takes a value for good and is refused hands it back.
+/// A call that takes a value for good and is refused hands it back, also where it has no memory.
 #[derive(Debug, Drop)]
 pub struct Refused<T> {
     pub refusal: Refusal,
