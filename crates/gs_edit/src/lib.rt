@@ -2,10 +2,12 @@
 #![tactic(auto)]
 
 mod edit;
+mod listed;
 mod names;
 pub mod promises;
 mod scan;
 
 pub use edit::{Edit, Inverse};
+pub use listed::{EditKind, ListedInverse};
 pub use names::Names;
 pub use scan::Scan;
