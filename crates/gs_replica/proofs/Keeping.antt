@@ -5,6 +5,7 @@ use Rattle.std.proofs.lemmas.List.{length-set}
 use Rattle.std.proofs.lemmas.List.FromFn.{length-map-range_with_len}
 use Rattle.gs_base.specs.declared.numbers.Stamp.{Stamp}
 use Rattle.gs_base.specs.declared.refusal.Refusal.{Refusal}
+use Rattle.gs_base.specs.Stamps.{is_before}
 use Rattle.gs_base.specs.declared.refusal.Refusal.TheVariants as refusals
 use Rattle.gs_block.specs.Stored.{Stored, count_of, digest_at, first_damaged, digests_of}
 use Rattle.gs_block.specs.Edits as blocks
@@ -33,7 +34,7 @@ promise_case true h h2 n xs e stands = absurd (cc)
 promise_case false h h2 n xs e stands = subst (λ (r : Held). Own r xs × Alike h r) (ap (λ q. held_or q n) e) stands
 
 pub promise_stands : (stamp : Stamp) (h h2 : Held) (xs : List Edit) → Own h xs → edits.promise stamp h ≡ Ok h2 → Own h2 xs × Alike h h2
-promise_stands stamp h h2 xs stands e = promise_case (edits.is_before stamp h.promise) h h2 _ xs e (under_promise h stamp xs stands, record { block = refl; chunk = refl })
+promise_stands stamp h h2 xs stands e = promise_case (is_before stamp h.promise) h h2 _ xs e (under_promise h stamp xs stands, record { block = refl; chunk = refl })
 
 -- other bytes of the same length under the same digests
 abbrev pub other_bytes : Held → List ℕ → Held

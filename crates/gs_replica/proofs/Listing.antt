@@ -13,6 +13,7 @@ use Rattle.gs_replica.specs.declared.op.Op.TheVariants.{Write, Append, Pad}
 use Rattle.gs_replica.specs.declared.op.Done.{Done}
 use Rattle.gs_replica.specs.declared.op.Outcome.{Outcome}
 use Rattle.gs_replica.specs.Held.{Held}
+use Rattle.gs_base.specs.Stamps.{is_same}
 use Rattle.gs_replica.specs.Edits as edits
 use Rattle.gs_replica.specs.Copies.{Image}
 use Rattle.gs_block.specs.Written.{WasWritten}
@@ -103,7 +104,7 @@ edit_stands req op bytes r r2 (Ok s) xs stands told new is e =
 pub apply_stands : (stamp : Stamp) (number : ℕ) (req : ReqId) (op : Op) (bytes : List ℕ) (r r2 : Held) (xs : List Edit) → Own r xs → OwnTold r xs →
     edits.apply stamp number req op bytes r ≡ Ok r2 → Own r2 (xs ++ (record { req = req; op = op; bytes = bytes }) ∷ []) × Alike r r2
 apply_stands stamp number req op bytes r r2 xs stands told e =
-    let j = judged_ok (edits.is_same stamp r.promise) (number == (r.count + 1)) (edits.is_old req.number (fin.get r.done req.client.0)) (refusals.Gap r.count) (refusals.Stamp r.promise)
+    let j = judged_ok (is_same stamp r.promise) (number == (r.count + 1)) (edits.is_old req.number (fin.get r.done req.client.0)) (refusals.Gap r.count) (refusals.Stamp r.promise)
     (edits.with_edit r req op (edits.edited op bytes r.chunk)) r2 e in
     edit_stands req op bytes r r2 (edits.edited op bytes r.chunk) xs stands told j.2 refl j.3
 

@@ -14,6 +14,7 @@ use Rattle.gs_block.proofs.Matching.{none_damaged, intact_none}
 use Rattle.gs_replica.specs.declared.op.Op.{Op}
 use Rattle.gs_replica.specs.declared.op.Op.TheVariants.{Write, Append, Pad}
 use Rattle.gs_replica.specs.Held.{Held}
+use Rattle.gs_base.specs.Stamps.{is_same}
 use Rattle.gs_replica.specs.Edits as edits
 use Rattle.gs_replica.specs.Seals.{Sealed, State, with_seal, lowest_damaged}
 use Rattle.gs_replica.specs.Copies.{Image}
@@ -75,7 +76,7 @@ eq_count m n h = grind (arith, nat_tests)
 and_true : (a b : Bool) → a ≡ true → b ≡ true → (a && b) ≡ true
 and_true a b ha hb = rw (ha, hb) refl
 
-same_self : (stamp : Stamp) → edits.is_same stamp stamp ≡ true
+same_self : (stamp : Stamp) → is_same stamp stamp ≡ true
 same_self stamp = and_true (stamp.epoch == stamp.epoch) (stamp.version == stamp.version) (eq_self stamp.epoch) (eq_self stamp.version)
 
 -- an undamaged replica takes the next edit of a list that is taken
@@ -86,7 +87,7 @@ takes_next r o xs e stands none all =
     let text : Image = replica_of h.chunk.chunk xs in
     let w = stands.bytes in
     let p = both_parts (edits.is_old e.req.number (fin.get text.done e.req.client.0)) (is_in_range h.chunk.chunk e.op e.bytes (length text.bytes)) (taken_at_last h.chunk.chunk xs e all) in
-    ok_all (edits.is_same h.promise h.promise) ((length xs + 1) == (h.count + 1)) (edits.is_old e.req.number (fin.get h.done e.req.client.0)) (refusals.Gap h.count) (refusals.Stamp h.promise) h e.req e.op
+    ok_all (is_same h.promise h.promise) ((length xs + 1) == (h.count + 1)) (edits.is_old e.req.number (fin.get h.done e.req.client.0)) (refusals.Gap h.count) (refusals.Stamp h.promise) h e.req e.op
     (edits.edited e.op e.bytes h.chunk) o
     (same_self h.promise) (eq_count h.count (length xs) stands.count) (ap (λ m. edits.is_old e.req.number (fin.get m e.req.client.0)) stands.done ∙ p.0)
     (edited_ok e.op e.bytes h.chunk none (range_long h.chunk.chunk e.op e.bytes (length h.chunk.bytes) (length text.bytes) w.long p.1))
@@ -123,6 +124,6 @@ undamaged_edit req op bytes r r2 (Ok s) stored none is e =
 pub stays_undamaged : (stamp : Stamp) (number : ℕ) (req : ReqId) (op : Op) (bytes : List ℕ) (r r2 : Held) → IsStored r.chunk → lowest_damaged r.chunk ≡ None →
     edits.apply stamp number req op bytes r ≡ Ok r2 → lowest_damaged r2.chunk ≡ None
 stays_undamaged stamp number req op bytes r r2 stored none e =
-    let j = judged_ok (edits.is_same stamp r.promise) (number == (r.count + 1)) (edits.is_old req.number (fin.get r.done req.client.0)) (refusals.Gap r.count) (refusals.Stamp r.promise)
+    let j = judged_ok (is_same stamp r.promise) (number == (r.count + 1)) (edits.is_old req.number (fin.get r.done req.client.0)) (refusals.Gap r.count) (refusals.Stamp r.promise)
     (edits.with_edit r req op (edits.edited op bytes r.chunk)) r2 e in
     undamaged_edit req op bytes r r2 (edits.edited op bytes r.chunk) stored none refl j.3

@@ -1,9 +1,10 @@
 -- Numbered edits of a replica.
-use Rattle.std.specs.Prelude.{ℕ, ◌+◌, ◌==◌, ◌&&◌, ◌||◌, Bool, cond, min, nat_lt, nat_le, List, length, Option, Some, None, Result, Ok, Err, false}
+use Rattle.std.specs.Prelude.{ℕ, ◌+◌, ◌==◌, Bool, cond, min, nat_le, List, length, Option, Some, None, Result, Ok, Err, false}
 use Rattle.std.specs.FinMap as fin
 use Rattle.std.specs.Ordering.{nat_cmp}
 use Rattle.gs_base.specs.declared.numbers.Stamp.{Stamp}
 use Rattle.gs_base.specs.declared.numbers.ReqId.{ReqId}
+use Rattle.gs_base.specs.Stamps.{is_before, is_same}
 use Rattle.gs_base.specs.declared.refusal.Refusal.{Refusal}
 use Rattle.gs_base.specs.declared.refusal.Refusal.TheVariants as refusals
 use Rattle.gs_block.specs.Stored.{Stored, empty}
@@ -14,13 +15,6 @@ use Rattle.gs_replica.specs.declared.op.Outcome.{Outcome}
 use Rattle.gs_replica.specs.declared.op.Outcome.TheVariants.{Written, Appended, Padded}
 use Rattle.gs_replica.specs.declared.op.Done.{Done}
 use Rattle.gs_replica.specs.Held.{Held}
-
--- stamps are ordered by epoch first
-abbrev pub is_before : Stamp → Stamp → Bool
-is_before a b = nat_lt a.epoch b.epoch || ((a.epoch == b.epoch) && nat_lt a.version b.version)
-
-abbrev pub is_same : Stamp → Stamp → Bool
-is_same a b = (a.epoch == b.epoch) && (a.version == b.version)
 
 -- a replica without edits
 abbrev pub fresh : ℕ → ℕ → Stamp → Held

@@ -1,11 +1,11 @@
 -- How a seal in memory is seen.
-use Rattle.std.specs.Prelude.{◌≤◌, Option, Some, None}
+use Rattle.std.specs.Prelude.{◌≡◌, ◌≤◌, Option, Some, None}
 use Rattle.gs_block.specs.Images.{AreFirst, undone, touched}
 use Rattle.gs_replica.specs.declared.seal.Seal.{Seal}
 use Rattle.gs_replica.specs.Held.{Held}
 use Rattle.gs_replica.specs.First.{done_before}
 use Rattle.gs_replica.specs.Inside.{HasSealed}
-use Rattle.gs_replica.specs.Seals.{Sealed, State}
+use Rattle.gs_replica.specs.Seals.{Sealed, State, sealed_of}
 
 abbrev pub seen : Held → Seal → Sealed
 seen h s = record { undone = undone s.images h.chunk; count = s.count; done = done_before s.first h.done; stamp = s.stamp; touched = touched s.images; first = s.first }
@@ -18,6 +18,11 @@ pub record Belongs (h : Held) (s : Seal) : Type 0 where
   pub first : AreFirst s.images h.chunk
   pub later : s.count ≤ h.count
   pub has : HasSealed s.first h.done
+
+-- a seal of a replica as it stands
+pub record Seals (h : Held) (s : Seal) : Type 0 where
+  pub seen : seen h s ≡ sealed_of h
+  pub belongs : Belongs h s
 
 abbrev pub seen_in : Held → Option Seal → Option Sealed
 seen_in h None = None

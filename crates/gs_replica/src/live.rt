@@ -8,7 +8,8 @@ ghost use Rattle.gs_block.specs.Kept.{KeepsIntact, KeepsOutside};
 ghost use Rattle.gs_block.specs.Follows.{Follows, Does, Answers, Makes, Refuses, HandsBack, MakesOf};
 ghost use Rattle.gs_block.specs.Images.{Images, AreFirst, undone, touched, damage_before};
 ghost use Rattle.gs_replica.specs.Held.{Held};
-ghost use Rattle.gs_replica.specs.Edits.{fresh, promise, apply, judged, foreseen, is_outside, is_before, is_same, is_old, edited, outcome_of, with_edit, damage, held_of, copied, start_of, end_of, done_by};
+ghost use Rattle.gs_replica.specs.Edits.{fresh, promise, apply, judged, foreseen, is_outside, is_old, edited, outcome_of, with_edit, damage, held_of, copied, start_of, end_of, done_by};
+ghost use Rattle.gs_base.specs.Stamps.{is_same};
 ghost use Rattle.gs_replica.specs.Undo.{undo};
 ghost use Rattle.gs_replica.specs.First.{done_before};
 ghost use Rattle.gs_replica.specs.Inside.{HasSealed, Judges, carried_of};
@@ -51,12 +52,6 @@ pub struct ReplicaInverse {
     pub(crate) count: u64,
     pub(crate) client: ClientId,
     pub(crate) before: Option<Done>,
-}
-
-fn is_before(stamp: Stamp, other: Stamp) -> bool
-    ensures { result ≡ is_before stamp other }
-{
-    stamp.epoch < other.epoch || stamp.epoch == other.epoch && stamp.version < other.version
 }
 
 fn is_same(stamp: Stamp, other: Stamp) -> bool
@@ -176,7 +171,7 @@ impl Live {
     pub(crate) fn promise(&mut self, stamp: Stamp) -> Result<(), Refusal>
         ensures { Does (promise stamp self.old) result self.old self.new }
     {
-        if is_before(stamp, self.promise) {
+        if stamp.is_before(self.promise) {
             return Err(Refusal::Old);
         }
         self.promise = stamp;

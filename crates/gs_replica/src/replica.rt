@@ -13,6 +13,7 @@ use crate::done::DoneTable;
 use crate::image::{Image, SealedImage};
 use crate::live::{Live, ReplicaInverse};
 use crate::op::{Done, Op};
+use crate::prepared::PreparedSeal;
 use crate::seal::{
     Seal, apply_sealed, begin, damage_sealed, image_bytes, sealed_image, undo_sealed,
 };
@@ -168,8 +169,24 @@ impl Replica {
         ensures ok { OnOk result (self.new ≡ seal self.old) }
         ensures err { OnErr result (self.new ≡ self.old) }
     {
-        self.seal = Some(begin(&self.live)?);
+        let prepared = self.prepare_seal()?;
+        self.take_seal(prepared);
         Ok(())
+    }
+
+    /// What seals the replica as it stands. It changes nothing.
+    pub fn prepare_seal(&self) -> Result<PreparedSeal, AllocError>
+        ensures { IfOk result (λ prepared. prepared ≡ self.now.held) }
+    {
+        PreparedSeal::of(&self.live)
+    }
+
+    /// Seals the replica by what was prepared of it as it stands, in place of an earlier seal. It takes no memory.
+    pub fn take_seal(&mut self, prepared: PreparedSeal)
+        requires { prepared ≡ self.old.held }
+        ensures { self.new ≡ seal self.old }
+    {
+        self.seal = Some(prepared.into_seal());
     }
 
     /// The promise that stood when the replica was sealed, if it is.

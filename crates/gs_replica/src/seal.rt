@@ -9,7 +9,7 @@ ghost use Rattle.gs_block.specs.Follows.{Follows, Does, Makes, Refuses};
 ghost use Rattle.gs_replica.specs.Held.{Held};
 ghost use Rattle.gs_replica.specs.Seals.{images_of, sealed_length, State, Sealed, sealed_of, apply, undo, damage, can_undo, holding, on_seal, damage_seal, with_seal};
 ghost use Rattle.gs_replica.specs.Copies.{sealed_image_of};
-ghost use Rattle.gs_replica.specs.View.{seen, state_of, Belongs};
+ghost use Rattle.gs_replica.specs.View.{seen, state_of, Belongs, Seals};
 
 use crate::first::FirstEntries;
 use crate::image::{Image, SealedImage};
@@ -30,8 +30,7 @@ pub(crate) struct Seal {
 
 /// The first images and entries of a replica as it stands: none yet.
 pub(crate) fn begin(live: &Live) -> Result<Seal, AllocError>
-    ensures sealed { IfOk result (λ seal. seen live.now seal ≡ sealed_of live.now) }
-    ensures belongs { IfOk result (λ seal. Belongs live.now seal) }
+    ensures { IfOk result (λ seal. Seals live.now seal) }
 {
     Ok(Seal {
         stamp: live.promised(),
