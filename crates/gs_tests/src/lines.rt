@@ -2,10 +2,11 @@ use gs_line::{Line, next_line};
 use std::io::{self, BufRead, ErrorKind, Read};
 use std::test::Fail;
 
-/// A reader that gives its bytes in twos, is interrupted in between, and fails behind the last.
+/// A reader that gives so many bytes at a time, is interrupted in between, and fails behind the last.
 #[derive(Drop)]
 struct Weak<'a> {
     rest: &'a [u8],
+    most: usize,
     calls: u64,
 }
 
@@ -24,7 +25,7 @@ impl BufRead for Weak<'_> {
         if self.rest.is_empty() {
             return Err(io::Error::from(ErrorKind::Other));
         }
-        Ok(&self.rest[..self.rest.len().min(2)])
+        Ok(&self.rest[..self.rest.len().min(self.most)])
     }
 
     fn consume(&mut self, amount: usize) {
@@ -68,6 +69,7 @@ fn fails_where_a_read_fails(rt: HostRuntime) -> Result<(), Fail> {
     let alloc = rt.alloc();
     let mut reader = Weak {
         rest: b"ls /\nls",
+        most: 2,
         calls: 0,
     };
     assert_eq!(rt;
@@ -76,5 +78,24 @@ fn fails_where_a_read_fails(rt: HostRuntime) -> Result<(), Fail> {
     );
     let kind = next_line(alloc, &mut reader).map_err(|e| e.kind());
     assert_eq!(rt; kind, Err(ErrorKind::Other));
+    Ok(())
+}
+
+// A line takes as many reads as it needs.
+#[test]
+fn takes_a_line_byte_by_byte(rt: HostRuntime) -> Result<(), Fail> {
+    let alloc = rt.alloc();
+    let line = vec![in alloc; b'x'; 5_000]?;
+    let mut input = line.clone()?;
+    input.push(b'\n')?;
+    let mut reader = Weak {
+        rest: &input,
+        most: 1,
+        calls: 0,
+    };
+    assert!(rt;
+        next_line(alloc, &mut reader)? == Line::Text(line),
+        "the line"
+    );
     Ok(())
 }

@@ -97,6 +97,16 @@ fn rolls_back_many_edits(rt: HostRuntime) -> Result<(), Fail> {
     Ok(())
 }
 
+// A line of one byte more than may be held, and one after it.
+#[test]
+fn refuses_a_line_that_is_too_long(rt: HostRuntime) -> Result<(), Fail> {
+    let mut script = vec![in rt.alloc(); b'x'; 1_048_577]?;
+    script.extend_from_slice(b"\nls /\n")?;
+    let output = output_of(rt.alloc(), &script)?;
+    assert_eq!(rt; output.as_str(), "refused 34 BadLine\nok\n");
+    Ok(())
+}
+
 /// A reader that fails behind its last byte.
 #[derive(Drop)]
 struct Broken<'a> {
