@@ -15,7 +15,7 @@ use Rattle.gs_path.specs.Path.{Path, path_total}
 use Rattle.gs_lock.specs.declared.lock.Lock.{Lock}
 use Rattle.gs_lock.specs.declared.index.Index.{Index}
 use Rattle.gs_lock.specs.Locks.{same_path, is_among, conflicts_with, is_conflict, holds}
-use Rattle.gs_lock.specs.Operations.{key_of, key_cmp, same_op}
+use Rattle.gs_lock.specs.Operations.{op_cmp, same_op}
 use Rattle.gs_lock.specs.Indexes.{IsIndexed, in_the_way, reads_at, writes_at, held_at, reads_path, writes_path, is_of}
 
 -- ---- tests of some element
@@ -78,19 +78,14 @@ eq_cmp m n = at (ltb m n) (eqb m n) refl refl
     at false true less same = grind (arith, nat_tests)
     at false false less same = grind (arith, nat_tests)
 
-and_true : (b : Bool) → (b && true) ≡ b
-and_true true = refl
-and_true false = refl
-
-key_same : (op other : ReqId) → is_at (key_cmp (key_of other)) (key_of op) ≡ same_op op other
-key_same op other =
-    eq_then (nat_cmp other.client.0 op.client.0) (ordering_then (nat_cmp other.number op.number) Equal)
-    ∙ ap (λ b. is_eq (nat_cmp other.client.0 op.client.0) && b) (eq_then (nat_cmp other.number op.number) Equal ∙ and_true (is_eq (nat_cmp other.number op.number)))
+op_same : (op other : ReqId) → is_at (op_cmp other) op ≡ same_op op other
+op_same op other =
+    eq_then (nat_cmp other.client.0 op.client.0) (nat_cmp other.number op.number)
     ∙ ap (λ b. b && is_eq (nat_cmp other.number op.number)) (eq_cmp other.client.0 op.client.0)
     ∙ ap (λ b. eqb op.client.0 other.client.0 && b) (eq_cmp other.number op.number)
 
-pub holds_is : (locks : List Lock) (index : Index) (op : ReqId) → IsIndexed locks index → nat_lt 0 (held_at index (key_of op)) ≡ holds locks op
-holds_is locks index op is = ap (nat_lt 0) (is.held (key_of op)) ∙ count_any (is_of (key_of op)) locks ∙ any_same (is_of (key_of op)) (λ l. same_op op l.op) (λ l. key_same op l.op) locks
+pub holds_is : (locks : List Lock) (index : Index) (op : ReqId) → IsIndexed locks index → nat_lt 0 (held_at index op) ≡ holds locks op
+holds_is locks index op is = ap (nat_lt 0) (is.held op) ∙ count_any (is_of op) locks ∙ any_same (is_of op) (λ l. same_op op l.op) (λ l. op_same op l.op) locks
 
 -- ---- the locks on paths
 same_path_sym : (p q : Path) → same_path p q ≡ same_path q p

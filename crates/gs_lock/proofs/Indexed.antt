@@ -8,13 +8,13 @@ use Rattle.std.specs.Prelude.{count_by, ◌&&◌, not, sum_by, filter}
 use Rattle.std.specs.List.{list_all}
 use Rattle.std.specs.BTreeMap.{is_at}
 use Rattle.std.specs.Cmp.{eq_by_cmp_equiv}
-use Rattle.std.specs.Cmp.Lexicographic.{nat_list_cmp_total}
+use Rattle.std.specs.Cmp.{nat_cmp_total, then_total, on_total}
 use Rattle.gs_path.specs.Path.{Path, path_total}
 use Rattle.gs_lock.specs.declared.lock.Lock.{Lock}
 use Rattle.gs_lock.specs.declared.index.Index.{Index}
 use Rattle.gs_base.specs.declared.numbers.ReqId.{ReqId}
 use Rattle.gs_lock.specs.Locks.{same_path, released}
-use Rattle.gs_lock.specs.Operations.{key_of, key_cmp, same_op}
+use Rattle.gs_lock.specs.Operations.{op_cmp, same_op}
 use Rattle.gs_lock.specs.Indexes.{IsIndexed, IsTight, SameIndex, AddsLock, HasLock, reads_path, writes_path, is_of}
 
 joined : (all front back one rest both : ℕ) → all ≡ front + back → back ≡ one + rest → both ≡ front + rest → all ≡ both + one
@@ -58,8 +58,8 @@ indexed_less xs ys l old new is adds tight = record {
 same_itself : (p : Path) → same_path p p ≡ true
 same_itself p = (eq_by_cmp_equiv path_total).refl p
 
-key_itself : (k : List ℕ) → is_at (key_cmp k) k ≡ true
-key_itself k = (eq_by_cmp_equiv nat_list_cmp_total).refl k
+op_itself : (op : ReqId) → is_at (op_cmp op) op ≡ true
+op_itself op = (eq_by_cmp_equiv (then_total (on_total (λ (o : ReqId). o.client.0) nat_cmp_total) (on_total (λ (o : ReqId). o.number) nat_cmp_total))).refl op
 
 one_counted : (t : Lock → Bool) (xs ys : List Lock) (l : Lock) (n : ℕ) → n ≡ count_by t (xs ++ l ∷ ys) → t l ≡ true → 0 < n
 one_counted t xs ys l n is passes =
@@ -77,7 +77,7 @@ pub has_lock : (xs ys : List Lock) (l : Lock) (index : Index) → IsIndexed (xs 
 has_lock xs ys l index is = record {
   reads = λ w. one_counted (reads_path l.path) xs ys l _ (is.reads l.path) (reads_it l w);
   writes = λ w. one_counted (writes_path l.path) xs ys l _ (is.writes l.path) (writes_it l w);
-  held = one_counted (is_of (key_of l.op)) xs ys l _ (is.held (key_of l.op)) (key_itself (key_of l.op));
+  held = one_counted (is_of l.op) xs ys l _ (is.held l.op) (op_itself l.op);
 }
 
 -- ---- the last lock is cut off

@@ -1,15 +1,12 @@
--- An operation as a key: its client and its number.
-use Rattle.std.specs.Prelude.{ℕ, Bool, List, [], ◌∷◌, ◌==◌, ◌&&◌}
+-- When two operations are the same, and their order.
+use Rattle.std.specs.Prelude.{Bool, ◌==◌, ◌&&◌}
 use Rattle.std.specs.declared.cmp.Ordering.{Ordering}
-use Rattle.std.specs.Ordering.{nat_cmp}
-use Rattle.std.specs.Cmp.Lexicographic.{slice_cmp}
 use Rattle.gs_base.specs.declared.numbers.ReqId.{ReqId}
+use Rattle.gs_base.specs.contracts.numbers.ReqIdOrd.TheImpl as ops
 
-abbrev pub key_of : ReqId → List ℕ
-key_of op = op.client.0 ∷ op.number ∷ []
-
-abbrev pub key_cmp : List ℕ → List ℕ → Ordering
-key_cmp = slice_cmp nat_cmp
+-- by client first
+abbrev pub op_cmp : ReqId → ReqId → Ordering
+op_cmp = ops.ghosts.cmp
 
 abbrev pub same_op : ReqId → ReqId → Bool
 same_op op other = op.client.0 == other.client.0 && op.number == other.number

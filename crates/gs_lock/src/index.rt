@@ -5,105 +5,18 @@ use crate::tally::Tally;
 use gs_base::ReqId;
 use gs_path::Path;
 use std::alloc::{AllocError, Global};
-use std::cmp::Ordering;
-use std::marker::Model;
-
-/// An operation as a key.
-#[derive(Drop)]
-pub(crate) struct OpKey {
-    client: u32,
-    number: u64,
-}
-
-impl Model for OpKey {
-    ghost use Rattle.std.specs.Prelude.{List, ℕ, [], ◌∷◌};
-
-    ghost Value = { List ℕ };
-
-    ghost view = { λ k. k.client ∷ k.number ∷ [] };
-}
-
-impl OpKey {
-    ghost use Rattle.gs_lock.specs.Operations.{key_of};
-
-    pub(crate) fn of(op: ReqId) -> OpKey
-        ensures { result ≡ key_of op }
-    {
-        OpKey {
-            client: op.client.0,
-            number: op.number,
-        }
-    }
-}
-
-impl PartialEq for OpKey {
-    ghost use Rattle.std.specs.Cmp.{eq_by_cmp_equiv, partial_equiv_from_equiv};
-    ghost use Rattle.std.specs.Cmp.Lexicographic.{slice_cmp, nat_list_cmp_total};
-    ghost use Rattle.std.specs.Ordering.{eq_by_cmp, nat_cmp};
-
-    ghost eq = { eq_by_cmp (slice_cmp nat_cmp) };
-
-    ghost laws = { partial_equiv_from_equiv (eq_by_cmp_equiv nat_list_cmp_total) };
-
-    fn eq(&self, other: &OpKey) -> bool {
-        self.cmp(other) == Ordering::Equal
-    }
-}
-
-impl Eq for OpKey {
-    ghost use Rattle.std.specs.Cmp.{eq_by_cmp_equiv};
-    ghost use Rattle.std.specs.Cmp.Lexicographic.{nat_list_cmp_total};
-
-    ghost laws = { eq_by_cmp_equiv nat_list_cmp_total };
-}
-
-impl PartialOrd for OpKey {
-    ghost use Rattle.std.specs.Cmp.{partial_order_from_total};
-    ghost use Rattle.std.specs.Cmp.Lexicographic.{slice_cmp, nat_list_cmp_total};
-    ghost use Rattle.std.specs.Ordering.{as_partial_cmp, nat_cmp};
-
-    ghost partial_cmp = { as_partial_cmp (slice_cmp nat_cmp) };
-
-    ghost laws = { partial_order_from_total nat_list_cmp_total };
-
-    fn partial_cmp(&self, other: &OpKey) -> Option<Ordering> {
-        Some(self.cmp(other))
-    }
-}
-
-impl Ord for OpKey {
-    ghost use Rattle.std.specs.Prelude.{refl};
-    ghost use Rattle.std.specs.Cmp.Lexicographic.{slice_cmp, nat_list_cmp_total};
-    ghost use Rattle.std.specs.Ordering.{nat_cmp};
-
-    ghost cmp = { slice_cmp nat_cmp };
-
-    ghost total = { nat_list_cmp_total };
-
-    ghost matches_partial_cmp = { λ x y. refl };
-
-    ghost matches_eq = { λ x y. refl };
-
-    fn cmp(&self, other: &OpKey) -> Ordering {
-        match self.client.cmp(&other.client) {
-            Ordering::Equal => self.number.cmp(&other.number),
-            differs => differs,
-        }
-    }
-}
 
 /// How many locks read each path, write it, and belong to each operation.
 #[derive(Drop)]
 pub(crate) struct Index {
     pub(crate) reads: Tally<Path>,
     pub(crate) writes: Tally<Path>,
-    pub(crate) held: Tally<OpKey>,
+    pub(crate) held: Tally<ReqId>,
 }
 
 impl Index {
     ghost use Rattle.std.specs.Prelude.{[], nat_lt, ◌||◌};
     ghost use Rattle.std.specs.List.{list_any};
-    ghost use Rattle.gs_lock.specs.Operations.{key_of};
     ghost use Rattle.gs_lock.specs.Indexes.{reads_at, writes_at, held_at, in_the_way, IsIndexed, IsTight, SameIndex, SamePaths, CountsPath, AddsLock, Fits, HasLock};
 
     pub(crate) fn new(alloc: Global) -> Index
@@ -117,9 +30,9 @@ impl Index {
     }
 
     pub(crate) fn is_held(&self, op: ReqId) -> bool
-        ensures { result ≡ nat_lt 0 (held_at self.now (key_of op)) }
+        ensures { result ≡ nat_lt 0 (held_at self.now op) }
     {
-        self.held.count(&OpKey::of(op)) > 0
+        self.held.count(&op) > 0
     }
 
     /// Whether a lock is in the way of who reads and writes these paths.
@@ -161,11 +74,11 @@ impl Index {
         ensures err { OnErr result (SameIndex self.old self.new) }
         ensures tight { IsTight self.old → IsTight self.new }
     {
-        self.held.add(OpKey::of(lock.op))?;
+        self.held.add(lock.op)?;
         match self.count(lock.writes, path) {
             Ok(()) => Ok(()),
             Err(error) => {
-                self.held.subtract(&OpKey::of(lock.op));
+                self.held.subtract(&lock.op);
                 Err(error)
             }
         }
@@ -192,7 +105,7 @@ impl Index {
         ensures adds { AddsLock self.new self.old lock.now }
         ensures tight { IsTight self.old → IsTight self.new }
     {
-        self.held.subtract(&OpKey::of(lock.op));
+        self.held.subtract(&lock.op);
         if lock.writes {
             self.writes.subtract(&lock.path);
         } else {
