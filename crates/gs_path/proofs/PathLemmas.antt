@@ -4,10 +4,15 @@ use Rattle.std.proofs.lemmas.Bool.{and_from, eqb-true}
 use Rattle.std.proofs.lemmas.Bool.Decides.{nat_tests}
 use Rattle.std.proofs.lemmas.List.Folds.{list_all-append}
 use Rattle.std.specs.Cmp.Lexicographic.{pointwise}
+use Rattle.std.specs.Prelude.{Option, Some, None, MatchOption}
+use Rattle.std.specs.Borrow.{Bor}
+use Rattle.std.specs.Cmp.{IsEquivalence, Equal-is, eq_by_cmp_equiv}
+use Rattle.std.specs.Cmp.Lexicographic.{nat_list_cmp_total}
+use Rattle.std.specs.FinMap.{slice_cmp-IsAntisymmetric, nat_cmp-IsAntisymmetric}
 use Rattle.std.specs.List.{slice_split, onto_first, position_or_len, list_all}
 use Rattle.gs_base.specs.declared.refusal.Refusal.{Refusal}
 use Rattle.gs_base.specs.declared.refusal.Refusal.TheVariants.{BadPath, Memory}
-use Rattle.gs_path.specs.Path.{Name, Path, same_name, begins, behind_slashes, path_text}
+use Rattle.gs_path.specs.Path.{Name, Path, name_cmp, same_name, begins, behind_slashes, path_text}
 use Rattle.gs_path.specs.Rules.{elements_of, judged, read_by}
 
 -- `starts_with` of slices
@@ -15,6 +20,31 @@ pub pointwise-begins : (p q : Path) → pointwise same_name p (take (length p) q
 pointwise-begins [] q = refl
 pointwise-begins (x ∷ p) [] = refl
 pointwise-begins (x ∷ p) (y ∷ q) = ap (λ b. same_name x y && b) (pointwise-begins p q)
+
+names_equiv : IsEquivalence same_name
+names_equiv = eq_by_cmp_equiv nat_list_cmp_total
+
+-- `strip_prefix` of slices
+pub below-begins : (p q : Path) → pointwise same_name (take (length p) q) p ≡ begins p q
+below-begins [] q = refl
+below-begins (x ∷ p) [] = refl
+below-begins (x ∷ p) (y ∷ q) =
+    ap (λ b. b && pointwise same_name (take (length p) q) p) (names_equiv.symm y x) ∙ ap (λ b. same_name x y && b) (below-begins p q)
+
+pub begins-parts : (p q : Path) → begins p q ≡ true → q ≡ p ++ drop (length p) q
+begins-parts [] q h = refl
+begins-parts (x ∷ p) [] h = absurd (cc)
+begins-parts (x ∷ p) (y ∷ q) h =
+    elim (same_name x y) as (λ b. same_name x y ≡ b → (b && begins p q) ≡ true → y ∷ q ≡ x ∷ (p ++ drop (length p) q)) [
+      | true ↦ λ b g. ap (λ z. z ∷ q) (sym (slice_cmp-IsAntisymmetric nat_cmp-IsAntisymmetric x y ((Equal-is (name_cmp x y)).0 b))) ∙ ap (λ z. x ∷ z) (begins-parts p q g)
+      | false ↦ λ b g. absurd (cc)
+    ] refl h
+
+pub is_below : (p q front whole : Path) → front ≡ p → whole ≡ q → (r : Option (Bor Path)) → MatchOption r (pointwise same_name (take (length front) whole) front ≡ false) (λ x. (pointwise same_name (take (length front) whole) front ≡ true) × (x.now ≡ drop (length front) whole) × (length x.now + length front ≡ length whole)) → MatchOption r (begins p q ≡ false) (λ x. q ≡ p ++ x.now)
+is_below p q front whole f w None h = sym (below-begins p q) ∙ ap (λ l. pointwise same_name (take (length l) q) l) (sym f) ∙ ap (λ l. pointwise same_name (take (length front) l) front) (sym w) ∙ h
+is_below p q front whole f w (Some x) h =
+    begins-parts p q (sym (below-begins p q) ∙ ap (λ l. pointwise same_name (take (length l) q) l) (sym f) ∙ ap (λ l. pointwise same_name (take (length front) l) front) (sym w) ∙ h.0)
+    ∙ ap (λ l. p ++ drop (length l) q) (sym f) ∙ ap (λ l. p ++ drop (length front) l) (sym w) ∙ ap (λ l. p ++ l) (sym h.1)
 
 behind_slashes-onto_first : (x : ℕ) (ps : Path) → behind_slashes (onto_first x ps) ≡ 47 ∷ x ∷ drop 1 (behind_slashes ps)
 behind_slashes-onto_first x [] = refl
