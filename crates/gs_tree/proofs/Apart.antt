@@ -13,7 +13,7 @@ use Rattle.gs_tree.proofs.Splice.{begins_parts}
 use Rattle.gs_tree.proofs.Laws.{begins_append, begins_either}
 use Rattle.gs_tree.proofs.Reaching.{same_path-is}
 use Rattle.gs_tree.proofs.Moves.{not_front}
-use Rattle.gs_tree.proofs.Building.{left_true, right_true}
+use Rattle.gs_tree.proofs.Levels.{left_true, right_true}
 
 pub past : (b : Bool) (e : Refusal) (rest : Result (Plain ℕ) Refusal) (n : Plain ℕ) → cond b (Err e) rest ≡ Ok n → rest ≡ Ok n
 past true e rest n h = absurd (cc)

@@ -23,7 +23,7 @@ use Rattle.gs_tree.proofs.Splice.{begins_parts}
 use Rattle.gs_tree.proofs.Laws.{with_at-append, free_at}
 use Rattle.gs_tree.proofs.Reaching.{same_path-is}
 use Rattle.gs_tree.proofs.Depths.{paths_antisymmetric}
-use Rattle.gs_tree.proofs.Building.{less}
+use Rattle.gs_tree.proofs.Levels.{less}
 use Rattle.gs_tree.proofs.Gathering.{first, second, is_true}
 use Rattle.gs_tree.proofs.Under.{chunks_under-part, part_rows, at-part_rows}
 

@@ -1,6 +1,6 @@
 -- The rows of a node listed child by child.
 use Rattle.std.proofs.Common.{◌≡◌, ◌&&◌, ◌++◌, ℕ, Bool, true, false, cond, T, List, [], ◌∷◌, refl, sym, ap, ◌∙◌, subst, append_assoc, append-nil}
-use Rattle.std.specs.Prelude.{Option, Some, None, is_some}
+use Rattle.std.specs.Prelude.{Option, Some, None, is_some, is_none}
 use Rattle.std.specs.List.{list_all}
 use Rattle.std.specs.List.Sorted.{IsStrictlySortedBy}
 use Rattle.std.specs.Map.{keys_of, lookup}
@@ -16,11 +16,11 @@ use Rattle.gs_tree.specs.Plain.{Plain}
 use Rattle.gs_tree.specs.Find.{Rows, at, DirsAbove}
 use Rattle.gs_tree.specs.Rows.{under, joined}
 use Rattle.gs_tree.specs.Edits.{is_dir, parent, same_path}
-use Rattle.gs_tree.specs.Build.{prefixed, below_root, rooted_rows, rise_behind, is_short, has_place, is_tree, IsSound}
+use Rattle.gs_tree.specs.Build.{prefixed, below_root, rooted_rows, all_apart, is_short, has_place, is_tree, IsSound}
 use Rattle.gs_tree.proofs.Rows.{at_child, at-joined}
 use Rattle.gs_tree.proofs.Moves.{dir_above}
 use Rattle.gs_tree.proofs.Depths.{paths_antisymmetric}
-use Rattle.gs_tree.proofs.Building.{less, behind_some}
+use Rattle.gs_tree.proofs.Levels.{less, behind_some}
 use Rattle.gs_tree.proofs.Gathering.{EachRises, kept-all, rows-rise, is_true, from_true, first, second}
 
 -- what holds of each child
@@ -91,12 +91,18 @@ entered-more p all e left before found new is sound h = record {
 pub entered-all : (p : Path) (all : List (Name × Rows ℕ)) (before found : Rows ℕ) → Entered p all [] before found → found ≡ before ++ prefixed p (joined all)
 entered-all p all before found h = sym (append-nil found) ∙ h.rows
 
--- paths that are sorted rise one after another
-rise-of : (p : Path) (rows : Rows ℕ) → T (below_all path_cmp p rows) → T (is_sorted path_cmp rows) → rise_behind p rows ≡ true
-rise-of p [] below sorted = refl
-rise-of p (r ∷ rows) below sorted =
-    ap (λ b. b && rise_behind r.0 rows) (is_true (is_lt (path_cmp p r.0)) (first (is_lt (path_cmp p r.0)) (below_all path_cmp p rows) below))
-    ∙ rise-of r.0 rows (first (below_all path_cmp r.0 rows) (is_sorted path_cmp rows) sorted) (second (below_all path_cmp r.0 rows) (is_sorted path_cmp rows) sorted)
+-- paths that are sorted are apart
+none_below : (p : Path) (rows : Rows ℕ) → T (below_all path_cmp p rows) → at rows p ≡ None
+none_below p [] below = refl
+none_below p (r ∷ rows) below =
+    let behind = is_true (is_lt (path_cmp p r.0)) (first (is_lt (path_cmp p r.0)) (below_all path_cmp p rows) below) in
+    ap (λ o. cond (is_eq o) (Some r.1) (at rows p)) (less (path_cmp p r.0) behind) ∙ none_below p rows (second (is_lt (path_cmp p r.0)) (below_all path_cmp p rows) below)
+
+apart-of : (rows : Rows ℕ) → T (is_sorted path_cmp rows) → all_apart rows ≡ true
+apart-of [] sorted = refl
+apart-of (r ∷ rows) sorted =
+    ap (λ v. is_none v && all_apart rows) (none_below r.0 rows (first (below_all path_cmp r.0 rows) (is_sorted path_cmp rows) sorted))
+    ∙ apart-of rows (second (below_all path_cmp r.0 rows) (is_sorted path_cmp rows) sorted)
 
 places : (m : Plain ℕ) (l : Rows ℕ) → ((q : Path) → is_some (m q) ≡ true → DirsAbove m q) → ((q : Path) → is_some (at l q) ≡ true → is_some (m q) ≡ true) → T (below_all path_cmp [] l) → list_all (λ r. has_place m r.0) l ≡ list_all (λ r. is_short r.0) l
 places m [] above stands below = refl
@@ -124,14 +130,9 @@ places m (r ∷ l) above stands below =
 -- the rows of a sound node whose root is a directory are a tree's, if they are short enough
 pub sound-tree : (rows : Rows ℕ) → IsSound (rooted_rows rows) → list_all (λ r. is_short r.0) (rooted_rows rows) ≡ is_tree rows
 sound-tree rows sound =
-    sym (ap (λ b. b && list_all (λ r. has_place (at (rooted_rows rows)) r.0) rows) rise ∙ places (at (rooted_rows rows)) rows sound.above (λ q some. root (same_path q []) q some) (first (below_all path_cmp [] rows) (is_sorted path_cmp rows) sorted))
+    sym (ap (λ b. b && list_all (λ r. has_place (at (rooted_rows rows)) r.0) rows) (apart-of (rooted_rows rows) (from_true (is_sorted path_cmp (rooted_rows rows)) sound.rise))
+    ∙ places (at (rooted_rows rows)) rows sound.above (λ q some. root (same_path q []) q some) (first (below_all path_cmp [] rows) (is_sorted path_cmp rows) (from_true (is_sorted path_cmp (rooted_rows rows)) sound.rise)))
   where
-    sorted : T (below_all path_cmp [] rows && is_sorted path_cmp rows)
-    sorted = from_true (is_sorted path_cmp (rooted_rows rows)) sound.rise
-
-    rise : rise_behind [] rows ≡ true
-    rise = rise-of [] rows (first (below_all path_cmp [] rows) (is_sorted path_cmp rows) sorted) (second (below_all path_cmp [] rows) (is_sorted path_cmp rows) sorted)
-
     root : (b : Bool) (q : Path) → is_some (at rows q) ≡ true → is_some (cond b (Some Dir) (at rows q)) ≡ true
     root true q some = refl
     root false q some = some

@@ -13,7 +13,8 @@ pub mod Removals
 pub mod Chunks
 pub mod Gathering
 pub mod Under
-pub mod Building
+pub mod Levels
+pub mod Orders
 pub mod Entering
 pub mod Root
 pub mod Apart

@@ -1,14 +1,12 @@
 -- A tree as the list of what stands below its root, and which lists are a tree.
-use Rattle.std.specs.Prelude.{◌≡◌, ◌⊎◌, ◌++◌, ◌&&◌, ℕ, Bool, true, false, List, [], ◌∷◌, map, length, replicate, codes, nat_le, Result, Ok, Err, None, is_some, refl}
+use Rattle.std.specs.Prelude.{◌≡◌, ◌≢◌, ◌⊎◌, ◌≤◌, ◌<◌, ◌+◌, ◌==◌, ◌++◌, ◌&&◌, ◌||◌, ℕ, Bool, true, false, not, List, [], ◌∷◌, map, length, replicate, codes, nat_le, nat_lt, Result, Ok, Err, Some, None, is_some, is_none, refl}
 use Rattle.std.specs.List.{list_all}
-use Rattle.std.specs.Ordering.{is_lt}
-use Rattle.std.specs.declared.cmp.Ordering.TheVariants.{Less}
 use Rattle.std.specs.FinMap as fin
 use Rattle.gs_base.specs.declared.refusal.Refusal.{Refusal}
 use Rattle.gs_base.specs.declared.refusal.Refusal.TheVariants.{Memory, BadLine}
-use Rattle.gs_path.specs.Path.{Path, path_cmp}
+use Rattle.gs_path.specs.Path.{Path, path_cmp, begins}
 use Rattle.gs_tree.specs.Entry.{Entry, Dir, File}
-use Rattle.gs_tree.specs.Plain.{Plain, Same}
+use Rattle.gs_tree.specs.Plain.{Plain, Same, part_at}
 use Rattle.gs_tree.specs.Find.{Rows, at, DirsAbove, most_elements}
 use Rattle.gs_tree.specs.Edits.{is_dir, parent, with_entry}
 use Rattle.gs_tree.specs.declared.entry.TreeEntry.{TreeEntry}
@@ -22,8 +20,11 @@ abbrev pub kind_of_entry : TreeEntry → Entry ℕ
 kind_of_entry (entries.Dir path) = Dir
 kind_of_entry (entries.File path chunks) = File chunks.items
 
+abbrev pub row_of_entry : TreeEntry → Path × Entry ℕ
+row_of_entry e = (path_of_entry e, kind_of_entry e)
+
 abbrev pub rows_of_entries : List TreeEntry → Rows ℕ
-rows_of_entries listed = map (λ e. (path_of_entry e, kind_of_entry e)) listed
+rows_of_entries listed = map row_of_entry listed
 
 -- the root, and these rows
 abbrev pub rooted_rows : {A : Type 0} → Rows A → Rows A
@@ -38,10 +39,10 @@ below_root (r ∷ rows) = rows
 abbrev pub prefixed : {A : Type 0} → Path → Rows A → Rows A
 prefixed p rows = map (λ r. (p ++ r.0, r.1)) rows
 
--- each path is behind the one before it, and the first behind p
-abbrev pub rise_behind : {A : Type 0} → Path → Rows A → Bool
-rise_behind p [] = true
-rise_behind p (r ∷ rows) = is_lt (path_cmp p r.0) && rise_behind r.0 rows
+-- no path stands twice
+abbrev pub all_apart : {A : Type 0} → Rows A → Bool
+all_apart [] = true
+all_apart (r ∷ rows) = is_none (at rows r.0) && all_apart rows
 
 abbrev pub is_short : Path → Bool
 is_short p = nat_le (length p) most_elements
@@ -50,31 +51,62 @@ is_short p = nat_le (length p) most_elements
 abbrev pub has_place : {A : Type 0} → Plain A → Path → Bool
 has_place m p = is_short p && is_dir (m (parent p))
 
--- Whether rows are a tree's without its root: the paths rise behind the root's, and each has a place among them.
+-- Whether rows, in any order, are what stands below a path's row: no path stands twice, and each of theirs begins with that
+-- path and has a place among them.
+abbrev pub is_part : {A : Type 0} → Path × Entry A → Rows A → Bool
+is_part top rows =
+    is_short top.0 && (all_apart (top ∷ rows) && list_all (λ r. begins top.0 r.0 && has_place (at (top ∷ rows)) r.0) rows)
+
+-- Whether rows are a tree's without its root.
 abbrev pub is_tree : {A : Type 0} → Rows A → Bool
-is_tree rows = rise_behind [] rows && list_all (λ r. has_place (at (rooted_rows rows)) r.0) rows
+is_tree rows = is_part ([], Dir) rows
 
 -- a tree of just these rows, or BadLine where they aren't one
 abbrev pub Builds : Rows ℕ → Result (fin.FinMap path_cmp (Entry ℕ)) Refusal → Type 0
-Builds rows (Ok tree) = (is_tree rows ≡ true) × (fin.entries tree ≡ rooted_rows rows)
+Builds rows (Ok tree) = (is_tree rows ≡ true) × Same (fin.get tree) (at (rooted_rows rows))
 Builds rows (Err e) = (e ≡ Memory) ⊎ ((e ≡ BadLine) × (is_tree rows ≡ false))
 
--- the same of a node
-abbrev pub BuildsNode : Rows ℕ → Result (Rows ℕ) Refusal → Type 0
-BuildsNode rows (Ok node) = (is_tree rows ≡ true) × Same (at node) (at (rooted_rows rows))
-BuildsNode rows (Err e) = (e ≡ Memory) ⊎ ((e ≡ BadLine) × (is_tree rows ≡ false))
+-- the same of a node, which doesn't know its path
+abbrev pub BuildsPart : Path × Entry ℕ → Rows ℕ → Result (Rows ℕ) Refusal → Type 0
+BuildsPart top rows (Ok node) = (is_part top rows ≡ true) × Same (at node) (part_at top.0 (at (top ∷ rows)))
+BuildsPart top rows (Err e) = (e ≡ Memory) ⊎ ((e ≡ BadLine) × (is_part top rows ≡ false))
 
--- nothing stands behind p
-abbrev pub IsUpTo : {A : Type 0} → Plain A → Path → Type 0
-IsUpTo m p = (q : Path) → path_cmp p q ≡ Less → m q ≡ None
+-- a path has more elements than this, and few enough
+abbrev pub is_inside : ℕ → Path → Bool
+is_inside least p = nat_lt least (length p) && is_short p
 
--- one more path, behind the last
-abbrev pub may_follow : {A : Type 0} → Plain A → Path → Path → Bool
-may_follow m last p = is_lt (path_cmp last p) && has_place m p
+-- a path begins with another, and its parent is a directory
+abbrev pub has_parent : {A : Type 0} → Path → Plain A → Path → Bool
+has_parent top m p = begins top p && is_dir (m (parent p))
 
-abbrev pub AddsLast : Plain ℕ → Path → Path → Entry ℕ → Result (Unit {0}) Refusal → Plain ℕ → Type 0
-AddsLast m last p e (Ok _) new = (may_follow m last p ≡ true) × Same new (with_entry p e m)
-AddsLast m last p e (Err f) new = (f ≡ Memory) ⊎ ((f ≡ BadLine) × (may_follow m last p ≡ false))
+-- the paths of so many elements are apart from one another and pass
+abbrev pub fits_level : {A : Type 0} → (Path → Bool) → ℕ → Rows A → Bool
+fits_level passes n [] = true
+fits_level passes n (r ∷ rows) = (not (length r.0 == n) || (is_none (at rows r.0) && passes r.0)) && fits_level passes n rows
+
+-- of rows below a path, just those of at most so many elements stand, and they fit
+pub record IsFilled (top : Path × Entry ℕ) (rows : Rows ℕ) (most : ℕ) (m : Plain ℕ) : Type 0 where
+  pub start : length top.0 ≤ most
+  pub upper : (q : Path) → length (top.0 ++ q) ≤ most → m q ≡ at (top ∷ rows) (top.0 ++ q)
+  pub lower : (q : Path) → most < length (top.0 ++ q) → m q ≡ None
+  pub levels : (n : ℕ) → length top.0 < n → n ≤ most → fits_level (has_parent top.0 (at (top ∷ rows))) n rows ≡ true
+
+-- those of one more element stand too, or the rows aren't such a part
+abbrev pub FillsLevel : Path × Entry ℕ → Rows ℕ → ℕ → Result (Unit {0}) Refusal → Plain ℕ → Type 0
+FillsLevel top rows most (Ok _) new = IsFilled top rows (most + 1) new
+FillsLevel top rows most (Err e) new = (e ≡ Memory) ⊎ ((e ≡ BadLine) × (is_part top rows ≡ false))
+
+-- a path below another, seen from there, is free under a directory
+pub record IsFreeBelow (m : Plain ℕ) (top p q : Path) : Type 0 where
+  pub path : p ≡ top ++ q
+  pub below : q ≢ []
+  pub free : m q ≡ None
+  pub dir : m (parent q) ≡ Some Dir
+
+-- one more entry, if its place is free under a directory
+abbrev pub AddsBelow : Plain ℕ → Path → Path → Entry ℕ → Result (Unit {0}) Refusal → Plain ℕ → Type 0
+AddsBelow m top p e (Ok _) new = (q : Path) × (IsFreeBelow m top p q × Same new (with_entry q e m))
+AddsBelow m top p e (Err f) new = (f ≡ Memory) ⊎ ((f ≡ BadLine) × ((q : Path) → IsFreeBelow m top p q → ⊥))
 
 -- the paths rise, and above each are directories
 pub record IsSound (rows : Rows ℕ) : Type 0 where
@@ -97,8 +129,21 @@ the_root_among_them = refl
 a_path_twice : is_tree {A = ℕ} ((codes "a" ∷ [], Dir) ∷ (codes "a" ∷ [], Dir) ∷ []) ≡ false
 a_path_twice = refl
 
-out_of_order : is_tree {A = ℕ} ((codes "f" ∷ [], Dir) ∷ (codes "a" ∷ [], Dir) ∷ []) ≡ false
-out_of_order = refl
+in_any_order : is_tree {A = ℕ} ((codes "f" ∷ [], File (7 ∷ [])) ∷ (codes "a" ∷ codes "b" ∷ [], Dir) ∷ (codes "a" ∷ [], Dir) ∷ []) ≡ true
+in_any_order = refl
+
+a_path_twice_in_any_order : is_tree {A = ℕ} ((codes "a" ∷ [], Dir) ∷ (codes "f" ∷ [], Dir) ∷ (codes "a" ∷ [], File []) ∷ []) ≡ false
+a_path_twice_in_any_order = refl
+
+-- what stands at and below a/b
+abbrev a_part : Path × Entry ℕ
+a_part = (codes "a" ∷ codes "b" ∷ [], Dir)
+
+below_its_path : is_part a_part ((codes "a" ∷ codes "b" ∷ codes "c" ∷ codes "d" ∷ [], File []) ∷ (codes "a" ∷ codes "b" ∷ codes "c" ∷ [], Dir) ∷ []) ≡ true
+below_its_path = refl
+
+beside_its_path : is_part a_part ((codes "a" ∷ codes "f" ∷ [], File []) ∷ []) ≡ false
+beside_its_path = refl
 
 without_a_parent : is_tree {A = ℕ} ((codes "a" ∷ codes "b" ∷ [], Dir) ∷ []) ≡ false
 without_a_parent = refl

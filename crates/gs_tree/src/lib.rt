@@ -1,6 +1,7 @@
 //! A tree of directories and files, each edit with what takes it back.
 #![tactic(auto)]
 
+mod building;
 mod entry;
 mod inverse;
 mod node;

@@ -2,13 +2,14 @@
 
 ghost use Rattle.std.specs.Prelude.{◌≡◌, ◌+◌, ℕ, Bool, true, false, List, Result, Ok, IfOk, IfErr};
 ghost use Rattle.std.specs.List.{list_all};
+ghost use Rattle.std.specs.List.Sorted.{IsPermutation};
 ghost use Rattle.std.specs.FinMap.{FinMap, get, entries as rows_of_map};
 ghost use Rattle.gs_base.specs.declared.refusal.Refusal.{Refusal};
 ghost use Rattle.gs_base.specs.declared.refusal.Refusal.TheVariants.{Memory};
 ghost use Rattle.gs_path.specs.Path.{Path, path_cmp, begins};
 ghost use Rattle.gs_tree.specs.Entry.{Entry};
 ghost use Rattle.gs_tree.specs.Plain.{Plain, Same};
-ghost use Rattle.gs_tree.specs.Find.{Rows, IsWithin, most_elements};
+ghost use Rattle.gs_tree.specs.Find.{Rows, at, IsWithin, most_elements};
 ghost use Rattle.gs_tree.specs.Edits.{mkdirs, create, rename, hide, unhide, remove, add_chunk, set_chunk, snapshot};
 ghost use Rattle.gs_tree.specs.Mapped.{mapped, mapped_result};
 ghost use Rattle.gs_tree.specs.Build.{rooted_rows, is_short, is_tree, Builds};
@@ -38,9 +39,11 @@ pub fn snapshots_stay_apart()
     ensures stay { (c : Command ℕ) (m n : Plain ℕ) (one other q : Path) → begins one other ≡ false → begins other one ≡ false → list_all (begins one) (touched c m) ≡ true → done c m ≡ Ok n → begins other q ≡ true → n q ≡ m q }
 {}
 
-/// The entries of a tree build it again, memory aside.
+/// The entries of a tree build it again, memory aside. They do so in any order: whether they are a tree's, and what they have
+/// at a path then, doesn't depend on it.
 pub fn entries_build_their_tree()
-    ensures { (tree : FinMap path_cmp (Entry ℕ)) (rows : Rows ℕ) (built : Result (FinMap path_cmp (Entry ℕ)) Refusal) → rooted_rows rows ≡ rows_of_map tree → is_tree rows ≡ true → Builds rows built → IfOk built (λ t. t ≡ tree) × IfErr built (λ e. e ≡ Memory) }
+    ensures again { (tree : FinMap path_cmp (Entry ℕ)) (rows : Rows ℕ) (built : Result (FinMap path_cmp (Entry ℕ)) Refusal) → Same (at (rooted_rows rows)) (get tree) → is_tree rows ≡ true → Builds rows built → IfOk built (λ t. t ≡ tree) × IfErr built (λ e. e ≡ Memory) }
+    ensures order { (rows other : Rows ℕ) → IsPermutation rows other → is_tree rows ≡ true → (is_tree other ≡ true) × Same (at (rooted_rows other)) (at (rooted_rows rows)) }
 {}
 
 /// The chunks of a tree before and after an inverse is undone, however they are counted: those that go and those that come

@@ -11,8 +11,9 @@ ghost use Rattle.gs_tree.specs.Follows.{Follows, Undoes, TestsPlace, SwapsChunk}
 ghost use Rattle.gs_tree.specs.Listing.{HasVisible, Lists, StandsAs, pairs_of};
 ghost use Rattle.gs_tree.specs.Chunks.{chunks_under, visible_chunks_under};
 ghost use Rattle.std.specs.List.{list_all};
-ghost use Rattle.gs_tree.specs.Build.{rooted_rows, is_short, is_tree, rows_of_entries, path_of_entry, kind_of_entry, IsUpTo, AddsLast, BuildsNode, Builds};
+ghost use Rattle.gs_tree.specs.Build.{rooted_rows, is_short, is_tree, rows_of_entries, Builds};
 
+use crate::building::built;
 use crate::entry::TreeEntry;
 use crate::inverse::TreeInverse;
 use crate::node::{Leaf, Listed, Node, Sort};
@@ -22,7 +23,7 @@ use std::alloc::{AllocError, Global};
 use std::marker::Model;
 
 /// The most elements of a path in a tree, and one more.
-const TOO_MANY_ELEMENTS: usize = 65;
+pub(crate) const TOO_MANY_ELEMENTS: usize = 65;
 
 /// What stands at a path.
 #[derive(Clone, Copy)]
@@ -571,48 +572,6 @@ fn own_name(alloc: Global, path: &Path) -> Result<Vec<Listed>, AllocError>
     Ok(listed)
 }
 
-/// Puts one more entry behind the last of a tree. BadLine where its path isn't behind the last, has too many elements, or
-/// its parent isn't a directory.
-fn add_last(root: &mut Node, alloc: Global, last: &Path, entry: &TreeEntry) -> Result<(), Refusal>
-    requires { IsUpTo (at root.old) last.now }
-    ensures { AddsLast (at root.old) last.now (path_of_entry entry.now) (kind_of_entry entry.now) result (at root.new) }
-{
-    let path = entry.path();
-    if *path <= *last {
-        return Err(Refusal::BadLine);
-    }
-    if path.elements().len() >= TOO_MANY_ELEMENTS {
-        return Err(Refusal::BadLine);
-    }
-    let Some((name, parent)) = path.elements().split_last() else {
-        return Err(Refusal::BadLine);
-    };
-    match root.sort_at(parent) {
-        Sort::Dir => {}
-        Sort::Missing | Sort::File => return Err(Refusal::BadLine),
-    }
-    let name = name.copy(alloc)?;
-    let node = entry.node(alloc)?;
-    root.graft(parent, name, node)?;
-    Ok(())
-}
-
-/// The tree of entries.
-fn built(alloc: Global, entries: &[TreeEntry]) -> Result<Node, Refusal>
-    ensures { BuildsNode (rows_of_entries entries.now) result }
-{
-    let mut root = Node::new(alloc, Leaf::Dir);
-    let mut last = Path::root(alloc);
-    for entry in entries {
-        match add_last(&mut root, alloc, &last, entry) {
-            Ok(()) => {}
-            Err(refusal) => return Err(refusal),
-        }
-        last = entry.path().copy(alloc)?;
-    }
-    Ok(root)
-}
-
 /// A tree of directories and files. It begins with the root, a directory that always stands.
 #[derive(Drop)]
 pub struct Tree {
@@ -829,12 +788,14 @@ impl Tree {
         Ok(listed)
     }
 
-    /// The tree of these entries and the root. BadLine where they aren't those of a tree: the paths have to rise, the
-    /// root's not among them, each has at most 64 elements and a directory as its parent.
+    /// The tree of these entries, in any order, and the root. BadLine where they aren't those of a tree: no path may stand
+    /// twice, nor the root's among them, and each has at most 64 elements and a directory among them as its parent. It
+    /// goes through the entries once for each length of a path, and takes no memory but the tree's.
     pub fn of(alloc: Global, entries: &[TreeEntry]) -> Result<Tree, Refusal>
         ensures { Builds (rows_of_entries entries.now) result }
     {
-        match built(alloc, entries) {
+        let root = TreeEntry::Dir(Path::root(alloc));
+        match built(alloc, &root, entries) {
             Ok(root) => Ok(Tree { alloc, root }),
             Err(refusal) => Err(refusal),
         }
