@@ -98,7 +98,7 @@ none_below p (r ∷ rows) below =
     let behind = is_true (is_lt (path_cmp p r.0)) (first (is_lt (path_cmp p r.0)) (below_all path_cmp p rows) below) in
     ap (λ o. cond (is_eq o) (Some r.1) (at rows p)) (less (path_cmp p r.0) behind) ∙ none_below p rows (second (is_lt (path_cmp p r.0)) (below_all path_cmp p rows) below)
 
-apart-of : (rows : Rows ℕ) → T (is_sorted path_cmp rows) → all_apart rows ≡ true
+pub apart-of : (rows : Rows ℕ) → T (is_sorted path_cmp rows) → all_apart rows ≡ true
 apart-of [] sorted = refl
 apart-of (r ∷ rows) sorted =
     ap (λ v. is_none v && all_apart rows) (none_below r.0 rows (first (below_all path_cmp r.0 rows) (is_sorted path_cmp rows) sorted))

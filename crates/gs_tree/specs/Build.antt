@@ -1,10 +1,14 @@
 -- A tree as the list of what stands below its root, and which lists are a tree.
 use Rattle.std.specs.Prelude.{◌≡◌, ◌≢◌, ◌⊎◌, ◌≤◌, ◌<◌, ◌+◌, ◌==◌, ◌++◌, ◌&&◌, ◌||◌, ℕ, Bool, true, false, not, List, [], ◌∷◌, map, length, replicate, codes, nat_le, nat_lt, Result, Ok, Err, Some, None, is_some, is_none, refl}
 use Rattle.std.specs.List.{list_all}
+use Rattle.std.specs.declared.cmp.Ordering.{Ordering}
+use Rattle.std.specs.Ordering.{nat_cmp, on}
+use Rattle.std.specs.Cmp.{IsTotalOrder}
+use Rattle.std.specs.Cmp.Lexicographic.{slice_cmp, on_texts}
 use Rattle.std.specs.FinMap as fin
 use Rattle.gs_base.specs.declared.refusal.Refusal.{Refusal}
 use Rattle.gs_base.specs.declared.refusal.Refusal.TheVariants.{Memory, BadLine}
-use Rattle.gs_path.specs.Path.{Path, path_cmp, begins}
+use Rattle.gs_path.specs.Path.{Path, path_cmp, path_text, begins}
 use Rattle.gs_tree.specs.Entry.{Entry, Dir, File}
 use Rattle.gs_tree.specs.Plain.{Plain, Same, part_at}
 use Rattle.gs_tree.specs.Find.{Rows, at, DirsAbove, most_elements}
@@ -25,6 +29,13 @@ row_of_entry e = (path_of_entry e, kind_of_entry e)
 
 abbrev pub rows_of_entries : List TreeEntry → Rows ℕ
 rows_of_entries listed = map row_of_entry listed
+
+-- by the bytes of the paths' texts
+abbrev pub entry_cmp : TreeEntry → TreeEntry → Ordering
+entry_cmp = on (λ e. path_text (path_of_entry e)) (slice_cmp nat_cmp)
+
+pub entries_total : IsTotalOrder entry_cmp
+entries_total = on_texts (λ e. path_text (path_of_entry e))
 
 -- the root, and these rows
 abbrev pub rooted_rows : {A : Type 0} → Rows A → Rows A

@@ -6,6 +6,7 @@ mod entry;
 mod inverse;
 mod node;
 pub mod promises;
+mod texts;
 mod tree;
 
 pub use entry::TreeEntry;

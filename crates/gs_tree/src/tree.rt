@@ -1,6 +1,6 @@
 ghost use Rattle.std.specs.Prelude.{◌≡◌, ◌≢◌, ◌-◌, ◌++◌, ◌∷◌, [], Bool, false, true, is_some, length, map, IfOk, IfErr, MatchBool, Some, Ok, Err, if◌then◌else◌};
 ghost use Rattle.std.specs.FinMap as fin_map;
-ghost use Rattle.gs_path.specs.Path.{begins};
+ghost use Rattle.gs_path.specs.Path.{begins, text_cmp};
 ghost use Rattle.gs_tree.specs.Find.{at, IsBelow, DirsAbove, IsDepthTest, is_too_deep, is_copied_too_deep};
 ghost use Rattle.gs_tree.specs.Plain.{Same, IsFree, with_at, part_at, rooted};
 ghost use Rattle.gs_tree.specs.Entry.{Dir};
@@ -11,12 +11,14 @@ ghost use Rattle.gs_tree.specs.Follows.{Follows, Undoes, TestsPlace, SwapsChunk}
 ghost use Rattle.gs_tree.specs.Listing.{HasVisible, Lists, StandsAs, pairs_of};
 ghost use Rattle.gs_tree.specs.Chunks.{chunks_under, visible_chunks_under};
 ghost use Rattle.std.specs.List.{list_all};
-ghost use Rattle.gs_tree.specs.Build.{rooted_rows, is_short, is_tree, rows_of_entries, Builds};
+ghost use Rattle.std.specs.List.Sorted.{IsPermutation, IsSortedByKey};
+ghost use Rattle.gs_tree.specs.Build.{rooted_rows, below_root, is_short, is_tree, rows_of_entries, path_of_entry, Builds};
 
 use crate::building::built;
 use crate::entry::TreeEntry;
 use crate::inverse::TreeInverse;
 use crate::node::{Leaf, Listed, Node, Sort};
+use crate::texts::by_text;
 use gs_base::{Handle, Moment, Refusal};
 use gs_path::{Name, Path};
 use std::alloc::{AllocError, Global};
@@ -786,6 +788,18 @@ impl Tree {
         self.root
             .list_below(alloc, &Path::root(alloc), &mut listed)?;
         Ok(listed)
+    }
+
+    /// The same in the order of the bytes of the paths' texts, so that `/a.b` stands between `/a` and `/a/b`. It takes the
+    /// memory of the texts beside that of the entries.
+    pub fn entries_by_text(&self, alloc: Global) -> Result<Vec<TreeEntry>, AllocError>
+        ensures rows { IfOk result (λ listed. IsPermutation (below_root (fin_map.entries self.now)) (rows_of_entries listed.items)) }
+        ensures order { IfOk result (λ listed. IsSortedByKey path_of_entry text_cmp listed.items) }
+        ensures same { IfOk result (λ listed. Same (at (rooted_rows (rows_of_entries listed.items))) (fin_map.get self.now)) }
+        ensures tree { IfOk result (λ listed. list_all (λ r. is_short r.0) (fin_map.entries self.now) ≡ is_tree (rows_of_entries listed.items)) }
+    {
+        let entries = self.entries(alloc)?;
+        by_text(alloc, entries)
     }
 
     /// The tree of these entries, in any order, and the root. BadLine where they aren't those of a tree: no path may stand
