@@ -14,6 +14,7 @@ pub mod Chunks
 pub mod Gathering
 pub mod Under
 pub mod Levels
+pub mod Fronts
 pub mod Orders
 pub mod Entering
 pub mod Root

@@ -66,6 +66,24 @@ LeavesChunks (Added path) = ⊥
 LeavesChunks (Changed path index chunk) = ⊥
 LeavesChunks (Copied path) = ⊥
 
+-- an inverse of an edit that makes paths
+abbrev pub IsMade : TreeInverse → Type 0
+IsMade (Made path above) = Unit {0}
+IsMade (Moved from to) = ⊥
+IsMade (Removed path node) = ⊥
+IsMade (Added path) = ⊥
+IsMade (Changed path index chunk) = ⊥
+IsMade (Copied path) = ⊥
+
+-- an inverse of an edit that moves something
+abbrev pub IsMoved : TreeInverse → Type 0
+IsMoved (Made path above) = ⊥
+IsMoved (Moved from to) = Unit {0}
+IsMoved (Removed path node) = ⊥
+IsMoved (Added path) = ⊥
+IsMoved (Changed path index chunk) = ⊥
+IsMoved (Copied path) = ⊥
+
 -- what stood at a path, with all under it
 abbrev pub IsRemoved : Plain ℕ → Path → TreeInverse → Type 0
 IsRemoved m path i = (node : Rows ℕ) × (Same (part_at path m) (at node) × (i ≡ Removed path node))

@@ -11,6 +11,7 @@ pub mod Follows
 pub mod Falls
 pub mod Listing
 pub mod Build
+pub mod Lists
 pub mod Commands
 pub mod Counting
 pub mod Small

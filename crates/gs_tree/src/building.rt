@@ -37,7 +37,7 @@ fn longest(least: usize, entries: &[TreeEntry]) -> usize
 }
 
 /// Whether a path has one more element than this.
-fn is_next(path: &Path, most: usize) -> bool
+pub(crate) fn is_next(path: &Path, most: usize) -> bool
     ensures { result ≡ (length path.now == most + 1) }
 {
     let length = path.elements().len();

@@ -4,6 +4,7 @@
 mod building;
 mod entry;
 mod inverse;
+mod lists;
 mod node;
 pub mod promises;
 mod texts;
@@ -11,5 +12,6 @@ mod tree;
 
 pub use entry::TreeEntry;
 pub use inverse::TreeInverse;
+pub use lists::made_paths;
 pub use node::{Listed, Node};
 pub use tree::{Status, Tree};

@@ -16,6 +16,7 @@ ghost use Rattle.std.specs.FinMap.{is_sorted};
 ghost use Rattle.gs_path.specs.Path.{path_cmp};
 ghost use Rattle.gs_tree.specs.Chunks.{all_chunks, part_chunks, visible_under, kept_rows};
 ghost use Rattle.gs_tree.specs.Build.{rows_of_entries, path_of_entry, kind_of_entry, prefixed, below_root, IsSound};
+ghost use Rattle.gs_tree.specs.Lists.{top_path};
 
 use crate::entry::TreeEntry;
 use gs_base::{Handle, Refusal};
@@ -471,8 +472,9 @@ impl Node {
     }
 
     /// The entry of this, which stands at a path.
-    fn own_entry(&self, alloc: Global, path: &Path) -> Result<TreeEntry, AllocError>
-        ensures { IfOk result (λ e. prefixed path.now self.now ≡ (path_of_entry e, kind_of_entry e) ∷ prefixed path.now (below_root self.now)) }
+    pub(crate) fn own_entry(&self, alloc: Global, path: &Path) -> Result<TreeEntry, AllocError>
+        ensures row { IfOk result (λ e. prefixed path.now self.now ≡ (path_of_entry e, kind_of_entry e) ∷ prefixed path.now (below_root self.now)) }
+        ensures top { IfOk result (λ _. top_path self.now ≡ []) }
     {
         let path = path.copy(alloc)?;
         match &self.kind {

@@ -6,7 +6,7 @@ ghost use Rattle.gs_tree.specs.Plain.{Same, IsFree, with_at, part_at, rooted};
 ghost use Rattle.gs_tree.specs.Entry.{Dir};
 ghost use Rattle.gs_tree.specs.Edits.{mkdirs, create, rename, hide, unhide, remove, add_chunk, set_chunk, snapshot, visible, beside, renamed_beside, old_name, move_to, made, target_of, is_file, parent, last};
 ghost use Rattle.gs_tree.specs.Sort.{entry_of_leaf};
-ghost use Rattle.gs_tree.specs.Inverses.{TakesBack, IsBlankRow, LeavesChunks, IsChanged, IsRemoved, takes_memory, removed_chunks};
+ghost use Rattle.gs_tree.specs.Inverses.{TakesBack, IsBlankRow, LeavesChunks, IsMade, IsMoved, IsChanged, IsRemoved, takes_memory, removed_chunks};
 ghost use Rattle.gs_tree.specs.Follows.{Follows, Undoes, TestsPlace, SwapsChunk};
 ghost use Rattle.gs_tree.specs.Listing.{HasVisible, Lists, StandsAs, pairs_of};
 ghost use Rattle.gs_tree.specs.Chunks.{chunks_under, visible_chunks_under};
@@ -41,6 +41,7 @@ fn make(root: &mut Node, alloc: Global, path: &Path, leaf: Leaf) -> Result<TreeI
     ensures edit { Follows (made (at root.old) path.now (entry_of_leaf leaf)) result (at root.old) (at root.new) }
     ensures undo { IfOk result (λ i. TakesBack i (at root.old) (at root.new)) }
     ensures inverse { IfOk result (λ i. LeavesChunks i) }
+    ensures kind { IfOk result (λ i. IsMade i) }
 {
     let copy = path.copy(alloc)?;
     let made = root.sow(alloc, path.elements(), leaf)?;
@@ -53,6 +54,7 @@ fn mkdirs_in(root: &mut Node, alloc: Global, path: &Path) -> Result<TreeInverse,
     ensures edit { Follows (mkdirs (at root.old) path.now) result (at root.old) (at root.new) }
     ensures undo { IfOk result (λ i. TakesBack i (at root.old) (at root.new)) }
     ensures inverse { IfOk result (λ i. LeavesChunks i) }
+    ensures kind { IfOk result (λ i. IsMade i) }
 {
     match root.sort_at(path.elements()) {
         Sort::File => Err(Refusal::Exists),
@@ -69,6 +71,7 @@ fn create_in(root: &mut Node, alloc: Global, path: &Path) -> Result<TreeInverse,
     ensures edit { Follows (create (at root.old) path.now) result (at root.old) (at root.new) }
     ensures undo { IfOk result (λ i. TakesBack i (at root.old) (at root.new)) }
     ensures inverse { IfOk result (λ i. LeavesChunks i) }
+    ensures kind { IfOk result (λ i. IsMade i) }
 {
     match root.sort_at(path.elements()) {
         Sort::File | Sort::Dir => Err(Refusal::Exists),
@@ -123,6 +126,7 @@ fn move_to_target(
     ensures edit { (deep : Bool) → IsDepthTest deep (at root.old) from.now target → Follows (move_to deep (at root.old) from.now target) result (at root.old) (at root.new) }
     ensures undo { IfOk result (λ i. TakesBack i (at root.old) (at root.new)) }
     ensures inverse { IfOk result (λ i. LeavesChunks i) }
+    ensures kind { IfOk result (λ i. IsMoved i) }
 {
     match test_place(root, from, &target) {
         Ok(()) => {}
@@ -241,6 +245,7 @@ fn rename_in(root: &mut Node, alloc: Global, from: &Path, to: &Path) -> Result<T
     ensures edit { (deep : Bool) → IsDepthTest deep (at root.old) from.now (target_of (at root.old) from.now to.now) → Follows (rename (λ _. deep) (at root.old) from.now to.now) result (at root.old) (at root.new) }
     ensures undo { IfOk result (λ i. TakesBack i (at root.old) (at root.new)) }
     ensures inverse { IfOk result (λ i. LeavesChunks i) }
+    ensures kind { IfOk result (λ i. IsMoved i) }
 {
     if from.elements().is_empty() {
         return Err(Refusal::IsRoot);
@@ -266,6 +271,7 @@ fn rename_beside(
     ensures edit { Follows (renamed_beside (at root.old) path.now name) result (at root.old) (at root.new) }
     ensures undo { IfOk result (λ i. TakesBack i (at root.old) (at root.new)) }
     ensures inverse { IfOk result (λ i. LeavesChunks i) }
+    ensures kind { IfOk result (λ i. IsMoved i) }
 {
     let Some((_, parent)) = path.elements().split_last() else {
         return Err(Refusal::NotFound);
@@ -295,6 +301,7 @@ fn hide_in(
     ensures edit { Follows (hide (at root.old) path.now moment.0 number) result (at root.old) (at root.new) }
     ensures undo { IfOk result (λ i. TakesBack i (at root.old) (at root.new)) }
     ensures inverse { IfOk result (λ i. LeavesChunks i) }
+    ensures kind { IfOk result (λ i. IsMoved i) }
 {
     let Some((name, _)) = path.elements().split_last() else {
         return Err(Refusal::IsRoot);
@@ -308,6 +315,7 @@ fn unhide_in(root: &mut Node, alloc: Global, path: &Path) -> Result<TreeInverse,
     ensures edit { Follows (unhide (at root.old) path.now) result (at root.old) (at root.new) }
     ensures undo { IfOk result (λ i. TakesBack i (at root.old) (at root.new)) }
     ensures inverse { IfOk result (λ i. LeavesChunks i) }
+    ensures kind { IfOk result (λ i. IsMoved i) }
 {
     match hidden_by(alloc, path)? {
         Some(name) => rename_beside(root, alloc, path, name),
@@ -616,6 +624,7 @@ impl Tree {
         ensures edit { Follows (mkdirs (fin_map.get self.old) path.now) result (fin_map.get self.old) (fin_map.get self.new) }
         ensures undo { IfOk result (λ i. TakesBack i (fin_map.get self.old) (fin_map.get self.new)) }
         ensures inverse { IfOk result (λ i. LeavesChunks i) }
+        ensures kind { IfOk result (λ i. IsMade i) }
     {
         mkdirs_in(&mut self.root, self.alloc, path)
     }
@@ -626,6 +635,7 @@ impl Tree {
         ensures edit { Follows (create (fin_map.get self.old) path.now) result (fin_map.get self.old) (fin_map.get self.new) }
         ensures undo { IfOk result (λ i. TakesBack i (fin_map.get self.old) (fin_map.get self.new)) }
         ensures inverse { IfOk result (λ i. LeavesChunks i) }
+        ensures kind { IfOk result (λ i. IsMade i) }
     {
         create_in(&mut self.root, self.alloc, path)
     }
@@ -637,6 +647,7 @@ impl Tree {
         ensures edit { Follows (rename (is_too_deep (fin_map.entries self.old) from.now) (fin_map.get self.old) from.now to.now) result (fin_map.get self.old) (fin_map.get self.new) }
         ensures undo { IfOk result (λ i. TakesBack i (fin_map.get self.old) (fin_map.get self.new)) }
         ensures inverse { IfOk result (λ i. LeavesChunks i) }
+        ensures kind { IfOk result (λ i. IsMoved i) }
     {
         rename_in(&mut self.root, self.alloc, from, to)
     }
@@ -646,6 +657,7 @@ impl Tree {
         ensures edit { Follows (hide (fin_map.get self.old) path.now moment.0 number) result (fin_map.get self.old) (fin_map.get self.new) }
         ensures undo { IfOk result (λ i. TakesBack i (fin_map.get self.old) (fin_map.get self.new)) }
         ensures inverse { IfOk result (λ i. LeavesChunks i) }
+        ensures kind { IfOk result (λ i. IsMoved i) }
     {
         hide_in(&mut self.root, self.alloc, path, moment, number)
     }
@@ -656,6 +668,7 @@ impl Tree {
         ensures edit { Follows (unhide (fin_map.get self.old) path.now) result (fin_map.get self.old) (fin_map.get self.new) }
         ensures undo { IfOk result (λ i. TakesBack i (fin_map.get self.old) (fin_map.get self.new)) }
         ensures inverse { IfOk result (λ i. LeavesChunks i) }
+        ensures kind { IfOk result (λ i. IsMoved i) }
     {
         unhide_in(&mut self.root, self.alloc, path)
     }

@@ -48,4 +48,5 @@ returns c =
       undo = subst (λ (s : Path). TakesBack (Moved s c.in_ok-target.target) (at c.args.root.now) (at c.relocate.new.self)) (sym c.in_ok-source.ensures)
           (takes_moved (at c.args.root.now) (at c.relocate.new.self) c.args.path.now c.in_ok-target.target now (aside_some h) free h.stands (aside_apart h free) h.above);
       inverse = tt;
+      kind = tt;
     }

@@ -24,6 +24,7 @@ returns-in-Err c = record {
   edit = λ deep test. follows_memory TreeInverse (rename (λ _. deep) (at c.args.root.now) c.args.from.now c.args.to.now) c.in-Err.refusal (at c.args.root.now) c.in-Err.ensures.err;
   undo = tt;
   inverse = tt;
+  kind = tt;
 }
 
 pub returns-in-Ok : goal.returns-in-Ok
@@ -37,4 +38,5 @@ returns-in-Ok c =
           subst (λ (r : Result (Plain ℕ) Refusal). Follows r c.move_to_target.result (at c.args.root.now) (at c.move_to_target.new.root)) (sym is) step;
       undo = c.move_to_target.ensures.undo;
       inverse = c.move_to_target.ensures.inverse;
+      kind = c.move_to_target.ensures.kind;
     }

@@ -19,7 +19,7 @@ loop-name-preserved t c =
     ap rows_of_entries c.in_ok-push.ensures.items ∙ map-append (λ (e : TreeEntry). (path_of_entry e, kind_of_entry e)) c.loop-name.listed.items (entry ∷ []) in
     let listed : rows_of_entries c.list_below.new.listed.items ≡ found ++ prefixed path c.in-Some.child.now =
     c.in_ok-list_below.ensures.rows ∙ ap (λ l. l ++ prefixed path (below_root c.in-Some.child.now)) pushed
-    ∙ append_assoc found ((path_of_entry entry, kind_of_entry entry) ∷ []) (prefixed path (below_root c.in-Some.child.now)) ∙ ap (λ l. found ++ l) (sym c.in_ok-entry.ensures) in
+    ∙ append_assoc found ((path_of_entry entry, kind_of_entry entry) ∷ []) (prefixed path (below_root c.in-Some.child.now)) ∙ ap (λ l. found ++ l) (sym c.in_ok-entry.ensures.row) in
     entered-more c.args.path.now c.into_iter-name-iterator.result (c.in-Some.name.now, c.in-Some.child.now) c.next.new.self (rows_of_entries c.args.listed.now.items) found (rows_of_entries c.list_below.new.listed.items)
     (listed ∙ ap (λ p. found ++ prefixed p c.in-Some.child.now) c.in_ok-path.ensures) c.in_ok-list_below.ensures.sound before
 
