@@ -128,7 +128,7 @@ grafted_free m p e free q =
         let longer : length p ≡ length q → ⊥ = λ l. let k = ap length is ∙ length-append p (x ∷ r) in omega arith in
         sym (ap (λ s. cond s (Some e) (m q)) (apart_lengths p q longer) ∙ ap m is ∙ free (x ∷ r))
 
-parent_under : (p q : Path) → q ≢ [] → parent (p ++ q) ≡ p ++ parent q
+pub parent_under : (p q : Path) → q ≢ [] → parent (p ++ q) ≡ p ++ parent q
 parent_under [] q ne = refl
 parent_under (x ∷ []) [] ne = absurd (ne refl)
 parent_under (x ∷ []) (y ∷ q) ne = refl

@@ -15,6 +15,7 @@ pub mod Gathering
 pub mod Under
 pub mod Levels
 pub mod Fronts
+pub mod Parts
 pub mod Orders
 pub mod Entering
 pub mod Root

@@ -3,9 +3,10 @@ use Rattle.std.specs.Prelude.{◌≡◌, ◌⊎◌, ◌+◌, ◌-◌, ◌==◌, 
 use Rattle.gs_base.specs.declared.refusal.Refusal.{Refusal}
 use Rattle.gs_base.specs.declared.refusal.Refusal.TheVariants.{Memory, BadLine}
 use Rattle.gs_path.specs.Path.{Path, begins}
-use Rattle.gs_tree.specs.Plain.{Same, part_at}
+use Rattle.gs_tree.specs.Plain.{Plain, Same, part_at}
 use Rattle.gs_tree.specs.Find.{Rows, at}
 use Rattle.gs_tree.specs.Build.{is_part}
+use Rattle.gs_tree.specs.Inverses.{Fits, after_undo, removed_chunks}
 use Rattle.gs_tree.specs.declared.inverse.TreeInverse.{TreeInverse}
 use Rattle.gs_tree.specs.declared.inverse.TreeInverse.TheVariants.{Made, Removed}
 
@@ -58,6 +59,13 @@ PutsBack (top ∷ rows) i = (node : Rows ℕ) × (Same (at node) (part_at top.0 
 abbrev pub GivesRemoved : Rows ℕ → Result TreeInverse Refusal → Type 0
 GivesRemoved rows (Ok i) = (is_removed rows ≡ true) × PutsBack rows i
 GivesRemoved rows (Err e) = (e ≡ Memory) ⊎ ((e ≡ BadLine) × (is_removed rows ≡ false))
+
+-- two inverses that do the same: they fit the same trees, lead to the same, and put the same chunks back
+pub record IsSameInverse (i j : TreeInverse) : Type 0 where
+  pub fits : (m : Plain ℕ) → Fits i m → Fits j m
+  pub back : (m : Plain ℕ) → Fits j m → Fits i m
+  pub tree : (m : Plain ℕ) → Same (after_undo i m) (after_undo j m)
+  pub chunks : removed_chunks i ≡ removed_chunks j
 
 -- the path of the first row
 abbrev pub top_path : {A : Type 0} → Rows A → Path

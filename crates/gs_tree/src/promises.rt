@@ -1,6 +1,6 @@
 //! What holds of each tree, whatever was done to it.
 
-ghost use Rattle.std.specs.Prelude.{◌≡◌, ◌+◌, ℕ, Bool, true, false, List, Result, Ok, IfOk, IfErr};
+ghost use Rattle.std.specs.Prelude.{◌≡◌, ◌≢◌, ◌+◌, ℕ, Bool, true, false, [], List, Result, Ok, IfOk, IfErr};
 ghost use Rattle.std.specs.List.{list_all};
 ghost use Rattle.std.specs.List.Sorted.{IsPermutation};
 ghost use Rattle.std.specs.FinMap.{FinMap, get, entries as rows_of_map};
@@ -12,7 +12,9 @@ ghost use Rattle.gs_tree.specs.Plain.{Plain, Same};
 ghost use Rattle.gs_tree.specs.Find.{Rows, at, IsWithin, most_elements};
 ghost use Rattle.gs_tree.specs.Edits.{mkdirs, create, rename, hide, unhide, remove, add_chunk, set_chunk, snapshot};
 ghost use Rattle.gs_tree.specs.Mapped.{mapped, mapped_result};
-ghost use Rattle.gs_tree.specs.Build.{rooted_rows, is_short, is_tree, Builds};
+ghost use Rattle.gs_tree.specs.Build.{rooted_rows, prefixed, is_short, is_tree, Builds, IsSound};
+ghost use Rattle.gs_tree.specs.Lists.{made_paths, is_made, made_inverse, is_removed, PutsBack, IsSameInverse, top_path};
+ghost use Rattle.gs_tree.specs.declared.inverse.TreeInverse.TheVariants as inverses;
 ghost use Rattle.gs_tree.specs.Inverses.{Fits, TakesBack, after_undo};
 ghost use Rattle.gs_tree.specs.Chunks.{all_chunks};
 ghost use Rattle.gs_tree.specs.Counting.{IsAdditive, dropped_by, put_back_by};
@@ -44,6 +46,14 @@ pub fn snapshots_stay_apart()
 pub fn entries_build_their_tree()
     ensures again { (tree : FinMap path_cmp (Entry ℕ)) (rows : Rows ℕ) (built : Result (FinMap path_cmp (Entry ℕ)) Refusal) → Same (at (rooted_rows rows)) (get tree) → is_tree rows ≡ true → Builds rows built → IfOk built (λ t. t ≡ tree) × IfErr built (λ e. e ≡ Memory) }
     ensures order { (rows other : Rows ℕ) → IsPermutation rows other → is_tree rows ≡ true → (is_tree other ≡ true) × Same (at (rooted_rows other)) (at (rooted_rows rows)) }
+{}
+
+/// An inverse that is written as a list and made of it again does the same, and its list is one of an inverse: of paths that
+/// were made, always; of what was removed, where no path has more than 64 elements.
+pub fn lists_undo_the_same()
+    ensures made { (path : Path) (above : ℕ) → (is_made (made_paths path above) ≡ true) × IsSameInverse (inverses.Made path above) (made_inverse (made_paths path above)) }
+    ensures removed { (path : Path) (node : Rows ℕ) (i : TreeInverse) → top_path node ≡ [] → PutsBack (prefixed path node) i → IsSameInverse (inverses.Removed path node) i }
+    ensures whole { (path : Path) (node : Rows ℕ) → IsSound node → top_path node ≡ [] → node ≢ [] → list_all (λ r. is_short r.0) (prefixed path node) ≡ true → is_removed (prefixed path node) ≡ true }
 {}
 
 /// The chunks of a tree before and after an inverse is undone, however they are counted: those that go and those that come
