@@ -5,3 +5,4 @@ pub mod Applied
 pub mod Gathered
 pub mod Scanned
 pub mod Occurring
+pub mod Relisted

@@ -5,4 +5,5 @@ pub mod Edits
 pub mod Names
 pub mod Machine
 pub mod Scan
+pub mod Listed
 pub mod Small

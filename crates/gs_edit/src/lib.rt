@@ -8,6 +8,6 @@ pub mod promises;
 mod scan;
 
 pub use edit::{Edit, Inverse};
-pub use listed::{EditKind, ListedInverse};
+pub use listed::{EditKind, ListedInverse, listed_inverses_undo_the_same};
 pub use names::Names;
 pub use scan::Scan;

@@ -5,6 +5,8 @@ ghost use Rattle.gs_tree.specs.Edits.{chunks_in};
 ghost use Rattle.gs_edit.specs.Edits.{Applies, AppliesRows, KeepsRefs};
 ghost use Rattle.gs_edit.specs.Names.{NamesTakenBack, Undoes, TakesOneBack, last_chunk, returned, is_one, has_room, kept_of, GivesNames};
 ghost use Rattle.gs_edit.specs.View.{names_of};
+ghost use Rattle.gs_edit.specs.Listed.{kind_of, is_of_kind};
+ghost use Rattle.gs_edit.specs.declared.listed.EditKind.TheVariants as kinds;
 ghost use Rattle.gs_edit.specs.Scan.{Scans};
 
 use crate::edit::{Edit, Inverse};
@@ -17,7 +19,7 @@ use std::alloc::{AllocError, Global};
 use std::marker::Model;
 
 /// What takes an edit back that leaves the references.
-fn kept(made: Result<TreeInverse, Refusal>) -> Result<Inverse, Refusal>
+pub(crate) fn kept(made: Result<TreeInverse, Refusal>) -> Result<Inverse, Refusal>
     ensures { result ≡ kept_of made }
 {
     match made {
@@ -35,6 +37,7 @@ fn apply_in(
 ) -> Result<Inverse, Refusal>
     ensures edit { Applies edit.now (names_of tree.old refs.old) result (names_of tree.new refs.new) }
     ensures undo { IfOk result (λ i. NamesTakenBack i (names_of tree.old refs.old) (names_of tree.new refs.new)) }
+    ensures kind { IfOk result (λ i. is_of_kind (kind_of edit.now) i ≡ true) }
 {
     match edit {
         Edit::Mkdirs(path) => kept(tree.mkdirs(path)),
@@ -59,6 +62,7 @@ fn add_chunk(
 ) -> Result<Inverse, Refusal>
     ensures edit { Applies (Edit.AddChunk path.now chunk) (names_of tree.old refs.old) result (names_of tree.new refs.new) }
     ensures undo { IfOk result (λ i. NamesTakenBack i (names_of tree.old refs.old) (names_of tree.new refs.new)) }
+    ensures kind { IfOk result (λ i. is_of_kind kinds.AddChunk i ≡ true) }
 {
     if refs.count(chunk).is_some() {
         return Err(Refusal::BadLine);
@@ -87,6 +91,7 @@ fn change_chunk(
 ) -> Result<Inverse, Refusal>
     ensures edit { Applies (Edit.Cow path.now index old new) (names_of tree.old refs.old) result (names_of tree.new refs.new) }
     ensures undo { IfOk result (λ i. NamesTakenBack i (names_of tree.old refs.old) (names_of tree.new refs.new)) }
+    ensures kind { IfOk result (λ i. is_of_kind kinds.Cow i ≡ true) }
 {
     if !may_change(tree, refs, path, index, old, new) {
         return Err(Refusal::BadLine);
@@ -111,6 +116,7 @@ fn change_chunk(
 fn remove(tree: &mut Tree, refs: &mut Refs, alloc: Global, path: &Path) -> Result<Inverse, Refusal>
     ensures edit { Applies (Edit.Remove path.now) (names_of tree.old refs.old) result (names_of tree.new refs.new) }
     ensures undo { IfOk result (λ i. NamesTakenBack i (names_of tree.old refs.old) (names_of tree.new refs.new)) }
+    ensures kind { IfOk result (λ i. is_of_kind kinds.Remove i ≡ true) }
 {
     let chunks = tree.chunks_under(alloc, path)?;
     match refs.lower_each(&chunks) {
@@ -136,6 +142,7 @@ fn snapshot(
 ) -> Result<Inverse, Refusal>
     ensures edit { Applies (Edit.Snapshot from.now to.now) (names_of tree.old refs.old) result (names_of tree.new refs.new) }
     ensures undo { IfOk result (λ i. NamesTakenBack i (names_of tree.old refs.old) (names_of tree.new refs.new)) }
+    ensures kind { IfOk result (λ i. is_of_kind kinds.Snapshot i ≡ true) }
 {
     let chunks = tree.visible_chunks_under(alloc, from)?;
     let inverse = match tree.snapshot(from, to) {
@@ -160,6 +167,7 @@ fn forget(
 ) -> Result<Inverse, Refusal>
     ensures edit { (listed : Vec ℕ Global) → listed.items ≡ chunks.now → Applies (Edit.Forget listed) (names_of tree.old refs.old) result (names_of tree.new refs.new) }
     ensures undo { IfOk result (λ i. NamesTakenBack i (names_of tree.old refs.old) (names_of tree.new refs.new)) }
+    ensures kind { IfOk result (λ i. is_of_kind kinds.Forget i ≡ true) }
 {
     let copy = Vec::from_slice(alloc, chunks)?;
     match refs.take_out_each(chunks) {
@@ -430,6 +438,9 @@ impl Names {
 
         // What takes the edit back fits the new names, and leads from them to the old.
         ensures undo { IfOk result (λ i. NamesTakenBack i self.old self.new) }
+
+        // It is of the edit's kind, so that it can be listed.
+        ensures kind { IfOk result (λ i. is_of_kind (kind_of edit.now) i ≡ true) }
     {
         apply_in(&mut self.tree, &mut self.refs, self.alloc, edit)
     }

@@ -1,0 +1,77 @@
+-- Inverses that are made of lists of inverses.
+use Rattle.std.proofs.Common.{◌≡◌, ℕ, List, [], ◌∷◌, refl, sym, ap, ◌∙◌, subst}
+use Rattle.std.specs.Prelude.{Some, Vec}
+use Rattle.std.specs.declared.alloc.Global.{Global}
+use Rattle.std.specs.FinMap.{FinMap, get}
+use Rattle.gs_path.specs.Path.{Path, path_cmp}
+use Rattle.gs_refs.specs.Counts.{Counts, put_each, raised_each}
+use Rattle.gs_tree.specs.Entry.{Entry}
+use Rattle.gs_tree.specs.Find.{Rows}
+use Rattle.gs_tree.specs.Inverses.{removed_chunks}
+use Rattle.gs_tree.specs.Build.{rows_of_entries}
+use Rattle.gs_tree.specs.Lists.{made_paths, made_inverse, PutsBack, IsSameInverse}
+use Rattle.gs_tree.specs.declared.inverse.TreeInverse.{TreeInverse}
+use Rattle.gs_tree.specs.declared.inverse.TreeInverse.TheVariants.{Made, Removed}
+use Rattle.gs_tree.proofs.Parts.{made_same, removed_again}
+use Rattle.gs_edit.specs.Names.{accepted, counts_back}
+use Rattle.gs_edit.specs.Listed.{Remembers, IsListOf, IsListOfMade, IsListOfRemoved, IsMadeOfList, DoesTheSame}
+use Rattle.gs_edit.specs.declared.edit.Inverse.{Inverse}
+use Rattle.gs_edit.specs.declared.edit.Inverse.TheVariants as inverses
+use Rattle.gs_edit.specs.declared.listed.ListedInverse.{ListedInverse}
+use Rattle.gs_edit.specs.declared.listed.ListedInverse.TheVariants as lists
+
+itself : (i : Inverse) → DoesTheSame i i
+itself i = record { fits = λ names h. h; back = λ names h. h; tree = λ names q. refl; counts = λ names. refl }
+
+alike : (i j k l : Inverse) → i ≡ k → j ≡ l → DoesTheSame k l → DoesTheSame i j
+alike i j k l is js h = subst (λ x. DoesTheSame x j) (sym is) (subst (λ x. DoesTheSame k x) (sym js) h)
+
+of_tree : (s t : TreeInverse) → IsSameInverse s t → ((tree : FinMap path_cmp (Entry ℕ)) (refs : Counts) → counts_back s tree refs ≡ counts_back t tree refs) → DoesTheSame (inverses.Tree s) (inverses.Tree t)
+of_tree s t same counts = record {
+  fits = λ names h. same.fits (get names.tree) h;
+  back = λ names h. same.back (get names.tree) h;
+  tree = λ names q. same.tree (get names.tree) q;
+  counts = λ names. counts names.tree names.refs;
+}
+
+made_counts : (paths : List Path) (tree : FinMap path_cmp (Entry ℕ)) (refs : Counts) → counts_back (made_inverse paths) tree refs ≡ Some refs
+made_counts [] tree refs = refl
+made_counts (p ∷ paths) tree refs = refl
+
+of_made : (i j : Inverse) (paths : List Path) → IsListOfMade i paths → j ≡ inverses.Tree (made_inverse paths) → DoesTheSame i j
+of_made i j paths (path, (above, (is, are))) js =
+    alike i j (inverses.Tree (Made path above)) (inverses.Tree (made_inverse (made_paths path above))) is (js ∙ ap (λ l. inverses.Tree (made_inverse l)) are)
+    (of_tree (Made path above) (made_inverse (made_paths path above)) (made_same path above).1 (λ tree refs. sym (made_counts (made_paths path above) tree refs)))
+
+removed_counts : (rows : Rows ℕ) (t : TreeInverse) → PutsBack rows t → (tree : FinMap path_cmp (Entry ℕ)) (refs : Counts) → counts_back t tree refs ≡ accepted (raised_each refs (removed_chunks t))
+removed_counts [] t h tree refs = absurd h
+removed_counts (top ∷ rows) t h tree refs = subst (λ s. counts_back s tree refs ≡ accepted (raised_each refs (removed_chunks s))) (sym h.1.1) refl
+
+of_removed : (i j : Inverse) (rows : Rows ℕ) → IsListOfRemoved i rows → (t : TreeInverse) → PutsBack rows t → j ≡ inverses.Tree t → DoesTheSame i j
+of_removed i j rows (path, (node, (is, (top, are)))) t puts js =
+    let same = removed_again path node t top (subst (λ r. PutsBack r t) are puts) in
+    alike i j (inverses.Tree (Removed path node)) (inverses.Tree t) is js
+    (of_tree (Removed path node) t same (λ tree refs. ap (λ chunks. accepted (raised_each refs chunks)) same.chunks ∙ sym (removed_counts rows t puts tree refs)))
+
+of_remembered : (v w : Vec ℕ Global) → v.items ≡ w.items → DoesTheSame (inverses.Remember v) (inverses.Remember w)
+of_remembered v w are = record {
+  fits = λ names h. h;
+  back = λ names h. h;
+  tree = λ names q. refl;
+  counts = λ names. ap (λ items. accepted (put_each names.refs items)) are;
+}
+
+remembered : (i j : Inverse) (chunks : List ℕ) → Remembers chunks i → Remembers chunks j → DoesTheSame i j
+remembered i j chunks (v, (is, are)) (w, (js, too)) = alike i j (inverses.Remember v) (inverses.Remember w) is js (of_remembered v w (sym are ∙ too))
+
+pub relisted : (i j : Inverse) (list : ListedInverse) → IsListOf i list → IsMadeOfList list j → DoesTheSame i j
+relisted i j (lists.Mkdirs paths) h k = of_made i j paths.items h k
+relisted i j (lists.Create paths) h k = of_made i j paths.items h k
+relisted i j (lists.Rename to from) h k = alike i j j j (h ∙ sym k) refl (itself j)
+relisted i j (lists.Hide to from) h k = alike i j j j (h ∙ sym k) refl (itself j)
+relisted i j (lists.Unhide to from) h k = alike i j j j (h ∙ sym k) refl (itself j)
+relisted i j (lists.Remove entries) h k = of_removed i j (rows_of_entries entries.items) h k.0 k.1.0 k.1.1
+relisted i j (lists.AddChunk path) h k = alike i j j j (h ∙ sym k) refl (itself j)
+relisted i j (lists.Cow path index chunk) h k = alike i j j j (h ∙ sym k) refl (itself j)
+relisted i j (lists.Snapshot path) h k = alike i j j j (h ∙ sym k) refl (itself j)
+relisted i j (lists.Forget chunks) h k = remembered i j chunks.items h k
