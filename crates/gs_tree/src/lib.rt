@@ -3,12 +3,19 @@
 
 mod building;
 mod entry;
+mod file_chunks;
 mod inverse;
+mod listing;
 mod lists;
+mod making;
+mod moving;
 mod node;
 pub mod promises;
+mod removing;
+mod snapshots;
 mod texts;
 mod tree;
+mod undoing;
 
 pub use entry::TreeEntry;
 pub use inverse::TreeInverse;

@@ -1,0 +1,208 @@
+//! What is moved: renamed, hidden, and taken out of hiding.
+ghost use Rattle.std.specs.Prelude.{◌≡◌, ◌≢◌, ◌-◌, [], Bool, true, is_some, IfOk, IfErr, MatchBool};
+ghost use Rattle.gs_tree.specs.Find.{at, IsBelow, DirsAbove, IsDepthTest};
+ghost use Rattle.gs_tree.specs.Plain.{part_at};
+ghost use Rattle.gs_tree.specs.Edits.{rename, hide, unhide, beside, renamed_beside, old_name, move_to, target_of};
+ghost use Rattle.gs_tree.specs.Inverses.{TakesBack, LeavesChunks, IsMoved};
+ghost use Rattle.gs_tree.specs.Follows.{Follows, TestsPlace};
+
+use crate::inverse::TreeInverse;
+use crate::node::{Node, Sort};
+use crate::tree::TOO_MANY_ELEMENTS;
+use gs_base::{Moment, Refusal};
+use gs_path::{Name, Path};
+use std::alloc::{AllocError, Global};
+
+/// The tests on a place to which something is moved or copied, but for the length of the paths there.
+pub(crate) fn test_place(root: &Node, from: &Path, target: &Path) -> Result<(), Refusal>
+    ensures { TestsPlace (at root.now) from.now target.now result }
+{
+    if *target == *from {
+        return Err(Refusal::Exists);
+    }
+    if target.starts_with(from) {
+        return Err(Refusal::IntoItself);
+    }
+    match root.sort_at(target.elements()) {
+        Sort::Missing => {}
+        Sort::Dir | Sort::File => return Err(Refusal::Exists),
+    }
+    let Some((_, parent)) = target.elements().split_last() else {
+        return Err(Refusal::NotFound);
+    };
+    match root.sort_at(parent) {
+        Sort::Missing => Err(Refusal::NotFound),
+        Sort::File => Err(Refusal::NotADirectory),
+        Sort::Dir => Ok(()),
+    }
+}
+
+/// Whether all at and under a path would still have few enough elements under a path of `depth` elements.
+fn fits_under(root: &Node, from: &[Name], depth: usize) -> bool
+    ensures { MatchBool result (IsBelow (65 - depth) (part_at from.now (at root.now))) (IsBelow (65 - depth) (part_at from.now (at root.now)) → ⊥) }
+{
+    match root.find(from) {
+        Some(node) => node.is_below(TOO_MANY_ELEMENTS.saturating_sub(depth)),
+        None => true,
+    }
+}
+
+/// Moves what stands at a path to a target, after the tests on the target.
+fn move_to_target(
+    root: &mut Node,
+    alloc: Global,
+    from: &Path,
+    target: Path,
+) -> Result<TreeInverse, Refusal>
+    requires root { from.now ≢ [] }
+    requires stands { is_some (at root.old from.now) ≡ true }
+    requires above { DirsAbove (at root.old) from.now }
+    ensures edit { (deep : Bool) → IsDepthTest deep (at root.old) from.now target → Follows (move_to deep (at root.old) from.now target) result (at root.old) (at root.new) }
+    ensures undo { IfOk result (λ i. TakesBack i (at root.old) (at root.new)) }
+    ensures inverse { IfOk result (λ i. LeavesChunks i) }
+    ensures kind { IfOk result (λ i. IsMoved i) }
+{
+    match test_place(root, from, &target) {
+        Ok(()) => {}
+        Err(refusal) => return Err(refusal),
+    }
+    let Some((name, parent)) = target.elements().split_last() else {
+        return Err(Refusal::NotFound);
+    };
+    if !fits_under(root, from.elements(), target.elements().len()) {
+        return Err(Refusal::BadPath);
+    }
+    let source = from.copy(alloc)?;
+    let name = name.copy(alloc)?;
+    root.relocate(alloc, from.elements(), parent, name, target.elements())?;
+    Ok(TreeInverse::Moved(source, target))
+}
+
+/// Where a rename leads: the target, or the source's name under the target if that is a directory.
+fn target_path(root: &Node, alloc: Global, from: &Path, to: &Path) -> Result<Path, Refusal>
+    requires { from.now ≢ [] }
+    ensures ok { IfOk result (λ p. p ≡ target_of (at root.now) from.now to.now) }
+    ensures err { IfErr result (λ e. e ≡ Refusal.Memory) }
+{
+    let mut target = to.copy(alloc)?;
+    match root.sort_at(to.elements()) {
+        Sort::Dir => {}
+        Sort::Missing | Sort::File => return Ok(target),
+    }
+    if let Some((name, _)) = from.elements().split_last() {
+        target.push(name.copy(alloc)?)?;
+        return Ok(target);
+    }
+    Ok(target)
+}
+
+pub(crate) fn rename_in(
+    root: &mut Node,
+    alloc: Global,
+    from: &Path,
+    to: &Path,
+) -> Result<TreeInverse, Refusal>
+    ensures edit { (deep : Bool) → IsDepthTest deep (at root.old) from.now (target_of (at root.old) from.now to.now) → Follows (rename (λ _. deep) (at root.old) from.now to.now) result (at root.old) (at root.new) }
+    ensures undo { IfOk result (λ i. TakesBack i (at root.old) (at root.new)) }
+    ensures inverse { IfOk result (λ i. LeavesChunks i) }
+    ensures kind { IfOk result (λ i. IsMoved i) }
+{
+    if from.elements().is_empty() {
+        return Err(Refusal::IsRoot);
+    }
+    match root.sort_at(from.elements()) {
+        Sort::Missing => return Err(Refusal::NotFound),
+        Sort::Dir | Sort::File => {}
+    }
+    match target_path(root, alloc, from, to) {
+        Ok(target) => move_to_target(root, alloc, from, target),
+        Err(refusal) => Err(refusal),
+    }
+}
+
+/// Moves what stands at a path to another name beside it.
+fn rename_beside(
+    root: &mut Node,
+    alloc: Global,
+    path: &Path,
+    name: Name,
+) -> Result<TreeInverse, Refusal>
+    requires { path.now ≢ [] }
+    ensures edit { Follows (renamed_beside (at root.old) path.now name) result (at root.old) (at root.new) }
+    ensures undo { IfOk result (λ i. TakesBack i (at root.old) (at root.new)) }
+    ensures inverse { IfOk result (λ i. LeavesChunks i) }
+    ensures kind { IfOk result (λ i. IsMoved i) }
+{
+    let Some((_, parent)) = path.elements().split_last() else {
+        return Err(Refusal::NotFound);
+    };
+    match root.sort_at(path.elements()) {
+        Sort::Missing => return Err(Refusal::NotFound),
+        Sort::Dir | Sort::File => {}
+    }
+    let target = with_name(alloc, path, &name)?;
+    match root.sort_at(target.elements()) {
+        Sort::Missing => {}
+        Sort::Dir | Sort::File => return Err(Refusal::Exists),
+    }
+    let source = path.copy(alloc)?;
+    root.relocate(alloc, path.elements(), parent, name, target.elements())?;
+    Ok(TreeInverse::Moved(source, target))
+}
+
+/// The path with another last element.
+fn with_name(alloc: Global, path: &Path, name: &Name) -> Result<Path, AllocError>
+    ensures { IfOk result (λ target. target ≡ beside path.now name.now) }
+{
+    match path.parent(alloc)? {
+        Some(parent) => parent.join(alloc, name),
+        None => Path::root(alloc).join(alloc, name),
+    }
+}
+
+/// Moves what stands at a path to a hidden name beside it.
+pub(crate) fn hide_in(
+    root: &mut Node,
+    alloc: Global,
+    path: &Path,
+    moment: Moment,
+    number: u64,
+) -> Result<TreeInverse, Refusal>
+    ensures edit { Follows (hide (at root.old) path.now moment.0 number) result (at root.old) (at root.new) }
+    ensures undo { IfOk result (λ i. TakesBack i (at root.old) (at root.new)) }
+    ensures inverse { IfOk result (λ i. LeavesChunks i) }
+    ensures kind { IfOk result (λ i. IsMoved i) }
+{
+    let Some((name, _)) = path.elements().split_last() else {
+        return Err(Refusal::IsRoot);
+    };
+    let hidden = Name::hidden(alloc, moment, number, name)?;
+    rename_beside(root, alloc, path, hidden)
+}
+
+/// Moves what is hidden at a path back to its old name.
+pub(crate) fn unhide_in(root: &mut Node, alloc: Global, path: &Path) -> Result<TreeInverse, Refusal>
+    ensures edit { Follows (unhide (at root.old) path.now) result (at root.old) (at root.new) }
+    ensures undo { IfOk result (λ i. TakesBack i (at root.old) (at root.new)) }
+    ensures inverse { IfOk result (λ i. LeavesChunks i) }
+    ensures kind { IfOk result (λ i. IsMoved i) }
+{
+    match hidden_by(alloc, path)? {
+        Some(name) => rename_beside(root, alloc, path, name),
+        None => Err(Refusal::NotHidden),
+    }
+}
+
+/// The old name of what is hidden at a path.
+pub(crate) fn hidden_by(alloc: Global, path: &Path) -> Result<Option<Name>, AllocError>
+    ensures old { IfOk result (λ name. name ≡ old_name path.now) }
+    ensures root { IfOk result (λ name. is_some name ≡ true → path.now ≢ []) }
+{
+    let Some((name, _)) = path.elements().split_last() else {
+        return Ok(None);
+    };
+    match name.hidden_parts(alloc)? {
+        Some(parts) => Ok(Some(parts.old)),
+        None => Ok(None),
+    }
+}
