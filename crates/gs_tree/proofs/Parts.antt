@@ -83,8 +83,8 @@ places_under p top m all (r ∷ rows) is seen above stand apart short =
     later q some false = some
 
 -- the rows of a node are what was removed, where they are short enough
-pub removed_whole : (path : Path) (node : Rows ℕ) → IsSound node → top_path node ≡ [] → node ≢ [] → list_all (λ r. is_short r.0) (prefixed path node) ≡ true → is_removed (prefixed path node) ≡ true
-removed_whole path [] sound top some short = absurd (some refl)
+pub removed_whole : (path : Path) (node : Rows ℕ) → IsSound node → top_path node ≡ [] → is_some (at node []) ≡ true → list_all (λ r. is_short r.0) (prefixed path node) ≡ true → is_removed (prefixed path node) ≡ true
+removed_whole path [] sound top some short = absurd (cc)
 removed_whole path (r ∷ rows) sound top some short =
     let is : path ++ r.0 ≡ path = ap (λ p. path ++ p) top ∙ append-nil path in
     let apart = apart-of (r ∷ rows) (from_true (is_sorted path_cmp (r ∷ rows)) sound.rise) in

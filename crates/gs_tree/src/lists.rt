@@ -1,5 +1,6 @@
 //! Inverses as plain lists, the form in which they can be written down.
-ghost use Rattle.std.specs.Prelude.{◌≡◌, [], IfOk};
+ghost use Rattle.std.specs.Prelude.{◌≡◌, [], IfOk, is_some, true};
+ghost use Rattle.gs_tree.specs.Find.{at};
 ghost use Rattle.gs_tree.specs.Build.{rows_of_entries, prefixed, IsSound};
 ghost use Rattle.gs_tree.specs.Lists.{made_paths, is_child, top_path, GivesMade, GivesRemoved};
 
@@ -77,6 +78,7 @@ impl Node {
     pub fn entries(&self, alloc: Global, path: &Path) -> Result<Vec<TreeEntry>, AllocError>
         ensures rows { IfOk result (λ listed. rows_of_entries listed.items ≡ prefixed path.now self.now) }
         ensures top { IfOk result (λ _. top_path self.now ≡ []) }
+        ensures stands { IfOk result (λ _. is_some (at self.now []) ≡ true) }
         ensures sound { IfOk result (λ _. IsSound self.now) }
     {
         let mut listed = Vec::new(alloc);

@@ -475,6 +475,7 @@ impl Node {
     pub(crate) fn own_entry(&self, alloc: Global, path: &Path) -> Result<TreeEntry, AllocError>
         ensures row { IfOk result (λ e. prefixed path.now self.now ≡ (path_of_entry e, kind_of_entry e) ∷ prefixed path.now (below_root self.now)) }
         ensures top { IfOk result (λ _. top_path self.now ≡ []) }
+        ensures stands { IfOk result (λ _. is_some (at self.now []) ≡ true) }
     {
         let path = path.copy(alloc)?;
         match &self.kind {

@@ -1,6 +1,6 @@
 //! What holds of each tree, whatever was done to it.
 
-ghost use Rattle.std.specs.Prelude.{◌≡◌, ◌≢◌, ◌+◌, ℕ, Bool, true, false, [], List, Result, Ok, IfOk, IfErr};
+ghost use Rattle.std.specs.Prelude.{◌≡◌, ◌+◌, ℕ, Bool, true, false, is_some, [], List, Result, Ok, IfOk, IfErr};
 ghost use Rattle.std.specs.List.{list_all};
 ghost use Rattle.std.specs.List.Sorted.{IsPermutation};
 ghost use Rattle.std.specs.FinMap.{FinMap, get, entries as rows_of_map};
@@ -53,7 +53,7 @@ pub fn entries_build_their_tree()
 pub fn lists_undo_the_same()
     ensures made { (path : Path) (above : ℕ) → (is_made (made_paths path above) ≡ true) × IsSameInverse (inverses.Made path above) (made_inverse (made_paths path above)) }
     ensures removed { (path : Path) (node : Rows ℕ) (i : TreeInverse) → top_path node ≡ [] → PutsBack (prefixed path node) i → IsSameInverse (inverses.Removed path node) i }
-    ensures whole { (path : Path) (node : Rows ℕ) → IsSound node → top_path node ≡ [] → node ≢ [] → list_all (λ r. is_short r.0) (prefixed path node) ≡ true → is_removed (prefixed path node) ≡ true }
+    ensures whole { (path : Path) (node : Rows ℕ) → IsSound node → top_path node ≡ [] → is_some (at node []) ≡ true → list_all (λ r. is_short r.0) (prefixed path node) ≡ true → is_removed (prefixed path node) ≡ true }
 {}
 
 /// The chunks of a tree before and after an inverse is undone, however they are counted: those that go and those that come
