@@ -1,5 +1,6 @@
 -- Inverses that are made of lists of inverses.
-use Rattle.std.proofs.Common.{◌≡◌, ℕ, List, [], ◌∷◌, refl, sym, ap, ◌∙◌, subst}
+use Rattle.std.specs.List.{list_all}
+use Rattle.std.proofs.Common.{◌≡◌, true, ℕ, List, [], ◌∷◌, refl, sym, ap, ◌∙◌, subst}
 use Rattle.std.specs.Prelude.{Some, Vec}
 use Rattle.std.specs.declared.alloc.Global.{Global}
 use Rattle.std.specs.FinMap.{FinMap, get}
@@ -8,13 +9,13 @@ use Rattle.gs_refs.specs.Counts.{Counts, put_each, raised_each}
 use Rattle.gs_tree.specs.Entry.{Entry}
 use Rattle.gs_tree.specs.Find.{Rows}
 use Rattle.gs_tree.specs.Inverses.{removed_chunks}
-use Rattle.gs_tree.specs.Build.{rows_of_entries}
-use Rattle.gs_tree.specs.Lists.{made_paths, made_inverse, PutsBack, IsSameInverse}
+use Rattle.gs_tree.specs.Build.{rows_of_entries, is_short}
+use Rattle.gs_tree.specs.Lists.{made_paths, made_inverse, is_made, is_removed, PutsBack, IsSameInverse}
 use Rattle.gs_tree.specs.declared.inverse.TreeInverse.{TreeInverse}
 use Rattle.gs_tree.specs.declared.inverse.TreeInverse.TheVariants.{Made, Removed}
-use Rattle.gs_tree.proofs.Parts.{made_same, removed_again}
+use Rattle.gs_tree.proofs.Parts.{made_same, removed_again, removed_whole}
 use Rattle.gs_edit.specs.Names.{accepted, counts_back}
-use Rattle.gs_edit.specs.Listed.{Remembers, IsListOf, IsListOfMade, IsListOfRemoved, IsMadeOfList, DoesTheSame}
+use Rattle.gs_edit.specs.Listed.{Remembers, IsListOf, IsListOfMade, IsListOfRemoved, IsMadeOfList, DoesTheSame, is_listed, has_short_paths}
 use Rattle.gs_edit.specs.declared.edit.Inverse.{Inverse}
 use Rattle.gs_edit.specs.declared.edit.Inverse.TheVariants as inverses
 use Rattle.gs_edit.specs.declared.listed.ListedInverse.{ListedInverse}
@@ -48,8 +49,8 @@ removed_counts [] t h tree refs = absurd h
 removed_counts (top ∷ rows) t h tree refs = subst (λ s. counts_back s tree refs ≡ accepted (raised_each refs (removed_chunks s))) (sym h.1.1) refl
 
 of_removed : (i j : Inverse) (rows : Rows ℕ) → IsListOfRemoved i rows → (t : TreeInverse) → PutsBack rows t → j ≡ inverses.Tree t → DoesTheSame i j
-of_removed i j rows (path, (node, (is, (top, are)))) t puts js =
-    let same = removed_again path node t top (subst (λ r. PutsBack r t) are puts) in
+of_removed i j rows (path, (node, (is, (one, are)))) t puts js =
+    let same = removed_again path node t one.top (subst (λ r. PutsBack r t) are puts) in
     alike i j (inverses.Tree (Removed path node)) (inverses.Tree t) is js
     (of_tree (Removed path node) t same (λ tree refs. ap (λ chunks. accepted (raised_each refs chunks)) same.chunks ∙ sym (removed_counts rows t puts tree refs)))
 
@@ -75,3 +76,22 @@ relisted i j (lists.AddChunk path) h k = alike i j j j (h ∙ sym k) refl (itsel
 relisted i j (lists.Cow path index chunk) h k = alike i j j j (h ∙ sym k) refl (itself j)
 relisted i j (lists.Snapshot path) h k = alike i j j j (h ∙ sym k) refl (itself j)
 relisted i j (lists.Forget chunks) h k = remembered i j chunks.items h k
+
+made_list : (i : Inverse) (paths : List Path) → IsListOfMade i paths → is_made paths ≡ true
+made_list i paths (path, (above, (is, are))) = ap is_made are ∙ (made_same path above).0
+
+removed_list : (i : Inverse) (rows : Rows ℕ) → IsListOfRemoved i rows → list_all (λ r. is_short r.0) rows ≡ true → is_removed rows ≡ true
+removed_list i rows (path, (node, (is, (one, are)))) short =
+    ap is_removed are ∙ removed_whole path node one.sound one.top one.stands (ap (list_all (λ r. is_short r.0)) (sym are) ∙ short)
+
+pub list_is_one : (i : Inverse) (list : ListedInverse) → IsListOf i list → has_short_paths list ≡ true → is_listed list ≡ true
+list_is_one i (lists.Mkdirs paths) h short = made_list i paths.items h
+list_is_one i (lists.Create paths) h short = made_list i paths.items h
+list_is_one i (lists.Rename to from) h short = refl
+list_is_one i (lists.Hide to from) h short = refl
+list_is_one i (lists.Unhide to from) h short = refl
+list_is_one i (lists.Remove entries) h short = removed_list i (rows_of_entries entries.items) h short
+list_is_one i (lists.AddChunk path) h short = refl
+list_is_one i (lists.Cow path index chunk) h short = refl
+list_is_one i (lists.Snapshot path) h short = refl
+list_is_one i (lists.Forget chunks) h short = refl

@@ -1,12 +1,13 @@
 -- Inverses of edits as plain lists.
-use Rattle.std.specs.Prelude.{◌≡◌, ◌⊎◌, ℕ, Bool, true, false, List, [], ◌∷◌, codes, Vec, Result, Ok, Err, refl}
+use Rattle.std.specs.Prelude.{◌≡◌, ◌⊎◌, ℕ, Bool, true, false, List, [], ◌∷◌, codes, Vec, Result, Ok, Err, is_some, refl}
+use Rattle.std.specs.List.{list_all}
 use Rattle.std.specs.declared.alloc.Global.{Global}
 use Rattle.gs_base.specs.declared.refusal.Refusal.{Refusal}
 use Rattle.gs_base.specs.declared.refusal.Refusal.TheVariants.{Memory, BadLine}
 use Rattle.gs_path.specs.Path.{Path}
 use Rattle.gs_tree.specs.Plain.{Same}
-use Rattle.gs_tree.specs.Find.{Rows}
-use Rattle.gs_tree.specs.Build.{rows_of_entries, prefixed}
+use Rattle.gs_tree.specs.Find.{Rows, at}
+use Rattle.gs_tree.specs.Build.{rows_of_entries, prefixed, is_short, IsSound}
 use Rattle.gs_tree.specs.Lists.{made_paths, is_made, made_inverse, is_removed, PutsBack, top_path}
 use Rattle.gs_tree.specs.declared.inverse.TreeInverse.{TreeInverse}
 use Rattle.gs_tree.specs.declared.inverse.TreeInverse.TheVariants.{Made, Moved, Removed, Added, Changed, Copied}
@@ -74,9 +75,15 @@ Remembers chunks i = (kept : Vec ℕ Global) × ((i ≡ inverses.Remember kept) 
 abbrev pub IsListOfMade : Inverse → List Path → Type 0
 IsListOfMade i paths = (path : Path) × ((above : ℕ) × ((i ≡ inverses.Tree (Made path above)) × (paths ≡ made_paths path above)))
 
+-- rows that rise from a first one on, with directories above each
+pub record IsOneNode (node : Rows ℕ) : Type 0 where
+  pub sound : IsSound node
+  pub top : top_path node ≡ []
+  pub stands : is_some (at node []) ≡ true
+
 abbrev pub IsListOfRemoved : Inverse → Rows ℕ → Type 0
 IsListOfRemoved i rows =
-    (path : Path) × ((node : Rows ℕ) × ((i ≡ inverses.Tree (Removed path node)) × ((top_path node ≡ []) × (rows ≡ prefixed path node))))
+    (path : Path) × ((node : Rows ℕ) × ((i ≡ inverses.Tree (Removed path node)) × (IsOneNode node × (rows ≡ prefixed path node))))
 
 -- The list of an inverse: the paths that were made; where something stands and came from; what stood at a path and below
 -- it, in the order of the paths; the file of a chunk; where a copy stands; the chunks that were listed.
@@ -109,6 +116,19 @@ is_listed (lists.AddChunk path) = true
 is_listed (lists.Cow path index chunk) = true
 is_listed (lists.Snapshot path) = true
 is_listed (lists.Forget chunks) = true
+
+-- no path that was removed has more than 64 elements
+abbrev pub has_short_paths : ListedInverse → Bool
+has_short_paths (lists.Mkdirs paths) = true
+has_short_paths (lists.Create paths) = true
+has_short_paths (lists.Rename to from) = true
+has_short_paths (lists.Hide to from) = true
+has_short_paths (lists.Unhide to from) = true
+has_short_paths (lists.Remove entries) = list_all (λ r. is_short r.0) (rows_of_entries entries.items)
+has_short_paths (lists.AddChunk path) = true
+has_short_paths (lists.Cow path index chunk) = true
+has_short_paths (lists.Snapshot path) = true
+has_short_paths (lists.Forget chunks) = true
 
 -- the inverse that a list is one of
 abbrev pub IsMadeOfList : ListedInverse → Inverse → Type 0

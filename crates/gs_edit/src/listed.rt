@@ -1,9 +1,7 @@
 //! Inverses of edits as plain lists.
-ghost use Rattle.std.specs.Prelude.{◌≡◌, ℕ};
-ghost use Rattle.gs_tree.specs.Build.{rows_of_entries};
+ghost use Rattle.std.specs.Prelude.{◌≡◌, true};
 ghost use Rattle.gs_tree.specs.declared.inverse.TreeInverse.TheVariants as changes;
-ghost use Rattle.gs_edit.specs.Listed.{kind_of, kind_of_list, ListsAs, GivesInverse, IsListOf, IsMadeOfList, DoesTheSame};
-ghost use Rattle.gs_edit.specs.Names.{kept_of};
+ghost use Rattle.gs_edit.specs.Listed.{kind_of, kind_of_list, is_listed, has_short_paths, ListsAs, GivesInverse, IsListOf, IsMadeOfList, DoesTheSame};
 
 use crate::edit::{Edit, Inverse};
 use crate::names::kept;
@@ -246,7 +244,9 @@ impl ListedInverse {
     }
 }
 
-/// An inverse that is written as a list and made of it again fits the same names and leads to the same.
+/// An inverse that is written as a list and made of it again fits the same names and leads to the same. Its list is one of an
+/// inverse, if no path that it removed has more than 64 elements.
 pub fn listed_inverses_undo_the_same()
-    ensures { (i j : Inverse) (list : ListedInverse) → IsListOf i list → IsMadeOfList list j → DoesTheSame i j }
+    ensures list { (i : Inverse) (list : ListedInverse) → IsListOf i list → has_short_paths list ≡ true → is_listed list ≡ true }
+    ensures same { (i j : Inverse) (list : ListedInverse) → IsListOf i list → IsMadeOfList list j → DoesTheSame i j }
 {}

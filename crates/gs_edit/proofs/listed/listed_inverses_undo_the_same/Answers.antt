@@ -1,5 +1,8 @@
-use Rattle.gs_edit.proofs.Relisted.{relisted}
+use Rattle.gs_edit.proofs.Relisted.{relisted, list_is_one}
 use Rattle.gs_edit.proofs.listed.listed_inverses_undo_the_same.Goals as goal
 
-pub returns : goal.returns
-returns c i j list h k = relisted i j list h k
+pub returns-clause-list : goal.returns-clause-list
+returns-clause-list c i list h short = list_is_one i list h short
+
+pub returns-clause-same : goal.returns-clause-same
+returns-clause-same c i j list h k = relisted i j list h k
