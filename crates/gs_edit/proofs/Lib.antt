@@ -6,3 +6,5 @@ pub mod Gathered
 pub mod Scanned
 pub mod Occurring
 pub mod Relisted
+pub mod Removals
+pub mod Freed

@@ -1,15 +1,26 @@
--- What a scan at a moment takes out: what was deleted long enough before it, with all under it.
-use Rattle.std.specs.Prelude.{◌≡◌, ◌⊎◌, Result, Ok, Err, ◌+◌, ◌==◌, ◌++◌, ℕ, zero, suc, Bool, false, nat_lt, if◌then◌else◌, List, [], ◌∷◌, filter, length, codes, Option, Some, None, refl}
+-- What a scan at a moment takes out: what was deleted long enough before it, with all under it, and then each chunk that
+-- is left without a reference.
+use Rattle.std.specs.Prelude.{◌≡◌, ◌⊎◌, ◌&&◌, ◌+◌, ◌==◌, ◌≤◌, ◌∷◌, [], ℕ, Bool, true, false, not, nat_lt, if◌then◌else◌, List, filter, length, codes, Result, Ok, Err, Option, Some, None, is_some, refl}
+use Rattle.std.specs.List.{list_any}
+use Rattle.std.specs.List.Sorted.{IsStrictlySortedBy}
+use Rattle.std.specs.Ordering.{nat_cmp, eq_by_cmp, ordering_then}
+use Rattle.std.specs.Cmp.{IsTotalOrder, nat_cmp_total, then_total, on_total}
+use Rattle.std.specs.Cmp.Lexicographic.{slice_cmp, nat_list_cmp_total}
+use Rattle.std.specs.declared.cmp.Ordering.{Ordering}
+use Rattle.std.specs.declared.cmp.Ordering.TheVariants.{Less, Greater}
+use Rattle.std.specs.FinMap as fin
 use Rattle.gs_path.specs.Element.{hidden_parts}
-use Rattle.gs_path.specs.Path.{Name, Path}
+use Rattle.gs_path.specs.Path.{Name, Path, path_cmp, path_total, path_text}
 use Rattle.gs_tree.specs.Entry.{Dir, File}
-use Rattle.gs_tree.specs.Find.{Rows}
-use Rattle.gs_tree.specs.Chunks.{chunks_under}
+use Rattle.gs_tree.specs.Plain.{Plain}
+use Rattle.gs_tree.specs.Find.{Rows, at}
+use Rattle.gs_tree.specs.Edits.{same_path}
+use Rattle.gs_tree.specs.Chunks.{all_chunks, chunks_under}
 use Rattle.gs_base.specs.declared.refusal.Refusal.{Refusal}
-use Rattle.gs_base.specs.declared.refusal.Refusal.TheVariants.{Memory}
-use Rattle.gs_refs.specs.Counts.{Counts, and_then, lowered_each, orphans}
+use Rattle.gs_base.specs.declared.refusal.Refusal.TheVariants.{Memory, BadLine}
+use Rattle.gs_refs.specs.Counts.{Counts, and_then, lowered_each, occurrences, count_or_zero, ascends}
 use Rattle.gs_edit.specs.declared.scan.Scan.{Scan}
-use Rattle.gs_edit.specs.Table.{paths_of}
+use Rattle.gs_edit.specs.Table.{fronts}
 
 -- how long what was deleted is kept, in seconds
 abbrev pub kept_for : ℕ
@@ -29,47 +40,62 @@ goes moment [] = false
 goes moment (x ∷ []) = is_over moment x
 goes moment (x ∷ y ∷ p) = if is_over moment x then false else goes moment (y ∷ p)
 
--- the paths of so many elements
-abbrev pub of_length : ℕ → List Path → List Path
-of_length n paths = filter (λ p. length p == n) paths
-
--- the paths of fewer elements than this, those of each length in turn
-abbrev pub below_length : ℕ → List Path → List Path
-below_length zero paths = []
-below_length (suc n) paths = below_length n paths ++ of_length n paths
-
--- the most elements of a path, or this
-abbrev pub longest_from : ℕ → List Path → ℕ
-longest_from most [] = most
-longest_from most (p ∷ paths) = longest_from (if nat_lt most (length p) then length p else most) paths
-
-abbrev pub longest : List Path → ℕ
-longest paths = longest_from 0 paths
-
--- paths with fewer elements first, else as they stood
-abbrev pub by_length : List Path → List Path
-by_length paths = below_length (longest paths + 1) paths
-
 -- what a scan removes
-abbrev pub scan_paths : {A : Type 0} → ℕ → Rows A → List Path
-scan_paths moment rows = by_length (filter (goes moment) (paths_of rows))
+abbrev pub is_removed : {A : Type 0} → ℕ → Plain A → Path → Bool
+is_removed moment m p = is_some (m p) && goes moment p
+
+-- what goes: what is removed, and all under it
+abbrev pub is_gone : {A : Type 0} → ℕ → Plain A → Path → Bool
+is_gone moment m p = list_any (is_removed moment m) (fronts p)
+
+abbrev pub gone : {A : Type 0} → ℕ → Rows A → Rows A
+gone moment rows = filter (λ r. is_gone moment (at rows) r.0) rows
+
+-- what is left
+abbrev pub left : {A : Type 0} → ℕ → Rows A → Rows A
+left moment rows = filter (λ r. not (is_gone moment (at rows) r.0)) rows
+
+-- The order of removals: fewer elements first, then the bytes of the paths' texts. Two paths have one text only where an
+-- element has a slash, as none has that was read; they stand in the order of paths.
+abbrev pub removal_cmp : Path → Path → Ordering
+removal_cmp p q = ordering_then (ordering_then (nat_cmp (length p) (length q)) (slice_cmp nat_cmp (path_text p) (path_text q))) (path_cmp p q)
+
+pub removal_total : IsTotalOrder removal_cmp
+removal_total = then_total (then_total (on_total length nat_cmp_total) (on_total path_text nat_list_cmp_total)) path_total
+
+-- the paths that are removed, each once and in their order
+pub record AreRemoved {A : Type 0} (moment : ℕ) (m : Plain A) (paths : List Path) : Type 0 where
+  pub each : (p : Path) → list_any (same_path p) paths ≡ is_removed moment m p
+  pub rise : IsStrictlySortedBy removal_cmp paths
+
+-- each chunk has a reference for each time that it stands in a list
+abbrev pub HaveReferences : List ℕ → Counts → Type 0
+HaveReferences chunks refs = (chunk : ℕ) → occurrences chunk chunks ≤ count_or_zero (fin.get refs chunk)
+
+-- a chunk is listed, with just so many references
+abbrev pub has_just : ℕ → Option ℕ → Bool
+has_just n None = false
+has_just n (Some count) = count == n
+
+-- the listed chunks of which each reference goes, ascending
+pub record AreFreed (moment : ℕ) (rows : Rows ℕ) (refs : Counts) (chunks : List ℕ) : Type 0 where
+  pub each : (chunk : ℕ) → list_any (eq_by_cmp nat_cmp chunk) chunks ≡ has_just (occurrences chunk (all_chunks (gone moment rows))) (fin.get refs chunk)
+  pub rise : ascends chunks ≡ true
+
+pub record IsScan (moment : ℕ) (rows : Rows ℕ) (refs : Counts) (scan : Scan) : Type 0 where
+  pub removed : AreRemoved moment (at rows) scan.removed.items
+  pub counted : HaveReferences (all_chunks (gone moment rows)) refs
+  pub forgotten : AreFreed moment rows refs scan.forgotten.items
+
+-- what a scan finds; BadLine exactly where a chunk stands more often in what goes than its count says, memory aside
+abbrev pub Scans : ℕ → Rows ℕ → Counts → Result Scan Refusal → Type 0
+Scans moment rows refs (Ok scan) = IsScan moment rows refs scan
+Scans moment rows refs (Err e) = (e ≡ Memory) ⊎ ((e ≡ BadLine) × (HaveReferences (all_chunks (gone moment rows)) refs → ⊥))
 
 -- the counts once all under these paths is removed
 abbrev pub lowered_under : Rows ℕ → List Path → Counts → Result Counts Refusal
 lowered_under rows [] refs = Ok refs
 lowered_under rows (p ∷ paths) refs = and_then (lowered_each refs (chunks_under p rows)) (λ n. lowered_under rows paths n)
-
-abbrev pub with_orphans : List Path → Result Counts Refusal → Result (List Path × List ℕ) Refusal
-with_orphans paths (Ok refs) = Ok (paths, orphans refs)
-with_orphans paths (Err e) = Err e
-
--- what a scan removes, and the chunks that it forgets then: those that are left without references
-abbrev pub scanned : ℕ → Rows ℕ → Counts → Result (List Path × List ℕ) Refusal
-scanned moment rows refs = with_orphans (scan_paths moment rows) (lowered_under rows (scan_paths moment rows) refs)
-
-abbrev pub Scans : ℕ → Rows ℕ → Counts → Result Scan Refusal → Type 0
-Scans moment rows refs (Ok scan) = scanned moment rows refs ≡ Ok (scan.removed.items, scan.forgotten.items)
-Scans moment rows refs (Err e) = (scanned moment rows refs ≡ Err e) ⊎ (e ≡ Memory)
 
 abbrev a : Name
 a = codes "a"
@@ -83,13 +109,32 @@ new_f = codes ".deleted.00000000000000000001.00000000000000000002.f"
 
 abbrev some_rows : Rows ℕ
 some_rows =
-    ([], Dir) ∷ (old_f ∷ [], Dir) ∷ (old_f ∷ old_f ∷ [], File []) ∷ (new_f ∷ [], Dir) ∷ (new_f ∷ old_f ∷ [], File []) ∷ (a ∷ [], Dir) ∷ []
+    ([], Dir) ∷ (old_f ∷ [], Dir) ∷ (old_f ∷ old_f ∷ [], File (7 ∷ [])) ∷ (new_f ∷ [], Dir) ∷ (new_f ∷ old_f ∷ [], File []) ∷ (a ∷ [], Dir) ∷ []
 
-nothing_is_over_at_its_last_moment : scan_paths 259200 some_rows ≡ []
+nothing_is_over_at_its_last_moment : gone 259200 some_rows ≡ []
 nothing_is_over_at_its_last_moment = refl
 
-shorter_paths_first_and_none_under_another : scan_paths 259201 some_rows ≡ (old_f ∷ []) ∷ (new_f ∷ old_f ∷ []) ∷ []
-shorter_paths_first_and_none_under_another = refl
+what_lies_under_goes_too : gone 259201 some_rows ≡ (old_f ∷ [], Dir) ∷ (old_f ∷ old_f ∷ [], File (7 ∷ [])) ∷ (new_f ∷ old_f ∷ [], File []) ∷ []
+what_lies_under_goes_too = refl
 
-shorter_paths_first : by_length ((a ∷ a ∷ []) ∷ (a ∷ []) ∷ (old_f ∷ a ∷ []) ∷ (old_f ∷ []) ∷ []) ≡ (a ∷ []) ∷ (old_f ∷ []) ∷ (a ∷ a ∷ []) ∷ (old_f ∷ a ∷ []) ∷ []
-shorter_paths_first = refl
+the_rest_is_left : left 259201 some_rows ≡ ([], Dir) ∷ (new_f ∷ [], Dir) ∷ (a ∷ [], Dir) ∷ []
+the_rest_is_left = refl
+
+but_it_is_not_removed_by_itself : is_removed 259201 (at some_rows) (old_f ∷ old_f ∷ []) ≡ false
+but_it_is_not_removed_by_itself = refl
+
+fewer_elements_first : removal_cmp (codes "b" ∷ []) (a ∷ a ∷ []) ≡ Less
+fewer_elements_first = refl
+
+-- a point stands before a slash, so "/a.b/c" before "/a/c"
+then_the_text : removal_cmp (codes "a.b" ∷ codes "c" ∷ []) (a ∷ codes "c" ∷ []) ≡ Less
+then_the_text = refl
+
+not_element_by_element : path_cmp (codes "a.b" ∷ codes "c" ∷ []) (a ∷ codes "c" ∷ []) ≡ Greater
+not_element_by_element = refl
+
+all_its_references_go : has_just 2 (Some 2) ≡ true
+all_its_references_go = refl
+
+a_reference_stays : has_just 1 (Some 2) ≡ false
+a_reference_stays = refl

@@ -1,20 +1,27 @@
 //! What a scan takes out of a tree.
-ghost use Rattle.std.specs.Prelude.{◌≡◌, ◌++◌, ◌+◌, nat_lt, IfOk, OnOk, map, filter};
+ghost use Rattle.std.specs.Prelude.{◌≡◌, ◌+◌, nat_lt, IfOk, map, filter, refl};
 ghost use Rattle.std.specs.FinMap as fin_map;
+ghost use Rattle.std.specs.List.Sorted.{IsPermutation, IsSorted};
+ghost use Rattle.std.specs.Ordering.{eq_by_cmp, as_partial_cmp};
+ghost use Rattle.std.specs.Cmp.{partial_order_from_total, eq_by_cmp_equiv, partial_equiv_from_equiv};
 ghost use Rattle.gs_tree.specs.Build.{path_of_entry};
+ghost use Rattle.gs_tree.specs.Find.{at};
 ghost use Rattle.gs_refs.specs.Counts.{GivesOrMemory};
-ghost use Rattle.gs_edit.specs.Scan.{kept_for, is_over, goes, of_length, longest, by_length, scan_paths, lowered_under, Scans};
+ghost use Rattle.gs_edit.specs.Scan.{kept_for, is_over, goes, removal_cmp, removal_total, AreRemoved, lowered_under, Scans};
 
 use gs_base::{Handle, Moment, Refusal};
 use gs_path::{Name, Path};
 use gs_refs::Refs;
 use gs_tree::{Tree, TreeEntry};
 use std::alloc::{AllocError, Global};
+use std::cmp::Ordering;
+use std::marker::Model;
 
 /// What a scan takes out.
 #[derive(Drop)]
 pub struct Scan {
-    /// The hidden paths that it removes, those with fewer elements first. None lies under another.
+    /// The hidden paths that it removes, in the order of removals: those with fewer elements first, then by the bytes of
+    /// their texts. None lies under another.
     pub removed: Vec<Path>,
     /// The chunks that are left without references then, ascending.
     pub forgotten: Vec<Handle>,
@@ -22,6 +29,84 @@ pub struct Scan {
 
 /// How long what was deleted is kept, in seconds.
 const KEPT_FOR: u64 = 259_200;
+
+/// A path, and what it is ordered by among removals.
+#[derive(Drop)]
+struct Removal {
+    elements: usize,
+    text: String,
+    path: Path,
+}
+
+impl Model for Removal {
+    ghost use Rattle.std.specs.Prelude.{List, ℕ, ◌≡◌, length, string_bytes};
+    ghost use Rattle.gs_path.specs.Path.{path_text};
+
+    ghost Value = { List (List ℕ) };
+
+    ghost view = { λ r. r.path };
+
+    ghost invariant = { λ r. (r.elements ≡ length r.path) × (string_bytes r.text ≡ path_text r.path) };
+}
+
+impl Removal {
+    fn of(alloc: Global, path: &Path) -> Result<Removal, AllocError>
+        ensures { IfOk result (λ removal. removal ≡ path.now) }
+    {
+        Ok(Removal {
+            elements: path.elements().len(),
+            text: path.text(alloc)?,
+            path: path.copy(alloc)?,
+        })
+    }
+
+    fn into_path(self) -> Path
+        ensures { result ≡ self }
+    {
+        self.path
+    }
+}
+
+impl PartialEq for Removal {
+    ghost eq = { eq_by_cmp removal_cmp };
+
+    ghost laws = { partial_equiv_from_equiv (eq_by_cmp_equiv removal_total) };
+
+    fn eq(&self, other: &Removal) -> bool {
+        self.cmp(other) == Ordering::Equal
+    }
+}
+
+impl Eq for Removal {
+    ghost laws = { eq_by_cmp_equiv removal_total };
+}
+
+impl PartialOrd for Removal {
+    ghost partial_cmp = { as_partial_cmp removal_cmp };
+
+    ghost laws = { partial_order_from_total removal_total };
+
+    fn partial_cmp(&self, other: &Removal) -> Option<Ordering> {
+        Some(self.cmp(other))
+    }
+}
+
+impl Ord for Removal {
+    ghost cmp = { removal_cmp };
+
+    ghost total = { removal_total };
+
+    ghost matches_partial_cmp = { λ x y. refl };
+
+    ghost matches_eq = { λ x y. refl };
+
+    fn cmp(&self, other: &Removal) -> Ordering {
+        let by_length = self.elements.cmp(&other.elements);
+        let by_text = self.text.cmp(&other.text);
+        let by_elements = self.path.cmp(&other.path);
+        by_length.then(by_text).then(by_elements)
+    }
+}
 
 /// Whether what was deleted at a moment isn't kept any more at another.
 fn is_past(deleted: Moment, moment: Moment) -> bool
@@ -44,81 +129,53 @@ fn is_over(alloc: Global, name: &Name, moment: Moment) -> Result<bool, AllocErro
 fn goes(alloc: Global, elements: &[Name], moment: Moment) -> Result<bool, AllocError>
     ensures { IfOk result (λ over. over ≡ goes moment.0 elements.now) }
 {
-    let [name, below @ ..] = elements else {
+    let Some((last, above)) = elements.split_last() else {
         return Ok(false);
     };
-    let over = is_over(alloc, name, moment)?;
-    if below.is_empty() {
-        return Ok(over);
+    for name in above {
+        if is_over(alloc, name, moment)? {
+            return Ok(false);
+        }
     }
-    if over {
-        return Ok(false);
-    }
-    goes(alloc, below, moment)
+    is_over(alloc, last, moment)
 }
 
-/// The paths of what goes, as they stand in the list.
-fn gone(alloc: Global, entries: &[TreeEntry], moment: Moment) -> Result<Vec<Path>, AllocError>
-    ensures { IfOk result (λ paths. paths.items ≡ filter (goes moment.0) (map path_of_entry entries.now)) }
+/// What goes by itself, as it stands in the list.
+fn removals(
+    alloc: Global,
+    entries: &[TreeEntry],
+    moment: Moment,
+) -> Result<Vec<Removal>, AllocError>
+    ensures { IfOk result (λ found. found.items ≡ filter (goes moment.0) (map path_of_entry entries.now)) }
 {
-    let mut paths = Vec::new(alloc);
+    let mut found = Vec::new(alloc);
     for entry in entries {
         if goes(alloc, entry.path().elements(), moment)? {
-            paths.push(entry.path().copy(alloc)?)?;
+            found.push(Removal::of(alloc, entry.path())?)?;
         }
+    }
+    Ok(found)
+}
+
+/// The paths in the order of removals.
+fn in_order(alloc: Global, mut found: Vec<Removal>) -> Result<Vec<Path>, AllocError>
+    ensures { IfOk result (λ paths. IsPermutation found.items paths.items × IsSorted removal_cmp paths.items) }
+{
+    found.sort()?;
+    let mut paths = Vec::new(alloc);
+    for removal in found {
+        paths.push(removal.into_path())?;
     }
     Ok(paths)
 }
 
-/// Adds the paths of so many elements.
-fn add_of_length(
-    alloc: Global,
-    sorted: &mut Vec<Path>,
-    paths: &[Path],
-    length: usize,
-) -> Result<(), AllocError>
-    ensures { OnOk result (sorted.new.items ≡ sorted.old.items ++ of_length length paths.now) }
-{
-    for path in paths {
-        if path.elements().len() == length {
-            sorted.push(path.copy(alloc)?)?;
-        }
-    }
-    Ok(())
-}
-
-/// The most elements of a path.
-fn longest(paths: &[Path]) -> usize
-    ensures { result ≡ longest paths.now }
-{
-    let mut most = 0;
-    for path in paths {
-        let length = path.elements().len();
-        if most < length {
-            most = length;
-        }
-    }
-    most
-}
-
-/// The paths with fewer elements first.
-fn by_length(alloc: Global, paths: &[Path]) -> Result<Vec<Path>, AllocError>
-    ensures { IfOk result (λ sorted. sorted.items ≡ by_length paths.now) }
-{
-    let mut sorted = Vec::new(alloc);
-    for length in 0..=longest(paths) {
-        add_of_length(alloc, &mut sorted, paths, length)?;
-    }
-    Ok(sorted)
-}
-
-/// The paths of a tree that a scan at a moment removes, those with fewer elements first.
+/// The paths of a tree that a scan at a moment removes, in their order.
 fn scan_paths(alloc: Global, tree: &Tree, moment: Moment) -> Result<Vec<Path>, AllocError>
-    ensures { IfOk result (λ paths. paths.items ≡ scan_paths moment.0 (fin_map.entries tree.now)) }
+    ensures { IfOk result (λ paths. AreRemoved moment.0 (at (fin_map.entries tree.now)) paths.items) }
 {
     let entries = tree.entries(alloc)?;
-    let paths = gone(alloc, &entries, moment)?;
-    by_length(alloc, &paths)
+    let found = removals(alloc, &entries, moment)?;
+    in_order(alloc, found)
 }
 
 /// The counts once all under these paths is removed.

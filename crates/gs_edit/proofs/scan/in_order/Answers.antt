@@ -1,0 +1,23 @@
+use Rattle.std.proofs.Common.{◌≡◌, ◌++◌, ◌∷◌, [], List, refl, sym, ap, ◌∙◌, subst, append_assoc}
+use Rattle.std.proofs.lemmas.List.{nil_from_length}
+use Rattle.std.specs.List.Sorted.{IsPermutation, IsSorted}
+use Rattle.gs_path.specs.Path.{Path}
+use Rattle.gs_edit.specs.Scan.{removal_cmp}
+use Rattle.gs_edit.proofs.scan.in_order.Goals as goal
+
+append-nil : (xs : List Path) → xs ++ [] ≡ xs
+append-nil [] = refl
+append-nil (x ∷ xs) = ap (λ ys. x ∷ ys) (append-nil xs)
+
+pub loop-removal-preserved : goal.loop-removal-preserved
+loop-removal-preserved c =
+    let rest : List Path = c.next.new.self.rest.items in
+    ap (λ (ps : List Path). ps ++ rest) (c.in_ok-push.ensures.items ∙ ap (λ (p : Path). c.loop-removal.paths.items ++ p ∷ []) c.into_path.ensures)
+    ∙ append_assoc c.loop-removal.paths.items (c.in-Some.removal ∷ []) rest ∙ ap (λ (ps : List Path). c.loop-removal.paths.items ++ ps) (sym c.in-Some.ensures.steps.0) ∙ c.loop-removal.invariant
+
+pub returns : goal.returns
+returns c =
+    let rest : List Path = c.loop-removal.removal-iterator.rest.items in
+    let none : rest ≡ [] = nil_from_length rest (sym c.loop-removal.removal-iterator.rest.ok.0 ∙ c.in-None.ensures.steps.0) in
+    let sorted : c.sort.new.self.items ≡ c.loop-removal.paths.items = sym (sym (append-nil c.loop-removal.paths.items) ∙ ap (λ (ps : List Path). c.loop-removal.paths.items ++ ps) (sym none) ∙ c.loop-removal.invariant ∙ c.into_iter-removal-iterator.ensures.into_iter_gives.0) in
+    subst (λ (ps : List Path). IsPermutation c.args.found.items ps × IsSorted removal_cmp ps) sorted (c.in_ok-sort.ensures.permutation, c.in_ok-sort.ensures.sorted)
