@@ -8,3 +8,4 @@ pub mod Occurring
 pub mod Relisted
 pub mod Removals
 pub mod Freed
+pub mod Sweeping

@@ -136,7 +136,7 @@ handed_back m old c n none ref =
 abbrev pub among : ℕ → List ℕ → Bool
 among q hs = list_any (λ h. same q h) hs
 
-get-without : (hs : List ℕ) (m : Counts) (q : ℕ) → fin.get (without_each m hs) q ≡ cond (among q hs) None (fin.get m q)
+pub get-without : (hs : List ℕ) (m : Counts) (q : ℕ) → fin.get (without_each m hs) q ≡ cond (among q hs) None (fin.get m q)
 get-without [] m q = refl
 get-without (h ∷ hs) m q =
     get-without hs (fin.remove m h) q ∙ ap (λ v. cond (among q hs) None v) (fin.get-remove nat_cmp_total m h q)
@@ -171,7 +171,7 @@ all_among f (h ∷ hs) q all in_hs =
       | false ↦ λ b k. all_among f hs q parts.1 k
     ] refl in_hs
 
-all_of : (f : ℕ → Bool) (hs : List ℕ) → ((h : ℕ) → among h hs ≡ true → f h ≡ true) → list_all f hs ≡ true
+pub all_of : (f : ℕ → Bool) (hs : List ℕ) → ((h : ℕ) → among h hs ≡ true → f h ≡ true) → list_all f hs ≡ true
 all_of f [] each = refl
 all_of f (h ∷ hs) each =
     ap (λ b. b && list_all f hs) (each h (ap (λ b. b || among h hs) (same_itself h)))

@@ -167,6 +167,10 @@ same_tests true b f g = sym (f refl)
 same_tests false true f g = g refl
 same_tests false false f g = refl
 
+pub begins-itself : (p : Path) → begins p p ≡ true
+begins-itself [] = refl
+begins-itself (x ∷ p) = ap (λ b. b && begins p p) ((eq_by_cmp_equiv nat_list_cmp_total).refl x) ∙ begins-itself p
+
 -- what goes is at or under a path that is removed
 pub gone_is : (moment : ℕ) (m : Plain ℕ) (paths : List Path) → ((p : Path) → among paths p ≡ is_removed moment m p) → (q : Path) → list_any (λ p. begins p q) paths ≡ is_gone moment m q
 gone_is moment m paths each q = same_tests (list_any (λ p. begins p q) paths) (is_gone moment m q)

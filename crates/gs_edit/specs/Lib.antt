@@ -6,4 +6,5 @@ pub mod Names
 pub mod Machine
 pub mod Scan
 pub mod Listed
+pub mod Sweep
 pub mod Small
