@@ -57,14 +57,14 @@ among-fronts (x ∷ p) (y ∷ q) h =
       | false ↦ λ b g. absurd (cc)
     ] refl h
 
-pub covers-dirs : (rows : Rows ℕ) (p : Path) → Covers (paths_of rows ++ fronts p) (with_dirs p (at rows))
+pub covers-dirs : {A : Type 0} (rows : Rows A) (p : Path) → Covers (paths_of rows ++ fronts p) (with_dirs p (at rows))
 covers-dirs rows p q some =
     elim (begins q p) as (λ b. begins q p ≡ b → is_some (cond (b && is_none (at rows q)) (Some Dir) (at rows q)) ≡ true → among (paths_of rows ++ fronts p) q ≡ true) [
       | true ↦ λ b h. among-right (paths_of rows) (fronts p) q (among-fronts p q b)
       | false ↦ λ b h. among-left (paths_of rows) (fronts p) q (among-paths_of rows q h)
     ] refl some
 
-pub covers-entry : (rows : Rows ℕ) (p : Path) (e : Entry ℕ) → Covers (paths_of rows ++ fronts p) (with_entry p e (with_dirs p (at rows)))
+pub covers-entry : {A : Type 0} (rows : Rows A) (p : Path) (e : Entry A) → Covers (paths_of rows ++ fronts p) (with_entry p e (with_dirs p (at rows)))
 covers-entry rows p e q some =
     elim (same_path p q) as (λ b. same_path p q ≡ b → is_some (cond b (Some e) (with_dirs p (at rows) q)) ≡ true → among (paths_of rows ++ fronts p) q ≡ true) [
       | true ↦ λ b h. among-right (paths_of rows) (fronts p) q (among-fronts p q (ap (λ r. begins r p) (sym (same_path-is p q b)) ∙ begins_itself p))
@@ -74,13 +74,13 @@ covers-entry rows p e q some =
 moved_path-append : (from to r : Path) → moved_path from to (from ++ r) ≡ to ++ r
 moved_path-append from to r = ap (λ b. cond b (to ++ after from (from ++ r)) (from ++ r)) (begins_append from r) ∙ ap (λ s. to ++ s) (after_append from r)
 
-stays : (from : Path) (rows : Rows ℕ) (q : Path) → is_some (without from (at rows) q) ≡ true → is_some (at rows q) ≡ true
+stays : {A : Type 0} (from : Path) (rows : Rows A) (q : Path) → is_some (without from (at rows) q) ≡ true → is_some (at rows q) ≡ true
 stays from rows q h = elim (begins from q) as (λ b. is_some (cond b None (at rows q)) ≡ true → is_some (at rows q) ≡ true) [
   | true ↦ λ k. absurd (cc)
   | false ↦ λ k. k
 ] h
 
-pub covers-moved : (rows : Rows ℕ) (from to : Path) → Covers (paths_of rows ++ map (moved_path from to) (paths_of rows)) (moved from to (at rows))
+pub covers-moved : {A : Type 0} (rows : Rows A) (from to : Path) → Covers (paths_of rows ++ map (moved_path from to) (paths_of rows)) (moved from to (at rows))
 covers-moved rows from to q some =
     elim (begins to q) as (λ b. begins to q ≡ b → is_some (cond b (at rows (from ++ after to q)) (without from (at rows) q)) ≡ true → among (paths_of rows ++ map (moved_path from to) (paths_of rows)) q ≡ true) [
       | true ↦ λ b h. among-right (paths_of rows) (map (moved_path from to) (paths_of rows)) q
@@ -89,7 +89,7 @@ covers-moved rows from to q some =
       | false ↦ λ b h. among-left (paths_of rows) (map (moved_path from to) (paths_of rows)) q (among-paths_of rows q (stays from rows q h))
     ] refl some
 
-pub covers-copied : (rows : Rows ℕ) (from to : Path) → Covers (paths_of rows ++ map (moved_path from to) (paths_of rows)) (copied from to (at rows))
+pub covers-copied : {A : Type 0} (rows : Rows A) (from to : Path) → Covers (paths_of rows ++ map (moved_path from to) (paths_of rows)) (copied from to (at rows))
 covers-copied rows from to q some =
     elim (begins to q) as (λ b. begins to q ≡ b → is_some (cond b (visible (λ r. at rows (from ++ r)) (after to q)) (at rows q)) ≡ true → among (paths_of rows ++ map (moved_path from to) (paths_of rows)) q ≡ true) [
       | true ↦ λ b h. among-right (paths_of rows) (map (moved_path from to) (paths_of rows)) q
@@ -105,23 +105,23 @@ covers-copied rows from to q some =
     ] h
 
 -- the same of a command's answer
-abbrev pub Covered : List Path → Result (Plain ℕ) Refusal → Type 0
+abbrev pub Covered : {A : Type 0} → List Path → Result (Plain A) Refusal → Type 0
 Covered ps (Ok m) = Covers ps m
 Covered ps (Err e) = Unit {0}
 
-unless : (ps : List Path) (b : Bool) (e : Refusal) (r : Result (Plain ℕ) Refusal) → Covered ps r → Covered ps (cond b (Err e) r)
+unless : {A : Type 0} (ps : List Path) (b : Bool) (e : Refusal) (r : Result (Plain A) Refusal) → Covered ps r → Covered ps (cond b (Err e) r)
 unless ps true e r h = tt
 unless ps false e r h = h
 
-pub covered-mkdirs : (rows : Rows ℕ) (p : Path) → Covered (paths_of rows ++ fronts p) (mkdirs (at rows) p)
+pub covered-mkdirs : {A : Type 0} (rows : Rows A) (p : Path) → Covered (paths_of rows ++ fronts p) (mkdirs (at rows) p)
 covered-mkdirs rows p =
     unless _ (is_file (at rows p)) Exists _ (unless _ (file_above (at rows) p) NotADirectory (Ok (with_dirs p (at rows))) (covers-dirs rows p))
 
-pub covered-create : (rows : Rows ℕ) (p : Path) → Covered (paths_of rows ++ fronts p) (create (at rows) p)
+pub covered-create : {A : Type 0} (rows : Rows A) (p : Path) → Covered (paths_of rows ++ fronts p) (create (at rows) p)
 covered-create rows p =
     unless _ (is_some (at rows p)) Exists _ (unless _ (file_above (at rows) p) NotADirectory (Ok (with_entry p (File []) (with_dirs p (at rows)))) (covers-entry rows p (File [])))
 
-covered-move_to : (deep : Bool) (rows : Rows ℕ) (from to : Path) → Covered (paths_of rows ++ map (moved_path from to) (paths_of rows)) (move_to deep (at rows) from to)
+covered-move_to : {A : Type 0} (deep : Bool) (rows : Rows A) (from to : Path) → Covered (paths_of rows ++ map (moved_path from to) (paths_of rows)) (move_to deep (at rows) from to)
 covered-move_to deep rows from to =
     let ps = paths_of rows ++ map (moved_path from to) (paths_of rows) in
     unless ps (same_path to from) Exists _
@@ -131,14 +131,14 @@ covered-move_to deep rows from to =
     (unless ps (is_file (at rows (parent to))) NotADirectory _
     (unless ps deep BadPath (Ok (moved from to (at rows))) (covers-moved rows from to))))))
 
-pub covered-rename : (rows : Rows ℕ) (from to : Path) → Covered (paths_of rows ++ map (moved_path from (target_of (at rows) from to)) (paths_of rows)) (rename (is_too_deep rows from) (at rows) from to)
+pub covered-rename : {A : Type 0} (rows : Rows A) (from to : Path) → Covered (paths_of rows ++ map (moved_path from (target_of (at rows) from to)) (paths_of rows)) (rename (is_too_deep rows from) (at rows) from to)
 covered-rename rows from to =
     let target = target_of (at rows) from to in
     let ps = paths_of rows ++ map (moved_path from target) (paths_of rows) in
     unless ps (same_path from []) IsRoot _
     (unless ps (is_none (at rows from)) NotFound (move_to (is_too_deep rows from target) (at rows) from target) (covered-move_to (is_too_deep rows from target) rows from target))
 
-pub covered-hide : (rows : Rows ℕ) (p : Path) (moment number : ℕ) → Covered (paths_of rows ++ map (moved_path p (hidden_path p moment number)) (paths_of rows)) (hide (at rows) p moment number)
+pub covered-hide : {A : Type 0} (rows : Rows A) (p : Path) (moment number : ℕ) → Covered (paths_of rows ++ map (moved_path p (hidden_path p moment number)) (paths_of rows)) (hide (at rows) p moment number)
 covered-hide rows p moment number =
     let target = hidden_path p moment number in
     let ps = paths_of rows ++ map (moved_path p target) (paths_of rows) in
@@ -146,12 +146,12 @@ covered-hide rows p moment number =
     (unless ps (is_none (at rows p)) NotFound _
     (unless ps (is_some (at rows target)) Exists (Ok (moved p target (at rows))) (covers-moved rows p target)))
 
-pub covered-remove : (rows : Rows ℕ) (p : Path) → Covered (paths_of rows) (remove (at rows) p)
+pub covered-remove : {A : Type 0} (rows : Rows A) (p : Path) → Covered (paths_of rows) (remove (at rows) p)
 covered-remove rows p =
     unless (paths_of rows) (is_none (old_name p)) NotHidden _
     (unless (paths_of rows) (is_none (at rows p)) NotFound (Ok (without p (at rows))) (λ q some. among-paths_of rows q (stays p rows q some)))
 
-pub covered-snapshot : (rows : Rows ℕ) (from to : Path) → Covered (paths_of rows ++ map (moved_path from to) (paths_of rows)) (snapshot (is_copied_too_deep rows from) (at rows) from to)
+pub covered-snapshot : {A : Type 0} (rows : Rows A) (from to : Path) → Covered (paths_of rows ++ map (moved_path from to) (paths_of rows)) (snapshot (is_copied_too_deep rows from) (at rows) from to)
 covered-snapshot rows from to =
     let ps = paths_of rows ++ map (moved_path from to) (paths_of rows) in
     unless ps (same_path from []) IsRoot _
@@ -195,30 +195,30 @@ applies-hide p moment number result old new h =
     applies (edits.Hide p moment number) (paths_of rows ++ map (moved_path p (hidden_path p moment.0 number)) (paths_of rows)) (hide (at rows) p moment.0 number) result old new refl (covered-hide rows p moment.0 number)
     (subst (λ (m : Plain ℕ). Follows (hide m p moment.0 number) result (get old) (get new)) (seen old) h)
 
-covers-chunks : (rows : Rows ℕ) (p : Path) (chunks : List ℕ) → is_some (at rows p) ≡ true → Covers (paths_of rows) (with_chunks p chunks (at rows))
+covers-chunks : {A : Type 0} (rows : Rows A) (p : Path) (chunks : List A) → is_some (at rows p) ≡ true → Covers (paths_of rows) (with_chunks p chunks (at rows))
 covers-chunks rows p chunks stands q some =
     elim (same_path p q) as (λ b. same_path p q ≡ b → is_some (cond b (Some (File chunks)) (at rows q)) ≡ true → among (paths_of rows) q ≡ true) [
       | true ↦ λ b h. ap (among (paths_of rows)) (sym (same_path-is p q b)) ∙ among-paths_of rows p stands
       | false ↦ λ b h. among-paths_of rows q h
     ] refl some
 
-covered-add : (rows : Rows ℕ) (p : Path) (chunk : ℕ) → Covered (paths_of rows) (add_chunk (at rows) p chunk)
-covered-add rows p chunk = each (at rows p) refl
+pub covered-add : {A : Type 0} (rows : Rows A) (p : Path) (chunk : A) → Covered (paths_of rows) (add_chunk (at rows) p chunk)
+covered-add {A = A} rows p chunk = each (at rows p) refl
   where
-    each : (v : Option (Entry ℕ)) → at rows p ≡ v → Covered (paths_of rows) (cond (is_none v) (Err NotFound) (cond (is_dir v) (Err IsADirectory) (Ok (with_chunks p (chunks_in v ++ chunk ∷ []) (at rows)))))
+    each : (v : Option (Entry A)) → at rows p ≡ v → Covered (paths_of rows) (cond (is_none v) (Err NotFound) (cond (is_dir v) (Err IsADirectory) (Ok (with_chunks p (chunks_in v ++ chunk ∷ []) (at rows)))))
     each None e = tt
     each (Some Dir) e = tt
     each (Some (File cs)) e = covers-chunks rows p (cs ++ chunk ∷ []) (ap is_some e)
 
-covered-set : (rows : Rows ℕ) (p : Path) (index chunk : ℕ) → Covered (paths_of rows) (set_chunk (at rows) p index chunk)
-covered-set rows p index chunk = each (at rows p) refl
+pub covered-set : {A : Type 0} (rows : Rows A) (p : Path) (index : ℕ) (chunk : A) → Covered (paths_of rows) (set_chunk (at rows) p index chunk)
+covered-set {A = A} rows p index chunk = each (at rows p) refl
   where
-    each : (v : Option (Entry ℕ)) → at rows p ≡ v → Covered (paths_of rows) (cond (is_none v) (Err NotFound) (cond (is_dir v) (Err IsADirectory) (cond (not (nat_lt index (length (chunks_in v)))) (Err Range) (Ok (with_chunks p (set (chunks_in v) index chunk) (at rows))))))
+    each : (v : Option (Entry A)) → at rows p ≡ v → Covered (paths_of rows) (cond (is_none v) (Err NotFound) (cond (is_dir v) (Err IsADirectory) (cond (not (nat_lt index (length (chunks_in v)))) (Err Range) (Ok (with_chunks p (set (chunks_in v) index chunk) (at rows))))))
     each None e = tt
     each (Some Dir) e = tt
     each (Some (File cs)) e = unless (paths_of rows) (not (nat_lt index (length cs))) Range (Ok (with_chunks p (set cs index chunk) (at rows))) (covers-chunks rows p (set cs index chunk) (ap is_some e))
 
-covered-unhide : (rows : Rows ℕ) (p : Path) (name : Option Name) → Covered (paths_of rows ++ map (moved_path p (unhide_target p name)) (paths_of rows)) (unhidden (at rows) p name)
+pub covered-unhide : {A : Type 0} (rows : Rows A) (p : Path) (name : Option Name) → Covered (paths_of rows ++ map (moved_path p (unhide_target p name)) (paths_of rows)) (unhidden (at rows) p name)
 covered-unhide rows p None = tt
 covered-unhide rows p (Some name) =
     let target = beside p name in

@@ -9,3 +9,4 @@ pub mod Relisted
 pub mod Removals
 pub mod Freed
 pub mod Sweeping
+pub mod Payloads

@@ -27,7 +27,7 @@ abbrev pub among : List Path → Path → Bool
 among ps q = list_any (same_path q) ps
 
 -- something stands at these paths alone
-abbrev pub Covers : List Path → Plain ℕ → Type 0
+abbrev pub Covers : {A : Type 0} → List Path → Plain A → Type 0
 Covers ps m = (q : Path) → is_some (m q) ≡ true → among ps q ≡ true
 
 pub later : (b : Bool) {c : Bool} → c ≡ true → (b || c) ≡ true
@@ -48,14 +48,14 @@ among-map f (p ∷ ps) q h =
       | false ↦ λ b k. later (same_path (f q) (f p)) (among-map f ps q k)
     ] refl h
 
-pub among-paths_of : (rows : Rows ℕ) (q : Path) → is_some (at rows q) ≡ true → among (paths_of rows) q ≡ true
+pub among-paths_of : {A : Type 0} (rows : Rows A) (q : Path) → is_some (at rows q) ≡ true → among (paths_of rows) q ≡ true
 among-paths_of rows q h = sym (is_some-find path_cmp q rows) ∙ h
 
-nothing : (b : Bool) → ◌≡◌ {A = Option (Entry ℕ)} (cond b None None) None
+nothing : {A : Type 0} (b : Bool) → ◌≡◌ {A = Option (Entry A)} (cond b None None) None
 nothing true = refl
 nothing false = refl
 
-found_here : (m : Plain ℕ) (p q : Path) (ps : List Path) (v : Option (Entry ℕ)) → m p ≡ v → at (table ps m) q ≡ cond (among ps q) (m q) None → at (with_row p v (table ps m)) q ≡ cond (among (p ∷ ps) q) (m q) None
+found_here : {A : Type 0} (m : Plain A) (p q : Path) (ps : List Path) (v : Option (Entry A)) → m p ≡ v → at (table ps m) q ≡ cond (among ps q) (m q) None → at (with_row p v (table ps m)) q ≡ cond (among (p ∷ ps) q) (m q) None
 found_here m p q ps None e h =
     elim (same_path q p) as (λ b. same_path q p ≡ b → at (table ps m) q ≡ cond (b || among ps q) (m q) None) [
       | true ↦ λ b. let none : m q ≡ None = ap m (same_path-is q p b) ∙ e in h ∙ ap (λ v. cond (among ps q) v None) none ∙ nothing (among ps q) ∙ sym none
@@ -68,23 +68,23 @@ found_here m p q ps (Some a) e h =
       | false ↦ λ b. h
     ] refl
 
-pub at-table : (ps : List Path) (m : Plain ℕ) (q : Path) → at (table ps m) q ≡ cond (among ps q) (m q) None
+pub at-table : {A : Type 0} (ps : List Path) (m : Plain A) (q : Path) → at (table ps m) q ≡ cond (among ps q) (m q) None
 at-table [] m q = refl
 at-table (p ∷ ps) m q = found_here m p q ps (m p) refl (at-table ps m q)
 
-missed : (ps : List Path) (q : Path) (v : Option (Entry ℕ)) → (is_some v ≡ true → among ps q ≡ true) → cond (among ps q) v None ≡ v
+missed : {A : Type 0} (ps : List Path) (q : Path) (v : Option (Entry A)) → (is_some v ≡ true → among ps q ≡ true) → cond (among ps q) v None ≡ v
 missed ps q None h = nothing (among ps q)
 missed ps q (Some a) h = ap (λ b. cond b (Some a) None) (h refl)
 
 -- a table over all paths at which something stands
-pub at-covering : (ps : List Path) (m : Plain ℕ) → Covers ps m → Same (at (table ps m)) m
+pub at-covering : {A : Type 0} (ps : List Path) (m : Plain A) → Covers ps m → Same (at (table ps m)) m
 at-covering ps m c q = at-table ps m q ∙ missed ps q (m q) (c q)
 
-pub sorted-table : (ps : List Path) (m : Plain ℕ) → T (is_sorted path_cmp (table ps m))
+pub sorted-table : {A : Type 0} (ps : List Path) (m : Plain A) → T (is_sorted path_cmp (table ps m))
 sorted-table [] m = tt
-sorted-table (p ∷ ps) m = one (m p) (sorted-table ps m)
+sorted-table {A = A} (p ∷ ps) m = one (m p) (sorted-table ps m)
   where
-    one : (v : Option (Entry ℕ)) → T (is_sorted path_cmp (table ps m)) → T (is_sorted path_cmp (with_row p v (table ps m)))
+    one : (v : Option (Entry A)) → T (is_sorted path_cmp (table ps m)) → T (is_sorted path_cmp (with_row p v (table ps m)))
     one None h = h
     one (Some a) h = is_sorted-put path_cmp path_total p a (table ps m) h
 

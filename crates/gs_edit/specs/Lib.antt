@@ -1,6 +1,7 @@
 pub mod Table
 pub mod View
 pub mod Plain
+pub mod Mapped
 pub mod Edits
 pub mod Names
 pub mod Machine

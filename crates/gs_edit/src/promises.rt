@@ -8,11 +8,14 @@ ghost use Rattle.gs_base.specs.declared.refusal.Refusal.{Refusal};
 ghost use Rattle.gs_base.specs.declared.refusal.Refusal.TheVariants.{Memory};
 ghost use Rattle.gs_path.specs.Path.{Path};
 ghost use Rattle.gs_refs.specs.Counts.{Counts, occurrences};
-ghost use Rattle.gs_tree.specs.Find.{Rows, at};
+ghost use Rattle.gs_tree.specs.Find.{Rows, at, is_too_deep, is_copied_too_deep};
+ghost use Rattle.gs_tree.specs.Edits.{mkdirs, create, rename, hide, unhide, remove, add_chunk, set_chunk, snapshot};
 ghost use Rattle.gs_tree.specs.Chunks.{all_chunks};
 ghost use Rattle.gs_tree.specs.Commands.{IsClosed};
 ghost use Rattle.gs_edit.specs.View.{NamesView};
 ghost use Rattle.gs_edit.specs.Names.{NamesTakenBack, Undoes, IsCounted, blank};
+ghost use Rattle.gs_edit.specs.Plain.{mkdirs_rows, create_rows, rename_rows, hide_rows, unhide_rows, remove_rows, add_chunk_rows, set_chunk_rows, snapshot_rows};
+ghost use Rattle.gs_edit.specs.Mapped.{Tables, mapped_rows, mapped_edit};
 ghost use Rattle.gs_edit.specs.Scan.{is_over, left, Scans};
 ghost use Rattle.gs_edit.specs.Sweep.{named_each, edits_of, Sweeps, IsSwept};
 ghost use Rattle.gs_edit.specs.declared.edit.Inverse.{Inverse};
@@ -37,4 +40,32 @@ pub fn scans_take_out_what_goes()
     ensures refused { (moment : ℕ) (names : NamesView) (e : Refusal) → IsCounted names → Scans moment (entries names.tree) names.refs (Err e) → e ≡ Memory }
     ensures again { (moment : ℕ) (old : Rows ℕ) (new : Rows ℕ × Counts) (scan : Scan) → IsSwept moment old new → Scans moment new.0 new.1 (Ok scan) → (scan.removed.items ≡ []) × (scan.forgotten.items ≡ []) }
     ensures over { (moment : ℕ) (old : Rows ℕ) (path : Path) → IsClosed (at old) → is_some (at (left moment old) path) ≡ true → list_any (is_over moment) path ≡ false }
+{}
+
+/// The rows of an edit are the plain tree's command, written down: they rise and have at each path what the command leaves
+/// there, or the refusal is the command's. It holds of any rows and any payload, be it handles or the texts of chunks.
+pub fn rows_are_the_plain_tree<A>()
+    ensures mkdirs { (rows : Rows A) (p : Path) → Tables (mkdirs (at rows) p) (mkdirs_rows rows p) }
+    ensures create { (rows : Rows A) (p : Path) → Tables (create (at rows) p) (create_rows rows p) }
+    ensures rename { (rows : Rows A) (from to : Path) → Tables (rename (is_too_deep rows from) (at rows) from to) (rename_rows rows from to) }
+    ensures hide { (rows : Rows A) (p : Path) (moment number : ℕ) → Tables (hide (at rows) p moment number) (hide_rows rows p moment number) }
+    ensures unhide { (rows : Rows A) (p : Path) → Tables (unhide (at rows) p) (unhide_rows rows p) }
+    ensures remove { (rows : Rows A) (p : Path) → Tables (remove (at rows) p) (remove_rows rows p) }
+    ensures add_chunk { (rows : Rows A) (p : Path) (chunk : A) → Tables (add_chunk (at rows) p chunk) (add_chunk_rows rows p chunk) }
+    ensures set_chunk { (rows : Rows A) (p : Path) (index : ℕ) (chunk : A) → Tables (set_chunk (at rows) p index chunk) (set_chunk_rows rows p index chunk) }
+    ensures snapshot { (rows : Rows A) (from to : Path) → Tables (snapshot (is_copied_too_deep rows from) (at rows) from to) (snapshot_rows rows from to) }
+{}
+
+/// The rows of an edit follow a map over the payload: it looks at no chunk. So rows with the texts of chunks in the place of
+/// their handles go through the same edits.
+pub fn rows_follow_chunks<A, B>()
+    ensures mkdirs { (text : A → B) (rows : Rows A) (p : Path) → mkdirs_rows (mapped_rows text rows) p ≡ mapped_edit text (mkdirs_rows rows p) }
+    ensures create { (text : A → B) (rows : Rows A) (p : Path) → create_rows (mapped_rows text rows) p ≡ mapped_edit text (create_rows rows p) }
+    ensures rename { (text : A → B) (rows : Rows A) (from to : Path) → rename_rows (mapped_rows text rows) from to ≡ mapped_edit text (rename_rows rows from to) }
+    ensures hide { (text : A → B) (rows : Rows A) (p : Path) (moment number : ℕ) → hide_rows (mapped_rows text rows) p moment number ≡ mapped_edit text (hide_rows rows p moment number) }
+    ensures unhide { (text : A → B) (rows : Rows A) (p : Path) → unhide_rows (mapped_rows text rows) p ≡ mapped_edit text (unhide_rows rows p) }
+    ensures remove { (text : A → B) (rows : Rows A) (p : Path) → remove_rows (mapped_rows text rows) p ≡ mapped_edit text (remove_rows rows p) }
+    ensures add_chunk { (text : A → B) (rows : Rows A) (p : Path) (chunk : A) → add_chunk_rows (mapped_rows text rows) p (text chunk) ≡ mapped_edit text (add_chunk_rows rows p chunk) }
+    ensures set_chunk { (text : A → B) (rows : Rows A) (p : Path) (index : ℕ) (chunk : A) → set_chunk_rows (mapped_rows text rows) p index (text chunk) ≡ mapped_edit text (set_chunk_rows rows p index chunk) }
+    ensures snapshot { (text : A → B) (rows : Rows A) (from to : Path) → snapshot_rows (mapped_rows text rows) from to ≡ mapped_edit text (snapshot_rows rows from to) }
 {}
