@@ -1,3 +1,4 @@
 pub mod Leading
 pub mod Listed
 pub mod Deleting
+pub mod Refusals

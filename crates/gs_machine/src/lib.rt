@@ -3,6 +3,7 @@
 
 mod answer;
 mod machine;
+pub mod promises;
 
 pub use answer::{Answer, text};
 pub use machine::Machine;
