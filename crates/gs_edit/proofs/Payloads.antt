@@ -1,18 +1,16 @@
 -- The rows of each edit are those of the plain command, whatever the payload, and follow a map over it.
-use Rattle.std.proofs.Common.{◌≡◌, ◌&&◌, ◌||◌, ◌+◌, ◌++◌, ℕ, Bool, true, false, not, cond, T, List, [], ◌∷◌, length, nat_lt, map, refl, sym, ap, ◌∙◌}
+use Rattle.std.proofs.Common.{◌≡◌, ◌&&◌, ◌||◌, ◌+◌, ◌++◌, ℕ, Bool, true, false, not, cond, T, List, [], ◌∷◌, length, nat_lt, map, refl, ap, ◌∙◌}
 use Rattle.std.specs.Prelude.{Option, Some, None, Result, Ok, Err}
 use Rattle.std.specs.List.{list_any}
-use Rattle.std.specs.Ordering.{eq_by_cmp}
-use Rattle.std.specs.declared.cmp.Ordering.{Ordering}
 use Rattle.std.specs.declared.cmp.Ordering.TheVariants.{Less, Equal, Greater}
-use Rattle.std.specs.FinMap.Entries.{is_sorted, put, by_order}
+use Rattle.std.specs.FinMap.Entries.{put, by_order}
 use Rattle.gs_base.specs.declared.refusal.Refusal.{Refusal}
-use Rattle.gs_path.specs.Path.{Name, Path, path_cmp, begins}
+use Rattle.gs_path.specs.Path.{Path, path_cmp, begins}
 use Rattle.gs_path.specs.Element.{is_hidden}
 use Rattle.gs_tree.specs.Entry.{Entry, Dir, File}
-use Rattle.gs_tree.specs.Plain.{Plain, Same, after}
+use Rattle.gs_tree.specs.Plain.{Plain, after}
 use Rattle.gs_tree.specs.Find.{Rows, at, is_too_deep, is_copied_too_deep, most_elements}
-use Rattle.gs_tree.specs.Edits.{mkdirs, create, rename, hide, unhide, unhidden, add_chunk, set_chunk, remove, snapshot, same_path, target_of, hidden_path, old_name, is_dir, last}
+use Rattle.gs_tree.specs.Edits.{mkdirs, create, rename, hide, unhide, add_chunk, set_chunk, remove, snapshot, same_path, target_of, hidden_path, old_name, is_dir, last}
 use Rattle.gs_tree.specs.Mapped.{mapped_entry, mapped_at, mapped, mapped_result}
 use Rattle.gs_tree.proofs.Mapped.{mapped_cond, mkdirs-map, create-map, rename-map, hide-map, unhide-map, remove-map, add_chunk-map, set_chunk-map, snapshot-map}
 use Rattle.gs_edit.specs.Table.{with_row, table, tabled, paths_of, fronts, moved_path}

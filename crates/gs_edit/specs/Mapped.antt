@@ -1,5 +1,5 @@
 -- Rows with another payload, and rows that have what a plain tree has.
-use Rattle.std.specs.Prelude.{◌≡◌, ◌+◌, ◌∷◌, [], ℕ, List, Bool, true, map, Result, Ok, Err, codes, refl}
+use Rattle.std.specs.Prelude.{◌≡◌, ◌+◌, ◌∷◌, [], ℕ, List, true, map, Result, Ok, Err, codes, refl}
 use Rattle.std.specs.FinMap.Entries.{is_sorted}
 use Rattle.gs_base.specs.declared.refusal.Refusal.{Refusal}
 use Rattle.gs_path.specs.Path.{path_cmp}

@@ -185,10 +185,7 @@ fn counts_without(alloc: Global, tree: &Tree, refs: &Refs, paths: &[Path]) -> Re
     let mut rest = refs.copy(alloc)?;
     for path in paths {
         let chunks = tree.chunks_under(alloc, path)?;
-        match rest.lower_each(&chunks) {
-            Ok(()) => {}
-            Err(refusal) => return Err(refusal),
-        }
+        rest.lower_each(&chunks)?;
     }
     Ok(rest)
 }
@@ -203,10 +200,7 @@ pub(crate) fn what_goes(
     ensures { Scans moment.0 (fin_map.entries tree.now) refs.now result }
 {
     let removed = scan_paths(alloc, tree, moment)?;
-    let rest = match counts_without(alloc, tree, refs, &removed) {
-        Ok(rest) => rest,
-        Err(refusal) => return Err(refusal),
-    };
+    let rest = counts_without(alloc, tree, refs, &removed)?;
     let forgotten = rest.orphans(alloc)?;
     Ok(Scan { removed, forgotten })
 }
