@@ -1,20 +1,26 @@
 -- Inverses that are made of lists of inverses.
 use Rattle.std.specs.List.{list_all}
-use Rattle.std.proofs.Common.{◌≡◌, true, ℕ, List, [], ◌∷◌, refl, sym, ap, ◌∙◌, subst}
-use Rattle.std.specs.Prelude.{Some, Vec}
+use Rattle.std.proofs.Common.{◌≡◌, true, ℕ, List, [], ◌∷◌, refl, sym, ap, ◌∙◌, subst, ◌++◌, Bool, cond, length, false}
+use Rattle.std.specs.Prelude.{Some, Vec, is_some}
 use Rattle.std.specs.declared.alloc.Global.{Global}
 use Rattle.std.specs.FinMap.{FinMap, get}
 use Rattle.gs_path.specs.Path.{Path, path_cmp}
 use Rattle.gs_refs.specs.Counts.{Counts, put_each, raised_each}
 use Rattle.gs_tree.specs.Entry.{Entry}
-use Rattle.gs_tree.specs.Find.{Rows}
+use Rattle.gs_tree.specs.Find.{Rows, at, IsWithin, most_elements}
+use Rattle.gs_tree.specs.Edits.{same_path}
+use Rattle.std.proofs.lemmas.Bool.{le-leb}
+use Rattle.gs_tree.proofs.Laws.{with_at-append}
+use Rattle.gs_tree.proofs.Chunks.{same_itself}
+use Rattle.gs_tree.proofs.Levels.{both_true}
 use Rattle.gs_tree.specs.Inverses.{removed_chunks}
-use Rattle.gs_tree.specs.Build.{rows_of_entries, is_short}
+use Rattle.gs_tree.specs.Build.{rows_of_entries, prefixed, is_short}
 use Rattle.gs_tree.specs.Lists.{made_paths, made_inverse, is_made, is_removed, PutsBack, IsSameInverse}
 use Rattle.gs_tree.specs.declared.inverse.TreeInverse.{TreeInverse}
 use Rattle.gs_tree.specs.declared.inverse.TreeInverse.TheVariants.{Made, Removed}
 use Rattle.gs_tree.proofs.Parts.{made_same, removed_again, removed_whole}
-use Rattle.gs_edit.specs.Names.{accepted, counts_back}
+use Rattle.gs_edit.specs.View.{NamesView}
+use Rattle.gs_edit.specs.Names.{accepted, counts_back, NamesTakenBack}
 use Rattle.gs_edit.specs.Listed.{Remembers, IsListOf, IsListOfMade, IsListOfRemoved, IsMadeOfList, DoesTheSame, is_listed, has_short_paths}
 use Rattle.gs_edit.specs.declared.edit.Inverse.{Inverse}
 use Rattle.gs_edit.specs.declared.edit.Inverse.TheVariants as inverses
@@ -95,3 +101,32 @@ list_is_one i (lists.AddChunk path) h short = refl
 list_is_one i (lists.Cow path index chunk) h short = refl
 list_is_one i (lists.Snapshot path) h short = refl
 list_is_one i (lists.Forget chunks) h short = refl
+
+-- each row that stands below a path is short, where all that stands there is
+rows_short : (path : Path) (rows : Rows ℕ) → ((q : Path) → is_some (at rows q) ≡ true → is_short (path ++ q) ≡ true) → list_all (λ r. is_short r.0) (prefixed path rows) ≡ true
+rows_short path [] h = refl
+rows_short path (r ∷ rows) h =
+    both_true (is_short (path ++ r.0)) (list_all (λ s. is_short s.0) (prefixed path rows)) (h r.0 (ap (λ b. is_some (cond b (Some r.1) (at rows r.0))) (same_itself r.0)))
+    (rows_short path rows (λ q some. h q (later q some (same_path q r.0))))
+  where
+    later : (q : Path) → is_some (at rows q) ≡ true → (b : Bool) → is_some (cond b (Some r.1) (at rows q)) ≡ true
+    later q some true = refl
+    later q some false = some
+
+removed_short : (i : Inverse) (rows : Rows ℕ) (old new : NamesView) → NamesTakenBack i old new → IsWithin most_elements (get old.tree) → IsListOfRemoved i rows → list_all (λ r. is_short r.0) rows ≡ true
+removed_short i rows old new back within (path, (node, (is, (one, are)))) =
+    let taken : NamesTakenBack (inverses.Tree (Removed path node)) old new = subst (λ j. NamesTakenBack j old new) is back in
+    ap (list_all (λ r. is_short r.0)) are
+    ∙ rows_short path node (λ q some. le-leb (length (path ++ q)) 64 (within (path ++ q) (ap is_some (sym (taken.tree (path ++ q)) ∙ with_at-append path (at node) (get new.tree) q) ∙ some)))
+
+pub list_is_short : (i : Inverse) (list : ListedInverse) (old new : NamesView) → NamesTakenBack i old new → IsWithin most_elements (get old.tree) → IsListOf i list → has_short_paths list ≡ true
+list_is_short i (lists.Mkdirs paths) old new back within h = refl
+list_is_short i (lists.Create paths) old new back within h = refl
+list_is_short i (lists.Rename to from) old new back within h = refl
+list_is_short i (lists.Hide to from) old new back within h = refl
+list_is_short i (lists.Unhide to from) old new back within h = refl
+list_is_short i (lists.Remove entries) old new back within h = removed_short i (rows_of_entries entries.items) old new back within h
+list_is_short i (lists.AddChunk path) old new back within h = refl
+list_is_short i (lists.Cow path index chunk) old new back within h = refl
+list_is_short i (lists.Snapshot path) old new back within h = refl
+list_is_short i (lists.Forget chunks) old new back within h = refl
