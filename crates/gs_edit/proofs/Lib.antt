@@ -10,3 +10,4 @@ pub mod Removals
 pub mod Freed
 pub mod Sweeping
 pub mod Payloads
+pub mod Texts

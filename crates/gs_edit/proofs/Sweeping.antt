@@ -1,6 +1,6 @@
 -- The edits that a scan finds are accepted, and leave nothing that goes and no chunk without a reference.
 use Rattle.std.proofs.Common.{◌≡◌, inl, inr, ◌&&◌, ◌||◌, ◌==◌, ◌+◌, ◌++◌, ℕ, Bool, true, false, not, cond, T, List, [], ◌∷◌, filter, map, refl, sym, ap, ◌∙◌, subst, arith}
-use Rattle.std.specs.Prelude.{Option, Some, None, Result, Ok, Err, is_ok, is_some, is_none, Vec}
+use Rattle.std.specs.Prelude.{IfErr, Option, Some, None, Result, Ok, Err, is_ok, is_some, is_none, Vec}
 use Rattle.std.specs.List.{list_any, list_all}
 use Rattle.std.specs.Global.{Global}
 use Rattle.std.specs.Option.{option_map}
@@ -26,7 +26,8 @@ use Rattle.gs_edit.specs.View.{NamesView}
 use Rattle.gs_edit.specs.Names.{IsCounted}
 use Rattle.gs_edit.specs.Table.{paths_of, table, tabled, fronts}
 use Rattle.gs_edit.specs.Plain.{remove_rows}
-use Rattle.gs_edit.specs.Edits.{named, with_counts}
+use Rattle.gs_edit.specs.Edits.{named, with_counts, Applies}
+use Rattle.gs_edit.specs.declared.edit.Inverse.{Inverse}
 use Rattle.gs_edit.specs.Scan.{is_over_since, is_over, goes, is_removed, is_gone, gone, left, has_just, IsScan, Scans}
 use Rattle.gs_edit.specs.Sweep.{and_next, named_each, forgets, edits_of, count_of, IsSwept, Sweeps}
 use Rattle.gs_edit.specs.declared.edit.Edit.{Edit}
@@ -339,3 +340,23 @@ nothing_over moment rows p closed some =
       | true ↦ λ b. absurd (over_goes moment rows p closed some (down moment p b))
       | false ↦ λ b. refl
     ] refl
+
+-- edits one after the other, in two parts
+pub named_append : (es fs : List Edit) (rows : Rows ℕ) (refs : Counts) → named_each (es ++ fs) rows refs ≡ and_next (named_each es rows refs) (λ r c. named_each fs r c)
+named_append [] fs rows refs = refl
+named_append (e ∷ es) fs rows refs =
+    elim (named e rows refs) as (λ n. and_next n (λ r c. named_each (es ++ fs) r c) ≡ and_next (and_next n (λ r c. named_each es r c)) (λ r c. named_each fs r c)) [
+      | Ok new ↦ named_append es fs new.0 new.1
+      | Err f ↦ refl
+    ]
+
+-- an edit of a scan's, once those before it are made
+pub in_turn : (moment : ℕ) (names mid new : NamesView) (scan : Scan) (front : List Edit) (next : Edit) (rest : List Edit) (result : Result Inverse Refusal) → IsCounted names → IsScan moment (fin.entries names.tree) names.refs scan
+    → edits_of scan ≡ front ++ next ∷ rest → named_each front (fin.entries names.tree) names.refs ≡ Ok (fin.entries mid.tree, mid.refs) → Applies next mid result new → IfErr result (λ e. e ≡ Memory)
+in_turn moment names mid new scan front next rest (Ok i) counted found is made applied = tt
+in_turn moment names mid new scan front next rest (Err e) counted found is made applied = elim applied.0 [
+  | inl refused ↦ absurd (subst (λ r. Sweeps moment (fin.entries names.tree) r)
+      (ap (λ es. named_each es (fin.entries names.tree) names.refs) is ∙ named_append front (next ∷ rest) (fin.entries names.tree) names.refs
+      ∙ ap (λ r. and_next r (λ rs c. named_each (next ∷ rest) rs c)) made ∙ ap (λ r. and_next r (λ rs c. named_each rest rs c)) refused) (swept moment names scan counted found))
+  | inr memory ↦ memory
+]

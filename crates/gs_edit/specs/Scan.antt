@@ -1,7 +1,7 @@
 -- What a scan at a moment takes out: what was deleted long enough before it, with all under it, and then each chunk that
 -- is left without a reference.
 use Rattle.std.specs.Prelude.{◌≡◌, ◌⊎◌, ◌&&◌, ◌+◌, ◌==◌, ◌≤◌, ◌∷◌, [], ℕ, Bool, true, false, not, nat_lt, if◌then◌else◌, List, filter, length, codes, Result, Ok, Err, Option, Some, None, is_some, refl}
-use Rattle.std.specs.List.{list_any}
+use Rattle.std.specs.List.{list_any, list_all}
 use Rattle.std.specs.List.Sorted.{IsStrictlySortedBy}
 use Rattle.std.specs.Ordering.{nat_cmp, eq_by_cmp, ordering_then}
 use Rattle.std.specs.Cmp.{IsTotalOrder, nat_cmp_total, then_total, on_total}
@@ -55,10 +55,18 @@ gone moment rows = filter (λ r. is_gone moment (at rows) r.0) rows
 abbrev pub left : {A : Type 0} → ℕ → Rows A → Rows A
 left moment rows = filter (λ r. not (is_gone moment (at rows) r.0)) rows
 
--- The order of removals: fewer elements first, then the bytes of the paths' texts. Two paths have one text only where an
--- element has a slash, as none has that was read; they stand in the order of paths.
+-- no element has a slash, as none has that was read
+abbrev pub is_without_slashes : Path → Bool
+is_without_slashes p = list_all (λ name. list_all (λ byte. not (byte == 47)) name) p
+
+-- fewer elements first, then the bytes of the texts
+abbrev pub text_cmp : Path → Path → Ordering
+text_cmp p q = ordering_then (nat_cmp (length p) (length q)) (slice_cmp nat_cmp (path_text p) (path_text q))
+
+-- The order of removals. Two paths of so many elements have one text only where an element has a slash; they stand in the
+-- order of paths.
 abbrev pub removal_cmp : Path → Path → Ordering
-removal_cmp p q = ordering_then (ordering_then (nat_cmp (length p) (length q)) (slice_cmp nat_cmp (path_text p) (path_text q))) (path_cmp p q)
+removal_cmp p q = ordering_then (text_cmp p q) (path_cmp p q)
 
 pub removal_total : IsTotalOrder removal_cmp
 removal_total = then_total (then_total (on_total length nat_cmp_total) (on_total path_text nat_list_cmp_total)) path_total

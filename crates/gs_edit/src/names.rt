@@ -458,9 +458,9 @@ impl Names {
         }
     }
 
-    /// What a scan at a moment takes out: what was deleted more than 259,200 seconds before it, and then each chunk
-    /// without references. It changes nothing. BadLine where a chunk stands in what it removes more often than its count
-    /// says.
+    /// What a scan at a moment takes out: what was deleted more than 259,200 seconds before it, and then each chunk that is
+    /// left without a reference. It changes nothing; `promises` says what its edits make of the names. BadLine where a chunk
+    /// stands in what goes more often than its count says.
     pub fn scan(&self, moment: Moment) -> Result<Scan, Refusal>
         ensures { Scans moment.0 (fin_map.entries self.now.tree) self.now.refs result }
     {

@@ -1,6 +1,6 @@
 //! What holds of all names, whatever edits are made of them.
 
-ghost use Rattle.std.specs.Prelude.{◌≡◌, ◌&&◌, ◌==◌, ℕ, [], false, true, is_some, Result, Ok, Err};
+ghost use Rattle.std.specs.Prelude.{◌≡◌, ◌&&◌, ◌==◌, ◌++◌, ◌∷◌, ℕ, List, [], false, true, is_some, Result, Ok, Err, IfErr};
 ghost use Rattle.std.specs.List.{list_any};
 ghost use Rattle.std.specs.Ordering.{eq_by_cmp, nat_cmp};
 ghost use Rattle.std.specs.FinMap.{get, entries};
@@ -16,8 +16,10 @@ ghost use Rattle.gs_edit.specs.View.{NamesView};
 ghost use Rattle.gs_edit.specs.Names.{NamesTakenBack, Undoes, IsCounted, blank};
 ghost use Rattle.gs_edit.specs.Plain.{mkdirs_rows, create_rows, rename_rows, hide_rows, unhide_rows, remove_rows, add_chunk_rows, set_chunk_rows, snapshot_rows};
 ghost use Rattle.gs_edit.specs.Mapped.{Tables, mapped_rows, mapped_edit};
-ghost use Rattle.gs_edit.specs.Scan.{is_over, left, Scans};
+ghost use Rattle.gs_edit.specs.Scan.{is_over, left, Scans, removal_cmp, text_cmp, is_without_slashes};
 ghost use Rattle.gs_edit.specs.Sweep.{named_each, edits_of, Sweeps, IsSwept};
+ghost use Rattle.gs_edit.specs.Edits.{Applies};
+ghost use Rattle.gs_edit.specs.declared.edit.Edit.{Edit};
 ghost use Rattle.gs_edit.specs.declared.edit.Inverse.{Inverse};
 ghost use Rattle.gs_edit.specs.declared.scan.Scan.{Scan};
 
@@ -29,17 +31,23 @@ pub fn counts_stay_true()
     ensures undo { (inverse : Inverse) (old new : NamesView) (result : Result (Unit {0}) Refusal) → Undoes inverse old result new → IsCounted old → IsCounted new }
 {}
 
-/// What a scan finds can be done: where each chunk's count is how often it stands in the tree's files, its edits are accepted
-/// one after the other, memory aside, and no scan is refused but for want of memory. Afterwards all that goes is out, a chunk
-/// is listed exactly where a file has it, and a scan at the same moment finds nothing. The chunks that are forgotten are the
-/// listed ones that stand in none of the files that are left. Where something stands above all that stands, no element of a
-/// path that is left is over.
+/// What a scan finds can be done: where each chunk's count is how often it stands in the tree's files, its edits are
+/// accepted one after the other, so that none in its turn is refused but for want of memory, and neither is the scan.
+/// Afterwards all that goes is out, a chunk is listed exactly where a file has it, and a scan at the same moment finds
+/// nothing. The chunks that are forgotten are the listed ones that stand in none of the files that are left. Where something
+/// stands above all that stands, no element of a path that is left is over.
 pub fn scans_take_out_what_goes()
     ensures accepted { (moment : ℕ) (names : NamesView) (scan : Scan) → IsCounted names → Scans moment (entries names.tree) names.refs (Ok scan) → Sweeps moment (entries names.tree) (named_each (edits_of scan) (entries names.tree) names.refs) }
+    ensures turn { (moment : ℕ) (names mid new : NamesView) (scan : Scan) (front : List Edit) (next : Edit) (rest : List Edit) (result : Result Inverse Refusal) → IsCounted names → Scans moment (entries names.tree) names.refs (Ok scan) → edits_of scan ≡ front ++ next ∷ rest → named_each front (entries names.tree) names.refs ≡ Ok (entries mid.tree, mid.refs) → Applies next mid result new → IfErr result (λ e. e ≡ Memory) }
     ensures forgotten { (moment : ℕ) (names : NamesView) (scan : Scan) → IsCounted names → Scans moment (entries names.tree) names.refs (Ok scan) → (chunk : ℕ) → list_any (eq_by_cmp nat_cmp chunk) scan.forgotten.items ≡ (is_some (get names.refs chunk) && (occurrences chunk (all_chunks (left moment (entries names.tree))) == 0)) }
     ensures refused { (moment : ℕ) (names : NamesView) (e : Refusal) → IsCounted names → Scans moment (entries names.tree) names.refs (Err e) → e ≡ Memory }
     ensures again { (moment : ℕ) (old : Rows ℕ) (new : Rows ℕ × Counts) (scan : Scan) → IsSwept moment old new → Scans moment new.0 new.1 (Ok scan) → (scan.removed.items ≡ []) × (scan.forgotten.items ≡ []) }
     ensures over { (moment : ℕ) (old : Rows ℕ) (path : Path) → IsClosed (at old) → is_some (at (left moment old) path) ≡ true → list_any (is_over moment) path ≡ false }
+{}
+
+/// Of paths without a slash in an element the order of removals is that of the numbers of elements, then of the texts.
+pub fn removals_stand_by_their_texts()
+    ensures { (p q : Path) → is_without_slashes p ≡ true → is_without_slashes q ≡ true → removal_cmp p q ≡ text_cmp p q }
 {}
 
 /// The rows of an edit are the plain tree's command, written down: they rise and have at each path what the command leaves

@@ -9,11 +9,15 @@ append-nil : (xs : List Path) → xs ++ [] ≡ xs
 append-nil [] = refl
 append-nil (x ∷ xs) = ap (λ ys. x ∷ ys) (append-nil xs)
 
+-- one path more
+carried : (done new rest all more : List Path) (x y : Path) → new ≡ done ++ y ∷ [] → y ≡ x → more ≡ x ∷ rest → done ++ more ≡ all → new ++ rest ≡ all
+carried done new rest all more x y pushed same next before =
+    ap (λ ps. ps ++ rest) (pushed ∙ ap (λ p. done ++ p ∷ []) same) ∙ append_assoc done (x ∷ []) rest ∙ ap (λ ps. done ++ ps) (sym next) ∙ before
+
 pub loop-removal-preserved : goal.loop-removal-preserved
 loop-removal-preserved c =
-    let rest : List Path = c.next.new.self.rest.items in
-    ap (λ (ps : List Path). ps ++ rest) (c.in_ok-push.ensures.items ∙ ap (λ (p : Path). c.loop-removal.paths.items ++ p ∷ []) c.into_path.ensures)
-    ∙ append_assoc c.loop-removal.paths.items (c.in-Some.removal ∷ []) rest ∙ ap (λ (ps : List Path). c.loop-removal.paths.items ++ ps) (sym c.in-Some.ensures.steps.0) ∙ c.loop-removal.invariant
+    carried c.loop-removal.paths.items c.push.new.self.items c.next.new.self.rest.items c.into_iter-removal-iterator.result.rest.items c.loop-removal.removal-iterator.rest.items c.in-Some.removal c.into_path.result c.in_ok-push.ensures.items
+    c.into_path.ensures c.in-Some.ensures.steps.0 c.loop-removal.invariant
 
 pub returns : goal.returns
 returns c =
