@@ -1,5 +1,5 @@
 -- The plain machine with its epoch and its count of deletions: what each request answers and leaves.
-use Rattle.std.specs.Prelude.{ℕ, ◌+◌, ◌==◌, ◌&&◌, not, Bool, true, false, [], List, if◌then◌else◌, Option, Some, None, Result, Ok, Err, is_none}
+use Rattle.std.specs.Prelude.{◌≡◌, refl, ℕ, ◌+◌, ◌==◌, ◌&&◌, not, Bool, true, false, [], List, if◌then◌else◌, Option, Some, None, Result, Ok, Err, is_none}
 use Rattle.gs_base.specs.Numbers.{last_number}
 use Rattle.gs_base.specs.declared.refusal.Refusal.{Refusal}
 use Rattle.gs_base.specs.declared.refusal.Refusal.TheVariants.{IsRoot, NotEmpty, Exhausted, AlreadyUpgrading, NotUpgrading}
@@ -94,3 +94,9 @@ takes_no_memory (RollingUpgrade Query) = true
 takes_no_memory (RollingUpgrade Prepare) = true
 takes_no_memory (RollingUpgrade Finalize) = true
 takes_no_memory request = false
+
+an_upgrade_begins : step_of start (RollingUpgrade Prepare) ≡ (Epoch 1, record start { plain = prepared first; epoch = 1 })
+an_upgrade_begins = refl
+
+none_ends : step_of start (RollingUpgrade Finalize) ≡ (Refused NotUpgrading, start)
+none_ends = refl

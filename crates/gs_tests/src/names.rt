@@ -246,7 +246,7 @@ fn removes_first(player: &Player, moment: u64, above: &str) -> Result<bool, Refu
     let above = path(player.alloc, above)?;
     let scan = player.names.scan(Moment(moment))?;
     match scan.removed.first() {
-        Some(path) => Ok(path.starts_with(&above)),
+        Some(first) => Ok(first.starts_with(&above)),
         None => Ok(false),
     }
 }
