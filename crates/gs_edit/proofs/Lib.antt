@@ -11,3 +11,4 @@ pub mod Freed
 pub mod Sweeping
 pub mod Payloads
 pub mod Texts
+pub mod OneScan
