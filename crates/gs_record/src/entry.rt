@@ -1,0 +1,63 @@
+use gs_base::{Handle, Members, Moment, Refusal, ReqId, ServerId};
+use gs_edit::Edit;
+use gs_lease::View;
+
+/// A view of a chunk as a journal tells it.
+#[derive(Clone, Copy, Debug, PartialEq, Eq)]
+pub struct SettledView {
+    pub handle: Handle,
+    pub view: View,
+}
+
+/// Which servers answered that they have a chunk as it stood at prepare.
+#[derive(Clone, Copy, Debug, PartialEq, Eq)]
+pub struct Answered {
+    pub handle: Handle,
+    pub members: Members,
+}
+
+/// An entry of the master's journal.
+#[derive(Drop)]
+pub enum Entry {
+    /// An edit of the names was accepted. Client 0 under number 0 is the master itself.
+    Edit {
+        by: ReqId,
+        edit: Edit,
+    },
+    /// A request was refused, and the refusal is kept.
+    Said {
+        to: ReqId,
+        refusal: Refusal,
+    },
+    /// A view of a chunk is begun with this version.
+    Propose {
+        handle: Handle,
+        version: u64,
+    },
+    /// A view of a chunk is settled.
+    Settle(SettledView),
+    /// An upgrade is prepared: the epoch before it, and how many chunks are listed.
+    Prepare {
+        epoch: u64,
+        moment: Moment,
+        chunks: u32,
+    },
+    /// An upgrade of this epoch is finalized.
+    Finalize {
+        epoch: u64,
+    },
+    /// The rollback of an upgrade is begun.
+    RollbackBegin {
+        epoch: u64,
+    },
+    /// The rollback of an upgrade is done.
+    RollbackCommit {
+        epoch: u64,
+        answered: Vec<Answered>,
+    },
+    /// A server holds a copy of a chunk with its sealed image.
+    Holder {
+        handle: Handle,
+        server: ServerId,
+    },
+}
