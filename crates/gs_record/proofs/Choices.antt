@@ -1,51 +1,16 @@
 -- Edits and entries are read by their tags.
-use Rattle.std.proofs.Common.{◌≡◌, ℕ, suc, Bool, true, false, cond, eqb, List, [], ◌∷◌, ◌++◌, Option, Some, None, refl, sym, ap, subst, ◌∙◌}
+use Rattle.std.proofs.Common.{◌≡◌, ℕ, suc, Bool, true, false, cond, eqb, List, [], ◌∷◌, ◌++◌, Some, None, refl, sym, ap, ◌∙◌}
 use Rattle.std.proofs.lemmas.Bool.{eqb-true}
 use Rattle.gs_journal.specs.declared.version.Version.{Version}
 use Rattle.gs_journal.specs.declared.version.Version.TheVariants.{One, Two}
 use Rattle.gs_record.proofs.Fields.{n64, n32, reads_handle, reads_server, reads_path, reads_refusal, reads_request, reads_settled, reads_answered}
-use Rattle.gs_record.proofs.Laws.{IsBytes, Takes, Reads, reads_both, reads_list, bind_some, some_is}
+use Rattle.gs_record.proofs.Checkpoints.{reads_checkpoint}
+use Rattle.gs_record.proofs.Tags.{Tagged, Chosen, arm, again}
+use Rattle.gs_record.proofs.Laws.{IsBytes, Takes, Reads, reads_both, reads_list}
 use Rattle.gs_record.specs.Encoding.{edit_tag, edit_fields, edit, kind, body}
-use Rattle.gs_record.specs.Plain.{PlainEdit, Mkdirs, Create, Rename, Hide, Unhide, Remove, AddChunk, Cow, Snapshot, Forget, PlainEntry, Edited, Said, Propose, Settle, Prepare, Finalize, RollbackBegin, RollbackCommit, Holder}
+use Rattle.gs_record.specs.Plain.{PlainEdit, Mkdirs, Create, Rename, Hide, Unhide, Remove, AddChunk, Cow, Snapshot, Forget, PlainEntry, Edited, Said, Propose, Settle, Prepare, Finalize, RollbackBegin, RollbackCommit, Whole, Holder}
 use Rattle.gs_record.specs.Writable.{IsEdit, AreFields}
-use Rattle.gs_record.specs.inner.Reading.{◌>>=◌, Reader, made, byte_at, edit_of_chunks_at, edit_fields_at, edit_at, holder_at, entry_at}
-
--- how the values of a type are told apart by a tag, and what stands behind it
-pub record Tagged (X : Type 0) : Type 1 where
-  pub Is : X → Type 0
-  pub tag : X → ℕ
-  pub fields : X → List ℕ
-
--- what was read behind a tag
-pub record Chosen {X : Type 0} (t : Tagged X) (k : ℕ) (bytes : List ℕ) (x : X) (rest : List ℕ) : Type 0 where
-  pub same : t.tag x ≡ k
-  pub takes : Takes t.Is t.fields bytes x rest
-
--- the values of one tag
-record Arm {X A : Type 0} (t : Tagged X) (k : ℕ) (Is : A → Type 0) (write : A → List ℕ) (of : A → X) : Type 0 where
-  is : (y : A) → Is y → t.Is (of y)
-  tag : (y : A) → t.tag (of y) ≡ k
-  fields : (y : A) → write y ≡ t.fields (of y)
-
--- an arm of a choice, and the arms behind it
-arm : {X A : Type 0} (t : Tagged X) {k : ℕ} {Is : A → Type 0} {write : A → List ℕ} {of : A → X} {reader : Reader A} {other : Option (X × List ℕ)} {n : ℕ} {bytes : List ℕ} {x : X} {rest : List ℕ}
-    → Reads Is write reader → Arm t k Is write of → IsBytes bytes
-    → (other ≡ Some (x, rest) → Chosen t n bytes x rest)
-    → cond (eqb n k) (made (λ y. Some (of y)) reader bytes) other ≡ Some (x, rest) → Chosen t n bytes x rest
-arm {X = X} {A = A} t {k = k} {Is = Is} {write = write} {of = of} {reader = reader} {other = other} {n = n} {bytes = bytes} {x = x} {rest = rest} p a h more e = by (eqb n k) refl e where
-  by : (b : Bool) → eqb n k ≡ b → cond b (made (λ y. Some (of y)) reader bytes) other ≡ Some (x, rest) → Chosen t n bytes x rest
-  by false same e = more e
-  by true same e =
-      let s = bind_some (reader bytes) (λ x. Some (of x.0) >>= λ y. Some (y, x.1)) (x, rest) e in
-      let one = p.takes bytes s.0.0 s.0.1 h s.1 in
-      let whole : Chosen t n bytes (of s.0.0) s.0.1 = record {
-        same = a.tag s.0.0 ∙ sym (eqb-true n k same);
-        takes = record { parts = one.parts ∙ ap (λ (z : List ℕ). z ++ s.0.1) (a.fields s.0.0); left = one.left; is = a.is s.0.0 one.is };
-      } in
-      subst (λ (y : X × List ℕ). Chosen t n bytes y.0 y.1) (some_is (of s.0.0, s.0.1) (x, rest) s.2) whole
-
-again : {X A : Type 0} {Is : A → Type 0} {write : A → List ℕ} (of : A → X) {reader : Reader A} → Reads Is write reader → (y : A) (rest : List ℕ) → Is y → made (λ y. Some (of y)) reader (write y ++ rest) ≡ Some (of y, rest)
-again of p y rest is = rw (p.again y rest is) refl
+use Rattle.gs_record.specs.inner.Reading.{byte_at, edit_of_chunks_at, edit_fields_at, edit_at, holder_at, entry_at}
 
 -- ---- edits
 
@@ -96,7 +61,7 @@ reads_edit = record { again = edit_again; takes = takes } where
 -- ---- entries
 
 abbrev pub entries : Version → Tagged PlainEntry
-entries version = record { Is = AreFields version; tag = kind; fields = body }
+entries version = record { Is = AreFields version; tag = kind; fields = body version }
 
 holders : (version : Version) (n : ℕ) (bytes : List ℕ) (x : PlainEntry) (rest : List ℕ) → IsBytes bytes → n ≡ 10 → holder_at version bytes ≡ Some (x, rest) → Chosen (entries version) n bytes x rest
 unfolding holder_at
@@ -114,13 +79,14 @@ any_entry version n bytes x rest h e =
     arm (entries version) {of = λ x. Finalize x} n64 (record { is = λ y is. is; tag = λ y. refl; fields = λ y. refl }) h (λ e.
     arm (entries version) {of = λ x. RollbackBegin x} n64 (record { is = λ y is. is; tag = λ y. refl; fields = λ y. refl }) h (λ e.
     arm (entries version) {of = λ x. RollbackCommit x.0 x.1} (reads_both n64 (reads_list reads_answered)) (record { is = λ y is. is; tag = λ y. refl; fields = λ y. refl }) h (λ e.
-    by_kind (eqb n 10) refl e) e) e) e) e) e) e) e) e
+    arm (entries version) {of = λ x. Whole x} (reads_checkpoint version) (record { is = λ y is. is; tag = λ y. refl; fields = λ y. refl }) h (λ e.
+    by_kind (eqb n 10) refl e) e) e) e) e) e) e) e) e) e
   where
     by_kind : (b : Bool) → eqb n 10 ≡ b → cond b (holder_at version bytes) None ≡ Some (x, rest) → Chosen (entries version) n bytes x rest
     by_kind true k e = holders version n bytes x rest h (eqb-true n 10 k) e
     by_kind false k e = absurd cc
 
-pub entry_again : (version : Version) (x : PlainEntry) (rest : List ℕ) → AreFields version x → entry_at version (kind x) (body x ++ rest) ≡ Some (x, rest)
+pub entry_again : (version : Version) (x : PlainEntry) (rest : List ℕ) → AreFields version x → entry_at version (kind x) (body version x ++ rest) ≡ Some (x, rest)
 unfolding entry_at holder_at
 entry_again version (Edited by e) rest is = again (λ x. Edited x.0 x.1) (reads_both reads_request reads_edit) (by, e) rest is
 entry_again version (Said to r) rest is = again (λ x. Said x.0 x.1) (reads_both reads_request reads_refusal) (to, r) rest is
@@ -130,5 +96,6 @@ entry_again version (Prepare epoch moment chunks) rest is = again (λ x. Prepare
 entry_again version (Finalize epoch) rest is = again (λ x. Finalize x) n64 epoch rest is
 entry_again version (RollbackBegin epoch) rest is = again (λ x. RollbackBegin x) n64 epoch rest is
 entry_again version (RollbackCommit epoch answers) rest is = again (λ x. RollbackCommit x.0 x.1) (reads_both n64 (reads_list reads_answered)) (epoch, answers) rest is
+entry_again version (Whole c) rest is = again (λ x. Whole x) (reads_checkpoint version) c rest is
 entry_again One (Holder chunk server) rest is = absurd is
 entry_again Two (Holder chunk server) rest is = again (λ x. Holder x.0 x.1) (reads_both reads_handle reads_server) (chunk, server) rest is

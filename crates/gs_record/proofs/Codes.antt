@@ -1,11 +1,12 @@
 -- What the steps of the readers and the writers come to.
-use Rattle.std.proofs.Common.{◌≡◌, ℕ, ◌^◌, ◌<◌, Bool, true, false, true≢false, not, List, [], ◌∷◌, ◌++◌, Option, Some, None, Result, Ok, Err, refl, sym, ap, subst, ◌∙◌, append_assoc}
+use Rattle.gs_record.specs.Plain.{Refused}
+use Rattle.std.proofs.Common.{◌≢◌, ◌≡◌, ℕ, ◌^◌, ◌<◌, Bool, true, false, true≢false, not, List, [], ◌∷◌, ◌++◌, Option, Some, None, Result, Ok, Err, refl, sym, ap, subst, ◌∙◌, append_assoc}
 use Rattle.std.specs.Bool.{IsTrue}
 use Rattle.std.specs.Int.{w16}
 use Rattle.std.specs.Str.{IsUtf8, is_utf8}
 use Rattle.std.proofs.lemmas.Str.{IsUtf8-from_is_utf8, is_utf8-from_IsUtf8}
 use Rattle.gs_base.specs.Members.{servers_where, has_bit, bits_of}
-use Rattle.gs_base.specs.MemberLaws.{bits_of-servers_where}
+use Rattle.gs_base.specs.MemberLaws.{bits_of-servers_where, eqb_other}
 use Rattle.gs_base.specs.Told.{Told, IsRefusal, detail_text}
 use Rattle.gs_base.specs.declared.refusal.Refusal.{Refusal}
 use Rattle.std.specs.Cmp.{eq_by_cmp_equiv}
@@ -20,7 +21,7 @@ use Rattle.gs_record.specs.Encoding.{text, refusal}
 use Rattle.gs_record.specs.Writable.{AreServers, IsText, IsPath, IsWritable}
 use Rattle.gs_record.specs.declared.fault.Fault.{Fault}
 use Rattle.gs_record.specs.declared.fault.Fault.TheVariants as faults
-use Rattle.gs_record.specs.inner.Reading.{◌>>=◌, byte_at, number_at, bytes_at, text_at, refusal_at}
+use Rattle.gs_record.specs.inner.Reading.{◌>>=◌, byte_at, number_at, bytes_at, text_at, refusal_at, outcome_at}
 use Rattle.gs_record.specs.inner.Told.{told}
 use Rattle.gs_record.specs.inner.Work.{Puts}
 
@@ -104,3 +105,8 @@ two_pieces old a b mid new e f = f ∙ ap (λ (z : List ℕ). z ++ b) e ∙ appe
 
 pub not_true : (b : Bool) → b ≡ false → IsTrue b → ⊥
 not_true b e h = absurd (true≢false (sym h ∙ e))
+
+pub outcome_read : (bytes : List ℕ) (n : ℕ) (mid t rest : List ℕ) (o : Option Refusal) → byte_at bytes ≡ Some (n, mid) → text_at mid ≡ Some (t, rest) → n ≢ 0 → Told n t o → outcome_at bytes ≡ (o >>= λ r. Some (Refused r, rest))
+unfolding outcome_at
+outcome_read bytes n mid t rest None e f other h = rw e (rw f (rw (eqb_other n 0 other) (rw (told_is n t None h) refl)))
+outcome_read bytes n mid t rest (Some r) e f other h = rw e (rw f (rw (eqb_other n 0 other) (rw (told_is n t (Some r) h) refl)))

@@ -1,7 +1,10 @@
+pub mod Chain
+pub mod Checkpoints
 pub mod Choices
 pub mod Codes
 pub mod Fields
 pub mod Laws
 pub mod Loops
+pub mod Tags
 pub mod Told
 pub mod Whole

@@ -1,5 +1,5 @@
 -- Which entries can be written: what the types hold, in as many bytes as a field has.
-use Rattle.std.specs.Prelude.{◌≡◌, ◌<◌, ◌≤◌, ◌^◌, ℕ, true, Option, Some, None, Ok, List, length, ⊤}
+use Rattle.std.specs.Prelude.{◌≡◌, ◌<◌, ◌≤◌, ◌^◌, ℕ, true, Option, Some, None, Ok, List, [], length, ⊤}
 use Rattle.std.specs.List.{AllByRecursion}
 use Rattle.std.specs.Str.{is_utf8}
 use Rattle.gs_base.specs.Members.{servers_where, has_bit}
@@ -11,10 +11,13 @@ use Rattle.gs_path.specs.Rules.{parse_hidden}
 use Rattle.gs_lease.specs.declared.view.Term.{Term}
 use Rattle.gs_journal.specs.declared.version.Version.{Version}
 use Rattle.gs_journal.specs.declared.version.Version.TheVariants.{One, Two}
+use Rattle.gs_record.specs.declared.checkpoint.PreparedView.{PreparedView}
+use Rattle.gs_record.specs.declared.checkpoint.Reference.{Reference}
+use Rattle.gs_record.specs.declared.checkpoint.SettledEntry.{SettledEntry}
 use Rattle.gs_record.specs.declared.entry.Answered.{Answered}
 use Rattle.gs_record.specs.declared.entry.SettledView.{SettledView}
 use Rattle.gs_record.specs.Encoding.{body}
-use Rattle.gs_record.specs.Plain.{PlainEdit, Mkdirs, Create, Rename, Hide, Unhide, Remove, AddChunk, Cow, Snapshot, Forget, PlainEntry, Edited, Said, Propose, Settle, Prepare, Finalize, RollbackBegin, RollbackCommit, Holder}
+use Rattle.gs_record.specs.Plain.{PlainEdit, Mkdirs, Create, Rename, Hide, Unhide, Remove, AddChunk, Cow, Snapshot, Forget, PlainEntry, Edited, Said, Propose, Settle, Prepare, Finalize, RollbackBegin, RollbackCommit, Whole, Holder, PlainNode, PlainInverse, UndoMkdirs, UndoCreate, UndoRename, UndoHide, UndoUnhide, UndoRemove, UndoAddChunk, UndoCow, UndoSnapshot, UndoForget, PlainOutcome, Accepted, Refused, PlainReply, PlainCheckpoint}
 
 abbrev pub IsHandle : ℕ → Type 0
 IsHandle n = (1 ≤ n) × IsNumber n
@@ -65,6 +68,50 @@ IsEdit (Cow p index old new) = IsPath p × ((index < 2 ^ 32) × (IsHandle old ×
 IsEdit (Snapshot from to) = IsPath from × IsPath to
 IsEdit (Forget chunks) = AreItems IsHandle chunks
 
+-- the chunks of a file; a directory has none
+abbrev pub IsNode : Option (List ℕ) → Type 0
+IsNode None = ⊤
+IsNode (Some chunks) = AreItems IsHandle chunks
+
+abbrev pub IsTreeEntry : PlainNode → Type 0
+IsTreeEntry e = IsPath e.0 × IsNode e.1
+
+abbrev pub IsInverse : PlainInverse → Type 0
+IsInverse (UndoMkdirs ps) = AreItems IsPath ps
+IsInverse (UndoCreate ps) = AreItems IsPath ps
+IsInverse (UndoRename now before) = IsPath now × IsPath before
+IsInverse (UndoHide now before) = IsPath now × IsPath before
+IsInverse (UndoUnhide now before) = IsPath now × IsPath before
+IsInverse (UndoRemove es) = AreItems IsTreeEntry es
+IsInverse (UndoAddChunk p) = IsPath p
+IsInverse (UndoCow p index old) = IsPath p × ((index < 2 ^ 32) × IsHandle old)
+IsInverse (UndoSnapshot p) = IsPath p
+IsInverse (UndoForget chunks) = AreItems IsHandle chunks
+
+abbrev pub IsReference : Reference → Type 0
+IsReference r = IsHandle r.handle × (r.count < 2 ^ 32)
+
+abbrev pub IsSettledEntry : SettledEntry → Type 0
+IsSettledEntry s = IsSettled s.settled
+
+abbrev pub IsOutcome : PlainOutcome → Type 0
+IsOutcome (Accepted answer) = IsText answer
+IsOutcome (Refused r) = IsWritable r
+
+abbrev pub IsReply : PlainReply → Type 0
+IsReply r = IsRequest r.to × IsOutcome r.outcome
+
+-- in a journal of version 1 a prepared view has no holders
+abbrev pub IsPreparedView : Version → PreparedView → Type 0
+IsPreparedView One v = IsSettled v.settled × (v.holders ≡ [])
+IsPreparedView Two v = IsSettled v.settled × AreServers v.holders
+
+abbrev pub IsCheckpoint : Version → PlainCheckpoint → Type 0
+IsCheckpoint version c =
+    IsHandle c.next_handle × (IsNumber c.next_version × (IsNumber c.next_hidden × (IsNumber c.epoch × (⊤
+    × (AreItems (λ e. ⊤) c.ends × (AreItems IsTreeEntry c.tree × (AreItems IsReference c.references × (AreItems IsSettledEntry c.settled
+    × (AreItems IsReply c.replies × (AreItems (IsPreparedView version) c.prepared × AreItems IsInverse c.inverses))))))))))
+
 -- holders stand in a journal from version 2 on
 abbrev pub IsHolder : Version → ℕ → ℕ → Type 0
 IsHolder One chunk server = ⊥
@@ -79,8 +126,9 @@ AreFields version (Prepare epoch moment chunks) = IsNumber epoch × (IsNumber mo
 AreFields version (Finalize epoch) = IsNumber epoch
 AreFields version (RollbackBegin epoch) = IsNumber epoch
 AreFields version (RollbackCommit epoch answers) = IsNumber epoch × AreItems IsAnswered answers
+AreFields version (Whole c) = IsCheckpoint version c
 AreFields version (Holder chunk server) = IsHolder version chunk server
 
 -- An entry of a journal of this version, whose body's length has four bytes.
 abbrev pub IsEntry : Version → PlainEntry → Type 0
-IsEntry version e = AreFields version e × (length (body e) < 2 ^ 32)
+IsEntry version e = AreFields version e × (length (body version e) < 2 ^ 32)

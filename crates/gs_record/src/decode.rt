@@ -11,6 +11,7 @@ use crate::entry::{Entry, SettledView};
 use crate::fault::Fault;
 use crate::field::{Cursor, Field};
 use crate::lists::read_answered;
+use crate::state::read_checkpoint;
 use gs_base::{Handle, Moment, Refusal, ReqId, ServerId};
 use gs_edit::Edit;
 use gs_journal::{Record, Version};
@@ -20,8 +21,8 @@ impl Entry {
     /// The entry of which this is the record in a journal of this version. `BadLine` where it is the record of none that
     /// can be written. Else it refuses `Memory` alone. The memory that it takes is of the order of the record's length.
     pub fn decode(alloc: Global, version: Version, written: &Record) -> Result<Entry, Refusal>
-        ensures read { IfOk result (λ e. IsEntry version (plain e) × (encoded (plain e) ≡ written.now)) }
-        ensures refused { IfErr result (λ e. (e ≡ Memory) ⊎ ((e ≡ BadLine) × ((x : PlainEntry) → IsEntry version x → ¬ (encoded x ≡ written.now)))) }
+        ensures read { IfOk result (λ e. IsEntry version (plain e) × (encoded version (plain e) ≡ written.now)) }
+        ensures refused { IfErr result (λ e. (e ≡ Memory) ⊎ ((e ≡ BadLine) × ((x : PlainEntry) → IsEntry version x → ¬ (encoded version x ≡ written.now)))) }
     {
         Ok(read(alloc, version, written.kind(), written.body())?)
     }
@@ -92,6 +93,7 @@ fn read_fields(
             let answered = read_answered(alloc, cursor)?;
             Ok(Entry::RollbackCommit { epoch, answered })
         }
+        9 => Ok(Entry::Checkpoint(read_checkpoint(alloc, cursor, version)?)),
         10 => read_holder(alloc, cursor, version),
         _ => Err(Fault::Form),
     }

@@ -11,6 +11,7 @@ use crate::entry::Entry;
 use crate::fault::Fault;
 use crate::field::Field;
 use crate::lists::put_answered;
+use crate::state::put_checkpoint;
 use gs_base::Refusal;
 use gs_journal::Record;
 use std::alloc::Global;
@@ -20,7 +21,7 @@ impl Entry {
     /// that is read from its text, an index or a number of items has no four bytes, or a detail or the whole has too many
     /// bytes. Else it refuses `Memory` alone.
     pub fn encode(&self, alloc: Global) -> Result<Record, Refusal>
-        ensures written { IfOk result (λ r. IsEntry Two (plain self.now) × (r ≡ encoded (plain self.now))) }
+        ensures written { IfOk result (λ r. IsEntry Two (plain self.now) × (r ≡ encoded Two (plain self.now))) }
         ensures refused { IfErr result (λ e. (e ≡ Memory) ⊎ ((e ≡ BadLine) × ¬ IsEntry Two (plain self.now))) }
     {
         let body = body_of(self, alloc)?;
@@ -51,6 +52,7 @@ fn kind_of(entry: &Entry) -> u8
             epoch: _,
             answered: _,
         } => 8,
+        Entry::Checkpoint(_) => 9,
         Entry::Holder {
             handle: _,
             server: _,
@@ -60,7 +62,7 @@ fn kind_of(entry: &Entry) -> u8
 
 /// Writes the fields of an entry at the end.
 fn put_fields(entry: &Entry, alloc: Global, out: &mut Vec<u8>) -> Result<(), Fault>
-    ensures { Puts (AreFields Two (plain entry.now)) (body (plain entry.now)) out.old.items out.new.items result }
+    ensures { Puts (AreFields Two (plain entry.now)) (body Two (plain entry.now)) out.old.items out.new.items result }
 {
     match entry {
         Entry::Edit { by, edit } => {
@@ -90,6 +92,7 @@ fn put_fields(entry: &Entry, alloc: Global, out: &mut Vec<u8>) -> Result<(), Fau
             epoch.put(alloc, out)?;
             put_answered(answered, alloc, out)
         }
+        Entry::Checkpoint(checkpoint) => put_checkpoint(checkpoint, alloc, out),
         Entry::Holder { handle, server } => {
             handle.put(alloc, out)?;
             server.put(alloc, out)
@@ -99,7 +102,7 @@ fn put_fields(entry: &Entry, alloc: Global, out: &mut Vec<u8>) -> Result<(), Fau
 
 /// The body of the record.
 fn body_of(entry: &Entry, alloc: Global) -> Result<Vec<u8>, Fault>
-    ensures { Makes (IsEntry Two (plain entry.now)) (body (plain entry.now)) result }
+    ensures { Makes (IsEntry Two (plain entry.now)) (body Two (plain entry.now)) result }
 {
     let mut out = Vec::new(alloc);
     put_fields(entry, alloc, &mut out)?;

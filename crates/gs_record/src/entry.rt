@@ -1,3 +1,4 @@
+use crate::checkpoint::Checkpoint;
 use gs_base::{Handle, Members, Moment, Refusal, ReqId, ServerId};
 use gs_edit::Edit;
 use gs_lease::View;
@@ -55,6 +56,8 @@ pub enum Entry {
         epoch: u64,
         answered: Vec<Answered>,
     },
+    /// What the entries before it come to. It stands first on its disk.
+    Checkpoint(Checkpoint),
     /// A server holds a copy of a chunk with its sealed image.
     Holder {
         handle: Handle,

@@ -1,6 +1,7 @@
 //! Records of the master's journal as values: what is written of each, and what bytes say.
 #![tactic(auto)]
 
+mod checkpoint;
 mod decode;
 mod edits;
 mod encode;
@@ -9,7 +10,13 @@ mod fault;
 mod field;
 mod ids;
 mod lists;
+mod parts;
 pub mod promises;
+mod state;
+mod undoing;
 mod views;
 
+pub use checkpoint::{
+    Checkpoint, EpochEnd, Outcome, Phase, PreparedView, Reference, Reply, SettledEntry,
+};
 pub use entry::{Answered, Entry, SettledView};

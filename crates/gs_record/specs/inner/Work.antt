@@ -39,6 +39,6 @@ Makes Is bytes (Err e) = Unput Is e
 
 -- the entry of which these are the kind and the body, or there is none that can be written
 abbrev pub Decodes : Version → ℕ × List ℕ → Result Entry Fault → Type 0
-Decodes version told (Ok e) = IsEntry version (plain e) × (encoded (plain e) ≡ told)
+Decodes version told (Ok e) = IsEntry version (plain e) × (encoded version (plain e) ≡ told)
 Decodes version told (Err faults.Memory) = Unit {0}
-Decodes version told (Err faults.Form) = (x : PlainEntry) → IsEntry version x → ¬ (encoded x ≡ told)
+Decodes version told (Err faults.Form) = (x : PlainEntry) → IsEntry version x → ¬ (encoded version x ≡ told)

@@ -1,0 +1,82 @@
+use crate::entry::SettledView;
+use gs_base::{Handle, Members, Refusal, ReqId};
+use gs_edit::ListedInverse;
+use gs_tree::TreeEntry;
+
+/// What the master is at with an upgrade. While it prepares one, no checkpoint is written.
+#[derive(Clone, Copy, Debug, PartialEq, Eq)]
+pub enum Phase {
+    Ordinary,
+    /// An upgrade stands.
+    Upgrade,
+    /// A rollback is begun.
+    Rolling,
+}
+
+/// How an epoch ended.
+#[derive(Clone, Copy, Debug, PartialEq, Eq)]
+pub enum EpochEnd {
+    Prepare,
+    Finalize,
+    Rollback,
+}
+
+/// How often a chunk is referenced.
+#[derive(Clone, Copy, Debug, PartialEq, Eq)]
+pub struct Reference {
+    pub handle: Handle,
+    pub count: u32,
+}
+
+/// The settled view of a chunk, and whether another is begun.
+#[derive(Clone, Copy, Debug, PartialEq, Eq)]
+pub struct SettledEntry {
+    pub settled: SettledView,
+    pub is_moving: bool,
+}
+
+/// How a request was answered.
+#[derive(Drop)]
+pub enum Outcome {
+    /// It was accepted, with this text as its answer.
+    Accepted(String),
+    Refused(Refusal),
+}
+
+/// A kept reply: the last of a client.
+#[derive(Drop)]
+pub struct Reply {
+    pub to: ReqId,
+    pub outcome: Outcome,
+}
+
+/// The view of a chunk as it stood at prepare, and who holds a copy with its sealed image since.
+#[derive(Clone, Copy, Debug, PartialEq, Eq)]
+pub struct PreparedView {
+    pub settled: SettledView,
+    pub holders: Members,
+}
+
+/// All that the master keeps over a restart, in one entry.
+#[derive(Drop)]
+pub struct Checkpoint {
+    pub next_handle: Handle,
+    pub next_version: u64,
+    /// The number of the next deletion.
+    pub next_hidden: u64,
+    pub epoch: u64,
+    pub phase: Phase,
+    /// How the epochs before this one ended, the first epoch's first.
+    pub ends: Vec<EpochEnd>,
+    /// In the order of their paths' bytes.
+    pub tree: Vec<TreeEntry>,
+    /// Ascending by handle.
+    pub references: Vec<Reference>,
+    /// Ascending by handle.
+    pub settled: Vec<SettledEntry>,
+    /// Ascending by client.
+    pub replies: Vec<Reply>,
+    pub prepared: Vec<PreparedView>,
+    /// What takes back the edits since prepare, in the order of the edits.
+    pub inverses: Vec<ListedInverse>,
+}
