@@ -115,7 +115,7 @@ fn digits_of(alloc: Global, digests: &[Digest]) -> Result<String, Refusal> {
 }
 
 /// The bytes of a chunk, or why they can't be read, and its digests.
-#[derive(PartialEq, Drop)]
+#[derive(Drop)]
 struct Seen {
     bytes: String,
     digests: String,
@@ -133,7 +133,9 @@ fn compare(rt: &impl Abort, before: &Seen, answer: &str, after: &Seen, row: &Row
     assert_eq!(rt; answer, row.1);
     assert_eq!(rt; after.bytes.as_str(), row.2);
     assert_eq!(rt; after.digests.len() / 64, row.3);
-    assert!(rt; answer.is_empty() || before == after);
+    assert!(rt;
+        answer.is_empty() || before.bytes == after.bytes && before.digests == after.digests
+    );
     assert!(rt; row.2 != "616263" || after.digests.as_str() == ABC);
 }
 

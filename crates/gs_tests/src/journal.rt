@@ -96,22 +96,31 @@ fn count(alloc: Global, first: MemoryDisk, second: MemoryDisk) -> Result<usize, 
     }
 }
 
+fn disk(alloc: Global, bytes: &[u8]) -> Result<MemoryDisk, Refusal> {
+    Ok(MemoryDisk::new(bytes.to_vec(alloc)?))
+}
+
+// The same of a disk of these bytes and an empty one.
+fn count_in(alloc: Global, bytes: &[u8]) -> Result<usize, Refusal> {
+    count(alloc, disk(alloc, bytes)?, MemoryDisk::new(Vec::new(alloc)))
+}
+
+// How many records there are once one more was added, or 99.
+fn added_to(alloc: Global, bytes: &[u8]) -> Result<usize, Refusal> {
+    let edited = edit(alloc, disk(alloc, bytes)?, MemoryDisk::new(Vec::new(alloc)))?;
+    if edited.added {
+        count(alloc, edited.first, MemoryDisk::new(Vec::new(alloc)))
+    } else {
+        Ok(99)
+    }
+}
+
 #[test]
 fn whole_records_are_read_at_every_length(rt: HostRuntime) -> Result<(), Fail> {
-    let alloc = rt.alloc();
-    let entry = Record::new(alloc, 1, &MKDIRS)?;
     for length in 0..=THREE.len() {
         let whole = if length < 13 { 0 } else { (length - 13) / 14 };
-        let first = MemoryDisk::new(THREE[..length].to_vec(alloc)?);
-        let second = MemoryDisk::new(Vec::new(alloc));
-        let Ok(mut journal) = Journal::open(alloc, first, second, 1_000) else {
-            assert!(rt; false);
-            return Ok(());
-        };
-        assert_eq!(rt; journal.records(alloc)?.len(), whole);
-        journal.append(&entry)?;
-        let (first, second) = journal.into_disks();
-        assert_eq!(rt; count(alloc, first, second)?, whole + 1);
+        assert_eq!(rt; count_in(rt.alloc(), &THREE[..length])?, whole);
+        assert_eq!(rt; added_to(rt.alloc(), &THREE[..length])?, whole + 1);
     }
     Ok(())
 }
@@ -207,44 +216,56 @@ fn a_call_that_fails_is_told_and_closes_the_journal(rt: HostRuntime) -> Result<(
     Ok(())
 }
 
+// Three records with these bytes from an offset on.
+fn count_behind(alloc: Global, offset: usize, bytes: &[u8]) -> Result<usize, Refusal> {
+    let mut text = THREE[..offset.min(56)].to_vec(alloc)?;
+    text.extend_from_slice(bytes)?;
+    count_in(alloc, &text)
+}
+
 #[test]
 fn torn_bytes_are_no_record(rt: HostRuntime) -> Result<(), Fail> {
-    let alloc = rt.alloc();
     for byte in 0..=255u8 {
-        let mut behind = THREE.to_vec(alloc)?;
-        behind.extend_from_slice(&[byte; 14])?;
-        let none = MemoryDisk::new(Vec::new(alloc));
-        assert_eq!(rt; count(alloc, MemoryDisk::new(behind), none)?, 3);
-        let mut gate = THREE[..55].to_vec(alloc)?;
-        gate.extend_from_slice(&[byte, 0, 0, 0, 8, 7, 0, 0, 0, 0, 0, 0, 0, 8, 0])?;
-        let none = MemoryDisk::new(Vec::new(alloc));
         let want = if byte == 1 { 4 } else { 3 };
-        assert_eq!(rt; count(alloc, MemoryDisk::new(gate), none)?, want);
+        let gate = [byte, 0, 0, 0, 8, 7, 0, 0, 0, 0, 0, 0, 0, 8, 0];
+        assert_eq!(rt; count_behind(rt.alloc(), 56, &[byte; 14])?, 3);
+        assert_eq!(rt; count_behind(rt.alloc(), 55, &gate)?, want);
     }
     Ok(())
 }
 
+// A disk of one record: its version, the record's kind and length, the last byte of its body.
+fn lone(version: u8, kind: u8, length: u8, last: u8) -> [u8; 29] {
+    [
+        1, b'G', b'S', b'J', version, 0, 0, 0, 0, 0, 0, 0, 1, //
+        1, 0, 0, 0, length, kind, 0, 0, 0, 0, 0, 0, 0, 2, last, 0, //
+    ]
+}
+
+// The number of the refusal to open a disk of these bytes, or 0.
+fn refused(alloc: Global, bytes: &[u8]) -> Result<u8, Refusal> {
+    match Journal::open(
+        alloc,
+        disk(alloc, bytes)?,
+        MemoryDisk::new(Vec::new(alloc)),
+        1_000,
+    ) {
+        Err(unopened) => Ok(unopened.refusal.number()),
+        Ok(_) => Ok(0),
+    }
+}
+
+// A holder whose server is 16, one in the first version, one that is right; a finalize with a byte too many; no kind.
 #[test]
 fn records_that_are_not_of_their_form_are_refused(rt: HostRuntime) -> Result<(), Fail> {
-    let alloc = rt.alloc();
-    // a holder: its server is 16, it is of the first version, it is right; a finalize with a byte too few
-    for (version, kind, length, server, number) in [
-        (b'2', 10, 9, 16, 34),
-        (b'1', 10, 9, 0, 34),
-        (b'2', 10, 9, 15, 0),
-        (b'2', 6, 9, 0, 34),
-        (b'2', 11, 9, 0, 34),
+    for (disk, number) in [
+        (lone(b'2', 10, 9, 16), 34),
+        (lone(b'1', 10, 9, 0), 34),
+        (lone(b'2', 10, 9, 15), 0),
+        (lone(b'2', 6, 9, 0), 34),
+        (lone(b'2', 11, 9, 0), 34),
     ] {
-        let mut bytes = Vec::new(alloc);
-        bytes.extend_from_slice(&[1, b'G', b'S', b'J', version, 0, 0, 0, 0, 0, 0, 0, 1])?;
-        bytes.extend_from_slice(&[1, 0, 0, 0, length, kind, 0, 0, 0, 0, 0, 0, 0, 2, server, 0])?;
-        let first = MemoryDisk::new(bytes);
-        let second = MemoryDisk::new(Vec::new(alloc));
-        let found = match Journal::open(alloc, first, second, 1_000) {
-            Err(unopened) => unopened.refusal.number(),
-            Ok(_) => 0,
-        };
-        assert_eq!(rt; found, number);
+        assert_eq!(rt; refused(rt.alloc(), &disk)?, number);
     }
     Ok(())
 }

@@ -8,8 +8,6 @@ mod commands;
 #[cfg(test)]
 mod journal;
 #[cfg(test)]
-mod leases;
-#[cfg(test)]
 mod lines;
 #[cfg(test)]
 mod locks;
@@ -20,16 +18,14 @@ mod options;
 #[cfg(test)]
 mod paths;
 #[cfg(test)]
-mod placement;
-#[cfg(test)]
 mod references;
 #[cfg(test)]
 mod replicas;
 #[cfg(test)]
 mod shell;
 #[cfg(test)]
+mod tables;
+#[cfg(test)]
 mod texts;
 #[cfg(test)]
 mod trees;
-#[cfg(test)]
-mod views;
