@@ -18,7 +18,7 @@ use Rattle.gs_tree.specs.Build.{rows_of_entries, prefixed, is_short}
 use Rattle.gs_tree.specs.Lists.{made_paths, made_inverse, is_made, is_removed, PutsBack, IsSameInverse}
 use Rattle.gs_tree.specs.declared.inverse.TreeInverse.{TreeInverse}
 use Rattle.gs_tree.specs.declared.inverse.TreeInverse.TheVariants.{Made, Removed}
-use Rattle.gs_tree.proofs.Parts.{made_same, removed_again, removed_whole}
+use Rattle.gs_tree.proofs.Parts.{made_same, removed_again, list_whole, list_moved}
 use Rattle.gs_edit.specs.View.{NamesView}
 use Rattle.gs_edit.specs.Names.{accepted, counts_back, NamesTakenBack}
 use Rattle.gs_edit.specs.Listed.{Remembers, IsListOf, IsListOfMade, IsListOfRemoved, IsMadeOfList, DoesTheSame, is_listed, has_short_paths}
@@ -56,7 +56,7 @@ removed_counts (top ∷ rows) t h tree refs = subst (λ s. counts_back s tree re
 
 of_removed : (i j : Inverse) (rows : Rows ℕ) → IsListOfRemoved i rows → (t : TreeInverse) → PutsBack rows t → j ≡ inverses.Tree t → DoesTheSame i j
 of_removed i j rows (path, (node, (is, (one, are)))) t puts js =
-    let same = removed_again path node t one.top (subst (λ r. PutsBack r t) are puts) in
+    let same = removed_again path node rows t one.sound one.top are puts in
     alike i j (inverses.Tree (Removed path node)) (inverses.Tree t) is js
     (of_tree (Removed path node) t same (λ tree refs. ap (λ chunks. accepted (raised_each refs chunks)) same.chunks ∙ sym (removed_counts rows t puts tree refs)))
 
@@ -77,7 +77,7 @@ relisted i j (lists.Create paths) h k = of_made i j paths.items h k
 relisted i j (lists.Rename to from) h k = alike i j j j (h ∙ sym k) refl (itself j)
 relisted i j (lists.Hide to from) h k = alike i j j j (h ∙ sym k) refl (itself j)
 relisted i j (lists.Unhide to from) h k = alike i j j j (h ∙ sym k) refl (itself j)
-relisted i j (lists.Remove entries) h k = of_removed i j (rows_of_entries entries.items) h k.0 k.1.0 k.1.1
+relisted i j (lists.Remove entries) h k = of_removed i j (rows_of_entries entries.items) h.0 k.0 k.1.0 k.1.1
 relisted i j (lists.AddChunk path) h k = alike i j j j (h ∙ sym k) refl (itself j)
 relisted i j (lists.Cow path index chunk) h k = alike i j j j (h ∙ sym k) refl (itself j)
 relisted i j (lists.Snapshot path) h k = alike i j j j (h ∙ sym k) refl (itself j)
@@ -87,8 +87,7 @@ made_list : (i : Inverse) (paths : List Path) → IsListOfMade i paths → is_ma
 made_list i paths (path, (above, (is, are))) = ap is_made are ∙ (made_same path above).0
 
 removed_list : (i : Inverse) (rows : Rows ℕ) → IsListOfRemoved i rows → list_all (λ r. is_short r.0) rows ≡ true → is_removed rows ≡ true
-removed_list i rows (path, (node, (is, (one, are)))) short =
-    ap is_removed are ∙ removed_whole path node one.sound one.top one.stands (ap (list_all (λ r. is_short r.0)) (sym are) ∙ short)
+removed_list i rows (path, (node, (is, (one, are)))) short = list_whole path node rows one.sound one.top are short
 
 pub list_is_one : (i : Inverse) (list : ListedInverse) → IsListOf i list → has_short_paths list ≡ true → is_listed list ≡ true
 list_is_one i (lists.Mkdirs paths) h short = made_list i paths.items h
@@ -96,7 +95,7 @@ list_is_one i (lists.Create paths) h short = made_list i paths.items h
 list_is_one i (lists.Rename to from) h short = refl
 list_is_one i (lists.Hide to from) h short = refl
 list_is_one i (lists.Unhide to from) h short = refl
-list_is_one i (lists.Remove entries) h short = removed_list i (rows_of_entries entries.items) h short
+list_is_one i (lists.Remove entries) h short = removed_list i (rows_of_entries entries.items) h.0 short
 list_is_one i (lists.AddChunk path) h short = refl
 list_is_one i (lists.Cow path index chunk) h short = refl
 list_is_one i (lists.Snapshot path) h short = refl
@@ -116,8 +115,7 @@ rows_short path (r ∷ rows) h =
 removed_short : (i : Inverse) (rows : Rows ℕ) (old new : NamesView) → NamesTakenBack i old new → IsWithin most_elements (get old.tree) → IsListOfRemoved i rows → list_all (λ r. is_short r.0) rows ≡ true
 removed_short i rows old new back within (path, (node, (is, (one, are)))) =
     let taken : NamesTakenBack (inverses.Tree (Removed path node)) old new = subst (λ j. NamesTakenBack j old new) is back in
-    ap (list_all (λ r. is_short r.0)) are
-    ∙ rows_short path node (λ q some. le-leb (length (path ++ q)) 64 (within (path ++ q) (ap is_some (sym (taken.tree (path ++ q)) ∙ with_at-append path (at node) (get new.tree) q) ∙ some)))
+    list_moved (λ r. is_short r.0) path node rows are (rows_short path node (λ q some. le-leb (length (path ++ q)) 64 (within (path ++ q) (ap is_some (sym (taken.tree (path ++ q)) ∙ with_at-append path (at node) (get new.tree) q) ∙ some))))
 
 pub list_is_short : (i : Inverse) (list : ListedInverse) (old new : NamesView) → NamesTakenBack i old new → IsWithin most_elements (get old.tree) → IsListOf i list → has_short_paths list ≡ true
 list_is_short i (lists.Mkdirs paths) old new back within h = refl
@@ -125,7 +123,7 @@ list_is_short i (lists.Create paths) old new back within h = refl
 list_is_short i (lists.Rename to from) old new back within h = refl
 list_is_short i (lists.Hide to from) old new back within h = refl
 list_is_short i (lists.Unhide to from) old new back within h = refl
-list_is_short i (lists.Remove entries) old new back within h = removed_short i (rows_of_entries entries.items) old new back within h
+list_is_short i (lists.Remove entries) old new back within h = removed_short i (rows_of_entries entries.items) old new back within h.0
 list_is_short i (lists.AddChunk path) old new back within h = refl
 list_is_short i (lists.Cow path index chunk) old new back within h = refl
 list_is_short i (lists.Snapshot path) old new back within h = refl

@@ -1,14 +1,15 @@
 -- Inverses of edits as plain lists.
-use Rattle.std.specs.Prelude.{◌≡◌, ◌⊎◌, ℕ, Bool, true, false, List, [], ◌∷◌, codes, Vec, Result, Ok, Err, is_some, refl}
+use Rattle.std.specs.Prelude.{◌≡◌, ◌⊎◌, ℕ, Bool, true, false, List, [], ◌∷◌, drop, codes, Vec, Result, Ok, Err, is_some, refl}
 use Rattle.std.specs.List.{list_all}
 use Rattle.std.specs.declared.alloc.Global.{Global}
 use Rattle.gs_base.specs.declared.refusal.Refusal.{Refusal}
 use Rattle.gs_base.specs.declared.refusal.Refusal.TheVariants.{Memory, BadLine}
-use Rattle.gs_path.specs.Path.{Path}
+use Rattle.std.specs.List.Sorted.{IsSortedByKey}
+use Rattle.gs_path.specs.Path.{Path, text_cmp}
 use Rattle.gs_tree.specs.Plain.{Same}
 use Rattle.gs_tree.specs.Find.{Rows, at}
-use Rattle.gs_tree.specs.Build.{rows_of_entries, prefixed, is_short, IsSound}
-use Rattle.gs_tree.specs.Lists.{made_paths, is_made, made_inverse, is_removed, PutsBack, top_path}
+use Rattle.gs_tree.specs.Build.{rows_of_entries, path_of_entry, is_short, IsSound}
+use Rattle.gs_tree.specs.Lists.{made_paths, is_made, made_inverse, is_removed, PutsBack, IsPartList, top_path}
 use Rattle.gs_tree.specs.declared.inverse.TreeInverse.{TreeInverse}
 use Rattle.gs_tree.specs.declared.inverse.TreeInverse.TheVariants.{Made, Moved, Removed, Added, Changed, Copied}
 use Rattle.gs_edit.specs.View.{NamesView}
@@ -83,17 +84,18 @@ pub record IsOneNode (node : Rows ℕ) : Type 0 where
 
 abbrev pub IsListOfRemoved : Inverse → Rows ℕ → Type 0
 IsListOfRemoved i rows =
-    (path : Path) × ((node : Rows ℕ) × ((i ≡ inverses.Tree (Removed path node)) × (IsOneNode node × (rows ≡ prefixed path node))))
+    (path : Path) × ((node : Rows ℕ) × ((i ≡ inverses.Tree (Removed path node)) × (IsOneNode node × IsPartList path node rows)))
 
--- The list of an inverse: the paths that were made; where something stands and came from; what stood at a path and below
--- it, in the order of the paths; the file of a chunk; where a copy stands; the chunks that were listed.
+-- The list of an inverse: the paths that were made; where something stands and came from; what stood at a path and, by the
+-- bytes of their paths' texts, below it; the file of a chunk; where a copy stands; the chunks that were listed.
 abbrev pub IsListOf : Inverse → ListedInverse → Type 0
 IsListOf i (lists.Mkdirs paths) = IsListOfMade i paths.items
 IsListOf i (lists.Create paths) = IsListOfMade i paths.items
 IsListOf i (lists.Rename to from) = i ≡ inverses.Tree (Moved from to)
 IsListOf i (lists.Hide to from) = i ≡ inverses.Tree (Moved from to)
 IsListOf i (lists.Unhide to from) = i ≡ inverses.Tree (Moved from to)
-IsListOf i (lists.Remove entries) = IsListOfRemoved i (rows_of_entries entries.items)
+IsListOf i (lists.Remove entries) =
+    IsListOfRemoved i (rows_of_entries entries.items) × IsSortedByKey path_of_entry text_cmp (drop 1 entries.items)
 IsListOf i (lists.AddChunk path) = i ≡ inverses.Tree (Added path)
 IsListOf i (lists.Cow path index chunk) = i ≡ inverses.Tree (Changed path index chunk)
 IsListOf i (lists.Snapshot path) = i ≡ inverses.Tree (Copied path)

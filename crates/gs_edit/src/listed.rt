@@ -42,7 +42,7 @@ pub enum ListedInverse {
     Hide(Path, Path),
     /// What stands at the first path came from the second, which is hidden.
     Unhide(Path, Path),
-    /// What stood there, at a path and under it.
+    /// What stood there: at a path, then below it in the order of the bytes of the paths' texts.
     Remove(Vec<TreeEntry>),
     /// The file to which a chunk was added.
     AddChunk(Path),

@@ -114,11 +114,11 @@ same_moved rows other moved apart = (
     each q None is = is ∙ sym (hits_none q rows (let a = hits_moved q rows other moved in let b = none_hits q other is in omega arith))
     each q (Some e) is = is ∙ sym (stand_at (at rows) other q e all is)
 
-all_passed : (f : Path × Entry ℕ → Bool) (rows : Rows ℕ) → list_all f rows ≡ true → All (λ r. f r ≡ true) rows
+pub all_passed : (f : Path × Entry ℕ → Bool) (rows : Rows ℕ) → list_all f rows ≡ true → All (λ r. f r ≡ true) rows
 all_passed f [] h = All-nil (λ r. f r ≡ true)
 all_passed f (r ∷ rows) h = All-cons (λ s. f s ≡ true) r rows (left_true (f r) (list_all f rows) h) (all_passed f rows (right_true (f r) (list_all f rows) h))
 
-pass_all : (f g : Path × Entry ℕ → Bool) (rows : Rows ℕ) → ((r : Path × Entry ℕ) → f r ≡ g r) → All (λ r. f r ≡ true) rows → list_all g rows ≡ true
+pub pass_all : (f g : Path × Entry ℕ → Bool) (rows : Rows ℕ) → ((r : Path × Entry ℕ) → f r ≡ g r) → All (λ r. f r ≡ true) rows → list_all g rows ≡ true
 pass_all f g [] same h = refl
 pass_all f g (r ∷ rows) same h =
     both_true (g r) (list_all g rows) (sym (same r) ∙ All-head (λ s. f s ≡ true) r rows h) (pass_all f g rows same (All-tail (λ s. f s ≡ true) r rows h))
@@ -148,3 +148,6 @@ pub map_moved : (m : FinMap path_cmp (Entry ℕ)) (rows other : Rows ℕ) → ro
 map_moved m rows other is moved q =
     let apart : all_apart (rooted_rows rows) ≡ true = apart-of (rooted_rows rows) (subst (λ l. T (is_sorted path_cmp l)) (sym is) (entries_sorted m)) in
     ap (λ v. cond (same_path q []) (Some Dir) v) ((same_moved rows other moved (right_true (is_none (at rows [])) (all_apart rows) apart)).1 q) ∙ ap (λ l. at l q) is ∙ sym (get-entries m q)
+
+pub all_moved : (f : Path × Entry ℕ → Bool) (rows other : Rows ℕ) → IsPermutation rows other → list_all f rows ≡ true → list_all f other ≡ true
+all_moved f rows other moved h = pass_all f f other (λ r. refl) (All-permutation (λ r. f r ≡ true) rows other moved (all_passed f rows h))

@@ -9,12 +9,13 @@ use Rattle.std.proofs.lemmas.Bool.{le-leb, leb-true, ltb-true}
 use Rattle.std.specs.FinMap.{is_sorted}
 use Rattle.std.specs.FinMap.Entries.{same_entries}
 use Rattle.gs_path.specs.Path.{Path, path_cmp, path_total, begins}
+use Rattle.gs_tree.specs.Entry.{Entry}
 use Rattle.gs_tree.specs.Plain.{Plain, Same, without}
 use Rattle.gs_tree.specs.Find.{Rows, at, DirsAbove}
 use Rattle.gs_tree.specs.Edits.{same_path, is_dir, parent}
 use Rattle.gs_tree.specs.Chunks.{all_chunks, by_path, part_chunks}
-use Rattle.gs_tree.specs.Build.{prefixed, all_apart, is_short, has_place, IsSound}
-use Rattle.gs_tree.specs.Lists.{made_paths, is_made, made_inverse, is_removed, PutsBack, IsSameInverse, top_path}
+use Rattle.gs_tree.specs.Build.{prefixed, all_apart, is_short, has_place, IsSound, below_root, is_part}
+use Rattle.gs_tree.specs.Lists.{made_paths, is_made, made_inverse, is_removed, PutsBack, IsSameInverse, top_path, IsPartList}
 use Rattle.gs_tree.specs.Inverses.{first_made}
 use Rattle.gs_tree.specs.declared.inverse.TreeInverse.{TreeInverse}
 use Rattle.gs_tree.specs.declared.inverse.TreeInverse.TheVariants.{Made, Removed}
@@ -27,6 +28,8 @@ use Rattle.gs_tree.proofs.Entering.{apart-of}
 use Rattle.gs_tree.proofs.Gathering.{from_true}
 use Rattle.gs_tree.proofs.Chunks.{same_itself}
 use Rattle.gs_tree.proofs.Levels.{both_true, left_true, right_true, no_one, never, parent_under}
+use Rattle.std.proofs.lemmas.List.Sorted.{IsPermutation-sym}
+use Rattle.gs_tree.proofs.Orders.{same_moved, part_moved, all_moved}
 use Rattle.gs_tree.proofs.Fronts.{made_again, made_none}
 
 same_front : (p a b : Path) → same_path (p ++ a) (p ++ b) ≡ same_path a b
@@ -51,14 +54,6 @@ same_removed path to a b is same =
       tree = λ m q. sym (with_part path (at b) (at a) m same q);
       chunks = sym (chunks_same b a same);
     })
-
--- what was removed, made of its rows
-pub removed_again : (path : Path) (node : Rows ℕ) (i : TreeInverse) → top_path node ≡ [] → PutsBack (prefixed path node) i → IsSameInverse (Removed path node) i
-removed_again path [] i top h = absurd h
-removed_again path (r ∷ rows) i top h =
-    let is : path ++ r.0 ≡ path = ap (λ p. path ++ p) top ∙ append-nil path in
-    let same : Same (at h.0) (at (r ∷ rows)) = λ q. h.1.0 q ∙ ap (λ p. at (prefixed path (r ∷ rows)) (p ++ q)) is ∙ at-prefixed path (r ∷ rows) q in
-    subst (λ j. IsSameInverse (Removed path (r ∷ rows)) j) (sym h.1.1) (same_removed path (path ++ r.0) (r ∷ rows) h.0 is same)
 
 apart-prefixed : (p : Path) (rows : Rows ℕ) → all_apart (prefixed p rows) ≡ all_apart rows
 apart-prefixed p [] = refl
@@ -97,6 +92,44 @@ removed_whole path (r ∷ rows) sound top some short =
     later : (q : Path) → is_some (at rows q) ≡ true → (b : Bool) → is_some (cond b (Some r.1) (at rows q)) ≡ true
     later q here true = refl
     later q here false = here
+
+below_apart : (r : Path × Entry ℕ) (below : Rows ℕ) → IsSound (r ∷ below) → all_apart below ≡ true
+below_apart r below sound = right_true (is_none (at below r.0)) (all_apart below) (apart-of (r ∷ below) (from_true (is_sorted path_cmp (r ∷ below)) sound.rise))
+
+-- what was removed, made of its rows
+pub removed_again : (path : Path) (node rows : Rows ℕ) (i : TreeInverse) → IsSound node → top_path node ≡ [] → IsPartList path node rows → PutsBack rows i → IsSameInverse (Removed path node) i
+removed_again path node [] i sound top list h = absurd h
+removed_again path [] (t ∷ rows) i sound top list h = absurd (let k = list.0 in cc)
+removed_again path (r ∷ below) (t ∷ rows) i sound top list h =
+    let is : path ++ r.0 ≡ path = ap (λ p. path ++ p) top ∙ append-nil path in
+    let own : t ≡ (path ++ r.0, r.1) = let k = list.0 in cc in
+    let moved = same_moved (prefixed path below) rows list.1 (apart-prefixed path below ∙ below_apart r below sound) in
+    let place : t.0 ≡ path = ap (λ s. s.0) own ∙ is in
+    let same : Same (at h.0) (at (r ∷ below)) = λ q. h.1.0 q ∙ ap (λ (p : Path). at (t ∷ rows) (p ++ q)) place ∙ ap (λ (s : Path × Entry ℕ). cond (same_path (path ++ q) s.0) (Some s.1) (at rows (path ++ q))) own
+    ∙ ap (λ v. cond (same_path (path ++ q) (path ++ r.0)) (Some r.1) v) (moved.1 (path ++ q)) ∙ at-prefixed path (r ∷ below) q in
+    subst (λ j. IsSameInverse (Removed path (r ∷ below)) j) (sym h.1.1) (same_removed path t.0 (r ∷ below) h.0 place same)
+
+-- the rows of a node in another order
+pub list_moved : (f : Path × Entry ℕ → Bool) (path : Path) (node rows : Rows ℕ) → IsPartList path node rows → list_all f (prefixed path node) ≡ true → list_all f rows ≡ true
+list_moved f path node [] list h = absurd list
+list_moved f path node (t ∷ rows) list h =
+    let all : list_all f (t ∷ prefixed path (below_root node)) ≡ true = ap (list_all f) (sym list.0) ∙ h in
+    both_true (f t) (list_all f rows) (left_true (f t) (list_all f (prefixed path (below_root node))) all) (all_moved f (prefixed path (below_root node)) rows list.1 (right_true (f t) (list_all f (prefixed path (below_root node))) all))
+
+list_back : (f : Path × Entry ℕ → Bool) (path : Path) (node rows : Rows ℕ) → IsPartList path node rows → list_all f rows ≡ true → list_all f (prefixed path node) ≡ true
+list_back f path node [] list h = absurd list
+list_back f path node (t ∷ rows) list h =
+    ap (list_all f) list.0
+    ∙ both_true (f t) (list_all f (prefixed path (below_root node))) (left_true (f t) (list_all f rows) h) (all_moved f rows (prefixed path (below_root node)) (IsPermutation-sym (prefixed path (below_root node)) rows list.1) (right_true (f t) (list_all f rows) h))
+
+pub list_whole : (path : Path) (node rows : Rows ℕ) → IsSound node → top_path node ≡ [] → IsPartList path node rows → list_all (λ r. is_short r.0) rows ≡ true → is_removed rows ≡ true
+list_whole path node [] sound top list short = absurd list
+list_whole path [] (t ∷ rows) sound top list short = absurd (let k = list.0 in cc)
+list_whole path (r ∷ below) (t ∷ rows) sound top list short =
+    let own : t ≡ (path ++ r.0, r.1) = let k = list.0 in cc in
+    let stands : is_some (at (r ∷ below) []) ≡ true = ap (λ p. is_some (cond (same_path [] p) (Some r.1) (at below []))) top in
+    let whole = removed_whole path (r ∷ below) sound top stands (list_back (λ s. is_short s.0) path (r ∷ below) (t ∷ rows) list short) in
+    (part_moved t (prefixed path below) rows list.1 (ap (λ s. is_part s (prefixed path below)) own ∙ whole)).0
 
 same_made : (i j : TreeInverse) → j ≡ i → IsSameInverse i j
 same_made i j is = subst (λ k. IsSameInverse i k) (sym is) (record { fits = λ m h. h; back = λ m h. h; tree = λ m q. refl; chunks = refl })

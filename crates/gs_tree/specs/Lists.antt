@@ -5,7 +5,8 @@ use Rattle.gs_base.specs.declared.refusal.Refusal.TheVariants.{Memory, BadLine}
 use Rattle.gs_path.specs.Path.{Path, begins}
 use Rattle.gs_tree.specs.Plain.{Plain, Same, part_at}
 use Rattle.gs_tree.specs.Find.{Rows, at}
-use Rattle.gs_tree.specs.Build.{is_part}
+use Rattle.std.specs.List.Sorted.{IsPermutation}
+use Rattle.gs_tree.specs.Build.{is_part, prefixed, below_root}
 use Rattle.gs_tree.specs.Inverses.{Fits, after_undo, removed_chunks}
 use Rattle.gs_tree.specs.declared.inverse.TreeInverse.{TreeInverse}
 use Rattle.gs_tree.specs.declared.inverse.TreeInverse.TheVariants.{Made, Removed}
@@ -71,6 +72,12 @@ pub record IsSameInverse (i j : TreeInverse) : Type 0 where
 abbrev pub top_path : {A : Type 0} → Rows A → Path
 top_path [] = []
 top_path (r ∷ rows) = r.0
+
+-- the rows of a node that stands at a path: its own first, then those below it in any order
+abbrev pub IsPartList : Path → Rows ℕ → Rows ℕ → Type 0
+IsPartList p node [] = ⊥
+IsPartList p node (top ∷ rows) =
+    (prefixed p node ≡ top ∷ prefixed p (below_root node)) × IsPermutation (prefixed p (below_root node)) rows
 
 abbrev a : Path
 a = codes "a" ∷ []

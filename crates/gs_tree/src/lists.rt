@@ -1,13 +1,16 @@
 //! Inverses as plain lists, the form in which they can be written down.
-ghost use Rattle.std.specs.Prelude.{◌≡◌, [], IfOk, is_some, true};
+ghost use Rattle.std.specs.Prelude.{◌≡◌, [], drop, IfOk, is_some, true};
 ghost use Rattle.gs_tree.specs.Find.{at};
-ghost use Rattle.gs_tree.specs.Build.{rows_of_entries, prefixed, IsSound};
-ghost use Rattle.gs_tree.specs.Lists.{made_paths, is_child, top_path, GivesMade, GivesRemoved};
+ghost use Rattle.gs_tree.specs.Build.{rows_of_entries, path_of_entry, IsSound};
+ghost use Rattle.std.specs.List.Sorted.{IsSortedByKey};
+ghost use Rattle.gs_path.specs.Path.{text_cmp};
+ghost use Rattle.gs_tree.specs.Lists.{made_paths, is_child, top_path, IsPartList, GivesMade, GivesRemoved};
 
 use crate::building::{built, is_next};
 use crate::entry::TreeEntry;
 use crate::inverse::TreeInverse;
 use crate::node::Node;
+use crate::texts::by_text;
 use gs_base::Refusal;
 use gs_path::Path;
 use std::alloc::{AllocError, Global};
@@ -74,16 +77,20 @@ impl TreeInverse {
 }
 
 impl Node {
-    /// The entries of this, which stands at a path: its own first, then those below it in the order of the paths.
+    /// The entries of this, which stands at a path: its own first, then those below it in the order of the bytes of their
+    /// paths' texts.
     pub fn entries(&self, alloc: Global, path: &Path) -> Result<Vec<TreeEntry>, AllocError>
-        ensures rows { IfOk result (λ listed. rows_of_entries listed.items ≡ prefixed path.now self.now) }
+        ensures rows { IfOk result (λ listed. IsPartList path.now self.now (rows_of_entries listed.items)) }
+        ensures order { IfOk result (λ listed. IsSortedByKey path_of_entry text_cmp (drop 1 listed.items)) }
         ensures top { IfOk result (λ _. top_path self.now ≡ []) }
         ensures stands { IfOk result (λ _. is_some (at self.now []) ≡ true) }
         ensures sound { IfOk result (λ _. IsSound self.now) }
     {
-        let mut listed = Vec::new(alloc);
-        listed.push(self.own_entry(alloc, path)?)?;
-        self.list_below(alloc, path, &mut listed)?;
+        let own = self.own_entry(alloc, path)?;
+        let mut below = Vec::new(alloc);
+        self.list_below(alloc, path, &mut below)?;
+        let mut listed = by_text(alloc, below)?;
+        listed.insert(0, own)?;
         Ok(listed)
     }
 }

@@ -1,6 +1,6 @@
 //! What holds of each tree, whatever was done to it.
 
-ghost use Rattle.std.specs.Prelude.{◌≡◌, ◌+◌, ℕ, Bool, true, false, is_some, [], List, Result, Ok, IfOk, IfErr};
+ghost use Rattle.std.specs.Prelude.{◌≡◌, ◌+◌, ℕ, Bool, true, false, [], List, Result, Ok, IfOk, IfErr};
 ghost use Rattle.std.specs.List.{list_all};
 ghost use Rattle.std.specs.List.Sorted.{IsPermutation};
 ghost use Rattle.std.specs.FinMap.{FinMap, get, entries as rows_of_map};
@@ -12,8 +12,8 @@ ghost use Rattle.gs_tree.specs.Plain.{Plain, Same};
 ghost use Rattle.gs_tree.specs.Find.{Rows, at, IsWithin, most_elements};
 ghost use Rattle.gs_tree.specs.Edits.{mkdirs, create, rename, hide, unhide, remove, add_chunk, set_chunk, snapshot};
 ghost use Rattle.gs_tree.specs.Mapped.{mapped, mapped_result};
-ghost use Rattle.gs_tree.specs.Build.{rooted_rows, prefixed, is_short, is_tree, Builds, IsSound};
-ghost use Rattle.gs_tree.specs.Lists.{made_paths, is_made, made_inverse, is_removed, PutsBack, IsSameInverse, top_path};
+ghost use Rattle.gs_tree.specs.Build.{rooted_rows, is_short, is_tree, Builds, IsSound};
+ghost use Rattle.gs_tree.specs.Lists.{made_paths, is_made, made_inverse, is_removed, PutsBack, IsSameInverse, IsPartList, top_path};
 ghost use Rattle.gs_tree.specs.declared.inverse.TreeInverse.TheVariants as inverses;
 ghost use Rattle.gs_tree.specs.Inverses.{Fits, TakesBack, after_undo};
 ghost use Rattle.gs_tree.specs.Chunks.{all_chunks};
@@ -52,8 +52,8 @@ pub fn entries_build_their_tree()
 /// were made, always; of what was removed, where no path has more than 64 elements.
 pub fn lists_undo_the_same()
     ensures made { (path : Path) (above : ℕ) → (is_made (made_paths path above) ≡ true) × IsSameInverse (inverses.Made path above) (made_inverse (made_paths path above)) }
-    ensures removed { (path : Path) (node : Rows ℕ) (i : TreeInverse) → top_path node ≡ [] → PutsBack (prefixed path node) i → IsSameInverse (inverses.Removed path node) i }
-    ensures whole { (path : Path) (node : Rows ℕ) → IsSound node → top_path node ≡ [] → is_some (at node []) ≡ true → list_all (λ r. is_short r.0) (prefixed path node) ≡ true → is_removed (prefixed path node) ≡ true }
+    ensures removed { (path : Path) (node rows : Rows ℕ) (i : TreeInverse) → IsSound node → top_path node ≡ [] → IsPartList path node rows → PutsBack rows i → IsSameInverse (inverses.Removed path node) i }
+    ensures whole { (path : Path) (node rows : Rows ℕ) → IsSound node → top_path node ≡ [] → IsPartList path node rows → list_all (λ r. is_short r.0) rows ≡ true → is_removed rows ≡ true }
 {}
 
 /// The chunks of a tree before and after an inverse is undone, however they are counted: those that go and those that come
