@@ -1,7 +1,7 @@
 -- The chunks of what goes, and those that are left without a reference.
 use Rattle.std.proofs.Common.{◌≡◌, ◌&&◌, ◌||◌, ◌==◌, ◌+◌, ◌-◌, ◌++◌, ℕ, Bool, true, false, cond, T, List, [], ◌∷◌, filter, map, nat_lt, refl, sym, ap, ◌∙◌, arith}
-use Rattle.std.specs.Prelude.{Option, Some, None, Ok, Err, is_ok}
-use Rattle.std.specs.List.{list_any}
+use Rattle.std.specs.Prelude.{Option, Some, None, Result, Ok, Err, is_ok}
+use Rattle.std.specs.List.{list_any, flat_map}
 use Rattle.std.specs.Ordering.{nat_cmp, is_lt, is_eq}
 use Rattle.std.specs.declared.cmp.Ordering.{Ordering}
 use Rattle.std.specs.declared.cmp.Ordering.TheVariants.{Less, Equal, Greater}
@@ -19,32 +19,26 @@ use Rattle.gs_tree.specs.Find.{Rows, at}
 use Rattle.gs_tree.specs.Edits.{chunks_in}
 use Rattle.gs_tree.specs.Chunks.{all_chunks, chunks_under}
 use Rattle.gs_edit.specs.declared.scan.Scan.{Scan}
-use Rattle.gs_edit.specs.Scan.{goes, gone, has_just, HaveReferences, AreRemoved, IsScan, lowered_under}
+use Rattle.gs_edit.specs.Scan.{goes, gone, has_just, HaveReferences, AreRemoved, IsScan}
 use Rattle.gs_edit.proofs.Removals.{AreApart, apart, gone_is}
 use Rattle.gs_edit.proofs.Occurring.{occurrences-append}
 use Rattle.gs_edit.proofs.References.{same, same-is}
 
 -- one list behind the other
-lowered_append : (xs ys : List ℕ) (m : Counts) → lowered_each m (xs ++ ys) ≡ and_then (lowered_each m xs) (λ n. lowered_each n ys)
+pub lowered_append : (xs ys : List ℕ) (m : Counts) → lowered_each m (xs ++ ys) ≡ and_then (lowered_each m xs) (λ n. lowered_each n ys)
 lowered_append [] ys m = refl
 lowered_append (x ∷ xs) ys m = elim (lowered m x) as (λ r. and_then r (λ n. lowered_each n (xs ++ ys)) ≡ and_then (and_then r (λ n. lowered_each n xs)) (λ n. lowered_each n ys)) [
   | Ok n ↦ lowered_append xs ys n
   | Err e ↦ refl
 ]
 
+-- the first of two lists is lowered, or refused
+pub first_lowered : (xs ys : List ℕ) (m : Counts) (r : Result Counts Refusal) → lowered_each m xs ≡ r → lowered_each m (xs ++ ys) ≡ and_then r (λ n. lowered_each n ys)
+first_lowered xs ys m r h = lowered_append xs ys m ∙ ap (λ q. and_then q (λ n. lowered_each n ys)) h
+
 -- the chunks under each of these paths
 abbrev pub under_each : Rows ℕ → List Path → List ℕ
-under_each rows [] = []
-under_each rows (p ∷ paths) = chunks_under p rows ++ under_each rows paths
-
-under_is : (rows : Rows ℕ) (paths : List Path) (m : Counts) → lowered_under rows paths m ≡ lowered_each m (under_each rows paths)
-under_is rows [] m = refl
-under_is rows (p ∷ paths) m =
-    elim (lowered_each m (chunks_under p rows)) as (λ r. and_then r (λ n. lowered_under rows paths n) ≡ and_then r (λ n. lowered_each n (under_each rows paths))) [
-      | Ok n ↦ under_is rows paths n
-      | Err e ↦ refl
-    ]
-    ∙ sym (lowered_append (chunks_under p rows) (under_each rows paths) m)
+under_each rows paths = flat_map (λ p. chunks_under p rows) paths
 
 two_cases : (h : ℕ) (cs : List ℕ) (r : Path × Entry ℕ) (both one two : Rows ℕ) (a b : Bool) → cs ≡ chunks_in (Some r.1) → (a ≡ true → b ≡ true → ⊥) → occurrences h (all_chunks both) ≡ occurrences h (all_chunks one) + occurrences h (all_chunks two)
     → occurrences h (all_chunks (cond (a || b) (r ∷ both) both)) ≡ occurrences h (all_chunks (cond a (r ∷ one) one)) + occurrences h (all_chunks (cond b (r ∷ two) two))
@@ -88,12 +82,11 @@ bad (x ∷ hs) m e h =
       ]
     ] h
 
-pub scan_refused : (moment : ℕ) (rows : Rows ℕ) (refs : Counts) (paths : List Path) (e : Refusal) → AreRemoved moment (at rows) paths → lowered_under rows paths refs ≡ Err e → (e ≡ BadLine) × (HaveReferences (all_chunks (gone moment rows)) refs → ⊥)
-scan_refused moment rows refs paths e are h =
-    let refused : lowered_each refs (under_each rows paths) ≡ Err e = sym (under_is rows paths refs) ∙ h in (
-      bad (under_each rows paths) refs e refused,
-      λ have. (let t : true ≡ false = sym (enough (under_each rows paths) refs (λ q. (let f = have q in let g = gone_once moment rows paths are q in omega arith))) ∙ ap is_ok refused in cc),
-    )
+pub scan_refused : (moment : ℕ) (rows : Rows ℕ) (refs : Counts) (paths : List Path) (e : Refusal) → AreRemoved moment (at rows) paths → lowered_each refs (under_each rows paths) ≡ Err e → (e ≡ BadLine) × (HaveReferences (all_chunks (gone moment rows)) refs → ⊥)
+scan_refused moment rows refs paths e are refused = (
+  bad (under_each rows paths) refs e refused,
+  λ have. (let t : true ≡ false = sym (enough (under_each rows paths) refs (λ q. (let f = have q in let g = gone_once moment rows paths are q in omega arith))) ∙ ap is_ok refused in cc),
+)
 
 -- the chunks at zero, found in their map
 other : (o : Ordering) → is_lt o ≡ true → is_eq o ≡ false
@@ -162,10 +155,9 @@ just : (k : ℕ) (v : Option ℕ) → is_at_zero v ≡ has_just k (more k v)
 just k None = refl
 just k (Some n) = grind (arith, nat_tests)
 
-pub scan_found : (moment : ℕ) (rows : Rows ℕ) (refs rest : Counts) (scan : Scan) → AreRemoved moment (at rows) scan.removed.items → lowered_under rows scan.removed.items refs ≡ Ok rest → scan.forgotten.items ≡ orphans rest → IsScan moment rows refs scan
-scan_found moment rows refs rest scan are h is =
+pub scan_found : (moment : ℕ) (rows : Rows ℕ) (refs rest : Counts) (scan : Scan) → AreRemoved moment (at rows) scan.removed.items → lowered_each refs (under_each rows scan.removed.items) ≡ Ok rest → scan.forgotten.items ≡ orphans rest → IsScan moment rows refs scan
+scan_found moment rows refs rest scan are low is =
     let paths = scan.removed.items in
-    let low : lowered_each refs (under_each rows paths) ≡ Ok rest = sym (under_is rows paths refs) ∙ h in
     record {
       removed = are;
       counted = λ q. (let s = lowered-sum (under_each rows paths) refs rest q low in let g = gone_once moment rows paths are q in omega arith);

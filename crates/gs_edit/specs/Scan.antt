@@ -15,10 +15,10 @@ use Rattle.gs_tree.specs.Entry.{Dir, File}
 use Rattle.gs_tree.specs.Plain.{Plain}
 use Rattle.gs_tree.specs.Find.{Rows, at}
 use Rattle.gs_tree.specs.Edits.{same_path}
-use Rattle.gs_tree.specs.Chunks.{all_chunks, chunks_under}
+use Rattle.gs_tree.specs.Chunks.{all_chunks}
 use Rattle.gs_base.specs.declared.refusal.Refusal.{Refusal}
 use Rattle.gs_base.specs.declared.refusal.Refusal.TheVariants.{Memory, BadLine}
-use Rattle.gs_refs.specs.Counts.{Counts, and_then, lowered_each, occurrences, count_or_zero, ascends}
+use Rattle.gs_refs.specs.Counts.{Counts, occurrences, count_or_zero, ascends}
 use Rattle.gs_edit.specs.declared.scan.Scan.{Scan}
 use Rattle.gs_edit.specs.Table.{fronts}
 
@@ -99,11 +99,6 @@ pub record IsScan (moment : ℕ) (rows : Rows ℕ) (refs : Counts) (scan : Scan)
 abbrev pub Scans : ℕ → Rows ℕ → Counts → Result Scan Refusal → Type 0
 Scans moment rows refs (Ok scan) = IsScan moment rows refs scan
 Scans moment rows refs (Err e) = (e ≡ Memory) ⊎ ((e ≡ BadLine) × (HaveReferences (all_chunks (gone moment rows)) refs → ⊥))
-
--- the counts once all under these paths is removed
-abbrev pub lowered_under : Rows ℕ → List Path → Counts → Result Counts Refusal
-lowered_under rows [] refs = Ok refs
-lowered_under rows (p ∷ paths) refs = and_then (lowered_each refs (chunks_under p rows)) (λ n. lowered_under rows paths n)
 
 abbrev a : Name
 a = codes "a"

@@ -1,13 +1,15 @@
 //! What a scan takes out of a tree.
 ghost use Rattle.std.specs.Prelude.{◌≡◌, ◌+◌, nat_lt, IfOk, map, filter, refl};
 ghost use Rattle.std.specs.FinMap as fin_map;
+ghost use Rattle.std.specs.List.{flat_map};
 ghost use Rattle.std.specs.List.Sorted.{IsPermutation, IsSorted};
 ghost use Rattle.std.specs.Ordering.{eq_by_cmp, as_partial_cmp};
 ghost use Rattle.std.specs.Cmp.{partial_order_from_total, eq_by_cmp_equiv, partial_equiv_from_equiv};
 ghost use Rattle.gs_tree.specs.Build.{path_of_entry};
 ghost use Rattle.gs_tree.specs.Find.{at};
-ghost use Rattle.gs_refs.specs.Counts.{GivesOrMemory};
-ghost use Rattle.gs_edit.specs.Scan.{kept_for, is_over, goes, removal_cmp, removal_total, AreRemoved, lowered_under, Scans};
+ghost use Rattle.gs_tree.specs.Chunks.{chunks_under};
+ghost use Rattle.gs_refs.specs.Counts.{GivesOrMemory, lowered_each};
+ghost use Rattle.gs_edit.specs.Scan.{kept_for, is_over, goes, removal_cmp, removal_total, AreRemoved, Scans};
 
 use gs_base::{Handle, Moment, Refusal};
 use gs_path::{Name, Path};
@@ -180,7 +182,7 @@ fn scan_paths(alloc: Global, tree: &Tree, moment: Moment) -> Result<Vec<Path>, A
 
 /// The counts once all under these paths is removed.
 fn counts_without(alloc: Global, tree: &Tree, refs: &Refs, paths: &[Path]) -> Result<Refs, Refusal>
-    ensures { GivesOrMemory (lowered_under (fin_map.entries tree.now) paths.now refs.now) result }
+    ensures { GivesOrMemory (lowered_each refs.now (flat_map (λ p. chunks_under p (fin_map.entries tree.now)) paths.now)) result }
 {
     let mut rest = refs.copy(alloc)?;
     for path in paths {
