@@ -3,6 +3,7 @@ pub mod Checkpoints
 pub mod Choices
 pub mod Codes
 pub mod Fields
+pub mod Form
 pub mod Laws
 pub mod Loops
 pub mod Tags
