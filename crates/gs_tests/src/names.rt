@@ -94,10 +94,18 @@ fn edit(alloc: Global, step: &Step) -> Result<Edit, Refusal> {
     }
 }
 
-/// Makes an edit, and keeps what takes it back.
+/// What takes an edit back, written as a list and made of it again.
+fn relisted(alloc: Global, edit: &Edit, inverse: &Inverse) -> Result<Inverse, Refusal> {
+    let list = inverse.listed(alloc, edit.kind())?;
+    list.inverse(alloc)
+}
+
+/// Makes an edit, and keeps the inverse that is made of the list of what takes it back.
 fn apply(player: &mut Player, edit: &Edit) -> Result<(), Refusal> {
     let inverse = player.names.apply(edit)?;
-    player.inverses.push(inverse)?;
+    player
+        .inverses
+        .push(relisted(player.alloc, edit, &inverse)?)?;
     Ok(())
 }
 

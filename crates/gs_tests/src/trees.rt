@@ -74,3 +74,26 @@ fn entries_build_a_tree(rt: HostRuntime) -> Result<(), Fail> {
     assert_eq!(rt; number(built_again(alloc, &entries)), 34);
     Ok(())
 }
+
+fn three_directories(alloc: Global, tree: &mut Tree) -> Result<(), Refusal> {
+    tree.mkdirs(&Path::parse(alloc, "/a/b")?)?;
+    tree.mkdirs(&Path::parse(alloc, "/a.b")?)?;
+    Ok(())
+}
+
+/// Whether an entry's path has this text.
+fn is_at(alloc: Global, entry: &TreeEntry, text: &str) -> Result<bool, Refusal> {
+    Ok(*entry.path() == Path::parse(alloc, text)?)
+}
+
+#[test]
+fn entries_by_text_build_a_tree(rt: HostRuntime) -> Result<(), Fail> {
+    let alloc = rt.alloc();
+    let mut tree = Tree::new(alloc);
+    three_directories(alloc, &mut tree)?;
+    let entries = tree.entries_by_text(alloc)?;
+    assert_eq!(rt; entries.len(), 3);
+    assert!(rt; is_at(alloc, &entries[1], "/a.b")?);
+    assert_eq!(rt; number(built_again(alloc, &entries)), 0);
+    Ok(())
+}
