@@ -18,6 +18,8 @@ mod options;
 #[cfg(test)]
 mod paths;
 #[cfg(test)]
+mod records;
+#[cfg(test)]
 mod references;
 #[cfg(test)]
 mod replicas;
