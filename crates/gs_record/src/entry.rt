@@ -37,21 +37,21 @@ pub enum Entry {
     },
     /// A view of a chunk is settled.
     Settle(SettledView),
-    /// An upgrade is prepared: the epoch before it, and how many chunks are listed.
+    /// An upgrade is prepared: the epoch that begins, and how many chunks are listed.
     Prepare {
         epoch: u64,
         moment: Moment,
         chunks: u32,
     },
-    /// An upgrade of this epoch is finalized.
+    /// The upgrade is finalized: the epoch that begins.
     Finalize {
         epoch: u64,
     },
-    /// The rollback of an upgrade is begun.
+    /// The rollback of the upgrade is begun: the epoch that begins.
     RollbackBegin {
         epoch: u64,
     },
-    /// The rollback of an upgrade is done.
+    /// The rollback is done, in its epoch.
     RollbackCommit {
         epoch: u64,
         answered: Vec<Answered>,
