@@ -96,6 +96,9 @@ fn bytes_of(alloc: Global, text: &str) -> Result<Vec<u8>, AllocError> {
 }
 
 fn decode(alloc: Global, version: Version, kind: u8, body: &[u8]) -> Result<Entry, Refusal> {
+    if body.len() > 1_000 {
+        return Err(Refusal::TooLong);
+    }
     Entry::decode(alloc, version, &Record::new(alloc, kind, body)?)
 }
 
@@ -171,12 +174,11 @@ fn kept(alloc: Global) -> Result<usize, Refusal> {
     for (kind, body) in ROWS {
         journal.append(&again(alloc, kind, &bytes_of(alloc, body)?)?)?;
     }
-    let mut count = 0;
-    for record in journal.records(alloc)? {
-        Entry::decode(alloc, Version::Two, &record)?;
-        count += 1;
+    let records = journal.records(alloc)?;
+    for record in &records {
+        Entry::decode(alloc, Version::Two, record)?;
     }
-    Ok(count)
+    Ok(records.len())
 }
 
 #[test]
