@@ -101,10 +101,10 @@ IsListOf i (lists.Cow path index chunk) = i ≡ inverses.Tree (Changed path inde
 IsListOf i (lists.Snapshot path) = i ≡ inverses.Tree (Copied path)
 IsListOf i (lists.Forget chunks) = Remembers chunks.items i
 
--- the list of an inverse as one of an edit of this kind, exactly where it is one
+-- the list of an inverse as one of an edit of this kind; BadLine where it is none, whatever memory there is
 abbrev pub ListsAs : EditKind → Inverse → Result ListedInverse Refusal → Type 0
 ListsAs kind i (Ok list) = (is_of_kind kind i ≡ true) × (kind_of_list list ≡ kind) × IsListOf i list
-ListsAs kind i (Err e) = (e ≡ Memory) ⊎ ((e ≡ BadLine) × (is_of_kind kind i ≡ false))
+ListsAs kind i (Err e) = ((e ≡ Memory) × (is_of_kind kind i ≡ true)) ⊎ ((e ≡ BadLine) × (is_of_kind kind i ≡ false))
 
 -- a list is one of an inverse
 abbrev pub is_listed : ListedInverse → Bool

@@ -98,12 +98,10 @@ fn list_moved(
 ) -> Result<ListedInverse, Refusal>
     ensures { ListsAs kind (Inverse.Tree (changes.Moved from.now to.now)) result }
 {
-    let from = from.copy(alloc)?;
-    let to = to.copy(alloc)?;
     match kind {
-        EditKind::Rename => Ok(ListedInverse::Rename(to, from)),
-        EditKind::Hide => Ok(ListedInverse::Hide(to, from)),
-        EditKind::Unhide => Ok(ListedInverse::Unhide(to, from)),
+        EditKind::Rename => Ok(ListedInverse::Rename(to.copy(alloc)?, from.copy(alloc)?)),
+        EditKind::Hide => Ok(ListedInverse::Hide(to.copy(alloc)?, from.copy(alloc)?)),
+        EditKind::Unhide => Ok(ListedInverse::Unhide(to.copy(alloc)?, from.copy(alloc)?)),
         _ => Err(Refusal::BadLine),
     }
 }
@@ -176,8 +174,9 @@ fn list_copied(alloc: Global, path: &Path, kind: EditKind) -> Result<ListedInver
 }
 
 impl Inverse {
-    /// The list of this, as what takes an edit of a kind back. BadLine where it takes no edit of that kind back; what
-    /// `Names::apply` answers takes one of its edit's kind back. It copies what it lists.
+    /// The list of this, as what takes an edit of a kind back. BadLine where it takes no edit of that kind back, which is
+    /// judged before anything is copied; what `Names::apply` answers takes one of its edit's kind back. It copies what it
+    /// lists.
     pub fn listed(&self, alloc: Global, kind: EditKind) -> Result<ListedInverse, Refusal>
         ensures { ListsAs kind self.now result }
     {
