@@ -17,7 +17,8 @@ use Rattle.gs_tree.specs.Find.{Rows, at}
 use Rattle.gs_tree.specs.Edits.{same_path, is_dir, parent, with_entry}
 use Rattle.gs_base.specs.declared.refusal.Refusal.{Refusal}
 use Rattle.gs_base.specs.declared.refusal.Refusal.TheVariants.{Memory}
-use Rattle.gs_tree.specs.Build.{Builds, rooted_rows, all_apart, is_short, has_place, is_part, is_tree, is_inside, has_parent, fits_level, IsFilled, IsFreeBelow}
+use Rattle.gs_tree.specs.Build.{Builds, rooted_rows, all_apart, is_short, has_place, is_part, is_tree, is_inside, goes_deeper}
+use Rattle.gs_tree.specs.inner.Building.{has_parent, fits_level, IsFilled, IsFreeBelow}
 use Rattle.gs_tree.proofs.Rows.{at-append}
 use Rattle.gs_tree.proofs.Depths.{paths_antisymmetric}
 use Rattle.gs_tree.proofs.Splice.{begins_parts}
@@ -394,6 +395,15 @@ not_inside t all out = never (is_part t all) (λ whole. let parts = parts_of t a
 
 pub not_short : (t : Path × Entry ℕ) (all : Rows ℕ) → is_short t.0 ≡ false → is_part t all ≡ false
 not_short t all long = never (is_part t all) (λ whole. let k = (parts_of t all whole).short in cc)
+
+always : (b : Bool) → (b ≡ false → ⊥) → b ≡ true
+always true h = refl
+always false h = absurd (h refl)
+
+-- the paths of a part have more elements than that which it stands at, and few enough
+pub part_goes_deeper : (t : Path × Entry ℕ) (all : Rows ℕ) → is_part t all ≡ true → goes_deeper (t ∷ all) ≡ true
+part_goes_deeper t all whole =
+    both_true (is_short t.0) (list_all (λ r. is_inside (length t.0) r.0) all) (always (is_short t.0) (λ long. let k = not_short t all long in cc)) (always (list_all (λ r. is_inside (length t.0) r.0) all) (λ out. let k = not_inside t all out in cc))
 
 -- what is built of a tree's rows is the tree
 pub built_again : (tree : FinMap path_cmp (Entry ℕ)) (rows : Rows ℕ) (built : Result (FinMap path_cmp (Entry ℕ)) Refusal) → Same (at (rooted_rows rows)) (get tree) → is_tree rows ≡ true → Builds rows built → IfOk built (λ t. t ≡ tree) × IfErr built (λ e. e ≡ Memory)

@@ -15,3 +15,4 @@ pub mod Lists
 pub mod Commands
 pub mod Counting
 pub mod Small
+pub mod inner

@@ -6,7 +6,7 @@ use Rattle.gs_path.specs.Path.{Path, begins}
 use Rattle.gs_tree.specs.Plain.{Plain, Same, part_at}
 use Rattle.gs_tree.specs.Find.{Rows, at}
 use Rattle.std.specs.List.Sorted.{IsPermutation}
-use Rattle.gs_tree.specs.Build.{is_part, prefixed, below_root}
+use Rattle.gs_tree.specs.Build.{is_part, prefixed, below_root, goes_deeper}
 use Rattle.gs_tree.specs.Inverses.{Fits, after_undo, removed_chunks}
 use Rattle.gs_tree.specs.declared.inverse.TreeInverse.{TreeInverse}
 use Rattle.gs_tree.specs.declared.inverse.TreeInverse.TheVariants.{Made, Removed}
@@ -43,9 +43,15 @@ abbrev pub made_inverse : List Path → TreeInverse
 made_inverse [] = Made [] 0
 made_inverse (p ∷ paths) = Made (last_of p paths) (length p - 1)
 
+-- paths that one edit makes, and there are some: of none, no memory is wanted
+abbrev pub is_some_made : List Path → Bool
+is_some_made [] = false
+is_some_made (p ∷ paths) = is_made (p ∷ paths)
+
+-- judged before memory is wanted
 abbrev pub GivesMade : List Path → Result TreeInverse Refusal → Type 0
 GivesMade paths (Ok i) = (is_made paths ≡ true) × (i ≡ made_inverse paths)
-GivesMade paths (Err e) = (e ≡ Memory) ⊎ ((e ≡ BadLine) × (is_made paths ≡ false))
+GivesMade paths (Err e) = ((e ≡ Memory) × (is_some_made paths ≡ true)) ⊎ ((e ≡ BadLine) × (is_made paths ≡ false))
 
 -- rows that were removed: a first one, and what stood below its path
 abbrev pub is_removed : {A : Type 0} → Rows A → Bool
@@ -57,9 +63,10 @@ abbrev pub PutsBack : Rows ℕ → TreeInverse → Type 0
 PutsBack [] i = ⊥
 PutsBack (top ∷ rows) i = (node : Rows ℕ) × (Same (at node) (part_at top.0 (at (top ∷ rows))) × (i ≡ Removed top.0 node))
 
+-- the lengths of their paths are judged before memory is wanted
 abbrev pub GivesRemoved : Rows ℕ → Result TreeInverse Refusal → Type 0
 GivesRemoved rows (Ok i) = (is_removed rows ≡ true) × PutsBack rows i
-GivesRemoved rows (Err e) = (e ≡ Memory) ⊎ ((e ≡ BadLine) × (is_removed rows ≡ false))
+GivesRemoved rows (Err e) = ((e ≡ Memory) × (goes_deeper rows ≡ true)) ⊎ ((e ≡ BadLine) × (is_removed rows ≡ false))
 
 -- two inverses that do the same: they fit the same trees, lead to the same, and put the same chunks back
 pub record IsSameInverse (i j : TreeInverse) : Type 0 where
@@ -102,3 +109,6 @@ a_path_left_out = refl
 
 the_root_is_never_made : is_made ([] ∷ a ∷ []) ≡ false
 the_root_is_never_made = refl
+
+nothing_is_made_without_memory : is_some_made [] ≡ false
+nothing_is_made_without_memory = refl

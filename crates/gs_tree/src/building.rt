@@ -1,8 +1,9 @@
 //! A tree, or a part of one, made of entries in any order.
-ghost use Rattle.std.specs.Prelude.{◌≡◌, ◌≤◌, ◌+◌, ◌==◌, length, nat_le, true};
+ghost use Rattle.std.specs.Prelude.{◌≡◌, ◌≤◌, ◌+◌, ◌==◌, ℕ, length, nat_le, true};
 ghost use Rattle.std.specs.List.{list_all};
 ghost use Rattle.gs_tree.specs.Find.{at};
-ghost use Rattle.gs_tree.specs.Build.{row_of_entry, rows_of_entries, path_of_entry, kind_of_entry, is_inside, IsFilled, FillsLevel, AddsBelow, BuildsPart};
+ghost use Rattle.gs_tree.specs.Build.{row_of_entry, rows_of_entries, path_of_entry, kind_of_entry, is_inside};
+ghost use Rattle.gs_tree.specs.inner.Building.{IsFilled, FillsLevel, AddsBelow, BuildsPart};
 
 use crate::entry::TreeEntry;
 use crate::node::{Node, Sort};
@@ -28,6 +29,7 @@ fn are_inside(least: usize, entries: &[TreeEntry]) -> bool
 fn longest(least: usize, entries: &[TreeEntry]) -> usize
     ensures least { least ≤ result }
     ensures all { list_all (λ r. nat_le (length r.0) result) (rows_of_entries entries.now) ≡ true }
+    ensures no_more { (n : ℕ) → least ≤ n → list_all (λ r. nat_le (length r.0) n) (rows_of_entries entries.now) ≡ true → result ≤ n }
 {
     let mut most = least;
     for entry in entries {

@@ -40,7 +40,8 @@ fn is_child(front: &Path, path: &Path) -> bool
 
 impl TreeInverse {
     /// What takes these paths out again, which an edit made. BadLine where no edit makes just these: each has to be the
-    /// parent of the next, and none is the root. Of no path, it changes nothing.
+    /// parent of the next, and none is the root. It is judged before memory is wanted. Of no path, it changes nothing, and
+    /// wants no memory.
     pub fn of_made(alloc: Global, paths: &[Path]) -> Result<TreeInverse, Refusal>
         ensures { GivesMade paths.now result }
     {
@@ -61,7 +62,8 @@ impl TreeInverse {
     }
 
     /// What puts these entries back, which were removed: the first, and those below its path in any order. BadLine where
-    /// they aren't what stands at a path and below it.
+    /// they aren't what stands at a path and below it. The numbers of their paths' elements are judged before memory is
+    /// wanted, the rest while the entries are put at their places.
     pub fn of_removed(alloc: Global, entries: &[TreeEntry]) -> Result<TreeInverse, Refusal>
         ensures { GivesRemoved (rows_of_entries entries.now) result }
     {

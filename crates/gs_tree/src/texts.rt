@@ -4,7 +4,8 @@ ghost use Rattle.std.specs.Cmp.{partial_order_from_total, eq_by_cmp_equiv, parti
 ghost use Rattle.std.specs.Ordering.{eq_by_cmp, as_partial_cmp};
 ghost use Rattle.std.specs.List.Sorted.{IsPermutation, IsSortedByKey};
 ghost use Rattle.gs_path.specs.Path.{text_cmp};
-ghost use Rattle.gs_tree.specs.Build.{path_of_entry, entry_cmp, entries_total};
+ghost use Rattle.gs_tree.specs.Build.{path_of_entry};
+ghost use Rattle.gs_tree.specs.inner.Texts.{entry_cmp, entries_total};
 
 use crate::entry::TreeEntry;
 use std::alloc::{AllocError, Global};

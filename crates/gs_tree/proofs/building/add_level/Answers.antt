@@ -7,7 +7,8 @@ use Rattle.gs_tree.specs.declared.entry.TreeEntry.{TreeEntry}
 use Rattle.gs_tree.specs.Find.{Rows, at}
 use Rattle.gs_tree.specs.Plain.{Plain, Same}
 use Rattle.gs_tree.specs.Edits.{with_entry}
-use Rattle.gs_tree.specs.Build.{row_of_entry, rows_of_entries, path_of_entry, kind_of_entry, IsFreeBelow}
+use Rattle.gs_tree.specs.Build.{row_of_entry, rows_of_entries, path_of_entry, kind_of_entry}
+use Rattle.gs_tree.specs.inner.Building.{IsFreeBelow}
 use Rattle.gs_tree.proofs.Levels.{Filling, filling_skip, filling_more, filling_refused, filling_all}
 use Rattle.gs_tree.proofs.building.add_level.Goals.{then-is_next+in-Ok, else-is_next}
 use Rattle.gs_tree.proofs.building.add_level.Goals as goal

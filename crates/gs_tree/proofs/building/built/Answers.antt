@@ -1,9 +1,13 @@
-use Rattle.std.proofs.Common.{◌≡◌, true, length, refl, sym, ap, ◌∙◌, subst, inr, arith}
+use Rattle.std.proofs.Common.{◌≡◌, ◌<◌, ◌∷◌, ℕ, Bool, true, length, refl, sym, ap, ◌∙◌, subst, inl, inr, arith}
 use Rattle.std.proofs.lemmas.Bool.{leb-true, le-leb}
+use Rattle.std.proofs.lemmas.Result.{err_from_is_err_and}
 use Rattle.std.specs.List.{list_all}
-use Rattle.gs_tree.specs.Find.{at}
-use Rattle.gs_tree.specs.Build.{row_of_entry, rows_of_entries, path_of_entry, is_short, is_inside, IsFilled}
-use Rattle.gs_tree.proofs.Levels.{never, filled_none, filled_all, not_inside, not_short}
+use Rattle.gs_path.specs.Path.{Path}
+use Rattle.gs_tree.specs.Entry.{Entry}
+use Rattle.gs_tree.specs.Find.{Rows, at}
+use Rattle.gs_tree.specs.Build.{row_of_entry, rows_of_entries, path_of_entry, is_short, is_inside, goes_deeper}
+use Rattle.gs_tree.specs.inner.Building.{IsFilled}
+use Rattle.gs_tree.proofs.Levels.{both_true, never, filled_none, filled_all, not_inside, not_short}
 use Rattle.gs_tree.proofs.building.built.Goals as goal
 
 pub returns-then-least-ge-TOO_MANY_ELEMENTS : goal.returns-then-least-ge-TOO_MANY_ELEMENTS
@@ -37,3 +41,24 @@ returns c =
     let few = c.if-least-ge-TOO_MANY_ELEMENTS.false in
     let short : is_short t.0 ≡ true = le-leb (length t.0) 64 (omega arith) in
     filled_all t all c.longest-most-end.result (at c.loop-most.root) short inside c.longest-most-end.ensures.all (subst (λ n. IsFilled t all n (at c.loop-most.root)) end c.loop-most.invariant)
+
+-- where the lengths of the paths were judged, what was refused since may be for memory
+judged : (t : Path × Entry ℕ) (all : Rows ℕ) (least : ℕ) (inside : Bool) → least ≡ length t.0 → least < 65 → inside ≡ list_all (λ r. is_inside least r.0) all → inside ≡ true → goes_deeper (t ∷ all) ≡ true
+judged t all least inside is few was test =
+    both_true (is_short t.0) (list_all (λ r. is_inside (length t.0) r.0) all) (le-leb (length t.0) 64 (omega arith)) (ap (λ n. list_all (λ r. is_inside n r.0) all) (sym is) ∙ sym was ∙ test)
+
+pub returns-in_err-root : goal.returns-in_err-root
+returns-in_err-root c =
+    let few = c.if-least-ge-TOO_MANY_ELEMENTS.false in
+    let deeper = judged (row_of_entry c.args.first.now) (rows_of_entries c.args.entries.now) (length c.elements-least.result.now) c.are_inside.result (ap length (c.elements-least.ensures ∙ c.path.ensures)) (omega arith) c.are_inside.ensures c.if-not-are_inside.false in
+    let p = err_from_is_err_and c.from_residual.result c.from_residual.ensures.1 in
+    rw (p.1, p.2) (inl (refl, deeper))
+
+pub returns-in-Err : goal.returns-in-Err
+returns-in-Err c =
+    let few = c.if-least-ge-TOO_MANY_ELEMENTS.false in
+    let deeper = judged (row_of_entry c.args.first.now) (rows_of_entries c.args.entries.now) (length c.elements-least.result.now) c.are_inside.result (ap length (c.elements-least.ensures ∙ c.path.ensures)) (omega arith) c.are_inside.ensures c.if-not-are_inside.false in
+    elim c.in-Err.ensures [
+      | inl memory ↦ inl (memory, deeper)
+      | inr bad ↦ inr bad
+    ]

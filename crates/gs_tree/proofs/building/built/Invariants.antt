@@ -1,5 +1,6 @@
 use Rattle.gs_tree.specs.Find.{at}
-use Rattle.gs_tree.specs.Build.{row_of_entry, rows_of_entries, IsFilled}
+use Rattle.gs_tree.specs.Build.{row_of_entry, rows_of_entries}
+use Rattle.gs_tree.specs.inner.Building.{IsFilled}
 use Rattle.gs_tree.proofs.building.built.Given as goal
 
 abbrev pub invariant-loop-most : goal.invariant-loop-most

@@ -2,7 +2,8 @@ use Rattle.std.proofs.Common.{[], ap, ◌∙◌, subst}
 use Rattle.std.specs.Prelude.{Ok}
 use Rattle.gs_path.specs.Path.{Path}
 use Rattle.gs_tree.specs.Entry.{Dir}
-use Rattle.gs_tree.specs.Build.{rows_of_entries, BuildsPart}
+use Rattle.gs_tree.specs.Build.{rows_of_entries}
+use Rattle.gs_tree.specs.inner.Building.{BuildsPart}
 use Rattle.gs_tree.proofs.Moves.{seen}
 use Rattle.gs_tree.proofs.tree.Tree.of.Goals as goal
 
