@@ -8,8 +8,8 @@ use Rattle.std.specs.List.Sorted.{IsSortedByKey}
 use Rattle.gs_path.specs.Path.{Path, text_cmp}
 use Rattle.gs_tree.specs.Plain.{Same}
 use Rattle.gs_tree.specs.Find.{Rows, at}
-use Rattle.gs_tree.specs.Build.{rows_of_entries, path_of_entry, is_short, IsSound}
-use Rattle.gs_tree.specs.Lists.{made_paths, is_made, made_inverse, is_removed, PutsBack, IsPartList, top_path}
+use Rattle.gs_tree.specs.Build.{rows_of_entries, path_of_entry, is_short, goes_deeper, IsSound}
+use Rattle.gs_tree.specs.Lists.{made_paths, is_made, is_some_made, made_inverse, is_removed, PutsBack, IsPartList, top_path}
 use Rattle.gs_tree.specs.declared.inverse.TreeInverse.{TreeInverse}
 use Rattle.gs_tree.specs.declared.inverse.TreeInverse.TheVariants.{Made, Moved, Removed, Added, Changed, Copied}
 use Rattle.gs_edit.specs.View.{NamesView}
@@ -145,9 +145,17 @@ IsMadeOfList (lists.Cow path index chunk) i = i ≡ inverses.Tree (Changed path 
 IsMadeOfList (lists.Snapshot path) i = i ≡ inverses.Tree (Copied path)
 IsMadeOfList (lists.Forget chunks) i = Remembers chunks.items i
 
+-- Memory may be wanted for a list of an inverse, but not for paths of which none was made. Of what was removed the lengths
+-- of the paths alone are judged before.
+abbrev pub may_want_memory : ListedInverse → Bool
+may_want_memory (lists.Mkdirs paths) = is_some_made paths.items
+may_want_memory (lists.Create paths) = is_some_made paths.items
+may_want_memory (lists.Remove entries) = goes_deeper (rows_of_entries entries.items)
+may_want_memory list = true
+
 abbrev pub GivesInverse : ListedInverse → Result Inverse Refusal → Type 0
 GivesInverse list (Ok i) = (is_listed list ≡ true) × IsMadeOfList list i
-GivesInverse list (Err e) = (e ≡ Memory) ⊎ ((e ≡ BadLine) × (is_listed list ≡ false))
+GivesInverse list (Err e) = ((e ≡ Memory) × (may_want_memory list ≡ true)) ⊎ ((e ≡ BadLine) × (is_listed list ≡ false))
 
 -- two inverses that fit the same names and lead to the same
 pub record DoesTheSame (i j : Inverse) : Type 0 where

@@ -220,7 +220,8 @@ impl ListedInverse {
 
     /// The inverse of which this is the list. BadLine where it is the list of none: paths that were made have to be the
     /// parents of the next, the root not among them; what was removed has to be a first entry and what stands below its
-    /// path, in any order, with paths of at most 64 elements. It copies what is listed.
+    /// path, in any order, with paths of at most 64 elements. Paths that were made are judged before anything is copied, and
+    /// of what was removed the numbers of the paths' elements. It copies what is listed.
     pub fn inverse(&self, alloc: Global) -> Result<Inverse, Refusal>
         ensures { GivesInverse self.now result }
     {
