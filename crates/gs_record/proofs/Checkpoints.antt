@@ -17,13 +17,14 @@ use Rattle.gs_record.specs.declared.checkpoint.Reference.{Reference}
 use Rattle.gs_record.specs.declared.checkpoint.SettledEntry.{SettledEntry}
 use Rattle.gs_record.specs.declared.entry.SettledView.{SettledView}
 use Rattle.gs_record.proofs.Fields.{n64, n32, reads_handle, reads_members, reads_path, reads_request, reads_settled}
-use Rattle.gs_record.proofs.Laws.{IsBytes, Takes, Reads, reads_both, reads_made, reads_byte, reads_text, reads_list, reads_same, bind_some, some_is}
+use Rattle.gs_record.proofs.Laws.{IsBytes, Takes, Reads, reads_both, reads_made, reads_byte, reads_text, reads_list, reads_same, bind_some, if_some, some_is}
 use Rattle.gs_record.proofs.Tags.{Tagged, Chosen, arm, again}
 use Rattle.gs_record.proofs.Told.{told_tells, told_back, small, positive}
 use Rattle.gs_record.specs.Encoding.{number, text, list, node, tree_entry, inverse_tag, inverse_fields, inverse, phase_number, phase, end_number, epoch_end, flag_number, flag, reference, settled_entry, outcome, reply, prepared_view, checkpoint}
+use Rattle.gs_record.specs.Order.{is_in_order}
 use Rattle.gs_record.specs.Plain.{PlainInverse, UndoMkdirs, UndoCreate, UndoRename, UndoHide, UndoUnhide, UndoRemove, UndoAddChunk, UndoCow, UndoSnapshot, UndoForget, PlainOutcome, Accepted, Refused, PlainReply, PlainCheckpoint}
-use Rattle.gs_record.specs.Writable.{IsHandle, AreServers, IsText, AreItems, IsRequest, IsSettled, IsNode, IsTreeEntry, IsInverse, IsReference, IsSettledEntry, IsOutcome, IsReply, IsPreparedView, IsCheckpoint}
-use Rattle.gs_record.specs.inner.Reading.{◌>>=◌, made, byte_at, handle_at, list_at, node_behind, node_at, tree_entry_at, inverse_of_chunks_at, inverse_fields_at, inverse_at, phase_of, phase_at, end_of, end_at, flag_of, flag_at, reference_of, reference_at, settled_entry_of, settled_entry_at, outcome_of, outcome_at, reply_of, reply_at, unheld, unheld_at, held, held_at, prepared_at, prepared_list_at, Fields, checkpoint_of, checkpoint_at}
+use Rattle.gs_record.specs.Writable.{IsHandle, AreServers, IsText, AreItems, IsRequest, IsSettled, IsNode, IsTreeEntry, IsInverse, IsReference, IsSettledEntry, IsOutcome, IsReply, IsPreparedView, AreParts, IsCheckpoint}
+use Rattle.gs_record.specs.inner.Reading.{◌>>=◌, made, byte_at, handle_at, list_at, node_behind, node_at, tree_entry_at, inverse_of_chunks_at, inverse_fields_at, inverse_at, phase_of, phase_at, end_of, end_at, flag_of, flag_at, reference_of, reference_at, settled_entry_of, settled_entry_at, outcome_of, outcome_at, reply_of, reply_at, unheld, unheld_at, held, held_at, prepared_at, prepared_list_at, Fields, checkpoint_of, parts_at, ordered, checkpoint_at}
 use Rattle.gs_record.specs.inner.Told.{told}
 
 -- ---- entries of the tree
@@ -223,16 +224,16 @@ reads_prepared_list version = reads_list (reads_prepared version)
 abbrev checkpoint_fields : PlainCheckpoint → Fields
 checkpoint_fields c = (c.next_handle, (c.next_version, (c.next_hidden, (c.epoch, (c.phase, (c.ends, (c.tree, (c.references, (c.settled, (c.replies, (c.prepared, c.inverses)))))))))))
 
-pub reads_checkpoint : (version : Version) → Reads (IsCheckpoint version) (checkpoint version) (checkpoint_at version)
-unfolding checkpoint_at
-reads_checkpoint version =
+reads_parts : (version : Version) → Reads (AreParts version) (checkpoint version) (parts_at version)
+unfolding parts_at
+reads_parts version =
     reads_made (reads_both reads_handle (reads_both n64 (reads_both n64 (reads_both n64 (reads_both reads_phase
     (reads_both (reads_list reads_end) (reads_both (reads_list reads_tree_entry) (reads_both (reads_list reads_reference) (reads_both (reads_list reads_settled_entry)
     (reads_both (reads_list reads_reply) (reads_both (reads_prepared_list version) (reads_list reads_inverse)))))))))))
     ) (record { back = λ y is. (is, refl); forth = forth }) where
       forth : (x : Fields) (y : PlainCheckpoint)
           → IsHandle x.0 × (IsNumber x.1.0 × (IsNumber x.1.1.0 × (IsNumber x.1.1.1.0 × (⊤ × (AreItems (λ e. ⊤) x.1.1.1.1.1.0 × (AreItems IsTreeEntry x.1.1.1.1.1.1.0 × (AreItems IsReference x.1.1.1.1.1.1.1.0 × (AreItems IsSettledEntry x.1.1.1.1.1.1.1.1.0 × (AreItems IsReply x.1.1.1.1.1.1.1.1.1.0 × (AreItems (IsPreparedView version) x.1.1.1.1.1.1.1.1.1.1.0 × AreItems IsInverse x.1.1.1.1.1.1.1.1.1.1.1))))))))))
-          → checkpoint_of x ≡ Some y → (checkpoint_fields y ≡ x) × IsCheckpoint version y
+          → checkpoint_of x ≡ Some y → (checkpoint_fields y ≡ x) × AreParts version y
       forth x y is e =
           let k = some_is (record {
             next_handle = x.0;
@@ -248,4 +249,12 @@ reads_checkpoint version =
             prepared = x.1.1.1.1.1.1.1.1.1.1.0;
             inverses = x.1.1.1.1.1.1.1.1.1.1.1;
           }) y e in
-          subst (λ (z : PlainCheckpoint). (checkpoint_fields z ≡ x) × IsCheckpoint version z) k (refl, is)
+          subst (λ (z : PlainCheckpoint). (checkpoint_fields z ≡ x) × AreParts version z) k (refl, is)
+
+pub reads_checkpoint : (version : Version) → Reads (IsCheckpoint version) (checkpoint version) (checkpoint_at version)
+unfolding checkpoint_at
+reads_checkpoint version = reads_made (reads_parts version) (record { back = λ y is. (is.0, ap (λ b. cond b (Some y) None) is.1); forth = forth }) where
+  forth : (x y : PlainCheckpoint) → AreParts version x → ordered x ≡ Some y → (y ≡ x) × IsCheckpoint version y
+  forth x y is e =
+      let k = if_some (is_in_order x) x y e in
+      subst (λ (z : PlainCheckpoint). (z ≡ x) × IsCheckpoint version z) k.1 (refl, (is, k.0))

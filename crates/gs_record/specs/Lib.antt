@@ -1,5 +1,6 @@
 pub mod Answers
 pub mod Encoding
+pub mod Order
 pub mod Plain
 pub mod Writable
 pub mod inner

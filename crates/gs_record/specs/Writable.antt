@@ -17,6 +17,7 @@ use Rattle.gs_record.specs.declared.checkpoint.SettledEntry.{SettledEntry}
 use Rattle.gs_record.specs.declared.entry.Answered.{Answered}
 use Rattle.gs_record.specs.declared.entry.SettledView.{SettledView}
 use Rattle.gs_record.specs.Encoding.{body}
+use Rattle.gs_record.specs.Order.{is_in_order}
 use Rattle.gs_record.specs.Plain.{PlainEdit, Mkdirs, Create, Rename, Hide, Unhide, Remove, AddChunk, Cow, Snapshot, Forget, PlainEntry, Edited, Said, Propose, Settle, Prepare, Finalize, RollbackBegin, RollbackCommit, Whole, Holder, PlainNode, PlainInverse, UndoMkdirs, UndoCreate, UndoRename, UndoHide, UndoUnhide, UndoRemove, UndoAddChunk, UndoCow, UndoSnapshot, UndoForget, PlainOutcome, Accepted, Refused, PlainReply, PlainCheckpoint}
 
 abbrev pub IsHandle : ℕ → Type 0
@@ -106,11 +107,16 @@ abbrev pub IsPreparedView : Version → PreparedView → Type 0
 IsPreparedView One v = IsSettled v.settled × (v.holders ≡ [])
 IsPreparedView Two v = IsSettled v.settled × AreServers v.holders
 
-abbrev pub IsCheckpoint : Version → PlainCheckpoint → Type 0
-IsCheckpoint version c =
+-- the fields of a checkpoint, each by itself
+abbrev pub AreParts : Version → PlainCheckpoint → Type 0
+AreParts version c =
     IsHandle c.next_handle × (IsNumber c.next_version × (IsNumber c.next_hidden × (IsNumber c.epoch × (⊤
     × (AreItems (λ e. ⊤) c.ends × (AreItems IsTreeEntry c.tree × (AreItems IsReference c.references × (AreItems IsSettledEntry c.settled
     × (AreItems IsReply c.replies × (AreItems (IsPreparedView version) c.prepared × AreItems IsInverse c.inverses))))))))))
+
+-- the lists in their order
+abbrev pub IsCheckpoint : Version → PlainCheckpoint → Type 0
+IsCheckpoint version c = AreParts version c × (is_in_order c ≡ true)
 
 -- holders stand in a journal from version 2 on
 abbrev pub IsHolder : Version → ℕ → ℕ → Type 0

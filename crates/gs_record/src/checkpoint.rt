@@ -57,7 +57,8 @@ pub struct PreparedView {
     pub holders: Members,
 }
 
-/// All that the master keeps over a restart, in one entry.
+/// All that the master keeps over a restart, in one entry. It can be written only where its lists stand in the order that
+/// is told of each. None has two items of one path, chunk or client.
 #[derive(Drop)]
 pub struct Checkpoint {
     pub next_handle: Handle,
@@ -68,7 +69,7 @@ pub struct Checkpoint {
     pub phase: Phase,
     /// How the epochs before this one ended, the first epoch's first.
     pub ends: Vec<EpochEnd>,
-    /// In the order of their paths' bytes.
+    /// In the order of the bytes of their paths' texts.
     pub tree: Vec<TreeEntry>,
     /// Ascending by handle.
     pub references: Vec<Reference>,
@@ -76,6 +77,7 @@ pub struct Checkpoint {
     pub settled: Vec<SettledEntry>,
     /// Ascending by client.
     pub replies: Vec<Reply>,
+    /// Ascending by handle.
     pub prepared: Vec<PreparedView>,
     /// What takes back the edits since prepare, in the order of the edits.
     pub inverses: Vec<ListedInverse>,

@@ -18,8 +18,8 @@ use std::alloc::Global;
 
 impl Entry {
     /// The record of the entry, for a journal of version 2. `BadLine` where the entry can't be written: a path isn't one
-    /// that is read from its text, an index or a number of items has no four bytes, or a detail or the whole has too many
-    /// bytes. Else it refuses `Memory` alone.
+    /// that is read from its text, an index or a number of items has no four bytes, a detail or the whole has too many
+    /// bytes, or a list of a checkpoint doesn't stand in its order. Else it refuses `Memory` alone.
     pub fn encode(&self, alloc: Global) -> Result<Record, Refusal>
         ensures written { IfOk result (λ r. IsEntry Two (plain self.now) × (r ≡ encoded Two (plain self.now))) }
         ensures refused { IfErr result (λ e. (e ≡ Memory) ⊎ ((e ≡ BadLine) × ¬ IsEntry Two (plain self.now))) }

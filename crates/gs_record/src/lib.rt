@@ -10,6 +10,7 @@ mod fault;
 mod field;
 mod ids;
 mod lists;
+mod order;
 mod parts;
 pub mod promises;
 mod state;

@@ -17,6 +17,7 @@ use Rattle.gs_record.specs.declared.checkpoint.Reference.{Reference}
 use Rattle.gs_record.specs.declared.checkpoint.SettledEntry.{SettledEntry}
 use Rattle.gs_record.specs.declared.entry.Answered.{Answered}
 use Rattle.gs_record.specs.declared.entry.SettledView.{SettledView}
+use Rattle.gs_record.specs.Order.{is_in_order}
 use Rattle.gs_record.specs.Plain.{PlainEdit, Mkdirs, Create, Rename, Hide, Unhide, Remove, AddChunk, Cow, Snapshot, Forget, PlainEntry, Edited, Said, Propose, Settle, Prepare, Finalize, RollbackBegin, RollbackCommit, Whole, Holder, PlainNode, PlainInverse, UndoMkdirs, UndoCreate, UndoRename, UndoHide, UndoUnhide, UndoRemove, UndoAddChunk, UndoCow, UndoSnapshot, UndoForget, PlainOutcome, Accepted, Refused, PlainReply, PlainCheckpoint}
 use Rattle.gs_record.specs.inner.Told.{told}
 use Rattle.gs_journal.specs.declared.version.Version.{Version}
@@ -253,11 +254,17 @@ checkpoint_of x =
       inverses = x.1.1.1.1.1.1.1.1.1.1.1;
     })
 
-unfoldable pub checkpoint_at : Version → Reader PlainCheckpoint
-checkpoint_at version =
+unfoldable pub parts_at : Version → Reader PlainCheckpoint
+parts_at version =
     made checkpoint_of (both handle_at (both (number_at w64) (both (number_at w64) (both (number_at w64) (both phase_at
     (both (list_at end_at) (both (list_at tree_entry_at) (both (list_at reference_at) (both (list_at settled_entry_at)
     (both (list_at reply_at) (both (prepared_list_at version) (list_at inverse_at))))))))))))
+
+abbrev pub ordered : PlainCheckpoint → Option PlainCheckpoint
+ordered c = if is_in_order c then Some c else None
+
+unfoldable pub checkpoint_at : Version → Reader PlainCheckpoint
+checkpoint_at version = made ordered (parts_at version)
 
 -- ---- entries, by their kinds
 

@@ -1,16 +1,16 @@
 use Rattle.std.proofs.Common.{◌≡◌, ◌++◌, map, subst}
 use Rattle.std.specs.Prelude.{⊤}
 use Rattle.gs_journal.specs.declared.version.Version.TheVariants.{Two}
-use Rattle.gs_record.proofs.Chain.{checkpoint_put}
+use Rattle.gs_record.proofs.Chain.{parts_put}
 use Rattle.gs_record.specs.Encoding.{list, epoch_end, tree_entry, reference, settled_entry, reply, prepared_view, inverse}
 use Rattle.gs_record.specs.Plain.{plain_checkpoint, plain_node, plain_reply, plain_inverse}
 use Rattle.gs_record.specs.Writable.{AreItems, IsTreeEntry, IsReference, IsSettledEntry, IsReply, IsPreparedView, IsInverse}
 use Rattle.gs_record.specs.inner.Work.{Puts}
-use Rattle.gs_record.proofs.state.put_checkpoint.Goals as goal
+use Rattle.gs_record.proofs.state.put_parts.Goals as goal
 
 pub returns : goal.returns
 returns c =
-    checkpoint_put (plain_checkpoint c.args.checkpoint.now) c.args.out.now.items c.put.new.out.items c.put-2.new.out.items c.put-3.new.out.items c.put-4.new.out.items c.put-5.new.out.items c.put_ends.new.out.items c.put_list.new.out.items c.put_references.new.out.items c.put_entries.new.out.items c.put_list-2.new.out.items c.put_prepared.new.out.items c.put_list-3.new.out.items c.put_list-3.result
+    parts_put (plain_checkpoint c.args.checkpoint.now) c.args.out.now.items c.put.new.out.items c.put-2.new.out.items c.put-3.new.out.items c.put-4.new.out.items c.put-5.new.out.items c.put_ends.new.out.items c.put_list.new.out.items c.put_references.new.out.items c.put_entries.new.out.items c.put_list-2.new.out.items c.put_prepared.new.out.items c.put_list-3.new.out.items c.put_list-3.result
     c.in_ok-put.ensures
     c.in_ok-put-2.ensures
     c.in_ok-put-3.ensures
