@@ -2,5 +2,6 @@ pub mod Answers
 pub mod Encoding
 pub mod Order
 pub mod Plain
+pub mod Rows
 pub mod Writable
 pub mod inner
