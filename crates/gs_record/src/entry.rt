@@ -17,7 +17,8 @@ pub struct Answered {
     pub members: Members,
 }
 
-/// An entry of the master's journal.
+/// An entry of the master's journal. The epoch of an entry is the one that the master is in once the entry is written:
+/// an even one is ordinary, an odd one is that of an upgrade. Only `Prepare`, `Finalize` and `RollbackBegin` begin an epoch.
 #[derive(Drop)]
 pub enum Entry {
     /// An edit of the names was accepted. Client 0 under number 0 is the master itself.
@@ -37,21 +38,23 @@ pub enum Entry {
     },
     /// A view of a chunk is settled.
     Settle(SettledView),
-    /// An upgrade is prepared: the epoch that begins, and how many chunks are listed.
+    /// An upgrade is prepared. This epoch is the odd one that begins with it, by one greater than the epoch before.
+    /// `chunks` is how many chunks are listed.
     Prepare {
         epoch: u64,
         moment: Moment,
         chunks: u32,
     },
-    /// The upgrade is finalized: the epoch that begins.
+    /// An upgrade is finalized. This epoch is the even one that begins with it, by one greater than the upgrade's.
     Finalize {
         epoch: u64,
     },
-    /// The rollback of the upgrade is begun: the epoch that begins.
+    /// The rollback of an upgrade is begun. This epoch is the even one that begins with it, by one greater than the
+    /// upgrade's.
     RollbackBegin {
         epoch: u64,
     },
-    /// The rollback is done, in its epoch.
+    /// The rollback of an upgrade is done. This epoch is the one that began with the rollback, and it goes on.
     RollbackCommit {
         epoch: u64,
         answered: Vec<Answered>,
