@@ -227,12 +227,12 @@ checkpoint_fields c = (c.next_handle, (c.next_version, (c.next_hidden, (c.epoch,
 reads_parts : (version : Version) → Reads (AreParts version) (checkpoint version) (parts_at version)
 unfolding parts_at
 reads_parts version =
-    reads_made (reads_both reads_handle (reads_both n64 (reads_both n64 (reads_both n64 (reads_both reads_phase
+    reads_made (reads_both n64 (reads_both n64 (reads_both n64 (reads_both n64 (reads_both reads_phase
     (reads_both (reads_list reads_end) (reads_both (reads_list reads_tree_entry) (reads_both (reads_list reads_reference) (reads_both (reads_list reads_settled_entry)
     (reads_both (reads_list reads_reply) (reads_both (reads_prepared_list version) (reads_list reads_inverse)))))))))))
     ) (record { back = λ y is. (is, refl); forth = forth }) where
       forth : (x : Fields) (y : PlainCheckpoint)
-          → IsHandle x.0 × (IsNumber x.1.0 × (IsNumber x.1.1.0 × (IsNumber x.1.1.1.0 × (⊤ × (AreItems (λ e. ⊤) x.1.1.1.1.1.0 × (AreItems IsTreeEntry x.1.1.1.1.1.1.0 × (AreItems IsReference x.1.1.1.1.1.1.1.0 × (AreItems IsSettledEntry x.1.1.1.1.1.1.1.1.0 × (AreItems IsReply x.1.1.1.1.1.1.1.1.1.0 × (AreItems (IsPreparedView version) x.1.1.1.1.1.1.1.1.1.1.0 × AreItems IsInverse x.1.1.1.1.1.1.1.1.1.1.1))))))))))
+          → IsNumber x.0 × (IsNumber x.1.0 × (IsNumber x.1.1.0 × (IsNumber x.1.1.1.0 × (⊤ × (AreItems (λ e. ⊤) x.1.1.1.1.1.0 × (AreItems IsTreeEntry x.1.1.1.1.1.1.0 × (AreItems IsReference x.1.1.1.1.1.1.1.0 × (AreItems IsSettledEntry x.1.1.1.1.1.1.1.1.0 × (AreItems IsReply x.1.1.1.1.1.1.1.1.1.0 × (AreItems (IsPreparedView version) x.1.1.1.1.1.1.1.1.1.1.0 × AreItems IsInverse x.1.1.1.1.1.1.1.1.1.1.1))))))))))
           → checkpoint_of x ≡ Some y → (checkpoint_fields y ≡ x) × AreParts version y
       forth x y is e =
           let k = some_is (record {

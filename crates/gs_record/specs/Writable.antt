@@ -107,10 +107,10 @@ abbrev pub IsPreparedView : Version → PreparedView → Type 0
 IsPreparedView One v = IsSettled v.settled × (v.holders ≡ [])
 IsPreparedView Two v = IsSettled v.settled × AreServers v.holders
 
--- the fields of a checkpoint, each by itself
+-- the fields of a checkpoint, each by itself; a counter is 0 where no value is left
 abbrev pub AreParts : Version → PlainCheckpoint → Type 0
 AreParts version c =
-    IsHandle c.next_handle × (IsNumber c.next_version × (IsNumber c.next_hidden × (IsNumber c.epoch × (⊤
+    IsNumber c.next_handle × (IsNumber c.next_version × (IsNumber c.next_hidden × (IsNumber c.epoch × (⊤
     × (AreItems (λ e. ⊤) c.ends × (AreItems IsTreeEntry c.tree × (AreItems IsReference c.references × (AreItems IsSettledEntry c.settled
     × (AreItems IsReply c.replies × (AreItems (IsPreparedView version) c.prepared × AreItems IsInverse c.inverses))))))))))
 

@@ -59,11 +59,16 @@ pub struct PreparedView {
 
 /// All that the master keeps over a restart, in one entry. It can be written only where its lists stand in the order that
 /// is told of each. None has two items of one path, chunk or client.
+///
+/// A counter stands at the value that is given next, from 1 on. Once 18,446,744,073,709,551,615 was given, it stands at 0:
+/// no value is left, and whoever asks for one is refused `Exhausted`.
 #[derive(Drop)]
 pub struct Checkpoint {
-    pub next_handle: Handle,
+    /// The handle of the next chunk, or 0 where none is left.
+    pub next_handle: u64,
+    /// The version of the next view, or 0 where none is left.
     pub next_version: u64,
-    /// The number of the next deletion.
+    /// The number of the next deletion, or 0 where none is left.
     pub next_hidden: u64,
     pub epoch: u64,
     pub phase: Phase,

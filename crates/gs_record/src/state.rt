@@ -14,7 +14,6 @@ use crate::lists::{
     read_list, read_prepared, read_references,
 };
 use crate::order::is_in_order;
-use gs_base::Handle;
 use gs_journal::Version;
 use std::alloc::Global;
 
@@ -23,7 +22,7 @@ use std::alloc::Global;
 fn read_parts(alloc: Global, cursor: &mut Cursor<'_>, version: Version) -> Result<Checkpoint, Fault>
     ensures { Gives plain_checkpoint result cursor.new.rest.now (parts_at version cursor.old.rest.now) }
 {
-    let next_handle = Handle::read(alloc, cursor)?;
+    let next_handle = u64::read(alloc, cursor)?;
     let next_version = u64::read(alloc, cursor)?;
     let next_hidden = u64::read(alloc, cursor)?;
     let epoch = u64::read(alloc, cursor)?;

@@ -256,7 +256,7 @@ checkpoint_of x =
 
 unfoldable pub parts_at : Version → Reader PlainCheckpoint
 parts_at version =
-    made checkpoint_of (both handle_at (both (number_at w64) (both (number_at w64) (both (number_at w64) (both phase_at
+    made checkpoint_of (both (number_at w64) (both (number_at w64) (both (number_at w64) (both (number_at w64) (both phase_at
     (both (list_at end_at) (both (list_at tree_entry_at) (both (list_at reference_at) (both (list_at settled_entry_at)
     (both (list_at reply_at) (both (prepared_list_at version) (list_at inverse_at))))))))))))
 
