@@ -1,0 +1,4 @@
+pub mod Bodies
+pub mod Kinds
+pub mod Nodes
+pub mod Ops

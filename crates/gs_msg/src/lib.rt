@@ -1,0 +1,26 @@
+//! What nodes say to one another: messages, the events of a store, and the list of what a node has sent.
+#![tactic(auto)]
+
+mod answer;
+mod body;
+mod call;
+mod chunk;
+mod event;
+mod kind;
+mod lists;
+mod message;
+mod node;
+mod op;
+mod outbox;
+
+pub use answer::{Answer, ChunkStatus, Copied, Phase, Status};
+pub use body::{Body, EpochEnd, Given, Reported};
+pub use call::Call;
+pub use chunk::{Asked, Chunk};
+pub use event::{Event, Happening, Request};
+pub use kind::Kind;
+pub use lists::{Bytes, Items, ListedName, Names};
+pub use message::{Message, MsgId};
+pub use node::NodeId;
+pub use op::Op;
+pub use outbox::{Outbox, Post};
