@@ -1,6 +1,8 @@
-ghost use Rattle.std.specs.Prelude.{◌≡◌, IfOk};
+ghost use Rattle.std.specs.Prelude.{◌≡◌, ◌↔◌, IsTrue, IfOk};
 
+use crate::call::same_path;
 use crate::lists::{Items, Names};
+use crate::same::{same_chunks, same_view};
 use gs_base::{Handle, Members, ServerId};
 use gs_lease::View;
 use gs_path::Path;
@@ -36,7 +38,27 @@ pub enum Status {
     File(Items<ChunkStatus>),
 }
 
+impl Items<ChunkStatus> {
+    /// Whether another list is the same.
+    pub fn is_same(&self, other: &Self) -> bool
+        ensures { IsTrue result ↔ (self.now ≡ other.now) }
+    {
+        same_chunks(self.as_slice(), other.as_slice())
+    }
+}
+
 impl Status {
+    /// Whether another status is the same.
+    pub fn is_same(&self, other: &Status) -> bool
+        ensures { IsTrue result ↔ (self.now ≡ other.now) }
+    {
+        match (self, other) {
+            (Status::Directory, Status::Directory) => true,
+            (Status::File(left), Status::File(right)) => left.is_same(right),
+            _ => false,
+        }
+    }
+
     /// The same status, in memory of its own.
     pub fn copy(&self, alloc: Global) -> Result<Status, AllocError>
         ensures { IfOk result (λ status. status ≡ self.now) }
@@ -86,6 +108,47 @@ pub enum Answer {
 }
 
 impl Answer {
+    /// Whether another answer is the same.
+    pub fn is_same(&self, other: &Answer) -> bool
+        ensures { IsTrue result ↔ (self.now ≡ other.now) }
+    {
+        match (self, other) {
+            (Answer::Nothing, Answer::Nothing) | (Answer::Absent, Answer::Absent) => true,
+            (Answer::Path(left), Answer::Path(right)) => same_path(left, right),
+            (Answer::Names(left), Answer::Names(right)) => left.is_same(right),
+            (Answer::Status(left), Answer::Status(right)) => left.is_same(right),
+            (
+                Answer::Location {
+                    handle,
+                    view,
+                    epoch,
+                },
+                Answer::Location {
+                    handle: other_handle,
+                    view: other_view,
+                    epoch: other_epoch,
+                },
+            ) => handle == other_handle && same_view(view, other_view) && epoch == other_epoch,
+            (
+                Answer::Scanned { removed, forgotten },
+                Answer::Scanned {
+                    removed: other_removed,
+                    forgotten: other_forgotten,
+                },
+            ) => removed == other_removed && forgotten == other_forgotten,
+            (Answer::Copied(left), Answer::Copied(right)) => left == right,
+            (Answer::Epoch(left), Answer::Epoch(right)) => left == right,
+            (
+                Answer::Phase { phase, epoch },
+                Answer::Phase {
+                    phase: other_phase,
+                    epoch: other_epoch,
+                },
+            ) => phase == other_phase && epoch == other_epoch,
+            _ => false,
+        }
+    }
+
     /// The same answer, in memory of its own.
     pub fn copy(&self, alloc: Global) -> Result<Answer, AllocError>
         ensures { IfOk result (λ answer. answer ≡ self.now) }

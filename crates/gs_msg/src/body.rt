@@ -1,4 +1,4 @@
-ghost use Rattle.std.specs.Prelude.{◌≡◌, IfOk};
+ghost use Rattle.std.specs.Prelude.{◌≡◌, ◌↔◌, IsTrue, IfOk};
 ghost use Rattle.gs_msg.specs.Bodies.{kind_of};
 
 use crate::answer::Answer;
@@ -6,6 +6,7 @@ use crate::call::Call;
 use crate::chunk::Chunk;
 use crate::kind::Kind;
 use crate::lists::{Bytes, Items};
+use gs_base::promises::are_same;
 use gs_base::{Handle, Refusal, ReqId, Stamp};
 use gs_block::Digest;
 use gs_replica::Outcome;
@@ -36,7 +37,28 @@ pub enum Given {
     Digest(Digest),
 }
 
+impl Items<Reported> {
+    /// Whether another list is the same.
+    pub fn is_same(&self, other: &Self) -> bool
+        ensures { IsTrue result ↔ (self.now ≡ other.now) }
+    {
+        same_reported(self.as_slice(), other.as_slice())
+    }
+}
+
 impl Given {
+    /// Whether another is the same.
+    pub fn is_same(&self, other: &Given) -> bool
+        ensures { IsTrue result ↔ (self.now ≡ other.now) }
+    {
+        match (self, other) {
+            (Given::Bytes(left), Given::Bytes(right)) => left.is_same(right),
+            (Given::Length(left), Given::Length(right)) => left == right,
+            (Given::Digest(left), Given::Digest(right)) => left == right,
+            _ => false,
+        }
+    }
+
     /// The same, in memory of its own.
     pub fn copy(&self, alloc: Global) -> Result<Given, AllocError>
         ensures { IfOk result (λ given. given ≡ self.now) }
@@ -106,6 +128,92 @@ pub enum Body {
 }
 
 impl Body {
+    /// Whether another body is the same.
+    pub fn is_same(&self, other: &Body) -> bool
+        ensures { IsTrue result ↔ (self.now ≡ other.now) }
+    {
+        match (self, other) {
+            (Body::About(left, said), Body::About(right, other_said)) => {
+                left == right && said.is_same(other_said)
+            }
+            (
+                Body::Call { req, call },
+                Body::Call {
+                    req: other_req,
+                    call: other_call,
+                },
+            ) => { req == other_req && call.is_same(other_call) }
+            (
+                Body::Reply { req, result },
+                Body::Reply {
+                    req: other_req,
+                    result: other_result,
+                },
+            ) => { req == other_req && same_answer(result, other_result) }
+            (
+                Body::Push { req, bytes },
+                Body::Push {
+                    req: other_req,
+                    bytes: other_bytes,
+                },
+            ) => { req == other_req && bytes.is_same(other_bytes) }
+            (
+                Body::Done { req, result },
+                Body::Done {
+                    req: other_req,
+                    result: other_result,
+                },
+            ) => { req == other_req && same_outcome(result, other_result) }
+            (
+                Body::Bytes { req, result },
+                Body::Bytes {
+                    req: other_req,
+                    result: other_result,
+                },
+            ) => { req == other_req && same_given(result, other_result) }
+            (
+                Body::MakeCopy {
+                    handle,
+                    at,
+                    new_handle,
+                    stamp,
+                },
+                Body::MakeCopy {
+                    handle: other_handle,
+                    at: other_at,
+                    new_handle: other_new,
+                    stamp: other_stamp,
+                },
+            ) => handle == other_handle
+                && at == other_at
+                && new_handle == other_new
+                && stamp == other_stamp,
+            (
+                Body::Report { epoch, replicas },
+                Body::Report {
+                    epoch: other_epoch,
+                    replicas: other_replicas,
+                },
+            ) => epoch == other_epoch && replicas.is_same(other_replicas),
+            (
+                Body::Epoch { epoch, end },
+                Body::Epoch {
+                    epoch: other_epoch,
+                    end: other_end,
+                },
+            ) => { epoch == other_epoch && end == other_end }
+            (
+                Body::Learned { epoch, handles },
+                Body::Learned {
+                    epoch: other_epoch,
+                    handles: other_handles,
+                },
+            ) => epoch == other_epoch && handles.is_same(other_handles),
+            (Body::Behind { epoch }, Body::Behind { epoch: other_epoch }) => epoch == other_epoch,
+            _ => false,
+        }
+    }
+
     pub fn kind(&self) -> Kind
         ensures { result ≡ kind_of self.now }
     {
@@ -212,4 +320,40 @@ fn copied_given(
         Ok(given) => Ok(given.copy(alloc)?),
         Err(refusal) => Err(refusal.copy(alloc)?),
     })
+}
+
+fn same_reported(left: &[Reported], right: &[Reported]) -> bool
+    ensures { IsTrue result ↔ (left.now ≡ right.now) }
+{
+    left == right
+}
+
+fn same_answer(left: &Result<Answer, Refusal>, right: &Result<Answer, Refusal>) -> bool
+    ensures { IsTrue result ↔ (left.now ≡ right.now) }
+{
+    match (left, right) {
+        (Ok(left), Ok(right)) => left.is_same(right),
+        (Err(left), Err(right)) => are_same(left, right),
+        _ => false,
+    }
+}
+
+fn same_outcome(left: &Result<Outcome, Refusal>, right: &Result<Outcome, Refusal>) -> bool
+    ensures { IsTrue result ↔ (left.now ≡ right.now) }
+{
+    match (left, right) {
+        (Ok(left), Ok(right)) => left == right,
+        (Err(left), Err(right)) => are_same(left, right),
+        _ => false,
+    }
+}
+
+fn same_given(left: &Result<Given, Refusal>, right: &Result<Given, Refusal>) -> bool
+    ensures { IsTrue result ↔ (left.now ≡ right.now) }
+{
+    match (left, right) {
+        (Ok(left), Ok(right)) => left.is_same(right),
+        (Err(left), Err(right)) => are_same(left, right),
+        _ => false,
+    }
 }

@@ -1,4 +1,4 @@
-ghost use Rattle.std.specs.Prelude.{◌≡◌, IfOk};
+ghost use Rattle.std.specs.Prelude.{◌≡◌, ◌↔◌, IsTrue, IfOk};
 
 use gs_base::Stamp;
 use gs_path::Path;
@@ -50,6 +50,76 @@ pub enum Call {
 }
 
 impl Call {
+    /// Whether another call is the same.
+    pub fn is_same(&self, other: &Call) -> bool
+        ensures { IsTrue result ↔ (self.now ≡ other.now) }
+    {
+        match (self, other) {
+            (Call::Mkdirs(left), Call::Mkdirs(right))
+            | (Call::Create(left), Call::Create(right))
+            | (Call::Undelete(left), Call::Undelete(right))
+            | (Call::List(left), Call::List(right))
+            | (Call::Status(left), Call::Status(right)) => same_path(left, right),
+            (
+                Call::Rename { from, to },
+                Call::Rename {
+                    from: other_from,
+                    to: other_to,
+                },
+            )
+            | (
+                Call::Snapshot { from, to },
+                Call::Snapshot {
+                    from: other_from,
+                    to: other_to,
+                },
+            ) => { same_path(from, other_from) && same_path(to, other_to) }
+            (
+                Call::Delete { path, recursive },
+                Call::Delete {
+                    path: other_path,
+                    recursive: other_recursive,
+                },
+            ) => recursive == other_recursive && same_path(path, other_path),
+            (
+                Call::FindForReading { path, index },
+                Call::FindForReading {
+                    path: other_path,
+                    index: other_index,
+                },
+            )
+            | (
+                Call::Extend { path, index },
+                Call::Extend {
+                    path: other_path,
+                    index: other_index,
+                },
+            ) => index == other_index && same_path(path, other_path),
+            (
+                Call::FindForWriting {
+                    path,
+                    index,
+                    refused,
+                },
+                Call::FindForWriting {
+                    path: other_path,
+                    index: other_index,
+                    refused: other_refused,
+                },
+            ) => index == other_index && refused == other_refused && same_path(path, other_path),
+            (Call::Scan, Call::Scan)
+            | (Call::Replicate, Call::Replicate)
+            | (Call::Query, Call::Query)
+            | (Call::PrepareBegin, Call::PrepareBegin)
+            | (Call::PrepareCommit, Call::PrepareCommit)
+            | (Call::PrepareAbort, Call::PrepareAbort)
+            | (Call::Finalize, Call::Finalize)
+            | (Call::RollbackBegin, Call::RollbackBegin)
+            | (Call::RollbackCommit, Call::RollbackCommit) => true,
+            _ => false,
+        }
+    }
+
     /// The same call, in memory of its own.
     pub fn copy(&self, alloc: Global) -> Result<Call, AllocError>
         ensures { IfOk result (λ call. call ≡ self.now) }
@@ -100,4 +170,10 @@ impl Call {
             Call::RollbackCommit => Call::RollbackCommit,
         })
     }
+}
+
+pub(crate) fn same_path(left: &Path, right: &Path) -> bool
+    ensures { IsTrue result ↔ (left.now ≡ right.now) }
+{
+    left == right
 }

@@ -1,9 +1,11 @@
-ghost use Rattle.std.specs.Prelude.{◌≡◌, IfOk};
+ghost use Rattle.std.specs.Prelude.{◌≡◌, ◌↔◌, IsTrue, IfOk};
 ghost use Rattle.gs_msg.specs.Bodies.{chunk_kind};
 
 use crate::kind::Kind;
 use crate::lists::Bytes;
 use crate::op::Op;
+use crate::same::same_grant;
+use gs_base::promises::are_same;
 use gs_base::{Moment, Refusal, ReqId, ServerId, Stamp};
 use gs_lease::Grant;
 use gs_replica::{Image, SealedImage};
@@ -116,6 +118,140 @@ impl Chunk {
         }
     }
 
+    /// Whether another is the same.
+    pub fn is_same(&self, other: &Chunk) -> bool
+        ensures { IsTrue result ↔ (self.now ≡ other.now) }
+    {
+        match (self, other) {
+            (Chunk::Create(left), Chunk::Create(right))
+            | (Chunk::Advance(left), Chunk::Advance(right))
+            | (Chunk::Renew(left), Chunk::Renew(right))
+            | (Chunk::Bad(left), Chunk::Bad(right)) => left == right,
+            (
+                Chunk::Promised {
+                    stamp,
+                    count,
+                    carried,
+                },
+                Chunk::Promised {
+                    stamp: other_stamp,
+                    count: other_count,
+                    carried: other_carried,
+                },
+            ) => stamp == other_stamp && count == other_count && carried == other_carried,
+            (
+                Chunk::Unpromised { stamp, refusal },
+                Chunk::Unpromised {
+                    stamp: other_stamp,
+                    refusal: other_refusal,
+                },
+            )
+            | (
+                Chunk::Nack { stamp, refusal },
+                Chunk::Nack {
+                    stamp: other_stamp,
+                    refusal: other_refusal,
+                },
+            ) => stamp == other_stamp && are_same(refusal, other_refusal),
+            (Chunk::Grant(left), Chunk::Grant(right)) => same_grant(left, right),
+            (
+                Chunk::Renewed { stamp, end },
+                Chunk::Renewed {
+                    stamp: other_stamp,
+                    end: other_end,
+                },
+            ) => stamp == other_stamp && end == other_end,
+            (
+                Chunk::Edit { req, stamp, op },
+                Chunk::Edit {
+                    req: other_req,
+                    stamp: other_stamp,
+                    op: other_op,
+                },
+            ) => req == other_req && stamp == other_stamp && op == other_op,
+            (
+                Chunk::Forward {
+                    stamp,
+                    number,
+                    req,
+                    op,
+                    bytes,
+                },
+                Chunk::Forward {
+                    stamp: other_stamp,
+                    number: other_number,
+                    req: other_req,
+                    op: other_op,
+                    bytes: other_bytes,
+                },
+            ) => {
+                stamp == other_stamp
+                    && number == other_number
+                    && req == other_req
+                    && op == other_op
+                    && same_bytes(bytes, other_bytes)
+            }
+            (
+                Chunk::Ack { stamp, count },
+                Chunk::Ack {
+                    stamp: other_stamp,
+                    count: other_count,
+                },
+            ) => stamp == other_stamp && count == other_count,
+            (
+                Chunk::Fetch {
+                    req,
+                    stamp,
+                    epoch,
+                    asked,
+                },
+                Chunk::Fetch {
+                    req: other_req,
+                    stamp: other_stamp,
+                    epoch: other_epoch,
+                    asked: other_asked,
+                },
+            ) => req == other_req
+                && stamp == other_stamp
+                && epoch == other_epoch
+                && asked == other_asked,
+            (
+                Chunk::CopyOut {
+                    stamp,
+                    target,
+                    with_sealed,
+                },
+                Chunk::CopyOut {
+                    stamp: other_stamp,
+                    target: other_target,
+                    with_sealed: other_with,
+                },
+            ) => stamp == other_stamp && target == other_target && with_sealed == other_with,
+            (
+                Chunk::CopyIn {
+                    stamp,
+                    image,
+                    sealed,
+                },
+                Chunk::CopyIn {
+                    stamp: other_stamp,
+                    image: other_image,
+                    sealed: other_sealed,
+                },
+            ) => stamp == other_stamp
+                && image.is_same(other_image)
+                && same_sealed(sealed, other_sealed),
+            (
+                Chunk::Drop { epoch, promise },
+                Chunk::Drop {
+                    epoch: other_epoch,
+                    promise: other_promise,
+                },
+            ) => epoch == other_epoch && promise == other_promise,
+            _ => false,
+        }
+    }
+
     /// The same, in memory of its own.
     pub fn copy(&self, alloc: Global) -> Result<Chunk, AllocError>
         ensures { IfOk result (λ chunk. chunk ≡ self.now) }
@@ -225,4 +361,24 @@ fn copied_sealed(
         Some(sealed) => Some(sealed.copy(alloc)?),
         None => None,
     })
+}
+
+fn same_bytes(left: &Option<Bytes>, right: &Option<Bytes>) -> bool
+    ensures { IsTrue result ↔ (left.now ≡ right.now) }
+{
+    match (left, right) {
+        (Some(left), Some(right)) => left.is_same(right),
+        (None, None) => true,
+        _ => false,
+    }
+}
+
+fn same_sealed(left: &Option<SealedImage>, right: &Option<SealedImage>) -> bool
+    ensures { IsTrue result ↔ (left.now ≡ right.now) }
+{
+    match (left, right) {
+        (Some(left), Some(right)) => left.is_same(right),
+        (None, None) => true,
+        _ => false,
+    }
 }

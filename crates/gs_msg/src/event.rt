@@ -1,4 +1,4 @@
-ghost use Rattle.std.specs.Prelude.{◌≡◌, IfOk};
+ghost use Rattle.std.specs.Prelude.{◌≡◌, ◌↔◌, IsTrue, IfOk};
 
 use crate::call::Call;
 use crate::chunk::Asked;
@@ -33,6 +33,59 @@ pub enum Request {
 }
 
 impl Request {
+    /// Whether another is the same.
+    pub fn is_same(&self, other: &Request) -> bool
+        ensures { IsTrue result ↔ (self.now ≡ other.now) }
+    {
+        match (self, other) {
+            (Request::Call(left), Request::Call(right)) => left.is_same(right),
+            (
+                Request::Push { to, bytes },
+                Request::Push {
+                    to: other_to,
+                    bytes: other_bytes,
+                },
+            ) => to == other_to && bytes.is_same(other_bytes),
+            (
+                Request::Edit {
+                    to,
+                    handle,
+                    stamp,
+                    op,
+                },
+                Request::Edit {
+                    to: other_to,
+                    handle: other_handle,
+                    stamp: other_stamp,
+                    op: other_op,
+                },
+            ) => to == other_to && handle == other_handle && stamp == other_stamp && op == other_op,
+            (
+                Request::Fetch {
+                    to,
+                    handle,
+                    stamp,
+                    epoch,
+                    asked,
+                },
+                Request::Fetch {
+                    to: other_to,
+                    handle: other_handle,
+                    stamp: other_stamp,
+                    epoch: other_epoch,
+                    asked: other_asked,
+                },
+            ) => {
+                to == other_to
+                    && handle == other_handle
+                    && stamp == other_stamp
+                    && epoch == other_epoch
+                    && asked == other_asked
+            }
+            _ => false,
+        }
+    }
+
     /// The same, in memory of its own.
     pub fn copy(&self, alloc: Global) -> Result<Request, AllocError>
         ensures { IfOk result (λ request. request ≡ self.now) }
@@ -105,6 +158,48 @@ pub enum Happening {
 }
 
 impl Happening {
+    /// Whether another is the same.
+    pub fn is_same(&self, other: &Happening) -> bool
+        ensures { IsTrue result ↔ (self.now ≡ other.now) }
+    {
+        match (self, other) {
+            (
+                Happening::Ask { client, request },
+                Happening::Ask {
+                    client: other_client,
+                    request: other_request,
+                },
+            ) => client == other_client && request.is_same(other_request),
+            (Happening::Deliver(left), Happening::Deliver(right)) => left == right,
+            (Happening::Tick(left), Happening::Tick(right))
+            | (Happening::Restart(left), Happening::Restart(right)) => left == right,
+            (Happening::Beat(left), Happening::Beat(right)) => left == right,
+            (
+                Happening::Lose { server, handle },
+                Happening::Lose {
+                    server: other_server,
+                    handle: other_handle,
+                },
+            ) => server == other_server && handle == other_handle,
+            (
+                Happening::Damage {
+                    server,
+                    handle,
+                    block,
+                },
+                Happening::Damage {
+                    server: other_server,
+                    handle: other_handle,
+                    block: other_block,
+                },
+            ) => server == other_server && handle == other_handle && block == other_block,
+            (Happening::FailDisk { calls: left }, Happening::FailDisk { calls: right }) => {
+                left == right
+            }
+            _ => false,
+        }
+    }
+
     /// The same, in memory of its own.
     pub fn copy(&self, alloc: Global) -> Result<Happening, AllocError>
         ensures { IfOk result (λ happening. happening ≡ self.now) }
@@ -144,6 +239,13 @@ pub struct Event {
 }
 
 impl Event {
+    /// Whether another event is the same.
+    pub fn is_same(&self, other: &Event) -> bool
+        ensures { IsTrue result ↔ (self.now ≡ other.now) }
+    {
+        self.moment == other.moment && self.happening.is_same(&other.happening)
+    }
+
     /// The same event, in memory of its own.
     pub fn copy(&self, alloc: Global) -> Result<Event, AllocError>
         ensures { IfOk result (λ event. event ≡ self.now) }

@@ -12,6 +12,7 @@ mod message;
 mod node;
 mod op;
 mod outbox;
+mod same;
 
 pub use answer::{Answer, ChunkStatus, Copied, Phase, Status};
 pub use body::{Body, EpochEnd, Given, Reported};

@@ -1,5 +1,6 @@
 ghost use Rattle.std.specs.Prelude.{◌≡◌, ◌↔◌, IsTrue, IfOk, length};
 
+use gs_base::Handle;
 use gs_path::Name;
 use std::alloc::{AllocError, Global};
 use std::marker::Model;
@@ -38,6 +39,13 @@ impl Bytes {
         Ok(Bytes {
             bytes: Vec::from_slice(alloc, &self.bytes)?,
         })
+    }
+
+    /// Whether other bytes are the same.
+    pub fn is_same(&self, other: &Bytes) -> bool
+        ensures { IsTrue result ↔ (self.now ≡ other.now) }
+    {
+        self.bytes.as_slice() == other.bytes.as_slice()
     }
 
     /// The bytes themselves. It takes no memory.
@@ -88,8 +96,17 @@ impl<T: Copy + Drop> Items<T> {
     }
 }
 
+impl Items<Handle> {
+    /// Whether another list is the same.
+    pub fn is_same(&self, other: &Self) -> bool
+        ensures { IsTrue result ↔ (self.now ≡ other.now) }
+    {
+        same_handles(&self.items, &other.items)
+    }
+}
+
 /// A name in a directory.
-#[derive(Debug, Drop)]
+#[derive(Debug, PartialEq, Eq, Drop)]
 pub struct ListedName {
     pub name: Name,
     pub is_directory: bool,
@@ -123,6 +140,13 @@ impl Model for Names {
 }
 
 impl Names {
+    /// Whether other names are the same.
+    pub fn is_same(&self, other: &Names) -> bool
+        ensures { IsTrue result ↔ (self.now ≡ other.now) }
+    {
+        same_names(&self.names, &other.names)
+    }
+
     pub fn new(names: Vec<ListedName>) -> Names
         ensures { result ≡ names.items }
     {
@@ -143,6 +167,18 @@ impl Names {
             names: copied(alloc, &self.names)?,
         })
     }
+}
+
+fn same_handles(left: &[Handle], right: &[Handle]) -> bool
+    ensures { IsTrue result ↔ (left.now ≡ right.now) }
+{
+    left == right
+}
+
+fn same_names(left: &[ListedName], right: &[ListedName]) -> bool
+    ensures { IsTrue result ↔ (left.now ≡ right.now) }
+{
+    left == right
 }
 
 fn copied(alloc: Global, names: &[ListedName]) -> Result<Vec<ListedName>, AllocError>

@@ -1,4 +1,4 @@
-ghost use Rattle.std.specs.Prelude.{◌≡◌, IfOk};
+ghost use Rattle.std.specs.Prelude.{◌≡◌, ◌↔◌, IsTrue, IfOk};
 
 use crate::body::Body;
 use crate::node::NodeId;
@@ -13,6 +13,13 @@ pub struct Message {
 }
 
 impl Message {
+    /// Whether another message is the same.
+    pub fn is_same(&self, other: &Message) -> bool
+        ensures { IsTrue result ↔ (self.now ≡ other.now) }
+    {
+        self.from == other.from && self.to == other.to && self.body.is_same(&other.body)
+    }
+
     /// The same message, in memory of its own.
     pub fn copy(&self, alloc: Global) -> Result<Message, AllocError>
         ensures { IfOk result (λ message. message ≡ self.now) }

@@ -1,4 +1,4 @@
-ghost use Rattle.std.specs.Prelude.{◌≡◌, ◌∷◌, [], ◌++◌, IfOk, OnOk, OnErr, length, option_copied, slice_get};
+ghost use Rattle.std.specs.Prelude.{◌≡◌, ◌↔◌, IsTrue, ◌∷◌, [], ◌++◌, IfOk, OnOk, OnErr, length, option_copied, slice_get};
 
 use crate::message::Message;
 use gs_base::Moment;
@@ -13,6 +13,13 @@ pub struct Post {
 }
 
 impl Post {
+    /// Whether another is the same.
+    pub fn is_same(&self, other: &Post) -> bool
+        ensures { IsTrue result ↔ (self.now ≡ other.now) }
+    {
+        self.moment == other.moment && self.message.is_same(&other.message)
+    }
+
     /// The same, in memory of its own.
     pub fn copy(&self, alloc: Global) -> Result<Post, AllocError>
         ensures { IfOk result (λ post. post ≡ self.now) }
