@@ -1,1 +1,2 @@
 mod Decided
+mod KindNames

@@ -12,6 +12,7 @@ mod message;
 mod node;
 mod op;
 mod outbox;
+pub mod promises;
 mod same;
 
 pub use answer::{Answer, ChunkStatus, Copied, Phase, Status};
