@@ -1,1 +1,4 @@
 pub mod Slots
+pub mod Serving
+pub mod Moves
+pub mod Learning

@@ -212,19 +212,19 @@ pub record IsUnderPromise (promise : Stamp) (live : Option Live) (trash : Option
   pub trash_is : TrashUnder promise trash
 
 -- Worked: a slot whose replica of no edits was sealed under 2.1, and the calls on it.
-abbrev stamp_of : ℕ → ℕ → Stamp
+abbrev pub stamp_of : ℕ → ℕ → Stamp
 stamp_of epoch version = record { epoch = epoch; version = version }
 
-abbrev empty_replica : Stamp → State
+abbrev pub empty_replica : Stamp → State
 empty_replica stamp = record { held = fresh 4 16 stamp; sealed = None }
 
-abbrev sealed_replica : Stamp → State
+abbrev pub sealed_replica : Stamp → State
 sealed_replica stamp = replicas.seal (empty_replica stamp)
 
-abbrev standing : State → Slot
+abbrev pub standing : State → Slot
 standing r = record { promise = r.held.promise; carried = false; live = Some (sound r); trash = None; taken = None }
 
-abbrev dropped : State → Slot
+abbrev pub dropped : State → Slot
 dropped r = record { promise = r.held.promise; carried = false; live = None; trash = Some r; taken = None }
 
 a_first_replica : create 4 16 (stamp_of 0 1) nothing ≡ Ok (standing (empty_replica (stamp_of 0 1)))

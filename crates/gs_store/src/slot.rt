@@ -1,7 +1,8 @@
 ghost use Rattle.std.specs.Prelude.{◌≡◌, Some, None, true};
+ghost use Rattle.std.specs.Option.{option_copied};
 ghost use Rattle.gs_base.specs.Stamps.{is_before};
 ghost use Rattle.gs_block.specs.Follows.{Does};
-ghost use Rattle.gs_store.specs.Slots.{nothing, removed, replaced, create, advance, drop_replica, Checks, check_grant, take_lease, lose, damage, mark_bad, count_of, bad_in};
+ghost use Rattle.gs_store.specs.Slots.{nothing, removed, replaced, create, again, advance, drop_replica, Checks, check_grant, take_lease, lose, damage, mark_bad, count_of, bad_in, lost, sealed_of, trashed_seal, TrashUnder};
 
 use gs_base::{Refusal, Stamp};
 use gs_block::Sizes;
@@ -12,8 +13,8 @@ use std::marker::Model;
 /// A replica that is live, and the first block that was found without its digest.
 #[derive(Debug, Drop)]
 pub(crate) struct LiveReplica {
-    replica: Replica,
-    bad: Option<u64>,
+    pub(crate) replica: Replica,
+    pub(crate) bad: Option<u64>,
 }
 
 impl Model for LiveReplica {
@@ -29,11 +30,11 @@ impl Model for LiveReplica {
 /// What a server keeps of one handle. The promise is kept for good, also when the replica goes.
 #[derive(Debug, Drop)]
 pub struct Slot {
-    promise: Stamp,
-    carried: bool,
-    live: Option<LiveReplica>,
-    trash: Option<Replica>,
-    taken: Option<Stamp>,
+    pub(crate) promise: Stamp,
+    pub(crate) carried: bool,
+    pub(crate) live: Option<LiveReplica>,
+    pub(crate) trash: Option<Replica>,
+    pub(crate) taken: Option<Stamp>,
 }
 
 impl Model for Slot {
@@ -108,6 +109,13 @@ impl Slot {
             self.replace(stamp, false, Replica::new(alloc, sizes, stamp));
             return Ok(());
         }
+        self.find_again(stamp)
+    }
+
+    /// What a call that is repeated finds.
+    pub(crate) fn find_again(&self, stamp: Stamp) -> Result<(), Refusal>
+        ensures { Does (again stamp self.now) result self.now self.now }
+    {
         if stamp == self.promise && self.live.is_some() {
             return Ok(());
         }
@@ -115,7 +123,7 @@ impl Slot {
     }
 
     /// Puts a replica under a greater promise in place of the one that was live.
-    fn replace(&mut self, stamp: Stamp, carried: bool, replica: Replica)
+    pub(crate) fn replace(&mut self, stamp: Stamp, carried: bool, replica: Replica)
         requires promise { replica.held.promise ≡ stamp }
         requires above { is_before self.old.promise stamp ≡ true }
         ensures { self.new ≡ replaced stamp carried replica self.old }
@@ -231,5 +239,27 @@ impl Slot {
                 live.bad = Some(block);
             }
         }
+    }
+
+    /// The sealed replica, wherever it stands.
+    pub(crate) fn sealed(&self) -> Option<&Replica>
+        ensures { trashed_seal (option_copied result) ≡ sealed_of self.now }
+    {
+        if let Some(live) = &self.live {
+            if live.replica.sealed_at().is_some() {
+                return Some(&live.replica);
+            }
+        }
+        self.trash.as_ref()
+    }
+
+    /// Takes every replica away, and gives the sealed one.
+    pub(crate) fn take_sealed(&mut self) -> Option<Replica>
+        ensures taken { self.new ≡ lost self.old }
+        ensures sealed { trashed_seal result ≡ sealed_of self.old }
+        ensures under { TrashUnder self.old.promise result }
+    {
+        self.remove();
+        self.trash.take()
     }
 }

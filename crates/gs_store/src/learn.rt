@@ -1,0 +1,95 @@
+ghost use Rattle.std.specs.Prelude.{◌≡◌, ℕ, IfOk};
+ghost use Rattle.gs_store.specs.Learning.{prepared, held_in, finalized, rolled_back, is_named};
+
+use crate::slot::{LiveReplica, Slot};
+use gs_base::Stamp;
+use gs_replica::{PreparedSeal, Replica};
+use std::alloc::AllocError;
+use std::marker::Model;
+
+/// What seals the live replica of a slot, made beforehand. It is seen as the replica of which it was made.
+#[derive(Drop)]
+pub struct PreparedSlot {
+    seal: Option<PreparedSeal>,
+}
+
+impl Model for PreparedSlot {
+    ghost use Rattle.std.specs.Prelude.{Option};
+    ghost use Rattle.std.specs.Coded.{coded_option};
+    ghost use Rattle.gs_replica.specs.Held.{Held, coded_held};
+
+    ghost Value = { Option Held };
+
+    ghost coded = { coded_option coded_held };
+
+    ghost view = { λ p. p.seal };
+}
+
+impl Slot {
+    /// What seals the live replica as it stands. It changes nothing.
+    pub fn prepare(&self) -> Result<PreparedSlot, AllocError>
+        ensures { IfOk result (λ made. made ≡ held_in self.now.live) }
+    {
+        match &self.live {
+            Some(live) => Ok(PreparedSlot {
+                seal: Some(live.replica.prepare_seal()?),
+            }),
+            None => Ok(PreparedSlot { seal: None }),
+        }
+    }
+
+    /// Seals the live replica by what was prepared of it as it stands. It takes no memory.
+    pub fn take_prepared(&mut self, made: PreparedSlot)
+        requires { made ≡ held_in self.old.live }
+        ensures { self.new ≡ prepared self.old }
+    {
+        self.trash = None;
+        if let Some(live) = &mut self.live {
+            if let Some(seal) = made.seal {
+                live.replica.take_seal(seal);
+            }
+        }
+    }
+
+    /// Forgets what was sealed. It takes no memory.
+    pub fn finalize(&mut self)
+        ensures { self.new ≡ finalized self.old }
+    {
+        self.trash = None;
+        if let Some(live) = &mut self.live {
+            live.replica.unseal();
+        }
+    }
+
+    /// Makes what was sealed live again under the first stamp of an epoch, where each block of it has its sealed digest. Every
+    /// other replica goes. It takes no memory.
+    pub fn roll_back(&mut self, epoch: u64)
+        ensures { self.new ≡ rolled_back epoch self.old }
+    {
+        let Some(sealed) = self.take_sealed() else {
+            return;
+        };
+        let Ok(mut replica) = sealed.roll_back() else {
+            return;
+        };
+        let start = Stamp { epoch, version: 0 };
+        if self.promise.is_before(start) {
+            self.promise = start;
+        }
+        if replica.promise(self.promise).is_ok() {
+            self.carried = false;
+            self.live = Some(LiveReplica { replica, bad: None });
+        }
+    }
+
+    /// Whether the live replica stands under the first stamp of an epoch, each block with its digest.
+    pub fn is_named(&self, epoch: u64) -> bool
+        ensures { result ≡ is_named epoch self.now }
+    {
+        let start = Stamp { epoch, version: 0 };
+        match &self.live {
+            Some(live) => self.promise == start && live.replica.is_intact(),
+            None => false,
+        }
+    }
+}
