@@ -3,6 +3,7 @@
 
 mod learn;
 mod moves;
+pub mod promises;
 mod serve;
 mod slot;
 
