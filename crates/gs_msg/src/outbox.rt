@@ -1,4 +1,4 @@
-ghost use Rattle.std.specs.Prelude.{◌≡◌, ◌↔◌, IsTrue, ◌∷◌, [], ◌++◌, IfOk, OnOk, OnErr, length, option_copied, slice_get};
+ghost use Rattle.std.specs.Prelude.{◌≡◌, ◌≤◌, ◌+◌, ◌↔◌, IsTrue, ◌∷◌, [], ◌++◌, IfOk, OnOk, OnErr, length, option_copied, slice_get};
 
 use crate::message::Message;
 use gs_base::Moment;
@@ -31,38 +31,56 @@ impl Post {
     }
 }
 
-/// All that a node has sent, in order. A post's place in it never changes.
+/// All that a node has sent, in order. A post's place in it never changes. Room for more can be made first, so that sending
+/// takes no memory.
 #[derive(Debug, Drop)]
 pub struct Outbox {
     posts: Vec<Post>,
 }
 
 impl Model for Outbox {
-    ghost use Rattle.std.specs.Prelude.{List};
-    ghost use Rattle.std.specs.Coded.{coded_list};
-    ghost use Rattle.gs_msg.specs.declared.outbox.Post.{Post};
-    ghost use Rattle.gs_msg.specs.contracts.outbox.Post as post_code;
+    ghost use Rattle.std.specs.Prelude.{◌-◌};
+    ghost use Rattle.std.specs.Vec.{vec_len, vec_capacity};
+    ghost use Rattle.gs_msg.specs.Posts.{Posted, coded_posted};
 
-    ghost Value = { List Post };
+    ghost Value = { Posted };
 
-    ghost coded = { coded_list post_code.the_row.coded };
+    ghost coded = { coded_posted };
 
-    ghost view = { λ o. o.posts.items };
+    ghost view = { λ o. record { posts = o.posts.items; room = vec_capacity o.posts - vec_len o.posts } };
 }
 
 impl Outbox {
     pub fn new(alloc: Global) -> Outbox
-        ensures { result ≡ [] }
+        ensures { result.posts ≡ [] }
     {
         Outbox {
             posts: Vec::new(alloc),
         }
     }
 
+    /// Makes room for so many more.
+    pub fn reserve(&mut self, count: usize) -> Result<(), AllocError>
+        ensures posts { self.new.posts ≡ self.old.posts }
+        ensures room { OnOk result (count ≤ self.new.room) }
+        ensures keeps { self.old.room ≤ self.new.room }
+    {
+        self.posts.reserve(count)
+    }
+
+    /// Sends one more, for which there is room. It takes no memory.
+    pub fn send(&mut self, moment: Moment, message: Message)
+        requires room { 1 ≤ self.old.room }
+        ensures posts { self.new.posts ≡ self.old.posts ++ record { moment = moment; message = message } ∷ [] }
+        ensures left { self.old.room ≤ self.new.room + 1 }
+    {
+        self.posts.push(Post { moment, message }).unwrap();
+    }
+
     /// Sends one more. Where memory is refused the message isn't sent, and the list is as it was.
     pub fn post(&mut self, moment: Moment, message: Message) -> Result<(), AllocError>
-        ensures ok { OnOk result (self.new ≡ self.old ++ record { moment = moment; message = message } ∷ []) }
-        ensures err { OnErr result (self.new ≡ self.old) }
+        ensures ok { OnOk result (self.new.posts ≡ self.old.posts ++ record { moment = moment; message = message } ∷ []) }
+        ensures err { OnErr result (self.new.posts ≡ self.old.posts) }
     {
         self.posts.push(Post { moment, message })?;
         Ok(())
@@ -70,7 +88,7 @@ impl Outbox {
 
     /// The post at a place, if so many were sent.
     pub fn get(&self, place: u64) -> Option<&Post>
-        ensures { option_copied result ≡ slice_get self.now place }
+        ensures { option_copied result ≡ slice_get self.now.posts place }
     {
         let Ok(index) = usize::try_from(place) else {
             return None;
@@ -80,13 +98,13 @@ impl Outbox {
 
     /// How many were sent.
     pub fn len(&self) -> usize
-        ensures { result ≡ length self.now }
+        ensures { result ≡ length self.now.posts }
     {
         self.posts.len()
     }
 
     pub fn as_slice(&self) -> &[Post]
-        ensures { result.now ≡ self.now }
+        ensures { result.now ≡ self.now.posts }
     {
         &self.posts
     }
