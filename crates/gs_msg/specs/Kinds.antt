@@ -32,7 +32,7 @@ name_of kinds.Epoch = codes "epoch"
 name_of kinds.Learned = codes "learned"
 name_of kinds.Behind = codes "behind"
 
--- in the order of the protocol's table
+-- each kind once
 abbrev pub all_kinds : List Kind
 all_kinds = kinds.Call ∷ kinds.Reply ∷ kinds.Create ∷ kinds.Advance ∷ kinds.Promised ∷ kinds.Unpromised ∷ kinds.Grant ∷ kinds.Renew ∷ kinds.Renewed ∷ kinds.Push ∷ kinds.Edit ∷ kinds.Forward ∷ kinds.Ack ∷ kinds.Nack ∷ kinds.Done ∷ kinds.Fetch ∷ kinds.Bytes ∷ kinds.CopyOut ∷ kinds.CopyIn ∷ kinds.MakeCopy ∷ kinds.Report ∷ kinds.Drop ∷ kinds.Bad ∷ kinds.Epoch ∷ kinds.Learned ∷ kinds.Behind ∷ []
 
