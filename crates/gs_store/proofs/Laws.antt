@@ -1,5 +1,5 @@
 -- What holds of a slot through its calls.
-use Rattle.std.proofs.Common.{◌≡◌, ℕ, Bool, true, false, cond, [], ◌∷◌, Option, Some, None, refl, sym, ap, subst, ◌∙◌, arith}
+use Rattle.std.proofs.Common.{List, ◌≡◌, ℕ, Bool, true, false, cond, [], ◌∷◌, Option, Some, None, refl, sym, ap, subst, ◌∙◌, arith}
 use Rattle.std.specs.Prelude.{Result, Ok, Err, is_some, ◌&&◌}
 use Rattle.std.proofs.lemmas.Bool.Decides.{nat_tests}
 use Rattle.std.specs.Result.{result_ok}
@@ -7,8 +7,15 @@ use Rattle.gs_base.specs.declared.numbers.Stamp.{Stamp}
 use Rattle.gs_base.specs.Stamps.{is_before, is_same}
 use Rattle.gs_base.specs.declared.refusal.Refusal.{Refusal}
 use Rattle.gs_base.specs.declared.refusal.Refusal.TheVariants as refusals
-use Rattle.gs_replica.specs.Seals.{Sealed, State}
-use Rattle.gs_store.specs.Slots.{Live, Slot, first_of, when, unless, again, replaced, removed, trash_of, trash_behind, trashed_seal, seal_in, seal_of, sealed_of, risen, live_under, mark_bad, marked_live}
+use Rattle.gs_base.specs.declared.numbers.ReqId.{ReqId}
+use Rattle.gs_replica.specs.declared.op.Op.{Op}
+use Rattle.gs_replica.specs.Held.{Held}
+use Rattle.gs_replica.specs.Edits as edits
+use Rattle.gs_store.specs.Serving.{apply_to}
+use Rattle.gs_store.specs.Moves.{sound_image}
+use Rattle.gs_store.proofs.Calls.{standing_in}
+use Rattle.gs_replica.specs.Seals.{with_seal, on_seal, touch_seal, Sealed, State}
+use Rattle.gs_store.specs.Slots.{with_live, Live, Slot, first_of, when, unless, again, replaced, removed, trash_of, trash_behind, trashed_seal, seal_in, seal_of, sealed_of, risen, live_under, mark_bad, marked_live}
 use Rattle.gs_store.specs.Learning.{later, start_of, rolled_to}
 
 -- the order of stamps
@@ -108,3 +115,18 @@ not_old None None false e is = refl
 not_old None None true e is = elim (never e (Some e) refl is) [ ]
 not_old None (Some f) test e is = elim (never f (Some f) refl is) [ ]
 not_old (Some f) p test e is = elim (never f (Some f) refl is) [ ]
+
+-- an edit touches blocks and requests of what is sealed, and leaves what undoing gives
+touched_stays : (req : ReqId) (op : Op) (bytes : List ℕ) (h : Held) (o : Option Sealed) (trash : Option State) → sound_image (seal_in (on_seal (touch_seal req op bytes h) o) trash) ≡ sound_image (seal_in o trash)
+touched_stays req op bytes h None trash = refl
+touched_stays req op bytes h (Some t) trash = refl
+
+in_live : (P : Slot → Type 0) (s : Slot) (bad : Option ℕ) (sealed : Option Sealed) (m : Result Held Refusal) → ((h : Held) → P (standing_in s bad (record { held = h; sealed = sealed }))) → Holds P (with_live s bad (with_seal sealed m))
+in_live P s bad sealed (Ok h) each = each h
+in_live P s bad sealed (Err e) each = tt
+
+pub edited_stays : (stamp : Stamp) (number : ℕ) (req : ReqId) (op : Op) (bytes : List ℕ) (s : Slot) (live : Option Live) → Holds (λ x. sound_image (sealed_of x) ≡ sound_image (seal_of live s.trash)) (apply_to stamp number req op bytes s live)
+edited_stays stamp number req op bytes s None = tt
+edited_stays stamp number req op bytes s (Some l) =
+    in_live (λ x. sound_image (sealed_of x) ≡ sound_image (seal_in l.replica.sealed s.trash)) s l.bad (on_seal (touch_seal req op bytes l.replica.held) l.replica.sealed) (edits.apply stamp number req op bytes l.replica.held)
+    (λ h. touched_stays req op bytes l.replica.held l.replica.sealed s.trash)

@@ -8,8 +8,8 @@ ghost use Rattle.gs_base.specs.Stamps.{is_before};
 ghost use Rattle.gs_replica.specs.declared.op.Op.{Op};
 ghost use Rattle.gs_replica.specs.Seals.{State};
 ghost use Rattle.gs_store.specs.Slots.{Live, Slot, create, advance, drop_replica, take_lease, lose, mark_bad, sealed_of};
-ghost use Rattle.gs_store.specs.Serving.{read};
-ghost use Rattle.gs_store.specs.Moves.{copy_out, copy_for, take_copy};
+ghost use Rattle.gs_store.specs.Serving.{apply, read};
+ghost use Rattle.gs_store.specs.Moves.{copy_out, copy_for, take_copy, sound_image};
 ghost use Rattle.gs_store.specs.Learning.{prepared, finalized, rolled_back};
 
 /// A promise never falls, also at a rollback.
@@ -27,7 +27,7 @@ pub fn promises_never_fall()
 {}
 
 /// What is sealed of a handle stays the same image, wherever it stands: beneath replicas that are made, copied or dropped, under
-/// promises, and beside marks.
+/// promises, and beside marks. An edit leaves what a copy carries of it.
 pub fn sealed_images_stay()
     ensures create { (block chunk : ℕ) (stamp : Stamp) (s s2 : Slot) → create block chunk stamp s ≡ Ok s2 → sealed_of s2 ≡ sealed_of s }
     ensures advance { (stamp : Stamp) (s s2 : Slot) → advance stamp s ≡ Ok s2 → sealed_of s2 ≡ sealed_of s }
@@ -35,6 +35,7 @@ pub fn sealed_images_stay()
     ensures drop_replica { (promise : Stamp) (s s2 : Slot) → drop_replica promise s ≡ Ok s2 → sealed_of s2 ≡ sealed_of s }
     ensures take_lease { (stamp : Stamp) (s s2 : Slot) → take_lease stamp s ≡ Ok s2 → sealed_of s2 ≡ sealed_of s }
     ensures mark_bad { (block : ℕ) (s : Slot) → sealed_of (mark_bad block s) ≡ sealed_of s }
+    ensures apply { (stamp : Stamp) (number : ℕ) (req : ReqId) (op : Op) (bytes : List ℕ) (s s2 : Slot) → apply stamp number req op bytes s ≡ Ok s2 → sound_image (sealed_of s2) ≡ sound_image (sealed_of s) }
 {}
 
 /// A bad replica gives no bytes and no copies.

@@ -3,8 +3,9 @@ use Rattle.gs_base.specs.declared.refusal.Refusal.TheVariants as refusals
 use Rattle.gs_base.specs.Stamps.{is_before}
 use Rattle.gs_replica.specs.Edits.{fresh}
 use Rattle.gs_store.specs.Slots.{create, advance, drop_replica, take_lease, risen, removed, taking, first_of, when, unless_live, if_bad, unless_promised, check_grant, is_taken, sealed_of}
-use Rattle.gs_store.specs.Moves.{take_copy}
-use Rattle.gs_store.proofs.Laws.{of_ok, of_unless, of_raised, removed_stays, replaced_stays, risen_stays, marked_stays}
+use Rattle.gs_store.specs.Moves.{take_copy, sound_image}
+use Rattle.gs_store.specs.Serving.{apply}
+use Rattle.gs_store.proofs.Laws.{of_ok, of_unless, of_raised, removed_stays, replaced_stays, risen_stays, marked_stays, edited_stays}
 use Rattle.gs_store.proofs.promises.sealed_images_stay.Goals as goal
 
 pub returns-clause-create : goal.returns-clause-create
@@ -34,3 +35,7 @@ returns-clause-take_lease c stamp s s2 is =
 
 pub returns-clause-mark_bad : goal.returns-clause-mark_bad
 returns-clause-mark_bad c block s = marked_stays block s
+
+pub returns-clause-apply : goal.returns-clause-apply
+returns-clause-apply c stamp number req op bytes s s2 is =
+    of_ok (λ x. sound_image (sealed_of x) ≡ sound_image (sealed_of s)) (apply stamp number req op bytes s) s2 is (edited_stays stamp number req op bytes s s.live)
