@@ -10,7 +10,7 @@ use Rattle.std.specs.FinMap.{slice_cmp-IsAntisymmetric, nat_cmp-IsAntisymmetric}
 use Rattle.std.proofs.lemmas.Bool.{and_parts}
 use Rattle.std.proofs.lemmas.Bool.Decides.{nat_tests}
 use Rattle.gs_path.specs.Path.{Name, Path, path_cmp, path_total, path_text, behind_slashes}
-use Rattle.gs_edit.specs.Scan.{removal_cmp, text_cmp, is_without_slashes}
+use Rattle.gs_edit.specs.Scan.{removal_cmp, length_then_text_cmp, is_without_slashes}
 
 abbrev plain : Name → Bool
 plain name = list_all (λ byte. not (byte == 47)) name
@@ -65,15 +65,15 @@ same_text (x ∷ p) [] l f g e = absurd (cc)
 same_text (x ∷ p) (y ∷ q) l f g e = same_behind (x ∷ p) (y ∷ q) f g e
 
 -- the order of removals is that of numbers of elements and texts
-pub by_text : (p q : Path) → is_without_slashes p ≡ true → is_without_slashes q ≡ true → removal_cmp p q ≡ text_cmp p q
-by_text p q f g = each (text_cmp p q) refl
+pub by_text : (p q : Path) → is_without_slashes p ≡ true → is_without_slashes q ≡ true → removal_cmp p q ≡ length_then_text_cmp p q
+by_text p q f g = each (length_then_text_cmp p q) refl
   where
     tied : (o r : Ordering) → ordering_then o r ≡ Equal → (o ≡ Equal) × (r ≡ Equal)
     tied Less r e = absurd (cc)
     tied Equal r e = (refl, e)
     tied Greater r e = absurd (cc)
 
-    each : (o : Ordering) → text_cmp p q ≡ o → ordering_then (text_cmp p q) (path_cmp p q) ≡ text_cmp p q
+    each : (o : Ordering) → length_then_text_cmp p q ≡ o → ordering_then (length_then_text_cmp p q) (path_cmp p q) ≡ length_then_text_cmp p q
     each Less e = ap (λ o. ordering_then o (path_cmp p q)) e ∙ sym e
     each Greater e = ap (λ o. ordering_then o (path_cmp p q)) e ∙ sym e
     each Equal e =

@@ -5,12 +5,12 @@ use Rattle.std.specs.List.{list_any, list_all}
 use Rattle.std.specs.List.Sorted.{IsStrictlySortedBy}
 use Rattle.std.specs.Ordering.{nat_cmp, eq_by_cmp, ordering_then}
 use Rattle.std.specs.Cmp.{IsTotalOrder, nat_cmp_total, then_total, on_total}
-use Rattle.std.specs.Cmp.Lexicographic.{slice_cmp, nat_list_cmp_total}
+use Rattle.std.specs.Cmp.Lexicographic.{nat_list_cmp_total}
 use Rattle.std.specs.declared.cmp.Ordering.{Ordering}
 use Rattle.std.specs.declared.cmp.Ordering.TheVariants.{Less, Greater}
 use Rattle.std.specs.FinMap as fin
 use Rattle.gs_path.specs.Element.{hidden_parts}
-use Rattle.gs_path.specs.Path.{Name, Path, path_cmp, path_total, path_text}
+use Rattle.gs_path.specs.Path.{Name, Path, path_cmp, path_total, path_text, text_cmp}
 use Rattle.gs_tree.specs.Entry.{Dir, File}
 use Rattle.gs_tree.specs.Plain.{Plain}
 use Rattle.gs_tree.specs.Find.{Rows, at}
@@ -60,13 +60,13 @@ abbrev pub is_without_slashes : Path → Bool
 is_without_slashes p = list_all (λ name. list_all (λ byte. not (byte == 47)) name) p
 
 -- fewer elements first, then the bytes of the texts
-abbrev pub text_cmp : Path → Path → Ordering
-text_cmp p q = ordering_then (nat_cmp (length p) (length q)) (slice_cmp nat_cmp (path_text p) (path_text q))
+abbrev pub length_then_text_cmp : Path → Path → Ordering
+length_then_text_cmp p q = ordering_then (nat_cmp (length p) (length q)) (text_cmp p q)
 
 -- The order of removals. Two paths of so many elements have one text only where an element has a slash; they stand in the
 -- order of paths.
 abbrev pub removal_cmp : Path → Path → Ordering
-removal_cmp p q = ordering_then (text_cmp p q) (path_cmp p q)
+removal_cmp p q = ordering_then (length_then_text_cmp p q) (path_cmp p q)
 
 pub removal_total : IsTotalOrder removal_cmp
 removal_total = then_total (then_total (on_total length nat_cmp_total) (on_total path_text nat_list_cmp_total)) path_total

@@ -16,7 +16,7 @@ ghost use Rattle.gs_edit.specs.View.{NamesView};
 ghost use Rattle.gs_edit.specs.Names.{NamesTakenBack, Undoes, IsCounted, blank};
 ghost use Rattle.gs_edit.specs.Plain.{mkdirs_rows, create_rows, rename_rows, hide_rows, unhide_rows, remove_rows, add_chunk_rows, set_chunk_rows, snapshot_rows};
 ghost use Rattle.gs_edit.specs.Mapped.{Tables, mapped_rows, mapped_edit};
-ghost use Rattle.gs_edit.specs.Scan.{is_over, left, Scans, removal_cmp, text_cmp, is_without_slashes};
+ghost use Rattle.gs_edit.specs.Scan.{is_over, left, Scans, removal_cmp, length_then_text_cmp, is_without_slashes};
 ghost use Rattle.gs_edit.specs.Sweep.{named_each, edits_of, Sweeps, IsSwept};
 ghost use Rattle.gs_edit.specs.Edits.{Applies};
 ghost use Rattle.gs_edit.specs.declared.edit.Edit.{Edit};
@@ -47,7 +47,7 @@ pub fn scans_take_out_what_goes()
 
 /// Of paths without a slash in an element the order of removals is that of the numbers of elements, then of the texts.
 pub fn removals_stand_by_their_texts()
-    ensures { (p q : Path) → is_without_slashes p ≡ true → is_without_slashes q ≡ true → removal_cmp p q ≡ text_cmp p q }
+    ensures { (p q : Path) → is_without_slashes p ≡ true → is_without_slashes q ≡ true → removal_cmp p q ≡ length_then_text_cmp p q }
 {}
 
 /// The rows of an edit are the plain tree's command, written down: they rise and have at each path what the command leaves
