@@ -12,7 +12,7 @@ use Rattle.gs_tree.specs.Entry as entry
 use Rattle.gs_tree.specs.Plain.{Plain, Same}
 use Rattle.gs_tree.specs.Find.{Rows, at}
 use Rattle.gs_tree.specs.Edits.{with_entry, with_chunks, chunks_in, is_file, is_dir, same_path, add_chunk, set_chunk}
-use Rattle.gs_tree.specs.Sort.{sort_of}
+use Rattle.gs_tree.specs.inner.Sort.{sort_of}
 use Rattle.gs_tree.specs.declared.node.Sort.TheVariants as sorts
 use Rattle.gs_tree.proofs.Splice.{splice, one_name}
 use Rattle.gs_tree.proofs.Reaching.{same_path-is}
@@ -21,7 +21,7 @@ use Rattle.std.proofs.Common.{length-append, length-set}
 use Rattle.std.proofs.Math.Seq.{take-append_seam}
 use Rattle.std.proofs.lemmas.Bool.{lt-ltb}
 use Rattle.gs_tree.specs.Inverses.{TakesBack, all_but_last}
-use Rattle.gs_tree.specs.Follows.{SwapsChunk}
+use Rattle.gs_tree.specs.inner.Steps.{SwapsChunk}
 use Rattle.gs_tree.specs.declared.inverse.TreeInverse.TheVariants.{Added, Changed}
 use Rattle.gs_path.specs.Path.{path_total}
 

@@ -9,12 +9,13 @@ use Rattle.gs_path.specs.Path.{Path, same_name, begins}
 use Rattle.gs_tree.specs.Entry.{Entry, Dir}
 use Rattle.gs_tree.specs.declared.node.Leaf.{Leaf}
 use Rattle.gs_tree.specs.declared.node.Leaf.TheVariants as leaves
-use Rattle.gs_tree.specs.Sort.{entry_of_leaf}
+use Rattle.gs_tree.specs.inner.Sort.{entry_of_leaf}
 use Rattle.gs_tree.specs.Plain.{Plain, IsFree, Same, without, part_at}
 use Rattle.gs_tree.specs.Find.{DirsAbove}
 use Rattle.gs_tree.specs.Edits.{with_dirs, with_entry, file_above, is_file, stood, same_path, mkdirs, made}
 use Rattle.gs_tree.specs.Inverses.{row_of, first_made, below_first, after_undo, IsBlank, IsBlankRow, TakesBack}
-use Rattle.gs_tree.specs.Follows.{IsSown, Follows}
+use Rattle.gs_tree.specs.Follows.{Follows}
+use Rattle.gs_tree.specs.inner.Steps.{IsSown}
 use Rattle.gs_tree.specs.declared.inverse.TreeInverse.TheVariants.{Made}
 use Rattle.gs_tree.proofs.Rows.{names_equiv}
 use Rattle.gs_tree.proofs.Splice.{one_name}

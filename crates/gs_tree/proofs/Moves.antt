@@ -11,7 +11,7 @@ use Rattle.gs_tree.specs.Entry.{Entry, Dir}
 use Rattle.gs_tree.specs.Entry as entry
 use Rattle.gs_tree.specs.declared.node.Sort.{Sort}
 use Rattle.gs_tree.specs.declared.node.Sort.TheVariants as sorts
-use Rattle.gs_tree.specs.Sort.{sort_of}
+use Rattle.gs_tree.specs.inner.Sort.{sort_of}
 use Rattle.gs_tree.specs.Plain.{Plain, after, without, part_at, IsFree}
 use Rattle.gs_tree.specs.Find.{Rows, at, DirsAbove, IsBelow, IsDepthTest}
 use Rattle.gs_tree.specs.Edits.{rename, move_to, placed, moved, hide, unhide, unhidden, renamed_beside, beside, old_name, snapshot, copied, parent, last, target_of, same_path, is_file, is_dir}

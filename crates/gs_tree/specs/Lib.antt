@@ -5,7 +5,6 @@ pub mod Find
 pub mod Rows
 pub mod Edits
 pub mod Chunks
-pub mod Sort
 pub mod Inverses
 pub mod Follows
 pub mod Falls

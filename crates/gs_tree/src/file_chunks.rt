@@ -3,7 +3,8 @@ ghost use Rattle.std.specs.Prelude.{◌≡◌, true, IfOk};
 ghost use Rattle.gs_tree.specs.Find.{at};
 ghost use Rattle.gs_tree.specs.Edits.{add_chunk, set_chunk, is_file};
 ghost use Rattle.gs_tree.specs.Inverses.{TakesBack, IsChanged};
-ghost use Rattle.gs_tree.specs.Follows.{Follows, SwapsChunk};
+ghost use Rattle.gs_tree.specs.Follows.{Follows};
+ghost use Rattle.gs_tree.specs.inner.Steps.{SwapsChunk};
 
 use crate::inverse::TreeInverse;
 use crate::node::{Node, Sort};

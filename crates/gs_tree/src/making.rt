@@ -2,7 +2,7 @@
 ghost use Rattle.std.specs.Prelude.{◌≡◌, IfOk};
 ghost use Rattle.gs_tree.specs.Find.{at};
 ghost use Rattle.gs_tree.specs.Edits.{mkdirs, create, made};
-ghost use Rattle.gs_tree.specs.Sort.{entry_of_leaf};
+ghost use Rattle.gs_tree.specs.inner.Sort.{entry_of_leaf};
 ghost use Rattle.gs_tree.specs.Inverses.{TakesBack, LeavesChunks, IsMade};
 ghost use Rattle.gs_tree.specs.Follows.{Follows};
 

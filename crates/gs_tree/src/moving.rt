@@ -4,7 +4,8 @@ ghost use Rattle.gs_tree.specs.Find.{at, IsBelow, DirsAbove, IsDepthTest};
 ghost use Rattle.gs_tree.specs.Plain.{part_at};
 ghost use Rattle.gs_tree.specs.Edits.{rename, hide, unhide, beside, renamed_beside, old_name, move_to, target_of};
 ghost use Rattle.gs_tree.specs.Inverses.{TakesBack, LeavesChunks, IsMoved};
-ghost use Rattle.gs_tree.specs.Follows.{Follows, TestsPlace};
+ghost use Rattle.gs_tree.specs.Follows.{Follows};
+ghost use Rattle.gs_tree.specs.inner.Steps.{TestsPlace};
 
 use crate::inverse::TreeInverse;
 use crate::node::{Node, Sort};

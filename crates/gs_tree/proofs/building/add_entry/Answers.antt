@@ -3,7 +3,7 @@ use Rattle.std.proofs.lemmas.List.{append_cancel_left, nil_from_length}
 use Rattle.gs_path.specs.Path.{Path, begins}
 use Rattle.gs_tree.specs.Find.{at}
 use Rattle.gs_tree.specs.Plain.{IsFree, with_at}
-use Rattle.gs_tree.specs.Sort.{sort_of}
+use Rattle.gs_tree.specs.inner.Sort.{sort_of}
 use Rattle.gs_tree.specs.declared.node.Sort.TheVariants as sorts
 use Rattle.gs_tree.specs.Edits.{parent}
 use Rattle.gs_tree.specs.Build.{path_of_entry, kind_of_entry}

@@ -5,7 +5,7 @@ use Rattle.gs_base.specs.declared.refusal.Refusal.TheVariants.{Memory}
 use Rattle.gs_path.specs.Path.{Path}
 use Rattle.gs_tree.specs.Plain.{Plain}
 use Rattle.gs_tree.specs.Find.{at}
-use Rattle.gs_tree.specs.Sort.{sort_of}
+use Rattle.gs_tree.specs.inner.Sort.{sort_of}
 use Rattle.gs_tree.specs.Edits.{chunks_in, with_chunks}
 use Rattle.gs_tree.specs.Follows.{Follows}
 use Rattle.gs_tree.specs.Inverses.{TakesBack}

@@ -1,7 +1,7 @@
 use Rattle.std.proofs.Common.{ap, sym, ◌∙◌, subst}
 use Rattle.gs_path.specs.Path.{Path}
 use Rattle.gs_tree.specs.Find.{at}
-use Rattle.gs_tree.specs.Sort.{sort_of}
+use Rattle.gs_tree.specs.inner.Sort.{sort_of}
 use Rattle.gs_tree.specs.Inverses.{TakesBack}
 use Rattle.gs_tree.specs.declared.inverse.TreeInverse.TheVariants.{Changed}
 use Rattle.gs_tree.proofs.Chunks.{file_is, takes_changed}

@@ -2,8 +2,8 @@ use Rattle.std.proofs.Common.{sym, subst, ap, length}
 use Rattle.gs_path.specs.Path.{Path}
 use Rattle.gs_tree.specs.Find.{at}
 use Rattle.gs_tree.specs.Inverses.{TakesBack}
-use Rattle.gs_tree.specs.Follows.{IsSown}
-use Rattle.gs_tree.specs.Sort.{entry_of_leaf}
+use Rattle.gs_tree.specs.inner.Steps.{IsSown}
+use Rattle.gs_tree.specs.inner.Sort.{entry_of_leaf}
 use Rattle.gs_tree.specs.declared.inverse.TreeInverse.TheVariants.{Made}
 use Rattle.std.proofs.Common.{◌-◌}
 use Rattle.gs_tree.proofs.Makes.{takes_made}

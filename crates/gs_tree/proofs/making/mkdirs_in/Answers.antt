@@ -4,7 +4,7 @@ use Rattle.gs_base.specs.declared.refusal.Refusal.{Refusal}
 use Rattle.gs_path.specs.Path.{Path}
 use Rattle.gs_tree.specs.Plain.{Plain}
 use Rattle.gs_tree.specs.Find.{at, DirsAbove}
-use Rattle.gs_tree.specs.Sort.{sort_of}
+use Rattle.gs_tree.specs.inner.Sort.{sort_of}
 use Rattle.gs_tree.specs.Follows.{Follows}
 use Rattle.gs_tree.specs.declared.inverse.TreeInverse.TheVariants.{Made}
 use Rattle.gs_tree.proofs.Moves.{dir_is, none_is}

@@ -9,7 +9,8 @@ use Rattle.gs_tree.specs.Plain.{Plain, part_at}
 use Rattle.gs_tree.specs.Find.{at, IsBelow}
 use Rattle.gs_tree.specs.Edits.{moved, parent}
 use Rattle.gs_tree.specs.Inverses.{TakesBack}
-use Rattle.gs_tree.specs.Follows.{Follows, IsPlace}
+use Rattle.gs_tree.specs.Follows.{Follows}
+use Rattle.gs_tree.specs.inner.Steps.{IsPlace}
 use Rattle.gs_tree.proofs.Moves.{takes_moved, deep_false, deep_true, parent-append, refused}
 use Rattle.gs_tree.proofs.moving.move_to_target.Goals as goal
 

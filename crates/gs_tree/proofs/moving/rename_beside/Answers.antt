@@ -5,7 +5,7 @@ use Rattle.gs_base.specs.declared.refusal.Refusal.TheVariants.{Exists}
 use Rattle.gs_path.specs.Path.{Path, begins}
 use Rattle.gs_tree.specs.declared.inverse.TreeInverse.TheVariants.{Moved}
 use Rattle.gs_tree.specs.declared.node.Sort.TheVariants as sorts
-use Rattle.gs_tree.specs.Sort.{sort_of}
+use Rattle.gs_tree.specs.inner.Sort.{sort_of}
 use Rattle.gs_tree.specs.Plain.{Plain, IsFree}
 use Rattle.gs_tree.specs.Find.{at, DirsAbove}
 use Rattle.gs_tree.specs.Edits.{moved}

@@ -5,7 +5,7 @@ use Rattle.gs_base.specs.declared.refusal.Refusal.TheVariants.{NotFound}
 use Rattle.gs_path.specs.Path.{Path}
 use Rattle.gs_tree.specs.declared.inverse.TreeInverse.{TreeInverse}
 use Rattle.gs_tree.specs.declared.node.Sort.TheVariants as sorts
-use Rattle.gs_tree.specs.Sort.{sort_of}
+use Rattle.gs_tree.specs.inner.Sort.{sort_of}
 use Rattle.gs_tree.specs.Plain.{Plain}
 use Rattle.gs_tree.specs.Find.{at, IsDepthTest}
 use Rattle.gs_tree.specs.Edits.{move_to, rename}

@@ -1,7 +1,7 @@
 use Rattle.std.proofs.Common.{◌≡◌, ◌∷◌, ◌++◌, [], ap, sym, ◌∙◌}
 use Rattle.gs_path.specs.Path.{Path}
 use Rattle.gs_tree.specs.Find.{at}
-use Rattle.gs_tree.specs.Sort.{sort_of}
+use Rattle.gs_tree.specs.inner.Sort.{sort_of}
 use Rattle.gs_tree.specs.declared.node.Sort.TheVariants as sorts
 use Rattle.gs_tree.proofs.Moves.{into_dir}
 use Rattle.gs_tree.proofs.moving.target_path.Goals as goal

@@ -1,7 +1,7 @@
 use Rattle.std.proofs.Common.{◌≡◌, ◌++◌, ap, sym, ◌∙◌, refl, inl, inr}
 use Rattle.gs_path.specs.Path.{Path}
 use Rattle.gs_tree.specs.declared.node.Sort.TheVariants as sorts
-use Rattle.gs_tree.specs.Sort.{sort_of}
+use Rattle.gs_tree.specs.inner.Sort.{sort_of}
 use Rattle.gs_tree.specs.Find.{at}
 use Rattle.gs_tree.specs.Edits.{parent}
 use Rattle.gs_tree.proofs.Moves.{answer, taken_answer, stands_is, dir_is, parent-append}

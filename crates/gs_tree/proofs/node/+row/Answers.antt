@@ -4,7 +4,7 @@ use Rattle.std.specs.BTreeMap.{is_at}
 use Rattle.std.specs.Map.{lookup}
 use Rattle.gs_path.specs.Path.{Name, Path, name_cmp, same_name}
 use Rattle.gs_tree.specs.Find.{at}
-use Rattle.gs_tree.specs.Sort.{entry_of_leaf}
+use Rattle.gs_tree.specs.inner.Sort.{entry_of_leaf}
 use Rattle.gs_tree.specs.Inverses.{row_of}
 use Rattle.gs_tree.specs.Rows.{rows_of}
 use Rattle.gs_tree.specs.declared.node.Kind.TheVariants as kinds

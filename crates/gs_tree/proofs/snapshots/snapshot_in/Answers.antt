@@ -4,7 +4,7 @@ use Rattle.gs_base.specs.declared.refusal.Refusal.{Refusal}
 use Rattle.gs_base.specs.declared.refusal.Refusal.TheVariants.{NotFound, BadPath}
 use Rattle.gs_tree.specs.declared.inverse.TreeInverse.{TreeInverse}
 use Rattle.gs_tree.specs.declared.node.Sort.TheVariants as sorts
-use Rattle.gs_tree.specs.Sort.{sort_of}
+use Rattle.gs_tree.specs.inner.Sort.{sort_of}
 use Rattle.gs_tree.specs.Plain.{Plain, with_at, part_at}
 use Rattle.gs_tree.specs.Find.{at, IsDepthTest}
 use Rattle.gs_tree.specs.Edits.{copied, visible}

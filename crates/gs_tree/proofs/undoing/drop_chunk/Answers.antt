@@ -1,7 +1,7 @@
 use Rattle.std.proofs.Common.{◌≡◌, ◌<◌, ap, sym, ◌∙◌, refl, inr, arith, length, append-nil}
 use Rattle.std.proofs.lemmas.Bool.{ltb-true}
 use Rattle.gs_tree.specs.Find.{at}
-use Rattle.gs_tree.specs.Sort.{sort_of}
+use Rattle.gs_tree.specs.inner.Sort.{sort_of}
 use Rattle.gs_tree.specs.Edits.{chunks_in, with_chunks}
 use Rattle.gs_tree.proofs.Chunks.{file_is, chunks_restored}
 use Rattle.gs_tree.proofs.undoing.drop_chunk.Goals as goal

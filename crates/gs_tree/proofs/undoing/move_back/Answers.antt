@@ -2,7 +2,7 @@ use Rattle.std.proofs.Common.{◌≡◌, ◌++◌, [], ap, sym, ◌∙◌, refl,
 use Rattle.std.specs.Prelude.{is_some}
 use Rattle.gs_tree.specs.Find.{at}
 use Rattle.gs_tree.specs.Edits.{parent, moved}
-use Rattle.gs_tree.specs.Sort.{sort_of}
+use Rattle.gs_tree.specs.inner.Sort.{sort_of}
 use Rattle.gs_tree.specs.declared.node.Sort.TheVariants as sorts
 use Rattle.gs_tree.proofs.Moves.{stands_is, dir_is, parent-append}
 use Rattle.gs_tree.proofs.undoing.move_back.Goals as goal

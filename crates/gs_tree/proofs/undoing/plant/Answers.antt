@@ -3,7 +3,7 @@ use Rattle.std.specs.Prelude.{is_some}
 use Rattle.gs_tree.specs.Plain.{with_at}
 use Rattle.gs_tree.specs.Find.{at}
 use Rattle.gs_tree.specs.Edits.{parent}
-use Rattle.gs_tree.specs.Sort.{sort_of}
+use Rattle.gs_tree.specs.inner.Sort.{sort_of}
 use Rattle.gs_tree.specs.declared.node.Sort.TheVariants as sorts
 use Rattle.gs_tree.proofs.Moves.{stands_is, dir_is, parent-append}
 use Rattle.gs_tree.proofs.Removals.{with_part}

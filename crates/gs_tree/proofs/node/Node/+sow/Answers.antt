@@ -8,7 +8,7 @@ use Rattle.gs_path.specs.Path.{Name, Path, name_cmp, same_name}
 use Rattle.gs_tree.specs.Rows.{IsRooted, IsNode}
 use Rattle.gs_tree.specs.Find.{Rows, at}
 use Rattle.gs_tree.specs.Edits.{file_above, stood}
-use Rattle.gs_tree.specs.Sort.{entry_of_leaf}
+use Rattle.gs_tree.specs.inner.Sort.{entry_of_leaf}
 use Rattle.gs_tree.specs.Plain.{IsFree}
 use Rattle.gs_tree.specs.Inverses.{first_made}
 use Rattle.gs_tree.proofs.Rows.{goes_to, at-path, at_child, at-child, rest_of}

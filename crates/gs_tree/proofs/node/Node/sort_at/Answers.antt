@@ -1,6 +1,6 @@
 use Rattle.std.proofs.Common.{ap, sym, ◌∙◌, append-nil, []}
 use Rattle.gs_tree.specs.Find.{at}
-use Rattle.gs_tree.specs.Sort.{sort_of}
+use Rattle.gs_tree.specs.inner.Sort.{sort_of}
 use Rattle.gs_tree.proofs.node.Node.sort_at.Goals as goal
 
 pub returns-in-None-clause-sort : goal.returns-in-None-clause-sort
