@@ -1,5 +1,6 @@
 pub mod Answers
 pub mod Encoding
+pub mod Extended
 pub mod Order
 pub mod Plain
 pub mod Rows

@@ -6,6 +6,7 @@ mod decode;
 mod edits;
 mod encode;
 mod entry;
+mod extended;
 mod fault;
 mod field;
 mod ids;
@@ -21,3 +22,4 @@ pub use checkpoint::{
     Checkpoint, EpochEnd, Outcome, Phase, PreparedView, Reference, Reply, SettledEntry,
 };
 pub use entry::{Answered, Entry, SettledView};
+pub use extended::Extended;
