@@ -2,6 +2,7 @@
 #![tactic(auto)]
 
 mod config;
+mod epoch;
 mod members;
 mod numbers;
 pub mod promises;
@@ -9,6 +10,7 @@ mod refusal;
 mod told;
 
 pub use config::Config;
+pub use epoch::EpochEnd;
 pub use members::{Members, MembersIter};
 pub use numbers::{ClientId, Handle, Moment, ReqId, ServerId, Stamp, next_number};
 pub use refusal::{PathText, Refusal};

@@ -7,18 +7,10 @@ use crate::chunk::Chunk;
 use crate::kind::Kind;
 use crate::lists::{Bytes, Items};
 use gs_base::promises::are_same;
-use gs_base::{Handle, Refusal, ReqId, Stamp};
+use gs_base::{EpochEnd, Handle, Refusal, ReqId, Stamp};
 use gs_block::Digest;
 use gs_replica::Outcome;
 use std::alloc::{AllocError, Global};
-
-/// How an epoch ended.
-#[derive(Clone, Copy, Debug, PartialEq, Eq)]
-pub enum EpochEnd {
-    Prepare,
-    Finalize,
-    Rollback,
-}
 
 /// What a server tells of one of its live replicas.
 #[derive(Clone, Copy, Debug, PartialEq, Eq)]

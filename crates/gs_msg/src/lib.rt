@@ -16,7 +16,7 @@ pub mod promises;
 mod same;
 
 pub use answer::{Answer, ChunkStatus, Copied, Phase, Status};
-pub use body::{Body, EpochEnd, Given, Reported};
+pub use body::{Body, Given, Reported};
 pub use call::Call;
 pub use chunk::{Asked, Chunk};
 pub use event::{Event, Happening, Request};

@@ -5,11 +5,11 @@ use Rattle.std.specs.Prelude.{⊤}
 use Rattle.gs_base.specs.MemberLaws.{eqb_other}
 use Rattle.gs_base.specs.Refusals.{number_of}
 use Rattle.gs_base.specs.Told.{detail_text, IsNumber}
+use Rattle.gs_base.specs.declared.epoch.EpochEnd.{EpochEnd}
+use Rattle.gs_base.specs.declared.epoch.EpochEnd.TheVariants as epoch_ends
 use Rattle.gs_base.specs.declared.numbers.ReqId.{ReqId}
 use Rattle.gs_journal.specs.declared.version.Version.{Version}
 use Rattle.gs_journal.specs.declared.version.Version.TheVariants.{One, Two}
-use Rattle.gs_record.specs.declared.checkpoint.EpochEnd.{EpochEnd}
-use Rattle.gs_record.specs.declared.checkpoint.EpochEnd.TheVariants as epoch_ends
 use Rattle.gs_record.specs.declared.checkpoint.Phase.{Phase}
 use Rattle.gs_record.specs.declared.checkpoint.Phase.TheVariants as phases
 use Rattle.gs_record.specs.declared.checkpoint.PreparedView.{PreparedView}

@@ -8,6 +8,7 @@ use Rattle.byteorder.specs.Endian.{big_bytes, big_number}
 use Rattle.byteorder.specs.Numbers.{big_number-reads_back}
 use Rattle.gs_base.specs.Refusals.{number_of}
 use Rattle.gs_base.specs.Told.{detail_text}
+use Rattle.gs_base.specs.declared.epoch.EpochEnd.TheVariants as epoch_ends
 use Rattle.gs_base.specs.declared.refusal.Refusal.{Refusal}
 use Rattle.gs_path.specs.Path.{Path, path_text}
 use Rattle.gs_journal.specs.Bodies as form
@@ -16,7 +17,6 @@ use Rattle.gs_journal.specs.Reading as reading
 use Rattle.gs_journal.specs.declared.version.Version.{Version}
 use Rattle.gs_journal.specs.declared.version.Version.TheVariants.{One, Two}
 use Rattle.gs_lease.specs.declared.view.Term.{Term}
-use Rattle.gs_record.specs.declared.checkpoint.EpochEnd.TheVariants as epoch_ends
 use Rattle.gs_record.specs.declared.checkpoint.Phase.{Phase}
 use Rattle.gs_record.specs.declared.checkpoint.Phase.TheVariants as phases
 use Rattle.gs_record.proofs.Told.{small, positive}

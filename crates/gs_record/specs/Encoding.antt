@@ -5,6 +5,8 @@ use Rattle.byteorder.specs.Endian.{big_bytes}
 use Rattle.gs_base.specs.Members.{bits_of}
 use Rattle.gs_base.specs.Refusals.{number_of}
 use Rattle.gs_base.specs.Told.{detail_text}
+use Rattle.gs_base.specs.declared.epoch.EpochEnd.{EpochEnd}
+use Rattle.gs_base.specs.declared.epoch.EpochEnd.TheVariants as epoch_ends
 use Rattle.gs_base.specs.declared.numbers.ReqId.{ReqId}
 use Rattle.gs_base.specs.declared.refusal.Refusal.{Refusal}
 use Rattle.gs_path.specs.Path.{Path, path_text}
@@ -13,8 +15,6 @@ use Rattle.gs_journal.specs.Records.{opened}
 use Rattle.gs_journal.specs.declared.version.Version.{Version}
 use Rattle.gs_journal.specs.declared.version.Version.TheVariants.{One, Two}
 use Rattle.gs_lease.specs.declared.view.Term.{Term}
-use Rattle.gs_record.specs.declared.checkpoint.EpochEnd.{EpochEnd}
-use Rattle.gs_record.specs.declared.checkpoint.EpochEnd.TheVariants as epoch_ends
 use Rattle.gs_record.specs.declared.checkpoint.Phase.{Phase}
 use Rattle.gs_record.specs.declared.checkpoint.Phase.TheVariants as phases
 use Rattle.gs_record.specs.declared.checkpoint.PreparedView.{PreparedView}

@@ -1,5 +1,6 @@
 -- Entries of a journal without where they lie in memory.
 use Rattle.std.specs.Prelude.{ℕ, List, Option, Some, None, map, string_bytes}
+use Rattle.gs_base.specs.declared.epoch.EpochEnd.{EpochEnd}
 use Rattle.gs_base.specs.declared.numbers.ReqId.{ReqId}
 use Rattle.gs_base.specs.declared.refusal.Refusal.{Refusal}
 use Rattle.gs_path.specs.Path.{Path}
@@ -10,7 +11,6 @@ use Rattle.gs_edit.specs.declared.listed.ListedInverse.TheVariants as inverses
 use Rattle.gs_tree.specs.declared.entry.TreeEntry.{TreeEntry}
 use Rattle.gs_tree.specs.declared.entry.TreeEntry.TheVariants as nodes
 use Rattle.gs_record.specs.declared.checkpoint.Checkpoint.{Checkpoint}
-use Rattle.gs_record.specs.declared.checkpoint.EpochEnd.{EpochEnd}
 use Rattle.gs_record.specs.declared.checkpoint.Outcome.{Outcome}
 use Rattle.gs_record.specs.declared.checkpoint.Outcome.TheVariants as outcomes
 use Rattle.gs_record.specs.declared.checkpoint.Phase.{Phase}

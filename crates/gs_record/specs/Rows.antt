@@ -1,9 +1,9 @@
 -- Records byte by byte, as the tables of the journal have them. No two fields of a record hold the same.
 use Rattle.std.specs.Prelude.{◌≡◌, ℕ, List, [], ◌∷◌, ◌++◌, Some, None, true, codes, refl}
 use Rattle.gs_base.specs.Members.{bits_of}
+use Rattle.gs_base.specs.declared.epoch.EpochEnd.TheVariants as epoch_ends
 use Rattle.gs_base.specs.declared.refusal.Refusal.TheVariants.{NotFound, Pending}
 use Rattle.gs_journal.specs.declared.version.Version.TheVariants.{Two}
-use Rattle.gs_record.specs.declared.checkpoint.EpochEnd.TheVariants as epoch_ends
 use Rattle.gs_record.specs.declared.checkpoint.Phase.TheVariants as phases
 use Rattle.gs_record.specs.declared.entry.SettledView.{SettledView}
 use Rattle.gs_record.specs.Encoding.{encoded, edit, inverse}

@@ -1,5 +1,5 @@
 use crate::entry::SettledView;
-use gs_base::{Handle, Members, Refusal, ReqId};
+use gs_base::{EpochEnd, Handle, Members, Refusal, ReqId};
 use gs_edit::ListedInverse;
 use gs_tree::TreeEntry;
 
@@ -11,14 +11,6 @@ pub enum Phase {
     Upgrade,
     /// A rollback is begun.
     Rolling,
-}
-
-/// How an epoch ended.
-#[derive(Clone, Copy, Debug, PartialEq, Eq)]
-pub enum EpochEnd {
-    Prepare,
-    Finalize,
-    Rollback,
 }
 
 /// How often a chunk is referenced.

@@ -6,11 +6,11 @@ ghost use Rattle.gs_record.specs.Writable.{AreItems, IsHandle, IsAnswered, IsPat
 ghost use Rattle.gs_record.specs.inner.Reading.{times, list_at, handle_at, answered_at, path_at, end_at, reference_at, settled_entry_at, prepared_list_at};
 ghost use Rattle.gs_record.specs.inner.Work.{Gives, Puts};
 
-use crate::checkpoint::{EpochEnd, PreparedView, Reference, SettledEntry};
+use crate::checkpoint::{PreparedView, Reference, SettledEntry};
 use crate::entry::{Answered, SettledView};
 use crate::fault::Fault;
 use crate::field::{Cursor, Field};
-use gs_base::{Handle, Members};
+use gs_base::{EpochEnd, Handle, Members};
 use gs_journal::Version;
 use gs_path::Path;
 use std::alloc::{AllocError, Global};

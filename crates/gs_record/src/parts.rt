@@ -1,10 +1,10 @@
 // The small parts of a checkpoint.
-use crate::checkpoint::{EpochEnd, Outcome, Phase, PreparedView, Reference, Reply, SettledEntry};
+use crate::checkpoint::{Outcome, Phase, PreparedView, Reference, Reply, SettledEntry};
 use crate::entry::SettledView;
 use crate::fault::Fault;
 use crate::field::{Cursor, Field};
 use crate::ids::{put_text, read_text};
-use gs_base::{Handle, Members, Refusal, ReqId};
+use gs_base::{EpochEnd, Handle, Members, Refusal, ReqId};
 use std::alloc::Global;
 
 impl Field for Phase {
@@ -46,7 +46,7 @@ impl Field for Phase {
 
 impl Field for EpochEnd {
     ghost use Rattle.std.specs.Prelude.{⊤};
-    ghost use Rattle.gs_record.specs.declared.checkpoint.EpochEnd.{EpochEnd as AnyEnd};
+    ghost use Rattle.gs_base.specs.declared.epoch.EpochEnd.{EpochEnd as AnyEnd};
     ghost use Rattle.gs_record.specs.Encoding.{epoch_end};
     ghost use Rattle.gs_record.specs.inner.Reading.{end_at};
 
