@@ -1,12 +1,14 @@
 -- What the bits of a set say of it.
 use Rattle.std.proofs.Common.{◌≡◌, ◌≢◌, ℕ, zero, suc, ◌+◌, ◌-◌, ◌*◌, ◌^◌, ◌/◌, ◌%◌, ◌<◌, ◌≤◌, Bool, true, false, cond, List, [], ◌∷◌, Option, Some, None, refl, sym, ap, ◌∙◌, ⊎_elim, arith, eqb, length, zero-add, IsSome, IfSome, ◌↔◌, slice_get}
-use Rattle.std.proofs.lemmas.Bool.{cases_eq, false≢true}
+use Rattle.std.proofs.lemmas.Bool.{cases_eq, eqb-true, false≢true}
 use Rattle.std.proofs.lemmas.Bool.Decides.{nat_tests}
 use Rattle.std.proofs.lemmas.Nat.Bits.{shr_and_one, bit_at-zero, bit_at-trailing_zeros, bit_at_set_same, bit_at_set_other, bit_at_clear_same, bit_at_clear_other}
-use Rattle.std.specs.Prelude.{bit_and, bit_or, ◌||◌, ◌&&◌, not, filter}
+use Rattle.std.proofs.lemmas.Slice.Eq.{bytes_eq-Decides}
+use Rattle.std.specs.Cmp.Lexicographic.{pointwise}
+use Rattle.std.specs.Prelude.{bit_and, bit_or, ◌||◌, ◌&&◌, not, filter, nat_eq}
 use Rattle.std.specs.Int.{bit_at, bit_not, trailing_zeros, w16}
 use Rattle.gs_base.specs.Members.{count_from, servers_where, is_member, has_bit, bits_of, with_member, without_member}
-use Rattle.gs_base.specs.MemberLaws.{filter_same, eqb_other, same_servers, is_member-servers_where, bits_of-servers_where}
+use Rattle.gs_base.specs.MemberLaws.{filter_same, eqb_itself, eqb_other, same_servers, is_member-servers_where, bits_of-servers_where}
 
 -- the members from the server i on
 unfoldable pub servers_from : ℕ → ℕ → List ℕ
@@ -186,3 +188,17 @@ pub length_end : (b i count many : ℕ) → i ≤ 16 → 16 ≤ i → count + le
 length_end b i count many low high e =
     let none : length (servers_from b i) ≡ 0 = ap (λ x. length (servers_from b x)) (let last : i ≡ 16 = omega arith in last) ∙ none_from b in
     omega arith
+
+-- ---- the same bits, the same members
+one_test : (b c : Bool) → (b ≡ true → c ≡ true) → (c ≡ true → b ≡ true) → b ≡ c
+one_test true c there back = sym (there refl)
+one_test false true there back = absurd (false≢true (back refl))
+one_test false false there back = refl
+
+pub same_bits : (a b : ℕ) (m n : List ℕ) → servers_where (has_bit a) ≡ m → a < 2 ^ 16 → servers_where (has_bit b) ≡ n → b < 2 ^ 16 → nat_eq a b ≡ pointwise nat_eq m n
+same_bits a b m n view fits other_view other_fits = one_test _ _
+    (λ same. (bytes_eq-Decides m n).1 (sym view ∙ ap (λ x. servers_where (has_bit x)) (eqb-true a b same) ∙ other_view))
+    (λ same. is_one _ _ (found_bits a m view fits ∙ ap bits_of ((bytes_eq-Decides m n).0 same) ∙ sym (found_bits b n other_view other_fits)))
+  where
+    is_one : (x y : ℕ) → x ≡ y → nat_eq x y ≡ true
+    is_one x y e = rw e (eqb_itself y)

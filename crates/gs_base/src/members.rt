@@ -6,8 +6,7 @@ use crate::numbers::ServerId;
 use std::marker::Model;
 
 /// A set of servers.
-#[derive(Clone, Copy, Debug, PartialEq, Eq)]
-#[tactic(auto, using(crate::proofs::Bits::found_bits))]
+#[derive(Clone, Copy, Debug)]
 pub struct Members {
     bits: u16,
 }
@@ -94,9 +93,10 @@ impl Members {
         }
     }
 
-    /// The set as a number, whose bit i says whether server i is a member.
+    /// The set as a number, whose bit i says whether server i is a member. `from_bits` gives the set back.
     pub fn bits(self) -> u16
-        ensures { result ≡ bits_of self }
+        ensures bits { result ≡ bits_of self }
+        ensures back { servers_where (has_bit result) ≡ self }
     {
         self.bits
     }
@@ -107,6 +107,27 @@ impl Members {
     {
         Members { bits }
     }
+}
+
+impl PartialEq for Members {
+    ghost use Rattle.std.specs.Cmp.{partial_equiv_from_equiv};
+    ghost use Rattle.std.specs.Cmp.Lexicographic.{nat_list_eq_equiv};
+    ghost use Rattle.std.specs.Prelude.{nat_eq};
+    ghost use Rattle.std.specs.Cmp.Lexicographic.{pointwise};
+
+    ghost eq = { pointwise nat_eq };
+
+    ghost laws = { partial_equiv_from_equiv nat_list_eq_equiv };
+
+    fn eq(&self, other: &Members) -> bool {
+        self.bits == other.bits
+    }
+}
+
+impl Eq for Members {
+    ghost use Rattle.std.specs.Cmp.Lexicographic.{nat_list_eq_equiv};
+
+    ghost laws = { nat_list_eq_equiv };
 }
 
 impl IntoIterator for Members {

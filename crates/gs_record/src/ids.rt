@@ -1,6 +1,4 @@
 // Fields that name something: chunks, servers, requests, paths, and why a request was refused.
-ghost use Rattle.std.specs.Prelude.{◌≡◌, ◌↔◌, IsTrue};
-ghost use Rattle.gs_base.specs.Members.{servers_where, has_bit, bits_of};
 ghost use Rattle.gs_record.specs.inner.Reading.{text_at};
 ghost use Rattle.gs_record.specs.inner.Work.{Gives, Puts};
 ghost use Rattle.gs_record.specs.Encoding.{text};
@@ -72,20 +70,6 @@ impl Field for ServerId {
     }
 }
 
-/// Whether the members are those that their bits tell. They always are; this finds it out without looking inside.
-fn is_set(members: Members) -> bool
-    ensures { IsTrue result ↔ (servers_where (has_bit (bits_of members)) ≡ members) }
-{
-    let mut left = members;
-    let mut told = Members::from_bits(members.bits());
-    while let Some(server) = left.pop_first() {
-        if told.pop_first() != Some(server) {
-            return false;
-        }
-    }
-    told.is_empty()
-}
-
 impl Field for Members {
     ghost use Rattle.std.specs.Prelude.{ℕ, List};
     ghost use Rattle.gs_record.specs.Encoding.{members};
@@ -109,9 +93,6 @@ impl Field for Members {
     }
 
     fn put(&self, _alloc: Global, out: &mut Vec<u8>) -> Result<(), Fault> {
-        if !is_set(*self) {
-            return Err(Fault::Form);
-        }
         out.extend_from_slice(&self.bits().to_be_bytes())?;
         Ok(())
     }
