@@ -1,7 +1,13 @@
--- How a node is named in a line.
+-- How a node is named in a line, and which nodes keep something of the store.
 use Rattle.std.specs.Prelude.{◌≡◌, ◌++◌, ℕ, List, codes, decimal, refl}
 use Rattle.gs_msg.specs.declared.node.NodeId.{NodeId}
 use Rattle.gs_msg.specs.declared.node.NodeId.TheVariants.{Master, Server, Client}
+use Rattle.gs_msg.specs.declared.node.StoreNode.{StoreNode}
+use Rattle.gs_msg.specs.declared.node.StoreNode.TheVariants as keepers
+
+abbrev pub as_node : StoreNode → NodeId
+as_node keepers.Master = Master
+as_node (keepers.Server s) = Server s
 
 abbrev pub node_text : NodeId → List ℕ
 node_text Master = codes "M"

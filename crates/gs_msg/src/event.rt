@@ -4,25 +4,26 @@ use crate::call::Call;
 use crate::chunk::Asked;
 use crate::lists::Bytes;
 use crate::message::MsgId;
-use crate::node::NodeId;
+use crate::node::StoreNode;
 use crate::op::Op;
-use gs_base::{ClientId, Handle, Moment, ServerId, Stamp};
+use gs_base::{ClientId, Handle, Members, Moment, ServerId, Stamp};
 use std::alloc::{AllocError, Global};
 
-/// What a client asks of a node, without its number.
+/// What a client asks under one number.
 #[derive(Debug, Drop)]
 pub enum Request {
+    /// A call of the master.
     Call(Call),
-    Push {
-        to: ServerId,
-        bytes: Bytes,
-    },
-    Edit {
-        to: ServerId,
+    /// An edit of a chunk: its bytes go to every member, ascending, and then the edit to the primary, all under the one number.
+    Write {
         handle: Handle,
+        members: Members,
+        primary: ServerId,
         stamp: Stamp,
         op: Op,
+        bytes: Bytes,
     },
+    /// What a client reads of a replica.
     Fetch {
         to: ServerId,
         handle: Handle,
@@ -40,26 +41,30 @@ impl Request {
         match (self, other) {
             (Request::Call(left), Request::Call(right)) => left.is_same(right),
             (
-                Request::Push { to, bytes },
-                Request::Push {
-                    to: other_to,
-                    bytes: other_bytes,
-                },
-            ) => to == other_to && bytes.is_same(other_bytes),
-            (
-                Request::Edit {
-                    to,
+                Request::Write {
                     handle,
+                    members,
+                    primary,
                     stamp,
                     op,
+                    bytes,
                 },
-                Request::Edit {
-                    to: other_to,
+                Request::Write {
                     handle: other_handle,
+                    members: other_members,
+                    primary: other_primary,
                     stamp: other_stamp,
                     op: other_op,
+                    bytes: other_bytes,
                 },
-            ) => to == other_to && handle == other_handle && stamp == other_stamp && op == other_op,
+            ) => {
+                handle == other_handle
+                    && members == other_members
+                    && primary == other_primary
+                    && stamp == other_stamp
+                    && op == other_op
+                    && bytes.is_same(other_bytes)
+            }
             (
                 Request::Fetch {
                     to,
@@ -92,20 +97,20 @@ impl Request {
     {
         Ok(match self {
             Request::Call(call) => Request::Call(call.copy(alloc)?),
-            Request::Push { to, bytes } => Request::Push {
-                to: *to,
-                bytes: bytes.copy(alloc)?,
-            },
-            Request::Edit {
-                to,
+            Request::Write {
                 handle,
+                members,
+                primary,
                 stamp,
                 op,
-            } => Request::Edit {
-                to: *to,
+                bytes,
+            } => Request::Write {
                 handle: *handle,
+                members: *members,
+                primary: *primary,
                 stamp: *stamp,
                 op: *op,
+                bytes: bytes.copy(alloc)?,
             },
             Request::Fetch {
                 to,
@@ -124,6 +129,13 @@ impl Request {
     }
 }
 
+/// One of the two disks of the master's journal.
+#[derive(Clone, Copy, Debug, PartialEq, Eq)]
+pub enum DiskId {
+    First,
+    Second,
+}
+
 /// What happens in a store.
 #[derive(Debug, Drop)]
 pub enum Happening {
@@ -135,11 +147,11 @@ pub enum Happening {
     /// A message that was sent comes to its receiver, perhaps once more.
     Deliver(MsgId),
     /// A node does what it does from time to time.
-    Tick(NodeId),
+    Tick(StoreNode),
     /// A server reports its replicas.
     Beat(ServerId),
     /// A node loses what it keeps in memory alone.
-    Restart(NodeId),
+    Restart(StoreNode),
     /// A server loses its replicas of a chunk.
     Lose {
         server: ServerId,
@@ -151,9 +163,10 @@ pub enum Happening {
         handle: Handle,
         block: u64,
     },
-    /// The master's disk fails once so many more calls of it have succeeded.
+    /// One of the master's disks fails at the call of this number, counted from 1 from here on, and at no other.
     FailDisk {
-        calls: u64,
+        disk: DiskId,
+        call: u64,
     },
 }
 
@@ -193,9 +206,13 @@ impl Happening {
                     block: other_block,
                 },
             ) => server == other_server && handle == other_handle && block == other_block,
-            (Happening::FailDisk { calls: left }, Happening::FailDisk { calls: right }) => {
-                left == right
-            }
+            (
+                Happening::FailDisk { disk, call },
+                Happening::FailDisk {
+                    disk: other_disk,
+                    call: other_call,
+                },
+            ) => disk == other_disk && call == other_call,
             _ => false,
         }
     }
@@ -226,7 +243,10 @@ impl Happening {
                 handle: *handle,
                 block: *block,
             },
-            Happening::FailDisk { calls } => Happening::FailDisk { calls: *calls },
+            Happening::FailDisk { disk, call } => Happening::FailDisk {
+                disk: *disk,
+                call: *call,
+            },
         })
     }
 }

@@ -9,6 +9,27 @@ pub enum NodeId {
     Client(ClientId),
 }
 
+/// A node that keeps something of the store: the master or a server. A client keeps nothing that a tick or a restart touches.
+#[derive(Clone, Copy, Debug, PartialEq, Eq)]
+pub enum StoreNode {
+    Master,
+    Server(ServerId),
+}
+
+impl From<StoreNode> for NodeId {
+    ghost use Rattle.std.specs.Prelude.{◌≡◌};
+    ghost use Rattle.gs_msg.specs.Nodes.{as_node};
+
+    ghost from_gives = { λ keeper node. node ≡ as_node keeper };
+
+    fn from(keeper: StoreNode) -> NodeId {
+        match keeper {
+            StoreNode::Master => NodeId::Master,
+            StoreNode::Server(server) => NodeId::Server(server),
+        }
+    }
+}
+
 impl fmt::Display for NodeId {
     ghost use Rattle.std.specs.Prelude.{Some};
     ghost use Rattle.gs_msg.specs.Nodes.{node_text};

@@ -1,3 +1,4 @@
+ghost use Rattle.gs_msg.specs.Posts.{posted, message_at, without_message};
 ghost use Rattle.std.specs.Prelude.{◌≡◌, ◌≤◌, ◌+◌, ◌↔◌, IsTrue, ◌∷◌, [], ◌++◌, IfOk, OnOk, OnErr, length, option_copied, slice_get};
 
 use crate::message::Message;
@@ -5,11 +6,12 @@ use gs_base::Moment;
 use std::alloc::{AllocError, Global};
 use std::marker::Model;
 
-/// A message and the moment of the event that sent it.
+/// What was sent, and the moment of the event that sent it.
 #[derive(Debug, Drop)]
 pub struct Post {
     pub moment: Moment,
-    pub message: Message,
+    /// The message, until it is given up or taken out.
+    pub message: Option<Message>,
 }
 
 impl Post {
@@ -17,7 +19,7 @@ impl Post {
     pub fn is_same(&self, other: &Post) -> bool
         ensures { IsTrue result ↔ (self.now ≡ other.now) }
     {
-        self.moment == other.moment && self.message.is_same(&other.message)
+        self.moment == other.moment && same_message(&self.message, &other.message)
     }
 
     /// The same, in memory of its own.
@@ -26,13 +28,32 @@ impl Post {
     {
         Ok(Post {
             moment: self.moment,
-            message: self.message.copy(alloc)?,
+            message: copied_message(alloc, &self.message)?,
         })
     }
 }
 
-/// All that a node has sent, in order. A post's place in it never changes. Room for more can be made first, so that sending
-/// takes no memory.
+fn same_message(left: &Option<Message>, right: &Option<Message>) -> bool
+    ensures { IsTrue result ↔ (left.now ≡ right.now) }
+{
+    match (left, right) {
+        (Some(left), Some(right)) => left.is_same(right),
+        (None, None) => true,
+        _ => false,
+    }
+}
+
+fn copied_message(alloc: Global, message: &Option<Message>) -> Result<Option<Message>, AllocError>
+    ensures { IfOk result (λ copy. copy ≡ message.now) }
+{
+    Ok(match message {
+        Some(message) => Some(message.copy(alloc)?),
+        None => None,
+    })
+}
+
+/// All that a node has sent, in order. A post's place in it never changes, also where its message is given up. Room for
+/// more can be made first, so that sending takes no memory.
 #[derive(Debug, Drop)]
 pub struct Outbox {
     posts: Vec<Post>,
@@ -71,17 +92,22 @@ impl Outbox {
     /// Sends one more, for which there is room. It takes no memory.
     pub fn send(&mut self, moment: Moment, message: Message)
         requires room { 1 ≤ self.old.room }
-        ensures posts { self.new.posts ≡ self.old.posts ++ record { moment = moment; message = message } ∷ [] }
+        ensures posts { self.new.posts ≡ self.old.posts ++ posted moment message ∷ [] }
         ensures left { self.old.room ≤ self.new.room + 1 }
     {
+        let message = Some(message);
         self.posts.push(Post { moment, message }).unwrap();
     }
 
-    /// Sends one more. Where memory is refused the message isn't sent, and the list is as it was.
+    /// Sends one more, and asks for memory where there is no room. Of what room there was it takes one at most. Where memory
+    /// is refused the message isn't sent, and the list is as it was.
     pub fn post(&mut self, moment: Moment, message: Message) -> Result<(), AllocError>
-        ensures ok { OnOk result (self.new.posts ≡ self.old.posts ++ record { moment = moment; message = message } ∷ []) }
+        ensures ok { OnOk result (self.new.posts ≡ self.old.posts ++ posted moment message ∷ []) }
         ensures err { OnErr result (self.new.posts ≡ self.old.posts) }
+        ensures full { OnErr result (self.old.room ≡ 0) }
+        ensures left { self.old.room ≤ self.new.room + 1 }
     {
+        let message = Some(message);
         self.posts.push(Post { moment, message })?;
         Ok(())
     }
@@ -94,6 +120,28 @@ impl Outbox {
             return None;
         };
         self.posts.get(index)
+    }
+
+    /// Takes the message at a place out of the list, if it stands there still. It takes no memory.
+    pub fn take(&mut self, place: u64) -> Option<Message>
+        ensures message { result ≡ message_at self.old.posts place }
+        ensures posts { self.new.posts ≡ without_message self.old.posts place }
+        ensures room { self.new.room ≡ self.old.room }
+    {
+        let index = usize::try_from(place).ok()?;
+        if index >= self.posts.len() {
+            return None;
+        }
+        let post = &mut self.posts[index];
+        post.message.take()
+    }
+
+    /// Gives the message at a place up. It takes no memory.
+    pub fn forget(&mut self, place: u64)
+        ensures posts { self.new.posts ≡ without_message self.old.posts place }
+        ensures room { self.new.room ≡ self.old.room }
+    {
+        let _message = self.take(place);
     }
 
     /// How many were sent.
