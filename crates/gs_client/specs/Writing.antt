@@ -1,0 +1,106 @@
+-- What is written to a file: chunks that are missing are added first, then each chunk gets its part, as an edit of its own.
+use Rattle.std.specs.Prelude.{◌+◌, ◌-◌, ◌*◌, ◌/◌, ◌%◌, ◌==◌, ◌||◌, ℕ, zero, suc, min, List, Bool, if◌then◌else◌, Option, Some, None, Ok, Err, nat_lt, length, slice_range}
+use Rattle.gs_base.specs.declared.refusal.Refusal.{Refusal}
+use Rattle.gs_base.specs.declared.refusal.Refusal.TheVariants as refusals
+use Rattle.gs_base.specs.declared.numbers.Stamp.{Stamp}
+use Rattle.gs_path.specs.Path.{Path}
+use Rattle.gs_lease.specs.declared.view.Term.{Term}
+use Rattle.gs_replica.specs.declared.op.Outcome.{Outcome}
+use Rattle.gs_replica.specs.declared.op.Outcome.TheVariants as outcomes
+use Rattle.gs_dialogue.specs.Dialogues.{Say, Grow, upon, both, ask, otherwise}
+use Rattle.gs_msg.specs.declared.call.Call.TheVariants as calls
+use Rattle.gs_msg.specs.declared.op.Op.{Op}
+use Rattle.gs_msg.specs.declared.op.Op.TheVariants as ops
+use Rattle.gs_msg.specs.declared.event.Request.TheVariants as requests
+use Rattle.gs_client.specs.declared.located.Located.{Located}
+use Rattle.gs_client.specs.Replies.{located_in, edited, is_stale, is_location_good}
+use Rattle.gs_client.specs.Trees.{Call, change, look}
+use Rattle.gs_client.specs.Looking.{most_chunks, known_call}
+
+-- where a chunk can be written, under a stamp that isn't the refused one
+abbrev pub writing_call : Path → ℕ → Option Stamp → Call Located
+writing_call path index refused = Grow (look (calls.FindForWriting path index refused) (located_in index))
+
+-- The bytes go to each member, and the edit to the primary, under one number. A location without a primary is nobody's answer.
+abbrev pub send_call : Located → Option Term → Op → List ℕ → Call Outcome
+send_call l None op bytes = Say (Err refusals.Stray)
+send_call l (Some term) op bytes = Grow (ask (requests.Write l.handle l.view.members term.primary l.view.stamp op bytes) edited)
+
+abbrev pub edit_call : Located → Op → List ℕ → Call Outcome
+edit_call l op bytes = send_call l l.view.term op bytes
+
+-- the stamp that the next look-up avoids
+abbrev pub avoided : Refusal → Stamp → Option Stamp
+avoided refusal stamp = if is_location_good refusal then None else Some stamp
+
+abbrev pub again_call : Path → ℕ → Stamp → Op → List ℕ → Refusal → Call Outcome
+again_call path index stamp op bytes refusal =
+    if is_stale refusal then both (writing_call path index (avoided refusal stamp)) (λ l. edit_call l op bytes)
+    else Say (Err refusal)
+
+-- one part: the chunk is looked up, and once more where that may help
+abbrev pub part_call : Path → ℕ → Op → List ℕ → Call Outcome
+part_call path index op bytes =
+    both (writing_call path index None) (λ l. upon (edit_call l op bytes) (otherwise (again_call path index l.view.stamp op bytes)))
+
+abbrev pub extend_call : Path → ℕ → Call Located
+extend_call path index = Grow (change (calls.Extend path index) (located_in index))
+
+-- so many chunks from this index on
+abbrev pub extends_call : Path → ℕ → ℕ → Call (Unit {0})
+extends_call path index zero = Say (Ok tt)
+extends_call path index (suc count) = both (extend_call path index) (λ l. extends_call path (index + 1) count)
+
+-- where part `i` of a write begins in its chunk, and its bytes
+abbrev pub part_start : ℕ → ℕ → ℕ → ℕ
+part_start size offset i = if i == 0 then offset % size else 0
+
+abbrev pub part_bytes : ℕ → ℕ → List ℕ → ℕ → List ℕ
+part_bytes size offset bytes i =
+    let to = min ((i + 1) * size - offset % size) (length bytes) in
+    slice_range bytes (min (i * size - offset % size) to) to
+
+abbrev pub part_op : ℕ → ℕ → List ℕ → ℕ → Op
+part_op size offset bytes i = ops.Write (part_start size offset i) (length (part_bytes size offset bytes i))
+
+-- so many parts, from part `i` on
+abbrev pub parts_call : ℕ → Path → ℕ → List ℕ → ℕ → ℕ → Call (Unit {0})
+parts_call size path offset bytes i zero = Say (Ok tt)
+parts_call size path offset bytes i (suc count) =
+    both (part_call path (offset / size + i) (part_op size offset bytes i) (part_bytes size offset bytes i)) (λ outcome.
+    parts_call size path offset bytes (i + 1) count)
+
+-- how many chunks a file has that ends where a write ends
+abbrev pub chunks_to : ℕ → ℕ → List ℕ → ℕ
+chunks_to size offset bytes = (offset + length bytes - 1) / size + 1
+
+-- a write of no bytes, or past the last chunk that a file may have
+abbrev pub is_out : ℕ → ℕ → List ℕ → Bool
+is_out size offset bytes = (length bytes == 0) || nat_lt (most_chunks * size) (offset + length bytes)
+
+abbrev pub write_call : ℕ → Path → Option ℕ → ℕ → List ℕ → Call (Unit {0})
+write_call size path opened offset bytes =
+    both (known_call path opened) (λ chunks.
+    if is_out size offset bytes then Say (Err refusals.Range)
+    else both (extends_call path chunks (chunks_to size offset bytes - chunks)) (λ _.
+    parts_call size path offset bytes 0 (chunks_to size offset bytes - offset / size)))
+
+-- A record stands at a place of its chunk, or the chunk was filled up and the record goes on.
+abbrev pub landed : ℕ → ℕ → Call ℕ → Outcome → Call ℕ
+landed size index next (outcomes.Appended offset) = if nat_lt offset size then Say (Ok (index * size + offset)) else Say (Err refusals.Stray)
+landed size index next outcomes.Padded = next
+landed size index next outcomes.Written = Say (Err refusals.Stray)
+
+-- a record goes to this chunk, or to one of so many that are added behind it
+abbrev pub append_from : ℕ → Path → List ℕ → ℕ → ℕ → Call ℕ
+append_from size path bytes index zero = both (part_call path index (ops.Append (length bytes)) bytes) (landed size index (Say (Err refusals.Range)))
+append_from size path bytes index (suc more) =
+    both (part_call path index (ops.Append (length bytes)) bytes)
+    (landed size index (both (extend_call path (index + 1)) (λ l. append_from size path bytes (index + 1) more)))
+
+-- A record goes to the last chunk; a file without one gets its first. The answer is where in the file it stands.
+abbrev pub append_call : ℕ → Path → Option ℕ → List ℕ → Call ℕ
+append_call size path opened bytes =
+    both (known_call path opened) (λ chunks.
+    if length bytes == 0 then Say (Err refusals.Range)
+    else both (extends_call path 0 (1 - chunks)) (λ _. append_from size path bytes (chunks - 1) (most_chunks - 1 - (chunks - 1))))
