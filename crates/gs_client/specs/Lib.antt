@@ -4,3 +4,4 @@ pub mod Looking
 pub mod Reading
 pub mod Writing
 pub mod Small
+pub mod Nodes

@@ -3,6 +3,8 @@
 
 mod link;
 mod located;
+mod node;
 
 pub use link::Reply;
 pub use located::Located;
+pub use node::ClientNode;

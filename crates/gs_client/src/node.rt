@@ -1,0 +1,203 @@
+ghost use Rattle.std.specs.Prelude.{◌≡◌, ◌++◌, OnOk, IfOk};
+ghost use Rattle.gs_block.specs.Follows.{Does};
+ghost use Rattle.gs_client.specs.Nodes.{silent, asks, Asks, hears, given_up, tell, with_bytes, pushes, messages_of, takes};
+
+use crate::link::Reply;
+use gs_base::{ClientId, Members, Refusal, ReqId};
+use gs_msg::{Body, Bytes, Chunk, Message, NodeId, Op, Request};
+use std::alloc::{AllocError, Global};
+use std::marker::Model;
+
+/// A client as a node of a store: the number that it used last, what it waits for, and what came back.
+#[derive(Debug, Drop)]
+pub struct ClientNode {
+    id: ClientId,
+    last: u64,
+    waiting: Option<u64>,
+    reply: Option<Reply>,
+}
+
+impl Model for ClientNode {
+    ghost use Rattle.gs_client.specs.Nodes.{Node, coded_node};
+
+    ghost Value = { Node };
+
+    ghost coded = { coded_node };
+
+    ghost view = { λ n. record { id = n.id; last = n.last; waiting = n.waiting; reply = n.reply } };
+}
+
+impl ClientNode {
+    pub fn new(id: ClientId) -> ClientNode
+        ensures { result ≡ silent id }
+    {
+        ClientNode {
+            id,
+            last: 0,
+            waiting: None,
+            reply: None,
+        }
+    }
+
+    /// The request that it waits for, if it does.
+    pub fn waits_for(&self) -> Option<u64>
+        ensures { result ≡ self.now.waiting }
+    {
+        self.waiting
+    }
+
+    /// Asks under the next number, and waits for that alone: the messages that go out, in order. `Exhausted` after the last
+    /// number.
+    pub fn ask(&mut self, alloc: Global, request: Request) -> Result<Vec<Message>, Refusal>
+        ensures { Asks (asks request self.old) result self.old self.new }
+    {
+        let number = gs_base::next_number(self.last)?;
+        let req = ReqId {
+            client: self.id,
+            number,
+        };
+        let sent = messages_of(alloc, req, request)?;
+        self.last = number;
+        self.waiting = Some(number);
+        self.reply = None;
+        Ok(sent)
+    }
+
+    /// Takes an answer, where it is the first to what it waits for; any other answer is passed over. `Stray` for what no client
+    /// is sent. It takes no memory.
+    pub fn hear(&mut self, body: Body) -> Result<(), Refusal>
+        ensures { Does (hears body self.old) result self.old self.new }
+    {
+        match body {
+            Body::Reply {
+                req,
+                result: Ok(answer),
+            } => self.take(req, Reply::Answer(answer)),
+            Body::Done {
+                req,
+                result: Ok(outcome),
+            } => self.take(req, Reply::Outcome(outcome)),
+            Body::Bytes {
+                req,
+                result: Ok(given),
+            } => self.take(req, Reply::Given(given)),
+            Body::Reply {
+                req,
+                result: Err(refusal),
+            }
+            | Body::Done {
+                req,
+                result: Err(refusal),
+            }
+            | Body::Bytes {
+                req,
+                result: Err(refusal),
+            } => self.take(req, Reply::Refused(refusal)),
+            _ => return Err(Refusal::Stray),
+        }
+        Ok(())
+    }
+
+    fn take(&mut self, req: ReqId, reply: Reply)
+        ensures { self.new ≡ takes req reply self.old }
+    {
+        if req.client == self.id && self.waiting == Some(req.number) {
+            self.waiting = None;
+            self.reply = Some(reply);
+        }
+    }
+
+    /// What came back since it asked, if something did. It is given once.
+    pub fn take_reply(&mut self) -> Option<Reply>
+        ensures given { result ≡ self.old.reply }
+        ensures new { self.new ≡ given_up self.old }
+    {
+        self.reply.take()
+    }
+}
+
+fn tell(req: ReqId, to: NodeId, body: Body) -> Message
+    ensures { result ≡ tell req to body }
+{
+    Message {
+        from: NodeId::Client(req.client),
+        to,
+        body,
+    }
+}
+
+/// What goes out for a request.
+fn messages_of(alloc: Global, req: ReqId, request: Request) -> Result<Vec<Message>, AllocError>
+    ensures { IfOk result (λ sent. sent.items ≡ messages_of req request) }
+{
+    let mut sent = Vec::new(alloc);
+    match request {
+        Request::Call(call) => {
+            sent.push(tell(req, NodeId::Master, Body::Call { req, call }))?;
+        }
+        Request::Write {
+            handle,
+            members,
+            primary,
+            stamp,
+            op,
+            bytes,
+        } => {
+            push_to_each(
+                alloc,
+                &mut sent,
+                req,
+                members_with_bytes(members, op),
+                &bytes,
+            )?;
+            let edit = Chunk::Edit { req, stamp, op };
+            sent.push(tell(req, NodeId::Server(primary), Body::About(handle, edit)))?;
+        }
+        Request::Fetch {
+            to,
+            handle,
+            stamp,
+            epoch,
+            asked,
+        } => {
+            let fetch = Chunk::Fetch {
+                req,
+                stamp,
+                epoch,
+                asked,
+            };
+            sent.push(tell(req, NodeId::Server(to), Body::About(handle, fetch)))?;
+        }
+    }
+    Ok(sent)
+}
+
+/// To whom the bytes of an edit go.
+fn members_with_bytes(members: Members, op: Op) -> Members
+    ensures { result ≡ with_bytes members op }
+{
+    match op {
+        Op::Write { .. } | Op::Append { .. } => members,
+        Op::Pad => Members::none(),
+    }
+}
+
+/// Sends bytes to each of some servers, ascending.
+fn push_to_each(
+    alloc: Global,
+    sent: &mut Vec<Message>,
+    req: ReqId,
+    members: Members,
+    bytes: &Bytes,
+) -> Result<(), AllocError>
+    ensures { OnOk result (sent.new.items ≡ sent.old.items ++ pushes req members bytes.now) }
+{
+    for server in members {
+        let push = Body::Push {
+            req,
+            bytes: bytes.copy(alloc)?,
+        };
+        sent.push(tell(req, NodeId::Server(server), push))?;
+    }
+    Ok(())
+}
