@@ -6,4 +6,5 @@ pub mod Numbers
 pub mod Refusals
 pub mod Same
 pub mod Stamps
+pub mod Texts
 pub mod Told

@@ -3,6 +3,7 @@ ghost use Rattle.std.specs.Iterator.{YieldsFirst, item_count};
 ghost use Rattle.gs_base.specs.Members.{servers_where, is_member, with_member, without_member, has_bit, bits_of};
 
 use crate::numbers::ServerId;
+use std::fmt;
 use std::marker::Model;
 
 /// A set of servers.
@@ -128,6 +129,25 @@ impl Eq for Members {
     ghost use Rattle.std.specs.Cmp.Lexicographic.{nat_list_eq_equiv};
 
     ghost laws = { nat_list_eq_equiv };
+}
+
+impl fmt::Display for Members {
+    ghost use Rattle.std.specs.Prelude.{Some};
+    ghost use Rattle.gs_base.specs.Texts.{members_text};
+
+    ghost output = { λ m. Some (members_text m) };
+
+    fn fmt<W: fmt::Write>(&self, f: &mut fmt::Formatter<W>) -> fmt::Result {
+        let mut left = *self;
+        let Some(first) = left.pop_first() else {
+            return f.write_str("-");
+        };
+        write!(f, "{first}")?;
+        while let Some(server) = left.pop_first() {
+            write!(f, ",{server}")?;
+        }
+        Ok(())
+    }
 }
 
 impl IntoIterator for Members {

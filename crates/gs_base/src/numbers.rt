@@ -201,3 +201,16 @@ impl ReqId {
         })
     }
 }
+
+impl fmt::Display for ReqId {
+    ghost use Rattle.std.specs.Prelude.{Some};
+    ghost use Rattle.gs_base.specs.Texts.{request_text};
+
+    ghost output = { λ r. Some (request_text r) };
+
+    fn fmt<W: fmt::Write>(&self, f: &mut fmt::Formatter<W>) -> fmt::Result {
+        let client = self.client.0;
+        let number = self.number;
+        write!(f, "C{client}/{number}")
+    }
+}

@@ -1,2 +1,3 @@
 mod Decided
+mod HexTexts
 mod KindNames

@@ -1,5 +1,7 @@
 pub mod Bodies
 pub mod Kinds
+pub mod MessageTexts
 pub mod Nodes
 pub mod Ops
 pub mod Posts
+pub mod Texts

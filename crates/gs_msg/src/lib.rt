@@ -4,16 +4,19 @@
 mod answer;
 mod body;
 mod call;
+mod call_text;
 mod chunk;
 mod event;
 mod kind;
 mod lists;
 mod message;
+mod message_text;
 mod node;
 mod op;
 mod outbox;
 pub mod promises;
 mod same;
+mod text;
 
 pub use answer::{Answer, ChunkStatus, Copied, Phase, Status};
 pub use body::{Body, Given, Reported};
