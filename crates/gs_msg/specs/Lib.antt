@@ -1,5 +1,6 @@
 pub mod Bodies
 pub mod Kinds
+mod MessageRows
 pub mod MessageTexts
 pub mod Nodes
 pub mod Ops

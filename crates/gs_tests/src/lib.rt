@@ -12,6 +12,8 @@ mod lines;
 #[cfg(test)]
 mod locks;
 #[cfg(test)]
+mod messages;
+#[cfg(test)]
 mod names;
 #[cfg(test)]
 mod options;
