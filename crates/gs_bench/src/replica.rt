@@ -203,7 +203,8 @@ fn play_all(player: &mut Player) -> Result<u64, Refusal> {
 
 /// What a replica holds that is rolled back.
 fn rolled_back(replica: Replica) -> Result<u64, Refusal> {
-    match replica.roll_back() {
+    let promise = replica.promised();
+    match replica.roll_back(promise) {
         Ok(back) => held(&back),
         Err(refused) => Err(refused.refusal),
     }

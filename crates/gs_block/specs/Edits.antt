@@ -1,10 +1,10 @@
 -- Edits of a stored chunk. Each stored block that an edit touches is verified first. An edit touches the bytes from the
 -- lesser of its offset and the old end to its own end.
-use Rattle.std.specs.Prelude.{◌≡◌, ℕ, ◌+◌, ◌-◌, ◌*◌, ◌/◌, ◌%◌, ◌||◌, ◌==◌, Bool, cond, nat_lt, min, List, [], ◌∷◌, ◌++◌, length, take, drop, slice_index, slice_set, Option, Some, None, Result, Ok, Err, refl}
+use Rattle.std.specs.Prelude.{◌≡◌, ℕ, ◌+◌, ◌-◌, ◌*◌, ◌/◌, ◌%◌, ◌||◌, ◌==◌, Bool, cond, nat_lt, min, List, [], ◌∷◌, ◌++◌, length, take, drop, slice_index, slice_index_or, slice_set, Option, Some, None, Result, Ok, Err, refl}
 use Rattle.gs_base.specs.declared.refusal.Refusal.{Refusal}
 use Rattle.gs_base.specs.declared.refusal.Refusal.TheVariants.{Range, Damaged, BadLine}
 use Rattle.gs_block.specs.Chunk.{written, appended, padded}
-use Rattle.gs_block.specs.Stored.{Stored, empty, count_of, digests_from, digests_of, first_damaged}
+use Rattle.gs_block.specs.Stored.{Stored, empty, count_of, digests_from, digests_of, is_intact, first_damaged}
 
 -- the new bytes, with the blocks between the two places digested anew
 unfoldable pub with_bytes : Stored → ℕ → ℕ → List ℕ → Stored
@@ -53,6 +53,12 @@ read s offset many = cond (nat_lt s.chunk (offset + many)) (Err Range)
     (cond (nat_lt offset (min (offset + many) (length s.bytes)))
     (unless_damaged (damaged_between s offset (min (offset + many) (length s.bytes))) (take many (drop offset s.bytes)))
     (Ok []))
+
+-- the stored digest of a block, where its bytes have it; no other block is verified
+abbrev pub digest : Stored → ℕ → Result (List ℕ) Refusal
+digest s i = cond (nat_lt i (length s.digests))
+    (cond (is_intact s.block s.bytes s.digests i) (Ok (slice_index_or s.digests i [])) (Err (Damaged i)))
+    (Err Range)
 
 -- A chunk of these bytes, with their digests. Range where they pass the size of the chunk.
 abbrev pub chunk_of : ℕ → ℕ → List ℕ → Result Stored Refusal
@@ -109,6 +115,9 @@ nothing_is_read = refl
 
 no_block : damage (empty 4 16) 0 ≡ Err Range
 no_block = refl
+
+no_digest : digest (empty 4 16) 0 ≡ Err Range
+no_digest = refl
 
 -- five bytes in two blocks of 4
 carried_with_both_digests : bytes_of (carried 4 16 (1 ∷ 2 ∷ 3 ∷ 4 ∷ 5 ∷ []) ([] ∷ [] ∷ [])) ≡ Ok (1 ∷ 2 ∷ 3 ∷ 4 ∷ 5 ∷ [])

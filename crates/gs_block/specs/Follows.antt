@@ -18,6 +18,13 @@ Does (Err e) (Ok b) old new = ⊥
 Does (Ok a) (Err f) old new = ⊥
 Does (Err e) (Err f) old new = (f ≡ e) × (new ≡ old)
 
+-- it is refused exactly as the definition is
+abbrev pub Foretells : {A B : Type 0} → Result A Refusal → Result B Refusal → Type 0
+Foretells (Ok a) (Ok b) = Unit {0}
+Foretells (Err e) (Ok b) = ⊥
+Foretells (Ok a) (Err f) = ⊥
+Foretells (Err e) (Err f) = f ≡ e
+
 -- it answers what the definition says
 abbrev pub Answers : {A B : Type 0} → (B → A) → Result A Refusal → Result B Refusal → Type 0
 Answers view (Ok a) (Ok b) = view b ≡ a

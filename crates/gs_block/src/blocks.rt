@@ -2,14 +2,15 @@ ghost use Rattle.std.specs.Prelude.{◌≡◌, ◌≤◌, ◌<◌, ◌+◌, ◌-
 ghost use Rattle.sha2.specs.Hashers.{Holds256};
 ghost use Rattle.gs_block.specs.Chunk.{written};
 ghost use Rattle.gs_block.specs.Stored.{Stored, IsStored, empty, digests_of, first_damaged, are_digests};
-ghost use Rattle.gs_block.specs.Edits.{changed, chunk_of, carried, copied, copied_bytes, is_outside, out_of_range, write, append, pad, read, damage};
+ghost use Rattle.gs_block.specs.Edits.{changed, chunk_of, carried, copied, copied_bytes, is_outside, out_of_range, write, append, pad, read, digest, damage, damaged_between};
 ghost use Rattle.gs_block.specs.Inverses.{fits, undo, inverse_of};
-ghost use Rattle.gs_block.specs.Follows.{Follows, Does, Answers, Makes, Gives, Refuses, HandsBack, MakesOf};
+ghost use Rattle.gs_block.specs.Follows.{Follows, Does, Foretells, Answers, Makes, Gives, Refuses, HandsBack, MakesOf};
 ghost use Rattle.gs_block.specs.Kept.{KeepsIntact, KeepsOutside};
 ghost use Rattle.gs_block.specs.Images.{Images, AreFirst, begun, undone, touched, damage_before};
 
 use crate::digests::{
     Digest, are_digests, count_of, digests_of, first_damaged, first_damaged_between, hasher_to,
+    is_intact,
 };
 use crate::images::{Images, SealedBytes, first_damaged_before, no_images, put_back};
 use crate::inverse::BlockInverse;
@@ -276,6 +277,64 @@ impl Blocks {
         self.put(chunk, &[])
     }
 
+    /// Judges a write without making it: it is refused exactly as `write` would be, but never for memory. It takes no memory.
+    pub fn judge_write(&self, offset: u64, piece: &[u8]) -> Result<(), Refusal>
+        ensures { Foretells (write self.now offset piece.now) result }
+    {
+        if self.is_outside(offset, piece) {
+            return Err(Refusal::Range);
+        }
+        let offset = offset as usize;
+        let at = offset.min(self.bytes.len());
+        match self.damaged_between(at, offset + piece.len()) {
+            Some(block) => Err(Refusal::Damaged(block)),
+            None => Ok(()),
+        }
+    }
+
+    /// Judges an append without making it: it is refused exactly as `append` would be, but never for memory. It takes no
+    /// memory.
+    pub fn judge_append(&self, piece: &[u8]) -> Result<(), Refusal>
+        ensures { Foretells (append self.now piece.now) result }
+    {
+        let held = self.bytes.len();
+        if self.is_outside(held as u64, piece) {
+            return Err(Refusal::Range);
+        }
+        match self.damaged_between(held, held + piece.len()) {
+            Some(block) => Err(Refusal::Damaged(block)),
+            None => Ok(()),
+        }
+    }
+
+    /// Judges a padding without making it: it is refused exactly as `pad` would be, but never for memory. It takes no memory.
+    pub fn judge_pad(&self) -> Result<(), Refusal>
+        ensures { Foretells (pad self.now) result }
+    {
+        let held = self.bytes.len();
+        if held == self.chunk {
+            return Ok(());
+        }
+        match self.damaged_between(held, self.chunk) {
+            Some(block) => Err(Refusal::Damaged(block)),
+            None => Ok(()),
+        }
+    }
+
+    /// The lowest stored block without its digest, of those with a byte from `at` on and below `end`.
+    #[tactic(auto, unfolding(crate::specs::Edits::damaged_between))]
+    fn damaged_between(&self, at: usize, end: usize) -> Option<u64>
+        requires { end ≤ self.now.chunk }
+        ensures { result ≡ damaged_between self.now at end }
+    {
+        let first = at / self.block;
+        let last = count_of(self.block, end).min(self.digests.len());
+        match first_damaged(&self.bytes, self.block, &self.digests, first, last) {
+            Some(index) => Some(index as u64),
+            None => None,
+        }
+    }
+
     /// Begins the first images of the chunk as it stands. No block has one yet.
     pub fn seal(&self) -> Result<Images, AllocError>
         ensures begun { IfOk result (λ images. images ≡ begun self.now) }
@@ -388,15 +447,8 @@ impl Blocks {
         if end <= start {
             return Ok(&self.bytes[..0]);
         }
-        let last = count_of(self.block, end).min(self.digests.len());
-        match first_damaged(
-            &self.bytes,
-            self.block,
-            &self.digests,
-            start / self.block,
-            last,
-        ) {
-            Some(index) => Err(Refusal::Damaged(index as u64)),
+        match self.damaged_between(start, end) {
+            Some(block) => Err(Refusal::Damaged(block)),
             None => Ok(part_of(&self.bytes, start, end)),
         }
     }
@@ -442,6 +494,21 @@ impl Blocks {
         ensures { result.now ≡ self.now.digests }
     {
         &self.digests
+    }
+
+    /// The stored digest of a block, whose bytes are verified first; no other block is. `Range` where there is no such block, and
+    /// `Damaged` where its bytes have another digest. It takes no memory.
+    pub fn digest(&self, block: u64) -> Result<Digest, Refusal>
+        ensures { Answers (λ digest. digest) (digest self.now block) result }
+    {
+        let index = block as usize;
+        if index >= self.digests.len() {
+            return Err(Refusal::Range);
+        }
+        if !is_intact(&self.bytes, self.block, &self.digests, index) {
+            return Err(Refusal::Damaged(block));
+        }
+        Ok(self.digests[index])
     }
 
     /// Whether these are the digests of the bytes, block by block.

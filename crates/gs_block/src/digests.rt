@@ -49,7 +49,7 @@ pub(crate) fn is_same(left: &Digest, right: &Digest) -> bool
 
 /// Whether a block has its digest.
 #[tactic(auto, unfolding(crate::specs::Stored::is_intact, crate::specs::Stored::digest_at))]
-fn is_intact(bytes: &[u8], size: usize, digests: &[Digest], index: usize) -> bool
+pub(crate) fn is_intact(bytes: &[u8], size: usize, digests: &[Digest], index: usize) -> bool
     requires some { 1 ≤ size }
     requires size_fits { size ≤ 65536 }
     requires bytes_fit { length bytes.now ≤ 67108864 }

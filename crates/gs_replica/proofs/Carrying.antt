@@ -14,7 +14,7 @@ use Rattle.gs_replica.specs.declared.seal.Seal.{Seal}
 use Rattle.gs_replica.specs.Held.{Held}
 use Rattle.gs_replica.specs.Edits.{held_of, copied}
 use Rattle.gs_replica.specs.Seals.{Sealed, with_seal, sealed_of, lowest_damaged, roll_back, roll_back_to}
-use Rattle.gs_replica.specs.Copies.{SealedImage, image_of, image, as_sealed, sealed_image, sealed_image_of, of_image, of_sealed, sealed_there, and_then, under}
+use Rattle.gs_replica.specs.Copies.{SealedImage, image_of, image, as_sealed, sealed_image, sealed_image_of, of_image, of_sealed, sealed_there, and_then}
 use Rattle.gs_replica.specs.View.{seen_in, BelongsIn}
 use Rattle.gs_replica.specs.Whole.{IsUndoneOf, HasUndone}
 use Rattle.gs_replica.proofs.Sealing.{state, rolled}
@@ -44,11 +44,8 @@ there t = record { chunk = t.undone; count = t.count; done = t.done; promise = t
 made : (s : Stored) (t : Sealed) → IsUndoneOf s t → of_sealed s.block s.chunk (as_sealed t) ≡ Ok (state (there t) (Some (sealed_of (there t))))
 made s t is = ap (λ m. sealed_there (held_of t.stamp t.count t.done m)) (carried_of s t is)
 
-rolls : (h : Held) (t : Sealed) → IsUndoneOf h.chunk t → lowest_damaged t.undone ≡ None → and_then (of_sealed h.chunk.block h.chunk.chunk (as_sealed t)) roll_back ≡ under t.stamp (roll_back_to h.promise (Some t))
-rolls h t is none =
-    ap (λ m. and_then m roll_back) (made h.chunk t is)
-    ∙ ap (λ d. unless_damaged d (rolled t.stamp t)) none
-    ∙ sym (ap (λ d. under t.stamp (unless_damaged d (rolled h.promise t))) none)
+rolls : (start : Stamp) (h : Held) (t : Sealed) → IsUndoneOf h.chunk t → and_then (of_sealed h.chunk.block h.chunk.chunk (as_sealed t)) (roll_back start) ≡ roll_back_to start (Some t)
+rolls start h t is = ap (λ m. and_then m (roll_back start)) (made h.chunk t is)
 
 carries : (h : Held) (t : Sealed) → IsUndoneOf h.chunk t → lowest_damaged t.undone ≡ None → and_then (of_sealed h.chunk.block h.chunk.chunk (as_sealed t)) sealed_image ≡ Ok (as_sealed t)
 carries h t is none = ap (λ m. and_then m sealed_image) (made h.chunk t is) ∙ ap (λ d. unless_damaged d (as_sealed t)) none
@@ -63,11 +60,11 @@ unless_ok None a i e = (refl, ap (λ r. ok_or r a) e)
 unless_ok (Some k) a i e = absurd (cc)
 
 -- a carried seal rolls back as its source
-pub carried_rolls : (h : Held) (o : Option Sealed) (i : SealedImage) → HasUndone h.chunk o → sealed_image_of o ≡ Ok i → and_then (of_sealed h.chunk.block h.chunk.chunk i) roll_back ≡ under i.stamp (roll_back_to h.promise o)
-carried_rolls h None i is e = absurd (cc)
-carried_rolls h (Some t) i is e =
+pub carried_rolls : (start : Stamp) (h : Held) (o : Option Sealed) (i : SealedImage) → HasUndone h.chunk o → sealed_image_of o ≡ Ok i → and_then (of_sealed h.chunk.block h.chunk.chunk i) (roll_back start) ≡ roll_back_to start o
+carried_rolls start h None i is e = absurd (cc)
+carried_rolls start h (Some t) i is e =
     let found = unless_ok (lowest_damaged t.undone) (as_sealed t) i e in
-    subst (λ (j : SealedImage). and_then (of_sealed h.chunk.block h.chunk.chunk j) roll_back ≡ under j.stamp (roll_back_to h.promise (Some t))) found.1 (rolls h t is found.0)
+    subst (λ (j : SealedImage). and_then (of_sealed h.chunk.block h.chunk.chunk j) (roll_back start) ≡ roll_back_to start (Some t)) found.1 (rolls start h t is)
 
 -- and is carried on
 pub carried_again : (h : Held) (o : Option Sealed) (i : SealedImage) → HasUndone h.chunk o → sealed_image_of o ≡ Ok i → and_then (of_sealed h.chunk.block h.chunk.chunk i) sealed_image ≡ Ok i

@@ -5,19 +5,10 @@ use Rattle.gs_base.specs.declared.numbers.Stamp.{Stamp}
 use Rattle.gs_block.specs.Edits as blocks
 use Rattle.gs_block.specs.Edits.{unless_damaged}
 use Rattle.gs_block.specs.Images.{or_same}
-use Rattle.gs_replica.specs.Seals.{Sealed, State, on_seal, damage_seal, lowest_damaged, roll_back_to, seal, unseal, roll_back}
+use Rattle.gs_replica.specs.Seals.{Sealed, State, on_seal, damage_seal, lowest_damaged, roll_back_to, sealed_of, seal, unseal, roll_back}
 use Rattle.gs_replica.specs.Copies.{under}
 use Rattle.gs_replica.specs.Stands.{IsTouched}
 use Rattle.gs_replica.proofs.Sealing.{rolled}
-
-under_again : (p q : Stamp) (t : Sealed) (d : Option ℕ) → unless_damaged d (rolled q t) ≡ under q (unless_damaged d (rolled p t))
-under_again p q t None = refl
-under_again p q t (Some k) = refl
-
--- another promise
-pub rolls_under : (p q : Stamp) (o : Option Sealed) → roll_back_to q o ≡ under q (roll_back_to p o)
-rolls_under p q None = refl
-rolls_under p q (Some t) = under_again p q t (lowest_damaged t.undone)
 
 -- a seal that gives the same
 pub rolls_same : (p : Stamp) (f : Sealed → Sealed) (o : Option Sealed) → ((t : Sealed) → rolled p (f t) ≡ rolled p t) → roll_back_to p (on_seal f o) ≡ roll_back_to p o
@@ -34,9 +25,9 @@ rolls_damaged p k None touched = refl
 rolls_damaged p k (Some t) touched = ap (λ (r : State). unless_damaged (lowest_damaged r.held.chunk) r) (damage_at p k t (slice_index_or t.touched k true) touched)
 
 -- an undamaged replica that was just sealed
-pub rolls_there : (r : State) → lowest_damaged r.held.chunk ≡ None → roll_back (seal r) ≡ Ok (unseal r)
-rolls_there r none = ap (λ d. unless_damaged d (unseal r)) none
+pub rolls_there : (r : State) (start : Stamp) → lowest_damaged r.held.chunk ≡ None → roll_back start (seal r) ≡ under start (Ok (unseal r))
+rolls_there r start none = ap (λ d. unless_damaged d (rolled start (sealed_of r.held))) none
 
--- the seal is another and gives the same, under another promise
-pub rolls_on : (r r2 : State) (o : Option Sealed) → r2.sealed ≡ o → roll_back_to r2.held.promise o ≡ roll_back_to r2.held.promise r.sealed → roll_back r2 ≡ under r2.held.promise (roll_back r)
-rolls_on r r2 o is same = ap (roll_back_to r2.held.promise) is ∙ same ∙ rolls_under r.held.promise r2.held.promise r.sealed
+-- the seal is another and gives the same
+pub rolls_on : (start : Stamp) (r r2 : State) (o : Option Sealed) → r2.sealed ≡ o → roll_back_to start o ≡ roll_back_to start r.sealed → roll_back start r2 ≡ roll_back start r
+rolls_on start r r2 o is same = ap (roll_back_to start) is ∙ same

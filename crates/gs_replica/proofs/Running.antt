@@ -1,8 +1,7 @@
 -- Runs of calls that leave a seal.
 use Rattle.std.proofs.Common.{◌≡◌, ℕ, List, [], ◌∷◌, refl, sym, ap, subst, ◌∙◌}
-use Rattle.std.specs.Prelude.{Option, None, Result, Ok, Err}
+use Rattle.std.specs.Prelude.{Option, None, Ok}
 use Rattle.gs_base.specs.declared.numbers.Stamp.{Stamp}
-use Rattle.gs_base.specs.declared.refusal.Refusal.{Refusal}
 use Rattle.gs_replica.specs.Seals.{Sealed, State, touch_seal, damage_seal, roll_back, seal, unseal, lowest_damaged}
 use Rattle.gs_replica.specs.Copies.{under}
 use Rattle.gs_replica.specs.Stands.{Edit, StoodFor, SealedAt}
@@ -27,26 +26,16 @@ leads_stood size limit xs r end [] stood leads = subst (λ (q : State). SealedAt
 leads_stood size limit xs r end (c ∷ calls) stood leads = leads_stood size limit xs leads.0 end calls (called_stood size limit xs c r leads.0 stood leads.1) leads.2
 
 -- and what a rollback gives
-pub called_rolls : (c : Call) (r r2 : State) → IsSparing c r → called c r ≡ Ok r2 → roll_back r2 ≡ under r2.held.promise (roll_back r)
-called_rolls (Applies stamp number req op bytes) r r2 spares e = rolls_on r r2 _ (seal_ok _ _ r2 e).1 (rolls_same r2.held.promise (touch_seal req op bytes r.held) r.sealed (λ t. refl))
-called_rolls (Undoes i) r r2 spares e = rolls_on r r2 _ (seal_ok _ _ r2 (undo_ok _ _ r2 e)).1 refl
-called_rolls (Promises stamp) r r2 spares e = rolls_on r r2 _ (seal_ok _ _ r2 e).1 refl
-called_rolls (Damages index) r r2 spares e = rolls_on r r2 _ (seal_ok _ _ r2 e).1 (rolls_damaged r2.held.promise index r.sealed spares)
+pub called_rolls : (start : Stamp) (c : Call) (r r2 : State) → IsSparing c r → called c r ≡ Ok r2 → roll_back start r2 ≡ roll_back start r
+called_rolls start (Applies stamp number req op bytes) r r2 spares e = rolls_on start r r2 _ (seal_ok _ _ r2 e).1 (rolls_same start (touch_seal req op bytes r.held) r.sealed (λ t. refl))
+called_rolls start (Undoes i) r r2 spares e = rolls_on start r r2 _ (seal_ok _ _ r2 (undo_ok _ _ r2 e)).1 refl
+called_rolls start (Promises stamp) r r2 spares e = rolls_on start r r2 _ (seal_ok _ _ r2 e).1 refl
+called_rolls start (Damages index) r r2 spares e = rolls_on start r r2 _ (seal_ok _ _ r2 e).1 (rolls_damaged start index r.sealed spares)
 
-under_twice : (p q : Stamp) (m : Result State Refusal) → under q (under p m) ≡ under q m
-under_twice p q (Ok r) = refl
-under_twice p q (Err e) = refl
+pub leads_rolls : (start : Stamp) (r end : State) (calls : List Call) → LeadsSparing r calls end → roll_back start end ≡ roll_back start r
+leads_rolls start r end [] leads = ap (roll_back start) leads
+leads_rolls start r end (c ∷ calls) leads = leads_rolls start leads.0 end calls leads.3 ∙ called_rolls start c r leads.0 leads.2 leads.1
 
-pub leads_rolls : (r end : State) (calls : List Call) → roll_back r ≡ under r.held.promise (roll_back r) → LeadsSparing r calls end → roll_back end ≡ under end.held.promise (roll_back r)
-leads_rolls r end [] own leads = subst (λ (q : State). roll_back q ≡ under q.held.promise (roll_back r)) (sym leads) own
-leads_rolls r end (c ∷ calls) own leads =
-    let next : State = leads.0 in
-    let here = called_rolls c r next leads.2 leads.1 in
-    let again : roll_back next ≡ under next.held.promise (roll_back next) = here ∙ sym (under_twice next.held.promise next.held.promise (roll_back r)) ∙ ap (under next.held.promise) (sym here) in
-    leads_rolls next end calls again leads.3 ∙ ap (under end.held.promise) here ∙ under_twice next.held.promise end.held.promise (roll_back r)
-
--- a replica that was undamaged when it was sealed goes back to what it was, under the promise that was made since
-pub goes_back : (r end : State) (calls : List Call) → lowest_damaged r.held.chunk ≡ None → LeadsSparing (seal r) calls end → roll_back end ≡ under end.held.promise (Ok (unseal r))
-goes_back r end calls none leads =
-    let there = rolls_there r none in
-    leads_rolls (seal r) end calls (there ∙ ap (under r.held.promise) (sym there)) leads ∙ ap (under end.held.promise) there
+-- a replica that was undamaged when it was sealed goes back to what it was, under another promise
+pub goes_back : (start : Stamp) (r end : State) (calls : List Call) → lowest_damaged r.held.chunk ≡ None → LeadsSparing (seal r) calls end → roll_back start end ≡ under start (Ok (unseal r))
+goes_back start r end calls none leads = leads_rolls start (seal r) end calls leads ∙ rolls_there r start none

@@ -122,14 +122,14 @@ damage block r = with_seal (on_seal (damage_seal block) r.sealed) (edits.damage 
 abbrev pub lowest_damaged : Stored → Option ℕ
 lowest_damaged s = first_damaged s.block s.bytes s.digests 0 (length s.digests)
 
--- What undoing gives stands again, under the promise that was made since. Damaged where a block of it hasn't its sealed
--- digest, and BadLine where the replica isn't sealed.
+-- What undoing gives stands again, under a promise. Damaged where a block of it hasn't its sealed digest, and BadLine where
+-- the replica isn't sealed.
 abbrev pub roll_back_to : Stamp → Option Sealed → Result State Refusal
 roll_back_to promise None = Err refusals.BadLine
 roll_back_to promise (Some t) = unless_damaged (lowest_damaged t.undone) (record { held = record { chunk = t.undone; count = t.count; done = t.done; promise = promise }; sealed = None })
 
-abbrev pub roll_back : State → Result State Refusal
-roll_back r = roll_back_to r.held.promise r.sealed
+abbrev pub roll_back : Stamp → State → Result State Refusal
+roll_back promise r = roll_back_to promise r.sealed
 
 -- a replica of 6 bytes in blocks of 4 after one edit, sealed
 abbrev sealed_chunk : Stored
@@ -157,5 +157,5 @@ undoing_gives_the_sealed_bytes stamp req = refl
 not_at_the_sealed_count : (stamp : Stamp) (i : ReplicaInverse) → can_undo i (sealed_held stamp) (Some (sealed_of (sealed_held stamp))) ≡ false
 not_at_the_sealed_count stamp i = refl
 
-an_unsealed_is_handed_back : (stamp : Stamp) → roll_back (record { held = sealed_held stamp; sealed = None }) ≡ Err refusals.BadLine
+an_unsealed_is_handed_back : (stamp : Stamp) → roll_back stamp (record { held = sealed_held stamp; sealed = None }) ≡ Err refusals.BadLine
 an_unsealed_is_handed_back stamp = refl

@@ -5,7 +5,7 @@ ghost use Rattle.gs_block.specs.Edits as blocks;
 ghost use Rattle.gs_block.specs.Edits.{unless_damaged};
 ghost use Rattle.gs_block.specs.Inverses as inverses;
 ghost use Rattle.gs_block.specs.Kept.{KeepsIntact, KeepsOutside};
-ghost use Rattle.gs_block.specs.Follows.{Follows, Does, Answers, Makes, Refuses, HandsBack, MakesOf};
+ghost use Rattle.gs_block.specs.Follows.{Follows, Does, Foretells, Answers, Makes, Refuses, HandsBack, MakesOf};
 ghost use Rattle.gs_block.specs.Images.{Images, AreFirst, undone, touched, damage_before};
 ghost use Rattle.gs_replica.specs.Held.{Held};
 ghost use Rattle.gs_replica.specs.Edits.{fresh, promise, apply, judged, foreseen, is_outside, is_old, edited, outcome_of, with_edit, damage, held_of, copied, start_of, end_of, done_by};
@@ -254,6 +254,17 @@ impl Live {
         Ok(())
     }
 
+    /// Judges an edit by the chunk alone. It takes no memory.
+    pub(crate) fn judge_edit(&self, op: Op, bytes: &[u8]) -> Result<(), Refusal>
+        ensures { Foretells (edited op bytes.now self.now.chunk) result }
+    {
+        match op {
+            Op::Write(offset) => self.blocks.judge_write(offset, bytes),
+            Op::Append => self.blocks.judge_append(bytes),
+            Op::Pad => self.blocks.judge_pad(),
+        }
+    }
+
     /// Applies an edit that is judged.
     pub(crate) fn take(
         &mut self,
@@ -315,12 +326,17 @@ impl Live {
         Ok(())
     }
 
-    /// What undoing all edits since a seal gives, under the promise that was made since. No block is verified. It takes no
-    /// memory.
-    pub(crate) fn restored(self, images: Images, count: u64, first: FirstEntries) -> Live
+    /// What undoing all edits since a seal gives, under a promise. No block is verified. It takes no memory.
+    pub(crate) fn restored(
+        self,
+        promise: Stamp,
+        images: Images,
+        count: u64,
+        first: FirstEntries,
+    ) -> Live
         requires first { AreFirst images self.chunk }
         requires has { HasSealed first self.done }
-        ensures { result ≡ record { chunk = undone images self.chunk; count = count; done = done_before first self.done; promise = self.promise } }
+        ensures { result ≡ record { chunk = undone images self.chunk; count = count; done = done_before first self.done; promise = promise } }
     {
         let mut blocks = self.blocks;
         let mut done = self.done;
@@ -330,7 +346,7 @@ impl Live {
             blocks,
             count,
             done,
-            promise: self.promise,
+            promise,
         }
     }
 
@@ -396,6 +412,13 @@ impl Live {
         ensures { result.now ≡ self.now.chunk.digests }
     {
         self.blocks.digests()
+    }
+
+    /// The stored digest of a block, as `Blocks::digest` gives it.
+    pub(crate) fn digest(&self, block: u64) -> Result<Digest, Refusal>
+        ensures { Answers (λ digest. digest) (blocks.digest self.now.chunk block) result }
+    {
+        self.blocks.digest(block)
     }
 
     /// Whether each block has its stored digest.

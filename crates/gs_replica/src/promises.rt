@@ -18,12 +18,11 @@ ghost use Rattle.gs_replica.specs.Whole.{IsWhole};
 ghost use Rattle.gs_replica.specs.Calls.{Call, LeadsTo, LeadsSparing};
 ghost use Rattle.gs_replica.specs.Stands.{Edit, Listed, after, StandsFor, IsToldFrom, IsTaken, SealedAt, SealToldFrom, IsTouched, replica_of};
 
-/// A replica that is made of a sealed image rolls back to what its source would have rolled back to, under the promise that the
-/// image carries. A source gives an image exactly where it could roll back, and is refused as that would be. What is made gives
-/// the same image again.
+/// A replica that is made of a sealed image rolls back to what its source would have rolled back to. A source gives an image
+/// exactly where it could roll back, and is refused as that would be. What is made gives the same image again.
 pub fn carried_seals_roll_back()
-    ensures same { (r : State) (i : SealedImage) → IsWhole r → sealed_image r ≡ Ok i → and_then (of_sealed r.held.chunk.block r.held.chunk.chunk i) roll_back ≡ under i.stamp (roll_back r) }
-    ensures refused { (r : State) → result_err (sealed_image r) ≡ result_err (roll_back r) }
+    ensures same { (r : State) (i : SealedImage) (start : Stamp) → IsWhole r → sealed_image r ≡ Ok i → and_then (of_sealed r.held.chunk.block r.held.chunk.chunk i) (roll_back start) ≡ roll_back start r }
+    ensures refused { (r : State) (start : Stamp) → result_err (sealed_image r) ≡ result_err (roll_back start r) }
     ensures again { (r : State) (i : SealedImage) → IsWhole r → sealed_image r ≡ Ok i → and_then (of_sealed r.held.chunk.block r.held.chunk.chunk i) sealed_image ≡ Ok i }
 {}
 
@@ -66,20 +65,20 @@ pub fn seals_give_what_was_sealed()
     ensures undo { (block chunk : ℕ) (r r2 : State) (edits : List Edit) (i : ReplicaInverse) → SealedAt block chunk r edits → undo i r ≡ Ok r2 → SealedAt block chunk r2 edits }
     ensures promise { (block chunk : ℕ) (r r2 : State) (edits : List Edit) (stamp : Stamp) → SealedAt block chunk r edits → promise stamp r ≡ Ok r2 → SealedAt block chunk r2 edits }
     ensures damage { (block chunk : ℕ) (r r2 : State) (edits : List Edit) (index : ℕ) → SealedAt block chunk r edits → damage index r ≡ Ok r2 → SealedAt block chunk r2 edits }
-    ensures roll_back { (block chunk : ℕ) (r r2 : State) (edits : List Edit) → SealedAt block chunk r edits → roll_back r ≡ Ok r2 → StandsFor block chunk r2.held edits × (lowest_damaged r2.held.chunk ≡ None) × (r2.sealed ≡ None) × (r2.held.promise ≡ r.held.promise) }
-    ensures rolled_back { (block chunk : ℕ) (r r2 : State) (edits : List Edit) → SealedAt block chunk r edits → roll_back r ≡ Ok r2 → IsToldFrom block chunk r2.held edits → image_of r2.held ≡ replica_of chunk edits }
+    ensures roll_back { (block chunk : ℕ) (r r2 : State) (edits : List Edit) (start : Stamp) → SealedAt block chunk r edits → roll_back start r ≡ Ok r2 → StandsFor block chunk r2.held edits × (lowest_damaged r2.held.chunk ≡ None) × (r2.sealed ≡ None) × (r2.held.promise ≡ start) }
+    ensures rolled_back { (block chunk : ℕ) (r r2 : State) (edits : List Edit) (start : Stamp) → SealedAt block chunk r edits → roll_back start r ≡ Ok r2 → IsToldFrom block chunk r2.held edits → image_of r2.held ≡ replica_of chunk edits }
     ensures sealed_image { (block chunk : ℕ) (r : State) (i : SealedImage) (edits : List Edit) → SealedAt block chunk r edits → SealToldFrom block chunk r.sealed edits → sealed_image r ≡ Ok i → (i.image ≡ replica_of chunk edits) × (i.digests ≡ digests_of block (replica_of chunk edits).bytes) × (sealed_at r ≡ Some i.stamp) }
     ensures of_sealed { (block chunk : ℕ) (r : State) (i : SealedImage) (edits : List Edit) → 1 ≤ block → block ≤ 65536 → chunk ≤ 67108864 → IsTaken chunk edits → i.image ≡ replica_of chunk edits → i.digests ≡ digests_of block (replica_of chunk edits).bytes → of_sealed block chunk i ≡ Ok r → StandsFor block chunk r.held edits × (lowest_damaged r.held.chunk ≡ None) × SealedAt block chunk r edits }
 {}
 
 /// What a rollback gives stays what it was at the seal, through every call: edits, edits that are undone, promises, and damage
-/// of blocks that were touched. It is refused no more than it was, and stands under the promise that was made since.
+/// of blocks that were touched. It is refused no more than it was.
 pub fn rollbacks_stay()
-    ensures seal { (r : State) → lowest_damaged r.held.chunk ≡ None → roll_back (seal r) ≡ Ok (unseal r) }
-    ensures apply { (r r2 : State) (stamp : Stamp) (number : ℕ) (req : ReqId) (op : Op) (bytes : List ℕ) → apply stamp number req op bytes r ≡ Ok r2 → roll_back r2 ≡ under r2.held.promise (roll_back r) }
-    ensures undo { (r r2 : State) (i : ReplicaInverse) → undo i r ≡ Ok r2 → roll_back r2 ≡ under r2.held.promise (roll_back r) }
-    ensures promise { (r r2 : State) (stamp : Stamp) → promise stamp r ≡ Ok r2 → roll_back r2 ≡ under r2.held.promise (roll_back r) }
-    ensures damage { (r r2 : State) (index : ℕ) → IsTouched r.sealed index → damage index r ≡ Ok r2 → roll_back r2 ≡ under r2.held.promise (roll_back r) }
+    ensures seal { (r : State) (start : Stamp) → lowest_damaged r.held.chunk ≡ None → roll_back start (seal r) ≡ under start (Ok (unseal r)) }
+    ensures apply { (r r2 : State) (start stamp : Stamp) (number : ℕ) (req : ReqId) (op : Op) (bytes : List ℕ) → apply stamp number req op bytes r ≡ Ok r2 → roll_back start r2 ≡ roll_back start r }
+    ensures undo { (r r2 : State) (start : Stamp) (i : ReplicaInverse) → undo i r ≡ Ok r2 → roll_back start r2 ≡ roll_back start r }
+    ensures promise { (r r2 : State) (start stamp : Stamp) → promise stamp r ≡ Ok r2 → roll_back start r2 ≡ roll_back start r }
+    ensures damage { (r r2 : State) (start : Stamp) (index : ℕ) → IsTouched r.sealed index → damage index r ≡ Ok r2 → roll_back start r2 ≡ roll_back start r }
 {}
 
 /// What a list of edits gives: as many edits as it has, and what its beginning gives with the edits behind that. The beginning
@@ -96,7 +95,7 @@ pub fn lists_are_taken_once()
 /// undamaged one that stands for that list and holds exactly what it gives. Where it was undamaged and no block was damaged but
 /// touched ones, it is not refused.
 pub fn sealed_replicas_go_back()
-    ensures stands { (block chunk : ℕ) (r end r2 : State) (edits : List Edit) (calls : List Call) → StandsFor block chunk r.held edits → LeadsTo (seal r) calls end → roll_back end ≡ Ok r2 → StandsFor block chunk r2.held edits × (lowest_damaged r2.held.chunk ≡ None) × (IsToldFrom block chunk r2.held edits → image_of r2.held ≡ replica_of chunk edits) }
+    ensures stands { (block chunk : ℕ) (r end r2 : State) (edits : List Edit) (calls : List Call) (start : Stamp) → StandsFor block chunk r.held edits → LeadsTo (seal r) calls end → roll_back start end ≡ Ok r2 → StandsFor block chunk r2.held edits × (lowest_damaged r2.held.chunk ≡ None) × (IsToldFrom block chunk r2.held edits → image_of r2.held ≡ replica_of chunk edits) }
     ensures carries { (block chunk : ℕ) (r end : State) (i : SealedImage) (edits : List Edit) (calls : List Call) → StandsFor block chunk r.held edits → LeadsTo (seal r) calls end → SealToldFrom block chunk end.sealed edits → sealed_image end ≡ Ok i → i.image ≡ replica_of chunk edits }
-    ensures same { (r end : State) (calls : List Call) → lowest_damaged r.held.chunk ≡ None → LeadsSparing (seal r) calls end → roll_back end ≡ under end.held.promise (Ok (unseal r)) }
+    ensures same { (r end : State) (calls : List Call) (start : Stamp) → lowest_damaged r.held.chunk ≡ None → LeadsSparing (seal r) calls end → roll_back start end ≡ under start (Ok (unseal r)) }
 {}

@@ -3,8 +3,8 @@ ghost use Rattle.std.specs.FinMap as fin;
 ghost use Rattle.gs_block.specs.Stored.{Stored, are_digests};
 ghost use Rattle.gs_block.specs.Edits as blocks;
 ghost use Rattle.gs_block.specs.Kept.{KeepsIntact};
-ghost use Rattle.gs_block.specs.Follows.{Follows, Does, Answers, Makes, Refuses, HandsBack, MakesOf};
-ghost use Rattle.gs_replica.specs.Edits.{fresh, copied, foreseen};
+ghost use Rattle.gs_block.specs.Follows.{Follows, Does, Foretells, Answers, Makes, Refuses, HandsBack, MakesOf};
+ghost use Rattle.gs_replica.specs.Edits.{fresh, copied, foreseen, edited};
 ghost use Rattle.gs_replica.specs.Seals.{State, with_seal, holding, seal, unseal, apply, undo, promise, damage, roll_back, sealed_at, images_of, sealed_length};
 ghost use Rattle.gs_replica.specs.Copies.{image, sealed_image, of_image, of_sealed};
 ghost use Rattle.gs_replica.specs.Whole.{IsWhole};
@@ -164,6 +164,15 @@ impl Replica {
         }
     }
 
+    /// Judges an edit by the chunk alone, whatever its stamp, number and request: it is refused `Range` or `Damaged` exactly as
+    /// an edit of this kind and these bytes would be. A server refuses an edit so before it looks for a number for it. It takes
+    /// no memory.
+    pub fn judge(&self, op: Op, bytes: &[u8]) -> Result<(), Refusal>
+        ensures { Foretells (edited op bytes.now self.now.held.chunk) result }
+    {
+        self.live.judge_edit(op, bytes)
+    }
+
     /// Seals the replica as it stands, in place of an earlier seal.
     pub fn seal(&mut self) -> Result<(), AllocError>
         ensures ok { OnOk result (self.new ≡ seal self.old) }
@@ -217,11 +226,12 @@ impl Replica {
         self.seal = None;
     }
 
-    /// Takes the replica back to where it was sealed: the bytes, digests, count and requests as sealed stand again, under the
-    /// promise that was made since, and the seal goes. `Damaged` names the lowest block that undoing gives without its sealed
-    /// digest, and the replica is handed back as it was; `BadLine` where it is not sealed. It takes no memory.
-    pub fn roll_back(self) -> Result<Replica, Refused<Replica>>
-        ensures { HandsBack self (roll_back self) result }
+    /// Takes the replica back to where it was sealed: the bytes, digests, count and requests as sealed stand again, under a
+    /// promise, and the seal goes. The promise that was made before counts for nothing. `Damaged` names the lowest block that
+    /// undoing gives without its sealed digest, and the replica is handed back as it was; `BadLine` where it is not sealed. It
+    /// takes no memory.
+    pub fn roll_back(self, promise: Stamp) -> Result<Replica, Refused<Replica>>
+        ensures { HandsBack self (roll_back promise self) result }
     {
         let Replica { live, seal } = self;
         match seal {
@@ -237,7 +247,7 @@ impl Replica {
                     })
                 }
                 None => Ok(Replica {
-                    live: live.restored(seal.images, seal.count, seal.first),
+                    live: live.restored(promise, seal.images, seal.count, seal.first),
                     seal: None,
                 }),
             },
@@ -309,6 +319,14 @@ impl Replica {
         ensures { result.now ≡ self.now.held.chunk.digests }
     {
         self.live.digests()
+    }
+
+    /// The stored digest of a block, whose bytes are verified first; no other block is. `Range` where there is no such block, and
+    /// `Damaged` where its bytes have another digest. It takes no memory.
+    pub fn digest(&self, block: u64) -> Result<Digest, Refusal>
+        ensures { Answers (λ digest. digest) (blocks.digest self.now.held.chunk block) result }
+    {
+        self.live.digest(block)
     }
 
     /// Whether each block has its stored digest.

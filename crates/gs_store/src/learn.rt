@@ -1,5 +1,5 @@
 ghost use Rattle.std.specs.Prelude.{◌≡◌, ℕ, IfOk};
-ghost use Rattle.gs_store.specs.Learning.{prepared, held_in, finalized, rolled_back, is_named};
+ghost use Rattle.gs_store.specs.Learning.{prepared, held_in, finalized, later, rolled_back, is_named};
 
 use crate::slot::{LiveReplica, Slot};
 use gs_base::Stamp;
@@ -69,17 +69,23 @@ impl Slot {
         let Some(sealed) = self.take_sealed() else {
             return;
         };
-        let Ok(mut replica) = sealed.roll_back() else {
+        let promise = self.promise_from(Stamp { epoch, version: 0 });
+        let Ok(replica) = sealed.roll_back(promise) else {
             return;
         };
-        let start = Stamp { epoch, version: 0 };
+        self.promise = promise;
+        self.carried = false;
+        self.live = Some(LiveReplica { replica, bad: None });
+    }
+
+    /// The later of the promise and a stamp.
+    fn promise_from(&self, start: Stamp) -> Stamp
+        ensures { result ≡ later self.now.promise start }
+    {
         if self.promise.is_before(start) {
-            self.promise = start;
+            return start;
         }
-        if replica.promise(self.promise).is_ok() {
-            self.carried = false;
-            self.live = Some(LiveReplica { replica, bad: None });
-        }
+        self.promise
     }
 
     /// Whether the live replica stands under the first stamp of an epoch, each block with its digest.

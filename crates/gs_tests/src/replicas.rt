@@ -131,8 +131,9 @@ fn damage(player: &mut Player, block: u64) -> Result<(), Refusal> {
 }
 
 fn roll_back(player: &mut Player) -> Result<(), Refusal> {
+    let promise = player.replica.promised();
     let empty = Replica::new(player.alloc, SIZES, stamp(1));
-    match mem::replace(&mut player.replica, empty).roll_back() {
+    match mem::replace(&mut player.replica, empty).roll_back(promise) {
         Ok(back) => {
             player.replica = back;
             Ok(())

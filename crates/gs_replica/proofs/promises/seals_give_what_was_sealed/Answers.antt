@@ -24,13 +24,13 @@ pub returns-clause-damage : goal.returns-clause-damage
 returns-clause-damage c block chunk r r2 edits index stood e = called_stood block chunk edits (Damages index) r r2 stood e
 
 pub returns-clause-roll_back : goal.returns-clause-roll_back
-returns-clause-roll_back c block chunk r r2 edits stood e =
-    let b = rolled_back block chunk edits r.held.promise r.sealed r2 stood e in
+returns-clause-roll_back c block chunk r r2 edits start stood e =
+    let b = rolled_back block chunk edits start r.sealed r2 stood e in
     (b.stands, b.undamaged, b.unsealed, b.promise)
 
 pub returns-clause-rolled_back : goal.returns-clause-rolled_back
-returns-clause-rolled_back c block chunk r r2 edits stood e told =
-    let b = rolled_back block chunk edits r.held.promise r.sealed r2 stood e in
+returns-clause-rolled_back c block chunk r r2 edits start stood e told =
+    let b = rolled_back block chunk edits start r.sealed r2 stood e in
     holds block chunk r2.held edits b.stands told b.undamaged
 
 pub returns-clause-sealed_image : goal.returns-clause-sealed_image

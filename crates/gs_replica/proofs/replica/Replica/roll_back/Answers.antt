@@ -20,9 +20,9 @@ returns-in-Some-damaged_before c =
     let found : lowest_damaged (undone seal.images live.chunk) ≡ Some block =
     ap (λ (s : Stored). first_damaged s.block (undone seal.images s).bytes seal.images.digests 0 (length seal.images.digests)) (sym c.blocks-in-Some.ensures) ∙ sym c.damaged_before.ensures ∙ c.in-Some-damaged_before.is in
     let answer : State → Result State (Refused State) = λ s. Err (refused (refusals.Damaged block) s) in
-    subst (λ (s : State). HandsBack s (roll_back s) (answer (state_of live seal))) c.self.view_is
-    (subst (λ o. HandsBack (state live (seen_in live o)) (roll_back (state live (seen_in live o))) (answer (state_of live seal))) (sym c.in-Some.is)
-    (hands_back (seen live seal) live.promise (state_of live seal) (state_of live seal) block found refl))
+    subst (λ (s : State). HandsBack s (roll_back c.args.promise s) (answer (state_of live seal))) c.self.view_is
+    (subst (λ o. HandsBack (state live (seen_in live o)) (roll_back c.args.promise (state live (seen_in live o))) (answer (state_of live seal))) (sym c.in-Some.is)
+    (hands_back (seen live seal) c.args.promise (state_of live seal) (state_of live seal) block found refl))
 
 pub returns-in-None-damaged_before : goal.returns-in-None-damaged_before
 returns-in-None-damaged_before c =
@@ -31,13 +31,13 @@ returns-in-None-damaged_before c =
     let none : lowest_damaged (undone seal.images live.chunk) ≡ None =
     ap (λ (s : Stored). first_damaged s.block (undone seal.images s).bytes seal.images.digests 0 (length seal.images.digests)) (sym c.blocks-in-Some.ensures) ∙ sym c.damaged_before.ensures ∙ c.in-None-damaged_before.is in
     let after = state c.restored.result None in
-    subst (λ (s : State). HandsBack s (roll_back s) (Ok after)) c.self.view_is
-    (subst (λ o. HandsBack (state live (seen_in live o)) (roll_back (state live (seen_in live o))) (Ok after)) (sym c.in-Some.is)
-    (rolls_back (seen live seal) live.promise after (state_of live seal) none (ap (λ (h : Held). state h None) c.restored.ensures)))
+    subst (λ (s : State). HandsBack s (roll_back c.args.promise s) (Ok after)) c.self.view_is
+    (subst (λ o. HandsBack (state live (seen_in live o)) (roll_back c.args.promise (state live (seen_in live o))) (Ok after)) (sym c.in-Some.is)
+    (rolls_back (seen live seal) c.args.promise after (state_of live seal) none (ap (λ (h : Held). state h None) c.restored.ensures)))
 
 pub returns-in-None : goal.returns-in-None
 returns-in-None c =
     let live : Held = c.self.inside.live in
     let answer : Result State (Refused State) = Err (refused refusals.BadLine (state live None)) in
-    subst (λ (s : State). HandsBack s (roll_back s) answer) c.self.view_is
-    (subst (λ o. HandsBack (state live (seen_in live o)) (roll_back (state live (seen_in live o))) answer) (sym c.in-None.is) (refl, refl))
+    subst (λ (s : State). HandsBack s (roll_back c.args.promise s) answer) c.self.view_is
+    (subst (λ o. HandsBack (state live (seen_in live o)) (roll_back c.args.promise (state live (seen_in live o))) answer) (sym c.in-None.is) (refl, refl))
