@@ -18,6 +18,13 @@ Does (Err e) (Ok b) old new = ⊥
 Does (Ok a) (Err f) old new = ⊥
 Does (Err e) (Err f) old new = (f ≡ e) × (new ≡ old)
 
+-- it answers exactly what is refused
+abbrev pub Judges : {B : Type 0} → Option Refusal → Result B Refusal → Type 0
+Judges None (Ok b) = Unit {0}
+Judges None (Err f) = ⊥
+Judges (Some e) (Ok b) = ⊥
+Judges (Some e) (Err f) = f ≡ e
+
 -- it is refused exactly as the definition is
 abbrev pub Foretells : {A B : Type 0} → Result A Refusal → Result B Refusal → Type 0
 Foretells (Ok a) (Ok b) = Unit {0}
@@ -65,3 +72,10 @@ MakesOf given (Ok a) (Ok b) = b ≡ a
 MakesOf given (Err e) (Ok b) = ⊥
 MakesOf given (Ok a) (Err f) = (f.refusal ≡ Memory) × (f.given ≡ given)
 MakesOf given (Err e) (Err f) = (f.refusal ≡ e) × (f.given ≡ given)
+
+-- it does what the definition says, or it has no memory; a refused call changes nothing and hands back what it was given
+abbrev pub FollowsOf : {A B G : Type 0} → G → Result A Refusal → Result B (Refused G) → A → A → Type 0
+FollowsOf given (Ok a) (Ok b) old new = new ≡ a
+FollowsOf given (Err e) (Ok b) old new = ⊥
+FollowsOf given (Ok a) (Err f) old new = (f.refusal ≡ Memory) × (f.given ≡ given) × (new ≡ old)
+FollowsOf given (Err e) (Err f) old new = (f.refusal ≡ e) × (f.given ≡ given) × (new ≡ old)

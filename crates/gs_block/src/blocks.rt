@@ -100,27 +100,40 @@ impl Blocks {
     ) -> Result<Blocks, Refused<BlockParts>>
         ensures { HandsBack parts (carried sizes.block sizes.chunk parts.bytes.items parts.digests.items) result }
     {
-        let block = sizes.block as usize;
-        let chunk = sizes.chunk as usize;
-        if parts.bytes.len() > chunk {
+        if let Err(refusal) = Blocks::judge_parts(sizes, &parts.bytes, &parts.digests) {
             return Err(Refused {
-                refusal: Refusal::Range,
-                given: parts,
-            });
-        }
-        if parts.digests.len() != count_of(block, parts.bytes.len()) {
-            return Err(Refused {
-                refusal: Refusal::BadLine,
+                refusal,
                 given: parts,
             });
         }
         Ok(Blocks {
             alloc,
-            block,
-            chunk,
+            block: sizes.block as usize,
+            chunk: sizes.chunk as usize,
             bytes: parts.bytes,
             digests: parts.digests,
         })
+    }
+
+    /// Judges bytes without taking them: they are refused exactly as `of` would refuse them, but never for memory.
+    pub fn judge_bytes(sizes: Sizes, bytes: &[u8]) -> Result<(), Refusal>
+        ensures { Foretells (chunk_of sizes.block sizes.chunk bytes.now) result }
+    {
+        if bytes.len() > sizes.chunk as usize {
+            return Err(Refusal::Range);
+        }
+        Ok(())
+    }
+
+    /// Judges bytes under digests without taking them: they are refused exactly as `carried` would refuse them.
+    pub fn judge_parts(sizes: Sizes, bytes: &[u8], digests: &[Digest]) -> Result<(), Refusal>
+        ensures { Foretells (carried sizes.block sizes.chunk bytes.now digests.now) result }
+    {
+        Blocks::judge_bytes(sizes, bytes)?;
+        if digests.len() != count_of(sizes.block as usize, bytes.len()) {
+            return Err(Refusal::BadLine);
+        }
+        Ok(())
     }
 
     /// The bytes and the digests, which go on without the chunk. No block is verified.

@@ -1,19 +1,11 @@
 -- What the bodies of this crate speak of among themselves: no public contract rests on it.
-use Rattle.std.specs.Prelude.{◌≡◌, ℕ, true, Option, Some, None, is_some, Result, Ok, Err}
+use Rattle.std.specs.Prelude.{◌≡◌, ℕ, true, Some, is_some}
 use Rattle.std.specs.FinMap as fin
 use Rattle.std.specs.Ordering.{nat_cmp}
-use Rattle.gs_base.specs.declared.refusal.Refusal.{Refusal}
 use Rattle.gs_replica.specs.declared.op.Done.{Done}
 use Rattle.gs_replica.specs.Held.{Held}
 use Rattle.gs_replica.specs.First.{First}
 use Rattle.gs_replica.specs.Copies.{SealedImage, image_of}
-
--- exactly what is refused is answered so
-abbrev pub Judges : {B : Type 0} → Option Refusal → Result B Refusal → Type 0
-Judges None (Ok b) = Unit {0}
-Judges None (Err f) = ⊥
-Judges (Some e) (Ok b) = ⊥
-Judges (Some e) (Err f) = f ≡ e
 
 -- each client that had a request when the replica was sealed has one
 abbrev pub HasSealed : First → fin.FinMap nat_cmp Done → Type 0

@@ -1,8 +1,11 @@
 ghost use Rattle.std.specs.Prelude.{◌≡◌, ◌↔◌, IsTrue, IfOk};
+ghost use Rattle.gs_base.specs.declared.numbers.Stamp.{Stamp};
+ghost use Rattle.gs_block.specs.Follows.{Foretells};
+ghost use Rattle.gs_replica.specs.Copies.{of_image, of_sealed};
 
 use crate::done::DoneTable;
-use gs_base::Stamp;
-use gs_block::Digest;
+use gs_base::{Refusal, Stamp};
+use gs_block::{Blocks, Digest, Sizes};
 use std::alloc::{AllocError, Global};
 use std::marker::Model;
 
@@ -31,6 +34,14 @@ impl Image {
         ensures { result ≡ record { bytes = bytes.items; count = count; done = done } }
     {
         Image { bytes, count, done }
+    }
+
+    /// Whether a replica of these sizes can be made of the image: it is refused `Range` exactly as `Replica::of` would be. It
+    /// takes no memory.
+    pub fn judge(&self, sizes: Sizes) -> Result<(), Refusal>
+        ensures { (stamp : Stamp) → Foretells (of_image sizes.block sizes.chunk stamp self.now) result }
+    {
+        Blocks::judge_bytes(sizes, &self.bytes)
     }
 
     /// A copy of the image.
@@ -103,6 +114,14 @@ impl SealedImage {
             stamp,
             digests,
         }
+    }
+
+    /// Whether a replica of these sizes can be made of the image: it is refused `Range` and `BadLine` exactly as
+    /// `Replica::of_sealed` would be. It takes no memory.
+    pub fn judge(&self, sizes: Sizes) -> Result<(), Refusal>
+        ensures { Foretells (of_sealed sizes.block sizes.chunk self.now) result }
+    {
+        Blocks::judge_parts(sizes, &self.image.bytes, &self.digests)
     }
 
     /// A copy of the image.

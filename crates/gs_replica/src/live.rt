@@ -5,14 +5,14 @@ ghost use Rattle.gs_block.specs.Edits as blocks;
 ghost use Rattle.gs_block.specs.Edits.{unless_damaged};
 ghost use Rattle.gs_block.specs.Inverses as inverses;
 ghost use Rattle.gs_block.specs.Kept.{KeepsIntact, KeepsOutside};
-ghost use Rattle.gs_block.specs.Follows.{Follows, Does, Foretells, Answers, Makes, Refuses, HandsBack, MakesOf};
+ghost use Rattle.gs_block.specs.Follows.{Follows, Does, Foretells, Judges, Answers, Makes, Refuses, HandsBack, MakesOf};
 ghost use Rattle.gs_block.specs.Images.{Images, AreFirst, undone, touched, damage_before};
 ghost use Rattle.gs_replica.specs.Held.{Held};
 ghost use Rattle.gs_replica.specs.Edits.{fresh, promise, apply, judged, foreseen, is_outside, is_old, edited, outcome_of, with_edit, damage, held_of, copied, start_of, end_of, done_by};
 ghost use Rattle.gs_base.specs.Stamps.{is_same};
 ghost use Rattle.gs_replica.specs.Undo.{undo};
 ghost use Rattle.gs_replica.specs.First.{done_before};
-ghost use Rattle.gs_replica.specs.Inside.{HasSealed, Judges, carried_of};
+ghost use Rattle.gs_replica.specs.Inside.{HasSealed, carried_of};
 ghost use Rattle.gs_replica.specs.Seals.{lowest_damaged};
 ghost use Rattle.gs_replica.specs.Copies.{SealedImage, image_of};
 
@@ -141,6 +141,17 @@ impl Live {
             self.done,
             self.promise,
         )
+    }
+
+    /// What stands, without its digests. No block is verified.
+    pub(crate) fn into_image(self) -> Image
+        ensures { result ≡ image_of self }
+    {
+        Image {
+            bytes: self.blocks.into_parts().bytes,
+            count: self.count,
+            done: self.done,
+        }
     }
 
     /// What a copy carries of the replica as it stands. Every block is verified first: `Damaged` names the lowest that fails.

@@ -6,7 +6,7 @@ ghost use Rattle.gs_block.specs.Kept.{KeepsIntact};
 ghost use Rattle.gs_block.specs.Follows.{Follows, Does, Foretells, Answers, Makes, Refuses, HandsBack, MakesOf};
 ghost use Rattle.gs_replica.specs.Edits.{fresh, copied, foreseen, edited};
 ghost use Rattle.gs_replica.specs.Seals.{State, with_seal, holding, seal, unseal, apply, undo, promise, damage, roll_back, sealed_at, images_of, sealed_length};
-ghost use Rattle.gs_replica.specs.Copies.{image, sealed_image, of_image, of_sealed};
+ghost use Rattle.gs_replica.specs.Copies.{image_of, image, sealed_image, of_image, of_sealed};
 ghost use Rattle.gs_replica.specs.Whole.{IsWhole};
 
 use crate::done::DoneTable;
@@ -88,6 +88,14 @@ impl Replica {
                 given: live.into_sealed_image(),
             }),
         }
+    }
+
+    /// The bytes, count and requests as they stand, which go on without the replica. No block is verified: what is sent of a
+    /// replica is `image`. It takes no memory.
+    pub fn into_image(self) -> Image
+        ensures { result ≡ image_of self.held }
+    {
+        self.live.into_image()
     }
 
     /// What a copy carries of the replica as it stands, sealed or not. Every block is verified first: `Damaged` names the lowest
@@ -196,6 +204,13 @@ impl Replica {
         ensures { self.new ≡ seal self.old }
     {
         self.seal = Some(prepared.into_seal());
+    }
+
+    /// Whether the replica is sealed.
+    pub fn is_sealed(&self) -> bool
+        ensures { result ≡ is_some self.now.sealed }
+    {
+        self.seal.is_some()
     }
 
     /// The promise that stood when the replica was sealed, if it is.
