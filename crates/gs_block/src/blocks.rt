@@ -147,9 +147,9 @@ impl Blocks {
         }
     }
 
-    /// Verifies every block: `Damaged` names the lowest that fails.
-    fn verify(&self) -> Result<(), Refusal>
-        ensures { Answers (λ _. self.now) (copied self.now) result }
+    /// Verifies every block: `Damaged` names the lowest that fails. It takes no memory.
+    pub fn verify(&self) -> Result<(), Refusal>
+        ensures { Foretells (copied self.now) result }
     {
         let count = self.digests.len();
         match first_damaged(&self.bytes, self.block, &self.digests, 0, count) {

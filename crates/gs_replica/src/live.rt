@@ -9,6 +9,7 @@ ghost use Rattle.gs_block.specs.Follows.{Follows, Does, Foretells, Judges, Answe
 ghost use Rattle.gs_block.specs.Images.{Images, AreFirst, undone, touched, damage_before};
 ghost use Rattle.gs_replica.specs.Held.{Held};
 ghost use Rattle.gs_replica.specs.Edits.{fresh, promise, apply, judged, foreseen, is_outside, is_old, edited, outcome_of, with_edit, damage, held_of, copied, start_of, end_of, done_by};
+ghost use Rattle.gs_base.specs.declared.numbers.Stamp.{Stamp};
 ghost use Rattle.gs_base.specs.Stamps.{is_same};
 ghost use Rattle.gs_replica.specs.Undo.{undo};
 ghost use Rattle.gs_replica.specs.First.{done_before};
@@ -163,6 +164,13 @@ impl Live {
             count: self.count,
             done: self.done.copy()?,
         })
+    }
+
+    /// Verifies every block, as `Blocks::verify` does.
+    pub(crate) fn verify(&self) -> Result<(), Refusal>
+        ensures { (stamp : Stamp) → Foretells (copied stamp self.now) result }
+    {
+        self.blocks.verify()
     }
 
     /// A replica of the same bytes, count and requests, which has promised a stamp. Every block is verified first:

@@ -1,5 +1,6 @@
 ghost use Rattle.std.specs.Prelude.{◌≡◌, ◌≤◌, List, ℕ, IfOk, OnOk, OnErr, length, Ok, Option, Some, None, is_some};
 ghost use Rattle.std.specs.FinMap as fin;
+ghost use Rattle.gs_base.specs.declared.numbers.Stamp.{Stamp};
 ghost use Rattle.gs_block.specs.Stored.{Stored, are_digests};
 ghost use Rattle.gs_block.specs.Edits as blocks;
 ghost use Rattle.gs_block.specs.Kept.{KeepsIntact};
@@ -116,6 +117,13 @@ impl Replica {
             Some(seal) => sealed_image(&self.live, seal),
             None => Err(Refusal::BadLine),
         }
+    }
+
+    /// Verifies every block: it is refused exactly as `copy` would be, but never for memory. It takes no memory.
+    pub fn verify(&self) -> Result<(), Refusal>
+        ensures { (stamp : Stamp) → Foretells (copied stamp self.now.held) result }
+    {
+        self.live.verify()
     }
 
     /// A replica of the same bytes, count and requests, which has promised a stamp and is not sealed. Every block is verified

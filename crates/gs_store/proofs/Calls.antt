@@ -1,20 +1,22 @@
 -- Calls of a replica that stands in a slot.
-use Rattle.std.proofs.Common.{◌≡◌, ℕ, true, cond, List, Option, Some, None, refl, sym, ap, subst, ◌∙◌}
-use Rattle.std.specs.Prelude.{Result, Ok, Err, is_some}
+use Rattle.std.proofs.Common.{◌≡◌, ℕ, Bool, true, false, cond, length, List, Option, Some, None, refl, sym, ap, subst, ◌∙◌, inl, inr}
+use Rattle.std.specs.Prelude.{Result, Ok, Err, is_some, nat_lt, ◌⊎◌}
 use Rattle.gs_base.specs.declared.numbers.Stamp.{Stamp}
+use Rattle.gs_base.specs.Stamps.{is_before}
 use Rattle.gs_base.specs.declared.numbers.ReqId.{ReqId}
 use Rattle.gs_base.specs.declared.refusal.Refusal.{Refusal}
-use Rattle.gs_block.specs.Stored.{Stored}
-use Rattle.gs_block.specs.Follows.{Follows, MakesOf}
+use Rattle.gs_block.specs.Stored.{digests_of}
+use Rattle.gs_block.specs.Follows.{Follows, FollowsOf, Foretells, MakesOf}
 use Rattle.gs_replica.specs.declared.op.Op.{Op}
-use Rattle.gs_replica.specs.Held.{Held}
 use Rattle.gs_replica.specs.Edits as edits
 use Rattle.gs_replica.specs.Seals.{Sealed, State, with_seal}
 use Rattle.gs_replica.specs.Seals as replicas
 use Rattle.gs_store.specs.Slots.{Live, Slot, with_live, replaced, again}
-use Rattle.gs_replica.specs.Copies.{Image, SealedImage, of_image, and_then}
-use Rattle.gs_store.specs.Moves.{Tries, carried_in, copied_in, copy_in, in_trash}
-use Rattle.gs_base.specs.Stamps.{is_before}
+use Rattle.gs_replica.specs.Copies.{Image, SealedImage, image_of, of_image, and_then}
+use Rattle.gs_base.specs.declared.refusal.Refusal.TheVariants as refusals
+use Rattle.gs_block.specs.declared.refused.Refused.{Refused}
+use Rattle.gs_store.specs.declared.moves.CopyImages.{CopyImages}
+use Rattle.gs_store.specs.Moves.{carried_in, replicas_of, in_trash, copied_in, copy_in}
 use Rattle.gs_store.specs.Serving.{apply, apply_to}
 
 abbrev pub standing_in : Slot → Option ℕ → State → Slot
@@ -40,40 +42,56 @@ not_applied B C e stamp number req op bytes s l new is f =
     subst (λ o. Follows {B = C} (apply_to stamp number req op bytes s o) (Err e) s (standing_in s l.bad new)) (sym is)
     (live_err B C e (replicas.apply stamp number req op bytes l.replica) s l.bad l.replica new s (λ k. record { promise = s.promise; carried = s.carried; live = sym is k; trash = s.trash; taken = s.taken }) f)
 
-abbrev pub promised : Result State Refusal → Stamp → Stamp
-promised (Ok r) stamp = r.held.promise
-promised (Err e) stamp = stamp
+unfoldable pub state_or : Result State Refusal → State → State
+state_or (Ok r) old = r
+state_or (Err e) old = old
 
-edit_keeps : (r : Held) (req : ReqId) (op : Op) (sealed : Option Sealed) (m : Result Stored Refusal) → promised (with_seal sealed (edits.with_edit r req op m)) r.promise ≡ r.promise
-edit_keeps r req op sealed (Ok s) = refl
-edit_keeps r req op sealed (Err e) = refl
+-- what is made of an image stands as it says
+image_case : (t : Bool) (block chunk : ℕ) (stamp : Stamp) (i : Image) (r : State) →
+    with_seal None (edits.held_of stamp i.count i.done (cond t (Err refusals.Range) (Ok (record { block = block; chunk = chunk; bytes = i.bytes; digests = digests_of block i.bytes })))) ≡ Ok r → image_of r.held ≡ i
+unfolding state_or
+image_case true block chunk stamp i r is = absurd (cc)
+image_case false block chunk stamp i r is = ap (λ m. image_of (state_or m r).held) (sym is)
 
-unless_keeps : (o : Option Refusal) (r : Held) (req : ReqId) (op : Op) (sealed : Option Sealed) (m : Result Stored Refusal) → promised (with_seal sealed (edits.unless_refused o (edits.with_edit r req op m))) r.promise ≡ r.promise
-unless_keeps None r req op sealed m = edit_keeps r req op sealed m
-unless_keeps (Some e) r req op sealed m = refl
-
--- an edit leaves the promise
-pub follows_keeps : (B : Type 0) (a : Result B Refusal) (m : Result State Refusal) (old new : State) → promised m old.held.promise ≡ old.held.promise → Follows {B = B} m a old new → new.held.promise ≡ old.held.promise
-follows_keeps B (Ok b) (Ok r) old new keeps f = ap (λ (x : State). x.held.promise) f ∙ keeps
-follows_keeps B (Ok b) (Err e) old new keeps f = elim f [ ]
-follows_keeps B (Err f) (Ok r) old new keeps g = ap (λ (x : State). x.held.promise) g.1
-follows_keeps B (Err f) (Err e) old new keeps g = ap (λ (x : State). x.held.promise) g.1
-
-pub apply_keeps : (B : Type 0) (a : Result B Refusal) (stamp : Stamp) (number : ℕ) (req : ReqId) (op : Op) (bytes : List ℕ) (old new : State) → Follows {B = B} (replicas.apply stamp number req op bytes old) a old new → new.held.promise ≡ old.held.promise
-apply_keeps B a stamp number req op bytes old new f = follows_keeps B a (replicas.apply stamp number req op bytes old) old new (unless_keeps (edits.judged stamp number req old.held) old.held req op _ (edits.edited op bytes old.held.chunk)) f
-
--- a copy whose sealed image is refused, or for which there is no memory, is not taken
-not_kept : (B : Type 0) (e : Refusal) (A : Type 0) (m : Result A Refusal) (f : A → Slot) (old : Slot) → Tries {A = A} m (Err e) → Follows {B = B} (and_then m (λ t. Ok (f t))) (Err e) old old
-not_kept B e A (Ok t) f old g = (g, refl)
-not_kept B e A (Err h) f old g = (g, refl)
-
-pub not_copied : (B : Type 0) (e : Refusal) (block chunk : ℕ) (stamp : Stamp) (image : Image) (sealed : Option SealedImage) (r : State) (m : Result State Refusal) (s : Slot) → is_before s.promise stamp ≡ true → m ≡ of_image block chunk stamp image → m ≡ Ok r → Tries {A = Option State} (carried_in block chunk stamp sealed) (Err e) →
-    Follows {B = B} (copy_in block chunk stamp image sealed s) (Err e) s s
-not_copied B e block chunk stamp image sealed r m s above is made tries =
-    subst (λ b. Follows {B = B} (cond b (copied_in block chunk stamp image sealed s) (again stamp s)) (Err e) s s) (sym above)
-    (subst (λ x. Follows {B = B} (and_then x (λ r. and_then (carried_in block chunk stamp sealed) (λ t. Ok (in_trash t (replaced stamp (is_some sealed) r s))))) (Err e) s s) (sym made ∙ is)
-    (not_kept B e (Option State) (carried_in block chunk stamp sealed) (λ t. in_trash t (replaced stamp (is_some sealed) r s)) s tries))
-
-pub made_ok : {A G : Type 0} (given : G) (m : Result A Refusal) (b : A) → MakesOf {A = A} {G = G} given m (Ok b) → m ≡ Ok b
+made_ok : {A G : Type 0} (given : G) (m : Result A Refusal) (b : A) → MakesOf {A = A} {G = G} given m (Ok b) → m ≡ Ok b
 made_ok given (Ok a) b is = ap (λ x. Ok x) (sym is)
 made_ok given (Err e) b is = elim is [ ]
+
+-- an image that became a replica is given back as it was
+pub given_back : (block chunk : ℕ) (stamp : Stamp) (i : Image) (r : State) → MakesOf {A = State} i (of_image block chunk stamp i) (Ok r) → image_of r.held ≡ i
+given_back block chunk stamp i r made = image_case (nat_lt chunk (length i.bytes)) block chunk stamp i r (made_ok i (of_image block chunk stamp i) r made)
+
+-- what is refused was given back, for want of memory or as it is defined
+pub kept : {A G : Type 0} (given : G) (m : Result A Refusal) (f : Refused G) → MakesOf {A = A} {G = G} given m (Err f) → f.given ≡ given
+kept given (Ok a) f is = is.1
+kept given (Err e) f is = is.1
+
+why_case : (m : Result State Refusal) (n : Result (Option State) Refusal) (r : State) (sealed : Option SealedImage) (f : Refused (Option SealedImage)) (e : Refusal) → m ≡ Ok r → MakesOf {A = Option State} sealed n (Err f) → e ≡ f.refusal →
+    (e ≡ refusals.Memory) ⊎ (and_then {B = State × Option State} m (λ r. and_then n (λ t. Ok (r, t))) ≡ Err e)
+why_case (Ok a) (Ok t) r sealed f e made is same = inl (same ∙ is.0)
+why_case (Ok a) (Err g) r sealed f e made is same = inr (ap (λ x. Err x) (sym (same ∙ is.0)))
+why_case (Err g) n r sealed f e made is same = absurd (cc)
+
+pub reason : (block chunk : ℕ) (stamp : Stamp) (i : Image) (sealed : Option SealedImage) (r : State) (f : Refused (Option SealedImage)) (e : Refusal) → MakesOf {A = State} i (of_image block chunk stamp i) (Ok r) →
+    MakesOf {A = Option State} sealed (carried_in block chunk sealed) (Err f) → e ≡ f.refusal → (e ≡ refusals.Memory) ⊎ (replicas_of block chunk stamp i sealed ≡ Err e)
+reason block chunk stamp i sealed r f e made is same = why_case (of_image block chunk stamp i) (carried_in block chunk sealed) r sealed f e (made_ok i (of_image block chunk stamp i) r made) is same
+
+lack_case : (given : CopyImages) (m : Result (State × Option State) Refusal) (k : State × Option State → Slot) (f : Refused CopyImages) (s : Slot) → Foretells {A = Slot} {B = Unit {0}} (and_then m (λ p. Ok (k p))) (Ok tt) →
+    (f.refusal ≡ refusals.Memory) ⊎ (m ≡ Err f.refusal) → f.given ≡ given → FollowsOf {A = Slot} {B = Unit {0}} given (and_then m (λ p. Ok (k p))) (Err f) s s
+lack_case given (Ok p) k f s fits (inl is) back = (is, back, refl)
+lack_case given (Ok p) k f s fits (inr is) back = absurd (cc)
+lack_case given (Err e) k f s fits why back = elim fits [ ]
+
+-- images that fit are refused for want of memory alone
+pub lacks : (block chunk : ℕ) (stamp : Stamp) (given : CopyImages) (f : Refused CopyImages) (s : Slot) → is_before s.promise stamp ≡ true → Foretells {A = Slot} {B = Unit {0}} (copy_in block chunk stamp given.image given.sealed s) (Ok tt) →
+    (f.refusal ≡ refusals.Memory) ⊎ (replicas_of block chunk stamp given.image given.sealed ≡ Err f.refusal) → f.given ≡ given →
+    FollowsOf {A = Slot} {B = Unit {0}} given (copy_in block chunk stamp given.image given.sealed s) (Err f) s s
+lacks block chunk stamp given f s above fits why back =
+    let there : Bool → Result Slot Refusal = λ b. cond b (copied_in block chunk stamp given.image given.sealed s) (again stamp s) in
+    subst (λ b. FollowsOf {A = Slot} {B = Unit {0}} given (there b) (Err f) s s) (sym above)
+    (lack_case given (replicas_of block chunk stamp given.image given.sealed) (λ p. in_trash p.1 (replaced stamp (is_some given.sealed) p.0 s)) f s (subst (λ b. Foretells {A = Slot} {B = Unit {0}} (there b) (Ok tt)) above fits) why back)
+
+-- a refused call leaves what it was given
+pub stays : (A B : Type 0) (m : Result A Refusal) (f : Refusal) (old new : A) → Follows {A = A} {B = B} m (Err f) old new → new ≡ old
+stays A B (Ok a) f old new is = is.1
+stays A B (Err e) f old new is = is.1

@@ -1,6 +1,6 @@
 -- What holds of a slot through its calls.
 use Rattle.std.proofs.Common.{List, ◌≡◌, ℕ, Bool, true, false, cond, [], ◌∷◌, Option, Some, None, refl, sym, ap, subst, ◌∙◌, arith}
-use Rattle.std.specs.Prelude.{Result, Ok, Err, is_some, ◌&&◌}
+use Rattle.std.specs.Prelude.{Result, Ok, Err, is_some, not, ◌&&◌}
 use Rattle.std.proofs.lemmas.Bool.Decides.{nat_tests}
 use Rattle.std.specs.Result.{result_ok}
 use Rattle.gs_base.specs.declared.numbers.Stamp.{Stamp}
@@ -12,10 +12,11 @@ use Rattle.gs_replica.specs.declared.op.Op.{Op}
 use Rattle.gs_replica.specs.Held.{Held}
 use Rattle.gs_replica.specs.Edits as edits
 use Rattle.gs_store.specs.Serving.{apply_to}
-use Rattle.gs_store.specs.Moves.{sound_image}
+use Rattle.gs_replica.specs.Copies.{and_then}
+use Rattle.gs_store.specs.Moves.{source, live_in, sound_image}
 use Rattle.gs_store.proofs.Calls.{standing_in}
 use Rattle.gs_replica.specs.Seals.{with_seal, on_seal, touch_seal, Sealed, State}
-use Rattle.gs_store.specs.Slots.{with_live, Live, Slot, first_of, when, unless, again, replaced, removed, trash_of, trash_behind, trashed_seal, seal_in, seal_of, sealed_of, risen, live_under, mark_bad, marked_live}
+use Rattle.gs_store.specs.Slots.{with_live, Live, Slot, first_of, when, unless, unless_live, if_bad, again, replaced, removed, trash_of, trash_behind, trashed_seal, seal_in, seal_of, sealed_of, risen, live_under, mark_bad, marked_live}
 use Rattle.gs_store.specs.Learning.{later, start_of, rolled_to}
 
 -- the order of stamps
@@ -101,6 +102,16 @@ behind_both false false e g f m = refl
 pub behind_promise : {A : Type 0} (a : Bool) (e f : Refusal) (m : Result A Refusal) → result_ok (unless (first_of (when a e ∷ None ∷ Some f ∷ [])) m) ≡ None
 behind_promise true e f m = refl
 behind_promise false e f m = refl
+
+-- what a bad replica's slot refuses is refused of its copies
+pub then_none : {A B : Type 0} (m : Result A Refusal) (f : A → Result B Refusal) → result_ok m ≡ None → result_ok (and_then m f) ≡ None
+then_none (Ok a) f none = absurd (cc)
+then_none (Err e) f none = refl
+
+pub bad_source : (at : Stamp) (block : ℕ) (s : Slot) (r : State) → s.live ≡ Some (record { replica = r; bad = Some block }) → result_ok (source at s) ≡ None
+bad_source at block s r is =
+    subst (λ l. result_ok (unless (first_of (when (not (is_same at s.promise)) (refusals.Stamp s.promise) ∷ unless_live l ∷ if_bad l ∷ [])) (live_in l)) ≡ None) (sym is)
+    (behind_promise (not (is_same at s.promise)) (refusals.Stamp s.promise) (refusals.Damaged block) _)
 
 -- what isn't refused as old
 abbrev IsRefused : Option Refusal → Type 0

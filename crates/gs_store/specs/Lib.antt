@@ -1,4 +1,5 @@
 pub mod Slots
+pub mod Whole
 pub mod Serving
 pub mod Moves
 pub mod Learning

@@ -6,13 +6,14 @@ use Rattle.gs_base.specs.declared.numbers.ReqId.{ReqId}
 use Rattle.gs_base.specs.Stamps.{is_before}
 use Rattle.gs_base.specs.declared.refusal.Refusal.{Refusal}
 use Rattle.gs_base.specs.declared.refusal.Refusal.TheVariants as refusals
+use Rattle.gs_block.specs.Stored.{Stored}
 use Rattle.gs_block.specs.Edits as blocks
 use Rattle.gs_replica.specs.declared.op.Op.{Op}
 use Rattle.gs_replica.specs.declared.op.Op.TheVariants.{Append}
 use Rattle.gs_replica.specs.declared.op.Done.{Done}
 use Rattle.gs_replica.specs.Edits as edits
 use Rattle.gs_replica.specs.Seals as replicas
-use Rattle.gs_store.specs.Slots.{Live, Slot, first_of, when, unless, unless_live, bad_block, with_live, mark_bad, nothing, standing, empty_replica, stamp_of}
+use Rattle.gs_store.specs.Slots.{Live, Slot, first_of, when, unless, unless_live, bad_block, with_live, mark_bad, sound, nothing, standing, empty_replica, stamp_of}
 
 -- an edit of the live replica, refused as the replica refuses it
 abbrev pub apply_to : Stamp → ℕ → ReqId → Op → List ℕ → Slot → Option Live → Result Slot Refusal
@@ -26,6 +27,11 @@ apply stamp number req op bytes s = apply_to stamp number req op bytes s s.live
 abbrev pub foreseen : Stamp → ℕ → ReqId → Op → List ℕ → Option Live → Option Refusal
 foreseen stamp number req op bytes None = Some refusals.NoReplica
 foreseen stamp number req op bytes (Some l) = edits.foreseen stamp number req op bytes l.replica.held
+
+-- how the chunk decides of an edit, whatever its stamp, number and request
+abbrev pub edited_in : Op → List ℕ → Option Live → Result Stored Refusal
+edited_in op bytes None = Err refusals.NoReplica
+edited_in op bytes (Some l) = edits.edited op bytes l.replica.held.chunk
 
 -- a replica serves those who were told of no greater stamp than its promise
 abbrev pub unless_reached : Stamp → Slot → Option Refusal
@@ -48,6 +54,14 @@ length_in (Some l) = length l.replica.held.chunk.bytes
 
 abbrev pub text_length : Stamp → Slot → Result ℕ Refusal
 text_length stamp s = unless (first_of (unless_live s.live ∷ unless_reached stamp s ∷ [])) (Ok (length_in s.live))
+
+-- the digest of a block that has it, also in a replica that another block marks as bad
+abbrev pub digest_in : ℕ → Option Live → Result (List ℕ) Refusal
+digest_in block None = Err refusals.NoReplica
+digest_in block (Some l) = blocks.digest l.replica.held.chunk block
+
+abbrev pub digest : Stamp → ℕ → Slot → Result (List ℕ) Refusal
+digest stamp block s = unless (first_of (unless_live s.live ∷ unless_reached stamp s ∷ [])) (digest_in block s.live)
 
 -- a client's last request that the live replica has applied
 abbrev pub done_in : Option Live → ℕ → Option Done
@@ -77,3 +91,12 @@ no_bytes_of_a_bad_replica = refl
 
 the_length_of_a_bad_replica : text_length (stamp_of 2 1) (mark_bad 3 (standing (empty_replica (stamp_of 2 1)))) ≡ Ok 0
 the_length_of_a_bad_replica = refl
+
+no_digest_of_a_block_that_is_not_there : digest (stamp_of 2 1) 0 (standing (empty_replica (stamp_of 2 1))) ≡ Err refusals.Range
+no_digest_of_a_block_that_is_not_there = refl
+
+no_digest_above_the_promise : digest (stamp_of 2 2) 0 (standing (empty_replica (stamp_of 2 1))) ≡ Err refusals.Old
+no_digest_above_the_promise = refl
+
+judged_without_a_number : edited_in Append [] (Some (sound (empty_replica (stamp_of 2 1)))) ≡ Err refusals.Range
+judged_without_a_number = refl

@@ -59,13 +59,6 @@ abbrev pub unless : {A : Type 0} → Option Refusal → Result A Refusal → Res
 unless None call = call
 unless (Some refusal) call = Err refusal
 
--- a check answers what is refused, and nothing else
-abbrev pub Checks : {A : Type 0} → Option Refusal → Result A Refusal → Type 0
-Checks None (Ok a) = Unit {0}
-Checks None (Err f) = ⊥
-Checks (Some e) (Ok a) = ⊥
-Checks (Some e) (Err f) = f ≡ e
-
 abbrev pub unless_live : Option Live → Option Refusal
 unless_live None = Some refusals.NoReplica
 unless_live (Some l) = None
@@ -197,19 +190,6 @@ seal_of (Some l) trash = seal_in l.replica.sealed trash
 
 abbrev pub sealed_of : Slot → Option Sealed
 sealed_of s = seal_of s.live s.trash
-
--- a live replica stands under the handle's promise, and a trashed one under a promise that isn't greater
-abbrev pub LiveUnder : Stamp → Option Live → Type 0
-LiveUnder stamp None = Unit {0}
-LiveUnder stamp (Some l) = l.replica.held.promise ≡ stamp
-
-abbrev pub TrashUnder : Stamp → Option State → Type 0
-TrashUnder stamp None = Unit {0}
-TrashUnder stamp (Some r) = is_before stamp r.held.promise ≡ false
-
-pub record IsUnderPromise (promise : Stamp) (live : Option Live) (trash : Option State) : Type 0 where
-  pub live_is : LiveUnder promise live
-  pub trash_is : TrashUnder promise trash
 
 -- Worked: a slot whose replica of no edits was sealed under 2.1, and the calls on it.
 abbrev pub stamp_of : ℕ → ℕ → Stamp

@@ -1,4 +1,4 @@
-ghost use Rattle.std.specs.Prelude.{◌≡◌, ℕ, IfOk};
+ghost use Rattle.std.specs.Prelude.{◌≡◌, ℕ, IfOk, is_some};
 ghost use Rattle.gs_store.specs.Learning.{prepared, held_in, finalized, later, rolled_back, is_named};
 
 use crate::slot::{LiveReplica, Slot};
@@ -61,21 +61,23 @@ impl Slot {
         }
     }
 
-    /// Makes what was sealed live again under the first stamp of an epoch, where each block of it has its sealed digest. Every
-    /// other replica goes. It takes no memory.
-    pub fn roll_back(&mut self, epoch: u64)
-        ensures { self.new ≡ rolled_back epoch self.old }
+    /// Makes what was sealed live again under the first stamp of an epoch, where each block of it has its sealed digest, and
+    /// answers whether it did. Every other replica goes. It takes no memory.
+    pub fn roll_back(&mut self, epoch: u64) -> bool
+        ensures becomes { self.new ≡ rolled_back epoch self.old }
+        ensures live { result ≡ is_some self.new.live }
     {
         let Some(sealed) = self.take_sealed() else {
-            return;
+            return false;
         };
         let promise = self.promise_from(Stamp { epoch, version: 0 });
         let Ok(replica) = sealed.roll_back(promise) else {
-            return;
+            return false;
         };
         self.promise = promise;
         self.carried = false;
         self.live = Some(LiveReplica { replica, bad: None });
+        true
     }
 
     /// The later of the promise and a stamp.

@@ -8,4 +8,5 @@ mod serve;
 mod slot;
 
 pub use learn::PreparedSlot;
+pub use moves::{CopyImages, PreparedCopy};
 pub use slot::Slot;

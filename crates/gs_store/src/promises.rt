@@ -6,6 +6,7 @@ ghost use Rattle.gs_base.specs.declared.numbers.Stamp.{Stamp};
 ghost use Rattle.gs_base.specs.declared.numbers.ReqId.{ReqId};
 ghost use Rattle.gs_base.specs.Stamps.{is_before};
 ghost use Rattle.gs_replica.specs.declared.op.Op.{Op};
+ghost use Rattle.gs_replica.specs.Held.{Held};
 ghost use Rattle.gs_replica.specs.Seals.{State};
 ghost use Rattle.gs_store.specs.Slots.{Live, Slot, create, advance, drop_replica, take_lease, lose, mark_bad, sealed_of};
 ghost use Rattle.gs_store.specs.Serving.{apply, read};
@@ -16,7 +17,7 @@ ghost use Rattle.gs_store.specs.Learning.{prepared, finalized, rolled_back};
 pub fn promises_never_fall()
     ensures create { (block chunk : ℕ) (stamp : Stamp) (s s2 : Slot) → create block chunk stamp s ≡ Ok s2 → is_before s2.promise s.promise ≡ false }
     ensures advance { (stamp : Stamp) (s s2 : Slot) → advance stamp s ≡ Ok s2 → is_before s2.promise s.promise ≡ false }
-    ensures take_copy { (stamp : Stamp) (r : State) (s s2 : Slot) → take_copy stamp r s ≡ Ok s2 → is_before s2.promise s.promise ≡ false }
+    ensures take_copy { (h : Held) (s s2 : Slot) → take_copy h s ≡ Ok s2 → is_before s2.promise s.promise ≡ false }
     ensures drop_replica { (promise : Stamp) (s s2 : Slot) → drop_replica promise s ≡ Ok s2 → s2.promise ≡ s.promise }
     ensures lose { (s s2 : Slot) → lose s ≡ Ok s2 → s2.promise ≡ s.promise }
     ensures take_lease { (stamp : Stamp) (s s2 : Slot) → take_lease stamp s ≡ Ok s2 → s2.promise ≡ s.promise }
@@ -31,7 +32,7 @@ pub fn promises_never_fall()
 pub fn sealed_images_stay()
     ensures create { (block chunk : ℕ) (stamp : Stamp) (s s2 : Slot) → create block chunk stamp s ≡ Ok s2 → sealed_of s2 ≡ sealed_of s }
     ensures advance { (stamp : Stamp) (s s2 : Slot) → advance stamp s ≡ Ok s2 → sealed_of s2 ≡ sealed_of s }
-    ensures take_copy { (stamp : Stamp) (r : State) (s s2 : Slot) → r.sealed ≡ None → take_copy stamp r s ≡ Ok s2 → sealed_of s2 ≡ sealed_of s }
+    ensures take_copy { (h : Held) (s s2 : Slot) → take_copy h s ≡ Ok s2 → sealed_of s2 ≡ sealed_of s }
     ensures drop_replica { (promise : Stamp) (s s2 : Slot) → drop_replica promise s ≡ Ok s2 → sealed_of s2 ≡ sealed_of s }
     ensures take_lease { (stamp : Stamp) (s s2 : Slot) → take_lease stamp s ≡ Ok s2 → sealed_of s2 ≡ sealed_of s }
     ensures mark_bad { (block : ℕ) (s : Slot) → sealed_of (mark_bad block s) ≡ sealed_of s }
@@ -42,5 +43,5 @@ pub fn sealed_images_stay()
 pub fn bad_replicas_give_nothing()
     ensures read { (stamp : Stamp) (offset many block : ℕ) (s : Slot) (r : State) → s.live ≡ Some (record { replica = r; bad = Some block }) → result_ok (read stamp offset many s) ≡ None }
     ensures copy_out { (stamp : Stamp) (flag : Bool) (block : ℕ) (s : Slot) (r : State) → s.live ≡ Some (record { replica = r; bad = Some block }) → result_ok (copy_out stamp flag s) ≡ None }
-    ensures copy_for { (at stamp : Stamp) (block : ℕ) (s : Slot) (r : State) → s.live ≡ Some (record { replica = r; bad = Some block }) → result_ok (copy_for at stamp s) ≡ None }
+    ensures copy_for { (at stamp : Stamp) (block : ℕ) (s target : Slot) (r : State) → s.live ≡ Some (record { replica = r; bad = Some block }) → result_ok (copy_for at stamp s target) ≡ None }
 {}

@@ -1,9 +1,10 @@
 ghost use Rattle.std.specs.Prelude.{◌≡◌};
-ghost use Rattle.gs_block.specs.Follows.{Follows, Refuses, Answers};
-ghost use Rattle.gs_store.specs.Serving.{apply, foreseen, read, text_length, done_in};
+ghost use Rattle.gs_block.specs.Follows.{Follows, Foretells, Refuses, Answers};
+ghost use Rattle.gs_store.specs.Serving.{apply, foreseen, edited_in, read, text_length, digest, done_in};
 
 use crate::slot::Slot;
 use gs_base::{ClientId, Refusal, ReqId, Stamp};
+use gs_block::Digest;
 use gs_replica::{Done, Op};
 
 impl Slot {
@@ -27,6 +28,16 @@ impl Slot {
             return Err(refusal);
         }
         Ok(())
+    }
+
+    /// Judges an edit by the chunk alone, as `Replica::judge` does. `NoReplica` where none is live. It takes no memory.
+    pub fn judge(&self, op: Op, bytes: &[u8]) -> Result<(), Refusal>
+        ensures { Foretells (edited_in op bytes.now self.now.live) result }
+    {
+        match &self.live {
+            Some(live) => live.replica.judge(op, bytes),
+            None => Err(Refusal::NoReplica),
+        }
     }
 
     /// The stored bytes of a range of the live replica, as `Replica::read` gives them. `NoReplica` where none is live, `Old`
@@ -65,6 +76,21 @@ impl Slot {
             return Err(Refusal::Old);
         }
         Ok(live.replica.len())
+    }
+
+    /// The stored digest of a block, whose bytes are verified first; no other block is, so a replica that another block marks as
+    /// bad gives it. `NoReplica` where none is live, `Old` where the promise is below the stamp, `Range` where there is no such
+    /// block, and `Damaged` where its bytes have another digest. It takes no memory.
+    pub fn digest(&self, stamp: Stamp, block: u64) -> Result<Digest, Refusal>
+        ensures { Answers (λ digest. digest) (digest stamp block self.now) result }
+    {
+        let Some(live) = &self.live else {
+            return Err(Refusal::NoReplica);
+        };
+        if self.promise.is_before(stamp) {
+            return Err(Refusal::Old);
+        }
+        live.replica.digest(block)
     }
 
     /// A client's last request that the live replica has applied.

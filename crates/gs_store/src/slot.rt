@@ -1,8 +1,9 @@
 ghost use Rattle.std.specs.Prelude.{◌≡◌, Some, None, true};
 ghost use Rattle.std.specs.Option.{option_copied};
 ghost use Rattle.gs_base.specs.Stamps.{is_before};
-ghost use Rattle.gs_block.specs.Follows.{Does};
-ghost use Rattle.gs_store.specs.Slots.{nothing, removed, replaced, create, again, advance, drop_replica, Checks, check_grant, take_lease, lose, damage, mark_bad, count_of, bad_in, lost, sealed_of, trashed_seal, TrashUnder};
+ghost use Rattle.gs_block.specs.Follows.{Does, Judges};
+ghost use Rattle.gs_store.specs.Slots.{nothing, removed, replaced, create, again, advance, drop_replica, check_grant, take_lease, lose, damage, mark_bad, count_of, bad_in, lost, sealed_of, trashed_seal};
+ghost use Rattle.gs_store.specs.Whole.{IsWholeSlot};
 
 use gs_base::{Refusal, Stamp};
 use gs_block::Sizes;
@@ -38,7 +39,8 @@ pub struct Slot {
 }
 
 impl Model for Slot {
-    ghost use Rattle.gs_store.specs.Slots.{Slot, coded_slot, IsUnderPromise};
+    ghost use Rattle.gs_store.specs.Slots.{Slot, coded_slot};
+    ghost use Rattle.gs_store.specs.Whole.{Keeps};
 
     ghost Value = { Slot };
 
@@ -46,7 +48,7 @@ impl Model for Slot {
 
     ghost view = { λ s. record { promise = s.promise; carried = s.carried; live = s.live; trash = s.trash; taken = s.taken } };
 
-    ghost invariant = { λ s. IsUnderPromise s.promise s.live s.trash };
+    ghost invariant = { λ s. Keeps s.promise s.live s.trash s.taken };
 }
 
 impl Slot {
@@ -100,6 +102,18 @@ impl Slot {
         }
     }
 
+    /// Every slot is whole. A caller whose proof asks this of a slot calls it; it changes nothing.
+    pub fn whole(&self)
+        ensures { IsWholeSlot self.now }
+    {
+        if let Some(live) = &self.live {
+            live.replica.whole();
+        }
+        if let Some(trash) = &self.trash {
+            trash.whole();
+        }
+    }
+
     /// Makes an empty replica under a stamp above the promise, in place of the one that was live. A stamp that is promised
     /// already is answered again where a replica is live; else it is `Old`. It takes no memory.
     pub fn create(&mut self, alloc: Global, sizes: Sizes, stamp: Stamp) -> Result<(), Refusal>
@@ -125,6 +139,7 @@ impl Slot {
     /// Puts a replica under a greater promise in place of the one that was live.
     pub(crate) fn replace(&mut self, stamp: Stamp, carried: bool, replica: Replica)
         requires promise { replica.held.promise ≡ stamp }
+        requires unsealed { replica.sealed ≡ None }
         requires above { is_before self.old.promise stamp ≡ true }
         ensures { self.new ≡ replaced stamp carried replica self.old }
     {
@@ -139,7 +154,7 @@ impl Slot {
         ensures { self.new ≡ removed self.old }
     {
         if let Some(live) = self.live.take() {
-            if live.replica.sealed_at().is_some() {
+            if live.replica.is_sealed() {
                 self.trash = Some(live.replica);
             }
         }
@@ -180,7 +195,7 @@ impl Slot {
     /// Whether a lease of a stamp could be held. `NoReplica` where none is live, and `Stamp` with the promise where the stamp is
     /// another.
     pub fn check_grant(&self, stamp: Stamp) -> Result<(), Refusal>
-        ensures { Checks (check_grant stamp self.now) result }
+        ensures { Judges (check_grant stamp self.now) result }
     {
         if self.live.is_none() {
             return Err(Refusal::NoReplica);
@@ -246,7 +261,7 @@ impl Slot {
         ensures { trashed_seal (option_copied result) ≡ sealed_of self.now }
     {
         if let Some(live) = &self.live {
-            if live.replica.sealed_at().is_some() {
+            if live.replica.is_sealed() {
                 return Some(&live.replica);
             }
         }
@@ -257,7 +272,6 @@ impl Slot {
     pub(crate) fn take_sealed(&mut self) -> Option<Replica>
         ensures taken { self.new ≡ lost self.old }
         ensures sealed { trashed_seal result ≡ sealed_of self.old }
-        ensures under { TrashUnder self.old.promise result }
     {
         self.remove();
         self.trash.take()

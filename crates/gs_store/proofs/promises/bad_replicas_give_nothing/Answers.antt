@@ -1,14 +1,15 @@
-use Rattle.std.proofs.Common.{◌≡◌, ◌+◌, Option, None, [], ◌∷◌, sym, subst}
-use Rattle.std.specs.Prelude.{Ok, cond, nat_lt, not}
+use Rattle.std.proofs.Common.{◌≡◌, ◌+◌, None, sym, subst}
+use Rattle.std.specs.Prelude.{Ok, cond, nat_lt}
 use Rattle.std.specs.Result.{result_ok}
 use Rattle.gs_base.specs.declared.refusal.Refusal.TheVariants as refusals
-use Rattle.gs_base.specs.Stamps.{is_before, is_same}
+use Rattle.gs_base.specs.Stamps.{is_before}
 use Rattle.gs_block.specs.Edits as blocks
-use Rattle.gs_replica.specs.Copies.{Image, SealedImage, and_then}
-use Rattle.gs_store.specs.Slots.{first_of, unless, unless_live, unless_promised, if_bad, sealed_of}
+use Rattle.gs_replica.specs.Edits.{copied}
+use Rattle.gs_replica.specs.Copies.{image, and_then}
+use Rattle.gs_store.specs.Slots.{sealed_of}
 use Rattle.gs_store.specs.Serving.{read_of}
-use Rattle.gs_store.specs.Moves.{image_of, copy_of, sound_image}
-use Rattle.gs_store.proofs.Laws.{behind_both, behind_promise}
+use Rattle.gs_store.specs.Moves.{source, copied_from, wanted_by, sound_image}
+use Rattle.gs_store.proofs.Laws.{behind_both, then_none, bad_source}
 use Rattle.gs_store.proofs.promises.bad_replicas_give_nothing.Goals as goal
 
 pub returns-clause-read : goal.returns-clause-read
@@ -18,10 +19,8 @@ returns-clause-read c stamp offset many block s r is =
 
 pub returns-clause-copy_out : goal.returns-clause-copy_out
 returns-clause-copy_out c stamp flag block s r is =
-    subst (λ l. result_ok {T = Image × Option SealedImage} (unless (first_of (unless_promised stamp s ∷ unless_live l ∷ if_bad l ∷ [])) (and_then (image_of l) (λ i. Ok (i, cond flag (sound_image (sealed_of s)) None)))) ≡ None) (sym is)
-    (behind_promise (not (is_same stamp s.promise)) (refusals.Stamp s.promise) (refusals.Damaged block) _)
+    then_none (source stamp s) (λ r. and_then (image r) (λ i. Ok (i, cond flag (sound_image (sealed_of s)) None))) (bad_source stamp block s r is)
 
 pub returns-clause-copy_for : goal.returns-clause-copy_for
-returns-clause-copy_for c at stamp block s r is =
-    subst (λ l. result_ok (unless (first_of (unless_promised at s ∷ unless_live l ∷ if_bad l ∷ [])) (copy_of stamp l)) ≡ None) (sym is)
-    (behind_promise (not (is_same at s.promise)) (refusals.Stamp s.promise) (refusals.Damaged block) _)
+returns-clause-copy_for c at stamp block s target r is =
+    then_none (copied_from at stamp s) (wanted_by target) (then_none (source at s) (λ r. copied stamp r.held) (bad_source at block s r is))

@@ -16,9 +16,9 @@ returns-clause-create c block chunk stamp s s2 is =
     (of_raised (λ x. is_before x.promise s.promise ≡ false) stamp false (record { held = fresh block chunk stamp; sealed = None }) s (not_before_itself s.promise) (not_both s.promise stamp))
 
 pub returns-clause-take_copy : goal.returns-clause-take_copy
-returns-clause-take_copy c stamp r s s2 is =
-    of_ok (λ x. is_before x.promise s.promise ≡ false) (take_copy stamp r s) s2 is
-    (of_raised (λ x. is_before x.promise s.promise ≡ false) stamp false r s (not_before_itself s.promise) (not_both s.promise stamp))
+returns-clause-take_copy c h s s2 is =
+    of_ok (λ x. is_before x.promise s.promise ≡ false) (take_copy h s) s2 is
+    (of_raised (λ x. is_before x.promise s.promise ≡ false) h.promise false (record { held = h; sealed = None }) s (not_before_itself s.promise) (not_both s.promise h.promise))
 
 pub returns-clause-advance : goal.returns-clause-advance
 returns-clause-advance c stamp s s2 is =

@@ -14,9 +14,9 @@ returns-clause-create c block chunk stamp s s2 is =
     (of_raised (λ x. sealed_of x ≡ sealed_of s) stamp false (record { held = fresh block chunk stamp; sealed = None }) s refl (λ _. replaced_stays stamp false (record { held = fresh block chunk stamp; sealed = None }) s refl))
 
 pub returns-clause-take_copy : goal.returns-clause-take_copy
-returns-clause-take_copy c stamp r s s2 unsealed is =
-    of_ok (λ x. sealed_of x ≡ sealed_of s) (take_copy stamp r s) s2 is
-    (of_raised (λ x. sealed_of x ≡ sealed_of s) stamp false r s refl (λ _. replaced_stays stamp false r s unsealed))
+returns-clause-take_copy c h s s2 is =
+    of_ok (λ x. sealed_of x ≡ sealed_of s) (take_copy h s) s2 is
+    (of_raised (λ x. sealed_of x ≡ sealed_of s) h.promise false (record { held = h; sealed = None }) s refl (λ _. replaced_stays h.promise false (record { held = h; sealed = None }) s refl))
 
 pub returns-clause-advance : goal.returns-clause-advance
 returns-clause-advance c stamp s s2 is =

@@ -1,19 +1,23 @@
-use Rattle.std.proofs.Common.{Some, sym, ap, subst, ◌∙◌}
+use Rattle.std.proofs.Common.{◌≡◌, Some, sym, ap, subst, ◌∙◌}
 use Rattle.std.specs.Prelude.{Err}
 use Rattle.gs_block.specs.Follows.{Follows}
 use Rattle.gs_replica.specs.declared.live.ReplicaInverse.{ReplicaInverse}
 use Rattle.gs_replica.specs.Seals.{State}
-use Rattle.gs_store.specs.Slots.{Live, Slot, LiveUnder}
+use Rattle.gs_replica.specs.Seals as replicas
+use Rattle.gs_store.specs.Slots.{Live, Slot}
+use Rattle.gs_store.specs.Whole.{Keeps}
 use Rattle.gs_store.specs.Serving.{apply}
-use Rattle.gs_store.proofs.Calls.{not_applied, apply_keeps, standing_in}
+use Rattle.gs_store.proofs.Calls.{not_applied, stays, standing_in}
 use Rattle.gs_store.proofs.slot.Slot.apply.Goals as goal
 
 pub invariant_of-self-in-Err : goal.invariant_of-self-in-Err
-invariant_of-self-in-Err c = record {
-  live_is = apply_keeps ReplicaInverse c.apply.result c.args.stamp c.args.number c.args.req c.args.op c.args.bytes.now c.live.inside.replica c.apply.new.self c.apply.ensures.edit
-      ∙ subst (LiveUnder c.self.inside.promise) (c.in-Some.is ∙ ap (λ (l : Live). Some l) (sym c.live.view_is)) c.self.invariant.live_is;
-  trash_is = c.self.invariant.trash_is;
-}
+invariant_of-self-in-Err c =
+    let l : Live = record { replica = c.live.inside.replica; bad = c.live.inside.bad } in
+    let same : c.apply.new.self ≡ l.replica =
+    stays State ReplicaInverse (replicas.apply c.args.stamp c.args.number c.args.req c.args.op c.args.bytes.now l.replica) c.in-Err.refusal l.replica c.apply.new.self c.in-Err.ensures.edit in
+    let was : Keeps c.self.inside.promise (Some l) c.self.inside.trash c.self.inside.taken =
+    subst (λ o. Keeps c.self.inside.promise o c.self.inside.trash c.self.inside.taken) (c.in-Some.is ∙ ap (λ (l : Live). Some l) (sym c.live.view_is)) c.self.invariant in
+    subst (λ (r : State). Keeps c.self.inside.promise (Some (let n : Live = record { replica = r; bad = l.bad } in n)) c.self.inside.trash c.self.inside.taken) (sym same) was
 
 pub returns-in-Err-clause-edit : goal.returns-in-Err-clause-edit
 returns-in-Err-clause-edit c =
