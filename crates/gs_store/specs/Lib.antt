@@ -3,3 +3,4 @@ pub mod Whole
 pub mod Serving
 pub mod Moves
 pub mod Learning
+pub mod Standing

@@ -1,6 +1,8 @@
 //! What a server keeps of its chunks: replicas, promises, and what was sealed.
 #![tactic(auto)]
 
+pub mod copy_promises;
+pub mod edit_promises;
 mod learn;
 mod moves;
 pub mod promises;

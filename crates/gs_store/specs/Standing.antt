@@ -1,0 +1,55 @@
+-- What a slot stands for: its live replica for a list of edits, and what is sealed for another.
+use Rattle.std.specs.Prelude.{◌≡◌, ℕ, ◌+◌, true, false, List, Option, Some, None}
+use Rattle.gs_base.specs.declared.numbers.Stamp.{Stamp}
+use Rattle.gs_base.specs.declared.numbers.ReqId.{ReqId}
+use Rattle.gs_base.specs.Stamps.{is_same}
+use Rattle.gs_replica.specs.Edits.{is_old}
+use Rattle.gs_replica.specs.Seals.{Sealed, lowest_damaged}
+use Rattle.gs_replica.specs.Copies.{SealedImage, as_sealed}
+use Rattle.gs_replica.specs.Stands.{Edit, StandsFor, IsToldFrom, StoodFor, SealToldFrom}
+use Rattle.gs_store.specs.Slots.{Live, Slot, sealed_of, count_of}
+use Rattle.gs_store.specs.Serving.{done_in}
+
+abbrev pub LiveStandsFor : ℕ → ℕ → Option Live → List Edit → Type 0
+LiveStandsFor size limit None edits = ⊥
+LiveStandsFor size limit (Some l) edits = StandsFor size limit l.replica.held edits
+
+abbrev pub StandsIn : ℕ → ℕ → Slot → List Edit → Type 0
+StandsIn size limit s edits = LiveStandsFor size limit s.live edits
+
+-- digests tell the blocks of a live replica from those that a list gives, where they differ
+abbrev pub LiveToldFrom : ℕ → ℕ → Option Live → List Edit → Type 0
+LiveToldFrom size limit None edits = Unit {0}
+LiveToldFrom size limit (Some l) edits = IsToldFrom size limit l.replica.held edits
+
+abbrev pub IsToldIn : ℕ → ℕ → Slot → List Edit → Type 0
+IsToldIn size limit s edits = LiveToldFrom size limit s.live edits
+
+-- the handle's sealed image, wherever it stands, is of a replica that stood for a list when it was sealed
+abbrev pub StoodIn : ℕ → ℕ → Slot → List Edit → Type 0
+StoodIn size limit s edits = StoodFor size limit (sealed_of s) edits
+
+abbrev pub SealToldIn : ℕ → ℕ → Slot → List Edit → Type 0
+SealToldIn size limit s edits = SealToldFrom size limit (sealed_of s) edits
+
+-- no block of the live replica is damaged
+abbrev pub LiveUndamaged : Option Live → Type 0
+LiveUndamaged None = Unit {0}
+LiveUndamaged (Some l) = lowest_damaged l.replica.held.chunk ≡ None
+
+-- An edit that was accepted came under the promise, as the next number, and of a request above its client's last. Now it is the
+-- count, and that request is none any more.
+pub record IsNextEdit (stamp : Stamp) (number : ℕ) (req : ReqId) (old new : Slot) : Type 0 where
+  pub promised : is_same stamp old.promise ≡ true
+  pub before : ℕ
+  pub next : number ≡ before + 1
+  pub counted : count_of old.live ≡ Some before
+  pub counts : count_of new.live ≡ Some number
+  pub fresh : is_old req.number (done_in old.live req.client.0) ≡ false
+  pub taken : is_old req.number (done_in new.live req.client.0) ≡ true
+  pub promise : new.promise ≡ old.promise
+
+-- what a copy of the sealed image would carry, if each block of it had its digest
+abbrev pub image_in : Option Sealed → Option SealedImage
+image_in None = None
+image_in (Some t) = Some (as_sealed t)

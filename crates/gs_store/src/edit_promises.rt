@@ -1,0 +1,42 @@
+//! What holds of a slot's live replica, whatever edits and damage came.
+
+ghost use Rattle.std.specs.Prelude.{◌≡◌, ◌≤◌, ◌<◌, ℕ, List, [], ◌∷◌, ◌++◌, length, take, drop, true, Ok, Some};
+ghost use Rattle.std.specs.FinMap as fin;
+ghost use Rattle.gs_base.specs.declared.numbers.Stamp.{Stamp};
+ghost use Rattle.gs_base.specs.declared.numbers.ReqId.{ReqId};
+ghost use Rattle.gs_base.specs.Stamps.{is_before};
+ghost use Rattle.gs_block.specs.Stored.{block_at, digest_at, is_intact};
+ghost use Rattle.gs_replica.specs.declared.op.Op.{Op};
+ghost use Rattle.gs_replica.specs.Stands.{Edit, replica_of};
+ghost use Rattle.gs_store.specs.Slots.{Live, Slot, create, advance, take_lease, damage, mark_bad, count_of};
+ghost use Rattle.gs_store.specs.Whole.{LiveUnder};
+ghost use Rattle.gs_store.specs.Serving.{apply, read, text_length, digest, done_in};
+ghost use Rattle.gs_store.specs.Standing.{StandsIn, IsToldIn, IsNextEdit};
+
+/// Which list of edits a live replica stands for, call by call. An edit has for a premise that digests tell the replica's blocks
+/// from those of the list, where they differ.
+pub fn slots_stand_for_their_edits()
+    ensures create { (block chunk : ℕ) (stamp : Stamp) (s s2 : Slot) → 1 ≤ block → block ≤ 65536 → chunk ≤ 67108864 → is_before s.promise stamp ≡ true → create block chunk stamp s ≡ Ok s2 → StandsIn block chunk s2 [] }
+    ensures apply { (block chunk : ℕ) (stamp : Stamp) (number : ℕ) (req : ReqId) (op : Op) (bytes : List ℕ) (s s2 : Slot) (edits : List Edit) → StandsIn block chunk s edits → IsToldIn block chunk s edits → apply stamp number req op bytes s ≡ Ok s2 → StandsIn block chunk s2 (edits ++ (record { req = req; op = op; bytes = bytes }) ∷ []) }
+    ensures advance { (block chunk : ℕ) (stamp : Stamp) (s s2 : Slot) (edits : List Edit) → StandsIn block chunk s edits → advance stamp s ≡ Ok s2 → StandsIn block chunk s2 edits }
+    ensures take_lease { (stamp : Stamp) (s s2 : Slot) → take_lease stamp s ≡ Ok s2 → s2.live ≡ s.live }
+    ensures damage { (block chunk index : ℕ) (s s2 : Slot) (edits : List Edit) → StandsIn block chunk s edits → damage index s ≡ Ok s2 → StandsIn block chunk s2 edits }
+    ensures mark_bad { (block chunk index : ℕ) (s : Slot) (edits : List Edit) → StandsIn block chunk s edits → StandsIn block chunk (mark_bad index s) edits }
+{}
+
+/// What a live replica gives is what its list of edits gives, also where blocks are damaged: each block that has its digest holds
+/// the list's bytes, so do the bytes that are read, and lengths, digests, requests and counts are the list's.
+pub fn slots_give_what_their_edits_give()
+    ensures read { (block chunk : ℕ) (stamp : Stamp) (offset many : ℕ) (part : List ℕ) (s : Slot) (edits : List Edit) → StandsIn block chunk s edits → IsToldIn block chunk s edits → read stamp offset many s ≡ Ok part → part ≡ take many (drop offset (replica_of chunk edits).bytes) }
+    ensures intact { (block chunk index : ℕ) (l : Live) (s : Slot) (edits : List Edit) → s.live ≡ Some l → StandsIn block chunk s edits → IsToldIn block chunk s edits → index < length l.replica.held.chunk.digests → is_intact block l.replica.held.chunk.bytes l.replica.held.chunk.digests index ≡ true → block_at block index l.replica.held.chunk.bytes ≡ block_at block index (replica_of chunk edits).bytes }
+    ensures length { (block chunk : ℕ) (stamp : Stamp) (many : ℕ) (s : Slot) (edits : List Edit) → StandsIn block chunk s edits → text_length stamp s ≡ Ok many → many ≡ length (replica_of chunk edits).bytes }
+    ensures digest { (block chunk : ℕ) (stamp : Stamp) (index : ℕ) (found : List ℕ) (s : Slot) (edits : List Edit) → StandsIn block chunk s edits → digest stamp index s ≡ Ok found → found ≡ digest_at block (replica_of chunk edits).bytes index }
+    ensures done { (block chunk client : ℕ) (s : Slot) (edits : List Edit) → StandsIn block chunk s edits → done_in s.live client ≡ fin.get (replica_of chunk edits).done client }
+    ensures count { (block chunk : ℕ) (s : Slot) (edits : List Edit) → StandsIn block chunk s edits → count_of s.live ≡ Some (length edits) }
+{}
+
+/// An edit is taken only under the promise, as the next number, and of a request above its client's last, which it then is: so
+/// a request is applied once.
+pub fn edits_are_taken_once()
+    ensures { (stamp : Stamp) (number : ℕ) (req : ReqId) (op : Op) (bytes : List ℕ) (s s2 : Slot) → LiveUnder s.promise s.live → apply stamp number req op bytes s ≡ Ok s2 → IsNextEdit stamp number req s s2 }
+{}
