@@ -4,3 +4,4 @@ pub mod Serving
 pub mod Moves
 pub mod Learning
 pub mod Standing
+pub mod Calls

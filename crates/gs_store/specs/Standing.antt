@@ -3,11 +3,12 @@ use Rattle.std.specs.Prelude.{◌≡◌, ℕ, ◌+◌, true, false, List, Option
 use Rattle.gs_base.specs.declared.numbers.Stamp.{Stamp}
 use Rattle.gs_base.specs.declared.numbers.ReqId.{ReqId}
 use Rattle.gs_base.specs.Stamps.{is_same}
+use Rattle.gs_block.specs.Stored.{Stored}
 use Rattle.gs_replica.specs.Edits.{is_old}
-use Rattle.gs_replica.specs.Seals.{Sealed, lowest_damaged}
+use Rattle.gs_replica.specs.Seals.{Sealed, State, lowest_damaged}
 use Rattle.gs_replica.specs.Copies.{SealedImage, as_sealed}
 use Rattle.gs_replica.specs.Stands.{Edit, StandsFor, IsToldFrom, StoodFor, SealToldFrom}
-use Rattle.gs_store.specs.Slots.{Live, Slot, sealed_of, count_of}
+use Rattle.gs_store.specs.Slots.{Live, Slot, trashed_seal, sealed_of, count_of}
 use Rattle.gs_store.specs.Serving.{done_in}
 
 abbrev pub LiveStandsFor : ℕ → ℕ → Option Live → List Edit → Type 0
@@ -53,3 +54,16 @@ pub record IsNextEdit (stamp : Stamp) (number : ℕ) (req : ReqId) (old new : Sl
 abbrev pub image_in : Option Sealed → Option SealedImage
 image_in None = None
 image_in (Some t) = Some (as_sealed t)
+
+-- what undoing gives, wherever it stands
+abbrev pub undone_in : Option Sealed → Option Stored
+undone_in None = None
+undone_in (Some t) = Some t.undone
+
+-- the seal of the replica that damage strikes: of the live one, or else of the one in the trash
+abbrev pub struck_in : Option Live → Option State → Option Sealed
+struck_in None trash = trashed_seal trash
+struck_in (Some l) trash = l.replica.sealed
+
+abbrev pub struck_by_damage : Slot → Option Sealed
+struck_by_damage s = struck_in s.live s.trash

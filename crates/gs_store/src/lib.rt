@@ -6,6 +6,7 @@ pub mod edit_promises;
 mod learn;
 mod moves;
 pub mod promises;
+pub mod seal_promises;
 mod serve;
 mod slot;
 

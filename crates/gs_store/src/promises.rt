@@ -1,17 +1,16 @@
 //! What holds of each slot, whatever is called.
 
-ghost use Rattle.std.specs.Prelude.{◌≡◌, ℕ, Bool, true, false, List, Option, Some, None, Ok};
+ghost use Rattle.std.specs.Prelude.{◌≡◌, ℕ, Bool, true, false, List, Some, None, Ok};
 ghost use Rattle.std.specs.Result.{result_ok};
 ghost use Rattle.gs_base.specs.declared.numbers.Stamp.{Stamp};
-ghost use Rattle.gs_base.specs.declared.numbers.ReqId.{ReqId};
-ghost use Rattle.gs_base.specs.Stamps.{is_before};
-ghost use Rattle.gs_replica.specs.declared.op.Op.{Op};
+ghost use Rattle.gs_base.specs.Stamps.{is_before, is_same};
 ghost use Rattle.gs_replica.specs.Held.{Held};
 ghost use Rattle.gs_replica.specs.Seals.{State};
-ghost use Rattle.gs_store.specs.Slots.{Live, Slot, create, advance, drop_replica, take_lease, lose, mark_bad, sealed_of};
-ghost use Rattle.gs_store.specs.Serving.{apply, read};
-ghost use Rattle.gs_store.specs.Moves.{copy_out, copy_for, take_copy, sound_image};
+ghost use Rattle.gs_store.specs.Slots.{Live, Slot, create, advance, drop_replica, take_lease, lose, mark_bad};
+ghost use Rattle.gs_store.specs.Serving.{read};
+ghost use Rattle.gs_store.specs.Moves.{copy_out, copy_for, take_copy};
 ghost use Rattle.gs_store.specs.Learning.{prepared, finalized, rolled_back};
+ghost use Rattle.gs_store.specs.Calls.{Call, called, LeadsTo, IsNoLease};
 
 /// A promise never falls, also at a rollback.
 pub fn promises_never_fall()
@@ -25,18 +24,15 @@ pub fn promises_never_fall()
     ensures prepared { (s : Slot) → (prepared s).promise ≡ s.promise }
     ensures finalized { (s : Slot) → (finalized s).promise ≡ s.promise }
     ensures rolled_back { (epoch : ℕ) (s : Slot) → is_before (rolled_back epoch s).promise s.promise ≡ false }
+    ensures run { (block chunk : ℕ) (s end : Slot) (calls : List Call) → LeadsTo block chunk s calls end → is_before end.promise s.promise ≡ false }
 {}
 
-/// What is sealed of a handle stays the same image, wherever it stands: beneath replicas that are made, copied or dropped, under
-/// promises, and beside marks. An edit leaves what a copy carries of it.
-pub fn sealed_images_stay()
-    ensures create { (block chunk : ℕ) (stamp : Stamp) (s s2 : Slot) → create block chunk stamp s ≡ Ok s2 → sealed_of s2 ≡ sealed_of s }
-    ensures advance { (stamp : Stamp) (s s2 : Slot) → advance stamp s ≡ Ok s2 → sealed_of s2 ≡ sealed_of s }
-    ensures take_copy { (h : Held) (s s2 : Slot) → take_copy h s ≡ Ok s2 → sealed_of s2 ≡ sealed_of s }
-    ensures drop_replica { (promise : Stamp) (s s2 : Slot) → drop_replica promise s ≡ Ok s2 → sealed_of s2 ≡ sealed_of s }
-    ensures take_lease { (stamp : Stamp) (s s2 : Slot) → take_lease stamp s ≡ Ok s2 → sealed_of s2 ≡ sealed_of s }
-    ensures mark_bad { (block : ℕ) (s : Slot) → sealed_of (mark_bad block s) ≡ sealed_of s }
-    ensures apply { (stamp : Stamp) (number : ℕ) (req : ReqId) (op : Op) (bytes : List ℕ) (s s2 : Slot) → apply stamp number req op bytes s ≡ Ok s2 → sound_image (sealed_of s2) ≡ sound_image (sealed_of s) }
+/// A lease is taken of the promised stamp, and once for good: whatever calls come between, it is not taken again. No other call
+/// changes which lease was taken last.
+pub fn leases_are_taken_once()
+    ensures taken { (stamp : Stamp) (s s2 : Slot) → take_lease stamp s ≡ Ok s2 → (is_same stamp s.promise ≡ true) × (s2.taken ≡ Some stamp) × (s2.live ≡ s.live) }
+    ensures once { (block chunk : ℕ) (stamp : Stamp) (s s2 end : Slot) (calls : List Call) → take_lease stamp s ≡ Ok s2 → LeadsTo block chunk s2 calls end → result_ok (take_lease stamp end) ≡ None }
+    ensures others { (block chunk : ℕ) (c : Call) (s s2 : Slot) → IsNoLease c → called block chunk c s ≡ Ok s2 → s2.taken ≡ s.taken }
 {}
 
 /// A bad replica gives no bytes and no copies.

@@ -8,6 +8,7 @@ use Rattle.gs_store.specs.Slots.{create, advance, drop_replica, take_lease, lose
 use Rattle.gs_store.specs.Learning.{later, start_of}
 use Rattle.gs_store.specs.Moves.{take_copy}
 use Rattle.gs_store.proofs.Laws.{of_ok, of_cond, of_unless, of_raised, not_both, not_before_itself, rolled_rises, not_old}
+use Rattle.gs_store.proofs.Running.{run_rises}
 use Rattle.gs_store.proofs.promises.promises_never_fall.Goals as goal
 
 pub returns-clause-create : goal.returns-clause-create
@@ -44,3 +45,6 @@ returns-clause-take_lease c stamp s s2 is =
 
 pub returns-clause-rolled_back : goal.returns-clause-rolled_back
 returns-clause-rolled_back c epoch s = rolled_rises (roll_back_to (later s.promise (start_of epoch)) (sealed_of s)) epoch s
+
+pub returns-clause-run : goal.returns-clause-run
+returns-clause-run c block chunk s end calls leads = run_rises block chunk s end calls leads

@@ -6,7 +6,7 @@ use Rattle.gs_store.specs.Slots.{create, advance, drop_replica, take_lease, rise
 use Rattle.gs_store.specs.Moves.{take_copy, sound_image}
 use Rattle.gs_store.specs.Serving.{apply}
 use Rattle.gs_store.proofs.Laws.{of_ok, of_unless, of_raised, removed_stays, replaced_stays, risen_stays, marked_stays, edited_stays}
-use Rattle.gs_store.proofs.promises.sealed_images_stay.Goals as goal
+use Rattle.gs_store.proofs.seal_promises.sealed_images_stay.Goals as goal
 
 pub returns-clause-create : goal.returns-clause-create
 returns-clause-create c block chunk stamp s s2 is =
