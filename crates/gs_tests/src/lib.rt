@@ -4,11 +4,7 @@
 #[cfg(test)]
 mod blocks;
 #[cfg(test)]
-mod commands;
-#[cfg(test)]
 mod journal;
-#[cfg(test)]
-mod lines;
 #[cfg(test)]
 mod locks;
 #[cfg(test)]

@@ -230,42 +230,6 @@ fn scans_what_is_over(rt: HostRuntime) -> Result<(), Fail> {
     Ok(())
 }
 
-/// What a scan finds in names of a hidden file of two chunks, as edits.
-const SWEEP: [Step; 3] = [Step::Remove(HIDDEN_FILE), Step::Forget(1), Step::Forget(2)];
-
-#[test]
-fn a_scan_finds_nothing_behind_its_edits(rt: HostRuntime) -> Result<(), Fail> {
-    let mut player = hidden(rt.alloc())?;
-    play(&mut player, &SWEEP)?;
-    scan(&rt, &player, 259_206, 0, &[])?;
-    Ok(())
-}
-
-/// Two hidden directories. Of their parents' names the longer one stands behind the other, but of their texts before it.
-const TWO_HIDDEN: [Step; 4] = [
-    Step::Mkdirs("/b/a"),
-    Step::Mkdirs("/b.c/a"),
-    Step::Hide("/b/a"),
-    Step::Hide("/b.c/a"),
-];
-
-/// Whether the first path that a scan removes stands under another.
-fn removes_first(player: &Player, moment: u64, above: &str) -> Result<bool, Refusal> {
-    let above = path(player.alloc, above)?;
-    let scan = player.names.scan(Moment(moment))?;
-    match scan.removed.first() {
-        Some(first) => Ok(first.starts_with(&above)),
-        None => Ok(false),
-    }
-}
-
-#[test]
-fn a_scan_removes_in_the_order_of_texts(rt: HostRuntime) -> Result<(), Fail> {
-    let player = played(rt.alloc(), &TWO_HIDDEN)?;
-    assert!(rt; removes_first(&player, 259_206, "/b.c")?);
-    Ok(())
-}
-
 /// Names of a player's tree and of counts.
 fn built(player: &Player, counts: Refs) -> Result<Player, Refusal> {
     Ok(Player {

@@ -50,8 +50,8 @@ fn answers_scripts(rt: HostRuntime) -> Result<(), Fail> {
         ),
         // Deletions of nothing, of the root, and of a directory with a child.
         (
-            b"rm /x\nrm /\nmkdir /a/b\nrm /a\n",
-            "ok false\nrefused 9 IsRoot\nok\nrefused 7 NotEmpty\n",
+            b"rm /x\nrm /\nmkdir /a/b\nrm /a\nrm -r\nrm -r /a\n",
+            "ok false\nrefused 9 IsRoot\nok\nrefused 7 NotEmpty\nrefused 1 BadPath\nok /.deleted.00000000000000000000.00000000000000000001.a\n",
         ),
         // Hidden children are listed by their own path alone, and hinder no deletion.
         (
@@ -65,8 +65,8 @@ fn answers_scripts(rt: HostRuntime) -> Result<(), Fail> {
         ),
         // Lines that are not of the grammar; one that ends in \r\n, and a last one that has no end.
         (
-            b"\nls  /\nls /\xff\nls /\r\nls /",
-            "refused 34 BadLine\nrefused 34 BadLine\nrefused 34 BadLine\nok\nok\n",
+            b"\nls  /\nls /\xff\nls /\r\r\nls /\r\nls /",
+            "refused 34 BadLine\nrefused 34 BadLine\nrefused 34 BadLine\nrefused 1 BadPath\nok\nok\n",
         ),
     ];
     for (script, output) in rows {
@@ -97,34 +97,48 @@ fn rolls_back_many_edits(rt: HostRuntime) -> Result<(), Fail> {
     Ok(())
 }
 
-// A line of one byte more than may be held, and one after it.
+// The longest line that is held, one of one byte more, and one after it.
 #[test]
 fn refuses_a_line_that_is_too_long(rt: HostRuntime) -> Result<(), Fail> {
-    let mut script = vec![in rt.alloc(); b'x'; 1_048_577]?;
+    let mut script = vec![in rt.alloc(); b'/'; 1_048_576]?;
+    script[0] = b'l';
+    script[1] = b's';
+    script[2] = b' ';
+    script.extend_from_slice(b"\r\n")?;
+    script.resize(2_097_155, b'x')?;
     script.extend_from_slice(b"\nls /\n")?;
     let output = output_of(rt.alloc(), &script)?;
-    assert_eq!(rt; output.as_str(), "refused 34 BadLine\nok\n");
+    assert_eq!(rt;
+        output.as_str(),
+        "refused 1 BadPath\nrefused 34 BadLine\nok\n"
+    );
     Ok(())
 }
 
-/// A reader that fails behind its last byte.
+/// A reader that gives so many bytes at a time, is interrupted in between, and fails behind the last.
 #[derive(Drop)]
-struct Broken<'a> {
+struct Weak<'a> {
     rest: &'a [u8],
+    most: usize,
+    calls: u64,
 }
 
-impl Read for Broken<'_> {
+impl Read for Weak<'_> {
     fn read(&mut self, _buf: &mut [u8]) -> io::Result<usize> {
         Err(io::Error::from(ErrorKind::Other))
     }
 }
 
-impl BufRead for Broken<'_> {
+impl BufRead for Weak<'_> {
     fn fill_buf(&mut self) -> io::Result<&[u8]> {
+        self.calls = self.calls.wrapping_add(1);
+        if self.calls % 2 == 0 {
+            return Err(io::Error::from(ErrorKind::Interrupted));
+        }
         if self.rest.is_empty() {
             return Err(io::Error::from(ErrorKind::Other));
         }
-        Ok(self.rest)
+        Ok(&self.rest[..self.rest.len().min(self.most)])
     }
 
     fn consume(&mut self, amount: usize) {
@@ -132,15 +146,23 @@ impl BufRead for Broken<'_> {
     }
 }
 
+// A line takes as many reads as it needs, also one of 5,000 bytes that come one by one.
 #[test]
 fn stops_where_a_read_fails(rt: HostRuntime) -> Result<(), Fail> {
-    let mut input = Broken {
-        rest: b"mkdir /a\nls /\nls",
+    let mut script = vec![in rt.alloc(); b'x'; 5_000]?;
+    script.extend_from_slice(b"\nmkdir /a\nls /\nls")?;
+    let mut input = Weak {
+        rest: &script,
+        most: 1,
+        calls: 0,
     };
     let mut output = Vec::new(rt.alloc());
     let result = gs_shell::run(rt.alloc(), &mut input, &mut output);
     assert!(rt; matches!(result, Err(RunFault::Read)), "the fault");
-    assert_eq!(rt; output.as_slice(), b"ok\nok a/\n".as_slice());
+    assert_eq!(rt;
+        output.as_slice(),
+        b"refused 34 BadLine\nok\nok a/\n".as_slice()
+    );
     Ok(())
 }
 
