@@ -52,12 +52,12 @@ in_trash_goes s x (Some t) g = record { rises = g.rises; taken = taken_case g.ta
     taken_case (inl is) = inl is
     taken_case (inr l) = inr (record { stamp = l.stamp; promised = l.promised; taken = l.taken })
 
-is_granted : (stamp : Stamp) (s : Slot) (o : Option Refusal) (test : Bool) → first_of (o ∷ when (not test) (refusals.Stamp s.promise) ∷ []) ≡ None → test ≡ true
+pub is_granted : (stamp : Stamp) (s : Slot) (o : Option Refusal) (test : Bool) → first_of (o ∷ when (not test) (refusals.Stamp s.promise) ∷ []) ≡ None → test ≡ true
 is_granted stamp s None true e = refl
 is_granted stamp s None false e = absurd (cc)
 is_granted stamp s (Some f) test e = absurd (cc)
 
-first_none : (o p : Option Refusal) → first_of (o ∷ p ∷ []) ≡ None → o ≡ None
+pub first_none : (o p : Option Refusal) → first_of (o ∷ p ∷ []) ≡ None → o ≡ None
 first_none None p e = refl
 first_none (Some f) p e = absurd (cc)
 
@@ -143,7 +143,7 @@ keeps block chunk Unseals s none = refl
 keeps block chunk (RollsBack epoch) s none = roll_keeps (later s.promise (start_of epoch)) (roll_back_to (later s.promise (start_of epoch)) (sealed_of s)) s
 
 -- the order of stamps
-never_below : (a b c : Stamp) → is_before b a ≡ false → is_before c b ≡ false → is_before c a ≡ false
+pub never_below : (a b c : Stamp) → is_before b a ≡ false → is_before c b ≡ false → is_before c a ≡ false
 never_below a b c low high = grind (arith, nat_tests)
 
 between : (a b c : Stamp) → is_before b a ≡ false → is_before c b ≡ false → is_same a c ≡ true → is_same a b ≡ true
@@ -193,7 +193,7 @@ spent_refused stamp s spent = refused_case (unless_live s.live) (is_same stamp s
 same_itself : (a : Stamp) → is_same a a ≡ true
 same_itself a = grind (arith, nat_tests)
 
-not_before_same : (a b : Stamp) → is_same a b ≡ true → is_before b a ≡ false
+pub not_before_same : (a b : Stamp) → is_same a b ≡ true → is_before b a ≡ false
 not_before_same a b same = grind (arith, nat_tests)
 
 -- and one that was taken is spent

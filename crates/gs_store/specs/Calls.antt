@@ -1,7 +1,8 @@
 -- Runs of the calls that change a slot.
-use Rattle.std.specs.Prelude.{◌≡◌, ℕ, List, [], ◌∷◌, Option, Result, Ok, refl}
+use Rattle.std.specs.Prelude.{◌≡◌, ℕ, false, List, [], ◌∷◌, Option, Some, None, Result, Ok, refl}
 use Rattle.gs_base.specs.declared.numbers.Stamp.{Stamp}
 use Rattle.gs_base.specs.declared.numbers.ReqId.{ReqId}
+use Rattle.gs_base.specs.Stamps.{is_before}
 use Rattle.gs_base.specs.declared.refusal.Refusal.{Refusal}
 use Rattle.gs_replica.specs.declared.op.Op.{Op}
 use Rattle.gs_replica.specs.Held.{Held}
@@ -66,3 +67,23 @@ IsNoLease (RollsBack epoch) = Unit {0}
 -- created, and its lease taken
 a_run_of_two_calls : LeadsTo 4 16 nothing (Creates (stamp_of 0 1) ∷ TakesLease (stamp_of 0 1) ∷ []) (taking (stamp_of 0 1) (standing (empty_replica (stamp_of 0 1))))
 a_run_of_two_calls = (standing (empty_replica (stamp_of 0 1)), refl, (taking (stamp_of 0 1) (standing (empty_replica (stamp_of 0 1))), refl, refl))
+
+-- what a call brings is of the store's sizes, and was sealed under no stamp above its own
+abbrev pub SealedBy : Stamp → Option SealedImage → Type 0
+SealedBy stamp None = Unit {0}
+SealedBy stamp (Some i) = is_before stamp i.stamp ≡ false
+
+abbrev pub Fits : ℕ → ℕ → Call → Type 0
+Fits block chunk (CopiesIn stamp image sealed) = SealedBy stamp sealed
+Fits block chunk (TakesCopy h) = (h.chunk.block ≡ block) × (h.chunk.chunk ≡ chunk)
+Fits block chunk (Creates stamp) = Unit {0}
+Fits block chunk (Advances stamp) = Unit {0}
+Fits block chunk (Drops promise) = Unit {0}
+Fits block chunk (TakesLease stamp) = Unit {0}
+Fits block chunk Loses = Unit {0}
+Fits block chunk (Damages index) = Unit {0}
+Fits block chunk (MarksBad index) = Unit {0}
+Fits block chunk (Applies stamp number req op bytes) = Unit {0}
+Fits block chunk Seals = Unit {0}
+Fits block chunk Unseals = Unit {0}
+Fits block chunk (RollsBack epoch) = Unit {0}

@@ -6,11 +6,12 @@ ghost use Rattle.gs_base.specs.declared.numbers.Stamp.{Stamp};
 ghost use Rattle.gs_base.specs.Stamps.{is_before, is_same};
 ghost use Rattle.gs_replica.specs.Held.{Held};
 ghost use Rattle.gs_replica.specs.Seals.{State};
-ghost use Rattle.gs_store.specs.Slots.{Live, Slot, create, advance, drop_replica, take_lease, lose, mark_bad};
+ghost use Rattle.gs_store.specs.Slots.{Live, Slot, nothing, create, advance, drop_replica, take_lease, lose, mark_bad};
 ghost use Rattle.gs_store.specs.Serving.{read};
 ghost use Rattle.gs_store.specs.Moves.{copy_out, copy_for, take_copy};
 ghost use Rattle.gs_store.specs.Learning.{prepared, finalized, rolled_back};
-ghost use Rattle.gs_store.specs.Calls.{Call, called, LeadsTo, IsNoLease};
+ghost use Rattle.gs_store.specs.Calls.{Call, called, LeadsTo, IsNoLease, Fits};
+ghost use Rattle.gs_store.specs.Whole.{IsSlotOf};
 
 /// A promise never falls, also at a rollback.
 pub fn promises_never_fall()
@@ -25,6 +26,14 @@ pub fn promises_never_fall()
     ensures finalized { (s : Slot) → (finalized s).promise ≡ s.promise }
     ensures rolled_back { (epoch : ℕ) (s : Slot) → is_before (rolled_back epoch s).promise s.promise ≡ false }
     ensures run { (block chunk : ℕ) (s end : Slot) (calls : List Call) → LeadsTo block chunk s calls end → is_before end.promise s.promise ≡ false }
+{}
+
+/// What every slot in memory keeps stays through each call whose arguments fit the store, and a slot of which nothing was heard
+/// keeps it: the live replica stands under the promise; what is in the trash is sealed, and stands beside no live replica that is;
+/// the promise is never below the lease taken last, nor below the stamp of the seal; and all replicas are of the store's sizes.
+pub fn slots_stay_whole()
+    ensures new { (block chunk : ℕ) → IsSlotOf block chunk nothing }
+    ensures call { (block chunk : ℕ) (c : Call) (s s2 : Slot) → Fits block chunk c → IsSlotOf block chunk s → called block chunk c s ≡ Ok s2 → IsSlotOf block chunk s2 }
 {}
 
 /// A lease is taken of the promised stamp, and once for good: whatever calls come between, it is not taken again. No other call
