@@ -87,3 +87,25 @@ Fits block chunk (Applies stamp number req op bytes) = Unit {0}
 Fits block chunk Seals = Unit {0}
 Fits block chunk Unseals = Unit {0}
 Fits block chunk (RollsBack epoch) = Unit {0}
+
+-- any call that leaves what a rollback of the handle gives to its blocks: no prepare, finalize, rollback, loss, nor a copy with an
+-- image
+abbrev pub KeepsSeal : Call → Type 0
+KeepsSeal (CopiesIn stamp image None) = Unit {0}
+KeepsSeal (CopiesIn stamp image (Some i)) = ⊥
+KeepsSeal (TakesCopy h) = Unit {0}
+KeepsSeal (Creates stamp) = Unit {0}
+KeepsSeal (Advances stamp) = Unit {0}
+KeepsSeal (Drops promise) = Unit {0}
+KeepsSeal (TakesLease stamp) = Unit {0}
+KeepsSeal Loses = ⊥
+KeepsSeal (Damages index) = Unit {0}
+KeepsSeal (MarksBad index) = Unit {0}
+KeepsSeal (Applies stamp number req op bytes) = Unit {0}
+KeepsSeal Seals = ⊥
+KeepsSeal Unseals = ⊥
+KeepsSeal (RollsBack epoch) = ⊥
+
+abbrev pub KeepSeal : List Call → Type 0
+KeepSeal [] = Unit {0}
+KeepSeal (c ∷ calls) = KeepsSeal c × KeepSeal calls

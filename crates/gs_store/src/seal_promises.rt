@@ -16,6 +16,7 @@ ghost use Rattle.gs_store.specs.Whole.{IsWholeSlot};
 ghost use Rattle.gs_store.specs.Serving.{apply};
 ghost use Rattle.gs_store.specs.Moves.{take_copy, sound_image};
 ghost use Rattle.gs_store.specs.Learning.{prepared, finalized, rolled_back, is_named, later, start_of};
+ghost use Rattle.gs_store.specs.Calls.{Call, LeadsTo, KeepSeal};
 ghost use Rattle.gs_store.specs.Standing.{StandsIn, StoodIn, LiveUndamaged, struck_by_damage, undone_in};
 
 /// What is sealed of a handle stays the same image, wherever it stands: beneath replicas that are made, copied or dropped, under
@@ -63,4 +64,11 @@ pub fn rollbacks_give_what_was_sealed()
     ensures live { (epoch : ℕ) (s : Slot) → is_some (rolled_back epoch s).live ≡ is_some (sound_image (sealed_of s)) }
     ensures gone { (epoch : ℕ) (s : Slot) → (sealed_of (rolled_back epoch s) ≡ None) × ((rolled_back epoch s).trash ≡ None) × (bad_in (rolled_back epoch s).live ≡ None) }
     ensures named { (epoch : ℕ) (s : Slot) → IsWholeSlot s → is_named epoch (rolled_back epoch s) ≡ (is_some (sound_image (sealed_of s)) && not (is_before (start_of epoch) s.promise)) }
+{}
+
+/// Over a whole run of calls: what the sealed image stood for it stands for at the end, so a slot that was prepared while its
+/// live replica stood for a list rolls back, where it does, to an undamaged replica of that list.
+pub fn prepared_slots_go_back()
+    ensures stood { (block chunk : ℕ) (s end : Slot) (edits : List Edit) (calls : List Call) → StoodIn block chunk s edits → KeepSeal calls → LeadsTo block chunk s calls end → StoodIn block chunk end edits }
+    ensures back { (block chunk epoch : ℕ) (s end : Slot) (edits : List Edit) (calls : List Call) → StandsIn block chunk s edits → KeepSeal calls → LeadsTo block chunk (prepared s) calls end → is_some (rolled_back epoch end).live ≡ true → StandsIn block chunk (rolled_back epoch end) edits × LiveUndamaged (rolled_back epoch end).live }
 {}
