@@ -1,22 +1,20 @@
 -- Calls of a replica that stands in a slot.
-use Rattle.std.proofs.Common.{◌≡◌, ℕ, Bool, true, false, cond, length, List, Option, Some, None, refl, sym, ap, subst, ◌∙◌, inl, inr}
-use Rattle.std.specs.Prelude.{Result, Ok, Err, is_some, nat_lt, ◌⊎◌}
+use Rattle.std.proofs.Common.{◌≡◌, ℕ, Bool, true, false, cond, length, List, Option, Some, None, sym, ap, subst, ◌∙◌, inl, inr}
+use Rattle.std.specs.Prelude.{Result, Ok, Err, nat_lt, ◌⊎◌}
 use Rattle.gs_base.specs.declared.numbers.Stamp.{Stamp}
-use Rattle.gs_base.specs.Stamps.{is_before}
 use Rattle.gs_base.specs.declared.numbers.ReqId.{ReqId}
 use Rattle.gs_base.specs.declared.refusal.Refusal.{Refusal}
 use Rattle.gs_block.specs.Stored.{digests_of}
-use Rattle.gs_block.specs.Follows.{Follows, FollowsOf, Foretells, MakesOf}
+use Rattle.gs_block.specs.Follows.{Follows, MakesOf}
 use Rattle.gs_replica.specs.declared.op.Op.{Op}
 use Rattle.gs_replica.specs.Edits as edits
 use Rattle.gs_replica.specs.Seals.{Sealed, State, with_seal}
 use Rattle.gs_replica.specs.Seals as replicas
-use Rattle.gs_store.specs.Slots.{Live, Slot, with_live, replaced, again}
+use Rattle.gs_store.specs.Slots.{Live, Slot, with_live}
 use Rattle.gs_replica.specs.Copies.{Image, SealedImage, image_of, of_image, and_then}
 use Rattle.gs_base.specs.declared.refusal.Refusal.TheVariants as refusals
 use Rattle.gs_block.specs.declared.refused.Refused.{Refused}
-use Rattle.gs_store.specs.declared.moves.CopyImages.{CopyImages}
-use Rattle.gs_store.specs.Moves.{carried_in, replicas_of, in_trash, copied_in, copy_in}
+use Rattle.gs_store.specs.Moves.{carried_in, replicas_of}
 use Rattle.gs_store.specs.Serving.{apply, apply_to}
 
 abbrev pub standing_in : Slot → Option ℕ → State → Slot
@@ -75,21 +73,6 @@ why_case (Err g) n r sealed f e made is same = absurd (cc)
 pub reason : (block chunk : ℕ) (stamp : Stamp) (i : Image) (sealed : Option SealedImage) (r : State) (f : Refused (Option SealedImage)) (e : Refusal) → MakesOf {A = State} i (of_image block chunk stamp i) (Ok r) →
     MakesOf {A = Option State} sealed (carried_in block chunk sealed) (Err f) → e ≡ f.refusal → (e ≡ refusals.Memory) ⊎ (replicas_of block chunk stamp i sealed ≡ Err e)
 reason block chunk stamp i sealed r f e made is same = why_case (of_image block chunk stamp i) (carried_in block chunk sealed) r sealed f e (made_ok i (of_image block chunk stamp i) r made) is same
-
-lack_case : (given : CopyImages) (m : Result (State × Option State) Refusal) (k : State × Option State → Slot) (f : Refused CopyImages) (s : Slot) → Foretells {A = Slot} {B = Unit {0}} (and_then m (λ p. Ok (k p))) (Ok tt) →
-    (f.refusal ≡ refusals.Memory) ⊎ (m ≡ Err f.refusal) → f.given ≡ given → FollowsOf {A = Slot} {B = Unit {0}} given (and_then m (λ p. Ok (k p))) (Err f) s s
-lack_case given (Ok p) k f s fits (inl is) back = (is, back, refl)
-lack_case given (Ok p) k f s fits (inr is) back = absurd (cc)
-lack_case given (Err e) k f s fits why back = elim fits [ ]
-
--- images that fit are refused for want of memory alone
-pub lacks : (block chunk : ℕ) (stamp : Stamp) (given : CopyImages) (f : Refused CopyImages) (s : Slot) → is_before s.promise stamp ≡ true → Foretells {A = Slot} {B = Unit {0}} (copy_in block chunk stamp given.image given.sealed s) (Ok tt) →
-    (f.refusal ≡ refusals.Memory) ⊎ (replicas_of block chunk stamp given.image given.sealed ≡ Err f.refusal) → f.given ≡ given →
-    FollowsOf {A = Slot} {B = Unit {0}} given (copy_in block chunk stamp given.image given.sealed s) (Err f) s s
-lacks block chunk stamp given f s above fits why back =
-    let there : Bool → Result Slot Refusal = λ b. cond b (copied_in block chunk stamp given.image given.sealed s) (again stamp s) in
-    subst (λ b. FollowsOf {A = Slot} {B = Unit {0}} given (there b) (Err f) s s) (sym above)
-    (lack_case given (replicas_of block chunk stamp given.image given.sealed) (λ p. in_trash p.1 (replaced stamp (is_some given.sealed) p.0 s)) f s (subst (λ b. Foretells {A = Slot} {B = Unit {0}} (there b) (Ok tt)) above fits) why back)
 
 -- a refused call leaves what it was given
 pub stays : (A B : Type 0) (m : Result A Refusal) (f : Refusal) (old new : A) → Follows {A = A} {B = B} m (Err f) old new → new ≡ old

@@ -105,16 +105,12 @@ impl Slot {
             return Ok(());
         }
         let carried = given.sealed.is_some();
-        match replicas_of(alloc, sizes, stamp, given.image, given.sealed) {
-            Ok((replica, trash)) => {
-                self.replace(stamp, carried, replica);
-                if trash.is_some() {
-                    self.trash = trash;
-                }
-                Ok(())
-            }
-            Err(refused) => Err(refused),
+        let (replica, trash) = replicas_of(alloc, sizes, stamp, given.image, given.sealed)?;
+        self.replace(stamp, carried, replica);
+        if trash.is_some() {
+            self.trash = trash;
         }
+        Ok(())
     }
 
     /// Judges what a copy carries, as `copy_in` does.
