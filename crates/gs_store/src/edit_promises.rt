@@ -1,16 +1,18 @@
 //! What holds of a slot's live replica, whatever edits and damage came.
 
-ghost use Rattle.std.specs.Prelude.{◌≡◌, ◌≤◌, ◌<◌, ℕ, List, [], ◌∷◌, ◌++◌, length, take, drop, true, Ok, Some};
+ghost use Rattle.std.specs.Prelude.{◌≡◌, ◌≤◌, ◌<◌, ℕ, List, [], ◌∷◌, ◌++◌, length, take, drop, true, is_ok, Ok, Err, Some, None};
 ghost use Rattle.std.specs.FinMap as fin;
 ghost use Rattle.gs_base.specs.declared.numbers.Stamp.{Stamp};
 ghost use Rattle.gs_base.specs.declared.numbers.ReqId.{ReqId};
 ghost use Rattle.gs_base.specs.Stamps.{is_before};
-ghost use Rattle.gs_block.specs.Stored.{block_at, digest_at, is_intact};
+ghost use Rattle.gs_base.specs.declared.refusal.Refusal.{Refusal};
+ghost use Rattle.gs_block.specs.Stored.{Stored, block_at, digest_at, is_intact};
 ghost use Rattle.gs_replica.specs.declared.op.Op.{Op};
+ghost use Rattle.gs_replica.specs.Edits.{judged};
 ghost use Rattle.gs_replica.specs.Stands.{Edit, replica_of};
 ghost use Rattle.gs_store.specs.Slots.{Live, Slot, create, advance, take_lease, damage, mark_bad, count_of};
 ghost use Rattle.gs_store.specs.Whole.{LiveUnder};
-ghost use Rattle.gs_store.specs.Serving.{apply, read, text_length, digest, done_in};
+ghost use Rattle.gs_store.specs.Serving.{apply, edited_in, read, text_length, digest, done_in};
 ghost use Rattle.gs_store.specs.Standing.{StandsIn, IsToldIn, IsNextEdit};
 
 /// Which list of edits a live replica stands for, call by call. An edit has for a premise that digests tell the replica's blocks
@@ -39,4 +41,11 @@ pub fn slots_give_what_their_edits_give()
 /// a request is applied once.
 pub fn edits_are_taken_once()
     ensures { (stamp : Stamp) (number : ℕ) (req : ReqId) (op : Op) (bytes : List ℕ) (s s2 : Slot) → LiveUnder s.promise s.live → apply stamp number req op bytes s ≡ Ok s2 → IsNextEdit stamp number req s s2 }
+{}
+
+/// An edit that comes under the promise, as the next number and of a new request is refused exactly as it is judged by the chunk
+/// alone. So one that is judged beforehand is refused afterwards for want of memory alone.
+pub fn edits_are_refused_as_they_are_judged()
+    ensures refused { (stamp : Stamp) (number : ℕ) (req : ReqId) (op : Op) (bytes : List ℕ) (s : Slot) (l : Live) (e : Refusal) → s.live ≡ Some l → judged stamp number req l.replica.held ≡ None → edited_in op bytes s.live ≡ Err e → apply stamp number req op bytes s ≡ Err e }
+    ensures taken { (stamp : Stamp) (number : ℕ) (req : ReqId) (op : Op) (bytes : List ℕ) (s : Slot) (l : Live) (u : Stored) → s.live ≡ Some l → judged stamp number req l.replica.held ≡ None → edited_in op bytes s.live ≡ Ok u → is_ok (apply stamp number req op bytes s) ≡ true }
 {}
