@@ -5,3 +5,6 @@ pub mod Moves
 pub mod Learning
 pub mod Standing
 pub mod Calls
+pub mod Buffers
+pub mod Stores
+pub mod inner

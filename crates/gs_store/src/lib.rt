@@ -7,9 +7,11 @@ mod learn;
 mod moves;
 pub mod promises;
 pub mod seal_promises;
+mod report;
 mod serve;
 mod slot;
 
 pub use learn::PreparedSlot;
 pub use moves::{CopyImages, PreparedCopy};
+pub use report::ReplicaReport;
 pub use slot::Slot;
