@@ -7,4 +7,5 @@ pub mod Standing
 pub mod Calls
 pub mod Buffers
 pub mod Stores
+pub mod Reported
 pub mod inner

@@ -41,6 +41,13 @@ coded_store =
 abbrev pub new : ℕ → ℕ → Store
 new block chunk = record { block = block; chunk = chunk; epoch = 0; slots = fin.empty; buffer = [] }
 
+-- a call does what the definition says, or what it accepts lacks memory and changes nothing
+abbrev pub Performs : {A B : Type 0} → Result A Refusal → Result B Refusal → A → A → Type 0
+Performs (Ok a) (Ok b) old new = new ≡ a
+Performs (Err e) (Ok b) old new = ⊥
+Performs (Ok a) (Err f) old new = (f ≡ refusals.Memory) × (new ≡ old)
+Performs (Err e) (Err f) old new = (f ≡ e) × (new ≡ old)
+
 -- ---- one handle
 
 -- a handle without a slot is like one whose slot is empty
@@ -120,6 +127,17 @@ apply_with handle stamp number req op s (Some bytes) = used req (apply handle st
 
 abbrev pub apply_pushed : ℕ → Stamp → ℕ → ReqId → Op → Store → Result Store Refusal
 apply_pushed handle stamp number req op s = apply_with handle stamp number req op s (pushed req s.buffer)
+
+-- what of it is refused before any block is verified
+abbrev pub foreseen_with : ℕ → Stamp → ℕ → ReqId → Op → Store → Option (List ℕ) → Option Refusal
+foreseen_with handle stamp number req op s None = Some refusals.NoData
+foreseen_with handle stamp number req op s (Some bytes) = serving.foreseen stamp number req op bytes (slot_of handle s).live
+
+abbrev pub foreseen_pushed : ℕ → Stamp → ℕ → ReqId → Op → Store → Option Refusal
+foreseen_pushed handle stamp number req op s = foreseen_with handle stamp number req op s (pushed req s.buffer)
+
+abbrev pub take_pushed : ReqId → Store → Store
+take_pushed req s = with_buffer (without req s.buffer) s
 
 abbrev pub restarted : Store → Store
 restarted s = with_buffer [] s

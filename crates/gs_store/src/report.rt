@@ -1,4 +1,12 @@
+ghost use Rattle.std.specs.Prelude.{◌≡◌};
+ghost use Rattle.std.specs.Iterator.{YieldsFirstBy, item_count};
+ghost use Rattle.gs_store.specs.Stores.{report};
+
+use crate::slot::Slot;
+use crate::store::Store;
 use gs_base::{Handle, Stamp};
+use gs_table::Entries;
+use std::marker::Model;
 
 /// What is told of a live replica.
 #[derive(Clone, Copy, Debug, PartialEq, Eq)]
@@ -7,4 +15,60 @@ pub struct ReplicaReport {
     pub promise: Stamp,
     /// Whether a block hadn't its digest.
     pub is_bad: bool,
+}
+
+/// What is told of each live replica, ascending by handle. It takes no memory.
+#[derive(Drop)]
+pub struct Reports<'a> {
+    places: Entries<'a, Handle, usize>,
+    slots: &'a [Slot],
+}
+
+impl<'a> Model for Reports<'a> {
+    ghost use Rattle.std.specs.Prelude.{List};
+    ghost use Rattle.gs_store.specs.declared.report.ReplicaReport.{ReplicaReport};
+    ghost use Rattle.gs_store.specs.Reported.{coded_reports};
+    ghost use Rattle.gs_store.specs.Stores.{reports_of};
+    ghost use Rattle.gs_store.specs.inner.Placed.{entries_at};
+
+    ghost Value = { List ReplicaReport };
+
+    ghost coded = { coded_reports };
+
+    ghost view = { λ r. reports_of (entries_at r.places r.slots.now) };
+}
+
+impl<'a> Iterator for Reports<'a> {
+    type Item = ReplicaReport;
+
+    ghost next_gives = { YieldsFirstBy (λ report. report) (λ rest. rest) };
+
+    ghost remaining = { item_count (λ rest. rest) };
+
+    fn next(&mut self) -> Option<ReplicaReport> {
+        while let Some((handle, place)) = self.places.next() {
+            if let Some(slot) = self.slots.get(*place) {
+                if let Some(live) = &slot.live {
+                    return Some(ReplicaReport {
+                        handle,
+                        promise: slot.promise,
+                        is_bad: live.bad.is_some(),
+                    });
+                }
+            }
+        }
+        None
+    }
+}
+
+impl Store {
+    /// What is told of each live replica, ascending by handle. It takes no memory.
+    pub fn report(&self) -> Reports<'_>
+        ensures { result ≡ report self.entry.now }
+    {
+        Reports {
+            places: self.places.iter(),
+            slots: self.slots.as_slice(),
+        }
+    }
 }

@@ -1,0 +1,20 @@
+-- What is told of slots that stand at places.
+use Rattle.std.proofs.Common.{◌≡◌, ℕ, Bool, true, false, cond, List, [], ◌∷◌, ◌++◌, map, get_or, Option, Some, None, refl, sym, ap, subst, ◌∙◌, append_assoc, append-nil}
+use Rattle.std.specs.FinMap as fin
+use Rattle.std.specs.Ordering.{nat_cmp}
+use Rattle.gs_store.specs.Slots.{Slot, nothing}
+use Rattle.gs_store.specs.Stores.{Store, named_of, named, report, reports_of, report_before}
+use Rattle.gs_store.specs.inner.Placed.{slot_at, slots_at, entries_at}
+use Rattle.gs_store.proofs.Maps.{entries-each}
+use Rattle.gs_store.proofs.Changes.{seen}
+use Rattle.gs_store.specs.Buffers.{Pushes}
+
+module _ (block chunk epoch : ℕ) (places : fin.FinMap nat_cmp ℕ) (slots : List Slot) (buffer : Pushes) (s : Store) (view : seen block chunk epoch places slots buffer ≡ s) where
+  entries_seen : fin.entries s.slots ≡ entries_at (fin.entries places) slots
+  entries_seen = ap (λ x. fin.entries x.slots) (sym view) ∙ entries-each nat_cmp (slot_at slots) places
+
+  pub named_seen : (e : ℕ) → named e s ≡ named_of e (entries_at (fin.entries places) slots)
+  named_seen e = ap (named_of e) entries_seen
+
+  pub report_seen : report s ≡ reports_of (entries_at (fin.entries places) slots)
+  report_seen = ap reports_of entries_seen

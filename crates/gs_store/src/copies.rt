@@ -1,0 +1,72 @@
+ghost use Rattle.std.specs.Prelude.{◌≡◌};
+ghost use Rattle.gs_block.specs.Follows.{FollowsOf, Gives};
+ghost use Rattle.gs_store.specs.Slots.{nothing};
+ghost use Rattle.gs_store.specs.Moves.{copy_out};
+ghost use Rattle.gs_store.specs.Stores.{Performs, slot_of, copy_in, make_copy};
+
+use crate::moves::CopyImages;
+use crate::slot::Slot;
+use crate::store::Store;
+use gs_base::{Handle, Refusal, Stamp};
+use gs_block::Refused;
+
+impl Store {
+    /// What is kept of a handle, or an empty slot.
+    fn slot_or<'a>(&'a self, handle: Handle, empty: &'a Slot) -> &'a Slot
+        requires { empty.now ≡ nothing }
+        ensures { result.now ≡ slot_of handle self.entry.now }
+    {
+        match self.slot(handle) {
+            Some(slot) => slot,
+            None => empty,
+        }
+    }
+
+    /// What a copy carries of a handle's live replica and, where it is asked for, of its sealed image. `Stamp` with the
+    /// promise where another is named, `NoReplica` where none is live, and `Damaged` where it is bad or a block fails. All
+    /// this is answered whatever memory there is.
+    pub fn copy_out(
+        &self,
+        handle: Handle,
+        stamp: Stamp,
+        with_sealed: bool,
+    ) -> Result<CopyImages, Refusal>
+        ensures { Gives (λ copy. (copy.image, copy.sealed)) (copy_out stamp with_sealed (slot_of handle self.now)) result }
+    {
+        match self.slot(handle) {
+            Some(slot) => slot.copy_out(stamp, with_sealed),
+            None => Slot::new().copy_out(stamp, with_sealed),
+        }
+    }
+
+    /// Makes a copy of a handle's live replica live under another handle, or under the same one in place of the replica that
+    /// it was made of. The first handle is judged first: `Stamp` with the promise where another is named, `NoReplica` where
+    /// none is live, and `Damaged` where it is bad or a block fails. Then the new one: a stamp that is promised already is
+    /// answered again where a replica is live, and else is `Old` where it isn't above the promise. All this is answered
+    /// whatever memory there is.
+    pub fn make_copy(
+        &mut self,
+        handle: Handle,
+        at: Stamp,
+        new_handle: Handle,
+        stamp: Stamp,
+    ) -> Result<(), Refusal>
+        ensures { Performs (make_copy handle at new_handle stamp self.old) result self.old self.new }
+    {
+        let empty = Slot::new();
+        let target = self.slot_or(new_handle, &empty);
+        let copy = match self.slot_or(handle, &empty).copy_for(at, stamp, target) {
+            Ok(Some(copy)) => copy,
+            Ok(None) => return Ok(()),
+            Err(refusal) => return Err(refusal),
+        };
+        let Some(place) = self.places.get(new_handle) else {
+            let mut slot = Slot::new();
+            if let Err(refusal) = slot.take_copy(copy) {
+                return Err(refusal);
+            }
+            return self.add(new_handle, slot);
+        };
+        self.slots[*place].take_copy(copy)
+    }
+}
