@@ -1,5 +1,6 @@
 -- Calls of a replica that stands in a slot.
-use Rattle.std.proofs.Common.{◌≡◌, ℕ, Bool, true, false, cond, length, List, Option, Some, None, sym, ap, subst, ◌∙◌, inl, inr}
+use Rattle.std.proofs.Common.{◌≡◌, ℕ, Bool, true, false, cond, length, List, Option, Some, None, sym, ap, subst, ◌∙◌, inl, inr, true≢false}
+use Rattle.std.specs.Result.{IsErr, IsErrAnd}
 use Rattle.std.specs.Prelude.{Result, Ok, Err, nat_lt, ◌⊎◌}
 use Rattle.gs_base.specs.declared.numbers.Stamp.{Stamp}
 use Rattle.gs_base.specs.declared.numbers.ReqId.{ReqId}
@@ -78,3 +79,8 @@ reason block chunk stamp i sealed r f e made is same = why_case (of_image block 
 pub stays : (A B : Type 0) (m : Result A Refusal) (f : Refusal) (old new : A) → Follows {A = A} {B = B} m (Err f) old new → new ≡ old
 stays A B (Ok a) f old new is = is.1
 stays A B (Err e) f old new is = is.1
+
+-- a refusal that goes on is the same
+pub refused_so : (B : Type 0) (a : Result B Refusal) (e : Refusal) (m : Result Slot Refusal) (old new : Slot) → IsErr a → IsErrAnd a (λ f. f ≡ e) → Follows {B = B} m (Err e) old new → Follows {B = B} m a old new
+refused_so B (Ok b) e m old new err is f = absurd (true≢false (sym err))
+refused_so B (Err g) e m old new err is f = subst (λ (x : Refusal). Follows {B = B} m (Err x) old new) (sym is) f

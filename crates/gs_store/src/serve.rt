@@ -24,9 +24,7 @@ impl Slot {
         let Some(live) = &mut self.live else {
             return Err(Refusal::NoReplica);
         };
-        if let Err(refusal) = live.replica.apply(stamp, number, req, op, bytes) {
-            return Err(refusal);
-        }
+        live.replica.apply(stamp, number, req, op, bytes)?;
         Ok(())
     }
 
