@@ -1,13 +1,14 @@
 -- Calls of one handle, where its slot stands in a list.
 use Rattle.std.proofs.Common.{inl, ◌≡◌, ℕ, ◌<◌, Bool, true, false, cond, List, [], ◌∷◌, ◌++◌, get_or, slice_set, length, Option, Some, None, refl, sym, ap, subst, ◌∙◌}
-use Rattle.std.specs.Prelude.{◌⊎◌, Result, Ok, Err, Vec, vec_len, not, is_some, option_map, OnOk, OnErr, IfErr}
+use Rattle.std.specs.Prelude.{◌⊎◌, Result, Ok, Err, Vec, vec_len, not, is_ok, is_some, option_map, OnOk, OnErr, IfErr}
 use Rattle.std.specs.declared.alloc.Global.{Global}
 use Rattle.std.proofs.lemmas.List.{set-get_or, get_or_read_under}
 use Rattle.std.specs.FinMap as fin
 use Rattle.std.specs.Ordering.{nat_cmp}
 use Rattle.gs_base.specs.declared.refusal.Refusal.{Refusal}
 use Rattle.gs_base.specs.declared.refusal.Refusal.TheVariants as refusals
-use Rattle.gs_block.specs.Follows.{Does, Follows, Refuses}
+use Rattle.gs_block.specs.declared.refused.Refused.{Refused}
+use Rattle.gs_block.specs.Follows.{Does, Follows, FollowsOf, Refuses}
 use Rattle.gs_base.specs.declared.numbers.Stamp.{Stamp}
 use Rattle.gs_base.specs.Stamps.{is_same}
 use Rattle.gs_store.specs.Slots.{Slot, nothing, first_stamp, drop_replica, when, unless, first_of}
@@ -94,6 +95,15 @@ module _ (block chunk epoch : ℕ) (places : fin.FinMap nat_cmp ℕ) (v : Vec Sl
           by_case (Ok u) (Err f) h = (h.0, unchanged new h.1)
           by_case (Err e) (Err f) h = (h.0, unchanged new h.1)
 
+      pub follows_of_at : (G : Type 0) (given : G) (r' : Result A (Refused G)) → FollowsOf {B = A} given (call t) r' t new → FollowsOf {B = A} given (at_slot handle call s) r' s (after new)
+      follows_of_at G given r' does = subst (λ u. FollowsOf {B = A} given (put_slot handle s (call u)) r' s (after new)) (sym (known s handle t get_place)) (by_case (call t) r' does)
+        where
+          by_case : (m : Result Slot Refusal) (r' : Result A (Refused G)) → FollowsOf {B = A} given m r' t new → FollowsOf {B = A} given (put_slot handle s m) r' s (after new)
+          by_case (Ok u) (Ok b) h = changed new ∙ ap (λ x. with_slot handle x s) h
+          by_case (Err e) (Ok b) h = h
+          by_case (Ok u) (Err f) h = (h.0, h.1, unchanged new h.2)
+          by_case (Err e) (Err f) h = (h.0, h.1, unchanged new h.2)
+
 -- a call that the empty slot refuses
 abbrev pub Fails : Result Slot Refusal → Type 0
 Fails (Ok t) = ⊥
@@ -158,3 +168,24 @@ module _ (s : Store) (handle : ℕ) (call : Slot → Result Slot Refusal) (none 
 pub if_err : (A E : Type 0) (r : Result A E) (P : E → Type 0) → ((e : E) → P e) → IfErr r P
 if_err A E (Ok a) P h = tt
 if_err A E (Err e) P h = h e
+
+module _ (s : Store) (handle : ℕ) (call : Slot → Result Slot Refusal) (none : fin.get s.slots handle ≡ None) (A G : Type 0) (given : G) where
+  pub new_handed_back : (f : Refused G) (t : Slot) (new : Store) → FollowsOf {B = A} given (call nothing) (Err f) nothing t → new ≡ s → FollowsOf {B = A} given (at_slot handle call s) (Err f) s new
+  new_handed_back f t new does same = subst (λ u. FollowsOf {B = A} given (put_slot handle s (call u)) (Err f) s new) (sym (unknown s handle none)) (by_case (call nothing) does)
+    where
+      by_case : (m : Result Slot Refusal) → FollowsOf {B = A} given m (Err f) nothing t → FollowsOf {B = A} given (put_slot handle s m) (Err f) s new
+      by_case (Ok u) h = (h.0, h.1, same)
+      by_case (Err e) h = (h.0, h.1, same)
+
+  pub new_of : (a : A) (t : Slot) (new : Store) → FollowsOf {B = A} given (call nothing) (Ok a) nothing t → new ≡ with_slot handle t s → FollowsOf {B = A} given (at_slot handle call s) (Ok a) s new
+  new_of a t new does is = subst (λ u. FollowsOf {B = A} given (put_slot handle s (call u)) (Ok a) s new) (sym (unknown s handle none)) (by_case (call nothing) does)
+    where
+      by_case : (m : Result Slot Refusal) → FollowsOf {B = A} given m (Ok a) nothing t → FollowsOf {B = A} given (put_slot handle s m) (Ok a) s new
+      by_case (Ok u) h = is ∙ ap (λ x. with_slot handle x s) h
+      by_case (Err e) h = absurd h
+
+pub same_room : (block chunk epoch : ℕ) (p q : fin.FinMap nat_cmp ℕ) (l m : List Slot) (buffer : Pushes) (s : Store) → p ≡ q → l ≡ m → seen block chunk epoch q m buffer ≡ s → seen block chunk epoch p l buffer ≡ s
+same_room block chunk epoch p q l m buffer s places items view = ap (λ x. seen block chunk epoch x l buffer) places ∙ ap (λ x. seen block chunk epoch q x buffer) items ∙ view
+
+pub pushed_items : (A E : Type 0) (r : Result A E) (a : A) (new xs ys : List Slot) (t : Slot) → new ≡ cond (is_ok r) (xs ++ t ∷ []) xs → r ≡ Ok a → xs ≡ ys → new ≡ ys ++ t ∷ []
+pushed_items A E r a new xs ys t items is same = items ∙ ap (λ x. cond (is_ok x) (xs ++ t ∷ []) xs) is ∙ ap (λ x. x ++ t ∷ []) same

@@ -1,4 +1,5 @@
-ghost use Rattle.std.specs.Prelude.{◌≡◌};
+ghost use Rattle.std.specs.Prelude.{◌≡◌, None};
+ghost use Rattle.std.specs.FinMap as fin;
 ghost use Rattle.gs_block.specs.Follows.{FollowsOf, Gives};
 ghost use Rattle.gs_store.specs.Slots.{nothing};
 ghost use Rattle.gs_store.specs.Moves.{copy_out};
@@ -68,5 +69,53 @@ impl Store {
             return self.add(new_handle, slot);
         };
         self.slots[*place].take_copy(copy)
+    }
+
+    /// Makes what a copy carries live under a stamp above a handle's promise, in place of the replica that was live. A sealed
+    /// image that it carries takes the place of the handle's own. A stamp that is promised already is answered again where a
+    /// replica is live; else it is `Old`. `Range` and `BadLine` where an image does not fit. All this is answered whatever
+    /// memory there is. A refused call hands back what it was given, also where it has no memory.
+    pub fn copy_in(
+        &mut self,
+        handle: Handle,
+        stamp: Stamp,
+        given: CopyImages,
+    ) -> Result<(), Refused<CopyImages>>
+        ensures { FollowsOf given (copy_in handle stamp given.image given.sealed self.old) result self.old self.new }
+    {
+        let Some(place) = self.places.get(handle) else {
+            return self.copy_in_first(handle, stamp, given);
+        };
+        self.slots[*place].copy_in(self.alloc, self.sizes, stamp, given)
+    }
+
+    /// Makes what a copy carries live in a slot that the handle gets.
+    fn copy_in_first(
+        &mut self,
+        handle: Handle,
+        stamp: Stamp,
+        given: CopyImages,
+    ) -> Result<(), Refused<CopyImages>>
+        requires { fin.get self.old.slots handle ≡ None }
+        ensures { FollowsOf given (copy_in handle stamp given.image given.sealed self.old) result self.old self.new }
+    {
+        let mut slot = Slot::new();
+        if let Err(refusal) = slot.judge_copy(self.sizes, stamp, &given) {
+            return Err(Refused { refusal, given });
+        }
+        let refusal = Refusal::Memory;
+        if self.places.reserve(handle).is_err() {
+            return Err(Refused { refusal, given });
+        }
+        if self.slots.reserve(1).is_err() {
+            return Err(Refused { refusal, given });
+        }
+        if let Err(refused) = slot.copy_in(self.alloc, self.sizes, stamp, given) {
+            return Err(refused);
+        }
+        let place = self.slots.len();
+        self.slots.push(slot).unwrap();
+        self.places.put(handle, place);
+        Ok(())
     }
 }

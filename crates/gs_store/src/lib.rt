@@ -16,6 +16,7 @@ mod report;
 mod serve;
 mod slot;
 mod store;
+pub mod store_promises;
 
 pub use learn::PreparedSlot;
 pub use moves::{CopyImages, PreparedCopy};

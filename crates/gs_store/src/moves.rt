@@ -114,7 +114,12 @@ impl Slot {
     }
 
     /// Judges what a copy carries, as `copy_in` does.
-    fn judge_copy(&self, sizes: Sizes, stamp: Stamp, given: &CopyImages) -> Result<(), Refusal>
+    pub(crate) fn judge_copy(
+        &self,
+        sizes: Sizes,
+        stamp: Stamp,
+        given: &CopyImages,
+    ) -> Result<(), Refusal>
         ensures { Foretells (copy_in sizes.block sizes.chunk stamp given.now.image given.now.sealed self.now) result }
     {
         if !self.promise.is_before(stamp) {
