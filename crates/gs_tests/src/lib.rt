@@ -24,6 +24,8 @@ mod replicas;
 #[cfg(test)]
 mod shell;
 #[cfg(test)]
+mod stores;
+#[cfg(test)]
 mod tables;
 #[cfg(test)]
 mod texts;
