@@ -1,5 +1,6 @@
--- A client as a node: what it asks goes out under its next number, and it takes the first answer to what it waits for.
-use Rattle.std.specs.Prelude.{◌≡◌, ◌+◌, ◌==◌, ◌++◌, ◌∷◌, ℕ, List, [], map, Bool, false, if◌then◌else◌, cond, Option, Some, None, Result, Ok, Err, Vec, refl}
+-- A client as a node: what it asks goes out under one number, above those before, and it takes the first answer to what it waits
+-- for.
+use Rattle.std.specs.Prelude.{◌≡◌, ◌==◌, ◌++◌, ◌∷◌, ℕ, List, [], map, Bool, false, if◌then◌else◌, cond, Option, Some, None, Result, Ok, Err, nat_le, Vec, refl}
 use Rattle.std.specs.declared.alloc.Global.{Global}
 use Rattle.std.specs.Coded.{Coded, code_by, coded×, coded_ℕ, coded_option}
 use Rattle.gs_base.specs.declared.numbers.ClientId.{ClientId}
@@ -7,7 +8,6 @@ use Rattle.gs_base.specs.declared.numbers.ReqId.{ReqId}
 use Rattle.gs_base.specs.declared.numbers.Stamp.{Stamp}
 use Rattle.gs_base.specs.declared.refusal.Refusal.{Refusal}
 use Rattle.gs_base.specs.declared.refusal.Refusal.TheVariants as refusals
-use Rattle.gs_base.specs.Numbers.{last_number}
 use Rattle.gs_msg.specs.declared.node.NodeId.{NodeId}
 use Rattle.gs_msg.specs.declared.node.NodeId.TheVariants as nodes
 use Rattle.gs_msg.specs.declared.message.Message.{Message}
@@ -60,14 +60,14 @@ messages_of req (requests.Write handle members primary stamp op bytes) =
     pushes req (with_bytes members op) bytes ++ tell req (nodes.Server primary) (bodies.About handle (chunks.Edit req stamp op)) ∷ []
 messages_of req (requests.Fetch to handle stamp epoch asked) = tell req (nodes.Server to) (bodies.About handle (chunks.Fetch req stamp epoch asked)) ∷ []
 
-abbrev pub next_of : Node → ReqId
-next_of n = record { client = n.id; number = n.last + 1 }
+abbrev pub request_of : Node → ℕ → ReqId
+request_of n number = record { client = n.id; number = number }
 
--- A client that asks waits for this alone. After the last number there is none.
-abbrev pub asks : Request → Node → Result (Node × List Message) Refusal
-asks request n =
-    if n.last == last_number then Err refusals.Exhausted
-    else Ok (record { id = n.id; last = n.last + 1; waiting = Some (n.last + 1); reply = None }, messages_of (next_of n) request)
+-- A client that asks waits for this alone. No number is used twice, and none below one that was used.
+abbrev pub asks : ℕ → Request → Node → Result (Node × List Message) Refusal
+asks number request n =
+    if nat_le number n.last then Err refusals.Old
+    else Ok (record { id = n.id; last = number; waiting = Some number; reply = None }, messages_of (request_of n number) request)
 
 -- the call does so, or it lacks memory and nothing changes
 abbrev pub Asks : Result (Node × List Message) Refusal → Result (Vec Message Global) Refusal → Node → Node → Type 0
@@ -108,7 +108,7 @@ first = record { client = one; number = 1 }
 abbrev waits : Node
 waits = record { id = one; last = 1; waiting = Some 1; reply = None }
 
-it_asks : asks (requests.Call calls.Query) (silent one) ≡ Ok (waits, tell first nodes.Master (bodies.Call first calls.Query) ∷ [])
+it_asks : asks 1 (requests.Call calls.Query) (silent one) ≡ Ok (waits, tell first nodes.Master (bodies.Call first calls.Query) ∷ [])
 it_asks = refl
 
 a_write_goes_to_each_member : (stamp : Stamp) → messages_of first (requests.Write 7 (0 ∷ 2 ∷ []) 0 stamp (Append 1) (97 ∷ []))
@@ -127,5 +127,8 @@ of_another_number = refl
 once_more : hears (bodies.Reply first (Ok answers.Nothing)) (silent one) ≡ Ok (silent one)
 once_more = refl
 
-no_more_numbers : asks (requests.Call calls.Query) (record { id = one; last = 18446744073709551615; waiting = None; reply = None }) ≡ Err refusals.Exhausted
-no_more_numbers = refl
+a_number_again : asks 1 (requests.Call calls.Query) waits ≡ Err refusals.Old
+a_number_again = refl
+
+some_numbers_are_left_out : asks 7 (requests.Call calls.Query) waits ≡ Ok (record { id = one; last = 7; waiting = Some 7; reply = None }, tell (record { client = one; number = 7 }) nodes.Master (bodies.Call (record { client = one; number = 7 }) calls.Query) ∷ [])
+some_numbers_are_left_out = refl

@@ -46,12 +46,19 @@ impl ClientNode {
         self.waiting
     }
 
-    /// Asks under the next number, and waits for that alone: the messages that go out, in order. `Exhausted` after the last
-    /// number.
-    pub fn ask(&mut self, alloc: Global, request: Request) -> Result<Vec<Message>, Refusal>
-        ensures { Asks (asks request self.old) result self.old self.new }
+    /// Asks under a number, and waits for that alone: the messages that go out, in order. `Old` where the number isn't above
+    /// the last.
+    pub fn ask(
+        &mut self,
+        alloc: Global,
+        number: u64,
+        request: Request,
+    ) -> Result<Vec<Message>, Refusal>
+        ensures { Asks (asks number request self.old) result self.old self.new }
     {
-        let number = gs_base::next_number(self.last)?;
+        if number <= self.last {
+            return Err(Refusal::Old);
+        }
         let req = ReqId {
             client: self.id,
             number,

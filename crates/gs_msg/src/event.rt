@@ -6,7 +6,7 @@ use crate::lists::Bytes;
 use crate::message::MsgId;
 use crate::node::StoreNode;
 use crate::op::Op;
-use gs_base::{ClientId, Handle, Members, Moment, ServerId, Stamp};
+use gs_base::{Handle, Members, Moment, ReqId, ServerId, Stamp};
 use std::alloc::{AllocError, Global};
 
 /// What a client asks under one number.
@@ -139,9 +139,9 @@ pub enum DiskId {
 /// What happens in a store.
 #[derive(Debug, Drop)]
 pub enum Happening {
-    /// A client sends its next request.
+    /// A client sends a request under a number above those that it used before.
     Ask {
-        client: ClientId,
+        req: ReqId,
         request: Request,
     },
     /// A message that was sent comes to its receiver, perhaps once more.
@@ -177,12 +177,12 @@ impl Happening {
     {
         match (self, other) {
             (
-                Happening::Ask { client, request },
+                Happening::Ask { req, request },
                 Happening::Ask {
-                    client: other_client,
+                    req: other_req,
                     request: other_request,
                 },
-            ) => client == other_client && request.is_same(other_request),
+            ) => req == other_req && request.is_same(other_request),
             (Happening::Deliver(left), Happening::Deliver(right)) => left == right,
             (Happening::Tick(left), Happening::Tick(right))
             | (Happening::Restart(left), Happening::Restart(right)) => left == right,
@@ -222,8 +222,8 @@ impl Happening {
         ensures { IfOk result (λ happening. happening ≡ self.now) }
     {
         Ok(match self {
-            Happening::Ask { client, request } => Happening::Ask {
-                client: *client,
+            Happening::Ask { req, request } => Happening::Ask {
+                req: *req,
                 request: request.copy(alloc)?,
             },
             Happening::Deliver(message) => Happening::Deliver(*message),
