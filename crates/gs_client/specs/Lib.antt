@@ -1,3 +1,5 @@
+pub mod Clients
+pub mod Sends
 pub mod Replies
 pub mod Trees
 pub mod Looking

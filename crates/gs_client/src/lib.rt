@@ -1,10 +1,13 @@
 //! A client of the store: its calls, and the files that it opens.
 #![tactic(auto)]
 
+mod client;
 mod link;
 mod located;
 mod node;
+mod replies;
 
-pub use link::Reply;
+pub use client::Client;
+pub use link::{Link, Reply};
 pub use located::Located;
 pub use node::ClientNode;

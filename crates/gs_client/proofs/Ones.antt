@@ -1,0 +1,19 @@
+-- Calls that are one request.
+use Rattle.std.proofs.Common.{◌≡◌, ◌∙◌, Result, ap}
+use Rattle.gs_base.specs.declared.refusal.Refusal.{Refusal}
+use Rattle.gs_dialogue.specs.Dialogues.{ask, Follows}
+use Rattle.gs_dialogue.proofs.Talks.{follows_one}
+use Rattle.gs_msg.specs.declared.answer.Answer.{Answer}
+use Rattle.gs_msg.specs.declared.call.Call.{Call}
+use Rattle.gs_msg.specs.declared.event.Request.{Request}
+use Rattle.gs_msg.specs.declared.event.Request.TheVariants as requests
+use Rattle.gs_client.specs.declared.link.Reply.{Reply}
+use Rattle.gs_client.specs.Trees.{and_then}
+
+-- one call of the master, what its reply says, and what is read of the answer
+pub one : {S A : Type 0} (carries : S → Request → Reply → S → Type 0) (call : Call) (reads : Reply → Result Answer Refusal) (says : Answer → Result A Refusal)
+    (old new : S) (reply : Reply) (answer : Result Answer Refusal) (result : Result A Refusal)
+    → carries old (requests.Call call) reply new → answer ≡ reads reply → result ≡ and_then says answer
+    → Follows carries (ask (requests.Call call) (λ reply. and_then says (reads reply))) old result new
+one carries call reads says old new reply answer result carried read said =
+    follows_one carries (requests.Call call) (λ reply. and_then says (reads reply)) old new reply result carried (said ∙ ap (and_then says) read)

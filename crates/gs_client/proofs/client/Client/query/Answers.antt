@@ -1,0 +1,7 @@
+use Rattle.gs_client.proofs.Ones.{one}
+use Rattle.gs_client.specs.Sends.{Sends}
+use Rattle.gs_client.specs.Replies.{looked, phase_in}
+use Rattle.gs_client.proofs.client.Client.query.Goals as goal
+
+pub returns : goal.returns
+returns g c = one (Sends g.L.Link.Carries) _ looked phase_in _ _ _ _ _ c.ask.ensures c.looked.ensures c.phase_in.ensures
