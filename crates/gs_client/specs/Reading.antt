@@ -6,10 +6,11 @@ use Rattle.gs_path.specs.Path.{Path}
 use Rattle.gs_dialogue.specs.Dialogues.{Say, Grow, both}
 use Rattle.gs_msg.specs.declared.call.Call.TheVariants as calls
 use Rattle.gs_msg.specs.declared.chunk.Asked.TheVariants as asks
-use Rattle.gs_msg.specs.declared.answer.ChunkStatus.{ChunkStatus}
 use Rattle.gs_msg.specs.declared.answer.Status.{Status}
 use Rattle.gs_msg.specs.declared.answer.Status.TheVariants as statuses
 use Rattle.gs_client.specs.declared.located.Located.{Located}
+use Rattle.gs_client.specs.declared.reading.Stat.{Stat}
+use Rattle.gs_client.specs.declared.reading.Stat.TheVariants as stats
 use Rattle.gs_client.specs.Replies.{status_in, bytes_in, length_in, digest_in}
 use Rattle.gs_client.specs.Trees.{Call, look}
 use Rattle.gs_client.specs.Looking.{count_in, known_call, fetch_call}
@@ -36,11 +37,19 @@ end_call size path known chunks offset many =
 abbrev pub filled : ℕ → List ℕ → List ℕ
 filled many bytes = bytes ++ replicate (many - length bytes) 0
 
+-- what a member stores of a part of a chunk
+abbrev pub stored_call : Path → Option Located → ℕ → ℕ → ℕ → Call (List ℕ × Located)
+stored_call path known index start many =
+    both (fetch_call path known index (asks.Bytes start many)) (λ f.
+    both (Say (bytes_in f.0)) (λ bytes. Say (Ok (bytes, f.1))))
+
 -- what a chunk gives of a read
+abbrev pub piece_bytes : ℕ → ℕ → ℕ → List ℕ → List ℕ
+piece_bytes chunks index many bytes = if index + 1 == chunks then bytes else filled many bytes
+
 abbrev pub piece_call : Path → Option Located → ℕ → ℕ → ℕ → ℕ → Call (List ℕ × Located)
 piece_call path known chunks index start many =
-    both (fetch_call path known index (asks.Bytes start many)) (λ f.
-    both (Say (bytes_in f.0)) (λ bytes. Say (Ok (if index + 1 == chunks then bytes else filled many bytes, f.1))))
+    both (stored_call path known index start many) (λ s. Say (Ok (piece_bytes chunks index many s.0, s.1)))
 
 -- where a read that ends so leaves the chunk of this index
 abbrev pub piece_end : ℕ → ℕ → ℕ → ℕ
@@ -71,15 +80,11 @@ digest_call path opened known index block =
     both (fetch_call path known index (asks.Digest block)) (λ f.
     both (Say (digest_in f.0)) (λ digest. Say (Ok (digest, Some f.1)))))
 
--- what stands at a path: a file with its chunks and its length, or a directory
-abbrev pub Stat : Type 0
-Stat = Option (ℕ × List ChunkStatus)
-
 abbrev pub stat_of : ℕ → Path → Status → Call Stat
-stat_of size path statuses.Directory = Say (Ok None)
+stat_of size path statuses.Directory = Say (Ok stats.Directory)
 stat_of size path (statuses.File chunks) =
     both (Say (count_in chunks)) (λ count.
-    both (length_call size path None count) (λ l. Say (Ok (Some (l.0, chunks)))))
+    both (length_call size path None count) (λ l. Say (Ok (stats.File l.0 chunks))))
 
 abbrev pub stat_call : ℕ → Path → Call Stat
 stat_call size path = both (Grow (look (calls.Status path) status_in)) (stat_of size path)

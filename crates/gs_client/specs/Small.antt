@@ -17,6 +17,7 @@ use Rattle.gs_msg.specs.declared.event.Request.TheVariants as requests
 use Rattle.gs_client.specs.declared.link.Reply.{Reply}
 use Rattle.gs_client.specs.declared.link.Reply.TheVariants as replies
 use Rattle.gs_client.specs.declared.located.Located.{Located}
+use Rattle.gs_client.specs.declared.reading.Stat.TheVariants as stats
 use Rattle.gs_client.specs.Looking.{chunks_call}
 use Rattle.gs_client.specs.Reading.{read_call, digest_call, stat_call}
 use Rattle.gs_client.specs.Writing.{write_call, append_call}
@@ -151,7 +152,7 @@ a_location_is_looked_up_anew : run next (digest_call f (Some 1) (Some (located 0
     )
 a_location_is_looked_up_anew = refl
 
-a_directory : run next (stat_call 16 f) (replied (replies.Answer (answers.Status statuses.Directory) ∷ [])) ≡ (Ok None, ([], requests.Call (calls.Status f) ∷ []))
+a_directory : run next (stat_call 16 f) (replied (replies.Answer (answers.Status statuses.Directory) ∷ [])) ≡ (Ok stats.Directory, ([], requests.Call (calls.Status f) ∷ []))
 a_directory = refl
 
 no_file_in_a_directory : run next (chunks_call f) (replied (replies.Answer (answers.Status statuses.Directory) ∷ [])) ≡ (Err refusals.IsADirectory, ([], requests.Call (calls.Status f) ∷ []))

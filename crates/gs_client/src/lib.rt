@@ -5,9 +5,12 @@ mod client;
 mod link;
 mod located;
 mod node;
+mod looking;
+mod reading;
 mod replies;
 
 pub use client::Client;
 pub use link::{Link, Reply};
 pub use located::Located;
 pub use node::ClientNode;
+pub use reading::Stat;
