@@ -1,2 +1,5 @@
 pub mod Ones
 pub mod Members
+pub mod Steps
+pub mod Lengths
+pub mod Pieces

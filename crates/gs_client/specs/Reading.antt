@@ -5,6 +5,7 @@ use Rattle.gs_base.specs.declared.refusal.Refusal.TheVariants as refusals
 use Rattle.gs_path.specs.Path.{Path}
 use Rattle.gs_dialogue.specs.Dialogues.{Say, Grow, both}
 use Rattle.gs_msg.specs.declared.call.Call.TheVariants as calls
+use Rattle.gs_msg.specs.declared.chunk.Asked.{Asked}
 use Rattle.gs_msg.specs.declared.chunk.Asked.TheVariants as asks
 use Rattle.gs_msg.specs.declared.answer.Status.{Status}
 use Rattle.gs_msg.specs.declared.answer.Status.TheVariants as statuses
@@ -37,10 +38,10 @@ end_call size path known chunks offset many =
 abbrev pub filled : ℕ → List ℕ → List ℕ
 filled many bytes = bytes ++ replicate (many - length bytes) 0
 
--- what a member stores of a part of a chunk
-abbrev pub stored_call : Path → Option Located → ℕ → ℕ → ℕ → Call (List ℕ × Located)
-stored_call path known index start many =
-    both (fetch_call path known index (asks.Bytes start many)) (λ f.
+-- the bytes that a member gives of a chunk
+abbrev pub stored_call : Path → Option Located → ℕ → Asked → Call (List ℕ × Located)
+stored_call path known index asked =
+    both (fetch_call path known index asked) (λ f.
     both (Say (bytes_in f.0)) (λ bytes. Say (Ok (bytes, f.1))))
 
 -- what a chunk gives of a read
@@ -49,7 +50,7 @@ piece_bytes chunks index many bytes = if index + 1 == chunks then bytes else fil
 
 abbrev pub piece_call : Path → Option Located → ℕ → ℕ → ℕ → ℕ → Call (List ℕ × Located)
 piece_call path known chunks index start many =
-    both (stored_call path known index start many) (λ s. Say (Ok (piece_bytes chunks index many s.0, s.1)))
+    both (stored_call path known index (asks.Bytes start many)) (λ s. Say (Ok (piece_bytes chunks index many s.0, s.1)))
 
 -- where a read that ends so leaves the chunk of this index
 abbrev pub piece_end : ℕ → ℕ → ℕ → ℕ

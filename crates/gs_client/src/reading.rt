@@ -1,10 +1,10 @@
 //! What is read of a file.
-ghost use Rattle.std.specs.Prelude.{◌≡◌, ◌≤◌, ◌<◌, ◌+◌, ◌*◌, ◌/◌, ◌++◌, IfOk, OnOk, Option, None};
+ghost use Rattle.std.specs.Prelude.{◌≡◌, ◌≤◌, ◌<◌, ◌+◌, ◌*◌, ◌/◌, ◌%◌, ◌++◌, [], IfOk, IfSome, OnOk, if◌then◌else◌, Option, None};
 ghost use Rattle.gs_dialogue.specs.Dialogues.{Follows};
 ghost use Rattle.gs_client.specs.Sends.{Sends};
 ghost use Rattle.gs_client.specs.Trees.{and_then};
 ghost use Rattle.gs_client.specs.Replies.{length_in};
-ghost use Rattle.gs_client.specs.Reading.{within, length_call, end_call, stored_call, filled, piece_bytes, piece_end, pieces_call, span, digest_call, stat_of, stat_call};
+ghost use Rattle.gs_client.specs.Reading.{within, length_call, end_call, stored_call, filled, piece_bytes, piece_end, pieces_call, span, read_call, digest_call, stat_of, stat_call};
 
 use crate::client::Client;
 use crate::link::Link;
@@ -28,13 +28,24 @@ pub enum Stat {
     },
 }
 
-/// A file whose chunks are counted, and where one of them was last.
+/// A file as it is remembered: how many chunks it has, if that is known, and where one of them is.
 #[derive(Clone, Copy)]
-pub(crate) struct Counted<'p> {
+pub(crate) struct Opened<'p> {
     pub(crate) path: &'p Path,
-    pub(crate) chunks: u64,
+    pub(crate) opened: Option<u64>,
     pub(crate) known: Option<Located>,
-    pub(crate) ghost few: { chunks ≤ 4096 },
+}
+
+/// A file of so many chunks of this size, and where one of them is.
+#[derive(Clone, Copy)]
+struct Counted<'p> {
+    size: u64,
+    path: &'p Path,
+    chunks: u64,
+    known: Option<Located>,
+    ghost some: { 1 ≤ size },
+    ghost bounded: { size ≤ 67108864 },
+    ghost few: { chunks ≤ 4096 },
 }
 
 /// A range of a file's bytes, perhaps behind its end.
@@ -86,4 +97,201 @@ fn add_filled(read: &mut Vec<u8>, bytes: &[u8], many: usize) -> Result<(), Alloc
     let missing = many.saturating_sub(bytes.len());
     let held = read.len();
     read.resize(held + missing, 0)
+}
+
+/// Adds what was read of a chunk. Behind what a chunk stores that isn't the last one stand zeros.
+fn add_piece(read: &mut Vec<u8>, bytes: &[u8], many: u64, is_last: bool) -> Result<(), AllocError>
+    requires { many ≤ 67108864 }
+    ensures { OnOk result (read.new.items ≡ read.old.items ++ (if is_last then bytes.now else filled many bytes.now)) }
+{
+    if is_last {
+        return read.extend_from_slice(bytes);
+    }
+    add_filled(read, bytes, many as usize)
+}
+
+/// Where a read that ends so leaves the chunk of this index.
+fn piece_end(size: u64, end: u64, index: u64) -> u64
+    requires few { index ≤ 4096 }
+    requires bounded { size ≤ 67108864 }
+    ensures is { result ≡ piece_end size end index }
+    ensures within { result ≤ size }
+{
+    size.min(end.saturating_sub(bytes_of(index, size)))
+}
+
+impl Client {
+    /// How many bytes a file has.
+    fn length<L: Link>(
+        &mut self,
+        alloc: Global,
+        link: &mut L,
+        file: &Counted<'_>,
+    ) -> Result<(u64, Option<Located>), Refusal>
+        ensures is { Follows (Sends L.Carries) (length_call file.now.size file.now.path.now file.now.known file.now.chunks) (self.old, link.old) result (self.new, link.new) }
+        ensures few { IfOk result (λ l. l.0 ≤ 4096 * file.now.size) }
+    {
+        if file.chunks == 0 {
+            return Ok((0, file.known));
+        }
+        let last = file.chunks - 1;
+        let wanted = Wanted {
+            path: file.path,
+            index: last,
+            asked: Asked::Length,
+        };
+        let (given, located) = self.fetch(alloc, link, wanted, file.known)?;
+        let many = length_within(file.size, given)?;
+        Ok((bytes_of(last, file.size) + many, Some(located)))
+    }
+
+    /// Where a read ends. No length is asked for where it ends in chunks that are full.
+    fn end<L: Link>(
+        &mut self,
+        alloc: Global,
+        link: &mut L,
+        file: &Counted<'_>,
+        range: Range,
+    ) -> Result<(u64, Option<Located>), Refusal>
+        ensures is { Follows (Sends L.Carries) (end_call file.now.size file.now.path.now file.now.known file.now.chunks range.offset range.many) (self.old, link.old) result (self.new, link.new) }
+        ensures few { IfOk result (λ e. e.0 ≤ 4096 * file.now.size) }
+    {
+        let full = bytes_of(file.chunks.saturating_sub(1), file.size);
+        let end = range.offset.saturating_add(range.many);
+        if end <= full {
+            return Ok((end, file.known));
+        }
+        let (length, known) = self.length(alloc, link, file)?;
+        if length < range.offset {
+            return Err(Refusal::Range);
+        }
+        Ok((end.min(length), known))
+    }
+
+    /// What a member stores of a part of a chunk.
+    fn stored<L: Link>(
+        &mut self,
+        alloc: Global,
+        link: &mut L,
+        wanted: Wanted<'_>,
+        known: Option<Located>,
+    ) -> Result<(Bytes, Located), Refusal>
+        ensures { Follows (Sends L.Carries) (stored_call wanted.entry.path.now known wanted.entry.index wanted.entry.asked) (self.old, link.old) result (self.new, link.new) }
+    {
+        let (given, located) = self.fetch(alloc, link, wanted, known)?;
+        let bytes = replies::bytes_in(given)?;
+        Ok((bytes, located))
+    }
+
+    /// What its chunks give of a file between two places.
+    fn pieces<L: Link>(
+        &mut self,
+        alloc: Global,
+        link: &mut L,
+        file: &Counted<'_>,
+        offset: u64,
+        end: u64,
+    ) -> Result<(Bytes, Option<Located>), Refusal>
+        requires { end ≤ 4096 * file.now.size }
+        ensures { Follows (Sends L.Carries) (pieces_call file.now.size file.now.path.now file.now.chunks end file.now.known (offset / file.now.size) (offset % file.now.size) (span file.now.size offset end) []) (self.old, link.old) result (self.new, link.new) }
+    {
+        let count = span(file.size, offset, end);
+        let first = offset / file.size;
+        let mut start = offset % file.size;
+        let mut known = file.known;
+        let mut read = Vec::new(alloc);
+        for i in 0..count {
+            let index = first + i;
+            let many = piece_end(file.size, end, index).saturating_sub(start);
+            let wanted = Wanted {
+                path: file.path,
+                index,
+                asked: Asked::Bytes {
+                    offset: start,
+                    length: many,
+                },
+            };
+            let (bytes, located) = self.stored(alloc, link, wanted, known)?;
+            add_piece(&mut read, bytes.as_slice(), many, index + 1 == file.chunks)?;
+            known = Some(located);
+            start = 0;
+        }
+        Ok((Bytes::new(read), known))
+    }
+
+    /// What is read of a file, and the location that is remembered then.
+    pub(crate) fn read<L: Link>(
+        &mut self,
+        alloc: Global,
+        link: &mut L,
+        file: &Opened<'_>,
+        range: Range,
+    ) -> Result<(Bytes, Option<Located>), Refusal>
+        requires { IfSome file.now.opened (λ chunks. chunks ≤ 4096) }
+        ensures { Follows (Sends L.Carries) (read_call self.old.chunk file.now.path.now file.now.opened file.now.known range.offset range.many) (self.old, link.old) result (self.new, link.new) }
+    {
+        let size = self.chunk();
+        let chunks = self.known(alloc, link, file.path, file.opened)?;
+        let counted = Counted {
+            size,
+            path: file.path,
+            chunks,
+            known: file.known,
+        };
+        let (end, known) = self.end(alloc, link, &counted, range)?;
+        let counted = Counted {
+            size,
+            path: file.path,
+            chunks,
+            known,
+        };
+        self.pieces(alloc, link, &counted, range.offset, end)
+    }
+
+    /// The digest of a block of a chunk, and the location that is remembered then.
+    pub(crate) fn digest<L: Link>(
+        &mut self,
+        alloc: Global,
+        link: &mut L,
+        file: &Opened<'_>,
+        index: u64,
+        block: u64,
+    ) -> Result<(Digest, Option<Located>), Refusal>
+        requires { IfSome file.now.opened (λ chunks. chunks ≤ 4096) }
+        ensures { Follows (Sends L.Carries) (digest_call file.now.path.now file.now.opened file.now.known index block) (self.old, link.old) result (self.new, link.new) }
+    {
+        self.known(alloc, link, file.path, file.opened)?;
+        let wanted = Wanted {
+            path: file.path,
+            index,
+            asked: Asked::Digest(block),
+        };
+        let (given, located) = self.fetch(alloc, link, wanted, file.known)?;
+        let digest = replies::digest_in(given)?;
+        Ok((digest, Some(located)))
+    }
+
+    /// What stands at a path. The length of a file is that of its last chunk, as a member gives it, behind full ones.
+    pub fn stat<L: Link>(
+        &mut self,
+        alloc: Global,
+        link: &mut L,
+        path: &Path,
+    ) -> Result<Stat, Refusal>
+        ensures { Follows (Sends L.Carries) (stat_call self.old.chunk path.now) (self.old, link.old) result (self.new, link.new) }
+    {
+        let size = self.chunk();
+        let chunks = match self.look(alloc, link, path)? {
+            Status::Directory => return Ok(Stat::Directory),
+            Status::File(chunks) => chunks,
+        };
+        let counted = Counted {
+            size,
+            path,
+            chunks: looking::count_in(chunks.as_slice())?,
+            known: None,
+        };
+        let (length, _) = self.length(alloc, link, &counted)?;
+        Ok(Stat::File { length, chunks })
+    }
 }
