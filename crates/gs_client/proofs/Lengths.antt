@@ -1,5 +1,5 @@
 -- The length of a file.
-use Rattle.std.proofs.Common.{false, true, min, nat_le, nat_lt, ◌<◌, ◌≡◌, ◌≢◌, ◌≤◌, ◌+◌, ◌-◌, ◌*◌, ℕ, suc, Option, Some, Result, Ok, Err, refl, sym, ap, subst, arith}
+use Rattle.std.proofs.Common.{false, min, nat_le, nat_lt, ◌<◌, ◌≡◌, ◌≢◌, ◌≤◌, ◌+◌, ◌-◌, ◌*◌, ℕ, suc, Option, Some, Result, Ok, Err, refl, subst, arith}
 use Rattle.std.proofs.Math.Nat.{mul-le-mul_left}
 use Rattle.std.proofs.lemmas.Bool.Decides.{nat_tests}
 use Rattle.gs_base.specs.declared.refusal.Refusal.{Refusal}

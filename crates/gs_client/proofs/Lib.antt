@@ -3,3 +3,5 @@ pub mod Members
 pub mod Steps
 pub mod Lengths
 pub mod Pieces
+pub mod Counts
+pub mod Records

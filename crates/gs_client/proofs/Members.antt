@@ -1,9 +1,9 @@
 -- Members, one after another, and the ways of a look-up.
-use Rattle.std.proofs.Common.{◌==◌, Option, Some, ◌≡◌, ◌≢◌, ◌∷◌, ◌∙◌, ℕ, List, [], Result, Ok, Err, Bool, true, false, cond, refl, sym, ap, subst}
+use Rattle.std.proofs.Common.{◌==◌, Option, Some, ◌≡◌, ◌∷◌, ◌∙◌, ℕ, List, [], Result, Ok, Err, true, cond, refl, sym, subst}
 use Rattle.gs_base.specs.declared.refusal.Refusal.{Refusal}
 use Rattle.gs_path.specs.Path.{Path}
 use Rattle.gs_dialogue.proofs.Talks.{follows_upon}
-use Rattle.gs_dialogue.specs.Dialogues.{Dialogue, both, onward, Say, Ask, Grow, Follows, Leads, upon, otherwise}
+use Rattle.gs_dialogue.specs.Dialogues.{Dialogue, onward, Say, Ask, Grow, Follows, Leads, upon, otherwise}
 use Rattle.gs_msg.specs.declared.body.Given.{Given}
 use Rattle.gs_msg.specs.declared.chunk.Asked.{Asked}
 use Rattle.gs_msg.specs.declared.event.Request.{Request}

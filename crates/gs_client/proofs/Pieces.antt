@@ -1,18 +1,17 @@
 -- What is read of chunks, one after another.
-use Rattle.std.proofs.Common.{◌≡◌, ◌≤◌, ◌<◌, ◌+◌, ◌-◌, ◌*◌, ◌/◌, ◌++◌, ◌==◌, ℕ, suc, List, Bool, true, false, cond, nat_lt, Option, Some, Result, Ok, Err, inl, inr, refl, sym, ap, subst, arith, true≢false}
+use Rattle.std.proofs.Common.{◌≡◌, ◌≤◌, ◌<◌, ◌+◌, ◌-◌, ◌*◌, ◌/◌, ◌++◌, ℕ, suc, List, Bool, true, false, cond, nat_lt, Option, Some, Ok, Err, inl, inr, refl, sym, subst, arith}
 use Rattle.std.proofs.Math.Nat.{mul-le-mul_left, mul-div-le}
-use Rattle.std.proofs.lemmas.Bool.Decides.{nat_tests}
 use Rattle.gs_base.specs.declared.refusal.Refusal.{Refusal}
 use Rattle.gs_base.specs.declared.refusal.Refusal.TheVariants as refusals
 use Rattle.gs_path.specs.Path.{Path}
-use Rattle.gs_dialogue.specs.Dialogues.{Say, Grow, both, Follows, Leads}
+use Rattle.gs_dialogue.specs.Dialogues.{Grow, both, Follows, Leads}
 use Rattle.gs_dialogue.proofs.Talks.{follows_both, follows_none, leads_next, leads_stop}
 use Rattle.gs_msg.specs.declared.chunk.Asked.TheVariants as asks
 use Rattle.gs_msg.specs.declared.event.Request.{Request}
 use Rattle.gs_client.specs.declared.link.Reply.{Reply}
 use Rattle.gs_client.specs.declared.located.Located.{Located}
 use Rattle.gs_client.specs.Trees.{Call}
-use Rattle.gs_client.specs.Reading.{stored_call, filled, piece_bytes, piece_call, piece_end, pieces_call, span}
+use Rattle.gs_client.specs.Reading.{stored_call, piece_bytes, piece_call, piece_end, pieces_call, span}
 
 below_end : (size end : ℕ) → 1 ≤ size → end ≤ 4096 * size → (end - 1) / size < 4096
 below_end size end some few =

@@ -1,5 +1,5 @@
 -- What was said already, read on.
-use Rattle.std.proofs.Common.{◌≡◌, Result, Ok, Err, refl, sym, subst}
+use Rattle.std.proofs.Common.{◌≡◌, Result, Ok, Err, refl, subst}
 use Rattle.gs_base.specs.declared.refusal.Refusal.{Refusal}
 use Rattle.gs_dialogue.specs.Dialogues.{Say, Call, both, Follows}
 

@@ -1,9 +1,12 @@
 pub mod Clients
 pub mod Sends
 pub mod Replies
+pub mod Edits
 pub mod Trees
 pub mod Looking
 pub mod Reading
 pub mod Writing
+pub mod Opened
+pub mod Files
 pub mod Small
 pub mod Nodes

@@ -1,5 +1,5 @@
 -- What is written to a file: chunks that are missing are added first, then each chunk gets its part, as an edit of its own.
-use Rattle.std.specs.Prelude.{◌+◌, ◌-◌, ◌*◌, ◌/◌, ◌%◌, ◌==◌, ◌||◌, ℕ, zero, suc, min, List, Bool, if◌then◌else◌, Option, Some, None, Ok, Err, nat_lt, length, slice_range}
+use Rattle.std.specs.Prelude.{◌+◌, ◌-◌, ◌*◌, ◌/◌, ◌%◌, ◌==◌, ◌||◌, ℕ, zero, suc, min, List, Bool, if◌then◌else◌, Option, Some, None, Result, Ok, Err, nat_lt, length, slice_range}
 use Rattle.gs_base.specs.declared.refusal.Refusal.{Refusal}
 use Rattle.gs_base.specs.declared.refusal.Refusal.TheVariants as refusals
 use Rattle.gs_base.specs.declared.numbers.Stamp.{Stamp}
@@ -85,9 +85,13 @@ write_call size path opened offset bytes =
     else both (extends_call path chunks (chunks_to size offset bytes - chunks)) (λ _.
     parts_call size path offset bytes 0 (chunks_to size offset bytes - offset / size)))
 
+-- where in its file a record stands
+abbrev pub placed : ℕ → ℕ → ℕ → Result ℕ Refusal
+placed size index offset = if nat_lt offset size then Ok (index * size + offset) else Err refusals.Stray
+
 -- A record stands at a place of its chunk, or the chunk was filled up and the record goes on.
 abbrev pub landed : ℕ → ℕ → Call ℕ → Outcome → Call ℕ
-landed size index next (outcomes.Appended offset) = if nat_lt offset size then Say (Ok (index * size + offset)) else Say (Err refusals.Stray)
+landed size index next (outcomes.Appended offset) = Say (placed size index offset)
 landed size index next outcomes.Padded = next
 landed size index next outcomes.Written = Say (Err refusals.Stray)
 

@@ -2,14 +2,17 @@
 #![tactic(auto)]
 
 mod client;
+mod file;
 mod link;
 mod located;
 mod node;
 mod looking;
 mod reading;
 mod replies;
+mod writing;
 
 pub use client::Client;
+pub use file::{OpenFile, Reading, Writing};
 pub use link::{Link, Reply};
 pub use located::Located;
 pub use node::ClientNode;

@@ -1,4 +1,4 @@
-use Rattle.std.proofs.Common.{◌≡◌, ◌∙◌, ◌≤◌, ◌<◌, ◌+◌, ◌-◌, ◌*◌, false, nat_le, min, rules, Err, arith}
+use Rattle.std.proofs.Common.{◌≡◌, ◌∙◌, ◌+◌, ◌-◌, ◌*◌, min, rules, Err}
 use Rattle.gs_client.specs.Sends.{Sends}
 use Rattle.gs_client.proofs.Lengths.{not_full, least, end_none, end_past, end_told}
 use Rattle.gs_client.proofs.client.Client.end.Goals as goal

@@ -1,8 +1,4 @@
-use Rattle.std.proofs.Common.{subst, sym, ◌≡◌, ap, ℕ, List}
-use Rattle.gs_base.specs.declared.refusal.Refusal.TheVariants.{NoReplica}
 use Rattle.gs_client.specs.Sends.{Sends}
-use Rattle.gs_client.specs.Looking.{members_call}
-use Rattle.gs_dialogue.specs.Dialogues.{Leads}
 use Rattle.gs_client.proofs.Members.{member_answers, member_refuses, members_end}
 use Rattle.gs_client.proofs.client.Client.members.Goals as goal
 

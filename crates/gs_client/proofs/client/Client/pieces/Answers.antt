@@ -1,8 +1,8 @@
-use Rattle.std.proofs.Common.{◌≡◌, ◌∙◌, ◌+◌, ◌/◌, ◌%◌, ◌<◌, ◌++◌, [], rules, Err, ap, sym, arith}
+use Rattle.std.proofs.Common.{◌≡◌, ◌/◌, ◌%◌, ◌<◌, [], rules, Err}
 use Rattle.gs_base.specs.declared.refusal.Refusal.TheVariants.{Memory}
 use Rattle.gs_client.specs.Sends.{Sends}
-use Rattle.gs_client.specs.Reading.{pieces_call, span, piece_bytes}
-use Rattle.gs_client.proofs.Pieces.{in_bounds, pieces_begin, piece_refused, piece_unheld, piece_added}
+use Rattle.gs_client.specs.Reading.{span}
+use Rattle.gs_client.proofs.Pieces.{pieces_begin, piece_refused, piece_unheld, piece_added}
 use Rattle.gs_client.proofs.client.Client.pieces.Goals as goal
 
 pub loop-i-init : goal.loop-i-init

@@ -1,5 +1,4 @@
-use Rattle.std.proofs.Common.{◌≡◌, ◌/◌, ◌%◌, [], rules, Err}
-use Rattle.gs_dialogue.specs.Dialogues.{both}
+use Rattle.std.proofs.Common.{◌≡◌, rules, Err}
 use Rattle.gs_dialogue.proofs.Talks.{follows_both, follows_none}
 use Rattle.gs_client.specs.Sends.{Sends}
 use Rattle.gs_client.specs.Looking.{known_call}

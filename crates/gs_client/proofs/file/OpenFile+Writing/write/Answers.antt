@@ -1,0 +1,4 @@
+use Rattle.gs_client.proofs.file.OpenFile+Writing.write.Goals as goal
+
+pub returns-clause-asks : goal.returns-clause-asks
+returns-clause-asks g c = rw (← c.self.view_is) (rw c.chunk.ensures.is at c.write-result.ensures)

@@ -1,0 +1,345 @@
+//! What is written to a file.
+ghost use Rattle.std.specs.Prelude.{◌≡◌, ◌≤◌, ◌<◌, ◌+◌, ◌-◌, ◌*◌, ◌/◌, false, length, IfOk, IfSome};
+ghost use Rattle.gs_dialogue.specs.Dialogues.{Follows};
+ghost use Rattle.gs_client.specs.Sends.{Sends};
+ghost use Rattle.gs_client.specs.Edits.{Edits, with_edit};
+ghost use Rattle.gs_client.specs.Writing as calls;
+
+use crate::client::Client;
+use crate::link::Link;
+use crate::located::Located;
+use crate::looking::MOST_CHUNKS;
+use crate::replies;
+use gs_base::{Refusal, Stamp};
+use gs_msg::{Bytes, Call, Op, Request};
+use gs_path::Path;
+use gs_replica::Outcome;
+use std::alloc::Global;
+
+/// An edit of a chunk of a file.
+#[derive(Clone, Copy)]
+struct Edit<'e> {
+    path: &'e Path,
+    index: u64,
+    op: Op,
+    bytes: &'e [u8],
+}
+
+/// Bytes for a place of a file of chunks of this size.
+#[derive(Clone, Copy)]
+pub(crate) struct Write<'w> {
+    pub(crate) size: u64,
+    pub(crate) path: &'w Path,
+    pub(crate) offset: u64,
+    pub(crate) bytes: &'w [u8],
+    pub(crate) ghost some: { 1 ≤ size },
+    pub(crate) ghost bounded: { size ≤ 67108864 },
+}
+
+/// A record for the end of a file of chunks of this size.
+#[derive(Clone, Copy)]
+pub(crate) struct Record<'r> {
+    pub(crate) size: u64,
+    pub(crate) path: &'r Path,
+    pub(crate) bytes: &'r [u8],
+    pub(crate) ghost bounded: { size ≤ 67108864 },
+}
+
+/// How many edits are acknowledged behind one that came to this.
+fn with_edit(edited: &Result<Outcome, Refusal>, edits: u64) -> u64
+    ensures { result ≡ with_edit edited.now edits }
+{
+    match edited {
+        Ok(Outcome::Written | Outcome::Appended(_)) => edits.saturating_add(1),
+        _ => edits,
+    }
+}
+
+/// The stamp that the next look-up avoids.
+fn avoided(refusal: &Refusal, stamp: Stamp) -> Option<Stamp>
+    ensures { result ≡ calls.avoided refusal.now stamp }
+{
+    if replies::is_location_good(refusal) {
+        return None;
+    }
+    Some(stamp)
+}
+
+/// Whether a write has no bytes, or goes too far.
+fn is_out(write: &Write<'_>) -> bool
+    ensures { result ≡ calls.is_out write.now.size write.now.offset write.now.bytes.now }
+{
+    let length = write.bytes.len() as u64;
+    let most = MOST_CHUNKS * write.size;
+    length == 0 || write.offset > most || length > most - write.offset
+}
+
+/// How many chunks a file has that ends where a write ends.
+fn chunks_to(write: &Write<'_>) -> u64
+    requires { calls.is_out write.now.size write.now.offset write.now.bytes.now ≡ false }
+    ensures is { result ≡ calls.chunks_to write.now.size write.now.offset write.now.bytes.now }
+    ensures few { result ≤ 4096 }
+    ensures past { write.now.offset / write.now.size ≤ result }
+    ensures near { write.now.offset ≤ 274877906944 }
+{
+    (write.offset + write.bytes.len() as u64 - 1) / write.size + 1
+}
+
+/// Where a part of a write begins in its chunk.
+fn part_start(write: &Write<'_>, i: u64) -> u64
+    ensures { result ≡ calls.part_start write.now.size write.now.offset i }
+{
+    if i == 0 {
+        return write.offset % write.size;
+    }
+    0
+}
+
+/// The bytes of a part.
+fn part_bytes<'w>(write: &Write<'w>, i: u64) -> &'w [u8]
+    requires { i ≤ 4096 }
+    ensures { result.now ≡ calls.part_bytes write.now.size write.now.offset write.now.bytes.now i }
+{
+    let skip = write.offset % write.size;
+    let to = ((i + 1) * write.size - skip).min(write.bytes.len() as u64);
+    let from = (i * write.size).saturating_sub(skip).min(to);
+    &write.bytes[from as usize..to as usize]
+}
+
+/// Where in its file a record stands.
+fn place(size: u64, index: u64, offset: u64) -> Result<u64, Refusal>
+    requires bounded { size ≤ 67108864 }
+    requires few { index ≤ 4096 }
+    ensures { result ≡ calls.placed size index offset }
+{
+    if offset < size {
+        return Ok(index * size + offset);
+    }
+    Err(Refusal::Stray)
+}
+
+impl Client {
+    /// Where a chunk can be written, under another stamp than the one that was refused.
+    fn find_for_writing<L: Link>(
+        &mut self,
+        alloc: Global,
+        link: &mut L,
+        edit: &Edit<'_>,
+        refused: Option<Stamp>,
+    ) -> Result<Located, Refusal>
+        ensures { Follows (Sends L.Carries) (calls.writing_call edit.now.path.now edit.now.index refused) (self.old, link.old) result (self.new, link.new) }
+    {
+        let request = Request::Call(Call::FindForWriting {
+            path: edit.path.copy(alloc)?,
+            index: edit.index,
+            refused,
+        });
+        replies::located_in(edit.index, replies::looked(self.ask(link, request)))
+    }
+
+    /// Sends an edit to where its chunk was found, and counts it if it is acknowledged.
+    fn send<L: Link>(
+        &mut self,
+        alloc: Global,
+        link: &mut L,
+        edits: &mut u64,
+        located: &Located,
+        edit: &Edit<'_>,
+    ) -> Result<Outcome, Refusal>
+        ensures { Follows (Edits L.Carries) (calls.edit_call located.now edit.now.op edit.now.bytes.now) (self.old, edits.old, link.old) result (self.new, edits.new, link.new) }
+    {
+        let Some(term) = located.view.term else {
+            return Err(Refusal::Stray);
+        };
+        let request = Request::Write {
+            handle: located.handle,
+            members: located.view.members,
+            primary: term.primary,
+            stamp: located.view.stamp,
+            op: edit.op,
+            bytes: Bytes::new(Vec::from_slice(alloc, edit.bytes)?),
+        };
+        let edited = replies::edited(self.ask(link, request));
+        *edits = with_edit(&edited, *edits);
+        edited
+    }
+
+    /// Tries a refused edit once more, where that may help.
+    fn again<L: Link>(
+        &mut self,
+        alloc: Global,
+        link: &mut L,
+        edits: &mut u64,
+        edit: &Edit<'_>,
+        stamp: Stamp,
+        refusal: Refusal,
+    ) -> Result<Outcome, Refusal>
+        ensures { Follows (Edits L.Carries) (calls.again_call edit.now.path.now edit.now.index stamp edit.now.op edit.now.bytes.now refusal) (self.old, edits.old, link.old) result (self.new, edits.new, link.new) }
+    {
+        if !replies::is_stale(&refusal) {
+            return Err(refusal);
+        }
+        let located = self.find_for_writing(alloc, link, edit, avoided(&refusal, stamp))?;
+        self.send(alloc, link, edits, &located, edit)
+    }
+
+    /// Looks a chunk up and edits it.
+    fn part<L: Link>(
+        &mut self,
+        alloc: Global,
+        link: &mut L,
+        edits: &mut u64,
+        edit: &Edit<'_>,
+    ) -> Result<Outcome, Refusal>
+        ensures { Follows (Edits L.Carries) (calls.part_call edit.now.path.now edit.now.index edit.now.op edit.now.bytes.now) (self.old, edits.old, link.old) result (self.new, edits.new, link.new) }
+    {
+        let located = self.find_for_writing(alloc, link, edit, None)?;
+        let stamp = located.view.stamp;
+        match self.send(alloc, link, edits, &located, edit) {
+            Ok(outcome) => Ok(outcome),
+            Err(refusal) => self.again(alloc, link, edits, edit, stamp, refusal),
+        }
+    }
+
+    /// Adds a chunk to a file.
+    fn extend<L: Link>(
+        &mut self,
+        alloc: Global,
+        link: &mut L,
+        path: &Path,
+        index: u64,
+    ) -> Result<Located, Refusal>
+        ensures { Follows (Sends L.Carries) (calls.extend_call path.now index) (self.old, link.old) result (self.new, link.new) }
+    {
+        let request = Request::Call(Call::Extend {
+            path: path.copy(alloc)?,
+            index,
+        });
+        replies::located_in(index, replies::changed(self.ask(link, request)))
+    }
+
+    /// Adds so many chunks to a file.
+    fn extends<L: Link>(
+        &mut self,
+        alloc: Global,
+        link: &mut L,
+        path: &Path,
+        from: u64,
+        count: u64,
+    ) -> Result<(), Refusal>
+        requires near { from ≤ 4096 }
+        requires few { count ≤ 4096 }
+        ensures { Follows (Sends L.Carries) (calls.extends_call path.now from count) (self.old, link.old) result (self.new, link.new) }
+    {
+        for i in 0..count {
+            self.extend(alloc, link, path, from + i)?;
+        }
+        Ok(())
+    }
+
+    /// Writes the parts of a write, each to its chunk.
+    fn parts<L: Link>(
+        &mut self,
+        alloc: Global,
+        link: &mut L,
+        edits: &mut u64,
+        write: &Write<'_>,
+        count: u64,
+    ) -> Result<(), Refusal>
+        requires near { write.now.offset ≤ 274877906944 }
+        requires few { count ≤ 4096 }
+        ensures { Follows (Edits L.Carries) (calls.parts_call write.now.size write.now.path.now write.now.offset write.now.bytes.now 0 count) (self.old, edits.old, link.old) result (self.new, edits.new, link.new) }
+    {
+        for i in 0..count {
+            let bytes = part_bytes(write, i);
+            let part = Edit {
+                path: write.path,
+                index: write.offset / write.size + i,
+                op: Op::Write {
+                    offset: part_start(write, i),
+                    length: bytes.len() as u64,
+                },
+                bytes,
+            };
+            self.part(alloc, link, edits, &part)?;
+        }
+        Ok(())
+    }
+
+    /// Writes bytes at a place of a file, whose missing chunks are added first.
+    pub(crate) fn write<L: Link>(
+        &mut self,
+        alloc: Global,
+        link: &mut L,
+        edits: &mut u64,
+        write: &Write<'_>,
+        opened: Option<u64>,
+    ) -> Result<(), Refusal>
+        requires { IfSome opened (λ chunks. chunks ≤ 4096) }
+        ensures { Follows (Edits L.Carries) (calls.write_call write.now.size write.now.path.now opened write.now.offset write.now.bytes.now) (self.old, edits.old, link.old) result (self.new, edits.new, link.new) }
+    {
+        let chunks = self.known(alloc, link, write.path, opened)?;
+        if is_out(write) {
+            return Err(Refusal::Range);
+        }
+        let to = chunks_to(write);
+        self.extends(alloc, link, write.path, chunks, to.saturating_sub(chunks))?;
+        self.parts(alloc, link, edits, write, to - write.offset / write.size)
+    }
+
+    /// Puts a record into a chunk, or, where that is filled up, into one behind it, as far as a file may go.
+    fn append_from<L: Link>(
+        &mut self,
+        alloc: Global,
+        link: &mut L,
+        edits: &mut u64,
+        record: &Record<'_>,
+        first: u64,
+    ) -> Result<u64, Refusal>
+        requires { first < 4096 }
+        ensures { Follows (Edits L.Carries) (calls.append_from record.now.size record.now.path.now record.now.bytes.now first (4095 - first)) (self.old, edits.old, link.old) result (self.new, edits.new, link.new) }
+    {
+        for index in first..MOST_CHUNKS {
+            let part = Edit {
+                path: record.path,
+                index,
+                op: Op::Append {
+                    length: record.bytes.len() as u64,
+                },
+                bytes: record.bytes,
+            };
+            match self.part(alloc, link, edits, &part)? {
+                Outcome::Appended(offset) => return place(record.size, index, offset),
+                Outcome::Written => return Err(Refusal::Stray),
+                Outcome::Padded => {}
+            }
+            if index + 1 == MOST_CHUNKS {
+                return Err(Refusal::Range);
+            }
+            self.extend(alloc, link, record.path, index + 1)?;
+        }
+        Err(Refusal::Range)
+    }
+
+    /// Appends a record to a file, whose first chunk is added where it is missing, and tells where in the file it stands.
+    pub(crate) fn append<L: Link>(
+        &mut self,
+        alloc: Global,
+        link: &mut L,
+        edits: &mut u64,
+        record: &Record<'_>,
+        opened: Option<u64>,
+    ) -> Result<u64, Refusal>
+        requires { IfSome opened (λ chunks. chunks ≤ 4096) }
+        ensures { Follows (Edits L.Carries) (calls.append_call record.now.size record.now.path.now opened record.now.bytes.now) (self.old, edits.old, link.old) result (self.new, edits.new, link.new) }
+    {
+        let chunks = self.known(alloc, link, record.path, opened)?;
+        if record.bytes.is_empty() {
+            return Err(Refusal::Range);
+        }
+        let missing = 1u64.saturating_sub(chunks);
+        self.extends(alloc, link, record.path, 0, missing)?;
+        let last = chunks.saturating_sub(1);
+        self.append_from(alloc, link, edits, record, last)
+    }
+}
