@@ -243,6 +243,8 @@ const ZZZZZF: &str = "7a7a7a7a7a66";
 
 const FULL: &str = "797a7a7a7a6630313233343536373839";
 
+const PADDED: &str = "61626300000000000000000000000000";
+
 /// What makes a replica of `abcdef` after one edit, sealed.
 fn sealed() -> [Row; 2] {
     let append = own(1, Op::Append, b"abcdef");
@@ -295,6 +297,10 @@ fn takes_numbered_edits(rt: HostRuntime) -> Result<(), Fail> {
     let two = [2, 0, 0, 2, 0];
     let rows = [
         (append(1, 1, 1, b"abc"), "", "616263", one),
+        (own(2, Op::Write(5), b"b"), "", "616263000062", two),
+        (Step::Undo, "", "616263", one),
+        (own(2, Op::Pad, b""), "", PADDED, two),
+        (Step::Undo, "", "616263", one),
         (Step::Promise(2), "", "616263", one),
         (Step::Promise(1), "refused 19 Old", "616263", one),
         (append(2, 2, 2, b"def"), "", ABCDEF, two),
