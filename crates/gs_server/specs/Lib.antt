@@ -1,0 +1,5 @@
+pub mod Leases
+pub mod Places
+pub mod Promises
+pub mod Holding
+pub mod Edits

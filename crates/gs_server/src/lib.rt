@@ -1,0 +1,8 @@
+//! A chunkserver: what it keeps of its chunks, and what it answers to each message.
+#![tactic(auto)]
+
+mod lease;
+mod turn;
+
+pub use lease::{Lease, Open};
+pub use turn::{KeptRefusal, Turn};
