@@ -3,3 +3,5 @@ pub mod Places
 pub mod Promises
 pub mod Holding
 pub mod Edits
+pub mod Fetches
+pub mod Servers
