@@ -22,7 +22,7 @@ use Rattle.gs_store.specs.Slots.{Live, Slot, first_of, when, unless_live, unless
 use Rattle.gs_store.specs.Serving.{apply, done_in}
 use Rattle.gs_server.specs.declared.lease.Open.{Open}
 use Rattle.gs_server.specs.declared.turn.KeptRefusal.{KeptRefusal}
-use Rattle.gs_server.specs.Leases.{Lease, tell, is_over, waits, opens_edit, settled, dones, forwards, granted, stamp_of, moment_of, request_of}
+use Rattle.gs_server.specs.Leases.{Lease, tell, is_over, waits, opens_edit, done_at_once, forwards, granted, stamp_of, moment_of, request_of}
 use Rattle.gs_server.specs.Places.{Place, Here, SlotStays, SlotBecomes, LeaseStays, LeaseBecomes, Part, about, sending, refused, or_else, damaged_block, marked_by, tells_bad}
 use Rattle.gs_server.specs.Promises.{here, unleased}
 use Rattle.gs_server.specs.Holding.{quiet, numbering, grant_of}
@@ -117,10 +117,10 @@ opened req op bytes live = record { req = req; op = op; bytes = applied_bytes op
 abbrev pub numbers : Here → Slot → Lease → ℕ → Open → Part
 numbers h s l number edit = record {
   slot = SlotBecomes s;
-  lease = LeaseBecomes (settled (opens_edit h.me number edit l));
+  lease = LeaseBecomes (opens_edit h.me number edit l);
   kept = None;
   used = has_bytes edit.op;
-  sent = forwards h.me h.handle l (number, edit) ++ dones h.me (opens_edit h.me number edit l);
+  sent = forwards h.me h.handle l (number, edit) ++ done_at_once h.me number edit l;
   said = None;
 }
 

@@ -43,24 +43,31 @@ told_by told server = slice_index_or told server 0
 abbrev pub heard : ℕ → ℕ → List ℕ → List ℕ
 heard server count told = slice_set told server (max (told_by told server) count)
 
-abbrev pub hears : ℕ → ℕ → Lease → Lease
-hears server count l = record { grant = l.grant; told = heard server count l.told; outbox = l.outbox }
+abbrev pub with_told : List ℕ → Lease → Lease
+with_told told l = record { grant = l.grant; told = told; outbox = l.outbox }
 
--- a member hasn't told a count that reaches the edit
-abbrev pub lacks : Lease → (ℕ × Open) → ℕ → Bool
-lacks l edit server = nat_lt (told_by l.told server) edit.0
+abbrev pub hears : ℕ → ℕ → Lease → Lease
+hears server count l = with_told (heard server count l.told) l
+
+-- a server hasn't told a count that reaches the edit of this number
+abbrev pub lacks : List ℕ → ℕ → ℕ → Bool
+lacks told number server = nat_lt (told_by told server) number
 
 -- every member has
-abbrev pub is_acknowledged : Lease → (ℕ × Open) → Bool
-is_acknowledged l edit = list_all (λ server. not (lacks l edit server)) l.grant.members
+abbrev pub is_acknowledged : Lease → ℕ → Bool
+is_acknowledged l number = list_all (λ server. not (lacks l.told number server)) l.grant.members
 
 -- what every member has leaves the outbox
 abbrev pub settled : Lease → Lease
-settled l = record { grant = l.grant; told = l.told; outbox = filter (λ edit. not (is_acknowledged l edit)) l.outbox }
+settled l = record { grant = l.grant; told = l.told; outbox = filter (λ edit. not (is_acknowledged l edit.0)) l.outbox }
 
--- An edit is numbered: it waits for the members, of which the primary has it.
+-- an edit waits for the members; each number stands once, in the order in which they came
+abbrev pub waits_for : ℕ → Open → Lease → Lease
+waits_for number edit l = record { grant = l.grant; told = l.told; outbox = insert_entry (λ a b. a == b) l.outbox number edit }
+
+-- An edit is numbered: the primary has it, and it waits for the other members, if there are any.
 abbrev pub opens_edit : ℕ → ℕ → Open → Lease → Lease
-opens_edit me number edit l = hears me number (record { grant = l.grant; told = l.told; outbox = insert_entry (λ a b. a == b) l.outbox number edit })
+opens_edit me number edit l = cond (is_acknowledged (hears me number l) number) (hears me number l) (waits_for number edit (hears me number l))
 
 -- whether a request's edit waits in the outbox
 abbrev pub is_request : ReqId → ReqId → Bool
@@ -86,7 +93,11 @@ abbrev pub done_of : ℕ → (ℕ × Open) → Message
 done_of me edit = tell me (nodes.Client edit.1.req.client) (bodies.Done edit.1.req (Ok edit.1.outcome))
 
 abbrev pub dones : ℕ → Lease → List Message
-dones me l = map (done_of me) (filter (is_acknowledged l) l.outbox)
+dones me l = map (done_of me) (filter (λ edit. is_acknowledged l edit.0) l.outbox)
+
+-- of an edit that every member has where it is numbered, at once
+abbrev pub done_at_once : ℕ → ℕ → Open → Lease → List Message
+done_at_once me number edit l = cond (is_acknowledged (hears me number l) number) (done_of me (number, edit) ∷ []) []
 
 abbrev pub forward_of : ℕ → ℕ → Lease → Option (List ℕ) → (ℕ × Open) → ℕ → Message
 forward_of me handle l bytes edit to = tell me (nodes.Server to) (bodies.About handle (chunks.Forward l.grant.stamp edit.0 edit.1.req edit.1.op bytes))
@@ -97,7 +108,7 @@ forwards me handle l edit = map (forward_of me handle l None edit) (filter (λ s
 
 -- an edit that waits goes again to the members that haven't told of it
 abbrev pub forwards_again : ℕ → ℕ → Lease → (ℕ × Open) → List Message
-forwards_again me handle l edit = map (forward_of me handle l None edit) (filter (lacks l edit) l.grant.members)
+forwards_again me handle l edit = map (forward_of me handle l None edit) (filter (lacks l.told edit.0) l.grant.members)
 
 -- at a tick: where edits wait, the lease is renewed, and each goes again, the lowest number first
 abbrev pub reminds_of : ℕ → ℕ → Lease → List (ℕ × Open) → List Message
@@ -113,7 +124,7 @@ with_bytes me handle l server None = []
 with_bytes me handle l server (Some edit) = forward_of me handle l (Some edit.1.bytes) edit server ∷ []
 
 abbrev pub supplies : ℕ → ℕ → ℕ → Lease → List Message
-supplies me handle server l = cond (list_any (λ member. member == server) l.grant.members) (with_bytes me handle l server (find (λ edit. lacks l edit server) l.outbox)) []
+supplies me handle server l = cond (list_any (λ member. member == server) l.grant.members) (with_bytes me handle l server (find (λ edit. lacks l.told edit.0 server) l.outbox)) []
 
 -- Worked: the lease of three members at server 0, under which an append of two bytes is numbered 1.
 abbrev pub stamp_of : ℕ → ℕ → Stamp
@@ -173,9 +184,11 @@ just_below_it = refl
 the_greater_end_stays : (renews (moment_of 50) three).grant.end ≡ moment_of 60
 the_greater_end_stays = refl
 
-all_alone : Lease
+abbrev all_alone : Lease
 all_alone = granted (record { stamp = stamp_of 0 2; members = 0 ∷ []; end = moment_of 60 })
 
-at_once_where_there_is_one_member : dones 0 (opens_edit 0 1 two_bytes all_alone) ≡ done_of 0 (1, two_bytes) ∷ []
-unfolding all_alone
+at_once_where_there_is_one_member : done_at_once 0 1 two_bytes all_alone ≡ done_of 0 (1, two_bytes) ∷ []
 at_once_where_there_is_one_member = refl
+
+and_nothing_waits : (opens_edit 0 1 two_bytes all_alone).outbox ≡ []
+and_nothing_waits = refl

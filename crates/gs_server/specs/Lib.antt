@@ -5,3 +5,4 @@ pub mod Holding
 pub mod Edits
 pub mod Fetches
 pub mod Servers
+pub mod inner

@@ -2,6 +2,7 @@
 #![tactic(auto)]
 
 mod lease;
+mod sending;
 mod turn;
 
 pub use lease::{Lease, Open};
