@@ -1,2 +1,3 @@
 mod Lists
 mod Opening
+mod Made

@@ -1,10 +1,9 @@
 -- What a client reads of a chunk.
-use Rattle.std.specs.Prelude.{◌≡◌, ℕ, List, [], ◌∷◌, Option, Some, None, Result, Ok, Err, refl}
+use Rattle.std.specs.Prelude.{◌≡◌, ℕ, [], ◌∷◌, Result, Ok, Err, refl}
 use Rattle.gs_base.specs.declared.numbers.Stamp.{Stamp}
 use Rattle.gs_base.specs.declared.numbers.ReqId.{ReqId}
 use Rattle.gs_base.specs.declared.refusal.Refusal.{Refusal}
 use Rattle.gs_base.specs.declared.refusal.Refusal.TheVariants as refusals
-use Rattle.gs_block.specs.Edits as blocks
 use Rattle.gs_msg.specs.declared.node.NodeId.TheVariants as nodes
 use Rattle.gs_msg.specs.declared.message.Message.{Message}
 use Rattle.gs_msg.specs.declared.body.Given.{Given}
@@ -13,8 +12,8 @@ use Rattle.gs_msg.specs.declared.body.Body.TheVariants as bodies
 use Rattle.gs_msg.specs.declared.chunk.Asked.{Asked}
 use Rattle.gs_msg.specs.declared.chunk.Asked.TheVariants as asks
 use Rattle.gs_msg.specs.declared.chunk.Chunk.TheVariants as chunks
-use Rattle.gs_store.specs.Slots.{Live, Slot, first_of, unless, unless_live, standing, dropped, empty_replica, sealed_replica, mark_bad}
-use Rattle.gs_store.specs.Serving.{read, text_length, unless_reached}
+use Rattle.gs_store.specs.Slots.{Slot, standing, dropped, empty_replica, sealed_replica, mark_bad}
+use Rattle.gs_store.specs.Serving.{read, text_length, digest}
 use Rattle.gs_server.specs.Leases.{tell, stamp_of, request_of}
 use Rattle.gs_server.specs.Places.{Place, Here, Part, sending, about, refused, or_else, other_epoch}
 use Rattle.gs_server.specs.Promises.{here, unleased}
@@ -24,14 +23,6 @@ use Rattle.gs_server.specs.Holding.{quiet}
 abbrev pub giving : {A : Type 0} → (A → Given) → Result A Refusal → Result Given Refusal
 giving as_given (Ok a) = Ok (as_given a)
 giving as_given (Err refusal) = Err refusal
-
--- the digest of a block whose bytes have it; also a bad replica gives that of its other blocks
-abbrev pub digest_in : ℕ → Option Live → Result (List ℕ) Refusal
-digest_in block None = Err refusals.NoReplica
-digest_in block (Some l) = blocks.digest l.replica.held.chunk block
-
-abbrev pub digest : Stamp → ℕ → Slot → Result (List ℕ) Refusal
-digest stamp block s = unless (first_of (unless_live s.live ∷ unless_reached stamp s ∷ [])) (digest_in block s.live)
 
 abbrev pub given : Stamp → Asked → Slot → Result Given Refusal
 given stamp (asks.Bytes offset many) s = giving givens.Bytes (read stamp offset many s)

@@ -27,6 +27,7 @@ use Rattle.gs_msg.specs.declared.body.Body.TheVariants as bodies
 use Rattle.gs_msg.specs.declared.chunk.Chunk.{Chunk}
 use Rattle.gs_msg.specs.declared.chunk.Chunk.TheVariants as chunks
 use Rattle.gs_server.specs.declared.turn.KeptRefusal.{KeptRefusal}
+use Rattle.gs_server.specs.declared.turn.Turn.{Turn}
 use Rattle.gs_server.specs.contracts.turn.KeptRefusal as kept_refusals
 use Rattle.gs_server.specs.Leases.{Lease, coded_lease, tell, reminds, is_over}
 use Rattle.gs_server.specs.Places.{Place, Here, Part, SlotChange, SlotStays, SlotBecomes, SlotMarked, LeaseChange, LeaseStays, LeaseBecomes, LeaseSpent, unanswered}
@@ -156,6 +157,11 @@ pub record Step : Type 0 where
   pub after : Server
   pub sent : List Message
   pub said : Option Refusal
+
+-- a call of the code does what an event comes to, or it has no memory, changes nothing and sends nothing
+abbrev pub Steps : Step → Result Turn Refusal → Server → Server → Type 0
+Steps step (Ok turn) old new = (new ≡ step.after) × (turn.sent.items ≡ step.sent) × (turn.said ≡ step.said)
+Steps step (Err e) old new = (e ≡ refusals.Memory) × (new ≡ old)
 
 abbrev pub step_of : ℕ → Option ReqId → Part → Server → Step
 step_of handle req part s = record { after = changed_by handle req part s; sent = part.sent; said = part.said }

@@ -1,9 +1,17 @@
 //! A chunkserver: what it keeps of its chunks, and what it answers to each message.
 #![tactic(auto)]
 
+mod copying;
+mod events;
+mod fetching;
+mod holding;
 mod lease;
+mod leases;
+mod promising;
 mod sending;
+mod server;
 mod turn;
 
 pub use lease::{Lease, Open};
+pub use server::Server;
 pub use turn::{KeptRefusal, Turn};

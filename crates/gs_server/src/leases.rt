@@ -1,0 +1,48 @@
+// The leases that a server holds, by handle.
+ghost use Rattle.std.specs.Prelude.{◌≡◌, Some, OnSome};
+ghost use Rattle.std.specs.FinMap as fin;
+ghost use Rattle.std.specs.Ordering.{nat_cmp};
+ghost use Rattle.gs_table.specs.Slots.{live, HasRoom};
+ghost use Rattle.gs_server.specs.Leases.{Lease, settled, with_told, renews};
+
+use crate::lease::{Lease, ToldCounts};
+use gs_base::{Handle, Moment};
+use gs_table::Table;
+
+/// Spends the lease of a handle. It takes no memory.
+pub(crate) fn spend(leases: &mut Table<Handle, Lease>, handle: Handle)
+    ensures { live nat_cmp leases.new ≡ fin.remove (live nat_cmp leases.old) handle }
+{
+    leases.remove(handle);
+}
+
+/// Takes the lease of a handle out, and leaves its room. It takes no memory.
+fn take_out(leases: &mut Table<Handle, Lease>, handle: Handle) -> Option<Lease>
+    ensures value { result ≡ fin.get (live nat_cmp leases.old) handle }
+    ensures taken { OnSome result (live nat_cmp leases.new ≡ fin.remove (live nat_cmp leases.old) handle) }
+    ensures room { OnSome result (HasRoom nat_cmp leases.new handle) }
+{
+    if leases.get(handle).is_none() {
+        return None;
+    }
+    leases.take(handle)
+}
+
+/// Takes counts that servers have told of a handle, and gives up each edit that every member has then. It takes no memory.
+pub(crate) fn settle(leases: &mut Table<Handle, Lease>, handle: Handle, told: ToldCounts)
+    ensures { (l : Lease) → fin.get (live nat_cmp leases.old) handle ≡ Some l → live nat_cmp leases.new ≡ fin.insert (live nat_cmp leases.old) handle (settled (with_told told l)) }
+{
+    if let Some(mut lease) = take_out(leases, handle) {
+        lease.settle(told);
+        leases.put(handle, lease);
+    }
+}
+
+/// Gives the lease of a handle the greater end of the two. It takes no memory.
+pub(crate) fn renew(leases: &mut Table<Handle, Lease>, handle: Handle, end: Moment)
+    ensures { (l : Lease) → fin.get (live nat_cmp leases.old) handle ≡ Some l → live nat_cmp leases.new ≡ fin.insert (live nat_cmp leases.old) handle (renews end l) }
+{
+    if let Some(lease) = take_out(leases, handle) {
+        leases.put(handle, lease.renew(end));
+    }
+}

@@ -1,0 +1,127 @@
+ghost use Rattle.std.specs.Prelude.{◌≡◌, ◌≤◌, [], None, IfOk};
+ghost use Rattle.gs_server.specs.Places.{damaged_block};
+ghost use Rattle.gs_server.specs.Servers.{new, Steps};
+ghost use Rattle.gs_server.specs.Leases.{tell};
+ghost use Rattle.gs_server.specs.inner.Answering.{refused_by, promised_by};
+ghost use Rattle.gs_msg.specs.declared.body.Body.TheVariants.{About};
+
+use crate::lease::{Lease, tell};
+use crate::leases::spend;
+use crate::sending::Sending;
+use crate::turn::{KeptRefusal, Turn};
+use gs_base::{ClientId, Config, Handle, Refusal, ServerId, Stamp};
+use gs_block::Sizes;
+use gs_msg::{Body, Chunk, Message, NodeId};
+use gs_store::Store;
+use gs_table::Table;
+use std::alloc::{AllocError, Global};
+use std::marker::Model;
+
+/// A chunkserver. What it keeps over a restart is in its store, but for the pushed bytes there, and in its kept refusals.
+#[derive(Drop)]
+pub struct Server {
+    pub(crate) alloc: Global,
+    pub(crate) id: ServerId,
+    pub(crate) store: Store,
+    pub(crate) leases: Table<Handle, Lease>,
+    pub(crate) refused: Table<ClientId, KeptRefusal>,
+}
+
+impl Model for Server {
+    ghost use Rattle.std.specs.Ordering.{nat_cmp};
+    ghost use Rattle.gs_table.specs.Slots.{live};
+    ghost use Rattle.gs_server.specs.Servers.{Server, coded_server, client_cmp};
+
+    ghost Value = { Server };
+
+    ghost coded = { coded_server };
+
+    ghost view = { λ s. record { me = s.id; block = s.store.block; chunk = s.store.chunk; kept = record { epoch = s.store.epoch; slots = s.store.slots; refused = live client_cmp s.refused }; dropped = record { leases = live nat_cmp s.leases; buffer = s.store.buffer } } };
+}
+
+impl Server {
+    /// A server that has heard nothing, in epoch 0.
+    pub fn new(alloc: Global, config: Config, id: ServerId) -> Result<Server, AllocError>
+        ensures { IfOk result (λ server. server ≡ new id config.block config.chunk) }
+    {
+        Ok(Server {
+            alloc,
+            id,
+            store: Store::new(alloc, Sizes::of(config))?,
+            leases: Table::new(alloc),
+            refused: Table::new(alloc),
+        })
+    }
+
+    /// What is told of a chunk.
+    pub(crate) fn about(&self, handle: Handle, to: NodeId, said: Chunk) -> Message
+        ensures { result ≡ tell self.now.me to (About handle said) }
+    {
+        tell(self.id, to, Body::About(handle, said))
+    }
+
+    /// Refuses a message by an answer. A block without its digest marks the replica of the handle, and the master is told of it
+    /// behind the answer.
+    pub(crate) fn refuse(
+        &mut self,
+        handle: Handle,
+        answer: Message,
+        refusal: Refusal,
+    ) -> Result<Turn, Refusal>
+        ensures { Steps (refused_by handle answer refusal self.old) result self.old self.new }
+    {
+        let mut sent = Vec::with_capacity(self.alloc, 2)?;
+        sent.push(answer)?;
+        if let Some(block) = damaged_block(&refusal) {
+            let promise = self.store.promised(handle);
+            sent.push(self.about(handle, NodeId::Master, Chunk::Bad(promise)))?;
+            self.store.mark_bad(handle, block);
+        }
+        Ok(Turn {
+            sent,
+            said: Some(refusal),
+        })
+    }
+
+    /// The lease of a handle is spent where its stamp isn't the promise any more. It takes no memory.
+    fn spend_below(&mut self, handle: Handle)
+        ensures { self.new ≡ (promised_by handle (record { epoch = 0; version = 0 }) self.old).after }
+    {
+        let Some(lease) = self.leases.get(handle) else {
+            return;
+        };
+        if lease.stamp() != self.store.promised(handle) {
+            spend(&mut self.leases, handle);
+        }
+    }
+
+    /// What follows where a call on a slot was accepted: the promise is told, for which there is room. It takes no memory.
+    pub(crate) fn promise(&mut self, handle: Handle, stamp: Stamp, mut sent: Sending) -> Turn
+        requires room { 1 ≤ sent.room }
+        requires none { sent.messages ≡ [] }
+        ensures after { self.new ≡ (promised_by handle stamp self.old).after }
+        ensures sent { result.sent.items ≡ (promised_by handle stamp self.old).sent }
+        ensures said { result.said ≡ None }
+    {
+        let promised = Chunk::Promised {
+            stamp,
+            count: self.store.count(handle).unwrap_or(0),
+            carried: self.store.is_carried(handle),
+        };
+        sent.put(self.about(handle, NodeId::Master, promised));
+        self.spend_below(handle);
+        Turn {
+            sent: sent.into_messages(),
+            said: None,
+        }
+    }
+}
+
+fn damaged_block(refusal: &Refusal) -> Option<u64>
+    ensures { result ≡ damaged_block refusal.now }
+{
+    match refusal {
+        Refusal::Damaged(block) => Some(*block),
+        _ => None,
+    }
+}
