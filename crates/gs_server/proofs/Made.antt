@@ -24,9 +24,10 @@ use Rattle.gs_server.specs.Holding.{takes}
 use Rattle.gs_msg.specs.declared.body.Given.{Given}
 use Rattle.gs_server.specs.Fetches.{refuses, gives, giving}
 use Rattle.gs_server.specs.Places.{Part, or_else, promising, of_promise, count_or_none, unanswered, sending}
-use Rattle.gs_server.specs.Promises.{promises, unpromised, promised, drops}
+use Rattle.gs_server.specs.Promises.{promises, unpromised, promised, drops, or_copy, not_copied, copies}
 use Rattle.gs_server.specs.Servers.{Server, Step, Steps, step_of, store_of, with_store, with_leases, here_of, place_of, change_lease}
-use Rattle.gs_server.specs.inner.Answering.{promised_by}
+use Rattle.gs_server.specs.Servers.{copies as copy_step}
+use Rattle.gs_server.specs.inner.Answering.{promised_by, not_copied_by}
 
 pub slot_put : (handle : ℕ) (s : Slot) (t : Store) → slot_of handle (with_slot handle s t) ≡ s
 slot_put handle s t = grind (arith, common_steps, fin.gets)
@@ -209,3 +210,39 @@ fetch_err handle req moment old true e (Err g) f after result checked makes step
 pub giving_err : {A B : Type 0} (f : A → Given) (view : B → A) (m : Result A Refusal) (r : Refusal) → Answers view m (Err r) → Makes (giving f m) (Err r)
 giving_err f view (Ok a) r answers = elim answers [ ]
 giving_err f view (Err e) r answers = answers
+
+-- a copy is made under a new handle
+abbrev pub copied_as : ℕ → ℕ → Stamp → Moment → Bool → Refusal → Result Slot Refusal → Server → Step
+copied_as handle new_handle stamp moment test e m old =
+    copy_step handle new_handle (or_copy (when (not test) e) (not_copied (here_of old moment handle None) (place_of handle old) (here_of old moment new_handle None) stamp)
+    (copies (here_of old moment handle None) (place_of handle old) (here_of old moment new_handle None) (place_of new_handle old) stamp m)) old
+
+pub copied_ok : (handle new_handle : ℕ) (stamp : Stamp) (moment : Moment) (old : Server) (test : Bool) (e : Refusal) (m : Result Slot Refusal) (new : Store) (after : Server) (turn : Turn) →
+    Judges {B = Unit {0}} (cond test None (Some e)) (Ok tt) → Follows {B = Unit {0}} (put_slot new_handle (store_of old) m) (Ok tt) (store_of old) new →
+    after ≡ (promised_by new_handle stamp (with_store new old)).after → turn.sent.items ≡ (promised_by new_handle stamp (with_store new old)).sent → turn.said ≡ None →
+    Steps (copied_as handle new_handle stamp moment test e m old) (Ok turn) old after
+copied_ok handle new_handle stamp moment old false e m new after turn checked follows is sent said = elim checked [ ]
+copied_ok handle new_handle stamp moment old true e (Err f) new after turn checked follows is sent said = elim follows [ ]
+copied_ok handle new_handle stamp moment old true e (Ok s) new after turn checked follows is sent said =
+    let same : promised_by new_handle stamp (with_store new old) ≡ step_of new_handle None (promising s (place_of new_handle old) (promised (here_of old moment new_handle None) stamp s ∷ [])) old =
+    ap (λ n. promised_by new_handle stamp (with_store n old)) follows ∙ promised_step new_handle stamp moment old s in
+    (is ∙ ap (λ (x : Step). x.after) same, sent ∙ ap (λ (x : Step). x.sent) same, said)
+
+pub copied_err : (handle new_handle : ℕ) (stamp : Stamp) (moment : Moment) (old : Server) (test : Bool) (e : Refusal) (m : Result Slot Refusal) (f : Refusal) (new : Store) (after : Server) (result : Result Turn Refusal) →
+    Judges {B = Unit {0}} (cond test None (Some e)) (Ok tt) → Follows {B = Unit {0}} (put_slot new_handle (store_of old) m) (Err f) (store_of old) new →
+    Steps (not_copied_by handle new_handle stamp f (with_store new old)) result (with_store new old) after → (f ≡ refusals.Memory → result ≡ Err refusals.Memory) → (f ≡ refusals.Memory → after ≡ with_store new old) →
+    Steps (copied_as handle new_handle stamp moment test e m old) result old after
+copied_err handle new_handle stamp moment old false e m f new after result checked follows steps lacks stays = elim checked [ ]
+copied_err handle new_handle stamp moment old true e (Ok s) f new after result checked follows steps lacks stays =
+    wants_memory _ result old after (lacks follows.0) (stays follows.0 ∙ ap (λ n. with_store n old) follows.1)
+copied_err handle new_handle stamp moment old true e (Err g) f new after result checked follows steps lacks stays =
+    elim follows.0 [
+      | inl is ↦ subst (λ r. Steps (not_copied_by handle new_handle stamp r old) result old after) is (subst (λ s. Steps (not_copied_by handle new_handle stamp f s) result s after) (ap (λ n. with_store n old) follows.1) steps)
+      | inr is ↦ wants_memory _ result old after (lacks is) (stays is ∙ ap (λ n. with_store n old) follows.1)
+    ]
+
+pub copied_in_another_epoch : (handle new_handle : ℕ) (stamp : Stamp) (moment : Moment) (old : Server) (test : Bool) (e f : Refusal) (m : Result Slot Refusal) (after : Server) (result : Result Turn Refusal) →
+    Judges {B = Unit {0}} (cond test None (Some e)) (Err f) → Steps (not_copied_by handle new_handle stamp f old) result old after →
+    Steps (copied_as handle new_handle stamp moment test e m old) result old after
+copied_in_another_epoch handle new_handle stamp moment old true e f m after result checked steps = elim checked [ ]
+copied_in_another_epoch handle new_handle stamp moment old false e f m after result checked steps = subst (λ r. Steps (not_copied_by handle new_handle stamp r old) result old after) checked steps

@@ -5,4 +5,5 @@ pub mod Holding
 pub mod Edits
 pub mod Fetches
 pub mod Servers
+pub mod Laws
 pub mod inner

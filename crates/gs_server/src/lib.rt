@@ -7,6 +7,7 @@ mod fetching;
 mod holding;
 mod lease;
 mod leases;
+mod making;
 mod promising;
 mod sending;
 mod server;
