@@ -1,3 +1,4 @@
 mod Lists
 mod Opening
 mod Made
+mod Keeping

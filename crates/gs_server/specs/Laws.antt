@@ -1,12 +1,13 @@
 -- What the laws of a server speak of.
-use Rattle.std.specs.Prelude.{◌≡◌, ◌<◌, false, true, Some, None}
+use Rattle.std.specs.Prelude.{◌≡◌, ◌<◌, false, true, Option, Some, None}
 use Rattle.gs_base.specs.declared.numbers.Moment.{Moment}
 use Rattle.gs_base.specs.declared.numbers.Stamp.{Stamp}
 use Rattle.gs_base.specs.declared.numbers.ReqId.{ReqId}
 use Rattle.gs_base.specs.Stamps.{is_same}
 use Rattle.gs_replica.specs.declared.op.Done.{Done}
 use Rattle.gs_server.specs.Leases.{Lease, is_over}
-use Rattle.gs_server.specs.Places.{Place}
+use Rattle.gs_base.specs.declared.refusal.Refusal.{Refusal}
+use Rattle.gs_server.specs.Places.{Place, Part, SlotChange, SlotStays, SlotBecomes, SlotMarked, LeaseStays}
 
 -- a lease of this stamp is held, which is the promise, at a moment below its end
 pub record IsHeldFor (moment : Moment) (stamp : Stamp) (p : Place) : Type 0 where
@@ -24,3 +25,17 @@ pub record IsSpent (stamp : Stamp) (p : Place) : Type 0 where
 -- the request is above the client's last
 abbrev pub IsAbove : Done → ReqId → Type 0
 IsAbove last req = last.number < req.number
+
+-- What a message that is refused leaves: the slot stays, but that its replica may be marked as bad; the lease stays; and nothing
+-- leaves the buffer.
+abbrev pub IsKept : SlotChange → Type 0
+IsKept SlotStays = Unit {0}
+IsKept (SlotMarked block) = Unit {0}
+IsKept (SlotBecomes s) = ⊥
+
+abbrev pub LeavesWhere : Option Refusal → Part → Type 0
+LeavesWhere None part = Unit {0}
+LeavesWhere (Some refusal) part = IsKept part.slot × (part.lease ≡ LeaseStays) × (part.used ≡ false)
+
+abbrev pub LeavesIfRefused : Part → Type 0
+LeavesIfRefused part = LeavesWhere part.said part

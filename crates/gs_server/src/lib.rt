@@ -8,6 +8,7 @@ mod holding;
 mod lease;
 mod leases;
 mod making;
+pub mod promises;
 mod promising;
 mod sending;
 mod server;

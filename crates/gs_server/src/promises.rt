@@ -1,0 +1,48 @@
+//! What holds of each server, whatever messages come.
+
+ghost use Rattle.std.specs.Prelude.{◌≡◌, ◌≢◌, ℕ, Bool, true, false, List, Option, Some, None};
+ghost use Rattle.gs_base.specs.declared.numbers.Stamp.{Stamp};
+ghost use Rattle.gs_base.specs.declared.numbers.ReqId.{ReqId};
+ghost use Rattle.gs_base.specs.declared.refusal.Refusal.TheVariants as refusals;
+ghost use Rattle.gs_lease.specs.declared.held.Grant.{Grant};
+ghost use Rattle.gs_replica.specs.declared.op.Done.{Done};
+ghost use Rattle.gs_msg.specs.declared.op.Op.{Op};
+ghost use Rattle.gs_base.specs.Stamps.{is_same};
+ghost use Rattle.gs_msg.specs.declared.node.NodeId.{NodeId};
+ghost use Rattle.gs_msg.specs.declared.chunk.Chunk.{Chunk};
+ghost use Rattle.gs_store.specs.Slots.{Slot};
+ghost use Rattle.gs_store.specs.Serving.{done_in};
+ghost use Rattle.gs_server.specs.Leases.{Lease};
+ghost use Rattle.gs_server.specs.Places.{Place, Here, Part, SlotBecomes, after};
+ghost use Rattle.gs_server.specs.Edits.{edit, forward};
+ghost use Rattle.gs_server.specs.Holding.{grant};
+ghost use Rattle.gs_server.specs.Servers.{Server, place_of, restart, about_chunk};
+ghost use Rattle.gs_server.specs.Laws.{IsHeldFor, IsSpent, IsAbove, LeavesIfRefused};
+
+/// No edit is numbered but under a lease that is held, that is of the promise and of the stamp that is asked for, and whose end
+/// has not come.
+pub fn edits_are_numbered_under_a_lease()
+    ensures { (h : Here) (p : Place) (req : ReqId) (stamp : Stamp) (op : Op) (s : Slot) → (edit h p req stamp op).slot ≡ SlotBecomes s → IsHeldFor h.moment stamp p }
+{}
+
+/// A client's last request in the done table is no new edit, and neither is a lower one.
+pub fn a_request_is_numbered_once()
+    ensures { (h : Here) (p : Place) (req : ReqId) (stamp : Stamp) (op : Op) (last : Done) (s : Slot) → done_in p.slot.live req.client.0 ≡ Some last → (edit h p req stamp op).slot ≡ SlotBecomes s → IsAbove last req }
+{}
+
+/// A member takes a forward under the stamp that it has promised, and under no other.
+pub fn no_forward_is_taken_below_the_promise()
+    ensures { (h : Here) (p : Place) (from : NodeId) (stamp : Stamp) (number : ℕ) (req : ReqId) (op : Op) (carried : Option (List ℕ)) (s : Slot) → (forward h p from stamp number req op carried).slot ≡ SlotBecomes s → is_same stamp p.slot.promise ≡ true }
+{}
+
+/// A lease that was taken and is not held any more is never taken again, also after a restart.
+pub fn a_spent_lease_is_not_taken_again()
+    ensures grant { (h : Here) (p : Place) (given : Grant) → IsSpent given.stamp p → after p (grant h p given) ≡ p }
+    ensures restart { (handle : ℕ) (s : Server) (stamp : Stamp) → (place_of handle s).slot.taken ≡ Some stamp → IsSpent stamp (place_of handle (restart s)) }
+{}
+
+/// A message about a chunk that is refused leaves what is kept of the chunk, but that its replica may be marked as bad; it
+/// leaves the lease, and the pushed bytes.
+pub fn a_refused_message_leaves_the_chunk()
+    ensures { (h : Here) (p : Place) (from : NodeId) (chunk : Chunk) → LeavesIfRefused (about_chunk h p from chunk) }
+{}
