@@ -1,0 +1,12 @@
+//! The master: the names of the store, where each chunk is, and what it sends to clients and servers.
+#![tactic(auto)]
+
+mod asking;
+mod change;
+mod pending;
+mod reply;
+
+pub use asking::{Asking, Prepared};
+pub use change::Change;
+pub use pending::{Pending, Waiting};
+pub use reply::KeptReply;
