@@ -31,7 +31,7 @@ use Rattle.gs_record.specs.declared.checkpoint.Phase.{Phase}
 use Rattle.gs_record.specs.declared.checkpoint.Phase.TheVariants.{Ordinary, Upgrade, Rolling}
 use Rattle.gs_master.specs.Chunks.{members_in}
 use Rattle.gs_master.specs.Durable.{Durable, is_rolling}
-use Rattle.gs_master.specs.State.{State, Plan, Turn, turned, if_room, reply_to, refused, answered, first_of}
+use Rattle.gs_master.specs.State.{State, Plan, Turn, turned, if_room, reply_to, refused, answered, first_of, is_failed}
 use Rattle.gs_master.specs.Applied.{view_in}
 use Rattle.gs_master.specs.Undoing.{edited_names}
 
@@ -122,7 +122,7 @@ ordered failed rolling preparing locked call =
     (failed, refusals.Device) ∷ (rolling && not (is_always_taken call), refusals.RollingBack) ∷ (preparing && is_work call, refusals.Preparing) ∷ (locked, refusals.Locked) ∷ (is_any_hidden call, refusals.HiddenName) ∷ []
 
 abbrev pub refused_before : State → ReqId → Call → Option Refusal
-refused_before s req call = first_of (ordered s.is_failed (is_rolling s.durable.phase) s.volatile.is_preparing (is_locked s req call) call)
+refused_before s req call = first_of (ordered (is_failed s.fault) (is_rolling s.durable.phase) s.volatile.is_preparing (is_locked s req call) call)
 
 -- ---- edits of the tree
 

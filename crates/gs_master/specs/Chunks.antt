@@ -22,6 +22,8 @@ use Rattle.gs_record.specs.declared.checkpoint.Phase.TheVariants.{Ordinary, Upgr
 use Rattle.gs_master.specs.Durable.{Settled, is_rolling, is_upgrade, is_listed}
 use Rattle.gs_master.specs.State.{State}
 use Rattle.gs_master.specs.declared.asking.Asking.{Asking}
+use Rattle.gs_master.specs.declared.asking.Step.{Step}
+use Rattle.gs_master.specs.declared.asking.Step.TheVariants as steps
 
 -- the view that was settled last, if one was, and what is asked
 pub record Chunk : Type 0 where
@@ -115,33 +117,25 @@ has_yes asking = is_some (greatest asking.answers.counts)
 abbrev pub with_answers : Asking → Answers → Asking
 with_answers asking answers = record asking { answers = answers }
 
--- what follows of an answer: nothing yet; that a source is told to copy the chunk to the target; that the view is settled by
--- these answers; that nobody has promised
-pub data Step : Type 0 where
-  Wait : Step
-  Send : ℕ → ℕ → Step
-  Settled_by : Answers → Step
-  Fail : Step
-
 -- the lowest of those that have the most edits
 abbrev pub source_in : Asking → Option ℕ
 source_in asking = option_and_then (λ choice. slice_get choice.0 0) (chosen asking.answers.counts)
 
 abbrev pub sent_from : Option ℕ → ℕ → Step
-sent_from None target = Fail
-sent_from (Some source) target = Send source target
+sent_from None target = steps.Fail
+sent_from (Some source) target = steps.Send source target
 
 -- once all have spoken; a copy is waited for once a source was told
 abbrev pub once_spoken : Asking → Purpose → Option ℕ → Step
-once_spoken asking purposes.Quiet source = Settled_by asking.answers
-once_spoken asking purposes.Lease source = Settled_by asking.answers
+once_spoken asking purposes.Quiet source = steps.Settle asking.answers
+once_spoken asking purposes.Lease source = steps.Settle asking.answers
 once_spoken asking (purposes.Copy target) None = sent_from (source_in asking) target
-once_spoken asking (purposes.Copy target) (Some source) = Wait
+once_spoken asking (purposes.Copy target) (Some source) = steps.Wait
 
 abbrev pub step_after : Asking → Step
 step_after asking =
-    if not (have_all_spoken asking) then Wait
-    else if not (has_yes asking) then Fail
+    if not (have_all_spoken asking) then steps.Wait
+    else if not (has_yes asking) then steps.Fail
     else once_spoken asking asking.purpose asking.source
 
 -- the target joins those that have as many edits as it, where nobody has more
@@ -150,8 +144,8 @@ with_target asking target count = if is_count count (greatest asking.answers.cou
 
 -- the copy has come, if it was sent
 abbrev pub step_of_target : Asking → ℕ → ℕ → Option ℕ → Step
-step_of_target asking target count None = Wait
-step_of_target asking target count (Some source) = Settled_by (with_target asking target count)
+step_of_target asking target count None = steps.Wait
+step_of_target asking target count (Some source) = steps.Settle (with_target asking target count)
 
 -- a yes with its count
 abbrev pub heard_yes : Asking → ℕ → ℕ → Asking
@@ -172,13 +166,13 @@ ends_copy asking server = is_some asking.source && (is_target asking server || i
 
 abbrev pub step_of_no : Asking → ℕ → Step
 step_of_no asking server =
-    if ends_copy asking server then Settled_by asking.answers
+    if ends_copy asking server then steps.Settle asking.answers
     else if is_member asking.asked server then step_after (heard_no asking server)
-    else Wait
+    else steps.Wait
 
 -- at a tick one yes is enough, and a copy isn't waited for
 abbrev pub step_at_tick : Asking → Step
-step_at_tick asking = if has_yes asking then Settled_by asking.answers else Fail
+step_at_tick asking = if has_yes asking then steps.Settle asking.answers else steps.Fail
 
 -- ---- settling
 
@@ -234,7 +228,7 @@ under_another_stamp = refl
 of_one_who_was_not_asked : hears (asked_for purposes.Quiet) a_stamp 2 ≡ false
 of_one_who_was_not_asked = refl
 
-one_has_not_spoken : step_of_yes (asked_for purposes.Quiet) 0 2 ≡ Wait
+one_has_not_spoken : step_of_yes (asked_for purposes.Quiet) 0 2 ≡ steps.Wait
 unfolding servers_where
 one_has_not_spoken = refl
 
@@ -246,22 +240,22 @@ the_one_with_more_edits : view_by a_chunk by_both by_both.answers (record { 0 = 
 unfolding servers_where
 the_one_with_more_edits = refl
 
-both_said_no : step_of_no (heard_no (asked_for purposes.Quiet) 0) 1 ≡ Fail
+both_said_no : step_of_no (heard_no (asked_for purposes.Quiet) 0) 1 ≡ steps.Fail
 unfolding servers_where
 both_said_no = refl
 
-a_yes_after_both_said_no : step_of_yes (heard_no (heard_no (asked_for purposes.Quiet) 0) 1) 1 2 ≡ Settled_by (with_yes (heard_no (heard_no (asked_for purposes.Quiet) 0) 1).answers 1 2)
+a_yes_after_both_said_no : step_of_yes (heard_no (heard_no (asked_for purposes.Quiet) 0) 1) 1 2 ≡ steps.Settle (with_yes (heard_no (heard_no (asked_for purposes.Quiet) 0) 1).answers 1 2)
 unfolding servers_where
 a_yes_after_both_said_no = refl
 
-nobody_at_a_tick : step_at_tick (asked_for purposes.Quiet) ≡ Fail
+nobody_at_a_tick : step_at_tick (asked_for purposes.Quiet) ≡ steps.Fail
 nobody_at_a_tick = refl
 
 -- a copy to server 2: both have 2 edits, so the lower is told to send
 abbrev copying : Asking
 copying = heard_yes (heard_yes (asked_for (purposes.Copy 2)) 0 2) 1 2
 
-the_lower_of_two_is_the_source : step_of_yes (heard_yes (asked_for (purposes.Copy 2)) 0 2) 1 2 ≡ Send 0 2
+the_lower_of_two_is_the_source : step_of_yes (heard_yes (asked_for (purposes.Copy 2)) 0 2) 1 2 ≡ steps.Send 0 2
 unfolding servers_where
 the_lower_of_two_is_the_source = refl
 
@@ -281,10 +275,10 @@ a_target_before_the_others = refl
 a_target_alone : may_settle (0 ∷ 1 ∷ []) (2 ∷ []) ≡ false
 a_target_alone = refl
 
-a_target_that_was_not_sent_for : step_of_yes copying 2 2 ≡ Wait
+a_target_that_was_not_sent_for : step_of_yes copying 2 2 ≡ steps.Wait
 a_target_that_was_not_sent_for = refl
 
-the_source_says_no : step_of_no sent_for 0 ≡ Settled_by sent_for.answers
+the_source_says_no : step_of_no sent_for 0 ≡ steps.Settle sent_for.answers
 the_source_says_no = refl
 
 abbrev with_server_2 : View

@@ -1,5 +1,5 @@
 -- The master: what it does with each message, at a tick, for a checkpoint, and after a restart.
-use Rattle.std.specs.Prelude.{◌≡◌, ◌&&◌, ◌==◌, ◌+◌, ℕ, Bool, true, false, not, nat_lt, nat_le, List, [], ◌∷◌, map, flat_map, Option, Some, None, Result, Ok, Err, if◌then◌else◌, refl}
+use Rattle.std.specs.Prelude.{◌≡◌, ◌&&◌, ◌==◌, ◌+◌, ℕ, Bool, true, false, not, nat_lt, nat_le, List, [], ◌∷◌, map, flat_map, filter, is_some, Option, Some, None, Result, Ok, Err, if◌then◌else◌, refl}
 use Rattle.std.specs.FinMap as fin
 use Rattle.gs_base.specs.Stamps.{is_same}
 use Rattle.gs_base.specs.declared.config.Config.{Config}
@@ -34,9 +34,9 @@ use Rattle.gs_master.specs.Chunks.{Chunk, chunk_at, is_leased, step_at_tick, vie
 use Rattle.gs_master.specs.Durable.{Durable, start, is_rolling, is_listed}
 use Rattle.gs_master.specs.Hearing.{promised, unpromised, renewed, reported, damaged, learned, behind, sends, stepped}
 use Rattle.gs_master.specs.Settling.{grants}
-use Rattle.gs_master.specs.State.{State, Log, Turn, unmoved, met_by, and_then, for_each, reply_to, refused, last_reply, first_of}
+use Rattle.gs_master.specs.State.{State, Log, Turn, unmoved, met_by, and_then, for_each, reply_to, refused, last_reply, first_of, is_failed, Sound}
 use Rattle.gs_master.specs.Upgrades.{prepare_begin, prepare_commit, prepare_abort, finalize, rollback_begin, rollback_commit, tell_all}
-use Rattle.gs_master.specs.Volatile.{nothing, is_pending}
+use Rattle.gs_master.specs.Volatile.{Volatile, nothing, is_pending}
 use Rattle.gs_master.specs.Whole.{checkpoint_of}
 use Rattle.gs_master.specs.Working.{found_for_writing, extends, snapshots, replicates, scans}
 use Rattle.gs_master.specs.declared.asking.Asking.{Asking}
@@ -86,7 +86,7 @@ replied_again s req result = record { after = s; records = []; sent = reply_to r
 
 -- it gets no answer before it ends, but where the disk has failed
 abbrev pub waits_still : State → ReqId → Turn
-waits_still s req = if s.is_failed then replied_again s req (Err refusals.Device) else unmoved s
+waits_still s req = if is_failed s.fault then replied_again s req (Err refusals.Device) else unmoved s
 
 -- how a request's number stands to that of the last reply
 pub data Numbered : Type 0 where
@@ -126,7 +126,7 @@ server_turn s server moment said = met_by s refusals.Stray
 
 -- once a disk has failed, nothing is done for them
 abbrev pub unless_failed : State → Turn → Turn
-unless_failed s t = if s.is_failed then met_by s refusals.Device else t
+unless_failed s t = if is_failed s.fault then met_by s refusals.Device else t
 
 abbrev pub from_server : State → ℕ → Moment → Body → Turn
 from_server s server moment said = unless_failed s (server_turn s server moment said)
@@ -189,13 +189,20 @@ abbrev pub checkpoint_tests : Bool → Bool → Log → List ℕ → List (Bool 
 checkpoint_tests failed preparing log bytes =
     (failed, refusals.Device) ∷ (preparing, refusals.Preparing) ∷ (log.generation == last_generation, refusals.Exhausted) ∷ (nat_lt log.limit (checkpoint_size bytes), refusals.Full) ∷ []
 
--- the other disk has the checkpoint alone, and counts; nothing else changes
+-- the other disk has the checkpoint alone, and counts
 abbrev pub log_with : Log → List ℕ → Log
 log_with log bytes = record log { records = 0; size = checkpoint_size bytes; generation = log.generation + 1 }
 
+-- Chunks that stand in no file and never did aren't told; of the new ones those for which something is asked stay.
+abbrev pub tidied : Durable → Durable
+tidied d = record d { chunks = fin.retain_keys d.chunks (is_listed d) }
+
+abbrev pub still_new : Volatile → Volatile
+still_new v = record v { new = filter (λ chunk. is_some (fin.get v.moving chunk)) v.new }
+
 abbrev pub written : State → Turn
 written s = record {
-  after = record s { log = log_with s.log (checkpoint_body s.durable) };
+  after = record s { durable = tidied s.durable; volatile = still_new s.volatile; log = log_with s.log (checkpoint_body s.durable) };
   records = Whole (checkpoint_of s.durable) ∷ [];
   sent = [];
   said = None;
@@ -206,7 +213,7 @@ written_unless s None = written s
 written_unless s (Some refusal) = met_by s refusal
 
 unfoldable pub checkpoint : State → Turn
-checkpoint s = written_unless s (first_of (checkpoint_tests s.is_failed s.volatile.is_preparing s.log (checkpoint_body s.durable)))
+checkpoint s = written_unless s (first_of (checkpoint_tests (is_failed s.fault) s.volatile.is_preparing s.log (checkpoint_body s.durable)))
 
 -- where many records stand one is written, or else the tick is as it is
 abbrev pub due : State → Bool
@@ -221,12 +228,9 @@ tick s moment =
 
 -- ---- a restart
 
--- without the chunks that stand in no file and never did: nothing leads to them any more
-abbrev pub tidied : Durable → Durable
-tidied d = record d { chunks = fin.retain_keys d.chunks (is_listed d) }
-
+-- Nothing is asked for any chunk, and none is new: so one that stands in no file and never did has no entry any more.
 abbrev pub restarted : Durable → Log → State
-restarted d log = record { durable = tidied d; volatile = nothing; log = log; is_failed = false }
+restarted d log = record { durable = d; volatile = nothing; log = log; fault = Sound }
 
 -- while rolling back every server is told again
 abbrev pub told_again : Config → Durable → List Message

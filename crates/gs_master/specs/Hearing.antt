@@ -20,12 +20,14 @@ use Rattle.gs_record.specs.declared.checkpoint.Phase.{Phase}
 use Rattle.gs_record.specs.declared.checkpoint.Phase.TheVariants.{Ordinary, Upgrade}
 use Rattle.gs_master.specs.Applied.{is_prepared_on}
 use Rattle.gs_master.specs.Beginning.{has_versions, all_begun}
-use Rattle.gs_master.specs.Chunks.{Chunk, chunk_at, is_at_home, is_settled_on, is_leased, is_target, may_begin, view_of, hears, heard_yes, heard_no, Step, Wait, Send, Settled_by, Fail, step_of_yes, step_of_no, asking_for}
+use Rattle.gs_master.specs.Chunks.{Chunk, chunk_at, is_at_home, is_settled_on, is_leased, is_target, may_begin, view_of, hears, heard_yes, heard_no, step_of_yes, step_of_no, asking_for}
 use Rattle.gs_master.specs.Durable.{Durable, is_upgrade, is_rolling, prepared_view}
 use Rattle.gs_master.specs.Settling.{settled_by, failed}
 use Rattle.gs_master.specs.State.{State, Plan, Turn, turned, unmoved, and_then, if_room, about, post}
 use Rattle.gs_master.specs.Upgrades.{told_end}
 use Rattle.gs_master.specs.declared.asking.Asking.{Asking}
+use Rattle.gs_master.specs.declared.asking.Step.{Step}
+use Rattle.gs_master.specs.declared.asking.Step.TheVariants as steps
 use Rattle.gs_master.specs.declared.asking.Prepared.{Prepared}
 use Rattle.gs_master.specs.declared.change.Change.TheVariants as changes
 
@@ -52,11 +54,11 @@ send_plan chunk asking source target with_sealed = record {
 
 -- what follows of an answer
 abbrev pub stepped : State → ℕ → Chunk → Asking → Bool → Moment → Step → Turn
-stepped s chunk c asking carried moment Wait = unmoved s
-stepped s chunk c asking carried moment (Send source target) =
+stepped s chunk c asking carried moment steps.Wait = unmoved s
+stepped s chunk c asking carried moment (steps.Send source target) =
     turned s (send_plan chunk asking source target (is_with_sealed s.durable.phase (prepared_view s.durable chunk) source))
-stepped s chunk c asking carried moment (Settled_by by) = settled_by s chunk c asking carried by moment
-stepped s chunk c asking carried moment Fail = failed s chunk asking.call
+stepped s chunk c asking carried moment (steps.Settle by) = settled_by s chunk c asking carried by moment
+stepped s chunk c asking carried moment steps.Fail = failed s chunk asking.call
 
 abbrev pub heard : State → ℕ → Chunk → Asking → Bool → Moment → Step → Turn
 heard s chunk c asking carried moment step = and_then (turned s (ask_plan chunk asking)) (λ next. stepped next chunk c asking carried moment step)

@@ -5,6 +5,8 @@ pub mod Chunks
 pub mod Durable
 pub mod Handling
 pub mod Hearing
+pub mod Outcomes
+pub mod Promises
 pub mod Replies
 pub mod Settling
 pub mod State

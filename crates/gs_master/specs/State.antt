@@ -32,11 +32,22 @@ pub record Log : Type 0 where
   pub limit : ℕ
   pub generation : ℕ
 
+-- Whether a disk has failed since the journal was opened, and which record was being written then. It stands or doesn't, which
+-- the next opening tells.
+pub data Fault : Type 0 where
+  Sound : Fault
+  Failed : Option PlainEntry → Fault
+
+abbrev pub is_failed : Fault → Bool
+is_failed Sound = false
+is_failed (Failed doubt) = true
+
+-- what is durable is what the records of the journal replay to
 pub record State : Type 0 where
   pub durable : Durable
   pub volatile : Volatile
   pub log : Log
-  pub is_failed : Bool
+  pub fault : Fault
 
 -- What is to be done: records, changes of what is kept in memory, messages in order, and the refusal with which a message is met.
 pub record Plan : Type 0 where

@@ -22,3 +22,16 @@ pub struct Prepared {
     pub view: View,
     pub holders: Members,
 }
+
+/// What follows of an answer to a proposal.
+#[derive(Clone, Copy, Debug)]
+pub enum Step {
+    /// More answers are waited for.
+    Wait,
+    /// A member is told to send its copy to the target.
+    Send { source: ServerId, target: ServerId },
+    /// The view is settled by these answers.
+    Settle(Answers),
+    /// Nobody has promised.
+    Fail,
+}

@@ -6,7 +6,7 @@ mod change;
 mod pending;
 mod reply;
 
-pub use asking::{Asking, Prepared};
+pub use asking::{Asking, Prepared, Step};
 pub use change::Change;
 pub use pending::{Pending, Waiting};
 pub use reply::KeptReply;

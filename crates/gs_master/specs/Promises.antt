@@ -1,0 +1,168 @@
+-- What is to hold of the definitions: of each record, of each turn, and of whatever stands.
+use Rattle.std.specs.Prelude.{◌≡◌, ◌⊎◌, ◌≤◌, ℕ, Bool, true, false, [], length, All, Contains, Option, Some, None, option_map, is_some, refl}
+use Rattle.std.specs.FinMap as fin
+use Rattle.gs_base.specs.Members.{is_member}
+use Rattle.gs_base.specs.declared.config.Config.{Config}
+use Rattle.gs_base.specs.declared.numbers.Moment.{Moment}
+use Rattle.gs_base.specs.declared.numbers.ClientId.{ClientId}
+use Rattle.gs_base.specs.declared.numbers.ReqId.{ReqId}
+use Rattle.gs_edit.specs.Edits.{named}
+use Rattle.gs_edit.specs.Names.{IsCounted}
+use Rattle.gs_edit.specs.declared.edit.Edit.{Edit}
+use Rattle.gs_edit.specs.declared.edit.Edit.TheVariants as edits
+use Rattle.gs_refs.specs.Counts.{Counts}
+use Rattle.gs_tree.specs.Build.{is_tree, below_root}
+use Rattle.gs_tree.specs.Find.{Rows}
+use Rattle.gs_edit.specs.View.{NamesView}
+use Rattle.gs_journal.specs.declared.version.Version.TheVariants.{Two}
+use Rattle.gs_record.specs.Writable.{IsEntry}
+use Rattle.gs_master.specs.Replies.{outcome_of, told_result}
+use Rattle.gs_master.specs.declared.reply.KeptReply.{KeptReply}
+use Rattle.gs_lease.specs.declared.view.View.{View}
+use Rattle.gs_msg.specs.Bodies.{kind_of}
+use Rattle.gs_msg.specs.declared.call.Call.{Call}
+use Rattle.gs_msg.specs.declared.call.Call.TheVariants as calls
+use Rattle.gs_msg.specs.declared.kind.Kind.{Kind}
+use Rattle.gs_msg.specs.declared.kind.Kind.TheVariants as kinds
+use Rattle.gs_msg.specs.declared.message.Message.{Message}
+use Rattle.gs_record.specs.Plain.{PlainEntry, Edited, Said, Propose, Settle, Prepare, Finalize, RollbackBegin, RollbackCommit, Whole, Holder, plain_edit}
+use Rattle.gs_view.specs.Choice.{Chooses}
+use Rattle.gs_view.specs.declared.answers.Answers.{Answers}
+use Rattle.gs_master.specs.Applied.{applied, replayed, is_fresh}
+use Rattle.gs_master.specs.Chunks.{Chunk, view_by}
+use Rattle.gs_master.specs.Durable.{Durable, Settled, is_given, is_ordinary, is_rolling, upgrade_epoch, prepared_view, is_listed}
+use Rattle.gs_master.specs.Handling.{handle, call_turn, new_call, tidied}
+use Rattle.gs_master.specs.State.{State, Turn, size_of_all}
+use Rattle.gs_master.specs.Undoing.{named_plain, all_undone}
+use Rattle.gs_master.specs.Whole.{whole_of, checkpoint_of, are_ends, is_prepared_before}
+use Rattle.gs_master.specs.declared.asking.Asking.{Asking}
+use Rattle.gs_master.specs.declared.asking.Prepared.{Prepared}
+
+-- ---- what stands
+
+-- a view is of an epoch that there was, and its version was given; that of a view which a rollback gave is 0
+pub record IsGivenView (d : Durable) (view : View) : Type 0 where
+  pub epoch : view.stamp.epoch ≤ d.epoch
+  pub version : (view.stamp.version ≡ 0) ⊎ (is_given d.next_version view.stamp.version ≡ true)
+
+-- The rows are those of a tree, and the counts are the tree's. Each listed chunk is settled, and each settled chunk was given.
+-- The ends of epochs fit the phase. What takes edits back can be undone, and leads back to chunks that each have a prepared
+-- view, of a stamp before the upgrade. A checkpoint can tell each reply.
+pub record IsKept (d : Durable) : Type 0 where
+  pub tree : is_tree (below_root (fin.entries d.names.tree)) ≡ true
+  pub counted : IsCounted d.names
+  pub settled : (chunk : ℕ) → is_listed d chunk ≡ true → is_some (fin.get d.chunks chunk) ≡ true
+  pub handles : (chunk : ℕ) → is_some (fin.get d.chunks chunk) ≡ true → is_given d.next_handle chunk ≡ true
+  pub views : (chunk : ℕ) (s : Settled) → fin.get d.chunks chunk ≡ Some s → IsGivenView d s.view
+  pub ends : are_ends d.ends d.epoch d.phase ≡ true
+  pub ordinary : upgrade_epoch d.phase d.epoch ≡ None → (d.inverses ≡ []) × ((chunk : ℕ) → fin.get d.prepared chunk ≡ None)
+  pub prepared : (chunk : ℕ) (p : Prepared) → fin.get d.prepared chunk ≡ Some p → (is_given d.next_handle chunk ≡ true) × IsGivenView d p.view × (is_prepared_before (upgrade_epoch d.phase d.epoch) p.view ≡ true)
+  pub back : (names : NamesView) × (all_undone d.inverses d.names ≡ Some names)
+  pub restored : (names : NamesView) (chunk : ℕ) → all_undone d.inverses d.names ≡ Some names → is_ordinary d.phase ≡ false → is_some (fin.get names.refs chunk) ≡ true → is_some (prepared_view d chunk) ≡ true
+  pub replies : (client : ClientId) (reply : KeptReply) → fin.get d.replies client ≡ Some reply → told_result (outcome_of reply.result) ≡ Some reply.result
+
+-- ---- records
+
+-- a record that can be written keeps what stands
+abbrev pub KeepsAll : PlainEntry → Type 0
+KeepsAll entry = (d next : Durable) → IsEntry Two entry → IsKept d → applied d entry ≡ Some next → IsKept next
+
+-- counters never fall behind a value that was given
+abbrev pub KeepsGiven : PlainEntry → Type 0
+KeepsGiven entry = (d next : Durable) (n : ℕ) → applied d entry ≡ Some next →
+    (is_given d.next_handle n ≡ true → is_given next.next_handle n ≡ true) × (is_given d.next_version n ≡ true → is_given next.next_version n ≡ true)
+    × (is_given d.next_hidden n ≡ true → is_given next.next_hidden n ≡ true) × (d.epoch ≤ next.epoch)
+
+-- records that go on within an upgrade
+abbrev pub goes_on_within : PlainEntry → Bool
+goes_on_within (Edited by edit) = true
+goes_on_within (Said to refusal) = true
+goes_on_within (Propose chunk version) = true
+goes_on_within (Settle v) = true
+goes_on_within (Prepare epoch moment chunks) = false
+goes_on_within (Finalize epoch) = false
+goes_on_within (RollbackBegin epoch) = true
+goes_on_within (RollbackCommit epoch answers) = false
+goes_on_within (Whole c) = false
+goes_on_within (Holder chunk server) = true
+
+abbrev pub view_at_prepare : Durable → ℕ → Option View
+view_at_prepare d chunk = option_map (λ (p : Prepared). p.view) (prepared_view d chunk)
+
+-- while an upgrade stands, what takes edits back leads to the names of the prepare, and each chunk's prepared view stays
+abbrev pub LeadsBack : PlainEntry → Type 0
+LeadsBack entry = (d next : Durable) → IsKept d → is_ordinary d.phase ≡ false → goes_on_within entry ≡ true → applied d entry ≡ Some next →
+    (all_undone next.inverses next.names ≡ all_undone d.inverses d.names) × ((chunk : ℕ) → is_listed d chunk ≡ true → view_at_prepare next chunk ≡ view_at_prepare d chunk)
+
+-- what a prepare begins with
+abbrev pub BeginsWithAll : Type 0
+BeginsWithAll = (d next : Durable) (epoch moment chunks : ℕ) → applied d (Prepare epoch moment chunks) ≡ Some next →
+    (all_undone next.inverses next.names ≡ Some d.names) × ((chunk : ℕ) → view_at_prepare next chunk ≡ option_map (λ (s : Settled). s.view) (fin.get d.chunks chunk))
+
+-- the checkpoint of what stands tells it, but for chunks that stand in no file and never did
+abbrev pub TellsAll : Type 0
+TellsAll = (d : Durable) → IsKept d → whole_of (checkpoint_of d) ≡ Some (tidied d)
+
+-- ---- turns
+
+-- each record of a turn fits what it meets, and together they give what is durable after it
+abbrev pub AllFit : State → Turn → Type 0
+AllFit s t = replayed s.durable t.records ≡ Some t.after.durable
+
+-- a refused call leaves the names and the views
+pub record LeavesNames (s : State) (t : Turn) : Type 0 where
+  pub names : t.after.durable.names ≡ s.durable.names
+  pub chunks : t.after.durable.chunks ≡ s.durable.chunks
+
+abbrev pub RefusedLeavesNames : Type 0
+RefusedLeavesNames = (config : Config) (s : State) (req : ReqId) (moment : Moment) (call : Call) → is_some (call_turn config s req moment call).said ≡ true →
+    LeavesNames s (call_turn config s req moment call)
+
+abbrev pub is_proposal : PlainEntry → Bool
+is_proposal (Propose chunk version) = true
+is_proposal entry = false
+
+abbrev pub is_drop : Kind → Bool
+is_drop kinds.Drop = true
+is_drop kind = false
+
+-- while rolling back nothing is begun and nothing dropped
+abbrev pub NothingWhileRolling : Type 0
+NothingWhileRolling = (config : Config) (s : State) (message : Message) (moment : Moment) → is_rolling s.durable.phase ≡ true →
+    All (λ entry. is_proposal entry ≡ false) (handle config s message moment).records × All (λ (m : Message). is_drop (kind_of m.body) ≡ false) (handle config s message moment).sent
+
+-- a version that is proposed is above all before it
+abbrev pub ProposesFresh : Type 0
+ProposesFresh = (config : Config) (s : State) (message : Message) (moment : Moment) (chunk version : ℕ) →
+    Contains (handle config s message moment).records (Propose chunk version) → is_fresh s.durable.next_version version ≡ true
+
+-- a view is made of those that answered the most edits, one of whom was asked
+abbrev pub MadeOfTheMost : Type 0
+MadeOfTheMost = (c : Chunk) (asking : Asking) (answers : Answers) (moment : Moment) (view : View) → view_by c asking answers moment ≡ Some view →
+    Chooses answers.counts view.members view.count × ((server : ℕ) × (is_member asking.asked server ≡ true) × (is_member view.members server ≡ true))
+
+abbrev pub is_refusal : PlainEntry → Bool
+is_refusal (Said to refusal) = true
+is_refusal entry = false
+
+-- an accepted prepare adds one record of 26 bytes, and a refused one at most a refusal
+abbrev pub PreparesByOneRecord : Type 0
+PreparesByOneRecord = (config : Config) (s : State) (req : ReqId) (moment : Moment) →
+    ((new_call config s req moment calls.PrepareCommit).said ≡ None → (size_of_all (new_call config s req moment calls.PrepareCommit).records ≡ 26) × (length (new_call config s req moment calls.PrepareCommit).records ≡ 1))
+    × (is_some (new_call config s req moment calls.PrepareCommit).said ≡ true → (length (new_call config s req moment calls.PrepareCommit).records ≤ 1) × All (λ entry. is_refusal entry ≡ true) (new_call config s req moment calls.PrepareCommit).records)
+
+-- the edit that a record tells of names is the edit itself
+abbrev pub EditsAsTold : Type 0
+EditsAsTold = (edit : Edit) (rows : Rows ℕ) (refs : Counts) → named_plain (plain_edit edit) rows refs ≡ named edit rows refs
+
+edits_as_told : EditsAsTold
+edits_as_told (edits.Mkdirs p) rows refs = refl
+edits_as_told (edits.Create p) rows refs = refl
+edits_as_told (edits.Rename from to) rows refs = refl
+edits_as_told (edits.Hide p moment number) rows refs = refl
+edits_as_told (edits.Unhide p) rows refs = refl
+edits_as_told (edits.Remove p) rows refs = refl
+edits_as_told (edits.AddChunk p chunk) rows refs = refl
+edits_as_told (edits.Cow p index old new) rows refs = refl
+edits_as_told (edits.Snapshot from to) rows refs = refl
+edits_as_told (edits.Forget chunks) rows refs = refl
