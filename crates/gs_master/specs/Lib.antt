@@ -2,9 +2,11 @@ pub mod Applied
 pub mod Beginning
 pub mod Calls
 pub mod Chunks
+pub mod Codes
 pub mod Durable
 pub mod Handling
 pub mod Hearing
+pub mod Leases
 pub mod Outcomes
 pub mod Promises
 pub mod Replies

@@ -20,7 +20,7 @@ use Rattle.gs_msg.specs.declared.message.Message.{Message}
 use Rattle.gs_view.specs.declared.answers.Answers.{Answers}
 use Rattle.gs_record.specs.Plain.{PlainEdit, AddChunk, Cow, Snapshot, PlainEntry, Edited}
 use Rattle.gs_master.specs.Beginning.{next_stamp, has_versions, has_handle, begin_at, copy_plan, waits_on}
-use Rattle.gs_master.specs.Chunks.{Chunk, chunk_at, is_quiet, view_by, settling}
+use Rattle.gs_master.specs.Chunks.{may_begin, Chunk, chunk_at, is_quiet, view_by, settling}
 use Rattle.gs_master.specs.State.{State, Plan, Turn, turned, unmoved, and_then, for_each, if_room, about, reply_to, answer_changes, ended_by, all_ended_by, fits}
 use Rattle.gs_master.specs.Undoing.{edited_names}
 use Rattle.gs_master.specs.Volatile.{is_call}
@@ -65,13 +65,15 @@ extended s req path chunk view = ended_by_edit s req (AddChunk path chunk) (answ
 -- the chunk is quiet: its members are told to copy it
 abbrev pub copied : State → ReqId → Path → ℕ → ℕ → View → Turn
 copied s req path index old view =
-    if not (has_handle s.durable && has_versions s.durable 1) then ended_by s req refusals.Exhausted
+    if not (may_begin s.durable.phase) then ended_by s req refusals.RollingBack
+    else if not (has_handle s.durable && has_versions s.durable 1) then ended_by s req refusals.Exhausted
     else if_room_for s req (turned s (waits_on (copy_plan (next_stamp s.durable) old view s.durable.next_handle req) req (waits.Copy path index old s.durable.next_handle)))
 
 -- a lease is asked for
 abbrev pub leased_next : ReqId → Path → ℕ → ℕ → State → Turn
 leased_next req path index chunk s =
-    if not (has_versions s.durable 1) then ended_by s req refusals.Exhausted
+    if not (may_begin s.durable.phase) then ended_by s req refusals.RollingBack
+    else if not (has_versions s.durable 1) then ended_by s req refusals.Exhausted
     else if_room_for s req (turned s (waits_on (begin_at s chunk purposes.Lease (Some req)) req (waits.Lease path index chunk)))
 
 -- the copy takes the chunk's place; then a lease is asked for

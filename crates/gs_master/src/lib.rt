@@ -3,10 +3,12 @@
 
 mod asking;
 mod change;
+mod memory;
 mod pending;
 mod reply;
 
 pub use asking::{Asking, Prepared, Step};
 pub use change::Change;
+pub use memory::Memory;
 pub use pending::{Pending, Waiting};
 pub use reply::KeptReply;
