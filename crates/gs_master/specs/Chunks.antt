@@ -32,7 +32,7 @@ pub record Chunk : Type 0 where
 
 -- the master knows a chunk that stands in a file or stood there, and a new one; one that was taken out is as one that never was
 abbrev pub has_entry : State → ℕ → Bool
-has_entry s chunk = is_listed s.durable chunk || is_member s.volatile.new chunk
+has_entry s chunk = is_listed s.durable chunk || is_member s.volatile.unplaced chunk
 
 unfoldable pub chunk_at : State → ℕ → Option Chunk
 chunk_at s chunk =

@@ -198,7 +198,7 @@ abbrev pub tidied : Durable → Durable
 tidied d = record d { chunks = fin.retain_keys d.chunks (is_listed d) }
 
 abbrev pub still_new : Volatile → Volatile
-still_new v = record v { new = filter (λ chunk. is_some (fin.get v.moving chunk)) v.new }
+still_new v = record v { unplaced = filter (λ chunk. is_some (fin.get v.moving chunk)) v.unplaced }
 
 abbrev pub written : State → Turn
 written s = record {

@@ -6,9 +6,8 @@ use Rattle.gs_base.specs.declared.numbers.Stamp.{Stamp}
 use Rattle.gs_lease.specs.Transitions.{restored, lease_of, settled_on}
 use Rattle.gs_lease.specs.declared.lease.Lease.{Lease}
 use Rattle.gs_lease.specs.declared.lease.Lease.TheVariants as leases
-use Rattle.gs_lease.specs.declared.view.Purpose.TheVariants as purposes
 use Rattle.gs_lease.specs.declared.view.View.{View}
-use Rattle.gs_master.specs.Chunks.{Chunk, chunk_at, proposed_in, asking_for}
+use Rattle.gs_master.specs.Chunks.{Chunk, chunk_at, proposed_in}
 use Rattle.gs_master.specs.Durable.{Settled}
 use Rattle.gs_master.specs.State.{State}
 use Rattle.gs_master.specs.declared.asking.Asking.{Asking}

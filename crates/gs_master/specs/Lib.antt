@@ -7,6 +7,7 @@ pub mod Durable
 pub mod Handling
 pub mod Hearing
 pub mod Leases
+pub mod Memories
 pub mod Outcomes
 pub mod Promises
 pub mod Replies

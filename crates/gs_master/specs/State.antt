@@ -19,7 +19,7 @@ use Rattle.gs_record.specs.Plain.{PlainEntry, Mkdirs, Edited, Said, Prepare}
 use Rattle.gs_master.specs.Applied.{applied}
 use Rattle.gs_master.specs.Durable.{Durable}
 use Rattle.gs_master.specs.Replies.{later, is_later}
-use Rattle.gs_master.specs.Volatile.{Volatile, all_changed}
+use Rattle.gs_master.specs.Volatile.{Volatile, all_changed, let_go}
 use Rattle.gs_master.specs.declared.change.Change.{Change}
 use Rattle.gs_master.specs.declared.change.Change.TheVariants as changes
 use Rattle.gs_master.specs.declared.reply.KeptReply.{KeptReply}
@@ -174,7 +174,7 @@ refused s req refusal = turned s (record {
 abbrev pub ended_by : State → ReqId → Refusal → Turn
 ended_by s req refusal = turned s (record {
   records = said_records (keeps_refusal s req refusal) s.log req refusal;
-  changes = said_changes (keeps_refusal s req refusal) s.log req refusal ++ changes.End req ∷ [];
+  changes = said_changes (keeps_refusal s req refusal) s.log req refusal ++ (let_go s.volatile req ++ changes.End req ∷ []);
   sent = reply_to req (Err refusal) ∷ [];
   said = None;
 })

@@ -1,5 +1,5 @@
 -- What the master keeps in memory alone, and drops at a restart.
-use Rattle.std.specs.Prelude.{◌≡◌, ◌&&◌, ◌==◌, ℕ, Bool, true, false, not, List, [], ◌∷◌, ◌++◌, map, filter, flat_map, fold, codes, Option, Some, None, if◌then◌else◌, refl}
+use Rattle.std.specs.Prelude.{◌≡◌, ◌==◌, ℕ, Bool, true, false, not, List, [], ◌∷◌, ◌++◌, map, filter, flat_map, fold, codes, Option, Some, None, if◌then◌else◌, refl}
 use Rattle.std.specs.List.{list_any}
 use Rattle.std.specs.Ordering.{nat_cmp}
 use Rattle.std.specs.FinMap as fin
@@ -27,7 +27,7 @@ use Rattle.gs_master.specs.declared.reply.KeptReply.{KeptReply}
 pub record Volatile : Type 0 where
   pub is_preparing : Bool
   pub moving : fin.FinMap nat_cmp Asking
-  pub new : List ℕ
+  pub unplaced : List ℕ
   pub pending : List Pending
   pub locks : List Lock
   pub restored : fin.FinMap nat_cmp (List ℕ)
@@ -35,7 +35,7 @@ pub record Volatile : Type 0 where
 
 -- as a restart leaves it
 abbrev pub nothing : Volatile
-nothing = record { is_preparing = false; moving = fin.empty; new = []; pending = []; locks = []; restored = fin.empty; replies = fin.empty }
+nothing = record { is_preparing = false; moving = fin.empty; unplaced = []; pending = []; locks = []; restored = fin.empty; replies = fin.empty }
 
 -- ---- locks of calls that wait
 
@@ -88,24 +88,16 @@ abbrev pub without_handle : List ℕ → ℕ → List ℕ
 without_handle chunks chunk = filter (λ c. not (c == chunk)) chunks
 
 -- what is asked for a chunk once its call has ended
-abbrev pub without_call : ReqId → Asking → Asking
-without_call req asking = if is_call req asking.call then record asking { call = None } else asking
+abbrev pub without_call : Asking → Asking
+without_call asking = record asking { call = None }
 
--- a new chunk that moves for a call
-abbrev pub is_new_for : List ℕ → ReqId → ℕ × Asking → Bool
-is_new_for new req e = is_member new e.0 && is_call req e.1.call
+-- What becomes of the chunks that moved for a call which ends: a new one is no more, any other moves on by itself.
+abbrev pub let_go_of : List ℕ → ReqId → ℕ × Asking → List Change
+let_go_of new req e =
+    if not (is_call req e.1.call) then [] else if is_member new e.0 then changes.Lose e.0 ∷ [] else changes.Ask e.0 (without_call e.1) ∷ []
 
--- chunks no longer move for a call that has ended, and a new one that did is no more
-abbrev pub moving_without : Volatile → ReqId → fin.FinMap nat_cmp Asking
-moving_without v req =
-    fin.from_entries (map (λ e. (e.0, without_call req e.1)) (filter (λ e. not (is_new_for v.new req e)) (fin.entries v.moving)))
-
-abbrev pub waits_for_call : ReqId → Option Asking → Bool
-waits_for_call req None = false
-waits_for_call req (Some asking) = is_call req asking.call
-
-abbrev pub new_without : Volatile → ReqId → List ℕ
-new_without v req = filter (λ chunk. not (waits_for_call req (fin.get v.moving chunk))) v.new
+abbrev pub let_go : Volatile → ReqId → List Change
+let_go v req = flat_map (let_go_of v.unplaced req) (fin.entries v.moving)
 
 abbrev pub servers_or_none : Option (List ℕ) → List ℕ
 servers_or_none None = []
@@ -119,21 +111,17 @@ with_restored server restored chunk = fin.insert restored chunk (with_member (se
 abbrev pub changed : Volatile → Change → Volatile
 changed v (changes.Ask chunk asking) = record v { moving = fin.insert v.moving chunk asking }
 changed v (changes.Settled chunk) = record v { moving = fin.remove v.moving chunk }
-changed v (changes.Enter chunk) = record v { new = v.new ++ chunk ∷ [] }
-changed v (changes.Place chunk) = record v { new = without_handle v.new chunk }
+changed v (changes.Enter chunk) = record v { unplaced = v.unplaced ++ chunk ∷ [] }
+changed v (changes.Place chunk) = record v { unplaced = without_handle v.unplaced chunk }
+changed v (changes.Lose chunk) = record v { moving = fin.remove v.moving chunk; unplaced = without_handle v.unplaced chunk }
 changed v (changes.Forget chunks) = record v { moving = fold fin.remove v.moving chunks }
 changed v (changes.Begin p) = record v { pending = v.pending ++ p ∷ []; locks = locks_with v.locks p.req p.waits }
 changed v (changes.Wait req waiting) = record v { pending = with_waiting v.pending req waiting }
-changed v (changes.End req) = record v {
-  moving = moving_without v req;
-  new = new_without v req;
-  pending = without_pending v.pending req;
-  locks = released v.locks req;
-}
+changed v (changes.End req) = record v { pending = without_pending v.pending req; locks = released v.locks req }
 changed v (changes.Prepare is_preparing) = record v { is_preparing = is_preparing }
 changed v (changes.Keep client reply) = record v { replies = fin.insert v.replies client reply }
 changed v (changes.Restored server chunks) = record v { restored = fold (with_restored server) v.restored chunks }
-changed v changes.RolledBack = record v { moving = fin.empty; new = []; restored = fin.empty }
+changed v changes.RolledBack = record v { moving = fin.empty; unplaced = []; restored = fin.empty }
 
 abbrev pub all_changed : Volatile → List Change → Volatile
 all_changed v cs = fold changed v cs
@@ -172,8 +160,11 @@ the_other_has_ended = refl
 abbrev asking_for : Option ReqId → Asking
 asking_for call = record { stamp = record { epoch = 0; version = 3 }; purpose = purposes.Quiet; asked = 0 ∷ 1 ∷ []; answers = no_answers; source = None; call = call }
 
-moves_on_by_itself : without_call first_call (asking_for (Some first_call)) ≡ asking_for None
+moves_on_by_itself : let_go_of [] first_call (7, asking_for (Some first_call)) ≡ changes.Ask 7 (asking_for None) ∷ []
 moves_on_by_itself = refl
 
-moves_for_another : without_call first_call (asking_for (Some second_call)) ≡ asking_for (Some second_call)
+a_new_one_is_no_more : let_go_of (7 ∷ []) first_call (7, asking_for (Some first_call)) ≡ changes.Lose 7 ∷ []
+a_new_one_is_no_more = refl
+
+moves_for_another : let_go_of (7 ∷ []) first_call (7, asking_for (Some second_call)) ≡ []
 moves_for_another = refl

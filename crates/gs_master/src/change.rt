@@ -15,13 +15,15 @@ pub enum Change {
     Enter(Handle),
     /// A new chunk has its place.
     Place(Handle),
-    /// These chunks are no more.
+    /// A new chunk is no more.
+    Lose(Handle),
+    /// Nothing is asked for these chunks any more, which are forgotten.
     Forget(Items<Handle>),
     /// A call begins to wait. It takes its locks.
     Begin(Pending),
     /// A call waits for something else now.
     Wait(ReqId, Waiting),
-    /// A call has ended. Its locks are released, and a new chunk that it still waits for is no more.
+    /// A call has ended. Its locks are released.
     End(ReqId),
     /// An upgrade is being prepared, or isn't.
     Prepare(bool),

@@ -2,6 +2,11 @@ ghost use Rattle.std.specs.Prelude.{◌≡◌, Some};
 ghost use Rattle.std.specs.Option.{option_copied};
 ghost use Rattle.std.specs.Ordering.{nat_cmp};
 ghost use Rattle.std.specs.FinMap as fin;
+ghost use Rattle.gs_table.specs.Slots.{HasRoom};
+ghost use Rattle.gs_master.specs.Memories.{volatile_of};
+ghost use Rattle.gs_master.specs.Replies.{client_cmp};
+ghost use Rattle.gs_master.specs.Volatile.{changed};
+ghost use Rattle.gs_master.specs.declared.change.Change.TheVariants as changes;
 
 use crate::asking::Asking;
 use crate::pending::Pending;
@@ -10,32 +15,17 @@ use gs_base::{ClientId, Handle, Members, ReqId};
 use gs_lock::LockTable;
 use gs_table::Table;
 use std::alloc::Global;
-use std::marker::Model;
 
 /// What the master keeps in memory alone. A restart drops it.
 #[derive(Drop)]
 pub struct Memory {
-    is_preparing: bool,
-    moving: Table<Handle, Asking>,
-    new: Vec<Handle>,
-    pending: Vec<Pending>,
-    locks: LockTable,
-    restored: Table<Handle, Members>,
-    replies: Table<ClientId, KeptReply>,
-}
-
-impl Model for Memory {
-    ghost use Rattle.std.specs.Ordering.{nat_cmp};
-    ghost use Rattle.gs_table.specs.Slots.{live};
-    ghost use Rattle.gs_master.specs.Replies.{client_cmp};
-    ghost use Rattle.gs_master.specs.Volatile.{Volatile};
-    ghost use Rattle.gs_master.specs.Codes.{coded_volatile};
-
-    ghost Value = { Volatile };
-
-    ghost coded = { coded_volatile };
-
-    ghost view = { λ m. record { is_preparing = m.is_preparing; moving = live nat_cmp m.moving; new = m.new.items; pending = m.pending.items; locks = m.locks; restored = live nat_cmp m.restored; replies = live client_cmp m.replies } };
+    pub(crate) is_preparing: bool,
+    pub(crate) moving: Table<Handle, Asking>,
+    pub(crate) unplaced: Vec<Handle>,
+    pub(crate) pending: Vec<Pending>,
+    pub(crate) locks: LockTable,
+    pub(crate) restored: Table<Handle, Members>,
+    pub(crate) replies: Table<ClientId, KeptReply>,
 }
 
 impl Memory {
@@ -43,12 +33,12 @@ impl Memory {
 
     /// What stands in memory after a restart.
     pub fn new(alloc: Global) -> Memory
-        ensures { result ≡ nothing }
+        ensures { volatile_of result ≡ nothing }
     {
         Memory {
             is_preparing: false,
             moving: Table::new(alloc),
-            new: Vec::new(alloc),
+            unplaced: Vec::new(alloc),
             pending: Vec::new(alloc),
             locks: LockTable::new(alloc),
             restored: Table::new(alloc),
@@ -58,29 +48,83 @@ impl Memory {
 
     /// Whether an upgrade is being prepared.
     pub fn is_preparing(&self) -> bool
-        ensures { result ≡ self.now.is_preparing }
+        ensures { result ≡ (volatile_of self.now).is_preparing }
     {
         self.is_preparing
     }
 
     /// What is asked for a chunk.
     pub fn asking(&self, chunk: Handle) -> Option<&Asking>
-        ensures { option_copied result ≡ fin.get self.now.moving chunk }
+        ensures { option_copied result ≡ fin.get (volatile_of self.now).moving chunk }
     {
         self.moving.get(chunk)
     }
 
     /// The last reply to a client that is kept here.
     pub fn reply(&self, client: ClientId) -> Option<&KeptReply>
-        ensures { option_copied result ≡ fin.get self.now.replies client }
+        ensures { option_copied result ≡ fin.get (volatile_of self.now).replies client }
     {
         self.replies.get(client)
     }
 
     /// Whether a call waits.
     pub fn is_pending(&self, req: ReqId) -> bool
-        ensures { result ≡ is_pending self.now.pending req }
+        ensures { result ≡ is_pending (volatile_of self.now).pending req }
     {
         self.pending.iter().any(|pending| pending.req == req)
+    }
+
+    /// Begins to prepare, or ends it.
+    pub fn prepare(&mut self, is_preparing: bool)
+        ensures { volatile_of self.new ≡ changed (volatile_of self.old) (changes.Prepare is_preparing) }
+    {
+        self.is_preparing = is_preparing;
+    }
+
+    /// Asks for a chunk that has room, or keeps what was answered.
+    pub fn ask(&mut self, chunk: Handle, asking: Asking)
+        requires { HasRoom nat_cmp self.old.moving chunk }
+        ensures { volatile_of self.new ≡ changed (volatile_of self.old) (changes.Ask chunk asking) }
+    {
+        let purpose = asking.purpose;
+        self.moving.put(chunk, Asking { purpose, ..asking });
+    }
+
+    /// Asks nothing for a chunk any more.
+    pub fn settle(&mut self, chunk: Handle)
+        ensures { volatile_of self.new ≡ changed (volatile_of self.old) (changes.Settled chunk) }
+    {
+        let _asked = self.moving.remove(chunk);
+    }
+
+    /// A new chunk has its place.
+    pub fn place(&mut self, chunk: Handle)
+        ensures { volatile_of self.new ≡ changed (volatile_of self.old) (changes.Place chunk) }
+    {
+        self.unplaced.retain(|other| *other != chunk);
+    }
+
+    /// A new chunk is no more.
+    pub fn lose(&mut self, chunk: Handle)
+        ensures { volatile_of self.new ≡ changed (volatile_of self.old) (changes.Lose chunk) }
+    {
+        let _asked = self.moving.remove(chunk);
+        self.unplaced.retain(|other| *other != chunk);
+    }
+
+    /// Ends a call, and releases its locks.
+    pub fn end(&mut self, req: ReqId)
+        ensures { volatile_of self.new ≡ changed (volatile_of self.old) (changes.End req) }
+    {
+        self.pending.retain(|pending| pending.req != req);
+        self.locks.release(req);
+    }
+
+    /// Keeps a reply to a client that has room.
+    pub fn keep(&mut self, client: ClientId, reply: KeptReply)
+        requires { HasRoom client_cmp self.old.replies client }
+        ensures { volatile_of self.new ≡ changed (volatile_of self.old) (changes.Keep client reply) }
+    {
+        self.replies.put(client, reply);
     }
 }
