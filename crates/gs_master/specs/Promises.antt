@@ -1,6 +1,7 @@
 -- What is to hold of the definitions: of each record, of each turn, and of whatever stands.
 use Rattle.std.specs.Prelude.{◌≡◌, ◌⊎◌, ◌≤◌, ℕ, Bool, true, false, [], length, All, Contains, Option, Some, None, option_map, is_some, refl}
 use Rattle.std.specs.FinMap as fin
+use Rattle.std.specs.List.{list_any}
 use Rattle.gs_base.specs.Members.{is_member}
 use Rattle.gs_base.specs.declared.config.Config.{Config}
 use Rattle.gs_base.specs.declared.numbers.Moment.{Moment}
@@ -126,10 +127,17 @@ abbrev pub is_drop : Kind → Bool
 is_drop kinds.Drop = true
 is_drop kind = false
 
--- while rolling back nothing is begun and nothing dropped
+abbrev pub is_drop_message : Message → Bool
+is_drop_message m = is_drop (kind_of m.body)
+
+-- nothing is begun, and nothing dropped
+pub record IsStill (t : Turn) : Type 0 where
+  pub records : list_any is_proposal t.records ≡ false
+  pub sent : list_any is_drop_message t.sent ≡ false
+
+-- so it is while rolling back, whatever comes
 abbrev pub NothingWhileRolling : Type 0
-NothingWhileRolling = (config : Config) (s : State) (message : Message) (moment : Moment) → is_rolling s.durable.phase ≡ true →
-    All (λ entry. is_proposal entry ≡ false) (handle config s message moment).records × All (λ (m : Message). is_drop (kind_of m.body) ≡ false) (handle config s message moment).sent
+NothingWhileRolling = (config : Config) (s : State) (message : Message) (moment : Moment) → is_rolling s.durable.phase ≡ true → IsStill (handle config s message moment)
 
 -- a version that is proposed is above all before it
 abbrev pub ProposesFresh : Type 0

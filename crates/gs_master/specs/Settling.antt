@@ -38,8 +38,11 @@ own_request = record { client = record { 0 = 0 }; number = 0 }
 -- ---- ends of calls that waited
 
 -- a call that waited is answered, and ends; no record tells of the answer
+abbrev pub end_plan : State → ReqId → Answer → Plan
+end_plan s req answer = record { records = []; changes = answer_changes s req answer ++ changes.End req ∷ []; sent = reply_to req (Ok answer) ∷ []; said = None }
+
 abbrev pub ended_with : State → ReqId → Answer → Turn
-ended_with s req answer = turned s (record { records = []; changes = answer_changes s req answer ++ changes.End req ∷ []; sent = reply_to req (Ok answer) ∷ []; said = None })
+ended_with s req answer = turned s (end_plan s req answer)
 
 -- a turn whose records have room, or the call that waited is refused
 abbrev pub if_room_for : State → ReqId → Turn → Turn

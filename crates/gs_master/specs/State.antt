@@ -161,23 +161,24 @@ said_changes keeps log req refusal = if keeps && not (fits log (Said req refusal
 abbrev pub keeps_refusal : State → ReqId → Refusal → Bool
 keeps_refusal s req refusal = is_kept refusal && is_later (last_reply s req.client) req.number
 
+abbrev pub refusal_plan : State → ReqId → Refusal → List Change → Option Refusal → Plan
+refusal_plan s req refusal further said = record {
+  records = said_records (keeps_refusal s req refusal) s.log req refusal;
+  changes = said_changes (keeps_refusal s req refusal) s.log req refusal ++ further;
+  sent = reply_to req (Err refusal) ∷ [];
+  said = said;
+}
+
 -- a call is refused in the event that brings it
 abbrev pub refused : State → ReqId → Refusal → Turn
-refused s req refusal = turned s (record {
-  records = said_records (keeps_refusal s req refusal) s.log req refusal;
-  changes = said_changes (keeps_refusal s req refusal) s.log req refusal;
-  sent = reply_to req (Err refusal) ∷ [];
-  said = Some refusal;
-})
+refused s req refusal = turned s (refusal_plan s req refusal [] (Some refusal))
 
 -- a call that waits is refused, and ends
+abbrev pub end_changes : State → ReqId → List Change
+end_changes s req = let_go s.volatile req ++ changes.End req ∷ []
+
 abbrev pub ended_by : State → ReqId → Refusal → Turn
-ended_by s req refusal = turned s (record {
-  records = said_records (keeps_refusal s req refusal) s.log req refusal;
-  changes = said_changes (keeps_refusal s req refusal) s.log req refusal ++ (let_go s.volatile req ++ changes.End req ∷ []);
-  sent = reply_to req (Err refusal) ∷ [];
-  said = None;
-})
+ended_by s req refusal = turned s (refusal_plan s req refusal (end_changes s req) None)
 
 -- the same for several, in this order
 abbrev pub all_ended_by : State → List ReqId → Refusal → Turn

@@ -5,6 +5,7 @@ mod asking;
 mod change;
 mod memory;
 mod pending;
+pub mod promises;
 mod reply;
 
 pub use asking::{Asking, Prepared, Step};
