@@ -211,8 +211,8 @@ all_go_on_on view pending s h = each_on pending (λ (p : Pending) next. goes_on 
 
 settled_on_on : (chunk : ℕ) (asking : Asking) (carried : Bool) (view : View) (s : State) → IsRolling s → GoesOn (settled_on s chunk asking carried view)
 settled_on_on chunk asking carried view s h =
-    let records = settling s.durable.phase carried chunk asking view in
-    let holds = is_holder s.durable.phase carried asking view in
+    let records = settling s.durable.phase (prepared_view s.durable chunk) carried chunk asking view in
+    let holds = is_holder s.durable.phase (prepared_view s.durable chunk) carried asking view in
     either_on (fits s.log records) (and_then (turned s (settle_plan records chunk view)) (all_go_on view (concerned s chunk asking.call))) (end_call s asking.call refusals.Full)
     (then_on (turned s (settle_plan records chunk view)) (all_go_on view (concerned s chunk asking.call))
     (turn_on s (settle_plan records chunk view) (settling_none holds chunk (target_of asking.purpose) view) (grants_none chunk view view.term) (settling_keep holds chunk (target_of asking.purpose) view) h)

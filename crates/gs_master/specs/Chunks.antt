@@ -22,6 +22,7 @@ use Rattle.gs_record.specs.declared.checkpoint.Phase.TheVariants.{Ordinary, Upgr
 use Rattle.gs_master.specs.Durable.{Settled, is_rolling, is_upgrade, is_listed}
 use Rattle.gs_master.specs.State.{State}
 use Rattle.gs_master.specs.declared.asking.Asking.{Asking}
+use Rattle.gs_master.specs.declared.asking.Prepared.{Prepared}
 use Rattle.gs_master.specs.declared.asking.Step.{Step}
 use Rattle.gs_master.specs.declared.asking.Step.TheVariants as steps
 
@@ -189,18 +190,18 @@ abbrev pub view_by : Chunk → Asking → Answers → Moment → Option View
 view_by c asking answers moment =
     option_and_then (λ choice. if may_settle asking.asked choice.0 then Some (settled_view (proposed_in c asking) choice.0 choice.1 moment) else None) (chosen answers.counts)
 
--- Before the view, the target of a copy that carried its sealed image is told as a holder, where it is a member and an upgrade
--- stands.
-abbrev pub is_holder : Phase → Bool → Asking → View → Bool
-is_holder phase carried asking view = carried && (is_upgrade phase && list_any (is_target asking) view.members)
+-- Before the view, the target of a copy that carried its sealed image is told as a holder, where it is a member, an upgrade
+-- stands and the chunk was prepared.
+abbrev pub is_holder : Phase → Option Prepared → Bool → Asking → View → Bool
+is_holder phase prepared carried asking view = carried && (is_upgrade phase && (is_some prepared && list_any (is_target asking) view.members))
 
 abbrev pub holder_records : Bool → ℕ → Option ℕ → List PlainEntry
 holder_records holds chunk None = []
 holder_records holds chunk (Some target) = if holds then Holder chunk target ∷ [] else []
 
-abbrev pub settling : Phase → Bool → ℕ → Asking → View → List PlainEntry
-settling phase carried chunk asking view =
-    holder_records (is_holder phase carried asking view) chunk (target_of asking.purpose) ++ Settle (record { handle = chunk; view = view }) ∷ []
+abbrev pub settling : Phase → Option Prepared → Bool → ℕ → Asking → View → List PlainEntry
+settling phase prepared carried chunk asking view =
+    holder_records (is_holder phase prepared carried asking view) chunk (target_of asking.purpose) ++ Settle (record { handle = chunk; view = view }) ∷ []
 
 -- ---- examples: a chunk on servers 0 and 1, for which a view is proposed
 
@@ -281,17 +282,23 @@ a_target_that_was_not_sent_for = refl
 the_source_says_no : step_of_no sent_for 0 ≡ steps.Settle sent_for.answers
 the_source_says_no = refl
 
+abbrev was_prepared : Option Prepared
+was_prepared = Some (record { view = record { stamp = record { epoch = 0; version = 5 }; count = 2; members = 0 ∷ 1 ∷ []; term = None }; holders = [] })
+
 abbrev with_server_2 : View
 with_server_2 = record { stamp = a_stamp; count = 2; members = 0 ∷ 1 ∷ 2 ∷ []; term = None }
 
-a_holder_before_the_view : settling Upgrade true 7 sent_for with_server_2 ≡ Holder 7 2 ∷ Settle (record { handle = 7; view = with_server_2 }) ∷ []
+a_holder_before_the_view : settling Upgrade was_prepared true 7 sent_for with_server_2 ≡ Holder 7 2 ∷ Settle (record { handle = 7; view = with_server_2 }) ∷ []
 a_holder_before_the_view = refl
 
-no_holder_without_its_image : settling Upgrade false 7 sent_for with_server_2 ≡ Settle (record { handle = 7; view = with_server_2 }) ∷ []
+no_holder_without_its_image : settling Upgrade was_prepared false 7 sent_for with_server_2 ≡ Settle (record { handle = 7; view = with_server_2 }) ∷ []
 no_holder_without_its_image = refl
 
-no_holder_without_an_upgrade : settling Ordinary true 7 sent_for with_server_2 ≡ Settle (record { handle = 7; view = with_server_2 }) ∷ []
+no_holder_without_an_upgrade : settling Ordinary was_prepared true 7 sent_for with_server_2 ≡ Settle (record { handle = 7; view = with_server_2 }) ∷ []
 no_holder_without_an_upgrade = refl
 
-no_holder_that_is_no_member : settling Upgrade true 7 sent_for (record with_server_2 { members = 0 ∷ 1 ∷ [] }) ≡ Settle (record { handle = 7; view = record with_server_2 { members = 0 ∷ 1 ∷ [] } }) ∷ []
+no_holder_that_is_no_member : settling Upgrade was_prepared true 7 sent_for (record with_server_2 { members = 0 ∷ 1 ∷ [] }) ≡ Settle (record { handle = 7; view = record with_server_2 { members = 0 ∷ 1 ∷ [] } }) ∷ []
 no_holder_that_is_no_member = refl
+
+no_holder_of_a_chunk_that_was_not_prepared : settling Upgrade None true 7 sent_for with_server_2 ≡ Settle (record { handle = 7; view = with_server_2 }) ∷ []
+no_holder_of_a_chunk_that_was_not_prepared = refl

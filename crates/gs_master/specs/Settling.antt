@@ -21,6 +21,7 @@ use Rattle.gs_view.specs.declared.answers.Answers.{Answers}
 use Rattle.gs_record.specs.Plain.{PlainEdit, AddChunk, Cow, Snapshot, PlainEntry, Edited}
 use Rattle.gs_master.specs.Beginning.{next_stamp, has_versions, has_handle, begin_at, copy_plan, waits_on}
 use Rattle.gs_master.specs.Chunks.{may_begin, Chunk, chunk_at, is_quiet, view_by, settling}
+use Rattle.gs_master.specs.Durable.{prepared_view}
 use Rattle.gs_master.specs.State.{State, Plan, Turn, turned, unmoved, and_then, for_each, if_room, about, reply_to, answer_changes, ended_by, all_ended_by, fits}
 use Rattle.gs_master.specs.Undoing.{edited_names}
 use Rattle.gs_master.specs.Volatile.{is_call}
@@ -163,7 +164,7 @@ all_go_on view calls s = for_each s calls (λ (p : Pending) next. goes_on next p
 
 abbrev pub settled_on : State → ℕ → Asking → Bool → View → Turn
 settled_on s chunk asking carried view =
-    let records = settling s.durable.phase carried chunk asking view in
+    let records = settling s.durable.phase (prepared_view s.durable chunk) carried chunk asking view in
     if fits s.log records
     then and_then (turned s (settle_plan records chunk view)) (all_go_on view (concerned s chunk asking.call))
     else end_call s asking.call refusals.Full
