@@ -1,1 +1,3 @@
+pub mod Choosing
+pub mod Preparing
 pub mod Rolling

@@ -1,7 +1,7 @@
 -- What is to hold of the definitions: of each record, of each turn, and of whatever stands.
 use Rattle.std.specs.Prelude.{◌≡◌, ◌⊎◌, ◌≤◌, ℕ, Bool, true, false, [], length, All, Contains, Option, Some, None, option_map, is_some, refl}
 use Rattle.std.specs.FinMap as fin
-use Rattle.std.specs.List.{list_any}
+use Rattle.std.specs.List.{list_any, list_all}
 use Rattle.gs_base.specs.Members.{is_member}
 use Rattle.gs_base.specs.declared.config.Config.{Config}
 use Rattle.gs_base.specs.declared.numbers.Moment.{Moment}
@@ -30,7 +30,7 @@ use Rattle.gs_record.specs.Plain.{PlainEntry, Edited, Said, Propose, Settle, Pre
 use Rattle.gs_view.specs.Choice.{Chooses}
 use Rattle.gs_view.specs.declared.answers.Answers.{Answers}
 use Rattle.gs_master.specs.Applied.{applied, replayed, is_fresh}
-use Rattle.gs_master.specs.Chunks.{Chunk, view_by}
+use Rattle.gs_master.specs.Chunks.{Chunk, view_by, may_settle}
 use Rattle.gs_master.specs.Durable.{Durable, Settled, is_given, is_ordinary, is_rolling, upgrade_epoch, prepared_view, is_listed}
 use Rattle.gs_master.specs.Handling.{handle, call_turn, new_call, tidied}
 use Rattle.gs_master.specs.State.{State, Turn, size_of_all}
@@ -97,7 +97,7 @@ LeadsBack entry = (d next : Durable) → IsKept d → is_ordinary d.phase ≡ fa
 
 -- what a prepare begins with
 abbrev pub BeginsWithAll : Type 0
-BeginsWithAll = (d next : Durable) (epoch moment chunks : ℕ) → applied d (Prepare epoch moment chunks) ≡ Some next →
+BeginsWithAll = (d next : Durable) (epoch moment chunks : ℕ) → IsKept d → applied d (Prepare epoch moment chunks) ≡ Some next →
     (all_undone next.inverses next.names ≡ Some d.names) × ((chunk : ℕ) → view_at_prepare next chunk ≡ option_map (λ (s : Settled). s.view) (fin.get d.chunks chunk))
 
 -- the checkpoint of what stands tells it, but for chunks that stand in no file and never did
@@ -147,17 +147,19 @@ ProposesFresh = (config : Config) (s : State) (message : Message) (moment : Mome
 -- a view is made of those that answered the most edits, one of whom was asked
 abbrev pub MadeOfTheMost : Type 0
 MadeOfTheMost = (c : Chunk) (asking : Asking) (answers : Answers) (moment : Moment) (view : View) → view_by c asking answers moment ≡ Some view →
-    Chooses answers.counts view.members view.count × ((server : ℕ) × (is_member asking.asked server ≡ true) × (is_member view.members server ≡ true))
+    Chooses answers.counts view.members view.count × (may_settle asking.asked view.members ≡ true)
 
 abbrev pub is_refusal : PlainEntry → Bool
 is_refusal (Said to refusal) = true
 is_refusal entry = false
 
 -- an accepted prepare adds one record of 26 bytes, and a refused one at most a refusal
+pub record AddsOne (t : Turn) : Type 0 where
+  pub accepted : t.said ≡ None → (size_of_all t.records ≡ 26) × (length t.records ≡ 1)
+  pub refused : is_some t.said ≡ true → (length t.records ≤ 1) × (list_all is_refusal t.records ≡ true)
+
 abbrev pub PreparesByOneRecord : Type 0
-PreparesByOneRecord = (config : Config) (s : State) (req : ReqId) (moment : Moment) →
-    ((new_call config s req moment calls.PrepareCommit).said ≡ None → (size_of_all (new_call config s req moment calls.PrepareCommit).records ≡ 26) × (length (new_call config s req moment calls.PrepareCommit).records ≡ 1))
-    × (is_some (new_call config s req moment calls.PrepareCommit).said ≡ true → (length (new_call config s req moment calls.PrepareCommit).records ≤ 1) × All (λ entry. is_refusal entry ≡ true) (new_call config s req moment calls.PrepareCommit).records)
+PreparesByOneRecord = (config : Config) (s : State) (req : ReqId) (moment : Moment) → AddsOne (new_call config s req moment calls.PrepareCommit)
 
 -- the edit that a record tells of names is the edit itself
 abbrev pub EditsAsTold : Type 0
