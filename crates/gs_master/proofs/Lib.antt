@@ -1,3 +1,4 @@
 pub mod Choosing
 pub mod Preparing
+pub mod Refusing
 pub mod Rolling

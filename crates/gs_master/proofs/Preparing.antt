@@ -1,5 +1,5 @@
 -- What a prepare adds to the journal.
-use Rattle.std.proofs.Common.{◌≡◌, ◌≤◌, ◌+◌, ℕ, Bool, true, false, ◌&&◌, List, [], ◌∷◌, length, refl, ap, sym, arith}
+use Rattle.std.proofs.Common.{◌≡◌, ◌≤◌, ◌+◌, Bool, true, false, ◌&&◌, [], ◌∷◌, length, refl, ap, sym, arith}
 use Rattle.std.specs.Prelude.{Option, Some, None, is_some, if◌then◌else◌}
 use Rattle.std.specs.List.{list_all}
 use Rattle.std.proofs.lemmas.Bool.{false≢true}
@@ -9,12 +9,12 @@ use Rattle.gs_base.specs.declared.numbers.ReqId.{ReqId}
 use Rattle.gs_base.specs.declared.refusal.Refusal.{Refusal}
 use Rattle.gs_base.specs.declared.refusal.Refusal.TheVariants as refusals
 use Rattle.gs_msg.specs.declared.call.Call.TheVariants as calls
-use Rattle.gs_record.specs.Plain.{PlainEntry, Said, Prepare}
+use Rattle.gs_record.specs.Plain.{Said, Prepare}
 use Rattle.gs_record.specs.declared.checkpoint.EpochEnd.TheVariants as ends
 use Rattle.gs_master.specs.Calls.{refused_before}
-use Rattle.gs_master.specs.Handling.{called_unless, new_call}
+use Rattle.gs_master.specs.Handling.{called_unless}
 use Rattle.gs_master.specs.Promises.{AddsOne, is_refusal, PreparesByOneRecord}
-use Rattle.gs_master.specs.State.{State, Plan, Turn, turned, fits, if_room, refused, first_of, keeps_refusal}
+use Rattle.gs_master.specs.State.{State, Plan, Turn, turned, fits, refused, first_of, keeps_refusal}
 use Rattle.gs_master.specs.Upgrades.{prepare_commit, unless, commit_tests, accepted_plan, all_unquiet, is_last_epoch, chunk_count, tell_all}
 use Rattle.gs_master.specs.declared.change.Change.TheVariants as changes
 

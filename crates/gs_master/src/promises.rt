@@ -1,6 +1,6 @@
 //! What holds of every master.
 
-ghost use Rattle.gs_master.specs.Promises.{NothingWhileRolling, EditsAsTold};
+ghost use Rattle.gs_master.specs.Promises.{EditsAsTold, MadeOfTheMost, NothingWhileRolling, PreparesByOneRecord, RefusedLeavesNames};
 
 /// While a rollback is begun and not done, no view is begun, and no replica is dropped, whatever message comes.
 pub fn nothing_is_begun_or_dropped_while_rolling_back()
@@ -10,4 +10,19 @@ pub fn nothing_is_begun_or_dropped_while_rolling_back()
 /// The edit of the names that a record tells is the edit that was recorded.
 pub fn edits_are_as_they_are_told()
     ensures { EditsAsTold }
+{}
+
+/// A view is made of those that answered the most edits, and one of them was asked: the target of a copy alone makes none.
+pub fn views_are_of_those_with_the_most_edits()
+    ensures { MadeOfTheMost }
+{}
+
+/// A prepare that is accepted adds one record of 26 bytes and nothing else, and one that is refused at most its refusal.
+pub fn a_prepare_adds_one_record()
+    ensures { PreparesByOneRecord }
+{}
+
+/// A call that is refused by the event that brings it leaves the names and all views as they were.
+pub fn a_refused_call_leaves_names_and_views()
+    ensures { RefusedLeavesNames }
 {}
