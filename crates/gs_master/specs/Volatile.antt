@@ -1,5 +1,5 @@
 -- What the master keeps in memory alone, and drops at a restart.
-use Rattle.std.specs.Prelude.{◌≡◌, ◌==◌, ℕ, Bool, true, false, not, List, [], ◌∷◌, ◌++◌, map, filter, flat_map, fold, codes, Option, Some, None, if◌then◌else◌, refl}
+use Rattle.std.specs.Prelude.{◌≡◌, ◌==◌, ℕ, Bool, true, false, not, List, [], ◌∷◌, ◌++◌, filter, flat_map, fold, codes, Option, Some, None, if◌then◌else◌, refl, position, slice_set}
 use Rattle.std.specs.List.{list_any}
 use Rattle.std.specs.Ordering.{nat_cmp}
 use Rattle.std.specs.FinMap as fin
@@ -79,8 +79,13 @@ is_pending pending req = list_any (λ (p : Pending). same_op req p.req) pending
 abbrev pub without_pending : List Pending → ReqId → List Pending
 without_pending pending req = filter (λ (p : Pending). not (same_op req p.req)) pending
 
+-- the call waits for something else
+abbrev pub waits_at : List Pending → ReqId → Waiting → Option ℕ → List Pending
+waits_at pending req waiting None = pending
+waits_at pending req waiting (Some place) = slice_set pending place (record { req = req; waits = waiting })
+
 abbrev pub with_waiting : List Pending → ReqId → Waiting → List Pending
-with_waiting pending req waiting = map (λ (p : Pending). if same_op req p.req then record { req = p.req; waits = waiting } else p) pending
+with_waiting pending req waiting = waits_at pending req waiting (position (λ (p : Pending). same_op p.req req) pending)
 
 -- ---- chunks
 

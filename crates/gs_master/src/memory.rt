@@ -1,4 +1,4 @@
-ghost use Rattle.std.specs.Prelude.{◌≡◌, Some};
+ghost use Rattle.std.specs.Prelude.{◌<◌, vec_len, vec_capacity, ◌≡◌, Some};
 ghost use Rattle.std.specs.Option.{option_copied};
 ghost use Rattle.std.specs.Ordering.{nat_cmp};
 ghost use Rattle.std.specs.FinMap as fin;
@@ -126,5 +126,13 @@ impl Memory {
         ensures { volatile_of self.new ≡ changed (volatile_of self.old) (changes.Keep client reply) }
     {
         self.replies.put(client, reply);
+    }
+
+    /// A chunk is new. There is room for it.
+    pub fn enter(&mut self, chunk: Handle)
+        requires { vec_len self.old.unplaced < vec_capacity self.old.unplaced }
+        ensures { volatile_of self.new ≡ changed (volatile_of self.old) (changes.Enter chunk) }
+    {
+        let _pushed = self.unplaced.push(chunk);
     }
 }
