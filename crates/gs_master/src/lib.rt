@@ -10,6 +10,5 @@ mod reply;
 
 pub use asking::{Asking, Prepared, Step};
 pub use change::Change;
-pub use memory::Memory;
 pub use pending::{Pending, Waiting};
 pub use reply::KeptReply;

@@ -18,7 +18,7 @@ use std::alloc::Global;
 
 /// What the master keeps in memory alone. A restart drops it.
 #[derive(Drop)]
-pub struct Memory {
+pub(crate) struct Memory {
     pub(crate) is_preparing: bool,
     pub(crate) moving: Table<Handle, Asking>,
     pub(crate) unplaced: Vec<Handle>,
