@@ -1,4 +1,6 @@
+pub mod Beginnings
 pub mod Choosing
+pub mod Counters
 pub mod Preparing
 pub mod Refusing
 pub mod Rolling

@@ -34,9 +34,9 @@ if_fits fits d = if fits then Some d else None
 abbrev pub is_fresh : ℕ → ℕ → Bool
 is_fresh next n = nat_lt 0 n && not (is_given next n)
 
--- a counter behind a value that it may have given
+-- a counter behind a value, if it is fresh
 abbrev pub raised : ℕ → ℕ → ℕ
-raised next n = if is_given next n then next else after_number n
+raised next n = if is_fresh next n then after_number n else next
 
 -- ---- replies
 

@@ -67,9 +67,13 @@ pub record IsKept (d : Durable) : Type 0 where
 abbrev pub KeepsAll : PlainEntry → Type 0
 KeepsAll entry = (d next : Durable) → IsEntry Two entry → IsKept d → applied d entry ≡ Some next → IsKept next
 
+abbrev pub is_whole_entry : PlainEntry → Bool
+is_whole_entry (Whole c) = true
+is_whole_entry entry = false
+
 -- counters never fall behind a value that was given
 abbrev pub KeepsGiven : PlainEntry → Type 0
-KeepsGiven entry = (d next : Durable) (n : ℕ) → applied d entry ≡ Some next →
+KeepsGiven entry = (d next : Durable) (n : ℕ) → is_whole_entry entry ≡ false → applied d entry ≡ Some next →
     (is_given d.next_handle n ≡ true → is_given next.next_handle n ≡ true) × (is_given d.next_version n ≡ true → is_given next.next_version n ≡ true)
     × (is_given d.next_hidden n ≡ true → is_given next.next_hidden n ≡ true) × (d.epoch ≤ next.epoch)
 

@@ -1,6 +1,7 @@
 //! What holds of every master.
 
-ghost use Rattle.gs_master.specs.Promises.{EditsAsTold, MadeOfTheMost, NothingWhileRolling, PreparesByOneRecord, RefusedLeavesNames};
+ghost use Rattle.gs_record.specs.Plain.{PlainEntry};
+ghost use Rattle.gs_master.specs.Promises.{BeginsWithAll, EditsAsTold, KeepsGiven, MadeOfTheMost, NothingWhileRolling, PreparesByOneRecord, RefusedLeavesNames};
 
 /// While a rollback is begun and not done, no view is begun, and no replica is dropped, whatever message comes.
 pub fn nothing_is_begun_or_dropped_while_rolling_back()
@@ -25,4 +26,14 @@ pub fn a_prepare_adds_one_record()
 /// A call that is refused by the event that brings it leaves the names and all views as they were.
 pub fn a_refused_call_leaves_names_and_views()
     ensures { RefusedLeavesNames }
+{}
+
+/// Once a prepare is recorded, nothing is to be taken back, and each settled chunk's view is its prepared one.
+pub fn a_prepare_begins_with_all_that_stands()
+    ensures { BeginsWithAll }
+{}
+
+/// No record but a checkpoint takes a counter behind a value that was given, or the epoch back.
+pub fn counters_never_fall()
+    ensures { (entry : PlainEntry) → KeepsGiven entry }
 {}
