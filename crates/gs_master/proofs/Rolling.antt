@@ -1,10 +1,11 @@
 -- While rolling back nothing is begun and nothing dropped.
 use Rattle.std.proofs.Common.{◌≡◌, ◌&&◌, ◌++◌, ◌==◌, ℕ, Bool, true, false, not, List, [], ◌∷◌, refl, ◌∙◌}
-use Rattle.std.specs.Prelude.{slice_get, fold, nat_lt, is_some, Option, Some, None, unwrap_or, Result, Ok, Err, if◌then◌else◌}
+use Rattle.std.specs.Prelude.{flat_map, slice_get, fold, nat_lt, is_some, Option, Some, None, unwrap_or, Result, Ok, Err, if◌then◌else◌}
 use Rattle.std.specs.List.{list_any, list_all}
 use Rattle.std.specs.FinMap as fin
 use Rattle.std.proofs.lemmas.Bool.{false≢true}
 use Rattle.std.proofs.lemmas.List.Folds.{list_any-append}
+use Rattle.gs_base.specs.Stamps.{is_same}
 use Rattle.gs_base.specs.declared.config.Config.{Config}
 use Rattle.gs_base.specs.declared.numbers.Moment.{Moment}
 use Rattle.gs_base.specs.declared.numbers.ReqId.{ReqId}
@@ -28,11 +29,11 @@ use Rattle.gs_record.specs.declared.checkpoint.EpochEnd.{EpochEnd}
 use Rattle.gs_record.specs.declared.entry.SettledView.{SettledView}
 use Rattle.gs_master.specs.Applied.{applied, if_fits, after_edit, may_be_settled, with_view, held_by}
 use Rattle.gs_master.specs.Durable.{Durable, is_rolling, is_upgrade, prepared_view, with_prepared}
-use Rattle.gs_master.specs.Promises.{is_proposal, is_drop_message, IsStill, NothingWhileRolling}
+use Rattle.gs_master.specs.Promises.{is_proposal, is_drop_message, IsStill, NothingWhileRolling, NothingAtTicks}
 use Rattle.gs_master.specs.Settling.{ended_with, end_plan, if_room_for, edit_plan, edit_turn, ended_by_edit, copied, leased_next, replaced_if, replace_plan, goes_on, grant_of, own_request, is_quiet_at, source_chunks, settle_plan, end_call, all_go_on, settled_on, settled_if, settled_by, concerned, failed, requests_of}
 use Rattle.gs_master.specs.State.{State, is_failed, last_reply, refused, met_by, about, first_of, Plan, Turn, with_record, turned, unmoved, and_then, for_each, fits, ended_by, all_ended_by, keeps_refusal, refusal_plan, end_changes}
 use Rattle.gs_master.specs.declared.change.Change.{Change}
-use Rattle.gs_master.specs.Chunks.{Chunk, chunk_at, may_begin, hears, heard_yes, heard_no, is_target, step_of_yes, step_of_no, settling, is_holder, holder_records, target_of, view_by}
+use Rattle.gs_master.specs.Chunks.{Chunk, chunk_at, may_begin, hears, heard_yes, heard_no, is_target, step_of_yes, step_of_no, settling, is_holder, holder_records, target_of, view_by, is_leased, view_of, step_at_tick}
 use Rattle.gs_master.specs.Undoing.{edited_names, all_undone}
 use Rattle.gs_base.specs.Members.{is_member}
 use Rattle.gs_view.specs.declared.answers.Answers.{Answers}
@@ -48,7 +49,7 @@ use Rattle.gs_msg.specs.declared.chunk.Chunk.{Chunk as Said_of_chunk}
 use Rattle.gs_msg.specs.declared.chunk.Chunk.TheVariants as chunks
 use Rattle.gs_master.specs.Calls.{is_locked, ordered, is_always_taken, queried, refused_before}
 use Rattle.gs_master.specs.Hearing.{stepped, heard, ask_plan, send_plan, is_with_sealed, promised_for, promised_at, unpromised_for, unpromised_at, sends, end_told, next_epoch, behind, learned, reported, reported_now, damaged, renewed, is_leased_under}
-use Rattle.gs_master.specs.Handling.{handle, about_turn, server_turn, from_client, from_node, call_turn, called, called_unless, new_call, taken_as, numbered, replied_again, waits_still, Numbered, New, Again, Older}
+use Rattle.gs_master.specs.Handling.{handle, about_turn, server_turn, from_client, from_node, call_turn, called, called_unless, new_call, taken_as, numbered, replied_again, waits_still, Numbered, New, Again, Older, pressed, pressed_at, pressed_if, proposals, granted, granted_at, granted_view, written_unless, written_if_due, checkpoint, checkpoint_tests, checkpoint_body, due, tick}
 use Rattle.gs_master.specs.Upgrades.{rollback_commit, commit_on, commit_if, answers_for, told_of, accepted_plan, unrestored}
 use Rattle.gs_master.specs.declared.pending.Pending.{Pending}
 use Rattle.gs_master.specs.declared.pending.Waiting.{Waiting}
@@ -411,3 +412,52 @@ from_node_still config moment said (nodes.Client client) s h = from_client_still
 pub nothing_while_rolling : NothingWhileRolling
 unfolding handle
 nothing_while_rolling config s message moment h = from_node_still config moment message.body message.from s h
+
+-- ---- ticks
+
+pressed_if_on : (chunk : ℕ) (stamp : Stamp) (moment : Moment) (c : Chunk) (asking : Option Asking) (s : State) → IsRolling s → GoesOn (pressed_if s chunk stamp moment c asking)
+pressed_if_on chunk stamp moment c None s h = stands_still s h
+pressed_if_on chunk stamp moment c (Some asking) s h =
+    either_on (is_same asking.stamp stamp) (stepped s chunk c asking false moment (step_at_tick asking)) (unmoved s) (stepped_on chunk c asking false moment (step_at_tick asking) s h) (stands_still s h)
+
+pressed_at_on : (chunk : ℕ) (stamp : Stamp) (moment : Moment) (c : Option Chunk) (s : State) → IsRolling s → GoesOn (pressed_at s chunk stamp moment c)
+pressed_at_on chunk stamp moment None s h = stands_still s h
+pressed_at_on chunk stamp moment (Some c) s h = pressed_if_on chunk stamp moment c c.asking s h
+
+view_none : (chunk : ℕ) (view : Option View) → list_any is_drop_message (granted_view chunk view) ≡ false
+view_none chunk None = refl
+view_none chunk (Some view) = grants_none chunk view view.term
+
+if_none : (b : Bool) (messages : List Message) → list_any is_drop_message messages ≡ false → list_any is_drop_message (if b then messages else []) ≡ false
+if_none true messages none = none
+if_none false messages none = refl
+
+granted_none : (chunk : ℕ) (c : Option Chunk) → list_any is_drop_message (granted_at chunk c) ≡ false
+granted_none chunk None = refl
+granted_none chunk (Some c) = if_none (is_leased c) (granted_view chunk (view_of c)) (view_none chunk (view_of c))
+
+all_granted_none : (s : State) (many : List ℕ) → list_any is_drop_message (flat_map (λ chunk. granted_at chunk (chunk_at s chunk)) many) ≡ false
+all_granted_none s [] = refl
+all_granted_none s (chunk ∷ many) =
+    any_both is_drop_message (granted_at chunk (chunk_at s chunk)) (flat_map (λ c. granted_at c (chunk_at s c)) many) (granted_none chunk (chunk_at s chunk)) (all_granted_none s many)
+
+granted_on : (s : State) → IsRolling s → GoesOn (granted s)
+granted_on s h = sends_on (flat_map (λ chunk. granted_at chunk (chunk_at s chunk)) (fin.keys s.durable.chunks)) s (all_granted_none s (fin.keys s.durable.chunks)) h
+
+written_unless_on : (refusal : Option Refusal) (s : State) → IsRolling s → GoesOn (record (written_unless s refusal) { said = None })
+written_unless_on None s h = record { still = record { records = refl; sent = refl }; rolling = h }
+written_unless_on (Some refusal) s h = record { still = record { records = refl; sent = refl }; rolling = h }
+
+written_if_due_on : (s : State) → IsRolling s → GoesOn (written_if_due s)
+unfolding checkpoint
+written_if_due_on s h =
+    either_on (due s) (record (checkpoint s) { said = None }) (unmoved s)
+    (written_unless_on (first_of (checkpoint_tests (is_failed s.fault) s.volatile.is_preparing s.log (checkpoint_body s.durable))) s h) (stands_still s h)
+
+pub nothing_at_ticks : NothingAtTicks
+unfolding tick
+nothing_at_ticks s moment h =
+    let press = for_each s (proposals s) (pressed moment) in
+    either_still (is_failed s.fault) (met_by s refusals.Device) (and_then (and_then press granted) written_if_due) (met_on refusals.Device s h).still
+    (then_on (and_then press granted) written_if_due
+    (then_on press granted (each_on (proposals s) (pressed moment) (λ p n rn. pressed_at_on p.0 p.1 moment (chunk_at n p.0) n rn) s h) (λ n rn. granted_on n rn)) (λ n rn. written_if_due_on n rn)).still

@@ -163,13 +163,13 @@ pressed_at s chunk stamp moment (Some c) = pressed_if s chunk stamp moment c c.a
 abbrev pub pressed : Moment → ℕ × Stamp → State → Turn
 pressed moment proposal s = pressed_at s proposal.0 proposal.1 moment (chunk_at s proposal.0)
 
+abbrev pub granted_view : ℕ → Option View → List Message
+granted_view chunk None = []
+granted_view chunk (Some view) = grants chunk view
+
 abbrev pub granted_at : ℕ → Option Chunk → List Message
 granted_at chunk None = []
-granted_at chunk (Some c) = if is_leased c then granted_view (view_of c) else []
-  where
-    granted_view : Option View → List Message
-    granted_view None = []
-    granted_view (Some view) = grants chunk view
+granted_at chunk (Some c) = if is_leased c then granted_view chunk (view_of c) else []
 
 -- every lease is granted again, ascending
 abbrev pub granted : State → Turn

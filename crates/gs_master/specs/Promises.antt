@@ -31,7 +31,7 @@ use Rattle.gs_view.specs.declared.answers.Answers.{Answers}
 use Rattle.gs_master.specs.Applied.{applied, replayed, is_fresh}
 use Rattle.gs_master.specs.Chunks.{Chunk, view_by, may_settle}
 use Rattle.gs_master.specs.Durable.{Durable, Settled, is_given, is_ordinary, is_rolling, upgrade_epoch, prepared_view, is_listed}
-use Rattle.gs_master.specs.Handling.{handle, call_turn, new_call, tidied}
+use Rattle.gs_master.specs.Handling.{handle, call_turn, new_call, tidied, tick}
 use Rattle.gs_master.specs.State.{State, Turn, size_of_all}
 use Rattle.gs_master.specs.Undoing.{named_plain, all_undone}
 use Rattle.gs_master.specs.Whole.{whole_of, checkpoint_of, are_ends, is_prepared_before}
@@ -141,6 +141,10 @@ pub record IsStill (t : Turn) : Type 0 where
 -- so it is while rolling back, whatever comes
 abbrev pub NothingWhileRolling : Type 0
 NothingWhileRolling = (config : Config) (s : State) (message : Message) (moment : Moment) → is_rolling s.durable.phase ≡ true → IsStill (handle config s message moment)
+
+-- and at each tick
+abbrev pub NothingAtTicks : Type 0
+NothingAtTicks = (s : State) (moment : Moment) → is_rolling s.durable.phase ≡ true → IsStill (tick s moment)
 
 -- a version that is proposed is above all before it
 abbrev pub ProposesFresh : Type 0

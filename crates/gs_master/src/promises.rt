@@ -1,11 +1,13 @@
 //! What holds of every master.
 
 ghost use Rattle.gs_record.specs.Plain.{PlainEntry};
-ghost use Rattle.gs_master.specs.Promises.{BeginsWithAll, EditsAsTold, KeepsGiven, MadeOfTheMost, NothingWhileRolling, PreparesByOneRecord, RefusedLeavesNames};
+ghost use Rattle.gs_master.specs.Promises.{BeginsWithAll, EditsAsTold, KeepsGiven, MadeOfTheMost, NothingAtTicks, NothingWhileRolling, PreparesByOneRecord, RefusedLeavesNames};
 
-/// While a rollback is begun and not done, no view is begun, and no replica is dropped, whatever message comes.
+/// While a rollback is begun and not done, no view is begun, and no replica is dropped, whatever message comes and at each
+/// tick.
 pub fn nothing_is_begun_or_dropped_while_rolling_back()
-    ensures { NothingWhileRolling }
+    ensures messages { NothingWhileRolling }
+    ensures ticks { NothingAtTicks }
 {}
 
 /// The edit of the names that a record tells is the edit that was recorded.
