@@ -4,6 +4,9 @@
 #[cfg(test)]
 mod blocks;
 #[cfg(test)]
+mod clients;
+#[cfg(test)]
+mod commands;
 mod journal;
 #[cfg(test)]
 mod locks;
