@@ -5,3 +5,4 @@ pub mod Lengths
 pub mod Pieces
 pub mod Counts
 pub mod Records
+pub mod Exact

@@ -2,6 +2,7 @@ pub mod Clients
 pub mod Sends
 pub mod Replies
 pub mod Edits
+pub mod Serves
 pub mod Trees
 pub mod Looking
 pub mod Reading

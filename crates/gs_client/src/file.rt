@@ -182,12 +182,12 @@ impl OpenFile<Writing> {
         ensures counts { self.new ≡ record (used self.old) { edits = self.new.edits } }
     {
         let mut edits = self.edits;
-        let record = Record {
+        let appended = Record {
             size: client.chunk(),
             path: &self.path,
             bytes,
         };
-        let result = client.append(alloc, link, &mut edits, &record, self.opened);
+        let result = client.append(alloc, link, &mut edits, &appended, self.opened);
         self.opened = None;
         self.edits = edits;
         result

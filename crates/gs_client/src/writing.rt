@@ -293,30 +293,30 @@ impl Client {
         alloc: Global,
         link: &mut L,
         edits: &mut u64,
-        record: &Record<'_>,
+        appended: &Record<'_>,
         first: u64,
     ) -> Result<u64, Refusal>
         requires { first < 4096 }
-        ensures { Follows (Edits L.Carries) (calls.append_from record.now.size record.now.path.now record.now.bytes.now first (4095 - first)) (self.old, edits.old, link.old) result (self.new, edits.new, link.new) }
+        ensures { Follows (Edits L.Carries) (calls.append_from appended.now.size appended.now.path.now appended.now.bytes.now first (4095 - first)) (self.old, edits.old, link.old) result (self.new, edits.new, link.new) }
     {
         for index in first..MOST_CHUNKS {
             let part = Edit {
-                path: record.path,
+                path: appended.path,
                 index,
                 op: Op::Append {
-                    length: record.bytes.len() as u64,
+                    length: appended.bytes.len() as u64,
                 },
-                bytes: record.bytes,
+                bytes: appended.bytes,
             };
             match self.part(alloc, link, edits, &part)? {
-                Outcome::Appended(offset) => return place(record.size, index, offset),
+                Outcome::Appended(offset) => return place(appended.size, index, offset),
                 Outcome::Written => return Err(Refusal::Stray),
                 Outcome::Padded => {}
             }
             if index + 1 == MOST_CHUNKS {
                 return Err(Refusal::Range);
             }
-            self.extend(alloc, link, record.path, index + 1)?;
+            self.extend(alloc, link, appended.path, index + 1)?;
         }
         Err(Refusal::Range)
     }
@@ -327,19 +327,19 @@ impl Client {
         alloc: Global,
         link: &mut L,
         edits: &mut u64,
-        record: &Record<'_>,
+        appended: &Record<'_>,
         opened: Option<u64>,
     ) -> Result<u64, Refusal>
         requires { IfSome opened (λ chunks. chunks ≤ 4096) }
-        ensures { Follows (Edits L.Carries) (calls.append_call record.now.size record.now.path.now opened record.now.bytes.now) (self.old, edits.old, link.old) result (self.new, edits.new, link.new) }
+        ensures { Follows (Edits L.Carries) (calls.append_call appended.now.size appended.now.path.now opened appended.now.bytes.now) (self.old, edits.old, link.old) result (self.new, edits.new, link.new) }
     {
-        let chunks = self.known(alloc, link, record.path, opened)?;
-        if record.bytes.is_empty() {
+        let chunks = self.known(alloc, link, appended.path, opened)?;
+        if appended.bytes.is_empty() {
             return Err(Refusal::Range);
         }
         let missing = 1u64.saturating_sub(chunks);
-        self.extends(alloc, link, record.path, 0, missing)?;
+        self.extends(alloc, link, appended.path, 0, missing)?;
         let last = chunks.saturating_sub(1);
-        self.append_from(alloc, link, edits, record, last)
+        self.append_from(alloc, link, edits, appended, last)
     }
 }

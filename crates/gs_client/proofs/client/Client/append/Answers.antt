@@ -9,21 +9,21 @@ use Rattle.gs_client.proofs.client.Client.append.Goals as goal
 
 pub returns-in_err-chunks : goal.returns-in_err-chunks
 returns-in_err-chunks g c =
-    let r = c.args.record.now in
+    let r = c.args.appended.now in
     let e : c.from_residual.result ≡ Err c.in_err-chunks.field-0.0 = search rules in
     rw e (follows_none (Edits g.L.Link.Carries) (known_call r.path.now c.args.opened) _ _ _ _
     (as_edits g.L.Link.Carries (known_call r.path.now c.args.opened) (quiet_known r.path.now c.args.opened) _ _ _ _ _ _ c.in_err-chunks.ensures.is))
 
 pub returns-then-is_empty : goal.returns-then-is_empty
 returns-then-is_empty g c =
-    let r = c.args.record.now in
+    let r = c.args.appended.now in
     follows_both (Edits g.L.Link.Carries) (known_call r.path.now c.args.opened) _ _ _ _ _ _
     (as_edits g.L.Link.Carries (known_call r.path.now c.args.opened) (quiet_known r.path.now c.args.opened) _ _ c.args.edits.now _ _ _ c.in_ok-chunks.ensures.is)
     (follows_then (Edits g.L.Link.Carries) (length r.bytes.now == 0) _ _ _ _ _ (sym c.if-is_empty.ensures) (follows_said (Edits g.L.Link.Carries) (Err Range) _))
 
 pub returns-in_err-extends : goal.returns-in_err-extends
 returns-in_err-extends g c =
-    let r = c.args.record.now in
+    let r = c.args.appended.now in
     let e : c.from_residual-in_err-extends.result ≡ Err c.in_err-extends.field-0.0 = search rules in
     let extended = rw c.saturating_sub-missing.ensures at c.in_err-extends.ensures in
     rw e (follows_both (Edits g.L.Link.Carries) (known_call r.path.now c.args.opened) _ _ _ _ _ _
@@ -34,7 +34,7 @@ returns-in_err-extends g c =
 
 pub returns : goal.returns
 returns g c =
-    let r = c.args.record.now in
+    let r = c.args.appended.now in
     let extended = rw c.saturating_sub-missing.ensures at c.in_ok-extends.ensures in
     let appended = rw c.saturating_sub-last.ensures at c.append_from.ensures in
     follows_both (Edits g.L.Link.Carries) (known_call r.path.now c.args.opened) _ _ _ _ _ _

@@ -6,5 +6,5 @@ use Rattle.gs_client.proofs.client.Client.append_from.Given as goal
 
 abbrev pub invariant-loop-index : goal.invariant-loop-index
 invariant-loop-index g l =
-    (l.index < 4096) × Leads (Edits g.L.Link.Carries) (append_from l.record.size l.record.path.now l.record.bytes.now l.first (4095 - l.first)) (l.initial.self, l.initial.edits, l.initial.link)
-    (append_from l.record.size l.record.path.now l.record.bytes.now l.index (4095 - l.index)) (l.self, l.edits, l.link)
+    (l.index < 4096) × Leads (Edits g.L.Link.Carries) (append_from l.appended.size l.appended.path.now l.appended.bytes.now l.first (4095 - l.first)) (l.initial.self, l.initial.edits, l.initial.link)
+    (append_from l.appended.size l.appended.path.now l.appended.bytes.now l.index (4095 - l.index)) (l.self, l.edits, l.link)

@@ -1,0 +1,40 @@
+//! What holds of all calls of a client.
+ghost use Rattle.std.specs.Prelude.{◌≡◌, ◌≢◌, ℕ, Result, Err};
+ghost use Rattle.gs_base.specs.declared.refusal.Refusal.{Refusal};
+ghost use Rattle.gs_base.specs.declared.refusal.Refusal.TheVariants.{Memory};
+ghost use Rattle.gs_dialogue.specs.Dialogues.{Follows, run};
+ghost use Rattle.gs_client.specs.declared.client.Client.{Client};
+ghost use Rattle.gs_client.specs.Sends.{Sends};
+ghost use Rattle.gs_client.specs.Serves.{served, served_edits};
+ghost use Rattle.gs_client.specs.Edits.{Edits};
+ghost use Rattle.gs_client.specs.Trees.{Call as AnyCall};
+
+use crate::link::Link;
+
+/// A link whose replies are a function of a world.
+pub trait Serve: Link {
+    ghost use Rattle.std.specs.Prelude.{◌≡◌};
+    ghost use Rattle.gs_base.specs.declared.numbers.ReqId.{ReqId};
+    ghost use Rattle.gs_msg.specs.declared.event.Request.{Request};
+    ghost use Rattle.gs_client.specs.declared.link.Reply.{Reply};
+
+    type World;
+
+    /// The reply, and the world then.
+    ghost serve: { Self.World → ReqId → Request → Reply × Self.World };
+
+    /// The world of the link.
+    ghost world: { Self → Self.World };
+
+    ghost exact: { (old : Self) (req : ReqId) (request : Request) (reply : Reply) (new : Self) → Self.Carries old req request reply new → (reply, world new) ≡ serve (world old) req request };
+}
+
+/// Over such a link each call that doesn't lack memory of its own comes to what the function gives.
+pub fn a_call_is_what_is_served<L: Serve, A>()
+    ensures { (call : AnyCall A) (old new : Client × L) (result : Result A Refusal) → Follows (Sends L.Carries) call old result new → result ≢ Err Memory → (result, (new.0, L.world new.1)) ≡ run (served L.serve) call (old.0, L.world old.1) }
+{}
+
+/// The same of the calls of a file that is open for writing, with how many of its edits are acknowledged.
+pub fn an_edit_is_what_is_served<L: Serve, A>()
+    ensures { (call : AnyCall A) (old new : Client × ℕ × L) (result : Result A Refusal) → Follows (Edits L.Carries) call old result new → result ≢ Err Memory → (result, (new.0, new.1, L.world new.2)) ≡ run (served_edits L.serve) call (old.0, old.1, L.world old.2) }
+{}
