@@ -19,6 +19,7 @@ use Rattle.gs_client.specs.declared.link.Reply.TheVariants as replies
 use Rattle.gs_client.specs.declared.located.Located.{Located}
 use Rattle.gs_client.specs.declared.reading.Stat.TheVariants as stats
 use Rattle.gs_client.specs.Looking.{chunks_call}
+use Rattle.gs_client.specs.Files.{open_call, opened_with}
 use Rattle.gs_client.specs.Reading.{read_call, digest_call, stat_call}
 use Rattle.gs_client.specs.Writing.{write_call, append_call}
 
@@ -157,3 +158,6 @@ a_directory = refl
 
 no_file_in_a_directory : run next (chunks_call f) (replied (replies.Answer (answers.Status statuses.Directory) ∷ [])) ≡ (Err refusals.IsADirectory, ([], requests.Call (calls.Status f) ∷ []))
 no_file_in_a_directory = refl
+
+a_file_is_opened : run next (open_call f) (replied (replies.Answer (answers.Status (statuses.File [])) ∷ [])) ≡ (Ok (opened_with f 0), ([], requests.Call (calls.Status f) ∷ []))
+a_file_is_opened = refl

@@ -10,7 +10,13 @@ use gs_msg::{Call, Copied, Names, Phase, Request, Status};
 use gs_path::Path;
 use std::marker::Model;
 
-/// A client of a store. It numbers its requests from 1 upwards, whatever node they go to.
+/// A client of a store. It numbers its requests from 1 upwards, whatever node they go to; after the last number a call that has to
+/// ask answers `Exhausted`.
+///
+/// A call that changes something answers `Unsure` where no reply came, or the node that met it had no memory or no disk for it: it
+/// stands or doesn't. One that only looks answers `NoReplica` where no reply came. `Stray` is for a reply of another kind than the
+/// call waits for. All other refusals are those of the nodes. Calls that take an allocator copy paths and bytes, and answer
+/// `Memory` where it was refused; the requests that were made before it stand.
 #[derive(Debug, Drop)]
 pub struct Client {
     /// The last request that was sent. Number 0 is of none.
