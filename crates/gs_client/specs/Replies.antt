@@ -24,12 +24,16 @@ unsure_or refusals.Memory = refusals.Unsure
 unsure_or refusals.Device = refusals.Unsure
 unsure_or refusal = refusal
 
+-- why a request that changes something has no answer of the kind that is waited for
+abbrev pub unsettled : Reply → Refusal
+unsettled (replies.Refused refusal) = unsure_or refusal
+unsettled replies.Lost = refusals.Unsure
+unsettled reply = refusals.Stray
+
 -- what the master says to a call that changes something
 abbrev pub changed : Reply → Result Answer Refusal
 changed (replies.Answer answer) = Ok answer
-changed (replies.Refused refusal) = Err (unsure_or refusal)
-changed replies.Lost = Err refusals.Unsure
-changed reply = Err refusals.Stray
+changed reply = Err (unsettled reply)
 
 -- what the master says to one that only looks
 abbrev pub looked : Reply → Result Answer Refusal
@@ -88,9 +92,7 @@ phase_in answer = Err refusals.Stray
 -- what an edit came to
 abbrev pub edited : Reply → Result Outcome Refusal
 edited (replies.Outcome outcome) = Ok outcome
-edited (replies.Refused refusal) = Err (unsure_or refusal)
-edited replies.Lost = Err refusals.Unsure
-edited reply = Err refusals.Stray
+edited reply = Err (unsettled reply)
 
 -- What a member gives, or the refusal that is the last so far: its own, or, where it didn't answer, the one before.
 abbrev pub given : Refusal → Reply → Result Given Refusal

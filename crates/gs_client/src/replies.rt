@@ -21,15 +21,24 @@ fn unsure_or(refusal: Refusal) -> Refusal
     }
 }
 
+/// Why a request that may have changed something has no answer of the kind that is waited for.
+fn unsettled(reply: Reply) -> Refusal
+    ensures { result ≡ says.unsettled reply }
+{
+    match reply {
+        Reply::Refused(refusal) => unsure_or(refusal),
+        Reply::Lost => Refusal::Unsure,
+        _ => Refusal::Stray,
+    }
+}
+
 /// What the master says to a call that changes something.
 pub(crate) fn changed(reply: Reply) -> Result<Answer, Refusal>
     ensures { result ≡ says.changed reply }
 {
     match reply {
         Reply::Answer(answer) => Ok(answer),
-        Reply::Refused(refusal) => Err(unsure_or(refusal)),
-        Reply::Lost => Err(Refusal::Unsure),
-        _ => Err(Refusal::Stray),
+        other => Err(unsettled(other)),
     }
 }
 
@@ -162,9 +171,7 @@ pub(crate) fn edited(reply: Reply) -> Result<Outcome, Refusal>
 {
     match reply {
         Reply::Outcome(outcome) => Ok(outcome),
-        Reply::Refused(refusal) => Err(unsure_or(refusal)),
-        Reply::Lost => Err(Refusal::Unsure),
-        _ => Err(Refusal::Stray),
+        other => Err(unsettled(other)),
     }
 }
 
