@@ -6,7 +6,6 @@ mod blocks;
 #[cfg(test)]
 mod clients;
 #[cfg(test)]
-mod commands;
 mod journal;
 #[cfg(test)]
 mod locks;

@@ -148,16 +148,24 @@ fn make(alloc: Global, store: &mut Store, step: &Step) -> Result<(), Refusal> {
     }
 }
 
+/// How many live replicas are reported, and how many of them are bad.
+fn reported(store: &Store) -> (usize, usize) {
+    let mut all: usize = 0;
+    let mut bad: usize = 0;
+    for told in store.report() {
+        all = all.wrapping_add(1);
+        if told.is_bad {
+            bad = bad.wrapping_add(1);
+        }
+    }
+    (all, bad)
+}
+
 fn seen(store: &Store) -> Result<[usize; 5], Refusal> {
     let edits = store.count(Handle::first()).unwrap_or(99);
-    let bad = store.report().filter(|told| told.is_bad).count();
-    Ok([
-        store.epoch() as usize,
-        store.report().count(),
-        bad,
-        store.named(2)?.len(),
-        edits as usize,
-    ])
+    let (all, bad) = reported(store);
+    let named = store.named(2)?.len();
+    Ok([store.epoch() as usize, all, bad, named, edits as usize])
 }
 
 #[test]
