@@ -22,7 +22,7 @@ use Rattle.gs_client.specs.Edits.{Edits, counted, with_edit}
 use Rattle.gs_client.specs.Replies.{changed, looked, status_in, chunks_in, located_in, edited}
 use Rattle.gs_client.specs.Trees.{Call, and_then, look}
 use Rattle.gs_client.specs.Looking.{count_in, known_call}
-use Rattle.gs_client.specs.Writing.{send_call, edit_call, again_call, part_call, extend_call, extends_call, part_bytes, part_op, parts_call}
+use Rattle.gs_client.specs.Writing.{send_call, edit_call, again_call, write_part_call, extend_call, extends_call, part_bytes, part_op, parts_call}
 
 -- a call that makes no edit
 abbrev pub Quiet : {A : Type 0} → Dialogue Request Reply A → Type 0
@@ -115,16 +115,16 @@ extends_next path from i count h =
 -- parts, one after another
 pub parts_next : (size : ℕ) (path : Path) (offset : ℕ) (bytes : List ℕ) (i count : ℕ) → i < count
     → parts_call size path offset bytes i (count - i)
-    ≡ both (part_call path (offset / size + i) (part_op size offset bytes i) (part_bytes size offset bytes i)) (λ outcome. parts_call size path offset bytes (i + 1) (count - (i + 1)))
+    ≡ both (write_part_call path (offset / size + i) (part_op size offset bytes i) (part_bytes size offset bytes i)) (λ done. parts_call size path offset bytes (i + 1) (count - (i + 1)))
 parts_next size path offset bytes i count h =
     let e : count - i ≡ suc (count - (i + 1)) = omega arith in
     ap (parts_call size path offset bytes i) e
 
 -- a part under the names of its values
-pub part_named : {S : Type 0} (carries : S → Request → Reply → S → Type 0) (path : Path) (index start start' many : ℕ) (bytes bytes' : List ℕ) (old new : S) (result : Result Outcome Refusal)
-    → start ≡ start' → many ≡ length bytes → bytes ≡ bytes' → Follows carries (part_call path index (ops.Write start many) bytes) old result new
-    → Follows carries (part_call path index (ops.Write start' (length bytes')) bytes') old result new
+pub part_named : {S : Type 0} (carries : S → Request → Reply → S → Type 0) (path : Path) (index start start' many : ℕ) (bytes bytes' : List ℕ) (old new : S) (result : Result (Unit {0}) Refusal)
+    → start ≡ start' → many ≡ length bytes → bytes ≡ bytes' → Follows carries (write_part_call path index (ops.Write start many) bytes) old result new
+    → Follows carries (write_part_call path index (ops.Write start' (length bytes')) bytes') old result new
 part_named carries path index start start' many bytes bytes' old new result is long same follows =
-    subst (λ (n : ℕ). Follows carries (part_call path index (ops.Write n (length bytes')) bytes') old result new) is
-    (subst (λ (l : List ℕ). Follows carries (part_call path index (ops.Write start (length l)) l) old result new) same
-    (subst (λ (n : ℕ). Follows carries (part_call path index (ops.Write start n) bytes) old result new) long follows))
+    subst (λ (n : ℕ). Follows carries (write_part_call path index (ops.Write n (length bytes')) bytes') old result new) is
+    (subst (λ (l : List ℕ). Follows carries (write_part_call path index (ops.Write start (length l)) l) old result new) same
+    (subst (λ (n : ℕ). Follows carries (write_part_call path index (ops.Write start n) bytes) old result new) long follows))

@@ -1,5 +1,5 @@
 -- What is read of chunks, one after another.
-use Rattle.std.proofs.Common.{◌≡◌, ◌≤◌, ◌<◌, ◌+◌, ◌-◌, ◌*◌, ◌/◌, ◌++◌, ℕ, suc, List, Bool, true, false, cond, nat_lt, Option, Some, Ok, Err, inl, inr, refl, sym, subst, arith}
+use Rattle.std.proofs.Common.{◌≡◌, ◌≤◌, ◌<◌, ◌+◌, ◌-◌, ◌*◌, ◌/◌, ◌++◌, ℕ, suc, List, Bool, true, false, cond, nat_lt, Option, Some, Result, Ok, Err, inl, inr, refl, sym, subst, arith}
 use Rattle.std.proofs.Math.Nat.{mul-le-mul_left, mul-div-le}
 use Rattle.gs_base.specs.declared.refusal.Refusal.{Refusal}
 use Rattle.gs_base.specs.declared.refusal.Refusal.TheVariants as refusals
@@ -25,6 +25,13 @@ spanned false first last i few below = absurd (omega arith)
 -- a chunk that lies in what is read
 pub in_bounds : (size offset end i : ℕ) → 1 ≤ size → end ≤ 4096 * size → i < span size offset end → offset / size + i < 4096
 in_bounds size offset end i some few below = spanned (nat_lt offset end) (offset / size) ((end - 1) / size) i (below_end size end some few) below
+
+-- a part under the name of its length
+pub stored_named : {S : Type 0} (carries : S → Request → Reply → S → Type 0) (path : Path) (known : Option Located) (index start many many' : ℕ) (old new : S) (result : Result (List ℕ × Located) Refusal)
+    → many ≡ many' → Follows carries (stored_call path known index (asks.Bytes start many)) old result new
+    → Follows carries (stored_call path known index (asks.Bytes start many')) old result new
+stored_named carries path known index start many many' old new result is follows =
+    subst (λ (n : ℕ). Follows carries (stored_call path known index (asks.Bytes start n)) old result new) is follows
 
 module _ {S : Type 0} (carries : S → Request → Reply → S → Type 0) (size : ℕ) (path : Path) (chunks end : ℕ) (whole : Call (List ℕ × Option Located)) (old now mid : S)
     (known : Option Located) (first start i count : ℕ) (read : List ℕ) (more : i < count)

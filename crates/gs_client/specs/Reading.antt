@@ -42,7 +42,7 @@ filled many bytes = bytes ++ replicate (many - length bytes) 0
 abbrev pub stored_call : Path → Option Located → ℕ → Asked → Call (List ℕ × Located)
 stored_call path known index asked =
     both (fetch_call path known index asked) (λ f.
-    both (Say (bytes_in f.0)) (λ bytes. Say (Ok (bytes, f.1))))
+    both (Say (bytes_in asked f.0)) (λ bytes. Say (Ok (bytes, f.1))))
 
 -- what a chunk gives of a read
 abbrev pub piece_bytes : ℕ → ℕ → ℕ → List ℕ → List ℕ

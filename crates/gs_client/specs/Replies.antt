@@ -1,5 +1,5 @@
 -- What a reply says to the client that waits for it.
-use Rattle.std.specs.Prelude.{◌≡◌, ℕ, List, Bool, true, false, Option, Some, None, Result, Ok, Err, refl}
+use Rattle.std.specs.Prelude.{◌≡◌, ℕ, List, Bool, true, false, Option, Some, None, Result, Ok, Err, refl, length, nat_le, if◌then◌else◌}
 use Rattle.gs_base.specs.declared.refusal.Refusal.{Refusal}
 use Rattle.gs_base.specs.declared.refusal.Refusal.TheVariants as refusals
 use Rattle.gs_path.specs.Path.{Path}
@@ -14,6 +14,8 @@ use Rattle.gs_msg.specs.declared.answer.Phase.{Phase}
 use Rattle.gs_msg.specs.declared.lists.ListedName.{ListedName}
 use Rattle.gs_msg.specs.declared.body.Given.{Given}
 use Rattle.gs_msg.specs.declared.body.Given.TheVariants as givens
+use Rattle.gs_msg.specs.declared.chunk.Asked.{Asked}
+use Rattle.gs_msg.specs.declared.chunk.Asked.TheVariants as asks
 use Rattle.gs_client.specs.declared.link.Reply.{Reply}
 use Rattle.gs_client.specs.declared.link.Reply.TheVariants as replies
 use Rattle.gs_client.specs.declared.located.Located.{Located}
@@ -100,9 +102,13 @@ given last (replies.Given g) = Ok g
 given last (replies.Refused refusal) = Err refusal
 given last reply = Err last
 
-abbrev pub bytes_in : Given → Result (List ℕ) Refusal
-bytes_in (givens.Bytes bytes) = Ok bytes
-bytes_in g = Err refusals.Stray
+-- bytes that were asked for, and no more of them
+abbrev pub as_many : ℕ → List ℕ → Result (List ℕ) Refusal
+as_many many bytes = if nat_le (length bytes) many then Ok bytes else Err refusals.Stray
+
+abbrev pub bytes_in : Asked → Given → Result (List ℕ) Refusal
+bytes_in (asks.Bytes offset many) (givens.Bytes bytes) = as_many many bytes
+bytes_in asked g = Err refusals.Stray
 
 abbrev pub length_in : Given → Result ℕ Refusal
 length_in (givens.Length length) = Ok length

@@ -100,6 +100,10 @@ other_refusals_end_it : run next (write_call 16 f (Some 1) 0 (97 ∷ [])) (repli
     ≡ (Err (refusals.Damaged 0), ([], requests.Call (calls.FindForWriting f 0 None) ∷ write 1 3 0 (97 ∷ []) ∷ []))
 other_refusals_end_it = refl
 
+a_write_is_not_answered_as_padded : run next (write_call 16 f (Some 1) 0 (97 ∷ [])) (replied (at 1 3 ∷ replies.Outcome outcomes.Padded ∷ []))
+    ≡ (Err refusals.Stray, ([], requests.Call (calls.FindForWriting f 0 None) ∷ write 1 3 0 (97 ∷ []) ∷ []))
+a_write_is_not_answered_as_padded = refl
+
 an_edit_that_nobody_answers : run next (write_call 16 f (Some 1) 0 (97 ∷ [])) (replied (at 1 3 ∷ [])) ≡ (Err refusals.Unsure, ([], requests.Call (calls.FindForWriting f 0 None) ∷ write 1 3 0 (97 ∷ []) ∷ []))
 an_edit_that_nobody_answers = refl
 
@@ -134,6 +138,10 @@ a_file_is_read_to_its_end = refl
 zeros_stand_behind : run next (read_call 16 f (Some 2) None 12 4) (replied (at 1 3 ∷ replies.Given (givens.Bytes (97 ∷ [])) ∷ []))
     ≡ (Ok (97 ∷ 0 ∷ 0 ∷ 0 ∷ [], Some (located 0 1 3)), ([], requests.Call (calls.FindForReading f 0) ∷ requests.Fetch 0 1 (stamp 3) 0 (asks.Bytes 12 4) ∷ []))
 zeros_stand_behind = refl
+
+no_more_than_was_asked : run next (read_call 16 f (Some 2) None 12 1) (replied (at 1 3 ∷ replies.Given (givens.Bytes (97 ∷ 98 ∷ [])) ∷ []))
+    ≡ (Err refusals.Stray, ([], requests.Call (calls.FindForReading f 0) ∷ requests.Fetch 0 1 (stamp 3) 0 (asks.Bytes 12 1) ∷ []))
+no_more_than_was_asked = refl
 
 behind_the_end : run next (read_call 16 f (Some 0) None 1 1) (replied []) ≡ (Err refusals.Range, ([], []))
 behind_the_end = refl

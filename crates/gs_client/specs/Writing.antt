@@ -43,6 +43,14 @@ abbrev pub part_call : Path → ℕ → Op → List ℕ → Call Outcome
 part_call path index op bytes =
     both (writing_call path index None) (λ l. upon (edit_call l op bytes) (otherwise (again_call path index l.view.stamp op bytes)))
 
+-- a write is answered as written; another outcome is nobody's answer
+abbrev pub written : Outcome → Result (Unit {0}) Refusal
+written outcomes.Written = Ok tt
+written outcome = Err refusals.Stray
+
+abbrev pub write_part_call : Path → ℕ → Op → List ℕ → Call (Unit {0})
+write_part_call path index op bytes = both (part_call path index op bytes) (λ outcome. Say (written outcome))
+
 abbrev pub extend_call : Path → ℕ → Call Located
 extend_call path index = Grow (change (calls.Extend path index) (located_in index))
 
@@ -67,7 +75,7 @@ part_op size offset bytes i = ops.Write (part_start size offset i) (length (part
 abbrev pub parts_call : ℕ → Path → ℕ → List ℕ → ℕ → ℕ → Call (Unit {0})
 parts_call size path offset bytes i zero = Say (Ok tt)
 parts_call size path offset bytes i (suc count) =
-    both (part_call path (offset / size + i) (part_op size offset bytes i) (part_bytes size offset bytes i)) (λ outcome.
+    both (write_part_call path (offset / size + i) (part_op size offset bytes i) (part_bytes size offset bytes i)) (λ done.
     parts_call size path offset bytes (i + 1) count)
 
 -- how many chunks a file has that ends where a write ends

@@ -178,8 +178,9 @@ impl Client {
     ) -> Result<(Bytes, Located), Refusal>
         ensures { Follows (Sends L.Carries) (stored_call wanted.entry.path.now known wanted.entry.index wanted.entry.asked) (self.old, link.old) result (self.new, link.new) }
     {
+        let asked = wanted.asked;
         let (given, located) = self.fetch(alloc, link, wanted, known)?;
-        let bytes = replies::bytes_in(given)?;
+        let bytes = replies::bytes_in(asked, given)?;
         Ok((bytes, located))
     }
 

@@ -7,7 +7,7 @@ use crate::link::Reply;
 use crate::located::Located;
 use gs_base::Refusal;
 use gs_block::Digest;
-use gs_msg::{Answer, Bytes, ChunkStatus, Copied, Given, Items, Names, Phase, Status};
+use gs_msg::{Answer, Asked, Bytes, ChunkStatus, Copied, Given, Items, Names, Phase, Status};
 use gs_path::Path;
 use gs_replica::Outcome;
 
@@ -186,13 +186,23 @@ pub(crate) fn given(last: Refusal, reply: Reply) -> Result<Given, Refusal>
     }
 }
 
-pub(crate) fn bytes_in(given: Given) -> Result<Bytes, Refusal>
-    ensures { result ≡ says.bytes_in given }
+/// The bytes that were asked for, and no more of them.
+pub(crate) fn bytes_in(asked: Asked, given: Given) -> Result<Bytes, Refusal>
+    ensures { result ≡ says.bytes_in asked given }
 {
-    match given {
-        Given::Bytes(bytes) => Ok(bytes),
+    match (asked, given) {
+        (Asked::Bytes { length, .. }, Given::Bytes(bytes)) => as_many(length, bytes),
         _ => Err(Refusal::Stray),
     }
+}
+
+fn as_many(length: u64, bytes: Bytes) -> Result<Bytes, Refusal>
+    ensures { result ≡ says.as_many length bytes }
+{
+    if bytes.as_slice().len() as u64 > length {
+        return Err(Refusal::Stray);
+    }
+    Ok(bytes)
 }
 
 pub(crate) fn length_in(given: Given) -> Result<u64, Refusal>

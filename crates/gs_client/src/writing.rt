@@ -201,6 +201,20 @@ impl Client {
         }
     }
 
+    /// The same for a part of a write.
+    fn write_part<L: Link>(
+        &mut self,
+        alloc: Global,
+        link: &mut L,
+        edits: &mut u64,
+        edit: &Edit<'_>,
+    ) -> Result<(), Refusal>
+        ensures { Follows (Edits L.Carries) (calls.write_part_call edit.now.path.now edit.now.index edit.now.op edit.now.bytes.now) (self.old, edits.old, link.old) result (self.new, edits.new, link.new) }
+    {
+        let outcome = self.part(alloc, link, edits, edit)?;
+        written(outcome)
+    }
+
     /// Adds a chunk to a file.
     fn extend<L: Link>(
         &mut self,
@@ -261,7 +275,7 @@ impl Client {
                 },
                 bytes,
             };
-            self.part(alloc, link, edits, &part)?;
+            self.write_part(alloc, link, edits, &part)?;
         }
         Ok(())
     }
@@ -341,5 +355,15 @@ impl Client {
         self.extends(alloc, link, appended.path, 0, missing)?;
         let last = chunks.saturating_sub(1);
         self.append_from(alloc, link, edits, appended, last)
+    }
+}
+
+/// Whether a part was written.
+fn written(outcome: Outcome) -> Result<(), Refusal>
+    ensures { result ≡ calls.written outcome }
+{
+    match outcome {
+        Outcome::Written => Ok(()),
+        _ => Err(Refusal::Stray),
     }
 }

@@ -1,8 +1,8 @@
-use Rattle.std.proofs.Common.{◌≡◌, ◌/◌, ◌%◌, ◌<◌, [], rules, Err}
+use Rattle.std.proofs.Common.{◌≡◌, ◌∙◌, ◌+◌, ◌-◌, ◌/◌, ◌%◌, ◌<◌, ℕ, [], rules, Err, ap}
 use Rattle.gs_base.specs.declared.refusal.Refusal.TheVariants.{Memory}
 use Rattle.gs_client.specs.Sends.{Sends}
-use Rattle.gs_client.specs.Reading.{span}
-use Rattle.gs_client.proofs.Pieces.{pieces_begin, piece_refused, piece_unheld, piece_added}
+use Rattle.gs_client.specs.Reading.{span, piece_end}
+use Rattle.gs_client.proofs.Pieces.{pieces_begin, piece_refused, piece_unheld, piece_added, stored_named}
 use Rattle.gs_client.proofs.client.Client.pieces.Goals as goal
 
 pub loop-i-init : goal.loop-i-init
@@ -16,7 +16,9 @@ returns-in_err-bytes g c =
     let more : c.loop-i.i < span c.args.file.now.size c.args.offset c.args.end = rw c.span-count.ensures at c.loop-i-test.true in
     rw e (piece_refused (Sends g.L.Link.Carries) c.args.file.now.size c.args.file.now.path.now c.args.file.now.chunks c.args.end _ _ _ _
     c.loop-i.known (c.args.offset / c.args.file.now.size) c.loop-i.start c.loop-i.i (span c.args.file.now.size c.args.offset c.args.end) c.loop-i.read.items more c.loop-i.invariant _
-    (rw (c.saturating_sub-many.ensures, c.piece_end.ensures.is) at c.in_err-bytes.ensures))
+    (stored_named (Sends g.L.Link.Carries) c.args.file.now.path.now c.loop-i.known (c.args.offset / c.args.file.now.size + c.loop-i.i) c.loop-i.start c.saturating_sub-many.result
+    (piece_end c.args.file.now.size c.args.end (c.args.offset / c.args.file.now.size + c.loop-i.i) - c.loop-i.start) _ _ _
+    (c.saturating_sub-many.ensures ∙ ap (λ (n : ℕ). n - c.loop-i.start) c.piece_end.ensures.is) c.in_err-bytes.ensures))
 
 pub returns-in_err-add_piece : goal.returns-in_err-add_piece
 returns-in_err-add_piece g c =
@@ -24,12 +26,16 @@ returns-in_err-add_piece g c =
     let more : c.loop-i.i < span c.args.file.now.size c.args.offset c.args.end = rw c.span-count.ensures at c.loop-i-test.true in
     rw e (piece_unheld (Sends g.L.Link.Carries) c.args.file.now.size c.args.file.now.path.now c.args.file.now.chunks c.args.end _ _ _ _
     c.loop-i.known (c.args.offset / c.args.file.now.size) c.loop-i.start c.loop-i.i (span c.args.file.now.size c.args.offset c.args.end) c.loop-i.read.items more c.loop-i.invariant _ _
-    (rw (c.saturating_sub-many.ensures, c.piece_end.ensures.is) at c.in_ok-bytes.ensures))
+    (stored_named (Sends g.L.Link.Carries) c.args.file.now.path.now c.loop-i.known (c.args.offset / c.args.file.now.size + c.loop-i.i) c.loop-i.start c.saturating_sub-many.result
+    (piece_end c.args.file.now.size c.args.end (c.args.offset / c.args.file.now.size + c.loop-i.i) - c.loop-i.start) _ _ _
+    (c.saturating_sub-many.ensures ∙ ap (λ (n : ℕ). n - c.loop-i.start) c.piece_end.ensures.is) c.in_ok-bytes.ensures))
 
 pub loop-i-preserved : goal.loop-i-preserved
 loop-i-preserved g c =
     let more : c.loop-i.i < span c.args.file.now.size c.args.offset c.args.end = rw c.span-count.ensures at c.loop-i-test.true in
     piece_added (Sends g.L.Link.Carries) c.args.file.now.size c.args.file.now.path.now c.args.file.now.chunks c.args.end _ _ _ _
     c.loop-i.known (c.args.offset / c.args.file.now.size) c.loop-i.start c.loop-i.i (span c.args.file.now.size c.args.offset c.args.end) c.loop-i.read.items more c.loop-i.invariant _ _ _
-    (rw (c.saturating_sub-many.ensures, c.piece_end.ensures.is) at c.in_ok-bytes.ensures)
+    (stored_named (Sends g.L.Link.Carries) c.args.file.now.path.now c.loop-i.known (c.args.offset / c.args.file.now.size + c.loop-i.i) c.loop-i.start c.saturating_sub-many.result
+    (piece_end c.args.file.now.size c.args.end (c.args.offset / c.args.file.now.size + c.loop-i.i) - c.loop-i.start) _ _ _
+    (c.saturating_sub-many.ensures ∙ ap (λ (n : ℕ). n - c.loop-i.start) c.piece_end.ensures.is) c.in_ok-bytes.ensures)
     (rw (c.saturating_sub-many.ensures, c.piece_end.ensures.is, c.as_slice.ensures) at c.in_ok-add_piece.ensures)

@@ -16,9 +16,9 @@ pub returns-in_err-bytes : goal.returns-in_err-bytes
 returns-in_err-bytes g c =
     let e : c.from_residual-in_err-bytes.result ≡ Err c.in_err-bytes.field-0.0 = search rules in
     rw e (follows_both (Sends g.L.Link.Carries) (fetch_call c.args.wanted.path.now c.args.known c.args.wanted.index c.args.wanted.asked) _ _ _ _ _ _ c.in_ok-given.ensures
-    (says_err (Sends g.L.Link.Carries) (bytes_in c.in_ok-given.given) (λ bytes. Say (Ok (bytes, c.in_ok-given.located))) _ _ c.in_err-bytes.ensures))
+    (says_err (Sends g.L.Link.Carries) (bytes_in c.args.wanted.asked c.in_ok-given.given) (λ bytes. Say (Ok (bytes, c.in_ok-given.located))) _ _ c.in_err-bytes.ensures))
 
 pub returns : goal.returns
 returns g c =
     follows_both (Sends g.L.Link.Carries) (fetch_call c.args.wanted.path.now c.args.known c.args.wanted.index c.args.wanted.asked) _ _ _ _ _ _ c.in_ok-given.ensures
-    (says_ok (Sends g.L.Link.Carries) (bytes_in c.in_ok-given.given) (λ bytes. Say (Ok (bytes, c.in_ok-given.located))) _ _ _ _ c.in_ok-bytes.ensures (refl, refl))
+    (says_ok (Sends g.L.Link.Carries) (bytes_in c.args.wanted.asked c.in_ok-given.given) (λ bytes. Say (Ok (bytes, c.in_ok-given.located))) _ _ _ _ c.in_ok-bytes.ensures (refl, refl))
