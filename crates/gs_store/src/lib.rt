@@ -1,18 +1,18 @@
 //! What a server keeps of its chunks: replicas, promises, and what was sealed.
 #![tactic(auto)]
 
+mod buffer;
+mod copies;
 pub mod copy_promises;
 pub mod edit_promises;
+mod epochs;
+mod handles;
 mod learn;
 mod moves;
 pub mod promises;
-pub mod seal_promises;
-mod buffer;
-mod copies;
-mod epochs;
-mod handles;
 mod pushes;
 mod report;
+pub mod seal_promises;
 mod serve;
 mod slot;
 mod store;
