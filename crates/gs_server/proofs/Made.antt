@@ -11,7 +11,8 @@ use Rattle.gs_base.specs.declared.numbers.Stamp.{Stamp}
 use Rattle.gs_base.specs.declared.numbers.ReqId.{ReqId}
 use Rattle.gs_base.specs.declared.refusal.Refusal.{Refusal}
 use Rattle.gs_base.specs.declared.refusal.Refusal.TheVariants as refusals
-use Rattle.gs_block.specs.Follows.{Follows, Does, Judges, Makes, Answers}
+use Rattle.gs_block.specs.Follows.{Follows, FollowsOf, Does, Judges, Makes, Answers}
+use Rattle.gs_block.specs.declared.refused.Refused.{Refused}
 use Rattle.gs_store.specs.Slots.{Slot, first_of, when, count_of}
 use Rattle.gs_store.specs.Stores.{Store, Performs, slot_of, with_slot, put_slot}
 use Rattle.gs_server.specs.declared.turn.Turn.{Turn}
@@ -44,6 +45,14 @@ of_performs (Ok a) (Ok b) old new d = d
 of_performs (Err e) (Ok b) old new d = d
 of_performs (Ok a) (Err f) old new d = d
 of_performs (Err e) (Err f) old new d = (inl d.0, d.1)
+
+pub of_handed_ok : {A B G : Type 0} (given : G) (m : Result A Refusal) (b : B) (old new : A) → FollowsOf {B = B} given m (Ok b) old new → Follows {B = B} m (Ok b) old new
+of_handed_ok given (Ok a) b old new d = d
+of_handed_ok given (Err e) b old new d = d
+
+pub of_handed_back : {A G : Type 0} (given : G) (m : Result A Refusal) (f : Refused G) (old new : A) → FollowsOf {B = Unit {0}} given m (Err f) old new → Follows {B = Unit {0}} m (Err f.refusal) old new
+of_handed_back given (Ok a) f old new d = (d.0, d.2)
+of_handed_back given (Err e) f old new d = (inl d.0, d.2)
 
 -- the check of an epoch, as definitions and code make it
 pub right_epoch : (test : Bool) (e : Refusal) (f : Refusal → Part) (part : Part) → Judges {B = Unit {0}} (cond test None (Some e)) (Ok tt) → or_else (when (not test) e) f part ≡ part

@@ -1,10 +1,12 @@
 ghost use Rattle.std.specs.Prelude.{None};
 ghost use Rattle.gs_server.specs.Servers.{Steps, step_of, here_of, place_of};
-ghost use Rattle.gs_server.specs.Promises.{copy_out};
+ghost use Rattle.gs_server.specs.Promises.{copy_out, copy_in};
 
+use crate::sending::Sending;
 use crate::server::Server;
 use crate::turn::Turn;
 use gs_base::{Handle, Moment, Refusal, ServerId, Stamp};
+use gs_block::Refused;
 use gs_msg::{Chunk, NodeId};
 use gs_store::CopyImages;
 
@@ -36,6 +38,26 @@ impl Server {
                 Ok(Turn { sent, said: None })
             }
             Err(refusal) => self.unpromise(handle, stamp, refusal, moment),
+        }
+    }
+
+    /// Makes live what a copy carries. Refused, it is gone.
+    pub(crate) fn copy_in(
+        &mut self,
+        handle: Handle,
+        stamp: Stamp,
+        given: CopyImages,
+        moment: Moment,
+    ) -> Result<Turn, Refusal>
+        ensures { Steps (step_of handle None (copy_in (here_of self.old moment handle None) (place_of handle self.old) stamp given.image given.sealed) self.old) result self.old self.new }
+    {
+        if let Err(refusal) = self.store.check_epoch(stamp.epoch) {
+            return self.unpromise(handle, stamp, refusal, moment);
+        }
+        let sent = Sending::with_room(self.alloc, 1)?;
+        match self.store.copy_in(handle, stamp, given) {
+            Ok(()) => Ok(self.promise(handle, stamp, sent)),
+            Err(Refused { refusal, .. }) => self.unpromise(handle, stamp, refusal, moment),
         }
     }
 }
