@@ -1,4 +1,6 @@
 mod Lists
 mod Opening
+mod Applied
+mod Forwarded
 mod Made
 mod Keeping

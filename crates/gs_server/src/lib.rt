@@ -1,9 +1,11 @@
 //! A chunkserver: what it keeps of its chunks, and what it answers to each message.
 #![tactic(auto)]
 
+mod applying;
 mod copying;
 mod events;
 mod fetching;
+mod forwarding;
 mod holding;
 mod lease;
 mod leases;

@@ -3,6 +3,7 @@ use Rattle.std.specs.Prelude.{ℕ, List, [], ◌∷◌, Option, Some, None}
 use Rattle.std.specs.FinMap as fin
 use Rattle.gs_base.specs.declared.numbers.Stamp.{Stamp}
 use Rattle.gs_base.specs.declared.refusal.Refusal.{Refusal}
+use Rattle.gs_msg.specs.declared.node.NodeId.{NodeId}
 use Rattle.gs_msg.specs.declared.node.NodeId.TheVariants as nodes
 use Rattle.gs_msg.specs.declared.message.Message.{Message}
 use Rattle.gs_msg.specs.declared.body.Body.TheVariants as bodies
@@ -36,3 +37,7 @@ promised_by handle stamp s = record {
 -- no copy is made under a new handle
 abbrev pub not_copied_by : ℕ → ℕ → Stamp → Refusal → Server → Step
 not_copied_by handle new_handle stamp refusal s = refused_by handle (tell s.me nodes.Master (bodies.About new_handle (chunks.Unpromised stamp refusal))) refusal s
+
+-- an edit isn't taken
+abbrev pub declined_by : ℕ → NodeId → Stamp → Refusal → Server → Step
+declined_by handle from stamp refusal s = refused_by handle (tell s.me from (bodies.About handle (chunks.Nack stamp refusal))) refusal s

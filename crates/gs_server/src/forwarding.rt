@@ -1,0 +1,108 @@
+ghost use Rattle.std.specs.Prelude.{◌≡◌, Some, Err};
+ghost use Rattle.gs_base.specs.declared.refusal.Refusal.TheVariants.{Memory};
+ghost use Rattle.gs_msg.specs.declared.body.Body.TheVariants.{About};
+ghost use Rattle.gs_msg.specs.declared.chunk.Chunk.TheVariants.{Ack};
+ghost use Rattle.gs_store.specs.Buffers.{pushed};
+ghost use Rattle.gs_store.specs.Slots.{count_of};
+ghost use Rattle.gs_store.specs.Stores.{slot_of};
+ghost use Rattle.gs_server.specs.Leases.{tell};
+ghost use Rattle.gs_server.specs.Places.{count_or_none};
+ghost use Rattle.gs_server.specs.Edits.{bytes_of, forward};
+ghost use Rattle.gs_server.specs.Servers.{Steps, step_of, here_of, place_of, store_of};
+ghost use Rattle.gs_server.specs.inner.Answering.{declined_by};
+ghost use Rattle.gs_server.specs.inner.Applying.{applied_with, taken_by};
+
+use crate::applying::{Numbered, apply};
+use crate::sending::Sending;
+use crate::server::Server;
+use crate::turn::Turn;
+use gs_base::{Handle, Moment, Refusal, Stamp};
+use gs_msg::{Bytes, Chunk, Message, NodeId};
+
+impl Server {
+    /// How many edits the live replica has applied, and 0 where none is live.
+    fn count(&self, handle: Handle) -> u64
+        ensures { result ≡ count_or_none (count_of (slot_of handle (store_of self.now)).live) }
+    {
+        self.store.count(handle).unwrap_or(0)
+    }
+
+    fn acknowledgement(&self, handle: Handle, to: NodeId, stamp: Stamp, count: u64) -> Message
+        ensures { result ≡ tell self.now.me to (About handle (Ack stamp count)) }
+    {
+        self.about(handle, to, Chunk::Ack { stamp, count })
+    }
+
+    /// Says that an edit isn't taken. Want of memory is handed on.
+    fn decline(
+        &mut self,
+        handle: Handle,
+        from: NodeId,
+        stamp: Stamp,
+        refusal: Refusal,
+    ) -> Result<Turn, Refusal>
+        ensures step { Steps (declined_by handle from stamp refusal self.old) result self.old self.new }
+        ensures lacking { refusal ≡ Memory → result ≡ Err Memory }
+        ensures unchanged { refusal ≡ Memory → self.new ≡ self.old }
+    {
+        if let Refusal::Memory = refusal {
+            return Err(Refusal::Memory);
+        }
+        let told = refusal.copy(self.alloc)?;
+        let declined = Chunk::Nack {
+            stamp,
+            refusal: told,
+        };
+        let answer = self.about(handle, from, declined);
+        self.refuse(handle, answer, refusal)
+    }
+
+    /// Applies the next edit of the live replica.
+    fn take_next(
+        &mut self,
+        handle: Handle,
+        from: NodeId,
+        edit: Numbered,
+        carried: Option<Bytes>,
+    ) -> Result<Turn, Refusal>
+        ensures { Steps (taken_by handle from edit.stamp edit.number (applied_with handle edit.stamp edit.number edit.req edit.op (store_of self.old) (bytes_of edit.op carried (pushed edit.req self.old.dropped.buffer))) self.old) result self.old self.new }
+    {
+        let mut sent = Sending::with_room(self.alloc, 1)?;
+        match apply(&mut self.store, handle, edit, carried) {
+            Ok(()) => {
+                sent.put(self.acknowledgement(handle, from, edit.stamp, edit.number));
+                Ok(Turn {
+                    sent: sent.into_messages(),
+                    said: None,
+                })
+            }
+            Err(refusal) => self.decline(handle, from, edit.stamp, refusal),
+        }
+    }
+
+    /// Applies an edit that the primary has numbered, and tells the primary what the live replica has, or why it has it not.
+    pub(crate) fn forward(
+        &mut self,
+        handle: Handle,
+        from: NodeId,
+        edit: Numbered,
+        carried: Option<Bytes>,
+        moment: Moment,
+    ) -> Result<Turn, Refusal>
+        ensures { Steps (step_of handle (Some edit.req) (forward (here_of self.old moment handle (Some edit.req)) (place_of handle self.old) from edit.stamp edit.number edit.req edit.op carried) self.old) result self.old self.new }
+    {
+        if let Err(refusal) = self.store.check_grant(handle, edit.stamp) {
+            return self.decline(handle, from, edit.stamp, refusal);
+        }
+        let count = self.count(handle);
+        if edit.number <= count {
+            let mut sent = Vec::new(self.alloc);
+            sent.push(self.acknowledgement(handle, from, edit.stamp, count))?;
+            return Ok(Turn { sent, said: None });
+        }
+        if count + 1 < edit.number {
+            return self.decline(handle, from, edit.stamp, Refusal::Gap(count));
+        }
+        self.take_next(handle, from, edit, carried)
+    }
+}
