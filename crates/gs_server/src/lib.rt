@@ -3,6 +3,7 @@
 
 mod applying;
 mod copying;
+mod editing;
 mod events;
 mod fetching;
 mod forwarding;

@@ -1,6 +1,6 @@
 ghost use Rattle.std.specs.Prelude.{◌≡◌, ◌≤◌, [], None, IfOk};
-ghost use Rattle.gs_server.specs.Places.{damaged_block};
-ghost use Rattle.gs_server.specs.Servers.{new, Steps};
+ghost use Rattle.gs_server.specs.Places.{damaged_block, marked_by};
+ghost use Rattle.gs_server.specs.Servers.{new, Steps, store_of, with_store, change_slot};
 ghost use Rattle.gs_server.specs.Leases.{tell};
 ghost use Rattle.gs_server.specs.inner.Answering.{refused_by, promised_by};
 ghost use Rattle.gs_msg.specs.declared.body.Body.TheVariants.{About};
@@ -70,17 +70,39 @@ impl Server {
     ) -> Result<Turn, Refusal>
         ensures { Steps (refused_by handle answer refusal self.old) result self.old self.new }
     {
-        let mut sent = Vec::with_capacity(self.alloc, 2)?;
-        sent.push(answer)?;
-        if let Some(block) = damaged_block(&refusal) {
-            let promise = self.store.promised(handle);
-            sent.push(self.about(handle, NodeId::Master, Chunk::Bad(promise)))?;
-            self.store.mark_bad(handle, block);
-        }
+        let sent = self.refusal_told(handle, answer, &refusal)?;
+        self.mark_by(handle, &refusal);
         Ok(Turn {
             sent,
             said: Some(refusal),
         })
+    }
+
+    /// An answer by which a message is refused, and behind it what the master is told of a block without its digest.
+    pub(crate) fn refusal_told(
+        &self,
+        handle: Handle,
+        answer: Message,
+        refusal: &Refusal,
+    ) -> Result<Vec<Message>, AllocError>
+        ensures { IfOk result (λ sent. sent.items ≡ (refused_by handle answer refusal.now self.now).sent) }
+    {
+        let mut sent = Vec::with_capacity(self.alloc, 2)?;
+        sent.push(answer)?;
+        if damaged_block(refusal).is_some() {
+            let promise = self.store.promised(handle);
+            sent.push(self.about(handle, NodeId::Master, Chunk::Bad(promise)))?;
+        }
+        Ok(sent)
+    }
+
+    /// Marks the replica of the handle where the refusal is for a block without its digest. It takes no memory.
+    pub(crate) fn mark_by(&mut self, handle: Handle, refusal: &Refusal)
+        ensures { self.new ≡ with_store (change_slot handle (marked_by (damaged_block refusal.now)) (store_of self.old)) self.old }
+    {
+        if let Some(block) = damaged_block(refusal) {
+            self.store.mark_bad(handle, block);
+        }
     }
 
     /// The lease of a handle is spent where its stamp isn't the promise any more. It takes no memory.

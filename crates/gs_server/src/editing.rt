@@ -1,0 +1,90 @@
+ghost use Rattle.std.specs.Prelude.{◌≡◌, Err};
+ghost use Rattle.std.specs.FinMap as fin;
+ghost use Rattle.gs_base.specs.declared.refusal.Refusal.TheVariants.{Memory};
+ghost use Rattle.gs_msg.specs.declared.body.Body.TheVariants.{Done};
+ghost use Rattle.gs_msg.specs.declared.node.NodeId.TheVariants.{Client};
+ghost use Rattle.gs_store.specs.Stores.{slot_of};
+ghost use Rattle.gs_server.specs.Leases.{tell};
+ghost use Rattle.gs_server.specs.Edits.{is_known_of_all};
+ghost use Rattle.gs_server.specs.Servers.{Steps, store_of};
+ghost use Rattle.gs_server.specs.inner.Answering.{refused_once_by, kept_by, repeated_by};
+
+use crate::lease::tell;
+use crate::server::Server;
+use crate::turn::{KeptRefusal, Turn};
+use gs_base::{Handle, Refusal, ReqId};
+use gs_msg::{Body, Message, NodeId};
+use gs_replica::Outcome;
+
+impl Server {
+    fn answer_edit(&self, req: ReqId, found: Result<Outcome, Refusal>) -> Message
+        ensures { result ≡ tell self.now.me (Client req.client) (Done req found) }
+    {
+        tell(
+            self.id,
+            NodeId::Client(req.client),
+            Body::Done { req, result: found },
+        )
+    }
+
+    /// Refuses an edit. That isn't kept.
+    fn refuse_once(&self, req: ReqId, refusal: &Refusal) -> Result<Turn, Refusal>
+        ensures { Steps (refused_once_by req refusal.now self.now) result self.now self.now }
+    {
+        let told = refusal.copy(self.alloc)?;
+        let said = refusal.copy(self.alloc)?;
+        let mut sent = Vec::new(self.alloc);
+        sent.push(self.answer_edit(req, Err(told)))?;
+        Ok(Turn {
+            sent,
+            said: Some(said),
+        })
+    }
+
+    /// Refuses an edit, and keeps that for its client. Want of memory is handed on.
+    fn refuse_edit(&mut self, handle: Handle, req: ReqId, refusal: Refusal) -> Result<Turn, Refusal>
+        ensures step { Steps (kept_by handle req refusal self.old) result self.old self.new }
+        ensures lacking { refusal ≡ Memory → result ≡ Err Memory }
+        ensures unchanged { refusal ≡ Memory → self.new ≡ self.old }
+    {
+        if let Refusal::Memory = refusal {
+            return Err(Refusal::Memory);
+        }
+        let told = refusal.copy(self.alloc)?;
+        let kept = KeptRefusal {
+            number: req.number,
+            refusal: refusal.copy(self.alloc)?,
+        };
+        let answer = self.answer_edit(req, Err(told));
+        let sent = self.refusal_told(handle, answer, &refusal)?;
+        self.refused.reserve(req.client)?;
+        self.refused.put(req.client, kept);
+        self.mark_by(handle, &refusal);
+        Ok(Turn {
+            sent,
+            said: Some(refusal),
+        })
+    }
+
+    /// Whether a lease of the promise is held under which the edit of a request doesn't wait.
+    fn is_known_of_all(&self, handle: Handle, req: ReqId) -> bool
+        ensures { result ≡ is_known_of_all req (slot_of handle (store_of self.now)) (fin.get self.now.dropped.leases handle) }
+    {
+        match self.leases.get(handle) {
+            Some(lease) => lease.stamp() == self.store.promised(handle) && !lease.waits(req),
+            None => false,
+        }
+    }
+
+    /// Answers a client's last edit again, once every member has it.
+    fn repeat(&self, handle: Handle, req: ReqId, outcome: Outcome) -> Result<Turn, Refusal>
+        ensures { Steps (repeated_by req outcome (is_known_of_all req (slot_of handle (store_of self.now)) (fin.get self.now.dropped.leases handle)) self.now) result self.now self.now }
+    {
+        if !self.is_known_of_all(handle, req) {
+            return Ok(Turn::silent(self.alloc));
+        }
+        let mut sent = Vec::new(self.alloc);
+        sent.push(self.answer_edit(req, Ok(outcome)))?;
+        Ok(Turn { sent, said: None })
+    }
+}
