@@ -5,7 +5,7 @@ use Rattle.std.specs.FinMap as fin
 use Rattle.std.specs.Ordering.{nat_cmp}
 use Rattle.std.proofs.lemmas.Bool.{false≢true}
 use Rattle.std.proofs.lemmas.Bool.Decides.{nat_tests}
-use Rattle.gs_record.specs.declared.checkpoint.EpochEnd.TheVariants as ends
+use Rattle.gs_base.specs.declared.epoch.EpochEnd.TheVariants as ends
 use Rattle.gs_record.specs.declared.checkpoint.Phase.TheVariants.{Upgrade}
 use Rattle.gs_lease.specs.declared.view.View.{View}
 use Rattle.gs_master.specs.Applied.{applied, if_fits, is_next_epoch, are_at_rest, with_epoch, without_prepared}

@@ -8,7 +8,7 @@ use Rattle.gs_base.specs.declared.numbers.ReqId.{ReqId}
 use Rattle.gs_base.specs.declared.refusal.Refusal.{Refusal}
 use Rattle.gs_edit.specs.View.{NamesView}
 use Rattle.gs_record.specs.Plain.{PlainEdit, PlainEntry, Edited, Said, Propose, Settle, Prepare, Finalize, RollbackBegin, RollbackCommit, Whole, Holder}
-use Rattle.gs_record.specs.declared.checkpoint.EpochEnd.TheVariants as ends
+use Rattle.gs_base.specs.declared.epoch.EpochEnd.TheVariants as ends
 use Rattle.gs_record.specs.declared.checkpoint.Phase.TheVariants.{Ordinary, Upgrade, Rolling}
 use Rattle.gs_record.specs.declared.entry.Answered.{Answered}
 use Rattle.gs_master.specs.Applied.{applied, is_fresh, raised, may_edit, with_edit, after_edit, without_chunks, forgotten_by, number_of_edit, chunk_of_edit, view_for, is_fresh_if, after_if, may_propose, proposed, may_be_settled, with_view, is_next_epoch, are_at_rest, with_epoch, without_prepared, after_undoing, are_answers, rolled_back, held_by}

@@ -10,7 +10,7 @@ use Rattle.gs_base.specs.declared.refusal.Refusal.{Refusal}
 use Rattle.gs_base.specs.declared.refusal.Refusal.TheVariants as refusals
 use Rattle.gs_msg.specs.declared.call.Call.TheVariants as calls
 use Rattle.gs_record.specs.Plain.{Said, Prepare}
-use Rattle.gs_record.specs.declared.checkpoint.EpochEnd.TheVariants as ends
+use Rattle.gs_base.specs.declared.epoch.EpochEnd.TheVariants as ends
 use Rattle.gs_master.specs.Calls.{refused_before}
 use Rattle.gs_master.specs.Handling.{called_unless}
 use Rattle.gs_master.specs.Promises.{AddsOne, is_refusal, PreparesByOneRecord}

@@ -25,7 +25,7 @@ use Rattle.gs_msg.specs.declared.answer.Answer.TheVariants as answers
 use Rattle.gs_msg.specs.declared.call.Call.{Call}
 use Rattle.gs_msg.specs.declared.call.Call.TheVariants as calls
 use Rattle.gs_place.specs.Needs.{most_needed_of}
-use Rattle.gs_record.specs.declared.checkpoint.EpochEnd.TheVariants as ends
+use Rattle.gs_base.specs.declared.epoch.EpochEnd.TheVariants as ends
 use Rattle.gs_master.specs.declared.change.Change.TheVariants as changes
 use Rattle.gs_record.specs.Plain.{Prepare, Finalize, RollbackBegin, RollbackCommit, PlainEdit, Said, Mkdirs, Create, Rename, Hide, Unhide, Snapshot}
 use Rattle.gs_master.specs.Applied.{applied}

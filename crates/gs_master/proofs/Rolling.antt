@@ -25,7 +25,7 @@ use Rattle.gs_msg.specs.declared.node.NodeId.{NodeId}
 use Rattle.gs_msg.specs.declared.node.NodeId.TheVariants as nodes
 use Rattle.gs_master.specs.Volatile.{is_pending}
 use Rattle.gs_record.specs.Plain.{RollbackCommit, PlainEdit, PlainEntry, Edited, Said, Settle, Holder, Cow, AddChunk, Snapshot}
-use Rattle.gs_record.specs.declared.checkpoint.EpochEnd.{EpochEnd}
+use Rattle.gs_base.specs.declared.epoch.EpochEnd.{EpochEnd}
 use Rattle.gs_record.specs.declared.entry.SettledView.{SettledView}
 use Rattle.gs_master.specs.Applied.{applied, if_fits, after_edit, may_be_settled, with_view, held_by}
 use Rattle.gs_master.specs.Durable.{Durable, is_rolling, is_upgrade, prepared_view, with_prepared}

@@ -14,8 +14,8 @@ use Rattle.gs_edit.specs.View.{NamesView}
 use Rattle.gs_lease.specs.declared.view.View.{View}
 use Rattle.gs_msg.specs.declared.answer.Answer.{Answer}
 use Rattle.gs_record.specs.Plain.{PlainEdit, Hide, AddChunk, Cow, Forget, PlainInverse, PlainEntry, Edited, Said, Propose, Settle, Prepare, Finalize, RollbackBegin, RollbackCommit, Whole, Holder}
-use Rattle.gs_record.specs.declared.checkpoint.EpochEnd.{EpochEnd}
-use Rattle.gs_record.specs.declared.checkpoint.EpochEnd.TheVariants as ends
+use Rattle.gs_base.specs.declared.epoch.EpochEnd.{EpochEnd}
+use Rattle.gs_base.specs.declared.epoch.EpochEnd.TheVariants as ends
 use Rattle.gs_record.specs.declared.checkpoint.Phase.{Phase}
 use Rattle.gs_record.specs.declared.checkpoint.Phase.TheVariants.{Ordinary, Upgrade, Rolling}
 use Rattle.gs_record.specs.declared.entry.Answered.{Answered}

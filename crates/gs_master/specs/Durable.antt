@@ -7,7 +7,7 @@ use Rattle.gs_edit.specs.Names.{blank}
 use Rattle.gs_edit.specs.View.{NamesView}
 use Rattle.gs_lease.specs.declared.view.View.{View}
 use Rattle.gs_record.specs.Plain.{PlainInverse}
-use Rattle.gs_record.specs.declared.checkpoint.EpochEnd.{EpochEnd}
+use Rattle.gs_base.specs.declared.epoch.EpochEnd.{EpochEnd}
 use Rattle.gs_record.specs.declared.checkpoint.Phase.{Phase}
 use Rattle.gs_record.specs.declared.checkpoint.Phase.TheVariants.{Ordinary, Upgrade, Rolling}
 use Rattle.gs_master.specs.Replies.{client_cmp}

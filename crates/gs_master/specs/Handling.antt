@@ -27,7 +27,7 @@ use Rattle.gs_msg.specs.declared.node.NodeId.{NodeId}
 use Rattle.gs_msg.specs.declared.node.NodeId.TheVariants as nodes
 use Rattle.gs_record.specs.Encoding.{body}
 use Rattle.gs_record.specs.Plain.{PlainEntry, Mkdirs, Create, Rename, Unhide, Whole}
-use Rattle.gs_record.specs.declared.checkpoint.EpochEnd.TheVariants as ends
+use Rattle.gs_base.specs.declared.epoch.EpochEnd.TheVariants as ends
 use Rattle.gs_master.specs.Applied.{replayed}
 use Rattle.gs_master.specs.Calls.{refused_before, edited_by, deleted, listing, status, location, found_chunk, looked_up, queried}
 use Rattle.gs_master.specs.Chunks.{Chunk, chunk_at, is_leased, step_at_tick, view_of}

@@ -9,13 +9,12 @@ use Rattle.gs_lease.specs.Transitions.{end_of}
 use Rattle.gs_lease.specs.declared.view.Purpose.TheVariants as purposes
 use Rattle.gs_lease.specs.declared.view.View.{View}
 use Rattle.gs_msg.specs.declared.body.Body.TheVariants as bodies
-use Rattle.gs_msg.specs.declared.body.EpochEnd.TheVariants as told_ends
 use Rattle.gs_msg.specs.declared.body.Reported.{Reported}
 use Rattle.gs_msg.specs.declared.chunk.Chunk.TheVariants as chunks
 use Rattle.gs_msg.specs.declared.message.Message.{Message}
 use Rattle.gs_msg.specs.declared.node.NodeId.TheVariants as nodes
-use Rattle.gs_record.specs.declared.checkpoint.EpochEnd.{EpochEnd}
-use Rattle.gs_record.specs.declared.checkpoint.EpochEnd.TheVariants as ends
+use Rattle.gs_base.specs.declared.epoch.EpochEnd.{EpochEnd}
+use Rattle.gs_base.specs.declared.epoch.EpochEnd.TheVariants as ends
 use Rattle.gs_record.specs.declared.checkpoint.Phase.{Phase}
 use Rattle.gs_record.specs.declared.checkpoint.Phase.TheVariants.{Ordinary, Upgrade}
 use Rattle.gs_master.specs.Applied.{is_prepared_on}
@@ -24,7 +23,6 @@ use Rattle.gs_master.specs.Chunks.{Chunk, chunk_at, is_at_home, is_settled_on, i
 use Rattle.gs_master.specs.Durable.{Durable, is_upgrade, is_rolling, prepared_view}
 use Rattle.gs_master.specs.Settling.{settled_by, failed}
 use Rattle.gs_master.specs.State.{State, Plan, Turn, turned, unmoved, and_then, if_room, about, post}
-use Rattle.gs_master.specs.Upgrades.{told_end}
 use Rattle.gs_master.specs.declared.asking.Asking.{Asking}
 use Rattle.gs_master.specs.declared.asking.Step.{Step}
 use Rattle.gs_master.specs.declared.asking.Step.TheVariants as steps
@@ -111,7 +109,7 @@ renewed s server chunk stamp moment =
 
 abbrev pub end_told : ℕ → ℕ → Option EpochEnd → List Message
 end_told server epoch None = []
-end_told server epoch (Some end) = post (nodes.Server server) (bodies.Epoch (epoch + 1) (told_end end)) ∷ []
+end_told server epoch (Some end) = post (nodes.Server server) (bodies.Epoch (epoch + 1) end) ∷ []
 
 -- a server that is behind is told how its epoch ended
 abbrev pub next_epoch : Durable → ℕ → ℕ → List Message
@@ -175,7 +173,7 @@ damaged s server chunk =
 
 -- ---- examples
 
-how_the_first_epoch_ended : end_told 2 0 (slice_get (ends.Prepare ∷ []) 0) ≡ post (nodes.Server 2) (bodies.Epoch 1 told_ends.Prepare) ∷ []
+how_the_first_epoch_ended : end_told 2 0 (slice_get (ends.Prepare ∷ []) 0) ≡ post (nodes.Server 2) (bodies.Epoch 1 ends.Prepare) ∷ []
 how_the_first_epoch_ended = refl
 
 abbrev a_prepared_chunk : Prepared

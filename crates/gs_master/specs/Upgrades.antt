@@ -15,13 +15,11 @@ use Rattle.gs_lease.specs.declared.view.Purpose.TheVariants as purposes
 use Rattle.gs_lease.specs.declared.view.View.{View}
 use Rattle.gs_msg.specs.declared.answer.Answer.TheVariants as answers
 use Rattle.gs_msg.specs.declared.body.Body.TheVariants as bodies
-use Rattle.gs_msg.specs.declared.body.EpochEnd.{EpochEnd as Told_end}
-use Rattle.gs_msg.specs.declared.body.EpochEnd.TheVariants as told_ends
 use Rattle.gs_msg.specs.declared.message.Message.{Message}
 use Rattle.gs_msg.specs.declared.node.NodeId.TheVariants as nodes
 use Rattle.gs_record.specs.Plain.{PlainEntry, Prepare, Finalize, RollbackBegin, RollbackCommit}
-use Rattle.gs_record.specs.declared.checkpoint.EpochEnd.{EpochEnd}
-use Rattle.gs_record.specs.declared.checkpoint.EpochEnd.TheVariants as ends
+use Rattle.gs_base.specs.declared.epoch.EpochEnd.{EpochEnd}
+use Rattle.gs_base.specs.declared.epoch.EpochEnd.TheVariants as ends
 use Rattle.gs_record.specs.declared.checkpoint.Phase.{Phase}
 use Rattle.gs_record.specs.declared.checkpoint.Phase.TheVariants.{Ordinary, Upgrade}
 use Rattle.gs_record.specs.declared.entry.Answered.{Answered}
@@ -41,14 +39,9 @@ use Rattle.gs_master.specs.declared.pending.Pending.{Pending}
 
 -- ---- epochs
 
-abbrev pub told_end : EpochEnd → Told_end
-told_end ends.Prepare = told_ends.Prepare
-told_end ends.Finalize = told_ends.Finalize
-told_end ends.Rollback = told_ends.Rollback
-
 -- to every server: how the epoch before this one ended
 abbrev pub tell_all : Config → ℕ → EpochEnd → List Message
-tell_all config epoch end = to_each (count_from 0 config.servers) (λ server. post (nodes.Server server) (bodies.Epoch epoch (told_end end)))
+tell_all config epoch end = to_each (count_from 0 config.servers) (λ server. post (nodes.Server server) (bodies.Epoch epoch end))
 
 abbrev pub is_last_epoch : Durable → Bool
 is_last_epoch d = d.epoch == last_number
