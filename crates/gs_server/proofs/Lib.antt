@@ -2,5 +2,6 @@ mod Lists
 mod Opening
 mod Applied
 mod Forwarded
+mod Edited
 mod Made
 mod Keeping

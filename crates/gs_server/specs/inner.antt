@@ -2,3 +2,4 @@
 pub mod Rooms
 pub mod Answering
 pub mod Applying
+pub mod Again

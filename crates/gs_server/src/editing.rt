@@ -3,10 +3,12 @@ ghost use Rattle.std.specs.FinMap as fin;
 ghost use Rattle.gs_base.specs.declared.refusal.Refusal.TheVariants.{Memory};
 ghost use Rattle.gs_msg.specs.declared.body.Body.TheVariants.{Done};
 ghost use Rattle.gs_msg.specs.declared.node.NodeId.TheVariants.{Client};
+ghost use Rattle.gs_store.specs.Serving.{done_in};
 ghost use Rattle.gs_store.specs.Stores.{slot_of};
 ghost use Rattle.gs_server.specs.Leases.{tell};
 ghost use Rattle.gs_server.specs.Edits.{is_known_of_all};
 ghost use Rattle.gs_server.specs.Servers.{Steps, store_of};
+ghost use Rattle.gs_server.specs.inner.Again.{again, again_as_refused, StepsAgain};
 ghost use Rattle.gs_server.specs.inner.Answering.{refused_once_by, kept_by, repeated_by};
 
 use crate::lease::tell;
@@ -86,5 +88,35 @@ impl Server {
         let mut sent = Vec::new(self.alloc);
         sent.push(self.answer_edit(req, Ok(outcome)))?;
         Ok(Turn { sent, said: None })
+    }
+
+    /// What is answered to an edit that isn't above the client's edit that was refused last. It is `None` of any other.
+    fn answer_refused(&self, req: ReqId) -> Option<Result<Turn, Refusal>>
+        ensures { StepsAgain (again_as_refused req self.now (fin.get self.now.kept.refused req.client)) result self.now }
+    {
+        let kept = self.refused.get(req.client)?;
+        if req.number < kept.number {
+            return Some(self.refuse_once(req, &Refusal::Old));
+        }
+        if req.number == kept.number {
+            return Some(self.refuse_once(req, &kept.refusal));
+        }
+        None
+    }
+
+    /// What is answered to an edit that was heard before. It is `None` of a new one.
+    fn answer_again(&self, handle: Handle, req: ReqId) -> Option<Result<Turn, Refusal>>
+        ensures { StepsAgain (again req (is_known_of_all req (slot_of handle (store_of self.now)) (fin.get self.now.dropped.leases handle)) self.now (fin.get self.now.kept.refused req.client) (done_in (slot_of handle (store_of self.now)).live req.client.0)) result self.now }
+    {
+        let Some(last) = self.store.done(handle, req.client) else {
+            return self.answer_refused(req);
+        };
+        if req.number == last.number {
+            return Some(self.repeat(handle, req, last.outcome));
+        }
+        if req.number < last.number {
+            return Some(self.refuse_once(req, &Refusal::Old));
+        }
+        self.answer_refused(req)
     }
 }
