@@ -36,7 +36,7 @@ use Rattle.gs_master.specs.Durable.{is_rolling, prepared_view}
 use Rattle.gs_master.specs.Handling.{called, called_unless, taken_as, numbered, replied_again, waits_still, Numbered, New, Again, Older}
 use Rattle.gs_master.specs.Promises.{LeavesNames, RefusedLeavesNames}
 use Rattle.gs_master.specs.Settling.{requests_of}
-use Rattle.gs_master.specs.State.{State, Plan, Turn, with_record, turned, unmoved, and_then, for_each, fits, if_room, refused, ended_by, all_ended_by, keeps_refusal, is_failed, last_reply, first_of}
+use Rattle.gs_master.specs.State.{State, Plan, Turn, with_record, turned, unmoved, and_then, for_each, fits, if_room, refused, ended_by, all_ended_by, keeps_refusal, is_failed, is_unopened, last_reply, first_of}
 use Rattle.gs_master.specs.Undoing.{edited_names, all_undone}
 use Rattle.gs_master.specs.Upgrades.{accepted_plan, all_unquiet, begin_tests, commit_tests, end_tests, is_last_epoch, chunk_count, tell_all, answers_for, unless, prepare_begin, prepare_commit, prepare_abort, finalize, rollback_begin, rollback_commit, commit_on, commit_if, unrestored, told_of}
 use Rattle.gs_master.specs.Volatile.{is_pending}
@@ -304,6 +304,10 @@ taken_leaves config s req moment call Older = same_leaves s (replied_again s req
 
 pub refused_leaves_names : RefusedLeavesNames
 refused_leaves_names config s req moment call =
-    either s (is_pending s.volatile.pending req) (waits_still s req) (taken_as config s req moment call (numbered (last_reply s req.client) req.number))
-    (either s (is_failed s.fault) (replied_again s req (Err refusals.Device)) (unmoved s) (same_leaves s (replied_again s req (Err refusals.Device)) refl) (same_leaves s (unmoved s) refl))
-    (taken_leaves config s req moment call (numbered (last_reply s req.client) req.number))
+    let taken = taken_as config s req moment call (numbered (last_reply s req.client) req.number) in
+    let device = same_leaves s (replied_again s req (Err refusals.Device)) refl in
+    either s (is_unopened s.fault) (replied_again s req (Err refusals.Device)) (if is_pending s.volatile.pending req then waits_still s req else taken)
+    device
+    (either s (is_pending s.volatile.pending req) (waits_still s req) taken
+    (either s (is_failed s.fault) (replied_again s req (Err refusals.Device)) (unmoved s) device (same_leaves s (unmoved s) refl))
+    (taken_leaves config s req moment call (numbered (last_reply s req.client) req.number)))

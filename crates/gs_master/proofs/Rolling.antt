@@ -30,8 +30,8 @@ use Rattle.gs_record.specs.declared.entry.SettledView.{SettledView}
 use Rattle.gs_master.specs.Applied.{applied, if_fits, after_edit, may_be_settled, with_view, held_by}
 use Rattle.gs_master.specs.Durable.{Durable, is_rolling, is_upgrade, prepared_view, with_prepared}
 use Rattle.gs_master.specs.Promises.{is_proposal, is_drop_message, IsStill, NothingWhileRolling, NothingAtTicks}
-use Rattle.gs_master.specs.Settling.{ended_with, end_plan, if_room_for, edit_plan, edit_turn, ended_by_edit, copied, leased_next, replaced_if, replace_plan, goes_on, grant_of, own_request, is_quiet_at, source_chunks, settle_plan, end_call, all_go_on, settled_on, settled_if, settled_by, concerned, failed, requests_of}
-use Rattle.gs_master.specs.State.{State, is_failed, last_reply, refused, met_by, about, first_of, Plan, Turn, with_record, turned, unmoved, and_then, for_each, fits, ended_by, all_ended_by, keeps_refusal, refusal_plan, end_changes}
+use Rattle.gs_master.specs.Settling.{ended_with, end_plan, if_room_for, edit_plan, edit_turn, ended_by_edit, copied, leased_next, replaced_if, replace_plan, goes_on, grant_of, own_request, is_quiet_at, source_chunks, settle_plan, all_refused, all_go_on, settled_on, settled_if, settled_by, concerned, failed, requests_of}
+use Rattle.gs_master.specs.State.{State, is_failed, is_unopened, last_reply, refused, met_by, about, first_of, Plan, Turn, with_record, turned, unmoved, and_then, for_each, fits, ended_by, all_ended_by, keeps_refusal, refusal_plan, end_changes}
 use Rattle.gs_master.specs.declared.change.Change.{Change}
 use Rattle.gs_master.specs.Chunks.{Chunk, chunk_at, may_begin, hears, heard_yes, heard_no, is_target, step_of_yes, step_of_no, settling, is_holder, holder_records, target_of, view_by, is_leased, view_of, step_at_tick}
 use Rattle.gs_master.specs.Undoing.{edited_names, all_undone}
@@ -203,9 +203,8 @@ settling_keep true chunk (Some target) view = (keeps_holder chunk target, (keeps
 settling_keep false chunk None view = (keeps_settle _, tt)
 settling_keep false chunk (Some target) view = (keeps_settle _, tt)
 
-end_call_on : (call : Option ReqId) (refusal : Refusal) (s : State) → IsRolling s → GoesOn (end_call s call refusal)
-end_call_on None refusal s h = stands_still s h
-end_call_on (Some req) refusal s h = ended_on req refusal s h
+all_refused_on : (chunk : ℕ) (call : Option ReqId) (refusal : Refusal) (s : State) → IsRolling s → GoesOn (all_refused s chunk call refusal)
+all_refused_on chunk call refusal s h = all_ended_on (requests_of (concerned s chunk call)) refusal s h
 
 all_go_on_on : (view : View) (pending : List Pending) (s : State) → IsRolling s → GoesOn (all_go_on view pending s)
 all_go_on_on view pending s h = each_on pending (λ (p : Pending) next. goes_on next p.req view p.waits) (λ p next r. goes_on_on p.req view p.waits next r) s h
@@ -214,11 +213,11 @@ settled_on_on : (chunk : ℕ) (asking : Asking) (carried : Bool) (view : View) (
 settled_on_on chunk asking carried view s h =
     let records = settling s.durable.phase (prepared_view s.durable chunk) carried chunk asking view in
     let holds = is_holder s.durable.phase (prepared_view s.durable chunk) carried asking view in
-    either_on (fits s.log records) (and_then (turned s (settle_plan records chunk view)) (all_go_on view (concerned s chunk asking.call))) (end_call s asking.call refusals.Full)
+    either_on (fits s.log records) (and_then (turned s (settle_plan records chunk view)) (all_go_on view (concerned s chunk asking.call))) (all_refused s chunk asking.call refusals.Full)
     (then_on (turned s (settle_plan records chunk view)) (all_go_on view (concerned s chunk asking.call))
     (turn_on s (settle_plan records chunk view) (settling_none holds chunk (target_of asking.purpose) view) (grants_none chunk view view.term) (settling_keep holds chunk (target_of asking.purpose) view) h)
     (λ n rn. all_go_on_on view (concerned s chunk asking.call) n rn))
-    (end_call_on asking.call refusals.Full s h)
+    (all_refused_on chunk asking.call refusals.Full s h)
 
 settled_if_on : (chunk : ℕ) (asking : Asking) (carried : Bool) (view : Option View) (s : State) → IsRolling s → GoesOn (settled_if s chunk asking carried view)
 settled_if_on chunk asking carried None s h = stands_still s h
@@ -229,7 +228,7 @@ unfolding settled_by
 settled_by_on chunk c asking carried by moment s h = settled_if_on chunk asking carried (view_by c asking by moment) s h
 
 failed_on : (chunk : ℕ) (call : Option ReqId) (s : State) → IsRolling s → GoesOn (failed s chunk call)
-failed_on chunk call s h = all_ended_on (requests_of (concerned s chunk call)) refusals.NoReplica s h
+failed_on chunk call s h = all_refused_on chunk call refusals.NoReplica s h
 
 -- ---- messages of servers
 
@@ -393,9 +392,13 @@ taken_as_still config req moment call Older s h = replied_still req (Err refusal
 
 call_still : (config : Config) (req : ReqId) (moment : Moment) (call : Call) (s : State) → IsRolling s → IsStill (call_turn config s req moment call)
 call_still config req moment call s h =
-    either_still (is_pending s.volatile.pending req) (waits_still s req) (taken_as config s req moment call (numbered (last_reply s req.client) req.number))
-    (either_still (is_failed s.fault) (replied_again s req (Err refusals.Device)) (unmoved s) (replied_still req (Err refusals.Device) s) (unmoved_still s))
-    (taken_as_still config req moment call (numbered (last_reply s req.client) req.number) s h)
+    let taken = taken_as config s req moment call (numbered (last_reply s req.client) req.number) in
+    let device = replied_still req (Err refusals.Device) s in
+    either_still (is_unopened s.fault) (replied_again s req (Err refusals.Device)) (if is_pending s.volatile.pending req then waits_still s req else taken)
+    device
+    (either_still (is_pending s.volatile.pending req) (waits_still s req) taken
+    (either_still (is_failed s.fault) (replied_again s req (Err refusals.Device)) (unmoved s) device (unmoved_still s))
+    (taken_as_still config req moment call (numbered (last_reply s req.client) req.number) s h))
 
 -- ---- messages
 

@@ -34,7 +34,7 @@ use Rattle.gs_master.specs.Chunks.{Chunk, chunk_at, is_leased, step_at_tick, vie
 use Rattle.gs_master.specs.Durable.{Durable, start, is_rolling, is_listed}
 use Rattle.gs_master.specs.Hearing.{promised, unpromised, renewed, reported, damaged, learned, behind, sends, stepped}
 use Rattle.gs_master.specs.Settling.{grants}
-use Rattle.gs_master.specs.State.{State, Log, Turn, unmoved, met_by, and_then, for_each, reply_to, refused, last_reply, first_of, is_failed, Sound}
+use Rattle.gs_master.specs.State.{State, Log, Turn, unmoved, met_by, and_then, for_each, reply_to, refused, last_reply, first_of, is_failed, is_unopened, Sound}
 use Rattle.gs_master.specs.Upgrades.{prepare_begin, prepare_commit, prepare_abort, finalize, rollback_begin, rollback_commit, tell_all}
 use Rattle.gs_master.specs.Volatile.{Volatile, nothing, is_pending}
 use Rattle.gs_master.specs.Whole.{checkpoint_of}
@@ -103,9 +103,11 @@ taken_as config s req moment call New = new_call config s req moment call
 taken_as config s req moment call (Again result) = replied_again s req result
 taken_as config s req moment call Older = replied_again s req (Err refusals.Old)
 
+-- of a journal that couldn't be opened no reply is known either
 abbrev pub call_turn : Config → State → ReqId → Moment → Call → Turn
 call_turn config s req moment call =
-    if is_pending s.volatile.pending req then waits_still s req
+    if is_unopened s.fault then replied_again s req (Err refusals.Device)
+    else if is_pending s.volatile.pending req then waits_still s req
     else taken_as config s req moment call (numbered (last_reply s req.client) req.number)
 
 -- ---- messages of servers

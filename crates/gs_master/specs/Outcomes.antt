@@ -1,15 +1,19 @@
 -- What comes of an event: its turn, or nothing for want of memory, or a part of its records where a disk fails.
 use Rattle.std.specs.Prelude.{◌≡◌, ◌⊎◌, ◌<◌, ℕ, List, [], ◌∷◌, length, take, fold, slice_get, Option, Some, None, Result, Ok, Err, refl}
+use Rattle.gs_base.specs.declared.config.Config.{Config}
+use Rattle.gs_base.specs.declared.numbers.Moment.{Moment}
 use Rattle.gs_base.specs.declared.numbers.ReqId.{ReqId}
 use Rattle.gs_base.specs.declared.refusal.Refusal.{Refusal}
 use Rattle.gs_base.specs.declared.refusal.Refusal.TheVariants as refusals
 use Rattle.gs_msg.specs.declared.body.Body.{Body}
 use Rattle.gs_msg.specs.declared.body.Body.TheVariants as bodies
+use Rattle.gs_msg.specs.declared.call.Call.{Call}
 use Rattle.gs_msg.specs.declared.message.Message.{Message}
 use Rattle.gs_record.specs.Plain.{PlainEntry, Propose, Prepare}
 use Rattle.gs_master.specs.Applied.{applied}
 use Rattle.gs_master.specs.Durable.{Durable}
-use Rattle.gs_master.specs.State.{State, Fault, Sound, Failed, Turn, with_record, reply_to}
+use Rattle.gs_master.specs.Handling.{call_turn, replied_again}
+use Rattle.gs_master.specs.State.{State, Fault, Sound, Failed, Unopened, Turn, with_record, reply_to}
 use Rattle.gs_master.specs.Volatile.{nothing}
 
 -- ---- a disk fails
@@ -57,14 +61,17 @@ abbrev pub MayBeFound : Fault → Durable → Durable → Type 0
 MayBeFound Sound d found = found ≡ d
 MayBeFound (Failed None) d found = found ≡ d
 MayBeFound (Failed (Some entry)) d found = (found ≡ d) ⊎ (applied d entry ≡ Some found)
+MayBeFound (Unopened None) d found = found ≡ d
+MayBeFound (Unopened (Some entry)) d found = (found ≡ d) ⊎ (applied d entry ≡ Some found)
 
 abbrev pub doubt_in : Fault → Option PlainEntry
 doubt_in Sound = None
 doubt_in (Failed doubt) = doubt
+doubt_in (Unopened doubt) = doubt
 
 -- an opening in which a disk failed leaves all in doubt that was, and nothing is kept in memory
 abbrev pub unopened : State → State
-unopened s = record s { volatile = nothing; fault = Failed (doubt_in s.fault) }
+unopened s = record s { volatile = nothing; fault = Unopened (doubt_in s.fault) }
 
 -- ---- examples
 
@@ -82,3 +89,10 @@ nothing_stands_before_the_first s = refl
 
 the_first_stands : (s : State) → (cut s (Propose 7 8 ∷ Prepare 1 0 0 ∷ []) 1).log.records ≡ (with_record s (Propose 7 8)).log.records
 the_first_stands s = refl
+
+-- also one that waits, or whose reply was kept
+every_call_is_refused_unopened : (config : Config) (s : State) (moment : Moment) (call : Call) → call_turn config (unopened s) a_call moment call ≡ replied_again (unopened s) a_call (Err refusals.Device)
+every_call_is_refused_unopened config s moment call = refl
+
+the_doubt_stays : (s : State) (entry : PlainEntry) → (unopened (record s { fault = Failed (Some entry) })).fault ≡ Unopened (Some entry)
+the_doubt_stays s entry = refl

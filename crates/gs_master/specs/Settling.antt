@@ -137,9 +137,13 @@ concerned s chunk call = filter (λ (p : Pending). is_call p.req call || is_copi
 abbrev pub requests_of : List Pending → List ReqId
 requests_of pending = map (λ (p : Pending). p.req) pending
 
--- nobody has promised: the calls end, and the chunk stays as it is
+-- the calls that a chunk concerns end, and it stays as it is
+abbrev pub all_refused : State → ℕ → Option ReqId → Refusal → Turn
+all_refused s chunk call refusal = all_ended_by s (requests_of (concerned s chunk call)) refusal
+
+-- nobody has promised
 abbrev pub failed : State → ℕ → Option ReqId → Turn
-failed s chunk call = all_ended_by s (requests_of (concerned s chunk call)) refusals.NoReplica
+failed s chunk call = all_refused s chunk call refusals.NoReplica
 
 -- ---- settling
 
@@ -154,20 +158,16 @@ grants chunk view = grant_of chunk view view.term
 abbrev pub settle_plan : List PlainEntry → ℕ → View → Plan
 settle_plan records chunk view = record { records = records; changes = changes.Settled chunk ∷ []; sent = grants chunk view; said = None }
 
--- without room the chunk stays as it is, and its call is refused
-abbrev pub end_call : State → Option ReqId → Refusal → Turn
-end_call s None refusal = unmoved s
-end_call s (Some call) refusal = ended_by s call refusal
-
 abbrev pub all_go_on : View → List Pending → State → Turn
 all_go_on view calls s = for_each s calls (λ (p : Pending) next. goes_on next p.req view p.waits)
 
+-- without room for the view nothing is settled
 abbrev pub settled_on : State → ℕ → Asking → Bool → View → Turn
 settled_on s chunk asking carried view =
     let records = settling s.durable.phase (prepared_view s.durable chunk) carried chunk asking view in
     if fits s.log records
     then and_then (turned s (settle_plan records chunk view)) (all_go_on view (concerned s chunk asking.call))
-    else end_call s asking.call refusals.Full
+    else all_refused s chunk asking.call refusals.Full
 
 abbrev pub settled_if : State → ℕ → Asking → Bool → Option View → Turn
 settled_if s chunk asking carried None = unmoved s

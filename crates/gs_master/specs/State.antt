@@ -32,15 +32,23 @@ pub record Log : Type 0 where
   pub limit : ℕ
   pub generation : ℕ
 
--- Whether a disk has failed since the journal was opened, and which record was being written then. It stands or doesn't, which
--- the next opening tells.
+-- Whether a disk has failed since the journal was opened, or in the opening itself, and which record was being written then. It
+-- stands or doesn't, which the next opening tells.
 pub data Fault : Type 0 where
   Sound : Fault
   Failed : Option PlainEntry → Fault
+  Unopened : Option PlainEntry → Fault
 
 abbrev pub is_failed : Fault → Bool
 is_failed Sound = false
 is_failed (Failed doubt) = true
+is_failed (Unopened doubt) = true
+
+-- no record was read, so nothing is known of any call
+abbrev pub is_unopened : Fault → Bool
+is_unopened Sound = false
+is_unopened (Failed doubt) = false
+is_unopened (Unopened doubt) = true
 
 -- what is durable is what the records of the journal replay to
 pub record State : Type 0 where
