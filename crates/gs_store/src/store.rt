@@ -56,6 +56,14 @@ impl Store {
         })
     }
 
+    /// The sizes of the chunks.
+    pub fn sizes(&self) -> Sizes
+        ensures block { result.block ≡ self.now.block }
+        ensures chunk { result.chunk ≡ self.now.chunk }
+    {
+        self.sizes
+    }
+
     /// The epoch that stands.
     pub fn epoch(&self) -> u64
         ensures { result ≡ self.now.epoch }
