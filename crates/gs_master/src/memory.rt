@@ -1,7 +1,8 @@
-ghost use Rattle.std.specs.Prelude.{◌<◌, vec_len, vec_capacity, ◌≡◌, Some};
+ghost use Rattle.std.specs.Prelude.{◌<◌, vec_len, vec_capacity, ◌≡◌, Some, position};
 ghost use Rattle.std.specs.Option.{option_copied};
 ghost use Rattle.std.specs.Ordering.{nat_cmp};
 ghost use Rattle.std.specs.FinMap as fin;
+ghost use Rattle.gs_lock.specs.Operations.{same_op};
 ghost use Rattle.gs_table.specs.Slots.{HasRoom};
 ghost use Rattle.gs_master.specs.Memories.{volatile_of};
 ghost use Rattle.gs_master.specs.Replies.{client_cmp};
@@ -9,9 +10,9 @@ ghost use Rattle.gs_master.specs.Volatile.{changed};
 ghost use Rattle.gs_master.specs.declared.change.Change.TheVariants as changes;
 
 use crate::asking::Asking;
-use crate::pending::Pending;
+use crate::pending::{Pending, Waiting};
 use crate::reply::KeptReply;
-use gs_base::{ClientId, Handle, Members, ReqId};
+use gs_base::{ClientId, Handle, Members, ReqId, ServerId};
 use gs_lock::LockTable;
 use gs_table::Table;
 use std::alloc::Global;
@@ -19,6 +20,7 @@ use std::alloc::Global;
 /// What the master keeps in memory alone. A restart drops it.
 #[derive(Drop)]
 pub(crate) struct Memory {
+    pub(crate) alloc: Global,
     pub(crate) is_preparing: bool,
     pub(crate) moving: Table<Handle, Asking>,
     pub(crate) unplaced: Vec<Handle>,
@@ -36,6 +38,7 @@ impl Memory {
         ensures { volatile_of result ≡ nothing }
     {
         Memory {
+            alloc,
             is_preparing: false,
             moving: Table::new(alloc),
             unplaced: Vec::new(alloc),
@@ -134,5 +137,38 @@ impl Memory {
         ensures { volatile_of self.new ≡ changed (volatile_of self.old) (changes.Enter chunk) }
     {
         let _pushed = self.unplaced.push(chunk);
+    }
+
+    fn place_of(&self, req: ReqId) -> Option<usize>
+        ensures { result ≡ position (λ p. same_op p.req req) (volatile_of self.now).pending }
+    {
+        self.pending.iter().position(|pending| pending.req == req)
+    }
+
+    /// A call that waits does so for something else now.
+    pub fn wait(&mut self, req: ReqId, waits: Waiting)
+        ensures { volatile_of self.new ≡ changed (volatile_of self.old) (changes.Wait req waits) }
+    {
+        if let Some(place) = self.place_of(req) {
+            self.pending[place] = Pending { req, waits };
+        }
+    }
+
+    /// Asks nothing for these chunks any more, which are forgotten.
+    pub fn forget(&mut self, chunks: &[Handle])
+        ensures { volatile_of self.new ≡ changed (volatile_of self.old) (changes.Forget chunks.now) }
+    {
+        for chunk in chunks {
+            let _asked = self.moving.remove(*chunk);
+        }
+    }
+
+    /// A rollback is done: nothing is asked, no chunk is new, and nobody has answered.
+    pub fn roll_back(&mut self)
+        ensures { volatile_of self.new ≡ changed (volatile_of self.old) changes.RolledBack }
+    {
+        self.moving = Table::new(self.alloc);
+        self.unplaced = Vec::new(self.alloc);
+        self.restored = Table::new(self.alloc);
     }
 }
