@@ -3,10 +3,10 @@ ghost use Rattle.std.specs.Option.{option_copied};
 ghost use Rattle.std.specs.Ordering.{nat_cmp};
 ghost use Rattle.std.specs.FinMap as fin;
 ghost use Rattle.gs_lock.specs.Operations.{same_op};
-ghost use Rattle.gs_table.specs.Slots.{HasRoom};
-ghost use Rattle.gs_master.specs.Memories.{volatile_of};
+ghost use Rattle.gs_table.specs.Slots.{HasRoom, KeepsRoom, live};
+ghost use Rattle.gs_master.specs.Memories.{volatile_of, HaveRoom};
 ghost use Rattle.gs_master.specs.Replies.{client_cmp};
-ghost use Rattle.gs_master.specs.Volatile.{changed};
+ghost use Rattle.gs_master.specs.Volatile.{changed, servers_or_none, with_restored};
 ghost use Rattle.gs_master.specs.declared.change.Change.TheVariants as changes;
 
 use crate::asking::Asking;
@@ -160,6 +160,38 @@ impl Memory {
     {
         for chunk in chunks {
             let _asked = self.moving.remove(*chunk);
+        }
+    }
+
+    /// Who has told of a chunk that it has it as it was sealed.
+    pub fn restored_on(&self, chunk: Handle) -> Members
+        ensures { result ≡ servers_or_none (fin.get (volatile_of self.now).restored chunk) }
+    {
+        match self.restored.get(chunk) {
+            Some(servers) => *servers,
+            None => Members::none(),
+        }
+    }
+
+    /// A server has a chunk, which has room, as it was sealed.
+    fn restore_one(&mut self, server: ServerId, chunk: Handle)
+        requires { HasRoom nat_cmp self.old.restored chunk }
+        ensures restored { live nat_cmp self.new.restored ≡ with_restored server (live nat_cmp self.old.restored) chunk }
+        ensures keeps { KeepsRoom nat_cmp self.old.restored self.new.restored }
+        ensures others { self.new ≡ record (self.old) { restored = self.new.restored } }
+    {
+        let mut servers = self.restored_on(chunk);
+        servers.insert(server);
+        self.restored.put(chunk, servers);
+    }
+
+    /// A server has these chunks, each of which has room, as they were sealed.
+    pub fn restore(&mut self, server: ServerId, chunks: &[Handle])
+        requires { HaveRoom self.old.restored chunks.now }
+        ensures { volatile_of self.new ≡ changed (volatile_of self.old) (changes.Restored server chunks.now) }
+    {
+        for chunk in chunks {
+            self.restore_one(server, *chunk);
         }
     }
 
