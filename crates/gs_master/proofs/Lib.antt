@@ -4,3 +4,4 @@ pub mod Counters
 pub mod Preparing
 pub mod Refusing
 pub mod Rolling
+pub mod Rooms

@@ -1,9 +1,11 @@
 -- What the master's memory holds, without where it lies.
 use Rattle.std.specs.Prelude.{ℕ, List, Option, Contains}
 use Rattle.std.specs.Ordering.{nat_cmp}
-use Rattle.gs_table.specs.Slots.{live, HasRoom}
+use Rattle.gs_table.specs.Slots.{live, HasRoom, KeepsRoom}
 use Rattle.gs_master.specs.Replies.{client_cmp}
 use Rattle.gs_master.specs.Volatile.{Volatile}
+use Rattle.gs_master.specs.declared.change.Change.{Change}
+use Rattle.gs_master.specs.declared.change.Change.TheVariants as changes
 use Rattle.gs_master.specs.declared.memory.Memory.{Memory}
 
 abbrev pub volatile_of : Memory → Volatile
@@ -20,3 +22,25 @@ volatile_of m = record {
 -- each of these chunks can be put without memory
 pub record HaveRoom {V : Type 0} (slots : List (ℕ × Option V)) (chunks : List ℕ) : Type 0 where
   pub each : (chunk : ℕ) → Contains chunks chunk → HasRoom nat_cmp slots chunk
+
+-- what a change puts into a table has room there
+abbrev pub HasRoomFor : Memory → Change → Type 0
+HasRoomFor m (changes.Ask chunk asking) = HasRoom nat_cmp m.moving chunk
+HasRoomFor m (changes.Settled chunk) = Unit
+HasRoomFor m (changes.Enter chunk) = Unit
+HasRoomFor m (changes.Place chunk) = Unit
+HasRoomFor m (changes.Lose chunk) = Unit
+HasRoomFor m (changes.Forget chunks) = Unit
+HasRoomFor m (changes.Begin pending) = Unit
+HasRoomFor m (changes.Wait req waiting) = Unit
+HasRoomFor m (changes.End req) = Unit
+HasRoomFor m (changes.Prepare is_preparing) = Unit
+HasRoomFor m (changes.Keep client reply) = HasRoom client_cmp m.replies client
+HasRoomFor m (changes.Restored server chunks) = HaveRoom m.restored chunks
+HasRoomFor m changes.RolledBack = Unit
+
+-- whatever had room has it still
+pub record KeepsRooms (old new : Memory) : Type 0 where
+  pub moving : KeepsRoom nat_cmp old.moving new.moving
+  pub restored : KeepsRoom nat_cmp old.restored new.restored
+  pub replies : KeepsRoom client_cmp old.replies new.replies

@@ -3,6 +3,7 @@
 
 mod asking;
 mod change;
+mod growing;
 mod memory;
 mod pending;
 pub mod promises;
