@@ -1,5 +1,5 @@
 -- What the master's memory holds, without where it lies.
-use Rattle.std.specs.Prelude.{ℕ, List, Option, Contains}
+use Rattle.std.specs.Prelude.{◌≡◌, ℕ, ◌+◌, ◌≤◌, List, length, Option, Contains, vec_len, vec_capacity}
 use Rattle.std.specs.Ordering.{nat_cmp}
 use Rattle.gs_table.specs.Slots.{live, HasRoom, KeepsRoom}
 use Rattle.gs_master.specs.Replies.{client_cmp}
@@ -44,3 +44,14 @@ pub record KeepsRooms (old new : Memory) : Type 0 where
   pub moving : KeepsRoom nat_cmp old.moving new.moving
   pub restored : KeepsRoom nat_cmp old.restored new.restored
   pub replies : KeepsRoom client_cmp old.replies new.replies
+
+-- the lists lie where they lay
+pub record KeepsLists (old new : Memory) : Type 0 where
+  pub unplaced : new.unplaced ≡ old.unplaced
+  pub pending : new.pending ≡ old.pending
+
+-- all that these changes put somewhere has room there
+pub record HasRoomForAll (m : Memory) (changes : List Change) : Type 0 where
+  pub tables : (change : Change) → Contains changes change → HasRoomFor m change
+  pub unplaced : vec_len m.unplaced + length changes ≤ vec_capacity m.unplaced
+  pub pending : vec_len m.pending + length changes ≤ vec_capacity m.pending

@@ -2,7 +2,7 @@
 ghost use Rattle.std.specs.Prelude.{◌≡◌, OnOk};
 ghost use Rattle.std.specs.Ordering.{nat_cmp};
 ghost use Rattle.gs_table.specs.Slots.{HasRoom, KeepsRoom, live};
-ghost use Rattle.gs_master.specs.Memories.{volatile_of, HaveRoom, HasRoomFor, KeepsRooms};
+ghost use Rattle.gs_master.specs.Memories.{volatile_of, HaveRoom, HasRoomFor, HasRoomForAll, KeepsLists, KeepsRooms};
 
 use crate::change::Change;
 use crate::memory::Memory;
@@ -27,6 +27,7 @@ impl Memory {
     pub fn reserve(&mut self, change: &Change) -> Result<(), AllocError>
         ensures same { volatile_of self.new ≡ volatile_of self.old }
         ensures keeps { KeepsRooms self.old self.new }
+        ensures lists { KeepsLists self.old self.new }
         ensures ok { OnOk result (HasRoomFor self.new change.now) }
     {
         match change {
@@ -35,5 +36,18 @@ impl Memory {
             Change::Restored(_, chunks) => reserve_each(&mut self.restored, chunks.as_slice()),
             _ => Ok(()),
         }
+    }
+
+    /// Makes room for all that these changes put somewhere.
+    pub fn reserve_all(&mut self, changes: &[Change]) -> Result<(), AllocError>
+        ensures same { volatile_of self.new ≡ volatile_of self.old }
+        ensures ok { OnOk result (HasRoomForAll self.new changes.now) }
+    {
+        self.unplaced.reserve(changes.len())?;
+        self.pending.reserve(changes.len())?;
+        for change in changes {
+            self.reserve(change)?;
+        }
+        Ok(())
     }
 }
