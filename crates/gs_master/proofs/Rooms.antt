@@ -1,8 +1,8 @@
 -- Room that is made for one chunk after the other.
-use Rattle.std.proofs.Common.{◌≡◌, ◌∙◌, ℕ, List, [], ◌∷◌, ◌++◌, ◌+◌, ◌<◌, ◌≤◌, length, take, take_all, get_or, add-one, Option, sym, ap, subst, ⊎_elim}
+use Rattle.std.proofs.Common.{◌≡◌, ◌∙◌, ℕ, List, [], ◌∷◌, ◌++◌, ◌+◌, ◌<◌, ◌≤◌, length, take, take_all, drop, drop-cons, get_or, add-one, Option, sym, ap, subst, ⊎_elim}
 use Rattle.std.proofs.Math.Seq.{take-suc}
 use Rattle.std.proofs.lemmas.List.Elements.{Contains-push_cases}
-use Rattle.std.specs.Prelude.{Contains, vec_len, vec_capacity}
+use Rattle.std.specs.Prelude.{Contains, fold, vec_len, vec_capacity}
 use Rattle.std.specs.Ordering.{nat_cmp}
 use Rattle.gs_table.specs.Slots.{HasRoom, KeepsRoom}
 use Rattle.gs_master.specs.Memories.{HaveRoom, HasRoomFor, HasRoomForAll, KeepsRooms}
@@ -23,6 +23,13 @@ take_next xs i x below is = ap (λ k. take k xs) (add-one i) ∙ take-suc xs i x
 
 pub have_next : {V : Type 0} (a b : List (ℕ × Option V)) (chunks : List ℕ) (i chunk : ℕ) → i < length chunks → chunk ≡ get_or chunks i chunk → HaveRoom a (take i chunks) → KeepsRoom nat_cmp a b → HasRoom nat_cmp b chunk → HaveRoom b (take (i + 1) chunks)
 have_next a b chunks i chunk below is have keeps room = subst (λ xs. HaveRoom b xs) (sym (take_next chunks i chunk below is)) (have_one_more a b (take i chunks) chunk have keeps room)
+
+-- one chunk further in a fold
+pub fold_next : {S : Type 0} (f : S → ℕ → S) (s t u : S) (chunks : List ℕ) (i chunk : ℕ) → i < length chunks → chunk ≡ get_or chunks i chunk
+    → fold f s (drop i chunks) ≡ u → t ≡ f s chunk → fold f t (drop (i + 1) chunks) ≡ u
+fold_next f s t u chunks i chunk below is before then =
+    ap (λ x. fold f x (drop (i + 1) chunks)) then ∙ ap (λ c. fold f (f s c) (drop (i + 1) chunks)) is ∙ ap (λ k. fold f (f s (get_or chunks i chunk)) (drop k chunks)) (add-one i)
+    ∙ sym (ap (fold f s) (drop-cons chunks i chunk below)) ∙ before
 
 -- ---- changes
 

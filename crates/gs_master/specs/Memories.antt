@@ -1,9 +1,9 @@
 -- What the master's memory holds, without where it lies.
-use Rattle.std.specs.Prelude.{◌≡◌, ℕ, ◌+◌, ◌≤◌, List, length, Option, Contains, vec_len, vec_capacity}
+use Rattle.std.specs.Prelude.{◌≡◌, ℕ, ◌+◌, ◌≤◌, Bool, true, false, List, [], ◌∷◌, ◌++◌, length, Option, Contains, vec_len, vec_capacity}
 use Rattle.std.specs.Ordering.{nat_cmp}
 use Rattle.gs_table.specs.Slots.{live, HasRoom, KeepsRoom}
 use Rattle.gs_master.specs.Replies.{client_cmp}
-use Rattle.gs_master.specs.Volatile.{Volatile}
+use Rattle.gs_master.specs.Volatile.{Volatile, changed}
 use Rattle.gs_master.specs.declared.change.Change.{Change}
 use Rattle.gs_master.specs.declared.change.Change.TheVariants as changes
 use Rattle.gs_master.specs.declared.memory.Memory.{Memory}
@@ -55,3 +55,25 @@ pub record HasRoomForAll (m : Memory) (changes : List Change) : Type 0 where
   pub tables : (change : Change) → Contains changes change → HasRoomFor m change
   pub unplaced : vec_len m.unplaced + length changes ≤ vec_capacity m.unplaced
   pub pending : vec_len m.pending + length changes ≤ vec_capacity m.pending
+
+-- one change is made; the locks of a call that begins are taken already
+abbrev pub changed_but_locks : Volatile → Change → Volatile
+changed_but_locks v (changes.Begin pending) = record v { pending = v.pending ++ pending ∷ [] }
+changed_but_locks v change = changed v change
+
+-- one place more is taken in each list at most, and none is given up
+pub record KeepsPlaces (old new : Memory) : Type 0 where
+  pub unplaced : vec_len new.unplaced ≤ vec_len old.unplaced + 1
+  pub unplaced_room : vec_capacity old.unplaced ≤ vec_capacity new.unplaced
+  pub pending : vec_len new.pending ≤ vec_len old.pending + 1
+  pub pending_room : vec_capacity old.pending ≤ vec_capacity new.pending
+
+-- a change but for the end of a rollback, which gives up all room
+abbrev pub is_small : Change → Bool
+is_small changes.RolledBack = false
+is_small change = true
+
+-- where room was made for more changes, it is there for those that are left
+pub record KeepsFor (old new : Memory) : Type 0 where
+  pub rooms : KeepsRooms old new
+  pub places : KeepsPlaces old new

@@ -1,8 +1,8 @@
 // Room for changes of the master's memory, made before they are.
-ghost use Rattle.std.specs.Prelude.{◌≡◌, OnOk};
+ghost use Rattle.std.specs.Prelude.{◌≡◌, ◌<◌, true, OnOk, vec_len, vec_capacity};
 ghost use Rattle.std.specs.Ordering.{nat_cmp};
 ghost use Rattle.gs_table.specs.Slots.{HasRoom, KeepsRoom, live};
-ghost use Rattle.gs_master.specs.Memories.{volatile_of, HaveRoom, HasRoomFor, HasRoomForAll, KeepsLists, KeepsRooms};
+ghost use Rattle.gs_master.specs.Memories.{volatile_of, changed_but_locks, is_small, HaveRoom, HasRoomFor, HasRoomForAll, KeepsFor, KeepsLists, KeepsRooms};
 
 use crate::change::Change;
 use crate::memory::Memory;
@@ -49,5 +49,30 @@ impl Memory {
             self.reserve(change)?;
         }
         Ok(())
+    }
+
+    /// Makes a change for which there is room. The locks of a call that begins are taken already. It takes no memory.
+    pub fn change(&mut self, change: Change)
+        requires tables { HasRoomFor self.old change }
+        requires unplaced { vec_len self.old.unplaced < vec_capacity self.old.unplaced }
+        requires pending { vec_len self.old.pending < vec_capacity self.old.pending }
+        ensures changed { volatile_of self.new ≡ changed_but_locks (volatile_of self.old) change }
+        ensures keeps { is_small change ≡ true → KeepsFor self.old self.new }
+    {
+        match change {
+            Change::Ask(chunk, asking) => self.ask(chunk, asking),
+            Change::Settled(chunk) => self.settle(chunk),
+            Change::Enter(chunk) => self.enter(chunk),
+            Change::Place(chunk) => self.place(chunk),
+            Change::Lose(chunk) => self.lose(chunk),
+            Change::Forget(chunks) => self.forget(chunks.as_slice()),
+            Change::Begin(pending) => self.begin(pending),
+            Change::Wait(req, waits) => self.wait(req, waits),
+            Change::End(req) => self.end(req),
+            Change::Prepare(is_preparing) => self.prepare(is_preparing),
+            Change::Keep(client, reply) => self.keep(client, reply),
+            Change::Restored(server, chunks) => self.restore(server, chunks.as_slice()),
+            Change::RolledBack => self.roll_back(),
+        }
     }
 }

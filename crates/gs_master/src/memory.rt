@@ -4,7 +4,7 @@ ghost use Rattle.std.specs.Ordering.{nat_cmp};
 ghost use Rattle.std.specs.FinMap as fin;
 ghost use Rattle.gs_lock.specs.Operations.{same_op};
 ghost use Rattle.gs_table.specs.Slots.{HasRoom, KeepsRoom, live};
-ghost use Rattle.gs_master.specs.Memories.{volatile_of, HaveRoom};
+ghost use Rattle.gs_master.specs.Memories.{volatile_of, changed_but_locks, HaveRoom, KeepsFor};
 ghost use Rattle.gs_master.specs.Replies.{client_cmp};
 ghost use Rattle.gs_master.specs.Volatile.{changed, servers_or_none, with_restored};
 ghost use Rattle.gs_master.specs.declared.change.Change.TheVariants as changes;
@@ -79,7 +79,8 @@ impl Memory {
 
     /// Begins to prepare, or ends it.
     pub fn prepare(&mut self, is_preparing: bool)
-        ensures { volatile_of self.new ≡ changed (volatile_of self.old) (changes.Prepare is_preparing) }
+        ensures changed { volatile_of self.new ≡ changed (volatile_of self.old) (changes.Prepare is_preparing) }
+        ensures keeps { KeepsFor self.old self.new }
     {
         self.is_preparing = is_preparing;
     }
@@ -87,7 +88,8 @@ impl Memory {
     /// Asks for a chunk that has room, or keeps what was answered.
     pub fn ask(&mut self, chunk: Handle, asking: Asking)
         requires { HasRoom nat_cmp self.old.moving chunk }
-        ensures { volatile_of self.new ≡ changed (volatile_of self.old) (changes.Ask chunk asking) }
+        ensures changed { volatile_of self.new ≡ changed (volatile_of self.old) (changes.Ask chunk asking) }
+        ensures keeps { KeepsFor self.old self.new }
     {
         let purpose = asking.purpose;
         self.moving.put(chunk, Asking { purpose, ..asking });
@@ -95,29 +97,33 @@ impl Memory {
 
     /// Asks nothing for a chunk any more.
     pub fn settle(&mut self, chunk: Handle)
-        ensures { volatile_of self.new ≡ changed (volatile_of self.old) (changes.Settled chunk) }
+        ensures changed { volatile_of self.new ≡ changed (volatile_of self.old) (changes.Settled chunk) }
+        ensures keeps { KeepsFor self.old self.new }
     {
-        let _asked = self.moving.remove(chunk);
+        let _asked = self.moving.take(chunk);
     }
 
     /// A new chunk has its place.
     pub fn place(&mut self, chunk: Handle)
-        ensures { volatile_of self.new ≡ changed (volatile_of self.old) (changes.Place chunk) }
+        ensures changed { volatile_of self.new ≡ changed (volatile_of self.old) (changes.Place chunk) }
+        ensures keeps { KeepsFor self.old self.new }
     {
         self.unplaced.retain(|other| *other != chunk);
     }
 
     /// A new chunk is no more.
     pub fn lose(&mut self, chunk: Handle)
-        ensures { volatile_of self.new ≡ changed (volatile_of self.old) (changes.Lose chunk) }
+        ensures changed { volatile_of self.new ≡ changed (volatile_of self.old) (changes.Lose chunk) }
+        ensures keeps { KeepsFor self.old self.new }
     {
-        let _asked = self.moving.remove(chunk);
+        let _asked = self.moving.take(chunk);
         self.unplaced.retain(|other| *other != chunk);
     }
 
     /// Ends a call, and releases its locks.
     pub fn end(&mut self, req: ReqId)
-        ensures { volatile_of self.new ≡ changed (volatile_of self.old) (changes.End req) }
+        ensures changed { volatile_of self.new ≡ changed (volatile_of self.old) (changes.End req) }
+        ensures keeps { KeepsFor self.old self.new }
     {
         self.pending.retain(|pending| pending.req != req);
         self.locks.release(req);
@@ -126,7 +132,8 @@ impl Memory {
     /// Keeps a reply to a client that has room.
     pub fn keep(&mut self, client: ClientId, reply: KeptReply)
         requires { HasRoom client_cmp self.old.replies client }
-        ensures { volatile_of self.new ≡ changed (volatile_of self.old) (changes.Keep client reply) }
+        ensures changed { volatile_of self.new ≡ changed (volatile_of self.old) (changes.Keep client reply) }
+        ensures keeps { KeepsFor self.old self.new }
     {
         self.replies.put(client, reply);
     }
@@ -134,7 +141,8 @@ impl Memory {
     /// A chunk is new. There is room for it.
     pub fn enter(&mut self, chunk: Handle)
         requires { vec_len self.old.unplaced < vec_capacity self.old.unplaced }
-        ensures { volatile_of self.new ≡ changed (volatile_of self.old) (changes.Enter chunk) }
+        ensures changed { volatile_of self.new ≡ changed (volatile_of self.old) (changes.Enter chunk) }
+        ensures keeps { KeepsFor self.old self.new }
     {
         let _pushed = self.unplaced.push(chunk);
     }
@@ -147,7 +155,8 @@ impl Memory {
 
     /// A call that waits does so for something else now.
     pub fn wait(&mut self, req: ReqId, waits: Waiting)
-        ensures { volatile_of self.new ≡ changed (volatile_of self.old) (changes.Wait req waits) }
+        ensures changed { volatile_of self.new ≡ changed (volatile_of self.old) (changes.Wait req waits) }
+        ensures keeps { KeepsFor self.old self.new }
     {
         if let Some(place) = self.place_of(req) {
             self.pending[place] = Pending { req, waits };
@@ -156,10 +165,11 @@ impl Memory {
 
     /// Asks nothing for these chunks any more, which are forgotten.
     pub fn forget(&mut self, chunks: &[Handle])
-        ensures { volatile_of self.new ≡ changed (volatile_of self.old) (changes.Forget chunks.now) }
+        ensures changed { volatile_of self.new ≡ changed (volatile_of self.old) (changes.Forget chunks.now) }
+        ensures keeps { KeepsFor self.old self.new }
     {
         for chunk in chunks {
-            let _asked = self.moving.remove(*chunk);
+            let _asked = self.moving.take(*chunk);
         }
     }
 
@@ -188,7 +198,8 @@ impl Memory {
     /// A server has these chunks, each of which has room, as they were sealed.
     pub fn restore(&mut self, server: ServerId, chunks: &[Handle])
         requires { HaveRoom self.old.restored chunks.now }
-        ensures { volatile_of self.new ≡ changed (volatile_of self.old) (changes.Restored server chunks.now) }
+        ensures changed { volatile_of self.new ≡ changed (volatile_of self.old) (changes.Restored server chunks.now) }
+        ensures keeps { KeepsFor self.old self.new }
     {
         for chunk in chunks {
             self.restore_one(server, *chunk);
@@ -202,5 +213,14 @@ impl Memory {
         self.moving = Table::new(self.alloc);
         self.unplaced = Vec::new(self.alloc);
         self.restored = Table::new(self.alloc);
+    }
+
+    /// A call begins to wait, for which there is room. Its locks are taken already.
+    pub fn begin(&mut self, pending: Pending)
+        requires { vec_len self.old.pending < vec_capacity self.old.pending }
+        ensures changed { volatile_of self.new ≡ changed_but_locks (volatile_of self.old) (changes.Begin pending) }
+        ensures keeps { KeepsFor self.old self.new }
+    {
+        let _pushed = self.pending.push(pending);
     }
 }

@@ -5,4 +5,4 @@ use Rattle.gs_master.specs.declared.pending.Pending.{Pending}
 use Rattle.gs_master.proofs.memory.Memory.end.Goals as goal
 
 pub returns : goal.returns
-returns c = rw (filter_same _ (λ (p : Pending). not (same_op c.args.req p.req)) _ (λ x b f' k. search rules) _ _ c.retain.ensures.filtered) (search rules)
+returns c = record { changed = rw (filter_same _ (λ (p : Pending). not (same_op c.args.req p.req)) _ (λ x b f' k. search rules) _ _ c.retain.ensures.filtered) (search rules); keeps = search rules }
