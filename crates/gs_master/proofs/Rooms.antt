@@ -1,11 +1,13 @@
 -- Room that is made for one chunk after the other.
-use Rattle.std.proofs.Common.{◌≡◌, ◌∙◌, ℕ, List, [], ◌∷◌, ◌++◌, ◌+◌, ◌<◌, ◌≤◌, length, take, take_all, drop, drop-cons, get_or, add-one, Option, sym, ap, subst, ⊎_elim}
+use Rattle.std.proofs.Common.{◌≡◌, ◌∙◌, ℕ, Bool, true, false, ◌&&◌, refl, arith, List, [], ◌∷◌, ◌++◌, ◌+◌, ◌<◌, ◌≤◌, length, take, take_all, drop, drop-cons, get_or, add-one, Option, sym, ap, subst, ⊎_elim}
 use Rattle.std.proofs.Math.Seq.{take-suc}
-use Rattle.std.proofs.lemmas.List.Elements.{Contains-push_cases}
+use Rattle.std.proofs.lemmas.List.Elements.{Contains-push, Contains-push_cases, Contains-append_left, Contains-append_right}
 use Rattle.std.specs.Prelude.{Contains, fold, vec_len, vec_capacity}
+use Rattle.std.specs.List.{list_all}
+use Rattle.std.proofs.lemmas.Bool.{false≢true}
 use Rattle.std.specs.Ordering.{nat_cmp}
 use Rattle.gs_table.specs.Slots.{HasRoom, KeepsRoom}
-use Rattle.gs_master.specs.Memories.{HaveRoom, HasRoomFor, HasRoomForAll, KeepsRooms}
+use Rattle.gs_master.specs.Memories.{HaveRoom, HasRoomFor, HasRoomForAll, KeepsRooms, KeepsFor, AreSmall, is_small}
 use Rattle.gs_master.specs.declared.change.Change.{Change}
 use Rattle.gs_master.specs.declared.change.Change.TheVariants as changes
 use Rattle.gs_master.specs.declared.memory.Memory.{Memory}
@@ -61,3 +63,31 @@ room_for_all m cs i all have unplaced pending = record {
   unplaced = unplaced;
   pending = pending;
 }
+
+-- ---- one change after the other
+
+pub room_of_first : (m : Memory) (cs all : List Change) (c : Change) → all ≡ c ∷ cs → HasRoomForAll m all → HasRoomFor m c
+room_of_first m cs all c is have = have.tables c (subst (λ xs. Contains xs c) (sym is) (Contains-append_left (c ∷ []) cs c (Contains-push [] c)))
+
+pub place_of_first : (m : Memory) (cs all : List Change) (c : Change) → all ≡ c ∷ cs → HasRoomForAll m all → vec_len m.unplaced < vec_capacity m.unplaced
+place_of_first m cs all c is have = let long = ap length is in let room = have.unplaced in omega (arith, long, room)
+
+pub pending_of_first : (m : Memory) (cs all : List Change) (c : Change) → all ≡ c ∷ cs → HasRoomForAll m all → vec_len m.pending < vec_capacity m.pending
+pending_of_first m cs all c is have = let long = ap length is in let room = have.pending in omega (arith, long, room)
+
+small_first : (b rest : Bool) → (b && rest) ≡ true → (b ≡ true) × (rest ≡ true)
+small_first true true is = (refl, refl)
+small_first true false is = (refl, is)
+small_first false rest is = (is, absurd (false≢true is))
+
+pub small_of_first : (cs all : List Change) (c : Change) → all ≡ c ∷ cs → AreSmall all → (is_small c ≡ true) × AreSmall cs
+small_of_first cs all c is small = small_first (is_small c) (list_all is_small cs) (ap (list_all is_small) (sym is) ∙ small)
+
+pub room_of_rest : (m n : Memory) (cs all : List Change) (c : Change) → all ≡ c ∷ cs → HasRoomForAll m all → KeepsFor m n → HasRoomForAll n cs
+room_of_rest m n cs all c is have keeps =
+    let long = ap length is in
+    record {
+      tables = λ change among. still_room m n change (have.tables change (subst (λ xs. Contains xs change) (sym is) (Contains-append_right (c ∷ []) cs change among))) keeps.rooms;
+      unplaced = let room = have.unplaced in let more = keeps.places.unplaced in let wide = keeps.places.unplaced_room in omega (arith, long, room, more, wide);
+      pending = let room = have.pending in let more = keeps.places.pending in let wide = keeps.places.pending_room in omega (arith, long, room, more, wide);
+    }

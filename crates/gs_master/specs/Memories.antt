@@ -1,5 +1,6 @@
 -- What the master's memory holds, without where it lies.
 use Rattle.std.specs.Prelude.{◌≡◌, ℕ, ◌+◌, ◌≤◌, Bool, true, false, List, [], ◌∷◌, ◌++◌, length, Option, Contains, vec_len, vec_capacity}
+use Rattle.std.specs.List.{list_all}
 use Rattle.std.specs.Ordering.{nat_cmp}
 use Rattle.gs_table.specs.Slots.{live, HasRoom, KeepsRoom}
 use Rattle.gs_master.specs.Replies.{client_cmp}
@@ -72,6 +73,9 @@ pub record KeepsPlaces (old new : Memory) : Type 0 where
 abbrev pub is_small : Change → Bool
 is_small changes.RolledBack = false
 is_small change = true
+
+abbrev pub AreSmall : List Change → Type 0
+AreSmall changes = list_all is_small changes ≡ true
 
 -- where room was made for more changes, it is there for those that are left
 pub record KeepsFor (old new : Memory) : Type 0 where

@@ -1,8 +1,8 @@
 // Room for changes of the master's memory, made before they are.
-ghost use Rattle.std.specs.Prelude.{◌≡◌, ◌<◌, true, OnOk, vec_len, vec_capacity};
+ghost use Rattle.std.specs.Prelude.{◌≡◌, ◌<◌, true, fold, OnOk, vec_len, vec_capacity};
 ghost use Rattle.std.specs.Ordering.{nat_cmp};
 ghost use Rattle.gs_table.specs.Slots.{HasRoom, KeepsRoom, live};
-ghost use Rattle.gs_master.specs.Memories.{volatile_of, changed_but_locks, is_small, HaveRoom, HasRoomFor, HasRoomForAll, KeepsFor, KeepsLists, KeepsRooms};
+ghost use Rattle.gs_master.specs.Memories.{volatile_of, changed_but_locks, is_small, AreSmall, HaveRoom, HasRoomFor, HasRoomForAll, KeepsFor, KeepsLists, KeepsRooms};
 
 use crate::change::Change;
 use crate::memory::Memory;
@@ -73,6 +73,18 @@ impl Memory {
             Change::Keep(client, reply) => self.keep(client, reply),
             Change::Restored(server, chunks) => self.restore(server, chunks.as_slice()),
             Change::RolledBack => self.roll_back(),
+        }
+    }
+
+    /// Makes changes for all of which there is room. None of them ends a rollback, and the locks of a call that begins are taken
+    /// already. It takes no memory.
+    pub fn change_all(&mut self, changes: Vec<Change>)
+        requires room { HasRoomForAll self.old changes.items }
+        requires small { AreSmall changes.items }
+        ensures { volatile_of self.new ≡ fold changed_but_locks (volatile_of self.old) changes.items }
+    {
+        for change in changes {
+            self.change(change);
         }
     }
 }
