@@ -1,5 +1,6 @@
 -- Each value of a finite map by a function.
-use Rattle.std.proofs.Common.{◌≡◌, ℕ, Bool, true, false, cond, List, [], ◌∷◌, map, Option, Some, None, refl, sym, ap, subst, ◌∙◌}
+use Rattle.std.proofs.Common.{◌≡◌, ℕ, Bool, true, false, cond, List, [], ◌∷◌, map, length, Option, Some, None, refl, sym, ap, subst, ◌∙◌}
+use Rattle.std.proofs.lemmas.List.{length-map}
 use Rattle.std.specs.Prelude.{◌&&◌, T, option_map}
 use Rattle.std.specs.FinMap as fin
 use Rattle.std.specs.FinMap.Entries.{below_all}
@@ -37,3 +38,6 @@ module _ {K V W : Type 0} (R : K → K → Ordering) (f : V → W) where
 
   pub get-each : (m : fin.FinMap R V) (q : K) → fin.get (each f m) q ≡ option_map f (fin.get m q)
   get-each m q = fin.get-entries (each f m) q ∙ ap (fin.find R q) (entries-each m) ∙ found q (fin.entries m) ∙ ap (option_map f) (sym (fin.get-entries m q))
+
+  pub len-each : (m : fin.FinMap R V) → fin.len (each f m) ≡ fin.len m
+  len-each m = fin.len-entries (each f m) ∙ ap length (entries-each m) ∙ length-map (fin.entries m) (λ e. (e.0, f e.1)) ∙ sym (fin.len-entries m)

@@ -5,7 +5,7 @@ use Rattle.std.specs.Ordering.{nat_cmp}
 use Rattle.gs_store.specs.Slots.{Slot, nothing}
 use Rattle.gs_store.specs.Stores.{Store, named_of, named, report, reports_of, report_before}
 use Rattle.gs_store.specs.inner.Placed.{slot_at, slots_at, entries_at}
-use Rattle.gs_store.proofs.Maps.{entries-each}
+use Rattle.gs_store.proofs.Maps.{entries-each, len-each}
 use Rattle.gs_store.proofs.Changes.{seen}
 use Rattle.gs_store.specs.Buffers.{Pushes}
 
@@ -18,3 +18,6 @@ module _ (block chunk epoch : ℕ) (places : fin.FinMap nat_cmp ℕ) (slots : Li
 
   pub report_seen : report s ≡ reports_of (entries_at (fin.entries places) slots)
   report_seen = ap reports_of entries_seen
+
+  pub len_seen : fin.len s.slots ≡ fin.len places
+  len_seen = ap (λ x. fin.len x.slots) (sym view) ∙ len-each nat_cmp (slot_at slots) places

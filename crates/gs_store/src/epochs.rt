@@ -1,13 +1,13 @@
-ghost use Rattle.std.specs.Prelude.{◌≡◌, IfOk, IfErr, map, length};
-ghost use Rattle.gs_base.specs.declared.refusal.Refusal.TheVariants.{Memory};
+ghost use Rattle.std.specs.Prelude.{◌≡◌, ◌≢◌, ◌⊎◌, ◌+◌, IfOk, IfErr, OnOk, map, length};
+ghost use Rattle.gs_base.specs.declared.refusal.Refusal.TheVariants.{Memory, Epoch};
 ghost use Rattle.gs_base.specs.declared.epoch.EpochEnd.TheVariants.{Prepare};
 ghost use Rattle.gs_store.specs.Learning.{prepared, held_in, finalized, rolled_back};
-ghost use Rattle.gs_store.specs.Stores.{Performs, learn, named};
+ghost use Rattle.gs_store.specs.Stores.{Performs, learn};
 
 use crate::learn::PreparedSlot;
 use crate::slot::Slot;
 use crate::store::Store;
-use gs_base::{EpochEnd, Handle, Refusal};
+use gs_base::{EpochEnd, Refusal};
 use std::alloc::{AllocError, Global};
 
 /// What seals each live replica as it stands.
@@ -50,6 +50,17 @@ fn roll_back_each(slots: &mut [Slot], epoch: u64)
 }
 
 impl Store {
+    /// `Epoch` with the epoch that stands where another is neither that nor the next.
+    pub(crate) fn check_near(&self, epoch: u64) -> Result<(), Refusal>
+        ensures ok { OnOk result ((epoch ≡ self.now.epoch) ⊎ (epoch ≡ self.now.epoch + 1)) }
+        ensures err { IfErr result (λ e. (e ≡ Epoch self.now.epoch) × (epoch ≢ self.now.epoch) × (epoch ≢ self.now.epoch + 1)) }
+    {
+        if epoch < self.epoch || epoch - self.epoch > 1 {
+            return Err(Refusal::Epoch(self.epoch));
+        }
+        Ok(())
+    }
+
     /// Goes on to the next epoch, as the one before it ended. What is told of the epoch that stands changes nothing; of any
     /// other than the next it is `Epoch` with the one that stands. At a prepare each live replica is sealed, and memory may
     /// be wanted; at a finalize what was sealed goes; at a rollback it is live again. The last two take no memory.
@@ -57,11 +68,9 @@ impl Store {
         ensures edit { Performs (learn epoch end self.old) result self.old self.new }
         ensures lacking { IfErr result (λ e. e ≡ Memory → end ≡ Prepare) }
     {
+        self.check_near(epoch)?;
         if epoch == self.epoch {
             return Ok(());
-        }
-        if epoch < self.epoch || epoch - self.epoch > 1 {
-            return Err(Refusal::Epoch(self.epoch));
         }
         match end {
             EpochEnd::Prepare => {
@@ -73,20 +82,5 @@ impl Store {
         }
         self.epoch = epoch;
         Ok(())
-    }
-
-    /// The handles whose live replica stands under the first stamp of an epoch with each block as its digest says, ascending.
-    pub fn named(&self, epoch: u64) -> Result<Vec<Handle>, AllocError>
-        ensures { IfOk result (λ handles. handles.items ≡ named epoch self.now) }
-    {
-        let mut handles = Vec::new(self.alloc);
-        for (handle, place) in self.places.iter() {
-            if let Some(slot) = self.slots.get(*place) {
-                if slot.is_named(epoch) {
-                    handles.push(handle)?;
-                }
-            }
-        }
-        Ok(handles)
     }
 }

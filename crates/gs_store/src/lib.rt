@@ -9,6 +9,7 @@ mod epochs;
 mod handles;
 mod learn;
 mod moves;
+mod naming;
 pub mod promises;
 mod pushes;
 mod report;

@@ -2,7 +2,7 @@ ghost use Rattle.std.specs.Prelude.{◌≡◌, Some, None, true};
 ghost use Rattle.std.specs.Option.{option_copied};
 ghost use Rattle.gs_base.specs.Stamps.{is_before};
 ghost use Rattle.gs_block.specs.Follows.{Does, Judges};
-ghost use Rattle.gs_store.specs.Slots.{nothing, removed, replaced, create, again, advance, drop_replica, check_grant, take_lease, lose, damage, mark_bad, count_of, bad_in, lost, sealed_of, trashed_seal};
+ghost use Rattle.gs_store.specs.Slots.{nothing, removed, replaced, create, again, advance, drop_replica, check_grant, is_taken, take_lease, lose, damage, mark_bad, count_of, bad_in, lost, sealed_of, trashed_seal};
 ghost use Rattle.gs_store.specs.Whole.{IsWholeSlot};
 
 use gs_base::{Refusal, Stamp};
@@ -206,13 +206,23 @@ impl Slot {
         Ok(())
     }
 
+    /// Whether a lease of a stamp was the last one taken.
+    pub fn is_taken(&self, stamp: Stamp) -> bool
+        ensures { result ≡ is_taken stamp self.now.taken }
+    {
+        match self.taken {
+            Some(taken) => stamp == taken,
+            None => false,
+        }
+    }
+
     /// Takes a lease of a stamp, once for good. It is refused as `check_grant` is, and `Old` where a lease of the stamp was
     /// the last one taken. It takes no memory.
     pub fn take_lease(&mut self, stamp: Stamp) -> Result<(), Refusal>
         ensures { Does (take_lease stamp self.old) result self.old self.new }
     {
         self.check_grant(stamp)?;
-        if self.taken == Some(stamp) {
+        if self.is_taken(stamp) {
             return Err(Refusal::Old);
         }
         self.taken = Some(stamp);

@@ -2,7 +2,7 @@ ghost use Rattle.std.specs.Prelude.{◌≡◌, IfOk};
 ghost use Rattle.std.specs.Option.{option_copied};
 ghost use Rattle.std.specs.FinMap as fin;
 ghost use Rattle.gs_block.specs.Follows.{Answers, Foretells, Judges};
-ghost use Rattle.gs_store.specs.Slots.{check_grant, count_of, bad_in};
+ghost use Rattle.gs_store.specs.Slots.{check_grant, is_taken, count_of, bad_in};
 ghost use Rattle.gs_store.specs.Serving.{read, text_length, digest, edited_in, done_in};
 ghost use Rattle.gs_store.specs.Stores.{new, slot_of, check_epoch};
 
@@ -149,6 +149,16 @@ impl Store {
         match self.slot(handle) {
             Some(slot) => slot.check_grant(stamp),
             None => Err(Refusal::NoReplica),
+        }
+    }
+
+    /// Whether a lease of a stamp was the last one taken of the handle.
+    pub fn is_taken(&self, handle: Handle, stamp: Stamp) -> bool
+        ensures { result ≡ is_taken stamp (slot_of handle self.now).taken }
+    {
+        match self.slot(handle) {
+            Some(slot) => slot.is_taken(stamp),
+            None => false,
         }
     }
 

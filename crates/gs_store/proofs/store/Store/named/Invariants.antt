@@ -1,7 +1,0 @@
-use Rattle.std.proofs.Common.{◌≡◌, ◌++◌}
-use Rattle.gs_store.specs.Stores.{named_of, named}
-use Rattle.gs_store.specs.inner.Placed.{entries_at}
-use Rattle.gs_store.proofs.store.Store.named.Given as goal
-
-abbrev pub invariant-loop-handle : goal.invariant-loop-handle
-invariant-loop-handle l = l.handles.items ++ named_of l.epoch (entries_at l.handle-iterator l.self-inside.slots.items) ≡ named l.epoch l.self
