@@ -7,5 +7,6 @@ pub mod Standing
 pub mod Calls
 pub mod Buffers
 pub mod Stores
+pub mod StoreCalls
 pub mod Reported
 pub mod inner

@@ -1,13 +1,20 @@
 //! What holds of a store, whatever is called.
 
-ghost use Rattle.std.specs.Prelude.{◌≡◌, ◌≤◌, ℕ, ◌+◌, ◌==◌, false, List, length, Some, None, Ok};
+ghost use Rattle.std.specs.Prelude.{◌≡◌, ◌≤◌, ℕ, ◌+◌, ◌==◌, true, false, List, length, Some, None, Ok, is_some};
 ghost use Rattle.std.specs.FinMap as fin;
 ghost use Rattle.gs_base.specs.declared.numbers.ReqId.{ReqId};
 ghost use Rattle.gs_base.specs.declared.epoch.EpochEnd.{EpochEnd};
+ghost use Rattle.gs_base.specs.declared.epoch.EpochEnd.TheVariants.{Rollback};
 ghost use Rattle.gs_base.specs.declared.refusal.Refusal.{Refusal};
 ghost use Rattle.gs_base.specs.Stamps.{is_before};
 ghost use Rattle.std.specs.Prelude.{Result};
-ghost use Rattle.gs_store.specs.Slots.{Slot, nothing};
+ghost use Rattle.gs_replica.specs.Stands.{Edit};
+ghost use Rattle.gs_store.specs.Slots.{Slot, nothing, sealed_of};
+ghost use Rattle.gs_store.specs.Whole.{IsWholeSlot};
+ghost use Rattle.gs_store.specs.Moves.{sound_image};
+ghost use Rattle.gs_store.specs.Learning.{start_of};
+ghost use Rattle.gs_store.specs.Standing.{StandsIn, StoodIn, LiveUndamaged};
+ghost use Rattle.gs_store.specs.StoreCalls.{StoreCall, called, LeadsTo, names};
 ghost use Rattle.gs_store.specs.Buffers as buffers;
 ghost use Rattle.gs_store.specs.Stores.{Store, slot_of, at_slot, learn, gone_on, mark_bad};
 
@@ -30,6 +37,21 @@ pub fn each_slot_goes_on()
 /// No promise of a handle falls when an epoch is learned.
 pub fn promises_stay_through_epochs()
     ensures { (epoch : ℕ) (end : EpochEnd) (s s2 : Store) (handle : ℕ) → learn epoch end s ≡ Ok s2 → is_before (slot_of handle s2).promise (slot_of handle s).promise ≡ false }
+{}
+
+/// No promise of a handle falls, whatever calls come: also where other handles, an epoch, a loss, damage or a restart do.
+pub fn promises_never_fall_in_a_store()
+    ensures call { (call : StoreCall) (s s2 : Store) (handle : ℕ) → called call s ≡ Ok s2 → is_before (slot_of handle s2).promise (slot_of handle s).promise ≡ false }
+    ensures run { (calls : List StoreCall) (s end : Store) (handle : ℕ) → LeadsTo s calls end → is_before (slot_of handle end).promise (slot_of handle s).promise ≡ false }
+{}
+
+/// After a rollback a replica is live exactly where one was sealed and each block of it has its sealed digest, and exactly these
+/// are named, but for a handle whose promise was above the epoch's first stamp. What is live stands for what was sealed, without
+/// a damaged block.
+pub fn rollbacks_name_what_is_live()
+    ensures live { (epoch handle : ℕ) (s s2 : Store) → epoch ≡ s.epoch + 1 → learn epoch Rollback s ≡ Ok s2 → is_some (slot_of handle s2).live ≡ is_some (sound_image (sealed_of (slot_of handle s))) }
+    ensures named { (epoch handle : ℕ) (s s2 : Store) → epoch ≡ s.epoch + 1 → learn epoch Rollback s ≡ Ok s2 → IsWholeSlot (slot_of handle s) → is_before (start_of epoch) (slot_of handle s).promise ≡ false → names handle epoch s2 ≡ is_some (slot_of handle s2).live }
+    ensures sealed { (epoch handle : ℕ) (s s2 : Store) (edits : List Edit) → epoch ≡ s.epoch + 1 → learn epoch Rollback s ≡ Ok s2 → StoodIn s.block s.chunk (slot_of handle s) edits → is_some (slot_of handle s2).live ≡ true → StandsIn s2.block s2.chunk (slot_of handle s2) edits × LiveUndamaged (slot_of handle s2).live }
 {}
 
 /// The buffer holds 64 requests at most, and what was pushed last.
