@@ -5,3 +5,4 @@ mod Forwarded
 mod Edited
 mod Made
 mod Keeping
+mod Spent

@@ -3,3 +3,5 @@ pub mod Rooms
 pub mod Answering
 pub mod Applying
 pub mod Again
+pub mod Learning
+pub mod Spending

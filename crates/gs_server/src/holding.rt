@@ -54,6 +54,9 @@ impl Server {
         if self.is_held(handle, stamp) {
             return Ok(Turn::silent(self.alloc));
         }
+        if self.store.is_taken(handle, stamp) {
+            return Ok(Turn::refused(self.alloc, Refusal::Old));
+        }
         self.leases.reserve(handle)?;
         if let Err(refusal) = self.store.take_lease(handle, stamp) {
             return Ok(Turn::refused(self.alloc, refusal));

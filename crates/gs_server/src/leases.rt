@@ -1,19 +1,47 @@
 // The leases that a server holds, by handle.
-ghost use Rattle.std.specs.Prelude.{◌≡◌, Some, OnSome};
+ghost use Rattle.std.specs.Prelude.{◌≡◌, Some, OnSome, IfOk};
 ghost use Rattle.std.specs.FinMap as fin;
 ghost use Rattle.std.specs.Ordering.{nat_cmp};
 ghost use Rattle.gs_table.specs.Slots.{live, HasRoom};
 ghost use Rattle.gs_server.specs.Leases.{Lease, settled, with_told, renews};
+ghost use Rattle.gs_server.specs.inner.Spending.{over_of, without};
 
 use crate::lease::{Lease, ToldCounts};
 use gs_base::{Handle, Moment};
 use gs_table::Table;
+use std::alloc::{AllocError, Global};
 
 /// Spends the lease of a handle. It takes no memory.
 pub(crate) fn spend(leases: &mut Table<Handle, Lease>, handle: Handle)
     ensures { live nat_cmp leases.new ≡ fin.remove (live nat_cmp leases.old) handle }
 {
     leases.remove(handle);
+}
+
+/// The handles whose leases are over at a moment, ascending.
+pub(crate) fn over(
+    alloc: Global,
+    leases: &Table<Handle, Lease>,
+    moment: Moment,
+) -> Result<Vec<Handle>, AllocError>
+    ensures { IfOk result (λ handles. handles.items ≡ over_of moment (fin.entries (live nat_cmp leases.now))) }
+{
+    let mut handles = Vec::new(alloc);
+    for (handle, lease) in leases.iter() {
+        if lease.is_over(moment) {
+            handles.push(handle)?;
+        }
+    }
+    Ok(handles)
+}
+
+/// Spends the leases of these handles. It takes no memory.
+pub(crate) fn spend_each(leases: &mut Table<Handle, Lease>, handles: &[Handle])
+    ensures { live nat_cmp leases.new ≡ without handles.now (live nat_cmp leases.old) }
+{
+    for handle in handles {
+        spend(leases, *handle);
+    }
 }
 
 /// Takes the lease of a handle out, and leaves its room. It takes no memory.

@@ -8,6 +8,7 @@ mod events;
 mod fetching;
 mod forwarding;
 mod holding;
+mod learning;
 mod lease;
 mod leases;
 mod making;
@@ -15,6 +16,7 @@ pub mod promises;
 mod promising;
 mod sending;
 mod server;
+mod ticking;
 mod turn;
 
 pub use lease::{Lease, Open};

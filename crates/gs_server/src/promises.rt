@@ -1,8 +1,10 @@
 //! What holds of each server, whatever messages come.
 
-ghost use Rattle.std.specs.Prelude.{◌≡◌, ◌≢◌, ℕ, Bool, true, false, List, Option, Some, None};
+ghost use Rattle.std.specs.Prelude.{◌≡◌, ◌≢◌, ℕ, Bool, true, false, List, Option, Some, None, Ok, Err};
 ghost use Rattle.gs_base.specs.declared.numbers.Stamp.{Stamp};
 ghost use Rattle.gs_base.specs.declared.numbers.ReqId.{ReqId};
+ghost use Rattle.gs_base.specs.declared.epoch.EpochEnd.{EpochEnd};
+ghost use Rattle.gs_base.specs.declared.refusal.Refusal.{Refusal};
 ghost use Rattle.gs_base.specs.declared.refusal.Refusal.TheVariants as refusals;
 ghost use Rattle.gs_lease.specs.declared.held.Grant.{Grant};
 ghost use Rattle.gs_replica.specs.declared.op.Done.{Done};
@@ -12,11 +14,12 @@ ghost use Rattle.gs_msg.specs.declared.node.NodeId.{NodeId};
 ghost use Rattle.gs_msg.specs.declared.chunk.Chunk.{Chunk};
 ghost use Rattle.gs_store.specs.Slots.{Slot};
 ghost use Rattle.gs_store.specs.Serving.{done_in};
+ghost use Rattle.gs_store.specs.Stores as stores;
 ghost use Rattle.gs_server.specs.Leases.{Lease};
 ghost use Rattle.gs_server.specs.Places.{Place, Here, Part, SlotBecomes, after};
 ghost use Rattle.gs_server.specs.Edits.{edit, forward};
 ghost use Rattle.gs_server.specs.Holding.{grant};
-ghost use Rattle.gs_server.specs.Servers.{Server, place_of, restart, about_chunk};
+ghost use Rattle.gs_server.specs.Servers.{Server, store_of, place_of, restart, about_chunk, learn};
 ghost use Rattle.gs_server.specs.Laws.{IsHeldFor, IsSpent, IsAbove, LeavesIfRefused};
 
 /// No edit is numbered but under a lease that is held, that is of the promise and of the stamp that is asked for, and whose end
@@ -45,4 +48,10 @@ pub fn a_spent_lease_is_not_taken_again()
 /// leaves the lease, and the pushed bytes.
 pub fn a_refused_message_leaves_the_chunk()
     ensures { (h : Here) (p : Place) (from : NodeId) (chunk : Chunk) → LeavesIfRefused (about_chunk h p from chunk) }
+{}
+
+/// An epoch that isn't refused leaves the store as the store learns it, and a refused one leaves the server.
+pub fn a_server_learns_as_its_store_does()
+    ensures learned { (epoch : ℕ) (end : EpochEnd) (s : Server) → (learn s epoch end).said ≡ None → stores.learn epoch end (store_of s) ≡ Ok (store_of (learn s epoch end).after) }
+    ensures refused { (epoch : ℕ) (end : EpochEnd) (s : Server) (refusal : Refusal) → (learn s epoch end).said ≡ Some refusal → (stores.learn epoch end (store_of s) ≡ Err refusal) × ((learn s epoch end).after ≡ s) }
 {}

@@ -1,0 +1,8 @@
+use Rattle.std.proofs.Common.{◌≡◌, drop}
+use Rattle.std.specs.Ordering.{nat_cmp}
+use Rattle.gs_table.specs.Slots.{live}
+use Rattle.gs_server.specs.inner.Spending.{without}
+use Rattle.gs_server.proofs.leases.spend_each.Given as goal
+
+abbrev pub invariant-loop-handle : goal.invariant-loop-handle
+invariant-loop-handle l = without (drop l.handle-index l.handles) (live nat_cmp l.leases) ≡ without l.handles (live nat_cmp l.fn.leases)
