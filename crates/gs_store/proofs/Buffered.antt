@@ -1,5 +1,5 @@
 -- Pushed bytes as the cache holds them.
-use Rattle.std.proofs.Common.{◌≡◌, ℕ, suc, zero, ◌+◌, ◌-◌, ◌<◌, ◌≤◌, Bool, true, false, cond, List, [], ◌∷◌, map, take, length, Option, Some, None, refl, sym, ap, subst, ◌∙◌, arith}
+use Rattle.std.proofs.Common.{◌≡◌, ℕ, suc, zero, ◌-◌, ◌≤◌, Bool, true, false, cond, List, [], ◌∷◌, take, length, Option, Some, None, refl, sym, ap, subst, ◌∙◌, arith}
 use Rattle.std.specs.Prelude.{Vec, option_map, ◌==◌, ◌&&◌, is_some}
 use Rattle.std.specs.declared.alloc.Global.{Global}
 use Rattle.std.specs.Map.{lookup, lookup_entry, remove_entry}
@@ -9,7 +9,7 @@ use Rattle.std.proofs.lemmas.Bool.{false≢true, eqb-true}
 use Rattle.std.proofs.lemmas.List.{take_all, length-take}
 use Rattle.lru.specs.LruCache.{lru_cache, put_entries}
 use Rattle.gs_base.specs.declared.numbers.ReqId.{ReqId}
-use Rattle.gs_store.specs.Buffers.{Pushes, same_request, capacity, push, pushed, without}
+use Rattle.gs_store.specs.Buffers.{Pushes, same_request, capacity, push, without}
 use Rattle.gs_store.specs.inner.Cached.{bytes_of}
 
 abbrev Cached : Type 0

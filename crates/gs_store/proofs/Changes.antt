@@ -1,6 +1,6 @@
 -- Calls of one handle, where its slot stands in a list.
 use Rattle.std.proofs.Common.{inl, ◌≡◌, ℕ, ◌<◌, Bool, true, false, cond, List, [], ◌∷◌, ◌++◌, get_or, slice_set, length, Option, Some, None, refl, sym, ap, subst, ◌∙◌}
-use Rattle.std.specs.Prelude.{◌⊎◌, Result, Ok, Err, Vec, vec_len, not, is_ok, is_some, option_map, OnOk, OnErr, IfErr}
+use Rattle.std.specs.Prelude.{Result, Ok, Err, Vec, vec_len, not, is_ok, is_some, option_map, OnOk, OnErr, IfErr}
 use Rattle.std.specs.declared.alloc.Global.{Global}
 use Rattle.std.proofs.lemmas.List.{set-get_or, get_or_read_under}
 use Rattle.std.specs.FinMap as fin

@@ -1,10 +1,10 @@
 -- What is told of slots that stand at places.
-use Rattle.std.proofs.Common.{◌≡◌, ℕ, Bool, true, false, cond, List, [], ◌∷◌, ◌++◌, map, get_or, Option, Some, None, refl, sym, ap, subst, ◌∙◌, append_assoc, append-nil}
+use Rattle.std.proofs.Common.{◌≡◌, ℕ, List, sym, ap, ◌∙◌}
 use Rattle.std.specs.FinMap as fin
 use Rattle.std.specs.Ordering.{nat_cmp}
-use Rattle.gs_store.specs.Slots.{Slot, nothing}
-use Rattle.gs_store.specs.Stores.{Store, named_of, named, report, reports_of, report_before}
-use Rattle.gs_store.specs.inner.Placed.{slot_at, slots_at, entries_at}
+use Rattle.gs_store.specs.Slots.{Slot}
+use Rattle.gs_store.specs.Stores.{Store, named_of, named, report, reports_of}
+use Rattle.gs_store.specs.inner.Placed.{slot_at, entries_at}
 use Rattle.gs_store.proofs.Maps.{entries-each, len-each}
 use Rattle.gs_store.proofs.Changes.{seen}
 use Rattle.gs_store.specs.Buffers.{Pushes}

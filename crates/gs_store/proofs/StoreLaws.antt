@@ -1,5 +1,5 @@
 -- What holds of a store through its calls.
-use Rattle.std.proofs.Common.{◌≡◌, ℕ, ◌+◌, Bool, true, false, cond, Option, Some, None, Ok, Err, refl, sym, ap, subst, ◌∙◌, arith}
+use Rattle.std.proofs.Common.{◌≡◌, ℕ, ◌+◌, Bool, true, false, cond, Option, Some, None, Ok, Err, refl, sym, ap, subst, ◌∙◌}
 use Rattle.std.specs.Prelude.{Result, ◌==◌, ◌&&◌, option_map}
 use Rattle.std.proofs.lemmas.Bool.{false≢true, eqb-true, eq-eqb}
 use Rattle.std.specs.FinMap as fin
@@ -14,7 +14,7 @@ use Rattle.gs_base.specs.declared.refusal.Refusal.TheVariants as refusals
 use Rattle.gs_replica.specs.Seals.{roll_back_to}
 use Rattle.gs_store.specs.Slots.{Slot, nothing, sealed_of}
 use Rattle.gs_store.specs.Learning.{later, start_of}
-use Rattle.gs_store.specs.Stores.{Store, or_nothing, slot_of, with_slot, put_slot, at_slot, learn, learned, gone_on}
+use Rattle.gs_store.specs.Stores.{Store, or_nothing, slot_of, with_slot, put_slot, learn, learned, gone_on}
 use Rattle.gs_store.proofs.Maps.{get-each}
 use Rattle.gs_store.proofs.Places.{same_key}
 use Rattle.gs_store.proofs.Laws.{not_before_itself, rolled_rises}

@@ -1,5 +1,5 @@
 -- Runs of the calls of a store: promises that rise.
-use Rattle.std.proofs.Common.{◌≡◌, ℕ, ◌+◌, Bool, true, false, List, [], ◌∷◌, Option, Some, None, Ok, Err, refl, sym, ap, subst}
+use Rattle.std.proofs.Common.{◌≡◌, ℕ, Bool, true, false, List, [], ◌∷◌, Option, Some, None, Ok, Err, refl, sym, ap, subst}
 use Rattle.std.specs.Prelude.{Result, ◌==◌, option_map}
 use Rattle.std.proofs.lemmas.Bool.{eqb-true}
 use Rattle.std.specs.FinMap as fin
@@ -21,7 +21,7 @@ use Rattle.gs_store.specs.Stores.{Store, or_nothing, slot_of, with_slot, set_slo
 use Rattle.gs_store.specs.StoreCalls.{StoreCall, Creates, Advances, Drops, TakesLease, Applies, AppliesPushed, CopiesIn, MakesCopy, MarksBad, Loses, Damages, Pushes, TakesPushed, Restarts, Learns, called, LeadsTo}
 use Rattle.gs_store.proofs.Laws.{Holds, not_before_itself}
 use Rattle.gs_store.proofs.Running.{Goes, goes, never_below}
-use Rattle.gs_store.proofs.StoreLaws.{ok_same, not_ok, own_slot, other_slot, taught, slot_goes, gone_rises}
+use Rattle.gs_store.proofs.StoreLaws.{ok_same, own_slot, other_slot, taught, slot_goes, gone_rises}
 
 abbrev pub Rises : ℕ → Store → Store → Type 0
 Rises handle s s2 = is_before (slot_of handle s2).promise (slot_of handle s).promise ≡ false

@@ -1,8 +1,7 @@
 -- What clients have pushed: bytes by request, the newest first, of 64 requests at most.
-use Rattle.std.specs.Prelude.{◌≡◌, ℕ, ◌==◌, ◌&&◌, cond, Bool, List, [], ◌∷◌, take, length, Option, Some, None, zero, suc, refl}
+use Rattle.std.specs.Prelude.{◌≡◌, ℕ, ◌==◌, ◌&&◌, Bool, List, [], ◌∷◌, take, Option, Some, None, zero, suc, refl}
 use Rattle.std.specs.Coded.{Coded, coded×, coded_ℕ, coded_list}
 use Rattle.std.specs.Map.{lookup, remove_entry}
-use Rattle.gs_base.specs.declared.numbers.ClientId.{ClientId}
 use Rattle.gs_base.specs.declared.numbers.ReqId.{ReqId}
 use Rattle.gs_base.specs.contracts.numbers.ReqId as requests
 

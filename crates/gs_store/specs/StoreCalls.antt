@@ -1,10 +1,9 @@
 -- Runs of the calls that change a store.
-use Rattle.std.specs.Prelude.{◌≡◌, ℕ, List, [], ◌∷◌, ◌==◌, Bool, Option, Some, None, Result, Ok, Err, refl}
+use Rattle.std.specs.Prelude.{◌≡◌, ℕ, List, [], ◌∷◌, ◌==◌, Bool, Option, Result, Ok, refl}
 use Rattle.std.specs.List.{list_any}
 use Rattle.gs_base.specs.declared.numbers.Stamp.{Stamp}
 use Rattle.gs_base.specs.declared.numbers.ReqId.{ReqId}
 use Rattle.gs_base.specs.declared.epoch.EpochEnd.{EpochEnd}
-use Rattle.gs_base.specs.declared.epoch.EpochEnd.TheVariants.{Rollback}
 use Rattle.gs_base.specs.declared.refusal.Refusal.{Refusal}
 use Rattle.gs_replica.specs.declared.op.Op.{Op}
 use Rattle.gs_replica.specs.Copies.{Image, SealedImage}
@@ -54,5 +53,5 @@ LeadsTo s (c ∷ calls) end = (next : Store) × (called c s ≡ Ok next) × Lead
 abbrev pub names : ℕ → ℕ → Store → Bool
 names handle epoch s = list_any (λ named. handle == named) (named epoch s)
 
-a_run_of_a_rollback : (req : ReqId) (bytes : List ℕ) → LeadsTo (new 4 16) (Pushes req bytes ∷ Restarts ∷ []) (new 4 16)
-a_run_of_a_rollback req bytes = (push req bytes (new 4 16), refl, (new 4 16, refl, refl))
+pushed_and_dropped_by_a_restart : (req : ReqId) (bytes : List ℕ) → LeadsTo (new 4 16) (Pushes req bytes ∷ Restarts ∷ []) (new 4 16)
+pushed_and_dropped_by_a_restart req bytes = (push req bytes (new 4 16), refl, (new 4 16, refl, refl))

@@ -1,5 +1,5 @@
 use Rattle.std.proofs.Common.{arith}
-use Rattle.gs_store.specs.Learning.{finalized, rolled_back}
+use Rattle.gs_store.specs.Learning.{rolled_back}
 use Rattle.gs_store.proofs.Loops.{next_done}
 use Rattle.gs_store.proofs.epochs.roll_back_each.Goals as goal
 

@@ -1,5 +1,5 @@
 use Rattle.std.proofs.Common.{◌≡◌}
-use Rattle.gs_store.specs.Learning.{finalized, rolled_back}
+use Rattle.gs_store.specs.Learning.{rolled_back}
 use Rattle.gs_store.proofs.Loops.{done}
 use Rattle.gs_store.proofs.epochs.roll_back_each.Given as goal
 

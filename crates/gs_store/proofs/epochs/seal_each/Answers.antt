@@ -1,4 +1,4 @@
-use Rattle.std.proofs.Common.{◌≡◌, ◌-◌, ◌<◌, suc, map, take, length, get_or, slice_set, arith, ap, subst, sym, ◌∙◌}
+use Rattle.std.proofs.Common.{◌≡◌, ◌-◌, ◌<◌, suc, map, take, length, get_or, slice_set, arith, ap, subst, ◌∙◌}
 use Rattle.std.proofs.lemmas.List.{length-append}
 use Rattle.gs_store.specs.Learning.{prepared, held_in}
 use Rattle.gs_store.proofs.Loops.{next_left, last_off, left}

@@ -1,4 +1,4 @@
-use Rattle.std.proofs.Common.{◌≡◌, ◌+◌, ℕ, refl, sym, ap, ◌∙◌, arith}
+use Rattle.std.proofs.Common.{◌≡◌, ℕ, refl, arith}
 use Rattle.gs_store.specs.Stores.{slot_of, gone_on}
 use Rattle.gs_store.proofs.StoreLaws.{taught, slot_goes, empty_stays}
 use Rattle.gs_store.proofs.store_promises.each_slot_goes_on.Goals as goal

@@ -1,4 +1,4 @@
-use Rattle.std.proofs.Common.{sym, ◌∙◌}
+use Rattle.std.proofs.Common.{◌∙◌}
 use Rattle.gs_store.proofs.Changes.{grown_placed, grown_is}
 use Rattle.gs_store.proofs.store.Store.add.Goals as goal
 

@@ -1,8 +1,8 @@
 use Rattle.std.proofs.Common.{sym, ap, refl, ◌∙◌}
-use Rattle.gs_store.specs.Buffers.{pushed, without}
+use Rattle.gs_store.specs.Buffers.{pushed}
 use Rattle.gs_store.specs.Serving as serving
 use Rattle.gs_store.proofs.Places.{within_reach, stays_placed}
-use Rattle.gs_store.proofs.Changes.{seen, follows_at, judged_at, absent, absent_refused, does_follows, absent_judged, get_place}
+use Rattle.gs_store.proofs.Changes.{follows_at, judged_at, absent, absent_refused, does_follows, absent_judged, get_place}
 use Rattle.gs_store.proofs.Used.{refused_with, applied_with, judged_with, not_refused, still_refused, is_there}
 use Rattle.gs_store.proofs.store.Store.apply_pushed.Goals as goal
 

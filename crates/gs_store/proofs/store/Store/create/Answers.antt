@@ -1,4 +1,4 @@
-use Rattle.std.proofs.Common.{◌≡◌, Ok, Err, None, IfErr, sym, subst}
+use Rattle.std.proofs.Common.{◌≡◌, Ok, Err, None, sym, subst}
 use Rattle.gs_base.specs.declared.refusal.Refusal.TheVariants.{Memory}
 use Rattle.std.specs.FinMap as fin
 use Rattle.gs_block.specs.Follows.{Does}

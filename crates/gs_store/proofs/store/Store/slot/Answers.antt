@@ -1,4 +1,4 @@
-use Rattle.std.proofs.Common.{Some, sym, ap, ◌∙◌}
+use Rattle.std.proofs.Common.{sym}
 use Rattle.gs_store.proofs.Places.{within_reach}
 use Rattle.gs_store.proofs.Changes.{absent, get_place}
 use Rattle.gs_store.proofs.store.Store.slot.Goals as goal
