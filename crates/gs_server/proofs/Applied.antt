@@ -34,9 +34,13 @@ pub leaves_refused : (req : ReqId) (left : Bool) (m : Result Store Refusal) (e :
 leaves_refused req left (Ok t) e old new f = f
 leaves_refused req left (Err g) e old new f = f
 
-of_used : (C : Type 0) (req : ReqId) (left : Bool) (m : Result Store Refusal) (e : Refusal) (old new : Store) → Follows {B = C} (used req m) (Err e) old new → Follows {B = Nothing} (leaving req left m) (Err e) old new
-of_used C req left (Ok t) e old new f = f
-of_used C req left (Err g) e old new f = f
+of_used : (C D : Type 0) (req : ReqId) (left : Bool) (m : Result Store Refusal) (e : Refusal) (old new : Store) → Follows {B = C} (used req m) (Err e) old new → Follows {B = D} (leaving req left m) (Err e) old new
+of_used C D req left (Ok t) e old new f = f
+of_used C D req left (Err g) e old new f = f
+
+of_used_ok : (C D : Type 0) (req : ReqId) (m : Result Store Refusal) (x : C) (y : D) (old new : Store) → Follows {B = C} (used req m) (Ok x) old new → Follows {B = D} (leaving req true m) (Ok y) old new
+of_used_ok C D req (Ok t) x y old new f = f
+of_used_ok C D req (Err g) x y old new f = f
 
 -- the bytes that are found
 pub is_found : (op : Op) (bytes : List ℕ) (carried there : Option (List ℕ)) → op ≢ Pad → (length bytes == length_of op) ≡ true → bytes_of op (Some bytes) there ≡ Some bytes
@@ -67,7 +71,7 @@ pad_applied handle stamp number req (Append many) made carried there b old new i
 pad_applied handle stamp number req Pad made carried there b old new is same f =
     leaves_none req (apply handle stamp number req (in_replica Pad) [] old) b old new (subst (λ m. Follows (apply handle stamp number req m [] old) b old new) same f)
 
-found_applied : (handle : ℕ) (stamp : Stamp) (number : ℕ) (req : ReqId) (op : Op) (bytes : List ℕ) (o : Option (List ℕ)) (b : Result Nothing Refusal) (old new : Store) → op ≢ Pad → o ≡ Some bytes →
+found_applied : {D : Type 0} (handle : ℕ) (stamp : Stamp) (number : ℕ) (req : ReqId) (op : Op) (bytes : List ℕ) (o : Option (List ℕ)) (b : Result D Refusal) (old new : Store) → op ≢ Pad → o ≡ Some bytes →
     Follows (leaving req true (apply handle stamp number req (in_replica op) bytes old)) b old new → Follows (applied_with handle stamp number req op old o) b old new
 found_applied handle stamp number req op bytes o b old new isnt is f =
     subst (λ x. Follows (applied_with handle stamp number req op old x) b old new) (sym is)
@@ -87,10 +91,22 @@ carried_refused handle stamp number req op made bytes given there e old new isnt
     (leaves_refused req true (apply handle stamp number req (in_replica op) bytes old) e old new
     (subst (λ m. Follows {B = Nothing} (apply handle stamp number req m bytes old) (Err e) old new) same (subst (λ b. Follows {B = Nothing} (apply handle stamp number req made b old) (Err e) old new) alike f)))
 
-pub pushed_refused : (C : Type 0) (handle : ℕ) (stamp : Stamp) (number : ℕ) (req : ReqId) (op : Op) (made : ReplicaOp) (bytes : List ℕ) (e : Refusal) (old new : Store) → op ≢ Pad → Some bytes ≡ pushed req old.buffer → length bytes ≡ length_of op → made ≡ in_replica op →
-    Follows {B = C} (apply_with handle stamp number req made old (pushed req old.buffer)) (Err e) old new → Follows {B = Nothing} (applied_with handle stamp number req op old (bytes_of op None (pushed req old.buffer))) (Err e) old new
-pushed_refused C handle stamp number req op made bytes e old new isnt there long same f =
-    found_applied handle stamp number req op bytes (bytes_of op None (pushed req old.buffer)) (Err e) old new isnt (is_pushed op bytes (pushed req old.buffer) isnt (sym there) (same_number _ _ long))
-    (of_used C req true (apply handle stamp number req (in_replica op) bytes old) e old new
+pub pushed_refused : (C D : Type 0) (handle : ℕ) (stamp : Stamp) (number : ℕ) (req : ReqId) (op : Op) (made : ReplicaOp) (bytes : List ℕ) (e : Refusal) (old new : Store) → op ≢ Pad → Some bytes ≡ pushed req old.buffer → length bytes ≡ length_of op → made ≡ in_replica op →
+    Follows {B = C} (apply_with handle stamp number req made old (pushed req old.buffer)) (Err e) old new → Follows {B = D} (applied_with handle stamp number req op old (bytes_of op None (pushed req old.buffer))) (Err e) old new
+pushed_refused C D handle stamp number req op made bytes e old new isnt there long same f =
+    found_applied {D = D} handle stamp number req op bytes (bytes_of op None (pushed req old.buffer)) (Err e) old new isnt (is_pushed op bytes (pushed req old.buffer) isnt (sym there) (same_number _ _ long))
+    (of_used C D req true (apply handle stamp number req (in_replica op) bytes old) e old new
     (subst (λ m. Follows {B = C} (used req (apply handle stamp number req m bytes old)) (Err e) old new) same
     (subst (λ o. Follows {B = C} (apply_with handle stamp number req made old o) (Err e) old new) (sym there) f)))
+
+pub pushed_applied : (C D : Type 0) (handle : ℕ) (stamp : Stamp) (number : ℕ) (req : ReqId) (op : Op) (made : ReplicaOp) (bytes : List ℕ) (x : C) (y : D) (old new : Store) → op ≢ Pad → Some bytes ≡ pushed req old.buffer → length bytes ≡ length_of op → made ≡ in_replica op →
+    Follows {B = C} (apply_with handle stamp number req made old (pushed req old.buffer)) (Ok x) old new → Follows {B = D} (applied_with handle stamp number req op old (bytes_of op None (pushed req old.buffer))) (Ok y) old new
+pushed_applied C D handle stamp number req op made bytes x y old new isnt there long same f =
+    found_applied {D = D} handle stamp number req op bytes (bytes_of op None (pushed req old.buffer)) (Ok y) old new isnt (is_pushed op bytes (pushed req old.buffer) isnt (sym there) (same_number _ _ long))
+    (of_used_ok C D req (apply handle stamp number req (in_replica op) bytes old) x y old new
+    (subst (λ m. Follows {B = C} (used req (apply handle stamp number req m bytes old)) (Ok x) old new) same
+    (subst (λ o. Follows {B = C} (apply_with handle stamp number req made old o) (Ok x) old new) (sym there) f)))
+
+-- and they are given
+pub given_as_pushed : (op : Op) (bytes given : List ℕ) (there : Option (List ℕ)) → op ≢ Pad → Some bytes ≡ there → length bytes ≡ length_of op → there ≡ Some given → bytes_of op None there ≡ Some given
+given_as_pushed op bytes given there isnt found long is = is_pushed op bytes there isnt (sym found) (same_number _ _ long) ∙ found ∙ is

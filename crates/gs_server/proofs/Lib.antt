@@ -3,6 +3,8 @@ mod Opening
 mod Applied
 mod Forwarded
 mod Edited
+mod Numbered
 mod Made
+mod Putting
 mod Keeping
 mod Spent

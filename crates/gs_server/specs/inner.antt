@@ -5,3 +5,4 @@ pub mod Applying
 pub mod Again
 pub mod Learning
 pub mod Spending
+pub mod Numbering

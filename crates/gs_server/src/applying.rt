@@ -1,5 +1,5 @@
 // An edit that a message tells, applied to a live replica.
-ghost use Rattle.std.specs.Prelude.{◌≡◌, ◌≢◌, ℕ, List, Option, Some, None};
+ghost use Rattle.std.specs.Prelude.{◌≡◌, ◌≢◌, ℕ, List, Option, Some, None, IfOk};
 ghost use Rattle.gs_msg.specs.declared.op.Op.TheVariants.{Pad};
 ghost use Rattle.gs_block.specs.Follows.{Follows};
 ghost use Rattle.gs_store.specs.Buffers.{pushed};
@@ -9,6 +9,7 @@ ghost use Rattle.gs_server.specs.inner.Applying.{applied_with};
 use gs_base::{Handle, Refusal, ReqId, Stamp};
 use gs_msg::{Bytes, Op};
 use gs_store::Store;
+use std::alloc::Global;
 
 /// An edit with its number.
 #[derive(Clone, Copy)]
@@ -34,8 +35,31 @@ pub(crate) fn apply(
     }
     match carried {
         Some(bytes) => apply_carried(store, handle, edit, &bytes),
-        None => apply_pushed(store, handle, edit),
+        None => match apply_pushed(store, handle, edit) {
+            Ok(_) => Ok(()),
+            Err(refusal) => Err(refusal),
+        },
     }
+}
+
+/// Applies an edit with the bytes that were pushed for its request, and gives them: they leave the buffer. `NoData` where there
+/// are none, or not as many as it says.
+pub(crate) fn apply_buffered(
+    store: &mut Store,
+    alloc: Global,
+    handle: Handle,
+    edit: Numbered,
+) -> Result<Bytes, Refusal>
+    ensures edit { Follows (applied_with handle edit.stamp edit.number edit.req edit.op store.old (bytes_of edit.op None (pushed edit.req store.old.buffer))) result store.old store.new }
+    ensures bytes { IfOk result (λ bytes. bytes_of edit.op None (pushed edit.req store.old.buffer) ≡ Some bytes) }
+{
+    if let Op::Pad = edit.op {
+        return match apply_pad(store, handle, edit) {
+            Ok(()) => Ok(Bytes::new(Vec::new(alloc))),
+            Err(refusal) => Err(refusal),
+        };
+    }
+    apply_pushed(store, handle, edit)
 }
 
 fn apply_pad(store: &mut Store, handle: Handle, edit: Numbered) -> Result<(), Refusal>
@@ -81,9 +105,10 @@ fn apply_carried(
     }
 }
 
-fn apply_pushed(store: &mut Store, handle: Handle, edit: Numbered) -> Result<(), Refusal>
+fn apply_pushed(store: &mut Store, handle: Handle, edit: Numbered) -> Result<Bytes, Refusal>
     requires { edit.op ≢ Pad }
-    ensures { Follows (applied_with handle edit.stamp edit.number edit.req edit.op store.old (bytes_of edit.op None (pushed edit.req store.old.buffer))) result store.old store.new }
+    ensures edit { Follows (applied_with handle edit.stamp edit.number edit.req edit.op store.old (bytes_of edit.op None (pushed edit.req store.old.buffer))) result store.old store.new }
+    ensures bytes { IfOk result (λ bytes. bytes_of edit.op None (pushed edit.req store.old.buffer) ≡ Some bytes) }
 {
     let Some(bytes) = store.pushed(edit.req) else {
         return Err(Refusal::NoData);
@@ -93,7 +118,7 @@ fn apply_pushed(store: &mut Store, handle: Handle, edit: Numbered) -> Result<(),
     }
     let op = edit.op.in_replica();
     match store.apply_pushed(handle, edit.stamp, edit.number, edit.req, op) {
-        Ok(_) => Ok(()),
+        Ok(bytes) => Ok(Bytes::new(bytes)),
         Err(refusal) => Err(refusal),
     }
 }

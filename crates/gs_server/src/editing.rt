@@ -44,7 +44,12 @@ impl Server {
     }
 
     /// Refuses an edit, and keeps that for its client. Want of memory is handed on.
-    fn refuse_edit(&mut self, handle: Handle, req: ReqId, refusal: Refusal) -> Result<Turn, Refusal>
+    pub(crate) fn refuse_edit(
+        &mut self,
+        handle: Handle,
+        req: ReqId,
+        refusal: Refusal,
+    ) -> Result<Turn, Refusal>
         ensures step { Steps (kept_by handle req refusal self.old) result self.old self.new }
         ensures lacking { refusal ≡ Memory → result ≡ Err Memory }
         ensures unchanged { refusal ≡ Memory → self.new ≡ self.old }

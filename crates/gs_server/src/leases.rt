@@ -1,13 +1,14 @@
 // The leases that a server holds, by handle.
-ghost use Rattle.std.specs.Prelude.{◌≡◌, Some, OnSome, IfOk};
+ghost use Rattle.std.specs.Prelude.{◌≡◌, Some, None, OnSome, OnOk, OnErr, IfOk, IfErr};
 ghost use Rattle.std.specs.FinMap as fin;
 ghost use Rattle.std.specs.Ordering.{nat_cmp};
 ghost use Rattle.gs_table.specs.Slots.{live, HasRoom};
+ghost use Rattle.gs_base.specs.declared.refusal.Refusal.TheVariants.{Memory};
 ghost use Rattle.gs_server.specs.Leases.{Lease, settled, with_told, renews};
 ghost use Rattle.gs_server.specs.inner.Spending.{over_of, without};
 
-use crate::lease::{Lease, ToldCounts};
-use gs_base::{Handle, Moment};
+use crate::lease::{Lease, RoomyLease, ToldCounts};
+use gs_base::{Handle, Moment, Refusal};
 use gs_table::Table;
 use std::alloc::{AllocError, Global};
 
@@ -49,6 +50,7 @@ fn take_out(leases: &mut Table<Handle, Lease>, handle: Handle) -> Option<Lease>
     ensures value { result ≡ fin.get (live nat_cmp leases.old) handle }
     ensures taken { OnSome result (live nat_cmp leases.new ≡ fin.remove (live nat_cmp leases.old) handle) }
     ensures room { OnSome result (HasRoom nat_cmp leases.new handle) }
+    ensures none { result ≡ None → leases.new ≡ leases.old }
 {
     if leases.get(handle).is_none() {
         return None;
@@ -72,5 +74,28 @@ pub(crate) fn renew(leases: &mut Table<Handle, Lease>, handle: Handle, end: Mome
 {
     if let Some(lease) = take_out(leases, handle) {
         leases.put(handle, lease.renew(end));
+    }
+}
+
+/// Takes the lease of a handle out, with room for one more edit, and leaves its own room. `NotPrimary` where none is held.
+pub(crate) fn take_roomy(
+    leases: &mut Table<Handle, Lease>,
+    handle: Handle,
+) -> Result<RoomyLease, Refusal>
+    ensures value { IfOk result (λ lease. fin.get (live nat_cmp leases.old) handle ≡ Some lease) }
+    ensures taken { OnOk result (live nat_cmp leases.new ≡ fin.remove (live nat_cmp leases.old) handle) }
+    ensures room { OnOk result (HasRoom nat_cmp leases.new handle) }
+    ensures refused { IfErr result (λ refusal. (l : Lease) → fin.get (live nat_cmp leases.old) handle ≡ Some l → refusal ≡ Memory) }
+    ensures same { OnErr result (live nat_cmp leases.new ≡ live nat_cmp leases.old) }
+{
+    let Some(lease) = take_out(leases, handle) else {
+        return Err(Refusal::NotPrimary);
+    };
+    match lease.with_room() {
+        Ok(roomy) => Ok(roomy),
+        Err(lease) => {
+            leases.put(handle, lease);
+            Err(Refusal::Memory)
+        }
     }
 }

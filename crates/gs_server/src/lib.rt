@@ -12,6 +12,7 @@ mod learning;
 mod lease;
 mod leases;
 mod making;
+mod numbering;
 pub mod promises;
 mod promising;
 mod sending;

@@ -1,0 +1,58 @@
+-- An edit is numbered.
+use Rattle.std.specs.Prelude.{ℕ, ◌++◌, List, Option, None, Result, Ok, Err}
+use Rattle.std.specs.FinMap as fin
+use Rattle.gs_base.specs.declared.numbers.ReqId.{ReqId}
+use Rattle.gs_base.specs.declared.refusal.Refusal.{Refusal}
+use Rattle.gs_base.specs.declared.refusal.Refusal.TheVariants as refusals
+use Rattle.gs_replica.specs.declared.op.Outcome.{Outcome}
+use Rattle.gs_replica.specs.declared.op.Outcome.TheVariants.{Written, Appended, Padded}
+use Rattle.gs_msg.specs.declared.op.Op.{Op}
+use Rattle.gs_msg.specs.declared.op.Op.TheVariants.{Write, Append, Pad}
+use Rattle.gs_msg.specs.declared.message.Message.{Message}
+use Rattle.gs_store.specs.Buffers.{pushed}
+use Rattle.gs_store.specs.Serving.{length_in}
+use Rattle.gs_store.specs.Stores.{Store, slot_of}
+use Rattle.gs_server.specs.declared.lease.Open.{Open}
+use Rattle.gs_server.specs.declared.applying.Numbered.{Numbered}
+use Rattle.gs_server.specs.Edits.{bytes_of, bytes_or_none}
+use Rattle.gs_server.specs.Leases.{Lease, forwards, done_at_once, opens_edit}
+use Rattle.gs_server.specs.Servers.{Server, Step, store_of, with_store, with_leases}
+use Rattle.gs_server.specs.inner.Answering.{kept_by}
+use Rattle.gs_server.specs.inner.Applying.{applied_with}
+
+-- what an edit answers where so many bytes are stored
+abbrev pub outcome_at : ℕ → Op → Outcome
+outcome_at stored (Write offset many) = Written
+outcome_at stored (Append many) = Appended stored
+outcome_at stored Pad = Padded
+
+abbrev pub opened_at : ReqId → Op → List ℕ → ℕ → Open
+opened_at req op bytes stored = record { req = req; op = op; bytes = bytes; outcome = outcome_at stored op }
+
+-- what is told of an edit that is numbered
+abbrev pub told_of : ℕ → ℕ → Lease → ℕ → Open → List Message
+told_of me handle l number edit = forwards me handle l (number, edit) ++ done_at_once me number edit l
+
+-- it is applied, waits for the members, and is told; or it is refused
+abbrev pub opened_by : ℕ → Lease → ℕ → Open → Result Store Refusal → Server → Step
+opened_by handle l number edit (Ok t) s = record {
+  after = with_leases (fin.insert s.dropped.leases handle (opens_edit s.me number edit l)) (with_store t s);
+  sent = told_of s.me handle l number edit;
+  said = None;
+}
+opened_by handle l number edit (Err e) s = kept_by handle edit.req e s
+
+-- with the bytes that are found for it
+abbrev pub numbered_with : ℕ → Lease → Numbered → Option (List ℕ) → Server → Step
+numbered_with handle l edit bytes s =
+    opened_by handle l edit.number (opened_at edit.req edit.op (bytes_or_none bytes) (length_in (slot_of handle (store_of s)).live))
+    (applied_with handle edit.stamp edit.number edit.req edit.op (store_of s) bytes) s
+
+-- with those that were pushed
+abbrev pub numbered_by : ℕ → Lease → Numbered → Server → Step
+numbered_by handle l edit s = numbered_with handle l edit (bytes_of edit.op None (pushed edit.req s.dropped.buffer)) s
+
+-- how an edit is refused that has no number left
+abbrev pub or_exhausted : {A : Type 0} → Result A Refusal → Refusal
+or_exhausted (Ok s) = refusals.Exhausted
+or_exhausted (Err e) = e
