@@ -65,26 +65,26 @@ abbrev IsRefused : Option Refusal → Type 0
 IsRefused None = ⊥
 IsRefused (Some e) = Unit {0}
 
-never : {Z : Type 0} (e : Refusal) (o : Option Refusal) → o ≡ Some e → o ≡ None → Z
+pub never : {Z : Type 0} (e : Refusal) (o : Option Refusal) → o ≡ Some e → o ≡ None → Z
 never e o some none = elim (subst IsRefused none (subst IsRefused (sym some) tt)) [ ]
 
-head_none : (o : Option Refusal) (rest : List (Option Refusal)) → first_of (o ∷ rest) ≡ None → o ≡ None
+pub head_none : (o : Option Refusal) (rest : List (Option Refusal)) → first_of (o ∷ rest) ≡ None → o ≡ None
 head_none None rest is = refl
 head_none (Some e) rest is = never e (Some e) refl is
 
-tail_none : (o : Option Refusal) (rest : List (Option Refusal)) → first_of (o ∷ rest) ≡ None → first_of rest ≡ None
+pub tail_none : (o : Option Refusal) (rest : List (Option Refusal)) → first_of (o ∷ rest) ≡ None → first_of rest ≡ None
 tail_none None rest is = is
 tail_none (Some e) rest is = never e (Some e) refl is
 
-not_met : (test : Bool) (e : Refusal) → when test e ≡ None → test ≡ false
+pub not_met : (test : Bool) (e : Refusal) → when test e ≡ None → test ≡ false
 not_met false e is = refl
 not_met true e is = never e (Some e) refl is
 
-first_same : (a b : Bool) → (not a || not b) ≡ false → a ≡ true
+pub first_same : (a b : Bool) → (not a || not b) ≡ false → a ≡ true
 first_same true b is = refl
 first_same false b is = elim (subst (λ (x : Bool). cond x (Unit {0}) ⊥) is tt) [ ]
 
-second_same : (a b : Bool) → (not a || not b) ≡ false → b ≡ true
+pub second_same : (a b : Bool) → (not a || not b) ≡ false → b ≡ true
 second_same a true is = refl
 second_same true false is = elim (subst (λ (x : Bool). cond x (Unit {0}) ⊥) is tt) [ ]
 second_same false false is = elim (subst (λ (x : Bool). cond x (Unit {0}) ⊥) is tt) [ ]

@@ -3,8 +3,11 @@ mod Opening
 mod Applied
 mod Forwarded
 mod Edited
+mod Answered
 mod Numbered
+mod Counted
 mod Made
 mod Putting
 mod Keeping
 mod Spent
+mod NewEdits

@@ -1,4 +1,4 @@
-ghost use Rattle.std.specs.Prelude.{◌≡◌, Err};
+ghost use Rattle.std.specs.Prelude.{◌≡◌, Some, Err};
 ghost use Rattle.std.specs.FinMap as fin;
 ghost use Rattle.gs_base.specs.declared.refusal.Refusal.TheVariants.{Memory};
 ghost use Rattle.gs_msg.specs.declared.body.Body.TheVariants.{Done};
@@ -7,19 +7,21 @@ ghost use Rattle.gs_store.specs.Serving.{done_in};
 ghost use Rattle.gs_store.specs.Stores.{slot_of};
 ghost use Rattle.gs_server.specs.Leases.{tell};
 ghost use Rattle.gs_server.specs.Edits.{is_known_of_all};
-ghost use Rattle.gs_server.specs.Servers.{Steps, store_of};
+ghost use Rattle.gs_server.specs.Edits as edits;
+ghost use Rattle.gs_server.specs.Servers.{Steps, step_of, here_of, place_of, store_of};
 ghost use Rattle.gs_server.specs.inner.Again.{again, again_as_refused, StepsAgain};
 ghost use Rattle.gs_server.specs.inner.Answering.{refused_once_by, kept_by, repeated_by};
 
 use crate::lease::tell;
+use crate::numbering::NewEdit;
 use crate::server::Server;
 use crate::turn::{KeptRefusal, Turn};
-use gs_base::{Handle, Refusal, ReqId};
+use gs_base::{Handle, Moment, Refusal, ReqId};
 use gs_msg::{Body, Message, NodeId};
 use gs_replica::Outcome;
 
 impl Server {
-    fn answer_edit(&self, req: ReqId, found: Result<Outcome, Refusal>) -> Message
+    pub(crate) fn answer_edit(&self, req: ReqId, found: Result<Outcome, Refusal>) -> Message
         ensures { result ≡ tell self.now.me (Client req.client) (Done req found) }
     {
         tell(
@@ -123,5 +125,23 @@ impl Server {
             return Some(self.refuse_once(req, &Refusal::Old));
         }
         self.answer_refused(req)
+    }
+
+    /// An edit that a client asks for, at a server whose chunks have this size. One that was heard before is answered again, and
+    /// a new one is numbered.
+    pub(crate) fn edit(
+        &mut self,
+        chunk: u64,
+        handle: Handle,
+        edit: NewEdit,
+        moment: Moment,
+    ) -> Result<Turn, Refusal>
+        requires { chunk ≡ self.old.chunk }
+        ensures { Steps (step_of handle (Some edit.req) (edits.edit (here_of self.old moment handle (Some edit.req)) (place_of handle self.old) edit.req edit.stamp edit.op) self.old) result self.old self.new }
+    {
+        if let Some(answered) = self.answer_again(handle, edit.req) {
+            return answered;
+        }
+        self.new_edit(chunk, handle, edit, moment)
     }
 }

@@ -21,7 +21,7 @@ use gs_msg::{Bytes, Chunk, Message, NodeId};
 
 impl Server {
     /// How many edits the live replica has applied, and 0 where none is live.
-    fn count(&self, handle: Handle) -> u64
+    pub(crate) fn count(&self, handle: Handle) -> u64
         ensures { result ≡ count_or_none (count_of (slot_of handle (store_of self.now)).live) }
     {
         self.store.count(handle).unwrap_or(0)

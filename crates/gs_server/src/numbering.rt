@@ -1,23 +1,119 @@
-ghost use Rattle.std.specs.Prelude.{◌≡◌, ◌++◌, ℕ, Some, None, OnOk, IfOk, not, nat_lt, ◌+◌};
+ghost use Rattle.std.specs.Prelude.{◌≡◌, ◌+◌, ◌++◌, ℕ, List, true, false, Some, None, OnOk, IfOk, not, nat_lt};
+ghost use Rattle.std.specs.Option.{option_copied};
 ghost use Rattle.std.specs.FinMap as fin;
-ghost use Rattle.gs_store.specs.Serving.{length_in};
+ghost use Rattle.gs_base.specs.declared.numbers.Moment.{Moment};
+ghost use Rattle.gs_replica.specs.Edits.{is_old};
+ghost use Rattle.gs_replica.specs.declared.op.Outcome.TheVariants.{Padded};
+ghost use Rattle.gs_store.specs.Buffers.{pushed};
+ghost use Rattle.gs_store.specs.Slots.{Live};
+ghost use Rattle.gs_store.specs.Serving.{done_in, length_in};
 ghost use Rattle.gs_store.specs.Stores.{slot_of};
+ghost use Rattle.gs_store.specs.Whole.{LiveUnder};
 ghost use Rattle.gs_server.specs.Leases.{Lease};
-ghost use Rattle.gs_server.specs.Edits.{is_too_long, numbered_op, is_passed};
-ghost use Rattle.gs_server.specs.Servers.{Steps, store_of};
-ghost use Rattle.gs_server.specs.inner.Numbering.{outcome_at, told_of, numbered_by};
+ghost use Rattle.gs_server.specs.Edits.{bytes_of, new_edit, unless_numbered, is_too_long, numbered_op, is_passed, opened, numbers_as};
+ghost use Rattle.gs_server.specs.Servers.{Steps, step_of, here_of, place_of, store_of};
+ghost use Rattle.gs_server.specs.inner.Answering.{repeated_by};
+ghost use Rattle.gs_server.specs.inner.Numbering.{outcome_at, told_of, numbered_by, refused_at_last, IsReady};
 
 use crate::applying::{Numbered, apply_buffered};
 use crate::lease::Open;
 use crate::leases::take_roomy;
 use crate::server::Server;
 use crate::turn::Turn;
-use gs_base::{Handle, Refusal};
+use gs_base::{Handle, Moment, Refusal, ReqId, Stamp};
 use gs_msg::{Bytes, Message, Op};
 use gs_replica::Outcome;
 use std::alloc::AllocError;
 
+/// An edit that a client asks for.
+#[derive(Clone, Copy)]
+pub(crate) struct NewEdit {
+    pub(crate) req: ReqId,
+    pub(crate) stamp: Stamp,
+    pub(crate) op: Op,
+}
+
 impl Server {
+    /// The bytes of an edit among those that were pushed. A pad has none of its own, and wants none.
+    fn bytes_for(&self, req: ReqId, op: Op) -> Option<&[u8]>
+        ensures { option_copied result ≡ bytes_of op None (pushed req self.entry.now.dropped.buffer) }
+    {
+        if let Op::Pad = op {
+            return Some(&[]);
+        }
+        let bytes = self.store.pushed(req)?;
+        if bytes.len() as u64 == op.length() {
+            Some(bytes)
+        } else {
+            None
+        }
+    }
+
+    /// How an edit that wasn't heard before is refused before anything is asked of the replica's bytes, where a chunk has this
+    /// size.
+    fn unless_numbered(
+        &self,
+        chunk: u64,
+        handle: Handle,
+        edit: NewEdit,
+        moment: Moment,
+    ) -> Option<Refusal>
+        requires { chunk ≡ self.now.chunk }
+        ensures { result ≡ unless_numbered (here_of self.now moment handle (Some edit.req)) (place_of handle self.now) edit.stamp edit.op }
+    {
+        if self.store.count(handle).is_none() {
+            return Some(Refusal::NoReplica);
+        }
+        let Some(lease) = self.leases.get(handle) else {
+            return Some(Refusal::NotPrimary);
+        };
+        let promise = self.store.promised(handle);
+        if edit.stamp != lease.stamp() || lease.stamp() != promise {
+            return Some(Refusal::Stamp(promise));
+        }
+        if lease.is_over(moment) {
+            return Some(Refusal::LeaseOver);
+        }
+        if self.bytes_for(edit.req, edit.op).is_none() {
+            return Some(Refusal::NoData);
+        }
+        if is_too_long(chunk, edit.op) {
+            return Some(Refusal::TooLong);
+        }
+        None
+    }
+
+    /// How an edit is refused for which no number is left.
+    fn refusal_at_last(&self, handle: Handle, req: ReqId, op: Op) -> Refusal
+        ensures { result ≡ refused_at_last op (slot_of handle (store_of self.now)).live (bytes_of op None (pushed req self.now.dropped.buffer)) }
+    {
+        let Some(bytes) = self.bytes_for(req, op) else {
+            return Refusal::NoData;
+        };
+        match self.store.judge(handle, op.in_replica(), bytes) {
+            Ok(()) => Refusal::Exhausted,
+            Err(refusal) => refusal,
+        }
+    }
+
+    /// A live replica stands under the promise. A caller whose proof asks this calls it; it changes nothing.
+    fn check_promise(&self, handle: Handle)
+        ensures { LiveUnder (slot_of handle (store_of self.now)).promise (slot_of handle (store_of self.now)).live }
+    {
+        if let Some(slot) = self.store.slot(handle) {
+            slot.whole();
+        }
+    }
+
+    /// A full chunk is passed without an edit.
+    fn pass(&self, req: ReqId) -> Result<Turn, Refusal>
+        ensures { Steps (repeated_by req Padded true self.now) result self.now self.now }
+    {
+        let mut sent = Vec::new(self.alloc);
+        sent.push(self.answer_edit(req, Ok(Outcome::Padded)))?;
+        Ok(Turn { sent, said: None })
+    }
+
     /// How many bytes the live replica stores, and 0 where none is live.
     fn stored(&self, handle: Handle) -> u64
         ensures { result ≡ length_in (slot_of handle (store_of self.now)).live }
@@ -75,6 +171,49 @@ impl Server {
                 self.refuse_edit(handle, req, refusal)
             }
         }
+    }
+
+    /// Numbers an edit next, which stands under the lease that is held and is no pad of a full chunk. `Exhausted` where no number
+    /// is left, behind what the replica refuses.
+    fn number_next(&mut self, handle: Handle, edit: NewEdit) -> Result<Turn, Refusal>
+        ensures { (moment : Moment) (bytes : List ℕ) (live : Live) (l : Lease) → IsReady handle edit bytes live l self.old → Steps (step_of handle (Some edit.req) (numbers_as (here_of self.old moment handle (Some edit.req)) (place_of handle self.old) live l (opened edit.req edit.op bytes live)) self.old) result self.old self.new }
+    {
+        let NewEdit { req, stamp, op } = edit;
+        let Some(number) = self.count(handle).checked_add(1) else {
+            self.check_promise(handle);
+            let refusal = self.refusal_at_last(handle, req, op);
+            return self.refuse_edit(handle, req, refusal);
+        };
+        let numbered = Numbered {
+            stamp,
+            number,
+            req,
+            op,
+        };
+        self.number(handle, numbered)
+    }
+
+    /// Numbers an edit that wasn't heard before, where a chunk has this size. Refused, that is kept for its client.
+    pub(crate) fn new_edit(
+        &mut self,
+        chunk: u64,
+        handle: Handle,
+        edit: NewEdit,
+        moment: Moment,
+    ) -> Result<Turn, Refusal>
+        requires chunk { chunk ≡ self.old.chunk }
+        requires above { is_old edit.req.number (done_in (slot_of handle (store_of self.old)).live edit.req.client.0) ≡ false }
+        ensures { Steps (step_of handle (Some edit.req) (new_edit (here_of self.old moment handle (Some edit.req)) (place_of handle self.old) edit.req edit.stamp edit.op) self.old) result self.old self.new }
+    {
+        if let Some(refusal) = self.unless_numbered(chunk, handle, edit, moment) {
+            return self.refuse_edit(handle, edit.req, refusal);
+        }
+        let stored = self.stored(handle);
+        if is_passed(chunk, stored, edit.op) {
+            return self.pass(edit.req);
+        }
+        let op = numbered_op(chunk, stored, edit.op);
+        self.number_next(handle, NewEdit { op, ..edit })
     }
 }
 

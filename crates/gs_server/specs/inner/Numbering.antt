@@ -1,19 +1,24 @@
 -- An edit is numbered.
-use Rattle.std.specs.Prelude.{ℕ, ◌++◌, List, Option, None, Result, Ok, Err}
+use Rattle.std.specs.Prelude.{◌≡◌, ℕ, ◌++◌, true, false, List, Option, Some, None, Result, Ok, Err}
 use Rattle.std.specs.FinMap as fin
 use Rattle.gs_base.specs.declared.numbers.ReqId.{ReqId}
+use Rattle.gs_base.specs.Stamps.{is_same}
 use Rattle.gs_base.specs.declared.refusal.Refusal.{Refusal}
 use Rattle.gs_base.specs.declared.refusal.Refusal.TheVariants as refusals
+use Rattle.gs_replica.specs.Edits.{is_old}
 use Rattle.gs_replica.specs.declared.op.Outcome.{Outcome}
 use Rattle.gs_replica.specs.declared.op.Outcome.TheVariants.{Written, Appended, Padded}
 use Rattle.gs_msg.specs.declared.op.Op.{Op}
 use Rattle.gs_msg.specs.declared.op.Op.TheVariants.{Write, Append, Pad}
 use Rattle.gs_msg.specs.declared.message.Message.{Message}
 use Rattle.gs_store.specs.Buffers.{pushed}
-use Rattle.gs_store.specs.Serving.{length_in}
+use Rattle.gs_msg.specs.Ops.{in_replica}
+use Rattle.gs_store.specs.Slots.{Live}
+use Rattle.gs_store.specs.Serving.{edited_in, done_in, length_in}
 use Rattle.gs_store.specs.Stores.{Store, slot_of}
 use Rattle.gs_server.specs.declared.lease.Open.{Open}
 use Rattle.gs_server.specs.declared.applying.Numbered.{Numbered}
+use Rattle.gs_server.specs.declared.numbering.NewEdit.{NewEdit}
 use Rattle.gs_server.specs.Edits.{bytes_of, bytes_or_none}
 use Rattle.gs_server.specs.Leases.{Lease, forwards, done_at_once, opens_edit}
 use Rattle.gs_server.specs.Servers.{Server, Step, store_of, with_store, with_leases}
@@ -56,3 +61,16 @@ numbered_by handle l edit s = numbered_with handle l edit (bytes_of edit.op None
 abbrev pub or_exhausted : {A : Type 0} → Result A Refusal → Refusal
 or_exhausted (Ok s) = refusals.Exhausted
 or_exhausted (Err e) = e
+
+abbrev pub refused_at_last : Op → Option Live → Option (List ℕ) → Refusal
+refused_at_last op live None = refusals.NoData
+refused_at_last op live (Some bytes) = or_exhausted (edited_in (in_replica op) bytes live)
+
+-- an edit that wasn't heard before stands under a lease of the promise, and its bytes are there
+pub record IsReady (handle : ℕ) (edit : NewEdit) (bytes : List ℕ) (live : Live) (l : Lease) (s : Server) : Type 0 where
+  pub leased : fin.get s.dropped.leases handle ≡ Some l
+  pub lives : (slot_of handle (store_of s)).live ≡ Some live
+  pub there : bytes_of edit.op None (pushed edit.req s.dropped.buffer) ≡ Some bytes
+  pub asked : is_same edit.stamp l.grant.stamp ≡ true
+  pub promised : is_same l.grant.stamp (slot_of handle (store_of s)).promise ≡ true
+  pub above : is_old edit.req.number (done_in (slot_of handle (store_of s)).live edit.req.client.0) ≡ false
