@@ -11,7 +11,7 @@ use Rattle.gs_record.specs.Plain.{PlainEdit, PlainEntry, Edited, Said, Propose, 
 use Rattle.gs_base.specs.declared.epoch.EpochEnd.TheVariants as ends
 use Rattle.gs_record.specs.declared.checkpoint.Phase.TheVariants.{Ordinary, Upgrade, Rolling}
 use Rattle.gs_record.specs.declared.entry.Answered.{Answered}
-use Rattle.gs_master.specs.Applied.{applied, is_fresh, raised, may_edit, with_edit, after_edit, without_chunks, forgotten_by, number_of_edit, chunk_of_edit, view_for, is_fresh_if, after_if, may_propose, proposed, may_be_settled, with_view, is_next_epoch, are_at_rest, with_epoch, without_prepared, after_undoing, are_answers, rolled_back, held_by}
+use Rattle.gs_master.specs.Applied.{applied, is_fresh, raised, may_edit, names_well, with_edit, after_edit, without_chunks, forgotten_by, number_of_edit, chunk_of_edit, view_for, is_fresh_if, after_if, may_propose, proposed, may_be_settled, with_view, is_next_epoch, are_at_rest, with_epoch, without_prepared, after_undoing, are_answers, rolled_back, held_by}
 use Rattle.gs_master.specs.Durable.{Durable, is_given, after_number, is_ordinary, is_upgrade, is_rolling, prepared_view, with_prepared, kept_before}
 use Rattle.gs_master.specs.Promises.{KeepsGiven}
 use Rattle.gs_master.specs.Undoing.{edited_names, all_undone}
@@ -52,7 +52,9 @@ later_given d n epoch is = (λ g. g, λ g. g, λ g. g, omega arith)
 
 edit_given : (d : Durable) (by : ReqId) (edit : PlainEdit) (names : NamesView) (n : ℕ) → may_edit d edit ≡ true → AllGiven d (with_edit d by edit names) n
 edit_given d by edit names n may =
-    let fresh = (and_parts (is_none (chunk_of_edit edit) || is_some (view_for d (chunk_of_edit edit))) (is_fresh_if d.next_hidden (number_of_edit edit)) (and_parts (not (is_rolling d.phase)) ((is_none (chunk_of_edit edit) || is_some (view_for d (chunk_of_edit edit))) && is_fresh_if d.next_hidden (number_of_edit edit)) may).1).1 in
+    let settled = is_none (chunk_of_edit edit) || is_some (view_for d (chunk_of_edit edit)) in
+    let counted = is_fresh_if d.next_hidden (number_of_edit edit) in
+    let fresh = (and_parts settled counted (and_parts (names_well edit) (settled && counted) (and_parts (not (is_rolling d.phase)) (names_well edit && (settled && counted)) may).1).1).1 in
     let epoch = epoch_stays d (forgotten_by edit) in
     (λ g. rw (handle_stays d (forgotten_by edit)) g, λ g. rw (version_stays d (forgotten_by edit)) g, λ g. given_if d.next_hidden n (number_of_edit edit) fresh g, omega arith)
 
@@ -78,7 +80,7 @@ keeps_given (Propose chunk version) d next n not_whole e =
     let fresh = (and_parts (is_fresh d.next_version version) (is_some (fin.get d.chunks chunk) || is_fresh d.next_handle chunk) (and_parts (not (is_rolling d.phase)) (is_fresh d.next_version version && (is_some (fin.get d.chunks chunk) || is_fresh d.next_handle chunk)) is.0).1).0 in
     subst (λ (x : Durable). AllGiven d x n) is.1 (λ g. given_raised d.next_handle chunk n g, λ g. given_behind d.next_version version n fresh g, λ g. g, omega arith)
 keeps_given (Settle v) d next n not_whole e =
-    subst (λ (x : Durable). AllGiven d x n) (fits_gives (may_be_settled d.next_handle d.next_version d.epoch (fin.get d.chunks v.handle) v) (with_view d v) next e).1 (same_given d n)
+    subst (λ (x : Durable). AllGiven d x n) (fits_gives (may_be_settled d v) (with_view d v) next e).1 (same_given d n)
 keeps_given (Prepare epoch moment chunks) d next n not_whole e =
     subst (λ (x : Durable). AllGiven d x n) (fits_gives (is_ordinary d.phase && (is_next_epoch d.epoch epoch && are_at_rest d)) (without_prepared (with_epoch d ends.Prepare Upgrade)) next e).1 (later_given d n (d.epoch + 1) refl)
 keeps_given (Finalize epoch) d next n not_whole e =

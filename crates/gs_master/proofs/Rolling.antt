@@ -114,7 +114,7 @@ keeps_said req refusal d h = h
 
 pub keeps_settle : (v : SettledView) → Keeps (Settle v)
 unfolding applied
-keeps_settle v d h = either_way (may_be_settled d.next_handle d.next_version d.epoch (fin.get d.chunks v.handle) v) d (with_view d v) h h
+keeps_settle v d h = either_way (may_be_settled d v) d (with_view d v) h h
 
 edited_keeps : (d : Durable) (by : ReqId) (edit : PlainEdit) (names : Result NamesView Refusal) → is_rolling d.phase ≡ true → is_rolling (unwrap_or (after_edit d by edit names) d).phase ≡ true
 edited_keeps d by edit (Ok names) h = rw h h

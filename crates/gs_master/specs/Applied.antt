@@ -1,7 +1,7 @@
 -- What each record makes of what is durable. This is the one way by which it changes. A record that doesn't fit what it meets
 -- makes nothing of it.
-use Rattle.std.specs.Prelude.{◌≡◌, ◌&&◌, ◌||◌, ◌==◌, ◌+◌, ℕ, Bool, true, false, not, nat_lt, nat_le, List, [], ◌∷◌, ◌++◌, filter, filter_map, Option, Some, None, option_map, option_and_then, is_some, is_none, Result, Ok, Err, if◌then◌else◌, refl}
-use Rattle.std.specs.List.{list_all}
+use Rattle.std.specs.Prelude.{◌≡◌, ◌&&◌, ◌||◌, ◌==◌, ◌+◌, ℕ, Bool, true, false, not, nat_lt, nat_le, List, [], ◌∷◌, ◌++◌, filter, filter_map, codes, Option, Some, None, option_map, option_and_then, is_some, is_none, Result, Ok, Err, if◌then◌else◌, refl}
+use Rattle.std.specs.List.{list_all, list_any}
 use Rattle.std.specs.Ordering.{nat_cmp}
 use Rattle.std.specs.FinMap as fin
 use Rattle.gs_base.specs.Members.{is_member, with_member, servers_where}
@@ -11,16 +11,20 @@ use Rattle.gs_base.specs.declared.numbers.ReqId.{ReqId}
 use Rattle.gs_base.specs.declared.numbers.Stamp.{Stamp}
 use Rattle.gs_base.specs.declared.refusal.Refusal.{Refusal}
 use Rattle.gs_edit.specs.View.{NamesView}
+use Rattle.gs_path.specs.Element.{is_hidden}
+use Rattle.gs_path.specs.Path.{Name, Path}
+use Rattle.gs_tree.specs.Edits.{old_name}
 use Rattle.gs_lease.specs.declared.view.View.{View}
 use Rattle.gs_msg.specs.declared.answer.Answer.{Answer}
-use Rattle.gs_record.specs.Plain.{PlainEdit, Hide, AddChunk, Cow, Forget, PlainInverse, PlainEntry, Edited, Said, Propose, Settle, Prepare, Finalize, RollbackBegin, RollbackCommit, Whole, Holder}
+use Rattle.gs_record.specs.Encoding.{new_store}
+use Rattle.gs_record.specs.Plain.{PlainEdit, Mkdirs, Create, Rename, Hide, Unhide, Remove, AddChunk, Cow, Snapshot, Forget, PlainInverse, PlainEntry, Edited, Said, Propose, Settle, Prepare, Finalize, RollbackBegin, RollbackCommit, Whole, Holder}
 use Rattle.gs_base.specs.declared.epoch.EpochEnd.{EpochEnd}
 use Rattle.gs_base.specs.declared.epoch.EpochEnd.TheVariants as ends
 use Rattle.gs_record.specs.declared.checkpoint.Phase.{Phase}
 use Rattle.gs_record.specs.declared.checkpoint.Phase.TheVariants.{Ordinary, Upgrade, Rolling}
 use Rattle.gs_record.specs.declared.entry.Answered.{Answered}
 use Rattle.gs_record.specs.declared.entry.SettledView.{SettledView}
-use Rattle.gs_master.specs.Durable.{Settled, Durable, after_number, is_given, is_ordinary, is_upgrade, is_rolling, prepared_view, kept_before, with_prepared, is_listed}
+use Rattle.gs_master.specs.Durable.{Settled, Durable, after_number, is_given, is_ordinary, is_upgrade, is_rolling, upgrade_epoch, has_its_primary, prepared_view, kept_before, with_prepared, is_listed}
 use Rattle.gs_master.specs.Replies.{client_cmp, answer_to, is_later}
 use Rattle.gs_master.specs.Undoing.{edited_names, inverse_of, all_undone}
 use Rattle.gs_master.specs.Whole.{whole_of, is_empty}
@@ -83,10 +87,39 @@ abbrev pub after_if : ℕ → Option ℕ → ℕ
 after_if next None = next
 after_if next (Some n) = after_number n
 
--- a chunk is settled before it gets its place, the number of a deletion is fresh, and nothing is edited while rolling back
+-- ---- names
+
+-- no element of a path looks hidden
+abbrev pub is_visible : Path → Bool
+is_visible p = not (list_any is_hidden p)
+
+-- an old name to which something goes back doesn't look hidden
+abbrev pub is_visible_name : Option Name → Bool
+is_visible_name None = true
+is_visible_name (Some name) = not (is_hidden name)
+
+-- Something is hidden by a deletion alone, and only what isn't. So nothing is hidden twice, each path can be written down, and
+-- so can the answer to each edit.
+abbrev pub names_well : PlainEdit → Bool
+names_well (Mkdirs p) = is_visible p
+names_well (Create p) = is_visible p
+names_well (Rename from to) = is_visible from && is_visible to
+names_well (Hide p moment number) = is_visible p
+names_well (Unhide p) = is_visible_name (old_name p)
+names_well (Remove p) = true
+names_well (AddChunk p chunk) = is_visible p
+names_well (Cow p index old new) = is_visible p
+names_well (Snapshot from to) = is_visible from && is_visible to
+names_well (Forget chunks) = true
+
+-- ---- what an edit makes
+
+-- A chunk is settled before it gets its place, the number of a deletion is fresh, paths are as calls may name them, and nothing
+-- is edited while rolling back.
 abbrev pub may_edit : Durable → PlainEdit → Bool
 may_edit d edit =
-    not (is_rolling d.phase) && ((is_none (chunk_of_edit edit) || is_some (view_for d (chunk_of_edit edit))) && is_fresh_if d.next_hidden (number_of_edit edit))
+    not (is_rolling d.phase) && (names_well edit
+    && ((is_none (chunk_of_edit edit) || is_some (view_for d (chunk_of_edit edit))) && is_fresh_if d.next_hidden (number_of_edit edit)))
 
 -- what takes edits back is kept while an upgrade stands
 abbrev pub inverses_with : Phase → List PlainInverse → PlainInverse → List PlainInverse
@@ -135,11 +168,21 @@ abbrev pub follows_view : Option Settled → Stamp → Bool
 follows_view None stamp = true
 follows_view (Some settled) stamp = settled.is_moving && is_before settled.view.stamp stamp
 
--- a view has members, and its stamp and its chunk were given
-abbrev pub may_be_settled : ℕ → ℕ → ℕ → Option Settled → SettledView → Bool
-may_be_settled next_handle next_version epoch settled v =
-    is_given next_handle v.handle && (is_given next_version v.view.stamp.version && (nat_le v.view.stamp.epoch epoch
-    && (not (is_empty v.view.members) && follows_view settled v.view.stamp)))
+-- A chunk that isn't settled wasn't there when the upgrade was prepared that stands, so no view of before is its first.
+abbrev pub is_since : Option ℕ → Option Settled → Stamp → Bool
+is_since None settled stamp = true
+is_since (Some upgrade) None stamp = nat_le upgrade stamp.epoch
+is_since (Some upgrade) (Some settled) stamp = true
+
+-- a view has members, of which one is the primary if it has one
+abbrev pub is_sound : View → Bool
+is_sound view = not (is_empty view.members) && has_its_primary view
+
+-- a sound view, of which the stamp and the chunk were given
+abbrev pub may_be_settled : Durable → SettledView → Bool
+may_be_settled d v =
+    is_given d.next_handle v.handle && (is_given d.next_version v.view.stamp.version && (nat_le v.view.stamp.epoch d.epoch
+    && (is_sound v.view && (follows_view (fin.get d.chunks v.handle) v.view.stamp && is_since (upgrade_epoch d.phase d.epoch) (fin.get d.chunks v.handle) v.view.stamp))))
 
 abbrev pub with_view : Durable → SettledView → Durable
 with_view d v = record d {
@@ -211,7 +254,7 @@ applied d (Edited by edit) = after_edit d by edit (edited_names edit d.names)
 applied d (Said to refusal) = Some (record d { replies = with_reply d.replies to (Err refusal) })
 applied d (Propose chunk version) =
     if_fits (may_propose d.phase d.next_handle d.next_version chunk version (fin.get d.chunks chunk)) (proposed d chunk version)
-applied d (Settle v) = if_fits (may_be_settled d.next_handle d.next_version d.epoch (fin.get d.chunks v.handle) v) (with_view d v)
+applied d (Settle v) = if_fits (may_be_settled d v) (with_view d v)
 applied d (Prepare epoch moment chunks) =
     if_fits (is_ordinary d.phase && (is_next_epoch d.epoch epoch && are_at_rest d)) (without_prepared (with_epoch d ends.Prepare Upgrade))
 applied d (Finalize epoch) = if_fits (is_upgrade d.phase && is_next_epoch d.epoch epoch) (without_prepared (with_epoch d ends.Finalize Ordinary))
@@ -225,6 +268,21 @@ applied d (Holder chunk server) =
 abbrev pub replayed : Durable → List PlainEntry → Option Durable
 replayed d [] = Some d
 replayed d (entry ∷ entries) = option_and_then (λ next. replayed next entries) (applied d entry)
+
+-- ---- how many stand behind the last checkpoint
+
+abbrev pub is_whole_entry : PlainEntry → Bool
+is_whole_entry (Whole c) = true
+is_whole_entry entry = false
+
+-- so many, and these behind them
+abbrev pub counted_behind : ℕ → List PlainEntry → ℕ
+counted_behind many [] = many
+counted_behind many (entry ∷ entries) = counted_behind (if is_whole_entry entry then 0 else many + 1) entries
+
+-- of the records of a journal those behind the last checkpoint, or all
+abbrev pub records_behind : List PlainEntry → ℕ
+records_behind entries = counted_behind 0 entries
 
 -- ---- examples
 
@@ -243,14 +301,51 @@ an_old_handle = refl
 nothing_while_rolling_back : may_propose Rolling 3 7 2 7 (Some (record { view = a_view 1 5; is_moving = false })) ≡ false
 nothing_while_rolling_back = refl
 
-the_next_view : may_be_settled 3 7 1 (Some (record { view = a_view 0 5; is_moving = true })) (record { handle = 2; view = a_view 1 6 }) ≡ true
-the_next_view = refl
+a_greater_stamp : follows_view (Some (record { view = a_view 0 5; is_moving = true })) (record { epoch = 1; version = 6 }) ≡ true
+a_greater_stamp = refl
 
-that_was_not_proposed : may_be_settled 3 7 1 (Some (record { view = a_view 0 5; is_moving = false })) (record { handle = 2; view = a_view 1 6 }) ≡ false
+that_was_not_proposed : follows_view (Some (record { view = a_view 0 5; is_moving = false })) (record { epoch = 1; version = 6 }) ≡ false
 that_was_not_proposed = refl
 
-under_a_version_not_given : may_be_settled 3 7 1 None (record { handle = 2; view = a_view 1 7 }) ≡ false
-under_a_version_not_given = refl
+a_new_chunk_of_the_upgrade : is_since (Some 3) None (record { epoch = 3; version = 6 }) ≡ true
+a_new_chunk_of_the_upgrade = refl
+
+a_new_chunk_of_before : is_since (Some 3) None (record { epoch = 2; version = 6 }) ≡ false
+a_new_chunk_of_before = refl
+
+with_members : is_sound (a_view 1 6) ≡ true
+with_members = refl
+
+without_members : is_sound (record (a_view 1 6) { members = [] }) ≡ false
+without_members = refl
+
+led_by_another : is_sound (record (a_view 1 6) { term = Some (record { primary = 2; end = record { 0 = 60 } }) }) ≡ false
+led_by_another = refl
+
+-- something hidden, and what was called as if it were
+abbrev hidden_f : Path
+hidden_f = codes ".deleted.00000000000000000005.00000000000000000012.f" ∷ []
+
+abbrev hidden_twice : Path
+hidden_twice = codes ".deleted.00000000000000000005.00000000000000000012..deleted.x" ∷ []
+
+a_deletion : names_well (Hide (codes "f" ∷ []) 5 12) ≡ true
+a_deletion = refl
+
+a_deletion_of_what_is_hidden : names_well (Hide hidden_f 5 13) ≡ false
+a_deletion_of_what_is_hidden = refl
+
+back_to_its_name : names_well (Unhide hidden_f) ≡ true
+back_to_its_name = refl
+
+back_to_a_name_that_looks_hidden : names_well (Unhide hidden_twice) ≡ false
+back_to_a_name_that_looks_hidden = refl
+
+behind_none : records_behind (Finalize 2 ∷ RollbackBegin 4 ∷ []) ≡ 2
+behind_none = refl
+
+behind_one : records_behind (Finalize 2 ∷ Whole new_store ∷ RollbackBegin 4 ∷ []) ≡ 1
+behind_one = refl
 
 -- of two listed chunks the second has no reference
 abbrev prepared_on_two : ℕ → Option Prepared

@@ -2,9 +2,11 @@
 use Rattle.std.specs.Prelude.{◌≡◌, ◌&&◌, ◌||◌, ◌-◌, ◌+◌, ◌==◌, ℕ, Bool, true, false, nat_lt, List, [], ◌∷◌, Option, Some, None, is_some, if◌then◌else◌, refl}
 use Rattle.std.specs.Ordering.{nat_cmp}
 use Rattle.std.specs.FinMap as fin
+use Rattle.gs_base.specs.Members.{is_member}
 use Rattle.gs_base.specs.Numbers.{last_number}
 use Rattle.gs_edit.specs.Names.{blank}
 use Rattle.gs_edit.specs.View.{NamesView}
+use Rattle.gs_lease.specs.declared.view.Term.{Term}
 use Rattle.gs_lease.specs.declared.view.View.{View}
 use Rattle.gs_record.specs.Plain.{PlainInverse}
 use Rattle.gs_base.specs.declared.epoch.EpochEnd.{EpochEnd}
@@ -88,6 +90,16 @@ upgrade_epoch Ordinary epoch = None
 upgrade_epoch Upgrade epoch = Some epoch
 upgrade_epoch Rolling epoch = Some (epoch - 1)
 
+-- ---- views
+
+-- a view's primary is one of its members
+abbrev pub has_its_primary : View → Bool
+has_its_primary view = is_among view.term
+  where
+    is_among : Option Term → Bool
+    is_among None = true
+    is_among (Some term) = is_member view.members term.primary
+
 -- ---- prepared views
 
 -- a view that was settled before an upgrade's epoch
@@ -130,6 +142,12 @@ all_were_given = refl
 
 not_yet_given : is_given 7 7 ≡ false
 not_yet_given = refl
+
+led_by_a_member : has_its_primary (record (a_view 2) { term = Some (record { primary = 1; end = record { 0 = 60 } }) }) ≡ true
+led_by_a_member = refl
+
+led_by_another : has_its_primary (record (a_view 2) { term = Some (record { primary = 2; end = record { 0 = 60 } }) }) ≡ false
+led_by_another = refl
 
 -- the settled view has stood since the prepare of epoch 3
 unchanged : prepared_of (upgrade_epoch Upgrade 3) None (Some (record { view = a_view 2; is_moving = true })) ≡ Some (record { view = a_view 2; holders = [] })

@@ -1,11 +1,13 @@
 -- What is to hold of the definitions: of each record, of each turn, and of whatever stands.
-use Rattle.std.specs.Prelude.{◌≡◌, ◌⊎◌, ◌≤◌, ℕ, Bool, true, false, [], length, Contains, Option, Some, None, option_map, is_some, refl}
+use Rattle.std.specs.Prelude.{◌≡◌, ◌⊎◌, ◌≤◌, ◌<◌, ◌↔◌, ℕ, Bool, true, false, List, [], length, Contains, Option, Some, None, option_map, is_some, refl}
 use Rattle.std.specs.FinMap as fin
-use Rattle.std.specs.List.{list_any, list_all}
+use Rattle.std.specs.List.{list_any, list_all, AllByRecursion}
 use Rattle.gs_base.specs.declared.config.Config.{Config}
 use Rattle.gs_base.specs.declared.numbers.Moment.{Moment}
 use Rattle.gs_base.specs.declared.numbers.ClientId.{ClientId}
 use Rattle.gs_base.specs.declared.numbers.ReqId.{ReqId}
+use Rattle.gs_base.specs.declared.refusal.Refusal.TheVariants as refusals
+use Rattle.gs_base.specs.Members.{is_member}
 use Rattle.gs_edit.specs.Edits.{named}
 use Rattle.gs_edit.specs.Names.{IsCounted}
 use Rattle.gs_edit.specs.declared.edit.Edit.{Edit}
@@ -28,28 +30,32 @@ use Rattle.gs_msg.specs.declared.message.Message.{Message}
 use Rattle.gs_record.specs.Plain.{PlainEntry, Edited, Said, Propose, Settle, Prepare, Finalize, RollbackBegin, RollbackCommit, Whole, Holder, plain_edit}
 use Rattle.gs_view.specs.Choice.{Chooses}
 use Rattle.gs_view.specs.declared.answers.Answers.{Answers}
-use Rattle.gs_master.specs.Applied.{applied, replayed, is_fresh}
+use Rattle.gs_master.specs.Applied.{applied, replayed, is_fresh, is_prepared_on, is_whole_entry}
 use Rattle.gs_master.specs.Chunks.{Chunk, view_by, may_settle}
-use Rattle.gs_master.specs.Durable.{Durable, Settled, is_given, is_ordinary, is_rolling, upgrade_epoch, prepared_view, is_listed}
+use Rattle.gs_master.specs.Durable.{Durable, Settled, start, is_given, is_ordinary, is_rolling, upgrade_epoch, has_its_primary, prepared_view, is_listed}
 use Rattle.gs_master.specs.Handling.{handle, call_turn, new_call, tidied, tick}
 use Rattle.gs_master.specs.State.{State, Turn, size_of_all}
+use Rattle.gs_master.specs.Upgrades.{rollback_commit, told_of}
 use Rattle.gs_master.specs.Undoing.{named_plain, all_undone}
-use Rattle.gs_master.specs.Whole.{whole_of, checkpoint_of, are_ends, is_prepared_before}
+use Rattle.gs_master.specs.Whole.{whole_of, checkpoint_of, are_ends, are_hidden_once, is_prepared_before}
 use Rattle.gs_master.specs.declared.asking.Asking.{Asking}
 use Rattle.gs_master.specs.declared.asking.Prepared.{Prepared}
 
 -- ---- what stands
 
--- a view is of an epoch that there was, and its version was given; that of a view which a rollback gave is 0
+-- A view is of an epoch that there was, and its version was given; that of a view which a rollback gave is 0. Its primary is a
+-- member.
 pub record IsGivenView (d : Durable) (view : View) : Type 0 where
   pub epoch : view.stamp.epoch ≤ d.epoch
   pub version : (view.stamp.version ≡ 0) ⊎ (is_given d.next_version view.stamp.version ≡ true)
+  pub primary : has_its_primary view ≡ true
 
--- The rows are those of a tree, and the counts are the tree's. Each listed chunk is settled, and each settled chunk was given.
+-- The rows are those of a tree in which nothing is hidden twice, and the counts are the tree's. Each listed chunk is settled, and each settled chunk was given.
 -- The ends of epochs fit the phase. What takes edits back can be undone, and leads back to chunks that each have a prepared
 -- view, of a stamp before the upgrade. A checkpoint can tell each reply.
 pub record IsKept (d : Durable) : Type 0 where
   pub tree : is_tree (below_root (fin.entries d.names.tree)) ≡ true
+  pub hidden : are_hidden_once (fin.entries d.names.tree) ≡ true
   pub counted : IsCounted d.names
   pub settled : (chunk : ℕ) → is_listed d chunk ≡ true → is_some (fin.get d.chunks chunk) ≡ true
   pub handles : (chunk : ℕ) → is_some (fin.get d.chunks chunk) ≡ true → is_given d.next_handle chunk ≡ true
@@ -57,7 +63,7 @@ pub record IsKept (d : Durable) : Type 0 where
   pub ends : are_ends d.ends d.epoch d.phase ≡ true
   pub ordinary : upgrade_epoch d.phase d.epoch ≡ None → (d.inverses ≡ []) × ((chunk : ℕ) → fin.get d.prepared chunk ≡ None)
   pub prepared : (chunk : ℕ) (p : Prepared) → fin.get d.prepared chunk ≡ Some p → (is_given d.next_handle chunk ≡ true) × IsGivenView d p.view × (is_prepared_before (upgrade_epoch d.phase d.epoch) p.view ≡ true)
-  pub back : (names : NamesView) × (all_undone d.inverses d.names ≡ Some names)
+  pub back : (names : NamesView) × (all_undone d.inverses d.names ≡ Some names) × (are_hidden_once (fin.entries names.tree) ≡ true)
   pub restored : (names : NamesView) (chunk : ℕ) → all_undone d.inverses d.names ≡ Some names → is_ordinary d.phase ≡ false → is_some (fin.get names.refs chunk) ≡ true → is_some (prepared_view d chunk) ≡ true
   pub replies : (client : ClientId) (reply : KeptReply) → fin.get d.replies client ≡ Some reply → told_result (outcome_of reply.result) ≡ Some reply.result
 
@@ -67,15 +73,22 @@ pub record IsKept (d : Durable) : Type 0 where
 abbrev pub KeepsAll : PlainEntry → Type 0
 KeepsAll entry = (d next : Durable) → IsEntry Two entry → IsKept d → applied d entry ≡ Some next → IsKept next
 
-abbrev pub is_whole_entry : PlainEntry → Bool
-is_whole_entry (Whole c) = true
-is_whole_entry entry = false
-
--- counters never fall behind a value that was given
+-- Counters never fall behind a value that was given, and the epoch never falls. A checkpoint tells its own, which are those of
+-- what it was made of.
 abbrev pub KeepsGiven : PlainEntry → Type 0
 KeepsGiven entry = (d next : Durable) (n : ℕ) → is_whole_entry entry ≡ false → applied d entry ≡ Some next →
     (is_given d.next_handle n ≡ true → is_given next.next_handle n ≡ true) × (is_given d.next_version n ≡ true → is_given next.next_version n ≡ true)
     × (is_given d.next_hidden n ≡ true → is_given next.next_hidden n ≡ true) × (d.epoch ≤ next.epoch)
+
+-- a checkpoint of what stands tells its counters and its epoch
+pub record SameCounters (d next : Durable) : Type 0 where
+  pub handle : next.next_handle ≡ d.next_handle
+  pub version : next.next_version ≡ d.next_version
+  pub hidden : next.next_hidden ≡ d.next_hidden
+  pub epoch : next.epoch ≡ d.epoch
+
+abbrev pub TellsCounters : Type 0
+TellsCounters = (d next : Durable) → applied d (Whole (checkpoint_of d)) ≡ Some next → SameCounters d next
 
 -- records that go on within an upgrade
 abbrev pub goes_on_within : PlainEntry → Bool
@@ -93,10 +106,15 @@ goes_on_within (Holder chunk server) = true
 abbrev pub view_at_prepare : Durable → ℕ → Option View
 view_at_prepare d chunk = option_map (λ (p : Prepared). p.view) (prepared_view d chunk)
 
--- while an upgrade stands, what takes edits back leads to the names of the prepare, and each chunk's prepared view stays
+-- while an upgrade stands, what takes edits back leads to the names of the prepare
 abbrev pub LeadsBack : PlainEntry → Type 0
 LeadsBack entry = (d next : Durable) → IsKept d → is_ordinary d.phase ≡ false → goes_on_within entry ≡ true → applied d entry ≡ Some next →
-    (all_undone next.inverses next.names ≡ all_undone d.inverses d.names) × ((chunk : ℕ) → is_listed d chunk ≡ true → view_at_prepare next chunk ≡ view_at_prepare d chunk)
+    all_undone next.inverses next.names ≡ all_undone d.inverses d.names
+
+-- and each chunk's prepared view stays, also that of a chunk which was forgotten; one that had none gets none
+abbrev pub KeepsPrepared : PlainEntry → Type 0
+KeepsPrepared entry = (d next : Durable) → is_ordinary d.phase ≡ false → goes_on_within entry ≡ true → applied d entry ≡ Some next →
+    (chunk : ℕ) → view_at_prepare next chunk ≡ view_at_prepare d chunk
 
 -- what a prepare begins with
 abbrev pub BeginsWithAll : Type 0
@@ -107,7 +125,16 @@ BeginsWithAll = (d next : Durable) (epoch moment chunks : ℕ) → IsKept d → 
 abbrev pub TellsAll : Type 0
 TellsAll = (d : Durable) → IsKept d → whole_of (checkpoint_of d) ≡ Some (tidied d)
 
+-- What records lead to can be told by a checkpoint, and read from it again.
+abbrev pub IsToldAgain : Type 0
+IsToldAgain = (entries : List PlainEntry) (d : Durable) → AllByRecursion (IsEntry Two) entries → replayed start entries ≡ Some d →
+    whole_of (checkpoint_of d) ≡ Some (tidied d)
+
 -- ---- turns
+
+-- each record of a turn can be written
+abbrev pub IsWritten : Turn → Type 0
+IsWritten t = AllByRecursion (IsEntry Two) t.records
 
 -- each record of a turn fits what it meets, and together they give what is durable after it
 abbrev pub AllFit : State → Turn → Type 0
@@ -145,6 +172,29 @@ NothingWhileRolling = (config : Config) (s : State) (message : Message) (moment 
 -- and at each tick
 abbrev pub NothingAtTicks : Type 0
 NothingAtTicks = (s : State) (moment : Moment) → is_rolling s.durable.phase ≡ true → IsStill (tick s moment)
+
+-- ---- the commit of a rollback
+
+-- somebody who has the chunk as it stood at prepare has told so
+pub record IsRestored (s : State) (chunk : ℕ) : Type 0 where
+  pub server : ℕ
+  pub prepared : Prepared
+  pub kept : prepared_view s.durable chunk ≡ Some prepared
+  pub has_it : is_prepared_on prepared server ≡ true
+  pub told : is_member (told_of s chunk) server ≡ true
+
+-- A rollback can be committed: one was begun, its edits can be taken back, and each chunk that had a reference at prepare is
+-- restored.
+pub record CanCommit (s : State) : Type 0 where
+  pub begun : is_rolling s.durable.phase ≡ true
+  pub names : NamesView
+  pub back : all_undone s.durable.inverses s.durable.names ≡ Some names
+  pub restored : (chunk count : ℕ) → fin.get names.refs chunk ≡ Some count → 0 < count → IsRestored s chunk
+
+-- it is accepted exactly then, but for want of room
+abbrev pub CommitsExactly : Type 0
+CommitsExactly = (s : State) (req : ReqId) →
+    (((rollback_commit s req).said ≡ None) ⊎ ((rollback_commit s req).said ≡ Some refusals.Full)) ↔ CanCommit s
 
 -- a version that is proposed is above all before it
 abbrev pub ProposesFresh : Type 0

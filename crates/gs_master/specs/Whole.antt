@@ -1,11 +1,14 @@
 -- The checkpoint of what is durable, and which checkpoints are one.
-use Rattle.std.specs.Prelude.{◌≡◌, ◌&&◌, ◌||◌, ◌==◌, ◌-◌, ℕ, Bool, true, false, nat_lt, nat_le, List, [], ◌∷◌, map, filter, length, slice_get, codes, Option, Some, None, option_map, option_and_then, is_some, if◌then◌else◌, refl}
+use Rattle.std.specs.Prelude.{◌≡◌, ◌&&◌, ◌||◌, ◌==◌, ◌-◌, ℕ, Bool, true, false, not, nat_lt, nat_le, List, [], ◌∷◌, map, filter, length, slice_get, codes, Option, Some, None, option_map, option_and_then, is_some, if◌then◌else◌, refl}
 use Rattle.std.specs.List.{list_all, list_any}
 use Rattle.std.specs.FinMap as fin
 use Rattle.gs_base.specs.declared.numbers.ClientId.{ClientId}
+use Rattle.gs_path.specs.Element.{hidden_parts, is_hidden}
+use Rattle.gs_path.specs.Path.{Name}
 use Rattle.gs_refs.specs.Counts.{occurrences}
 use Rattle.gs_tree.specs.Build.{is_tree, rooted_rows, below_root}
 use Rattle.gs_tree.specs.Chunks.{all_chunks}
+use Rattle.gs_tree.specs.Find.{Rows}
 use Rattle.gs_edit.specs.View.{NamesView, names_of}
 use Rattle.gs_lease.specs.declared.view.View.{View}
 use Rattle.gs_record.specs.Encoding.{new_store}
@@ -17,7 +20,7 @@ use Rattle.gs_record.specs.declared.checkpoint.Phase.TheVariants.{Ordinary, Upgr
 use Rattle.gs_record.specs.declared.checkpoint.PreparedView.{PreparedView}
 use Rattle.gs_record.specs.declared.checkpoint.Reference.{Reference}
 use Rattle.gs_record.specs.declared.checkpoint.SettledEntry.{SettledEntry}
-use Rattle.gs_master.specs.Durable.{Settled, Durable, is_given, is_listed, is_ordinary, upgrade_epoch}
+use Rattle.gs_master.specs.Durable.{Settled, Durable, is_given, is_listed, is_ordinary, upgrade_epoch, has_its_primary, prepared_view}
 use Rattle.gs_master.specs.Replies.{outcome_of, told_result}
 use Rattle.gs_master.specs.Undoing.{by_text, rows_of_nodes, all_undone}
 use Rattle.gs_master.specs.declared.asking.Prepared.{Prepared}
@@ -90,9 +93,10 @@ is_phase_behind (Some ends.Rollback) Rolling = true
 abbrev pub are_ends : List EpochEnd → ℕ → Phase → Bool
 are_ends past epoch phase = (length past == epoch) && (alternate true past && is_phase_behind (slice_get past (length past - 1)) phase)
 
--- a view of a chunk and a version that were given, in an epoch that there was
+-- a view of a chunk and a version that were given, in an epoch that there was, whose primary is a member
 abbrev pub is_view_given : PlainCheckpoint → ℕ → View → Bool
-is_view_given c chunk view = is_given c.next_handle chunk && (is_given_or_first view.stamp.version && nat_le view.stamp.epoch c.epoch)
+is_view_given c chunk view =
+    is_given c.next_handle chunk && (is_given_or_first view.stamp.version && (nat_le view.stamp.epoch c.epoch && has_its_primary view))
   where
     is_given_or_first : ℕ → Bool
     is_given_or_first version = (version == 0) || is_given c.next_version version
@@ -144,10 +148,34 @@ durable_with c replies = record {
   prepared = fin.from_entries (map (λ (v : PreparedView). (v.settled.handle, record { view = v.settled.view; holders = v.holders })) c.prepared);
 }
 
+-- a name that was hidden twice: what it was hidden from looks hidden itself
+abbrev pub is_hidden_twice : Name → Bool
+is_hidden_twice name = from_hidden (hidden_parts name)
+  where
+    from_hidden : Option (ℕ × ℕ × Name) → Bool
+    from_hidden None = false
+    from_hidden (Some parts) = is_hidden parts.2
+
+abbrev pub are_hidden_once : Rows ℕ → Bool
+are_hidden_once rows = not (list_any (λ r. list_any is_hidden_twice r.0) rows)
+
+abbrev pub are_all_prepared : (ℕ → Option Prepared) → List (ℕ × ℕ) → Bool
+are_all_prepared prepared refs = list_all (λ e. is_some (prepared e.0)) refs
+
+-- Nothing is hidden twice, neither now nor in the names to which the inverses lead; and while an upgrade stands each chunk of
+-- those has a prepared view, so that a rollback can be done.
+abbrev pub can_go_back : Durable → Option NamesView → Bool
+can_go_back d None = false
+can_go_back d (Some before) =
+    are_hidden_once (fin.entries d.names.tree) && (are_hidden_once (fin.entries before.tree)
+    && (is_ordinary d.phase || are_all_prepared (prepared_view d) (fin.entries before.refs)))
+
+abbrev pub if_it_can : Durable → Option Durable
+if_it_can d = if can_go_back d (all_undone d.inverses d.names) then Some d else None
+
 -- what a checkpoint tells, if its lists are about one state, its replies have answers, and its inverses can be undone
 unfoldable pub whole_of : PlainCheckpoint → Option Durable
-whole_of c =
-    if is_whole c && is_some (all_undone c.inverses (names_in c)) then option_map (durable_with c) (told_replies c.replies) else None
+whole_of c = if is_whole c then option_and_then if_it_can (option_map (durable_with c) (told_replies c.replies)) else None
 
 -- ---- examples
 
@@ -174,6 +202,28 @@ a_chunk_that_is_not_settled = refl
 
 a_chunk_that_was_not_given : is_whole (record one_file { next_handle = 1 }) ≡ false
 a_chunk_that_was_not_given = refl
+
+a_chunk_with_a_view_of_another_epoch : is_view_given one_file 1 (record { stamp = record { epoch = 1; version = 1 }; count = 0; members = 0 ∷ []; term = None }) ≡ false
+a_chunk_with_a_view_of_another_epoch = refl
+
+led_by_another : is_view_given one_file 1 (record { stamp = record { epoch = 0; version = 1 }; count = 0; members = 0 ∷ []; term = Some (record { primary = 1; end = record { 0 = 60 } }) }) ≡ false
+led_by_another = refl
+
+hidden_once : is_hidden_twice (codes ".deleted.00000000000000000005.00000000000000000012.f") ≡ false
+hidden_once = refl
+
+hidden_twice : is_hidden_twice (codes ".deleted.00000000000000000005.00000000000000000012..deleted.x") ≡ true
+hidden_twice = refl
+
+-- chunk 2 came before the upgrade and has no prepared view, so no rollback could be done
+abbrev prepared_but_one : ℕ → Option Prepared
+prepared_but_one chunk = if chunk == 2 then None else Some (record { view = record { stamp = record { epoch = 0; version = 1 }; count = 0; members = 0 ∷ []; term = None }; holders = [] })
+
+all_prepared : are_all_prepared prepared_but_one ((1, 1) ∷ (3, 2) ∷ []) ≡ true
+all_prepared = refl
+
+one_is_not : are_all_prepared prepared_but_one ((1, 1) ∷ (2, 1) ∷ []) ≡ false
+one_is_not = refl
 
 an_upgrade : are_ends (ends.Prepare ∷ ends.Finalize ∷ ends.Prepare ∷ []) 3 Upgrade ≡ true
 an_upgrade = refl
