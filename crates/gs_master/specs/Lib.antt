@@ -10,6 +10,7 @@ pub mod Leases
 pub mod Memories
 pub mod Outcomes
 pub mod Promises
+pub mod Recorded
 pub mod Replies
 pub mod Settling
 pub mod State

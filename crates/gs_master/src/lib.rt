@@ -7,6 +7,7 @@ mod growing;
 mod memory;
 mod pending;
 pub mod promises;
+mod recorded;
 mod reply;
 
 pub use asking::{Asking, Prepared, Step};

@@ -1,0 +1,227 @@
+ghost use Rattle.std.specs.Prelude.{◌≡◌, ◌<◌, Some, Err, vec_len, vec_capacity};
+ghost use Rattle.std.specs.FinMap as fin;
+ghost use Rattle.std.specs.Ordering.{nat_cmp};
+ghost use Rattle.gs_table.specs.Slots.{HasRoom, live};
+ghost use Rattle.gs_record.specs.Plain as entries;
+ghost use Rattle.gs_master.specs.Applied.{applied, is_fresh, is_next_epoch, view_in, with_epoch, without_prepared};
+ghost use Rattle.gs_master.specs.Chunks.{was_proposed};
+ghost use Rattle.gs_base.specs.Numbers.{last_number};
+ghost use Rattle.gs_master.specs.Durable.{start, after_number, kept_before, prepared_view, upgrade_epoch};
+ghost use Rattle.gs_master.specs.Recorded.{Applies, durable_of};
+ghost use Rattle.gs_master.specs.Replies.{client_cmp, is_later};
+
+use crate::asking::Prepared;
+use crate::reply::KeptReply;
+use gs_base::{ClientId, EpochEnd, Handle, Members, Refusal, ReqId, ServerId};
+use gs_edit::{ListedInverse, Names};
+use gs_lease::{Lease, Told, View};
+use gs_record::Phase;
+use gs_table::Table;
+use std::alloc::Global;
+
+/// What the records of the journal come to. A restart reads it from them again.
+#[derive(Drop)]
+pub(crate) struct Recorded {
+    alloc: Global,
+    pub(crate) names: Names,
+    /// The chunks that the master knows, by their states. A new one moves and has no settled view.
+    pub(crate) leases: Table<Handle, Lease>,
+    /// The handle of the next chunk, or 0 where none is left. The other counters go the same way.
+    pub(crate) next_handle: u64,
+    pub(crate) next_version: u64,
+    pub(crate) next_hidden: u64,
+    pub(crate) epoch: u64,
+    pub(crate) phase: Phase,
+    pub(crate) ends: Vec<EpochEnd>,
+    pub(crate) replies: Table<ClientId, KeptReply>,
+    pub(crate) inverses: Vec<ListedInverse>,
+    pub(crate) prepared: Table<Handle, Prepared>,
+}
+
+impl Recorded {
+    /// A new store.
+    #[tactic(auto, using(crate::proofs::Recording::chunks_empty))]
+    pub fn new(alloc: Global) -> Recorded
+        ensures { durable_of result ≡ start }
+    {
+        Recorded {
+            alloc,
+            names: Names::new(alloc),
+            leases: Table::new(alloc),
+            next_handle: 1,
+            next_version: 1,
+            next_hidden: 1,
+            epoch: 0,
+            phase: Phase::Ordinary,
+            ends: Vec::new(alloc),
+            replies: Table::new(alloc),
+            inverses: Vec::new(alloc),
+            prepared: Table::new(alloc),
+        }
+    }
+
+    /// Whether a request is later than the one of its client that was answered last.
+    fn is_later(&self, to: ReqId) -> bool
+        ensures { result ≡ is_later (fin.get (durable_of self.now).replies to.client) to.number }
+    {
+        match self.replies.get(to.client) {
+            Some(reply) => reply.number < to.number,
+            None => true,
+        }
+    }
+
+    /// A request was refused. There is room for its client.
+    #[tactic(auto, unfolding(crate::specs::Applied::applied))]
+    pub fn say(&mut self, to: ReqId, refusal: Refusal)
+        requires { HasRoom client_cmp self.old.replies to.client }
+        ensures { applied (durable_of self.old) (entries.Said to refusal) ≡ Some (durable_of self.new) }
+    {
+        if self.is_later(to) {
+            let number = to.number;
+            self.replies.put(
+                to.client,
+                KeptReply {
+                    number,
+                    result: Err(refusal),
+                },
+            );
+        }
+    }
+
+    /// Gives up what was kept since prepare.
+    fn forget_prepared(&mut self)
+        ensures { durable_of self.new ≡ without_prepared (durable_of self.old) }
+    {
+        self.inverses.clear();
+        self.prepared = Table::new(self.alloc);
+    }
+
+    /// Whether this is the epoch behind the one that stands.
+    fn is_next_epoch(&self, epoch: u64) -> bool
+        ensures { result ≡ is_next_epoch (durable_of self.now).epoch epoch }
+    {
+        self.epoch.checked_add(1) == Some(epoch)
+    }
+
+    /// The next epoch begins. There is room for how this one ends.
+    fn end_epoch(&mut self, end: EpochEnd, phase: Phase)
+        requires room { vec_len self.old.ends < vec_capacity self.old.ends }
+        requires more { self.old.epoch < last_number }
+        ensures { durable_of self.new ≡ with_epoch (durable_of self.old) end phase }
+    {
+        let _pushed = self.ends.push(end);
+        self.epoch += 1;
+        self.phase = phase;
+    }
+
+    /// An upgrade is kept. There is room for how the epoch ends.
+    #[tactic(auto, unfolding(crate::specs::Applied::applied))]
+    pub fn finalize(&mut self, epoch: u64) -> Result<(), Refusal>
+        requires { vec_len self.old.ends < vec_capacity self.old.ends }
+        ensures { Applies (entries.Finalize epoch) result (durable_of self.old) (durable_of self.new) }
+    {
+        if self.phase != Phase::Upgrade || !self.is_next_epoch(epoch) {
+            return Err(Refusal::BadLine);
+        }
+        self.end_epoch(EpochEnd::Finalize, Phase::Ordinary);
+        self.forget_prepared();
+        Ok(())
+    }
+
+    /// The rollback of an upgrade is begun. There is room for how the epoch ends.
+    #[tactic(auto, unfolding(crate::specs::Applied::applied))]
+    pub fn begin_rollback(&mut self, epoch: u64) -> Result<(), Refusal>
+        requires { vec_len self.old.ends < vec_capacity self.old.ends }
+        ensures { Applies (entries.RollbackBegin epoch) result (durable_of self.old) (durable_of self.new) }
+    {
+        if self.phase != Phase::Upgrade || !self.is_next_epoch(epoch) {
+            return Err(Refusal::BadLine);
+        }
+        self.end_epoch(EpochEnd::Rollback, Phase::Rolling);
+        Ok(())
+    }
+
+    /// The settled view of a chunk.
+    #[tactic(auto, using(crate::proofs::Recording::get_chunks))]
+    pub fn view(&self, chunk: Handle) -> Option<View>
+        ensures { result ≡ view_in (fin.get (durable_of self.now).chunks chunk) }
+    {
+        Told::of(self.leases.get(chunk)?).settled
+    }
+
+    /// Whether another view of a settled chunk was proposed since.
+    #[tactic(auto, using(crate::proofs::Recording::get_chunks))]
+    pub fn is_proposed(&self, chunk: Handle) -> bool
+        ensures { result ≡ was_proposed (fin.get (durable_of self.now).chunks chunk) }
+    {
+        let Some(lease) = self.leases.get(chunk) else {
+            return false;
+        };
+        let told = Told::of(lease);
+        told.settled.is_some() && told.proposed.is_some()
+    }
+
+    /// The epoch of the upgrade that stands, also while it is rolled back.
+    fn upgrade_epoch(&self) -> Option<u64>
+        ensures { result ≡ upgrade_epoch (durable_of self.now).phase (durable_of self.now).epoch }
+    {
+        match self.phase {
+            Phase::Ordinary => None,
+            Phase::Upgrade => Some(self.epoch),
+            Phase::Rolling => Some(self.epoch.saturating_sub(1)),
+        }
+    }
+
+    /// The view of a chunk as it stood at prepare, with its holders, while an upgrade stands.
+    pub fn prepared_view(&self, chunk: Handle) -> Option<Prepared>
+        ensures { result ≡ prepared_view (durable_of self.now) chunk }
+    {
+        let upgrade = self.upgrade_epoch()?;
+        if let Some(kept) = self.prepared.get(chunk) {
+            return Some(*kept);
+        }
+        let view = self.view(chunk)?;
+        if view.stamp.epoch >= upgrade {
+            return None;
+        }
+        Some(Prepared {
+            view,
+            holders: Members::none(),
+        })
+    }
+
+    /// Before a chunk changes, its prepared view is kept. There is room for it.
+    fn keep_prepared(&mut self, chunk: Handle)
+        requires { HasRoom nat_cmp self.old.prepared chunk }
+        ensures { durable_of self.new ≡ record (durable_of self.old) { prepared = kept_before (durable_of self.old) chunk } }
+    {
+        if let Some(prepared) = self.prepared_view(chunk) {
+            self.prepared.put(
+                chunk,
+                Prepared {
+                    view: prepared.view,
+                    holders: prepared.holders,
+                },
+            );
+        }
+    }
+
+    /// A server got a copy of a chunk with its sealed image. There is room for the chunk's prepared view.
+    #[tactic(auto, unfolding(crate::specs::Applied::applied))]
+    pub fn hold(&mut self, chunk: Handle, server: ServerId) -> Result<(), Refusal>
+        requires { HasRoom nat_cmp self.old.prepared chunk }
+        ensures { Applies (entries.Holder chunk server) result (durable_of self.old) (durable_of self.new) }
+    {
+        if self.phase != Phase::Upgrade {
+            return Err(Refusal::BadLine);
+        }
+        let Some(prepared) = self.prepared_view(chunk) else {
+            return Err(Refusal::BadLine);
+        };
+        let mut holders = prepared.holders;
+        holders.insert(server);
+        let view = prepared.view;
+        self.prepared.put(chunk, Prepared { view, holders });
+        Ok(())
+    }
+}
