@@ -1,13 +1,22 @@
 -- What a table of leases tells of its chunks.
 use Rattle.std.proofs.Common.{◌≡◌, ◌∙◌, ℕ, Bool, true, false, cond, List, [], ◌∷◌, map, refl, ap, sym}
-use Rattle.std.specs.Prelude.{Option, Some, None, option_and_then}
+use Rattle.std.specs.Prelude.{Option, Some, None, option_and_then, is_some, unwrap_or}
+use Rattle.std.proofs.lemmas.Bool.{false≢true}
 use Rattle.std.specs.Cmp.{nat_cmp_total}
 use Rattle.std.specs.Ordering.{nat_cmp, eq_by_cmp}
 use Rattle.std.specs.FinMap as fin
+use Rattle.gs_base.specs.declared.numbers.Stamp.{Stamp}
+use Rattle.gs_lease.specs.Transitions.{restored}
 use Rattle.gs_lease.specs.declared.lease.Lease.{Lease}
+use Rattle.gs_lease.specs.declared.view.Term.{Term}
+use Rattle.gs_lease.specs.declared.view.View.{View}
 use Rattle.gs_table.specs.Slots.{live, set_live}
-use Rattle.gs_master.specs.Durable.{Settled}
-use Rattle.gs_master.specs.Recorded.{chunks_of, settled_by}
+use Rattle.gs_record.specs.Plain.{Settle}
+use Rattle.gs_record.specs.declared.entry.SettledView.{SettledView}
+use Rattle.gs_master.specs.Applied.{applied, may_be_settled, view_in, with_proposal}
+use Rattle.gs_master.specs.Durable.{Durable, Settled, kept_before}
+use Rattle.gs_master.specs.Recorded.{chunks_of, durable_of, settled_by}
+use Rattle.gs_master.specs.declared.recorded.Recorded.{Recorded}
 
 get_set : (k : ℕ) (settled : Option Settled) (m : fin.FinMap nat_cmp Settled) (q : ℕ) → fin.get (set_live k settled m) q ≡ cond (eq_by_cmp nat_cmp q k) settled (fin.get m q)
 get_set k (Some s) m q = fin.get-insert nat_cmp_total m k s q
@@ -55,3 +64,51 @@ chunks_remove leases k = fin.same_map nat_cmp_total fin.nat_cmp-IsAntisymmetric 
     ∙ sym (either_none (eq_by_cmp nat_cmp q k) (fin.get leases q))
     ∙ ap (cond (eq_by_cmp nat_cmp q k) None) (sym (get_chunks leases q))
     ∙ sym (fin.get-remove nat_cmp_total (chunks_of leases) k q))
+
+-- ---- what a record makes of the table
+
+view_is : (view : View) (settled : Option Settled) → Some view ≡ view_in settled → (s : Settled) × (settled ≡ Some s) × (s.view ≡ view)
+view_is view None is = absurd (false≢true (sym (ap is_some is)))
+view_is view (Some s) is = (s, refl, ap (λ o. unwrap_or o view) (sym is))
+
+moved_on : (d : Durable) (leases : fin.FinMap nat_cmp Lease) (k : ℕ) (view : View) (stamp : Stamp) (s : Settled) → d.chunks ≡ chunks_of leases → s.view ≡ view →
+    chunks_of (fin.insert leases k (restored view (Some stamp))) ≡ with_proposal d k (Some s)
+moved_on d leases k view stamp s all is =
+    chunks_put leases k (restored view (Some stamp)) (record { view = view; is_moving = true }) refl
+    ∙ ap (λ m. fin.insert m k (record { view = view; is_moving = true })) (sym all)
+    ∙ ap (λ v. fin.insert d.chunks k (record { view = v; is_moving = true })) (sym is)
+
+-- a settled chunk moves
+pub proposal_put : (d : Durable) (leases : fin.FinMap nat_cmp Lease) (k : ℕ) (view : View) (stamp : Stamp) (settled : Option Settled) → d.chunks ≡ chunks_of leases → Some view ≡ view_in settled →
+    chunks_of (fin.insert leases k (restored view (Some stamp))) ≡ with_proposal d k settled
+proposal_put d leases k view stamp settled all is =
+    let has = view_is view settled is in
+    moved_on d leases k view stamp has.0 all has.2 ∙ ap (with_proposal d k) (sym has.1)
+
+told_again : (stamp : Stamp) (count : ℕ) (members : List ℕ) (term : Option Term) →
+    settled_by (restored (record { stamp = stamp; count = count; members = members; term = term }) None) ≡ Some (record { view = record { stamp = stamp; count = count; members = members; term = term }; is_moving = false })
+told_again stamp count members None = refl
+told_again stamp count members (Some term) = refl
+
+-- a chunk is settled
+pub settling_put : (leases : fin.FinMap nat_cmp Lease) (k : ℕ) (view : View) → chunks_of (fin.insert leases k (restored view None)) ≡ fin.insert (chunks_of leases) k (record { view = view; is_moving = false })
+settling_put leases k view = chunks_put leases k (restored view None) (record { view = view; is_moving = false }) (told_again view.stamp view.count view.members view.term)
+
+with_others : (d e : Durable) (m n : fin.FinMap nat_cmp Settled) → d ≡ e → m ≡ n → record d { chunks = m } ≡ record e { chunks = n }
+with_others d e m n p q = λ i. record (p i) { chunks = q i }
+
+pub marked : (r : Recorded) (slots : List (ℕ × Option Lease)) (k : ℕ) (lease : Lease) (view : View) (stamp : Stamp) →
+    live nat_cmp slots ≡ fin.insert (live nat_cmp r.leases) k lease → lease ≡ restored view (Some stamp) → Some view ≡ view_in (fin.get (durable_of r).chunks k) →
+    record (durable_of r) { chunks = chunks_of (live nat_cmp slots) } ≡ record (durable_of r) { chunks = with_proposal (durable_of r) k (fin.get (durable_of r).chunks k) }
+marked r slots k lease view stamp put is has =
+    ap (λ m. record (durable_of r) { chunks = m })
+    (ap chunks_of put ∙ ap (λ l. chunks_of (fin.insert (live nat_cmp r.leases) k l)) is ∙ proposal_put (durable_of r) (live nat_cmp r.leases) k view stamp (fin.get (durable_of r).chunks k) refl has)
+
+pub settled_gives : (old mid : Recorded) (slots : List (ℕ × Option Lease)) (v : SettledView) (lease : Lease) → may_be_settled (durable_of old) v ≡ true →
+    durable_of mid ≡ record (durable_of old) { prepared = kept_before (durable_of old) v.handle } → mid.leases ≡ old.leases →
+    live nat_cmp slots ≡ fin.insert (live nat_cmp mid.leases) v.handle lease → lease ≡ restored v.view None →
+    applied (durable_of old) (Settle v) ≡ Some (record (durable_of mid) { chunks = chunks_of (live nat_cmp slots) })
+unfolding applied
+settled_gives old mid slots v lease may kept same put is =
+    let chunks = ap chunks_of (put ∙ ap (λ l. fin.insert (live nat_cmp l) v.handle lease) same ∙ ap (fin.insert (live nat_cmp old.leases) v.handle) is) ∙ settling_put (live nat_cmp old.leases) v.handle v.view in
+    rw may (ap Some (with_others _ _ _ _ (sym kept) (sym chunks)))

@@ -1,21 +1,21 @@
-ghost use Rattle.std.specs.Prelude.{◌≡◌, ◌<◌, Some, Err, vec_len, vec_capacity};
+ghost use Rattle.std.specs.Prelude.{◌≡◌, ◌<◌, ◌&&◌, Some, vec_len, vec_capacity};
 ghost use Rattle.std.specs.FinMap as fin;
 ghost use Rattle.std.specs.Ordering.{nat_cmp};
 ghost use Rattle.gs_table.specs.Slots.{HasRoom, live};
 ghost use Rattle.gs_record.specs.Plain as entries;
-ghost use Rattle.gs_master.specs.Applied.{applied, is_fresh, is_next_epoch, view_in, with_epoch, without_prepared};
+ghost use Rattle.gs_master.specs.Applied.{applied, follows_view, is_fresh, is_next_epoch, is_since, is_sound, may_be_settled, may_propose, raised, view_in, with_epoch, with_proposal, without_prepared};
 ghost use Rattle.gs_master.specs.Chunks.{was_proposed};
 ghost use Rattle.gs_base.specs.Numbers.{last_number};
-ghost use Rattle.gs_master.specs.Durable.{start, after_number, kept_before, prepared_view, upgrade_epoch};
+ghost use Rattle.gs_master.specs.Durable.{start, after_number, is_given, kept_before, prepared_view, upgrade_epoch};
 ghost use Rattle.gs_master.specs.Recorded.{Applies, durable_of};
 ghost use Rattle.gs_master.specs.Replies.{client_cmp, is_later};
 
 use crate::asking::Prepared;
 use crate::reply::KeptReply;
-use gs_base::{ClientId, EpochEnd, Handle, Members, Refusal, ReqId, ServerId};
+use gs_base::{ClientId, EpochEnd, Handle, Members, Refusal, ReqId, ServerId, Stamp};
 use gs_edit::{ListedInverse, Names};
-use gs_lease::{Lease, Told, View};
-use gs_record::Phase;
+use gs_lease::{Lease, Told, View, restore};
+use gs_record::{Phase, SettledView};
 use gs_table::Table;
 use std::alloc::Global;
 
@@ -193,7 +193,8 @@ impl Recorded {
     /// Before a chunk changes, its prepared view is kept. There is room for it.
     fn keep_prepared(&mut self, chunk: Handle)
         requires { HasRoom nat_cmp self.old.prepared chunk }
-        ensures { durable_of self.new ≡ record (durable_of self.old) { prepared = kept_before (durable_of self.old) chunk } }
+        ensures value { durable_of self.new ≡ record (durable_of self.old) { prepared = kept_before (durable_of self.old) chunk } }
+        ensures leases { self.new.leases ≡ self.old.leases }
     {
         if let Some(prepared) = self.prepared_view(chunk) {
             self.prepared.put(
@@ -223,5 +224,129 @@ impl Recorded {
         let view = prepared.view;
         self.prepared.put(chunk, Prepared { view, holders });
         Ok(())
+    }
+
+    /// Whether a view of a chunk may be proposed under this version.
+    fn may_propose(&self, chunk: Handle, version: u64) -> bool
+        ensures { result ≡ may_propose (durable_of self.now).phase (durable_of self.now).next_handle (durable_of self.now).next_version chunk version (fin.get (durable_of self.now).chunks chunk) }
+    {
+        if self.phase == Phase::Rolling || !is_fresh(self.next_version, version) {
+            return false;
+        }
+        self.view(chunk).is_some() || is_fresh(self.next_handle, chunk.number())
+    }
+
+    /// A settled chunk moves, and nobody is asked by that alone. One that isn't settled stays as it is.
+    fn mark_moving(&mut self, chunk: Handle, stamp: Stamp)
+        requires { HasRoom nat_cmp self.old.leases chunk }
+        ensures { durable_of self.new ≡ record (durable_of self.old) { chunks = with_proposal (durable_of self.old) chunk (fin.get (durable_of self.old).chunks chunk) } }
+    {
+        if let Some(view) = self.view(chunk) {
+            self.leases.put(chunk, restore(view, Some(stamp)));
+        }
+    }
+
+    /// A view of a chunk is proposed. There is room for the chunk.
+    #[tactic(auto, unfolding(crate::specs::Applied::applied))]
+    pub fn propose(&mut self, chunk: Handle, version: u64) -> Result<(), Refusal>
+        requires { HasRoom nat_cmp self.old.leases chunk }
+        ensures { Applies (entries.Propose chunk version) result (durable_of self.old) (durable_of self.new) }
+    {
+        if !self.may_propose(chunk, version) {
+            return Err(Refusal::BadLine);
+        }
+        let epoch = self.epoch;
+        self.mark_moving(chunk, Stamp { epoch, version });
+        self.next_handle = raised(self.next_handle, chunk.number());
+        self.next_version = after_number(version);
+        Ok(())
+    }
+
+    /// Whether a view has a stamp that may follow what is settled of its chunk.
+    fn may_follow(&self, settled: &SettledView) -> bool
+        ensures { result ≡ (follows_view (fin.get (durable_of self.now).chunks settled.now.handle) settled.now.view.stamp && is_since (upgrade_epoch (durable_of self.now).phase (durable_of self.now).epoch) (fin.get (durable_of self.now).chunks settled.now.handle) settled.now.view.stamp) }
+    {
+        let stamp = settled.view.stamp;
+        match self.view(settled.handle) {
+            Some(view) => self.is_proposed(settled.handle) && view.stamp < stamp,
+            None => match self.upgrade_epoch() {
+                Some(upgrade) => upgrade <= stamp.epoch,
+                None => true,
+            },
+        }
+    }
+
+    /// Whether a view may be settled.
+    fn may_be_settled(&self, settled: &SettledView) -> bool
+        ensures { result ≡ may_be_settled (durable_of self.now) settled.now }
+    {
+        let view = settled.view;
+        if !is_given(self.next_handle, settled.handle.number())
+            || !is_given(self.next_version, view.stamp.version)
+        {
+            return false;
+        }
+        view.stamp.epoch <= self.epoch && is_sound(&view) && self.may_follow(settled)
+    }
+
+    /// A view of a chunk is settled. There is room for the chunk, and for its prepared view.
+    #[tactic(auto, unfolding(crate::specs::Applied::applied))]
+    pub fn settle(&mut self, settled: &SettledView) -> Result<(), Refusal>
+        requires chunk { HasRoom nat_cmp self.old.leases settled.now.handle }
+        requires prepared { HasRoom nat_cmp self.old.prepared settled.now.handle }
+        ensures { Applies (entries.Settle settled.now) result (durable_of self.old) (durable_of self.new) }
+    {
+        if !self.may_be_settled(settled) {
+            return Err(Refusal::BadLine);
+        }
+        self.keep_prepared(settled.handle);
+        self.leases.put(settled.handle, restore(settled.view, None));
+        Ok(())
+    }
+}
+
+/// Whether a counter has given a value.
+fn is_given(next: u64, number: u64) -> bool
+    ensures { result ≡ is_given next number }
+{
+    0 < number && (next == 0 || number < next)
+}
+
+/// Whether a counter hasn't given a value yet.
+fn is_fresh(next: u64, number: u64) -> bool
+    ensures { result ≡ is_fresh next number }
+{
+    0 < number && !is_given(next, number)
+}
+
+/// A counter behind the value that it gave last.
+fn after_number(number: u64) -> u64
+    ensures { result ≡ after_number number }
+{
+    number.checked_add(1).unwrap_or(0)
+}
+
+/// A counter behind a value, if it hasn't given it yet.
+fn raised(next: u64, number: u64) -> u64
+    ensures { result ≡ raised next number }
+{
+    if is_fresh(next, number) {
+        after_number(number)
+    } else {
+        next
+    }
+}
+
+/// Whether a view has members, and its primary is one of them if it has one.
+fn is_sound(view: &View) -> bool
+    ensures { result ≡ is_sound view.now }
+{
+    let members = view.members;
+    if members.is_empty() {
+        return false;
+    }
+    match view.term {
+        Some(term) => members.contains(term.primary),
+        None => true,
     }
 }
