@@ -1,7 +1,9 @@
 -- What a table of leases tells of its chunks.
-use Rattle.std.proofs.Common.{◌≡◌, ◌∙◌, ℕ, Bool, true, false, cond, List, [], ◌∷◌, map, refl, ap, sym}
+use Rattle.std.proofs.Common.{◌≡◌, ◌∙◌, ℕ, Bool, true, false, cond, List, [], ◌∷◌, ◌&&◌, ◌||◌, not, map, filter, refl, ap, subst, sym}
 use Rattle.std.specs.Prelude.{Option, Some, None, option_and_then, is_some, unwrap_or}
 use Rattle.std.proofs.lemmas.Bool.{false≢true}
+use Rattle.std.specs.List.{list_all}
+use Rattle.std.specs.List.Sorted.{IsStrictlySortedBy}
 use Rattle.std.specs.Cmp.{nat_cmp_total}
 use Rattle.std.specs.Ordering.{nat_cmp, eq_by_cmp}
 use Rattle.std.specs.FinMap as fin
@@ -10,12 +12,13 @@ use Rattle.gs_lease.specs.Transitions.{restored}
 use Rattle.gs_lease.specs.declared.lease.Lease.{Lease}
 use Rattle.gs_lease.specs.declared.view.Term.{Term}
 use Rattle.gs_lease.specs.declared.view.View.{View}
-use Rattle.gs_table.specs.Slots.{live, set_live}
+use Rattle.gs_table.proofs.Lives.{entries-live}
+use Rattle.gs_table.specs.Slots.{live, live_entries, set_live}
 use Rattle.gs_record.specs.Plain.{Settle}
 use Rattle.gs_record.specs.declared.entry.SettledView.{SettledView}
-use Rattle.gs_master.specs.Applied.{applied, may_be_settled, view_in, with_proposal}
-use Rattle.gs_master.specs.Durable.{Durable, Settled, kept_before}
-use Rattle.gs_master.specs.Recorded.{chunks_of, durable_of, settled_by}
+use Rattle.gs_master.specs.Applied.{applied, are_at_rest, is_at_rest, may_be_settled, view_in, with_proposal}
+use Rattle.gs_master.specs.Durable.{Durable, Settled, is_listed, kept_before}
+use Rattle.gs_master.specs.Recorded.{chunks_of, durable_of, rests, settled_by}
 use Rattle.gs_master.specs.declared.recorded.Recorded.{Recorded}
 
 get_set : (k : ℕ) (settled : Option Settled) (m : fin.FinMap nat_cmp Settled) (q : ℕ) → fin.get (set_live k settled m) q ≡ cond (eq_by_cmp nat_cmp q k) settled (fin.get m q)
@@ -112,3 +115,60 @@ unfolding applied
 settled_gives old mid slots v lease may kept same put is =
     let chunks = ap chunks_of (put ∙ ap (λ l. fin.insert (live nat_cmp l) v.handle lease) same ∙ ap (fin.insert (live nat_cmp old.leases) v.handle) is) ∙ settling_put (live nat_cmp old.leases) v.handle v.view in
     rw may (ap Some (with_others _ _ _ _ (sym kept) (sym chunks)))
+
+-- ---- chunks at rest
+
+abbrev told_entry : ℕ × Lease → ℕ × Option Settled
+told_entry e = (e.0, settled_by e.1)
+
+same_keys : (es : List (ℕ × Lease)) → map (λ (e : ℕ × Option Settled). e.0) (map told_entry es) ≡ map (λ (e : ℕ × Lease). e.0) es
+same_keys [] = refl
+same_keys (e ∷ es) = ap (λ keys. e.0 ∷ keys) (same_keys es)
+
+-- the settled chunks in their order
+entries_chunks : (leases : fin.FinMap nat_cmp Lease) → IsStrictlySortedBy nat_cmp (map (λ (e : ℕ × Lease). e.0) (fin.entries leases)) → fin.entries (chunks_of leases) ≡ live_entries (map told_entry (fin.entries leases))
+unfolding chunks_of
+entries_chunks leases rising =
+    entries-live nat_cmp_total fin.nat_cmp-IsAntisymmetric (map told_entry (fin.entries leases)) (subst (IsStrictlySortedBy nat_cmp) (sym (same_keys (fin.entries leases))) rising)
+
+one_rests : (listed : ℕ → Bool) (k : ℕ) (settled : Option Settled) (rest : List (ℕ × Option Settled)) →
+    (not (listed k) || rests settled) && list_all (λ e. is_at_rest e.1) (filter (λ e. listed e.0) (live_entries rest))
+    ≡ list_all (λ e. is_at_rest e.1) (filter (λ e. listed e.0) (live_entries ((k, settled) ∷ rest)))
+one_rests listed k None rest = by_case (listed k)
+  where
+    by_case : (l : Bool) → (not l || true) && list_all (λ e. is_at_rest e.1) (filter (λ e. listed e.0) (live_entries rest)) ≡ list_all (λ e. is_at_rest e.1) (filter (λ e. listed e.0) (live_entries rest))
+    by_case true = refl
+    by_case false = refl
+one_rests listed k (Some s) rest = by_case (listed k)
+  where
+    by_case : (l : Bool) → (not l || is_at_rest s) && list_all (λ e. is_at_rest e.1) (filter (λ e. listed e.0) (live_entries rest))
+        ≡ list_all (λ (e : ℕ × Settled). is_at_rest e.1) (cond l ((k, s) ∷ filter (λ e. listed e.0) (live_entries rest)) (filter (λ e. listed e.0) (live_entries rest)))
+    by_case true = refl
+    by_case false = refl
+
+all_rest : (listed : ℕ → Bool) (es : List (ℕ × Lease)) → list_all (λ e. not (listed e.0) || rests (settled_by e.1)) es ≡ list_all (λ e. is_at_rest e.1) (filter (λ e. listed e.0) (live_entries (map told_entry es)))
+all_rest listed [] = refl
+all_rest listed (e ∷ es) = ap (λ b. (not (listed e.0) || rests (settled_by e.1)) && b) (all_rest listed es) ∙ one_rests listed e.0 (settled_by e.1) (map told_entry es)
+
+abbrev pub all_rest_in : Recorded → List (ℕ × Lease) → Bool
+all_rest_in r es = list_all (λ (e : ℕ × Lease). not (is_listed (durable_of r) e.0) || rests (settled_by e.1)) es
+
+pub goes_on : (listed rest all : Bool) → listed && not rest ≡ false → (not listed || rest) && all ≡ all
+goes_on true true all h = refl
+goes_on true false all h = absurd (false≢true (sym h))
+goes_on false rest all h = refl
+
+pub ends_there : (listed rest all : Bool) → listed && not rest ≡ true → (not listed || rest) && all ≡ false
+ends_there true true all h = absurd (false≢true h)
+ends_there true false all h = refl
+ends_there false rest all h = absurd (false≢true h)
+
+-- each listed chunk is at rest where each lease is that of one, or of one that isn't listed
+pub at_rest_by : (r : Recorded) → IsStrictlySortedBy nat_cmp (map (λ (e : ℕ × Lease). e.0) (fin.entries (live nat_cmp r.leases))) →
+    list_all (λ (e : ℕ × Lease). not (is_listed (durable_of r) e.0) || rests (settled_by e.1)) (fin.entries (live nat_cmp r.leases)) ≡ are_at_rest (durable_of r)
+at_rest_by r rising =
+    all_rest (is_listed (durable_of r)) (fin.entries (live nat_cmp r.leases))
+    ∙ ap (λ es. list_all (λ (e : ℕ × Settled). is_at_rest e.1) (filter (λ e. is_listed (durable_of r) e.0) es)) (sym (entries_chunks (live nat_cmp r.leases) rising))
+
+pub at_rest_is : (r : Recorded) (es : List (ℕ × Lease)) → es ≡ fin.entries (live nat_cmp r.leases) → IsStrictlySortedBy nat_cmp (map (λ (e : ℕ × Lease). e.0) es) → (b : Bool) → all_rest_in r es ≡ b → b ≡ are_at_rest (durable_of r)
+at_rest_is r es is rising b h = sym h ∙ ap (all_rest_in r) is ∙ at_rest_by r (subst (λ es. IsStrictlySortedBy nat_cmp (map (λ (e : ℕ × Lease). e.0) es)) is rising)

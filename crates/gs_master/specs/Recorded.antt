@@ -1,5 +1,5 @@
 -- What the master's memory of its records holds, without where it lies.
-use Rattle.std.specs.Prelude.{◌≡◌, map, Option, Some, None, is_some, Result, Ok, Err}
+use Rattle.std.specs.Prelude.{◌≡◌, Bool, true, map, Option, Some, None, is_some, Result, Ok, Err}
 use Rattle.std.specs.Ordering.{nat_cmp}
 use Rattle.std.specs.FinMap as fin
 use Rattle.gs_base.specs.declared.numbers.Stamp.{Stamp}
@@ -10,7 +10,7 @@ use Rattle.gs_lease.specs.declared.lease.Lease.{Lease}
 use Rattle.gs_lease.specs.declared.view.View.{View}
 use Rattle.gs_record.specs.Plain.{PlainEntry, plain_inverse}
 use Rattle.gs_table.specs.Slots.{live}
-use Rattle.gs_master.specs.Applied.{applied}
+use Rattle.gs_master.specs.Applied.{applied, is_at_rest}
 use Rattle.gs_master.specs.Durable.{Durable, Settled}
 use Rattle.gs_master.specs.Replies.{client_cmp}
 use Rattle.gs_master.specs.declared.recorded.Recorded.{Recorded}
@@ -28,6 +28,11 @@ settled_by lease = settled_as (told_of lease).settled (told_of lease).proposed
 -- the settled chunks of a table of leases
 unfoldable pub chunks_of : fin.FinMap nat_cmp Lease → fin.FinMap nat_cmp Settled
 chunks_of leases = live nat_cmp (map (λ e. (e.0, settled_by e.1)) (fin.entries leases))
+
+-- a chunk that isn't settled is nobody's yet
+abbrev pub rests : Option Settled → Bool
+rests None = true
+rests (Some settled) = is_at_rest settled
 
 -- ---- all that is held
 

@@ -1,13 +1,13 @@
-ghost use Rattle.std.specs.Prelude.{◌≡◌, ◌<◌, ◌&&◌, Some, vec_len, vec_capacity};
+ghost use Rattle.std.specs.Prelude.{◌≡◌, ◌<◌, ◌&&◌, ℕ, Some, vec_len, vec_capacity};
 ghost use Rattle.std.specs.FinMap as fin;
 ghost use Rattle.std.specs.Ordering.{nat_cmp};
 ghost use Rattle.gs_table.specs.Slots.{HasRoom, live};
 ghost use Rattle.gs_record.specs.Plain as entries;
-ghost use Rattle.gs_master.specs.Applied.{applied, follows_view, is_fresh, is_next_epoch, is_since, is_sound, may_be_settled, may_propose, raised, view_in, with_epoch, with_proposal, without_prepared};
+ghost use Rattle.gs_master.specs.Applied.{applied, are_at_rest, follows_view, is_fresh, is_next_epoch, is_since, is_sound, may_be_settled, may_propose, raised, view_in, with_epoch, with_proposal, without_prepared};
 ghost use Rattle.gs_master.specs.Chunks.{was_proposed};
 ghost use Rattle.gs_base.specs.Numbers.{last_number};
-ghost use Rattle.gs_master.specs.Durable.{start, after_number, is_given, kept_before, prepared_view, upgrade_epoch};
-ghost use Rattle.gs_master.specs.Recorded.{Applies, durable_of};
+ghost use Rattle.gs_master.specs.Durable.{start, after_number, is_given, is_listed, kept_before, prepared_view, upgrade_epoch};
+ghost use Rattle.gs_master.specs.Recorded.{Applies, durable_of, rests, settled_by};
 ghost use Rattle.gs_master.specs.Replies.{client_cmp, is_later};
 
 use crate::asking::Prepared;
@@ -303,6 +303,51 @@ impl Recorded {
         self.leases.put(settled.handle, restore(settled.view, None));
         Ok(())
     }
+
+    /// Whether a file has the chunk, or had it.
+    pub fn is_listed(&self, chunk: Handle) -> bool
+        ensures { result ≡ is_listed (durable_of self.now) chunk }
+    {
+        self.names.refs().count(chunk).is_some()
+    }
+
+    /// Whether each listed chunk has no primary, and no view is proposed for it.
+    fn are_at_rest(&self) -> bool
+        ensures { result ≡ are_at_rest (durable_of self.now) }
+    {
+        for (chunk, lease) in self.leases.iter() {
+            if self.is_listed(chunk) && !is_at_rest(lease) {
+                return false;
+            }
+        }
+        true
+    }
+
+    /// An upgrade is prepared. There is room for how the epoch ends.
+    #[tactic(auto, unfolding(crate::specs::Applied::applied))]
+    pub fn prepare(&mut self, epoch: u64) -> Result<(), Refusal>
+        requires { vec_len self.old.ends < vec_capacity self.old.ends }
+        ensures { (moment chunks : ℕ) → Applies (entries.Prepare epoch moment chunks) result (durable_of self.old) (durable_of self.new) }
+    {
+        if self.phase != Phase::Ordinary || !self.is_next_epoch(epoch) || !self.are_at_rest() {
+            return Err(Refusal::BadLine);
+        }
+        self.end_epoch(EpochEnd::Prepare, Phase::Upgrade);
+        self.forget_prepared();
+        Ok(())
+    }
+}
+
+/// Whether a chunk has no primary, and no view is proposed for it. A new one is nobody's yet.
+fn is_at_rest(lease: &Lease) -> bool
+    ensures { result ≡ rests (settled_by lease.now) }
+{
+    let Told { settled, proposed } = Told::of(lease);
+    let Some(view) = settled else {
+        return true;
+    };
+    let term = view.term;
+    proposed.is_none() && term.is_none()
 }
 
 /// Whether a counter has given a value.
