@@ -4,6 +4,8 @@
 mod asking;
 mod change;
 mod growing;
+mod editing;
+mod hiding;
 mod memory;
 mod pending;
 pub mod promises;

@@ -22,7 +22,7 @@ use std::alloc::Global;
 /// What the records of the journal come to. A restart reads it from them again.
 #[derive(Drop)]
 pub(crate) struct Recorded {
-    alloc: Global,
+    pub(crate) alloc: Global,
     pub(crate) names: Names,
     /// The chunks that the master knows, by their states. A new one moves and has no settled view.
     pub(crate) leases: Table<Handle, Lease>,
@@ -61,7 +61,7 @@ impl Recorded {
     }
 
     /// Whether a request is later than the one of its client that was answered last.
-    fn is_later(&self, to: ReqId) -> bool
+    pub fn is_later(&self, to: ReqId) -> bool
         ensures { result ≡ is_later (fin.get (durable_of self.now).replies to.client) to.number }
     {
         match self.replies.get(to.client) {
@@ -358,14 +358,14 @@ fn is_given(next: u64, number: u64) -> bool
 }
 
 /// Whether a counter hasn't given a value yet.
-fn is_fresh(next: u64, number: u64) -> bool
+pub(crate) fn is_fresh(next: u64, number: u64) -> bool
     ensures { result ≡ is_fresh next number }
 {
     0 < number && !is_given(next, number)
 }
 
 /// A counter behind the value that it gave last.
-fn after_number(number: u64) -> u64
+pub(crate) fn after_number(number: u64) -> u64
     ensures { result ≡ after_number number }
 {
     number.checked_add(1).unwrap_or(0)
