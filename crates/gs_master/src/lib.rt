@@ -3,8 +3,8 @@
 
 mod asking;
 mod change;
-mod growing;
 mod editing;
+mod growing;
 mod hiding;
 mod memory;
 mod pending;
