@@ -6,3 +6,4 @@ pub mod Again
 pub mod Learning
 pub mod Spending
 pub mod Numbering
+pub mod Kinds

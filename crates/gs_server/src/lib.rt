@@ -7,6 +7,7 @@ mod editing;
 mod events;
 mod fetching;
 mod forwarding;
+mod handling;
 mod holding;
 mod learning;
 mod lease;

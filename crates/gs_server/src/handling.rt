@@ -1,0 +1,148 @@
+ghost use Rattle.std.specs.Prelude.{◌≡◌, false, None};
+ghost use Rattle.gs_server.specs.Holding.{ack, nack, from_server};
+ghost use Rattle.gs_server.specs.Servers.{Steps, step_of, here_of, place_of, handle, handle_chunk};
+ghost use Rattle.gs_server.specs.inner.Kinds.{is_of_replica};
+
+use crate::applying::Numbered;
+use crate::numbering::NewEdit;
+use crate::server::Server;
+use crate::turn::Turn;
+use gs_base::{Handle, Moment, Refusal, Stamp};
+use gs_msg::{Body, Chunk, Message, NodeId};
+use gs_store::CopyImages;
+
+impl Server {
+    /// What is done about a message. Want of memory leaves the server as it was, and nothing is sent.
+    pub fn handle(&mut self, message: Message, moment: Moment) -> Result<Turn, Refusal>
+        ensures { Steps (handle self.old message moment) result self.old self.new }
+    {
+        let Message { from, body, .. } = message;
+        match body {
+            Body::About(handle, chunk) => self.handle_chunk(handle, from, chunk, moment),
+            Body::Push { req, bytes } => self.push(req, bytes),
+            Body::MakeCopy {
+                handle,
+                at,
+                new_handle,
+                stamp,
+            } => self.make_copy(handle, at, new_handle, stamp, moment),
+            Body::Epoch { epoch, end } => self.learn(epoch, end),
+            Body::Call { .. }
+            | Body::Reply { .. }
+            | Body::Done { .. }
+            | Body::Bytes { .. }
+            | Body::Report { .. }
+            | Body::Learned { .. }
+            | Body::Behind { .. } => Ok(Turn::refused(self.alloc, Refusal::Stray)),
+        }
+    }
+
+    /// What is done about a message that speaks of one chunk.
+    fn handle_chunk(
+        &mut self,
+        handle: Handle,
+        from: NodeId,
+        chunk: Chunk,
+        moment: Moment,
+    ) -> Result<Turn, Refusal>
+        ensures { Steps (handle_chunk self.old from handle chunk moment) result self.old self.new }
+    {
+        match chunk {
+            Chunk::Create(stamp) => self.create(handle, stamp, moment),
+            Chunk::Advance(stamp) => self.advance(handle, stamp, moment),
+            Chunk::Drop { epoch, promise } => {
+                Ok(self.drop_replica(handle, epoch, promise, moment))
+            }
+            Chunk::Fetch {
+                req,
+                stamp,
+                epoch,
+                asked,
+            } => self.fetch(handle, req, stamp, epoch, asked, moment),
+            Chunk::CopyOut {
+                stamp,
+                target,
+                with_sealed,
+            } => self.copy_out(handle, stamp, target, with_sealed, moment),
+            Chunk::CopyIn {
+                stamp,
+                image,
+                sealed,
+            } => self.copy_in(handle, stamp, CopyImages { image, sealed }, moment),
+            chunk => self.handle_leased(handle, from, chunk, moment),
+        }
+    }
+
+    /// What is done about a message that speaks of a lease, or of the edits under it. Any other is for another kind of node.
+    fn handle_leased(
+        &mut self,
+        handle: Handle,
+        from: NodeId,
+        chunk: Chunk,
+        moment: Moment,
+    ) -> Result<Turn, Refusal>
+        requires { is_of_replica chunk ≡ false }
+        ensures { Steps (handle_chunk self.old from handle chunk moment) result self.old self.new }
+    {
+        match chunk {
+            Chunk::Grant(given) => self.grant(handle, given, moment),
+            Chunk::Renewed { stamp, end } => Ok(self.renewed(handle, stamp, end)),
+            Chunk::Edit { req, stamp, op } => {
+                let size = self.store.sizes().chunk;
+                self.edit(size, handle, NewEdit { req, stamp, op }, moment)
+            }
+            Chunk::Forward {
+                stamp,
+                number,
+                req,
+                op,
+                bytes,
+            } => {
+                let edit = Numbered {
+                    stamp,
+                    number,
+                    req,
+                    op,
+                };
+                self.forward(handle, from, edit, bytes, moment)
+            }
+            Chunk::Ack { stamp, count } => self.hear_ack(handle, from, stamp, count, moment),
+            Chunk::Nack { stamp, refusal } => self.hear_nack(handle, from, stamp, &refusal, moment),
+            _ => Ok(Turn::refused(self.alloc, Refusal::Stray)),
+        }
+    }
+
+    /// A count is told by a server, for no other node is a member of a lease.
+    fn hear_ack(
+        &mut self,
+        handle: Handle,
+        from: NodeId,
+        stamp: Stamp,
+        count: u64,
+        moment: Moment,
+    ) -> Result<Turn, Refusal>
+        ensures { Steps (step_of handle None (from_server from (λ server. ack (here_of self.old moment handle None) (place_of handle self.old) server stamp count)) self.old) result self.old self.new }
+    {
+        match from {
+            NodeId::Server(server) => self.ack(handle, server, stamp, count, moment),
+            NodeId::Master | NodeId::Client(_) => Ok(Turn::refused(self.alloc, Refusal::Stray)),
+        }
+    }
+
+    /// An edit is refused by a server.
+    fn hear_nack(
+        &mut self,
+        handle: Handle,
+        from: NodeId,
+        stamp: Stamp,
+        refusal: &Refusal,
+        moment: Moment,
+    ) -> Result<Turn, Refusal>
+        ensures { Steps (step_of handle None (from_server from (λ server. nack (here_of self.old moment handle None) (place_of handle self.old) server stamp refusal.now)) self.old) result self.old self.new }
+    {
+        match from {
+            NodeId::Server(server) => self.nack(handle, server, stamp, refusal, moment),
+            NodeId::Master | NodeId::Client(_) => Ok(Turn::refused(self.alloc, Refusal::Stray)),
+        }
+    }
+}
