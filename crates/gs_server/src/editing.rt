@@ -16,8 +16,8 @@ use crate::lease::tell;
 use crate::numbering::NewEdit;
 use crate::server::Server;
 use crate::turn::{KeptRefusal, Turn};
-use gs_base::{Handle, Moment, Refusal, ReqId};
-use gs_msg::{Body, Message, NodeId};
+use gs_base::{Handle, Moment, Refusal, ReqId, Stamp};
+use gs_msg::{Body, Message, NodeId, Op};
 use gs_replica::Outcome;
 
 impl Server {
@@ -127,21 +127,21 @@ impl Server {
         self.answer_refused(req)
     }
 
-    /// An edit that a client asks for, at a server whose chunks have this size. One that was heard before is answered again, and
-    /// a new one is numbered.
+    /// An edit that a client asks for. One that was heard before is answered again, and a new one is numbered.
     pub(crate) fn edit(
         &mut self,
-        chunk: u64,
         handle: Handle,
-        edit: NewEdit,
+        req: ReqId,
+        stamp: Stamp,
+        op: Op,
         moment: Moment,
     ) -> Result<Turn, Refusal>
-        requires { chunk ≡ self.old.chunk }
-        ensures { Steps (step_of handle (Some edit.req) (edits.edit (here_of self.old moment handle (Some edit.req)) (place_of handle self.old) edit.req edit.stamp edit.op) self.old) result self.old self.new }
+        ensures { Steps (step_of handle (Some req) (edits.edit (here_of self.old moment handle (Some req)) (place_of handle self.old) req stamp op) self.old) result self.old self.new }
     {
-        if let Some(answered) = self.answer_again(handle, edit.req) {
+        if let Some(answered) = self.answer_again(handle, req) {
             return answered;
         }
-        self.new_edit(chunk, handle, edit, moment)
+        let chunk = self.store.sizes().chunk;
+        self.new_edit(chunk, handle, NewEdit { req, stamp, op }, moment)
     }
 }
