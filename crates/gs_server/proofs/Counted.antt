@@ -98,18 +98,18 @@ numbered_step handle l stamp number req op bytes live moment old found lives sam
 not_last : (count number : ℕ) → number ≡ count + 1 → number < 2 ^ 64 → (count == last_count) ≡ false
 not_last count number next fits = grind (arith, nat_tests)
 
-both_first : (x y : Bool) → (x && y) ≡ true → x ≡ true
+pub both_first : (x y : Bool) → (x && y) ≡ true → x ≡ true
 both_first true y is = refl
 both_first false y is = is
 
-both_second : (x y : Bool) → (x && y) ≡ true → y ≡ true
+pub both_second : (x y : Bool) → (x && y) ≡ true → y ≡ true
 both_second true y is = is
 both_second false y is = elim (subst (λ (b : Bool). cond b ⊥ (Unit {0})) is tt) [ ]
 
 same_number : (a b : ℕ) → (a == b) ≡ true → a ≡ b
 same_number a b is = grind (arith, nat_tests)
 
-same_stamp : (a b : Stamp) → is_same a b ≡ true → a ≡ b
+pub same_stamp : (a b : Stamp) → is_same a b ≡ true → a ≡ b
 same_stamp a b is =
     let epoch : a.epoch ≡ b.epoch = same_number a.epoch b.epoch (both_first (a.epoch == b.epoch) (a.version == b.version) is) in
     let version : a.version ≡ b.version = same_number a.version b.version (both_second (a.epoch == b.epoch) (a.version == b.version) is) in

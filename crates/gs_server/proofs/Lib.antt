@@ -11,3 +11,4 @@ mod Putting
 mod Keeping
 mod Spent
 mod NewEdits
+mod Telling

@@ -1,11 +1,16 @@
 -- What the laws of a server speak of.
-use Rattle.std.specs.Prelude.{◌≡◌, ◌<◌, false, true, Option, Some, None}
+use Rattle.std.specs.Prelude.{◌≡◌, ◌<◌, ◌≤◌, ℕ, Bool, false, true, Contains, Option, Some, None, Ok}
+use Rattle.std.specs.List.{All}
 use Rattle.gs_base.specs.declared.numbers.Moment.{Moment}
 use Rattle.gs_base.specs.declared.numbers.Stamp.{Stamp}
 use Rattle.gs_base.specs.declared.numbers.ReqId.{ReqId}
 use Rattle.gs_base.specs.Stamps.{is_same}
 use Rattle.gs_replica.specs.declared.op.Done.{Done}
-use Rattle.gs_server.specs.Leases.{Lease, is_over}
+use Rattle.gs_msg.specs.declared.message.Message.{Message}
+use Rattle.gs_msg.specs.declared.body.Body.{Body}
+use Rattle.gs_msg.specs.declared.body.Body.TheVariants as bodies
+use Rattle.gs_server.specs.declared.lease.Open.{Open}
+use Rattle.gs_server.specs.Leases.{Lease, is_over, told_by, done_of, waits}
 use Rattle.gs_base.specs.declared.refusal.Refusal.{Refusal}
 use Rattle.gs_server.specs.Places.{Place, Part, SlotChange, SlotStays, SlotBecomes, SlotMarked, LeaseStays}
 
@@ -39,3 +44,27 @@ LeavesWhere (Some refusal) part = IsKept part.slot × (part.lease ≡ LeaseStays
 
 abbrev pub LeavesIfRefused : Part → Type 0
 LeavesIfRefused part = LeavesWhere part.said part
+
+-- a client is told that its edit is done
+abbrev pub is_yes : Body → Bool
+is_yes (bodies.Done req (Ok outcome)) = true
+is_yes body = false
+
+-- every member of a lease has told a count that reaches a number
+pub record IsToldByAll (l : Lease) (number : ℕ) : Type 0 where
+  pub each : All (λ server. number ≤ told_by l.told server) l.grant.members
+
+-- what is told of an edit that waits under a lease, and of which every member has told
+pub record IsDoneUnder (me : ℕ) (l : Lease) (m : Message) : Type 0 where
+  pub number : ℕ
+  pub edit : Open
+  pub waiting : Contains l.outbox (number, edit)
+  pub is : m ≡ done_of me (number, edit)
+  pub told : IsToldByAll l number
+
+-- a lease of the promise is held, under which a request's edit doesn't wait
+pub record IsKnownToAll (req : ReqId) (p : Place) : Type 0 where
+  pub lease : Lease
+  pub held : p.lease ≡ Some lease
+  pub promised : is_same lease.grant.stamp p.slot.promise ≡ true
+  pub known : waits req lease ≡ false

@@ -1,6 +1,7 @@
 //! What holds of each server, whatever messages come.
 
-ghost use Rattle.std.specs.Prelude.{◌≡◌, ◌≢◌, ℕ, Bool, true, false, List, Option, Some, None, Ok, Err};
+ghost use Rattle.std.specs.Prelude.{◌≡◌, ◌≢◌, ◌<◌, ◌+◌, ℕ, Bool, true, false, List, [], length, Option, Some, None, Ok, Err};
+ghost use Rattle.std.specs.List.{All};
 ghost use Rattle.gs_base.specs.declared.numbers.Stamp.{Stamp};
 ghost use Rattle.gs_base.specs.declared.numbers.ReqId.{ReqId};
 ghost use Rattle.gs_base.specs.declared.epoch.EpochEnd.{EpochEnd};
@@ -8,19 +9,21 @@ ghost use Rattle.gs_base.specs.declared.refusal.Refusal.{Refusal};
 ghost use Rattle.gs_base.specs.declared.refusal.Refusal.TheVariants as refusals;
 ghost use Rattle.gs_lease.specs.declared.held.Grant.{Grant};
 ghost use Rattle.gs_replica.specs.declared.op.Done.{Done};
+ghost use Rattle.gs_replica.specs.declared.op.Op.TheVariants.{Pad};
 ghost use Rattle.gs_msg.specs.declared.op.Op.{Op};
+ghost use Rattle.gs_msg.specs.declared.op.Op.TheVariants.{Append};
 ghost use Rattle.gs_base.specs.Stamps.{is_same};
 ghost use Rattle.gs_msg.specs.declared.node.NodeId.{NodeId};
 ghost use Rattle.gs_msg.specs.declared.chunk.Chunk.{Chunk};
-ghost use Rattle.gs_store.specs.Slots.{Slot};
-ghost use Rattle.gs_store.specs.Serving.{done_in};
+ghost use Rattle.gs_store.specs.Slots.{Live, Slot};
+ghost use Rattle.gs_store.specs.Serving.{apply, done_in};
 ghost use Rattle.gs_store.specs.Stores as stores;
-ghost use Rattle.gs_server.specs.Leases.{Lease};
-ghost use Rattle.gs_server.specs.Places.{Place, Here, Part, SlotBecomes, after};
+ghost use Rattle.gs_server.specs.Leases.{Lease, hears};
+ghost use Rattle.gs_server.specs.Places.{Place, Here, Part, SlotBecomes, LeaseBecomes, after};
 ghost use Rattle.gs_server.specs.Edits.{edit, forward};
-ghost use Rattle.gs_server.specs.Holding.{grant};
+ghost use Rattle.gs_server.specs.Holding.{grant, ack};
 ghost use Rattle.gs_server.specs.Servers.{Server, store_of, place_of, restart, about_chunk, learn};
-ghost use Rattle.gs_server.specs.Laws.{IsHeldFor, IsSpent, IsAbove, LeavesIfRefused};
+ghost use Rattle.gs_server.specs.Laws.{IsHeldFor, IsSpent, IsAbove, LeavesIfRefused, is_yes, IsToldByAll, IsDoneUnder, IsKnownToAll};
 
 /// No edit is numbered but under a lease that is held, that is of the promise and of the stamp that is asked for, and whose end
 /// has not come.
@@ -54,4 +57,23 @@ pub fn a_refused_message_leaves_the_chunk()
 pub fn a_server_learns_as_its_store_does()
     ensures learned { (epoch : ℕ) (end : EpochEnd) (s : Server) → (learn s epoch end).said ≡ None → stores.learn epoch end (store_of s) ≡ Ok (store_of (learn s epoch end).after) }
     ensures refused { (epoch : ℕ) (end : EpochEnd) (s : Server) (refusal : Refusal) → (learn s epoch end).said ≡ Some refusal → (stores.learn epoch end (store_of s) ≡ Err refusal) × ((learn s epoch end).after ≡ s) }
+{}
+
+/// A client is told that its edit is done only where every member has told a count that reaches the edit's number: of a new edit
+/// at once, where they have, and at an acknowledgement of the edits that waited.
+pub fn edits_are_done_where_all_have_them()
+    ensures at_once { (h : Here) (p : Place) (req : ReqId) (stamp : Stamp) (op : Op) (live : Live) (l : Lease) → p.slot.live ≡ Some live → (edit h p req stamp op).lease ≡ LeaseBecomes l → All (λ m. is_yes m.body ≡ true → IsToldByAll l (live.replica.held.count + 1)) (edit h p req stamp op).sent }
+    ensures later { (h : Here) (p : Place) (server : ℕ) (stamp : Stamp) (count : ℕ) (l : Lease) → p.lease ≡ Some l → All (IsDoneUnder h.me (hears server count l)) (ack h p server stamp count).sent }
+    ensures unleased { (h : Here) (p : Place) (server : ℕ) (stamp : Stamp) (count : ℕ) → p.lease ≡ None → (ack h p server stamp count).sent ≡ [] }
+{}
+
+/// A client's last edit is answered as done again only where every member is known to have it: under a lease of the promise under
+/// which it doesn't wait.
+pub fn repeats_are_done_where_all_have_them()
+    ensures { (h : Here) (p : Place) (req : ReqId) (stamp : Stamp) (op : Op) (last : Done) → done_in p.slot.live req.client.0 ≡ Some last → req.number ≡ last.number → All (λ m. is_yes m.body ≡ true → IsKnownToAll req p) (edit h p req stamp op).sent }
+{}
+
+/// An append that doesn't fit is numbered as a pad.
+pub fn an_append_that_does_not_fit_is_a_pad()
+    ensures { (h : Here) (p : Place) (req : ReqId) (stamp : Stamp) (many : ℕ) (live : Live) (s : Slot) → p.slot.live ≡ Some live → h.chunk < length live.replica.held.chunk.bytes + many → (edit h p req stamp (Append many)).slot ≡ SlotBecomes s → apply stamp (live.replica.held.count + 1) req Pad [] p.slot ≡ Ok s }
 {}
