@@ -2,6 +2,7 @@ pub mod Beginnings
 pub mod Choosing
 pub mod Counters
 pub mod Deleted
+pub mod Edits
 pub mod Preparing
 pub mod Recording
 pub mod Refusing

@@ -97,7 +97,7 @@ told_again stamp count members (Some term) = refl
 pub settling_put : (leases : fin.FinMap nat_cmp Lease) (k : ℕ) (view : View) → chunks_of (fin.insert leases k (restored view None)) ≡ fin.insert (chunks_of leases) k (record { view = view; is_moving = false })
 settling_put leases k view = chunks_put leases k (restored view None) (record { view = view; is_moving = false }) (told_again view.stamp view.count view.members view.term)
 
-with_others : (d e : Durable) (m n : fin.FinMap nat_cmp Settled) → d ≡ e → m ≡ n → record d { chunks = m } ≡ record e { chunks = n }
+pub with_others : (d e : Durable) (m n : fin.FinMap nat_cmp Settled) → d ≡ e → m ≡ n → record d { chunks = m } ≡ record e { chunks = n }
 with_others d e m n p q = λ i. record (p i) { chunks = q i }
 
 pub marked : (r : Recorded) (slots : List (ℕ × Option Lease)) (k : ℕ) (lease : Lease) (view : View) (stamp : Stamp) →

@@ -222,7 +222,7 @@ PreparesByOneRecord = (config : Config) (s : State) (req : ReqId) (moment : Mome
 abbrev pub EditsAsTold : Type 0
 EditsAsTold = (edit : Edit) (rows : Rows ℕ) (refs : Counts) → named_plain (plain_edit edit) rows refs ≡ named edit rows refs
 
-edits_as_told : EditsAsTold
+pub edits_as_told : EditsAsTold
 edits_as_told (edits.Mkdirs p) rows refs = refl
 edits_as_told (edits.Create p) rows refs = refl
 edits_as_told (edits.Rename from to) rows refs = refl

@@ -1,5 +1,5 @@
 -- What the master's memory of its records holds, without where it lies.
-use Rattle.std.specs.Prelude.{◌≡◌, Bool, true, map, Option, Some, None, is_some, Result, Ok, Err}
+use Rattle.std.specs.Prelude.{◌≡◌, ◌⊎◌, ℕ, Bool, true, false, List, [], ◌∷◌, ◌++◌, map, Option, Some, None, option_map, is_some, Result, Ok, Err, if◌then◌else◌}
 use Rattle.std.specs.Ordering.{nat_cmp}
 use Rattle.std.specs.FinMap as fin
 use Rattle.gs_base.specs.declared.numbers.Stamp.{Stamp}
@@ -8,11 +8,16 @@ use Rattle.gs_base.specs.declared.refusal.Refusal.TheVariants as refusals
 use Rattle.gs_lease.specs.Told.{told_of}
 use Rattle.gs_lease.specs.declared.lease.Lease.{Lease}
 use Rattle.gs_lease.specs.declared.view.View.{View}
-use Rattle.gs_record.specs.Plain.{PlainEntry, plain_inverse}
-use Rattle.gs_table.specs.Slots.{live}
+use Rattle.gs_record.specs.Plain.{PlainEdit, PlainEntry, PlainInverse, plain_inverse}
+use Rattle.gs_record.specs.declared.checkpoint.Phase.{Phase}
+use Rattle.gs_record.specs.declared.checkpoint.Phase.TheVariants.{Ordinary, Upgrade, Rolling}
+use Rattle.gs_edit.specs.declared.listed.ListedInverse.{ListedInverse}
+use Rattle.gs_table.specs.Slots.{live, HasRoom}
 use Rattle.gs_master.specs.Applied.{applied, is_at_rest}
 use Rattle.gs_master.specs.Durable.{Durable, Settled}
 use Rattle.gs_master.specs.Replies.{client_cmp}
+use Rattle.gs_master.specs.Undoing.{inverse_of}
+use Rattle.gs_master.specs.declared.asking.Prepared.{Prepared}
 use Rattle.gs_master.specs.declared.recorded.Recorded.{Recorded}
 
 -- ---- chunks
@@ -57,3 +62,35 @@ durable_of r = record {
 abbrev pub Applies : PlainEntry → Result (Unit {0}) Refusal → Durable → Durable → Type 0
 Applies entry (Ok _) old new = applied old entry ≡ Some new
 Applies entry (Err refusal) old new = (applied old entry ≡ None) × (refusal ≡ refusals.BadLine) × (new ≡ old)
+
+-- the same, but memory may be wanted, and then nothing changes either
+abbrev pub AppliesOrMemory : PlainEntry → Result (Unit {0}) Refusal → Durable → Durable → Type 0
+AppliesOrMemory entry (Ok _) old new = applied old entry ≡ Some new
+AppliesOrMemory entry (Err refusal) old new = ((refusal ≡ refusals.Memory) ⊎ ((applied old entry ≡ None) × (refusal ≡ refusals.BadLine))) × (new ≡ old)
+
+-- ---- edits
+
+-- what is said of an edit that the names refuse
+abbrev pub unfit : Refusal → Refusal
+unfit refusal = if is_memory refusal then refusals.Memory else refusals.BadLine
+  where
+    is_memory : Refusal → Bool
+    is_memory refusals.Memory = true
+    is_memory other = false
+
+abbrev pub RoomForEach : List (ℕ × Option Prepared) → List ℕ → Type 0
+RoomForEach prepared [] = Unit {0}
+RoomForEach prepared (chunk ∷ chunks) = HasRoom nat_cmp prepared chunk × RoomForEach prepared chunks
+
+abbrev pub inverses_and : List PlainInverse → Option ListedInverse → List PlainInverse
+inverses_and inverses None = inverses
+inverses_and inverses (Some inverse) = inverses ++ plain_inverse inverse ∷ []
+
+-- while an upgrade stands it is told what takes the edit back, and else nothing
+abbrev pub IsToldBack : Durable → PlainEdit → Option ListedInverse → Type 0
+IsToldBack d edit inverse = by_phase d.phase
+  where
+    by_phase : Phase → Type 0
+    by_phase Ordinary = inverse ≡ None
+    by_phase Upgrade = option_map plain_inverse inverse ≡ Some (inverse_of edit (fin.entries d.names.tree))
+    by_phase Rolling = inverse ≡ None

@@ -1,7 +1,7 @@
 ghost use Rattle.std.specs.Prelude.{◌≡◌, ◌<◌, ◌&&◌, ℕ, Some, vec_len, vec_capacity};
 ghost use Rattle.std.specs.FinMap as fin;
 ghost use Rattle.std.specs.Ordering.{nat_cmp};
-ghost use Rattle.gs_table.specs.Slots.{HasRoom, live};
+ghost use Rattle.gs_table.specs.Slots.{HasRoom, KeepsRoom, live};
 ghost use Rattle.gs_record.specs.Plain as entries;
 ghost use Rattle.gs_master.specs.Applied.{applied, are_at_rest, follows_view, is_fresh, is_next_epoch, is_since, is_sound, may_be_settled, may_propose, raised, view_in, with_epoch, with_proposal, without_prepared};
 ghost use Rattle.gs_master.specs.Chunks.{was_proposed};
@@ -191,10 +191,13 @@ impl Recorded {
     }
 
     /// Before a chunk changes, its prepared view is kept. There is room for it.
-    fn keep_prepared(&mut self, chunk: Handle)
+    pub fn keep_prepared(&mut self, chunk: Handle)
         requires { HasRoom nat_cmp self.old.prepared chunk }
         ensures value { durable_of self.new ≡ record (durable_of self.old) { prepared = kept_before (durable_of self.old) chunk } }
         ensures leases { self.new.leases ≡ self.old.leases }
+        ensures replies { self.new.replies ≡ self.old.replies }
+        ensures inverses { self.new.inverses ≡ self.old.inverses }
+        ensures room { KeepsRoom nat_cmp self.old.prepared self.new.prepared }
     {
         if let Some(prepared) = self.prepared_view(chunk) {
             self.prepared.put(
