@@ -1,9 +1,10 @@
 -- What an edit makes of all that is durable.
-use Rattle.std.proofs.Common.{◌≡◌, ◌⊎◌, inl, inr, ◌∙◌, ◌<◌, ◌+◌, ℕ, Bool, true, false, List, [], ◌∷◌, ◌++◌, map, drop, drop-cons, add-one, get_or, length, refl, ap, subst, sym}
+use Rattle.std.proofs.Common.{◌≡◌, ◌⊎◌, inl, inr, ◌∙◌, ◌<◌, ◌+◌, ℕ, Bool, true, false, List, [], ◌∷◌, ◌++◌, map, take, drop, drop-cons, add-one, get_or, length, refl, ap, subst, sym}
 use Rattle.std.specs.Prelude.{Option, Some, None, Result, Ok, Err, option_map, is_some, unwrap_or, if◌then◌else◌}
 use Rattle.std.specs.FinMap as fin
 use Rattle.std.specs.Ordering.{nat_cmp}
 use Rattle.std.proofs.lemmas.Bool.{false≢true}
+use Rattle.std.proofs.lemmas.List.{take_more}
 use Rattle.gs_base.specs.declared.numbers.ReqId.{ReqId}
 use Rattle.gs_base.specs.declared.refusal.Refusal.{Refusal}
 use Rattle.gs_base.specs.declared.refusal.Refusal.TheVariants.{BadLine, Memory}
@@ -154,3 +155,13 @@ refused_by d by edit refusal result is (inl names) = by_result (unfit_is result 
 pub edit_refused : (d : Durable) (by : ReqId) (edit : Edit) (refusal result : Refusal) (names : NamesView) → result ≡ unfit refusal → ((renamed edit d.names ≡ Err refusal) ⊎ (refusal ≡ Memory)) × (names ≡ d.names) →
     ((result ≡ Memory) ⊎ ((applied d (Edited by (plain_edit edit)) ≡ None) × (result ≡ BadLine))) × (record d { names = names } ≡ d)
 edit_refused d by edit refusal result names is says = (refused_by d by edit refusal result is says.0, ap (λ n. record d { names = n }) says.1)
+
+-- ---- room for each of several chunks
+
+room_last : (slots : List (ℕ × Option Prepared)) (xs : List ℕ) (x : ℕ) → RoomForEach slots xs → HasRoom nat_cmp slots x → RoomForEach slots (xs ++ x ∷ [])
+room_last slots [] x room here = (here, tt)
+room_last slots (y ∷ xs) x room here = (room.0, room_last slots xs x room.1 here)
+
+pub room_more : (slots more : List (ℕ × Option Prepared)) (xs : List ℕ) (i x : ℕ) → i < length xs → x ≡ get_or xs i x → RoomForEach slots (take i xs) → KeepsRoom nat_cmp slots more → HasRoom nat_cmp more x → RoomForEach more (take (i + 1) xs)
+room_more slots more xs i x h at room keeps here =
+    rw (take_more xs i x h) (room_last more (take i xs) (get_or xs i x) (room_kept slots more (take i xs) keeps room) (subst (HasRoom nat_cmp more) at here))

@@ -1,5 +1,5 @@
 -- What the master's memory of its records holds, without where it lies.
-use Rattle.std.specs.Prelude.{◌≡◌, ◌⊎◌, ℕ, Bool, true, false, List, [], ◌∷◌, ◌++◌, map, Option, Some, None, option_map, is_some, Result, Ok, Err, if◌then◌else◌}
+use Rattle.std.specs.Prelude.{◌≡◌, ◌⊎◌, ◌<◌, ℕ, vec_len, vec_capacity, Bool, true, false, List, [], ◌∷◌, ◌++◌, map, Option, Some, None, option_map, is_some, Result, Ok, Err, if◌then◌else◌}
 use Rattle.std.specs.Ordering.{nat_cmp}
 use Rattle.std.specs.FinMap as fin
 use Rattle.gs_base.specs.declared.numbers.Stamp.{Stamp}
@@ -8,12 +8,12 @@ use Rattle.gs_base.specs.declared.refusal.Refusal.TheVariants as refusals
 use Rattle.gs_lease.specs.Told.{told_of}
 use Rattle.gs_lease.specs.declared.lease.Lease.{Lease}
 use Rattle.gs_lease.specs.declared.view.View.{View}
-use Rattle.gs_record.specs.Plain.{PlainEdit, PlainEntry, PlainInverse, plain_inverse}
+use Rattle.gs_record.specs.Plain.{PlainEdit, PlainEntry, PlainInverse, Edited, Said, Propose, Settle, Prepare, Finalize, RollbackBegin, RollbackCommit, Whole, Holder, plain_inverse}
 use Rattle.gs_record.specs.declared.checkpoint.Phase.{Phase}
 use Rattle.gs_record.specs.declared.checkpoint.Phase.TheVariants.{Ordinary, Upgrade, Rolling}
 use Rattle.gs_edit.specs.declared.listed.ListedInverse.{ListedInverse}
 use Rattle.gs_table.specs.Slots.{live, HasRoom}
-use Rattle.gs_master.specs.Applied.{applied, is_at_rest}
+use Rattle.gs_master.specs.Applied.{applied, forgotten_by, is_at_rest}
 use Rattle.gs_master.specs.Durable.{Durable, Settled}
 use Rattle.gs_master.specs.Replies.{client_cmp}
 use Rattle.gs_master.specs.Undoing.{inverse_of}
@@ -94,3 +94,18 @@ IsToldBack d edit inverse = by_phase d.phase
     by_phase Ordinary = inverse ≡ None
     by_phase Upgrade = option_map plain_inverse inverse ≡ Some (inverse_of edit (fin.entries d.names.tree))
     by_phase Rolling = inverse ≡ None
+
+-- ---- room
+
+-- what a record wants besides memory for the names, so that applying it takes none
+abbrev pub RoomFor : Recorded → PlainEntry → Type 0
+RoomFor r (Edited by edit) = HasRoom client_cmp r.replies by.client × ((vec_len r.inverses < vec_capacity r.inverses) × RoomForEach r.prepared (forgotten_by edit))
+RoomFor r (Said to refusal) = HasRoom client_cmp r.replies to.client
+RoomFor r (Propose chunk version) = HasRoom nat_cmp r.leases chunk
+RoomFor r (Settle v) = HasRoom nat_cmp r.leases v.handle × HasRoom nat_cmp r.prepared v.handle
+RoomFor r (Prepare epoch moment chunks) = vec_len r.ends < vec_capacity r.ends
+RoomFor r (Finalize epoch) = vec_len r.ends < vec_capacity r.ends
+RoomFor r (RollbackBegin epoch) = vec_len r.ends < vec_capacity r.ends
+RoomFor r (RollbackCommit epoch answers) = Unit {0}
+RoomFor r (Whole c) = Unit {0}
+RoomFor r (Holder chunk server) = HasRoom nat_cmp r.prepared chunk

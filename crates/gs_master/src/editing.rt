@@ -61,7 +61,7 @@ fn number_of(edit: &Edit) -> Option<u64>
 }
 
 /// The chunks that an edit forgets.
-fn forgotten_by(edit: &Edit) -> &[Handle]
+pub(crate) fn forgotten_by(edit: &Edit) -> &[Handle]
     ensures { result.now ≡ forgotten_by (plain_edit edit.now) }
 {
     match edit {

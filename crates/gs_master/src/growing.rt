@@ -1,90 +1,77 @@
-// Room for changes of the master's memory, made before they are.
-ghost use Rattle.std.specs.Prelude.{◌≡◌, ◌<◌, true, fold, OnOk, vec_len, vec_capacity};
+// Room for what a record makes.
+ghost use Rattle.std.specs.Prelude.{◌≡◌, ◌<◌, OnOk, vec_len, vec_capacity};
 ghost use Rattle.std.specs.Ordering.{nat_cmp};
-ghost use Rattle.gs_table.specs.Slots.{HasRoom, KeepsRoom, live};
-ghost use Rattle.gs_master.specs.Memories.{volatile_of, changed_but_locks, is_small, AreSmall, HaveRoom, HasRoomFor, HasRoomForAll, KeepsFor, KeepsLists, KeepsRooms};
+ghost use Rattle.gs_record.specs.Plain.{plain};
+ghost use Rattle.gs_record.specs.Plain as entries;
+ghost use Rattle.gs_record.specs.Plain.{plain_edit};
+ghost use Rattle.gs_table.specs.Slots.{HasRoom, live};
+ghost use Rattle.gs_master.specs.Recorded.{RoomFor, RoomForEach, durable_of};
 
-use crate::change::Change;
-use crate::memory::Memory;
-use gs_base::{Handle, Members};
+use crate::asking::Prepared;
+use crate::editing::forgotten_by;
+use crate::recorded::Recorded;
+use gs_base::{Handle, ReqId};
+use gs_edit::Edit;
+use gs_record::Entry;
 use gs_table::Table;
 use std::alloc::AllocError;
 
-/// Makes room for each of these chunks.
-fn reserve_each(table: &mut Table<Handle, Members>, chunks: &[Handle]) -> Result<(), AllocError>
-    ensures same { live nat_cmp table.new ≡ live nat_cmp table.old }
-    ensures keeps { KeepsRoom nat_cmp table.old table.new }
-    ensures ok { OnOk result (HaveRoom table.new chunks.now) }
+/// Makes room for the prepared views of chunks.
+fn reserve_each(prepared: &mut Table<Handle, Prepared>, chunks: &[Handle]) -> Result<(), AllocError>
+    ensures same { live nat_cmp prepared.new ≡ live nat_cmp prepared.old }
+    ensures room { OnOk result (RoomForEach prepared.new chunks.now) }
 {
     for chunk in chunks {
-        table.reserve(*chunk)?;
+        prepared.reserve(*chunk)?;
     }
     Ok(())
 }
 
-impl Memory {
-    /// Makes room for what a change puts into a table.
-    pub fn reserve(&mut self, change: &Change) -> Result<(), AllocError>
-        ensures same { volatile_of self.new ≡ volatile_of self.old }
-        ensures keeps { KeepsRooms self.old self.new }
-        ensures lists { KeepsLists self.old self.new }
-        ensures ok { OnOk result (HasRoomFor self.new change.now) }
+impl Recorded {
+    /// Makes room for how an epoch ends.
+    fn grow_ends(&mut self) -> Result<(), AllocError>
+        ensures same { durable_of self.new ≡ durable_of self.old }
+        ensures room { OnOk result (vec_len self.new.ends < vec_capacity self.new.ends) }
     {
-        match change {
-            Change::Ask(chunk, _) => self.moving.reserve(*chunk),
-            Change::Keep(client, _) => self.replies.reserve(*client),
-            Change::Restored(_, chunks) => reserve_each(&mut self.restored, chunks.as_slice()),
-            _ => Ok(()),
-        }
-    }
-
-    /// Makes room for all that these changes put somewhere.
-    pub fn reserve_all(&mut self, changes: &[Change]) -> Result<(), AllocError>
-        ensures same { volatile_of self.new ≡ volatile_of self.old }
-        ensures ok { OnOk result (HasRoomForAll self.new changes.now) }
-    {
-        self.unplaced.reserve(changes.len())?;
-        self.pending.reserve(changes.len())?;
-        for change in changes {
-            self.reserve(change)?;
-        }
+        self.ends.reserve(1)?;
         Ok(())
     }
 
-    /// Makes a change for which there is room. The locks of a call that begins are taken already. It takes no memory.
-    pub fn change(&mut self, change: Change)
-        requires tables { HasRoomFor self.old change }
-        requires unplaced { vec_len self.old.unplaced < vec_capacity self.old.unplaced }
-        requires pending { vec_len self.old.pending < vec_capacity self.old.pending }
-        ensures changed { volatile_of self.new ≡ changed_but_locks (volatile_of self.old) change }
-        ensures keeps { is_small change ≡ true → KeepsFor self.old self.new }
+    /// Makes room for an edit: for its reply, for what takes it back, and for the prepared views of what it forgets.
+    fn grow_edit(&mut self, by: ReqId, edit: &Edit) -> Result<(), AllocError>
+        ensures same { durable_of self.new ≡ durable_of self.old }
+        ensures room { OnOk result (RoomFor self.new (entries.Edited by (plain_edit edit.now))) }
     {
-        match change {
-            Change::Ask(chunk, asking) => self.ask(chunk, asking),
-            Change::Settled(chunk) => self.settle(chunk),
-            Change::Enter(chunk) => self.enter(chunk),
-            Change::Place(chunk) => self.place(chunk),
-            Change::Lose(chunk) => self.lose(chunk),
-            Change::Forget(chunks) => self.forget(chunks.as_slice()),
-            Change::Begin(pending) => self.begin(pending),
-            Change::Wait(req, waits) => self.wait(req, waits),
-            Change::End(req) => self.end(req),
-            Change::Prepare(is_preparing) => self.prepare(is_preparing),
-            Change::Keep(client, reply) => self.keep(client, reply),
-            Change::Restored(server, chunks) => self.restore(server, chunks.as_slice()),
-            Change::RolledBack => self.roll_back(),
-        }
+        self.replies.reserve(by.client)?;
+        self.inverses.reserve(1)?;
+        reserve_each(&mut self.prepared, forgotten_by(edit))
     }
 
-    /// Makes changes for all of which there is room. None of them ends a rollback, and the locks of a call that begins are taken
-    /// already. It takes no memory.
-    pub fn change_all(&mut self, changes: Vec<Change>)
-        requires room { HasRoomForAll self.old changes.items }
-        requires small { AreSmall changes.items }
-        ensures { volatile_of self.new ≡ fold changed_but_locks (volatile_of self.old) changes.items }
+    /// Makes room for a settled view of a chunk, and for its prepared one.
+    fn grow_settling(&mut self, chunk: Handle) -> Result<(), AllocError>
+        ensures same { durable_of self.new ≡ durable_of self.old }
+        ensures chunk { OnOk result (HasRoom nat_cmp self.new.leases chunk) }
+        ensures prepared { OnOk result (HasRoom nat_cmp self.new.prepared chunk) }
     {
-        for change in changes {
-            self.change(change);
+        self.leases.reserve(chunk)?;
+        self.prepared.reserve(chunk)
+    }
+
+    /// Makes all room that applying a record will want, but for the names. What stands stays as it is.
+    pub fn grow(&mut self, entry: &Entry) -> Result<(), AllocError>
+        ensures same { durable_of self.new ≡ durable_of self.old }
+        ensures room { OnOk result (RoomFor self.new (plain entry.now)) }
+    {
+        match entry {
+            Entry::Edit { by, edit } => self.grow_edit(*by, edit),
+            Entry::Said { to, .. } => self.replies.reserve(to.client),
+            Entry::Propose { handle, .. } => self.leases.reserve(*handle),
+            Entry::Settle(settled) => self.grow_settling(settled.handle),
+            Entry::Prepare { .. } | Entry::Finalize { .. } | Entry::RollbackBegin { .. } => {
+                self.grow_ends()
+            }
+            Entry::RollbackCommit { .. } | Entry::Checkpoint(_) => Ok(()),
+            Entry::Holder { handle, .. } => self.prepared.reserve(*handle),
         }
     }
 }

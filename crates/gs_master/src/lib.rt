@@ -3,6 +3,7 @@
 
 mod asking;
 mod change;
+mod changing;
 mod editing;
 mod growing;
 mod hiding;

@@ -1,9 +1,11 @@
 use Rattle.std.proofs.Common.{◌≡◌, take}
 use Rattle.std.specs.Ordering.{nat_cmp}
-use Rattle.gs_table.specs.Slots.{live, KeepsRoom}
-use Rattle.gs_master.specs.Memories.{HaveRoom}
+use Rattle.gs_table.specs.Slots.{live}
+use Rattle.gs_master.specs.Recorded.{RoomForEach}
 use Rattle.gs_master.proofs.growing.reserve_each.Given as goal
 
 abbrev pub invariant-loop-chunk : goal.invariant-loop-chunk
-invariant-loop-chunk l =
-    (live nat_cmp l.table ≡ live nat_cmp l.fn.table) × KeepsRoom nat_cmp l.fn.table l.table × HaveRoom l.table (take l.chunk-index l.chunks)
+invariant-loop-chunk l = record {
+  same : live nat_cmp l.prepared ≡ live nat_cmp l.fn.prepared;
+  room : RoomForEach l.prepared (take l.chunk-index l.chunks);
+}
