@@ -12,3 +12,4 @@ mod Keeping
 mod Spent
 mod NewEdits
 mod Telling
+mod Others

@@ -1,6 +1,9 @@
 -- What the laws of a server speak of.
-use Rattle.std.specs.Prelude.{◌≡◌, ◌<◌, ◌≤◌, ℕ, Bool, false, true, Contains, Option, Some, None, Ok}
+use Rattle.std.specs.Prelude.{◌≡◌, ◌<◌, ◌≤◌, ◌==◌, ℕ, Bool, false, true, Contains, Option, Some, None, Ok}
 use Rattle.std.specs.List.{All}
+use Rattle.std.specs.FinMap as fin
+use Rattle.std.specs.Ordering.{eq_by_cmp}
+use Rattle.gs_base.specs.declared.numbers.ClientId.{ClientId}
 use Rattle.gs_base.specs.declared.numbers.Moment.{Moment}
 use Rattle.gs_base.specs.declared.numbers.Stamp.{Stamp}
 use Rattle.gs_base.specs.declared.numbers.ReqId.{ReqId}
@@ -12,6 +15,8 @@ use Rattle.gs_msg.specs.declared.body.Body.TheVariants as bodies
 use Rattle.gs_server.specs.declared.lease.Open.{Open}
 use Rattle.gs_server.specs.Leases.{Lease, is_over, told_by, done_of, waits}
 use Rattle.gs_base.specs.declared.refusal.Refusal.{Refusal}
+use Rattle.gs_store.specs.Buffers.{pushed, same_request}
+use Rattle.gs_server.specs.Servers.{Server, client_cmp, place_of}
 use Rattle.gs_server.specs.Places.{Place, Part, SlotChange, SlotStays, SlotBecomes, SlotMarked, LeaseStays}
 
 -- a lease of this stamp is held, which is the promise, at a moment below its end
@@ -68,3 +73,21 @@ pub record IsKnownToAll (req : ReqId) (p : Place) : Type 0 where
   pub held : p.lease ≡ Some lease
   pub promised : is_same lease.grant.stamp p.slot.promise ≡ true
   pub known : waits req lease ≡ false
+
+-- a request of this client
+abbrev pub is_of_client : ClientId → Option ReqId → Bool
+is_of_client client None = false
+is_of_client client (Some req) = eq_by_cmp client_cmp client req.client
+
+-- this request
+abbrev pub is_asked_by : ReqId → Option ReqId → Bool
+is_asked_by other None = false
+is_asked_by other (Some req) = same_request req other
+
+-- What a message about a chunk leaves of the rest: every other chunk, the epoch, what is kept of every other client, and the
+-- bytes that were pushed for every other request.
+pub record LeavesTheRest (handle : ℕ) (asked : Option ReqId) (s after : Server) : Type 0 where
+  pub places : (other : ℕ) → (other == handle) ≡ false → place_of other after ≡ place_of other s
+  pub epoch : after.kept.epoch ≡ s.kept.epoch
+  pub refused : (client : ClientId) → is_of_client client asked ≡ false → fin.get after.kept.refused client ≡ fin.get s.kept.refused client
+  pub pushes : (other : ReqId) → is_asked_by other asked ≡ false → pushed other after.dropped.buffer ≡ pushed other s.dropped.buffer

@@ -88,8 +88,7 @@ impl Server {
             Chunk::Grant(given) => self.grant(handle, given, moment),
             Chunk::Renewed { stamp, end } => Ok(self.renewed(handle, stamp, end)),
             Chunk::Edit { req, stamp, op } => {
-                let size = self.store.sizes().chunk;
-                self.edit(size, handle, NewEdit { req, stamp, op }, moment)
+                self.edit(handle, req, stamp, op, moment)
             }
             Chunk::Forward {
                 stamp,

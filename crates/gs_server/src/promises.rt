@@ -1,7 +1,8 @@
 //! What holds of each server, whatever messages come.
 
-ghost use Rattle.std.specs.Prelude.{◌≡◌, ◌≢◌, ◌<◌, ◌+◌, ℕ, Bool, true, false, List, [], length, Option, Some, None, Ok, Err};
+ghost use Rattle.std.specs.Prelude.{◌≡◌, ◌≢◌, ◌<◌, ◌+◌, ◌==◌, ℕ, Bool, true, false, List, [], length, Option, Some, None, Ok, Err};
 ghost use Rattle.std.specs.List.{All};
+ghost use Rattle.gs_base.specs.declared.numbers.Moment.{Moment};
 ghost use Rattle.gs_base.specs.declared.numbers.Stamp.{Stamp};
 ghost use Rattle.gs_base.specs.declared.numbers.ReqId.{ReqId};
 ghost use Rattle.gs_base.specs.declared.epoch.EpochEnd.{EpochEnd};
@@ -22,8 +23,8 @@ ghost use Rattle.gs_server.specs.Leases.{Lease, hears};
 ghost use Rattle.gs_server.specs.Places.{Place, Here, Part, SlotBecomes, LeaseBecomes, after};
 ghost use Rattle.gs_server.specs.Edits.{edit, forward};
 ghost use Rattle.gs_server.specs.Holding.{grant, ack};
-ghost use Rattle.gs_server.specs.Servers.{Server, store_of, place_of, restart, about_chunk, learn};
-ghost use Rattle.gs_server.specs.Laws.{IsHeldFor, IsSpent, IsAbove, LeavesIfRefused, is_yes, IsToldByAll, IsDoneUnder, IsKnownToAll};
+ghost use Rattle.gs_server.specs.Servers.{Server, store_of, place_of, restart, request_in, about_chunk, handle_chunk, make_copy, learn};
+ghost use Rattle.gs_server.specs.Laws.{IsHeldFor, IsSpent, IsAbove, LeavesIfRefused, LeavesTheRest, is_yes, IsToldByAll, IsDoneUnder, IsKnownToAll};
 
 /// No edit is numbered but under a lease that is held, that is of the promise and of the stamp that is asked for, and whose end
 /// has not come.
@@ -76,4 +77,12 @@ pub fn repeats_are_done_where_all_have_them()
 /// An append that doesn't fit is numbered as a pad.
 pub fn an_append_that_does_not_fit_is_a_pad()
     ensures { (h : Here) (p : Place) (req : ReqId) (stamp : Stamp) (many : ℕ) (live : Live) (s : Slot) → p.slot.live ≡ Some live → h.chunk < length live.replica.held.chunk.bytes + many → (edit h p req stamp (Append many)).slot ≡ SlotBecomes s → apply stamp (live.replica.held.count + 1) req Pad [] p.slot ≡ Ok s }
+{}
+
+/// A message about a chunk changes what is kept of that chunk and of no other, and of the rest at most what is kept of the client
+/// of its request, and the bytes that were pushed for the request. A copy under a new handle may mark the replica that it is
+/// made of, and changes no third chunk.
+pub fn a_message_about_a_chunk_leaves_the_others()
+    ensures chunk { (s : Server) (from : NodeId) (handle : ℕ) (chunk : Chunk) (moment : Moment) → LeavesTheRest handle (request_in chunk) s (handle_chunk s from handle chunk moment).after }
+    ensures copy { (s : Server) (handle new_handle other : ℕ) (at stamp : Stamp) (moment : Moment) → (other == handle) ≡ false → (other == new_handle) ≡ false → place_of other (make_copy s handle at new_handle stamp moment).after ≡ place_of other s }
 {}
