@@ -4,7 +4,6 @@ ghost use Rattle.gs_server.specs.Servers.{Steps, step_of, here_of, place_of, han
 ghost use Rattle.gs_server.specs.inner.Kinds.{is_of_replica};
 
 use crate::applying::Numbered;
-use crate::numbering::NewEdit;
 use crate::server::Server;
 use crate::turn::Turn;
 use gs_base::{Handle, Moment, Refusal, Stamp};
@@ -87,9 +86,7 @@ impl Server {
         match chunk {
             Chunk::Grant(given) => self.grant(handle, given, moment),
             Chunk::Renewed { stamp, end } => Ok(self.renewed(handle, stamp, end)),
-            Chunk::Edit { req, stamp, op } => {
-                self.edit(handle, req, stamp, op, moment)
-            }
+            Chunk::Edit { req, stamp, op } => { self.edit(handle, req, stamp, op, moment) }
             Chunk::Forward {
                 stamp,
                 number,
