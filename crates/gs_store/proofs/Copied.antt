@@ -1,6 +1,6 @@
 -- Copies from one handle to another.
-use Rattle.std.proofs.Common.{◌≡◌, ℕ, Bool, true, false, cond, Option, Some, None, Ok, Err, refl, sym, ap, subst, ◌∙◌}
-use Rattle.std.specs.Prelude.{Result, is_some, ◌&&◌}
+use Rattle.std.proofs.Common.{◌≡◌, ℕ, Bool, true, false, cond, Option, Some, None, Ok, Err, length, refl, sym, ap, subst, ◌∙◌}
+use Rattle.std.specs.Prelude.{Result, is_some, ◌&&◌, IfErr}
 use Rattle.std.proofs.lemmas.Bool.{false≢true}
 use Rattle.std.specs.FinMap as fin
 use Rattle.std.specs.Ordering.{nat_cmp, eq_by_cmp}
@@ -9,8 +9,16 @@ use Rattle.gs_base.specs.declared.numbers.Stamp.{Stamp}
 use Rattle.gs_base.specs.Stamps.{is_before, is_same}
 use Rattle.gs_base.specs.declared.refusal.Refusal.{Refusal}
 use Rattle.gs_base.specs.declared.refusal.Refusal.TheVariants as refusals
+use Rattle.gs_block.specs.Follows.{Foretells, Makes}
+use Rattle.gs_block.specs.Edits as blocks
+use Rattle.gs_block.specs.Edits.{unless_damaged}
+use Rattle.gs_block.specs.Stored.{Stored, first_damaged}
+use Rattle.gs_replica.specs.Edits as edits
+use Rattle.gs_replica.specs.Edits.{held_of}
+use Rattle.gs_replica.specs.declared.op.Done.{Done}
 use Rattle.gs_replica.specs.Held.{Held}
 use Rattle.gs_replica.specs.Copies.{and_then}
+use Rattle.gs_replica.specs.Seals.{State}
 use Rattle.gs_store.specs.Slots.{Slot, nothing, first_stamp, again, replaced}
 use Rattle.gs_store.specs.Moves as moves
 use Rattle.gs_store.specs.Moves.{copied_from}
@@ -64,3 +72,45 @@ module _ (at stamp : Stamp) (s : Store) (handle new_handle : ℕ) (source target
   made_of h A r new found performs =
       let here : moves.make_copy at stamp (slot_of handle s) (slot_of new_handle s) ≡ moves.take_copy h (slot_of new_handle s) = subst (λ x. moves.make_copy at stamp x (slot_of new_handle s) ≡ moves.take_copy h (slot_of new_handle s)) is (subst (λ x. moves.make_copy at stamp source x ≡ moves.take_copy h x) are found) in
       subst (λ m. Performs {B = A} (put_slot new_handle s m) r s new) (sym here) performs
+
+-- what a copy is foretold to be refused for is no want of memory
+foretold : (stamp : Stamp) (count : ℕ) (done : fin.FinMap nat_cmp Done) (o : Option ℕ) (s : Stored) (f : Refusal) → Foretells {B = Unit {0}} (held_of stamp count done (unless_damaged o s)) (Err f) → f ≡ refusals.Memory → ⊥
+foretold stamp count done None s f told is = elim told [ ]
+foretold stamp count done (Some i) s f told is = absurd (cc)
+
+pub never_lacks : (stamp : Stamp) (h : Held) (f : Refusal) → Foretells {B = Unit {0}} (edits.copied stamp h) (Err f) → f ≡ refusals.Memory → ⊥
+never_lacks stamp h f told is = foretold stamp h.count h.done (first_damaged h.chunk.block h.chunk.bytes h.chunk.digests 0 (length h.chunk.digests)) h.chunk f told is
+
+-- where a copy is made, the target's promise is below its stamp
+made_below : (at stamp : Stamp) (target : Slot) (h : Held) (m : Result Stored Refusal) (count : ℕ) (done : fin.FinMap nat_cmp Done) → and_then (held_of stamp count done m) (moves.wanted_by target) ≡ Ok (Some h) → is_before target.promise stamp ≡ true
+made_below at stamp target h (Err e) count done is = absurd (cc)
+made_below at stamp target h (Ok s) count done is = by_case (is_before target.promise stamp) refl is
+  where
+    no_copy : (m : Result Slot Refusal) → ◌≡◌ {A = Result (Option Held) Refusal} (and_then m (λ s. Ok None)) (Ok (Some h)) → ⊥
+    no_copy (Ok t) none = absurd (cc)
+    no_copy (Err e) none = absurd (cc)
+
+    by_case : (b : Bool) → is_before target.promise stamp ≡ b → cond b (Ok (Some (record { chunk = s; count = count; done = done; promise = stamp }))) (and_then (again stamp target) (λ t. Ok None)) ≡ Ok (Some h) → b ≡ true
+    by_case true here made = refl
+    by_case false here made = absurd (no_copy (again stamp target) made)
+
+copied_below : (at stamp : Stamp) (source target : Slot) (h : Held) → moves.copy_for at stamp source target ≡ Ok (Some h) → is_before target.promise stamp ≡ true
+copied_below at stamp source target h is = of_source (moves.source at source) is
+  where
+    of_source : (m : Result State Refusal) → and_then (and_then m (λ r. edits.copied stamp r.held)) (moves.wanted_by target) ≡ Ok (Some h) → is_before target.promise stamp ≡ true
+    of_source (Ok r) made = made_below at stamp target h (blocks.copied r.held.chunk) r.held.count r.held.done made
+    of_source (Err e) made = absurd (cc)
+
+made_is : {A : Type 0} (m : Result A Refusal) (a : A) → Makes m (Ok a) → m ≡ Ok a
+made_is (Ok b) a is = ap (λ x. Ok x) (sym is)
+made_is (Err e) a is = elim is [ ]
+
+if_lacking : {A : Type 0} (P : Type 0) (r : Result A Refusal) → P → IfErr r (λ e. e ≡ refusals.Memory → P)
+if_lacking P (Ok a) h = tt
+if_lacking P (Err e) h = λ _. h
+
+-- so memory is wanted for a new copy alone
+pub wanted_for : {A : Type 0} (at stamp : Stamp) (s : Store) (new_handle : ℕ) (source target : Slot) (h : Held) (r : Result A Refusal) → target ≡ slot_of new_handle s → Makes (moves.copy_for at stamp source target) (Ok (Some h))
+    → IfErr r (λ e. e ≡ refusals.Memory → is_before (slot_of new_handle s).promise stamp ≡ true)
+wanted_for at stamp s new_handle source target h r are made =
+    if_lacking _ r (subst (λ (t : Slot). is_before t.promise stamp ≡ true) are (copied_below at stamp source target h (made_is (moves.copy_for at stamp source target) (Some h) made)))

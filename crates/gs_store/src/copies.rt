@@ -1,5 +1,7 @@
-ghost use Rattle.std.specs.Prelude.{◌≡◌, None};
+ghost use Rattle.std.specs.Prelude.{◌≡◌, true, None, IfErr};
 ghost use Rattle.std.specs.FinMap as fin;
+ghost use Rattle.gs_base.specs.declared.refusal.Refusal.TheVariants.{Memory};
+ghost use Rattle.gs_base.specs.Stamps.{is_before};
 ghost use Rattle.gs_block.specs.Follows.{FollowsOf, Gives};
 ghost use Rattle.gs_store.specs.Slots.{nothing};
 ghost use Rattle.gs_store.specs.Moves.{copy_out};
@@ -44,7 +46,7 @@ impl Store {
     /// it was made of. The first handle is judged first: `Stamp` with the promise where another is named, `NoReplica` where
     /// none is live, and `Damaged` where it is bad or a block fails. Then the new one: a stamp that is promised already is
     /// answered again where a replica is live, and else is `Old` where it isn't above the promise. All this is answered
-    /// whatever memory there is.
+    /// whatever memory there is: it is wanted for a new copy alone.
     pub fn make_copy(
         &mut self,
         handle: Handle,
@@ -52,7 +54,8 @@ impl Store {
         new_handle: Handle,
         stamp: Stamp,
     ) -> Result<(), Refusal>
-        ensures { Performs (make_copy handle at new_handle stamp self.old) result self.old self.new }
+        ensures edit { Performs (make_copy handle at new_handle stamp self.old) result self.old self.new }
+        ensures lacking { IfErr result (λ e. e ≡ Memory → is_before (slot_of new_handle self.old).promise stamp ≡ true) }
     {
         let empty = Slot::new();
         let target = self.slot_or(new_handle, &empty);

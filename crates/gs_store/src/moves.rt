@@ -1,4 +1,5 @@
-ghost use Rattle.std.specs.Prelude.{◌≡◌, ◌⊎◌, Ok, Err, None, IfOk, IfErr};
+ghost use Rattle.std.specs.Prelude.{◌≡◌, ◌⊎◌, true, Ok, Err, None, IfOk, IfErr};
+ghost use Rattle.gs_base.specs.Stamps.{is_before};
 ghost use Rattle.gs_base.specs.declared.refusal.Refusal.TheVariants.{Memory};
 ghost use Rattle.gs_block.specs.Follows.{Answers, Does, FollowsOf, Foretells, Gives, Makes, MakesOf};
 ghost use Rattle.gs_store.specs.Slots.{sealed_of};
@@ -144,6 +145,7 @@ impl Slot {
     ) -> Result<Option<PreparedCopy>, Refusal>
         ensures made { Makes (copy_for at stamp self.now target.now) result }
         ensures prepares { Prepares (make_copy at stamp self.now target.now) target.now result }
+        ensures lacking { IfErr result (λ e. e ≡ Memory → is_before target.now.promise stamp ≡ true) }
     {
         let replica = self.source(at)?;
         if target.promise.is_before(stamp) {
@@ -151,7 +153,9 @@ impl Slot {
                 replica: replica.copy(stamp)?,
             }));
         }
-        replica.verify()?;
+        if let Err(refusal) = replica.verify() {
+            return Err(refusal);
+        }
         target.find_again(stamp)?;
         Ok(None)
     }
