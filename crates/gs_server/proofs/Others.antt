@@ -1,6 +1,6 @@
 -- A message about a chunk leaves all others.
-use Rattle.std.proofs.Common.{◌≡◌, ℕ, Bool, true, false, cond, List, [], ◌∷◌, Option, Some, None, refl, sym, ap, ◌∙◌, ◌&&◌, arith}
-use Rattle.std.specs.Prelude.{◌==◌, not, option_map}
+use Rattle.std.proofs.Common.{◌≡◌, ℕ, Bool, true, false, cond, [], ◌∷◌, Option, Some, None, refl, sym, ap, ◌∙◌, ◌&&◌, arith}
+use Rattle.std.specs.Prelude.{◌==◌, option_map}
 use Rattle.std.proofs.lemmas.Bool.{false≢true, eq-eqb}
 use Rattle.std.specs.FinMap as fin
 use Rattle.std.specs.Ordering.{nat_cmp, eq_by_cmp}
@@ -12,14 +12,14 @@ use Rattle.gs_base.specs.declared.numbers.ClientId.{ClientId}
 use Rattle.gs_base.specs.declared.numbers.ReqId.{ReqId}
 use Rattle.gs_store.specs.Slots.{Slot}
 use Rattle.gs_store.specs.Slots as slots
-use Rattle.gs_store.specs.Buffers.{Pushes, pushed, without, same_request}
+use Rattle.gs_store.specs.Buffers.{Pushes, pushed, same_request}
 use Rattle.gs_store.specs.Stores.{Store, slot_of, set_slot}
 use Rattle.gs_store.proofs.StoreLaws.{other_slot}
 use Rattle.gs_store.proofs.Places.{same_key}
 use Rattle.gs_server.specs.declared.turn.KeptRefusal.{KeptRefusal}
 use Rattle.gs_server.specs.Laws.{LeavesTheRest, is_of_client, is_asked_by}
 use Rattle.gs_server.specs.Leases.{Lease}
-use Rattle.gs_server.specs.Places.{Place, Part, SlotChange, SlotStays, SlotBecomes, SlotMarked, LeaseChange, LeaseStays, LeaseBecomes, LeaseSpent}
+use Rattle.gs_server.specs.Places.{Part, SlotChange, SlotStays, SlotBecomes, SlotMarked, LeaseChange, LeaseStays, LeaseBecomes, LeaseSpent}
 use Rattle.gs_server.specs.Servers.{Server, client_cmp, place_of, store_of, change_slot, change_lease, change_buffer, keep_refusal, changed_by, with_store, copies}
 use Rattle.gs_server.specs.Promises.{Copying}
 

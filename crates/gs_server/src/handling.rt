@@ -86,7 +86,7 @@ impl Server {
         match chunk {
             Chunk::Grant(given) => self.grant(handle, given, moment),
             Chunk::Renewed { stamp, end } => Ok(self.renewed(handle, stamp, end)),
-            Chunk::Edit { req, stamp, op } => { self.edit(handle, req, stamp, op, moment) }
+            Chunk::Edit { req, stamp, op } => self.edit(handle, req, stamp, op, moment),
             Chunk::Forward {
                 stamp,
                 number,

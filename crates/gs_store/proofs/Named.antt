@@ -26,7 +26,7 @@ use Rattle.gs_store.proofs.Sealing.{back}
 use Rattle.gs_store.proofs.StoreLaws.{taught, slot_goes}
 
 -- handles that tie are the same
-ties : (q k : ℕ) → (q == k) ≡ eq_by_cmp nat_cmp q k
+pub ties : (q k : ℕ) → (q == k) ≡ eq_by_cmp nat_cmp q k
 ties q k = by_case (eq_by_cmp nat_cmp q k) refl
   where
     apart : (b : Bool) → (q == k) ≡ b → eq_by_cmp nat_cmp q k ≡ false → b ≡ false

@@ -8,5 +8,6 @@ pub mod Calls
 pub mod Buffers
 pub mod Stores
 pub mod StoreCalls
+pub mod Told
 pub mod Reported
 pub mod inner

@@ -15,6 +15,7 @@ ghost use Rattle.gs_store.specs.Moves.{sound_image};
 ghost use Rattle.gs_store.specs.Learning.{start_of};
 ghost use Rattle.gs_store.specs.Standing.{StandsIn, StoodIn, LiveUndamaged};
 ghost use Rattle.gs_store.specs.StoreCalls.{StoreCall, called, LeadsTo, names};
+ghost use Rattle.gs_store.specs.Told.{found_in, told};
 ghost use Rattle.gs_store.specs.Buffers as buffers;
 ghost use Rattle.gs_store.specs.Stores.{Store, slot_of, at_slot, learn, gone_on, mark_bad};
 
@@ -52,6 +53,11 @@ pub fn rollbacks_name_what_is_live()
     ensures live { (epoch handle : ℕ) (s s2 : Store) → epoch ≡ s.epoch + 1 → learn epoch Rollback s ≡ Ok s2 → is_some (slot_of handle s2).live ≡ is_some (sound_image (sealed_of (slot_of handle s))) }
     ensures named { (epoch handle : ℕ) (s s2 : Store) → epoch ≡ s.epoch + 1 → learn epoch Rollback s ≡ Ok s2 → IsWholeSlot (slot_of handle s) → is_before (start_of epoch) (slot_of handle s).promise ≡ false → names handle epoch s2 ≡ is_some (slot_of handle s2).live }
     ensures sealed { (epoch handle : ℕ) (s s2 : Store) (edits : List Edit) → epoch ≡ s.epoch + 1 → learn epoch Rollback s ≡ Ok s2 → StoodIn s.block s.chunk (slot_of handle s) edits → is_some (slot_of handle s2).live ≡ true → StandsIn s2.block s2.chunk (slot_of handle s2) edits × LiveUndamaged (slot_of handle s2).live }
+{}
+
+/// A report tells of a handle what its slot has: its live replica, if there is one, and else nothing.
+pub fn reports_tell_what_is_live()
+    ensures { (handle : ℕ) (s : Store) → found_in handle s ≡ told handle (slot_of handle s) }
 {}
 
 /// The buffer holds 64 requests at most, and what was pushed last.
