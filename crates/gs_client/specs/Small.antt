@@ -1,5 +1,5 @@
--- Worked calls, on chunks of 16 bytes: what is asked, and what comes of it.
-use Rattle.std.specs.Prelude.{◌≡◌, ◌++◌, ℕ, List, [], ◌∷◌, Some, None, Ok, Err, codes, refl}
+-- Worked calls, on chunks of 16 bytes or of 4: what is asked, and what comes of it.
+use Rattle.std.specs.Prelude.{◌≡◌, ◌++◌, ℕ, List, [], ◌∷◌, Some, None, Ok, Err, codes, length, refl}
 use Rattle.gs_base.specs.declared.refusal.Refusal.TheVariants as refusals
 use Rattle.gs_base.specs.declared.numbers.Stamp.{Stamp}
 use Rattle.gs_path.specs.Path.{Path}
@@ -51,7 +51,7 @@ abbrev pub located : ℕ → ℕ → ℕ → Located
 located index handle version = record { index = index; handle = handle; view = leased version; epoch = 0 }
 
 abbrev pub write : ℕ → ℕ → ℕ → List ℕ → Request
-write handle version offset bytes = requests.Write handle (0 ∷ 1 ∷ []) 0 (stamp version) (ops.Write offset 1) bytes
+write handle version offset bytes = requests.Write handle (0 ∷ 1 ∷ []) 0 (stamp version) (ops.Write offset (length bytes)) bytes
 
 abbrev pub append : ℕ → ℕ → List ℕ → Request
 append handle version bytes = requests.Write handle (0 ∷ 1 ∷ []) 0 (stamp version) (ops.Append 1) bytes
@@ -71,6 +71,19 @@ chunks_are_added_before_the_first_part : run next (write_call 16 f (Some 0) 15 (
       ),
     )
 chunks_are_added_before_the_first_part = refl
+
+-- seven bytes over three chunks of 4, from the last byte of the first of them on
+a_write_has_a_middle_part : run next (write_call 4 f (Some 4) 7 (97 ∷ 98 ∷ 99 ∷ 100 ∷ 101 ∷ 102 ∷ 103 ∷ [])) (replied (at 1 3 ∷ written ∷ at 2 4 ∷ written ∷ at 3 5 ∷ written ∷ []))
+    ≡ (
+      Ok tt,
+      (
+        [],
+        requests.Call (calls.FindForWriting f 1 None) ∷ write 1 3 3 (97 ∷ [])
+            ∷ requests.Call (calls.FindForWriting f 2 None) ∷ write 2 4 0 (98 ∷ 99 ∷ 100 ∷ 101 ∷ [])
+            ∷ requests.Call (calls.FindForWriting f 3 None) ∷ write 3 5 0 (102 ∷ 103 ∷ []) ∷ [],
+      ),
+    )
+a_write_has_a_middle_part = refl
 
 -- a primary without its lease: the next look-up avoids that stamp
 an_edit_is_tried_once_more : run next (write_call 16 f (Some 1) 0 (97 ∷ [])) (replied (at 1 3 ∷ replies.Refused refusals.NotPrimary ∷ at 1 4 ∷ replies.Refused refusals.NotPrimary ∷ []))
@@ -138,6 +151,21 @@ a_file_is_read_to_its_end = refl
 zeros_stand_behind : run next (read_call 16 f (Some 2) None 12 4) (replied (at 1 3 ∷ replies.Given (givens.Bytes (97 ∷ [])) ∷ []))
     ≡ (Ok (97 ∷ 0 ∷ 0 ∷ 0 ∷ [], Some (located 0 1 3)), ([], requests.Call (calls.FindForReading f 0) ∷ requests.Fetch 0 1 (stamp 3) 0 (asks.Bytes 12 4) ∷ []))
 zeros_stand_behind = refl
+
+-- seven bytes of three chunks of 4: the middle one stores one byte, and the last one's length is asked for first
+a_read_has_a_middle_piece : run next (read_call 4 f (Some 4) None 7 7)
+    (replied (at 3 5 ∷ replies.Given (givens.Length 3) ∷ at 1 3 ∷ replies.Given (givens.Bytes (97 ∷ [])) ∷ at 2 4 ∷ replies.Given (givens.Bytes (98 ∷ [])) ∷ at 3 5 ∷ replies.Given (givens.Bytes (99 ∷ 100 ∷ [])) ∷ []))
+    ≡ (
+      Ok (97 ∷ 98 ∷ 0 ∷ 0 ∷ 0 ∷ 99 ∷ 100 ∷ [], Some (located 3 3 5)),
+      (
+        [],
+        requests.Call (calls.FindForReading f 3) ∷ requests.Fetch 0 3 (stamp 5) 0 asks.Length
+            ∷ requests.Call (calls.FindForReading f 1) ∷ requests.Fetch 0 1 (stamp 3) 0 (asks.Bytes 3 1)
+            ∷ requests.Call (calls.FindForReading f 2) ∷ requests.Fetch 0 2 (stamp 4) 0 (asks.Bytes 0 4)
+            ∷ requests.Call (calls.FindForReading f 3) ∷ requests.Fetch 0 3 (stamp 5) 0 (asks.Bytes 0 2) ∷ [],
+      ),
+    )
+a_read_has_a_middle_piece = refl
 
 no_more_than_was_asked : run next (read_call 16 f (Some 2) None 12 1) (replied (at 1 3 ∷ replies.Given (givens.Bytes (97 ∷ 98 ∷ [])) ∷ []))
     ≡ (Err refusals.Stray, ([], requests.Call (calls.FindForReading f 0) ∷ requests.Fetch 0 1 (stamp 3) 0 (asks.Bytes 12 1) ∷ []))
