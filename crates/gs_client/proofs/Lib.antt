@@ -6,3 +6,4 @@ pub mod Pieces
 pub mod Counts
 pub mod Records
 pub mod Exact
+pub mod Parts

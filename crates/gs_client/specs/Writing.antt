@@ -1,5 +1,5 @@
 -- What is written to a file: chunks that are missing are added first, then each chunk gets its part, as an edit of its own.
-use Rattle.std.specs.Prelude.{◌+◌, ◌-◌, ◌*◌, ◌/◌, ◌%◌, ◌==◌, ◌||◌, ℕ, zero, suc, min, List, Bool, if◌then◌else◌, Option, Some, None, Result, Ok, Err, nat_lt, length, slice_range}
+use Rattle.std.specs.Prelude.{◌+◌, ◌-◌, ◌*◌, ◌/◌, ◌%◌, ◌++◌, ◌==◌, ◌||◌, ℕ, zero, suc, min, List, [], Bool, if◌then◌else◌, Option, Some, None, Result, Ok, Err, nat_lt, length, slice_range}
 use Rattle.gs_base.specs.declared.refusal.Refusal.{Refusal}
 use Rattle.gs_base.specs.declared.refusal.Refusal.TheVariants as refusals
 use Rattle.gs_base.specs.declared.numbers.Stamp.{Stamp}
@@ -86,12 +86,21 @@ chunks_to size offset bytes = (offset + length bytes - 1) / size + 1
 abbrev pub is_out : ℕ → ℕ → List ℕ → Bool
 is_out size offset bytes = (length bytes == 0) || nat_lt (most_chunks * size) (offset + length bytes)
 
+-- how many parts a write has
+abbrev pub part_count : ℕ → ℕ → List ℕ → ℕ
+part_count size offset bytes = chunks_to size offset bytes - offset / size
+
+-- the bytes of so many parts, from the first on
+abbrev pub first_parts : ℕ → ℕ → List ℕ → ℕ → List ℕ
+first_parts size offset bytes zero = []
+first_parts size offset bytes (suc count) = first_parts size offset bytes count ++ part_bytes size offset bytes count
+
 abbrev pub write_call : ℕ → Path → Option ℕ → ℕ → List ℕ → Call (Unit {0})
 write_call size path opened offset bytes =
     both (known_call path opened) (λ chunks.
     if is_out size offset bytes then Say (Err refusals.Range)
     else both (extends_call path chunks (chunks_to size offset bytes - chunks)) (λ _.
-    parts_call size path offset bytes 0 (chunks_to size offset bytes - offset / size)))
+    parts_call size path offset bytes 0 (part_count size offset bytes)))
 
 -- where in its file a record stands
 abbrev pub placed : ℕ → ℕ → ℕ → Result ℕ Refusal
