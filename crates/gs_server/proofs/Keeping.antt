@@ -36,7 +36,7 @@ use Rattle.gs_msg.specs.declared.message.Message.{Message}
 use Rattle.gs_msg.specs.declared.body.Given.{Given}
 use Rattle.gs_msg.specs.declared.chunk.Chunk.{Chunk}
 use Rattle.gs_msg.specs.declared.chunk.Chunk.TheVariants as chunks
-use Rattle.gs_server.specs.Laws.{IsHeldFor, IsAbove, IsSpent, IsKept, LeavesIfRefused}
+use Rattle.gs_server.specs.Laws.{IsHeldFor, IsAbove, IsKept, LeavesIfRefused}
 
 -- A fact of what a slot becomes.
 abbrev pub IfBecomes : Type 0 → SlotChange → Type 0
@@ -170,11 +170,21 @@ or_stays p (Some e) part stays = refl
 same_itself : (stamp : Stamp) → is_same stamp stamp ≡ true
 same_itself stamp = grind (arith, nat_tests)
 
-pub spent_stays : (h : Here) (p : Place) (given : Grant) → IsSpent given.stamp p → after p (grant h p given) ≡ p
-spent_stays h p given spent =
+-- a grant under another stamp than the promise
+refused_stays : (p : Place) (first live : Option Refusal) (other : Bool) (e : Refusal) (part : Part) → other ≡ true → after p (or_else (first_of (first ∷ first_of (live ∷ when other e ∷ []) ∷ [])) unanswered part) ≡ p
+refused_stays p (Some x) live other e part is = refl
+refused_stays p None (Some x) other e part is = refl
+refused_stays p None None true e part is = refl
+refused_stays p None None false e part is = elim (subst (λ (x : Bool). cond x ⊥ (Unit {0})) is tt) [ ]
+
+pub below_stays : (h : Here) (p : Place) (given : Grant) → is_same given.stamp p.slot.promise ≡ false → after p (grant h p given) ≡ p
+below_stays h p given apart = refused_stays p (other_epoch h given.stamp.epoch) (unless_live p.slot.live) (not (is_same given.stamp p.slot.promise)) (refusals.Stamp p.slot.promise) _ (ap not apart)
+
+pub spent_stays : (h : Here) (p : Place) (given : Grant) → p.slot.taken ≡ Some given.stamp → after p (grant h p given) ≡ p
+spent_stays h p given taken =
     or_stays p (first_of (other_epoch h given.stamp.epoch ∷ check_grant given.stamp p.slot ∷ [])) _
     (either_stays p (is_held given.stamp p.lease) _ _ refl
-    (taken_again p given (check_grant given.stamp p.slot) (is_taken given.stamp p.slot.taken) _ (ap (is_taken given.stamp) spent.taken ∙ same_itself given.stamp)))
+    (taken_again p given (check_grant given.stamp p.slot) (is_taken given.stamp p.slot.taken) _ (ap (is_taken given.stamp) taken ∙ same_itself given.stamp)))
 
 -- A message that is refused, by its kinds.
 leaves_marked : (o : Option ℕ) → IsKept (marked_by o)

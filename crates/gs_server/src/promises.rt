@@ -42,9 +42,12 @@ pub fn no_forward_is_taken_below_the_promise()
     ensures { (h : Here) (p : Place) (from : NodeId) (stamp : Stamp) (number : ℕ) (req : ReqId) (op : Op) (carried : Option (List ℕ)) (s : Slot) → (forward h p from stamp number req op carried).slot ≡ SlotBecomes s → is_same stamp p.slot.promise ≡ true }
 {}
 
-/// A lease that was taken and is not held any more is never taken again, also after a restart.
+/// A grant of the lease that was taken last changes nothing: while the lease is held it stays as it is, and once it is spent it is
+/// never taken again, also after a restart. Neither does a grant of another stamp than the promise, so that no lease that was
+/// taken before is taken again.
 pub fn a_spent_lease_is_not_taken_again()
-    ensures grant { (h : Here) (p : Place) (given : Grant) → IsSpent given.stamp p → after p (grant h p given) ≡ p }
+    ensures grant { (h : Here) (p : Place) (given : Grant) → p.slot.taken ≡ Some given.stamp → after p (grant h p given) ≡ p }
+    ensures below { (h : Here) (p : Place) (given : Grant) → is_same given.stamp p.slot.promise ≡ false → after p (grant h p given) ≡ p }
     ensures restart { (handle : ℕ) (s : Server) (stamp : Stamp) → (place_of handle s).slot.taken ≡ Some stamp → IsSpent stamp (place_of handle (restart s)) }
 {}
 
