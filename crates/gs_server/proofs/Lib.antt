@@ -13,3 +13,4 @@ mod Spent
 mod NewEdits
 mod Telling
 mod Others
+mod Lifts

@@ -33,7 +33,7 @@ over_or_standing : (moment : Moment) (o : Option Lease) → cond (passes (is_ove
 over_or_standing moment None = refl
 over_or_standing moment (Some l) = turned (is_over moment l) (Some l)
 
-get-standing : (moment : Moment) (m : Leases) (q : ℕ) → fin.get (standing_leases moment m) q ≡ cond (stands_at moment (fin.get m q)) (fin.get m q) None
+pub get-standing : (moment : Moment) (m : Leases) (q : ℕ) → fin.get (standing_leases moment m) q ≡ cond (stands_at moment (fin.get m q)) (fin.get m q) None
 get-standing moment m q = fin.get-retain_keys m (λ handle. stands_at moment (fin.get m handle)) q (λ x tied. ap (stands_at moment) (fin.get_tied nat_cmp_total m q x tied))
 
 pub spent_each : (moment : Moment) (m : Leases) → without (over_of moment (fin.entries m)) m ≡ standing_leases moment m

@@ -6,4 +6,5 @@ pub mod Edits
 pub mod Fetches
 pub mod Servers
 pub mod Laws
+pub mod Lifts
 pub mod inner

@@ -23,7 +23,8 @@ ghost use Rattle.gs_server.specs.Leases.{Lease, hears};
 ghost use Rattle.gs_server.specs.Places.{Place, Here, Part, SlotBecomes, LeaseBecomes, after};
 ghost use Rattle.gs_server.specs.Edits.{edit, forward};
 ghost use Rattle.gs_server.specs.Holding.{grant, ack};
-ghost use Rattle.gs_server.specs.Servers.{Server, store_of, place_of, restart, request_in, about_chunk, handle_chunk, make_copy, learn};
+ghost use Rattle.gs_server.specs.Servers.{Server, store_of, place_of, restart, request_in, about_chunk, handle_chunk, make_copy, learn, tick};
+ghost use Rattle.gs_server.specs.Lifts.{ticked, restarted, gone_on};
 ghost use Rattle.gs_server.specs.Laws.{IsHeldFor, IsSpent, IsAbove, LeavesIfRefused, LeavesTheRest, is_yes, IsToldByAll, IsDoneUnder, IsKnownToAll};
 
 /// No edit is numbered but under a lease that is held, that is of the promise and of the stamp that is asked for, and whose end
@@ -88,4 +89,12 @@ pub fn an_append_that_does_not_fit_is_a_pad()
 pub fn a_message_about_a_chunk_leaves_the_others()
     ensures chunk { (s : Server) (from : NodeId) (handle : ℕ) (chunk : Chunk) (moment : Moment) → LeavesTheRest handle (request_in chunk) s (handle_chunk s from handle chunk moment).after }
     ensures copy { (s : Server) (handle new_handle other : ℕ) (at stamp : Stamp) (moment : Moment) → (other == handle) ≡ false → (other == new_handle) ≡ false → place_of other (make_copy s handle at new_handle stamp moment).after ≡ place_of other s }
+{}
+
+/// What touches every chunk is one function on the place of each: at a tick a lease that is over is spent, at a restart each
+/// lease, and the next epoch takes the slot on, where a rollback spends the lease.
+pub fn each_place_goes_on()
+    ensures tick { (handle : ℕ) (s : Server) (moment : Moment) → place_of handle (tick s moment).after ≡ ticked moment (place_of handle s) }
+    ensures restart { (handle : ℕ) (s : Server) → place_of handle (restart s) ≡ restarted (place_of handle s) }
+    ensures learn { (handle epoch : ℕ) (end : EpochEnd) (s : Server) → epoch ≡ s.kept.epoch + 1 → place_of handle (learn s epoch end).after ≡ gone_on end epoch (place_of handle s) }
 {}
