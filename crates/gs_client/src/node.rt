@@ -150,13 +150,8 @@ fn messages_of(alloc: Global, req: ReqId, request: Request) -> Result<Vec<Messag
             op,
             bytes,
         } => {
-            push_to_each(
-                alloc,
-                &mut sent,
-                req,
-                members_with_bytes(members, op),
-                &bytes,
-            )?;
+            let to = members_with_bytes(members, op);
+            push_to_each(alloc, &mut sent, req, to, bytes)?;
             let edit = Chunk::Edit { req, stamp, op };
             sent.push(tell(req, NodeId::Server(primary), Body::About(handle, edit)))?;
         }
@@ -189,22 +184,28 @@ fn members_with_bytes(members: Members, op: Op) -> Members
     }
 }
 
-/// Sends bytes to each of some servers, ascending.
+/// Sends bytes to each of some servers, ascending. The last one is sent the bytes themselves, the others copies.
 fn push_to_each(
     alloc: Global,
     sent: &mut Vec<Message>,
     req: ReqId,
     members: Members,
-    bytes: &Bytes,
+    bytes: Bytes,
 ) -> Result<(), AllocError>
-    ensures { OnOk result (sent.new.items ≡ sent.old.items ++ pushes req members bytes.now) }
+    ensures { OnOk result (sent.new.items ≡ sent.old.items ++ pushes req members bytes) }
 {
-    for server in members {
+    let mut left = members;
+    let Some(mut to) = left.pop_first() else {
+        return Ok(());
+    };
+    for next in left {
         let push = Body::Push {
             req,
             bytes: bytes.copy(alloc)?,
         };
-        sent.push(tell(req, NodeId::Server(server), push))?;
+        sent.push(tell(req, NodeId::Server(to), push))?;
+        to = next;
     }
+    sent.push(tell(req, NodeId::Server(to), Body::Push { req, bytes }))?;
     Ok(())
 }

@@ -88,24 +88,35 @@ fn span(size: u64, offset: u64, end: u64) -> u64
     0
 }
 
-/// Adds what was read of a chunk, with zeros behind it up to so many bytes.
-fn add_filled(read: &mut Vec<u8>, bytes: &[u8], many: usize) -> Result<(), AllocError>
-    requires { many ≤ 67108864 }
-    ensures { OnOk result (read.new.items ≡ read.old.items ++ filled many bytes.now) }
+/// Adds bytes to those that were read. The first ones aren't copied.
+fn add_bytes(read: &mut Vec<u8>, bytes: Bytes) -> Result<(), AllocError>
+    ensures { OnOk result (read.new.items ≡ read.old.items ++ bytes) }
 {
-    read.extend_from_slice(bytes)?;
-    let missing = many.saturating_sub(bytes.len());
+    if read.is_empty() {
+        *read = bytes.into_vec();
+        return Ok(());
+    }
+    read.extend_from_slice(bytes.as_slice())
+}
+
+/// Adds what was read of a chunk, with zeros behind it up to so many bytes.
+fn add_filled(read: &mut Vec<u8>, bytes: Bytes, many: usize) -> Result<(), AllocError>
+    requires { many ≤ 67108864 }
+    ensures { OnOk result (read.new.items ≡ read.old.items ++ filled many bytes) }
+{
+    let missing = many.saturating_sub(bytes.as_slice().len());
+    add_bytes(read, bytes)?;
     let held = read.len();
     read.resize(held + missing, 0)
 }
 
 /// Adds what was read of a chunk. Behind what a chunk stores that isn't the last one stand zeros.
-fn add_piece(read: &mut Vec<u8>, bytes: &[u8], many: u64, is_last: bool) -> Result<(), AllocError>
+fn add_piece(read: &mut Vec<u8>, bytes: Bytes, many: u64, is_last: bool) -> Result<(), AllocError>
     requires { many ≤ 67108864 }
-    ensures { OnOk result (read.new.items ≡ read.old.items ++ (if is_last then bytes.now else filled many bytes.now)) }
+    ensures { OnOk result (read.new.items ≡ read.old.items ++ (if is_last then bytes else filled many bytes)) }
 {
     if is_last {
-        return read.extend_from_slice(bytes);
+        return add_bytes(read, bytes);
     }
     add_filled(read, bytes, many as usize)
 }
@@ -213,7 +224,7 @@ impl Client {
                 },
             };
             let (bytes, located) = self.stored(alloc, link, wanted, known)?;
-            add_piece(&mut read, bytes.as_slice(), many, index + 1 == file.chunks)?;
+            add_piece(&mut read, bytes, many, index + 1 == file.chunks)?;
             known = Some(located);
             start = 0;
         }

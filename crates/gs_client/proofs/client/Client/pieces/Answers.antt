@@ -1,9 +1,15 @@
-use Rattle.std.proofs.Common.{◌≡◌, ◌∙◌, ◌+◌, ◌-◌, ◌/◌, ◌%◌, ◌<◌, ℕ, [], rules, Err, ap}
+use Rattle.std.proofs.Common.{◌≡◌, ◌∙◌, ◌+◌, ◌-◌, ◌/◌, ◌%◌, ◌<◌, ℕ, [], rules, Err, ap, arith}
 use Rattle.gs_base.specs.declared.refusal.Refusal.TheVariants.{Memory}
 use Rattle.gs_client.specs.Sends.{Sends}
 use Rattle.gs_client.specs.Reading.{span, piece_end}
-use Rattle.gs_client.proofs.Pieces.{pieces_begin, piece_refused, piece_unheld, piece_added, stored_named}
+use Rattle.gs_client.proofs.Pieces.{in_bounds, pieces_begin, piece_refused, piece_unheld, piece_added, stored_named}
 use Rattle.gs_client.proofs.client.Client.pieces.Goals as goal
+
+pub piece_end-requires-clause-few : goal.piece_end-requires-clause-few
+piece_end-requires-clause-few g c =
+    let more : c.loop-i.i < span c.args.file.now.size c.args.offset c.args.end = rw c.span-count.ensures at c.loop-i-test.true in
+    let h = in_bounds c.args.file.now.size c.args.offset c.args.end c.loop-i.i c.args.file.now.some c.requires more in
+    omega arith
 
 pub loop-i-init : goal.loop-i-init
 loop-i-init g c =
@@ -38,4 +44,4 @@ loop-i-preserved g c =
     (stored_named (Sends g.L.Link.Carries) c.args.file.now.path.now c.loop-i.known (c.args.offset / c.args.file.now.size + c.loop-i.i) c.loop-i.start c.saturating_sub-many.result
     (piece_end c.args.file.now.size c.args.end (c.args.offset / c.args.file.now.size + c.loop-i.i) - c.loop-i.start) _ _ _
     (c.saturating_sub-many.ensures ∙ ap (λ (n : ℕ). n - c.loop-i.start) c.piece_end.ensures.is) c.in_ok-bytes.ensures)
-    (rw (c.saturating_sub-many.ensures, c.piece_end.ensures.is, c.as_slice.ensures) at c.in_ok-add_piece.ensures)
+    (rw (c.saturating_sub-many.ensures, c.piece_end.ensures.is) at c.in_ok-add_piece.ensures)
