@@ -3,6 +3,7 @@ pub mod Choosing
 pub mod Counters
 pub mod Deleted
 pub mod Edits
+pub mod Kept
 pub mod Preparing
 pub mod Recording
 pub mod Refusing

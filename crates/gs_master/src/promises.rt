@@ -1,7 +1,7 @@
 //! What holds of every master.
 
 ghost use Rattle.gs_record.specs.Plain.{PlainEntry};
-ghost use Rattle.gs_master.specs.Promises.{BeginsWithAll, EditsAsTold, KeepsGiven, MadeOfTheMost, NothingAtTicks, NothingWhileRolling, PreparesByOneRecord, RefusedLeavesNames};
+ghost use Rattle.gs_master.specs.Promises.{BeginsWithAll, EditsAsTold, KeepsGiven, KeepsPrepared, MadeOfTheMost, NothingAtTicks, NothingWhileRolling, PreparesByOneRecord, RefusedLeavesNames, TellsCounters};
 
 /// While a rollback is begun and not done, no view is begun, and no replica is dropped, whatever message comes and at each
 /// tick.
@@ -38,4 +38,15 @@ pub fn a_prepare_begins_with_all_that_stands()
 /// No record but a checkpoint takes a counter behind a value that was given, or the epoch back.
 pub fn counters_never_fall()
     ensures { (entry : PlainEntry) → KeepsGiven entry }
+{}
+
+/// A checkpoint of what stands tells its counters and its epoch.
+pub fn a_checkpoint_tells_the_counters()
+    ensures { TellsCounters }
+{}
+
+/// While an upgrade stands the prepared view of each chunk stays, also that of one which is forgotten, and a chunk that had none
+/// gets none, until the upgrade is finalized or rolled back.
+pub fn prepared_views_stay()
+    ensures { (entry : PlainEntry) → KeepsPrepared entry }
 {}
