@@ -1,7 +1,8 @@
 -- What a table of leases tells of its chunks.
-use Rattle.std.proofs.Common.{◌≡◌, ◌∙◌, ℕ, Bool, true, false, cond, List, [], ◌∷◌, ◌&&◌, ◌||◌, not, map, filter, refl, ap, subst, sym}
-use Rattle.std.specs.Prelude.{Option, Some, None, option_and_then, is_some, unwrap_or}
+use Rattle.std.proofs.Common.{◌≡◌, ◌∙◌, ◌<◌, ◌+◌, suc, add-one, drop, drop-cons, get_or, length, ℕ, Bool, true, false, cond, List, [], ◌∷◌, ◌&&◌, ◌||◌, not, map, filter, refl, ap, subst, sym, arith}
+use Rattle.std.specs.Prelude.{Option, Some, None, filter_map, option_map, option_and_then, is_some, unwrap_or}
 use Rattle.std.proofs.lemmas.Bool.{false≢true}
+use Rattle.std.proofs.lemmas.List.{drop_all}
 use Rattle.std.specs.List.{list_all}
 use Rattle.std.specs.List.Sorted.{IsStrictlySortedBy}
 use Rattle.std.specs.Cmp.{nat_cmp_total}
@@ -15,10 +16,12 @@ use Rattle.gs_lease.specs.declared.view.View.{View}
 use Rattle.gs_table.proofs.Lives.{entries-live}
 use Rattle.gs_table.specs.Slots.{live, live_entries, set_live}
 use Rattle.gs_record.specs.Plain.{Settle}
+use Rattle.gs_record.specs.declared.entry.Answered.{Answered}
 use Rattle.gs_record.specs.declared.entry.SettledView.{SettledView}
-use Rattle.gs_master.specs.Applied.{applied, are_at_rest, is_at_rest, may_be_settled, view_in, with_proposal}
-use Rattle.gs_master.specs.Durable.{Durable, Settled, is_listed, kept_before}
-use Rattle.gs_master.specs.Recorded.{chunks_of, durable_of, rests, settled_by}
+use Rattle.gs_master.specs.Applied.{applied, are_at_rest, is_at_rest, may_be_settled, restored_chunk, restored_view, view_in, with_proposal}
+use Rattle.gs_master.specs.Durable.{Durable, Settled, is_listed, kept_before, prepared_view}
+use Rattle.gs_master.specs.Recorded.{chunks_of, durable_of, restored_chunks, rests, settled_by}
+use Rattle.gs_master.specs.declared.asking.Prepared.{Prepared}
 use Rattle.gs_master.specs.declared.recorded.Recorded.{Recorded}
 
 get_set : (k : ℕ) (settled : Option Settled) (m : fin.FinMap nat_cmp Settled) (q : ℕ) → fin.get (set_live k settled m) q ≡ cond (eq_by_cmp nat_cmp q k) settled (fin.get m q)
@@ -172,3 +175,36 @@ at_rest_by r rising =
 
 pub at_rest_is : (r : Recorded) (es : List (ℕ × Lease)) → es ≡ fin.entries (live nat_cmp r.leases) → IsStrictlySortedBy nat_cmp (map (λ (e : ℕ × Lease). e.0) es) → (b : Bool) → all_rest_in r es ≡ b → b ≡ are_at_rest (durable_of r)
 at_rest_is r es is rising b h = sym h ∙ ap (all_rest_in r) is ∙ at_rest_by r (subst (λ es. IsStrictlySortedBy nat_cmp (map (λ (e : ℕ × Lease). e.0) es)) is rising)
+
+-- ---- chunks as they stood at prepare
+
+drop_here : (xs : List Answered) (i : ℕ) (x : Answered) → i < length xs → x ≡ get_or xs i x → drop i xs ≡ x ∷ drop (i + 1) xs
+drop_here xs i x h at = rw (add-one, drop-cons xs i x h) (ap (λ y. y ∷ drop (suc i) xs) (sym at))
+
+without_one : (f : Answered → Option (ℕ × Settled)) (x : Answered) (xs : List Answered) → f x ≡ None → filter_map f (x ∷ xs) ≡ filter_map f xs
+without_one f x xs is = rw is refl
+
+with_one : (f : Answered → Option (ℕ × Settled)) (x : Answered) (xs : List Answered) (y : ℕ × Settled) → f x ≡ Some y → filter_map f (x ∷ xs) ≡ y ∷ filter_map f xs
+with_one f x xs y is = rw is refl
+
+abbrev restored_entry : Durable → Answered → Prepared → ℕ × Settled
+restored_entry d x prepared = (x.handle, restored_view d.epoch prepared x.members)
+
+-- of a chunk without a prepared view nothing is restored
+pub nothing_restored : (d : Durable) (xs : List Answered) (i : ℕ) (x : Answered) (m : fin.FinMap nat_cmp Settled) → i < length xs → x ≡ get_or xs i x → prepared_view d x.handle ≡ None →
+    m ≡ restored_chunks d (drop (i + 1) xs) → m ≡ restored_chunks d (drop i xs)
+nothing_restored d xs i x m h at none is =
+    is ∙ sym (ap (restored_chunks d) (drop_here xs i x h at) ∙ ap fin.from_entries (without_one (restored_chunk d) x (drop (i + 1) xs) (ap (option_map (restored_entry d x)) none)))
+
+pub one_restored : (d : Durable) (xs : List Answered) (i : ℕ) (x : Answered) (p : Prepared) (leases more : fin.FinMap nat_cmp Lease) (lease : Lease) (view : View) → i < length xs → x ≡ get_or xs i x → Some p ≡ prepared_view d x.handle →
+    more ≡ fin.insert leases x.handle lease → lease ≡ restored view None → view ≡ (restored_view d.epoch p x.members).view →
+    chunks_of leases ≡ restored_chunks d (drop (i + 1) xs) → chunks_of more ≡ restored_chunks d (drop i xs)
+one_restored d xs i x p leases more lease view h at has put is same all =
+    let rest = drop (i + 1) xs in
+    ap chunks_of put ∙ ap (λ l. chunks_of (fin.insert leases x.handle l)) (is ∙ ap (λ v. restored v None) same)
+    ∙ settling_put leases x.handle (restored_view d.epoch p x.members).view
+    ∙ ap (λ m. fin.insert m x.handle (restored_view d.epoch p x.members)) all
+    ∙ sym (ap (restored_chunks d) (drop_here xs i x h at) ∙ ap fin.from_entries (with_one (restored_chunk d) x rest (restored_entry d x p) (ap (option_map (restored_entry d x)) (sym has))))
+
+pub none_restored : (d : Durable) (xs : List Answered) (i : ℕ) (leases : fin.FinMap nat_cmp Lease) → i ≡ length xs → leases ≡ fin.empty → chunks_of leases ≡ restored_chunks d (drop i xs)
+none_restored d xs i leases is no_lease = ap chunks_of no_lease ∙ chunks_empty ∙ ap (restored_chunks d) (sym (drop_all i xs (omega arith)))

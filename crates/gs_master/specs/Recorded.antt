@@ -1,5 +1,5 @@
 -- What the master's memory of its records holds, without where it lies.
-use Rattle.std.specs.Prelude.{◌≡◌, ◌⊎◌, ◌<◌, ℕ, vec_len, vec_capacity, Bool, true, false, List, [], ◌∷◌, ◌++◌, map, Option, Some, None, option_map, is_some, Result, Ok, Err, if◌then◌else◌}
+use Rattle.std.specs.Prelude.{◌≡◌, ◌⊎◌, ◌<◌, ℕ, vec_len, vec_capacity, Bool, true, false, List, [], ◌∷◌, ◌++◌, map, filter_map, Option, Some, None, option_map, is_some, Result, Ok, Err, if◌then◌else◌}
 use Rattle.std.specs.Ordering.{nat_cmp}
 use Rattle.std.specs.FinMap as fin
 use Rattle.gs_base.specs.declared.numbers.Stamp.{Stamp}
@@ -9,11 +9,12 @@ use Rattle.gs_lease.specs.Told.{told_of}
 use Rattle.gs_lease.specs.declared.lease.Lease.{Lease}
 use Rattle.gs_lease.specs.declared.view.View.{View}
 use Rattle.gs_record.specs.Plain.{PlainEdit, PlainEntry, PlainInverse, Edited, Said, Propose, Settle, Prepare, Finalize, RollbackBegin, RollbackCommit, Whole, Holder, plain_inverse}
+use Rattle.gs_record.specs.declared.entry.Answered.{Answered}
 use Rattle.gs_record.specs.declared.checkpoint.Phase.{Phase}
 use Rattle.gs_record.specs.declared.checkpoint.Phase.TheVariants.{Ordinary, Upgrade, Rolling}
 use Rattle.gs_edit.specs.declared.listed.ListedInverse.{ListedInverse}
 use Rattle.gs_table.specs.Slots.{live, HasRoom}
-use Rattle.gs_master.specs.Applied.{applied, forgotten_by, is_at_rest}
+use Rattle.gs_master.specs.Applied.{applied, forgotten_by, is_at_rest, restored_chunk}
 use Rattle.gs_master.specs.Durable.{Durable, Settled}
 use Rattle.gs_master.specs.Replies.{client_cmp}
 use Rattle.gs_master.specs.Undoing.{inverse_of}
@@ -109,3 +110,9 @@ RoomFor r (RollbackBegin epoch) = vec_len r.ends < vec_capacity r.ends
 RoomFor r (RollbackCommit epoch answers) = Unit {0}
 RoomFor r (Whole c) = Unit {0}
 RoomFor r (Holder chunk server) = HasRoom nat_cmp r.prepared chunk
+
+-- ---- a rollback
+
+-- the chunks as they stood at prepare, on the servers that have answered
+abbrev pub restored_chunks : Durable → List Answered → fin.FinMap nat_cmp Settled
+restored_chunks d answers = fin.from_entries (filter_map (restored_chunk d) answers)

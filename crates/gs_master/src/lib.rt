@@ -12,6 +12,7 @@ mod pending;
 pub mod promises;
 mod recorded;
 mod reply;
+mod restoring;
 
 pub use asking::{Asking, Prepared, Step};
 pub use change::Change;

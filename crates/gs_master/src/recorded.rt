@@ -89,7 +89,7 @@ impl Recorded {
     }
 
     /// Gives up what was kept since prepare.
-    fn forget_prepared(&mut self)
+    pub fn forget_prepared(&mut self)
         ensures { durable_of self.new ≡ without_prepared (durable_of self.old) }
     {
         self.inverses.clear();
