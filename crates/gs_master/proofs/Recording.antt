@@ -1,5 +1,5 @@
 -- What a table of leases tells of its chunks.
-use Rattle.std.proofs.Common.{◌≡◌, ◌∙◌, ◌<◌, ◌+◌, suc, add-one, drop, drop-cons, get_or, length, ℕ, Bool, true, false, cond, List, [], ◌∷◌, ◌&&◌, ◌||◌, not, map, filter, refl, ap, subst, sym, arith}
+use Rattle.std.proofs.Common.{◌≡◌, ◌∙◌, ◌<◌, ◌≤◌, ◌==◌, ◌+◌, suc, add-one, drop, drop-cons, get_or, length, ℕ, Bool, true, false, cond, List, [], ◌∷◌, ◌&&◌, ◌||◌, not, map, filter, refl, ap, subst, sym, arith}
 use Rattle.std.specs.Prelude.{Option, Some, None, filter_map, option_map, option_and_then, is_some, unwrap_or}
 use Rattle.std.proofs.lemmas.Bool.{false≢true}
 use Rattle.std.proofs.lemmas.List.{drop_all}
@@ -15,12 +15,15 @@ use Rattle.gs_lease.specs.declared.view.Term.{Term}
 use Rattle.gs_lease.specs.declared.view.View.{View}
 use Rattle.gs_table.proofs.Lives.{entries-live}
 use Rattle.gs_table.specs.Slots.{live, live_entries, set_live}
-use Rattle.gs_record.specs.Plain.{Settle}
+use Rattle.gs_record.specs.Plain.{RollbackCommit, Settle}
+use Rattle.gs_record.specs.declared.checkpoint.Phase.TheVariants.{Ordinary}
+use Rattle.gs_edit.specs.View.{NamesView}
+use Rattle.gs_master.specs.Undoing.{all_undone}
 use Rattle.gs_record.specs.declared.entry.Answered.{Answered}
 use Rattle.gs_record.specs.declared.entry.SettledView.{SettledView}
-use Rattle.gs_master.specs.Applied.{applied, are_at_rest, is_at_rest, may_be_settled, restored_chunk, restored_view, view_in, with_proposal}
-use Rattle.gs_master.specs.Durable.{Durable, Settled, is_listed, kept_before, prepared_view}
-use Rattle.gs_master.specs.Recorded.{chunks_of, durable_of, restored_chunks, rests, settled_by}
+use Rattle.gs_master.specs.Applied.{after_undoing, applied, are_answers, are_at_rest, is_at_rest, if_fits, may_be_settled, may_restore, restored_chunk, rolled_back, without_prepared, restored_view, view_in, with_proposal}
+use Rattle.gs_master.specs.Durable.{Durable, Settled, is_listed, is_rolling, kept_before, prepared_view}
+use Rattle.gs_master.specs.Recorded.{answers_for_one, chunks_of, durable_of, restored_chunks, rests, settled_by}
 use Rattle.gs_master.specs.declared.asking.Prepared.{Prepared}
 use Rattle.gs_master.specs.declared.recorded.Recorded.{Recorded}
 
@@ -208,3 +211,66 @@ one_restored d xs i x p leases more lease view h at has put is same all =
 
 pub none_restored : (d : Durable) (xs : List Answered) (i : ℕ) (leases : fin.FinMap nat_cmp Lease) → i ≡ length xs → leases ≡ fin.empty → chunks_of leases ≡ restored_chunks d (drop i xs)
 none_restored d xs i leases is no_lease = ap chunks_of no_lease ∙ chunks_empty ∙ ap (restored_chunks d) (sym (drop_all i xs (omega arith)))
+
+-- ---- answers for each listed chunk
+
+abbrev Places : Type 0
+Places = ℕ → Option Prepared
+
+and_assoc : (a b c : Bool) → a && (b && c) ≡ (a && b) && c
+and_assoc true b c = refl
+and_assoc false b c = refl
+
+and_false : (a b : Bool) → a && (b && false) ≡ false
+and_false true true = refl
+and_false true false = refl
+and_false false b = refl
+
+drop_listed : (xs : List (ℕ × ℕ)) (i : ℕ) (x : ℕ × ℕ) → i < length xs → x ≡ get_or xs i x → drop i xs ≡ x ∷ drop (i + 1) xs
+drop_listed xs i x h at = rw (add-one, drop-cons xs i x h) (ap (λ y. y ∷ drop (suc i) xs) (sym at))
+
+pub answers_step : (prepared : Places) (listed : List (ℕ × ℕ)) (answers : List Answered) (i : ℕ) (e : ℕ × ℕ) (x : Answered) → i < length listed → i < length answers → e ≡ get_or listed i e → x ≡ get_or answers i x →
+    are_answers prepared (drop i listed) (drop i answers) ≡ answers_for_one prepared e x && are_answers prepared (drop (i + 1) listed) (drop (i + 1) answers)
+answers_step prepared listed answers i e x h k at_e at_x =
+    ap (λ es. are_answers prepared es (drop i answers)) (drop_listed listed i e h at_e) ∙ ap (are_answers prepared (e ∷ drop (i + 1) listed)) (drop_here answers i x k at_x)
+    ∙ and_assoc (x.handle == e.0) (may_restore (prepared e.0) e.1 x.members) (are_answers prepared (drop (i + 1) listed) (drop (i + 1) answers))
+
+pub answers_end : (prepared : Places) (listed : List (ℕ × ℕ)) (answers : List Answered) (i : ℕ) → length listed ≤ i → length answers ≤ i → are_answers prepared (drop i listed) (drop i answers) ≡ true
+answers_end prepared listed answers i h k =
+    ap (λ es. are_answers prepared es (drop i answers)) (drop_all i listed h) ∙ ap (are_answers prepared []) (drop_all i answers k)
+
+pub answers_unequal : (prepared : Places) (listed : List (ℕ × ℕ)) (answers : List Answered) → (length listed ≡ length answers → ⊥) → are_answers prepared listed answers ≡ false
+answers_unequal prepared [] [] apart = absurd (apart refl)
+answers_unequal prepared [] (x ∷ answers) apart = refl
+answers_unequal prepared (e ∷ listed) [] apart = refl
+answers_unequal prepared (e ∷ listed) (x ∷ answers) apart =
+    ap (λ b. (x.handle == e.0) && (may_restore (prepared e.0) e.1 x.members && b)) (answers_unequal prepared listed answers (λ same. apart (ap suc same)))
+    ∙ and_false (x.handle == e.0) (may_restore (prepared e.0) e.1 x.members)
+
+-- ---- a rollback is done
+
+pub rollback_gives : (d e : Durable) (epoch : ℕ) (answers : List Answered) (names : NamesView) (listed : List (ℕ × ℕ)) (chunks : fin.FinMap nat_cmp Settled) →
+    is_rolling d.phase ≡ true → (epoch == d.epoch) ≡ true → are_answers (prepared_view d) listed answers ≡ true → listed ≡ fin.entries names.refs → all_undone d.inverses d.names ≡ Some names →
+    e ≡ without_prepared d → chunks ≡ restored_chunks d answers → applied d (RollbackCommit epoch answers) ≡ Some (record e { names = names; chunks = chunks; phase = Ordinary })
+unfolding applied
+rollback_gives d e epoch answers names listed chunks rolling now all is back given restored =
+    let fits : (is_rolling d.phase && ((epoch == d.epoch) && are_answers (prepared_view d) (fin.entries names.refs) answers)) ≡ true =
+    (λ i. rolling i && (now i && are_answers (prepared_view d) (sym is i) answers)) ∙ all in
+    ap (after_undoing d epoch answers) back ∙ ap (λ b. if_fits b (rolled_back d answers names)) fits
+    ∙ ap Some (λ i. record (sym given i) { names = names; chunks = sym restored i; phase = Ordinary })
+
+pub no_rollback : (d : Durable) (epoch : ℕ) (answers : List Answered) (names : NamesView) (listed : List (ℕ × ℕ)) → listed ≡ fin.entries names.refs → all_undone d.inverses d.names ≡ Some names →
+    (is_rolling d.phase && ((epoch == d.epoch) && are_answers (prepared_view d) listed answers)) ≡ false → applied d (RollbackCommit epoch answers) ≡ None
+unfolding applied
+no_rollback d epoch answers names listed is back fits =
+    ap (after_undoing d epoch answers) back ∙ ap (λ b. if_fits b (rolled_back d answers names)) (ap (λ es. is_rolling d.phase && ((epoch == d.epoch) && are_answers (prepared_view d) es answers)) (sym is) ∙ fits)
+
+pub not_begun : (rolling now all : Bool) → rolling && now ≡ false → rolling && (now && all) ≡ false
+not_begun true true all h = absurd (false≢true (sym h))
+not_begun true false all h = refl
+not_begun false now all h = refl
+
+pub not_answered : (rolling now all : Bool) → all ≡ false → rolling && (now && all) ≡ false
+not_answered true true all h = h
+not_answered true false all h = refl
+not_answered false now all h = refl

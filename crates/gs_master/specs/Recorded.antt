@@ -1,5 +1,5 @@
 -- What the master's memory of its records holds, without where it lies.
-use Rattle.std.specs.Prelude.{◌≡◌, ◌⊎◌, ◌<◌, ℕ, vec_len, vec_capacity, Bool, true, false, List, [], ◌∷◌, ◌++◌, map, filter_map, Option, Some, None, option_map, is_some, Result, Ok, Err, if◌then◌else◌}
+use Rattle.std.specs.Prelude.{◌≡◌, ◌⊎◌, ◌<◌, ◌==◌, ◌&&◌, ℕ, vec_len, vec_capacity, Bool, true, false, List, [], ◌∷◌, ◌++◌, map, filter_map, Option, Some, None, option_map, is_some, Result, Ok, Err, if◌then◌else◌}
 use Rattle.std.specs.Ordering.{nat_cmp}
 use Rattle.std.specs.FinMap as fin
 use Rattle.gs_base.specs.declared.numbers.Stamp.{Stamp}
@@ -14,7 +14,7 @@ use Rattle.gs_record.specs.declared.checkpoint.Phase.{Phase}
 use Rattle.gs_record.specs.declared.checkpoint.Phase.TheVariants.{Ordinary, Upgrade, Rolling}
 use Rattle.gs_edit.specs.declared.listed.ListedInverse.{ListedInverse}
 use Rattle.gs_table.specs.Slots.{live, HasRoom}
-use Rattle.gs_master.specs.Applied.{applied, forgotten_by, is_at_rest, restored_chunk}
+use Rattle.gs_master.specs.Applied.{applied, forgotten_by, is_at_rest, may_restore, restored_chunk}
 use Rattle.gs_master.specs.Durable.{Durable, Settled}
 use Rattle.gs_master.specs.Replies.{client_cmp}
 use Rattle.gs_master.specs.Undoing.{inverse_of}
@@ -116,3 +116,7 @@ RoomFor r (Holder chunk server) = HasRoom nat_cmp r.prepared chunk
 -- the chunks as they stood at prepare, on the servers that have answered
 abbrev pub restored_chunks : Durable → List Answered → fin.FinMap nat_cmp Settled
 restored_chunks d answers = fin.from_entries (filter_map (restored_chunk d) answers)
+
+-- an answer for one listed chunk
+abbrev pub answers_for_one : (ℕ → Option Prepared) → ℕ × ℕ → Answered → Bool
+answers_for_one prepared e answer = (answer.handle == e.0) && may_restore (prepared e.0) e.1 answer.members

@@ -1,14 +1,16 @@
 // What a rollback leads back to.
-ghost use Rattle.std.specs.Prelude.{◌≡◌, IfOk, Some};
+ghost use Rattle.std.specs.Prelude.{◌≡◌, ◌==◌, ◌&&◌, IfOk, Some};
 ghost use Rattle.std.specs.Ordering.{nat_cmp};
 ghost use Rattle.std.specs.FinMap as fin;
 ghost use Rattle.gs_record.specs.Plain as entries;
 ghost use Rattle.gs_table.specs.Slots.{live};
-ghost use Rattle.gs_master.specs.Applied.{are_answers, may_restore};
-ghost use Rattle.gs_master.specs.Durable.{prepared_view};
-ghost use Rattle.gs_master.specs.Recorded.{Applies, chunks_of, durable_of, restored_chunks};
+ghost use Rattle.gs_master.specs.Applied.{are_answers, is_prepared_on, may_restore};
+ghost use Rattle.std.specs.List.{list_all};
+ghost use Rattle.gs_master.specs.Durable.{is_rolling, prepared_view};
+ghost use Rattle.gs_master.specs.Recorded.{AppliesOrMemory, answers_for_one, chunks_of, durable_of, restored_chunks};
 ghost use Rattle.gs_master.specs.Undoing.{all_undone};
 
+use crate::asking::Prepared;
 use crate::recorded::Recorded;
 use gs_base::{Handle, Members, Refusal, Stamp};
 use gs_edit::Names;
@@ -31,6 +33,29 @@ impl Recorded {
         }
     }
 
+    /// Whether an answer is the one for a listed chunk.
+    fn is_answer(&self, listed: (Handle, u32), answer: &Answered) -> bool
+        ensures { result ≡ answers_for_one (prepared_view (durable_of self.now)) (listed.0, listed.1) answer.now }
+    {
+        let (chunk, count) = listed;
+        answer.handle == chunk && may_restore(self.prepared_view(chunk), count, answer.members)
+    }
+
+    /// Whether there is an answer for each listed chunk, in their order, and no other.
+    fn are_answers(&self, listed: &[(Handle, u32)], answered: &[Answered]) -> bool
+        ensures { result ≡ are_answers (prepared_view (durable_of self.now)) listed.now answered.now }
+    {
+        if listed.len() != answered.len() {
+            return false;
+        }
+        for place in 0..listed.len() {
+            if !self.is_answer(listed[place], &answered[place]) {
+                return false;
+            }
+        }
+        true
+    }
+
     /// The chunks as they stood at prepare, on the servers that have answered.
     pub fn restored(&self, answered: &[Answered]) -> Result<Table<Handle, Lease>, AllocError>
         ensures { IfOk result (λ leases. chunks_of (live nat_cmp leases) ≡ restored_chunks (durable_of self.now) answered.now) }
@@ -48,4 +73,60 @@ impl Recorded {
         }
         Ok(leases)
     }
+
+    /// Whether a rollback is begun, and this is its epoch.
+    fn may_commit(&self, epoch: u64) -> bool
+        ensures { result ≡ (is_rolling (durable_of self.now).phase && (epoch == (durable_of self.now).epoch)) }
+    {
+        self.phase == Phase::Rolling && epoch == self.epoch
+    }
+
+    /// The rollback of an upgrade is done, and these are the names of the prepare. It wants memory for the chunks before
+    /// anything changes.
+    pub fn commit_rollback(
+        &mut self,
+        epoch: u64,
+        answered: &[Answered],
+        names: Names,
+    ) -> Result<(), Refusal>
+        requires { all_undone (durable_of self.old).inverses (durable_of self.old).names ≡ Some names }
+        ensures { AppliesOrMemory (entries.RollbackCommit epoch answered.now) result (durable_of self.old) (durable_of self.new) }
+    {
+        if !self.may_commit(epoch) {
+            return Err(Refusal::BadLine);
+        }
+        let listed = names.refs().entries(self.alloc)?;
+        if !self.are_answers(&listed, answered) {
+            return Err(Refusal::BadLine);
+        }
+        let leases = self.restored(answered)?;
+        self.forget_prepared();
+        self.names = names;
+        self.leases = leases;
+        self.phase = Phase::Ordinary;
+        Ok(())
+    }
+}
+
+/// Whether each of these may have a chunk as it stood at prepare.
+fn are_prepared_on(prepared: &Prepared, servers: Members) -> bool
+    ensures { result ≡ list_all (is_prepared_on prepared.now) servers }
+{
+    let mut left = servers;
+    while let Some(server) = left.pop_first() {
+        if !prepared.view.members.contains(server) && !prepared.holders.contains(server) {
+            return false;
+        }
+    }
+    true
+}
+
+/// Whether these may be the servers on which a chunk is restored that had so many references.
+fn may_restore(prepared: Option<Prepared>, count: u32, servers: Members) -> bool
+    ensures { result ≡ may_restore prepared count servers }
+{
+    let Some(prepared) = prepared else {
+        return false;
+    };
+    are_prepared_on(&prepared, servers) && (count == 0 || !servers.is_empty())
 }
