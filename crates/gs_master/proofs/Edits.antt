@@ -14,7 +14,7 @@ use Rattle.gs_edit.specs.declared.edit.Edit.{Edit}
 use Rattle.gs_edit.specs.declared.listed.ListedInverse.{ListedInverse}
 use Rattle.gs_msg.specs.declared.answer.Answer.{Answer}
 use Rattle.gs_path.specs.Path.{path_cmp, path_total}
-use Rattle.gs_record.specs.Plain.{Edited, PlainEdit, PlainInverse, plain_edit, plain_inverse}
+use Rattle.gs_record.specs.Plain.{Edited, PlainEdit, PlainInverse, plain_edit, plain_inverse, Mkdirs, Create, Rename, Hide, Unhide, Remove, AddChunk, Cow, Snapshot, Forget}
 use Rattle.gs_record.specs.declared.checkpoint.Phase.{Phase}
 use Rattle.gs_record.specs.declared.checkpoint.Phase.TheVariants.{Ordinary, Upgrade, Rolling}
 use Rattle.gs_table.specs.Slots.{HasRoom, KeepsRoom}
@@ -22,7 +22,7 @@ use Rattle.gs_tree.specs.Entry.{Entry}
 use Rattle.gs_master.specs.Applied.{after_edit, after_if, applied, chunk_of_edit, forgotten_by, inverses_with, may_edit, number_of_edit, view_for, with_answer, with_edit, without_chunks}
 use Rattle.gs_master.specs.Durable.{Durable, kept_before}
 use Rattle.gs_master.specs.Promises.{edits_as_told}
-use Rattle.gs_master.specs.Recorded.{IsToldBack, RoomForEach, inverses_and, unfit}
+use Rattle.gs_master.specs.Recorded.{IsToldBack, RoomForEach, inverses_and, unfit, SayAlone}
 use Rattle.gs_master.specs.Replies.{answer_to}
 use Rattle.gs_master.specs.Undoing.{edited_names, inverse_of, names_from}
 use Rattle.gs_master.specs.declared.asking.Prepared.{Prepared}
@@ -165,3 +165,17 @@ room_last slots (y ∷ xs) x room here = (room.0, room_last slots xs x room.1 he
 pub room_more : (slots more : List (ℕ × Option Prepared)) (xs : List ℕ) (i x : ℕ) → i < length xs → x ≡ get_or xs i x → RoomForEach slots (take i xs) → KeepsRoom nat_cmp slots more → HasRoom nat_cmp more x → RoomForEach more (take (i + 1) xs)
 room_more slots more xs i x h at room keeps here =
     rw (take_more xs i x h) (room_last more (take i xs) (get_or xs i x) (room_kept slots more (take i xs) keeps room) (subst (HasRoom nat_cmp more) at here))
+
+-- ---- edits that say alone what takes them back
+
+pub say_alone : SayAlone
+say_alone (Mkdirs p) rows is = absurd (false≢true (sym is))
+say_alone (Create p) rows is = absurd (false≢true (sym is))
+say_alone (Rename from to) rows is = absurd (false≢true (sym is))
+say_alone (Hide p moment number) rows is = refl
+say_alone (Unhide p) rows is = refl
+say_alone (Remove p) rows is = absurd (false≢true (sym is))
+say_alone (AddChunk p chunk) rows is = refl
+say_alone (Cow p index old new) rows is = refl
+say_alone (Snapshot from to) rows is = refl
+say_alone (Forget chunks) rows is = refl

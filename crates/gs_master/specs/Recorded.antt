@@ -8,11 +8,12 @@ use Rattle.gs_base.specs.declared.refusal.Refusal.TheVariants as refusals
 use Rattle.gs_lease.specs.Told.{told_of}
 use Rattle.gs_lease.specs.declared.lease.Lease.{Lease}
 use Rattle.gs_lease.specs.declared.view.View.{View}
-use Rattle.gs_record.specs.Plain.{PlainEdit, PlainEntry, PlainInverse, Edited, Said, Propose, Settle, Prepare, Finalize, RollbackBegin, RollbackCommit, Whole, Holder, plain_inverse}
+use Rattle.gs_record.specs.Plain.{PlainEdit, Mkdirs, Create, Rename, Hide, Unhide, Remove, AddChunk, Cow, Snapshot, Forget, PlainEntry, PlainInverse, Edited, Said, Propose, Settle, Prepare, Finalize, RollbackBegin, RollbackCommit, Whole, Holder, plain_inverse}
 use Rattle.gs_record.specs.declared.entry.Answered.{Answered}
 use Rattle.gs_record.specs.declared.checkpoint.Phase.{Phase}
 use Rattle.gs_record.specs.declared.checkpoint.Phase.TheVariants.{Ordinary, Upgrade, Rolling}
 use Rattle.gs_edit.specs.declared.listed.ListedInverse.{ListedInverse}
+use Rattle.gs_tree.specs.Find.{Rows}
 use Rattle.gs_table.specs.Slots.{live, HasRoom}
 use Rattle.gs_master.specs.Applied.{applied, forgotten_by, is_at_rest, may_restore, restored_chunk}
 use Rattle.gs_master.specs.Durable.{Durable, Settled}
@@ -120,3 +121,24 @@ restored_chunks d answers = fin.from_entries (filter_map (restored_chunk d) answ
 -- an answer for one listed chunk
 abbrev pub answers_for_one : (ℕ → Option Prepared) → ℕ × ℕ → Answered → Bool
 answers_for_one prepared e answer = (answer.handle == e.0) && may_restore (prepared e.0) e.1 answer.members
+
+-- the names say what takes these edits back
+abbrev pub needs_names : PlainEdit → Bool
+needs_names (Mkdirs p) = true
+needs_names (Create p) = true
+needs_names (Rename from to) = true
+needs_names (Hide p moment number) = false
+needs_names (Unhide p) = false
+needs_names (Remove p) = true
+needs_names (AddChunk p chunk) = false
+needs_names (Cow p index old new) = false
+needs_names (Snapshot from to) = false
+needs_names (Forget chunks) = false
+
+-- what takes an edit back, where the edit alone says it
+abbrev pub alone : PlainEdit → Option PlainInverse
+alone edit = if needs_names edit then None else Some (inverse_of edit [])
+
+-- that is so whatever the names are
+abbrev pub SayAlone : Type 0
+SayAlone = (edit : PlainEdit) (rows : Rows ℕ) → needs_names edit ≡ false → Some (inverse_of edit rows) ≡ alone edit

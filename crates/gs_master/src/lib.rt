@@ -13,6 +13,7 @@ pub mod promises;
 mod recorded;
 mod reply;
 mod restoring;
+mod reverting;
 
 pub use asking::{Asking, Prepared, Step};
 pub use change::Change;

@@ -1,6 +1,7 @@
 //! What holds of every master.
 
 ghost use Rattle.gs_record.specs.Plain.{PlainEntry};
+ghost use Rattle.gs_master.specs.Recorded.{SayAlone};
 ghost use Rattle.gs_master.specs.Promises.{BeginsWithAll, EditsAsTold, KeepsGiven, KeepsPrepared, MadeOfTheMost, NothingAtTicks, NothingWhileRolling, PreparesByOneRecord, RefusedLeavesNames, TellsCounters};
 
 /// While a rollback is begun and not done, no view is begun, and no replica is dropped, whatever message comes and at each
@@ -49,4 +50,9 @@ pub fn a_checkpoint_tells_the_counters()
 /// gets none, until the upgrade is finalized or rolled back.
 pub fn prepared_views_stay()
     ensures { (entry : PlainEntry) → KeepsPrepared entry }
+{}
+
+/// What takes a deletion, a return, a chunk that is added or changed, a copy or what is forgotten back is said by the edit alone.
+pub fn some_edits_say_what_takes_them_back()
+    ensures { SayAlone }
 {}
