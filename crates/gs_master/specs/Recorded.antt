@@ -14,7 +14,7 @@ use Rattle.gs_record.specs.declared.checkpoint.Phase.{Phase}
 use Rattle.gs_record.specs.declared.checkpoint.Phase.TheVariants.{Ordinary, Upgrade, Rolling}
 use Rattle.gs_edit.specs.declared.listed.ListedInverse.{ListedInverse}
 use Rattle.gs_tree.specs.Find.{Rows}
-use Rattle.gs_table.specs.Slots.{live, HasRoom}
+use Rattle.gs_table.specs.Slots.{live, HasRoom, KeepsRoom}
 use Rattle.gs_master.specs.Applied.{applied, forgotten_by, is_at_rest, may_restore, restored_chunk}
 use Rattle.gs_master.specs.Durable.{Durable, Settled}
 use Rattle.gs_master.specs.Replies.{client_cmp}
@@ -111,6 +111,12 @@ RoomFor r (RollbackBegin epoch) = vec_len r.ends < vec_capacity r.ends
 RoomFor r (RollbackCommit epoch answers) = Unit {0}
 RoomFor r (Whole c) = Unit {0}
 RoomFor r (Holder chunk server) = HasRoom nat_cmp r.prepared chunk
+
+-- what has room keeps it
+pub record KeepsRooms (old new : Recorded) : Type 0 where
+  pub leases : KeepsRoom nat_cmp old.leases new.leases
+  pub replies : KeepsRoom client_cmp old.replies new.replies
+  pub prepared : KeepsRoom nat_cmp old.prepared new.prepared
 
 -- ---- a rollback
 

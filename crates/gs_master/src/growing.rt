@@ -4,8 +4,8 @@ ghost use Rattle.std.specs.Ordering.{nat_cmp};
 ghost use Rattle.gs_record.specs.Plain.{plain};
 ghost use Rattle.gs_record.specs.Plain as entries;
 ghost use Rattle.gs_record.specs.Plain.{plain_edit};
-ghost use Rattle.gs_table.specs.Slots.{HasRoom, live};
-ghost use Rattle.gs_master.specs.Recorded.{RoomFor, RoomForEach, durable_of};
+ghost use Rattle.gs_table.specs.Slots.{HasRoom, KeepsRoom, live};
+ghost use Rattle.gs_master.specs.Recorded.{KeepsRooms, RoomFor, RoomForEach, durable_of};
 
 use crate::asking::Prepared;
 use crate::editing::forgotten_by;
@@ -20,6 +20,7 @@ use std::alloc::AllocError;
 fn reserve_each(prepared: &mut Table<Handle, Prepared>, chunks: &[Handle]) -> Result<(), AllocError>
     ensures same { live nat_cmp prepared.new ≡ live nat_cmp prepared.old }
     ensures room { OnOk result (RoomForEach prepared.new chunks.now) }
+    ensures keeps { KeepsRoom nat_cmp prepared.old prepared.new }
 {
     for chunk in chunks {
         prepared.reserve(*chunk)?;
@@ -31,6 +32,7 @@ impl Recorded {
     /// Makes room for how an epoch ends.
     fn grow_ends(&mut self) -> Result<(), AllocError>
         ensures same { durable_of self.new ≡ durable_of self.old }
+        ensures keeps { KeepsRooms self.old self.new }
         ensures room { OnOk result (vec_len self.new.ends < vec_capacity self.new.ends) }
     {
         self.ends.reserve(1)?;
@@ -40,6 +42,7 @@ impl Recorded {
     /// Makes room for an edit: for its reply, for what takes it back, and for the prepared views of what it forgets.
     fn grow_edit(&mut self, by: ReqId, edit: &Edit) -> Result<(), AllocError>
         ensures same { durable_of self.new ≡ durable_of self.old }
+        ensures keeps { KeepsRooms self.old self.new }
         ensures room { OnOk result (RoomFor self.new (entries.Edited by (plain_edit edit.now))) }
     {
         self.replies.reserve(by.client)?;
@@ -50,6 +53,7 @@ impl Recorded {
     /// Makes room for a settled view of a chunk, and for its prepared one.
     fn grow_settling(&mut self, chunk: Handle) -> Result<(), AllocError>
         ensures same { durable_of self.new ≡ durable_of self.old }
+        ensures keeps { KeepsRooms self.old self.new }
         ensures chunk { OnOk result (HasRoom nat_cmp self.new.leases chunk) }
         ensures prepared { OnOk result (HasRoom nat_cmp self.new.prepared chunk) }
     {
@@ -60,6 +64,7 @@ impl Recorded {
     /// Makes all room that applying a record will want, but for the names. What stands stays as it is.
     pub fn grow(&mut self, entry: &Entry) -> Result<(), AllocError>
         ensures same { durable_of self.new ≡ durable_of self.old }
+        ensures keeps { KeepsRooms self.old self.new }
         ensures room { OnOk result (RoomFor self.new (plain entry.now)) }
     {
         match entry {

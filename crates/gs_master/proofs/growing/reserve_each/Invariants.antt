@@ -1,6 +1,6 @@
 use Rattle.std.proofs.Common.{◌≡◌, take}
 use Rattle.std.specs.Ordering.{nat_cmp}
-use Rattle.gs_table.specs.Slots.{live}
+use Rattle.gs_table.specs.Slots.{KeepsRoom, live}
 use Rattle.gs_master.specs.Recorded.{RoomForEach}
 use Rattle.gs_master.proofs.growing.reserve_each.Given as goal
 
@@ -8,4 +8,5 @@ abbrev pub invariant-loop-chunk : goal.invariant-loop-chunk
 invariant-loop-chunk l = record {
   same : live nat_cmp l.prepared ≡ live nat_cmp l.fn.prepared;
   room : RoomForEach l.prepared (take l.chunk-index l.chunks);
+  keeps : KeepsRoom nat_cmp l.fn.prepared l.prepared;
 }
