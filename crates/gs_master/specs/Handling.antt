@@ -28,7 +28,7 @@ use Rattle.gs_msg.specs.declared.node.NodeId.TheVariants as nodes
 use Rattle.gs_record.specs.Encoding.{body}
 use Rattle.gs_record.specs.Plain.{PlainEntry, Mkdirs, Create, Rename, Unhide, Whole}
 use Rattle.gs_base.specs.declared.epoch.EpochEnd.TheVariants as ends
-use Rattle.gs_master.specs.Applied.{replayed}
+use Rattle.gs_master.specs.Applied.{replayed, records_behind}
 use Rattle.gs_master.specs.Calls.{refused_before, edited_by, deleted, listing, status, location, found_chunk, looked_up, queried}
 use Rattle.gs_master.specs.Chunks.{Chunk, chunk_at, is_leased, step_at_tick, view_of}
 use Rattle.gs_master.specs.Durable.{Durable, start, is_rolling, is_listed}
@@ -255,9 +255,9 @@ recovered_from config version log None = Err refusals.BadLine
 recovered_from config version log (Some d) =
     let t = and_then (anew version (restarted d log)) (reopened config) in answered_or t t.said
 
--- the state that the records of an open journal replay to, if each fits
+-- The state that the records of an open journal replay to, if each fits; so many stand behind its last checkpoint.
 unfoldable pub recover : Config → Version → List PlainEntry → Log → Result Turn Refusal
-recover config version entries log = recovered_from config version log (replayed start entries)
+recover config version entries log = recovered_from config version (record log { records = records_behind entries }) (replayed start entries)
 
 -- a new store, on a journal without records
 abbrev pub fresh : Log → State
