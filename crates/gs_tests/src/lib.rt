@@ -24,6 +24,8 @@ mod references;
 #[cfg(test)]
 mod replicas;
 #[cfg(test)]
+mod servers;
+#[cfg(test)]
 mod shell;
 #[cfg(test)]
 mod stores;

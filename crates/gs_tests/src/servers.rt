@@ -1,0 +1,512 @@
+use gs_base::{
+    ClientId, Config, EpochEnd, Handle, Members, Moment, Refusal, ReqId, ServerId, Stamp,
+};
+use gs_lease::Grant;
+use gs_msg::{Asked, Body, Bytes, Chunk, Message, NodeId, Op};
+use gs_server::{Server, Turn};
+use std::alloc::Global;
+use std::process::Abort;
+use std::test::Fail;
+
+/// What happens to a server. It is about chunk 1, and the client is 7; a stamp is an epoch and a version.
+#[derive(Clone, Copy)]
+enum Step {
+    Create(u64, u64),
+    Advance(u64, u64),
+    /// The lease of a stamp, for these members, up to moment 60.
+    Grant(u64, u64, u16),
+    Renewed(u64, u64),
+    /// The bytes of a request.
+    Push(u64, &'static str),
+    /// A request under a stamp, at a moment.
+    Edit(u64, (u64, u64), Op, u64),
+    /// A number under a stamp, a request to append, and the bytes that come along, or none.
+    Forward(u64, (u64, u64), u64, &'static str),
+    /// A server tells a count under a stamp.
+    Ack(u8, (u64, u64), u64),
+    /// A server hasn't the bytes.
+    Nack(u8, (u64, u64)),
+    Fetch(u64, (u64, u64), Asked),
+    CopyOut(u64, u64),
+    /// A copy under a stamp for chunk 2 under another.
+    MakeCopy((u64, u64), (u64, u64)),
+    Drop(u64, (u64, u64)),
+    Epoch(u64, EpochEnd),
+    Stray,
+    Tick(u64),
+    Beat,
+    Restart,
+    Damage(u64),
+    Lose,
+}
+
+/// What happens, and what the server says then: the messages, each with a semicolon behind it, and the refusal.
+type Row = (Step, &'static str);
+
+const APPEND: Op = Op::Append { length: 2 };
+
+/// At server 0, which leads servers 0 to 2.
+const LEADING: [Row; 43] = [
+    (Step::Create(0, 2), "promised S0 M 1 0.2 0 false;"),
+    (
+        Step::Edit(1, (0, 2), APPEND, 0),
+        "done S0 C7 C7/1 refused 20 NotPrimary;refused 20 NotPrimary",
+    ),
+    (Step::Grant(0, 2, 7), ""),
+    (
+        Step::Edit(1, (0, 2), APPEND, 0),
+        "done S0 C7 C7/1 refused 20 NotPrimary;refused 20 NotPrimary",
+    ),
+    (
+        Step::Edit(2, (0, 3), Op::Append { length: 9 }, 60),
+        "done S0 C7 C7/2 refused 22 Stamp 0.2;refused 22 Stamp 0.2",
+    ),
+    (
+        Step::Edit(3, (0, 2), Op::Append { length: 9 }, 60),
+        "done S0 C7 C7/3 refused 21 LeaseOver;refused 21 LeaseOver",
+    ),
+    (
+        Step::Edit(4, (0, 2), Op::Append { length: 9 }, 59),
+        "done S0 C7 C7/4 refused 24 NoData;refused 24 NoData",
+    ),
+    (Step::Push(5, "abcde"), ""),
+    (
+        Step::Edit(5, (0, 2), Op::Append { length: 5 }, 0),
+        "done S0 C7 C7/5 refused 26 TooLong;refused 26 TooLong",
+    ),
+    (Step::Push(6, "ab"), ""),
+    (
+        Step::Edit(6, (0, 2), APPEND, 0),
+        "forward S0 S1 1 0.2 1 C7/6 append 2 -;forward S0 S2 1 0.2 1 C7/6 append 2 -;",
+    ),
+    (Step::Edit(6, (0, 2), APPEND, 0), ""),
+    (
+        Step::Edit(5, (0, 2), APPEND, 0),
+        "done S0 C7 C7/5 refused 19 Old;refused 19 Old",
+    ),
+    (Step::Ack(1, (0, 2), 1), ""),
+    (
+        Step::Nack(2, (0, 2)),
+        "forward S0 S2 1 0.2 1 C7/6 append 2 6162;",
+    ),
+    (
+        Step::Tick(1),
+        "renew S0 M 1 0.2;forward S0 S2 1 0.2 1 C7/6 append 2 -;",
+    ),
+    (Step::Renewed(0, 2), ""),
+    (Step::Ack(2, (0, 2), 1), "done S0 C7 C7/6 appended 0;"),
+    (
+        Step::Edit(6, (0, 2), APPEND, 0),
+        "done S0 C7 C7/6 appended 0;",
+    ),
+    (Step::Push(7, "wxyz"), ""),
+    (
+        Step::Edit(
+            7,
+            (0, 2),
+            Op::Write {
+                offset: 11,
+                length: 4,
+            },
+            60,
+        ),
+        "forward S0 S1 1 0.2 2 C7/7 write 11 4 -;forward S0 S2 1 0.2 2 C7/7 write 11 4 -;",
+    ),
+    (Step::Ack(1, (0, 2), 2), ""),
+    (Step::Push(8, "ab"), ""),
+    (
+        Step::Edit(8, (0, 2), APPEND, 0),
+        "forward S0 S1 1 0.2 3 C7/8 pad -;forward S0 S2 1 0.2 3 C7/8 pad -;",
+    ),
+    (
+        Step::Tick(1),
+        "renew S0 M 1 0.2;forward S0 S2 1 0.2 2 C7/7 write 11 4 -;forward S0 S1 1 0.2 3 C7/8 pad -;forward S0 S2 1 0.2 3 C7/8 pad -;",
+    ),
+    (Step::Ack(1, (0, 2), 3), ""),
+    (
+        Step::Ack(2, (0, 2), 3),
+        "done S0 C7 C7/7 written;done S0 C7 C7/8 padded;",
+    ),
+    (Step::Push(9, "ab"), ""),
+    (Step::Edit(9, (0, 2), APPEND, 0), "done S0 C7 C7/9 padded;"),
+    (Step::Push(10, "ab"), ""),
+    (
+        Step::Edit(
+            10,
+            (0, 2),
+            Op::Write {
+                offset: 15,
+                length: 2,
+            },
+            0,
+        ),
+        "done S0 C7 C7/10 refused 25 Range;refused 25 Range",
+    ),
+    (Step::Damage(0), ""),
+    (Step::Push(11, "a"), ""),
+    (
+        Step::Edit(
+            11,
+            (0, 2),
+            Op::Write {
+                offset: 0,
+                length: 1,
+            },
+            0,
+        ),
+        "done S0 C7 C7/11 refused 27 Damaged 0;bad S0 M 1 0.2;refused 27 Damaged 0",
+    ),
+    (Step::Beat, "report S0 M 0 1/0.2/true"),
+    (
+        Step::Fetch(0, (0, 2), Asked::Length),
+        "bytes S0 C7 C7/99 length 16;",
+    ),
+    (Step::Restart, ""),
+    (Step::Ack(1, (0, 2), 3), "refused 20 NotPrimary"),
+    (Step::Grant(0, 2, 7), "refused 19 Old"),
+    (Step::Edit(8, (0, 2), APPEND, 0), ""),
+    (Step::Drop(0, (0, 2)), ""),
+    (
+        Step::Fetch(0, (0, 2), Asked::Length),
+        "bytes S0 C7 C7/99 refused 28 NoReplica;refused 28 NoReplica",
+    ),
+    (
+        Step::Edit(12, (0, 2), APPEND, 0),
+        "done S0 C7 C7/12 refused 28 NoReplica;refused 28 NoReplica",
+    ),
+];
+
+/// At server 1, which follows server 0 and goes through an upgrade that is rolled back.
+const FOLLOWING: [Row; 25] = [
+    (
+        Step::Forward(1, (0, 2), 1, "ab"),
+        "nack S1 S0 1 0.2 refused 28 NoReplica;refused 28 NoReplica",
+    ),
+    (Step::Create(0, 2), "promised S1 M 1 0.2 0 false;"),
+    (
+        Step::Forward(2, (0, 2), 2, "cd"),
+        "nack S1 S0 1 0.2 refused 23 Gap 0;refused 23 Gap 0",
+    ),
+    (
+        Step::Forward(1, (0, 2), 1, ""),
+        "nack S1 S0 1 0.2 refused 24 NoData;refused 24 NoData",
+    ),
+    (Step::Forward(1, (0, 2), 1, "ab"), "ack S1 S0 1 0.2 1;"),
+    (Step::Forward(1, (0, 2), 1, "ab"), "ack S1 S0 1 0.2 1;"),
+    (Step::Push(2, "cd"), ""),
+    (Step::Forward(2, (0, 2), 2, ""), "ack S1 S0 1 0.2 2;"),
+    (
+        Step::Edit(3, (0, 2), APPEND, 0),
+        "done S1 C7 C7/3 refused 20 NotPrimary;refused 20 NotPrimary",
+    ),
+    (Step::Advance(0, 3), "promised S1 M 1 0.3 2 false;"),
+    (
+        Step::Forward(3, (0, 2), 4, "ef"),
+        "nack S1 S0 1 0.2 refused 22 Stamp 0.3;refused 22 Stamp 0.3",
+    ),
+    (
+        Step::Fetch(
+            0,
+            (0, 3),
+            Asked::Bytes {
+                offset: 0,
+                length: 4,
+            },
+        ),
+        "bytes S1 C7 C7/99 bytes 61626364;",
+    ),
+    (
+        Step::Epoch(2, EpochEnd::Prepare),
+        "behind S1 M 0;refused 18 Epoch 0",
+    ),
+    (Step::Epoch(1, EpochEnd::Prepare), "learned S1 M 1 -;"),
+    (Step::Epoch(1, EpochEnd::Prepare), "learned S1 M 1 -;"),
+    (
+        Step::MakeCopy((0, 3), (1, 1)),
+        "promised S1 M 2 1.1 2 false;",
+    ),
+    (Step::Forward(3, (0, 3), 4, "ef"), "ack S1 S0 1 0.3 3;"),
+    (Step::Drop(1, (0, 3)), ""),
+    (Step::Drop(0, (0, 3)), "refused 18 Epoch 1"),
+    (
+        Step::CopyOut(1, 4),
+        "unpromised S1 M 1 1.4 refused 22 Stamp 0.3;refused 22 Stamp 0.3",
+    ),
+    (Step::Epoch(2, EpochEnd::Rollback), "learned S1 M 2 1;"),
+    (Step::Beat, "report S1 M 2 1/2.0/false"),
+    (
+        Step::Fetch(
+            2,
+            (2, 0),
+            Asked::Bytes {
+                offset: 0,
+                length: 16,
+            },
+        ),
+        "bytes S1 C7 C7/99 bytes 61626364;",
+    ),
+    (Step::Lose, ""),
+    (Step::Stray, "refused 37 Stray"),
+];
+
+/// At server 0, which is the one member.
+const ALONE: [Row; 8] = [
+    (Step::Create(0, 1), "promised S0 M 1 0.1 0 false;"),
+    (Step::Grant(0, 1, 1), ""),
+    (
+        Step::Edit(1, (0, 1), APPEND, 0),
+        "done S0 C7 C7/1 refused 24 NoData;refused 24 NoData",
+    ),
+    (
+        Step::Edit(2, (0, 1), APPEND, 0),
+        "done S0 C7 C7/2 appended 0;",
+    ),
+    (
+        Step::Edit(65, (0, 1), APPEND, 0),
+        "done S0 C7 C7/65 appended 2;",
+    ),
+    (
+        Step::Edit(66, (0, 1), Op::Pad, 0),
+        "done S0 C7 C7/66 padded;",
+    ),
+    (
+        Step::Edit(67, (0, 1), Op::Pad, 0),
+        "done S0 C7 C7/67 padded;",
+    ),
+    (Step::Tick(60), ""),
+];
+
+fn stamp(epoch: u64, version: u64) -> Stamp {
+    Stamp { epoch, version }
+}
+
+fn of(told: (u64, u64)) -> Stamp {
+    stamp(told.0, told.1)
+}
+
+fn request(number: u64) -> ReqId {
+    ReqId {
+        client: ClientId(7),
+        number,
+    }
+}
+
+fn server_of(number: u8) -> Result<ServerId, Refusal> {
+    ServerId::new(u64::from(number)).ok_or(Refusal::Stray)
+}
+
+fn second() -> Result<Handle, Refusal> {
+    Handle::new(2).ok_or(Refusal::Stray)
+}
+
+fn bytes_of(alloc: Global, text: &str) -> Result<Bytes, Refusal> {
+    Ok(Bytes::new(Vec::from_slice(alloc, text.as_bytes())?))
+}
+
+fn carried(alloc: Global, text: &str) -> Result<Option<Bytes>, Refusal> {
+    if text.is_empty() {
+        return Ok(None);
+    }
+    Ok(Some(bytes_of(alloc, text)?))
+}
+
+/// What the master says about chunk 1.
+fn by_master(step: &Step) -> Result<Option<Chunk>, Refusal> {
+    Ok(match step {
+        Step::Create(epoch, version) => Some(Chunk::Create(stamp(*epoch, *version))),
+        Step::Advance(epoch, version) => Some(Chunk::Advance(stamp(*epoch, *version))),
+        Step::Grant(epoch, version, members) => Some(Chunk::Grant(Grant {
+            stamp: stamp(*epoch, *version),
+            members: Members::from_bits(*members),
+            end: Moment(60),
+        })),
+        Step::Renewed(epoch, version) => Some(Chunk::Renewed {
+            stamp: stamp(*epoch, *version),
+            end: Moment(90),
+        }),
+        Step::CopyOut(epoch, version) => Some(Chunk::CopyOut {
+            stamp: stamp(*epoch, *version),
+            target: server_of(2)?,
+            with_sealed: false,
+        }),
+        Step::Drop(epoch, promise) => Some(Chunk::Drop {
+            epoch: *epoch,
+            promise: of(*promise),
+        }),
+        _ => None,
+    })
+}
+
+/// What clients and servers say about chunk 1.
+fn by_others(alloc: Global, step: &Step) -> Result<Option<(NodeId, Chunk)>, Refusal> {
+    let client = NodeId::Client(ClientId(7));
+    Ok(match step {
+        Step::Edit(number, told, op, _) => {
+            let (req, stamp, op) = (request(*number), of(*told), *op);
+            Some((client, Chunk::Edit { req, stamp, op }))
+        }
+        Step::Fetch(epoch, told, asked) => {
+            let (req, stamp) = (request(99), of(*told));
+            let (epoch, asked) = (*epoch, *asked);
+            let fetch = Chunk::Fetch {
+                req,
+                stamp,
+                epoch,
+                asked,
+            };
+            Some((client, fetch))
+        }
+        Step::Forward(number, told, by, text) => {
+            let forward = Chunk::Forward {
+                stamp: of(*told),
+                number: *number,
+                req: request(*by),
+                op: APPEND,
+                bytes: carried(alloc, text)?,
+            };
+            Some((NodeId::Server(server_of(0)?), forward))
+        }
+        Step::Ack(server, told, count) => {
+            let (stamp, count) = (of(*told), *count);
+            Some((
+                NodeId::Server(server_of(*server)?),
+                Chunk::Ack { stamp, count },
+            ))
+        }
+        Step::Nack(server, told) => {
+            let (stamp, refusal) = (of(*told), Refusal::NoData);
+            Some((
+                NodeId::Server(server_of(*server)?),
+                Chunk::Nack { stamp, refusal },
+            ))
+        }
+        _ => None,
+    })
+}
+
+/// What is said about other things.
+fn elsewhere(alloc: Global, step: &Step) -> Result<(NodeId, Body), Refusal> {
+    match step {
+        Step::Push(number, text) => {
+            let (req, bytes) = (request(*number), bytes_of(alloc, text)?);
+            Ok((NodeId::Client(ClientId(7)), Body::Push { req, bytes }))
+        }
+        Step::MakeCopy(at, under) => {
+            let copy = Body::MakeCopy {
+                handle: Handle::first(),
+                at: of(*at),
+                new_handle: second()?,
+                stamp: of(*under),
+            };
+            Ok((NodeId::Master, copy))
+        }
+        Step::Epoch(epoch, end) => {
+            let (epoch, end) = (*epoch, *end);
+            Ok((NodeId::Master, Body::Epoch { epoch, end }))
+        }
+        _ => Ok((NodeId::Master, Body::Behind { epoch: 0 })),
+    }
+}
+
+fn message(alloc: Global, to: ServerId, step: &Step) -> Result<Message, Refusal> {
+    let to = NodeId::Server(to);
+    if let Some(chunk) = by_master(step)? {
+        let (from, body) = (NodeId::Master, Body::About(Handle::first(), chunk));
+        return Ok(Message { from, to, body });
+    }
+    if let Some((from, chunk)) = by_others(alloc, step)? {
+        let body = Body::About(Handle::first(), chunk);
+        return Ok(Message { from, to, body });
+    }
+    let (from, body) = elsewhere(alloc, step)?;
+    Ok(Message { from, to, body })
+}
+
+fn moment(step: &Step) -> Moment {
+    match step {
+        Step::Edit(_, _, _, moment) => Moment(*moment),
+        _ => Moment(0),
+    }
+}
+
+/// The messages, each with a semicolon behind it, and the refusal.
+fn told(alloc: Global, turn: &Turn) -> Result<String, Refusal> {
+    let mut text = String::new(alloc);
+    for message in turn.sent.iter() {
+        let line = format!(in alloc; "{message};")?;
+        text.push_str(line.as_str())?;
+    }
+    if let Some(refusal) = &turn.said {
+        text.push_str(refusal.line(alloc)?.as_str())?;
+    }
+    Ok(text)
+}
+
+/// What the server says at a step.
+fn answer(
+    alloc: Global,
+    server: &mut Server,
+    id: ServerId,
+    step: &Step,
+) -> Result<String, Refusal> {
+    match step {
+        Step::Tick(moment) => told(alloc, &server.tick(Moment(*moment))?),
+        Step::Beat => Ok(server.beat()?.to_string(alloc)?),
+        Step::Restart => {
+            server.restart();
+            Ok(String::new(alloc))
+        }
+        Step::Damage(block) => {
+            server.damage(Handle::first(), *block)?;
+            Ok(String::new(alloc))
+        }
+        Step::Lose => {
+            server.lose(Handle::first())?;
+            Ok(String::new(alloc))
+        }
+        _ => {
+            let message = message(alloc, id, step)?;
+            told(alloc, &server.handle(message, moment(step))?)
+        }
+    }
+}
+
+/// A server of chunks of 16 bytes in blocks of 4.
+fn started(alloc: Global, id: ServerId) -> Result<Server, Refusal> {
+    let config = Config::new(3, 3, 3, 4, 16)?;
+    Ok(Server::new(alloc, config, id)?)
+}
+
+#[test]
+fn a_primary_numbers_edits(rt: HostRuntime) -> Result<(), Fail> {
+    let id = server_of(0)?;
+    let mut server = started(rt.alloc(), id)?;
+    for (step, said) in &LEADING {
+        assert_eq!(rt; answer(rt.alloc(), &mut server, id, step)?.as_str(), *said);
+    }
+    Ok(())
+}
+
+#[test]
+fn a_member_follows_and_goes_back(rt: HostRuntime) -> Result<(), Fail> {
+    let id = server_of(1)?;
+    let mut server = started(rt.alloc(), id)?;
+    for (step, said) in &FOLLOWING {
+        assert_eq!(rt; answer(rt.alloc(), &mut server, id, step)?.as_str(), *said);
+    }
+    Ok(())
+}
+
+#[test]
+fn the_oldest_push_of_65_is_missing(rt: HostRuntime) -> Result<(), Fail> {
+    let id = server_of(0)?;
+    let mut server = started(rt.alloc(), id)?;
+    for number in 1..66 {
+        let said = answer(rt.alloc(), &mut server, id, &Step::Push(number, "ab"))?;
+        assert_eq!(rt; said.as_str(), "");
+    }
+    for (step, said) in &ALONE {
+        assert_eq!(rt; answer(rt.alloc(), &mut server, id, step)?.as_str(), *said);
+    }
+    Ok(())
+}
