@@ -442,6 +442,28 @@ fn told(alloc: Global, turn: &Turn) -> Result<String, Refusal> {
     Ok(text)
 }
 
+/// The turn of the server at a step.
+fn turn(alloc: Global, server: &mut Server, id: ServerId, step: &Step) -> Result<Turn, Refusal> {
+    if let Step::Tick(moment) = step {
+        return server.tick(Moment(*moment));
+    }
+    let message = message(alloc, id, step)?;
+    server.handle(message, moment(step))
+}
+
+/// The turn of the server at a step, which is repeated where memory was refused: that leaves the server as it was.
+fn turn_at_last(
+    alloc: Global,
+    server: &mut Server,
+    id: ServerId,
+    step: &Step,
+) -> Result<Turn, Refusal> {
+    match turn(alloc, server, id, step) {
+        Err(Refusal::Memory) => turn(alloc, server, id, step),
+        done => done,
+    }
+}
+
 /// What the server says at a step.
 fn answer(
     alloc: Global,
@@ -450,7 +472,6 @@ fn answer(
     step: &Step,
 ) -> Result<String, Refusal> {
     match step {
-        Step::Tick(moment) => told(alloc, &server.tick(Moment(*moment))?),
         Step::Beat => Ok(server.beat()?.to_string(alloc)?),
         Step::Restart => {
             server.restart();
@@ -465,8 +486,11 @@ fn answer(
             Ok(String::new(alloc))
         }
         _ => {
-            let message = message(alloc, id, step)?;
-            told(alloc, &server.handle(message, moment(step))?)
+            let turn = turn_at_last(alloc, server, id, step)?;
+            match told(alloc, &turn) {
+                Err(Refusal::Memory) => told(alloc, &turn),
+                said => said,
+            }
         }
     }
 }
