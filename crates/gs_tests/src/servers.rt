@@ -249,6 +249,28 @@ const FOLLOWING: [Row; 25] = [
     (Step::Stray, "refused 37 Stray"),
 ];
 
+/// At server 0, which restarts between an edit and what the members tell of it, and gets a lease again.
+const RESTARTED: [Row; 12] = [
+    (Step::Create(0, 2), "promised S0 M 1 0.2 0 false;"),
+    (Step::Grant(0, 2, 3), ""),
+    (Step::Push(1, "ab"), ""),
+    (
+        Step::Edit(1, (0, 2), APPEND, 0),
+        "forward S0 S1 1 0.2 1 C7/1 append 2 -;",
+    ),
+    (Step::Restart, ""),
+    (Step::Ack(1, (0, 2), 1), "refused 20 NotPrimary"),
+    (Step::Tick(1), ""),
+    (Step::Edit(1, (0, 2), APPEND, 0), ""),
+    (Step::Advance(0, 3), "promised S0 M 1 0.3 1 false;"),
+    (Step::Edit(1, (0, 3), APPEND, 0), ""),
+    (Step::Grant(0, 3, 3), ""),
+    (
+        Step::Edit(1, (0, 3), APPEND, 0),
+        "done S0 C7 C7/1 appended 0;",
+    ),
+];
+
 /// At server 0, which is the one member.
 const ALONE: [Row; 8] = [
     (Step::Create(0, 1), "promised S0 M 1 0.1 0 false;"),
@@ -506,6 +528,16 @@ fn a_primary_numbers_edits(rt: HostRuntime) -> Result<(), Fail> {
     let id = server_of(0)?;
     let mut server = started(rt.alloc(), id)?;
     for (step, said) in &LEADING {
+        assert_eq!(rt; answer(rt.alloc(), &mut server, id, step)?.as_str(), *said);
+    }
+    Ok(())
+}
+
+#[test]
+fn a_restarted_primary_waits_for_a_lease(rt: HostRuntime) -> Result<(), Fail> {
+    let id = server_of(0)?;
+    let mut server = started(rt.alloc(), id)?;
+    for (step, said) in &RESTARTED {
         assert_eq!(rt; answer(rt.alloc(), &mut server, id, step)?.as_str(), *said);
     }
     Ok(())
