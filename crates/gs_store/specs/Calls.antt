@@ -7,6 +7,8 @@ use Rattle.gs_base.specs.declared.refusal.Refusal.{Refusal}
 use Rattle.gs_replica.specs.declared.op.Op.{Op}
 use Rattle.gs_replica.specs.Held.{Held}
 use Rattle.gs_replica.specs.Copies.{Image, SealedImage}
+use Rattle.gs_replica.specs.Stands.{IsTouched}
+use Rattle.gs_store.specs.Standing.{struck_by_damage}
 use Rattle.gs_store.specs.Slots.{Slot, create, advance, drop_replica, take_lease, lose, damage, mark_bad, nothing, stamp_of, standing, taking, empty_replica}
 use Rattle.gs_store.specs.Serving.{apply}
 use Rattle.gs_store.specs.Moves.{copy_in, take_copy}
@@ -109,3 +111,23 @@ KeepsSeal (RollsBack epoch) = ⊥
 abbrev pub KeepSeal : List Call → Type 0
 KeepSeal [] = Unit {0}
 KeepSeal (c ∷ calls) = KeepsSeal c × KeepSeal calls
+
+-- no damage of a block that no edit had touched since the seal
+abbrev pub IsSparing : Call → Slot → Type 0
+IsSparing (Damages index) s = IsTouched (struck_by_damage s) index
+IsSparing (CopiesIn stamp image sealed) s = Unit {0}
+IsSparing (TakesCopy h) s = Unit {0}
+IsSparing (Creates stamp) s = Unit {0}
+IsSparing (Advances stamp) s = Unit {0}
+IsSparing (Drops promise) s = Unit {0}
+IsSparing (TakesLease stamp) s = Unit {0}
+IsSparing Loses s = Unit {0}
+IsSparing (MarksBad index) s = Unit {0}
+IsSparing (Applies stamp number req op bytes) s = Unit {0}
+IsSparing Seals s = Unit {0}
+IsSparing Unseals s = Unit {0}
+IsSparing (RollsBack epoch) s = Unit {0}
+
+abbrev pub LeadsSparing : ℕ → ℕ → Slot → List Call → Slot → Type 0
+LeadsSparing block chunk s [] end = end ≡ s
+LeadsSparing block chunk s (c ∷ calls) end = (next : Slot) × (called block chunk c s ≡ Ok next) × IsSparing c s × LeadsSparing block chunk next calls end

@@ -16,7 +16,7 @@ ghost use Rattle.gs_store.specs.Whole.{IsWholeSlot};
 ghost use Rattle.gs_store.specs.Serving.{apply};
 ghost use Rattle.gs_store.specs.Moves.{take_copy, sound_image};
 ghost use Rattle.gs_store.specs.Learning.{prepared, finalized, rolled_back, is_named, later, start_of};
-ghost use Rattle.gs_store.specs.Calls.{Call, LeadsTo, KeepSeal};
+ghost use Rattle.gs_store.specs.Calls.{Call, LeadsTo, LeadsSparing, KeepSeal};
 ghost use Rattle.gs_store.specs.Standing.{StandsIn, StoodIn, LiveUndamaged, struck_by_damage, undone_in};
 
 /// What is sealed of a handle stays the same image, wherever it stands: beneath replicas that are made, copied or dropped, under
@@ -71,4 +71,11 @@ pub fn rollbacks_give_what_was_sealed()
 pub fn prepared_slots_go_back()
     ensures stood { (block chunk : ℕ) (s end : Slot) (edits : List Edit) (calls : List Call) → StoodIn block chunk s edits → KeepSeal calls → LeadsTo block chunk s calls end → StoodIn block chunk end edits }
     ensures back { (block chunk epoch : ℕ) (s end : Slot) (edits : List Edit) (calls : List Call) → StandsIn block chunk s edits → KeepSeal calls → LeadsTo block chunk (prepared s) calls end → is_some (rolled_back epoch end).live ≡ true → StandsIn block chunk (rolled_back epoch end) edits × LiveUndamaged (rolled_back epoch end).live }
+{}
+
+/// Over a whole run of calls that damages touched blocks alone, what a copy carries of the sealed image stays. So a slot that was
+/// prepared while its live replica had no damaged block does roll back to a live one.
+pub fn spared_slots_go_back()
+    ensures stays { (block chunk : ℕ) (s end : Slot) (calls : List Call) → KeepSeal calls → LeadsSparing block chunk s calls end → sound_image (sealed_of end) ≡ sound_image (sealed_of s) }
+    ensures live { (block chunk epoch : ℕ) (s end : Slot) (calls : List Call) → is_some s.live ≡ true → LiveUndamaged s.live → KeepSeal calls → LeadsSparing block chunk (prepared s) calls end → is_some (rolled_back epoch end).live ≡ true }
 {}
