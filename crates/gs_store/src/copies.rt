@@ -84,7 +84,8 @@ impl Store {
         stamp: Stamp,
         given: CopyImages,
     ) -> Result<(), Refused<CopyImages>>
-        ensures { FollowsOf given (copy_in handle stamp given.image given.sealed self.old) result self.old self.new }
+        ensures edit { FollowsOf given (copy_in handle stamp given.image given.sealed self.old) result self.old self.new }
+        ensures lacking { IfErr result (λ r. r.refusal ≡ Memory → is_before (slot_of handle self.old).promise stamp ≡ true) }
     {
         let Some(place) = self.places.get(handle) else {
             return self.copy_in_first(handle, stamp, given);
@@ -100,7 +101,8 @@ impl Store {
         given: CopyImages,
     ) -> Result<(), Refused<CopyImages>>
         requires { fin.get self.old.slots handle ≡ None }
-        ensures { FollowsOf given (copy_in handle stamp given.image given.sealed self.old) result self.old self.new }
+        ensures edit { FollowsOf given (copy_in handle stamp given.image given.sealed self.old) result self.old self.new }
+        ensures lacking { IfErr result (λ r. r.refusal ≡ Memory → is_before nothing.promise stamp ≡ true) }
     {
         let mut slot = Slot::new();
         if let Err(refusal) = slot.judge_copy(self.sizes, stamp, &given) {

@@ -66,7 +66,7 @@ impl Store {
     /// be wanted; at a finalize what was sealed goes; at a rollback it is live again. The last two take no memory.
     pub fn learn(&mut self, epoch: u64, end: EpochEnd) -> Result<(), Refusal>
         ensures edit { Performs (learn epoch end self.old) result self.old self.new }
-        ensures lacking { IfErr result (λ e. e ≡ Memory → end ≡ Prepare) }
+        ensures lacking { IfErr result (λ e. e ≡ Memory → (end ≡ Prepare) × (epoch ≡ self.old.epoch + 1)) }
     {
         self.check_near(epoch)?;
         if epoch == self.epoch {

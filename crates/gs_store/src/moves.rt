@@ -97,7 +97,8 @@ impl Slot {
         stamp: Stamp,
         given: CopyImages,
     ) -> Result<(), Refused<CopyImages>>
-        ensures { FollowsOf given (copy_in sizes.block sizes.chunk stamp given.image given.sealed self.old) result self.old self.new }
+        ensures edit { FollowsOf given (copy_in sizes.block sizes.chunk stamp given.image given.sealed self.old) result self.old self.new }
+        ensures lacking { IfErr result (λ r. r.refusal ≡ Memory → is_before self.old.promise stamp ≡ true) }
     {
         if let Err(refusal) = self.judge_copy(sizes, stamp, &given) {
             return Err(Refused { refusal, given });
