@@ -1,5 +1,5 @@
 -- What holds of a store through its calls.
-use Rattle.std.proofs.Common.{◌≡◌, ℕ, ◌+◌, Bool, true, false, cond, Option, Some, None, Ok, Err, refl, sym, ap, subst, ◌∙◌}
+use Rattle.std.proofs.Common.{◌≡◌, ℕ, ◌+◌, List, Bool, true, false, cond, Option, Some, None, Ok, Err, refl, sym, ap, subst, ◌∙◌}
 use Rattle.std.specs.Prelude.{Result, ◌==◌, ◌&&◌, option_map}
 use Rattle.std.proofs.lemmas.Bool.{false≢true, eqb-true, eq-eqb}
 use Rattle.std.specs.FinMap as fin
@@ -12,9 +12,13 @@ use Rattle.gs_base.specs.declared.epoch.EpochEnd.TheVariants.{Prepare, Finalize,
 use Rattle.gs_base.specs.declared.refusal.Refusal.{Refusal}
 use Rattle.gs_base.specs.declared.refusal.Refusal.TheVariants as refusals
 use Rattle.gs_replica.specs.Seals.{roll_back_to}
+use Rattle.gs_base.specs.declared.numbers.Stamp.{Stamp}
+use Rattle.gs_replica.specs.declared.op.Op.{Op}
+use Rattle.gs_store.specs.Buffers.{without}
+use Rattle.gs_store.specs.Serving as serving
 use Rattle.gs_store.specs.Slots.{Slot, nothing, sealed_of}
 use Rattle.gs_store.specs.Learning.{later, start_of}
-use Rattle.gs_store.specs.Stores.{Store, or_nothing, slot_of, with_slot, put_slot, learn, learned, gone_on}
+use Rattle.gs_store.specs.Stores.{Store, or_nothing, slot_of, with_slot, put_slot, set_slot, with_buffer, used, apply, apply_with, learn, learned, gone_on}
 use Rattle.gs_store.proofs.Maps.{get-each}
 use Rattle.gs_store.proofs.Places.{same_key}
 use Rattle.gs_store.proofs.Laws.{not_before_itself, rolled_rises}
@@ -81,3 +85,20 @@ gone_rises epoch Rollback t = rolled_rises (roll_back_to (later t.promise (start
 
 pub same_request_itself : (req : ReqId) → ((req.client.0 == req.client.0) && (req.number == req.number)) ≡ true
 same_request_itself req = ap (λ b. b && (req.number == req.number)) (eq-eqb req.client.0 req.client.0 refl) ∙ eq-eqb req.number req.number refl
+
+-- a mark is of a handle that has a slot
+pub where_marked : (P : Store → Type 0) (handle : ℕ) (s : Store) (o : Option Slot) → P s → ((t : Slot) → P (with_slot handle t s)) → P (set_slot handle s o)
+where_marked P handle s None without with = without
+where_marked P handle s (Some t) without with = with t
+
+-- what an edit with pushed bytes accepts
+used_then : (P : Store → Type 0) (req : ReqId) (s2 : Store) (m : Result Store Refusal) → used req m ≡ Ok s2 → ((x : Store) → m ≡ Ok x → P (with_buffer (without req x.buffer) x)) → P s2
+used_then P req s2 (Ok x) is each = subst P (ok_same (with_buffer (without req x.buffer) x) s2 is) (each x refl)
+used_then P req s2 (Err e) is each = absurd (not_ok e s2 is)
+
+pub pushed_then : (P : Store → Type 0) (handle : ℕ) (stamp : Stamp) (number : ℕ) (req : ReqId) (op : Op) (s s2 : Store) (o : Option (List ℕ)) → apply_with handle stamp number req op s o ≡ Ok s2
+    → ((t : Slot) → P (with_buffer (without req s.buffer) (with_slot handle t s))) → P s2
+pushed_then P handle stamp number req op s s2 None is each = absurd (not_ok refusals.NoData s2 is)
+pushed_then P handle stamp number req op s s2 (Some bytes) is each =
+    used_then P req s2 (apply handle stamp number req op bytes s) is
+    (λ x made. accepted (λ (y : Store). P (with_buffer (without req y.buffer) y)) handle s x (serving.apply stamp number req op bytes (slot_of handle s)) made (λ t _. each t))

@@ -3,6 +3,8 @@
 ghost use Rattle.std.specs.Prelude.{◌≡◌, ◌≤◌, ℕ, ◌+◌, ◌==◌, true, false, List, length, Some, None, Ok, is_some};
 ghost use Rattle.std.specs.FinMap as fin;
 ghost use Rattle.gs_base.specs.declared.numbers.ReqId.{ReqId};
+ghost use Rattle.gs_base.specs.declared.numbers.Stamp.{Stamp};
+ghost use Rattle.gs_replica.specs.declared.op.Op.{Op};
 ghost use Rattle.gs_base.specs.declared.epoch.EpochEnd.{EpochEnd};
 ghost use Rattle.gs_base.specs.declared.epoch.EpochEnd.TheVariants.{Rollback};
 ghost use Rattle.gs_base.specs.declared.refusal.Refusal.{Refusal};
@@ -17,20 +19,26 @@ ghost use Rattle.gs_store.specs.Standing.{StandsIn, StoodIn, LiveUndamaged};
 ghost use Rattle.gs_store.specs.StoreCalls.{StoreCall, called, LeadsTo, names};
 ghost use Rattle.gs_store.specs.Told.{found_in, told};
 ghost use Rattle.gs_store.specs.Buffers as buffers;
-ghost use Rattle.gs_store.specs.Stores.{Store, slot_of, at_slot, learn, gone_on, mark_bad};
+ghost use Rattle.gs_store.specs.Stores.{Store, slot_of, at_slot, learn, gone_on, mark_bad, apply_pushed};
 
-/// A call of one handle leaves every other one's slot, the epoch and what was pushed.
+/// A call of one handle leaves every other one's slot, the epoch and what was pushed; one that uses pushed bytes takes these out.
 pub fn calls_change_their_own_slot()
     ensures others { (handle other : ℕ) (call : Slot → Result Slot Refusal) (s s2 : Store) → (other == handle) ≡ false → at_slot handle call s ≡ Ok s2 → slot_of other s2 ≡ slot_of other s }
     ensures own { (handle : ℕ) (call : Slot → Result Slot Refusal) (s s2 : Store) → at_slot handle call s ≡ Ok s2 → call (slot_of handle s) ≡ Ok (slot_of handle s2) }
     ensures epoch { (handle : ℕ) (call : Slot → Result Slot Refusal) (s s2 : Store) → at_slot handle call s ≡ Ok s2 → s2.epoch ≡ s.epoch }
     ensures buffer { (handle : ℕ) (call : Slot → Result Slot Refusal) (s s2 : Store) → at_slot handle call s ≡ Ok s2 → s2.buffer ≡ s.buffer }
+    ensures mark { (handle other block : ℕ) (s : Store) → (other == handle) ≡ false → slot_of other (mark_bad handle block s) ≡ slot_of other s }
+    ensures pushed { (handle other number : ℕ) (stamp : Stamp) (req : ReqId) (op : Op) (s s2 : Store) → (other == handle) ≡ false → apply_pushed handle stamp number req op s ≡ Ok s2 → (slot_of other s2 ≡ slot_of other s) × (s2.buffer ≡ buffers.without req s.buffer) × (s2.epoch ≡ s.epoch) }
+    ensures rest { (handle block : ℕ) (s : Store) → ((mark_bad handle block s).epoch ≡ s.epoch) × ((mark_bad handle block s).buffer ≡ s.buffer) }
 {}
 
-/// What is told of the next epoch takes each handle's slot on, also one of which nothing was heard; nothing else changes.
+/// What is told of the next epoch takes each handle's slot on, also one of which nothing was heard, and is the epoch then; nothing
+/// else changes.
 pub fn each_slot_goes_on()
     ensures same { (epoch : ℕ) (end : EpochEnd) (s s2 : Store) → epoch ≡ s.epoch → learn epoch end s ≡ Ok s2 → s2 ≡ s }
     ensures next { (epoch : ℕ) (end : EpochEnd) (s s2 : Store) → epoch ≡ s.epoch + 1 → learn epoch end s ≡ Ok s2 → (handle : ℕ) → slot_of handle s2 ≡ gone_on end epoch (slot_of handle s) }
+    ensures epoch { (epoch : ℕ) (end : EpochEnd) (s s2 : Store) → learn epoch end s ≡ Ok s2 → s2.epoch ≡ epoch }
+    ensures sizes { (epoch : ℕ) (end : EpochEnd) (s s2 : Store) → learn epoch end s ≡ Ok s2 → (s2.block ≡ s.block) × (s2.chunk ≡ s.chunk) }
     ensures empty { (epoch : ℕ) (end : EpochEnd) → gone_on end epoch nothing ≡ nothing }
     ensures buffer { (epoch : ℕ) (end : EpochEnd) (s s2 : Store) → learn epoch end s ≡ Ok s2 → s2.buffer ≡ s.buffer }
 {}

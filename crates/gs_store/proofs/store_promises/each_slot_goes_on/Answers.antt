@@ -1,4 +1,4 @@
-use Rattle.std.proofs.Common.{◌≡◌, ℕ, refl, arith}
+use Rattle.std.proofs.Common.{◌≡◌, ℕ, refl, sym, arith}
 use Rattle.gs_store.specs.Stores.{slot_of, gone_on}
 use Rattle.gs_store.proofs.StoreLaws.{taught, slot_goes, empty_stays}
 use Rattle.gs_store.proofs.store_promises.each_slot_goes_on.Goals as goal
@@ -14,3 +14,9 @@ returns-clause-empty c epoch end = empty_stays epoch end
 
 pub returns-clause-buffer : goal.returns-clause-buffer
 returns-clause-buffer c epoch end s s2 is = taught (λ x. x.buffer ≡ s.buffer) epoch end s s2 is (λ _. refl) (λ _. refl)
+
+pub returns-clause-epoch : goal.returns-clause-epoch
+returns-clause-epoch c epoch end s s2 is = taught (λ x. x.epoch ≡ epoch) epoch end s s2 is (λ here. sym here) (λ _. refl)
+
+pub returns-clause-sizes : goal.returns-clause-sizes
+returns-clause-sizes c epoch end s s2 is = taught (λ x. (x.block ≡ s.block) × (x.chunk ≡ s.chunk)) epoch end s s2 is (λ _. (refl, refl)) (λ _. (refl, refl))
