@@ -9,7 +9,7 @@ use std::marker::Model;
 
 /// What seals the live replica of a slot, made beforehand. It is seen as the replica of which it was made.
 #[derive(Drop)]
-pub struct PreparedSlot {
+pub(crate) struct PreparedSlot {
     seal: Option<PreparedSeal>,
 }
 
@@ -27,7 +27,7 @@ impl Model for PreparedSlot {
 
 impl Slot {
     /// What seals the live replica as it stands. It changes nothing.
-    pub fn prepare(&self) -> Result<PreparedSlot, AllocError>
+    pub(crate) fn prepare(&self) -> Result<PreparedSlot, AllocError>
         ensures { IfOk result (λ made. made ≡ held_in self.now.live) }
     {
         match &self.live {
@@ -39,7 +39,7 @@ impl Slot {
     }
 
     /// Seals the live replica by what was prepared of it as it stands. It takes no memory.
-    pub fn take_prepared(&mut self, made: PreparedSlot)
+    pub(crate) fn take_prepared(&mut self, made: PreparedSlot)
         requires { made ≡ held_in self.old.live }
         ensures { self.new ≡ prepared self.old }
     {

@@ -19,8 +19,7 @@ mod slot;
 mod store;
 pub mod store_promises;
 
-pub use learn::PreparedSlot;
-pub use moves::{CopyImages, PreparedCopy};
+pub use moves::CopyImages;
 pub use report::{ReplicaReport, Reports};
 pub use slot::Slot;
 pub use store::Store;

@@ -22,7 +22,7 @@ pub struct CopyImages {
 
 /// A copy of a live replica for another handle, made beforehand. It is seen as the replica without a seal that it becomes.
 #[derive(Drop)]
-pub struct PreparedCopy {
+pub(crate) struct PreparedCopy {
     replica: Replica,
 }
 
@@ -138,7 +138,7 @@ impl Slot {
     /// promised the stamp already and a replica is live there. This slot is judged first: `Stamp` with the promise where another
     /// is named, `NoReplica` where none is live, and `Damaged` where it is bad or a block fails; then the target: `Old` where
     /// its promise is not below the stamp. All this is answered whatever memory there is, and no copy is made in vain.
-    pub fn copy_for(
+    pub(crate) fn copy_for(
         &self,
         at: Stamp,
         stamp: Stamp,
@@ -163,7 +163,7 @@ impl Slot {
 
     /// Makes a copy live under its stamp, which is above the promise, in place of the replica that was live, as `copy_in` does.
     /// It takes no memory.
-    pub fn take_copy(&mut self, copy: PreparedCopy) -> Result<(), Refusal>
+    pub(crate) fn take_copy(&mut self, copy: PreparedCopy) -> Result<(), Refusal>
         ensures { Does (take_copy copy self.old) result self.old self.new }
     {
         let PreparedCopy { replica } = copy;
