@@ -81,7 +81,7 @@ pub enum Refusal {
     IsADirectory,
     /// A directory with visible children is deleted, and not recursively.
     NotEmpty,
-    /// The target lies at or under the source.
+    /// The target lies under the source.
     IntoItself,
     /// The root can't be moved, deleted or copied.
     IsRoot,
@@ -103,7 +103,7 @@ pub enum Refusal {
     NoServer,
     /// A message is of another epoch: the epoch that holds.
     Epoch(u64),
-    /// A number or stamp below one that was taken.
+    /// A number or a stamp below one that was taken, or one that is taken for good. Of a fetch: the promise is below the stamp.
     Old,
     /// The server holds no lease.
     NotPrimary,
@@ -123,7 +123,7 @@ pub enum Refusal {
     Damaged(u64),
     /// There is no live replica, or no member answered.
     NoReplica,
-    /// A mutation got no answer: it stands or doesn't.
+    /// A change got no answer, or the disk or memory failed in it: it stands or doesn't.
     Unsure,
     /// The record would pass the journal's limit.
     Full,
@@ -139,7 +139,7 @@ pub enum Refusal {
     Config,
     /// An upgrade can't be prepared beside a pending call: the lowest path of a pending call.
     Pending(PathText),
-    /// Gathered histories don't match, or a message is for another kind of node.
+    /// A message is for another kind of node, or an answer can't be one to what was asked.
     Stray,
     /// Undelete of a name that isn't hidden.
     NotHidden,
