@@ -46,8 +46,8 @@ pub fn a_checkpoint_tells_the_counters()
     ensures { TellsCounters }
 {}
 
-/// While an upgrade stands the prepared view of each chunk stays, also that of one which is forgotten, and a chunk that had none
-/// gets none, until the upgrade is finalized or rolled back.
+/// While an upgrade stands each record but a checkpoint leaves the prepared view of each chunk, also that of one which is
+/// forgotten, and a chunk that had none gets none, until the upgrade is finalized or rolled back. Holders are not part of it.
 pub fn prepared_views_stay()
     ensures { (entry : PlainEntry) → KeepsPrepared entry }
 {}

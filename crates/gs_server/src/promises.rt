@@ -43,9 +43,8 @@ pub fn no_forward_is_taken_below_the_promise()
     ensures { (h : Here) (p : Place) (from : NodeId) (stamp : Stamp) (number : ℕ) (req : ReqId) (op : Op) (carried : Option (List ℕ)) (s : Slot) → (forward h p from stamp number req op carried).slot ≡ SlotBecomes s → is_same stamp p.slot.promise ≡ true }
 {}
 
-/// A grant of the lease that was taken last changes nothing: while the lease is held it stays as it is, and once it is spent it is
-/// never taken again, also after a restart. Neither does a grant of another stamp than the promise, so that no lease that was
-/// taken before is taken again.
+/// A grant of the lease that was taken last changes nothing: while the lease is held it stays as it is, and once it is spent it
+/// isn't taken again, also behind a restart. Neither does a grant of another stamp than the promise.
 pub fn a_spent_lease_is_not_taken_again()
     ensures grant { (h : Here) (p : Place) (given : Grant) → p.slot.taken ≡ Some given.stamp → after p (grant h p given) ≡ p }
     ensures below { (h : Here) (p : Place) (given : Grant) → is_same given.stamp p.slot.promise ≡ false → after p (grant h p given) ≡ p }
@@ -64,8 +63,8 @@ pub fn a_server_learns_as_its_store_does()
     ensures refused { (epoch : ℕ) (end : EpochEnd) (s : Server) (refusal : Refusal) → (learn s epoch end).said ≡ Some refusal → (stores.learn epoch end (store_of s) ≡ Err refusal) × ((learn s epoch end).after ≡ s) }
 {}
 
-/// A client is told that its edit is done only where every member has told a count that reaches the edit's number: of a new edit
-/// at once, where they have, and at an acknowledgement of the edits that waited.
+/// A new edit that is numbered tells its client that it is done only where every member has told a count that reaches its number,
+/// and an acknowledgement does so of the edits that waited. A record that a full chunk passes on isn't numbered.
 pub fn edits_are_done_where_all_have_them()
     ensures at_once { (h : Here) (p : Place) (req : ReqId) (stamp : Stamp) (op : Op) (live : Live) (l : Lease) → p.slot.live ≡ Some live → (edit h p req stamp op).lease ≡ LeaseBecomes l → All (λ m. is_yes m.body ≡ true → IsToldByAll l (live.replica.held.count + 1)) (edit h p req stamp op).sent }
     ensures later { (h : Here) (p : Place) (server : ℕ) (stamp : Stamp) (count : ℕ) (l : Lease) → p.lease ≡ Some l → All (IsDoneUnder h.me (hears server count l)) (ack h p server stamp count).sent }
@@ -84,8 +83,7 @@ pub fn an_append_that_does_not_fit_is_a_pad()
 {}
 
 /// A message about a chunk changes what is kept of that chunk and of no other, and of the rest at most what is kept of the client
-/// of its request, and the bytes that were pushed for the request. A copy under a new handle may mark the replica that it is
-/// made of, and changes no third chunk.
+/// of its request, and the bytes that were pushed for the request. A copy under a new handle changes no third chunk.
 pub fn a_message_about_a_chunk_leaves_the_others()
     ensures chunk { (s : Server) (from : NodeId) (handle : ℕ) (chunk : Chunk) (moment : Moment) → LeavesTheRest handle (request_in chunk) s (handle_chunk s from handle chunk moment).after }
     ensures copy { (s : Server) (handle new_handle other : ℕ) (at stamp : Stamp) (moment : Moment) → (other == handle) ≡ false → (other == new_handle) ≡ false → place_of other (make_copy s handle at new_handle stamp moment).after ≡ place_of other s }

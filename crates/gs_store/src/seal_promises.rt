@@ -73,7 +73,7 @@ pub fn prepared_slots_go_back()
     ensures back { (block chunk epoch : ℕ) (s end : Slot) (edits : List Edit) (calls : List Call) → StandsIn block chunk s edits → KeepSeal calls → LeadsTo block chunk (prepared s) calls end → is_some (rolled_back epoch end).live ≡ true → StandsIn block chunk (rolled_back epoch end) edits × LiveUndamaged (rolled_back epoch end).live }
 {}
 
-/// Over a whole run of calls that damages touched blocks alone, what a copy carries of the sealed image stays. So a slot that was
+/// Over a whole run of calls that leave the seal and damage touched blocks alone, what a copy carries of the sealed image stays. So a slot that was
 /// prepared while its live replica had no damaged block does roll back to a live one.
 pub fn spared_slots_go_back()
     ensures stays { (block chunk : ℕ) (s end : Slot) (calls : List Call) → KeepSeal calls → LeadsSparing block chunk s calls end → sound_image (sealed_of end) ≡ sound_image (sealed_of s) }
