@@ -120,7 +120,7 @@ fn sent(alloc: Global) -> Result<Outbox, Refusal> {
 }
 
 /// The number of the message at a place, which leaves the outbox.
-fn taken(outbox: &mut Outbox, place: usize) -> Option<u64> {
+fn taken(outbox: &mut Outbox, place: u64) -> Option<u64> {
     match outbox.take(place)?.body {
         Body::Behind { epoch } => Some(epoch),
         _ => None,
