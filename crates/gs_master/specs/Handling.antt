@@ -1,5 +1,5 @@
 -- The master: what it does with each message, at a tick, for a checkpoint, and after a restart.
-use Rattle.std.specs.Prelude.{◌≡◌, ◌&&◌, ◌==◌, ◌+◌, ℕ, Bool, true, false, not, nat_lt, nat_le, List, [], ◌∷◌, map, flat_map, filter, is_some, Option, Some, None, Result, Ok, Err, if◌then◌else◌, refl}
+use Rattle.std.specs.Prelude.{◌≡◌, ◌&&◌, ◌==◌, ◌+◌, ℕ, Bool, true, false, not, nat_lt, nat_le, List, [], ◌∷◌, map, flat_map, filter, fold, is_some, is_none, Option, Some, None, Result, Ok, Err, if◌then◌else◌, refl}
 use Rattle.std.specs.FinMap as fin
 use Rattle.gs_base.specs.Stamps.{is_same}
 use Rattle.gs_base.specs.declared.config.Config.{Config}
@@ -195,16 +195,24 @@ checkpoint_tests failed preparing log bytes =
 abbrev pub log_with : Log → List ℕ → Log
 log_with log bytes = record log { records = 0; size = checkpoint_size bytes; generation = log.generation + 1 }
 
--- Chunks that stand in no file and never did aren't told; of the new ones those for which something is asked stay.
+-- chunks that stand in no file and never did aren't told
 abbrev pub tidied : Durable → Durable
 tidied d = record d { chunks = fin.retain_keys d.chunks (is_listed d) }
 
-abbrev pub still_new : Volatile → Volatile
-still_new v = record v { unplaced = filter (λ chunk. is_some (fin.get v.moving chunk)) v.unplaced }
+-- So of the new chunks those stay that wait for their first view. One that was settled, and got no place, is no more, whatever is
+-- asked for it: a view of it could be proposed no more, since nothing durable is known of it and its handle was given.
+abbrev pub awaits_first : State → ℕ → Bool
+awaits_first s chunk = is_none (fin.get s.durable.chunks chunk) && is_some (fin.get s.volatile.moving chunk)
+
+abbrev pub without_place : State → List ℕ
+without_place s = filter (λ chunk. is_some (fin.get s.durable.chunks chunk)) s.volatile.unplaced
+
+abbrev pub still_new : State → Volatile
+still_new s = record (s.volatile) { moving = fold fin.remove s.volatile.moving (without_place s); unplaced = filter (awaits_first s) s.volatile.unplaced }
 
 abbrev pub written : State → Turn
 written s = record {
-  after = record s { durable = tidied s.durable; volatile = still_new s.volatile; log = log_with s.log (checkpoint_body s.durable) };
+  after = record s { durable = tidied s.durable; volatile = still_new s; log = log_with s.log (checkpoint_body s.durable) };
   records = Whole (checkpoint_of s.durable) ∷ [];
   sent = [];
   said = None;

@@ -12,6 +12,7 @@ pub mod Outcomes
 pub mod Promises
 pub mod Recorded
 pub mod Replies
+pub mod Sane
 pub mod Settling
 pub mod State
 pub mod Undoing

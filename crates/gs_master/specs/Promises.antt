@@ -34,6 +34,7 @@ use Rattle.gs_master.specs.Applied.{applied, replayed, is_fresh, is_prepared_on,
 use Rattle.gs_master.specs.Chunks.{Chunk, view_by, may_settle}
 use Rattle.gs_master.specs.Durable.{Durable, Settled, start, is_given, is_ordinary, is_rolling, upgrade_epoch, has_its_primary, prepared_view, is_listed}
 use Rattle.gs_master.specs.Handling.{handle, call_turn, new_call, tidied, tick}
+use Rattle.gs_master.specs.Sane.{IsSane}
 use Rattle.gs_master.specs.State.{State, Turn, size_of_all}
 use Rattle.gs_master.specs.Upgrades.{rollback_commit, told_of}
 use Rattle.gs_master.specs.Undoing.{named_plain, all_undone}
@@ -139,6 +140,16 @@ IsWritten t = AllByRecursion (IsEntry Two) t.records
 -- each record of a turn fits what it meets, and together they give what is durable after it
 abbrev pub AllFit : State → Turn → Type 0
 AllFit s t = replayed s.durable t.records ≡ Some t.after.durable
+
+-- So it is of every message and each tick, and what stands goes on so.
+pub record FitsAndStays (s : State) (t : Turn) : Type 0 where
+  pub fits : AllFit s t
+  pub kept : IsKept t.after.durable
+  pub sane : IsSane t.after
+
+abbrev pub AllTurnsFit : Type 0
+AllTurnsFit = (config : Config) (s : State) (message : Message) (moment : Moment) → IsKept s.durable → IsSane s →
+    FitsAndStays s (handle config s message moment) × FitsAndStays s (tick s moment)
 
 -- a refused call leaves the names and the views
 pub record LeavesNames (s : State) (t : Turn) : Type 0 where
