@@ -1,7 +1,7 @@
 -- What lives in a table's slots, after a slot is written.
 use Rattle.std.proofs.Common.{◌≡◌, suc, ◌≤◌, length, arith, List, [], ◌∷◌, Option, Some, None, Bool, true, false, cond, Result, Ok, Err, map, refl, ap, sym, ◌∙◌, subst}
 use Rattle.std.proofs.lemmas.Bool.{false≢true}
-use Rattle.std.specs.Prelude.{is_some, OnOk, OnErr, OnSome, IfOk}
+use Rattle.std.specs.Prelude.{is_none, is_some, OnOk, OnErr, OnSome, IfOk}
 use Rattle.std.specs.declared.cmp.Ordering.{Ordering}
 use Rattle.std.specs.declared.cmp.Ordering.TheVariants.{Less, Equal, Greater}
 use Rattle.std.specs.Ordering.{eq_by_cmp, is_eq}
@@ -174,3 +174,15 @@ on_ok r x Q is h = subst (λ r'. OnOk r' Q) is h
 
 pub if_ok : {A E : Type 0} (r : Result A E) (x : A) (P : A → Type 0) → r ≡ Ok x → IfOk r P → P x
 if_ok r x P is h = subst (λ r'. IfOk r' P) is h
+
+-- where nothing lives there is nothing to take out
+pub remove_absent : {K V : Type 0} {R : K → K → Ordering} → IsTotalOrder R → fin.IsAntisymmetric R → (m : fin.FinMap R V) (k : K) → fin.get m k ≡ None → fin.remove m k ≡ m
+remove_absent {R = R} o same m k none = fin.same_map o same _ _ (λ q. fin.get-remove o m k q ∙ at_key q (eq_by_cmp R q k) refl)
+  where
+    at_key : (q : _) (b : Bool) → eq_by_cmp R q k ≡ b → cond b None (fin.get m q) ≡ fin.get m q
+    at_key q true is = sym none ∙ ap (fin.get m) (sym (same_key same q k is))
+    at_key q false is = refl
+
+pub nothing_at : {V : Type 0} (o : Option V) → is_none o ≡ true → o ≡ None
+nothing_at None is = refl
+nothing_at (Some x) is = absurd (false≢true is)

@@ -1,4 +1,4 @@
-ghost use Rattle.std.specs.Prelude.{◌≡◌, OnOk, OnErr, OnSome, IfOk, Some, None, [], is_some, length, map, ◌<◌, ◌^◌};
+ghost use Rattle.std.specs.Prelude.{◌≡◌, OnOk, OnErr, OnSome, IfOk, Some, None, [], is_none, is_some, length, map, ◌<◌, ◌^◌};
 ghost use Rattle.std.specs.Option.{option_copied, option_flatten};
 ghost use Rattle.std.specs.FinMap as fin;
 ghost use Rattle.std.specs.List.Sorted.{IsStrictlySortedBy};
@@ -126,5 +126,22 @@ impl<K: Key + Drop, V: Drop> Table<K, V> {
         ensures room { GivesUpRoom K.cmp self.old self.new key }
     {
         self.slots.remove(&key).flatten()
+    }
+
+    fn is_free(&self, key: K) -> bool
+        ensures { result ≡ is_none (fin.get (live K.cmp self.now) key) }
+    {
+        self.get(key).is_none()
+    }
+
+    /// Gives up the room of a key at which nothing stands. It takes no memory.
+    pub fn release(&mut self, key: K)
+        ensures same { live K.cmp self.new ≡ live K.cmp self.old }
+        ensures empty { fin.get (live K.cmp self.old) key ≡ None → GivesUpRoom K.cmp self.old self.new key }
+        ensures kept { OnSome (fin.get (live K.cmp self.old) key) (self.new ≡ self.old) }
+    {
+        if self.is_free(key) {
+            let _nothing = self.remove(key);
+        }
     }
 }
