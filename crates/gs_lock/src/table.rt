@@ -1,8 +1,8 @@
-ghost use Rattle.std.specs.Prelude.{◌≡◌, ◌∷◌, [], ◌++◌, ◌-◌, ◌<◌, ◌≤◌, OnOk, OnErr, length, map, take};
+ghost use Rattle.std.specs.Prelude.{◌≡◌, ◌∷◌, [], ◌++◌, ◌-◌, ◌<◌, ◌≤◌, OnOk, OnErr, IfOk, length, map, take};
 ghost use Rattle.gs_lock.specs.Operations.{same_op};
 ghost use Rattle.std.specs.List.{list_any};
 ghost use Rattle.gs_path.specs.Path.{begins};
-ghost use Rattle.gs_lock.specs.Locks.{same_path, is_in_the_way, stands_in_the_way, Takes, locks_on, conflicts_with, is_conflict, released, holds};
+ghost use Rattle.gs_lock.specs.Locks.{same_path, is_in_the_way, stands_in_the_way, Takes, locks_on, taken, conflicts_with, is_conflict, released, holds};
 
 use crate::index::Index;
 use crate::lock::Lock;
@@ -52,12 +52,35 @@ impl LockTable {
         if self.is_conflict(op, reads, writes) {
             return Err(Refusal::Locked);
         }
+        self.lock(op, reads, writes)?;
+        Ok(())
+    }
+
+    /// Locks the paths that an operation reads and writes, whoever else does. A refusal leaves the table as it was.
+    pub fn lock(&mut self, op: ReqId, reads: &[Path], writes: &[Path]) -> Result<(), AllocError>
+        ensures ok { OnOk result (self.new ≡ taken self.old op reads.now writes.now) }
+        ensures err { OnErr result (self.new ≡ self.old) }
+    {
         let before = self.locks.len();
         if self.add_all(op, false, reads).is_err() || self.add_all(op, true, writes).is_err() {
             self.cut(before);
-            return Err(Refusal::Memory);
+            return Err(AllocError);
         }
         Ok(())
+    }
+
+    /// The same locks, in memory of their own.
+    pub fn copy(&self) -> Result<LockTable, AllocError>
+        ensures { IfOk result (λ table. table ≡ self.now) }
+    {
+        let mut table = LockTable::new(self.alloc);
+        for lock in &self.locks {
+            let path = lock.path.copy(self.alloc)?;
+            let op = lock.op;
+            let writes = lock.writes;
+            table.push(Lock { op, path, writes })?;
+        }
+        Ok(table)
     }
 
     /// Gives up all locks of an operation. It takes no memory.
