@@ -9,3 +9,4 @@ pub mod Recording
 pub mod Refusing
 pub mod Rolling
 pub mod Rooms
+pub mod Tracking

@@ -20,7 +20,7 @@ have_one_more a b chunks chunk have keeps room = record {
   each = λ other among. ⊎_elim (λ before. keeps.keeps other (have.each other before)) (λ same. subst (λ x. HasRoom nat_cmp b x) same room) (Contains-push_cases chunks chunk other among);
 }
 
-take_next : {X : Type 0} (xs : List X) (i : ℕ) (x : X) → i < length xs → x ≡ get_or xs i x → take (i + 1) xs ≡ take i xs ++ x ∷ []
+pub take_next : {X : Type 0} (xs : List X) (i : ℕ) (x : X) → i < length xs → x ≡ get_or xs i x → take (i + 1) xs ≡ take i xs ++ x ∷ []
 take_next xs i x below is = ap (λ k. take k xs) (add-one i) ∙ take-suc xs i x below ∙ ap (λ y. take i xs ++ y ∷ []) (sym is)
 
 pub have_next : {V : Type 0} (a b : List (ℕ × Option V)) (chunks : List ℕ) (i chunk : ℕ) → i < length chunks → chunk ≡ get_or chunks i chunk → HaveRoom a (take i chunks) → KeepsRoom nat_cmp a b → HasRoom nat_cmp b chunk → HaveRoom b (take (i + 1) chunks)

@@ -15,6 +15,7 @@ pub mod Replies
 pub mod Sane
 pub mod Settling
 pub mod State
+pub mod Tracked
 pub mod Undoing
 pub mod Upgrades
 pub mod Volatile

@@ -14,6 +14,8 @@ mod recorded;
 mod reply;
 mod restoring;
 mod reverting;
+mod tracked;
+mod waiting;
 
 pub use asking::{Asking, Prepared, Step};
 pub use change::Change;
