@@ -89,6 +89,19 @@ Undoes i old (Err f) new = ((f ≡ Memory) ⊎ ((f ≡ BadLine) × (FitsTree i o
 abbrev pub TakesOneBack : TreeInverse → NamesView → Result (Unit {0}) Refusal → NamesView → Type 0
 TakesOneBack i old result new = Undoes (inverses.Tree i) old result new
 
+-- taking an edit of the tree back may want memory: to move or plant something, or to tell the chunks of a copy
+abbrev pub wants_memory : TreeInverse → Bool
+wants_memory (Made path above) = false
+wants_memory (Moved from to) = true
+wants_memory (Removed path node) = true
+wants_memory (Added path) = false
+wants_memory (Changed path index chunk) = false
+wants_memory (Copied path) = true
+
+abbrev pub takes_memory : Inverse → Bool
+takes_memory (inverses.Tree i) = wants_memory i
+takes_memory (inverses.Remember chunks) = true
+
 abbrev pub kept_of : Result TreeInverse Refusal → Result Inverse Refusal
 kept_of (Ok i) = Ok (inverses.Tree i)
 kept_of (Err e) = Err e

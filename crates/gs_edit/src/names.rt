@@ -1,9 +1,9 @@
-ghost use Rattle.std.specs.Prelude.{◌≡◌, ◌&&◌, ℕ, Vec, true, not, ◌==◌, IfOk, is_none, slice_get};
+ghost use Rattle.std.specs.Prelude.{◌≡◌, ◌&&◌, ℕ, Vec, true, false, not, ◌==◌, IfOk, IfErr, is_none, slice_get};
 ghost use Rattle.gs_edit.specs.Edits.{holds_chunk, has_reference};
 ghost use Rattle.std.specs.FinMap as fin_map;
 ghost use Rattle.gs_tree.specs.Edits.{chunks_in};
 ghost use Rattle.gs_edit.specs.Edits.{Applies, AppliesRows, KeepsRefs};
-ghost use Rattle.gs_edit.specs.Names.{NamesTakenBack, Undoes, TakesOneBack, last_chunk, returned, is_one, has_room, kept_of, GivesNames};
+ghost use Rattle.gs_edit.specs.Names.{NamesTakenBack, Undoes, TakesOneBack, last_chunk, returned, is_one, has_room, kept_of, GivesNames, takes_memory, wants_memory};
 ghost use Rattle.gs_edit.specs.View.{names_of};
 ghost use Rattle.gs_edit.specs.Listed.{kind_of, is_of_kind};
 ghost use Rattle.gs_edit.specs.declared.listed.EditKind.TheVariants as kinds;
@@ -232,7 +232,8 @@ fn undo_in(
     alloc: Global,
     inverse: &TreeInverse,
 ) -> Result<(), Refusal>
-    ensures { TakesOneBack inverse.now (names_of tree.old refs.old) result (names_of tree.new refs.new) }
+    ensures undo { TakesOneBack inverse.now (names_of tree.old refs.old) result (names_of tree.new refs.new) }
+    ensures memory { IfErr result (λ e. wants_memory inverse.now ≡ false → e ≡ Refusal.BadLine) }
 {
     match inverse {
         TreeInverse::Made(..) | TreeInverse::Moved(..) => tree.undo(inverse),
@@ -304,7 +305,8 @@ fn undo_add(
     path: &Path,
 ) -> Result<(), Refusal>
     requires { inverse.now ≡ TreeInverse.Added path.now }
-    ensures { TakesOneBack inverse.now (names_of tree.old refs.old) result (names_of tree.new refs.new) }
+    ensures undo { TakesOneBack inverse.now (names_of tree.old refs.old) result (names_of tree.new refs.new) }
+    ensures memory { IfErr result (λ e. e ≡ Refusal.BadLine) }
 {
     let Some(chunk) = last_chunk_of(tree, path) else {
         return Err(Refusal::BadLine);
@@ -331,7 +333,8 @@ fn undo_change(
     old: Handle,
 ) -> Result<(), Refusal>
     requires { inverse.now ≡ TreeInverse.Changed path.now index old }
-    ensures { TakesOneBack inverse.now (names_of tree.old refs.old) result (names_of tree.new refs.new) }
+    ensures undo { TakesOneBack inverse.now (names_of tree.old refs.old) result (names_of tree.new refs.new) }
+    ensures memory { IfErr result (λ e. e ≡ Refusal.BadLine) }
 {
     let Some(chunk) = chunk_at(tree, path, index) else {
         return Err(Refusal::BadLine);
@@ -446,9 +449,10 @@ impl Names {
     }
 
     /// Takes an edit back. BadLine where the inverse doesn't fit, by path, handle or count; on names that its edit has
-    /// just left, Memory alone.
+    /// just left, Memory alone. What was made, added or changed is taken back without memory.
     pub fn undo(&mut self, inverse: &Inverse) -> Result<(), Refusal>
-        ensures { Undoes inverse.now self.old result self.new }
+        ensures undo { Undoes inverse.now self.old result self.new }
+        ensures memory { IfErr result (λ e. takes_memory inverse.now ≡ false → e ≡ Refusal.BadLine) }
     {
         match inverse {
             Inverse::Tree(inverse) => {

@@ -11,7 +11,7 @@ loop-inverse-preserved c before leads =
     let last = c.in-Some.inverse.now in
     let rest = iter_rest c.next.new.self.iter in
     let (mid, (front, back)) = leads_last rest last before now (subst (λ is. Leads is before now) c.in-Some.ensures.steps (c.loop-inverse.invariant before leads)) in
-    subst (λ (n : NamesView). Leads rest before n) (sym (undone_is last mid now c.undo.new.self back c.in-Ok.ensures)) front
+    subst (λ (n : NamesView). Leads rest before n) (sym (undone_is last mid now c.undo.new.self back c.in-Ok.ensures.undo)) front
 
 pub returns-in-Err : goal.returns-in-Err
 returns-in-Err c before leads =
@@ -19,4 +19,4 @@ returns-in-Err c before leads =
     let last = c.in-Some.inverse.now in
     let rest = iter_rest c.next.new.self.iter in
     let (mid, (front, back)) = leads_last rest last before now (subst (λ is. Leads is before now) c.in-Some.ensures.steps (c.loop-inverse.invariant before leads)) in
-    refused_is last mid now c.undo.new.self c.in-Err.refusal back c.in-Err.ensures
+    refused_is last mid now c.undo.new.self c.in-Err.refusal back c.in-Err.ensures.undo
