@@ -48,6 +48,10 @@ same_inverses : (d : Durable) (chunks : List ℕ) → (without_chunks d chunks).
 same_inverses d [] = refl
 same_inverses d (chunk ∷ chunks) = same_inverses (forgotten d chunk) chunks
 
+pub names_left : (d : Durable) (chunks : List ℕ) → (without_chunks d chunks).names ≡ d.names
+names_left d [] = refl
+names_left d (chunk ∷ chunks) = names_left (forgotten d chunk) chunks
+
 drop_step : (xs : List ℕ) (i d : ℕ) → i < length xs → drop i xs ≡ get_or xs i d ∷ drop (i + 1) xs
 drop_step xs i d h = rw (add-one, drop-cons xs i d h) refl
 
@@ -83,7 +87,7 @@ names_refused edit old refusal is = ap names_from (edits_as_told edit (fin.entri
 
 -- ---- what takes the edit back
 
-map_append : (is : List ListedInverse) (i : ListedInverse) → map plain_inverse (is ++ i ∷ []) ≡ map plain_inverse is ++ plain_inverse i ∷ []
+pub map_append : (is : List ListedInverse) (i : ListedInverse) → map plain_inverse (is ++ i ∷ []) ≡ map plain_inverse is ++ plain_inverse i ∷ []
 map_append [] i = refl
 map_append (x ∷ xs) i = ap (λ rest. plain_inverse x ∷ rest) (map_append xs i)
 

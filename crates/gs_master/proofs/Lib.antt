@@ -1,3 +1,4 @@
+pub mod Before
 pub mod Beginnings
 pub mod Choosing
 pub mod Counters

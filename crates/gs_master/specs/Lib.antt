@@ -16,6 +16,7 @@ pub mod Sane
 pub mod Settling
 pub mod State
 pub mod Tracked
+pub mod TakingBack
 pub mod Undoing
 pub mod Upgrades
 pub mod Volatile

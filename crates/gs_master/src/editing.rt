@@ -71,7 +71,7 @@ pub(crate) fn forgotten_by(edit: &Edit) -> &[Handle]
 }
 
 /// The number of the next deletion behind an edit.
-fn next_behind(next: u64, edit: &Edit) -> u64
+pub(crate) fn next_behind(next: u64, edit: &Edit) -> u64
     ensures { result ≡ after_if next (number_of_edit (plain_edit edit.now)) }
 {
     match number_of(edit) {
@@ -81,7 +81,7 @@ fn next_behind(next: u64, edit: &Edit) -> u64
 }
 
 /// An edit that the names refuse doesn't fit them.
-fn unfit(refusal: Refusal) -> Refusal
+pub(crate) fn unfit(refusal: Refusal) -> Refusal
     ensures { result ≡ unfit refusal }
 {
     match refusal {
@@ -91,7 +91,7 @@ fn unfit(refusal: Refusal) -> Refusal
 }
 
 /// The answer to an accepted edit, where its record tells it.
-fn answer_to(
+pub(crate) fn answer_to(
     alloc: Global,
     edit: &Edit,
     view: Option<View>,
@@ -125,14 +125,14 @@ fn answer_to(
 
 impl Recorded {
     /// The settled view of the chunk that an edit puts into a file.
-    fn view_for(&self, edit: &Edit) -> Option<View>
+    pub(crate) fn view_for(&self, edit: &Edit) -> Option<View>
         ensures { result ≡ view_for (durable_of self.now) (chunk_of_edit (plain_edit edit.now)) }
     {
         self.view(chunk_of(edit)?)
     }
 
     /// Whether an edit may be recorded, whatever the names say.
-    fn may_edit(&self, edit: &Edit) -> Result<bool, AllocError>
+    pub(crate) fn may_edit(&self, edit: &Edit) -> Result<bool, AllocError>
         ensures { IfOk result (λ may. may ≡ may_edit (durable_of self.now) (plain_edit edit.now)) }
     {
         if self.phase == Phase::Rolling || !names_well(self.alloc, edit)? {

@@ -32,6 +32,7 @@ impl Recorded {
     /// Makes room for how an epoch ends.
     fn grow_ends(&mut self) -> Result<(), AllocError>
         ensures same { durable_of self.new ≡ durable_of self.old }
+        ensures leases { live nat_cmp self.new.leases ≡ live nat_cmp self.old.leases }
         ensures keeps { KeepsRooms self.old self.new }
         ensures room { OnOk result (vec_len self.new.ends < vec_capacity self.new.ends) }
     {
@@ -42,6 +43,7 @@ impl Recorded {
     /// Makes room for an edit: for its reply, for what takes it back, and for the prepared views of what it forgets.
     fn grow_edit(&mut self, by: ReqId, edit: &Edit) -> Result<(), AllocError>
         ensures same { durable_of self.new ≡ durable_of self.old }
+        ensures leases { live nat_cmp self.new.leases ≡ live nat_cmp self.old.leases }
         ensures keeps { KeepsRooms self.old self.new }
         ensures room { OnOk result (RoomFor self.new (entries.Edited by (plain_edit edit.now))) }
     {
@@ -53,6 +55,7 @@ impl Recorded {
     /// Makes room for a settled view of a chunk, and for its prepared one.
     fn grow_settling(&mut self, chunk: Handle) -> Result<(), AllocError>
         ensures same { durable_of self.new ≡ durable_of self.old }
+        ensures leases { live nat_cmp self.new.leases ≡ live nat_cmp self.old.leases }
         ensures keeps { KeepsRooms self.old self.new }
         ensures chunk { OnOk result (HasRoom nat_cmp self.new.leases chunk) }
         ensures prepared { OnOk result (HasRoom nat_cmp self.new.prepared chunk) }
@@ -64,6 +67,7 @@ impl Recorded {
     /// Makes all room that applying a record will want, but for the names. What stands stays as it is.
     pub fn grow(&mut self, entry: &Entry) -> Result<(), AllocError>
         ensures same { durable_of self.new ≡ durable_of self.old }
+        ensures leases { live nat_cmp self.new.leases ≡ live nat_cmp self.old.leases }
         ensures keeps { KeepsRooms self.old self.new }
         ensures room { OnOk result (RoomFor self.new (plain entry.now)) }
     {

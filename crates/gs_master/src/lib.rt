@@ -5,6 +5,8 @@ mod asking;
 mod change;
 mod changing;
 mod editing;
+mod entering;
+mod entering_edit;
 mod growing;
 mod hiding;
 mod memory;
@@ -16,6 +18,8 @@ mod restoring;
 mod reverting;
 mod tracked;
 mod waiting;
+mod taking_back;
+mod undo;
 
 pub use asking::{Asking, Prepared, Step};
 pub use change::Change;

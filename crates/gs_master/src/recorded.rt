@@ -97,17 +97,20 @@ impl Recorded {
     }
 
     /// Whether this is the epoch behind the one that stands.
-    fn is_next_epoch(&self, epoch: u64) -> bool
+    pub(crate) fn is_next_epoch(&self, epoch: u64) -> bool
         ensures { result ≡ is_next_epoch (durable_of self.now).epoch epoch }
     {
         self.epoch.checked_add(1) == Some(epoch)
     }
 
     /// The next epoch begins. There is room for how this one ends.
-    fn end_epoch(&mut self, end: EpochEnd, phase: Phase)
+    pub(crate) fn end_epoch(&mut self, end: EpochEnd, phase: Phase)
         requires room { vec_len self.old.ends < vec_capacity self.old.ends }
         requires more { self.old.epoch < last_number }
-        ensures { durable_of self.new ≡ with_epoch (durable_of self.old) end phase }
+        ensures value { durable_of self.new ≡ with_epoch (durable_of self.old) end phase }
+        ensures leases { self.new.leases ≡ self.old.leases }
+        ensures replies { self.new.replies ≡ self.old.replies }
+        ensures prepared { self.new.prepared ≡ self.old.prepared }
     {
         let _pushed = self.ends.push(end);
         self.epoch += 1;
@@ -230,7 +233,7 @@ impl Recorded {
     }
 
     /// Whether a view of a chunk may be proposed under this version.
-    fn may_propose(&self, chunk: Handle, version: u64) -> bool
+    pub(crate) fn may_propose(&self, chunk: Handle, version: u64) -> bool
         ensures { result ≡ may_propose (durable_of self.now).phase (durable_of self.now).next_handle (durable_of self.now).next_version chunk version (fin.get (durable_of self.now).chunks chunk) }
     {
         if self.phase == Phase::Rolling || !is_fresh(self.next_version, version) {
@@ -280,7 +283,7 @@ impl Recorded {
     }
 
     /// Whether a view may be settled.
-    fn may_be_settled(&self, settled: &SettledView) -> bool
+    pub(crate) fn may_be_settled(&self, settled: &SettledView) -> bool
         ensures { result ≡ may_be_settled (durable_of self.now) settled.now }
     {
         let view = settled.view;
@@ -375,7 +378,7 @@ pub(crate) fn after_number(number: u64) -> u64
 }
 
 /// A counter behind a value, if it hasn't given it yet.
-fn raised(next: u64, number: u64) -> u64
+pub(crate) fn raised(next: u64, number: u64) -> u64
     ensures { result ≡ raised next number }
 {
     if is_fresh(next, number) {

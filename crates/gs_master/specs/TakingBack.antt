@@ -1,0 +1,179 @@
+-- What takes a record back once it was applied: what stood before, as far as the record has changed it.
+use Rattle.std.specs.Prelude.{◌≡◌, ◌⊎◌, ◌∷◌, ◌++◌, [], ℕ, Bool, true, false, List, Option, Some, None, option_and_then, Result, Ok, Err}
+use Rattle.std.specs.declared.cmp.Ordering.{Ordering}
+use Rattle.std.specs.Ordering.{nat_cmp}
+use Rattle.std.specs.FinMap as fin
+use Rattle.gs_base.specs.declared.numbers.ClientId.{ClientId}
+use Rattle.gs_base.specs.declared.refusal.Refusal.{Refusal}
+use Rattle.gs_base.specs.declared.refusal.Refusal.TheVariants as refusals
+use Rattle.gs_edit.specs.Names.{NamesTakenBack, takes_memory}
+use Rattle.gs_edit.specs.View.{NamesView}
+use Rattle.gs_edit.specs.declared.listed.ListedInverse.{ListedInverse}
+use Rattle.gs_lease.specs.declared.lease.Lease.{Lease}
+use Rattle.gs_record.specs.Plain.{PlainEntry, Edited, Said, Propose, Settle, Prepare, Finalize, RollbackBegin, RollbackCommit, Whole, Holder}
+use Rattle.gs_record.specs.declared.checkpoint.Phase.TheVariants.{Upgrade}
+use Rattle.gs_table.specs.Slots.{live, set_live, HasRoom}
+use Rattle.gs_master.specs.Applied.{applied}
+use Rattle.gs_master.specs.Durable.{Durable, Settled}
+use Rattle.gs_master.specs.Recorded.{IsToldBack, durable_of, settled_by}
+use Rattle.gs_master.specs.Replies.{client_cmp}
+use Rattle.gs_master.specs.declared.recorded.Recorded.{Recorded}
+use Rattle.gs_master.specs.declared.reply.KeptReply.{KeptReply}
+use Rattle.gs_master.specs.declared.undo.ChunkBefore.{ChunkBefore}
+use Rattle.gs_master.specs.declared.undo.EditBefore.{EditBefore}
+use Rattle.gs_master.specs.declared.undo.NamesBefore.{NamesBefore}
+use Rattle.gs_master.specs.declared.undo.NamesBefore.TheVariants.{Undone, Kept}
+use Rattle.gs_master.specs.declared.undo.ReplyBefore.{ReplyBefore}
+use Rattle.gs_master.specs.declared.undo.Undo.{Undo}
+use Rattle.gs_master.specs.declared.undo.Undo.TheVariants as undos
+
+-- ---- the parts
+
+-- the replies, where one was put in another's place
+abbrev pub with_reply_before : Option ReplyBefore → fin.FinMap client_cmp KeptReply → fin.FinMap client_cmp KeptReply
+with_reply_before None replies = replies
+with_reply_before (Some before) replies = set_live before.client before.reply replies
+
+-- the settled chunks, where this one's lease stood so
+abbrev pub with_settled_before : ℕ → Option Lease → fin.FinMap nat_cmp Settled → fin.FinMap nat_cmp Settled
+with_settled_before chunk lease chunks = set_live chunk (option_and_then settled_by lease) chunks
+
+-- a chunk as it stood
+abbrev pub with_chunk_before : ChunkBefore → Durable → Durable
+with_chunk_before before d = record d {
+  chunks = with_settled_before before.chunk before.lease d.chunks;
+  prepared = set_live before.chunk before.prepared d.prepared;
+}
+
+-- several chunks, the last first
+abbrev pub with_chunks_before : List ChunkBefore → Durable → Durable
+with_chunks_before [] d = d
+with_chunks_before (before ∷ more) d = with_chunk_before before (with_chunks_before more d)
+
+-- a chunk for which a view was proposed, if it was settled
+abbrev pub with_proposed_before : ℕ → Option Lease → fin.FinMap nat_cmp Settled → fin.FinMap nat_cmp Settled
+with_proposed_before chunk None chunks = chunks
+with_proposed_before chunk (Some lease) chunks = with_settled_before chunk (Some lease) chunks
+
+-- the names: what was made of them is undone without memory, or they were kept
+abbrev pub AreNamesBefore : NamesBefore → NamesView → NamesView → Type 0
+AreNamesBefore (Undone inverse) before after = NamesTakenBack inverse before after × (takes_memory inverse ≡ false)
+AreNamesBefore (Kept names) before after = before ≡ names
+
+-- all but the last, where one was put behind them
+abbrev pub AreItemsBefore : {X : Type 0} → Bool → List X → List X → Type 0
+AreItemsBefore {X} true before after = (last : X) × (after ≡ before ++ last ∷ [])
+AreItemsBefore false before after = before ≡ after
+
+pub record IsEditBefore (e : EditBefore) (before after : Durable) : Type 0 where
+  pub names : AreNamesBefore e.names before.names after.names
+  pub inverses : AreItemsBefore e.keeps_inverse before.inverses after.inverses
+  pub rest : before ≡ record (with_chunks_before e.forgotten.items after) {
+    names = before.names;
+    next_hidden = e.next_hidden;
+    replies = with_reply_before e.reply after.replies;
+    inverses = before.inverses;
+  }
+
+-- ---- a record
+
+-- what takes a record back leads from what stands after it to what stood before
+abbrev pub TakesBack : Undo → Durable → Durable → Type 0
+TakesBack (undos.Said reply) before after = before ≡ record after { replies = with_reply_before reply after.replies }
+TakesBack (undos.Propose p) before after =
+    before ≡ record after { chunks = with_proposed_before p.chunk p.lease after.chunks; next_handle = p.next_handle; next_version = p.next_version }
+TakesBack (undos.Settle chunk) before after = before ≡ with_chunk_before chunk after
+TakesBack (undos.Holder chunk prepared) before after = before ≡ record after { prepared = set_live chunk prepared after.prepared }
+TakesBack (undos.RollbackBegin epoch) before after =
+    AreItemsBefore true before.ends after.ends × (before ≡ record after { epoch = epoch; phase = Upgrade; ends = before.ends })
+TakesBack (undos.Edit e) before after = IsEditBefore e before after
+
+-- several records, the last first
+abbrev pub TakeBack : List Undo → Durable → Durable → Type 0
+TakeBack [] before after = before ≡ after
+TakeBack (undo ∷ undos) before after = (between : Durable) × (TakesBack undo before between × TakeBack undos between after)
+
+-- ---- leases, of which the durable value tells less
+
+abbrev pub with_leases_before : List ChunkBefore → fin.FinMap nat_cmp Lease → fin.FinMap nat_cmp Lease
+with_leases_before [] leases = leases
+with_leases_before (before ∷ more) leases = set_live before.chunk before.lease (with_leases_before more leases)
+
+abbrev pub with_moved_before : ℕ → Option Lease → fin.FinMap nat_cmp Lease → fin.FinMap nat_cmp Lease
+with_moved_before chunk None leases = leases
+with_moved_before chunk (Some lease) leases = fin.insert leases chunk lease
+
+-- the leases before a record
+abbrev pub leases_before : Undo → fin.FinMap nat_cmp Lease → fin.FinMap nat_cmp Lease
+leases_before (undos.Said reply) leases = leases
+leases_before (undos.Propose p) leases = with_moved_before p.chunk p.lease leases
+leases_before (undos.Settle chunk) leases = set_live chunk.chunk chunk.lease leases
+leases_before (undos.Holder chunk prepared) leases = leases
+leases_before (undos.RollbackBegin epoch) leases = leases
+leases_before (undos.Edit e) leases = with_leases_before e.forgotten.items leases
+
+-- ---- room
+
+-- what stood at a key can be put there without memory
+abbrev pub RoomAt : {K V : Type 0} → (K → K → Ordering) → List (K × Option V) → K → Option V → Type 0
+RoomAt R slots key None = Unit {0}
+RoomAt R slots key (Some value) = HasRoom R slots key
+
+abbrev pub RoomForReply : List (ClientId × Option KeptReply) → Option ReplyBefore → Type 0
+RoomForReply slots None = Unit {0}
+RoomForReply slots (Some before) = RoomAt client_cmp slots before.client before.reply
+
+abbrev pub RoomForChunk : Recorded → ChunkBefore → Type 0
+RoomForChunk r before = RoomAt nat_cmp r.leases before.chunk before.lease × RoomAt nat_cmp r.prepared before.chunk before.prepared
+
+abbrev pub RoomForChunks : Recorded → List ChunkBefore → Type 0
+RoomForChunks r [] = Unit {0}
+RoomForChunks r (before ∷ more) = RoomForChunk r before × RoomForChunks r more
+
+-- what taking a record back wants, so that it takes no memory
+abbrev pub RoomBack : Recorded → Undo → Type 0
+RoomBack r (undos.Said reply) = RoomForReply r.replies reply
+RoomBack r (undos.Propose p) = RoomAt nat_cmp r.leases p.chunk p.lease
+RoomBack r (undos.Settle chunk) = RoomForChunk r chunk
+RoomBack r (undos.Holder chunk prepared) = RoomAt nat_cmp r.prepared chunk prepared
+RoomBack r (undos.RollbackBegin epoch) = Unit {0}
+RoomBack r (undos.Edit e) = RoomForReply r.replies e.reply × RoomForChunks r e.forgotten.items
+
+abbrev pub RoomForAll : Recorded → List Undo → Type 0
+RoomForAll r [] = Unit {0}
+RoomForAll r (undo ∷ undos) = RoomBack r undo × RoomForAll r undos
+
+-- ---- entering a record
+
+-- a record that is the only one of its event
+abbrev pub comes_alone : PlainEntry → Bool
+comes_alone (Edited by edit) = false
+comes_alone (Said to refusal) = false
+comes_alone (Propose chunk version) = false
+comes_alone (Settle v) = false
+comes_alone (Prepare epoch moment chunks) = true
+comes_alone (Finalize epoch) = true
+comes_alone (RollbackBegin epoch) = false
+comes_alone (RollbackCommit epoch answers) = true
+comes_alone (Whole c) = true
+comes_alone (Holder chunk server) = false
+
+-- what takes an edit back is told while an upgrade stands
+abbrev pub IsToldFor : Durable → PlainEntry → Option ListedInverse → Type 0
+IsToldFor d (Edited by edit) inverse = IsToldBack d edit inverse
+IsToldFor d entry inverse = Unit {0}
+
+-- a record is applied where it fits, or memory is wanted, and else nothing changes
+abbrev pub Enters : PlainEntry → Result Undo Refusal → Durable → Durable → Type 0
+Enters entry (Ok undo) old new = applied old entry ≡ Some new
+Enters entry (Err refusal) old new = ((refusal ≡ refusals.Memory) ⊎ ((applied old entry ≡ None) × (refusal ≡ refusals.BadLine))) × (new ≡ old)
+
+-- it is the only record that can be refused without memory, if it comes alone
+abbrev pub IsRefused : Result Undo Refusal → Durable → Durable → Type 0
+IsRefused result old new = (result ≡ Err refusals.BadLine) × (new ≡ old)
+
+-- what is answered takes it back, and has the room for that
+pub record IsUndo (old new : Recorded) (undo : Undo) : Type 0 where
+  pub value : TakesBack undo (durable_of old) (durable_of new)
+  pub leases : live nat_cmp old.leases ≡ leases_before undo (live nat_cmp new.leases)
+  pub room : RoomBack new undo

@@ -1,0 +1,87 @@
+// What takes a record back that was applied.
+ghost use Rattle.std.specs.Prelude.{◌≡◌};
+ghost use Rattle.std.specs.Ordering.{nat_cmp};
+ghost use Rattle.std.specs.FinMap as fin;
+ghost use Rattle.gs_table.specs.Slots.{HasRoom, KeepsRoom, live, set_live};
+ghost use Rattle.gs_master.specs.Replies.{client_cmp};
+
+use crate::asking::Prepared;
+use crate::reply::KeptReply;
+use gs_base::{ClientId, Handle};
+use gs_edit::{Inverse, Names};
+use gs_lease::Lease;
+use gs_table::{Key, Table};
+
+/// The reply that stood at a client, if one did.
+#[derive(Drop)]
+pub(crate) struct ReplyBefore {
+    pub(crate) client: ClientId,
+    pub(crate) reply: Option<KeptReply>,
+}
+
+/// What stood of a chunk for which a view was proposed. It has a lease here if it was settled.
+#[derive(Drop)]
+pub(crate) struct ProposalBefore {
+    pub(crate) chunk: Handle,
+    pub(crate) lease: Option<Lease>,
+    pub(crate) next_handle: u64,
+    pub(crate) next_version: u64,
+}
+
+/// A chunk as it stood, with the prepared view that was kept of it.
+#[derive(Drop)]
+pub(crate) struct ChunkBefore {
+    pub(crate) chunk: Handle,
+    pub(crate) lease: Option<Lease>,
+    pub(crate) prepared: Option<Prepared>,
+}
+
+/// How the names of before are come by.
+#[derive(Drop)]
+pub(crate) enum NamesBefore {
+    /// What was made of them is undone. That takes no memory.
+    Undone(Inverse),
+    /// They were kept.
+    Kept(Names),
+}
+
+/// What stood before an edit.
+#[derive(Drop)]
+pub(crate) struct EditBefore {
+    pub(crate) names: NamesBefore,
+    pub(crate) forgotten: Vec<ChunkBefore>,
+    /// The reply, if another was put in its place.
+    pub(crate) reply: Option<ReplyBefore>,
+    pub(crate) next_hidden: u64,
+    /// Whether what takes the edit back was put behind the others.
+    pub(crate) keeps_inverse: bool,
+}
+
+/// What stood before a record, as far as the record has changed it. It takes the record back, and wants no memory for that.
+#[derive(Drop)]
+pub(crate) enum Undo {
+    /// The reply, if another was put in its place.
+    Said(Option<ReplyBefore>),
+    Propose(ProposalBefore),
+    Settle(ChunkBefore),
+    Holder(Handle, Option<Prepared>),
+    /// The epoch that stood.
+    RollbackBegin(u64),
+    Edit(EditBefore),
+}
+
+/// Puts a value in the place of another. There is room for it.
+pub(crate) fn exchange<K: Key + Drop, V: Drop>(
+    table: &mut Table<K, V>,
+    key: K,
+    value: V,
+) -> Option<V>
+    requires { HasRoom K.cmp table.old key }
+    ensures value { result ≡ fin.get (live K.cmp table.old) key }
+    ensures put { live K.cmp table.new ≡ fin.insert (live K.cmp table.old) key value }
+    ensures keeps { KeepsRoom K.cmp table.old table.new }
+{
+    let before = table.take(key);
+    table.put(key, value);
+    before
+}
