@@ -25,7 +25,7 @@ use Rattle.gs_master.specs.Applied.{view_in}
 use Rattle.gs_master.specs.Durable.{Durable, kept_before, prepared_view, with_prepared}
 use Rattle.gs_master.specs.Recorded.{KeepsRooms, chunks_of, durable_of, settled_by}
 use Rattle.gs_master.specs.Replies.{client_cmp}
-use Rattle.gs_master.specs.TakingBack.{AreNamesBefore, IsEditBefore, IsUndo, TakesBack, RoomAt, RoomBack, RoomForAll, RoomForChunk, RoomForChunks, RoomForReply, with_chunk_before, with_chunks_before, with_leases_before, with_moved_before, with_proposed_before, with_reply_before, with_settled_before}
+use Rattle.gs_master.specs.TakingBack.{AreNamesBefore, IsEditBefore, TakeBack, TakesBack, RoomAt, RoomBack, RoomForAll, RoomForChunk, RoomForChunks, RoomForReply, all_leases_before, leases_before, with_chunk_before, with_chunks_before, with_leases_before, with_moved_before, with_proposed_before, with_reply_before, with_settled_before}
 use Rattle.gs_master.specs.declared.asking.Prepared.{Prepared}
 use Rattle.gs_master.specs.declared.recorded.Recorded.{Recorded}
 use Rattle.gs_master.specs.declared.reply.KeptReply.{KeptReply}
@@ -128,6 +128,9 @@ room_back_stays r s (undos.Edit e) room keeps = (room_for_reply_stays r.replies 
 pub room_for_all_stays : (r s : Recorded) (all : List Undo) → RoomForAll r all → KeepsRooms r s → RoomForAll s all
 room_for_all_stays r s [] room keeps = tt
 room_for_all_stays r s (undo ∷ more) room keeps = (room_back_stays r s undo room.0 keeps, room_for_all_stays r s more room.1 keeps)
+
+pub none_to_remove : (m : fin.FinMap nat_cmp Lease) (k : ℕ) → fin.get m k ≡ None → fin.remove m k ≡ m
+none_to_remove m k none = ap (λ w. set_live k w m) (sym none) ∙ nothing_undone nat_cmp_total fin.nat_cmp-IsAntisymmetric m k
 
 -- ---- chunks
 
@@ -268,12 +271,24 @@ edit_before d r names forgotten hidden replies inverses reply chunks replied =
     (λ i. record (chunks i) { names = d.names; next_hidden = d.next_hidden; replies = replied i; inverses = d.inverses })
     ∙ (λ i. record (sym (rest_beside forgotten r hidden replies inverses) i) { names = d.names; next_hidden = d.next_hidden; replies = with_reply_before reply replies; inverses = d.inverses })
 
--- ---- room that is made first
+-- ---- several records
 
--- what takes a record back takes it back to before room was made
-pub undo_of_grown : (old grown new : Recorded) (undo : Undo) → durable_of grown ≡ durable_of old → live nat_cmp grown.leases ≡ live nat_cmp old.leases → IsUndo grown new undo → IsUndo old new undo
-undo_of_grown old grown new undo same leases is = record {
-  value = subst (λ d. TakesBack undo d (durable_of new)) same is.value;
-  leases = sym leases ∙ is.leases;
-  room = is.room;
-}
+pub but_last_back : (undos : List Undo) (last : Undo) (before after : Durable) → TakeBack (undos ++ last ∷ []) before after → (between : Durable) × (TakeBack undos before between × TakesBack last between after)
+but_last_back [] last before after back = (before, (refl, subst (TakesBack last before) back.1.1 back.1.0))
+but_last_back (undo ∷ more) last before after back = let rest = but_last_back more last back.0 after back.1.1 in (rest.0, ((back.0, (back.1.0, rest.1.0)), rest.1.1))
+
+pub one_more_back : (undos : List Undo) (last : Undo) (before between after : Durable) → TakeBack undos before between → TakesBack last between after → TakeBack (undos ++ last ∷ []) before after
+one_more_back [] last before between after back one = (after, (subst (λ d. TakesBack last d after) (sym back) one, refl))
+one_more_back (undo ∷ more) last before between after back one = (back.0, (back.1.0, one_more_back more last back.0 between after back.1.1 one))
+
+pub room_but_last : (r : Recorded) (undos : List Undo) (last : Undo) → RoomForAll r (undos ++ last ∷ []) → RoomForAll r undos × RoomBack r last
+room_but_last r [] last room = (tt, room.0)
+room_but_last r (undo ∷ more) last room = let rest = room_but_last r more last room.1 in ((room.0, rest.0), rest.1)
+
+pub room_for_one_more : (r : Recorded) (undos : List Undo) (last : Undo) → RoomForAll r undos → RoomBack r last → RoomForAll r (undos ++ last ∷ [])
+room_for_one_more r [] last room here = (here, tt)
+room_for_one_more r (undo ∷ more) last room here = (room.0, room_for_one_more r more last room.1 here)
+
+pub all_leases_but_last : (undos : List Undo) (last : Undo) (leases : fin.FinMap nat_cmp Lease) → all_leases_before (undos ++ last ∷ []) leases ≡ all_leases_before undos (leases_before last leases)
+all_leases_but_last [] last leases = refl
+all_leases_but_last (undo ∷ more) last leases = ap (leases_before undo) (all_leases_but_last more last leases)

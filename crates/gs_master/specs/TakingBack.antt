@@ -1,5 +1,5 @@
 -- What takes a record back once it was applied: what stood before, as far as the record has changed it.
-use Rattle.std.specs.Prelude.{◌≡◌, ◌⊎◌, ◌∷◌, ◌++◌, [], ℕ, Bool, true, false, List, Option, Some, None, option_and_then, Result, Ok, Err}
+use Rattle.std.specs.Prelude.{◌≡◌, ◌⊎◌, ◌∷◌, ◌++◌, [], ℕ, Bool, true, false, List, Option, Some, None, option_and_then, Result, Ok, Err, refl}
 use Rattle.std.specs.declared.cmp.Ordering.{Ordering}
 use Rattle.std.specs.Ordering.{nat_cmp}
 use Rattle.std.specs.FinMap as fin
@@ -112,6 +112,11 @@ leases_before (undos.Holder chunk prepared) leases = leases
 leases_before (undos.RollbackBegin epoch) leases = leases
 leases_before (undos.Edit e) leases = with_leases_before e.forgotten.items leases
 
+-- the leases before several records, the last first
+abbrev pub all_leases_before : List Undo → fin.FinMap nat_cmp Lease → fin.FinMap nat_cmp Lease
+all_leases_before [] leases = leases
+all_leases_before (undo ∷ undos) leases = leases_before undo (all_leases_before undos leases)
+
 -- ---- room
 
 -- what stood at a key can be put there without memory
@@ -164,12 +169,12 @@ IsToldFor d (Edited by edit) inverse = IsToldBack d edit inverse
 IsToldFor d entry inverse = Unit {0}
 
 -- a record is applied where it fits, or memory is wanted, and else nothing changes
-abbrev pub Enters : PlainEntry → Result Undo Refusal → Durable → Durable → Type 0
-Enters entry (Ok undo) old new = applied old entry ≡ Some new
+abbrev pub Enters : {X : Type 0} → PlainEntry → Result X Refusal → Durable → Durable → Type 0
+Enters entry (Ok done) old new = applied old entry ≡ Some new
 Enters entry (Err refusal) old new = ((refusal ≡ refusals.Memory) ⊎ ((applied old entry ≡ None) × (refusal ≡ refusals.BadLine))) × (new ≡ old)
 
--- it is the only record that can be refused without memory, if it comes alone
-abbrev pub IsRefused : Result Undo Refusal → Durable → Durable → Type 0
+-- a record that comes alone is refused
+abbrev pub IsRefused : {X : Type 0} → Result X Refusal → Durable → Durable → Type 0
 IsRefused result old new = (result ≡ Err refusals.BadLine) × (new ≡ old)
 
 -- what is answered takes it back, and has the room for that
@@ -177,3 +182,30 @@ pub record IsUndo (old new : Recorded) (undo : Undo) : Type 0 where
   pub value : TakesBack undo (durable_of old) (durable_of new)
   pub leases : live nat_cmp old.leases ≡ leases_before undo (live nat_cmp new.leases)
   pub room : RoomBack new undo
+
+-- whatever several records led from, it is led from still; another may have come behind them
+abbrev pub StillTakeBack : List Undo → Durable → List Undo → Durable → Type 0
+StillTakeBack undos now more new = (before : Durable) → TakeBack undos before now → TakeBack more before new
+
+-- ---- examples
+
+the_last_is_left_out : AreItemsBefore {X = ℕ} true (1 ∷ []) (1 ∷ 2 ∷ [])
+the_last_is_left_out = (2, refl)
+
+nothing_was_put_there : AreItemsBefore {X = ℕ} false (1 ∷ 2 ∷ []) (1 ∷ 2 ∷ [])
+nothing_was_put_there = refl
+
+a_new_chunk_is_left : (chunks : fin.FinMap nat_cmp Settled) → with_proposed_before 3 None chunks ≡ chunks
+a_new_chunk_is_left chunks = refl
+
+a_client_without_a_reply : (replies : fin.FinMap client_cmp KeptReply) (client : ClientId) → with_reply_before (Some (record { client = client; reply = None })) replies ≡ fin.remove replies client
+a_client_without_a_reply replies client = refl
+
+what_stood_nowhere_needs_no_room : RoomAt {V = ℕ} nat_cmp [] 3 None
+what_stood_nowhere_needs_no_room = tt
+
+a_prepare_comes_alone : comes_alone (Prepare 1 5 2) ≡ true
+a_prepare_comes_alone = refl
+
+a_proposal_comes_with_others : comes_alone (Propose 3 7) ≡ false
+a_proposal_comes_with_others = refl

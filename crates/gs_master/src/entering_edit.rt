@@ -82,7 +82,7 @@ fn enter_answer(
 }
 
 /// Puts an item behind others. There is room for it.
-fn push_within<T: Drop>(items: &mut Vec<T>, item: T)
+pub(crate) fn push_within<T: Drop>(items: &mut Vec<T>, item: T)
     requires { vec_len items.old < vec_capacity items.old }
     ensures items { items.new.items ≡ items.old.items ++ item ∷ [] }
     ensures len { vec_len items.new ≡ vec_len items.old + 1 }

@@ -18,6 +18,7 @@ mod restoring;
 mod reverting;
 mod tracked;
 mod waiting;
+mod stacking;
 mod taking_back;
 mod undo;
 
