@@ -23,7 +23,7 @@ use Rattle.gs_table.proofs.Lives.{get-live}
 use Rattle.gs_table.specs.Keys.{client_exact}
 use Rattle.gs_master.specs.Applied.{view_in}
 use Rattle.gs_master.specs.Durable.{Durable, kept_before, prepared_view, with_prepared}
-use Rattle.gs_master.specs.Recorded.{KeepsRooms, chunks_of, durable_of, settled_by}
+use Rattle.gs_master.specs.Recorded.{KeepsRooms, chunks_of, settled_by}
 use Rattle.gs_master.specs.Replies.{client_cmp}
 use Rattle.gs_master.specs.TakingBack.{AreNamesBefore, IsEditBefore, TakeBack, TakesBack, RoomAt, RoomBack, RoomForAll, RoomForChunk, RoomForChunks, RoomForReply, all_leases_before, leases_before, with_chunk_before, with_chunks_before, with_leases_before, with_moved_before, with_proposed_before, with_reply_before, with_settled_before}
 use Rattle.gs_master.specs.declared.asking.Prepared.{Prepared}

@@ -20,9 +20,9 @@ use Rattle.gs_record.specs.declared.checkpoint.Phase.TheVariants.{Ordinary, Upgr
 use Rattle.gs_table.specs.Slots.{HasRoom, KeepsRoom}
 use Rattle.gs_tree.specs.Entry.{Entry}
 use Rattle.gs_master.specs.Applied.{after_edit, after_if, applied, chunk_of_edit, forgotten_by, inverses_with, may_edit, number_of_edit, view_for, with_answer, with_edit, without_chunks}
-use Rattle.gs_master.specs.Durable.{Durable, kept_before}
+use Rattle.gs_master.specs.Durable.{Durable, Settled, kept_before, prepared_of, upgrade_epoch}
 use Rattle.gs_master.specs.Promises.{edits_as_told}
-use Rattle.gs_master.specs.Recorded.{IsToldBack, RoomForEach, inverses_and, unfit, SayAlone}
+use Rattle.gs_master.specs.Recorded.{IsToldBack, RoomForEach, RoomToKeep, inverses_and, unfit, SayAlone}
 use Rattle.gs_master.specs.Replies.{answer_to}
 use Rattle.gs_master.specs.Undoing.{edited_names, inverse_of, names_from}
 use Rattle.gs_master.specs.declared.asking.Prepared.{Prepared}
@@ -61,15 +61,29 @@ drop_item xs i x h at = drop_step xs i x h ∙ ap (λ y. y ∷ drop (i + 1) xs) 
 pub forget_step : (d e w : Durable) (xs : List ℕ) (i x : ℕ) → i < length xs → x ≡ get_or xs i x → e ≡ without_chunks d (x ∷ []) → without_chunks d (drop i xs) ≡ w → without_chunks e (drop (i + 1) xs) ≡ w
 forget_step d e w xs i x h at is all = ap (λ y. without_chunks y (drop (i + 1) xs)) is ∙ sym (ap (without_chunks d) (drop_item xs i x h at)) ∙ all
 
-room_kept : (slots more : List (ℕ × Option Prepared)) (xs : List ℕ) → KeepsRoom nat_cmp slots more → RoomForEach slots xs → RoomForEach more xs
-room_kept slots more [] keeps room = tt
-room_kept slots more (x ∷ xs) keeps room = (keeps.keeps x room.0, room_kept slots more xs keeps room.1)
+pub room_to_keep_stays : (phase : Phase) (slots more : List (ℕ × Option Prepared)) (x : ℕ) → KeepsRoom nat_cmp slots more → RoomToKeep phase slots x → RoomToKeep phase more x
+room_to_keep_stays Ordinary slots more x keeps room = tt
+room_to_keep_stays Upgrade slots more x keeps room = keeps.keeps x room
+room_to_keep_stays Rolling slots more x keeps room = keeps.keeps x room
 
-pub room_rest : (slots more : List (ℕ × Option Prepared)) (xs : List ℕ) (i n : ℕ) → i < length xs → RoomForEach slots (drop i xs) → KeepsRoom nat_cmp slots more → RoomForEach more (drop (i + 1) xs)
-room_rest slots more xs i n h room keeps = room_kept slots more (drop (i + 1) xs) keeps (subst (RoomForEach slots) (drop_step xs i n h) room).1
+-- what is kept has room
+pub room_of_kept : (phase : Phase) (epoch : ℕ) (kept : Option Prepared) (settled : Option Settled) (view : Prepared) (slots : List (ℕ × Option Prepared)) (x : ℕ) →
+    Some view ≡ prepared_of (upgrade_epoch phase epoch) kept settled → RoomToKeep phase slots x → HasRoom nat_cmp slots x
+room_of_kept Ordinary epoch kept settled view slots x is room = absurd (false≢true (sym (ap is_some is)))
+room_of_kept Upgrade epoch kept settled view slots x is room = room
+room_of_kept Rolling epoch kept settled view slots x is room = room
 
-pub room_here : (slots : List (ℕ × Option Prepared)) (xs : List ℕ) (i n : ℕ) → i < length xs → RoomForEach slots (drop i xs) → HasRoom nat_cmp slots (get_or xs i n)
-room_here slots xs i n h room = (subst (RoomForEach slots) (drop_step xs i n h) room).0
+room_kept : (phase : Phase) (slots more : List (ℕ × Option Prepared)) (xs : List ℕ) → KeepsRoom nat_cmp slots more → RoomForEach phase slots xs → RoomForEach phase more xs
+room_kept phase slots more [] keeps room = tt
+room_kept phase slots more (x ∷ xs) keeps room = (room_to_keep_stays phase slots more x keeps room.0, room_kept phase slots more xs keeps room.1)
+
+pub room_rest : (phase next : Phase) (slots more : List (ℕ × Option Prepared)) (xs : List ℕ) (i n : ℕ) → next ≡ phase → i < length xs → RoomForEach phase slots (drop i xs) → KeepsRoom nat_cmp slots more
+    → RoomForEach next more (drop (i + 1) xs)
+room_rest phase next slots more xs i n same h room keeps =
+    subst (λ p. RoomForEach p more (drop (i + 1) xs)) (sym same) (room_kept phase slots more (drop (i + 1) xs) keeps (subst (RoomForEach phase slots) (drop_step xs i n h) room).1)
+
+pub room_here : (phase : Phase) (slots : List (ℕ × Option Prepared)) (xs : List ℕ) (i x : ℕ) → i < length xs → x ≡ get_or xs i x → RoomForEach phase slots (drop i xs) → RoomToKeep phase slots x
+room_here phase slots xs i x h at room = (subst (RoomForEach phase slots) (drop_item xs i x h at) room).0
 
 -- ---- the names
 
@@ -162,13 +176,14 @@ edit_refused d by edit refusal result names is says = (refused_by d by edit refu
 
 -- ---- room for each of several chunks
 
-room_last : (slots : List (ℕ × Option Prepared)) (xs : List ℕ) (x : ℕ) → RoomForEach slots xs → HasRoom nat_cmp slots x → RoomForEach slots (xs ++ x ∷ [])
-room_last slots [] x room here = (here, tt)
-room_last slots (y ∷ xs) x room here = (room.0, room_last slots xs x room.1 here)
+room_last : (phase : Phase) (slots : List (ℕ × Option Prepared)) (xs : List ℕ) (x : ℕ) → RoomForEach phase slots xs → RoomToKeep phase slots x → RoomForEach phase slots (xs ++ x ∷ [])
+room_last phase slots [] x room here = (here, tt)
+room_last phase slots (y ∷ xs) x room here = (room.0, room_last phase slots xs x room.1 here)
 
-pub room_more : (slots more : List (ℕ × Option Prepared)) (xs : List ℕ) (i x : ℕ) → i < length xs → x ≡ get_or xs i x → RoomForEach slots (take i xs) → KeepsRoom nat_cmp slots more → HasRoom nat_cmp more x → RoomForEach more (take (i + 1) xs)
-room_more slots more xs i x h at room keeps here =
-    rw (take_more xs i x h) (room_last more (take i xs) (get_or xs i x) (room_kept slots more (take i xs) keeps room) (subst (HasRoom nat_cmp more) at here))
+pub room_more : (phase : Phase) (slots more : List (ℕ × Option Prepared)) (xs : List ℕ) (i x : ℕ) → i < length xs → x ≡ get_or xs i x → RoomForEach phase slots (take i xs) → KeepsRoom nat_cmp slots more
+    → RoomToKeep phase more x → RoomForEach phase more (take (i + 1) xs)
+room_more phase slots more xs i x h at room keeps here =
+    rw (take_more xs i x h) (room_last phase more (take i xs) (get_or xs i x) (room_kept phase slots more (take i xs) keeps room) (subst (RoomToKeep phase more) at here))
 
 -- ---- edits that say alone what takes them back
 

@@ -80,9 +80,15 @@ unfit refusal = if is_memory refusal then refusals.Memory else refusals.BadLine
     is_memory refusals.Memory = true
     is_memory other = false
 
-abbrev pub RoomForEach : List (ℕ × Option Prepared) → List ℕ → Type 0
-RoomForEach prepared [] = Unit {0}
-RoomForEach prepared (chunk ∷ chunks) = HasRoom nat_cmp prepared chunk × RoomForEach prepared chunks
+-- a prepared view is kept while an upgrade stands
+abbrev pub RoomToKeep : Phase → List (ℕ × Option Prepared) → ℕ → Type 0
+RoomToKeep Ordinary prepared chunk = Unit {0}
+RoomToKeep Upgrade prepared chunk = HasRoom nat_cmp prepared chunk
+RoomToKeep Rolling prepared chunk = HasRoom nat_cmp prepared chunk
+
+abbrev pub RoomForEach : Phase → List (ℕ × Option Prepared) → List ℕ → Type 0
+RoomForEach phase prepared [] = Unit {0}
+RoomForEach phase prepared (chunk ∷ chunks) = RoomToKeep phase prepared chunk × RoomForEach phase prepared chunks
 
 abbrev pub inverses_and : List PlainInverse → Option ListedInverse → List PlainInverse
 inverses_and inverses None = inverses
@@ -101,16 +107,16 @@ IsToldBack d edit inverse = by_phase d.phase
 
 -- what a record wants besides memory for the names, so that applying it takes none
 abbrev pub RoomFor : Recorded → PlainEntry → Type 0
-RoomFor r (Edited by edit) = HasRoom client_cmp r.replies by.client × ((vec_len r.inverses < vec_capacity r.inverses) × RoomForEach r.prepared (forgotten_by edit))
+RoomFor r (Edited by edit) = HasRoom client_cmp r.replies by.client × ((vec_len r.inverses < vec_capacity r.inverses) × RoomForEach r.phase r.prepared (forgotten_by edit))
 RoomFor r (Said to refusal) = HasRoom client_cmp r.replies to.client
 RoomFor r (Propose chunk version) = HasRoom nat_cmp r.leases chunk
-RoomFor r (Settle v) = HasRoom nat_cmp r.leases v.handle × HasRoom nat_cmp r.prepared v.handle
+RoomFor r (Settle v) = HasRoom nat_cmp r.leases v.handle × RoomToKeep r.phase r.prepared v.handle
 RoomFor r (Prepare epoch moment chunks) = vec_len r.ends < vec_capacity r.ends
 RoomFor r (Finalize epoch) = vec_len r.ends < vec_capacity r.ends
 RoomFor r (RollbackBegin epoch) = vec_len r.ends < vec_capacity r.ends
 RoomFor r (RollbackCommit epoch answers) = Unit {0}
 RoomFor r (Whole c) = Unit {0}
-RoomFor r (Holder chunk server) = HasRoom nat_cmp r.prepared chunk
+RoomFor r (Holder chunk server) = RoomToKeep r.phase r.prepared chunk
 
 -- what has room keeps it
 pub record KeepsRooms (old new : Recorded) : Type 0 where

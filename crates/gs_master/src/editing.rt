@@ -5,7 +5,7 @@ ghost use Rattle.gs_record.specs.Plain as entries;
 ghost use Rattle.gs_record.specs.Plain.{plain_edit};
 ghost use Rattle.gs_table.specs.Slots.{HasRoom, KeepsRoom};
 ghost use Rattle.gs_master.specs.Applied.{after_if, chunk_of_edit, forgotten_by, may_edit, names_well, number_of_edit, view_for, with_answer, without_chunks};
-ghost use Rattle.gs_master.specs.Recorded.{AppliesOrMemory, IsToldBack, RoomForEach, durable_of, inverses_and, unfit};
+ghost use Rattle.gs_master.specs.Recorded.{AppliesOrMemory, IsToldBack, RoomForEach, RoomToKeep, durable_of, inverses_and, unfit};
 ghost use Rattle.gs_master.specs.Replies.{answer_to, client_cmp};
 
 use crate::hiding::{hidden_path, is_visible, old_name, old_path};
@@ -170,7 +170,7 @@ impl Recorded {
 
     /// A chunk is forgotten, and its prepared view kept. There is room for that.
     fn forget_chunk(&mut self, chunk: Handle)
-        requires { HasRoom nat_cmp self.old.prepared chunk }
+        requires { RoomToKeep self.old.phase self.old.prepared chunk }
         ensures value { durable_of self.new ≡ without_chunks (durable_of self.old) (chunk ∷ []) }
         ensures replies { self.new.replies ≡ self.old.replies }
         ensures inverses { self.new.inverses ≡ self.old.inverses }
@@ -182,7 +182,7 @@ impl Recorded {
 
     /// Chunks are forgotten, and their prepared views kept. There is room for those.
     fn forget_chunks(&mut self, chunks: &[Handle])
-        requires { RoomForEach self.old.prepared chunks.now }
+        requires { RoomForEach self.old.phase self.old.prepared chunks.now }
         ensures value { durable_of self.new ≡ without_chunks (durable_of self.old) chunks.now }
         ensures replies { self.new.replies ≡ self.old.replies }
         ensures inverses { self.new.inverses ≡ self.old.inverses }
@@ -212,7 +212,7 @@ impl Recorded {
     ) -> Result<(), Refusal>
         requires replies { HasRoom client_cmp self.old.replies by.client }
         requires inverses { vec_len self.old.inverses < vec_capacity self.old.inverses }
-        requires prepared { RoomForEach self.old.prepared (forgotten_by (plain_edit edit.now)) }
+        requires prepared { RoomForEach self.old.phase self.old.prepared (forgotten_by (plain_edit edit.now)) }
         requires back { IsToldBack (durable_of self.old) (plain_edit edit.now) inverse }
         ensures { AppliesOrMemory (entries.Edited by (plain_edit edit.now)) result (durable_of self.old) (durable_of self.new) }
     {

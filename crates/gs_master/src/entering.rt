@@ -6,7 +6,7 @@ ghost use Rattle.gs_record.specs.Plain as entries;
 ghost use Rattle.gs_record.specs.Plain.{plain};
 ghost use Rattle.gs_table.specs.Slots.{HasRoom, KeepsRoom, live};
 ghost use Rattle.gs_master.specs.Applied.{with_proposal, with_reply};
-ghost use Rattle.gs_master.specs.Recorded.{KeepsRooms, RoomFor, durable_of};
+ghost use Rattle.gs_master.specs.Recorded.{KeepsRooms, RoomFor, RoomToKeep, durable_of};
 ghost use Rattle.gs_master.specs.Replies.{client_cmp};
 ghost use Rattle.gs_master.specs.TakingBack.{Enters, IsRefused, IsToldFor, IsUndo, RoomAt, RoomForReply, comes_alone, with_moved_before, with_proposed_before, with_reply_before};
 
@@ -123,7 +123,7 @@ impl Recorded {
     #[tactic(auto, unfolding(crate::specs::Applied::applied))]
     fn enter_view(&mut self, settled: &SettledView) -> Result<Undo, Refusal>
         requires chunk { HasRoom nat_cmp self.old.leases settled.now.handle }
-        requires prepared { HasRoom nat_cmp self.old.prepared settled.now.handle }
+        requires prepared { RoomToKeep self.old.phase self.old.prepared settled.now.handle }
         ensures applied { Enters (entries.Settle settled.now) result (durable_of self.old) (durable_of self.new) }
         ensures back { IfOk result (λ undo. IsUndo self.old self.new undo) }
         ensures leases { IfErr result (λ _. self.new.leases ≡ self.old.leases) }
@@ -146,7 +146,7 @@ impl Recorded {
     /// A server got a copy of a chunk with its sealed image. There is room for the chunk's prepared view.
     #[tactic(auto, unfolding(crate::specs::Applied::applied))]
     fn enter_holder(&mut self, chunk: Handle, server: ServerId) -> Result<Undo, Refusal>
-        requires { HasRoom nat_cmp self.old.prepared chunk }
+        requires { RoomToKeep self.old.phase self.old.prepared chunk }
         ensures applied { Enters (entries.Holder chunk server) result (durable_of self.old) (durable_of self.new) }
         ensures back { IfOk result (λ undo. IsUndo self.old self.new undo) }
         ensures leases { IfErr result (λ _. self.new.leases ≡ self.old.leases) }

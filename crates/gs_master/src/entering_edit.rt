@@ -10,7 +10,7 @@ ghost use Rattle.gs_record.specs.Plain as entries;
 ghost use Rattle.gs_record.specs.Plain.{plain_edit, plain_inverse};
 ghost use Rattle.gs_table.specs.Slots.{HasRoom, KeepsRoom, live, set_live};
 ghost use Rattle.gs_master.specs.Applied.{forgotten_by, with_answer, without_chunks};
-ghost use Rattle.gs_master.specs.Recorded.{IsToldBack, KeepsRooms, RoomForEach, durable_of, inverses_and};
+ghost use Rattle.gs_master.specs.Recorded.{IsToldBack, KeepsRooms, RoomForEach, RoomToKeep, durable_of, inverses_and};
 ghost use Rattle.gs_master.specs.Replies.{client_cmp};
 ghost use Rattle.gs_master.specs.TakingBack.{AreItemsBefore, AreNamesBefore, Enters, IsUndo, RoomForChunk, RoomForChunks, RoomForReply, with_chunk_before, with_chunks_before, with_leases_before, with_reply_before};
 
@@ -107,7 +107,7 @@ fn enter_inverse(inverses: &mut Vec<ListedInverse>, inverse: Option<ListedInvers
 impl Recorded {
     /// A chunk is forgotten, and its prepared view kept. There is room for that. Its lease's room stays.
     fn enter_forgotten(&mut self, chunk: Handle) -> ChunkBefore
-        requires { HasRoom nat_cmp self.old.prepared chunk }
+        requires { RoomToKeep self.old.phase self.old.prepared chunk }
         ensures value { durable_of self.new ≡ without_chunks (durable_of self.old) (chunk ∷ []) }
         ensures back { durable_of self.old ≡ with_chunk_before result (durable_of self.new) }
         ensures leases { live nat_cmp self.old.leases ≡ set_live result.chunk result.lease (live nat_cmp self.new.leases) }
@@ -128,7 +128,7 @@ impl Recorded {
 
     /// Chunks are forgotten, and their prepared views kept. There is room for those, and for what stood before.
     fn enter_forgotten_each(&mut self, chunks: &[Handle], before: &mut Vec<ChunkBefore>)
-        requires prepared { RoomForEach self.old.prepared chunks.now }
+        requires prepared { RoomForEach self.old.phase self.old.prepared chunks.now }
         requires empty { before.old.items ≡ [] }
         requires before { length chunks.now ≤ vec_capacity before.old }
         ensures value { durable_of self.new ≡ without_chunks (durable_of self.old) chunks.now }
@@ -156,7 +156,7 @@ impl Recorded {
     ) -> Result<Undo, Refusal>
         requires replies { HasRoom client_cmp self.old.replies by.client }
         requires inverses { vec_len self.old.inverses < vec_capacity self.old.inverses }
-        requires prepared { RoomForEach self.old.prepared (forgotten_by (plain_edit edit.now)) }
+        requires prepared { RoomForEach self.old.phase self.old.prepared (forgotten_by (plain_edit edit.now)) }
         requires back { IsToldBack (durable_of self.old) (plain_edit edit.now) inverse }
         ensures applied { Enters (entries.Edited by (plain_edit edit.now)) result (durable_of self.old) (durable_of self.new) }
         ensures back { IfOk result (λ undo. IsUndo self.old self.new undo) }

@@ -5,25 +5,46 @@ ghost use Rattle.gs_record.specs.Plain.{plain};
 ghost use Rattle.gs_record.specs.Plain as entries;
 ghost use Rattle.gs_record.specs.Plain.{plain_edit};
 ghost use Rattle.gs_table.specs.Slots.{HasRoom, KeepsRoom, live};
-ghost use Rattle.gs_master.specs.Recorded.{KeepsRooms, RoomFor, RoomForEach, durable_of};
+ghost use Rattle.gs_master.specs.Recorded.{KeepsRooms, RoomFor, RoomForEach, RoomToKeep, durable_of};
 
 use crate::asking::Prepared;
 use crate::editing::forgotten_by;
 use crate::recorded::Recorded;
 use gs_base::{Handle, ReqId};
 use gs_edit::Edit;
-use gs_record::Entry;
+use gs_record::{Entry, Phase};
 use gs_table::Table;
 use std::alloc::AllocError;
 
-/// Makes room for the prepared views of chunks.
-fn reserve_each(prepared: &mut Table<Handle, Prepared>, chunks: &[Handle]) -> Result<(), AllocError>
+/// Makes room for the prepared view of a chunk, which is kept while an upgrade stands.
+fn reserve_to_keep(
+    phase: Phase,
+    prepared: &mut Table<Handle, Prepared>,
+    chunk: Handle,
+) -> Result<(), AllocError>
     ensures same { live nat_cmp prepared.new ≡ live nat_cmp prepared.old }
-    ensures room { OnOk result (RoomForEach prepared.new chunks.now) }
+    ensures room { OnOk result (RoomToKeep phase prepared.new chunk) }
+    ensures keeps { KeepsRoom nat_cmp prepared.old prepared.new }
+{
+    match phase {
+        Phase::Ordinary => Ok(()),
+        Phase::Upgrade => prepared.reserve(chunk),
+        Phase::Rolling => prepared.reserve(chunk),
+    }
+}
+
+/// Makes room for the prepared views of chunks.
+fn reserve_each(
+    phase: Phase,
+    prepared: &mut Table<Handle, Prepared>,
+    chunks: &[Handle],
+) -> Result<(), AllocError>
+    ensures same { live nat_cmp prepared.new ≡ live nat_cmp prepared.old }
+    ensures room { OnOk result (RoomForEach phase prepared.new chunks.now) }
     ensures keeps { KeepsRoom nat_cmp prepared.old prepared.new }
 {
     for chunk in chunks {
-        prepared.reserve(*chunk)?;
+        reserve_to_keep(phase, prepared, *chunk)?;
     }
     Ok(())
 }
@@ -49,7 +70,7 @@ impl Recorded {
     {
         self.replies.reserve(by.client)?;
         self.inverses.reserve(1)?;
-        reserve_each(&mut self.prepared, forgotten_by(edit))
+        reserve_each(self.phase, &mut self.prepared, forgotten_by(edit))
     }
 
     /// Makes room for a settled view of a chunk, and for its prepared one.
@@ -58,10 +79,10 @@ impl Recorded {
         ensures leases { live nat_cmp self.new.leases ≡ live nat_cmp self.old.leases }
         ensures keeps { KeepsRooms self.old self.new }
         ensures chunk { OnOk result (HasRoom nat_cmp self.new.leases chunk) }
-        ensures prepared { OnOk result (HasRoom nat_cmp self.new.prepared chunk) }
+        ensures prepared { OnOk result (RoomToKeep self.new.phase self.new.prepared chunk) }
     {
         self.leases.reserve(chunk)?;
-        self.prepared.reserve(chunk)
+        reserve_to_keep(self.phase, &mut self.prepared, chunk)
     }
 
     /// Makes all room that applying a record will want, but for the names. What stands stays as it is.
@@ -80,7 +101,9 @@ impl Recorded {
                 self.grow_ends()
             }
             Entry::RollbackCommit { .. } | Entry::Checkpoint(_) => Ok(()),
-            Entry::Holder { handle, .. } => self.prepared.reserve(*handle),
+            Entry::Holder { handle, .. } => {
+                reserve_to_keep(self.phase, &mut self.prepared, *handle)
+            }
         }
     }
 }

@@ -7,7 +7,7 @@ ghost use Rattle.gs_master.specs.Applied.{applied, are_at_rest, follows_view, is
 ghost use Rattle.gs_master.specs.Chunks.{was_proposed};
 ghost use Rattle.gs_base.specs.Numbers.{last_number};
 ghost use Rattle.gs_master.specs.Durable.{start, after_number, is_given, is_listed, kept_before, prepared_view, upgrade_epoch};
-ghost use Rattle.gs_master.specs.Recorded.{Applies, durable_of, rests, settled_by};
+ghost use Rattle.gs_master.specs.Recorded.{Applies, RoomToKeep, durable_of, rests, settled_by};
 ghost use Rattle.gs_master.specs.Replies.{client_cmp, is_later};
 
 use crate::asking::Prepared;
@@ -195,7 +195,7 @@ impl Recorded {
 
     /// Before a chunk changes, its prepared view is kept. There is room for it.
     pub fn keep_prepared(&mut self, chunk: Handle)
-        requires { HasRoom nat_cmp self.old.prepared chunk }
+        requires { RoomToKeep self.old.phase self.old.prepared chunk }
         ensures value { durable_of self.new ≡ record (durable_of self.old) { prepared = kept_before (durable_of self.old) chunk } }
         ensures leases { self.new.leases ≡ self.old.leases }
         ensures replies { self.new.replies ≡ self.old.replies }
@@ -216,7 +216,7 @@ impl Recorded {
     /// A server got a copy of a chunk with its sealed image. There is room for the chunk's prepared view.
     #[tactic(auto, unfolding(crate::specs::Applied::applied))]
     pub fn hold(&mut self, chunk: Handle, server: ServerId) -> Result<(), Refusal>
-        requires { HasRoom nat_cmp self.old.prepared chunk }
+        requires { RoomToKeep self.old.phase self.old.prepared chunk }
         ensures { Applies (entries.Holder chunk server) result (durable_of self.old) (durable_of self.new) }
     {
         if self.phase != Phase::Upgrade {
@@ -299,7 +299,7 @@ impl Recorded {
     #[tactic(auto, unfolding(crate::specs::Applied::applied))]
     pub fn settle(&mut self, settled: &SettledView) -> Result<(), Refusal>
         requires chunk { HasRoom nat_cmp self.old.leases settled.now.handle }
-        requires prepared { HasRoom nat_cmp self.old.prepared settled.now.handle }
+        requires prepared { RoomToKeep self.old.phase self.old.prepared settled.now.handle }
         ensures { Applies (entries.Settle settled.now) result (durable_of self.old) (durable_of self.new) }
     {
         if !self.may_be_settled(settled) {

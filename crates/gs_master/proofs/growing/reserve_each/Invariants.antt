@@ -7,6 +7,6 @@ use Rattle.gs_master.proofs.growing.reserve_each.Given as goal
 abbrev pub invariant-loop-chunk : goal.invariant-loop-chunk
 invariant-loop-chunk l = record {
   same : live nat_cmp l.prepared ≡ live nat_cmp l.fn.prepared;
-  room : RoomForEach l.prepared (take l.chunk-index l.chunks);
+  room : RoomForEach l.phase l.prepared (take l.chunk-index l.chunks);
   keeps : KeepsRoom nat_cmp l.fn.prepared l.prepared;
 }

@@ -9,7 +9,7 @@ use Rattle.gs_master.proofs.recorded.Recorded.enter_forgotten_each.Given as goal
 abbrev pub invariant-loop-chunk : goal.invariant-loop-chunk
 invariant-loop-chunk l = record {
   value : without_chunks (durable_of l.self) (drop l.chunk-index l.chunks) ≡ without_chunks (durable_of l.fn.self) l.chunks;
-  prepared : RoomForEach l.self.prepared (drop l.chunk-index l.chunks);
+  prepared : RoomForEach l.self.phase l.self.prepared (drop l.chunk-index l.chunks);
   back : durable_of l.fn.self ≡ with_chunks_before l.before.items (durable_of l.self);
   leases : live nat_cmp l.fn.self.leases ≡ with_leases_before l.before.items (live nat_cmp l.self.leases);
   room : RoomForChunks l.self l.before.items;

@@ -5,7 +5,7 @@ use Rattle.std.specs.Ordering.{nat_cmp}
 use Rattle.gs_table.specs.Slots.{live, HasRoom}
 use Rattle.gs_master.specs.Recorded.{durable_of}
 use Rattle.gs_master.proofs.Recording.{settled_gives}
-use Rattle.gs_master.proofs.Before.{chunk_undone, exchanged, room_at, same_replies_room, same_room}
+use Rattle.gs_master.proofs.Before.{chunk_undone, exchanged, room_at, room_at_stays, room_where_stood, same_replies_room, same_room}
 use Rattle.gs_master.proofs.recorded.Recorded.enter_view.Goals as goal
 
 pub returns-clause-applied : goal.returns-clause-applied
@@ -21,7 +21,7 @@ returns-clause-back c =
       leases = leases;
       room = (
         room_at nat_cmp _ c.args.settled.now.handle c.exchange-lease.result (c.exchange-lease.ensures.keeps.keeps c.args.settled.now.handle (subst (λ x. HasRoom nat_cmp x c.args.settled.now.handle) (sym c.keep_prepared.ensures.leases) c.requires.chunk)),
-        room_at nat_cmp _ c.args.settled.now.handle c.copied-prepared.result (c.keep_prepared.ensures.room.keeps c.args.settled.now.handle c.requires.prepared),
+        room_at_stays nat_cmp _ _ c.args.settled.now.handle c.copied-prepared.result (room_where_stood nat_cmp_total c.args.self.now.prepared c.args.settled.now.handle c.copied-prepared.result (search rules)) c.keep_prepared.ensures.room,
       );
     }
 
