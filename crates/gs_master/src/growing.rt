@@ -28,8 +28,7 @@ fn reserve_to_keep(
 {
     match phase {
         Phase::Ordinary => Ok(()),
-        Phase::Upgrade => prepared.reserve(chunk),
-        Phase::Rolling => prepared.reserve(chunk),
+        Phase::Upgrade | Phase::Rolling => prepared.reserve(chunk),
     }
 }
 
