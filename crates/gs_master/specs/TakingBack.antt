@@ -10,7 +10,7 @@ use Rattle.gs_edit.specs.Names.{NamesTakenBack, takes_memory}
 use Rattle.gs_edit.specs.View.{NamesView}
 use Rattle.gs_edit.specs.declared.listed.ListedInverse.{ListedInverse}
 use Rattle.gs_lease.specs.declared.lease.Lease.{Lease}
-use Rattle.gs_record.specs.Plain.{PlainEntry, Edited, Said, Propose, Settle, Prepare, Finalize, RollbackBegin, RollbackCommit, Whole, Holder}
+use Rattle.gs_record.specs.Plain.{PlainEdit, Mkdirs, Create, Rename, Hide, Unhide, Remove, AddChunk, Cow, Snapshot, Forget, PlainEntry, Edited, Said, Propose, Settle, Prepare, Finalize, RollbackBegin, RollbackCommit, Whole, Holder}
 use Rattle.gs_record.specs.declared.checkpoint.Phase.TheVariants.{Upgrade}
 use Rattle.gs_table.specs.Slots.{live, set_live, HasRoom}
 use Rattle.gs_master.specs.Applied.{applied}
@@ -59,6 +59,23 @@ with_proposed_before chunk (Some lease) chunks = with_settled_before chunk (Some
 abbrev pub AreNamesBefore : NamesBefore → NamesView → NamesView → Type 0
 AreNamesBefore (Undone inverse) before after = NamesTakenBack inverse before after × (takes_memory inverse ≡ false)
 AreNamesBefore (Kept names) before after = before ≡ names
+
+-- an edit that can be taken back without memory is made in place, and any other on a copy
+abbrev pub is_made_in_place : PlainEdit → Bool
+is_made_in_place (Mkdirs p) = true
+is_made_in_place (Create p) = true
+is_made_in_place (Rename from to) = false
+is_made_in_place (Hide p moment number) = false
+is_made_in_place (Unhide p) = false
+is_made_in_place (Remove p) = false
+is_made_in_place (AddChunk p chunk) = true
+is_made_in_place (Cow p index old new) = true
+is_made_in_place (Snapshot from to) = false
+is_made_in_place (Forget chunks) = false
+
+abbrev pub is_undone : NamesBefore → Bool
+is_undone (Undone inverse) = true
+is_undone (Kept names) = false
 
 -- all but the last, where one was put behind them
 abbrev pub AreItemsBefore : {X : Type 0} → Bool → List X → List X → Type 0

@@ -12,7 +12,7 @@ ghost use Rattle.gs_table.specs.Slots.{HasRoom, KeepsRoom, live, set_live};
 ghost use Rattle.gs_master.specs.Applied.{forgotten_by, with_answer, without_chunks};
 ghost use Rattle.gs_master.specs.Recorded.{IsToldBack, KeepsRooms, RoomForEach, RoomToKeep, durable_of, inverses_and};
 ghost use Rattle.gs_master.specs.Replies.{client_cmp};
-ghost use Rattle.gs_master.specs.TakingBack.{AreItemsBefore, AreNamesBefore, Enters, IsUndo, RoomForChunk, RoomForChunks, RoomForReply, with_chunk_before, with_chunks_before, with_leases_before, with_reply_before};
+ghost use Rattle.gs_master.specs.TakingBack.{AreItemsBefore, AreNamesBefore, Enters, IsUndo, RoomForChunk, RoomForChunks, RoomForReply, is_made_in_place, is_undone, with_chunk_before, with_chunks_before, with_leases_before, with_reply_before};
 
 use crate::editing::{answer_to, forgotten_by, next_behind, unfit};
 use crate::entering::enter_reply;
@@ -25,9 +25,10 @@ use gs_msg::Answer;
 use gs_table::Table;
 use std::mem;
 
-/// Whether an edit can be taken back without memory.
-fn is_undone_in_place(edit: &Edit) -> bool
-    ensures { (inverse : Inverse) → result ≡ true → is_of_kind (kind_of edit.now) inverse ≡ true → takes_memory inverse ≡ false }
+/// Whether an edit can be taken back without memory, so that no copy of the names is needed.
+fn is_made_in_place(edit: &Edit) -> bool
+    ensures value { result ≡ is_made_in_place (plain_edit edit.now) }
+    ensures memory { (inverse : Inverse) → result ≡ true → is_of_kind (kind_of edit.now) inverse ≡ true → takes_memory inverse ≡ false }
 {
     match edit {
         Edit::Mkdirs(_) | Edit::Create(_) | Edit::AddChunk(_, _) | Edit::Cow(_, _, _, _) => true,
@@ -44,6 +45,7 @@ fn is_undone_in_place(edit: &Edit) -> bool
 fn enter_on_copy(names: &mut Names, edit: &Edit) -> Result<NamesBefore, Refusal>
     ensures edit { Applies edit.now names.old result names.new }
     ensures back { IfOk result (λ before. AreNamesBefore before names.old names.new) }
+    ensures place { IfOk result (λ before. is_undone before ≡ false) }
 {
     let mut copy = names.copy()?;
     match copy.apply(edit) {
@@ -56,8 +58,9 @@ fn enter_on_copy(names: &mut Names, edit: &Edit) -> Result<NamesBefore, Refusal>
 fn enter_names(names: &mut Names, edit: &Edit) -> Result<NamesBefore, Refusal>
     ensures edit { Applies edit.now names.old result names.new }
     ensures back { IfOk result (λ before. AreNamesBefore before names.old names.new) }
+    ensures place { IfOk result (λ before. is_undone before ≡ is_made_in_place (plain_edit edit.now)) }
 {
-    if !is_undone_in_place(edit) {
+    if !is_made_in_place(edit) {
         return enter_on_copy(names, edit);
     }
     match names.apply(edit) {

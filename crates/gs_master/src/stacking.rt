@@ -1,5 +1,6 @@
 // The records of an event, entered one after the other and taken back together.
-ghost use Rattle.std.specs.Prelude.{◌≡◌, ◌<◌, true, false, vec_len, vec_capacity};
+ghost use Rattle.std.specs.FinMap as fin;
+ghost use Rattle.std.specs.Prelude.{None, ◌≡◌, ◌<◌, true, false, vec_len, vec_capacity};
 ghost use Rattle.std.specs.Ordering.{nat_cmp};
 ghost use Rattle.gs_record.specs.Plain.{plain};
 ghost use Rattle.gs_table.specs.Slots.{live};
@@ -54,6 +55,7 @@ impl Recorded {
     fn give_up_room(&mut self, chunk: Handle)
         ensures value { durable_of self.new ≡ durable_of self.old }
         ensures leases { live nat_cmp self.new.leases ≡ live nat_cmp self.old.leases }
+        ensures room { fin.get (live nat_cmp self.old.leases) chunk ≡ None → fin.find nat_cmp chunk self.new.leases ≡ None }
     {
         if self.leases.get(chunk).is_none() {
             let _nothing = self.leases.remove(chunk);
