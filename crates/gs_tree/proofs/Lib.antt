@@ -23,3 +23,4 @@ pub mod Apart
 pub mod Short
 pub mod Counting
 pub mod Mapped
+pub mod Regions

@@ -1,7 +1,7 @@
 //! Inverses as plain lists, the form in which they can be written down.
 ghost use Rattle.std.specs.Prelude.{◌≡◌, [], drop, IfOk, is_some, true};
 ghost use Rattle.gs_tree.specs.Find.{at};
-ghost use Rattle.gs_tree.specs.Build.{rows_of_entries, path_of_entry, IsSound};
+ghost use Rattle.gs_tree.specs.Build.{rows_of_entries, path_of_entry, prefixed, IsSound};
 ghost use Rattle.std.specs.List.Sorted.{IsSortedByKey};
 ghost use Rattle.gs_path.specs.Path.{text_cmp};
 ghost use Rattle.gs_tree.specs.Lists.{made_paths, is_child, top_path, IsPartList, GivesMade, GivesRemoved};
@@ -93,6 +93,21 @@ impl Node {
         self.list_below(alloc, path, &mut below)?;
         let mut listed = by_text(alloc, below)?;
         listed.insert(0, own)?;
+        Ok(listed)
+    }
+
+    /// The same in the order of the paths.
+    pub(crate) fn entries_by_path(
+        &self,
+        alloc: Global,
+        path: &Path,
+    ) -> Result<Vec<TreeEntry>, AllocError>
+        ensures rows { IfOk result (λ listed. rows_of_entries listed.items ≡ prefixed path.now self.now) }
+        ensures sound { IfOk result (λ _. IsSound self.now) }
+    {
+        let mut listed = Vec::new(alloc);
+        listed.push(self.own_entry(alloc, path)?)?;
+        self.list_below(alloc, path, &mut listed)?;
         Ok(listed)
     }
 }

@@ -8,7 +8,7 @@ ghost use Rattle.gs_tree.specs.Edits.{mkdirs, create, rename, hide, unhide, remo
 ghost use Rattle.gs_tree.specs.Inverses.{TakesBack, LeavesChunks, IsMade, IsMoved, IsChanged, IsRemoved, takes_memory, removed_chunks};
 ghost use Rattle.gs_tree.specs.Follows.{Follows, Undoes};
 ghost use Rattle.gs_tree.specs.Listing.{HasVisible, Lists, StandsAs};
-ghost use Rattle.gs_tree.specs.Chunks.{chunks_under, visible_chunks_under};
+ghost use Rattle.gs_tree.specs.Chunks.{chunks_under, rows_under, visible_chunks_under};
 ghost use Rattle.std.specs.List.{list_all};
 ghost use Rattle.std.specs.List.Sorted.{IsPermutation, IsSortedByKey};
 ghost use Rattle.gs_tree.specs.Build.{rooted_rows, below_root, is_short, is_tree, rows_of_entries, path_of_entry, Builds};
@@ -260,6 +260,16 @@ impl Tree {
         self.root
             .list_below(alloc, &Path::root(alloc), &mut listed)?;
         Ok(listed)
+    }
+
+    /// What stands at a path and below it, in the order of the paths. It costs the depth of the path and what is listed.
+    pub fn entries_under(&self, alloc: Global, path: &Path) -> Result<Vec<TreeEntry>, AllocError>
+        ensures { IfOk result (λ listed. rows_of_entries listed.items ≡ rows_under path.now (fin_map.entries self.now)) }
+    {
+        match self.root.find(path.elements()) {
+            Some(node) => node.entries_by_path(alloc, path),
+            None => Ok(Vec::new(alloc)),
+        }
     }
 
     /// The same in the order of the bytes of the paths' texts, so that `/a.b` stands between `/a` and `/a/b`. It takes the
