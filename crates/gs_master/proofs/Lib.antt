@@ -5,6 +5,7 @@ pub mod Counters
 pub mod Deleted
 pub mod Edits
 pub mod Kept
+pub mod Nodes
 pub mod Preparing
 pub mod Recording
 pub mod Refusing

@@ -17,6 +17,7 @@ pub mod Settling
 pub mod State
 pub mod Tracked
 pub mod TakingBack
+pub mod Texts
 pub mod Undoing
 pub mod Upgrades
 pub mod Volatile

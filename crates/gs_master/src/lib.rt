@@ -9,6 +9,7 @@ mod entering;
 mod entering_edit;
 mod growing;
 mod hiding;
+mod inverses;
 mod memory;
 mod pending;
 pub mod promises;
@@ -21,6 +22,7 @@ mod waiting;
 mod stacking;
 mod taking_back;
 mod undo;
+mod texts;
 
 pub use asking::{Asking, Prepared, Step};
 pub use change::Change;
