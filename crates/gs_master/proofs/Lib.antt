@@ -12,3 +12,4 @@ pub mod Refusing
 pub mod Rolling
 pub mod Rooms
 pub mod Tracking
+pub mod Tellings

@@ -124,7 +124,7 @@ settled_gives old mid slots v lease may kept same put is =
 
 -- ---- chunks at rest
 
-abbrev told_entry : ℕ × Lease → ℕ × Option Settled
+abbrev pub told_entry : ℕ × Lease → ℕ × Option Settled
 told_entry e = (e.0, settled_by e.1)
 
 same_keys : (es : List (ℕ × Lease)) → map (λ (e : ℕ × Option Settled). e.0) (map told_entry es) ≡ map (λ (e : ℕ × Lease). e.0) es
@@ -132,7 +132,7 @@ same_keys [] = refl
 same_keys (e ∷ es) = ap (λ keys. e.0 ∷ keys) (same_keys es)
 
 -- the settled chunks in their order
-entries_chunks : (leases : fin.FinMap nat_cmp Lease) → IsStrictlySortedBy nat_cmp (map (λ (e : ℕ × Lease). e.0) (fin.entries leases)) → fin.entries (chunks_of leases) ≡ live_entries (map told_entry (fin.entries leases))
+pub entries_chunks : (leases : fin.FinMap nat_cmp Lease) → IsStrictlySortedBy nat_cmp (map (λ (e : ℕ × Lease). e.0) (fin.entries leases)) → fin.entries (chunks_of leases) ≡ live_entries (map told_entry (fin.entries leases))
 unfolding chunks_of
 entries_chunks leases rising =
     entries-live nat_cmp_total fin.nat_cmp-IsAntisymmetric (map told_entry (fin.entries leases)) (subst (IsStrictlySortedBy nat_cmp) (sym (same_keys (fin.entries leases))) rising)

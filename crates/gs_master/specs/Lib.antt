@@ -1,6 +1,7 @@
 pub mod Applied
 pub mod Beginning
 pub mod Calls
+pub mod Checkpoints
 pub mod Chunks
 pub mod Codes
 pub mod Durable

@@ -4,6 +4,8 @@
 mod asking;
 mod change;
 mod changing;
+mod checkpointing;
+mod copying;
 mod editing;
 mod entering;
 mod entering_edit;
