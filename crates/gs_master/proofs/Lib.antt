@@ -1,5 +1,6 @@
 pub mod Before
 pub mod Beginnings
+pub mod Blanks
 pub mod Choosing
 pub mod Counters
 pub mod Deleted
@@ -9,7 +10,9 @@ pub mod Nodes
 pub mod Preparing
 pub mod Recording
 pub mod Refusing
+pub mod Reversals
 pub mod Rolling
 pub mod Rooms
 pub mod Tracking
+pub mod Takings
 pub mod Tellings

@@ -13,6 +13,7 @@ pub mod Outcomes
 pub mod Promises
 pub mod Recorded
 pub mod Replies
+pub mod Reversing
 pub mod Sane
 pub mod Settling
 pub mod State

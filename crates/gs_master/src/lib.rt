@@ -9,6 +9,7 @@ mod copying;
 mod editing;
 mod entering;
 mod entering_edit;
+mod going_back;
 mod growing;
 mod hiding;
 mod inverses;
