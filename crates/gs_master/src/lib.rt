@@ -4,6 +4,7 @@
 mod asking;
 mod change;
 mod changing;
+mod checking;
 mod checkpointing;
 mod copying;
 mod editing;

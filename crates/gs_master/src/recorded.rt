@@ -357,7 +357,7 @@ fn is_at_rest(lease: &Lease) -> bool
 }
 
 /// Whether a counter has given a value.
-fn is_given(next: u64, number: u64) -> bool
+pub(crate) fn is_given(next: u64, number: u64) -> bool
     ensures { result ≡ is_given next number }
 {
     0 < number && (next == 0 || number < next)
