@@ -8,6 +8,7 @@ pub mod Edits
 pub mod Kept
 pub mod Nodes
 pub mod Preparing
+pub mod Readings
 pub mod Recording
 pub mod Refusing
 pub mod Reversals

@@ -17,6 +17,7 @@ mod inverses;
 mod memory;
 mod pending;
 pub mod promises;
+mod reading;
 mod recorded;
 mod reply;
 mod restoring;
