@@ -1,8 +1,19 @@
 -- What a checkpoint's lists are put together of, and what is read of them.
-use Rattle.std.specs.Prelude.{ℕ, Bool, List, map, Option, Some, None, option_map, if◌then◌else◌}
+use Rattle.std.specs.Prelude.{◌≡◌, ◌⊎◌, ◌==◌, ◌&&◌, ℕ, Bool, true, false, List, map, Option, Some, None, option_map, Result, Ok, Err, if◌then◌else◌}
+use Rattle.std.specs.List.{list_all}
 use Rattle.std.specs.FinMap as fin
 use Rattle.std.specs.Ordering.{nat_cmp}
+use Rattle.gs_base.specs.declared.refusal.Refusal.{Refusal}
+use Rattle.gs_base.specs.declared.refusal.Refusal.TheVariants.{Memory, BadLine}
+use Rattle.gs_edit.specs.View.{NamesView}
 use Rattle.gs_lease.specs.Transitions.{restored}
+use Rattle.gs_record.specs.Plain.{PlainCheckpoint}
+use Rattle.gs_record.specs.declared.checkpoint.Reference.{Reference}
+use Rattle.gs_refs.specs.Counts.{Counts}
+use Rattle.gs_tree.specs.Build.{is_tree}
+use Rattle.gs_tree.specs.Chunks.{all_chunks}
+use Rattle.gs_master.specs.Undoing.{rows_of_nodes}
+use Rattle.gs_master.specs.Whole.{are_counts, names_in}
 use Rattle.gs_lease.specs.declared.lease.Lease.{Lease}
 use Rattle.gs_lease.specs.declared.view.View.{View}
 use Rattle.gs_record.specs.declared.checkpoint.PreparedView.{PreparedView}
@@ -28,3 +39,23 @@ told_chunks entries = fin.from_entries (map (λ (s : SettledEntry). (s.settled.h
 
 abbrev pub told_prepared : List PreparedView → fin.FinMap nat_cmp Prepared
 told_prepared entries = fin.from_entries (map (λ (v : PreparedView). (v.settled.handle, record { view = v.settled.view; holders = v.holders })) entries)
+
+-- the counts that are told, and whether each of them stands
+abbrev pub counts_in : List Reference → Counts
+counts_in references = fin.from_entries (map (λ (r : Reference). (r.handle, r.count)) references)
+
+abbrev pub is_told : Option ℕ → ℕ → Bool
+is_told None count = false
+is_told (Some n) count = n == count
+
+abbrev pub all_told : Counts → List Reference → Bool
+all_told refs references = list_all (λ (r : Reference). is_told (fin.get refs r.handle) r.count) references
+
+-- the entries are a tree's, and the references count the chunks of its files
+abbrev pub are_names : PlainCheckpoint → Bool
+are_names c = is_tree (rows_of_nodes c.tree) && are_counts (all_chunks (rows_of_nodes c.tree)) c.references
+
+-- the names that a checkpoint tells, exactly where it tells some, memory aside
+abbrev pub TellsNames : PlainCheckpoint → Result NamesView Refusal → Type 0
+TellsNames c (Ok names) = (are_names c ≡ true) × (names ≡ names_in c)
+TellsNames c (Err e) = (e ≡ Memory) ⊎ ((e ≡ BadLine) × (are_names c ≡ false))

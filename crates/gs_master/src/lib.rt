@@ -27,6 +27,7 @@ mod waiting;
 mod stacking;
 mod taking_back;
 mod undo;
+mod telling;
 mod texts;
 
 pub use asking::{Asking, Prepared, Step};
