@@ -1,5 +1,5 @@
 -- What a checkpoint's lists are put together of, and what is read of them.
-use Rattle.std.specs.Prelude.{◌≡◌, ◌⊎◌, ◌==◌, ◌&&◌, ℕ, Bool, true, false, List, map, Option, Some, None, option_map, Result, Ok, Err, if◌then◌else◌}
+use Rattle.std.specs.Prelude.{◌≡◌, ◌⊎◌, ◌==◌, ◌&&◌, ℕ, Bool, true, false, List, map, Option, Some, None, option_map, is_some, Result, Ok, Err, if◌then◌else◌}
 use Rattle.std.specs.List.{list_all}
 use Rattle.std.specs.FinMap as fin
 use Rattle.std.specs.Ordering.{nat_cmp}
@@ -36,6 +36,10 @@ lease_of s = restored s.settled.view (if s.is_moving then Some s.settled.view.st
 
 abbrev pub told_chunks : List SettledEntry → fin.FinMap nat_cmp Settled
 told_chunks entries = fin.from_entries (map (λ (s : SettledEntry). (s.settled.handle, record { view = s.settled.view; is_moving = s.is_moving })) entries)
+
+-- each counted chunk is one of these
+abbrev pub have_views : fin.FinMap nat_cmp Settled → List Reference → Bool
+have_views chunks references = list_all (λ (r : Reference). is_some (fin.get chunks r.handle)) references
 
 abbrev pub told_prepared : List PreparedView → fin.FinMap nat_cmp Prepared
 told_prepared entries = fin.from_entries (map (λ (v : PreparedView). (v.settled.handle, record { view = v.settled.view; holders = v.holders })) entries)

@@ -1,20 +1,21 @@
 // What a checkpoint tells of chunks, in memory.
-ghost use Rattle.std.specs.Prelude.{◌≡◌, IfOk};
+ghost use Rattle.std.specs.Prelude.{◌≡◌, IfOk, is_some};
 ghost use Rattle.std.specs.FinMap as fin;
 ghost use Rattle.std.specs.Ordering.{nat_cmp};
+ghost use Rattle.gs_record.specs.Plain.{plain_checkpoint};
 ghost use Rattle.gs_table.specs.Slots.{live};
-ghost use Rattle.gs_master.specs.Checkpoints.{lease_of, told_chunks, told_prepared};
+ghost use Rattle.gs_master.specs.Checkpoints.{have_views, lease_of, told_chunks, told_prepared};
 ghost use Rattle.gs_master.specs.Durable.{prepared_view};
 ghost use Rattle.gs_master.specs.Recorded.{chunks_of, durable_of};
 ghost use Rattle.gs_master.specs.Reversing.{all_taken_back};
-ghost use Rattle.gs_master.specs.Whole.{are_all_prepared, can_go_back};
+ghost use Rattle.gs_master.specs.Whole.{are_all_prepared, are_settled, can_go_back};
 
 use crate::asking::Prepared;
 use crate::checking::are_hidden_once;
 use crate::recorded::Recorded;
 use gs_base::{Handle, Refusal};
-use gs_lease::{Lease, restore};
-use gs_record::{Phase, PreparedView, SettledEntry};
+use gs_lease::{Lease, Told, restore};
+use gs_record::{Checkpoint, Phase, PreparedView, Reference, SettledEntry};
 use gs_refs::Refs;
 use gs_table::Table;
 use std::alloc::{AllocError, Global};
@@ -69,6 +70,36 @@ pub(crate) fn told_prepared(
         prepared.put(handle, Prepared { view, holders });
     }
     Ok(prepared)
+}
+
+/// Whether a chunk has a settled view.
+#[tactic(auto, using(crate::proofs::Recording::get_chunks))]
+fn has_view(leases: &Table<Handle, Lease>, chunk: Handle) -> bool
+    ensures { result ≡ is_some (fin.get (chunks_of (live nat_cmp leases.now)) chunk) }
+{
+    match leases.get(chunk) {
+        Some(lease) => Told::of(lease).settled.is_some(),
+        None => false,
+    }
+}
+
+fn have_views(leases: &Table<Handle, Lease>, references: &[Reference]) -> bool
+    ensures { result ≡ have_views (chunks_of (live nat_cmp leases.now)) references.now }
+{
+    for reference in references {
+        if !has_view(leases, reference.handle) {
+            return false;
+        }
+    }
+    true
+}
+
+/// Whether each counted chunk is settled, by the chunks that the checkpoint tells.
+pub(crate) fn are_settled(checkpoint: &Checkpoint, leases: &Table<Handle, Lease>) -> bool
+    requires { chunks_of (live nat_cmp leases.now) ≡ told_chunks (plain_checkpoint checkpoint.now).settled }
+    ensures { result ≡ are_settled (plain_checkpoint checkpoint.now).references (plain_checkpoint checkpoint.now).settled }
+{
+    have_views(leases, &checkpoint.references)
 }
 
 impl Recorded {
