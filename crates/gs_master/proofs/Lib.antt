@@ -8,6 +8,7 @@ pub mod Deleted
 pub mod Edits
 pub mod Kept
 pub mod Nodes
+pub mod Mapping
 pub mod Preparing
 pub mod Readings
 pub mod Recording

@@ -7,9 +7,12 @@ pub mod Codes
 pub mod Durable
 pub mod Handling
 pub mod Hearing
+pub mod Judging
+pub mod Knowing
 pub mod Leases
 pub mod Memories
 pub mod Outcomes
+pub mod Plans
 pub mod Promises
 pub mod Recorded
 pub mod Replies

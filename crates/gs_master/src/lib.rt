@@ -1,7 +1,9 @@
 //! The master: the names of the store, where each chunk is, and what it sends to clients and servers.
 #![tactic(auto)]
 
+mod answering;
 mod asking;
+mod beginning;
 mod change;
 mod changing;
 mod checking;
@@ -14,11 +16,20 @@ mod going_back;
 mod growing;
 mod hiding;
 mod inverses;
+mod fault;
+mod finding;
+mod judging;
+mod known;
+mod letting_go;
+mod log;
 mod memory;
 mod pending;
+mod plan;
+mod posting;
 pub mod promises;
 mod reading;
 mod recorded;
+mod refused;
 mod reply;
 mod restoring;
 mod reverting;
@@ -29,6 +40,10 @@ mod taking_back;
 mod undo;
 mod telling;
 mod texts;
+mod scanning;
+mod settling;
+mod standing;
+mod upgrading;
 
 pub use asking::{Asking, Prepared, Step};
 pub use change::Change;

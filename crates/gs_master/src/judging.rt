@@ -1,0 +1,94 @@
+// The tests of a call that come before its own.
+ghost use Rattle.std.specs.Prelude.{◌≡◌, option_map};
+ghost use Rattle.std.specs.Option.{option_to_list};
+ghost use Rattle.gs_master.specs.Calls.{is_always_taken, is_any_hidden, is_work, reads_of_call};
+ghost use Rattle.gs_master.specs.Judging.{numbered_of};
+ghost use Rattle.gs_master.specs.Handling.{numbered};
+ghost use Rattle.gs_master.specs.Plans.{state_of};
+ghost use Rattle.gs_master.specs.State.{last_reply};
+
+use crate::hiding::is_visible;
+use crate::standing::Standing;
+use gs_base::{Refusal, ReqId};
+use gs_msg::{Answer, Call};
+use gs_path::Path;
+
+/// How a request's number stands to that of the last reply to its client.
+pub(crate) enum Numbered<'a> {
+    New,
+    /// It was answered so.
+    Again(&'a Result<Answer, Refusal>),
+    Older,
+}
+
+/// Whether a path of a call that mustn't be hidden is.
+pub(crate) fn is_any_hidden(call: &Call) -> bool
+    ensures { result ≡ is_any_hidden call.now }
+{
+    match call {
+        Call::Mkdirs(path)
+        | Call::Create(path)
+        | Call::Delete { path, .. }
+        | Call::FindForWriting { path, .. }
+        | Call::Extend { path, .. } => !is_visible(path),
+        Call::Rename { from, to } | Call::Snapshot { from, to } => {
+            !is_visible(from) || !is_visible(to)
+        }
+        _ => false,
+    }
+}
+
+/// Whether a call is taken while rolling back.
+fn is_always_taken(call: &Call) -> bool
+    ensures { result ≡ is_always_taken call.now }
+{
+    matches!(call, Call::Query | Call::RollbackCommit)
+}
+
+/// Whether a call isn't taken while an upgrade is prepared: an edit, or one that begins views.
+fn is_work(call: &Call) -> bool
+    ensures { result ≡ is_work call.now }
+{
+    match call {
+        Call::Mkdirs(_)
+        | Call::Create(_)
+        | Call::Rename { .. }
+        | Call::Delete { .. }
+        | Call::Undelete(_)
+        | Call::Snapshot { .. }
+        | Call::FindForWriting { .. }
+        | Call::Extend { .. }
+        | Call::Scan
+        | Call::Replicate => true,
+        _ => false,
+    }
+}
+
+/// The path that a call reads, if it reads one.
+fn read_by(call: &Call) -> Option<&Path>
+    ensures { option_to_list (option_map (λ path. path.now) result) ≡ reads_of_call call.entry.now }
+{
+    match call {
+        Call::Mkdirs(path)
+        | Call::Rename { to: path, .. }
+        | Call::List(path)
+        | Call::Status(path)
+        | Call::FindForReading { path, .. }
+        | Call::FindForWriting { path, .. }
+        | Call::Extend { path, .. } => Some(path),
+        _ => None,
+    }
+}
+
+impl<'a> Standing<'a> {
+    /// How a request's number stands to that of the last reply to its client.
+    pub fn numbered(&self, req: ReqId) -> Numbered<'a>
+        ensures { numbered_of result ≡ numbered (last_reply (state_of self.entry.now) req.client) req.number }
+    {
+        match self.last_reply(req.client) {
+            Some(reply) if reply.number == req.number => Numbered::Again(&reply.result),
+            Some(reply) if req.number < reply.number => Numbered::Older,
+            _ => Numbered::New,
+        }
+    }
+}
