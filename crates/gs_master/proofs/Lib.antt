@@ -14,6 +14,7 @@ pub mod Readings
 pub mod Recording
 pub mod Refusing
 pub mod Reversals
+pub mod Restored
 pub mod Rolling
 pub mod Rooms
 pub mod Tracking

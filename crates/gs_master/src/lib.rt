@@ -40,6 +40,7 @@ mod taking_back;
 mod undo;
 mod telling;
 mod texts;
+mod rollback;
 mod scanning;
 mod settling;
 mod standing;
