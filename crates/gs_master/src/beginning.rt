@@ -6,11 +6,12 @@ ghost use Rattle.gs_msg.specs.declared.chunk.Chunk.TheVariants as chunks;
 ghost use Rattle.gs_msg.specs.declared.node.NodeId.TheVariants as nodes;
 ghost use Rattle.gs_record.specs.Plain as entries;
 ghost use Rattle.gs_record.specs.Plain.{plain};
-ghost use Rattle.gs_master.specs.Chunks.{asking_for};
+ghost use Rattle.gs_master.specs.Chunks.{asking_for, chunk_at};
 ghost use Rattle.gs_master.specs.State.{about, post, to_each};
 ghost use Rattle.gs_master.specs.declared.change.Change.TheVariants as changes;
-ghost use Rattle.gs_master.specs.Beginning.{begin_plan, copy_plan, create_plan, waits_from_now, waits_on};
-ghost use Rattle.gs_master.specs.Plans.{plan_of};
+ghost use Rattle.gs_master.specs.Beginning.{begin_at, begin_plan, copy_plan, create_plan, members_at, next_stamp, waits_from_now, waits_on};
+ghost use Rattle.gs_master.specs.Plans.{plan_of, state_of};
+ghost use Rattle.gs_master.specs.Recorded.{durable_of};
 ghost use Rattle.gs_master.specs.Working.{begin_pending};
 
 use crate::asking::Asking;
@@ -18,6 +19,8 @@ use crate::change::Change;
 use crate::pending::{Pending, Waiting};
 use crate::plan::Plan;
 use crate::posting::to_each;
+use crate::recorded::Recorded;
+use crate::standing::Standing;
 use gs_base::{Handle, Members, ReqId, Stamp};
 use gs_lease::{Purpose, View};
 use gs_msg::{Body, Chunk, Message};
@@ -184,5 +187,43 @@ impl Plan {
         let mut plan = self;
         plan.changes.push(Change::Wait(req, waits))?;
         Ok(plan)
+    }
+}
+
+impl Recorded {
+    /// The stamp of the view that is begun next.
+    pub fn next_stamp(&self) -> Stamp
+        ensures { result ≡ next_stamp (durable_of self.now) }
+    {
+        Stamp {
+            epoch: self.epoch,
+            version: self.next_version,
+        }
+    }
+}
+
+impl<'a> Standing<'a> {
+    /// The members of the settled view of a chunk, if the master knows it and it has one.
+    fn members_at(&self, chunk: Handle) -> Members
+        ensures { result ≡ members_at (chunk_at (state_of self.entry.now) chunk) }
+    {
+        match self.chunk_at(chunk) {
+            Some(known) => known.members(),
+            None => Members::none(),
+        }
+    }
+
+    /// A view of a chunk is begun on its members.
+    pub fn begin_at(
+        &self,
+        chunk: Handle,
+        purpose: Purpose,
+        call: Option<ReqId>,
+    ) -> Result<Plan, AllocError>
+        ensures { IfOk result (λ plan. plan_of plan ≡ begin_at (state_of self.entry.now) chunk purpose call) }
+    {
+        let members = self.members_at(chunk);
+        let stamp = self.recorded.next_stamp();
+        begin_plan(self.recorded.alloc, stamp, chunk, members, purpose, call)
     }
 }

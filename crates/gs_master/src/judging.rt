@@ -1,17 +1,19 @@
 // The tests of a call that come before its own.
 ghost use Rattle.std.specs.Prelude.{◌≡◌, option_map};
 ghost use Rattle.std.specs.Option.{option_to_list};
-ghost use Rattle.gs_master.specs.Calls.{is_always_taken, is_any_hidden, is_work, reads_of_call};
+ghost use Rattle.gs_master.specs.Calls.{is_always_taken, is_any_hidden, is_work, ordered, reads_of_call};
+ghost use Rattle.gs_master.specs.Durable.{is_rolling};
 ghost use Rattle.gs_master.specs.Judging.{numbered_of};
 ghost use Rattle.gs_master.specs.Handling.{numbered};
 ghost use Rattle.gs_master.specs.Plans.{state_of};
-ghost use Rattle.gs_master.specs.State.{last_reply};
+ghost use Rattle.gs_master.specs.State.{first_of, is_failed, last_reply};
 
 use crate::hiding::is_visible;
 use crate::standing::Standing;
 use gs_base::{Refusal, ReqId};
 use gs_msg::{Answer, Call};
 use gs_path::Path;
+use gs_record::Phase;
 
 /// How a request's number stands to that of the last reply to its client.
 pub(crate) enum Numbered<'a> {
@@ -90,5 +92,27 @@ impl<'a> Standing<'a> {
             Some(reply) if req.number < reply.number => Numbered::Older,
             _ => Numbered::New,
         }
+    }
+
+    /// Why a call is refused before its own tests, where it is told whether a lock of another call is in its way.
+    pub fn refused_where(&self, call: &Call, is_locked: bool) -> Option<Refusal>
+        ensures { result ≡ first_of (ordered (is_failed (state_of self.entry.now).fault) (is_rolling (state_of self.entry.now).durable.phase) (state_of self.entry.now).volatile.is_preparing is_locked call.now) }
+    {
+        if self.fault.is_failed() {
+            return Some(Refusal::Device);
+        }
+        if self.recorded.phase == Phase::Rolling && !is_always_taken(call) {
+            return Some(Refusal::RollingBack);
+        }
+        if self.memory.is_preparing() && is_work(call) {
+            return Some(Refusal::Preparing);
+        }
+        if is_locked {
+            return Some(Refusal::Locked);
+        }
+        if is_any_hidden(call) {
+            return Some(Refusal::HiddenName);
+        }
+        None
     }
 }
