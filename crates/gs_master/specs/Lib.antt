@@ -20,9 +20,9 @@ pub mod Reversing
 pub mod Sane
 pub mod Settling
 pub mod State
-pub mod Tracked
 pub mod TakingBack
 pub mod Texts
+pub mod Tracked
 pub mod Undoing
 pub mod Upgrades
 pub mod Volatile
