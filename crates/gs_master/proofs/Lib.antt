@@ -9,6 +9,7 @@ pub mod Edits
 pub mod Kept
 pub mod Mapping
 pub mod Nodes
+pub mod Opened
 pub mod Preparing
 pub mod Readings
 pub mod Recording

@@ -1,5 +1,5 @@
 -- What a checkpoint's lists are put together of, and what is read of them.
-use Rattle.std.specs.Prelude.{◌≡◌, ◌⊎◌, ◌==◌, ◌&&◌, ℕ, Bool, true, false, List, map, Option, Some, None, option_map, is_some, Result, Ok, Err, if◌then◌else◌}
+use Rattle.std.specs.Prelude.{◌≡◌, ◌⊎◌, ◌==◌, ◌&&◌, ℕ, Bool, true, false, List, [], map, Option, Some, None, option_map, is_some, Result, Ok, Err, if◌then◌else◌}
 use Rattle.std.specs.List.{list_all}
 use Rattle.std.specs.FinMap as fin
 use Rattle.std.specs.Ordering.{nat_cmp}
@@ -13,14 +13,18 @@ use Rattle.gs_refs.specs.Counts.{Counts}
 use Rattle.gs_tree.specs.Build.{is_tree}
 use Rattle.gs_tree.specs.Chunks.{all_chunks}
 use Rattle.gs_master.specs.Undoing.{rows_of_nodes}
-use Rattle.gs_master.specs.Whole.{are_counts, names_in}
+use Rattle.gs_master.specs.Whole.{are_counts, are_ends, are_prepared, can_go_back, durable_with, has_upgrade, is_view_given, is_whole, names_in}
 use Rattle.gs_lease.specs.declared.lease.Lease.{Lease}
 use Rattle.gs_lease.specs.declared.view.View.{View}
 use Rattle.gs_record.specs.declared.checkpoint.PreparedView.{PreparedView}
 use Rattle.gs_record.specs.declared.checkpoint.SettledEntry.{SettledEntry}
-use Rattle.gs_master.specs.Durable.{Settled}
-use Rattle.gs_master.specs.Recorded.{settled_by}
+use Rattle.gs_master.specs.Durable.{Durable, Settled}
+use Rattle.gs_master.specs.Recorded.{durable_of, settled_by}
+use Rattle.gs_master.specs.Replies.{client_cmp}
+use Rattle.gs_master.specs.Reversing.{all_taken_back}
 use Rattle.gs_master.specs.declared.asking.Prepared.{Prepared}
+use Rattle.gs_master.specs.declared.recorded.Recorded.{Recorded}
+use Rattle.gs_master.specs.declared.reply.KeptReply.{KeptReply}
 
 -- the settled view of a chunk of the table, if a file has the chunk or had it, and whether the chunk moves
 abbrev pub listed_view : (ℕ → Bool) → ℕ × Lease → Option (View × Bool)
@@ -63,3 +67,24 @@ are_names c = is_tree (rows_of_nodes c.tree) && are_counts (all_chunks (rows_of_
 abbrev pub TellsNames : PlainCheckpoint → Result NamesView Refusal → Type 0
 TellsNames c (Ok names) = (are_names c ≡ true) × (names ≡ names_in c)
 TellsNames c (Err e) = (e ≡ Memory) ⊎ ((e ≡ BadLine) × (are_names c ≡ false))
+
+-- the views, the ends of the epochs and the inverses are about one state
+abbrev pub are_sound : PlainCheckpoint → Bool
+are_sound c =
+    list_all (λ (s : SettledEntry). is_view_given c s.settled.handle s.settled.view) c.settled && (are_ends c.ends c.epoch c.phase && (are_prepared c && has_upgrade c))
+
+-- what a checkpoint tells, with these replies
+abbrev pub told_with : PlainCheckpoint → fin.FinMap client_cmp KeptReply → Durable
+told_with c replies = record (durable_with c []) { replies = replies }
+
+abbrev pub if_it_goes : Durable → Option Durable
+if_it_goes d = if can_go_back d (all_taken_back d.inverses d.names) then Some d else None
+
+-- the same, if its lists are about one state, and its inverses can be undone
+unfoldable pub read_with : PlainCheckpoint → fin.FinMap client_cmp KeptReply → Option Durable
+read_with c replies = if is_whole c then if_it_goes (told_with c replies) else None
+
+-- what is recorded is what the checkpoint tells, exactly where it tells it, memory aside
+abbrev pub Reads : PlainCheckpoint → fin.FinMap client_cmp KeptReply → Result Recorded Refusal → Type 0
+Reads c replies (Ok r) = read_with c replies ≡ Some (durable_of r)
+Reads c replies (Err e) = (e ≡ Memory) ⊎ ((e ≡ BadLine) × (read_with c replies ≡ None))

@@ -23,6 +23,7 @@ mod known;
 mod letting_go;
 mod log;
 mod memory;
+mod opening;
 mod pending;
 mod plan;
 mod posting;
