@@ -1,5 +1,5 @@
 -- Whether the references of a checkpoint count the chunks of its tree.
-use Rattle.std.proofs.Common.{◌≡◌, ◌⊎◌, inl, inr, ◌+◌, ◌<◌, ◌==◌, ◌++◌, ◌&&◌, ◌||◌, ℕ, Bool, true, false, cond, List, [], ◌∷◌, map, refl, sym, ap, ◌∙◌, subst, arith, eq-eqb, Ordering}
+use Rattle.std.proofs.Common.{◌≡◌, inl, inr, ◌+◌, ◌<◌, ◌==◌, ◌&&◌, ◌||◌, ℕ, Bool, true, false, cond, List, [], ◌∷◌, refl, sym, ap, ◌∙◌, subst, arith, eq-eqb, Ordering}
 use Rattle.std.specs.Prelude.{Option, Some, None, is_some, is_none, unwrap_or, Result, Ok, Err}
 use Rattle.std.specs.Cmp.{eq_by_cmp_equiv, nat_cmp_total}
 use Rattle.std.specs.FinMap as fin
@@ -10,28 +10,27 @@ use Rattle.std.specs.declared.cmp.Ordering.TheVariants.{Less, Equal, Greater}
 use Rattle.std.proofs.lemmas.Bool.{false≢true, and_parts}
 use Rattle.std.proofs.lemmas.Bool.Decides.{nat_tests}
 use Rattle.gs_base.specs.declared.refusal.Refusal.{Refusal}
-use Rattle.gs_base.specs.declared.refusal.Refusal.TheVariants.{Memory, BadLine}
 use Rattle.gs_path.specs.Path.{Path, path_cmp, path_total}
 use Rattle.gs_refs.specs.Counts.{Counts, IsCountOf, count_or_zero, occurrences}
-use Rattle.gs_tree.specs.Build.{all_apart, is_part, is_short, is_tree, has_place, rooted_rows, rows_of_entries, Builds}
+use Rattle.gs_tree.specs.Build.{all_apart, is_short, is_tree, rooted_rows, rows_of_entries, Builds}
 use Rattle.gs_tree.specs.Chunks.{all_chunks, by_path}
 use Rattle.gs_tree.specs.Edits.{chunks_in, same_path}
-use Rattle.gs_tree.specs.Entry.{Entry, Dir}
+use Rattle.gs_tree.specs.Entry.{Entry}
 use Rattle.gs_tree.specs.Find.{Rows, at}
 use Rattle.gs_tree.specs.Plain.{Same}
 use Rattle.gs_tree.proofs.Depths.{paths_antisymmetric}
 use Rattle.gs_tree.proofs.Levels.{both_true, never, no_one, tail_none}
 use Rattle.gs_tree.proofs.Under.{at-by_path, by_path-sorted}
-use Rattle.gs_edit.specs.Names.{GivesNames, IsCounted}
+use Rattle.gs_edit.specs.Names.{GivesNames}
 use Rattle.gs_edit.specs.View.{NamesView, names_of}
 use Rattle.gs_edit.proofs.Applied.{same_tree}
 use Rattle.gs_edit.proofs.Occurring.{occurrences-append}
 use Rattle.gs_edit.proofs.References.{all_among, all_of, among, same-is}
-use Rattle.gs_record.specs.Plain.{PlainCheckpoint, plain_checkpoint}
+use Rattle.gs_record.specs.Plain.{plain_checkpoint}
 use Rattle.gs_record.specs.declared.checkpoint.Checkpoint.{Checkpoint}
 use Rattle.gs_record.specs.declared.checkpoint.Reference.{Reference}
 use Rattle.gs_master.specs.Checkpoints.{TellsNames, all_told, are_names, counts_in, is_told}
-use Rattle.gs_master.specs.Whole.{are_counts, names_in}
+use Rattle.gs_master.specs.Whole.{are_counts}
 use Rattle.gs_master.proofs.Takings.{rows_back_again}
 
 -- ---- the chunks of rows in another order

@@ -1,11 +1,9 @@
 -- What a checkpoint comes to.
-use Rattle.std.proofs.Common.{◌≡◌, ◌⊎◌, inl, inr, ◌&&◌, Bool, true, false, List, map, refl, sym, ap, ◌∙◌}
-use Rattle.std.specs.Prelude.{Option, Some, None, Result, Ok, Err, if◌then◌else◌}
-use Rattle.std.specs.List.{list_all}
+use Rattle.std.proofs.Common.{◌≡◌, inl, inr, ◌&&◌, Bool, true, false, List, refl, sym, ap, ◌∙◌}
+use Rattle.std.specs.Prelude.{Some, None, Err, if◌then◌else◌}
 use Rattle.std.specs.FinMap as fin
 use Rattle.std.specs.Ordering.{nat_cmp}
 use Rattle.gs_base.specs.declared.refusal.Refusal.{Refusal}
-use Rattle.gs_base.specs.declared.refusal.Refusal.TheVariants.{BadLine}
 use Rattle.gs_base.specs.declared.epoch.EpochEnd.{EpochEnd}
 use Rattle.gs_edit.specs.View.{NamesView}
 use Rattle.gs_record.specs.Plain.{PlainCheckpoint, PlainInverse}
@@ -13,13 +11,11 @@ use Rattle.gs_tree.specs.Build.{is_tree}
 use Rattle.gs_tree.specs.Chunks.{all_chunks}
 use Rattle.gs_master.specs.Checkpoints.{Reads, TellsNames, are_names, are_sound, if_it_goes, read_with, told_chunks, told_prepared, told_with}
 use Rattle.gs_master.specs.Durable.{Durable, Settled}
-use Rattle.gs_master.specs.Recorded.{durable_of}
 use Rattle.gs_master.specs.Replies.{client_cmp}
 use Rattle.gs_master.specs.Reversing.{all_taken_back}
 use Rattle.gs_master.specs.Undoing.{rows_of_nodes}
 use Rattle.gs_master.specs.Whole.{are_counts, are_settled, can_go_back, is_whole, names_in}
 use Rattle.gs_master.specs.declared.asking.Prepared.{Prepared}
-use Rattle.gs_master.specs.declared.recorded.Recorded.{Recorded}
 use Rattle.gs_master.specs.declared.reply.KeptReply.{KeptReply}
 
 abbrev Replies : Type 0

@@ -1,4 +1,4 @@
-use Rattle.std.proofs.Common.{ap, ◌∙◌}
+use Rattle.std.proofs.Common.{◌∙◌}
 use Rattle.gs_master.specs.Checkpoints.{have_views}
 use Rattle.gs_master.proofs.Readings.{views_settled}
 use Rattle.gs_master.proofs.reading.are_settled.Goals as goal
