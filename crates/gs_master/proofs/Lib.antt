@@ -7,6 +7,7 @@ pub mod Counters
 pub mod Deleted
 pub mod Edits
 pub mod Kept
+pub mod Lowered
 pub mod Mapping
 pub mod Nodes
 pub mod Opened

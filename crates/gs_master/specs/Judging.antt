@@ -1,9 +1,10 @@
 -- What the code judges of a call.
-use Rattle.std.specs.Prelude.{◌≡◌, ℕ, Bool, true, false, List, Option, Some, None, codes, if◌then◌else◌, refl}
+use Rattle.std.specs.Prelude.{◌≡◌, ℕ, List, [], ◌∷◌, Option, Some, None, codes, refl}
 use Rattle.std.specs.declared.cmp.Ordering.{Ordering}
 use Rattle.std.specs.declared.cmp.Ordering.TheVariants.{Less, Equal, Greater}
 use Rattle.std.specs.Cmp.Lexicographic.{slice_cmp}
 use Rattle.std.specs.Ordering.{nat_cmp}
+use Rattle.gs_path.specs.Path.{Path, path_text}
 use Rattle.gs_master.specs.Handling.{Numbered, New, Again, Older}
 use Rattle.gs_master.specs.declared.judging.Numbered.{Numbered as Judged_number}
 use Rattle.gs_master.specs.declared.judging.Numbered.TheVariants as numbers
@@ -16,12 +17,17 @@ numbered_of numbers.Older = Older
 -- the lower of two texts
 abbrev pub lower_text : List ℕ → Option (List ℕ) → List ℕ
 lower_text text None = text
-lower_text text (Some other) = if is_greater (slice_cmp nat_cmp other text) then text else other
+lower_text text (Some other) = lower_by (slice_cmp nat_cmp text other)
   where
-    is_greater : Ordering → Bool
-    is_greater Less = false
-    is_greater Equal = false
-    is_greater Greater = true
+    lower_by : Ordering → List ℕ
+    lower_by Less = text
+    lower_by Equal = other
+    lower_by Greater = other
+
+-- the lowest text of these paths, and another
+abbrev pub lower_each : List Path → Option (List ℕ) → Option (List ℕ)
+lower_each [] lowest = lowest
+lower_each (path ∷ paths) lowest = Some (lower_text (path_text path) (lower_each paths lowest))
 
 a_point_before_a_slash : lower_text (codes "/a/b") (Some (codes "/a.b")) ≡ codes "/a.b"
 a_point_before_a_slash = refl

@@ -9,7 +9,7 @@ ghost use Rattle.gs_record.specs.Plain.{plain};
 ghost use Rattle.gs_master.specs.Chunks.{asking_for, chunk_at};
 ghost use Rattle.gs_master.specs.State.{about, post, to_each};
 ghost use Rattle.gs_master.specs.declared.change.Change.TheVariants as changes;
-ghost use Rattle.gs_master.specs.Beginning.{begin_at, begin_plan, copy_plan, create_plan, members_at, next_stamp, waits_from_now, waits_on};
+ghost use Rattle.gs_master.specs.Beginning.{begin_at, begin_plan, copy_plan, create_plan, has_handle, has_versions, members_at, next_stamp, waits_from_now, waits_on};
 ghost use Rattle.gs_master.specs.Plans.{plan_of, state_of};
 ghost use Rattle.gs_master.specs.Recorded.{durable_of};
 ghost use Rattle.gs_master.specs.Working.{begin_pending};
@@ -191,6 +191,23 @@ impl Plan {
 }
 
 impl Recorded {
+    /// Whether so many versions are left.
+    pub fn has_versions(&self, many: u64) -> bool
+        ensures { result ≡ has_versions (durable_of self.now) many }
+    {
+        if self.next_version == 0 || many == 0 {
+            return many == 0;
+        }
+        many - 1 <= u64::MAX - self.next_version
+    }
+
+    /// Whether a handle is left.
+    pub fn has_handle(&self) -> bool
+        ensures { result ≡ has_handle (durable_of self.now) }
+    {
+        self.next_handle != 0
+    }
+
     /// The stamp of the view that is begun next.
     pub fn next_stamp(&self) -> Stamp
         ensures { result ≡ next_stamp (durable_of self.now) }

@@ -1,6 +1,7 @@
 // The tests of a call that come before its own.
-ghost use Rattle.std.specs.Prelude.{◌≡◌, option_map};
+ghost use Rattle.std.specs.Prelude.{◌≡◌, map, option_map};
 ghost use Rattle.std.specs.Option.{option_to_list};
+ghost use Rattle.gs_lock.specs.Locks.{stands_in_the_way};
 ghost use Rattle.gs_master.specs.Calls.{is_always_taken, is_any_hidden, is_work, ordered, reads_of_call};
 ghost use Rattle.gs_master.specs.Durable.{is_rolling};
 ghost use Rattle.gs_master.specs.Judging.{numbered_of};
@@ -83,6 +84,16 @@ fn read_by(call: &Call) -> Option<&Path>
 }
 
 impl<'a> Standing<'a> {
+    /// Whether a lock of another call is in the way of one that writes these paths.
+    pub fn is_in_the_way(&self, req: ReqId, call: &Call, writes: &[&Path]) -> bool
+        ensures { result ≡ stands_in_the_way (state_of self.entry.now).volatile.locks req (reads_of_call call.now) (map (λ path. path.now) writes.entry.now) }
+    {
+        match read_by(call) {
+            Some(path) => self.memory.locks.is_in_the_way(req, &[path], writes),
+            None => self.memory.locks.is_in_the_way(req, &[], writes),
+        }
+    }
+
     /// How a request's number stands to that of the last reply to its client.
     pub fn numbered(&self, req: ReqId) -> Numbered<'a>
         ensures { numbered_of result ≡ numbered (last_reply (state_of self.entry.now) req.client) req.number }

@@ -22,6 +22,7 @@ mod judging;
 mod known;
 mod letting_go;
 mod log;
+mod lowest;
 mod memory;
 mod opening;
 mod pending;
