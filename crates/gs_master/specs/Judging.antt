@@ -1,10 +1,11 @@
 -- What the code judges of a call.
-use Rattle.std.specs.Prelude.{◌≡◌, ℕ, List, [], ◌∷◌, Option, Some, None, codes, refl}
+use Rattle.std.specs.Prelude.{◌≡◌, ◌+◌, ℕ, List, [], ◌∷◌, Option, Some, None, is_none, cond, codes, refl}
 use Rattle.std.specs.declared.cmp.Ordering.{Ordering}
 use Rattle.std.specs.declared.cmp.Ordering.TheVariants.{Less, Equal, Greater}
 use Rattle.std.specs.Cmp.Lexicographic.{slice_cmp}
 use Rattle.std.specs.Ordering.{nat_cmp}
 use Rattle.gs_path.specs.Path.{Path, path_text}
+use Rattle.gs_tree.specs.Plain.{Plain}
 use Rattle.gs_master.specs.Handling.{Numbered, New, Again, Older}
 use Rattle.gs_master.specs.declared.judging.Numbered.{Numbered as Judged_number}
 use Rattle.gs_master.specs.declared.judging.Numbered.TheVariants as numbers
@@ -28,6 +29,11 @@ lower_text text (Some other) = lower_by (slice_cmp nat_cmp text other)
 abbrev pub lower_each : List Path → Option (List ℕ) → Option (List ℕ)
 lower_each [] lowest = lowest
 lower_each (path ∷ paths) lowest = Some (lower_text (path_text path) (lower_each paths lowest))
+
+-- of how many paths something stands at each before the first of which nothing does
+abbrev pub leading : Plain ℕ → List Path → ℕ
+leading m [] = 0
+leading m (path ∷ paths) = cond (is_none (m path)) 0 (leading m paths + 1)
 
 a_point_before_a_slash : lower_text (codes "/a/b") (Some (codes "/a.b")) ≡ codes "/a.b"
 a_point_before_a_slash = refl

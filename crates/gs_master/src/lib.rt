@@ -47,6 +47,7 @@ mod tracked;
 mod undo;
 mod upgrading;
 mod waiting;
+mod writing;
 
 pub use asking::{Asking, Prepared, Step};
 pub use change::Change;

@@ -35,7 +35,12 @@ fn unhidden_back(alloc: Global, path: &Path) -> Result<ListedInverse, AllocError
 }
 
 /// Where a rename puts what it moves: into the directory that stands at the target, or else at the target.
-fn target_of(alloc: Global, tree: &Tree, from: &Path, to: &Path) -> Result<Path, AllocError>
+pub(crate) fn target_of(
+    alloc: Global,
+    tree: &Tree,
+    from: &Path,
+    to: &Path,
+) -> Result<Path, AllocError>
     ensures { IfOk result (λ target. target ≡ target_of (fin.get tree.now) from.now to.now) }
 {
     let mut target = to.copy(alloc)?;
