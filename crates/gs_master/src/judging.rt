@@ -1,8 +1,8 @@
 // The tests of a call that come before its own.
-ghost use Rattle.std.specs.Prelude.{◌≡◌, map, option_map};
+ghost use Rattle.std.specs.Prelude.{◌≡◌, IfOk, map, option_map};
 ghost use Rattle.std.specs.Option.{option_to_list};
 ghost use Rattle.gs_lock.specs.Locks.{stands_in_the_way};
-ghost use Rattle.gs_master.specs.Calls.{is_always_taken, is_any_hidden, is_work, ordered, reads_of_call};
+ghost use Rattle.gs_master.specs.Calls.{is_always_taken, is_any_hidden, is_locked, is_work, ordered, reads_of_call, refused_before};
 ghost use Rattle.gs_master.specs.Durable.{is_rolling};
 ghost use Rattle.gs_master.specs.Judging.{numbered_of};
 ghost use Rattle.gs_master.specs.Handling.{numbered};
@@ -15,6 +15,7 @@ use gs_base::{Refusal, ReqId};
 use gs_msg::{Answer, Call};
 use gs_path::Path;
 use gs_record::Phase;
+use std::alloc::{AllocError, Global};
 
 /// How a request's number stands to that of the last reply to its client.
 pub(crate) enum Numbered<'a> {
@@ -83,7 +84,35 @@ fn read_by(call: &Call) -> Option<&Path>
     }
 }
 
+/// Where paths lie.
+fn borrowed<'p>(alloc: Global, paths: &'p [Path]) -> Result<Vec<&'p Path>, AllocError>
+    ensures { IfOk result (λ borrowed. map (λ path. path.now) borrowed.items ≡ paths.entry.now) }
+{
+    let mut borrowed = Vec::new(alloc);
+    for path in paths {
+        borrowed.push(path)?;
+    }
+    Ok(borrowed)
+}
+
 impl<'a> Standing<'a> {
+    /// Whether a lock of another call is in the way of a call.
+    pub fn is_locked(&self, req: ReqId, call: &Call) -> Result<bool, AllocError>
+        ensures { IfOk result (λ locked. locked ≡ is_locked (state_of self.entry.now) req call.now) }
+    {
+        let writes = self.recorded.writes_of_call(call)?;
+        let borrowed = borrowed(self.recorded.alloc, &writes)?;
+        Ok(self.is_in_the_way(req, call, &borrowed))
+    }
+
+    /// Why a call is refused before its own tests.
+    pub fn refused_before(&self, req: ReqId, call: &Call) -> Result<Option<Refusal>, AllocError>
+        ensures { IfOk result (λ refusal. refusal ≡ refused_before (state_of self.entry.now) req call.now) }
+    {
+        let is_locked = self.is_locked(req, call)?;
+        Ok(self.refused_where(call, is_locked))
+    }
+
     /// Whether a lock of another call is in the way of one that writes these paths.
     pub fn is_in_the_way(&self, req: ReqId, call: &Call, writes: &[&Path]) -> bool
         ensures { result ≡ stands_in_the_way (state_of self.entry.now).volatile.locks req (reads_of_call call.now) (map (λ path. path.now) writes.entry.now) }
