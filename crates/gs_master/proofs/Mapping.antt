@@ -1,37 +1,8 @@
--- What a loop has made of the items that it has passed.
-use Rattle.std.proofs.Common.{◌≡◌, ◌∙◌, ℕ, zero, suc, ◌+◌, ◌<◌, ◌≤◌, List, [], ◌∷◌, ◌++◌, length, map, take, take_all, get_or, add-one, ap, sym, arith, append_assoc, append-nil}
-use Rattle.std.proofs.Math.Seq.{take-suc}
+-- What is made of the items of a list.
+use Rattle.std.proofs.Common.{◌≡◌, ◌∙◌, ℕ, zero, suc, ◌+◌, List, [], ◌∷◌, ◌++◌, map, add-one, ap, sym, arith}
 use Rattle.std.proofs.lemmas.List.{map-append}
 use Rattle.std.specs.Prelude.{Option, Some, None, IfSome, Result, Ok, Err, IfOk}
-use Rattle.std.specs.List.{flat_map}
 use Rattle.gs_base.specs.Members.{count_from}
-
--- one item more, where the rest is still to come
-pub mapped_next : {A B : Type 0} (f : A → B) (done : List B) (item : A) (left rest : List A) (all : List B) → left ≡ item ∷ rest → done ++ map f left ≡ all → (done ++ f item ∷ []) ++ map f rest ≡ all
-mapped_next f done item left rest all is h = append_assoc done (f item ∷ []) (map f rest) ∙ ap (λ xs. done ++ map f xs) (sym is) ∙ h
-
-pub mapped_all : {A B : Type 0} (f : A → B) (done : List B) (left : List A) (all : List B) → left ≡ [] → done ++ map f left ≡ all → done ≡ all
-mapped_all f done left all none h = sym (append-nil done) ∙ ap (λ xs. done ++ map f xs) (sym none) ∙ h
-
--- one item more, that gives several
-pub flat_next : {A B : Type 0} (f : A → List B) (done more : List B) (item : A) (left rest : List A) (all : List B) → left ≡ item ∷ rest → f item ≡ more → done ++ flat_map f left ≡ all → (done ++ more) ++ flat_map f rest ≡ all
-flat_next f done more item left rest all is gives h =
-    append_assoc done more (flat_map f rest) ∙ ap (λ xs. done ++ (xs ++ flat_map f rest)) (sym gives) ∙ ap (λ xs. done ++ flat_map f xs) (sym is) ∙ h
-
-pub flat_none : {A B : Type 0} (f : A → List B) (done : List B) (item : A) (left rest : List A) (all : List B) → left ≡ item ∷ rest → f item ≡ [] → done ++ flat_map f left ≡ all → done ++ flat_map f rest ≡ all
-flat_none f done item left rest all is gives h = ap (λ xs. done ++ (xs ++ flat_map f rest)) (sym gives) ∙ ap (λ xs. done ++ flat_map f xs) (sym is) ∙ h
-
-pub flat_all : {A B : Type 0} (f : A → List B) (done : List B) (left : List A) (all : List B) → left ≡ [] → done ++ flat_map f left ≡ all → done ≡ all
-flat_all f done left all none h = sym (append-nil done) ∙ ap (λ xs. done ++ flat_map f xs) (sym none) ∙ h
-
--- by the place of the item
-pub mapped_at : {A B : Type 0} (f : A → B) (done : List B) (xs : List A) (i : ℕ) (x : A) → i < length xs → x ≡ get_or xs i x → done ≡ map f (take i xs) → done ++ f x ∷ [] ≡ map f (take (i + 1) xs)
-mapped_at f done xs i x below is h =
-    ap (λ ys. ys ++ f x ∷ []) h ∙ sym (map-append f (take i xs) (x ∷ []))
-    ∙ ap (map f) (sym (ap (λ k. take k xs) (add-one i) ∙ take-suc xs i x below ∙ ap (λ y. take i xs ++ y ∷ []) (sym is)))
-
-pub mapped_through : {A B : Type 0} (f : A → B) (done : List B) (xs : List A) (i : ℕ) → length xs ≤ i → done ≡ map f (take i xs) → done ≡ map f xs
-mapped_through f done xs i all h = h ∙ ap (map f) (take_all i xs all)
 
 -- ---- numbers
 

@@ -1,9 +1,9 @@
 -- Who is taken of those that have told, one server after the other.
-use Rattle.std.proofs.Common.{◌≡◌, ◌≢◌, ◌∙◌, ℕ, ◌+◌, ◌<◌, ◌≤◌, ◌==◌, Bool, true, false, ◌&&◌, ◌||◌, [], List, refl, ap, sym, subst, ⊎_elim, arith}
+use Rattle.std.proofs.Common.{◌≡◌, ◌≢◌, ◌∙◌, ℕ, ◌+◌, ◌≤◌, ◌==◌, Bool, true, false, ◌&&◌, ◌||◌, [], List, ap, sym, subst, ⊎_elim, arith}
 use Rattle.std.proofs.lemmas.Bool.{cases_eq}
 use Rattle.std.proofs.lemmas.Bool.Decides.{nat_tests}
 use Rattle.std.specs.Prelude.{nat_lt, if◌then◌else◌}
-use Rattle.gs_base.specs.Members.{servers_where, is_member, with_member}
+use Rattle.gs_base.specs.Members.{servers_where, with_member}
 use Rattle.gs_base.specs.MemberLaws.{same_servers, is_member-servers_where, servers_where-none}
 
 pub none_yet : (test : ℕ → Bool) → [] ≡ servers_where (λ s. nat_lt s 0 && test s)

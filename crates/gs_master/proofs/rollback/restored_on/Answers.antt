@@ -1,4 +1,4 @@
-use Rattle.std.proofs.Common.{◌≡◌, ◌∙◌, ℕ, Bool, ◌&&◌, ap, sym}
+use Rattle.std.proofs.Common.{◌∙◌, ◌&&◌, ap, sym}
 use Rattle.gs_base.specs.Members.{is_member}
 use Rattle.gs_master.specs.Applied.{is_prepared_on}
 use Rattle.gs_master.specs.Upgrades.{restored_on}
