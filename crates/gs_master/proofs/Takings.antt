@@ -39,8 +39,8 @@ use Rattle.gs_edit.specs.declared.listed.ListedInverse.TheVariants as lists
 use Rattle.gs_edit.proofs.Applied.{same_tree}
 use Rattle.gs_edit.proofs.Tables.{seen}
 use Rattle.gs_record.specs.Plain.{PlainInverse, plain_inverse, plain_node}
-use Rattle.gs_master.specs.Reversing.{TakesBackOne, LeadsBack, all_taken_back, is_of_one, taken_back}
-use Rattle.gs_master.specs.Undoing.{all_undone, planted, rows_of_nodes, seen_from, tree_undone, undone}
+use Rattle.gs_master.specs.Reversing.{TakesBackOne, GivesNamesBack}
+use Rattle.gs_master.specs.Undoing.{all_undone, is_of_one, planted, rows_of_nodes, seen_from, tree_undone, undone, undone_if_it_fits}
 use Rattle.gs_master.proofs.Blanks.{made_fits, made_holds}
 use Rattle.gs_master.proofs.Reversals.{IsTest, added_test, changed_test, copied_test, moved_test, removed_test, rows_in, tree_given, tree_refused}
 
@@ -139,10 +139,10 @@ same_lists (lists.Forget chunks) = refl
 
 -- what a list says, undone on names
 abbrev Takes : PlainInverse → NamesView → Result (Unit {0}) Refusal → NamesView → Type 0
-Takes inverse old (Ok _) new = undone inverse old ≡ Some new
-Takes inverse old (Err e) new = (e ≡ Memory) ⊎ ((e ≡ BadLine) × (undone inverse old ≡ None))
+Takes inverse old (Ok _) new = undone_if_it_fits inverse old ≡ Some new
+Takes inverse old (Err e) new = (e ≡ Memory) ⊎ ((e ≡ BadLine) × (undone_if_it_fits inverse old ≡ None))
 
-by_tree : (inverse : PlainInverse) (i : TreeInverse) (old new : NamesView) (r : Result (Unit {0}) Refusal) → undone inverse old ≡ tree_undone i old → TakesTree i old r new → Takes inverse old r new
+by_tree : (inverse : PlainInverse) (i : TreeInverse) (old new : NamesView) (r : Result (Unit {0}) Refusal) → undone_if_it_fits inverse old ≡ tree_undone i old → TakesTree i old r new → Takes inverse old r new
 by_tree inverse i old new (Ok _) is h = is ∙ h
 by_tree inverse i old new (Err e) is h = elim h [
   | inl memory ↦ inl memory
@@ -150,7 +150,6 @@ by_tree inverse i old new (Err e) is h = elim h [
 ]
 
 takes_list : (list : ListedInverse) (i : Inverse) (old new : NamesView) (r : Result (Unit {0}) Refusal) → is_listed list ≡ true → IsMadeOfList list i → Undoes i old r new → Takes (plain_inverse list) old r new
-unfolding undone
 takes_list (lists.Mkdirs paths) i old new r one is h =
     by_tree (plain_inverse (lists.Mkdirs paths)) (made_inverse paths.items) old new r refl (takes_tree (made_inverse paths.items) old new r (made_test paths.items old.tree) (subst (λ j. Undoes j old r new) is h))
 takes_list (lists.Create paths) i old new r one is h =
@@ -181,10 +180,11 @@ takes_list (lists.Forget chunks) i old new r one (kept, (is, same)) h = forget r
 
 -- where a list is one of an inverse
 pub takes_one : (list : ListedInverse) (i : Inverse) (old new : NamesView) (r : Result (Unit {0}) Refusal) → is_listed list ≡ true → IsMadeOfList list i → Undoes i old r new → TakesBackOne (plain_inverse list) old r new
+unfolding undone
 takes_one list i old new r one is h = each r (takes_list list i old new r one is h)
   where
-    same : taken_back (plain_inverse list) old ≡ undone (plain_inverse list) old
-    same = ap (λ b. if b then undone (plain_inverse list) old else None) (same_lists list ∙ one)
+    same : undone (plain_inverse list) old ≡ undone_if_it_fits (plain_inverse list) old
+    same = ap (λ b. if b then undone_if_it_fits (plain_inverse list) old else None) (same_lists list ∙ one)
 
     each : (r : Result (Unit {0}) Refusal) → Takes (plain_inverse list) old r new → TakesBackOne (plain_inverse list) old r new
     each (Ok _) k = same ∙ k
@@ -194,10 +194,11 @@ takes_one list i old new r one is h = each r (takes_list list i old new r one is
     ]
 
 -- and where it is of none
-pub takes_none : (list : ListedInverse) (old : NamesView) → is_listed list ≡ false → taken_back (plain_inverse list) old ≡ None
-takes_none list old none = ap (λ b. if b then undone (plain_inverse list) old else None) (same_lists list ∙ none)
+pub takes_none : (list : ListedInverse) (old : NamesView) → is_listed list ≡ false → undone (plain_inverse list) old ≡ None
+unfolding undone
+takes_none list old none = ap (λ b. if b then undone_if_it_fits (plain_inverse list) old else None) (same_lists list ∙ none)
 
-pub refused_list : (list : ListedInverse) (old : NamesView) (e : Refusal) → GivesInverse list (Err e) → (e ≡ Memory) ⊎ ((e ≡ BadLine) × (taken_back (plain_inverse list) old ≡ None))
+pub refused_list : (list : ListedInverse) (old : NamesView) (e : Refusal) → GivesInverse list (Err e) → (e ≡ Memory) ⊎ ((e ≡ BadLine) × (undone (plain_inverse list) old ≡ None))
 refused_list list old e (inl memory) = inl memory.0
 refused_list list old e (inr b) = inr (b.0, takes_none list old b.1)
 
@@ -207,7 +208,7 @@ drop_here : (xs : List ListedInverse) (i : ℕ) (x : ListedInverse) → i < leng
 drop_here xs i x h at = rw (add-one, drop-cons xs i x h) (ap (λ y. y ∷ drop (suc i) xs) (sym at))
 
 abbrev pub back_to : List ListedInverse → NamesView → Option NamesView
-back_to inverses names = all_taken_back (map plain_inverse inverses) names
+back_to inverses names = all_undone (map plain_inverse inverses) names
 
 pub back_none : (inverses : List ListedInverse) (left : ℕ) (names : NamesView) → length inverses ≤ left → back_to (drop left inverses) names ≡ Some names
 back_none inverses left names h = ap (λ l. back_to l names) (drop_all left inverses h)
@@ -216,8 +217,8 @@ pub back_all : (inverses : List ListedInverse) (left : ℕ) (names before : Name
 back_all inverses left names before is h = ap (λ n. back_to (drop n inverses) names) (sym is) ∙ h
 
 -- one inverse more
-back_more : (inverses : List ListedInverse) (left : ℕ) (x : ListedInverse) (names mid : NamesView) → left < length inverses → x ≡ get_or inverses left x → back_to (drop (left + 1) inverses) names ≡ Some mid → back_to (drop left inverses) names ≡ taken_back (plain_inverse x) mid
-back_more inverses left x names mid h at is = ap (λ l. back_to l names) (drop_here inverses left x h at) ∙ ap (option_and_then (taken_back (plain_inverse x))) is
+back_more : (inverses : List ListedInverse) (left : ℕ) (x : ListedInverse) (names mid : NamesView) → left < length inverses → x ≡ get_or inverses left x → back_to (drop (left + 1) inverses) names ≡ Some mid → back_to (drop left inverses) names ≡ undone (plain_inverse x) mid
+back_more inverses left x names mid h at is = ap (λ l. back_to l names) (drop_here inverses left x h at) ∙ ap (option_and_then (undone (plain_inverse x))) is
 
 pub back_given : (inverses : List ListedInverse) (before left : ℕ) (x : ListedInverse) (names mid new : NamesView) → left < length inverses → before ≡ left + 1 → x ≡ get_or inverses left x → back_to (drop before inverses) names ≡ Some mid → TakesBackOne (plain_inverse x) mid (Ok tt) new
     → back_to (drop left inverses) names ≡ Some new
@@ -226,23 +227,11 @@ back_given inverses before left x names mid new h one at is takes = back_more in
 none_further : (left : ℕ) (inverses : List ListedInverse) (names : NamesView) → back_to (drop left inverses) names ≡ None → back_to inverses names ≡ None
 none_further zero inverses names none = none
 none_further (suc left) [] names none = none
-none_further (suc left) (inverse ∷ inverses) names none = ap (option_and_then (taken_back (plain_inverse inverse))) (none_further left inverses names none)
+none_further (suc left) (inverse ∷ inverses) names none = ap (option_and_then (undone (plain_inverse inverse))) (none_further left inverses names none)
 
 pub back_refused : (inverses : List ListedInverse) (before left : ℕ) (x : ListedInverse) (names mid new : NamesView) (e : Refusal) → left < length inverses → before ≡ left + 1 → x ≡ get_or inverses left x → back_to (drop before inverses) names ≡ Some mid
-    → TakesBackOne (plain_inverse x) mid (Err e) new → LeadsBack (map plain_inverse inverses) names (Err e)
+    → TakesBackOne (plain_inverse x) mid (Err e) new → GivesNamesBack (map plain_inverse inverses) names (Err e)
 back_refused inverses before left x names mid new e h one at is takes = elim takes [
   | inl memory ↦ inl memory
   | inr b ↦ inr (b.0, none_further left inverses names (back_more inverses left x names mid h at (ap (λ n. back_to (drop n inverses) names) (sym one) ∙ is) ∙ b.1))
 ]
-
-pub only_lists : (all : List PlainInverse) (names before : NamesView) → all_taken_back all names ≡ Some before → all_undone all names ≡ Some before
-only_lists [] names before h = h
-only_lists (inverse ∷ all) names before h = each (all_taken_back all names) (only_lists all names) h
-  where
-    one : (b : Bool) (o : Option NamesView) → (if b then o else None) ≡ Some before → o ≡ Some before
-    one true o k = k
-    one false o k = absurd (false≢true (ap is_some k))
-
-    each : (o : Option NamesView) → ((mid : NamesView) → o ≡ Some mid → all_undone all names ≡ Some mid) → option_and_then (taken_back inverse) o ≡ Some before → option_and_then (undone inverse) (all_undone all names) ≡ Some before
-    each None rest k = absurd (false≢true (ap is_some k))
-    each (Some mid) rest k = ap (option_and_then (undone inverse)) (rest mid refl) ∙ one (is_of_one inverse) (undone inverse mid) k

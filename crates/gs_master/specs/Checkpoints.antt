@@ -13,7 +13,7 @@ use Rattle.gs_refs.specs.Counts.{Counts}
 use Rattle.gs_tree.specs.Build.{is_tree}
 use Rattle.gs_tree.specs.Chunks.{all_chunks}
 use Rattle.gs_master.specs.Undoing.{rows_of_nodes}
-use Rattle.gs_master.specs.Whole.{are_counts, are_ends, are_prepared, can_go_back, durable_with, has_upgrade, is_view_given, is_whole, names_in}
+use Rattle.gs_master.specs.Whole.{are_counts, are_ends, are_prepared, durable_with, has_upgrade, if_it_can, is_view_given, is_whole, names_in}
 use Rattle.gs_lease.specs.declared.lease.Lease.{Lease}
 use Rattle.gs_lease.specs.declared.view.View.{View}
 use Rattle.gs_record.specs.declared.checkpoint.PreparedView.{PreparedView}
@@ -21,7 +21,6 @@ use Rattle.gs_record.specs.declared.checkpoint.SettledEntry.{SettledEntry}
 use Rattle.gs_master.specs.Durable.{Durable, Settled}
 use Rattle.gs_master.specs.Recorded.{durable_of, settled_by}
 use Rattle.gs_master.specs.Replies.{client_cmp}
-use Rattle.gs_master.specs.Reversing.{all_taken_back}
 use Rattle.gs_master.specs.declared.asking.Prepared.{Prepared}
 use Rattle.gs_master.specs.declared.recorded.Recorded.{Recorded}
 use Rattle.gs_master.specs.declared.reply.KeptReply.{KeptReply}
@@ -77,12 +76,9 @@ are_sound c =
 abbrev pub told_with : PlainCheckpoint → fin.FinMap client_cmp KeptReply → Durable
 told_with c replies = record (durable_with c []) { replies = replies }
 
-abbrev pub if_it_goes : Durable → Option Durable
-if_it_goes d = if can_go_back d (all_taken_back d.inverses d.names) then Some d else None
-
 -- the same, if its lists are about one state, and its inverses can be undone
 unfoldable pub read_with : PlainCheckpoint → fin.FinMap client_cmp KeptReply → Option Durable
-read_with c replies = if is_whole c then if_it_goes (told_with c replies) else None
+read_with c replies = if is_whole c then if_it_can (told_with c replies) else None
 
 -- what is recorded is what the checkpoint tells, exactly where it tells it, memory aside
 abbrev pub Reads : PlainCheckpoint → fin.FinMap client_cmp KeptReply → Result Recorded Refusal → Type 0

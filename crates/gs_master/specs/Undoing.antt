@@ -12,7 +12,7 @@ use Rattle.gs_tree.specs.Plain.{after}
 use Rattle.gs_tree.specs.Find.{Rows, at}
 use Rattle.gs_tree.specs.Edits.{same_path, parent, is_dir, stood, target_of, hidden_path, old_name, chunks_in}
 use Rattle.gs_tree.specs.Chunks.{rows_under}
-use Rattle.gs_tree.specs.Lists.{made_paths, made_inverse, top_path}
+use Rattle.gs_tree.specs.Lists.{made_paths, made_inverse, top_path, is_made, is_removed}
 use Rattle.gs_tree.specs.Inverses.{after_undo, first_made}
 use Rattle.gs_tree.specs.declared.inverse.TreeInverse.{TreeInverse}
 use Rattle.gs_tree.specs.declared.inverse.TreeInverse.TheVariants.{Made, Moved, Removed, Added, Changed, Copied}
@@ -143,9 +143,26 @@ part_undone (UndoForget chunks) part names = option_map (names_of names.tree) (a
 part_undone inverse None names = None
 part_undone inverse (Some part) names = tree_undone part names
 
--- the names once an inverse is undone, if it fits them
+-- A list is one of an inverse: the paths that an edit makes are each the parent of the next, and what a removal takes out is a
+-- first entry and what stands below its path.
+abbrev pub is_of_one : PlainInverse → Bool
+is_of_one (UndoMkdirs paths) = is_made paths
+is_of_one (UndoCreate paths) = is_made paths
+is_of_one (UndoRename now before) = true
+is_of_one (UndoHide now before) = true
+is_of_one (UndoUnhide now before) = true
+is_of_one (UndoRemove nodes) = is_removed (rows_of_nodes nodes)
+is_of_one (UndoAddChunk p) = true
+is_of_one (UndoCow p index old) = true
+is_of_one (UndoSnapshot p) = true
+is_of_one (UndoForget chunks) = true
+
+abbrev pub undone_if_it_fits : PlainInverse → NamesView → Option NamesView
+undone_if_it_fits inverse names = part_undone inverse (tree_part inverse) names
+
+-- the names once an inverse is undone, if it is one and fits them
 unfoldable pub undone : PlainInverse → NamesView → Option NamesView
-undone inverse names = part_undone inverse (tree_part inverse) names
+undone inverse names = if is_of_one inverse then undone_if_it_fits inverse names else None
 
 -- the last inverse first
 abbrev pub all_undone : List PlainInverse → NamesView → Option NamesView
@@ -213,3 +230,11 @@ back_from_made = refl
 
 back_from_added : rows_back (Added f) some_rows ≡ ([], Dir) ∷ (a, Dir) ∷ (f, File (7 ∷ [])) ∷ (g, File []) ∷ []
 back_from_added = refl
+
+-- /c/d doesn't stand in /a
+no_edit_makes_these : is_of_one (UndoMkdirs ((codes "a" ∷ []) ∷ (codes "c" ∷ codes "d" ∷ []) ∷ [])) ≡ false
+no_edit_makes_these = refl
+
+-- nothing stood at /a/b
+no_removal_takes_these_out : is_of_one (UndoRemove ((codes "a" ∷ [], None) ∷ (codes "a" ∷ codes "b" ∷ codes "c" ∷ [], None) ∷ [])) ≡ false
+no_removal_takes_these_out = refl

@@ -1,9 +1,7 @@
 // The names to which the inverses lead.
-ghost use Rattle.std.specs.Prelude.{◌≡◌, IfOk, Some};
 ghost use Rattle.gs_record.specs.Plain.{plain_inverse};
 ghost use Rattle.gs_master.specs.Recorded.{durable_of};
-ghost use Rattle.gs_master.specs.Reversing.{LeadsBack, TakesBackOne};
-ghost use Rattle.gs_master.specs.Undoing.{all_undone};
+ghost use Rattle.gs_master.specs.Reversing.{GivesNamesBack, TakesBackOne};
 
 use crate::recorded::Recorded;
 use gs_base::Refusal;
@@ -25,8 +23,7 @@ impl Recorded {
     /// The names once all edits since prepare are taken back, the last first. BadLine where one of the inverses is none, or
     /// doesn't fit the names that the later ones lead to. It copies the names.
     pub fn names_back(&self) -> Result<Names, Refusal>
-        ensures exact { LeadsBack (durable_of self.now).inverses (durable_of self.now).names result }
-        ensures undone { IfOk result (λ names. all_undone (durable_of self.now).inverses (durable_of self.now).names ≡ Some names) }
+        ensures { GivesNamesBack (durable_of self.now).inverses (durable_of self.now).names result }
     {
         let mut names = self.names.copy()?;
         let mut left = self.inverses.len();

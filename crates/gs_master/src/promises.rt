@@ -1,6 +1,12 @@
 //! What holds of every master.
 
-ghost use Rattle.gs_record.specs.Plain.{PlainEntry};
+ghost use Rattle.std.specs.Prelude.{◌≡◌, List, None, Some};
+ghost use Rattle.std.specs.FinMap as fin;
+ghost use Rattle.gs_base.specs.declared.numbers.ClientId.{ClientId};
+ghost use Rattle.gs_record.specs.Plain.{PlainCheckpoint, PlainEntry};
+ghost use Rattle.gs_master.specs.Checkpoints.{read_with};
+ghost use Rattle.gs_master.specs.Whole.{told_replies, whole_of};
+ghost use Rattle.gs_master.specs.declared.reply.KeptReply.{KeptReply};
 ghost use Rattle.gs_master.specs.Recorded.{SayAlone};
 ghost use Rattle.gs_master.specs.Promises.{BeginsWithAll, EditsAsTold, KeepsGiven, KeepsPrepared, MadeOfTheMost, NothingAtTicks, NothingWhileRolling, PreparesByOneRecord, RefusedLeavesNames, TellsCounters};
 
@@ -55,4 +61,11 @@ pub fn prepared_views_stay()
 /// What takes a deletion, a return, a chunk that is added or changed, a copy or what is forgotten back is said by the edit alone.
 pub fn some_edits_say_what_takes_them_back()
     ensures { SayAlone }
+{}
+
+/// What is read from a checkpoint with the replies that it tells is what it says, and one whose replies tell nothing says
+/// nothing.
+pub fn a_checkpoint_is_read_with_its_replies()
+    ensures told { (c : PlainCheckpoint) (replies : List (ClientId × KeptReply)) → told_replies c.replies ≡ Some replies → whole_of c ≡ read_with c (fin.from_entries replies) }
+    ensures none { (c : PlainCheckpoint) → told_replies c.replies ≡ None → whole_of c ≡ None }
 {}

@@ -7,7 +7,7 @@ ghost use Rattle.gs_table.specs.Slots.{live};
 ghost use Rattle.gs_master.specs.Checkpoints.{have_views, lease_of, told_chunks, told_prepared};
 ghost use Rattle.gs_master.specs.Durable.{prepared_view};
 ghost use Rattle.gs_master.specs.Recorded.{chunks_of, durable_of};
-ghost use Rattle.gs_master.specs.Reversing.{all_taken_back};
+ghost use Rattle.gs_master.specs.Undoing.{all_undone};
 ghost use Rattle.gs_master.specs.Whole.{are_all_prepared, are_settled, can_go_back};
 
 use crate::asking::Prepared;
@@ -120,7 +120,7 @@ impl Recorded {
     /// Whether a rollback could be done: the inverses lead back, nothing is hidden twice, now or then, and while an upgrade
     /// stands each chunk of the names then has a prepared view.
     pub fn can_go_back(&self) -> Result<bool, AllocError>
-        ensures { IfOk result (λ can. can ≡ can_go_back (durable_of self.now) (all_taken_back (durable_of self.now).inverses (durable_of self.now).names)) }
+        ensures { IfOk result (λ can. can ≡ can_go_back (durable_of self.now) (all_undone (durable_of self.now).inverses (durable_of self.now).names)) }
     {
         let before = match self.names_back() {
             Ok(before) => before,

@@ -1,10 +1,9 @@
-use Rattle.std.proofs.Common.{◌≡◌, ◌+◌, ◌-◌, ◌<◌, map, length, arith, rules}
-use Rattle.gs_record.specs.Plain.{plain_inverse}
-use Rattle.gs_master.proofs.Takings.{back_all, back_refused, only_lists}
+use Rattle.std.proofs.Common.{◌≡◌, ◌+◌, ◌-◌, ◌<◌, length, arith, rules}
+use Rattle.gs_master.proofs.Takings.{back_all, back_refused}
 use Rattle.gs_master.proofs.recorded.Recorded.names_back.Goals as goal
 
-pub returns-in-Err-clause-exact : goal.returns-in-Err-clause-exact
-returns-in-Err-clause-exact c =
+pub returns-in-Err : goal.returns-in-Err
+returns-in-Err c =
     let inverses = c.args.self.now.inverses.items in
     let left = c.loop-left.left in
     let some = c.loop-left-test.true in
@@ -13,9 +12,9 @@ returns-in-Err-clause-exact c =
     let one : left ≡ (left - 1) + 1 = omega arith in
     back_refused inverses left (left - 1) c.index.result.now c.args.self.now.names c.loop-left.names c.take_back.new.names c.in-Err.refusal here one (search rules) c.loop-left.invariant.back c.in-Err.ensures
 
-pub returns-clause-undone : goal.returns-clause-undone
-returns-clause-undone c =
+pub returns : goal.returns
+returns c =
     let inverses = c.args.self.now.inverses.items in
     let left = c.loop-left.left in
     let none : left ≡ 0 = omega arith in
-    only_lists (map plain_inverse inverses) c.args.self.now.names c.loop-left.names (back_all inverses left c.args.self.now.names c.loop-left.names none c.loop-left.invariant.back)
+    back_all inverses left c.args.self.now.names c.loop-left.names none c.loop-left.invariant.back
