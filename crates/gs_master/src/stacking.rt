@@ -1,6 +1,5 @@
 // The records of an event, entered one after the other and taken back together.
-ghost use Rattle.std.specs.FinMap as fin;
-ghost use Rattle.std.specs.Prelude.{None, ◌≡◌, ◌<◌, true, false, vec_len, vec_capacity};
+ghost use Rattle.std.specs.Prelude.{◌≡◌, ◌<◌, true, false, vec_len, vec_capacity};
 ghost use Rattle.std.specs.Ordering.{nat_cmp};
 ghost use Rattle.gs_record.specs.Plain.{plain};
 ghost use Rattle.gs_table.specs.Slots.{live};
@@ -11,7 +10,7 @@ ghost use Rattle.gs_master.specs.TakingBack.{Enters, IsRefused, IsToldFor, RoomF
 use crate::entering_edit::push_within;
 use crate::recorded::Recorded;
 use crate::undo::Undo;
-use gs_base::{Handle, Refusal};
+use gs_base::Refusal;
 use gs_edit::ListedInverse;
 use gs_record::Entry;
 
@@ -51,17 +50,6 @@ impl Recorded {
         }
     }
 
-    /// A chunk that stands nowhere gives up its lease's room.
-    fn give_up_room(&mut self, chunk: Handle)
-        ensures value { durable_of self.new ≡ durable_of self.old }
-        ensures leases { live nat_cmp self.new.leases ≡ live nat_cmp self.old.leases }
-        ensures room { fin.get (live nat_cmp self.old.leases) chunk ≡ None → fin.find nat_cmp chunk self.new.leases ≡ None }
-    {
-        if self.leases.get(chunk).is_none() {
-            let _nothing = self.leases.remove(chunk);
-        }
-    }
-
     /// The records of an event stand, and are taken back no more. The chunks that they forgot give up the room of their
     /// leases.
     pub fn let_go(&mut self, undo: Undo)
@@ -72,7 +60,7 @@ impl Recorded {
             return;
         };
         for stood in &before.forgotten {
-            self.give_up_room(stood.chunk);
+            self.leases.release(stood.chunk);
         }
     }
 }

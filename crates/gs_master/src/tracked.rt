@@ -1,5 +1,6 @@
 // What is kept in memory alone while an event lasts, with what takes each change of it back.
-ghost use Rattle.std.specs.Prelude.{◌≡◌, OnOk, true, false, []};
+ghost use Rattle.std.specs.Prelude.{◌≡◌, OnOk, is_some, true, false, []};
+ghost use Rattle.std.specs.FinMap as fin;
 ghost use Rattle.std.specs.Ordering.{nat_cmp};
 ghost use Rattle.gs_table.specs.Slots.{HasRoom};
 ghost use Rattle.gs_master.specs.Memories.{volatile_of, is_small, KeepsRooms};
@@ -182,12 +183,23 @@ impl Tracked {
         Ok(())
     }
 
+    /// Whether something is asked for a chunk.
+    fn is_asked(&self, chunk: Handle) -> bool
+        ensures { result ≡ is_some (fin.get self.now.now.moving chunk) }
+    {
+        self.memory.asking(chunk).is_some()
+    }
+
     /// Asks nothing for a chunk any more.
+    #[tactic(auto, using(crate::proofs::Tracking::not_asked))]
     fn settle(&mut self, chunk: Handle) -> Result<(), AllocError>
         ensures now { OnOk result (self.new.now ≡ changed self.old.now (changes.Settled chunk)) }
         ensures before { self.new.before ≡ self.old.before }
         ensures calls { self.new.keeps_calls ≡ self.old.keeps_calls }
     {
+        if !self.is_asked(chunk) {
+            return Ok(());
+        }
         self.memory.moving.reserve(chunk)?;
         self.touched.reserve(1)?;
         let asked = self.memory.moving.take(chunk);
