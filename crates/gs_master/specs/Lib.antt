@@ -5,6 +5,7 @@ pub mod Checkpoints
 pub mod Chunks
 pub mod Codes
 pub mod Durable
+pub mod Events
 pub mod Handling
 pub mod Hearing
 pub mod Judging

@@ -12,6 +12,7 @@ mod copying;
 mod editing;
 mod entering;
 mod entering_edit;
+mod event;
 mod fault;
 mod finding;
 mod going_back;

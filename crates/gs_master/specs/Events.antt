@@ -1,0 +1,52 @@
+-- What a step of an event makes of the master that has it under way, and what takes all of it back.
+use Rattle.std.specs.Prelude.{◌≡◌, ◌⊎◌, ◌+◌, ◌++◌, ◌∷◌, [], ℕ, Bool, false, List, Option, Some, None, Result, Ok, Err, fold, map, refl}
+use Rattle.std.specs.List.{AllByRecursion}
+use Rattle.std.specs.Ordering.{nat_cmp}
+use Rattle.gs_base.specs.declared.refusal.Refusal.{Refusal}
+use Rattle.gs_base.specs.declared.refusal.Refusal.TheVariants as refusals
+use Rattle.gs_journal.specs.declared.version.Version.TheVariants.{Two}
+use Rattle.gs_record.specs.Encoding.{encoded}
+use Rattle.gs_record.specs.Plain.{PlainEntry, Prepare}
+use Rattle.gs_record.specs.Writable.{IsEntry}
+use Rattle.gs_table.specs.Slots.{live}
+use Rattle.gs_master.specs.Applied.{applied}
+use Rattle.gs_master.specs.Plans.{log_of}
+use Rattle.gs_master.specs.Recorded.{durable_of}
+use Rattle.gs_master.specs.State.{Log, fits, size_of}
+use Rattle.gs_master.specs.TakingBack.{StillTakeBack, all_leases_before}
+use Rattle.gs_master.specs.declared.event.Event.{Event}
+
+-- the journal with a record more
+abbrev pub log_behind : Log → PlainEntry → Log
+log_behind log entry = record log { records = log.records + 1; size = log.size + size_of entry }
+
+-- a record is applied, and is to be written behind the others
+pub record IsEntered (entry : PlainEntry) (old new : Event) : Type 0 where
+  pub applied : applied (durable_of old.recorded) entry ≡ Some (durable_of new.recorded)
+  pub written : new.written.items ≡ old.written.items ++ encoded Two entry ∷ []
+  pub is_entry : IsEntry Two entry
+  pub log : log_of new.log ≡ log_behind (log_of old.log) entry
+
+-- it doesn't fit what it meets, or can't be written
+abbrev pub IsUnfit : PlainEntry → Event → Type 0
+IsUnfit entry old = (applied (durable_of old.recorded) entry ≡ None) ⊎ ¬ IsEntry Two entry
+
+-- Full exactly where it has no room, BadLine only where it is unfit, and else memory is wanting
+abbrev pub WhyNot : PlainEntry → Event → Refusal → Type 0
+WhyNot entry old e =
+    (e ≡ refusals.Memory) ⊎ (((e ≡ refusals.Full) × (fits (log_of old.log) (entry ∷ []) ≡ false)) ⊎ ((e ≡ refusals.BadLine) × IsUnfit entry old))
+
+abbrev pub Enters : PlainEntry → Event → Result (Unit {0}) Refusal → Event → Type 0
+Enters entry old (Ok _) new = IsEntered entry old new
+Enters entry old (Err e) new = WhyNot entry old e
+
+-- what all that was done led back to, it leads back to still
+pub record KeepsBack (old new : Event) : Type 0 where
+  pub back : StillTakeBack old.undos.items (durable_of old.recorded) new.undos.items (durable_of new.recorded)
+  pub leases : all_leases_before new.undos.items (live nat_cmp new.recorded.leases) ≡ all_leases_before old.undos.items (live nat_cmp old.recorded.leases)
+  pub memory : new.memory.before ≡ old.memory.before
+
+-- ---- examples
+
+one_record_more : log_behind (record { records = 3; size = 76; limit = 200; generation = 1 }) (Prepare 1 0 0) ≡ record { records = 4; size = 102; limit = 200; generation = 1 }
+one_record_more = refl
