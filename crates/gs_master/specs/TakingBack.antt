@@ -167,7 +167,7 @@ RoomForAll r (undo ∷ undos) = RoomBack r undo × RoomForAll r undos
 
 -- ---- entering a record
 
--- a record that is the only one of its event
+-- a record that isn't entered with others: a call of its own applies it
 abbrev pub comes_alone : PlainEntry → Bool
 comes_alone (Edited by edit) = false
 comes_alone (Said to refusal) = false

@@ -49,7 +49,7 @@ pub(crate) fn enter_reply(
     })
 }
 
-/// Whether a record is the only one of its event.
+/// Whether a record isn't entered with others: a call of its own applies it.
 fn comes_alone(entry: &Entry) -> bool
     ensures { result ≡ comes_alone (plain entry.now) }
 {

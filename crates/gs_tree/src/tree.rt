@@ -272,7 +272,7 @@ impl Tree {
         }
     }
 
-    /// The same in the order of the bytes of the paths' texts, so that `/a.b` stands between `/a` and `/a/b`. It takes the
+    /// What stands, in the order of the bytes of the paths' texts, so that `/a.b` stands between `/a` and `/a/b`. It takes the
     /// memory of the texts beside that of the entries.
     pub fn entries_by_text(&self, alloc: Global) -> Result<Vec<TreeEntry>, AllocError>
         ensures rows { IfOk result (λ listed. IsPermutation (below_root (fin_map.entries self.now)) (rows_of_entries listed.items)) }
