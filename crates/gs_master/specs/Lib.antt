@@ -24,6 +24,7 @@ pub mod State
 pub mod TakingBack
 pub mod Texts
 pub mod Tracked
+pub mod Turns
 pub mod Undoing
 pub mod Upgrades
 pub mod Volatile
