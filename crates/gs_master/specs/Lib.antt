@@ -18,6 +18,7 @@ pub mod Promises
 pub mod Recorded
 pub mod Replies
 pub mod Reversing
+pub mod Room
 pub mod Sane
 pub mod Settling
 pub mod State

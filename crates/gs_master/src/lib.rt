@@ -4,6 +4,7 @@
 mod answering;
 mod asking;
 mod beginning;
+mod carrying;
 mod change;
 mod changing;
 mod checking;
@@ -37,6 +38,7 @@ mod reply;
 mod restoring;
 mod reverting;
 mod rollback;
+mod room;
 mod scanning;
 mod settling;
 mod stacking;
