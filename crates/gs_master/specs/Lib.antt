@@ -21,6 +21,7 @@ pub mod Reversing
 pub mod Room
 pub mod Sane
 pub mod Settling
+pub mod StartingOver
 pub mod State
 pub mod TakingBack
 pub mod Texts

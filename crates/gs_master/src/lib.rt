@@ -43,6 +43,7 @@ mod scanning;
 mod settling;
 mod stacking;
 mod standing;
+mod starting_over;
 mod taking_back;
 mod telling;
 mod texts;
