@@ -6,6 +6,7 @@ pub mod Counted
 pub mod Counters
 pub mod Deleted
 pub mod Edits
+pub mod Entered
 pub mod Fronts
 pub mod Kept
 pub mod Lowered

@@ -1,5 +1,5 @@
 -- What a step of an event makes of the master that has it under way, and what takes all of it back.
-use Rattle.std.specs.Prelude.{◌≡◌, ◌⊎◌, ◌+◌, ◌++◌, ◌∷◌, [], ℕ, Bool, false, List, Option, Some, None, Result, Ok, Err, fold, map, refl}
+use Rattle.std.specs.Prelude.{◌≡◌, ◌⊎◌, ◌+◌, ◌++◌, ◌∷◌, [], ℕ, Bool, true, false, List, Option, Some, None, Result, Ok, Err, fold, map, refl}
 use Rattle.std.specs.List.{AllByRecursion}
 use Rattle.std.specs.Ordering.{nat_cmp}
 use Rattle.gs_base.specs.declared.refusal.Refusal.{Refusal}
@@ -25,6 +25,7 @@ pub record IsEntered (entry : PlainEntry) (old new : Event) : Type 0 where
   pub applied : applied (durable_of old.recorded) entry ≡ Some (durable_of new.recorded)
   pub written : new.written.items ≡ old.written.items ++ encoded Two entry ∷ []
   pub is_entry : IsEntry Two entry
+  pub room : fits (log_of old.log) (entry ∷ []) ≡ true
   pub log : log_of new.log ≡ log_behind (log_of old.log) entry
 
 -- it doesn't fit what it meets, or can't be written
