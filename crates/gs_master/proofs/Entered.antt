@@ -6,8 +6,7 @@ use Rattle.std.specs.Prelude.{map, fold, option_and_then, Some, None, Result, Ok
 use Rattle.std.specs.List.{AllByRecursion}
 use Rattle.gs_base.specs.declared.refusal.Refusal.{Refusal}
 use Rattle.gs_journal.specs.declared.version.Version.TheVariants.{Two}
-use Rattle.gs_record.specs.Encoding.{encoded}
-use Rattle.gs_record.specs.Plain.{PlainEntry}
+use Rattle.gs_record.specs.Plain.{PlainEntry, plain}
 use Rattle.gs_master.specs.Applied.{applied, replayed}
 use Rattle.gs_master.specs.Durable.{Durable}
 use Rattle.gs_master.specs.Events.{IsEntered, IsUnfit, WhyNot, log_behind}
@@ -54,7 +53,7 @@ applied_first : (d : Durable) (x : PlainEntry) (xs : List PlainEntry) (next : Du
 applied_first d x xs next is = ap (option_and_then (λ d. replayed d xs)) is
 
 pub enters_none : (e : Event) → AreEntered [] e e
-enters_none e = record { replays = refl; are_entries = tt; room = inl refl; written = sym (append-nil _); log = refl }
+enters_none e = record { replays = refl; are_entries = tt; room = inl refl; entries = sym (append-nil _); log = refl }
 
 have_room : (xs : List PlainEntry) (x : PlainEntry) (old mid : Event) → IsEntered x old mid → HaveRoom xs mid → HaveRoom (x ∷ xs) old
 have_room xs x old mid one (inl none) = inr (subst (λ more. fits (log_of old.log) (x ∷ more) ≡ true) (sym none) one.room)
@@ -65,7 +64,7 @@ enters_one x xs old mid new one more = record {
   replays = applied_first _ x xs _ one.applied ∙ more.replays;
   are_entries = (one.is_entry, more.are_entries);
   room = have_room xs x old mid one more.room;
-  written = more.written ∙ ap (λ before. before ++ map (encoded Two) xs) one.written ∙ append_assoc old.written.items (encoded Two x ∷ []) (map (encoded Two) xs);
+  entries = more.entries ∙ ap (λ before. before ++ xs) one.entries ∙ append_assoc (map plain old.entries.items) (x ∷ []) xs;
   log = more.log ∙ ap (λ log. fold log_behind log xs) one.log;
 }
 
@@ -99,6 +98,7 @@ goes_back_on old mid new first second = record {
     back = λ before back. second.keeps.back before (first.keeps.back before back);
     leases = second.keeps.leases ∙ first.keeps.leases;
     memory = second.keeps.memory ∙ first.keeps.memory;
+    from = λ before log has. second.keeps.from before log (first.keeps.from before log has);
   };
   ready = second.ready;
   fault = second.fault ∙ first.fault;
@@ -107,7 +107,7 @@ goes_back_on old mid new first second = record {
 
 pub goes_back_here : (e : Event) → IsUnderWay e → GoesBack e e
 goes_back_here e ready = record {
-  keeps = record { back = λ before back. back; leases = refl; memory = refl };
+  keeps = record { back = λ before back. back; leases = refl; memory = refl; from = λ before log has. has };
   ready = ready;
   fault = refl;
   sent = ([], sym (append-nil _));

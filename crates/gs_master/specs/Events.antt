@@ -6,15 +6,17 @@ use Rattle.gs_base.specs.declared.refusal.Refusal.{Refusal}
 use Rattle.gs_base.specs.declared.refusal.Refusal.TheVariants as refusals
 use Rattle.gs_journal.specs.declared.version.Version.TheVariants.{Two}
 use Rattle.gs_record.specs.Encoding.{encoded}
-use Rattle.gs_record.specs.Plain.{PlainEntry, Prepare}
+use Rattle.gs_record.specs.Plain.{PlainEntry, Prepare, plain}
 use Rattle.gs_record.specs.Writable.{IsEntry}
 use Rattle.gs_table.specs.Slots.{live}
 use Rattle.gs_master.specs.Applied.{applied}
+use Rattle.gs_master.specs.Durable.{Durable}
 use Rattle.gs_master.specs.Plans.{log_of}
 use Rattle.gs_master.specs.Recorded.{durable_of}
 use Rattle.gs_master.specs.State.{Log, fits, size_of}
-use Rattle.gs_master.specs.TakingBack.{StillTakeBack, all_leases_before}
+use Rattle.gs_master.specs.TakingBack.{StillTakeBack, TakesBack, all_leases_before}
 use Rattle.gs_master.specs.declared.event.Event.{Event}
+use Rattle.gs_master.specs.declared.undo.Undo.{Undo}
 
 -- the journal with a record more
 abbrev pub log_behind : Log → PlainEntry → Log
@@ -23,6 +25,7 @@ log_behind log entry = record log { records = log.records + 1; size = log.size +
 -- a record is applied, and is to be written behind the others
 pub record IsEntered (entry : PlainEntry) (old new : Event) : Type 0 where
   pub applied : applied (durable_of old.recorded) entry ≡ Some (durable_of new.recorded)
+  pub entries : map plain new.entries.items ≡ map plain old.entries.items ++ entry ∷ []
   pub written : new.written.items ≡ old.written.items ++ encoded Two entry ∷ []
   pub is_entry : IsEntry Two entry
   pub room : fits (log_of old.log) (entry ∷ []) ≡ true
@@ -41,11 +44,28 @@ abbrev pub Enters : PlainEntry → Event → Result (Unit {0}) Refusal → Event
 Enters entry old (Ok _) new = IsEntered entry old new
 Enters entry old (Err e) new = WhyNot entry old e
 
+-- each record was applied to what the one before it had left, and is taken back by its own
+abbrev pub Leads : List PlainEntry → List Undo → Durable → Durable → Type 0
+Leads [] [] before now = before ≡ now
+Leads [] (undo ∷ undos) before now = ⊥
+Leads (entry ∷ entries) [] before now = ⊥
+Leads (entry ∷ entries) (undo ∷ undos) before now =
+    (next : Durable) × ((applied before entry ≡ Some next) × (TakesBack undo before next × Leads entries undos next now))
+
+-- What an event has come from: its records lead from there to what stands now, they are to be written in their order, and the
+-- journal has room for them.
+pub record HasComeFrom (before : Durable) (first : Log) (e : Event) : Type 0 where
+  pub leads : Leads (map plain e.entries.items) e.undos.items before (durable_of e.recorded)
+  pub written : e.written.items ≡ map (encoded Two) (map plain e.entries.items)
+  pub log : log_of e.log ≡ fold log_behind first (map plain e.entries.items)
+  pub room : (e.entries.items ≡ []) ⊎ (fits first (map plain e.entries.items) ≡ true)
+
 -- what all that was done led back to, it leads back to still
 pub record KeepsBack (old new : Event) : Type 0 where
   pub back : StillTakeBack old.undos.items (durable_of old.recorded) new.undos.items (durable_of new.recorded)
   pub leases : all_leases_before new.undos.items (live nat_cmp new.recorded.leases) ≡ all_leases_before old.undos.items (live nat_cmp old.recorded.leases)
   pub memory : new.memory.before ≡ old.memory.before
+  pub from : (before : Durable) (first : Log) → HasComeFrom before first old → HasComeFrom before first new
 
 -- ---- examples
 

@@ -8,6 +8,7 @@ use Rattle.gs_master.specs.declared.event.Event.{Event}
 -- an event that has done nothing yet, but perhaps has messages to send
 pub record IsBegun (e : Event) : Type 0 where
   pub undos : e.undos.items ≡ []
+  pub entries : e.entries.items ≡ []
   pub written : e.written.items ≡ []
   pub memory : e.memory.before ≡ e.memory.now
   pub said : e.said ≡ None

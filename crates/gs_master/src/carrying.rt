@@ -42,10 +42,10 @@ impl Event {
     }
 
     /// Enters records, one after the other.
-    fn enter_all(&mut self, records: &[Entry]) -> Result<(), Refusal>
-        requires alone { list_any comes_alone (map plain records.now) ≡ false }
+    fn enter_all(&mut self, records: Vec<Entry>) -> Result<(), Refusal>
+        requires alone { list_any comes_alone (map plain records.items) ≡ false }
         requires ready { IsUnderWay self.old }
-        ensures entered { EntersAll (map plain records.now) self.old result self.new }
+        ensures entered { EntersAll (map plain records.items) self.old result self.new }
         ensures back { GoesBack self.old self.new }
         ensures others { (self.new.memory ≡ self.old.memory) × (self.new.sent ≡ self.old.sent) × (self.new.said ≡ self.old.said) }
     {
@@ -93,7 +93,7 @@ impl Event {
             sent,
             said,
         } = plan;
-        self.enter_all(&records)?;
+        self.enter_all(records)?;
         self.change_all(changes)?;
         self.send_all(sent)?;
         if self.said.is_none() {

@@ -27,6 +27,8 @@ pub(crate) struct Event {
     pub(crate) memory: Tracked,
     pub(crate) log: Log,
     pub(crate) fault: Fault,
+    /// Its records, in their order, and as they are to be written.
+    pub(crate) entries: Vec<Entry>,
     pub(crate) written: Vec<Record>,
     pub(crate) sent: Vec<Message>,
     pub(crate) said: Option<Refusal>,
@@ -54,11 +56,11 @@ impl Recorded {
 impl Event {
     /// Applies a record that may come with others, and keeps it to be written. `Full` where the journal has no room for it,
     /// `BadLine` where it doesn't fit or can't be written. A refusal may leave room that was made.
-    pub fn enter(&mut self, entry: &Entry) -> Result<(), Refusal>
-        requires alone { comes_alone (plain entry.now) ≡ false }
+    pub fn enter(&mut self, entry: Entry) -> Result<(), Refusal>
+        requires alone { comes_alone (plain entry) ≡ false }
         requires room { RoomForAll self.old.recorded self.old.undos.items }
         requires counted { self.old.log.records ≤ self.old.log.size }
-        ensures entered { Enters (plain entry.now) self.old result self.new }
+        ensures entered { Enters (plain entry) self.old result self.new }
         ensures back { KeepsBack self.old self.new }
         ensures room { RoomForAll self.new.recorded self.new.undos.items }
         ensures counted { self.new.log.records ≤ self.new.log.size }
@@ -69,11 +71,14 @@ impl Event {
         if !self.log.has_room(size) {
             return Err(Refusal::Full);
         }
-        let inverse = self.recorded.inverse_for(entry)?;
+        let inverse = self.recorded.inverse_for(&entry)?;
         self.undos.reserve(1)?;
+        self.entries.reserve(1)?;
         self.written.reserve(1)?;
-        self.recorded.enter_behind(&mut self.undos, entry, inverse)?;
+        self.recorded
+            .enter_behind(&mut self.undos, &entry, inverse)?;
         self.log.add(size);
+        self.entries.push_reserved(entry);
         self.written.push_reserved(encoded);
         Ok(())
     }

@@ -43,6 +43,7 @@ impl Event {
         let undos = std::mem::replace(&mut self.undos, Vec::new(self.alloc));
         self.recorded.take_all_back(undos);
         self.memory.take_back();
+        self.entries.clear();
         self.written.clear();
         self.sent.truncate(beginning.sent);
         self.log = beginning.log;
