@@ -5,10 +5,12 @@ use Rattle.std.specs.Ordering.{nat_cmp}
 use Rattle.gs_table.specs.Slots.{live}
 use Rattle.gs_base.specs.declared.refusal.Refusal.{Refusal}
 use Rattle.gs_msg.specs.declared.message.Message.{Message}
+use Rattle.gs_journal.specs.declared.version.Version.TheVariants.{Two}
+use Rattle.gs_record.specs.Encoding.{encoded}
 use Rattle.gs_record.specs.Plain.{PlainEntry, plain}
 use Rattle.gs_master.specs.Applied.{replayed}
 use Rattle.gs_master.specs.Durable.{Durable}
-use Rattle.gs_master.specs.Events.{HasComeFrom, log_behind}
+use Rattle.gs_master.specs.Events.{HasComeFrom, Leads, log_behind}
 use Rattle.gs_master.specs.Plans.{fault_of, log_of}
 use Rattle.gs_master.specs.Recorded.{durable_of}
 use Rattle.gs_master.specs.StartingOver.{BeginsAt, IsBackAt, IsBegun, StartsOver}
@@ -107,4 +109,11 @@ module _ (first back : Event) (begun : IsBegun first) (again : IsBegun back) (at
   }
     where
       come_from : (before : Durable) (log : Log) → HasComeFrom before log first → HasComeFrom before log back
-      come_from before log has = ?
+      come_from before log has = record {
+        leads = subst (Leads (map plain back.entries.items) back.undos.items before) (sym durable_at)
+            (subst (λ undos. Leads (map plain back.entries.items) undos before (durable_of first.recorded)) (begun.undos ∙ sym again.undos)
+            (subst (λ entries. Leads entries first.undos.items before (durable_of first.recorded)) (sym entries_at) has.leads));
+        written = again.written ∙ sym (ap (λ entries. map (encoded Two) (map plain entries)) again.entries);
+        log = log_at ∙ has.log ∙ ap (fold log_behind log) (sym entries_at);
+        room = inl again.entries;
+      }
