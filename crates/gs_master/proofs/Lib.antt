@@ -1,6 +1,7 @@
 pub mod Anew
 pub mod Before
 pub mod Beginnings
+pub mod Behind
 pub mod Blanks
 pub mod Choosing
 pub mod Counted
