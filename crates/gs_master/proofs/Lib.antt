@@ -1,3 +1,4 @@
+pub mod Appending
 pub mod Before
 pub mod Beginnings
 pub mod Blanks
@@ -8,6 +9,7 @@ pub mod Deleted
 pub mod Edits
 pub mod Fronts
 pub mod Kept
+pub mod Leading
 pub mod Lowered
 pub mod Mapping
 pub mod Nodes

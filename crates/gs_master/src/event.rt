@@ -6,6 +6,7 @@ ghost use Rattle.gs_master.specs.Events.{Enters, KeepsBack};
 ghost use Rattle.gs_master.specs.Recorded.{durable_of};
 ghost use Rattle.gs_master.specs.TakingBack.{IsToldFor, RoomForAll, comes_alone};
 
+use crate::fault::Fault;
 use crate::log::Log;
 use crate::recorded::Recorded;
 use crate::tracked::Tracked;
@@ -25,6 +26,7 @@ pub(crate) struct Event {
     pub(crate) undos: Vec<Undo>,
     pub(crate) memory: Tracked,
     pub(crate) log: Log,
+    pub(crate) fault: Fault,
     /// Its records, in their order, and as they are to be written.
     pub(crate) entries: Vec<Entry>,
     pub(crate) written: Vec<Record>,
@@ -33,7 +35,7 @@ pub(crate) struct Event {
 }
 
 /// How many bytes a record takes in the journal.
-fn size_of(encoded: &Record) -> u64
+pub(crate) fn size_of(encoded: &Record) -> u64
     ensures { result ≡ record_size encoded.now }
 {
     encoded.body().len() as u64 + 6
@@ -54,7 +56,7 @@ impl Recorded {
 impl Event {
     /// Applies a record that may come with others, and keeps it to be written. `Full` where the journal has no room for it,
     /// `BadLine` where it doesn't fit or can't be written. A refusal may leave room that was made.
-    fn enter(&mut self, entry: Entry) -> Result<(), Refusal>
+    pub fn enter(&mut self, entry: Entry) -> Result<(), Refusal>
         requires alone { comes_alone (plain entry) ≡ false }
         requires room { RoomForAll self.old.recorded self.old.undos.items }
         requires counted { self.old.log.records ≤ self.old.log.size }
@@ -62,7 +64,7 @@ impl Event {
         ensures back { KeepsBack self.old self.new }
         ensures room { RoomForAll self.new.recorded self.new.undos.items }
         ensures counted { self.new.log.records ≤ self.new.log.size }
-        ensures others { (self.new.memory ≡ self.old.memory) × (self.new.sent ≡ self.old.sent) × (self.new.said ≡ self.old.said) }
+        ensures others { (self.new.memory ≡ self.old.memory) × (self.new.sent ≡ self.old.sent) × (self.new.said ≡ self.old.said) × (self.new.fault ≡ self.old.fault) }
     {
         let encoded = entry.encode(self.alloc)?;
         let size = size_of(&encoded);

@@ -2,11 +2,11 @@ use Rattle.std.proofs.Common.{◌∙◌, ap, inr, map, refl, rules, subst, sym}
 use Rattle.gs_record.specs.Plain.{plain_edit, plain_inverse}
 use Rattle.gs_table.specs.Slots.{live}
 use Rattle.gs_master.specs.Durable.{Durable}
-use Rattle.gs_master.specs.Recorded.{durable_of}
+use Rattle.gs_master.specs.Recorded.{KeepsRooms, durable_of}
 use Rattle.gs_master.specs.Replies.{client_cmp}
 use Rattle.gs_master.specs.TakingBack.{AreItemsBefore, AreNamesBefore}
 use Rattle.gs_master.specs.declared.recorded.Recorded.{Recorded}
-use Rattle.gs_master.proofs.Before.{edit_before, room_for_chunks_stays}
+use Rattle.gs_master.proofs.Before.{both_keep, edit_before, room_for_chunks_stays}
 use Rattle.gs_master.proofs.Edits.{edit_refused, edited_gives, may_not, names_after, names_left}
 use Rattle.gs_master.proofs.recorded.Recorded.enter_edit.Goals as goal
 
@@ -32,6 +32,7 @@ returns-clause-back c =
     let left = c.enter_forgotten_each.new.self in
     let now : Recorded = record left { next_hidden = c.next_behind-self.result; replies = c.enter_answer-reply.new.replies; inverses = c.enter_inverse-keeps_inverse.new.inverses } in
     let forgotten = c.enter_forgotten_each.new.before.items in
+    let replied : KeepsRooms left now = record { leases = record { keeps = λ key room. room }; replies = c.enter_answer-reply.ensures.keeps; prepared = record { keeps = λ key room. room } } in
     let same_names = ap (λ (d : Durable). d.names) c.enter_forgotten_each.ensures.value ∙ names_left (durable_of (record c.args.self.now { names = c.enter_names.new.names })) c.forgotten_by-chunks.result.now in
     record {
       value = record {
@@ -44,7 +45,7 @@ returns-clause-back c =
       leases = c.enter_forgotten_each.ensures.leases;
       room = (
         c.enter_answer-reply.ensures.room,
-        room_for_chunks_stays left now forgotten c.enter_forgotten_each.ensures.room
-            (record { leases = record { keeps = λ key room. room }; replies = c.enter_answer-reply.ensures.keeps; prepared = record { keeps = λ key room. room } }),
+        room_for_chunks_stays left now forgotten c.enter_forgotten_each.ensures.room replied,
       );
+      keeps = both_keep _ left now c.enter_forgotten_each.ensures.keeps replied;
     }
