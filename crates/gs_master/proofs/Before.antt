@@ -1,5 +1,5 @@
 -- What stood in a table before something was put there, and that putting it back gives the table of before.
-use Rattle.std.proofs.Common.{◌≡◌, ◌⊎◌, inl, inr, ◌∙◌, ℕ, Bool, true, false, cond, List, [], ◌∷◌, ◌++◌, refl, ap, subst, sym}
+use Rattle.std.proofs.Common.{◌≡◌, ◌⊎◌, inl, inr, ◌∙◌, ℕ, Bool, true, false, cond, List, [], ◌∷◌, ◌++◌, map, refl, ap, subst, sym}
 use Rattle.std.proofs.lemmas.Bool.{false≢true}
 use Rattle.std.specs.Prelude.{Option, Some, None, option_and_then, is_some, unwrap_or, Result, Ok, Err, IfErr}
 use Rattle.std.specs.Option.{option_flatten}
@@ -17,20 +17,23 @@ use Rattle.gs_edit.specs.declared.edit.Inverse.{Inverse}
 use Rattle.gs_lease.specs.declared.lease.Lease.{Lease}
 use Rattle.gs_lease.specs.declared.view.View.{View}
 use Rattle.gs_path.specs.Path.{path_total}
-use Rattle.gs_record.specs.Plain.{PlainInverse}
+use Rattle.gs_record.specs.Plain.{PlainEntry, PlainInverse, plain_inverse}
+use Rattle.gs_base.specs.declared.epoch.EpochEnd.{EpochEnd}
+use Rattle.gs_record.specs.declared.checkpoint.Phase.{Phase}
 use Rattle.gs_table.specs.Slots.{live, set_live, HasRoom, KeepsRoom}
 use Rattle.gs_table.proofs.Lives.{get-live}
 use Rattle.gs_table.specs.Keys.{client_exact}
-use Rattle.gs_master.specs.Applied.{view_in}
+use Rattle.gs_master.specs.Applied.{view_in, with_epoch}
 use Rattle.gs_master.specs.Durable.{Durable, kept_before, prepared_view, with_prepared}
-use Rattle.gs_master.specs.Recorded.{KeepsRooms, chunks_of, settled_by}
+use Rattle.gs_master.specs.Recorded.{Applies, KeepsRooms, chunks_of, settled_by}
 use Rattle.gs_master.specs.Replies.{client_cmp}
-use Rattle.gs_master.specs.TakingBack.{AreNamesBefore, IsEditBefore, TakeBack, TakesBack, RoomAt, RoomBack, RoomForAll, RoomForChunk, RoomForChunks, RoomForReply, all_leases_before, all_rooms_before, leases_before, rooms_before, with_chunk_before, with_chunks_before, with_leases_before, with_moved_before, with_proposed_before, with_reply_before, with_settled_before}
+use Rattle.gs_master.specs.TakingBack.{AreNamesBefore, Enters, IsEditBefore, TakeBack, TakesBack, RoomAt, RoomBack, RoomForAll, RoomForChunk, RoomForChunks, RoomForReply, all_leases_before, all_rooms_before, leases_before, rooms_before, with_chunk_before, with_chunks_before, with_leases_before, with_moved_before, with_proposed_before, with_reply_before, with_settled_before}
 use Rattle.gs_master.specs.declared.asking.Prepared.{Prepared}
 use Rattle.gs_master.specs.declared.recorded.Recorded.{Recorded}
 use Rattle.gs_master.specs.declared.reply.KeptReply.{KeptReply}
 use Rattle.gs_master.specs.declared.undo.ChunkBefore.{ChunkBefore}
 use Rattle.gs_master.specs.declared.undo.EditBefore.{EditBefore}
+use Rattle.gs_master.specs.declared.undo.KeptBefore.{KeptBefore}
 use Rattle.gs_master.specs.declared.undo.NamesBefore.TheVariants.{Undone}
 use Rattle.gs_master.specs.declared.undo.ReplyBefore.{ReplyBefore}
 use Rattle.gs_master.specs.declared.undo.Undo.{Undo}
@@ -291,6 +294,26 @@ pub edit_before : (d r : Durable) (names : NamesView) (forgotten : List ChunkBef
 edit_before d r names forgotten hidden replies inverses reply chunks replied =
     (λ i. record (chunks i) { names = d.names; next_hidden = d.next_hidden; replies = replied i; inverses = d.inverses })
     ∙ (λ i. record (sym (rest_beside forgotten r hidden replies inverses) i) { names = d.names; next_hidden = d.next_hidden; replies = with_reply_before reply replies; inverses = d.inverses })
+
+-- ---- an epoch
+
+-- where memory is never wanted
+pub enters : {X : Type 0} (entry : PlainEntry) (result : Result X Refusal) (old new : Durable) → Applies entry result old new → Enters entry result old new
+enters entry (Ok done) old new is = is
+enters entry (Err refusal) old new is = (inr (is.0, is.1), is.2)
+
+pub same_rooms : {K V : Type 0} {R : K → K → Ordering} (a b : List (K × Option V)) → b ≡ a → KeepsRoom R a b
+same_rooms {R = R} a b is = record { keeps = λ key room. subst (λ x. HasRoom R x key) (sym is) room }
+
+-- an epoch ends, and what was kept since prepare is given up
+pub epoch_back : (d mid : Durable) (end : EpochEnd) (phase : Phase) (kept : KeptBefore) (inverses : List PlainInverse) (prepared : fin.FinMap nat_cmp Prepared) → mid ≡ with_epoch d end phase →
+    map plain_inverse kept.inverses.items ≡ mid.inverses → live nat_cmp kept.prepared ≡ mid.prepared →
+    TakesBack (undos.Epoch (record { epoch = d.epoch; phase = d.phase; kept = kept })) d (record mid { inverses = inverses; prepared = prepared })
+epoch_back d mid end phase kept inverses prepared is left views = (
+  (end, ap (λ (x : Durable). x.ends) is),
+  (λ i. record (sym is i) { epoch = d.epoch; phase = d.phase; ends = d.ends })
+      ∙ (λ i. record mid { inverses = sym left i; prepared = sym views i; epoch = d.epoch; phase = d.phase; ends = d.ends }),
+)
 
 -- ---- several records
 

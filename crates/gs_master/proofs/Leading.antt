@@ -1,22 +1,27 @@
 -- That the records of an event lead on from one another, and what stands once the last of them are taken back.
-use Rattle.std.proofs.Common.{◌≡◌, ◌⊎◌, inl, inr, ◌∙◌, ◌+◌, ◌≤◌, ◌<◌, ℕ, suc, Bool, true, List, [], ◌∷◌, ◌++◌, map, length, take, refl, ap, subst, sym, arith, take-take, take_all, length-append, length-take-le}
+use Rattle.std.proofs.Common.{◌≡◌, ◌⊎◌, inl, inr, ◌∙◌, ◌+◌, ◌≤◌, ◌<◌, ℕ, suc, Bool, true, List, [], ◌∷◌, ◌++◌, map, length, take, refl, ap, subst, sym, arith, min, take-take, take_all, length-append, length-take}
 use Rattle.std.specs.Prelude.{Some, fold, nat_le, slice_get, sum_by, unwrap_or}
 use Rattle.std.proofs.lemmas.Bool.Decides.{nat_tests}
-use Rattle.std.proofs.lemmas.List.{length-map, map-append, take-map}
+use Rattle.std.proofs.lemmas.List.{length-map, map-append, take-map, take_min}
 use Rattle.std.proofs.lemmas.List.Sums.{fold-append, sum_by-append, sum_by-cons, sum_by-take-le}
-use Rattle.gs_journal.specs.Journal.{record_size}
+use Rattle.gs_journal.specs.Journal.{State as Journal, record_size}
 use Rattle.gs_journal.specs.Records.{Entry as Record}
 use Rattle.gs_journal.specs.declared.version.Version.TheVariants.{Two}
 use Rattle.gs_record.specs.Encoding.{encoded}
 use Rattle.gs_record.specs.Plain.{PlainEntry, plain}
+use Rattle.gs_record.specs.Writable.{IsEntry}
+use Rattle.gs_record.specs.declared.entry.Entry.{Entry as Told}
+use Rattle.std.specs.Ordering.{nat_cmp}
+use Rattle.gs_table.specs.Slots.{live}
 use Rattle.gs_master.specs.Applied.{applied}
 use Rattle.gs_master.specs.Durable.{Durable}
-use Rattle.gs_master.specs.Events.{HasComeFrom, IsEntered, Leads, log_behind}
+use Rattle.gs_master.specs.Events.{HasComeFrom, IsEntered, KeepsBack, Leads, log_behind}
+use Rattle.gs_master.specs.Journaled.{Gains, IsLogOf, IsReadyFor}
 use Rattle.gs_master.specs.Outcomes.{cut}
 use Rattle.gs_master.specs.Plans.{log_of}
 use Rattle.gs_master.specs.Recorded.{durable_of}
 use Rattle.gs_master.specs.State.{Failed, Fault, Log, State, fits, size_of, size_of_all, with_record}
-use Rattle.gs_master.specs.TakingBack.{TakesBack, TakesOneMore}
+use Rattle.gs_master.specs.TakingBack.{StillTakeBack, TakeBack, TakesBack, TakesOneMore, all_leases_before}
 use Rattle.gs_master.specs.Volatile.{Volatile}
 use Rattle.gs_master.specs.declared.event.Event.{Event}
 use Rattle.gs_master.specs.declared.undo.Undo.{Undo}
@@ -58,6 +63,13 @@ one_less es rest last before now leads =
     let cut = leads_but_last (take (length (rest ++ last ∷ [])) es) rest last before now leads in
     let more = length-append rest (last ∷ []) in
     (cut.0, (subst (λ xs. Leads xs rest before cut.0) (take-take (length rest) (length (rest ++ last ∷ [])) es (omega arith)) cut.1.0, cut.1.1))
+
+-- as many records are left as there are of what takes them back
+pub as_many : (es : List PlainEntry) (all left : List Undo) (many : ℕ) (before now : Durable) → Leads es all before now → take many left ≡ take many all → length left ≤ many → take (length left) es ≡ take many es
+as_many es all left many before now leads same few = ap (λ n. take n es) count ∙ take_min many es
+  where
+    count : length left ≡ min many (length es)
+    count = ap length (sym (take_all many left few) ∙ same) ∙ length-take many all ∙ ap (min many) (sym (leads_length es all before now leads))
 
 -- ---- the journal's room
 
@@ -112,16 +124,53 @@ from_entered old new entry is one before first has =
       room = inr (ap (fits first) is.entries ∙ fits_more first es entry (ap (λ l. fits l (entry ∷ [])) (sym has.log) ∙ is.room));
     }
 
--- and where none is, it is as it was
-pub from_same : (old new : Event) → new.entries.items ≡ old.entries.items → new.undos.items ≡ old.undos.items → new.written.items ≡ old.written.items → durable_of new.recorded ≡ durable_of old.recorded → new.log ≡ old.log →
-    (before : Durable) (first : Log) → HasComeFrom before first old → HasComeFrom before first new
-from_same old new entries undos written durable log before first has = record {
-  leads = subst (λ d. Leads (map plain new.entries.items) new.undos.items before d) (sym durable)
-      (subst (λ us. Leads (map plain new.entries.items) us before (durable_of old.recorded)) (sym undos) (subst (λ xs. Leads (map plain xs) old.undos.items before (durable_of old.recorded)) (sym entries) has.leads));
-  written = written ∙ has.written ∙ sym (ap (λ xs. map (encoded Two) (map plain xs)) entries);
-  log = ap log_of log ∙ has.log ∙ sym (ap (λ xs. fold log_behind first (map plain xs)) entries);
-  room = subst (λ xs. (xs ≡ []) ⊎ (fits first (map plain xs) ≡ true)) (sym entries) has.room;
-}
+-- room is made for a record, it is applied, and it is kept
+pub record Enter (old grown mid new : Event) (told : Told) (bytes : Record) : Type 0 where
+  pub first : grown ≡ record old { undos = grown.undos; entries = grown.entries; written = grown.written }
+  pub undos : grown.undos.items ≡ old.undos.items
+  pub entries : grown.entries.items ≡ old.entries.items
+  pub written : grown.written.items ≡ old.written.items
+  pub second : mid ≡ record grown { recorded = mid.recorded; undos = mid.undos }
+  pub applied : applied (durable_of grown.recorded) (plain told) ≡ Some (durable_of mid.recorded)
+  pub one : TakesOneMore grown.undos.items (durable_of grown.recorded) mid.undos.items (durable_of mid.recorded)
+  pub third : new ≡ record mid { log = new.log; entries = new.entries; written = new.written }
+  pub more : new.entries.items ≡ mid.entries.items ++ told ∷ []
+  pub behind : new.written.items ≡ mid.written.items ++ bytes ∷ []
+  pub log : log_of new.log ≡ log_behind (log_of mid.log) (plain told)
+  pub encoded : bytes ≡ encoded Two (plain told)
+  pub is_entry : IsEntry Two (plain told)
+  pub room : fits (log_of old.log) (plain told ∷ []) ≡ true
+
+is_entered : (old grown mid new : Event) (told : Told) (bytes : Record) → Enter old grown mid new told bytes → IsEntered (plain told) old new
+is_entered old grown mid new told bytes h =
+    let entries = h.more ∙ ap (λ xs. xs ++ told ∷ []) (ap (λ (e : Event). e.entries.items) h.second ∙ h.entries) in
+    let written = h.behind ∙ ap (λ xs. xs ++ bytes ∷ []) (ap (λ (e : Event). e.written.items) h.second ∙ h.written) in record {
+      applied = ap (λ (e : Event). applied (durable_of e.recorded) (plain told)) (sym h.first) ∙ h.applied ∙ ap (λ (e : Event). Some (durable_of e.recorded)) (sym h.third);
+      entries = ap (map plain) entries ∙ map-append plain old.entries.items (told ∷ []);
+      written = written ∙ ap (λ r. old.written.items ++ r ∷ []) h.encoded;
+      is_entry = h.is_entry;
+      log = h.log ∙ ap (λ (e : Event). log_behind (log_of e.log) (plain told)) (h.second ∙ ap (λ (e : Event). record e { recorded = mid.recorded; undos = mid.undos }) h.first);
+      room = h.room;
+    }
+
+pub entered_keeps : (old grown mid new : Event) (told : Told) (bytes : Record) → Enter old grown mid new told bytes →
+    StillTakeBack grown.undos.items (durable_of grown.recorded) mid.undos.items (durable_of mid.recorded) →
+    all_leases_before mid.undos.items (live nat_cmp mid.recorded.leases) ≡ all_leases_before grown.undos.items (live nat_cmp grown.recorded.leases) → KeepsBack old new
+entered_keeps old grown mid new told bytes h still leases =
+    let stood = ap (λ (e : Event). e.recorded) h.first in
+    let now = ap (λ (e : Event). e.recorded) h.third in
+    let last = ap (λ (e : Event). e.undos.items) h.third in record {
+      back = λ before back.
+          subst (λ us. TakeBack us before (durable_of new.recorded)) (sym last) (subst (λ r. TakeBack mid.undos.items before (durable_of r)) (sym now)
+          (still before (subst (λ us. TakeBack us before (durable_of grown.recorded)) (sym h.undos) (subst (λ r. TakeBack old.undos.items before (durable_of r)) (sym stood) back))));
+      leases = (λ i. all_leases_before (last i) (live nat_cmp (now i).leases)) ∙ leases ∙ (λ i. all_leases_before (h.undos i) (live nat_cmp (stood i).leases));
+      memory = ap (λ (e : Event). e.memory.before) h.third ∙ ap (λ (e : Event). e.memory.before) h.second ∙ ap (λ (e : Event). e.memory.before) h.first;
+      from = from_entered old new (plain told) (is_entered old grown mid new told bytes h) (record {
+        last = h.one.last;
+        behind = last ∙ h.one.behind ∙ ap (λ us. us ++ h.one.last ∷ []) h.undos;
+        takes = subst (λ r. TakesBack h.one.last (durable_of r) (durable_of new.recorded)) stood (subst (λ r. TakesBack h.one.last (durable_of grown.recorded) (durable_of r)) (sym now) h.one.takes);
+      });
+    }
 
 -- ---- an event that is cut
 
@@ -152,3 +201,27 @@ room_of_front first written es place is (inr room) within =
     let all = ap (sum_by record_size) is ∙ sizes es in
     let front = sum_by-take-le record_size written place in
     grind (arith, nat_tests)
+
+-- ---- an event whose records are all written
+
+pub ready : {D : Type 0} (before : Durable) (first : Log) (e : Event) (j : Journal D) → HasComeFrom before first e → IsLogOf first j → IsReadyFor j e.written.items
+ready before first e j has is = record { is_open = is.is_open; room = by_room has.room }
+  where
+    by_room : (e.entries.items ≡ []) ⊎ (fits first (map plain e.entries.items) ≡ true) → (e.written.items ≡ []) ⊎ (j.size + sum_by record_size e.written.items ≤ j.limit)
+    by_room (inl none) = inl (has.written ∙ ap (λ xs. map (encoded Two) (map plain xs)) none)
+    by_room (inr room) =
+        let bytes = ap (sum_by record_size) has.written ∙ sizes (map plain e.entries.items) in
+        let size = is.size in
+        let limit = is.limit in
+        inr (grind (arith, nat_tests))
+
+pub log_stays : {D : Type 0} {seen : D → List ℕ} {may_leave : D → List ℕ → Type 0} {failures : D → ℕ} (before : Durable) (first log : Log) (e : Event) (old new : Journal D) → HasComeFrom before first e → IsLogOf first old →
+    Gains seen may_leave failures old e.written.items new → log ≡ log_of e.log → IsLogOf log new
+log_stays before first log e old new has is gains same =
+    let es = map plain e.entries.items in
+    let now = same ∙ has.log ∙ log_is first es in record {
+      is_open = gains.is_open;
+      size = ap (λ (l : Log). l.size) now ∙ (λ i. is.size i + sym (ap (sum_by record_size) has.written ∙ sizes es) i) ∙ sym gains.size;
+      limit = ap (λ (l : Log). l.limit) now ∙ is.limit ∙ sym gains.limit;
+      generation = ap (λ (l : Log). l.generation) now ∙ is.generation ∙ sym gains.generation;
+    }

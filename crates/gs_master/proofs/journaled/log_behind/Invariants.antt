@@ -5,6 +5,9 @@ use Rattle.gs_master.proofs.journaled.log_behind.Given as goal
 
 abbrev pub invariant-loop-place : goal.invariant-loop-place
 invariant-loop-place l = record {
-  log : l.log ≡ record l.first { records = l.first.records + l.place; size = l.first.size + sum_by record_size (take l.place l.records) };
+  records : l.log.records ≡ l.fn.first.records + l.place;
+  size : l.log.size ≡ l.fn.first.size + sum_by record_size (take l.place l.records);
+  limit : l.log.limit ≡ l.fn.first.limit;
+  generation : l.log.generation ≡ l.fn.first.generation;
   counted : l.log.records ≤ l.log.size;
 }

@@ -1,4 +1,4 @@
-use Rattle.std.proofs.Common.{◌==◌, ◌∙◌, ap, inr, refl, rules, search, sym}
+use Rattle.std.proofs.Common.{◌==◌, ◌∙◌, ap, inr, refl, rules, sym}
 use Rattle.std.specs.Prelude.{Some}
 use Rattle.std.specs.FinMap as fin
 use Rattle.gs_master.specs.Applied.{are_answers, without_prepared}

@@ -6,7 +6,7 @@ use Rattle.gs_master.specs.Recorded.{KeepsRooms, durable_of}
 use Rattle.gs_master.specs.Replies.{client_cmp}
 use Rattle.gs_master.specs.TakingBack.{AreItemsBefore, AreNamesBefore}
 use Rattle.gs_master.specs.declared.recorded.Recorded.{Recorded}
-use Rattle.gs_master.proofs.Before.{both_keep, edit_before, room_for_chunks_stays}
+use Rattle.gs_master.proofs.Before.{edit_before, room_for_chunks_stays}
 use Rattle.gs_master.proofs.Edits.{edit_refused, edited_gives, may_not, names_after, names_left}
 use Rattle.gs_master.proofs.recorded.Recorded.enter_edit.Goals as goal
 
@@ -47,5 +47,9 @@ returns-clause-back c =
         c.enter_answer-reply.ensures.room,
         room_for_chunks_stays left now forgotten c.enter_forgotten_each.ensures.room replied,
       );
-      keeps = both_keep _ left now c.enter_forgotten_each.ensures.keeps replied;
+      keeps = record {
+        leases = c.enter_forgotten_each.ensures.keeps.leases;
+        replies = record { keeps = λ key room. c.enter_answer-reply.ensures.keeps.keeps key (c.enter_forgotten_each.ensures.keeps.replies.keeps key room) };
+        prepared = c.enter_forgotten_each.ensures.keeps.prepared;
+      };
     }
