@@ -1,4 +1,5 @@
 pub mod Anew
+pub mod Appending
 pub mod Before
 pub mod Beginnings
 pub mod Behind
@@ -11,6 +12,7 @@ pub mod Edits
 pub mod Entered
 pub mod Fronts
 pub mod Kept
+pub mod Leading
 pub mod Lowered
 pub mod Mapping
 pub mod Nodes

@@ -17,8 +17,8 @@ invariant_of-self-in_err-reserve-2 c =
 
 pub invariant_of-self-2 : goal.invariant_of-self-2
 invariant_of-self-2 c =
-    rooms_pushed c.self.inside.memory _ c.ask.new.self c.self.inside.touched.items _ _ (slots.Asked c.args.chunk c.take-asked.result) (record { moving = record { keeps = λ key room. c.take-asked.ensures.keeps.keeps key (c.reserve.ensures.keeps.keeps key room) }; restored = record { keeps = λ key room. room }; replies = record { keeps = λ key room. room } }) c.ask.ensures.keeps.rooms c.self.invariant
-    (c.ask.ensures.keeps.rooms.moving.keeps c.args.chunk (c.take-asked.ensures.keeps.keeps c.args.chunk c.in_ok-reserve.ensures.ok)) c.reserve-2.ensures.items c.push_reserved.ensures.items
+    rooms_pushed c.self.inside.memory _ c.ask.new.self c.self.inside.touched.items _ _ (slots.Asked c.args.chunk c.take-asked.result) (record { moving = record { keeps = λ key room. c.take-asked.ensures.keeps.keeps key (c.reserve.ensures.keeps.keeps key room) }; restored = record { keeps = λ key room. room }; replies = record { keeps = λ key room. room } }) c.ask.ensures.keeps c.self.invariant
+    (c.ask.ensures.keeps.moving.keeps c.args.chunk (c.take-asked.ensures.keeps.keeps c.args.chunk c.in_ok-reserve.ensures.ok)) c.reserve-2.ensures.items c.push_reserved.ensures.items
 
 pub returns-clause-now : goal.returns-clause-now
 returns-clause-now c =

@@ -8,7 +8,7 @@ use Rattle.gs_master.proofs.tracked.Tracked.begin.Goals as goal
 
 pub invariant_of-self-2 : goal.invariant_of-self-2
 invariant_of-self-2 c =
-    rooms_stay c.self.inside.memory c.begin.new.self c.self.inside.touched.items (record { moving = c.begin.ensures.keeps.rooms.moving; restored = c.begin.ensures.keeps.rooms.restored; replies = c.begin.ensures.keeps.rooms.replies }) c.self.invariant
+    rooms_stay c.self.inside.memory c.begin.new.self c.self.inside.touched.items (record { moving = c.begin.ensures.keeps.moving; restored = c.begin.ensures.keeps.restored; replies = c.begin.ensures.keeps.replies }) c.self.invariant
 
 pub returns-clause-before : goal.returns-clause-before
 returns-clause-before c =

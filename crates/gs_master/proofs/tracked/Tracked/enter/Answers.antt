@@ -8,7 +8,7 @@ use Rattle.gs_master.proofs.tracked.Tracked.enter.Goals as goal
 
 pub invariant_of-self-2 : goal.invariant_of-self-2
 invariant_of-self-2 c =
-    rooms_stay c.self.inside.memory c.enter.new.self c.self.inside.touched.items (record { moving = c.enter.ensures.keeps.rooms.moving; restored = c.enter.ensures.keeps.rooms.restored; replies = c.enter.ensures.keeps.rooms.replies }) c.self.invariant
+    rooms_stay c.self.inside.memory c.enter.new.self c.self.inside.touched.items (record { moving = c.enter.ensures.keeps.moving; restored = c.enter.ensures.keeps.restored; replies = c.enter.ensures.keeps.replies }) c.self.invariant
 
 pub returns-clause-before : goal.returns-clause-before
 returns-clause-before c =

@@ -8,7 +8,7 @@ use Rattle.gs_master.proofs.tracked.Tracked.prepare.Goals as goal
 
 pub invariant_of-self-2 : goal.invariant_of-self-2
 invariant_of-self-2 c =
-    rooms_pushed c.self.inside.memory c.self.inside.memory c.prepare.new.self c.self.inside.touched.items _ _ (slots.Preparing c.self.inside.memory.is_preparing) (record { moving = record { keeps = λ key room. room }; restored = record { keeps = λ key room. room }; replies = record { keeps = λ key room. room } }) c.prepare.ensures.keeps.rooms c.self.invariant
+    rooms_pushed c.self.inside.memory c.self.inside.memory c.prepare.new.self c.self.inside.touched.items _ _ (slots.Preparing c.self.inside.memory.is_preparing) (record { moving = record { keeps = λ key room. room }; restored = record { keeps = λ key room. room }; replies = record { keeps = λ key room. room } }) c.prepare.ensures.keeps c.self.invariant
     tt c.reserve.ensures.items c.push_reserved.ensures.items
 
 pub returns-clause-before : goal.returns-clause-before

@@ -8,7 +8,7 @@ use Rattle.gs_master.proofs.tracked.Tracked.wait.Goals as goal
 
 pub invariant_of-self : goal.invariant_of-self
 invariant_of-self c =
-    rooms_stay c.self.inside.memory c.wait.new.self c.self.inside.touched.items (record { moving = c.wait.ensures.keeps.rooms.moving; restored = c.wait.ensures.keeps.rooms.restored; replies = c.wait.ensures.keeps.rooms.replies }) c.self.invariant
+    rooms_stay c.self.inside.memory c.wait.new.self c.self.inside.touched.items (record { moving = c.wait.ensures.keeps.moving; restored = c.wait.ensures.keeps.restored; replies = c.wait.ensures.keeps.replies }) c.self.invariant
 
 pub returns-clause-before : goal.returns-clause-before
 returns-clause-before c =
