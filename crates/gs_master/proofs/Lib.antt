@@ -1,12 +1,16 @@
+pub mod Anew
 pub mod Appending
 pub mod Before
 pub mod Beginnings
+pub mod Behind
 pub mod Blanks
 pub mod Choosing
 pub mod Counted
 pub mod Counters
 pub mod Deleted
 pub mod Edits
+pub mod Ended
+pub mod Entered
 pub mod Fronts
 pub mod Kept
 pub mod Leading

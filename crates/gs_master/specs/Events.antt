@@ -28,8 +28,8 @@ pub record IsEntered (entry : PlainEntry) (old new : Event) : Type 0 where
   pub entries : map plain new.entries.items ≡ map plain old.entries.items ++ entry ∷ []
   pub written : new.written.items ≡ old.written.items ++ encoded Two entry ∷ []
   pub is_entry : IsEntry Two entry
-  pub log : log_of new.log ≡ log_behind (log_of old.log) entry
   pub room : fits (log_of old.log) (entry ∷ []) ≡ true
+  pub log : log_of new.log ≡ log_behind (log_of old.log) entry
 
 -- it doesn't fit what it meets, or can't be written
 abbrev pub IsUnfit : PlainEntry → Event → Type 0

@@ -19,8 +19,10 @@ pub mod Promises
 pub mod Recorded
 pub mod Replies
 pub mod Reversing
+pub mod Room
 pub mod Sane
 pub mod Settling
+pub mod StartingOver
 pub mod State
 pub mod TakingBack
 pub mod Texts

@@ -1,16 +1,15 @@
 -- How the steps of an event follow the definition of its turn.
-use Rattle.std.specs.Prelude.{◌≡◌, ◌⊎◌, ◌≤◌, ◌++◌, true, false, List, [], map, Some, None, Result, Ok, Err}
+use Rattle.std.specs.Prelude.{◌≡◌, ◌⊎◌, ◌≤◌, ◌++◌, true, false, List, [], map, fold, Some, None, Result, Ok, Err}
 use Rattle.std.specs.List.{AllByRecursion, list_any}
 use Rattle.gs_base.specs.declared.refusal.Refusal.{Refusal}
 use Rattle.gs_base.specs.declared.refusal.Refusal.TheVariants as refusals
 use Rattle.gs_journal.specs.declared.version.Version.TheVariants.{Two}
 use Rattle.gs_msg.specs.declared.message.Message.{Message}
-use Rattle.gs_record.specs.Encoding.{encoded}
-use Rattle.gs_record.specs.Plain.{PlainEntry}
+use Rattle.gs_record.specs.Plain.{PlainEntry, plain}
 use Rattle.gs_record.specs.Writable.{IsEntry}
 use Rattle.gs_master.specs.Applied.{replayed}
 use Rattle.gs_master.specs.Durable.{Durable}
-use Rattle.gs_master.specs.Events.{KeepsBack}
+use Rattle.gs_master.specs.Events.{KeepsBack, log_behind}
 use Rattle.gs_master.specs.Plans.{fault_of, log_of}
 use Rattle.gs_master.specs.Recorded.{durable_of}
 use Rattle.gs_master.specs.State.{State, Plan, Turn, fits, first_said}
@@ -34,20 +33,36 @@ AreUnfit records d = (replayed d records ≡ None) ⊎ ¬ AllByRecursion (IsEntr
 abbrev pub HaveRoom : List PlainEntry → Event → Type 0
 HaveRoom records e = (records ≡ []) ⊎ (fits (log_of e.log) records ≡ true)
 
--- A turn is done from the state that stood: each record fits what it meets, and is to be written behind those before it.
+-- records are applied one after the other, and stand behind the others
+pub record AreEntered (records : List PlainEntry) (old new : Event) : Type 0 where
+  pub replays : replayed (durable_of old.recorded) records ≡ Some (durable_of new.recorded)
+  pub are_entries : AllByRecursion (IsEntry Two) records
+  pub room : HaveRoom records old
+  pub entries : map plain new.entries.items ≡ map plain old.entries.items ++ records
+  pub log : log_of new.log ≡ fold log_behind (log_of old.log) records
+
+-- Full only where the journal has no room for all of them, BadLine only where one is unfit, and else memory is wanting
+abbrev pub WhyNotAll : List PlainEntry → Event → Refusal → Type 0
+WhyNotAll records old e =
+    (e ≡ refusals.Memory) ⊎ (((e ≡ refusals.Full) × (fits (log_of old.log) records ≡ false)) ⊎ ((e ≡ refusals.BadLine) × AreUnfit records (durable_of old.recorded)))
+
+abbrev pub EntersAll : List PlainEntry → Event → Result (Unit {0}) Refusal → Event → Type 0
+EntersAll records old (Ok _) new = AreEntered records old new
+EntersAll records old (Err e) new = WhyNotAll records old e
+
+-- A turn is done from the state that stood: each record fits what it meets, and stands behind those before it.
 pub record IsTurned (t : Turn) (old new : Event) : Type 0 where
   pub after : state_at new ≡ t.after
   pub replays : replayed (durable_of old.recorded) t.records ≡ Some (durable_of new.recorded)
   pub are_entries : AllByRecursion (IsEntry Two) t.records
   pub room : HaveRoom t.records old
-  pub written : new.written.items ≡ old.written.items ++ map (encoded Two) t.records
+  pub log : log_of new.log ≡ fold log_behind (log_of old.log) t.records
+  pub entries : map plain new.entries.items ≡ map plain old.entries.items ++ t.records
   pub sent : new.sent.items ≡ old.sent.items ++ t.sent
   pub said : new.said ≡ first_said old.said t.said
 
--- Full only where the journal has no room for all its records, BadLine only where one is unfit, and else memory is wanting
 abbrev pub WhyNotTurned : Turn → Event → Refusal → Type 0
-WhyNotTurned t old e =
-    (e ≡ refusals.Memory) ⊎ (((e ≡ refusals.Full) × (fits (log_of old.log) t.records ≡ false)) ⊎ ((e ≡ refusals.BadLine) × AreUnfit t.records (durable_of old.recorded)))
+WhyNotTurned t old e = WhyNotAll t.records old e
 
 abbrev pub Steps : Turn → Event → Result (Unit {0}) Refusal → Event → Type 0
 Steps t old (Ok _) new = IsTurned t old new

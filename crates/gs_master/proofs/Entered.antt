@@ -1,0 +1,128 @@
+-- Records that are entered one after the other.
+use Rattle.std.proofs.Common.{◌≡◌, ◌≤◌, ◌<◌, ◌⊎◌, inl, inr, ◌∙◌, ◌+◌, ℕ, true, false, List, [], ◌∷◌, ◌++◌, refl, ap, subst, sym, arith, append_assoc, append-nil}
+use Rattle.std.proofs.lemmas.List.Sums.{sum_by-cons}
+use Rattle.std.proofs.lemmas.Bool.{false≢true, leb-true, le-leb, leb-false, lt-leb}
+use Rattle.std.specs.Prelude.{map, fold, option_and_then, unwrap_or, is_some, Option, Some, None, Result, Ok, Err}
+use Rattle.std.specs.List.{AllByRecursion}
+use Rattle.gs_base.specs.declared.refusal.Refusal.{Refusal}
+use Rattle.gs_journal.specs.declared.version.Version.TheVariants.{Two}
+use Rattle.gs_record.specs.Plain.{PlainEntry, plain}
+use Rattle.gs_master.specs.Applied.{applied, replayed}
+use Rattle.gs_master.specs.Durable.{Durable}
+use Rattle.gs_master.specs.Events.{IsEntered, IsUnfit, WhyNot, log_behind}
+use Rattle.gs_master.specs.Plans.{log_of}
+use Rattle.gs_master.specs.Recorded.{durable_of}
+use Rattle.gs_master.specs.State.{State, Log, fits, size_of, size_of_all, with_record}
+use Rattle.gs_master.specs.Turns.{AreEntered, AreUnfit, EntersAll, GoesBack, HaveRoom, IsUnderWay, WhyNotAll}
+use Rattle.gs_master.specs.declared.event.Event.{Event}
+
+-- ---- room
+
+fits_so : (log : Log) (records : List PlainEntry) → log.size + size_of_all records ≤ log.limit → fits log records ≡ true
+fits_so log records within = le-leb _ _ within
+
+so_fits : (log : Log) (records : List PlainEntry) → fits log records ≡ true → log.size + size_of_all records ≤ log.limit
+so_fits log records fit = leb-true _ _ fit
+
+fits_not : (log : Log) (records : List PlainEntry) → log.limit < log.size + size_of_all records → fits log records ≡ false
+fits_not log records above = lt-leb _ _ above
+
+not_fits : (log : Log) (records : List PlainEntry) → fits log records ≡ false → log.limit < log.size + size_of_all records
+not_fits log records none = leb-false _ _ none
+
+no_room_for_one : (log : Log) (x : PlainEntry) (xs : List PlainEntry) → fits log (x ∷ []) ≡ false → fits log (x ∷ xs) ≡ false
+no_room_for_one log x xs none = let above = not_fits log (x ∷ []) none in fits_not log (x ∷ xs) (omega (arith, sum_by-cons size_of x [], sum_by-cons size_of x xs))
+
+-- the first has its room, and so have the others behind it
+module _ (log next : Log) (x : PlainEntry) (xs : List PlainEntry) (behind : next ≡ log_behind log x) where
+  size : next.size ≡ log.size + size_of x
+  size = ap (λ (l : Log). l.size) behind
+
+  limit : next.limit ≡ log.limit
+  limit = ap (λ (l : Log). l.limit) behind
+
+  pub no_room_behind : fits next xs ≡ false → fits log (x ∷ xs) ≡ false
+  no_room_behind none = let above = not_fits next xs none in fits_not log (x ∷ xs) (omega (arith, size, limit, sum_by-cons size_of x xs))
+
+  pub room_behind : fits next xs ≡ true → fits log (x ∷ xs) ≡ true
+  room_behind fit = let within = so_fits next xs fit in fits_so log (x ∷ xs) (omega (arith, size, limit, sum_by-cons size_of x xs))
+
+-- ---- one record, and the others behind it
+
+applied_first : (d : Durable) (x : PlainEntry) (xs : List PlainEntry) (next : Durable) → applied d x ≡ Some next → replayed d (x ∷ xs) ≡ replayed next xs
+applied_first d x xs next is = ap (option_and_then (λ d. replayed d xs)) is
+
+pub enters_none : (e : Event) → AreEntered [] e e
+enters_none e = record { replays = refl; are_entries = tt; room = inl refl; entries = sym (append-nil _); log = refl }
+
+have_room : (xs : List PlainEntry) (x : PlainEntry) (old mid : Event) → IsEntered x old mid → HaveRoom xs mid → HaveRoom (x ∷ xs) old
+have_room xs x old mid one (inl none) = inr (subst (λ more. fits (log_of old.log) (x ∷ more) ≡ true) (sym none) one.room)
+have_room xs x old mid one (inr fit) = inr (room_behind (log_of old.log) (log_of mid.log) x xs one.log fit)
+
+pub enters_one : (x : PlainEntry) (xs : List PlainEntry) (old mid new : Event) → IsEntered x old mid → AreEntered xs mid new → AreEntered (x ∷ xs) old new
+enters_one x xs old mid new one more = record {
+  replays = applied_first _ x xs _ one.applied ∙ more.replays;
+  are_entries = (one.is_entry, more.are_entries);
+  room = have_room xs x old mid one more.room;
+  entries = more.entries ∙ ap (λ before. before ++ xs) one.entries ∙ append_assoc (map plain old.entries.items) (x ∷ []) xs;
+  log = more.log ∙ ap (λ log. fold log_behind log xs) one.log;
+}
+
+unfit_first : (x : PlainEntry) (xs : List PlainEntry) (old : Event) → IsUnfit x old → AreUnfit (x ∷ xs) (durable_of old.recorded)
+unfit_first x xs old (inl none) = inl (ap (option_and_then (λ d. replayed d xs)) none)
+unfit_first x xs old (inr not_one) = inr (λ all. not_one all.0)
+
+unfit_behind : (x : PlainEntry) (xs : List PlainEntry) (old mid : Event) → IsEntered x old mid → AreUnfit xs (durable_of mid.recorded) → AreUnfit (x ∷ xs) (durable_of old.recorded)
+unfit_behind x xs old mid one (inl none) = inl (applied_first _ x xs _ one.applied ∙ none)
+unfit_behind x xs old mid one (inr not_all) = inr (λ all. not_all all.1)
+
+pub why_not_first : (x : PlainEntry) (xs : List PlainEntry) (old : Event) (e : Refusal) → WhyNot x old e → WhyNotAll (x ∷ xs) old e
+why_not_first x xs old e (inl memory) = inl memory
+why_not_first x xs old e (inr (inl (full, none))) = inr (inl (full, no_room_for_one (log_of old.log) x xs none))
+why_not_first x xs old e (inr (inr (bad, unfit))) = inr (inr (bad, unfit_first x xs old unfit))
+
+pub why_not_behind : (x : PlainEntry) (xs : List PlainEntry) (old mid : Event) (e : Refusal) → IsEntered x old mid → WhyNotAll xs mid e → WhyNotAll (x ∷ xs) old e
+why_not_behind x xs old mid e one (inl memory) = inl memory
+why_not_behind x xs old mid e one (inr (inl (full, none))) = inr (inl (full, no_room_behind (log_of old.log) (log_of mid.log) x xs one.log none))
+why_not_behind x xs old mid e one (inr (inr (bad, unfit))) = inr (inr (bad, unfit_behind x xs old mid one unfit))
+
+pub enters_behind : (x : PlainEntry) (xs : List PlainEntry) (old mid new : Event) (result : Result (Unit {0}) Refusal) → IsEntered x old mid → EntersAll xs mid result new → EntersAll (x ∷ xs) old result new
+enters_behind x xs old mid new (Ok done) one more = enters_one x xs old mid new one more
+enters_behind x xs old mid new (Err e) one why = why_not_behind x xs old mid e one why
+
+-- ---- what goes back
+
+pub goes_back_on : (old mid new : Event) → GoesBack old mid → GoesBack mid new → GoesBack old new
+goes_back_on old mid new first second = record {
+  keeps = record {
+    back = λ before back. second.keeps.back before (first.keeps.back before back);
+    leases = second.keeps.leases ∙ first.keeps.leases;
+    memory = second.keeps.memory ∙ first.keeps.memory;
+    from = λ before log has. second.keeps.from before log (first.keeps.from before log has);
+  };
+  ready = second.ready;
+  fault = second.fault ∙ first.fault;
+  sent = (first.sent.0 ++ second.sent.0, second.sent.1 ∙ ap (λ sent. sent ++ second.sent.0) first.sent.1 ∙ append_assoc old.sent.items first.sent.0 second.sent.0);
+}
+
+pub goes_back_here : (e : Event) → IsUnderWay e → GoesBack e e
+goes_back_here e ready = record {
+  keeps = record { back = λ before back. back; leases = refl; memory = refl; from = λ before log has. has };
+  ready = ready;
+  fault = refl;
+  sent = ([], sym (append-nil _));
+}
+
+-- ---- what records make of the state
+
+pub recorded_as : (s : State) (records : List PlainEntry) (d : Durable) → replayed s.durable records ≡ Some d →
+    fold with_record s records ≡ record s { durable = d; log = fold log_behind s.log records }
+
+recorded_first : (s : State) (x : PlainEntry) (xs : List PlainEntry) (d : Durable) (o : Option Durable) → applied s.durable x ≡ o →
+    option_and_then (λ next. replayed next xs) o ≡ Some d → fold with_record (with_record s x) xs ≡ record s { durable = d; log = fold log_behind (log_behind s.log x) xs }
+recorded_as s [] d is = ap (λ o. record s { durable = unwrap_or o s.durable }) is
+recorded_as s (x ∷ xs) d is = recorded_first s x xs d (applied s.durable x) refl is
+recorded_first s x xs d None none is = absurd (false≢true (ap is_some is))
+recorded_first s x xs d (Some next) some is =
+    ap (λ o. fold with_record (record s { durable = unwrap_or o s.durable; log = log_behind s.log x }) xs) some
+    ∙ recorded_as (record s { durable = next; log = log_behind s.log x }) xs d is
