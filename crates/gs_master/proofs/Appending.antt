@@ -1,7 +1,6 @@
 -- Records that are appended to a journal one after the other.
-use Rattle.std.proofs.Common.{◌≡◌, ◌⊎◌, inl, inr, ◌∙◌, ◌+◌, ◌≤◌, ◌<◌, ℕ, Bool, true, false, List, [], ◌∷◌, ◌++◌, length, take, get_or, refl, ap, subst, sym, arith, append-nil, append_assoc}
+use Rattle.std.proofs.Common.{◌≡◌, ◌⊎◌, inl, inr, ◌∙◌, ◌+◌, ◌≤◌, ◌<◌, ℕ, true, List, [], ◌∷◌, ◌++◌, length, take, get_or, ap, subst, sym, arith, append_assoc}
 use Rattle.std.specs.Prelude.{Some, None, nat_le, sum_by, if◌then◌else◌}
-use Rattle.std.proofs.lemmas.Bool.{false≢true}
 use Rattle.std.proofs.lemmas.Bool.Decides.{nat_tests}
 use Rattle.std.proofs.lemmas.List.Sums.{sum_by-append, sum_by_more_le}
 use Rattle.gs_base.specs.declared.refusal.Refusal.{Refusal}
@@ -12,17 +11,6 @@ use Rattle.gs_master.specs.Journaled.{Breaks, Gains, IsReadyFor}
 use Rattle.gs_master.proofs.Rooms.{take_next}
 
 module _ {D : Type 0} (seen : D → List ℕ) (may_leave : D → List ℕ → Type 0) (failures : D → ℕ) where
-  pub gains_none : (j : Journal D) (rs : List Entry) → j.is_failed ≡ false → Gains seen may_leave failures j (take 0 rs) j
-  gains_none j rs is_open = record {
-    text = λ i. (j.text.0, sym (append-nil j.text.1) i);
-    size = omega arith;
-    limit = refl;
-    generation = refl;
-    is_open = is_open;
-    quiet = refl;
-    stands = λ stands. stands;
-  }
-
   pub gains_one : (old mid new : Journal D) (rs : List Entry) (i : ℕ) (r : Entry) → i < length rs → r ≡ get_or rs i r → Gains seen may_leave failures old (take i rs) mid →
       Adds mid r new → Stands seen may_leave new → failures_of_both failures new ≡ failures_of_both failures mid → Gains seen may_leave failures old (take (i + 1) rs) new
   gains_one old mid new rs i r below is gains adds stands quiet = record {

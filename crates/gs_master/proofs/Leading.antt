@@ -1,9 +1,9 @@
 -- That the records of an event lead on from one another, and what stands once the last of them are taken back.
-use Rattle.std.proofs.Common.{◌≡◌, ◌⊎◌, inl, inr, ◌∙◌, ◌+◌, ◌≤◌, ◌<◌, ℕ, suc, Bool, true, List, [], ◌∷◌, ◌++◌, map, length, take, refl, ap, subst, sym, arith, min, take-take, take_all, length-append, length-take}
+use Rattle.std.proofs.Common.{◌≡◌, ◌⊎◌, inl, inr, ◌∙◌, ◌+◌, ◌≤◌, ℕ, suc, true, List, [], ◌∷◌, ◌++◌, map, length, take, refl, ap, subst, sym, arith, min, take-take, take_all, length-append, length-take}
 use Rattle.std.specs.Prelude.{Some, fold, nat_le, slice_get, sum_by, unwrap_or}
 use Rattle.std.proofs.lemmas.Bool.Decides.{nat_tests}
 use Rattle.std.proofs.lemmas.List.{length-map, map-append, take-map, take_min}
-use Rattle.std.proofs.lemmas.List.Sums.{fold-append, sum_by-append, sum_by-cons, sum_by-take-le}
+use Rattle.std.proofs.lemmas.List.Sums.{fold-append, sum_by-append, sum_by-cons}
 use Rattle.gs_journal.specs.Journal.{State as Journal, record_size}
 use Rattle.gs_journal.specs.Records.{Entry as Record}
 use Rattle.gs_journal.specs.declared.version.Version.TheVariants.{Two}
@@ -192,15 +192,6 @@ pub cut_gives : (s : State) (es : List PlainEntry) (us : List Undo) (place : ℕ
 cut_gives s es us place now volatile log fault leads v l f =
     (λ i. record { durable = now; volatile = v i; log = l i; fault = f i })
     ∙ sym (ap (λ (x : State). record x { fault = Failed (slice_get es place) }) (stands_at s (take place es) us now leads))
-
--- there is room for the records that stand
-pub room_of_front : (first : Log) (written : List Record) (es : List PlainEntry) (place : ℕ) → written ≡ map (encoded Two) es → (es ≡ []) ⊎ (fits first es ≡ true) → place < length es →
-    first.size + sum_by record_size (take place written) ≤ first.limit
-room_of_front first written es place is (inl none) within = let empty = ap length none in absurd (omega arith)
-room_of_front first written es place is (inr room) within =
-    let all = ap (sum_by record_size) is ∙ sizes es in
-    let front = sum_by-take-le record_size written place in
-    grind (arith, nat_tests)
 
 -- ---- an event whose records are all written
 

@@ -9,6 +9,7 @@ pub mod Counted
 pub mod Counters
 pub mod Deleted
 pub mod Edits
+pub mod Ended
 pub mod Entered
 pub mod Fronts
 pub mod Kept

@@ -4,7 +4,7 @@ use Rattle.std.proofs.lemmas.Bool.{false≢true}
 use Rattle.std.specs.Prelude.{is_some, map}
 use Rattle.std.specs.declared.cmp.Ordering.{Ordering}
 use Rattle.std.specs.declared.cmp.Ordering.TheVariants.{Less, Equal, Greater}
-use Rattle.std.specs.Ordering.{eq_by_cmp, is_eq, nat_cmp, on}
+use Rattle.std.specs.Ordering.{eq_by_cmp, is_eq, nat_cmp}
 use Rattle.std.specs.Cmp.{IsTotalOrder, nat_cmp_total, on_total}
 use Rattle.std.specs.FinMap as fin
 use Rattle.gs_base.specs.declared.numbers.ClientId.{ClientId}
@@ -12,8 +12,7 @@ use Rattle.gs_lock.specs.Locks.{beginnings}
 use Rattle.gs_lock.specs.declared.lock.Lock.{Lock}
 use Rattle.gs_path.specs.Path.{Name, Path}
 use Rattle.gs_tree.specs.Edits.{parent}
-use Rattle.gs_table.specs.Keys.{client_exact}
-use Rattle.gs_table.specs.Slots.{HasRoom, KeepsRoom, set_live}
+use Rattle.gs_table.specs.Slots.{KeepsRoom, set_live}
 use Rattle.gs_master.specs.Memories.{KeepsRooms, volatile_of}
 use Rattle.gs_master.specs.Replies.{client_cmp}
 use Rattle.gs_master.specs.declared.asking.Asking.{Asking}

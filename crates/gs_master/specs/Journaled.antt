@@ -1,12 +1,8 @@
 -- What the records of an event become at the journal, and what is left of the event where a disk fails at one of them.
-use Rattle.std.specs.Prelude.{◌≡◌, ◌⊎◌, ◌+◌, ◌<◌, ◌≤◌, ◌++◌, ℕ, Bool, true, false, List, [], ◌∷◌, length, map, take, sum_by, Option, Some, Result, Ok, Err, refl}
+use Rattle.std.specs.Prelude.{◌≡◌, ◌⊎◌, ◌+◌, ◌<◌, ◌≤◌, ◌++◌, ℕ, true, false, List, [], length, map, take, sum_by, Option, Some}
 use Rattle.gs_base.specs.declared.numbers.ReqId.{ReqId}
-use Rattle.gs_base.specs.declared.refusal.Refusal.{Refusal}
-use Rattle.gs_base.specs.declared.refusal.Refusal.TheVariants as refusals
 use Rattle.gs_journal.specs.Journal.{State as Journal, Stands, failures_of_both, record_size}
 use Rattle.gs_journal.specs.Records.{Entry}
-use Rattle.gs_journal.specs.declared.version.Version.TheVariants.{Two}
-use Rattle.gs_msg.specs.declared.message.Message.{Message}
 use Rattle.gs_record.specs.Plain.{plain}
 use Rattle.gs_master.specs.Durable.{Durable}
 use Rattle.gs_master.specs.Outcomes.{cut, cut_refusal, unsure}

@@ -11,7 +11,7 @@ use Rattle.gs_edit.specs.View.{NamesView}
 use Rattle.gs_edit.specs.declared.listed.ListedInverse.{ListedInverse}
 use Rattle.gs_lease.specs.declared.lease.Lease.{Lease}
 use Rattle.gs_record.specs.Encoding.{new_store}
-use Rattle.gs_record.specs.Plain.{plain_inverse, PlainEdit, Mkdirs, Create, Rename, Hide, Unhide, Remove, AddChunk, Cow, Snapshot, Forget, PlainEntry, Edited, Said, Propose, Settle, Prepare, Finalize, RollbackBegin, RollbackCommit, Whole, Holder}
+use Rattle.gs_record.specs.Plain.{plain_inverse, PlainEdit, Mkdirs, Create, Rename, Hide, Unhide, Remove, AddChunk, Cow, Snapshot, Forget, PlainEntry, Edited, Propose, Prepare, Whole}
 use Rattle.gs_record.specs.declared.checkpoint.Phase.TheVariants.{Rolling, Upgrade}
 use Rattle.gs_table.specs.Slots.{live, set_live, HasRoom}
 use Rattle.gs_master.specs.Applied.{applied}

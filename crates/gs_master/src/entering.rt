@@ -1,5 +1,5 @@
 // Records of events, entered one after the other so that each can be taken back.
-ghost use Rattle.std.specs.Prelude.{◌≡◌, ◌<◌, Ok, true, false, map, IfOk, IfErr, vec_len, vec_capacity};
+ghost use Rattle.std.specs.Prelude.{◌≡◌, Ok, true, false, IfOk, IfErr};
 ghost use Rattle.std.specs.Ordering.{nat_cmp};
 ghost use Rattle.std.specs.FinMap as fin;
 ghost use Rattle.gs_record.specs.Plain as entries;

@@ -1,17 +1,12 @@
 // The end of an event: its records are written to the journal, or as many of them as stand before a disk's failure.
-ghost use Rattle.std.specs.Prelude.{◌≡◌, ◌⊎◌, ◌≤◌, ◌<◌, ◌+◌, ℕ, List, [], Some, IfErr, IfOk, OnOk, fold, length, map, option_map, slice_get, sum_by, take};
-ghost use Rattle.std.specs.Ordering.{nat_cmp};
+ghost use Rattle.std.specs.Prelude.{◌≡◌, ◌⊎◌, ◌≤◌, ◌<◌, ◌+◌, ℕ, Some, IfErr, IfOk, OnOk, length, sum_by};
 ghost use Rattle.gs_journal.specs.Journal.{record_size};
-ghost use Rattle.gs_record.specs.Plain.{PlainEntry, plain};
-ghost use Rattle.gs_table.specs.Slots.{live};
 ghost use Rattle.gs_master.specs.Durable.{Durable};
-ghost use Rattle.gs_master.specs.Events.{HasComeFrom, Leads};
+ghost use Rattle.gs_master.specs.Events.{HasComeFrom};
 ghost use Rattle.gs_master.specs.Journaled.{AreCut, AreWritten, Breaks, Gains, IsCutAt, IsReadyFor, IsWhole};
 ghost use Rattle.gs_master.specs.Outcomes.{cut_refusal, unsure};
 ghost use Rattle.gs_master.specs.Plans.{log_of};
-ghost use Rattle.gs_master.specs.Recorded.{durable_of};
-ghost use Rattle.gs_master.specs.State.{size_of_all};
-ghost use Rattle.gs_master.specs.TakingBack.{RoomForAll, all_leases_before};
+ghost use Rattle.gs_master.specs.TakingBack.{RoomForAll};
 
 use crate::event::{Event, size_of};
 use crate::fault::Fault;

@@ -3,7 +3,7 @@ ghost use Rattle.std.specs.Option.{option_copied};
 ghost use Rattle.std.specs.Ordering.{nat_cmp};
 ghost use Rattle.std.specs.FinMap as fin;
 ghost use Rattle.gs_lock.specs.Operations.{same_op};
-ghost use Rattle.gs_table.specs.Slots.{HasRoom, live};
+ghost use Rattle.gs_table.specs.Slots.{HasRoom};
 ghost use Rattle.gs_master.specs.Memories.{KeepsRooms, volatile_of};
 ghost use Rattle.gs_master.specs.Replies.{client_cmp};
 ghost use Rattle.gs_master.specs.Volatile.{changed, servers_or_none};

@@ -11,7 +11,7 @@ ghost use Rattle.gs_master.specs.Replies.{is_later};
 
 use crate::asking::Prepared;
 use crate::reply::KeptReply;
-use gs_base::{ClientId, EpochEnd, Handle, Members, ReqId, Stamp};
+use gs_base::{ClientId, EpochEnd, Handle, Members, ReqId};
 use gs_edit::{ListedInverse, Names};
 use gs_lease::{Lease, Told, View};
 use gs_record::{Phase, SettledView};

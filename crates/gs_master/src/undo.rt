@@ -1,9 +1,7 @@
 // What takes a record back that was applied.
 ghost use Rattle.std.specs.Prelude.{◌≡◌};
-ghost use Rattle.std.specs.Ordering.{nat_cmp};
 ghost use Rattle.std.specs.FinMap as fin;
-ghost use Rattle.gs_table.specs.Slots.{HasRoom, KeepsRoom, live, set_live};
-ghost use Rattle.gs_master.specs.Replies.{client_cmp};
+ghost use Rattle.gs_table.specs.Slots.{HasRoom, KeepsRoom, live};
 
 use crate::asking::Prepared;
 use crate::reply::KeptReply;

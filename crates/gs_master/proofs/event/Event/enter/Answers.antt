@@ -1,4 +1,3 @@
-use Rattle.gs_record.specs.Plain.{plain}
 use Rattle.gs_master.proofs.Leading.{Enter, entered_keeps}
 use Rattle.gs_master.proofs.event.Event.enter.Goals as goal
 

@@ -1,9 +1,4 @@
-use Rattle.std.proofs.Common.{◌≡◌, refl, sym, ap, subst, ◌∙◌}
-use Rattle.gs_master.specs.Memories.{volatile_of}
-use Rattle.gs_master.specs.Tracked.{NowAndBefore}
-use Rattle.gs_master.specs.Volatile.{Volatile}
-use Rattle.gs_master.specs.declared.tracked.Slot.TheVariants as slots
-use Rattle.gs_master.proofs.Tracking.{changed_before, before_is, calls_keep, none_kept, rooms_stay, rooms_pushed}
+use Rattle.gs_master.proofs.Tracking.{changed_before, rooms_stay}
 use Rattle.gs_master.proofs.tracked.Tracked.end.Goals as goal
 
 pub invariant_of-self : goal.invariant_of-self
