@@ -8,6 +8,7 @@ mod carrying;
 mod change;
 mod checking;
 mod checkpointing;
+mod concluding;
 mod copying;
 mod editing;
 mod entering;
