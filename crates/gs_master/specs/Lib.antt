@@ -22,6 +22,7 @@ pub mod Reversing
 pub mod Sane
 pub mod Settling
 pub mod State
+pub mod Surveying
 pub mod TakingBack
 pub mod Texts
 pub mod Tracked
