@@ -7,6 +7,7 @@ pub mod ChunkSets
 pub mod Counted
 pub mod Counters
 pub mod Deleted
+pub mod Digits
 pub mod Edits
 pub mod Fronts
 pub mod Kept
@@ -29,5 +30,6 @@ pub mod Surveys
 pub mod Takings
 pub mod Targets
 pub mod Tellings
+pub mod ToldWhole
 pub mod Tracking
 pub mod Waits

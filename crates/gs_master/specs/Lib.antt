@@ -25,6 +25,7 @@ pub mod State
 pub mod Surveying
 pub mod TakingBack
 pub mod Texts
+pub mod ToldNumbers
 pub mod Tracked
 pub mod Turns
 pub mod Undoing

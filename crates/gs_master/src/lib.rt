@@ -51,6 +51,7 @@ mod standing;
 mod taking_back;
 mod telling;
 mod texts;
+mod told_answers;
 mod tracked;
 mod undo;
 mod upgrading;
