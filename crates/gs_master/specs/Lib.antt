@@ -24,8 +24,10 @@ pub mod Sane
 pub mod Settling
 pub mod StartingOver
 pub mod State
+pub mod Surveying
 pub mod TakingBack
 pub mod Texts
+pub mod ToldNumbers
 pub mod Tracked
 pub mod Turns
 pub mod Undoing

@@ -34,7 +34,7 @@ fn references(alloc: Global, refs: &Refs) -> Result<Vec<Reference>, AllocError>
 }
 
 /// The text of an answer that a record tells.
-fn answer_text(alloc: Global, answer: &Answer) -> Result<String, AllocError>
+pub(crate) fn answer_text(alloc: Global, answer: &Answer) -> Result<String, AllocError>
     ensures { IfOk result (λ text. string_bytes text ≡ answer_text answer.now) }
 {
     match answer {

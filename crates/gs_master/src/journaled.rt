@@ -4,7 +4,7 @@ ghost use Rattle.gs_journal.specs.Journal.{record_size};
 ghost use Rattle.gs_master.specs.Durable.{Durable};
 ghost use Rattle.gs_master.specs.Events.{HasComeFrom};
 ghost use Rattle.gs_master.specs.Journaled.{AreCut, AreWritten, Breaks, Gains, IsCutAt, IsReadyFor, IsWhole};
-ghost use Rattle.gs_master.specs.Outcomes.{cut_refusal, unsure};
+ghost use Rattle.gs_master.specs.Outcomes.{caller_of, cut_refusal, unsure};
 ghost use Rattle.gs_master.specs.Plans.{log_of};
 ghost use Rattle.gs_master.specs.TakingBack.{RoomForAll};
 
@@ -14,7 +14,7 @@ use crate::log::Log;
 use crate::posting::reply_to;
 use gs_base::{Refusal, ReqId};
 use gs_journal::{Disk, Journal, Record};
-use gs_msg::Message;
+use gs_msg::{Body, Message};
 use std::alloc::{AllocError, Global};
 use std::mem;
 
@@ -53,6 +53,16 @@ fn unsure(alloc: Global, caller: Option<ReqId>) -> Result<Vec<Message>, AllocErr
     match caller {
         Some(req) => Ok(vec![in alloc; reply_to(req, Err(Refusal::Unsure))]?),
         None => Ok(Vec::new(alloc)),
+    }
+}
+
+/// Who has called, if a message is a call.
+pub(crate) fn caller_of(said: &Body) -> Option<ReqId>
+    ensures { result ≡ caller_of said.now }
+{
+    match said {
+        Body::Call { req, .. } => Some(*req),
+        _ => None,
     }
 }
 

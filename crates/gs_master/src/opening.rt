@@ -6,6 +6,7 @@ ghost use Rattle.gs_table.specs.Slots.{live};
 ghost use Rattle.gs_master.specs.Checkpoints.{Reads, are_sound, told_chunks, told_with};
 ghost use Rattle.gs_master.specs.Recorded.{chunks_of, durable_of};
 ghost use Rattle.gs_master.specs.Replies.{client_cmp};
+ghost use Rattle.gs_master.specs.ToldNumbers.{ReadsWhole};
 ghost use Rattle.gs_master.specs.Whole.{names_in};
 
 use crate::checking::{are_ends, are_given, are_prepared, has_upgrade};
@@ -14,6 +15,7 @@ use crate::reading::{are_settled, told_leases, told_prepared};
 use crate::recorded::Recorded;
 use crate::reply::KeptReply;
 use crate::telling::told_names;
+use crate::told_answers::told_replies;
 use gs_base::{ClientId, Handle, Refusal};
 use gs_edit::Names;
 use gs_lease::Lease;
@@ -88,5 +90,16 @@ impl Recorded {
             return Err(Refusal::BadLine);
         }
         Ok(recorded)
+    }
+
+    /// What a checkpoint tells. BadLine where its lists aren't about one state, where a reply's text is that of no answer, or
+    /// where a rollback couldn't be done.
+    pub fn told_whole(alloc: Global, checkpoint: &Checkpoint) -> Result<Recorded, Refusal>
+        ensures { ReadsWhole (plain_checkpoint checkpoint.now) result }
+    {
+        match told_replies(alloc, &checkpoint.replies)? {
+            Some(replies) => Recorded::told(alloc, checkpoint, replies),
+            None => Err(Refusal::BadLine),
+        }
     }
 }
