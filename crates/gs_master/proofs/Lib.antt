@@ -24,4 +24,5 @@ pub mod Rolling
 pub mod Rooms
 pub mod Takings
 pub mod Tellings
+pub mod Together
 pub mod Tracking

@@ -26,6 +26,7 @@ pub mod State
 pub mod TakingBack
 pub mod Texts
 pub mod Tracked
+pub mod Trying
 pub mod Turns
 pub mod Undoing
 pub mod Upgrades
