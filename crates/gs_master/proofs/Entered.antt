@@ -1,8 +1,8 @@
 -- Records that are entered one after the other.
 use Rattle.std.proofs.Common.{◌≡◌, ◌≤◌, ◌<◌, ◌⊎◌, inl, inr, ◌∙◌, ℕ, true, false, List, [], ◌∷◌, ◌++◌, refl, ap, subst, sym, arith, append_assoc, append-nil}
 use Rattle.std.proofs.lemmas.List.Sums.{sum_by-cons}
-use Rattle.std.proofs.lemmas.Bool.{leb-true, le-leb, leb-false, lt-leb}
-use Rattle.std.specs.Prelude.{map, fold, option_and_then, Some, None, Result, Ok, Err, Unit}
+use Rattle.std.proofs.lemmas.Bool.{false≢true, leb-true, le-leb, leb-false, lt-leb}
+use Rattle.std.specs.Prelude.{map, fold, option_and_then, unwrap_or, is_some, Option, Some, None, Result, Ok, Err, Unit}
 use Rattle.std.specs.List.{AllByRecursion}
 use Rattle.gs_base.specs.declared.refusal.Refusal.{Refusal}
 use Rattle.gs_journal.specs.declared.version.Version.TheVariants.{Two}
@@ -12,7 +12,7 @@ use Rattle.gs_master.specs.Durable.{Durable}
 use Rattle.gs_master.specs.Events.{IsEntered, IsUnfit, WhyNot, log_behind}
 use Rattle.gs_master.specs.Plans.{log_of}
 use Rattle.gs_master.specs.Recorded.{durable_of}
-use Rattle.gs_master.specs.State.{Log, fits, size_of, size_of_all}
+use Rattle.gs_master.specs.State.{State, Log, fits, size_of, size_of_all, with_record}
 use Rattle.gs_master.specs.Turns.{AreEntered, AreUnfit, EntersAll, GoesBack, HaveRoom, IsUnderWay, WhyNotAll}
 use Rattle.gs_master.specs.declared.event.Event.{Event}
 
@@ -112,3 +112,17 @@ goes_back_here e ready = record {
   fault = refl;
   sent = ([], sym (append-nil _));
 }
+
+-- ---- what records make of the state
+
+pub recorded_as : (s : State) (records : List PlainEntry) (d : Durable) → replayed s.durable records ≡ Some d →
+    fold with_record s records ≡ record s { durable = d; log = fold log_behind s.log records }
+recorded_as s [] d is = ap (λ o. record s { durable = unwrap_or o s.durable }) is
+recorded_as s (x ∷ xs) d is = first (applied s.durable x) refl is
+  where
+    first : (o : Option Durable) → applied s.durable x ≡ o → option_and_then (λ next. replayed next xs) o ≡ Some d →
+        fold with_record (with_record s x) xs ≡ record s { durable = d; log = fold log_behind (log_behind s.log x) xs }
+    first None none is = absurd (false≢true (ap is_some is))
+    first (Some next) some is =
+        ap (λ o. fold with_record (record s { durable = unwrap_or o s.durable; log = log_behind s.log x }) xs) some
+        ∙ recorded_as (record s { durable = next; log = log_behind s.log x }) xs d is

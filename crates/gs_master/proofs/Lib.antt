@@ -1,3 +1,4 @@
+pub mod Anew
 pub mod Before
 pub mod Beginnings
 pub mod Blanks
