@@ -14,7 +14,7 @@ use Rattle.gs_master.specs.Durable.{Durable}
 use Rattle.gs_master.specs.Events.{log_behind}
 use Rattle.gs_master.specs.Plans.{log_of}
 use Rattle.gs_master.specs.Recorded.{durable_of}
-use Rattle.gs_master.specs.State.{State, Turn, Log, fits, first_said, for_each, joined, size_of, size_of_all, unmoved, with_record}
+use Rattle.gs_master.specs.State.{State, Turn, Log, and_then, fits, first_said, for_each, joined, size_of, size_of_all, unmoved, with_record}
 use Rattle.gs_master.specs.Turns.{AreUnfit, HaveRoom, IsTurned, Steps, WhyNotTurned, state_at}
 use Rattle.gs_master.specs.declared.event.Event.{Event}
 
@@ -130,6 +130,13 @@ pub steps_both : (t next : Turn) (old mid new : Event) (result : Result (Unit {0
 steps_both t next old mid new (Ok done) first then = turned_both t next old mid new first then
 steps_both t next old mid new (Err e) first then = why_not_then t next old mid e first then
 
+-- the same of one thing, and in the state that it leaves another
+pub steps_and : (t : Turn) (next : State → Turn) (old mid new : Event) (result : Result (Unit {0}) Refusal) → IsTurned t old mid → Steps (next (state_at mid)) mid result new → Steps (and_then t next) old result new
+steps_and t next old mid new result first then = steps_both t (next t.after) old mid new result first (subst (λ s. Steps (next s) mid result new) first.after then)
+
+pub why_not_and : (t : Turn) (next : State → Turn) (old : Event) (e : Refusal) → WhyNotTurned t old e → WhyNotTurned (and_then t next) old e
+why_not_and t next old e why = why_not_first t (next t.after) old e why
+
 -- ---- the rest of a turn
 
 -- whatever the rest comes to, the whole comes to from the start
@@ -173,21 +180,30 @@ module _ {A : Type 0} (step : A → State → Turn) where
   abbrev pub rest_of : State → List A → ℕ → Turn
   rest_of s xs place = for_each s (drop place xs) step
 
-  at_next : (s : State) (xs : List A) (place : ℕ) (x : A) → place < length xs → x ≡ get_or xs place x → rest_of s xs place ≡ joined (step x s) (rest_of (step x s).after xs (place + 1))
-  at_next s xs place x below is =
-      ap (λ l. for_each s l step) (drop-cons xs place x below) ∙ ap (λ y. joined (step y s) (for_each (step y s).after (drop (suc place) xs) step)) (sym is)
-      ∙ ap (λ k. joined (step x s) (for_each (step x s).after (drop k xs) step)) (sym (add-one place))
+  at_next : (s : State) (xs : List A) (place : ℕ) (d : A) → place < length xs → rest_of s xs place ≡ joined (step (get_or xs place d) s) (rest_of (step (get_or xs place d) s).after xs (place + 1))
+  at_next s xs place d below =
+      ap (λ l. for_each s l step) (drop-cons xs place d below)
+      ∙ ap (λ k. joined (step (get_or xs place d) s) (for_each (step (get_or xs place d) s).after (drop k xs) step)) (sym (add-one place))
 
-  pub one_further : (whole : Turn) (old mid new : Event) (xs : List A) (place : ℕ) (x : A) → place < length xs → x ≡ get_or xs place x
-      → LeadsOn whole (rest_of (state_at mid) xs place) old mid → IsTurned (step x (state_at mid)) mid new → LeadsOn whole (rest_of (state_at new) xs (place + 1)) old new
-  one_further whole old mid new xs place x below is leads turned =
+  pub one_further : (whole : Turn) (old mid new : Event) (xs : List A) (place : ℕ) (d : A) → place < length xs
+      → LeadsOn whole (rest_of (state_at mid) xs place) old mid → IsTurned (step (get_or xs place d) (state_at mid)) mid new → LeadsOn whole (rest_of (state_at new) xs (place + 1)) old new
+  one_further whole old mid new xs place d below leads turned =
       subst (λ s. LeadsOn whole (rest_of s xs (place + 1)) old new) (sym turned.after)
-      (leads_further whole (step x (state_at mid)) _ old mid new (subst (λ t. LeadsOn whole t old mid) (at_next (state_at mid) xs place x below is) leads) turned)
+      (leads_further whole (step (get_or xs place d) (state_at mid)) _ old mid new (subst (λ t. LeadsOn whole t old mid) (at_next (state_at mid) xs place d below) leads) turned)
 
-  pub one_refused : (whole : Turn) (old mid : Event) (xs : List A) (place : ℕ) (x : A) (e : Refusal) → place < length xs → x ≡ get_or xs place x
+  pub one_refused : (whole : Turn) (old mid : Event) (xs : List A) (place : ℕ) (d : A) (e : Refusal) → place < length xs
+      → LeadsOn whole (rest_of (state_at mid) xs place) old mid → WhyNotTurned (step (get_or xs place d) (state_at mid)) mid e → WhyNotTurned whole old e
+  one_refused whole old mid xs place d e below leads why =
+      leads_to_refusal whole (step (get_or xs place d) (state_at mid)) _ old mid e (subst (λ t. LeadsOn whole t old mid) (at_next (state_at mid) xs place d below) leads) why
+
+  -- the same of an item that is known to stand there
+  pub item_further : (whole : Turn) (old mid new : Event) (xs : List A) (place : ℕ) (x : A) → place < length xs → x ≡ get_or xs place x
+      → LeadsOn whole (rest_of (state_at mid) xs place) old mid → IsTurned (step x (state_at mid)) mid new → LeadsOn whole (rest_of (state_at new) xs (place + 1)) old new
+  item_further whole old mid new xs place x below is leads turned = one_further whole old mid new xs place x below leads (subst (λ y. IsTurned (step y (state_at mid)) mid new) is turned)
+
+  pub item_refused : (whole : Turn) (old mid : Event) (xs : List A) (place : ℕ) (x : A) (e : Refusal) → place < length xs → x ≡ get_or xs place x
       → LeadsOn whole (rest_of (state_at mid) xs place) old mid → WhyNotTurned (step x (state_at mid)) mid e → WhyNotTurned whole old e
-  one_refused whole old mid xs place x e below is leads why =
-      leads_to_refusal whole (step x (state_at mid)) _ old mid e (subst (λ t. LeadsOn whole t old mid) (at_next (state_at mid) xs place x below is) leads) why
+  item_refused whole old mid xs place x e below is leads why = one_refused whole old mid xs place x e below leads (subst (λ y. WhyNotTurned (step y (state_at mid)) mid e) is why)
 
   pub none_left : (whole : Turn) (old mid : Event) (xs : List A) (place : ℕ) → length xs ≤ place → LeadsOn whole (rest_of (state_at mid) xs place) old mid → IsTurned whole old mid
   none_left whole old mid xs place above leads =

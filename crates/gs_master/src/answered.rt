@@ -135,7 +135,7 @@ impl Event {
     }
 
     /// An answer is kept, and what follows of it is done.
-    fn hear(
+    pub fn hear(
         &mut self,
         chunk: Handle,
         asking: &Asking,

@@ -1,5 +1,6 @@
 // Views that are begun in an event.
 ghost use Rattle.std.specs.Prelude.{◌≡◌};
+ghost use Rattle.gs_lease.specs.declared.view.Purpose.TheVariants as purposes;
 ghost use Rattle.gs_master.specs.Beginning.{all_begun, begun};
 ghost use Rattle.gs_master.specs.Turns.{GoesBack, IsUnderWay, Steps, state_at};
 
@@ -23,19 +24,14 @@ impl Event {
         self.carry_out(plan)
     }
 
-    /// Views of several chunks are begun, in this order.
-    pub fn begin_all(
-        &mut self,
-        chunks: &[Handle],
-        purpose: Purpose,
-        call: Option<ReqId>,
-    ) -> Result<(), Refusal>
+    /// Views of several chunks are begun that make them quiet, in this order.
+    pub fn begin_all(&mut self, chunks: &[Handle], call: Option<ReqId>) -> Result<(), Refusal>
         requires { IsUnderWay self.old }
-        ensures steps { Steps (all_begun (state_at self.old) chunks.now purpose call) self.old result self.new }
+        ensures steps { Steps (all_begun (state_at self.old) chunks.now purposes.Quiet call) self.old result self.new }
         ensures back { GoesBack self.old self.new }
     {
         for chunk in chunks {
-            self.begin(*chunk, purpose, call)?;
+            self.begin(*chunk, Purpose::Quiet, call)?;
         }
         Ok(())
     }

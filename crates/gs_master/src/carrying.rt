@@ -1,5 +1,5 @@
 // The plans of an event are carried out, one after the other.
-ghost use Rattle.std.specs.Prelude.{◌≡◌, ◌++◌, ◌×◌, false, true, map, OnOk, IfOk};
+ghost use Rattle.std.specs.Prelude.{◌≡◌, ◌++◌, false, true, map, OnOk, IfOk};
 ghost use Rattle.std.specs.List.{list_any, list_all};
 ghost use Rattle.gs_record.specs.Plain.{plain};
 ghost use Rattle.gs_master.specs.Applied.{is_whole_entry};

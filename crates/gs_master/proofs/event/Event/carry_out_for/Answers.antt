@@ -1,0 +1,5 @@
+use Rattle.gs_master.proofs.Together.{no_checkpoint}
+use Rattle.gs_master.proofs.event.Event.carry_out_for.Goals as goal
+
+pub fits-requires : goal.fits-requires
+fits-requires c = no_checkpoint _ c.requires.together.records
