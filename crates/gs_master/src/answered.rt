@@ -91,6 +91,7 @@ impl Event {
     }
 
     /// A chunk is settled by these answers, and the calls that it concerns go on.
+    #[tactic(auto, unfolding(crate::specs::Settling::settled_by))]
     fn settle_by(
         &mut self,
         chunk: Handle,

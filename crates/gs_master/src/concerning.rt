@@ -42,17 +42,24 @@ impl<'a> Standing<'a> {
             .visible_chunks_under(self.recorded.alloc, from)
     }
 
+    /// Whether each of these chunks is quiet.
+    fn are_quiet(&self, chunks: &[Handle]) -> bool
+        ensures { result ≡ list_all (is_quiet_at (state_of self.entry.now)) chunks.now }
+    {
+        for chunk in chunks {
+            if !self.is_quiet_at(*chunk) {
+                return false;
+            }
+        }
+        true
+    }
+
     /// Whether each chunk that a snapshot copies is quiet.
     pub fn is_source_quiet(&self, from: &Path) -> Result<bool, AllocError>
         ensures { IfOk result (λ quiet. quiet ≡ list_all (is_quiet_at (state_of self.entry.now)) (source_chunks (state_of self.entry.now) from.now)) }
     {
         let chunks = self.source_chunks(from)?;
-        for chunk in &chunks {
-            if !self.is_quiet_at(*chunk) {
-                return Ok(false);
-            }
-        }
-        Ok(true)
+        Ok(self.are_quiet(&chunks))
     }
 
     /// Whether a call that waits is a snapshot that copies a chunk.

@@ -26,7 +26,7 @@ use std::alloc::AllocError;
 
 impl Recorded {
     /// The handle of the next chunk, if one is left.
-    fn next_handle(&self) -> Option<Handle>
+    pub(crate) fn next_handle(&self) -> Option<Handle>
         ensures some { is_some result ≡ has_handle (durable_of self.now) }
         ensures handle { IfSome result (λ handle. handle ≡ (durable_of self.now).next_handle) }
     {
@@ -196,6 +196,7 @@ impl Event {
     }
 
     /// A call goes on once a chunk is settled on this view, which is the chunk that it waits for or one of a snapshot's.
+    #[tactic(auto, unfolding(crate::specs::Settling::goes_on))]
     fn go_on(&mut self, req: ReqId, view: &View, waits: &Waiting) -> Result<(), Refusal>
         requires { IsUnderWay self.old }
         ensures steps { Steps (goes_on (state_at self.old) req view.now waits.now) self.old result self.new }

@@ -1,5 +1,6 @@
 // Servers' answers to a proposal, and the tick that waits for no more of them.
-ghost use Rattle.std.specs.Prelude.{◌≡◌};
+ghost use Rattle.std.specs.Prelude.{◌≡◌, option_and_then};
+ghost use Rattle.gs_master.specs.Chunks.{Chunk, chunk_at};
 ghost use Rattle.gs_master.specs.Handling.{pressed};
 ghost use Rattle.gs_master.specs.Hearing.{is_with_sealed, promised, unpromised};
 ghost use Rattle.gs_master.specs.Durable.{prepared_view};
@@ -41,7 +42,9 @@ pub(crate) struct Promise {
 
 impl Event {
     /// What is asked for a chunk that the master knows.
-    fn asking_at(&self, chunk: Handle) -> Option<Asking> {
+    fn asking_at(&self, chunk: Handle) -> Option<Asking>
+        ensures { result ≡ option_and_then (λ (c : Chunk). c.asking) (chunk_at (state_at self.now) chunk) }
+    {
         self.standing().chunk_at(chunk)?.asking
     }
 

@@ -22,8 +22,10 @@ fn refusal_of(names: &mut Names, edit: &Edit) -> Result<Option<Refusal>, Refusal
             put_names_back(names, before);
             Ok(None)
         },
-        Err(Refusal::Memory) => Err(Refusal::Memory),
-        Err(refusal) => Ok(Some(refusal)),
+        Err(refusal) => match refusal {
+            Refusal::Memory => Err(Refusal::Memory),
+            refusal => Ok(Some(refusal)),
+        },
     }
 }
 
