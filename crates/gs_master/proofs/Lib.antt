@@ -2,6 +2,7 @@ pub mod Before
 pub mod Beginnings
 pub mod Blanks
 pub mod Choosing
+pub mod Composing
 pub mod Counted
 pub mod Counters
 pub mod Deleted
