@@ -2,6 +2,7 @@ pub mod Before
 pub mod Beginnings
 pub mod Blanks
 pub mod Choosing
+pub mod ChunkSets
 pub mod Composing
 pub mod Counted
 pub mod Counters
@@ -10,6 +11,7 @@ pub mod Edits
 pub mod Entered
 pub mod Fronts
 pub mod Kept
+pub mod Listed
 pub mod Lowered
 pub mod Mapping
 pub mod Nodes
@@ -22,6 +24,10 @@ pub mod Restored
 pub mod Reversals
 pub mod Rolling
 pub mod Rooms
+pub mod ScanLists
+pub mod Surveys
 pub mod Takings
+pub mod Targets
 pub mod Tellings
 pub mod Tracking
+pub mod Waits
