@@ -1,10 +1,11 @@
 -- What the code judges of a call.
-use Rattle.std.specs.Prelude.{◌≡◌, ◌+◌, ℕ, List, [], ◌∷◌, Option, Some, None, is_none, cond, codes, refl}
+use Rattle.std.specs.Prelude.{◌≡◌, ◌+◌, ℕ, Bool, List, [], ◌∷◌, Option, Some, None, is_none, cond, codes, refl}
 use Rattle.std.specs.declared.cmp.Ordering.{Ordering}
 use Rattle.std.specs.declared.cmp.Ordering.TheVariants.{Less, Equal, Greater}
 use Rattle.std.specs.Cmp.Lexicographic.{slice_cmp}
 use Rattle.std.specs.Ordering.{nat_cmp}
-use Rattle.gs_path.specs.Path.{Path, path_text}
+use Rattle.gs_msg.specs.declared.lists.ListedName.{ListedName}
+use Rattle.gs_path.specs.Path.{Name, Path, path_text}
 use Rattle.gs_tree.specs.Plain.{Plain}
 use Rattle.gs_master.specs.Handling.{Numbered, New, Again, Older}
 use Rattle.gs_master.specs.declared.judging.Numbered.{Numbered as Judged_number}
@@ -14,6 +15,10 @@ abbrev pub numbered_of : Judged_number → Numbered
 numbered_of numbers.New = New
 numbered_of (numbers.Again reply) = Again reply.now
 numbered_of numbers.Older = Older
+
+-- a name as it is told, with whether a directory stands there
+abbrev pub listed_name : Name × Bool → ListedName
+listed_name pair = record { name = pair.0; is_directory = pair.1 }
 
 -- the lower of two texts
 abbrev pub lower_text : List ℕ → Option (List ℕ) → List ℕ

@@ -23,6 +23,7 @@ pub mod Sane
 pub mod Settling
 pub mod StartingOver
 pub mod State
+pub mod Surveying
 pub mod TakingBack
 pub mod Texts
 pub mod Tracked

@@ -1,10 +1,11 @@
 // How a call that waited goes on once a chunk is settled.
-ghost use Rattle.std.specs.Prelude.{◌≡◌, true, false, Some, None, is_some, IfOk, IfSome};
+ghost use Rattle.std.specs.Prelude.{◌≡◌, Some, Ok, is_some, IfOk, IfSome};
+ghost use Rattle.gs_edit.specs.View.{NamesView};
 ghost use Rattle.gs_lease.specs.declared.view.Purpose.TheVariants as purposes;
 ghost use Rattle.gs_master.specs.Beginning.{begin_at, copy_plan, has_handle, next_stamp, waits_on};
 ghost use Rattle.gs_master.specs.Plans.{plan_of, state_of};
 ghost use Rattle.gs_master.specs.Recorded.{durable_of};
-ghost use Rattle.gs_master.specs.Settling.{all_go_on, copied, copied_tree, extended, goes_on, leased_next, replaced, replicated};
+ghost use Rattle.gs_master.specs.Settling.{all_go_on, copied, copied_tree, extended, goes_on, leased_next, replaced, replaced_if, replicated};
 ghost use Rattle.gs_master.specs.Turns.{GoesBack, IsUnderWay, Steps, state_at};
 ghost use Rattle.gs_master.specs.declared.pending.Waiting.TheVariants as waits;
 
@@ -135,7 +136,29 @@ impl Event {
         self.carry_out_for(req, plan)
     }
 
-    /// A copy takes a chunk's place. Then a lease of it is asked for.
+    /// A copy takes a chunk's place, if that has room. Then a lease of it is asked for.
+    fn put_in_place(
+        &mut self,
+        req: ReqId,
+        path: Path,
+        index: u64,
+        old: Handle,
+        new: Handle,
+    ) -> Result<(), Refusal>
+        requires { IsUnderWay self.old }
+        ensures steps { (names : NamesView) → Steps (replaced_if (state_at self.old) req path index old new (Ok names)) self.old result self.new }
+        ensures back { GoesBack self.old self.new }
+    {
+        let place = path.copy(self.alloc)?;
+        let plan = replace_plan(self.alloc, place, index as usize, old, new)?;
+        if !self.fits(&plan.records)? {
+            return self.end_by(req, Refusal::Full);
+        }
+        self.carry_out(plan)?;
+        self.lease(req, path, index, new)
+    }
+
+    /// A copy takes a chunk's place. Then a lease of it is asked for. Where that edit is refused the call is.
     fn replace(
         &mut self,
         req: ReqId,
@@ -152,12 +175,7 @@ impl Event {
         if let Some(refusal) = self.refusal_of(&edit)? {
             return self.end_by(req, refusal);
         }
-        let plan = replace_plan(self.alloc, path.copy(self.alloc)?, index as usize, old, new)?;
-        if !self.fits(&plan.records)? {
-            return self.end_by(req, Refusal::Full);
-        }
-        self.carry_out(plan)?;
-        self.lease(req, path, index, new)
+        self.put_in_place(req, path, index, old, new)
     }
 
     /// A snapshot is made once every visible chunk of its source is quiet.

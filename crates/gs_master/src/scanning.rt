@@ -1,18 +1,28 @@
 // What a scan takes out.
-ghost use Rattle.std.specs.Prelude.{◌≡◌, ◌++◌, IfOk, map};
+ghost use Rattle.std.specs.Prelude.{◌≡◌, ◌++◌, ℕ, List, IfOk, map};
+ghost use Rattle.std.specs.Ordering.{nat_cmp};
 ghost use Rattle.gs_record.specs.Plain.{plain, plain_edit, Edited, Remove};
-ghost use Rattle.gs_master.specs.Plans.{plan_of};
+ghost use Rattle.gs_base.specs.Members.{is_member};
+ghost use Rattle.gs_table.specs.Slots.{live};
+ghost use Rattle.gs_master.specs.Plans.{plan_of, state_of};
+ghost use Rattle.gs_master.specs.Recorded.{durable_of};
 ghost use Rattle.gs_master.specs.Settling.{own_request};
-ghost use Rattle.gs_master.specs.Working.{forget_if, scan_edits, scan_plan};
+ghost use Rattle.gs_master.specs.Surveying.{AreIn, IsScanOf};
+ghost use Rattle.gs_master.specs.Working.{forget_if, scan_edits, scan_plan, waiting_for, waits_for_any};
 
 use crate::change::Change;
+use crate::chunk_set::chunk_set;
+use crate::pending::Waiting;
 use crate::plan::Plan;
+use crate::recorded::Recorded;
 use crate::settling::own_request;
-use gs_base::Handle;
-use gs_edit::Edit;
+use crate::standing::Standing;
+use gs_base::{Handle, Moment, ReqId};
+use gs_edit::{Edit, Scan};
 use gs_msg::Items;
 use gs_path::Path;
 use gs_record::Entry;
+use gs_table::Table;
 use std::alloc::{AllocError, Global};
 
 /// An edit of the master's own, as a record.
@@ -73,4 +83,56 @@ pub(crate) fn scan_plan(
         sent: Vec::new(alloc),
         said: None,
     })
+}
+
+impl Recorded {
+    /// What a scan at a moment takes out. It fails where a chunk stands more often in what goes than its count says, which no
+    /// edit leads to.
+    pub fn scan(&self, moment: Moment) -> Result<Scan, AllocError>
+        ensures { IfOk result (IsScanOf moment (durable_of self.now).names) }
+    {
+        match self.names.scan(moment) {
+            Ok(scan) => Ok(scan),
+            Err(_) => Err(AllocError),
+        }
+    }
+}
+
+/// Whether a chunk is one of these.
+#[tactic(auto, using(crate::proofs::ChunkSets::is_in))]
+fn is_in(chunks: &Table<Handle, bool>, chunk: Handle) -> bool
+    ensures { (listed : List ℕ) → AreIn listed (live nat_cmp chunks.now) → result ≡ is_member listed chunk }
+{
+    chunks.get(chunk).is_some()
+}
+
+/// Whether a call waits for one of these chunks.
+fn waits_for_any(chunks: &Table<Handle, bool>, waits: &Waiting) -> bool
+    ensures { (listed : List ℕ) → AreIn listed (live nat_cmp chunks.now) → result ≡ waits_for_any listed waits.now }
+{
+    match waits {
+        Waiting::Extend { chunk, .. } => is_in(chunks, *chunk),
+        Waiting::Lease { chunk, .. } => is_in(chunks, *chunk),
+        Waiting::Quiet { chunk, .. } => is_in(chunks, *chunk),
+        Waiting::Replicate { chunk, .. } => is_in(chunks, *chunk),
+        Waiting::Copy { old, new, .. } => is_in(chunks, *old) || is_in(chunks, *new),
+        Waiting::Snapshot { .. } => false,
+    }
+}
+
+impl<'a> Standing<'a> {
+    /// The calls that wait for one of these chunks.
+    pub fn waiting_for(&self, chunks: &[Handle]) -> Result<Vec<ReqId>, AllocError>
+        ensures { IfOk result (λ requests. requests.items ≡ waiting_for (state_of self.entry.now) chunks.now) }
+    {
+        let alloc = self.recorded.alloc;
+        let set = chunk_set(alloc, chunks)?;
+        let mut requests = Vec::new(alloc);
+        for pending in &self.memory.pending {
+            if waits_for_any(&set, &pending.waits) {
+                requests.push(pending.req)?;
+            }
+        }
+        Ok(requests)
+    }
 }

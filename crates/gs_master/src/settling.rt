@@ -1,6 +1,7 @@
 // Views that are settled, and what is asked on the way.
 ghost use Rattle.std.specs.Prelude.{◌≡◌, ◌++◌, ◌∷◌, [], IfOk, map};
 ghost use Rattle.std.specs.List.{list_any};
+ghost use Rattle.std.specs.Option.{option_to_list};
 ghost use Rattle.gs_record.specs.Plain as entries;
 ghost use Rattle.gs_record.specs.Plain.{plain};
 ghost use Rattle.gs_record.specs.declared.entry.SettledView.{SettledView as Settled_view};
@@ -88,18 +89,27 @@ pub(crate) fn replace_plan(
 }
 
 /// The grant of a lease to its primary, if the view has one.
-fn grants(alloc: Global, chunk: Handle, view: &View) -> Result<Vec<Message>, AllocError>
-    ensures { IfOk result (λ sent. sent.items ≡ grants chunk view.now) }
+pub(crate) fn grant(chunk: Handle, view: &View) -> Option<Message>
+    ensures { option_to_list result ≡ grants chunk view.now }
 {
-    let Some(term) = view.term else {
-        return Ok(Vec::new(alloc));
-    };
+    let term = view.term?;
     let grant = Grant {
         stamp: view.stamp,
         members: view.members,
         end: term.end,
     };
-    Ok(vec![in alloc; about(chunk, Chunk::Grant(grant), term.primary)]?)
+    Some(about(chunk, Chunk::Grant(grant), term.primary))
+}
+
+/// The same as a list.
+fn grants(alloc: Global, chunk: Handle, view: &View) -> Result<Vec<Message>, AllocError>
+    ensures { IfOk result (λ sent. sent.items ≡ grants chunk view.now) }
+{
+    let mut sent = Vec::new(alloc);
+    if let Some(message) = grant(chunk, view) {
+        sent.push(message)?;
+    }
+    Ok(sent)
 }
 
 impl Asking {

@@ -21,3 +21,6 @@ loop-call-preserved c = record {
 
 pub returns-clause-steps : goal.returns-clause-steps
 returns-clause-steps c = none_left (λ (p : Pending) next. goes_on next p.req c.args.view.now p.waits) _ _ _ _ _ c.loop-call-test.false c.loop-call.invariant.rest
+
+pub returns-in_err-go_on-clause-back : goal.returns-in_err-go_on-clause-back
+returns-in_err-go_on-clause-back c = goes_back_on _ _ _ c.loop-call.invariant.back c.go_on.ensures.back

@@ -6,5 +6,4 @@ use Rattle.gs_master.specs.declared.pending.Pending.{Pending}
 use Rattle.gs_master.proofs.standing.Standing.concerned.Given as goal
 
 abbrev pub invariant-loop-one : goal.invariant-loop-one
-invariant-loop-one l =
-    l.calls.items ≡ filter (λ (p : Pending). is_call p.req l.call || is_copied_by (state_of l.self) l.chunk p.waits) (take l.one-index (state_of l.self).volatile.pending)
+invariant-loop-one l = l.calls.items ≡ filter (λ (p : Pending). is_call p.req l.call || is_copied_by (state_of l.self) l.chunk p.waits) (take l.one-index l.one-items)
