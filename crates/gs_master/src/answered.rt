@@ -2,15 +2,13 @@
 ghost use Rattle.std.specs.Prelude.{◌≡◌};
 ghost use Rattle.gs_lease.specs.Transitions.{end_of, term_of};
 ghost use Rattle.gs_master.specs.Chunks.{Chunk, may_settle, view_by};
-ghost use Rattle.gs_master.specs.Hearing.{heard, promised, stepped, unpromised};
-ghost use Rattle.gs_master.specs.Knowing.{known_of};
+ghost use Rattle.gs_master.specs.Hearing.{heard, stepped};
 ghost use Rattle.gs_master.specs.Settling.{settled_by, settled_on};
 ghost use Rattle.gs_master.specs.Turns.{GoesBack, IsUnderWay, Steps, state_at};
 
 use crate::asking::{Asking, Step};
 use crate::event::Event;
-use crate::known::Known;
-use crate::settling::{ask_plan, send_plan};
+use crate::settling::{ask_plan, is_with_sealed, send_plan};
 use gs_base::{Handle, Members, Moment, Refusal, ServerId, Stamp};
 use gs_lease::{Purpose, Term, View};
 use gs_view::Answers;
@@ -126,7 +124,8 @@ impl Event {
         match step {
             Step::Wait => Ok(()),
             Step::Send { source, target } => {
-                let with_sealed = self.recorded.is_with_sealed(chunk, source);
+                let prepared = self.recorded.prepared_view(chunk);
+                let with_sealed = is_with_sealed(self.recorded.phase, prepared, source);
                 let plan = send_plan(self.alloc, chunk, asking, source, target, with_sealed)?;
                 self.carry_out(plan)
             },

@@ -1,6 +1,7 @@
 // Which calls that wait a chunk concerns.
 ghost use Rattle.std.specs.Prelude.{◌≡◌, IfOk};
 ghost use Rattle.std.specs.List.{list_all};
+ghost use Rattle.gs_base.specs.Members.{is_member};
 ghost use Rattle.gs_master.specs.Plans.{state_of};
 ghost use Rattle.gs_master.specs.Settling.{all_refused, concerned, failed, is_copied_by, is_quiet_at, requests_of, source_chunks};
 ghost use Rattle.gs_master.specs.Turns.{GoesBack, IsUnderWay, Steps, state_at};
@@ -18,6 +19,13 @@ fn is_call(req: ReqId, call: Option<ReqId>) -> bool
     ensures { result ≡ is_call req call }
 {
     call == Some(req)
+}
+
+/// Whether a chunk is one of these.
+fn is_among(chunks: &[Handle], chunk: Handle) -> bool
+    ensures { result ≡ is_member chunks.now chunk }
+{
+    chunks.iter().any(|other| *other == chunk)
 }
 
 /// The requests of calls that wait.
@@ -69,7 +77,7 @@ impl<'a> Standing<'a> {
         match waits {
             Waiting::Snapshot { from, .. } => {
                 let chunks = self.source_chunks(from)?;
-                Ok(chunks.iter().any(|copied| *copied == chunk))
+                Ok(is_among(&chunks, chunk))
             },
             _ => Ok(false),
         }

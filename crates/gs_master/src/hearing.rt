@@ -33,28 +33,50 @@ impl<'a> Standing<'a> {
     fn granted_at(&self, chunk: Handle) -> Option<Message>
         ensures { option_to_list result ≡ granted_at chunk (chunk_at (state_of self.entry.now) chunk) }
     {
-        let known = self.chunk_at(chunk)?;
+        let Some(known) = self.chunk_at(chunk) else {
+            return None;
+        };
         if !known.is_leased() {
             return None;
         }
-        let view = known.view()?;
-        grant(chunk, &view)
+        match known.view() {
+            Some(view) => grant(chunk, &view),
+            None => None,
+        }
+    }
+
+    /// The settled chunks, ascending.
+    fn settled_chunks(&self) -> Result<Vec<Handle>, AllocError>
+        ensures { IfOk result (λ chunks. chunks.items ≡ fin.keys (state_of self.entry.now).durable.chunks) }
+    {
+        let mut chunks = Vec::new(self.recorded.alloc);
+        for (chunk, lease) in self.recorded.leases.iter() {
+            if is_settled(lease) {
+                chunks.push(chunk)?;
+            }
+        }
+        Ok(chunks)
+    }
+
+    /// The grants of these leases, if they stand, in this order.
+    fn granted_of(&self, chunks: &[Handle]) -> Result<Vec<Message>, AllocError>
+        ensures { IfOk result (λ sent. sent.items ≡ flat_map (λ chunk. granted_at chunk (chunk_at (state_of self.entry.now) chunk)) chunks.now) }
+    {
+        let mut sent = Vec::new(self.recorded.alloc);
+        for chunk in chunks {
+            if let Some(message) = self.granted_at(*chunk) {
+                sent.push(message)?;
+            }
+        }
+        Ok(sent)
     }
 
     /// The grants of all leases that stand, ascending.
     fn grants(&self) -> Result<Vec<Message>, AllocError>
         ensures { IfOk result (λ sent. sent.items ≡ flat_map (λ chunk. granted_at chunk (chunk_at (state_of self.entry.now) chunk)) (fin.keys (state_of self.entry.now).durable.chunks)) }
     {
-        let mut sent = Vec::new(self.recorded.alloc);
-        for (chunk, lease) in self.recorded.leases.iter() {
-            if !is_settled(lease) {
-                continue;
-            }
-            if let Some(message) = self.granted_at(chunk) {
-                sent.push(message)?;
-            }
-        }
-        Ok(sent)
+        let chunks = self.settled_chunks()?;
+        self.granted_of(&chunks)
     }
 }
 
@@ -105,7 +127,7 @@ impl Event {
                 let handles = handles.copy(self.alloc)?;
                 self.learn(server, *epoch, handles)
             },
-            Body::Behind(epoch) => self.behind(server, *epoch),
+            Body::Behind { epoch } => self.behind(server, *epoch),
             _ => self.meet_by(Refusal::Stray),
         }
     }

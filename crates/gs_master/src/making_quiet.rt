@@ -1,6 +1,6 @@
 // Chunks that are made quiet, since a server has lost them.
 ghost use Rattle.std.specs.Prelude.{◌≡◌, ◌+◌, ◌*◌, length, nat_le};
-ghost use Rattle.gs_master.specs.Hearing.{damaged, made_quiet, reported};
+ghost use Rattle.gs_master.specs.Hearing.{damaged, made_quiet, reported, reported_now};
 ghost use Rattle.gs_master.specs.Turns.{GoesBack, IsUnderWay, Steps, state_at};
 
 use crate::event::Event;
@@ -23,7 +23,6 @@ impl Log {
 
 impl Event {
     /// Chunks are made quiet, if versions are left and the records have room.
-    #[tactic(auto, using(crate::proofs::Proposals::proposals_fit))]
     pub fn make_quiet(&mut self, many: &[Handle]) -> Result<(), Refusal>
         requires { IsUnderWay self.old }
         ensures steps { Steps (made_quiet many.now (state_at self.old)) self.old result self.new }
@@ -36,6 +35,18 @@ impl Event {
             return Ok(());
         }
         self.begin_all(many, None)
+    }
+
+    /// Replicas that aren't at home are dropped, and chunks made quiet that the server has lost.
+    fn hear_report(&mut self, server: ServerId, replicas: &[Reported]) -> Result<(), Refusal>
+        requires { IsUnderWay self.old }
+        ensures steps { Steps (reported_now (state_at self.old) server replicas.now) self.old result self.new }
+        ensures back { GoesBack self.old self.new }
+    {
+        let drops = self.standing().drops(server, replicas)?;
+        let lost = self.standing().lost(server, replicas)?;
+        self.send(drops)?;
+        self.make_quiet(&lost)
     }
 
     /// A server tells what it has. One that is behind is told so, and nothing else. While rolling back nothing is dropped, and
@@ -56,11 +67,7 @@ impl Event {
         if self.recorded.phase == Phase::Rolling || epoch != self.recorded.epoch {
             return Ok(());
         }
-        let standing = self.standing();
-        let drops = standing.drops(server, replicas)?;
-        let lost = standing.lost(server, replicas)?;
-        self.send(drops)?;
-        self.make_quiet(&lost)
+        self.hear_report(server, replicas)
     }
 
     /// A member has a block without its digest. Its stamp isn't looked at.

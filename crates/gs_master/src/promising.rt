@@ -1,34 +1,10 @@
 // Servers' answers to a proposal, and the tick that waits for no more of them.
-ghost use Rattle.std.specs.Prelude.{◌≡◌, option_and_then};
-ghost use Rattle.gs_master.specs.Chunks.{Chunk, chunk_at};
 ghost use Rattle.gs_master.specs.Handling.{pressed};
-ghost use Rattle.gs_master.specs.Hearing.{is_with_sealed, promised, unpromised};
-ghost use Rattle.gs_master.specs.Durable.{prepared_view};
-ghost use Rattle.gs_master.specs.Recorded.{durable_of};
+ghost use Rattle.gs_master.specs.Hearing.{promised, unpromised};
 ghost use Rattle.gs_master.specs.Turns.{GoesBack, IsUnderWay, Steps, state_at};
 
-use crate::asking::Asking;
 use crate::event::Event;
-use crate::recorded::Recorded;
 use gs_base::{Handle, Moment, Refusal, ServerId, Stamp};
-use gs_record::Phase;
-
-impl Recorded {
-    /// Whether a copy carries its sealed image: an upgrade stands, and its source is a prepared member or a holder.
-    pub fn is_with_sealed(&self, chunk: Handle, source: ServerId) -> bool
-        ensures { result ≡ is_with_sealed (durable_of self.now).phase (prepared_view (durable_of self.now) chunk) source }
-    {
-        if self.phase != Phase::Upgrade {
-            return false;
-        }
-        match self.prepared_view(chunk) {
-            Some(prepared) => {
-                prepared.view.members.contains(source) || prepared.holders.contains(source)
-            },
-            None => false,
-        }
-    }
-}
 
 /// What a server answers to a proposal.
 #[derive(Clone, Copy, Debug)]
@@ -41,13 +17,6 @@ pub(crate) struct Promise {
 }
 
 impl Event {
-    /// What is asked for a chunk that the master knows.
-    fn asking_at(&self, chunk: Handle) -> Option<Asking>
-        ensures { result ≡ option_and_then (λ (c : Chunk). c.asking) (chunk_at (state_at self.now) chunk) }
-    {
-        self.standing().chunk_at(chunk)?.asking
-    }
-
     /// A server has promised. Its answer counts where its stamp is asked for and it is asked.
     pub fn promised(
         &mut self,
@@ -65,14 +34,14 @@ impl Event {
             count,
             carried,
         } = promise;
-        let Some(asking) = self.asking_at(chunk) else {
+        let Some(asking) = self.standing().asking_at(chunk) else {
             return Ok(());
         };
         if !asking.hears(stamp, server) {
             return Ok(());
         }
         let step = asking.step_of_yes(server, count);
-        let with_image = carried && asking.is_target(server);
+        let with_image = asking.is_carried(server, carried);
         let mut heard = asking;
         heard.hear_yes(server, count);
         self.hear(chunk, &heard, with_image, moment, step)
@@ -90,7 +59,7 @@ impl Event {
         ensures steps { Steps (unpromised (state_at self.old) server chunk stamp moment) self.old result self.new }
         ensures back { GoesBack self.old self.new }
     {
-        let Some(asking) = self.asking_at(chunk) else {
+        let Some(asking) = self.standing().asking_at(chunk) else {
             return Ok(());
         };
         if !asking.hears(stamp, server) {
@@ -108,10 +77,10 @@ impl Event {
         ensures steps { Steps (pressed moment (chunk, stamp) (state_at self.old)) self.old result self.new }
         ensures back { GoesBack self.old self.new }
     {
-        let Some(asking) = self.asking_at(chunk) else {
+        let Some(asking) = self.standing().asking_at(chunk) else {
             return Ok(());
         };
-        if asking.stamp != stamp {
+        if !asking.is_under(stamp) {
             return Ok(());
         }
         let step = asking.step_at_tick();

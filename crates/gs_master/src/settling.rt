@@ -7,7 +7,7 @@ ghost use Rattle.gs_record.specs.Plain.{plain};
 ghost use Rattle.gs_record.specs.declared.entry.SettledView.{SettledView as Settled_view};
 ghost use Rattle.gs_master.specs.Chunks.{holder_records, is_holder, is_target, settling, target_of};
 ghost use Rattle.gs_master.specs.Durable.{prepared_view};
-ghost use Rattle.gs_master.specs.Hearing.{ask_plan, send_plan};
+ghost use Rattle.gs_master.specs.Hearing.{ask_plan, is_with_sealed, send_plan};
 ghost use Rattle.gs_master.specs.Plans.{plan_of, state_of};
 ghost use Rattle.gs_master.specs.Settling.{grants, own_request, replace_plan, settle_plan};
 
@@ -66,6 +66,19 @@ pub(crate) fn send_plan(
     let mut plan = ask_plan(alloc, chunk, sent_for)?;
     plan.sent.push(about(chunk, said, source))?;
     Ok(plan)
+}
+
+/// Whether a copy carries its sealed image: an upgrade stands, and its source is a prepared member or a holder.
+pub(crate) fn is_with_sealed(phase: Phase, prepared: Option<Prepared>, source: ServerId) -> bool
+    ensures { result ≡ is_with_sealed phase prepared source }
+{
+    if phase != Phase::Upgrade {
+        return false;
+    }
+    let Some(Prepared { view, holders }) = prepared else {
+        return false;
+    };
+    view.members.contains(source) || holders.contains(source)
 }
 
 /// A copy takes a chunk's place in a file.

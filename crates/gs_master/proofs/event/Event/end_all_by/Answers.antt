@@ -33,3 +33,6 @@ loop-req-preserved c =
 
 pub returns-clause-steps : goal.returns-clause-steps
 returns-clause-steps c = none_left (λ req next. ended_by next req c.args.refusal.now) _ _ _ _ _ c.loop-req-test.false c.loop-req.invariant.rest
+
+pub returns-in_err-end_by-clause-back : goal.returns-in_err-end_by-clause-back
+returns-in_err-end_by-clause-back c = goes_back_on _ _ _ c.loop-req.invariant.back c.end_by.ensures.back
