@@ -1,6 +1,6 @@
 -- What an event that was begun anew goes on from, it went on from before.
-use Rattle.std.proofs.Common.{◌≡◌, inl, inr, ◌∙◌, ℕ, List, [], ◌∷◌, ◌++◌, length, take, refl, ap, subst, sym}
-use Rattle.std.specs.Prelude.{map, fold, Some, None, Result, Ok, Err, Unit}
+use Rattle.std.proofs.Common.{◌≡◌, inl, inr, ◌∙◌, ℕ, true, false, List, [], ◌∷◌, ◌++◌, length, take, refl, ap, subst, sym}
+use Rattle.std.specs.Prelude.{map, fold, Some, None, Result, Ok, Err}
 use Rattle.std.specs.Ordering.{nat_cmp}
 use Rattle.gs_table.specs.Slots.{live}
 use Rattle.gs_base.specs.declared.refusal.Refusal.{Refusal}

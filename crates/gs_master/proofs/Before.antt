@@ -1,5 +1,5 @@
 -- What stood in a table before something was put there, and that putting it back gives the table of before.
-use Rattle.std.proofs.Common.{◌≡◌, ◌⊎◌, inl, inr, ◌∙◌, ℕ, Bool, true, false, cond, List, [], ◌∷◌, ◌++◌, refl, ap, subst, sym}
+use Rattle.std.proofs.Common.{◌≡◌, ◌⊎◌, inl, inr, ◌∙◌, ℕ, Bool, true, false, cond, List, [], ◌∷◌, ◌++◌, map, refl, ap, subst, sym}
 use Rattle.std.proofs.lemmas.Bool.{false≢true}
 use Rattle.std.specs.Prelude.{Option, Some, None, option_and_then, is_some, unwrap_or, Result, Ok, Err, IfErr}
 use Rattle.std.specs.Option.{option_flatten}
@@ -17,20 +17,23 @@ use Rattle.gs_edit.specs.declared.edit.Inverse.{Inverse}
 use Rattle.gs_lease.specs.declared.lease.Lease.{Lease}
 use Rattle.gs_lease.specs.declared.view.View.{View}
 use Rattle.gs_path.specs.Path.{path_total}
-use Rattle.gs_record.specs.Plain.{PlainInverse}
+use Rattle.gs_record.specs.Plain.{PlainEntry, PlainInverse, plain_inverse}
+use Rattle.gs_base.specs.declared.epoch.EpochEnd.{EpochEnd}
+use Rattle.gs_record.specs.declared.checkpoint.Phase.{Phase}
 use Rattle.gs_table.specs.Slots.{live, set_live, HasRoom, KeepsRoom}
 use Rattle.gs_table.proofs.Lives.{get-live}
 use Rattle.gs_table.specs.Keys.{client_exact}
-use Rattle.gs_master.specs.Applied.{view_in}
+use Rattle.gs_master.specs.Applied.{view_in, with_epoch}
 use Rattle.gs_master.specs.Durable.{Durable, kept_before, prepared_view, with_prepared}
-use Rattle.gs_master.specs.Recorded.{KeepsRooms, chunks_of, settled_by}
+use Rattle.gs_master.specs.Recorded.{Applies, KeepsRooms, chunks_of, settled_by}
 use Rattle.gs_master.specs.Replies.{client_cmp}
-use Rattle.gs_master.specs.TakingBack.{AreNamesBefore, IsEditBefore, TakeBack, TakesBack, RoomAt, RoomBack, RoomForAll, RoomForChunk, RoomForChunks, RoomForReply, all_leases_before, leases_before, with_chunk_before, with_chunks_before, with_leases_before, with_moved_before, with_proposed_before, with_reply_before, with_settled_before}
+use Rattle.gs_master.specs.TakingBack.{AreNamesBefore, Enters, IsEditBefore, TakeBack, TakesBack, RoomAt, RoomBack, RoomForAll, RoomForChunk, RoomForChunks, RoomForReply, all_leases_before, all_rooms_before, leases_before, rooms_before, with_chunk_before, with_chunks_before, with_leases_before, with_moved_before, with_proposed_before, with_reply_before, with_settled_before}
 use Rattle.gs_master.specs.declared.asking.Prepared.{Prepared}
 use Rattle.gs_master.specs.declared.recorded.Recorded.{Recorded}
 use Rattle.gs_master.specs.declared.reply.KeptReply.{KeptReply}
 use Rattle.gs_master.specs.declared.undo.ChunkBefore.{ChunkBefore}
 use Rattle.gs_master.specs.declared.undo.EditBefore.{EditBefore}
+use Rattle.gs_master.specs.declared.undo.KeptBefore.{KeptBefore}
 use Rattle.gs_master.specs.declared.undo.NamesBefore.TheVariants.{Undone}
 use Rattle.gs_master.specs.declared.undo.ReplyBefore.{ReplyBefore}
 use Rattle.gs_master.specs.declared.undo.Undo.{Undo}
@@ -124,10 +127,31 @@ room_back_stays r s (undos.Settle chunk) room keeps = room_for_chunk_stays r s c
 room_back_stays r s (undos.Holder chunk prepared) room keeps = room_at_stays nat_cmp r.prepared s.prepared chunk prepared room keeps.prepared
 room_back_stays r s (undos.RollbackBegin epoch) room keeps = tt
 room_back_stays r s (undos.Edit e) room keeps = (room_for_reply_stays r.replies s.replies e.reply room.0 keeps.replies, room_for_chunks_stays r s e.forgotten.items room.1 keeps)
+room_back_stays r s (undos.Epoch e) room keeps = tt
+room_back_stays r s (undos.RollbackCommit b) room keeps = tt
+
+same_slots : {K V : Type 0} {R : K → K → Ordering} (slots : List (K × Option V)) → KeepsRoom R slots slots
+same_slots slots = record { keeps = λ key room. room }
+
+-- and so are the tables that are put back
+keeps_before : (r s : Recorded) (undo : Undo) → KeepsRooms r s → KeepsRooms (rooms_before undo r) (rooms_before undo s)
+keeps_before r s (undos.Said reply) keeps = keeps
+keeps_before r s (undos.Propose p) keeps = keeps
+keeps_before r s (undos.Settle chunk) keeps = keeps
+keeps_before r s (undos.Holder chunk prepared) keeps = keeps
+keeps_before r s (undos.RollbackBegin epoch) keeps = keeps
+keeps_before r s (undos.Edit e) keeps = keeps
+keeps_before r s (undos.Epoch e) keeps = record { leases = keeps.leases; replies = keeps.replies; prepared = same_slots e.kept.prepared }
+keeps_before r s (undos.RollbackCommit b) keeps = record { leases = same_slots b.leases; replies = keeps.replies; prepared = same_slots b.kept.prepared }
+
+pub all_keep_before : (r s : Recorded) (all : List Undo) → KeepsRooms r s → KeepsRooms (all_rooms_before all r) (all_rooms_before all s)
+all_keep_before r s [] keeps = keeps
+all_keep_before r s (undo ∷ more) keeps = keeps_before (all_rooms_before more r) (all_rooms_before more s) undo (all_keep_before r s more keeps)
 
 pub room_for_all_stays : (r s : Recorded) (all : List Undo) → RoomForAll r all → KeepsRooms r s → RoomForAll s all
 room_for_all_stays r s [] room keeps = tt
-room_for_all_stays r s (undo ∷ more) room keeps = (room_back_stays r s undo room.0 keeps, room_for_all_stays r s more room.1 keeps)
+room_for_all_stays r s (undo ∷ more) room keeps =
+    (room_back_stays (all_rooms_before more r) (all_rooms_before more s) undo room.0 (all_keep_before r s more keeps), room_for_all_stays r s more room.1 keeps)
 
 pub none_to_remove : (m : fin.FinMap nat_cmp Lease) (k : ℕ) → fin.get m k ≡ None → fin.remove m k ≡ m
 none_to_remove m k none = ap (λ w. set_live k w m) (sym none) ∙ nothing_undone nat_cmp_total fin.nat_cmp-IsAntisymmetric m k
@@ -271,6 +295,26 @@ edit_before d r names forgotten hidden replies inverses reply chunks replied =
     (λ i. record (chunks i) { names = d.names; next_hidden = d.next_hidden; replies = replied i; inverses = d.inverses })
     ∙ (λ i. record (sym (rest_beside forgotten r hidden replies inverses) i) { names = d.names; next_hidden = d.next_hidden; replies = with_reply_before reply replies; inverses = d.inverses })
 
+-- ---- an epoch
+
+-- where memory is never wanted
+pub enters : {X : Type 0} (entry : PlainEntry) (result : Result X Refusal) (old new : Durable) → Applies entry result old new → Enters entry result old new
+enters entry (Ok done) old new is = is
+enters entry (Err refusal) old new is = (inr (is.0, is.1), is.2)
+
+pub same_rooms : {K V : Type 0} {R : K → K → Ordering} (a b : List (K × Option V)) → b ≡ a → KeepsRoom R a b
+same_rooms {R = R} a b is = record { keeps = λ key room. subst (λ x. HasRoom R x key) (sym is) room }
+
+-- an epoch ends, and what was kept since prepare is given up
+pub epoch_back : (d mid : Durable) (end : EpochEnd) (phase : Phase) (kept : KeptBefore) (inverses : List PlainInverse) (prepared : fin.FinMap nat_cmp Prepared) → mid ≡ with_epoch d end phase →
+    map plain_inverse kept.inverses.items ≡ mid.inverses → live nat_cmp kept.prepared ≡ mid.prepared →
+    TakesBack (undos.Epoch (record { epoch = d.epoch; phase = d.phase; kept = kept })) d (record mid { inverses = inverses; prepared = prepared })
+epoch_back d mid end phase kept inverses prepared is left views = (
+  (end, ap (λ (x : Durable). x.ends) is),
+  (λ i. record (sym is i) { epoch = d.epoch; phase = d.phase; ends = d.ends })
+      ∙ (λ i. record mid { inverses = sym left i; prepared = sym views i; epoch = d.epoch; phase = d.phase; ends = d.ends }),
+)
+
 -- ---- several records
 
 pub but_last_back : (undos : List Undo) (last : Undo) (before after : Durable) → TakeBack (undos ++ last ∷ []) before after → (between : Durable) × (TakeBack undos before between × TakesBack last between after)
@@ -281,13 +325,19 @@ pub one_more_back : (undos : List Undo) (last : Undo) (before between after : Du
 one_more_back [] last before between after back one = (after, (subst (λ d. TakesBack last d after) (sym back) one, refl))
 one_more_back (undo ∷ more) last before between after back one = (back.0, (back.1.0, one_more_back more last back.0 between after back.1.1 one))
 
-pub room_but_last : (r : Recorded) (undos : List Undo) (last : Undo) → RoomForAll r (undos ++ last ∷ []) → RoomForAll r undos × RoomBack r last
-room_but_last r [] last room = (tt, room.0)
-room_but_last r (undo ∷ more) last room = let rest = room_but_last r more last room.1 in ((room.0, rest.0), rest.1)
+pub all_rooms_but_last : (r : Recorded) (undos : List Undo) (last : Undo) → all_rooms_before (undos ++ last ∷ []) r ≡ all_rooms_before undos (rooms_before last r)
+all_rooms_but_last r [] last = refl
+all_rooms_but_last r (undo ∷ more) last = ap (rooms_before undo) (all_rooms_but_last r more last)
 
-pub room_for_one_more : (r : Recorded) (undos : List Undo) (last : Undo) → RoomForAll r undos → RoomBack r last → RoomForAll r (undos ++ last ∷ [])
+pub room_but_last : (r : Recorded) (undos : List Undo) (last : Undo) → RoomForAll r (undos ++ last ∷ []) → RoomForAll (rooms_before last r) undos × RoomBack r last
+room_but_last r [] last room = (tt, room.0)
+room_but_last r (undo ∷ more) last room =
+    let rest = room_but_last r more last room.1 in ((subst (λ rooms. RoomBack rooms undo) (all_rooms_but_last r more last) room.0, rest.0), rest.1)
+
+pub room_for_one_more : (r : Recorded) (undos : List Undo) (last : Undo) → RoomForAll (rooms_before last r) undos → RoomBack r last → RoomForAll r (undos ++ last ∷ [])
 room_for_one_more r [] last room here = (here, tt)
-room_for_one_more r (undo ∷ more) last room here = (room.0, room_for_one_more r more last room.1 here)
+room_for_one_more r (undo ∷ more) last room here =
+    (subst (λ rooms. RoomBack rooms undo) (sym (all_rooms_but_last r more last)) room.0, room_for_one_more r more last room.1 here)
 
 pub all_leases_but_last : (undos : List Undo) (last : Undo) (leases : fin.FinMap nat_cmp Lease) → all_leases_before (undos ++ last ∷ []) leases ≡ all_leases_before undos (leases_before last leases)
 all_leases_but_last [] last leases = refl

@@ -1,18 +1,19 @@
 -- Records that are entered one after the other.
-use Rattle.std.proofs.Common.{◌≡◌, ◌≤◌, ◌<◌, ◌⊎◌, inl, inr, ◌∙◌, ℕ, true, false, List, [], ◌∷◌, ◌++◌, refl, ap, subst, sym, arith, append_assoc, append-nil}
+use Rattle.std.proofs.Common.{◌≡◌, ◌≤◌, ◌<◌, ◌⊎◌, inl, inr, ◌∙◌, ◌+◌, ◌||◌, ℕ, Bool, true, false, List, [], ◌∷◌, ◌++◌, refl, ap, subst, sym, arith, append_assoc, append-nil}
 use Rattle.std.proofs.lemmas.List.Sums.{sum_by-cons}
 use Rattle.std.proofs.lemmas.Bool.{false≢true, leb-true, le-leb, leb-false, lt-leb}
-use Rattle.std.specs.Prelude.{map, fold, option_and_then, unwrap_or, is_some, Option, Some, None, Result, Ok, Err, Unit}
-use Rattle.std.specs.List.{AllByRecursion}
+use Rattle.std.specs.Prelude.{map, fold, option_and_then, unwrap_or, is_some, Option, Some, None, Result, Ok, Err}
+use Rattle.std.specs.List.{AllByRecursion, list_any}
 use Rattle.gs_base.specs.declared.refusal.Refusal.{Refusal}
 use Rattle.gs_journal.specs.declared.version.Version.TheVariants.{Two}
 use Rattle.gs_record.specs.Plain.{PlainEntry, plain}
 use Rattle.gs_master.specs.Applied.{applied, replayed}
 use Rattle.gs_master.specs.Durable.{Durable}
-use Rattle.gs_master.specs.Events.{IsEntered, IsUnfit, WhyNot, log_behind}
+use Rattle.gs_master.specs.Events.{IsEntered, KeepsBack, IsUnfit, WhyNot, log_behind}
 use Rattle.gs_master.specs.Plans.{log_of}
 use Rattle.gs_master.specs.Recorded.{durable_of}
 use Rattle.gs_master.specs.State.{State, Log, fits, size_of, size_of_all, with_record}
+use Rattle.gs_master.specs.TakingBack.{RoomForAll, comes_alone}
 use Rattle.gs_master.specs.Turns.{AreEntered, AreUnfit, EntersAll, GoesBack, HaveRoom, IsUnderWay, WhyNotAll}
 use Rattle.gs_master.specs.declared.event.Event.{Event}
 
@@ -113,16 +114,34 @@ goes_back_here e ready = record {
   sent = ([], sym (append-nil _));
 }
 
+-- a step that sends nothing
+pub stepped_back : (old new : Event) → KeepsBack old new → RoomForAll new.recorded new.undos.items → new.log.records ≤ new.log.size → new.fault ≡ old.fault → new.sent ≡ old.sent → GoesBack old new
+stepped_back old new keeps room counted fault sent = record {
+  keeps = keeps;
+  ready = record { room = room; counted = counted };
+  fault = fault;
+  sent = ([], ap (λ sent. sent.items) sent ∙ sym (append-nil _));
+}
+
+pub alone_first : (x : PlainEntry) (xs : List PlainEntry) → list_any comes_alone (x ∷ xs) ≡ false → (comes_alone x ≡ false) × (list_any comes_alone xs ≡ false)
+alone_first x xs none = neither (comes_alone x) (list_any comes_alone xs) none
+  where
+    neither : (a b : Bool) → (a || b) ≡ false → (a ≡ false) × (b ≡ false)
+    neither true b h = absurd (false≢true (sym h))
+    neither false b h = (refl, h)
+
 -- ---- what records make of the state
+
+recorded_first : (s : State) (x : PlainEntry) (xs : List PlainEntry) (d : Durable)
+    → ((s : State) → replayed s.durable xs ≡ Some d → fold with_record s xs ≡ record s { durable = d; log = fold log_behind s.log xs })
+    → (o : Option Durable) → applied s.durable x ≡ o → option_and_then (λ next. replayed next xs) o ≡ Some d
+    → fold with_record (with_record s x) xs ≡ record s { durable = d; log = fold log_behind (log_behind s.log x) xs }
+recorded_first s x xs d more None none is = absurd (false≢true (ap is_some is))
+recorded_first s x xs d more (Some next) some is =
+    ap (λ o. fold with_record (record s { durable = unwrap_or o s.durable; log = log_behind s.log x }) xs) some
+    ∙ more (record s { durable = next; log = log_behind s.log x }) is
 
 pub recorded_as : (s : State) (records : List PlainEntry) (d : Durable) → replayed s.durable records ≡ Some d →
     fold with_record s records ≡ record s { durable = d; log = fold log_behind s.log records }
 recorded_as s [] d is = ap (λ o. record s { durable = unwrap_or o s.durable }) is
-recorded_as s (x ∷ xs) d is = first (applied s.durable x) refl is
-  where
-    first : (o : Option Durable) → applied s.durable x ≡ o → option_and_then (λ next. replayed next xs) o ≡ Some d →
-        fold with_record (with_record s x) xs ≡ record s { durable = d; log = fold log_behind (log_behind s.log x) xs }
-    first None none is = absurd (false≢true (ap is_some is))
-    first (Some next) some is =
-        ap (λ o. fold with_record (record s { durable = unwrap_or o s.durable; log = log_behind s.log x }) xs) some
-        ∙ recorded_as (record s { durable = next; log = log_behind s.log x }) xs d is
+recorded_as s (x ∷ xs) d is = recorded_first s x xs d (λ s is. recorded_as s xs d is) (applied s.durable x) refl is

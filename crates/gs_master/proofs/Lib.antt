@@ -1,6 +1,8 @@
 pub mod Anew
+pub mod Appending
 pub mod Before
 pub mod Beginnings
+pub mod Behind
 pub mod Blanks
 pub mod Choosing
 pub mod ChunkSets
@@ -9,10 +11,12 @@ pub mod Counted
 pub mod Counters
 pub mod Deleted
 pub mod Edits
+pub mod Ended
 pub mod Ends
 pub mod Entered
 pub mod Fronts
 pub mod Kept
+pub mod Leading
 pub mod Listed
 pub mod Lowered
 pub mod Mapping

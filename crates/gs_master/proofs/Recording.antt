@@ -1,5 +1,5 @@
 -- What a table of leases tells of its chunks.
-use Rattle.std.proofs.Common.{◌≡◌, ◌∙◌, ◌<◌, ◌≤◌, ◌==◌, ◌+◌, suc, add-one, drop, drop-cons, get_or, length, ℕ, Bool, true, false, cond, List, [], ◌∷◌, ◌&&◌, ◌||◌, not, map, filter, refl, ap, subst, sym, arith}
+use Rattle.std.proofs.Common.{◌≡◌, ◌⊎◌, inl, inr, ◌∙◌, ◌<◌, ◌≤◌, ◌==◌, ◌+◌, suc, add-one, drop, drop-cons, get_or, length, ℕ, Bool, true, false, cond, List, [], ◌∷◌, ◌&&◌, ◌||◌, not, map, filter, refl, ap, subst, sym, arith}
 use Rattle.std.specs.Prelude.{Option, Some, None, filter_map, option_map, option_and_then, is_some, unwrap_or}
 use Rattle.std.proofs.lemmas.Bool.{false≢true}
 use Rattle.std.proofs.lemmas.List.{drop_all}
@@ -9,6 +9,8 @@ use Rattle.std.specs.Cmp.{nat_cmp_total}
 use Rattle.std.specs.Ordering.{nat_cmp, eq_by_cmp}
 use Rattle.std.specs.FinMap as fin
 use Rattle.gs_base.specs.declared.numbers.Stamp.{Stamp}
+use Rattle.gs_base.specs.declared.refusal.Refusal.{Refusal}
+use Rattle.gs_base.specs.declared.refusal.Refusal.TheVariants.{BadLine, Memory}
 use Rattle.gs_lease.specs.Transitions.{restored}
 use Rattle.gs_lease.specs.declared.lease.Lease.{Lease}
 use Rattle.gs_lease.specs.declared.view.Term.{Term}
@@ -16,7 +18,8 @@ use Rattle.gs_lease.specs.declared.view.View.{View}
 use Rattle.gs_table.proofs.Lives.{entries-live}
 use Rattle.gs_table.specs.Slots.{live, live_entries, set_live}
 use Rattle.gs_record.specs.Plain.{RollbackCommit, Settle}
-use Rattle.gs_record.specs.declared.checkpoint.Phase.TheVariants.{Ordinary}
+use Rattle.gs_record.specs.declared.checkpoint.Phase.{Phase}
+use Rattle.gs_record.specs.declared.checkpoint.Phase.TheVariants.{Ordinary, Rolling, Upgrade}
 use Rattle.gs_edit.specs.View.{NamesView}
 use Rattle.gs_master.specs.Undoing.{all_undone}
 use Rattle.gs_record.specs.declared.entry.Answered.{Answered}
@@ -274,3 +277,24 @@ pub not_answered : (rolling now all : Bool) → all ≡ false → rolling && (no
 not_answered true true all h = h
 not_answered true false all h = refl
 not_answered false now all h = refl
+
+-- a rollback that isn't begun isn't done, whatever its names would be
+pub commit_too_soon : (d : Durable) (epoch : ℕ) (answers : List Answered) → is_rolling d.phase && (epoch == d.epoch) ≡ false → applied d (RollbackCommit epoch answers) ≡ None
+unfolding applied
+commit_too_soon d epoch answers is = by_names (all_undone d.inverses d.names)
+  where
+    by_names : (names : Option NamesView) → after_undoing d epoch answers names ≡ None
+    by_names None = refl
+    by_names (Some names) =
+        ap (λ b. if_fits b (rolled_back d answers names)) (not_begun (is_rolling d.phase) (epoch == d.epoch) (are_answers (prepared_view d) (fin.entries names.refs) answers) is)
+
+pub commit_refused : (d : Durable) (epoch : ℕ) (answers : List Answered) (e : Refusal) → (e ≡ Memory) ⊎ ((e ≡ BadLine) × (all_undone d.inverses d.names ≡ None)) →
+    (e ≡ Memory) ⊎ ((applied d (RollbackCommit epoch answers) ≡ None) × (e ≡ BadLine))
+unfolding applied
+commit_refused d epoch answers e (inl memory) = inl memory
+commit_refused d epoch answers e (inr bad) = inr (ap (after_undoing d epoch answers) bad.1, bad.0)
+
+pub rolls : (phase : Phase) → is_rolling phase ≡ true → phase ≡ Rolling
+rolls Ordinary is = absurd (false≢true is)
+rolls Upgrade is = absurd (false≢true is)
+rolls Rolling is = refl

@@ -1,11 +1,10 @@
 -- That what an event has touched stands there again once it is put back.
-use Rattle.std.proofs.Common.{◌≡◌, ℕ, Bool, true, false, cond, List, [], ◌∷◌, ◌++◌, Option, Some, None, refl, sym, ap, subst, ◌∙◌, ⊎_elim, arith}
+use Rattle.std.proofs.Common.{◌≡◌, ℕ, Bool, true, false, cond, List, [], ◌∷◌, ◌++◌, Option, Some, None, refl, sym, ap, subst, ◌∙◌}
 use Rattle.std.proofs.lemmas.Bool.{false≢true}
-use Rattle.std.proofs.lemmas.List.Elements.{Contains-push, Contains-push_cases, Contains-append_left}
-use Rattle.std.specs.Prelude.{Contains, is_some, map}
+use Rattle.std.specs.Prelude.{is_some, map}
 use Rattle.std.specs.declared.cmp.Ordering.{Ordering}
 use Rattle.std.specs.declared.cmp.Ordering.TheVariants.{Less, Equal, Greater}
-use Rattle.std.specs.Ordering.{eq_by_cmp, is_eq, nat_cmp, on}
+use Rattle.std.specs.Ordering.{eq_by_cmp, is_eq, nat_cmp}
 use Rattle.std.specs.Cmp.{IsTotalOrder, nat_cmp_total, on_total}
 use Rattle.std.specs.FinMap as fin
 use Rattle.gs_base.specs.declared.numbers.ClientId.{ClientId}
@@ -13,12 +12,11 @@ use Rattle.gs_lock.specs.Locks.{beginnings}
 use Rattle.gs_lock.specs.declared.lock.Lock.{Lock}
 use Rattle.gs_path.specs.Path.{Name, Path}
 use Rattle.gs_tree.specs.Edits.{parent}
-use Rattle.gs_table.specs.Keys.{client_exact}
-use Rattle.gs_table.specs.Slots.{HasRoom, KeepsRoom, set_live}
+use Rattle.gs_table.specs.Slots.{KeepsRoom, set_live}
 use Rattle.gs_master.specs.Memories.{KeepsRooms, volatile_of}
 use Rattle.gs_master.specs.Replies.{client_cmp}
 use Rattle.gs_master.specs.declared.asking.Asking.{Asking}
-use Rattle.gs_master.specs.Tracked.{NowAndBefore, tracked_of, HasRoomBack, HaveRoomBack, slot_back, slots_back, calls_back}
+use Rattle.gs_master.specs.Tracked.{NowAndBefore, tracked_of, HasRoomBack, HaveRoomBack, all_rooms_before, rooms_before, slot_back, slots_back, calls_back}
 use Rattle.gs_master.specs.Volatile.{Volatile, above}
 use Rattle.gs_master.specs.declared.memory.Memory.{Memory}
 use Rattle.gs_master.specs.declared.pending.Pending.{Pending}
@@ -117,6 +115,7 @@ slot_calls v (slots.Asked chunk asked) pending locks unplaced = refl
 slot_calls v (slots.Replied client replied) pending locks unplaced = refl
 slot_calls v (slots.Restored chunk restored) pending locks unplaced = refl
 slot_calls v (slots.Preparing is_preparing) pending locks unplaced = refl
+slot_calls v (slots.Rolled moving restored) pending locks unplaced = refl
 
 slots_calls : (v : Volatile) (touched : List Slot) (pending : List Pending) (locks : List Lock) (unplaced : List ℕ) → slots_back (with_calls v pending locks unplaced) touched ≡ with_calls (slots_back v touched) pending locks unplaced
 slots_calls v [] pending locks unplaced = refl
@@ -140,6 +139,13 @@ changed_before m ss calls kept v3 pending locks unplaced before view keeps same 
     ap (λ v. calls_back calls (slots_back v ss)) is ∙ calls_kept calls (volatile_of m) ss pending locks unplaced (ap (λ (x : NowAndBefore). x.keeps_calls) view ∙ keeps)
     ∙ ap (λ (x : NowAndBefore). x.before) view ∙ same
 
+-- what was asked and told is put back, and the chunks that were new are kept with the calls
+pub rolled_before : (m : Memory) (ss reserved items : List Slot) (calls : Option Calls) (kept : NowAndBefore) (v3 : Volatile) (slot : Slot) (before : Volatile) → tracked_of m ss calls ≡ kept → kept.keeps_calls ≡ true → kept.before ≡ before →
+    reserved ≡ ss → items ≡ reserved ++ slot ∷ [] → slot_back v3 slot ≡ record (volatile_of m) { unplaced = [] } → calls_back calls (slots_back v3 items) ≡ before
+rolled_before m ss reserved items calls kept v3 slot before view keeps is same more back =
+    ap (λ xs. calls_back calls (slots_back v3 xs)) (more ∙ ap (λ xs. xs ++ slot ∷ []) same) ∙ ap (calls_back calls) (back_push v3 ss slot)
+    ∙ changed_before m ss calls kept (slot_back v3 slot) m.pending.items m.locks [] before view keeps is back
+
 pub none_kept : (calls : Option Calls) (v : Volatile) → is_some calls ≡ false → calls_back calls v ≡ v
 none_kept None v none = refl
 none_kept (Some calls) v none = absurd (false≢true (sym none))
@@ -151,19 +157,45 @@ room_stays a b (slots.Asked chunk asked) keeps room = keeps.moving.keeps chunk r
 room_stays a b (slots.Replied client replied) keeps room = keeps.replies.keeps client room
 room_stays a b (slots.Restored chunk restored) keeps room = keeps.restored.keeps chunk room
 room_stays a b (slots.Preparing is_preparing) keeps room = tt
+room_stays a b (slots.Rolled moving restored) keeps room = tt
+
+same_slots : {L W : Type 0} {S : L → L → Ordering} (rooms : List (L × Option W)) → KeepsRoom S rooms rooms
+same_slots rooms = record { keeps = λ key room. room }
+
+keeps_before : (a b : Memory) (slot : Slot) → KeepsRooms a b → KeepsRooms (rooms_before slot a) (rooms_before slot b)
+keeps_before a b (slots.Asked chunk asked) keeps = keeps
+keeps_before a b (slots.Replied client replied) keeps = keeps
+keeps_before a b (slots.Restored chunk restored) keeps = keeps
+keeps_before a b (slots.Preparing is_preparing) keeps = keeps
+keeps_before a b (slots.Rolled moving restored) keeps = record { moving = same_slots moving; restored = same_slots restored; replies = keeps.replies }
+
+all_keep_before : (a b : Memory) (touched : List Slot) → KeepsRooms a b → KeepsRooms (all_rooms_before touched a) (all_rooms_before touched b)
+all_keep_before a b [] keeps = keeps
+all_keep_before a b (slot ∷ touched) keeps = keeps_before (all_rooms_before touched a) (all_rooms_before touched b) slot (all_keep_before a b touched keeps)
 
 pub rooms_stay : (a b : Memory) (touched : List Slot) → KeepsRooms a b → HaveRoomBack a touched → HaveRoomBack b touched
-rooms_stay a b touched keeps have = record { each = λ slot among. room_stays a b slot keeps (have.each slot among) }
+rooms_stay a b [] keeps have = tt
+rooms_stay a b (slot ∷ touched) keeps have =
+    (room_stays (all_rooms_before touched a) (all_rooms_before touched b) slot (all_keep_before a b touched keeps) have.0, rooms_stay a b touched keeps have.1)
 
-pub rooms_push : (a b : Memory) (touched : List Slot) (slot : Slot) → KeepsRooms a b → HaveRoomBack a touched → HasRoomBack b slot → HaveRoomBack b (touched ++ slot ∷ [])
-rooms_push a b touched slot keeps have room = record {
-  each = λ other among. ⊎_elim (λ before. room_stays a b other keeps (have.each other before)) (λ same. subst (HasRoomBack b) same room) (Contains-push_cases touched slot other among);
-}
+rooms_but_last : (m : Memory) (touched : List Slot) (slot : Slot) → all_rooms_before (touched ++ slot ∷ []) m ≡ all_rooms_before touched (rooms_before slot m)
+rooms_but_last m [] slot = refl
+rooms_but_last m (one ∷ touched) slot = ap (rooms_before one) (rooms_but_last m touched slot)
 
-pub rooms_pop : (m : Memory) (touched : List Slot) (slot : Slot) → HaveRoomBack m (touched ++ slot ∷ []) → HaveRoomBack m touched × HasRoomBack m slot
-rooms_pop m touched slot have = (record { each = λ other among. have.each other (Contains-append_left touched (slot ∷ []) other among) }, have.each slot (Contains-push touched slot))
+rooms_behind : (m : Memory) (touched : List Slot) (slot : Slot) → HaveRoomBack (rooms_before slot m) touched → HasRoomBack m slot → HaveRoomBack m (touched ++ slot ∷ [])
+rooms_behind m [] slot have room = (room, tt)
+rooms_behind m (one ∷ touched) slot have room =
+    (subst (λ rooms. HasRoomBack rooms one) (sym (rooms_but_last m touched slot)) have.0, rooms_behind m touched slot have.1 room)
 
-pub rooms_pushed : (m n o : Memory) (ss reserved items : List Slot) (slot : Slot) → KeepsRooms m n → KeepsRooms n o → HaveRoomBack m ss → HasRoomBack o slot → reserved ≡ ss → items ≡ reserved ++ slot ∷ [] → HaveRoomBack o items
+pub rooms_push : (a b : Memory) (touched : List Slot) (slot : Slot) → KeepsRooms a (rooms_before slot b) → HaveRoomBack a touched → HasRoomBack b slot → HaveRoomBack b (touched ++ slot ∷ [])
+rooms_push a b touched slot keeps have room = rooms_behind b touched slot (rooms_stay a (rooms_before slot b) touched keeps have) room
+
+pub rooms_pop : (m : Memory) (touched : List Slot) (slot : Slot) → HaveRoomBack m (touched ++ slot ∷ []) → HaveRoomBack (rooms_before slot m) touched × HasRoomBack m slot
+rooms_pop m [] slot have = (tt, have.0)
+rooms_pop m (one ∷ touched) slot have =
+    let rest = rooms_pop m touched slot have.1 in ((subst (λ rooms. HasRoomBack rooms one) (rooms_but_last m touched slot) have.0, rest.0), rest.1)
+
+pub rooms_pushed : (m n o : Memory) (ss reserved items : List Slot) (slot : Slot) → KeepsRooms m n → KeepsRooms n (rooms_before slot o) → HaveRoomBack m ss → HasRoomBack o slot → reserved ≡ ss → items ≡ reserved ++ slot ∷ [] → HaveRoomBack o items
 rooms_pushed m n o ss reserved items slot first then have room same more =
     subst (HaveRoomBack o) (sym (more ∙ ap (λ xs. xs ++ slot ∷ []) same)) (rooms_push n o ss slot then (rooms_stay m n ss first have) room)
 
@@ -190,13 +222,13 @@ above_next (first ∷ p) name = ap beginnings (parent_next (first ∷ p) name) �
 -- ---- all places
 
 pub rooms_none : (m : Memory) → HaveRoomBack m []
-rooms_none m = record { each = λ slot among. let below = among.1 in absurd (omega (arith, below)) }
+rooms_none m = tt
 
 -- the last place is put back, and the rest is left
-pub one_back : (m n : Memory) (touched : List Slot) (slot : Slot) → KeepsRooms m n → HaveRoomBack m (touched ++ slot ∷ []) → volatile_of n ≡ slot_back (volatile_of m) slot →
+pub one_back : (m n : Memory) (touched : List Slot) (slot : Slot) → KeepsRooms (rooms_before slot m) n → HaveRoomBack m (touched ++ slot ∷ []) → volatile_of n ≡ slot_back (volatile_of m) slot →
     HaveRoomBack n touched × (slots_back (volatile_of n) touched ≡ slots_back (volatile_of m) (touched ++ slot ∷ []))
 one_back m n touched slot keeps have is =
-    (rooms_stay m n touched keeps (rooms_pop m touched slot have).0, ap (λ v. slots_back v touched) is ∙ sym (back_push (volatile_of m) touched slot))
+    (rooms_stay (rooms_before slot m) n touched keeps (rooms_pop m touched slot have).0, ap (λ v. slots_back v touched) is ∙ sym (back_push (volatile_of m) touched slot))
 
 -- where nothing is asked there is nothing to take out
 pub not_asked : (v : Volatile) (chunk : ℕ) → is_some (fin.get v.moving chunk) ≡ false → v ≡ record v { moving = fin.remove v.moving chunk }

@@ -1,9 +1,9 @@
 -- What a step of an event makes of the master that has it under way, and what takes all of it back.
-use Rattle.std.specs.Prelude.{◌≡◌, ◌⊎◌, ◌+◌, ◌++◌, ◌∷◌, [], ℕ, Bool, true, false, List, Option, Some, None, Result, Ok, Err, fold, map, refl}
-use Rattle.std.specs.List.{AllByRecursion}
+use Rattle.std.specs.Prelude.{◌≡◌, ◌⊎◌, ◌<◌, ◌+◌, ◌++◌, ◌∷◌, [], true, false, List, Some, None, Result, Ok, Err, fold, map, refl, vec_len, vec_capacity}
 use Rattle.std.specs.Ordering.{nat_cmp}
 use Rattle.gs_base.specs.declared.refusal.Refusal.{Refusal}
 use Rattle.gs_base.specs.declared.refusal.Refusal.TheVariants as refusals
+use Rattle.gs_journal.specs.Records.{Entry as Record}
 use Rattle.gs_journal.specs.declared.version.Version.TheVariants.{Two}
 use Rattle.gs_record.specs.Encoding.{encoded}
 use Rattle.gs_record.specs.Plain.{PlainEntry, Prepare, plain}
@@ -14,7 +14,7 @@ use Rattle.gs_master.specs.Durable.{Durable}
 use Rattle.gs_master.specs.Plans.{log_of}
 use Rattle.gs_master.specs.Recorded.{durable_of}
 use Rattle.gs_master.specs.State.{Log, fits, size_of}
-use Rattle.gs_master.specs.TakingBack.{StillTakeBack, TakesBack, all_leases_before}
+use Rattle.gs_master.specs.TakingBack.{StillTakeBack, TakesBack, TakesOneMore, all_leases_before}
 use Rattle.gs_master.specs.declared.event.Event.{Event}
 use Rattle.gs_master.specs.declared.undo.Undo.{Undo}
 
@@ -43,6 +43,29 @@ WhyNot entry old e =
 abbrev pub Enters : PlainEntry → Event → Result (Unit {0}) Refusal → Event → Type 0
 Enters entry old (Ok _) new = IsEntered entry old new
 Enters entry old (Err e) new = WhyNot entry old e
+
+-- the parts of it: how it is written
+abbrev pub IsEncoded : PlainEntry → Event → Result Record Refusal → Type 0
+IsEncoded entry e (Ok written) = (written ≡ encoded Two entry) × (IsEntry Two entry × (fits (log_of e.log) (entry ∷ []) ≡ true))
+IsEncoded entry e (Err refusal) =
+    (refusal ≡ refusals.Memory) ⊎ (((refusal ≡ refusals.Full) × (fits (log_of e.log) (entry ∷ []) ≡ false)) ⊎ ((refusal ≡ refusals.BadLine) × ¬ IsEntry Two entry))
+
+-- one more of each has its place
+pub record HasPlaces (e : Event) : Type 0 where
+  pub undos : vec_len e.undos < vec_capacity e.undos
+  pub entries : vec_len e.entries < vec_capacity e.entries
+  pub written : vec_len e.written < vec_capacity e.written
+
+-- what it makes of what is durable
+pub record IsApplied (entry : PlainEntry) (old new : Event) : Type 0 where
+  pub applied : applied (durable_of old.recorded) entry ≡ Some (durable_of new.recorded)
+  pub one : TakesOneMore old.undos.items (durable_of old.recorded) new.undos.items (durable_of new.recorded)
+
+abbrev pub IsAppliedOrNot : PlainEntry → Event → Result (Unit {0}) Refusal → Event → Type 0
+IsAppliedOrNot entry old (Ok _) new = IsApplied entry old new
+IsAppliedOrNot entry old (Err refusal) new =
+    ((refusal ≡ refusals.Memory) ⊎ ((refusal ≡ refusals.BadLine) × (applied (durable_of old.recorded) entry ≡ None)))
+    × ((new.undos.items ≡ old.undos.items) × (durable_of new.recorded ≡ durable_of old.recorded))
 
 -- each record was applied to what the one before it had left, and is taken back by its own
 abbrev pub Leads : List PlainEntry → List Undo → Durable → Durable → Type 0

@@ -8,6 +8,7 @@ pub mod Durable
 pub mod Events
 pub mod Handling
 pub mod Hearing
+pub mod Journaled
 pub mod Judging
 pub mod Knowing
 pub mod Leases

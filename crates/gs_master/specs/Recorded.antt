@@ -1,5 +1,5 @@
 -- What the master's memory of its records holds, without where it lies.
-use Rattle.std.specs.Prelude.{◌≡◌, ◌⊎◌, ◌<◌, ◌==◌, ◌&&◌, ℕ, vec_len, vec_capacity, Bool, true, false, List, [], ◌∷◌, ◌++◌, map, filter_map, Option, Some, None, option_map, is_some, Result, Ok, Err, if◌then◌else◌}
+use Rattle.std.specs.Prelude.{◌≡◌, ◌<◌, ◌==◌, ◌&&◌, ℕ, vec_len, vec_capacity, Bool, true, false, List, [], ◌∷◌, ◌++◌, map, filter_map, Option, Some, None, option_map, is_some, Result, Ok, Err, if◌then◌else◌}
 use Rattle.std.specs.Ordering.{nat_cmp}
 use Rattle.std.specs.FinMap as fin
 use Rattle.gs_base.specs.declared.numbers.Stamp.{Stamp}
@@ -61,14 +61,9 @@ durable_of r = record {
 -- ---- records
 
 -- a record is applied where it fits, and else nothing changes
-abbrev pub Applies : PlainEntry → Result (Unit {0}) Refusal → Durable → Durable → Type 0
-Applies entry (Ok _) old new = applied old entry ≡ Some new
+abbrev pub Applies : {X : Type 0} → PlainEntry → Result X Refusal → Durable → Durable → Type 0
+Applies entry (Ok done) old new = applied old entry ≡ Some new
 Applies entry (Err refusal) old new = (applied old entry ≡ None) × (refusal ≡ refusals.BadLine) × (new ≡ old)
-
--- the same, but memory may be wanted, and then nothing changes either
-abbrev pub AppliesOrMemory : PlainEntry → Result (Unit {0}) Refusal → Durable → Durable → Type 0
-AppliesOrMemory entry (Ok _) old new = applied old entry ≡ Some new
-AppliesOrMemory entry (Err refusal) old new = ((refusal ≡ refusals.Memory) ⊎ ((applied old entry ≡ None) × (refusal ≡ refusals.BadLine))) × (new ≡ old)
 
 -- ---- edits
 

@@ -4,7 +4,6 @@ use Rattle.std.specs.List.{list_any}
 use Rattle.std.specs.FinMap as fin
 use Rattle.gs_base.specs.Members.{is_member}
 use Rattle.gs_base.specs.declared.numbers.ReqId.{ReqId}
-use Rattle.gs_lock.specs.Operations.{same_op}
 use Rattle.gs_path.specs.Path.{Path}
 use Rattle.gs_master.specs.Applied.{follows_view}
 use Rattle.gs_master.specs.Chunks.{has_entry}

@@ -1,5 +1,5 @@
 -- What takes a record back once it was applied: what stood before, as far as the record has changed it.
-use Rattle.std.specs.Prelude.{◌≡◌, ◌⊎◌, ◌∷◌, ◌++◌, [], ℕ, Bool, true, false, List, Option, Some, None, option_and_then, Result, Ok, Err, refl}
+use Rattle.std.specs.Prelude.{◌≡◌, ◌⊎◌, ◌∷◌, ◌++◌, [], ℕ, Bool, true, false, List, map, Option, Some, None, option_and_then, Result, Ok, Err, refl}
 use Rattle.std.specs.declared.cmp.Ordering.{Ordering}
 use Rattle.std.specs.Ordering.{nat_cmp}
 use Rattle.std.specs.FinMap as fin
@@ -10,20 +10,24 @@ use Rattle.gs_edit.specs.Names.{NamesTakenBack, takes_memory}
 use Rattle.gs_edit.specs.View.{NamesView}
 use Rattle.gs_edit.specs.declared.listed.ListedInverse.{ListedInverse}
 use Rattle.gs_lease.specs.declared.lease.Lease.{Lease}
-use Rattle.gs_record.specs.Plain.{PlainEdit, Mkdirs, Create, Rename, Hide, Unhide, Remove, AddChunk, Cow, Snapshot, Forget, PlainEntry, Edited, Said, Propose, Settle, Prepare, Finalize, RollbackBegin, RollbackCommit, Whole, Holder}
-use Rattle.gs_record.specs.declared.checkpoint.Phase.TheVariants.{Upgrade}
+use Rattle.gs_record.specs.Encoding.{new_store}
+use Rattle.gs_record.specs.Plain.{plain_inverse, PlainEdit, Mkdirs, Create, Rename, Hide, Unhide, Remove, AddChunk, Cow, Snapshot, Forget, PlainEntry, Edited, Propose, Prepare, Whole}
+use Rattle.gs_record.specs.declared.checkpoint.Phase.TheVariants.{Rolling, Upgrade}
 use Rattle.gs_table.specs.Slots.{live, set_live, HasRoom}
 use Rattle.gs_master.specs.Applied.{applied}
 use Rattle.gs_master.specs.Durable.{Durable, Settled}
-use Rattle.gs_master.specs.Recorded.{IsToldBack, durable_of, settled_by}
+use Rattle.gs_master.specs.Recorded.{IsToldBack, KeepsRooms, chunks_of, durable_of, settled_by}
 use Rattle.gs_master.specs.Replies.{client_cmp}
 use Rattle.gs_master.specs.declared.recorded.Recorded.{Recorded}
 use Rattle.gs_master.specs.declared.reply.KeptReply.{KeptReply}
 use Rattle.gs_master.specs.declared.undo.ChunkBefore.{ChunkBefore}
 use Rattle.gs_master.specs.declared.undo.EditBefore.{EditBefore}
+use Rattle.gs_master.specs.declared.undo.EpochBefore.{EpochBefore}
+use Rattle.gs_master.specs.declared.undo.KeptBefore.{KeptBefore}
 use Rattle.gs_master.specs.declared.undo.NamesBefore.{NamesBefore}
 use Rattle.gs_master.specs.declared.undo.NamesBefore.TheVariants.{Undone, Kept}
 use Rattle.gs_master.specs.declared.undo.ReplyBefore.{ReplyBefore}
+use Rattle.gs_master.specs.declared.undo.RollbackBefore.{RollbackBefore}
 use Rattle.gs_master.specs.declared.undo.Undo.{Undo}
 use Rattle.gs_master.specs.declared.undo.Undo.TheVariants as undos
 
@@ -92,6 +96,10 @@ pub record IsEditBefore (e : EditBefore) (before after : Durable) : Type 0 where
     inverses = before.inverses;
   }
 
+-- what was kept since prepare
+abbrev pub with_kept_before : KeptBefore → Durable → Durable
+with_kept_before kept d = record d { inverses = map plain_inverse kept.inverses.items; prepared = live nat_cmp kept.prepared }
+
 -- ---- a record
 
 -- what takes a record back leads from what stands after it to what stood before
@@ -104,6 +112,10 @@ TakesBack (undos.Holder chunk prepared) before after = before ≡ record after {
 TakesBack (undos.RollbackBegin epoch) before after =
     AreItemsBefore true before.ends after.ends × (before ≡ record after { epoch = epoch; phase = Upgrade; ends = before.ends })
 TakesBack (undos.Edit e) before after = IsEditBefore e before after
+TakesBack (undos.Epoch e) before after =
+    AreItemsBefore true before.ends after.ends × (before ≡ record (with_kept_before e.kept after) { epoch = e.epoch; phase = e.phase; ends = before.ends })
+TakesBack (undos.RollbackCommit b) before after =
+    before ≡ record (with_kept_before b.kept after) { names = b.names; chunks = chunks_of (live nat_cmp b.leases); phase = Rolling }
 
 -- several records, the last first
 abbrev pub TakeBack : List Undo → Durable → Durable → Type 0
@@ -128,6 +140,8 @@ leases_before (undos.Settle chunk) leases = set_live chunk.chunk chunk.lease lea
 leases_before (undos.Holder chunk prepared) leases = leases
 leases_before (undos.RollbackBegin epoch) leases = leases
 leases_before (undos.Edit e) leases = with_leases_before e.forgotten.items leases
+leases_before (undos.Epoch e) leases = leases
+leases_before (undos.RollbackCommit b) leases = live nat_cmp b.leases
 
 -- the leases before several records, the last first
 abbrev pub all_leases_before : List Undo → fin.FinMap nat_cmp Lease → fin.FinMap nat_cmp Lease
@@ -152,6 +166,22 @@ abbrev pub RoomForChunks : Recorded → List ChunkBefore → Type 0
 RoomForChunks r [] = Unit {0}
 RoomForChunks r (before ∷ more) = RoomForChunk r before × RoomForChunks r more
 
+-- a table that a record has given up is put back with the room that it had
+abbrev pub rooms_before : Undo → Recorded → Recorded
+rooms_before (undos.Said reply) r = r
+rooms_before (undos.Propose p) r = r
+rooms_before (undos.Settle chunk) r = r
+rooms_before (undos.Holder chunk prepared) r = r
+rooms_before (undos.RollbackBegin epoch) r = r
+rooms_before (undos.Edit e) r = r
+rooms_before (undos.Epoch e) r = record r { prepared = e.kept.prepared }
+rooms_before (undos.RollbackCommit b) r = record r { leases = b.leases; prepared = b.kept.prepared }
+
+-- several records, the last first
+abbrev pub all_rooms_before : List Undo → Recorded → Recorded
+all_rooms_before [] r = r
+all_rooms_before (undo ∷ undos) r = rooms_before undo (all_rooms_before undos r)
+
 -- what taking a record back wants, so that it takes no memory
 abbrev pub RoomBack : Recorded → Undo → Type 0
 RoomBack r (undos.Said reply) = RoomForReply r.replies reply
@@ -160,25 +190,20 @@ RoomBack r (undos.Settle chunk) = RoomForChunk r chunk
 RoomBack r (undos.Holder chunk prepared) = RoomAt nat_cmp r.prepared chunk prepared
 RoomBack r (undos.RollbackBegin epoch) = Unit {0}
 RoomBack r (undos.Edit e) = RoomForReply r.replies e.reply × RoomForChunks r e.forgotten.items
+RoomBack r (undos.Epoch e) = Unit {0}
+RoomBack r (undos.RollbackCommit b) = Unit {0}
 
+-- each has its room once those behind it are taken back
 abbrev pub RoomForAll : Recorded → List Undo → Type 0
 RoomForAll r [] = Unit {0}
-RoomForAll r (undo ∷ undos) = RoomBack r undo × RoomForAll r undos
+RoomForAll r (undo ∷ undos) = RoomBack (all_rooms_before undos r) undo × RoomForAll r undos
 
 -- ---- entering a record
 
--- a record that isn't entered with others: a call of its own applies it
+-- a record that isn't entered with others: a checkpoint takes the place of all
 abbrev pub comes_alone : PlainEntry → Bool
-comes_alone (Edited by edit) = false
-comes_alone (Said to refusal) = false
-comes_alone (Propose chunk version) = false
-comes_alone (Settle v) = false
-comes_alone (Prepare epoch moment chunks) = true
-comes_alone (Finalize epoch) = true
-comes_alone (RollbackBegin epoch) = false
-comes_alone (RollbackCommit epoch answers) = true
 comes_alone (Whole c) = true
-comes_alone (Holder chunk server) = false
+comes_alone entry = false
 
 -- what takes an edit back is told while an upgrade stands
 abbrev pub IsToldFor : Durable → PlainEntry → Option ListedInverse → Type 0
@@ -199,10 +224,17 @@ pub record IsUndo (old new : Recorded) (undo : Undo) : Type 0 where
   pub value : TakesBack undo (durable_of old) (durable_of new)
   pub leases : live nat_cmp old.leases ≡ leases_before undo (live nat_cmp new.leases)
   pub room : RoomBack new undo
+  pub keeps : KeepsRooms old (rooms_before undo new)
 
 -- whatever several records led from, it is led from still; another may have come behind them
 abbrev pub StillTakeBack : List Undo → Durable → List Undo → Durable → Type 0
 StillTakeBack undos now more new = (before : Durable) → TakeBack undos before now → TakeBack more before new
+
+-- one more takes back what has come last
+pub record TakesOneMore (undos : List Undo) (old : Durable) (more : List Undo) (new : Durable) : Type 0 where
+  pub last : Undo
+  pub behind : more ≡ undos ++ last ∷ []
+  pub takes : TakesBack last old new
 
 -- ---- examples
 
@@ -221,8 +253,21 @@ a_client_without_a_reply replies client = refl
 what_stood_nowhere_needs_no_room : RoomAt {V = ℕ} nat_cmp [] 3 None
 what_stood_nowhere_needs_no_room = tt
 
-a_prepare_comes_alone : comes_alone (Prepare 1 5 2) ≡ true
-a_prepare_comes_alone = refl
+a_checkpoint_comes_alone : comes_alone (Whole new_store) ≡ true
+a_checkpoint_comes_alone = refl
+
+a_prepare_comes_with_others : comes_alone (Prepare 1 5 2) ≡ false
+a_prepare_comes_with_others = refl
+
+-- behind a prepare a holder is entered: to take it back it has its room in the table of now
+abbrev prepared_then_held : EpochBefore → List Undo
+prepared_then_held e = undos.Epoch e ∷ undos.Holder 3 None ∷ []
+
+the_table_of_before_is_put_back : (e : EpochBefore) (r : Recorded) → (all_rooms_before (prepared_then_held e) r).prepared ≡ e.kept.prepared
+the_table_of_before_is_put_back e r = refl
+
+the_chunks_of_before_stand_again : (b : RollbackBefore) (leases : fin.FinMap nat_cmp Lease) → leases_before (undos.RollbackCommit b) leases ≡ live nat_cmp b.leases
+the_chunks_of_before_stand_again b leases = refl
 
 a_proposal_comes_with_others : comes_alone (Propose 3 7) ≡ false
 a_proposal_comes_with_others = refl

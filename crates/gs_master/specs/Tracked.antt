@@ -1,12 +1,13 @@
 -- What is kept in memory alone while an event lasts: as it is now, and as it was before, to which want of memory leads back.
-use Rattle.std.specs.Prelude.{◌≡◌, Bool, true, false, List, [], ◌∷◌, Contains, Option, Some, None, is_some, refl}
+use Rattle.std.specs.Prelude.{◌≡◌, ℕ, Bool, true, false, List, [], ◌∷◌, Option, Some, None, is_some, refl}
 use Rattle.std.specs.Coded.{Coded, code_by, coded×, coded_bool}
 use Rattle.std.specs.Ordering.{nat_cmp}
-use Rattle.gs_table.specs.Slots.{HasRoom, set_live}
+use Rattle.gs_table.specs.Slots.{HasRoom, live, set_live}
 use Rattle.gs_master.specs.Codes.{coded_volatile}
 use Rattle.gs_master.specs.Memories.{volatile_of}
 use Rattle.gs_master.specs.Replies.{client_cmp}
 use Rattle.gs_master.specs.Volatile.{Volatile, nothing}
+use Rattle.gs_master.specs.declared.asking.Asking.{Asking}
 use Rattle.gs_master.specs.declared.memory.Memory.{Memory}
 use Rattle.gs_master.specs.declared.tracked.Calls.{Calls}
 use Rattle.gs_master.specs.declared.tracked.Slot.{Slot}
@@ -29,6 +30,7 @@ slot_back v (slots.Asked chunk asked) = record v { moving = set_live chunk asked
 slot_back v (slots.Replied client replied) = record v { replies = set_live client replied v.replies }
 slot_back v (slots.Restored chunk restored) = record v { restored = set_live chunk restored v.restored }
 slot_back v (slots.Preparing is_preparing) = record v { is_preparing = is_preparing }
+slot_back v (slots.Rolled moving restored) = record v { moving = live nat_cmp moving; restored = live nat_cmp restored }
 
 -- the last one first
 abbrev pub slots_back : Volatile → List Slot → Volatile
@@ -50,12 +52,32 @@ abbrev pub HasRoomBack : Memory → Slot → Type 0
 HasRoomBack m (slots.Asked chunk asking) = HasRoom nat_cmp m.moving chunk
 HasRoomBack m (slots.Replied client reply) = HasRoom client_cmp m.replies client
 HasRoomBack m (slots.Restored chunk servers) = HasRoom nat_cmp m.restored chunk
-HasRoomBack m (slots.Preparing is_preparing) = Unit
+HasRoomBack m (slots.Preparing is_preparing) = Unit {0}
+HasRoomBack m (slots.Rolled moving restored) = Unit {0}
 
-pub record HaveRoomBack (m : Memory) (touched : List Slot) : Type 0 where
-  pub each : (slot : Slot) → Contains touched slot → HasRoomBack m slot
+-- tables that were given up are put back with the room that they had
+abbrev pub rooms_before : Slot → Memory → Memory
+rooms_before (slots.Asked chunk asking) m = m
+rooms_before (slots.Replied client reply) m = m
+rooms_before (slots.Restored chunk servers) m = m
+rooms_before (slots.Preparing is_preparing) m = m
+rooms_before (slots.Rolled moving restored) m = record m { moving = moving; restored = restored }
+
+-- the last one first
+abbrev pub all_rooms_before : List Slot → Memory → Memory
+all_rooms_before [] m = m
+all_rooms_before (slot ∷ touched) m = rooms_before slot (all_rooms_before touched m)
+
+-- each has its room once those behind it are put back
+abbrev pub HaveRoomBack : Memory → List Slot → Type 0
+HaveRoomBack m [] = Unit {0}
+HaveRoomBack m (slot ∷ touched) = HasRoomBack (all_rooms_before touched m) slot × HaveRoomBack m touched
 
 -- ---- examples
 
 preparing_no_more : slots_back (record nothing { is_preparing = true }) (slots.Preparing false ∷ slots.Preparing true ∷ []) ≡ nothing
 preparing_no_more = refl
+
+-- a rollback was done and a chunk asked for since: both are put back, the last one first
+asked_again : (v : Volatile) (moving : List (ℕ × Option Asking)) (restored : List (ℕ × Option (List ℕ))) → (slots_back v (slots.Rolled moving restored ∷ slots.Asked 3 None ∷ [])).moving ≡ live nat_cmp moving
+asked_again v moving restored = refl

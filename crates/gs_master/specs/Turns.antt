@@ -1,6 +1,6 @@
 -- How the steps of an event follow the definition of its turn.
-use Rattle.std.specs.Prelude.{◌≡◌, ◌⊎◌, ◌≤◌, ◌++◌, ◌&&◌, Bool, true, false, not, List, [], map, fold, Option, Some, None, Result, Ok, Err, refl}
-use Rattle.std.specs.List.{AllByRecursion, list_any, list_all}
+use Rattle.std.specs.Prelude.{◌≡◌, ◌⊎◌, ◌≤◌, ◌++◌, true, false, List, [], map, fold, Some, None, Result, Ok, Err}
+use Rattle.std.specs.List.{AllByRecursion, list_any}
 use Rattle.gs_base.specs.declared.refusal.Refusal.{Refusal}
 use Rattle.gs_base.specs.declared.refusal.Refusal.TheVariants as refusals
 use Rattle.gs_journal.specs.declared.version.Version.TheVariants.{Two}
@@ -10,7 +10,6 @@ use Rattle.gs_record.specs.Writable.{IsEntry}
 use Rattle.gs_master.specs.Applied.{replayed}
 use Rattle.gs_master.specs.Durable.{Durable}
 use Rattle.gs_master.specs.Events.{KeepsBack, log_behind}
-use Rattle.gs_master.specs.Memories.{is_small}
 use Rattle.gs_master.specs.Plans.{fault_of, log_of}
 use Rattle.gs_master.specs.Recorded.{durable_of}
 use Rattle.gs_master.specs.State.{State, Plan, Turn, fits, first_said}
@@ -76,7 +75,6 @@ pub record GoesBack (old new : Event) : Type 0 where
   pub fault : new.fault ≡ old.fault
   pub sent : (more : List Message) × (new.sent.items ≡ old.sent.items ++ more)
 
--- its records come with others, and its changes do
+-- its records come with others
 pub record ComesWithOthers (p : Plan) : Type 0 where
   pub records : list_any comes_alone p.records ≡ false
-  pub changes : list_all is_small p.changes ≡ true

@@ -1,9 +1,8 @@
 // The plans of an event are carried out, one after the other.
 ghost use Rattle.std.specs.Prelude.{◌≡◌, ◌++◌, false, true, map, OnOk, IfOk};
-ghost use Rattle.std.specs.List.{list_any, list_all};
+ghost use Rattle.std.specs.List.{list_any};
 ghost use Rattle.gs_record.specs.Plain.{plain};
 ghost use Rattle.gs_master.specs.Applied.{is_whole_entry};
-ghost use Rattle.gs_master.specs.Memories.{is_small};
 ghost use Rattle.gs_master.specs.Plans.{log_of, plan_of, state_of};
 ghost use Rattle.gs_master.specs.Recorded.{durable_of};
 ghost use Rattle.gs_master.specs.State.{fits, turned};
@@ -57,7 +56,6 @@ impl Event {
 
     /// Makes changes, one after the other.
     fn change_all(&mut self, changes: Vec<Change>) -> Result<(), AllocError>
-        requires small { list_all is_small changes.items ≡ true }
         requires ready { IsUnderWay self.old }
         ensures changed { OnOk result (self.new.memory.now ≡ all_changed self.old.memory.now changes.items) }
         ensures before { self.new.memory.before ≡ self.old.memory.before }

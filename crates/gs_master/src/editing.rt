@@ -5,8 +5,9 @@ ghost use Rattle.gs_record.specs.Plain as entries;
 ghost use Rattle.gs_record.specs.Plain.{plain_edit};
 ghost use Rattle.gs_table.specs.Slots.{HasRoom, KeepsRoom};
 ghost use Rattle.gs_master.specs.Applied.{after_if, chunk_of_edit, forgotten_by, may_edit, names_well, number_of_edit, view_for, with_answer, without_chunks};
-ghost use Rattle.gs_master.specs.Recorded.{AppliesOrMemory, IsToldBack, RoomForEach, RoomToKeep, durable_of, inverses_and, unfit};
+ghost use Rattle.gs_master.specs.Recorded.{IsToldBack, RoomForEach, RoomToKeep, durable_of, inverses_and, unfit};
 ghost use Rattle.gs_master.specs.Replies.{answer_to, client_cmp};
+ghost use Rattle.gs_master.specs.TakingBack.{Enters};
 
 use crate::hiding::{hidden_path, is_visible, old_name, old_path};
 use crate::recorded::{Recorded, after_number, is_fresh};
@@ -214,7 +215,7 @@ impl Recorded {
         requires inverses { vec_len self.old.inverses < vec_capacity self.old.inverses }
         requires prepared { RoomForEach self.old.phase self.old.prepared (forgotten_by (plain_edit edit.now)) }
         requires back { IsToldBack (durable_of self.old) (plain_edit edit.now) inverse }
-        ensures { AppliesOrMemory (entries.Edited by (plain_edit edit.now)) result (durable_of self.old) (durable_of self.new) }
+        ensures { Enters (entries.Edited by (plain_edit edit.now)) result (durable_of self.old) (durable_of self.new) }
     {
         if !self.may_edit(edit)? {
             return Err(Refusal::BadLine);

@@ -1,8 +1,6 @@
 // Calls that waited, and end.
-ghost use Rattle.std.specs.Prelude.{◌≡◌, false, true, IfOk};
-ghost use Rattle.std.specs.List.{list_all};
+ghost use Rattle.std.specs.Prelude.{◌≡◌, None, IfOk};
 ghost use Rattle.gs_record.specs.Plain.{plain_edit};
-ghost use Rattle.gs_master.specs.Memories.{is_small};
 ghost use Rattle.gs_master.specs.Plans.{plan_of, state_of};
 ghost use Rattle.gs_master.specs.Settling.{ended_by_edit, ended_with, if_room_for};
 ghost use Rattle.gs_master.specs.State.{all_ended_by, end_changes, ended_by, refusal_plan, turned};
@@ -84,8 +82,7 @@ impl Event {
         answer: Answer,
         before: Vec<Change>,
     ) -> Result<(), Refusal>
-        requires ready { IsUnderWay self.old }
-        requires small { list_all is_small before.items ≡ true }
+        requires { IsUnderWay self.old }
         ensures steps { Steps (ended_by_edit (state_at self.old) req (plain_edit edit) answer before.items) self.old result self.new }
         ensures back { GoesBack self.old self.new }
     {

@@ -1,12 +1,12 @@
-// Records of events that have several, entered one after the other so that each can be taken back.
-ghost use Rattle.std.specs.Prelude.{◌≡◌, ◌<◌, Ok, true, false, map, IfOk, IfErr, vec_len, vec_capacity};
+// Records of events, entered one after the other so that each can be taken back.
+ghost use Rattle.std.specs.Prelude.{◌≡◌, Ok, true, false, IfOk, IfErr};
 ghost use Rattle.std.specs.Ordering.{nat_cmp};
 ghost use Rattle.std.specs.FinMap as fin;
 ghost use Rattle.gs_record.specs.Plain as entries;
 ghost use Rattle.gs_record.specs.Plain.{plain};
 ghost use Rattle.gs_table.specs.Slots.{HasRoom, KeepsRoom, live};
 ghost use Rattle.gs_master.specs.Applied.{with_proposal, with_reply};
-ghost use Rattle.gs_master.specs.Recorded.{KeepsRooms, RoomFor, RoomToKeep, durable_of};
+ghost use Rattle.gs_master.specs.Recorded.{Applies, KeepsRooms, RoomFor, RoomToKeep, durable_of};
 ghost use Rattle.gs_master.specs.Replies.{client_cmp};
 ghost use Rattle.gs_master.specs.TakingBack.{Enters, IsRefused, IsToldFor, IsUndo, RoomAt, RoomForReply, comes_alone, with_moved_before, with_proposed_before, with_reply_before};
 
@@ -14,7 +14,7 @@ use crate::asking::Prepared;
 use crate::recorded::{Recorded, after_number, raised};
 use crate::reply::KeptReply;
 use crate::undo::{ChunkBefore, ProposalBefore, ReplyBefore, Undo, exchange};
-use gs_base::{ClientId, EpochEnd, Handle, Refusal, ReqId, ServerId, Stamp};
+use gs_base::{ClientId, Handle, Refusal, ReqId, ServerId, Stamp};
 use gs_edit::ListedInverse;
 use gs_lease::{Lease, restore};
 use gs_msg::Answer;
@@ -49,22 +49,11 @@ pub(crate) fn enter_reply(
     })
 }
 
-/// Whether a record isn't entered with others: a call of its own applies it.
+/// Whether a record isn't entered with others: a checkpoint takes the place of all.
 fn comes_alone(entry: &Entry) -> bool
     ensures { result ≡ comes_alone (plain entry.now) }
 {
-    match entry {
-        Entry::Edit { .. }
-        | Entry::Said { .. }
-        | Entry::Propose { .. }
-        | Entry::Settle(_)
-        | Entry::RollbackBegin { .. }
-        | Entry::Holder { .. } => false,
-        Entry::Prepare { .. }
-        | Entry::Finalize { .. }
-        | Entry::RollbackCommit { .. }
-        | Entry::Checkpoint(_) => true,
-    }
+    matches!(entry, Entry::Checkpoint(_))
 }
 
 impl Recorded {
@@ -99,7 +88,7 @@ impl Recorded {
     #[tactic(auto, unfolding(crate::specs::Applied::applied))]
     fn enter_proposal(&mut self, chunk: Handle, version: u64) -> Result<Undo, Refusal>
         requires { HasRoom nat_cmp self.old.leases chunk }
-        ensures applied { Enters (entries.Propose chunk version) result (durable_of self.old) (durable_of self.new) }
+        ensures applied { Applies (entries.Propose chunk version) result (durable_of self.old) (durable_of self.new) }
         ensures back { IfOk result (λ undo. IsUndo self.old self.new undo) }
         ensures leases { IfErr result (λ _. self.new.leases ≡ self.old.leases) }
         ensures keeps { KeepsRooms self.old self.new }
@@ -124,7 +113,7 @@ impl Recorded {
     fn enter_view(&mut self, settled: &SettledView) -> Result<Undo, Refusal>
         requires chunk { HasRoom nat_cmp self.old.leases settled.now.handle }
         requires prepared { RoomToKeep self.old.phase self.old.prepared settled.now.handle }
-        ensures applied { Enters (entries.Settle settled.now) result (durable_of self.old) (durable_of self.new) }
+        ensures applied { Applies (entries.Settle settled.now) result (durable_of self.old) (durable_of self.new) }
         ensures back { IfOk result (λ undo. IsUndo self.old self.new undo) }
         ensures leases { IfErr result (λ _. self.new.leases ≡ self.old.leases) }
         ensures keeps { KeepsRooms self.old self.new }
@@ -147,7 +136,7 @@ impl Recorded {
     #[tactic(auto, unfolding(crate::specs::Applied::applied))]
     fn enter_holder(&mut self, chunk: Handle, server: ServerId) -> Result<Undo, Refusal>
         requires { RoomToKeep self.old.phase self.old.prepared chunk }
-        ensures applied { Enters (entries.Holder chunk server) result (durable_of self.old) (durable_of self.new) }
+        ensures applied { Applies (entries.Holder chunk server) result (durable_of self.old) (durable_of self.new) }
         ensures back { IfOk result (λ undo. IsUndo self.old self.new undo) }
         ensures leases { IfErr result (λ _. self.new.leases ≡ self.old.leases) }
         ensures keeps { KeepsRooms self.old self.new }
@@ -163,23 +152,6 @@ impl Recorded {
         Ok(Undo::Holder(chunk, before))
     }
 
-    /// The rollback of an upgrade is begun. There is room for how the epoch ends.
-    #[tactic(auto, unfolding(crate::specs::Applied::applied))]
-    fn enter_rollback(&mut self, epoch: u64) -> Result<Undo, Refusal>
-        requires { vec_len self.old.ends < vec_capacity self.old.ends }
-        ensures applied { Enters (entries.RollbackBegin epoch) result (durable_of self.old) (durable_of self.new) }
-        ensures back { IfOk result (λ undo. IsUndo self.old self.new undo) }
-        ensures leases { IfErr result (λ _. self.new.leases ≡ self.old.leases) }
-        ensures keeps { KeepsRooms self.old self.new }
-    {
-        if self.phase != Phase::Upgrade || !self.is_next_epoch(epoch) {
-            return Err(Refusal::BadLine);
-        }
-        let before = self.epoch;
-        self.end_epoch(EpochEnd::Rollback, Phase::Rolling);
-        Ok(Undo::RollbackBegin(before))
-    }
-
     /// A record is applied for which there is room.
     fn enter_grown(
         &mut self,
@@ -192,30 +164,31 @@ impl Recorded {
         ensures applied { Enters (plain entry.now) result (durable_of self.old) (durable_of self.new) }
         ensures back { IfOk result (λ undo. IsUndo self.old self.new undo) }
         ensures leases { IfErr result (λ _. self.new.leases ≡ self.old.leases) }
-        ensures keeps { KeepsRooms self.old self.new }
+        ensures keeps { IfErr result (λ _. KeepsRooms self.old self.new) }
     {
         match entry {
             Entry::Edit { by, edit } => self.enter_edit(*by, edit, inverse),
             Entry::Said { to, refusal } => self.enter_refusal(*to, refusal),
             Entry::Propose { handle, version } => self.enter_proposal(*handle, *version),
             Entry::Settle(settled) => self.enter_view(settled),
+            Entry::Prepare { epoch, .. } => self.enter_prepare(*epoch),
+            Entry::Finalize { epoch } => self.enter_finalize(*epoch),
             Entry::RollbackBegin { epoch } => self.enter_rollback(*epoch),
+            Entry::RollbackCommit { epoch, answered } => self.enter_commit(*epoch, answered),
             Entry::Holder { handle, server } => self.enter_holder(*handle, *server),
-            Entry::Prepare { .. }
-            | Entry::Finalize { .. }
-            | Entry::RollbackCommit { .. }
-            | Entry::Checkpoint(_) => Err(Refusal::BadLine),
+            Entry::Checkpoint(_) => Err(Refusal::BadLine),
         }
     }
 
-    /// Makes the room that a record of an event of several wants, and applies it. What it answers takes the record back.
+    /// Makes the room that a record wants, and applies it. What it answers takes the record back. `BadLine` where the record
+    /// doesn't fit: an edit is refused so too, whatever the names' own refusal is, so calls judge their edits before.
     pub fn enter(&mut self, entry: &Entry, inverse: Option<ListedInverse>) -> Result<Undo, Refusal>
         requires { IsToldFor (durable_of self.old) (plain entry.now) inverse }
         ensures applied { comes_alone (plain entry.now) ≡ false → Enters (plain entry.now) result (durable_of self.old) (durable_of self.new) }
         ensures alone { comes_alone (plain entry.now) ≡ true → IsRefused result (durable_of self.old) (durable_of self.new) }
         ensures back { IfOk result (λ undo. IsUndo self.old self.new undo) }
         ensures leases { IfErr result (λ _. live nat_cmp self.new.leases ≡ live nat_cmp self.old.leases) }
-        ensures keeps { KeepsRooms self.old self.new }
+        ensures keeps { IfErr result (λ _. KeepsRooms self.old self.new) }
     {
         if comes_alone(entry) {
             return Err(Refusal::BadLine);

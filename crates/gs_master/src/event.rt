@@ -1,10 +1,16 @@
 // An event at the master, step by step.
-ghost use Rattle.std.specs.Prelude.{◌≡◌, ◌≤◌, false, IfOk};
+ghost use Rattle.std.specs.Prelude.{◌≡◌, ◌<◌, ◌≤◌, ◌++◌, ◌∷◌, [], true, false, IfOk, OnOk, vec_len, vec_capacity};
+ghost use Rattle.std.specs.Ordering.{nat_cmp};
 ghost use Rattle.gs_journal.specs.Journal.{record_size};
+ghost use Rattle.gs_journal.specs.declared.version.Version.TheVariants.{Two};
+ghost use Rattle.gs_record.specs.Encoding.{encoded};
 ghost use Rattle.gs_record.specs.Plain.{plain};
-ghost use Rattle.gs_master.specs.Events.{Enters, KeepsBack};
+ghost use Rattle.gs_table.specs.Slots.{live};
+ghost use Rattle.gs_master.specs.Events.{Enters, HasPlaces, IsAppliedOrNot, IsEncoded, KeepsBack, log_behind};
+ghost use Rattle.gs_master.specs.Plans.{log_of};
 ghost use Rattle.gs_master.specs.Recorded.{durable_of};
-ghost use Rattle.gs_master.specs.TakingBack.{IsToldFor, RoomForAll, comes_alone};
+ghost use Rattle.gs_master.specs.State.{fits};
+ghost use Rattle.gs_master.specs.TakingBack.{IsToldFor, RoomForAll, StillTakeBack, all_leases_before, comes_alone};
 
 use crate::fault::Fault;
 use crate::log::Log;
@@ -35,7 +41,7 @@ pub(crate) struct Event {
 }
 
 /// How many bytes a record takes in the journal.
-fn size_of(encoded: &Record) -> u64
+pub(crate) fn size_of(encoded: &Record) -> u64
     ensures { result ≡ record_size encoded.now }
 {
     encoded.body().len() as u64 + 6
@@ -54,6 +60,64 @@ impl Recorded {
 }
 
 impl Event {
+    /// Makes room for one record more among those that are to be written.
+    fn grow(&mut self) -> Result<(), AllocError>
+        ensures undos { self.new.undos.items ≡ self.old.undos.items }
+        ensures entries { self.new.entries.items ≡ self.old.entries.items }
+        ensures written { self.new.written.items ≡ self.old.written.items }
+        ensures others { self.new ≡ record self.old { undos = self.new.undos; entries = self.new.entries; written = self.new.written } }
+        ensures place { OnOk result (HasPlaces self.new) }
+    {
+        self.undos.reserve(1)?;
+        self.entries.reserve(1)?;
+        self.written.reserve(1)?;
+        Ok(())
+    }
+
+    /// Applies a record for which the lists have room. `BadLine` where it doesn't fit. What takes it back stands behind the others.
+    fn apply(&mut self, entry: &Entry) -> Result<(), Refusal>
+        requires alone { comes_alone (plain entry.now) ≡ false }
+        requires room { RoomForAll self.old.recorded self.old.undos.items }
+        requires places { HasPlaces self.old }
+        ensures applied { IsAppliedOrNot (plain entry.now) self.old result self.new }
+        ensures back { StillTakeBack self.old.undos.items (durable_of self.old.recorded) self.new.undos.items (durable_of self.new.recorded) }
+        ensures leases { all_leases_before self.new.undos.items (live nat_cmp self.new.recorded.leases) ≡ all_leases_before self.old.undos.items (live nat_cmp self.old.recorded.leases) }
+        ensures room { RoomForAll self.new.recorded self.new.undos.items }
+        ensures others { self.new ≡ record self.old { recorded = self.new.recorded; undos = self.new.undos } }
+    {
+        let inverse = self.recorded.inverse_for(entry)?;
+        self.recorded.enter_behind(&mut self.undos, entry, inverse)
+    }
+
+    /// A record that was applied is to be written. There is room for it.
+    fn keep(&mut self, entry: Entry, bytes: Record)
+        requires entries { vec_len self.old.entries < vec_capacity self.old.entries }
+        requires written { vec_len self.old.written < vec_capacity self.old.written }
+        requires room { fits (log_of self.old.log) (plain entry ∷ []) ≡ true }
+        requires counted { self.old.log.records ≤ self.old.log.size }
+        requires encoded { bytes ≡ encoded Two (plain entry) }
+        ensures entries { self.new.entries.items ≡ self.old.entries.items ++ entry ∷ [] }
+        ensures written { self.new.written.items ≡ self.old.written.items ++ bytes ∷ [] }
+        ensures log { log_of self.new.log ≡ log_behind (log_of self.old.log) (plain entry) }
+        ensures counted { self.new.log.records ≤ self.new.log.size }
+        ensures others { self.new ≡ record self.old { log = self.new.log; entries = self.new.entries; written = self.new.written } }
+    {
+        self.log.add(size_of(&bytes));
+        self.entries.push_reserved(entry);
+        self.written.push_reserved(bytes);
+    }
+
+    /// The record of an entry, if the journal has room for it.
+    fn encoded(&self, entry: &Entry) -> Result<Record, Refusal>
+        ensures { IsEncoded (plain entry.now) self.now result }
+    {
+        let encoded = entry.encode(self.alloc)?;
+        if !self.log.has_room(size_of(&encoded)) {
+            return Err(Refusal::Full);
+        }
+        Ok(encoded)
+    }
+
     /// Applies a record that may come with others, and keeps it to be written. `Full` where the journal has no room for it,
     /// `BadLine` where it doesn't fit or can't be written. A refusal may leave room that was made.
     pub fn enter(&mut self, entry: Entry) -> Result<(), Refusal>
@@ -66,20 +130,10 @@ impl Event {
         ensures counted { self.new.log.records ≤ self.new.log.size }
         ensures others { (self.new.memory ≡ self.old.memory) × (self.new.sent ≡ self.old.sent) × (self.new.said ≡ self.old.said) × (self.new.fault ≡ self.old.fault) }
     {
-        let encoded = entry.encode(self.alloc)?;
-        let size = size_of(&encoded);
-        if !self.log.has_room(size) {
-            return Err(Refusal::Full);
-        }
-        let inverse = self.recorded.inverse_for(&entry)?;
-        self.undos.reserve(1)?;
-        self.entries.reserve(1)?;
-        self.written.reserve(1)?;
-        self.recorded
-            .enter_behind(&mut self.undos, &entry, inverse)?;
-        self.log.add(size);
-        self.entries.push_reserved(entry);
-        self.written.push_reserved(encoded);
+        let encoded = self.encoded(&entry)?;
+        self.grow()?;
+        self.apply(&entry)?;
+        self.keep(entry, encoded);
         Ok(())
     }
 }

@@ -1,18 +1,18 @@
-ghost use Rattle.std.specs.Prelude.{◌<◌, vec_len, vec_capacity, ◌≡◌, Some, position};
+ghost use Rattle.std.specs.Prelude.{◌≡◌, ◌<◌, ◌++◌, ◌∷◌, [], vec_len, vec_capacity, position};
 ghost use Rattle.std.specs.Option.{option_copied};
 ghost use Rattle.std.specs.Ordering.{nat_cmp};
 ghost use Rattle.std.specs.FinMap as fin;
 ghost use Rattle.gs_lock.specs.Operations.{same_op};
-ghost use Rattle.gs_table.specs.Slots.{HasRoom, KeepsRoom, live};
-ghost use Rattle.gs_master.specs.Memories.{volatile_of, changed_but_locks, HaveRoom, KeepsFor};
+ghost use Rattle.gs_table.specs.Slots.{HasRoom};
+ghost use Rattle.gs_master.specs.Memories.{KeepsRooms, volatile_of};
 ghost use Rattle.gs_master.specs.Replies.{client_cmp};
-ghost use Rattle.gs_master.specs.Volatile.{changed, servers_or_none, with_restored};
+ghost use Rattle.gs_master.specs.Volatile.{changed, servers_or_none};
 ghost use Rattle.gs_master.specs.declared.change.Change.TheVariants as changes;
 
 use crate::asking::Asking;
 use crate::pending::{Pending, Waiting};
 use crate::reply::KeptReply;
-use gs_base::{ClientId, Handle, Members, ReqId, ServerId};
+use gs_base::{ClientId, Handle, Members, ReqId};
 use gs_lock::LockTable;
 use gs_table::Table;
 use std::alloc::Global;
@@ -80,7 +80,7 @@ impl Memory {
     /// Begins to prepare, or ends it.
     pub fn prepare(&mut self, is_preparing: bool)
         ensures changed { volatile_of self.new ≡ changed (volatile_of self.old) (changes.Prepare is_preparing) }
-        ensures keeps { KeepsFor self.old self.new }
+        ensures keeps { KeepsRooms self.old self.new }
     {
         self.is_preparing = is_preparing;
     }
@@ -89,7 +89,7 @@ impl Memory {
     pub fn ask(&mut self, chunk: Handle, asking: Asking)
         requires { HasRoom nat_cmp self.old.moving chunk }
         ensures changed { volatile_of self.new ≡ changed (volatile_of self.old) (changes.Ask chunk asking) }
-        ensures keeps { KeepsFor self.old self.new }
+        ensures keeps { KeepsRooms self.old self.new }
     {
         let purpose = asking.purpose;
         self.moving.put(chunk, Asking { purpose, ..asking });
@@ -98,7 +98,7 @@ impl Memory {
     /// Asks nothing for a chunk any more.
     pub fn settle(&mut self, chunk: Handle)
         ensures changed { volatile_of self.new ≡ changed (volatile_of self.old) (changes.Settled chunk) }
-        ensures keeps { KeepsFor self.old self.new }
+        ensures keeps { KeepsRooms self.old self.new }
     {
         let _asked = self.moving.take(chunk);
     }
@@ -106,24 +106,15 @@ impl Memory {
     /// A new chunk has its place.
     pub fn place(&mut self, chunk: Handle)
         ensures changed { volatile_of self.new ≡ changed (volatile_of self.old) (changes.Place chunk) }
-        ensures keeps { KeepsFor self.old self.new }
+        ensures keeps { KeepsRooms self.old self.new }
     {
-        self.unplaced.retain(|other| *other != chunk);
-    }
-
-    /// A new chunk is no more.
-    pub fn lose(&mut self, chunk: Handle)
-        ensures changed { volatile_of self.new ≡ changed (volatile_of self.old) (changes.Lose chunk) }
-        ensures keeps { KeepsFor self.old self.new }
-    {
-        let _asked = self.moving.take(chunk);
         self.unplaced.retain(|other| *other != chunk);
     }
 
     /// Ends a call, and releases its locks.
     pub fn end(&mut self, req: ReqId)
         ensures changed { volatile_of self.new ≡ changed (volatile_of self.old) (changes.End req) }
-        ensures keeps { KeepsFor self.old self.new }
+        ensures keeps { KeepsRooms self.old self.new }
     {
         self.pending.retain(|pending| pending.req != req);
         self.locks.release(req);
@@ -133,7 +124,7 @@ impl Memory {
     pub fn keep(&mut self, client: ClientId, reply: KeptReply)
         requires { HasRoom client_cmp self.old.replies client }
         ensures changed { volatile_of self.new ≡ changed (volatile_of self.old) (changes.Keep client reply) }
-        ensures keeps { KeepsFor self.old self.new }
+        ensures keeps { KeepsRooms self.old self.new }
     {
         self.replies.put(client, reply);
     }
@@ -142,7 +133,7 @@ impl Memory {
     pub fn enter(&mut self, chunk: Handle)
         requires { vec_len self.old.unplaced < vec_capacity self.old.unplaced }
         ensures changed { volatile_of self.new ≡ changed (volatile_of self.old) (changes.Enter chunk) }
-        ensures keeps { KeepsFor self.old self.new }
+        ensures keeps { KeepsRooms self.old self.new }
     {
         let _pushed = self.unplaced.push(chunk);
     }
@@ -156,20 +147,10 @@ impl Memory {
     /// A call that waits does so for something else now.
     pub fn wait(&mut self, req: ReqId, waits: Waiting)
         ensures changed { volatile_of self.new ≡ changed (volatile_of self.old) (changes.Wait req waits) }
-        ensures keeps { KeepsFor self.old self.new }
+        ensures keeps { KeepsRooms self.old self.new }
     {
         if let Some(place) = self.place_of(req) {
             self.pending[place] = Pending { req, waits };
-        }
-    }
-
-    /// Asks nothing for these chunks any more, which are forgotten.
-    pub fn forget(&mut self, chunks: &[Handle])
-        ensures changed { volatile_of self.new ≡ changed (volatile_of self.old) (changes.Forget chunks.now) }
-        ensures keeps { KeepsFor self.old self.new }
-    {
-        for chunk in chunks {
-            let _asked = self.moving.take(*chunk);
         }
     }
 
@@ -183,43 +164,11 @@ impl Memory {
         }
     }
 
-    /// A server has a chunk, which has room, as it was sealed.
-    fn restore_one(&mut self, server: ServerId, chunk: Handle)
-        requires { HasRoom nat_cmp self.old.restored chunk }
-        ensures restored { live nat_cmp self.new.restored ≡ with_restored server (live nat_cmp self.old.restored) chunk }
-        ensures keeps { KeepsRoom nat_cmp self.old.restored self.new.restored }
-        ensures others { self.new ≡ record (self.old) { restored = self.new.restored } }
-    {
-        let mut servers = self.restored_on(chunk);
-        servers.insert(server);
-        self.restored.put(chunk, servers);
-    }
-
-    /// A server has these chunks, each of which has room, as they were sealed.
-    pub fn restore(&mut self, server: ServerId, chunks: &[Handle])
-        requires { HaveRoom self.old.restored chunks.now }
-        ensures changed { volatile_of self.new ≡ changed (volatile_of self.old) (changes.Restored server chunks.now) }
-        ensures keeps { KeepsFor self.old self.new }
-    {
-        for chunk in chunks {
-            self.restore_one(server, *chunk);
-        }
-    }
-
-    /// A rollback is done: nothing is asked, no chunk is new, and nobody has answered.
-    pub fn roll_back(&mut self)
-        ensures { volatile_of self.new ≡ changed (volatile_of self.old) changes.RolledBack }
-    {
-        self.moving = Table::new(self.alloc);
-        self.unplaced = Vec::new(self.alloc);
-        self.restored = Table::new(self.alloc);
-    }
-
     /// A call begins to wait, for which there is room. Its locks are taken already.
     pub fn begin(&mut self, pending: Pending)
         requires { vec_len self.old.pending < vec_capacity self.old.pending }
-        ensures changed { volatile_of self.new ≡ changed_but_locks (volatile_of self.old) (changes.Begin pending) }
-        ensures keeps { KeepsFor self.old self.new }
+        ensures changed { volatile_of self.new ≡ record (volatile_of self.old) { pending = (volatile_of self.old).pending ++ pending ∷ [] } }
+        ensures keeps { KeepsRooms self.old self.new }
     {
         let _pushed = self.pending.push(pending);
     }

@@ -1,20 +1,19 @@
-ghost use Rattle.std.specs.Prelude.{◌≡◌, ◌<◌, ◌&&◌, ℕ, Some, vec_len, vec_capacity};
+ghost use Rattle.std.specs.Prelude.{◌≡◌, ◌<◌, ◌&&◌, vec_len, vec_capacity};
 ghost use Rattle.std.specs.FinMap as fin;
 ghost use Rattle.std.specs.Ordering.{nat_cmp};
-ghost use Rattle.gs_table.specs.Slots.{HasRoom, KeepsRoom, live};
-ghost use Rattle.gs_record.specs.Plain as entries;
-ghost use Rattle.gs_master.specs.Applied.{applied, are_at_rest, follows_view, is_fresh, is_next_epoch, is_since, is_sound, may_be_settled, may_propose, raised, view_in, with_epoch, with_proposal, without_prepared};
+ghost use Rattle.gs_table.specs.Slots.{KeepsRoom};
+ghost use Rattle.gs_master.specs.Applied.{are_at_rest, follows_view, is_fresh, is_next_epoch, is_since, is_sound, may_be_settled, may_propose, raised, view_in, with_epoch};
 ghost use Rattle.gs_master.specs.Chunks.{was_proposed};
 ghost use Rattle.gs_base.specs.Numbers.{last_number};
 ghost use Rattle.gs_master.specs.Durable.{start, after_number, is_given, is_listed, kept_before, prepared_view, upgrade_epoch};
-ghost use Rattle.gs_master.specs.Recorded.{Applies, RoomToKeep, durable_of, rests, settled_by};
-ghost use Rattle.gs_master.specs.Replies.{client_cmp, is_later};
+ghost use Rattle.gs_master.specs.Recorded.{RoomToKeep, durable_of, rests, settled_by};
+ghost use Rattle.gs_master.specs.Replies.{is_later};
 
 use crate::asking::Prepared;
 use crate::reply::KeptReply;
-use gs_base::{ClientId, EpochEnd, Handle, Members, Refusal, ReqId, ServerId, Stamp};
+use gs_base::{ClientId, EpochEnd, Handle, Members, ReqId};
 use gs_edit::{ListedInverse, Names};
-use gs_lease::{Lease, Told, View, restore};
+use gs_lease::{Lease, Told, View};
 use gs_record::{Phase, SettledView};
 use gs_table::Table;
 use std::alloc::Global;
@@ -70,32 +69,6 @@ impl Recorded {
         }
     }
 
-    /// A request was refused. There is room for its client.
-    #[tactic(auto, unfolding(crate::specs::Applied::applied))]
-    pub fn say(&mut self, to: ReqId, refusal: Refusal)
-        requires { HasRoom client_cmp self.old.replies to.client }
-        ensures { applied (durable_of self.old) (entries.Said to refusal) ≡ Some (durable_of self.new) }
-    {
-        if self.is_later(to) {
-            let number = to.number;
-            self.replies.put(
-                to.client,
-                KeptReply {
-                    number,
-                    result: Err(refusal),
-                },
-            );
-        }
-    }
-
-    /// Gives up what was kept since prepare.
-    pub fn forget_prepared(&mut self)
-        ensures { durable_of self.new ≡ without_prepared (durable_of self.old) }
-    {
-        self.inverses.clear();
-        self.prepared = Table::new(self.alloc);
-    }
-
     /// Whether this is the epoch behind the one that stands.
     pub(crate) fn is_next_epoch(&self, epoch: u64) -> bool
         ensures { result ≡ is_next_epoch (durable_of self.now).epoch epoch }
@@ -115,33 +88,6 @@ impl Recorded {
         let _pushed = self.ends.push(end);
         self.epoch += 1;
         self.phase = phase;
-    }
-
-    /// An upgrade is kept. There is room for how the epoch ends.
-    #[tactic(auto, unfolding(crate::specs::Applied::applied))]
-    pub fn finalize(&mut self, epoch: u64) -> Result<(), Refusal>
-        requires { vec_len self.old.ends < vec_capacity self.old.ends }
-        ensures { Applies (entries.Finalize epoch) result (durable_of self.old) (durable_of self.new) }
-    {
-        if self.phase != Phase::Upgrade || !self.is_next_epoch(epoch) {
-            return Err(Refusal::BadLine);
-        }
-        self.end_epoch(EpochEnd::Finalize, Phase::Ordinary);
-        self.forget_prepared();
-        Ok(())
-    }
-
-    /// The rollback of an upgrade is begun. There is room for how the epoch ends.
-    #[tactic(auto, unfolding(crate::specs::Applied::applied))]
-    pub fn begin_rollback(&mut self, epoch: u64) -> Result<(), Refusal>
-        requires { vec_len self.old.ends < vec_capacity self.old.ends }
-        ensures { Applies (entries.RollbackBegin epoch) result (durable_of self.old) (durable_of self.new) }
-    {
-        if self.phase != Phase::Upgrade || !self.is_next_epoch(epoch) {
-            return Err(Refusal::BadLine);
-        }
-        self.end_epoch(EpochEnd::Rollback, Phase::Rolling);
-        Ok(())
     }
 
     /// The settled view of a chunk.
@@ -213,25 +159,6 @@ impl Recorded {
         }
     }
 
-    /// A server got a copy of a chunk with its sealed image. There is room for the chunk's prepared view.
-    #[tactic(auto, unfolding(crate::specs::Applied::applied))]
-    pub fn hold(&mut self, chunk: Handle, server: ServerId) -> Result<(), Refusal>
-        requires { RoomToKeep self.old.phase self.old.prepared chunk }
-        ensures { Applies (entries.Holder chunk server) result (durable_of self.old) (durable_of self.new) }
-    {
-        if self.phase != Phase::Upgrade {
-            return Err(Refusal::BadLine);
-        }
-        let Some(prepared) = self.prepared_view(chunk) else {
-            return Err(Refusal::BadLine);
-        };
-        let mut holders = prepared.holders;
-        holders.insert(server);
-        let view = prepared.view;
-        self.prepared.put(chunk, Prepared { view, holders });
-        Ok(())
-    }
-
     /// Whether a view of a chunk may be proposed under this version.
     pub(crate) fn may_propose(&self, chunk: Handle, version: u64) -> bool
         ensures { result ≡ may_propose (durable_of self.now).phase (durable_of self.now).next_handle (durable_of self.now).next_version chunk version (fin.get (durable_of self.now).chunks chunk) }
@@ -240,32 +167,6 @@ impl Recorded {
             return false;
         }
         self.view(chunk).is_some() || is_fresh(self.next_handle, chunk.number())
-    }
-
-    /// A settled chunk moves, and nobody is asked by that alone. One that isn't settled stays as it is.
-    fn mark_moving(&mut self, chunk: Handle, stamp: Stamp)
-        requires { HasRoom nat_cmp self.old.leases chunk }
-        ensures { durable_of self.new ≡ record (durable_of self.old) { chunks = with_proposal (durable_of self.old) chunk (fin.get (durable_of self.old).chunks chunk) } }
-    {
-        if let Some(view) = self.view(chunk) {
-            self.leases.put(chunk, restore(view, Some(stamp)));
-        }
-    }
-
-    /// A view of a chunk is proposed. There is room for the chunk.
-    #[tactic(auto, unfolding(crate::specs::Applied::applied))]
-    pub fn propose(&mut self, chunk: Handle, version: u64) -> Result<(), Refusal>
-        requires { HasRoom nat_cmp self.old.leases chunk }
-        ensures { Applies (entries.Propose chunk version) result (durable_of self.old) (durable_of self.new) }
-    {
-        if !self.may_propose(chunk, version) {
-            return Err(Refusal::BadLine);
-        }
-        let epoch = self.epoch;
-        self.mark_moving(chunk, Stamp { epoch, version });
-        self.next_handle = raised(self.next_handle, chunk.number());
-        self.next_version = after_number(version);
-        Ok(())
     }
 
     /// Whether a view has a stamp that may follow what is settled of its chunk.
@@ -295,21 +196,6 @@ impl Recorded {
         view.stamp.epoch <= self.epoch && is_sound(&view) && self.may_follow(settled)
     }
 
-    /// A view of a chunk is settled. There is room for the chunk, and for its prepared view.
-    #[tactic(auto, unfolding(crate::specs::Applied::applied))]
-    pub fn settle(&mut self, settled: &SettledView) -> Result<(), Refusal>
-        requires chunk { HasRoom nat_cmp self.old.leases settled.now.handle }
-        requires prepared { RoomToKeep self.old.phase self.old.prepared settled.now.handle }
-        ensures { Applies (entries.Settle settled.now) result (durable_of self.old) (durable_of self.new) }
-    {
-        if !self.may_be_settled(settled) {
-            return Err(Refusal::BadLine);
-        }
-        self.keep_prepared(settled.handle);
-        self.leases.put(settled.handle, restore(settled.view, None));
-        Ok(())
-    }
-
     /// Whether a file has the chunk, or had it.
     pub fn is_listed(&self, chunk: Handle) -> bool
         ensures { result ≡ is_listed (durable_of self.now) chunk }
@@ -318,7 +204,7 @@ impl Recorded {
     }
 
     /// Whether each listed chunk has no primary, and no view is proposed for it.
-    fn are_at_rest(&self) -> bool
+    pub(crate) fn are_at_rest(&self) -> bool
         ensures { result ≡ are_at_rest (durable_of self.now) }
     {
         for (chunk, lease) in self.leases.iter() {
@@ -327,20 +213,6 @@ impl Recorded {
             }
         }
         true
-    }
-
-    /// An upgrade is prepared. There is room for how the epoch ends.
-    #[tactic(auto, unfolding(crate::specs::Applied::applied))]
-    pub fn prepare(&mut self, epoch: u64) -> Result<(), Refusal>
-        requires { vec_len self.old.ends < vec_capacity self.old.ends }
-        ensures { (moment chunks : ℕ) → Applies (entries.Prepare epoch moment chunks) result (durable_of self.old) (durable_of self.new) }
-    {
-        if self.phase != Phase::Ordinary || !self.is_next_epoch(epoch) || !self.are_at_rest() {
-            return Err(Refusal::BadLine);
-        }
-        self.end_epoch(EpochEnd::Prepare, Phase::Upgrade);
-        self.forget_prepared();
-        Ok(())
     }
 }
 

@@ -1,23 +1,27 @@
 // What a rollback leads back to.
-ghost use Rattle.std.specs.Prelude.{◌≡◌, ◌==◌, ◌&&◌, IfOk, Some};
+ghost use Rattle.std.specs.Prelude.{◌≡◌, ◌==◌, ◌&&◌, IfOk, IfErr};
 ghost use Rattle.std.specs.Ordering.{nat_cmp};
 ghost use Rattle.std.specs.FinMap as fin;
 ghost use Rattle.gs_record.specs.Plain as entries;
+ghost use Rattle.gs_record.specs.declared.checkpoint.Phase.TheVariants.{Ordinary, Rolling};
 ghost use Rattle.gs_table.specs.Slots.{live};
-ghost use Rattle.gs_master.specs.Applied.{are_answers, is_prepared_on, may_restore};
+ghost use Rattle.gs_master.specs.Applied.{are_answers, is_prepared_on, may_restore, without_prepared};
 ghost use Rattle.std.specs.List.{list_all};
 ghost use Rattle.gs_master.specs.Durable.{is_rolling, prepared_view};
-ghost use Rattle.gs_master.specs.Recorded.{AppliesOrMemory, answers_for_one, chunks_of, durable_of, restored_chunks};
-ghost use Rattle.gs_master.specs.Undoing.{all_undone};
+ghost use Rattle.gs_master.specs.Recorded.{answers_for_one, chunks_of, durable_of, restored_chunks};
+ghost use Rattle.gs_master.specs.TakingBack.{Enters, IsUndo};
 
 use crate::asking::Prepared;
+use crate::entering_epoch::exchange_kept;
 use crate::recorded::Recorded;
+use crate::undo::{RollbackBefore, Undo};
 use gs_base::{Handle, Members, Refusal, Stamp};
 use gs_edit::Names;
 use gs_lease::{Lease, View, restore};
 use gs_record::{Answered, Phase};
 use gs_table::Table;
 use std::alloc::AllocError;
+use std::mem;
 
 impl Recorded {
     /// The view of a chunk as it stood at prepare, on the servers that have answered.
@@ -81,30 +85,42 @@ impl Recorded {
         self.phase == Phase::Rolling && epoch == self.epoch
     }
 
-    /// The rollback of an upgrade is done, and these are the names of the prepare. It wants memory for the chunks before
-    /// anything changes.
-    pub fn commit_rollback(
+    /// These names and chunks stand, and what was kept since prepare is given up. It answers what stood.
+    fn exchange_all(&mut self, names: Names, leases: Table<Handle, Lease>) -> RollbackBefore
+        ensures value { durable_of self.new ≡ record (without_prepared (durable_of self.old)) { names = names; chunks = chunks_of (live nat_cmp leases); phase = Ordinary } }
+        ensures back { self.old.phase ≡ Rolling → IsUndo self.old self.new (Undo.RollbackCommit result) }
+    {
+        self.phase = Phase::Ordinary;
+        RollbackBefore {
+            names: mem::replace(&mut self.names, names),
+            leases: mem::replace(&mut self.leases, leases),
+            kept: exchange_kept(self.alloc, &mut self.inverses, &mut self.prepared),
+        }
+    }
+
+    /// The rollback of an upgrade is done. It wants memory for the names and the chunks before anything changes.
+    pub(crate) fn enter_commit(
         &mut self,
         epoch: u64,
         answered: &[Answered],
-        names: Names,
-    ) -> Result<(), Refusal>
-        requires { all_undone (durable_of self.old).inverses (durable_of self.old).names ≡ Some names }
-        ensures { AppliesOrMemory (entries.RollbackCommit epoch answered.now) result (durable_of self.old) (durable_of self.new) }
+    ) -> Result<Undo, Refusal>
+        ensures applied { Enters (entries.RollbackCommit epoch answered.now) result (durable_of self.old) (durable_of self.new) }
+        ensures back { IfOk result (λ undo. IsUndo self.old self.new undo) }
+        ensures same { IfErr result (λ _. self.new ≡ self.old) }
     {
         if !self.may_commit(epoch) {
             return Err(Refusal::BadLine);
         }
+        let names = match self.names_back() {
+            Ok(names) => names,
+            Err(refusal) => return Err(refusal),
+        };
         let listed = names.refs().entries(self.alloc)?;
         if !self.are_answers(&listed, answered) {
             return Err(Refusal::BadLine);
         }
         let leases = self.restored(answered)?;
-        self.forget_prepared();
-        self.names = names;
-        self.leases = leases;
-        self.phase = Phase::Ordinary;
-        Ok(())
+        Ok(Undo::RollbackCommit(self.exchange_all(names, leases)))
     }
 }
 

@@ -1,5 +1,5 @@
 // Whether the journal has room for records that aren't made yet.
-ghost use Rattle.std.specs.Prelude.{◌≡◌, ◌*◌, false, length, map, IfOk};
+ghost use Rattle.std.specs.Prelude.{◌≡◌, ◌+◌, ◌*◌, ◌++◌, false, length, map, IfOk};
 ghost use Rattle.std.specs.List.{list_any};
 ghost use Rattle.gs_record.specs.Encoding.{edit, path};
 ghost use Rattle.gs_record.specs.Plain.{plain, plain_edit};
@@ -37,21 +37,33 @@ fn behind_path(room: Option<u64>, alloc: Global, place: &Path) -> Result<Option<
     Ok(behind(behind(room, 2), text.len() as u64))
 }
 
+/// What is left behind an edit of two paths.
+fn behind_two(
+    room: Option<u64>,
+    alloc: Global,
+    from: &Path,
+    to: &Path,
+) -> Result<Option<u64>, AllocError>
+    ensures { IfOk result (IsBehind room (length (path from.now ++ path to.now) + 1)) }
+{
+    let room = behind_path(behind(room, 1), alloc, from)?;
+    behind_path(room, alloc, to)
+}
+
 /// What is left behind an edit.
 fn behind_edit(room: Option<u64>, alloc: Global, told: &Edit) -> Result<Option<u64>, AllocError>
     ensures { IfOk result (IsBehind room (length (edit (plain_edit told.now)))) }
 {
     match told {
-        Edit::Mkdirs(path) | Edit::Create(path) | Edit::Unhide(path) | Edit::Remove(path) => {
-            behind_path(behind(room, 1), alloc, path)
-        }
-        Edit::Rename(from, to) | Edit::Snapshot(from, to) => {
-            let room = behind_path(behind(room, 1), alloc, from)?;
-            behind_path(room, alloc, to)
-        }
+        Edit::Mkdirs(path) => behind_path(behind(room, 1), alloc, path),
+        Edit::Create(path) => behind_path(behind(room, 1), alloc, path),
+        Edit::Rename(from, to) => behind_two(room, alloc, from, to),
         Edit::Hide(path, _, _) => behind_path(behind(room, 17), alloc, path),
+        Edit::Unhide(path) => behind_path(behind(room, 1), alloc, path),
+        Edit::Remove(path) => behind_path(behind(room, 1), alloc, path),
         Edit::AddChunk(path, _) => behind_path(behind(room, 9), alloc, path),
         Edit::Cow(path, _, _, _) => behind_path(behind(room, 21), alloc, path),
+        Edit::Snapshot(from, to) => behind_two(room, alloc, from, to),
         Edit::Forget(chunks) => Ok(behind_items(behind(room, 5), chunks.len(), 8)),
     }
 }

@@ -1,11 +1,12 @@
 // The records of an event, entered one after the other and taken back together.
-ghost use Rattle.std.specs.Prelude.{◌≡◌, ◌<◌, true, false, vec_len, vec_capacity};
+ghost use Rattle.std.specs.Prelude.{◌≡◌, ◌<◌, ◌≤◌, List, [], take, true, false, IfErr, OnOk, vec_len, vec_capacity};
 ghost use Rattle.std.specs.Ordering.{nat_cmp};
-ghost use Rattle.gs_record.specs.Plain.{plain};
+ghost use Rattle.gs_record.specs.Plain.{PlainEntry, plain};
 ghost use Rattle.gs_table.specs.Slots.{live};
 ghost use Rattle.gs_master.specs.Durable.{Durable};
+ghost use Rattle.gs_master.specs.Events.{Leads};
 ghost use Rattle.gs_master.specs.Recorded.{KeepsRooms, durable_of};
-ghost use Rattle.gs_master.specs.TakingBack.{Enters, IsRefused, IsToldFor, RoomForAll, StillTakeBack, TakeBack, all_leases_before, comes_alone};
+ghost use Rattle.gs_master.specs.TakingBack.{Enters, IsRefused, IsToldFor, RoomForAll, StillTakeBack, TakeBack, TakesOneMore, all_leases_before, all_rooms_before, comes_alone};
 
 use crate::entering_edit::push_within;
 use crate::recorded::Recorded;
@@ -31,7 +32,10 @@ impl Recorded {
         ensures back { StillTakeBack undos.old.items (durable_of self.old) undos.new.items (durable_of self.new) }
         ensures leases { all_leases_before undos.new.items (live nat_cmp self.new.leases) ≡ all_leases_before undos.old.items (live nat_cmp self.old.leases) }
         ensures room { RoomForAll self.new undos.new.items }
-        ensures keeps { KeepsRooms self.old self.new }
+        ensures keeps { KeepsRooms (all_rooms_before undos.old.items self.old) (all_rooms_before undos.new.items self.new) }
+        ensures one { OnOk result (TakesOneMore undos.old.items (durable_of self.old) undos.new.items (durable_of self.new)) }
+        ensures none { IfErr result (λ _. undos.new.items ≡ undos.old.items) }
+        ensures capacity { vec_capacity undos.old ≤ vec_capacity undos.new }
     {
         let undo = self.enter(entry, inverse)?;
         push_within(undos, undo);
@@ -43,10 +47,26 @@ impl Recorded {
         requires { RoomForAll self.old undos.items }
         ensures value { (before : Durable) → TakeBack undos.items before (durable_of self.old) → durable_of self.new ≡ before }
         ensures leases { live nat_cmp self.new.leases ≡ all_leases_before undos.items (live nat_cmp self.old.leases) }
-        ensures keeps { KeepsRooms self.old self.new }
+        ensures keeps { KeepsRooms (all_rooms_before undos.items self.old) self.new }
     {
         while let Some(undo) = undos.pop() {
             self.take_back(undo);
+        }
+    }
+
+    /// Takes records back, the last first, until so many are left. There is room for each, so it takes no memory.
+    pub fn take_back_to(&mut self, undos: &mut Vec<Undo>, many: usize)
+        requires { RoomForAll self.old undos.old.items }
+        ensures left { undos.new.items ≡ take many undos.old.items }
+        ensures value { (entries : List PlainEntry) (before : Durable) → Leads entries undos.old.items before (durable_of self.old)
+            → Leads (take many entries) undos.new.items before (durable_of self.new) }
+        ensures leases { all_leases_before undos.new.items (live nat_cmp self.new.leases) ≡ all_leases_before undos.old.items (live nat_cmp self.old.leases) }
+        ensures room { RoomForAll self.new undos.new.items }
+    {
+        while many < undos.len() {
+            if let Some(undo) = undos.pop() {
+                self.take_back(undo);
+            }
         }
     }
 
@@ -61,6 +81,17 @@ impl Recorded {
         };
         for stood in &before.forgotten {
             self.leases.release(stood.chunk);
+        }
+    }
+
+    /// All records of an event stand, and are taken back no more.
+    pub fn let_all_go(&mut self, undos: &mut Vec<Undo>)
+        ensures none { undos.new.items ≡ [] }
+        ensures value { durable_of self.new ≡ durable_of self.old }
+        ensures leases { live nat_cmp self.new.leases ≡ live nat_cmp self.old.leases }
+    {
+        while let Some(undo) = undos.pop() {
+            self.let_go(undo);
         }
     }
 }

@@ -7,11 +7,14 @@ ghost use Rattle.gs_table.specs.Slots.{KeepsRoom, live, set_live};
 ghost use Rattle.gs_master.specs.Durable.{Durable};
 ghost use Rattle.gs_master.specs.Recorded.{KeepsRooms, durable_of};
 ghost use Rattle.gs_master.specs.Replies.{client_cmp};
-ghost use Rattle.gs_master.specs.TakingBack.{AreItemsBefore, AreNamesBefore, IsEditBefore, RoomAt, RoomBack, RoomForChunk, RoomForChunks, RoomForReply, TakesBack, leases_before, with_chunk_before, with_chunks_before, with_leases_before, with_moved_before, with_proposed_before, with_reply_before};
+ghost use Rattle.gs_master.specs.TakingBack.{AreItemsBefore, AreNamesBefore, IsEditBefore, RoomAt, RoomBack, RoomForChunk, RoomForChunks, RoomForReply, TakesBack, leases_before, rooms_before, with_chunk_before, with_chunks_before, with_leases_before, with_moved_before, with_proposed_before, with_reply_before};
 
 use crate::recorded::Recorded;
 use crate::reply::KeptReply;
-use crate::undo::{ChunkBefore, EditBefore, NamesBefore, ProposalBefore, ReplyBefore, Undo};
+use crate::undo::{
+    ChunkBefore, EditBefore, EpochBefore, NamesBefore, ProposalBefore, ReplyBefore, RollbackBefore,
+    Undo,
+};
 use gs_base::{ClientId, Handle};
 use gs_edit::{ListedInverse, Names};
 use gs_lease::Lease;
@@ -137,6 +140,38 @@ impl Recorded {
         self.phase = Phase::Upgrade;
     }
 
+    /// The prepare of an upgrade, or its end, is taken back.
+    fn take_epoch_back(&mut self, stood: EpochBefore)
+        ensures value { (before : Durable) → TakesBack (Undo.Epoch stood) before (durable_of self.old) → durable_of self.new ≡ before }
+        ensures leases { self.new.leases ≡ self.old.leases }
+        ensures keeps { KeepsRooms (rooms_before (Undo.Epoch stood) self.old) self.new }
+    {
+        let EpochBefore { epoch, phase, kept } = stood;
+        let _end = self.ends.pop();
+        self.epoch = epoch;
+        self.phase = phase;
+        self.inverses = kept.inverses;
+        self.prepared = kept.prepared;
+    }
+
+    /// The end of a rollback is taken back.
+    fn take_commit_back(&mut self, stood: RollbackBefore)
+        ensures value { (before : Durable) → TakesBack (Undo.RollbackCommit stood) before (durable_of self.old) → durable_of self.new ≡ before }
+        ensures leases { self.new.leases ≡ stood.leases }
+        ensures keeps { KeepsRooms (rooms_before (Undo.RollbackCommit stood) self.old) self.new }
+    {
+        let RollbackBefore {
+            names,
+            leases,
+            kept,
+        } = stood;
+        self.names = names;
+        self.leases = leases;
+        self.phase = Phase::Rolling;
+        self.inverses = kept.inverses;
+        self.prepared = kept.prepared;
+    }
+
     /// An edit is taken back.
     fn take_edit_back(&mut self, edit: EditBefore)
         requires replies { RoomForReply self.old.replies edit.reply }
@@ -164,7 +199,7 @@ impl Recorded {
         requires { RoomBack self.old undo }
         ensures value { (before : Durable) → TakesBack undo before (durable_of self.old) → durable_of self.new ≡ before }
         ensures leases { live nat_cmp self.new.leases ≡ leases_before undo (live nat_cmp self.old.leases) }
-        ensures keeps { KeepsRooms self.old self.new }
+        ensures keeps { KeepsRooms (rooms_before undo self.old) self.new }
     {
         match undo {
             Undo::Said(before) => put_reply_back(&mut self.replies, before),
@@ -173,6 +208,8 @@ impl Recorded {
             Undo::Holder(chunk, before) => put_back(&mut self.prepared, chunk, before),
             Undo::RollbackBegin(epoch) => self.take_rollback_back(epoch),
             Undo::Edit(before) => self.take_edit_back(before),
+            Undo::Epoch(before) => self.take_epoch_back(before),
+            Undo::RollbackCommit(before) => self.take_commit_back(before),
         }
     }
 }

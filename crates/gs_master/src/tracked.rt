@@ -3,9 +3,9 @@ ghost use Rattle.std.specs.Prelude.{◌≡◌, OnOk, is_some, true, false, []};
 ghost use Rattle.std.specs.FinMap as fin;
 ghost use Rattle.std.specs.Ordering.{nat_cmp};
 ghost use Rattle.gs_table.specs.Slots.{HasRoom};
-ghost use Rattle.gs_master.specs.Memories.{volatile_of, is_small, KeepsRooms};
+ghost use Rattle.gs_master.specs.Memories.{KeepsRooms, volatile_of};
 ghost use Rattle.gs_master.specs.Replies.{client_cmp};
-ghost use Rattle.gs_master.specs.Tracked.{HasRoomBack, HaveRoomBack, slot_back, slots_back};
+ghost use Rattle.gs_master.specs.Tracked.{HasRoomBack, HaveRoomBack, rooms_before, slot_back, slots_back};
 ghost use Rattle.gs_master.specs.Volatile.{changed, nothing, with_restored};
 ghost use Rattle.gs_master.specs.declared.change.Change.TheVariants as changes;
 ghost use Rattle.gs_master.specs.declared.tracked.Slot.TheVariants as slots;
@@ -18,8 +18,10 @@ use crate::reply::KeptReply;
 use crate::waiting::copied;
 use gs_base::{ClientId, Handle, Members, ReqId, ServerId};
 use gs_lock::LockTable;
+use gs_table::Table;
 use std::alloc::{AllocError, Global};
 use std::marker::Model;
+use std::mem;
 
 /// What stood at a place that an event has touched.
 #[derive(Drop)]
@@ -28,6 +30,8 @@ pub(crate) enum Slot {
     Replied(ClientId, Option<KeptReply>),
     Restored(Handle, Option<Members>),
     Preparing(bool),
+    /// All that was asked and told, before a rollback was done. It was moved here.
+    Rolled(Table<Handle, Asking>, Table<Handle, Members>),
 }
 
 /// The calls that waited before an event, with their locks, and the chunks that were new.
@@ -102,13 +106,17 @@ fn restore_again(memory: &mut Memory, chunk: Handle, restored: Option<Members>)
 fn put_back(memory: &mut Memory, slot: Slot)
     requires { HasRoomBack memory.old slot }
     ensures value { volatile_of memory.new ≡ slot_back (volatile_of memory.old) slot }
-    ensures keeps { KeepsRooms memory.old memory.new }
+    ensures keeps { KeepsRooms (rooms_before slot memory.old) memory.new }
 {
     match slot {
         Slot::Asked(chunk, asked) => ask_again(memory, chunk, asked),
         Slot::Replied(client, replied) => reply_again(memory, client, replied),
         Slot::Restored(chunk, restored) => restore_again(memory, chunk, restored),
         Slot::Preparing(is_preparing) => memory.prepare(is_preparing),
+        Slot::Rolled(moving, restored) => {
+            memory.moving = moving;
+            memory.restored = restored;
+        }
     }
 }
 
@@ -334,9 +342,23 @@ impl Tracked {
         Ok(())
     }
 
-    /// Makes a change but for the end of a rollback. Where memory is refused it is perhaps made in part: then all is taken back.
+    /// A rollback is done: nothing is asked, no chunk is new, and nobody has answered.
+    fn roll_back(&mut self) -> Result<(), AllocError>
+        ensures now { OnOk result (self.new.now ≡ changed self.old.now changes.RolledBack) }
+        ensures before { self.new.before ≡ self.old.before }
+    {
+        self.keep_calls()?;
+        self.touched.reserve(1)?;
+        let alloc = self.memory.alloc;
+        let moving = mem::replace(&mut self.memory.moving, Table::new(alloc));
+        let restored = mem::replace(&mut self.memory.restored, Table::new(alloc));
+        self.touched.push_reserved(Slot::Rolled(moving, restored));
+        self.memory.unplaced = Vec::new(alloc);
+        Ok(())
+    }
+
+    /// Makes a change. Where memory is refused it is perhaps made in part: then all is taken back.
     pub fn change(&mut self, change: Change) -> Result<(), AllocError>
-        requires { is_small change ≡ true }
         ensures now { OnOk result (self.new.now ≡ changed self.old.now change) }
         ensures before { self.new.before ≡ self.old.before }
     {
@@ -353,7 +375,7 @@ impl Tracked {
             Change::Prepare(is_preparing) => self.prepare(is_preparing),
             Change::Keep(client, reply) => self.keep(client, reply),
             Change::Restored(server, chunks) => self.restore(server, chunks.as_slice()),
-            Change::RolledBack => Ok(()),
+            Change::RolledBack => self.roll_back(),
         }
     }
 
@@ -376,17 +398,7 @@ impl Tracked {
         ensures { self.new ≡ record { now = self.old.now; before = self.old.now; keeps_calls = false } }
     {
         self.calls = None;
-        let touched = std::mem::replace(&mut self.touched, Vec::new(self.memory.alloc));
+        let touched = mem::replace(&mut self.touched, Vec::new(self.memory.alloc));
         release_all(&mut self.memory, touched);
-    }
-
-    /// A rollback is done, and the event over: nothing is asked, no chunk is new, and nobody has answered.
-    #[tactic(auto, using(crate::proofs::Tracking::rooms_none))]
-    pub fn roll_back(&mut self)
-        ensures { self.new ≡ record { now = changed self.old.now changes.RolledBack; before = changed self.old.now changes.RolledBack; keeps_calls = false } }
-    {
-        self.calls = None;
-        self.touched = Vec::new(self.memory.alloc);
-        self.memory.roll_back();
     }
 }

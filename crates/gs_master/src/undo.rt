@@ -1,15 +1,14 @@
 // What takes a record back that was applied.
 ghost use Rattle.std.specs.Prelude.{◌≡◌};
-ghost use Rattle.std.specs.Ordering.{nat_cmp};
 ghost use Rattle.std.specs.FinMap as fin;
-ghost use Rattle.gs_table.specs.Slots.{HasRoom, KeepsRoom, live, set_live};
-ghost use Rattle.gs_master.specs.Replies.{client_cmp};
+ghost use Rattle.gs_table.specs.Slots.{HasRoom, KeepsRoom, live};
 
 use crate::asking::Prepared;
 use crate::reply::KeptReply;
 use gs_base::{ClientId, Handle};
-use gs_edit::{Inverse, Names};
+use gs_edit::{Inverse, ListedInverse, Names};
 use gs_lease::Lease;
+use gs_record::Phase;
 use gs_table::{Key, Table};
 
 /// The reply that stood at a client, if one did.
@@ -57,6 +56,29 @@ pub(crate) struct EditBefore {
     pub(crate) keeps_inverse: bool,
 }
 
+/// What was kept since prepare, until it was given up. It was moved here.
+#[derive(Drop)]
+pub(crate) struct KeptBefore {
+    pub(crate) inverses: Vec<ListedInverse>,
+    pub(crate) prepared: Table<Handle, Prepared>,
+}
+
+/// What stood before an upgrade was prepared or kept.
+#[derive(Drop)]
+pub(crate) struct EpochBefore {
+    pub(crate) epoch: u64,
+    pub(crate) phase: Phase,
+    pub(crate) kept: KeptBefore,
+}
+
+/// What stood before a rollback was done. It was moved here.
+#[derive(Drop)]
+pub(crate) struct RollbackBefore {
+    pub(crate) names: Names,
+    pub(crate) leases: Table<Handle, Lease>,
+    pub(crate) kept: KeptBefore,
+}
+
 /// What stood before a record, as far as the record has changed it. It takes the record back, and wants no memory for that.
 #[derive(Drop)]
 pub(crate) enum Undo {
@@ -68,6 +90,9 @@ pub(crate) enum Undo {
     /// The epoch that stood.
     RollbackBegin(u64),
     Edit(EditBefore),
+    /// An upgrade was prepared or kept.
+    Epoch(EpochBefore),
+    RollbackCommit(RollbackBefore),
 }
 
 /// Puts a value in the place of another. There is room for it.

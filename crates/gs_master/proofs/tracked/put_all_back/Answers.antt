@@ -1,8 +1,11 @@
 use Rattle.std.proofs.Common.{sym, ap, subst, ◌∙◌}
 use Rattle.gs_master.specs.Memories.{volatile_of}
 use Rattle.gs_master.specs.Tracked.{HaveRoomBack, slots_back}
-use Rattle.gs_master.proofs.Tracking.{one_back}
+use Rattle.gs_master.proofs.Tracking.{one_back, rooms_pop}
 use Rattle.gs_master.proofs.tracked.put_all_back.Goals as goal
+
+pub put_back-requires : goal.put_back-requires
+put_back-requires c = (rooms_pop c.loop-slot.memory c.pop.new.self.items c.in-Some.slot (subst (HaveRoomBack c.loop-slot.memory) c.in-Some.ensures.items c.loop-slot.invariant.0)).1
 
 pub loop-slot-preserved : goal.loop-slot-preserved
 loop-slot-preserved c =

@@ -1,16 +1,19 @@
-use Rattle.std.proofs.Common.{◌≡◌, drop}
-use Rattle.std.specs.Prelude.{map, Result, Unit}
+use Rattle.std.proofs.Common.{◌≡◌, false}
+use Rattle.std.specs.Prelude.{map, Result}
+use Rattle.std.specs.List.{list_any}
 use Rattle.gs_base.specs.declared.refusal.Refusal.{Refusal}
 use Rattle.gs_record.specs.Plain.{plain}
+use Rattle.gs_master.specs.TakingBack.{comes_alone}
 use Rattle.gs_master.specs.Turns.{EntersAll, GoesBack}
 use Rattle.gs_master.specs.declared.event.Event.{Event}
 use Rattle.gs_master.proofs.event.Event.enter_all.Given as goal
 
 abbrev pub invariant-loop-entry : goal.invariant-loop-entry
 invariant-loop-entry l = record {
-  rest : (result : Result (Unit {0}) Refusal) (new : Event) → EntersAll (map plain (drop l.entry-index l.initial.records.items)) l.self result new → EntersAll (map plain l.initial.records.items) l.initial.self result new;
-  back : GoesBack l.initial.self l.self;
-  memory : l.self.memory ≡ l.initial.self.memory;
-  sent : l.self.sent ≡ l.initial.self.sent;
-  said : l.self.said ≡ l.initial.self.said;
+  rest : (result : Result (Unit {0}) Refusal) (new : Event) → EntersAll (map plain l.entry-iterator.rest.items) l.self result new → EntersAll (map plain l.fn.records.items) l.fn.self result new;
+  alone : list_any comes_alone (map plain l.entry-iterator.rest.items) ≡ false;
+  back : GoesBack l.fn.self l.self;
+  memory : l.self.memory ≡ l.fn.self.memory;
+  sent : l.self.sent ≡ l.fn.self.sent;
+  said : l.self.said ≡ l.fn.self.said;
 }

@@ -2,7 +2,7 @@ use Rattle.std.proofs.Common.{◌∙◌, ap, inr, map, refl, rules, subst, sym}
 use Rattle.gs_record.specs.Plain.{plain_edit, plain_inverse}
 use Rattle.gs_table.specs.Slots.{live}
 use Rattle.gs_master.specs.Durable.{Durable}
-use Rattle.gs_master.specs.Recorded.{durable_of}
+use Rattle.gs_master.specs.Recorded.{KeepsRooms, durable_of}
 use Rattle.gs_master.specs.Replies.{client_cmp}
 use Rattle.gs_master.specs.TakingBack.{AreItemsBefore, AreNamesBefore}
 use Rattle.gs_master.specs.declared.recorded.Recorded.{Recorded}
@@ -32,6 +32,7 @@ returns-clause-back c =
     let left = c.enter_forgotten_each.new.self in
     let now : Recorded = record left { next_hidden = c.next_behind-self.result; replies = c.enter_answer-reply.new.replies; inverses = c.enter_inverse-keeps_inverse.new.inverses } in
     let forgotten = c.enter_forgotten_each.new.before.items in
+    let replied : KeepsRooms left now = record { leases = record { keeps = λ key room. room }; replies = c.enter_answer-reply.ensures.keeps; prepared = record { keeps = λ key room. room } } in
     let same_names = ap (λ (d : Durable). d.names) c.enter_forgotten_each.ensures.value ∙ names_left (durable_of (record c.args.self.now { names = c.enter_names.new.names })) c.forgotten_by-chunks.result.now in
     record {
       value = record {
@@ -44,7 +45,11 @@ returns-clause-back c =
       leases = c.enter_forgotten_each.ensures.leases;
       room = (
         c.enter_answer-reply.ensures.room,
-        room_for_chunks_stays left now forgotten c.enter_forgotten_each.ensures.room
-            (record { leases = record { keeps = λ key room. room }; replies = c.enter_answer-reply.ensures.keeps; prepared = record { keeps = λ key room. room } }),
+        room_for_chunks_stays left now forgotten c.enter_forgotten_each.ensures.room replied,
       );
+      keeps = record {
+        leases = c.enter_forgotten_each.ensures.keeps.leases;
+        replies = record { keeps = λ key room. c.enter_answer-reply.ensures.keeps.keeps key (c.enter_forgotten_each.ensures.keeps.replies.keeps key room) };
+        prepared = c.enter_forgotten_each.ensures.keeps.prepared;
+      };
     }

@@ -23,6 +23,11 @@ returns-clause-back c =
         room_at nat_cmp _ c.args.settled.now.handle c.exchange-lease.result (c.exchange-lease.ensures.keeps.keeps c.args.settled.now.handle (subst (λ x. HasRoom nat_cmp x c.args.settled.now.handle) (sym c.keep_prepared.ensures.leases) c.requires.chunk)),
         room_at_stays nat_cmp _ _ c.args.settled.now.handle c.copied-prepared.result (room_where_stood nat_cmp_total c.args.self.now.prepared c.args.settled.now.handle c.copied-prepared.result (search rules)) c.keep_prepared.ensures.room,
       );
+      keeps = record {
+        leases = same_room _ _ _ c.keep_prepared.ensures.leases c.exchange-lease.ensures.keeps;
+        replies = same_replies_room _ _ c.keep_prepared.ensures.replies;
+        prepared = c.keep_prepared.ensures.room;
+      };
     }
 
 pub returns-clause-keeps : goal.returns-clause-keeps

@@ -1,11 +1,10 @@
-use Rattle.std.proofs.Common.{◌≡◌, refl, sym, ap, subst, ◌∙◌}
+use Rattle.std.proofs.Common.{refl, sym, ap, subst}
 use Rattle.std.specs.Cmp.{nat_cmp_total}
 use Rattle.std.specs.FinMap.{nat_cmp-IsAntisymmetric}
-use Rattle.gs_table.specs.Keys.{client_exact}
 use Rattle.gs_master.specs.Memories.{volatile_of}
 use Rattle.gs_master.specs.Tracked.{HaveRoomBack, NowAndBefore}
 use Rattle.gs_master.specs.declared.tracked.Slot.TheVariants as slots
-use Rattle.gs_master.proofs.Tracking.{client_total, put_now, put_before, take_before, rooms_stay, rooms_pushed}
+use Rattle.gs_master.proofs.Tracking.{put_now, put_before, rooms_stay, rooms_pushed}
 use Rattle.gs_master.proofs.tracked.Tracked.ask.Goals as goal
 
 pub invariant_of-self : goal.invariant_of-self
@@ -17,8 +16,8 @@ invariant_of-self-in_err-reserve-2 c =
 
 pub invariant_of-self-2 : goal.invariant_of-self-2
 invariant_of-self-2 c =
-    rooms_pushed c.self.inside.memory _ c.ask.new.self c.self.inside.touched.items _ _ (slots.Asked c.args.chunk c.take-asked.result) (record { moving = record { keeps = λ key room. c.take-asked.ensures.keeps.keeps key (c.reserve.ensures.keeps.keeps key room) }; restored = record { keeps = λ key room. room }; replies = record { keeps = λ key room. room } }) c.ask.ensures.keeps.rooms c.self.invariant
-    (c.ask.ensures.keeps.rooms.moving.keeps c.args.chunk (c.take-asked.ensures.keeps.keeps c.args.chunk c.in_ok-reserve.ensures.ok)) c.reserve-2.ensures.items c.push_reserved.ensures.items
+    rooms_pushed c.self.inside.memory _ c.ask.new.self c.self.inside.touched.items _ _ (slots.Asked c.args.chunk c.take-asked.result) (record { moving = record { keeps = λ key room. c.take-asked.ensures.keeps.keeps key (c.reserve.ensures.keeps.keeps key room) }; restored = record { keeps = λ key room. room }; replies = record { keeps = λ key room. room } }) c.ask.ensures.keeps c.self.invariant
+    (c.ask.ensures.keeps.moving.keeps c.args.chunk (c.take-asked.ensures.keeps.keeps c.args.chunk c.in_ok-reserve.ensures.ok)) c.reserve-2.ensures.items c.push_reserved.ensures.items
 
 pub returns-clause-now : goal.returns-clause-now
 returns-clause-now c =

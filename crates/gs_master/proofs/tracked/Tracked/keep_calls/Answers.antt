@@ -1,9 +1,7 @@
-use Rattle.std.proofs.Common.{◌≡◌, refl, sym, ap, subst, ◌∙◌}
+use Rattle.std.proofs.Common.{sym, ap, ◌∙◌}
 use Rattle.gs_master.specs.Memories.{volatile_of}
 use Rattle.gs_master.specs.Tracked.{NowAndBefore}
-use Rattle.gs_master.specs.Volatile.{Volatile}
-use Rattle.gs_master.specs.declared.tracked.Slot.TheVariants as slots
-use Rattle.gs_master.proofs.Tracking.{changed_before, before_is, calls_keep, none_kept, rooms_stay, rooms_pushed}
+use Rattle.gs_master.proofs.Tracking.{calls_keep, none_kept}
 use Rattle.gs_master.proofs.tracked.Tracked.keep_calls.Goals as goal
 
 pub returns-clause-before : goal.returns-clause-before

@@ -1,14 +1,14 @@
-use Rattle.std.proofs.Common.{◌≡◌, refl, sym, ap, subst, ◌∙◌}
+use Rattle.std.proofs.Common.{ap}
 use Rattle.gs_master.specs.Memories.{volatile_of}
 use Rattle.gs_master.specs.Tracked.{NowAndBefore}
 use Rattle.gs_master.specs.Volatile.{Volatile}
 use Rattle.gs_master.specs.declared.tracked.Slot.TheVariants as slots
-use Rattle.gs_master.proofs.Tracking.{changed_before, before_is, calls_keep, none_kept, rooms_stay, rooms_pushed}
+use Rattle.gs_master.proofs.Tracking.{before_is, rooms_pushed}
 use Rattle.gs_master.proofs.tracked.Tracked.prepare.Goals as goal
 
 pub invariant_of-self-2 : goal.invariant_of-self-2
 invariant_of-self-2 c =
-    rooms_pushed c.self.inside.memory c.self.inside.memory c.prepare.new.self c.self.inside.touched.items _ _ (slots.Preparing c.self.inside.memory.is_preparing) (record { moving = record { keeps = λ key room. room }; restored = record { keeps = λ key room. room }; replies = record { keeps = λ key room. room } }) c.prepare.ensures.keeps.rooms c.self.invariant
+    rooms_pushed c.self.inside.memory c.self.inside.memory c.prepare.new.self c.self.inside.touched.items _ _ (slots.Preparing c.self.inside.memory.is_preparing) (record { moving = record { keeps = λ key room. room }; restored = record { keeps = λ key room. room }; replies = record { keeps = λ key room. room } }) c.prepare.ensures.keeps c.self.invariant
     tt c.reserve.ensures.items c.push_reserved.ensures.items
 
 pub returns-clause-before : goal.returns-clause-before

@@ -1,11 +1,10 @@
-use Rattle.std.proofs.Common.{◌≡◌, refl, sym, ap, subst, ◌∙◌}
+use Rattle.std.proofs.Common.{refl, sym, ap, subst}
 use Rattle.std.specs.Cmp.{nat_cmp_total}
 use Rattle.std.specs.FinMap.{nat_cmp-IsAntisymmetric}
-use Rattle.gs_table.specs.Keys.{client_exact}
 use Rattle.gs_master.specs.Memories.{volatile_of}
 use Rattle.gs_master.specs.Tracked.{HaveRoomBack, NowAndBefore}
 use Rattle.gs_master.specs.declared.tracked.Slot.TheVariants as slots
-use Rattle.gs_master.proofs.Tracking.{client_total, put_now, put_before, take_before, rooms_stay, rooms_pushed}
+use Rattle.gs_master.proofs.Tracking.{take_before, rooms_stay, rooms_pushed}
 use Rattle.gs_master.proofs.tracked.Tracked.settle.Goals as goal
 
 pub invariant_of-self : goal.invariant_of-self

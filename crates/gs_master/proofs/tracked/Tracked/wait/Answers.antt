@@ -1,14 +1,9 @@
-use Rattle.std.proofs.Common.{◌≡◌, refl, sym, ap, subst, ◌∙◌}
-use Rattle.gs_master.specs.Memories.{volatile_of}
-use Rattle.gs_master.specs.Tracked.{NowAndBefore}
-use Rattle.gs_master.specs.Volatile.{Volatile}
-use Rattle.gs_master.specs.declared.tracked.Slot.TheVariants as slots
-use Rattle.gs_master.proofs.Tracking.{changed_before, before_is, calls_keep, none_kept, rooms_stay, rooms_pushed}
+use Rattle.gs_master.proofs.Tracking.{changed_before, rooms_stay}
 use Rattle.gs_master.proofs.tracked.Tracked.wait.Goals as goal
 
 pub invariant_of-self : goal.invariant_of-self
 invariant_of-self c =
-    rooms_stay c.self.inside.memory c.wait.new.self c.self.inside.touched.items (record { moving = c.wait.ensures.keeps.rooms.moving; restored = c.wait.ensures.keeps.rooms.restored; replies = c.wait.ensures.keeps.rooms.replies }) c.self.invariant
+    rooms_stay c.self.inside.memory c.wait.new.self c.self.inside.touched.items (record { moving = c.wait.ensures.keeps.moving; restored = c.wait.ensures.keeps.restored; replies = c.wait.ensures.keeps.replies }) c.self.invariant
 
 pub returns-clause-before : goal.returns-clause-before
 returns-clause-before c =

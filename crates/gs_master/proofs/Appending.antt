@@ -1,0 +1,56 @@
+-- Records that are appended to a journal one after the other.
+use Rattle.std.proofs.Common.{◌≡◌, ◌⊎◌, inl, inr, ◌∙◌, ◌+◌, ◌≤◌, ◌<◌, ℕ, true, List, [], ◌∷◌, ◌++◌, length, take, get_or, ap, subst, sym, arith, append_assoc}
+use Rattle.std.specs.Prelude.{Some, None, nat_le, sum_by, if◌then◌else◌}
+use Rattle.std.proofs.lemmas.Bool.Decides.{nat_tests}
+use Rattle.std.proofs.lemmas.List.Sums.{sum_by-append, sum_by_more_le}
+use Rattle.gs_base.specs.declared.refusal.Refusal.{Refusal}
+use Rattle.gs_base.specs.declared.refusal.Refusal.TheVariants.{Device, Full}
+use Rattle.gs_journal.specs.Journal.{State as Journal, Adds, Closes, IsWithOrWithout, Stands, append_refusal, failures_of_both, record_size}
+use Rattle.gs_journal.specs.Records.{Entry}
+use Rattle.gs_master.specs.Journaled.{Breaks, Gains, IsReadyFor}
+use Rattle.gs_master.proofs.Rooms.{take_next}
+
+module _ {D : Type 0} (seen : D → List ℕ) (may_leave : D → List ℕ → Type 0) (failures : D → ℕ) where
+  pub gains_one : (old mid new : Journal D) (rs : List Entry) (i : ℕ) (r : Entry) → i < length rs → r ≡ get_or rs i r → Gains seen may_leave failures old (take i rs) mid →
+      Adds mid r new → Stands seen may_leave new → failures_of_both failures new ≡ failures_of_both failures mid → Gains seen may_leave failures old (take (i + 1) rs) new
+  gains_one old mid new rs i r below is gains adds stands quiet = record {
+    text = adds.text ∙ (λ k. ((gains.text k).0, (gains.text k).1 ++ r ∷ [])) ∙ (λ k. (old.text.0, (append_assoc old.text.1 (take i rs) (r ∷ []) ∙ ap (λ xs. old.text.1 ++ xs) (sym more)) k));
+    size = adds.size ∙ ap (λ n. n + record_size r) gains.size ∙ bytes;
+    limit = adds.limit ∙ gains.limit;
+    generation = adds.generation ∙ gains.generation;
+    is_open = stands.is_open;
+    quiet = quiet ∙ gains.quiet;
+    stands = λ before. stands;
+  }
+    where
+      more : take (i + 1) rs ≡ take i rs ++ r ∷ []
+      more = take_next rs i r below is
+
+      bytes : old.size + sum_by record_size (take i rs) + record_size r ≡ old.size + sum_by record_size (take (i + 1) rs)
+      bytes = let all = ap (sum_by record_size) more ∙ sum_by-append record_size (take i rs) (r ∷ []) in omega arith
+
+  -- where there is room for all there is for the next
+  pub not_refused : (old mid : Journal D) (rs : List Entry) (i : ℕ) (r : Entry) → i < length rs → r ≡ get_or rs i r → IsReadyFor old rs → Gains seen may_leave failures old (take i rs) mid → append_refusal mid r ≡ None
+  not_refused old mid rs i r below is ready gains =
+      ap (λ b. if b then Some Device else (if nat_le (mid.size + record_size r) mid.limit then None else Some Full)) gains.is_open
+      ∙ ap (λ b. if b then None else Some Full) (fits ready.room)
+    where
+      fits : (rs ≡ []) ⊎ (old.size + sum_by record_size rs ≤ old.limit) → nat_le (mid.size + record_size r) mid.limit ≡ true
+      fits (inl none) = let empty = ap length none in absurd (omega arith)
+      fits (inr room) =
+          let upto = subst (λ x. sum_by record_size (take i rs) + record_size x ≤ sum_by record_size rs) (sym is) (sum_by_more_le record_size rs i r below) in
+          let size = gains.size in
+          let limit = gains.limit in
+          grind (arith, nat_tests)
+
+  pub breaks : (old mid new : Journal D) (rs : List Entry) (i : ℕ) (r : Entry) (e : Refusal) → i < length rs → r ≡ get_or rs i r → IsReadyFor old rs → Gains seen may_leave failures old (take i rs) mid →
+      (append_refusal mid r ≡ None → Closes failures mid new e) → IsWithOrWithout mid.text r new.text → Breaks failures old rs i new
+  breaks old mid new rs i r e below is ready gains closes either =
+      let closed = closes (not_refused old mid rs i r below is ready gains) in record {
+        cause = subst (λ n. n < failures_of_both failures new) gains.quiet closed.cause;
+        closed = closed.closed;
+        text = elim either [
+          | inl without ↦ inl (without ∙ gains.text)
+          | inr with ↦ inr (with ∙ (λ k. ((gains.text k).0, (gains.text k).1 ++ r ∷ [])) ∙ (λ k. (old.text.0, (append_assoc old.text.1 (take i rs) (r ∷ []) ∙ ap (λ xs. old.text.1 ++ xs) (sym (take_next rs i r below is))) k)))
+        ];
+      }

@@ -1,0 +1,218 @@
+-- That the records of an event lead on from one another, and what stands once the last of them are taken back.
+use Rattle.std.proofs.Common.{◌≡◌, ◌⊎◌, inl, inr, ◌∙◌, ◌+◌, ◌≤◌, ℕ, suc, true, List, [], ◌∷◌, ◌++◌, map, length, take, refl, ap, subst, sym, arith, min, take-take, take_all, length-append, length-take}
+use Rattle.std.specs.Prelude.{Some, fold, nat_le, slice_get, sum_by, unwrap_or}
+use Rattle.std.proofs.lemmas.Bool.Decides.{nat_tests}
+use Rattle.std.proofs.lemmas.List.{length-map, map-append, take-map, take_min}
+use Rattle.std.proofs.lemmas.List.Sums.{fold-append, sum_by-append, sum_by-cons}
+use Rattle.gs_journal.specs.Journal.{State as Journal, record_size}
+use Rattle.gs_journal.specs.Records.{Entry as Record}
+use Rattle.gs_journal.specs.declared.version.Version.TheVariants.{Two}
+use Rattle.gs_record.specs.Encoding.{encoded}
+use Rattle.gs_record.specs.Plain.{PlainEntry, plain}
+use Rattle.gs_record.specs.Writable.{IsEntry}
+use Rattle.gs_record.specs.declared.entry.Entry.{Entry as Told}
+use Rattle.std.specs.Ordering.{nat_cmp}
+use Rattle.gs_table.specs.Slots.{live}
+use Rattle.gs_master.specs.Applied.{applied}
+use Rattle.gs_master.specs.Durable.{Durable}
+use Rattle.gs_master.specs.Events.{HasComeFrom, IsEntered, KeepsBack, Leads, log_behind}
+use Rattle.gs_master.specs.Journaled.{Gains, IsLogOf, IsReadyFor}
+use Rattle.gs_master.specs.Outcomes.{cut}
+use Rattle.gs_master.specs.Plans.{log_of}
+use Rattle.gs_master.specs.Recorded.{durable_of}
+use Rattle.gs_master.specs.State.{Failed, Fault, Log, State, fits, size_of, size_of_all, with_record}
+use Rattle.gs_master.specs.TakingBack.{StillTakeBack, TakeBack, TakesBack, TakesOneMore, all_leases_before}
+use Rattle.gs_master.specs.Volatile.{Volatile}
+use Rattle.gs_master.specs.declared.event.Event.{Event}
+use Rattle.gs_master.specs.declared.undo.Undo.{Undo}
+
+-- ---- records
+
+-- one more
+pub leads_more : (es : List PlainEntry) (us : List Undo) (e : PlainEntry) (u : Undo) (before now next : Durable) → Leads es us before now → applied now e ≡ Some next → TakesBack u now next → Leads (es ++ e ∷ []) (us ++ u ∷ []) before next
+leads_more [] [] e u before now next leads fit takes = (next, (subst (λ d. applied d e ≡ Some next) (sym leads) fit, (subst (λ d. TakesBack u d next) (sym leads) takes, refl)))
+leads_more [] (v ∷ us) e u before now next leads fit takes = absurd leads
+leads_more (x ∷ es) [] e u before now next leads fit takes = absurd leads
+leads_more (x ∷ es) (v ∷ us) e u before now next leads fit takes =
+    (leads.0, (leads.1.0, (leads.1.1.0, leads_more es us e u leads.0 now next leads.1.1.1 fit takes)))
+
+-- each has what takes it back
+pub leads_length : (es : List PlainEntry) (us : List Undo) (before now : Durable) → Leads es us before now → length es ≡ length us
+leads_length [] [] before now leads = refl
+leads_length [] (u ∷ us) before now leads = absurd leads
+leads_length (e ∷ es) [] before now leads = absurd leads
+leads_length (e ∷ es) (u ∷ us) before now leads = ap suc (leads_length es us leads.0 now leads.1.1.1)
+
+pub all_lead : (es : List PlainEntry) (us : List Undo) (before now : Durable) → Leads es us before now → Leads (take (length us) es) us before now
+all_lead es us before now leads =
+    let same = leads_length es us before now leads in
+    subst (λ xs. Leads xs us before now) (sym (take_all (length us) es (omega arith))) leads
+
+leads_but_last : (es : List PlainEntry) (us : List Undo) (u : Undo) (before now : Durable) → Leads es (us ++ u ∷ []) before now → (between : Durable) × (Leads (take (length us) es) us before between × TakesBack u between now)
+leads_but_last [] [] u before now leads = absurd leads
+leads_but_last [] (v ∷ us) u before now leads = absurd leads
+leads_but_last (e ∷ []) [] u before now leads = (before, (refl, subst (TakesBack u before) leads.1.1.1 leads.1.1.0))
+leads_but_last (e ∷ x ∷ es) [] u before now leads = absurd leads.1.1.1
+leads_but_last (e ∷ es) (v ∷ us) u before now leads =
+    let rest = leads_but_last es us u leads.0 now leads.1.1.1 in (rest.0, ((leads.0, (leads.1.0, (leads.1.1.0, rest.1.0))), rest.1.1))
+
+-- the last is taken back, and the others lead to what stands then
+pub one_less : (es : List PlainEntry) (rest : List Undo) (last : Undo) (before now : Durable) → Leads (take (length (rest ++ last ∷ [])) es) (rest ++ last ∷ []) before now →
+    (between : Durable) × (Leads (take (length rest) es) rest before between × TakesBack last between now)
+one_less es rest last before now leads =
+    let cut = leads_but_last (take (length (rest ++ last ∷ [])) es) rest last before now leads in
+    let more = length-append rest (last ∷ []) in
+    (cut.0, (subst (λ xs. Leads xs rest before cut.0) (take-take (length rest) (length (rest ++ last ∷ [])) es (omega arith)) cut.1.0, cut.1.1))
+
+-- as many records are left as there are of what takes them back
+pub as_many : (es : List PlainEntry) (all left : List Undo) (many : ℕ) (before now : Durable) → Leads es all before now → take many left ≡ take many all → length left ≤ many → take (length left) es ≡ take many es
+as_many es all left many before now leads same few = ap (λ n. take n es) count ∙ take_min many es
+  where
+    count : length left ≡ min many (length es)
+    count = ap length (sym (take_all many left few) ∙ same) ∙ length-take many all ∙ ap (min many) (sym (leads_length es all before now leads))
+
+-- ---- the journal's room
+
+pub log_is : (first : Log) (es : List PlainEntry) → fold log_behind first es ≡ record first { records = first.records + length es; size = first.size + size_of_all es }
+log_is first [] = λ i. record first { records = none first.records i; size = none first.size i }
+  where
+    none : (n : ℕ) → n ≡ n + 0
+    none n = omega arith
+log_is first (e ∷ es) = log_is (log_behind first e) es ∙ (λ i. record first { records = many i; size = bytes i })
+  where
+    many : first.records + 1 + length es ≡ first.records + length (e ∷ es)
+    many = omega arith
+
+    bytes : first.size + size_of e + size_of_all es ≡ first.size + size_of_all (e ∷ es)
+    bytes = let all : size_of_all (e ∷ es) ≡ size_of e + size_of_all es = sum_by-cons size_of e es in omega arith
+
+-- there is room for one more behind the others, so there is for all
+pub fits_more : (first : Log) (es : List PlainEntry) (e : PlainEntry) → fits (fold log_behind first es) (e ∷ []) ≡ true → fits first (es ++ e ∷ []) ≡ true
+fits_more first es e room = ap (λ n. nat_le n first.limit) (sym bytes) ∙ sym (ap (λ (log : Log). nat_le (log.size + size_of_all (e ∷ [])) log.limit) (log_is first es)) ∙ room
+  where
+    bytes : first.size + size_of_all es + size_of_all (e ∷ []) ≡ first.size + size_of_all (es ++ e ∷ [])
+    bytes = let all : size_of_all (es ++ e ∷ []) ≡ size_of_all es + size_of_all (e ∷ []) = sum_by-append size_of es (e ∷ []) in omega arith
+
+-- records as they are written have the sizes of their entries
+pub sizes : (es : List PlainEntry) → sum_by record_size (map (encoded Two) es) ≡ size_of_all es
+sizes [] = refl
+sizes (e ∷ es) = sum_by-cons record_size (encoded Two e) (map (encoded Two) es) ∙ ap (λ n. size_of e + n) (sizes es) ∙ sym (sum_by-cons size_of e es)
+
+-- ---- the state
+
+-- the state to which records lead is that which stands, with the journal's room behind them
+pub stands_at : (s : State) (es : List PlainEntry) (us : List Undo) (now : Durable) → Leads es us s.durable now → fold with_record s es ≡ record s { durable = now; log = fold log_behind s.log es }
+stands_at s [] [] now leads = λ i. record s { durable = leads i }
+stands_at s [] (u ∷ us) now leads = absurd leads
+stands_at s (e ∷ es) [] now leads = absurd leads
+stands_at s (e ∷ es) (u ∷ us) now leads =
+    ap (λ d. fold with_record (record s { durable = unwrap_or d s.durable; log = log_behind s.log e }) es) leads.1.0
+    ∙ stands_at (record s { durable = leads.0; log = log_behind s.log e }) es us now leads.1.1.1
+
+-- ---- events
+
+-- a record that is entered leads on from where those before it have led
+pub from_entered : (old new : Event) (entry : PlainEntry) → IsEntered entry old new → TakesOneMore old.undos.items (durable_of old.recorded) new.undos.items (durable_of new.recorded) →
+    (before : Durable) (first : Log) → HasComeFrom before first old → HasComeFrom before first new
+from_entered old new entry is one before first has =
+    let es = map plain old.entries.items in
+    let now = durable_of new.recorded in record {
+      leads = subst (λ xs. Leads xs new.undos.items before now) (sym is.entries)
+          (subst (λ us. Leads (es ++ entry ∷ []) us before now) (sym one.behind) (leads_more es old.undos.items entry one.last before (durable_of old.recorded) now has.leads is.applied one.takes));
+      written = is.written ∙ ap (λ xs. xs ++ encoded Two entry ∷ []) has.written ∙ sym (ap (map (encoded Two)) is.entries ∙ map-append (encoded Two) es (entry ∷ []));
+      log = is.log ∙ ap (λ l. log_behind l entry) has.log ∙ sym (ap (fold log_behind first) is.entries ∙ fold-append log_behind first es (entry ∷ []));
+      room = inr (ap (fits first) is.entries ∙ fits_more first es entry (ap (λ l. fits l (entry ∷ [])) (sym has.log) ∙ is.room));
+    }
+
+-- room is made for a record, it is applied, and it is kept
+pub record Enter (old grown mid new : Event) (told : Told) (bytes : Record) : Type 0 where
+  pub first : grown ≡ record old { undos = grown.undos; entries = grown.entries; written = grown.written }
+  pub undos : grown.undos.items ≡ old.undos.items
+  pub entries : grown.entries.items ≡ old.entries.items
+  pub written : grown.written.items ≡ old.written.items
+  pub second : mid ≡ record grown { recorded = mid.recorded; undos = mid.undos }
+  pub applied : applied (durable_of grown.recorded) (plain told) ≡ Some (durable_of mid.recorded)
+  pub one : TakesOneMore grown.undos.items (durable_of grown.recorded) mid.undos.items (durable_of mid.recorded)
+  pub third : new ≡ record mid { log = new.log; entries = new.entries; written = new.written }
+  pub more : new.entries.items ≡ mid.entries.items ++ told ∷ []
+  pub behind : new.written.items ≡ mid.written.items ++ bytes ∷ []
+  pub log : log_of new.log ≡ log_behind (log_of mid.log) (plain told)
+  pub encoded : bytes ≡ encoded Two (plain told)
+  pub is_entry : IsEntry Two (plain told)
+  pub room : fits (log_of old.log) (plain told ∷ []) ≡ true
+
+is_entered : (old grown mid new : Event) (told : Told) (bytes : Record) → Enter old grown mid new told bytes → IsEntered (plain told) old new
+is_entered old grown mid new told bytes h =
+    let entries = h.more ∙ ap (λ xs. xs ++ told ∷ []) (ap (λ (e : Event). e.entries.items) h.second ∙ h.entries) in
+    let written = h.behind ∙ ap (λ xs. xs ++ bytes ∷ []) (ap (λ (e : Event). e.written.items) h.second ∙ h.written) in record {
+      applied = ap (λ (e : Event). applied (durable_of e.recorded) (plain told)) (sym h.first) ∙ h.applied ∙ ap (λ (e : Event). Some (durable_of e.recorded)) (sym h.third);
+      entries = ap (map plain) entries ∙ map-append plain old.entries.items (told ∷ []);
+      written = written ∙ ap (λ r. old.written.items ++ r ∷ []) h.encoded;
+      is_entry = h.is_entry;
+      log = h.log ∙ ap (λ (e : Event). log_behind (log_of e.log) (plain told)) (h.second ∙ ap (λ (e : Event). record e { recorded = mid.recorded; undos = mid.undos }) h.first);
+      room = h.room;
+    }
+
+pub entered_keeps : (old grown mid new : Event) (told : Told) (bytes : Record) → Enter old grown mid new told bytes →
+    StillTakeBack grown.undos.items (durable_of grown.recorded) mid.undos.items (durable_of mid.recorded) →
+    all_leases_before mid.undos.items (live nat_cmp mid.recorded.leases) ≡ all_leases_before grown.undos.items (live nat_cmp grown.recorded.leases) → KeepsBack old new
+entered_keeps old grown mid new told bytes h still leases =
+    let stood = ap (λ (e : Event). e.recorded) h.first in
+    let now = ap (λ (e : Event). e.recorded) h.third in
+    let last = ap (λ (e : Event). e.undos.items) h.third in record {
+      back = λ before back.
+          subst (λ us. TakeBack us before (durable_of new.recorded)) (sym last) (subst (λ r. TakeBack mid.undos.items before (durable_of r)) (sym now)
+          (still before (subst (λ us. TakeBack us before (durable_of grown.recorded)) (sym h.undos) (subst (λ r. TakeBack old.undos.items before (durable_of r)) (sym stood) back))));
+      leases = (λ i. all_leases_before (last i) (live nat_cmp (now i).leases)) ∙ leases ∙ (λ i. all_leases_before (h.undos i) (live nat_cmp (stood i).leases));
+      memory = ap (λ (e : Event). e.memory.before) h.third ∙ ap (λ (e : Event). e.memory.before) h.second ∙ ap (λ (e : Event). e.memory.before) h.first;
+      from = from_entered old new (plain told) (is_entered old grown mid new told bytes h) (record {
+        last = h.one.last;
+        behind = last ∙ h.one.behind ∙ ap (λ us. us ++ h.one.last ∷ []) h.undos;
+        takes = subst (λ r. TakesBack h.one.last (durable_of r) (durable_of new.recorded)) stood (subst (λ r. TakesBack h.one.last (durable_of grown.recorded) (durable_of r)) (sym now) h.one.takes);
+      });
+    }
+
+-- ---- an event that is cut
+
+pub log_cut : (first : Log) (written : List Record) (es : List PlainEntry) (place : ℕ) → written ≡ map (encoded Two) es →
+    record first { records = first.records + length (take place written); size = first.size + sum_by record_size (take place written) } ≡ fold log_behind first (take place es)
+log_cut first written es place is = (λ i. record first { records = first.records + many i; size = first.size + bytes i }) ∙ sym (log_is first (take place es))
+  where
+    front : take place written ≡ map (encoded Two) (take place es)
+    front = ap (take place) is ∙ take-map (encoded Two) place es
+
+    many : length (take place written) ≡ length (take place es)
+    many = ap length front ∙ length-map (take place es) (encoded Two)
+
+    bytes : sum_by record_size (take place written) ≡ size_of_all (take place es)
+    bytes = ap (sum_by record_size) front ∙ sizes (take place es)
+
+pub cut_gives : (s : State) (es : List PlainEntry) (us : List Undo) (place : ℕ) (now : Durable) (volatile : Volatile) (log : Log) (fault : Fault) → Leads (take place es) us s.durable now →
+    volatile ≡ s.volatile → log ≡ fold log_behind s.log (take place es) → fault ≡ Failed (slice_get es place) → record { durable = now; volatile = volatile; log = log; fault = fault } ≡ cut s es place
+cut_gives s es us place now volatile log fault leads v l f =
+    (λ i. record { durable = now; volatile = v i; log = l i; fault = f i })
+    ∙ sym (ap (λ (x : State). record x { fault = Failed (slice_get es place) }) (stands_at s (take place es) us now leads))
+
+-- ---- an event whose records are all written
+
+pub ready : {D : Type 0} (before : Durable) (first : Log) (e : Event) (j : Journal D) → HasComeFrom before first e → IsLogOf first j → IsReadyFor j e.written.items
+ready before first e j has is = record { is_open = is.is_open; room = by_room has.room }
+  where
+    by_room : (e.entries.items ≡ []) ⊎ (fits first (map plain e.entries.items) ≡ true) → (e.written.items ≡ []) ⊎ (j.size + sum_by record_size e.written.items ≤ j.limit)
+    by_room (inl none) = inl (has.written ∙ ap (λ xs. map (encoded Two) (map plain xs)) none)
+    by_room (inr room) =
+        let bytes = ap (sum_by record_size) has.written ∙ sizes (map plain e.entries.items) in
+        let size = is.size in
+        let limit = is.limit in
+        inr (grind (arith, nat_tests))
+
+pub log_stays : {D : Type 0} {seen : D → List ℕ} {may_leave : D → List ℕ → Type 0} {failures : D → ℕ} (before : Durable) (first log : Log) (e : Event) (old new : Journal D) → HasComeFrom before first e → IsLogOf first old →
+    Gains seen may_leave failures old e.written.items new → log ≡ log_of e.log → IsLogOf log new
+log_stays before first log e old new has is gains same =
+    let es = map plain e.entries.items in
+    let now = same ∙ has.log ∙ log_is first es in record {
+      is_open = gains.is_open;
+      size = ap (λ (l : Log). l.size) now ∙ (λ i. is.size i + sym (ap (sum_by record_size) has.written ∙ sizes es) i) ∙ sym gains.size;
+      limit = ap (λ (l : Log). l.limit) now ∙ is.limit ∙ sym gains.limit;
+      generation = ap (λ (l : Log). l.generation) now ∙ is.generation ∙ sym gains.generation;
+    }

@@ -1,0 +1,22 @@
+use Rattle.std.proofs.Common.{◌≡◌, ap, arith, inl, length, subst, sym}
+use Rattle.gs_master.specs.Journaled.{Gains, IsReadyFor}
+use Rattle.gs_master.specs.Plans.{log_of}
+use Rattle.gs_master.proofs.Leading.{log_stays, ready}
+use Rattle.gs_master.proofs.event.Event.end.Goals as goal
+
+pub returns-else-many-len-clause-ended : goal.returns-else-many-len-clause-ended
+returns-else-many-len-clause-ended g c = λ before has. inl (
+  c.accept.ensures.whole,
+  λ is.
+      let d = g.D.Disk in
+      let old = c.args.journal.now in
+      let new = c.append_all-many.new.journal in
+      let few = c.append_all-many.ensures.many in
+      let all = c.if-many-len.false in
+      let len = c.len.ensures in
+      let same = ap length c.deref.ensures.value in
+      let whole : c.append_all-many.result ≡ length c.deref.result.now = omega arith in
+      let gains = subst (λ records. Gains d.seen d.may_leave d.failures old records new) c.deref.ensures.value
+      (c.append_all-many.ensures.all (subst (IsReadyFor old) (sym c.deref.ensures.value) (ready before (log_of c.args.first) c.args.self.now old has is)) whole) in
+      (gains, log_stays before (log_of c.args.first) _ c.args.self.now old new has is gains (ap log_of c.accept.ensures.log)),
+)
