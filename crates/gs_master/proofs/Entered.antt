@@ -10,11 +10,13 @@ use Rattle.gs_record.specs.Plain.{PlainEntry, plain}
 use Rattle.gs_master.specs.Applied.{applied, replayed}
 use Rattle.gs_master.specs.Durable.{Durable}
 use Rattle.gs_master.specs.Events.{IsEntered, KeepsBack, IsUnfit, WhyNot, log_behind}
-use Rattle.gs_master.specs.Plans.{log_of}
+use Rattle.gs_master.specs.Plans.{fault_of, log_of}
 use Rattle.gs_master.specs.Recorded.{durable_of}
-use Rattle.gs_master.specs.State.{State, Log, fits, size_of, size_of_all, with_record}
+use Rattle.gs_master.specs.State.{State, Plan, Log, first_said, turned, fits, size_of, size_of_all, with_record}
 use Rattle.gs_master.specs.TakingBack.{RoomForAll, comes_alone}
-use Rattle.gs_master.specs.Turns.{AreEntered, AreUnfit, EntersAll, GoesBack, HaveRoom, IsUnderWay, WhyNotAll}
+use Rattle.gs_master.specs.Turns.{AreEntered, AreUnfit, EntersAll, GoesBack, HaveRoom, IsTurned, IsUnderWay, state_at, WhyNotAll}
+use Rattle.gs_master.specs.Volatile.{all_changed}
+use Rattle.gs_msg.specs.declared.message.Message.{Message}
 use Rattle.gs_master.specs.declared.event.Event.{Event}
 
 -- ---- room
@@ -145,3 +147,63 @@ pub recorded_as : (s : State) (records : List PlainEntry) (d : Durable) → repl
     fold with_record s records ≡ record s { durable = d; log = fold log_behind s.log records }
 recorded_as s [] d is = ap (λ o. record s { durable = unwrap_or o s.durable }) is
 recorded_as s (x ∷ xs) d is = recorded_first s x xs d (λ s is. recorded_as s xs d is) (applied s.durable x) refl is
+
+-- ---- a plan that is carried out
+
+module _ (old entered changed sent new : Event) (p : Plan) (done : AreEntered p.records old entered) (memory : entered.memory ≡ old.memory) (unsent : entered.sent ≡ old.sent)
+    (unsaid : entered.said ≡ old.said) (sound : entered.fault ≡ old.fault) (in_memory : changed ≡ record entered { memory = changed.memory })
+    (now : changed.memory.now ≡ all_changed entered.memory.now p.changes) (to_send : sent ≡ record changed { sent = sent.sent })
+    (messages : sent.sent.items ≡ changed.sent.items ++ p.sent) (told : new ≡ record sent { said = first_said sent.said p.said }) where
+  recorded_is : new.recorded ≡ entered.recorded
+  recorded_is = ap (λ (e : Event). e.recorded) told ∙ ap (λ (e : Event). e.recorded) to_send ∙ ap (λ (e : Event). e.recorded) in_memory
+
+  log_is : new.log ≡ entered.log
+  log_is = ap (λ (e : Event). e.log) told ∙ ap (λ (e : Event). e.log) to_send ∙ ap (λ (e : Event). e.log) in_memory
+
+  fault_is : new.fault ≡ old.fault
+  fault_is = ap (λ (e : Event). e.fault) told ∙ ap (λ (e : Event). e.fault) to_send ∙ ap (λ (e : Event). e.fault) in_memory ∙ sound
+
+  entries_is : new.entries ≡ entered.entries
+  entries_is = ap (λ (e : Event). e.entries) told ∙ ap (λ (e : Event). e.entries) to_send ∙ ap (λ (e : Event). e.entries) in_memory
+
+  volatile_is : new.memory.now ≡ all_changed old.memory.now p.changes
+  volatile_is = ap (λ (e : Event). e.memory.now) told ∙ ap (λ (e : Event). e.memory.now) to_send ∙ now ∙ ap (λ m. all_changed m.now p.changes) memory
+
+  sent_is : new.sent.items ≡ old.sent.items ++ p.sent
+  sent_is = ap (λ (e : Event). e.sent.items) told ∙ messages ∙ ap (λ (e : Event). e.sent.items ++ p.sent) in_memory ∙ ap (λ sent. sent.items ++ p.sent) unsent
+
+  said_is : new.said ≡ first_said old.said p.said
+  said_is = ap (λ (e : Event). e.said) told ∙ ap (λ (e : Event). first_said e.said p.said) to_send ∙ ap (λ (e : Event). first_said e.said p.said) in_memory ∙ ap (λ said. first_said said p.said) unsaid
+
+  after_is : state_at new ≡ record (record (state_at old) { durable = durable_of entered.recorded; log = fold log_behind (log_of old.log) p.records }) { volatile = all_changed old.memory.now p.changes }
+  after_is = λ i. record { durable = durable_of (recorded_is i); volatile = volatile_is i; log = (ap log_of log_is ∙ done.log) i; fault = fault_of (fault_is i) }
+
+  pub carried : IsTurned (turned (state_at old) p) old new
+  carried = record {
+    after = after_is ∙ sym (ap (λ (s : State). record s { volatile = all_changed old.memory.now p.changes }) (recorded_as (state_at old) p.records (durable_of entered.recorded) done.replays));
+    replays = done.replays ∙ ap (λ r. Some (durable_of r)) (sym recorded_is);
+    are_entries = done.are_entries;
+    log = ap log_of log_is ∙ done.log;
+    room = done.room;
+    entries = ap (λ es. map plain es.items) entries_is ∙ done.entries;
+    sent = sent_is;
+    said = said_is;
+  }
+
+-- what is sent and said behind the others goes back too
+pub goes_back_told : (old here new : Event) → GoesBack old here → new ≡ record here { sent = new.sent; said = new.said } → (more : List Message) → new.sent.items ≡ here.sent.items ++ more → GoesBack old new
+goes_back_told old here new goes told more messages = goes_back_on old here new goes (subst (GoesBack here) (sym told) (record {
+  keeps = record { back = λ before back. back; leases = refl; memory = refl; from = λ before log has. record { leads = has.leads; written = has.written; log = has.log; room = has.room } };
+  ready = record { room = goes.ready.room; counted = goes.ready.counted };
+  fault = refl;
+  sent = (more, messages);
+}))
+
+pub goes_back_sent : (old here new : Event) → GoesBack old here → new ≡ record here { sent = new.sent } → (more : List Message) → new.sent.items ≡ here.sent.items ++ more → GoesBack old new
+goes_back_sent old here new goes to_send more messages =
+    goes_back_told old here new goes (to_send ∙ ap (λ said. record here { sent = new.sent; said = said }) (sym (ap (λ (e : Event). e.said) to_send))) more messages
+
+pub goes_back_said : (old here new : Event) (said : Option Refusal) → GoesBack old here → new ≡ record here { said = said } → GoesBack old new
+goes_back_said old here new said goes told =
+    goes_back_told old here new goes (told ∙ (λ i. record here { sent = sym (ap (λ (e : Event). e.sent) told) i; said = sym (ap (λ (e : Event). e.said) told) i })) []
+    (ap (λ (e : Event). e.sent.items) told ∙ sym (append-nil _))

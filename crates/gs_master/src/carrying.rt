@@ -1,11 +1,11 @@
 // The plans of an event are carried out, one after the other.
-ghost use Rattle.std.specs.Prelude.{◌≡◌, ◌++◌, false, true, map, OnOk, IfOk};
+ghost use Rattle.std.specs.Prelude.{◌≡◌, ◌++◌, false, true, map, OnOk, IfErr, IfOk};
 ghost use Rattle.std.specs.List.{list_any};
 ghost use Rattle.gs_record.specs.Plain.{plain};
 ghost use Rattle.gs_master.specs.Applied.{is_whole_entry};
 ghost use Rattle.gs_master.specs.Plans.{log_of, plan_of, state_of};
 ghost use Rattle.gs_master.specs.Recorded.{durable_of};
-ghost use Rattle.gs_master.specs.State.{fits, turned};
+ghost use Rattle.gs_master.specs.State.{first_said, fits, turned};
 ghost use Rattle.gs_master.specs.TakingBack.{comes_alone};
 ghost use Rattle.gs_master.specs.Turns.{ComesWithOthers, EntersAll, GoesBack, IsUnderWay, Steps, state_at};
 ghost use Rattle.gs_master.specs.Volatile.{all_changed};
@@ -60,7 +60,7 @@ impl Event {
         ensures changed { OnOk result (self.new.memory.now ≡ all_changed self.old.memory.now changes.items) }
         ensures before { self.new.memory.before ≡ self.old.memory.before }
         ensures back { GoesBack self.old self.new }
-        ensures others { (self.new.recorded ≡ self.old.recorded) × (self.new.log ≡ self.old.log) × (self.new.written ≡ self.old.written) × (self.new.sent ≡ self.old.sent) × (self.new.said ≡ self.old.said) }
+        ensures others { self.new ≡ record self.old { memory = self.new.memory } }
     {
         for change in changes {
             self.memory.change(change)?;
@@ -71,10 +71,21 @@ impl Event {
     /// Keeps messages to be sent behind the others.
     fn send_all(&mut self, messages: Vec<Message>) -> Result<(), AllocError>
         ensures sent { OnOk result (self.new.sent.items ≡ self.old.sent.items ++ messages.items) }
+        ensures stays { IfErr result (λ _. self.new.sent.items ≡ self.old.sent.items) }
+        ensures others { self.new ≡ record self.old { sent = self.new.sent } }
     {
         let mut messages = messages;
         self.sent.append(&mut messages)?;
         Ok(())
+    }
+
+    /// The refusal with which a message is met, unless it has met one.
+    fn say(&mut self, said: Option<Refusal>)
+        ensures { self.new ≡ record self.old { said = first_said self.old.said said } }
+    {
+        if self.said.is_none() {
+            self.said = said;
+        }
     }
 
     /// Does what a plan says. `Full` where the journal has no room for its records, `BadLine` where one of them doesn't fit
@@ -94,9 +105,7 @@ impl Event {
         self.enter_all(records)?;
         self.change_all(changes)?;
         self.send_all(sent)?;
-        if self.said.is_none() {
-            self.said = said;
-        }
+        self.say(said);
         Ok(())
     }
 }

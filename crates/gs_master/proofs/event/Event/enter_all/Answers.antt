@@ -1,5 +1,6 @@
-use Rattle.std.proofs.Common.{◌≡◌, ◌∙◌, ◌∷◌, [], ap, append-nil, false, map, rules, refl, subst, sym}
-use Rattle.std.specs.Prelude.{Err, Ok}
+use Rattle.std.proofs.Common.{◌≡◌, ◌∙◌, ◌∷◌, [], ap, arith, length, append-nil, false, map, rules, refl, subst, sym}
+use Rattle.std.proofs.lemmas.List.{nil_from_length}
+use Rattle.std.specs.Prelude.{Err, Ok, vec_len}
 use Rattle.std.specs.List.{list_any}
 use Rattle.gs_record.specs.Plain.{plain}
 use Rattle.gs_master.specs.TakingBack.{comes_alone}
@@ -13,6 +14,7 @@ loop-entry-init c =
     let same = c.into_iter-entry-iterator.ensures.into_iter_gives.0 in
     record {
       rest = λ result new all. subst (λ items. EntersAll (map plain items) c.args.self.now result new) same all;
+      long = (let whole : length c.args.records.items ≡ vec_len c.args.records = search rules in ap length same ∙ whole ∙ sym c.into_iter-entry-iterator.ensures.into_iter_gives.1);
       alone = subst (λ items. list_any comes_alone (map plain items) ≡ false) (sym same) c.requires.alone;
       back = goes_back_here c.args.self.now c.requires.ready;
       memory = refl;
@@ -32,6 +34,7 @@ loop-entry-preserved c =
     record {
       rest = λ result new more. inv.rest result new (subst (λ items. EntersAll (map plain items) old result new) (sym same)
           (enters_behind (plain x) (map plain rest) old mid new result c.in_ok-enter.ensures.entered more));
+      long = (let long = inv.long in let first = ap length same in let less = c.in-Some.ensures.steps.1 in omega arith);
       alone = (alone_first (plain x) (map plain rest) (subst (λ items. list_any comes_alone (map plain items) ≡ false) same inv.alone)).1;
       back = goes_back_on c.args.self.now old mid inv.back (stepped_back old mid c.enter.ensures.back c.enter.ensures.room c.enter.ensures.counted others.3 others.1);
       memory = others.0 ∙ inv.memory;
@@ -62,4 +65,5 @@ returns-in_err-enter-clause-back c =
 
 pub returns-clause-entered : goal.returns-clause-entered
 returns-clause-entered c =
-    c.loop-entry.invariant.rest (Ok tt) c.loop-entry.self (subst (λ items. AreEntered (map plain items) c.loop-entry.self c.loop-entry.self) (sym c.in-None.ensures.steps) (enters_none c.loop-entry.self))
+    let none = nil_from_length c.loop-entry.entry-iterator.rest.items (c.loop-entry.invariant.long ∙ c.in-None.ensures.steps.0) in
+    c.loop-entry.invariant.rest (Ok tt) c.loop-entry.self (subst (λ items. AreEntered (map plain items) c.loop-entry.self c.loop-entry.self) (sym none) (enters_none c.loop-entry.self))

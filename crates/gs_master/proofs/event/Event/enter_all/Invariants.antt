@@ -1,4 +1,4 @@
-use Rattle.std.proofs.Common.{◌≡◌, false}
+use Rattle.std.proofs.Common.{◌≡◌, false, length}
 use Rattle.std.specs.Prelude.{map, Result}
 use Rattle.std.specs.List.{list_any}
 use Rattle.gs_base.specs.declared.refusal.Refusal.{Refusal}
@@ -11,6 +11,7 @@ use Rattle.gs_master.proofs.event.Event.enter_all.Given as goal
 abbrev pub invariant-loop-entry : goal.invariant-loop-entry
 invariant-loop-entry l = record {
   rest : (result : Result (Unit {0}) Refusal) (new : Event) → EntersAll (map plain l.entry-iterator.rest.items) l.self result new → EntersAll (map plain l.fn.records.items) l.fn.self result new;
+  long : length l.entry-iterator.rest.items ≡ l.entry-iterator.rest.len;
   alone : list_any comes_alone (map plain l.entry-iterator.rest.items) ≡ false;
   back : GoesBack l.fn.self l.self;
   memory : l.self.memory ≡ l.fn.self.memory;
