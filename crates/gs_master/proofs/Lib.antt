@@ -6,12 +6,14 @@ pub mod Behind
 pub mod Blanks
 pub mod Choosing
 pub mod ChunkSets
+pub mod Composing
 pub mod Counted
 pub mod Counters
 pub mod Deleted
 pub mod Digits
 pub mod Edits
 pub mod Ended
+pub mod Ends
 pub mod Entered
 pub mod Fronts
 pub mod Kept
@@ -22,6 +24,7 @@ pub mod Mapping
 pub mod Nodes
 pub mod Opened
 pub mod Preparing
+pub mod Proposals
 pub mod Readings
 pub mod Recording
 pub mod Refusing
@@ -34,6 +37,7 @@ pub mod Surveys
 pub mod Takings
 pub mod Targets
 pub mod Tellings
+pub mod Together
 pub mod ToldWhole
 pub mod Tracking
 pub mod Waits

@@ -29,6 +29,7 @@ pub mod TakingBack
 pub mod Texts
 pub mod ToldNumbers
 pub mod Tracked
+pub mod Trying
 pub mod Turns
 pub mod Undoing
 pub mod Upgrades

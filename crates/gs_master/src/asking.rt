@@ -1,4 +1,5 @@
-ghost use Rattle.std.specs.Prelude.{◌≡◌};
+ghost use Rattle.std.specs.Prelude.{◌≡◌, ◌&&◌};
+ghost use Rattle.gs_base.specs.Stamps.{is_same};
 ghost use Rattle.gs_master.specs.Chunks.{target_of};
 
 use gs_base::{Members, ReqId, ServerId, Stamp};
@@ -78,6 +79,20 @@ impl Asking {
         ensures { result ≡ hears self.now stamp server }
     {
         self.stamp == stamp && (self.asked.contains(server) || self.is_target(server))
+    }
+
+    /// Whether a view is asked for under this stamp.
+    pub fn is_under(&self, stamp: Stamp) -> bool
+        ensures { result ≡ is_same self.now.stamp stamp }
+    {
+        self.stamp == stamp
+    }
+
+    /// Whether an answer is the target's, whose copy carried its sealed image.
+    pub fn is_carried(&self, server: ServerId, carried: bool) -> bool
+        ensures { result ≡ (carried && is_target self.now server) }
+    {
+        carried && self.is_target(server)
     }
 
     /// Takes a yes of one who was asked.

@@ -55,7 +55,7 @@ fn enter_on_copy(names: &mut Names, edit: &Edit) -> Result<NamesBefore, Refusal>
 }
 
 /// Makes an edit: in place where it can be taken back without memory, and else on a copy.
-fn enter_names(names: &mut Names, edit: &Edit) -> Result<NamesBefore, Refusal>
+pub(crate) fn enter_names(names: &mut Names, edit: &Edit) -> Result<NamesBefore, Refusal>
     ensures edit { Applies edit.now names.old result names.new }
     ensures back { IfOk result (λ before. AreNamesBefore before names.old names.new) }
     ensures place { IfOk result (λ before. is_undone before ≡ is_made_in_place (plain_edit edit.now)) }

@@ -1,6 +1,6 @@
-ghost use Rattle.std.specs.Prelude.{◌≡◌, option_map};
+ghost use Rattle.std.specs.Prelude.{◌≡◌, option_and_then, option_map};
 ghost use Rattle.std.specs.FinMap as fin;
-ghost use Rattle.gs_master.specs.Chunks.{chunk_at, has_entry, is_at_home, is_leased, is_moving, is_quiet, is_settled_on, is_wanted, members_of, term_of, view_of, was_proposed};
+ghost use Rattle.gs_master.specs.Chunks.{Chunk, chunk_at, has_entry, is_at_home, is_leased, is_moving, is_quiet, is_settled_on, is_wanted, members_of, term_of, view_of, was_proposed};
 ghost use Rattle.gs_master.specs.Knowing.{known_of, settled_of};
 ghost use Rattle.gs_master.specs.Plans.{state_of};
 ghost use Rattle.gs_master.specs.Recorded.{durable_of};
@@ -142,6 +142,17 @@ impl<'a> Standing<'a> {
         let settled = self.recorded.settled(chunk);
         let asking = self.memory.asking(chunk).copied();
         Some(Known { settled, asking })
+    }
+
+    /// What is asked for a chunk that the master knows.
+    #[tactic(auto, unfolding(crate::specs::Chunks::chunk_at))]
+    pub fn asking_at(&self, chunk: Handle) -> Option<Asking>
+        ensures { result ≡ option_and_then (λ (c : Chunk). c.asking) (chunk_at (state_of self.entry.now) chunk) }
+    {
+        if !self.has_entry(chunk) {
+            return None;
+        }
+        self.memory.asking(chunk).copied()
     }
 
     /// Whether a chunk that the master knows is quiet.

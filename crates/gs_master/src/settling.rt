@@ -1,12 +1,13 @@
 // Views that are settled, and what is asked on the way.
 ghost use Rattle.std.specs.Prelude.{◌≡◌, ◌++◌, ◌∷◌, [], IfOk, map};
 ghost use Rattle.std.specs.List.{list_any};
+ghost use Rattle.std.specs.Option.{option_to_list};
 ghost use Rattle.gs_record.specs.Plain as entries;
 ghost use Rattle.gs_record.specs.Plain.{plain};
 ghost use Rattle.gs_record.specs.declared.entry.SettledView.{SettledView as Settled_view};
 ghost use Rattle.gs_master.specs.Chunks.{holder_records, is_holder, is_target, settling, target_of};
 ghost use Rattle.gs_master.specs.Durable.{prepared_view};
-ghost use Rattle.gs_master.specs.Hearing.{ask_plan, send_plan};
+ghost use Rattle.gs_master.specs.Hearing.{ask_plan, is_with_sealed, send_plan};
 ghost use Rattle.gs_master.specs.Plans.{plan_of, state_of};
 ghost use Rattle.gs_master.specs.Settling.{grants, own_request, replace_plan, settle_plan};
 
@@ -67,6 +68,19 @@ pub(crate) fn send_plan(
     Ok(plan)
 }
 
+/// Whether a copy carries its sealed image: an upgrade stands, and its source is a prepared member or a holder.
+pub(crate) fn is_with_sealed(phase: Phase, prepared: Option<Prepared>, source: ServerId) -> bool
+    ensures { result ≡ is_with_sealed phase prepared source }
+{
+    if phase != Phase::Upgrade {
+        return false;
+    }
+    let Some(Prepared { view, holders }) = prepared else {
+        return false;
+    };
+    view.members.contains(source) || holders.contains(source)
+}
+
 /// A copy takes a chunk's place in a file.
 pub(crate) fn replace_plan(
     alloc: Global,
@@ -88,18 +102,27 @@ pub(crate) fn replace_plan(
 }
 
 /// The grant of a lease to its primary, if the view has one.
-fn grants(alloc: Global, chunk: Handle, view: &View) -> Result<Vec<Message>, AllocError>
-    ensures { IfOk result (λ sent. sent.items ≡ grants chunk view.now) }
+pub(crate) fn grant(chunk: Handle, view: &View) -> Option<Message>
+    ensures { option_to_list result ≡ grants chunk view.now }
 {
-    let Some(term) = view.term else {
-        return Ok(Vec::new(alloc));
-    };
+    let term = view.term?;
     let grant = Grant {
         stamp: view.stamp,
         members: view.members,
         end: term.end,
     };
-    Ok(vec![in alloc; about(chunk, Chunk::Grant(grant), term.primary)]?)
+    Some(about(chunk, Chunk::Grant(grant), term.primary))
+}
+
+/// The same as a list.
+fn grants(alloc: Global, chunk: Handle, view: &View) -> Result<Vec<Message>, AllocError>
+    ensures { IfOk result (λ sent. sent.items ≡ grants chunk view.now) }
+{
+    let mut sent = Vec::new(alloc);
+    if let Some(message) = grant(chunk, view) {
+        sent.push(message)?;
+    }
+    Ok(sent)
 }
 
 impl Asking {

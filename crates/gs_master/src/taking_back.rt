@@ -58,7 +58,7 @@ fn put_moved_back(leases: &mut Table<Handle, Lease>, chunk: Handle, before: Opti
 }
 
 /// The names stand again as they stood.
-fn put_names_back(names: &mut Names, before: NamesBefore)
+pub(crate) fn put_names_back(names: &mut Names, before: NamesBefore)
     ensures { (stood : NamesView) → AreNamesBefore before stood names.old → names.new ≡ stood }
 {
     match before {

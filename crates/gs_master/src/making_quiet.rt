@@ -1,0 +1,84 @@
+// Chunks that are made quiet, since a server has lost them.
+ghost use Rattle.std.specs.Prelude.{◌≡◌, ◌+◌, ◌*◌, length, nat_le};
+ghost use Rattle.gs_master.specs.Hearing.{damaged, made_quiet, reported, reported_now};
+ghost use Rattle.gs_master.specs.Turns.{GoesBack, IsUnderWay, Steps, state_at};
+
+use crate::event::Event;
+use crate::log::Log;
+use gs_base::{Handle, Refusal, ServerId};
+use gs_msg::Reported;
+use gs_record::Phase;
+
+impl Log {
+    /// Whether there is room for so many proposals, of which each takes 22 bytes.
+    pub fn has_room_for_proposals(self, many: usize) -> bool
+        ensures { result ≡ nat_le (self.size + many * 22) self.limit }
+    {
+        match (many as u64).checked_mul(22) {
+            Some(bytes) => self.has_room(bytes),
+            None => false,
+        }
+    }
+}
+
+impl Event {
+    /// Chunks are made quiet, if versions are left and the records have room.
+    pub fn make_quiet(&mut self, many: &[Handle]) -> Result<(), Refusal>
+        requires { IsUnderWay self.old }
+        ensures steps { Steps (made_quiet many.now (state_at self.old)) self.old result self.new }
+        ensures back { GoesBack self.old self.new }
+    {
+        if !self.recorded.has_versions(many.len() as u64) {
+            return Ok(());
+        }
+        if !self.log.has_room_for_proposals(many.len()) {
+            return Ok(());
+        }
+        self.begin_all(many, None)
+    }
+
+    /// Replicas that aren't at home are dropped, and chunks made quiet that the server has lost.
+    fn hear_report(&mut self, server: ServerId, replicas: &[Reported]) -> Result<(), Refusal>
+        requires { IsUnderWay self.old }
+        ensures steps { Steps (reported_now (state_at self.old) server replicas.now) self.old result self.new }
+        ensures back { GoesBack self.old self.new }
+    {
+        let drops = self.standing().drops(server, replicas)?;
+        let lost = self.standing().lost(server, replicas)?;
+        self.send(drops)?;
+        self.make_quiet(&lost)
+    }
+
+    /// A server tells what it has. One that is behind is told so, and nothing else. While rolling back nothing is dropped, and
+    /// nothing is begun.
+    pub fn report(
+        &mut self,
+        server: ServerId,
+        epoch: u64,
+        replicas: &[Reported],
+    ) -> Result<(), Refusal>
+        requires { IsUnderWay self.old }
+        ensures steps { Steps (reported (state_at self.old) server epoch replicas.now) self.old result self.new }
+        ensures back { GoesBack self.old self.new }
+    {
+        if epoch < self.recorded.epoch {
+            return self.tell_epoch(server, epoch);
+        }
+        if self.recorded.phase == Phase::Rolling || epoch != self.recorded.epoch {
+            return Ok(());
+        }
+        self.hear_report(server, replicas)
+    }
+
+    /// A member has a block without its digest. Its stamp isn't looked at.
+    pub fn damage(&mut self, server: ServerId, chunk: Handle) -> Result<(), Refusal>
+        requires { IsUnderWay self.old }
+        ensures steps { Steps (damaged (state_at self.old) server chunk) self.old result self.new }
+        ensures back { GoesBack self.old self.new }
+    {
+        if self.recorded.phase == Phase::Rolling || !self.standing().is_lost_at(server, chunk) {
+            return Ok(());
+        }
+        self.make_quiet(&[chunk])
+    }
+}
