@@ -1,7 +1,8 @@
 // That an event which ends gives what its turn says.
-ghost use Rattle.std.specs.Prelude.{◌≡◌, ◌≤◌, [], Ok, IfErr, OnOk};
+ghost use Rattle.std.specs.Prelude.{◌≡◌, ◌⊎◌, ◌≤◌, ℕ, [], Ok, IfErr, OnOk};
 ghost use Rattle.gs_master.specs.Durable.{Durable};
 ghost use Rattle.gs_master.specs.Events.{HasComeFrom};
+ghost use Rattle.gs_master.specs.Journaled.{AreCut, AreWritten};
 ghost use Rattle.gs_master.specs.Outcomes.{Gives};
 ghost use Rattle.gs_master.specs.Plans.{log_of};
 ghost use Rattle.gs_master.specs.StartingOver.{IsBegun};
@@ -18,7 +19,7 @@ use std::alloc::AllocError;
 
 impl Event {
     /// Ends an event whose turn is done: its records are written, or it is cut where a disk fails at one of them. What it sends
-    /// and says is left in it. Want of memory leaves all as it was.
+    /// and says is left in it. Want of memory leaves all as it was, the journal too.
     pub fn conclude<D: Disk>(
         &mut self,
         journal: &mut Journal<D>,
@@ -29,6 +30,9 @@ impl Event {
         requires from { (before : Durable) × HasComeFrom before (log_of first) self.old }
         requires counted { first.records ≤ first.size }
         ensures memory { IfErr result (λ _. (self.new ≡ self.old) × (journal.new ≡ journal.old)) }
+        ensures ended { (before : Durable) → HasComeFrom before (log_of first) self.old → OnOk result
+            (AreWritten D.seen D.may_leave D.failures (log_of first) self.old journal.old self.new journal.new
+            ⊎ ((place : ℕ) × AreCut D.failures before (log_of first) caller place self.old journal.old self.new journal.new)) }
         ensures gives { (begun : Told_event) (t : Turn) → IsBegun begun → begun.sent.items ≡ [] → log_of first ≡ log_of begun.log → IsTurned t begun self.old
             → GoesBack begun self.old → OnOk result (Gives (state_at begun) caller t (Ok (self.new.sent.items, self.new.said)) (state_at self.new)) }
     {
