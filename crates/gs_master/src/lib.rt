@@ -6,6 +6,7 @@ mod answering;
 mod asking;
 mod beginning;
 mod begun;
+mod calling;
 mod carrying;
 mod change;
 mod checking;
