@@ -71,6 +71,7 @@ mod trying;
 mod undo;
 mod upgrading;
 mod waiting;
+mod wanting;
 mod writing;
 
 pub use asking::{Asking, Prepared, Step};
