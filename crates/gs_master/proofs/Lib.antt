@@ -1,3 +1,4 @@
+pub mod Accepting
 pub mod Anew
 pub mod Appending
 pub mod Before
@@ -18,6 +19,7 @@ pub mod Entered
 pub mod Fronts
 pub mod Kept
 pub mod Leading
+pub mod Lengthened
 pub mod Listed
 pub mod Lowered
 pub mod Mapping

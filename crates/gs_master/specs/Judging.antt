@@ -1,9 +1,12 @@
 -- What the code judges of a call.
-use Rattle.std.specs.Prelude.{◌≡◌, ◌+◌, ℕ, Bool, List, [], ◌∷◌, Option, Some, None, is_none, cond, codes, refl}
+use Rattle.std.specs.Prelude.{◌≡◌, ◌+◌, ℕ, Bool, List, [], ◌∷◌, Option, Some, None, is_none, length, Result, Ok, Err, cond, codes, refl}
 use Rattle.std.specs.declared.cmp.Ordering.{Ordering}
 use Rattle.std.specs.declared.cmp.Ordering.TheVariants.{Less, Equal, Greater}
 use Rattle.std.specs.Cmp.Lexicographic.{slice_cmp}
 use Rattle.std.specs.Ordering.{nat_cmp}
+use Rattle.gs_base.specs.declared.refusal.Refusal.{Refusal}
+use Rattle.gs_base.specs.declared.refusal.Refusal.TheVariants as refusals
+use Rattle.gs_tree.specs.Entry.{Entry, Dir, File}
 use Rattle.gs_msg.specs.declared.lists.ListedName.{ListedName}
 use Rattle.gs_path.specs.Path.{Name, Path, path_text}
 use Rattle.gs_tree.specs.Plain.{Plain}
@@ -19,6 +22,12 @@ numbered_of numbers.Older = Older
 -- a name as it is told, with whether a directory stands there
 abbrev pub listed_name : Name × Bool → ListedName
 listed_name pair = record { name = pair.0; is_directory = pair.1 }
+
+-- how many chunks a file has
+abbrev pub length_at : Option (Entry ℕ) → Result ℕ Refusal
+length_at None = Err refusals.NotFound
+length_at (Some Dir) = Err refusals.IsADirectory
+length_at (Some (File chunks)) = Ok (length chunks)
 
 -- the lower of two texts
 abbrev pub lower_text : List ℕ → Option (List ℕ) → List ℕ

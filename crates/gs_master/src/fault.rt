@@ -1,5 +1,5 @@
 ghost use Rattle.std.specs.Prelude.{◌≡◌};
-ghost use Rattle.gs_master.specs.State.{is_failed};
+ghost use Rattle.gs_master.specs.State.{is_failed, is_unopened};
 ghost use Rattle.gs_master.specs.Plans.{fault_of};
 
 use gs_record::Entry;
@@ -20,6 +20,15 @@ impl Fault {
         match self {
             Fault::Sound => false,
             Fault::Failed(_) | Fault::Unopened(_) => true,
+        }
+    }
+
+    pub fn is_unopened(&self) -> bool
+        ensures { result ≡ is_unopened (fault_of self.now) }
+    {
+        match self {
+            Fault::Sound | Fault::Failed(_) => false,
+            Fault::Unopened(_) => true,
         }
     }
 }

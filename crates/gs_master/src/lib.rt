@@ -6,6 +6,7 @@ mod answering;
 mod asking;
 mod beginning;
 mod begun;
+mod calling;
 mod carrying;
 mod change;
 mod checking;
@@ -70,6 +71,7 @@ mod trying;
 mod undo;
 mod upgrading;
 mod waiting;
+mod wanting;
 mod writing;
 
 pub use asking::{Asking, Prepared, Step};

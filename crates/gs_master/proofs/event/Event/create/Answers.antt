@@ -1,0 +1,12 @@
+use Rattle.std.proofs.Common.{ap, subst, sym, ◌∙◌}
+use Rattle.gs_master.specs.Beginning.{waits_from_now}
+use Rattle.gs_master.specs.Turns.{ComesWithOthers}
+use Rattle.gs_master.specs.declared.pending.Waiting.TheVariants as waits
+use Rattle.gs_master.proofs.Accepting.{created_together}
+use Rattle.gs_master.proofs.event.Event.create.Goals as goal
+
+pub carry_out_or_refuse-requires-clause-together : goal.carry_out_or_refuse-requires-clause-together
+carry_out_or_refuse-requires-clause-together c =
+    let waiting = waits.Extend c.args.path c.in-Some.chunk in
+    subst ComesWithOthers (sym (c.in_ok-plan.ensures ∙ ap (λ p. waits_from_now p c.args.req waiting) c.in_ok-begun.ensures))
+    (created_together c.next_stamp-stamp.result c.in-Some.chunk c.args.targets c.args.req waiting)
