@@ -63,6 +63,7 @@ mod stacking;
 mod standing;
 mod starting_over;
 mod taking_back;
+mod taking_calls;
 mod telling;
 mod texts;
 mod told_answers;
