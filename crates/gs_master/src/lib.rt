@@ -70,6 +70,7 @@ mod told_answers;
 mod tracked;
 mod trying;
 mod undo;
+mod upgrade_calls;
 mod upgrading;
 mod waiting;
 mod wanting;
