@@ -55,6 +55,7 @@ mod reporting;
 mod restoring;
 mod reverting;
 mod rollback;
+mod rollback_calls;
 mod room;
 mod scanning;
 mod serving;
