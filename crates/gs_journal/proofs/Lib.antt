@@ -1,6 +1,7 @@
 mod Checkpoint
 mod Complete
 mod Crash
+mod Drafting
 mod Faults
 mod Frames
 mod Making

@@ -1,16 +1,18 @@
 // A journal on two disks, of which one counts.
-ghost use Rattle.std.specs.Prelude.{◌≡◌, ◌≢◌, ◌⊎◌, ◌<◌, ◌^◌, ◌+◌, ◌-◌, true, false, not, length, if◌then◌else◌, Ok, Err, None, OnOk, IfOk, IfErr, IfSome, IsTrue};
+ghost use Rattle.std.specs.Prelude.{◌≡◌, ◌≢◌, ◌⊎◌, ◌<◌, ◌≤◌, ◌^◌, ◌+◌, ◌-◌, true, false, not, length, if◌then◌else◌, Ok, Err, None, OnOk, IfOk, IfErr, IfSome, IsTrue};
 ghost use Rattle.gs_base.specs.declared.refusal.Refusal.TheVariants.{Device, Memory};
 ghost use Rattle.gs_journal.specs.Disk.{LeavesPairs};
 ghost use Rattle.gs_journal.specs.Records.{standing};
 ghost use Rattle.gs_journal.specs.Forms.{is_text};
+ghost use Rattle.gs_journal.specs.Drafts.{draft_refusal};
 
 use crate::disk::Disk;
+use crate::draft::Draft;
 use crate::fault::Fault;
 use crate::faulty::FaultyDisk;
 use crate::pair::Pair;
 use crate::record::Record;
-use crate::start::{begin, start};
+use crate::start::start;
 use crate::version::Version;
 use gs_base::Refusal;
 use std::alloc::Global;
@@ -48,9 +50,6 @@ impl<D: Disk> Model for Journal<D> {
 
     ghost invariant = { λ j. j.is_failed ≡ false → IsSettled D.seen D.may_leave j.disks };
 }
-
-/// The kind of a checkpoint.
-const CHECKPOINT: u8 = 9;
 
 /// How many bytes a disk with one record has more than the record's body.
 const AROUND: usize = 20;
@@ -174,6 +173,29 @@ impl<D: Disk> Journal<D> {
         }
     }
 
+    /// How many bytes the disk that counts has. `None` only where no number of 64 bits tells it, which no journal's is that no
+    /// disk has failed of.
+    pub fn size(&self) -> Option<u64>
+        ensures told { IfSome result (λ n. n ≡ self.now.size) }
+        ensures untold { result ≡ None → 2 ^ 64 ≤ self.now.size }
+    {
+        (self.disks.end as u64).checked_add(1)
+    }
+
+    /// How many it may have.
+    pub fn limit(&self) -> u32
+        ensures { result ≡ self.now.limit }
+    {
+        self.limit
+    }
+
+    /// Its generation.
+    pub fn generation(&self) -> u64
+        ensures { result ≡ self.now.generation }
+    {
+        self.disks.generation
+    }
+
     /// How many bytes the disk that counts may still grow by.
     pub fn room(&self) -> u32
         ensures { result ≡ self.now.limit - self.now.size }
@@ -214,6 +236,59 @@ impl<D: Disk> Journal<D> {
         Ok(())
     }
 
+    /// A checkpoint of this body, which is written later. So nothing is refused for memory then.
+    ///
+    /// The refusal is that of `checkpoint`, and `Memory` behind those.
+    pub fn draft(&self, alloc: Global, body: &[u8]) -> Result<Draft, Refusal>
+        ensures judged { IfSome (checkpoint_refusal self.now body.now) (λ e. result ≡ Err e) }
+        ensures made { IfOk result (λ d. d ≡ record { body = body.now; generation = self.now.generation + 1 }) }
+        ensures refused { IfErr result (λ e. checkpoint_refusal self.now body.now ≡ None → e ≡ Memory) }
+    {
+        if self.is_failed {
+            return Err(Refusal::Device);
+        }
+        if self.disks.generation == u64::MAX {
+            return Err(Refusal::Exhausted);
+        }
+        if body.len() + AROUND > self.limit as usize {
+            return Err(Refusal::Full);
+        }
+        Draft::new(alloc, self.disks.generation + 1, body)
+    }
+
+    /// Puts a checkpoint that was made before in the place of all records, on the other disk, which counts from then on. It takes
+    /// no memory, and other records may have been added since it was made.
+    ///
+    /// `Device` where a disk has failed since the journal was opened, then `BadLine` where the draft isn't of the generation
+    /// behind the journal's, then `Full` where the disk would have more bytes than the limit: nothing is changed. `Device` where
+    /// a disk fails now: the checkpoint stands, or the records from before do, once the disks are opened again.
+    pub fn write_draft(&mut self, draft: &Draft) -> Result<(), Refusal>
+        ensures judged { IfSome (draft_refusal self.old draft.now) (λ e. (result ≡ Err e) × (self.new ≡ self.old)) }
+        ensures made { OnOk result (Makes self.old draft.now.body self.new) }
+        ensures stands { OnOk result (Stands D.seen D.may_leave self.new) }
+        ensures quiet { OnOk result (failures_of_both D.failures self.new ≡ failures_of_both D.failures self.old) }
+        ensures failed { IfErr result (λ e. draft_refusal self.old draft.now ≡ None → Closes D.failures self.old self.new e) }
+        ensures either { IsOldOrNew self.old.text (checkpointed draft.now.body) self.new.text }
+        // A crash at any moment of the call leaves the records from before it, or the checkpoint alone.
+        ensures any_moment { self.old.is_failed ≡ false → LeavesPairs D.moment D.left_since self.old.first self.old.second self.new.first self.new.second
+            (λ a b. IsOldOrNew self.old.text (checkpointed draft.now.body) (standing a b)) }
+        ensures counting { LeavesCounting D.seen self.old self.new }
+    {
+        if self.is_failed {
+            return Err(Refusal::Device);
+        }
+        if !draft.is_behind(self.disks.generation) {
+            return Err(Refusal::BadLine);
+        }
+        if draft.entry().body().len() + AROUND > self.limit as usize {
+            return Err(Refusal::Full);
+        }
+        let made = self.disks.make_other(draft.entry(), draft.bytes());
+        self.is_failed = made.is_err();
+        made?;
+        Ok(())
+    }
+
     /// Puts one record in the place of all: a checkpoint of this body, on the other disk, which counts from then on. New
     /// checkpoints are of the second version.
     ///
@@ -234,25 +309,12 @@ impl<D: Disk> Journal<D> {
             (λ a b. IsOldOrNew self.old.text (checkpointed body.now) (standing a b)) }
         ensures counting { LeavesCounting D.seen self.old self.new }
     {
-        if self.is_failed {
-            return Err(Refusal::Device);
-        }
-        if self.disks.generation == u64::MAX {
-            return Err(Refusal::Exhausted);
-        }
-        if body.len() + AROUND > self.limit as usize {
-            return Err(Refusal::Full);
-        }
-        let Ok(entry) = Record::new(alloc, CHECKPOINT, body) else {
-            return Err(Refusal::Memory);
+        let _ = &self.disks;
+        let draft = match self.draft(alloc, body) {
+            Ok(draft) => draft,
+            Err(refusal) => return Err(refusal),
         };
-        let Ok(bytes) = begin(alloc, self.disks.generation + 1, 1, entry.bytes()) else {
-            return Err(Refusal::Memory);
-        };
-        let made = self.disks.make_other(&entry, &bytes);
-        self.is_failed = made.is_err();
-        made?;
-        Ok(())
+        self.write_draft(&draft)
     }
 }
 

@@ -2,6 +2,7 @@
 #![tactic(auto)]
 
 mod disk;
+mod draft;
 mod ends;
 mod fault;
 mod faulty;
@@ -19,6 +20,7 @@ mod start;
 mod version;
 
 pub use disk::Disk;
+pub use draft::Draft;
 pub use fault::Fault;
 pub use faulty::FaultyDisk;
 pub use form::is_of_form;

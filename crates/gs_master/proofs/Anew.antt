@@ -8,14 +8,14 @@ use Rattle.gs_msg.specs.declared.message.Message.{Message}
 use Rattle.gs_journal.specs.declared.version.Version.TheVariants.{Two}
 use Rattle.gs_record.specs.Encoding.{encoded}
 use Rattle.gs_record.specs.Plain.{PlainEntry, plain}
-use Rattle.gs_master.specs.Applied.{replayed}
-use Rattle.gs_master.specs.Durable.{Durable}
-use Rattle.gs_master.specs.Events.{HasComeFrom, Leads, log_behind}
-use Rattle.gs_master.specs.Plans.{fault_of, log_of}
-use Rattle.gs_master.specs.Recorded.{durable_of}
+use Rattle.gs_state.specs.Applied.{replayed}
+use Rattle.gs_state.specs.Durable.{Durable}
+use Rattle.gs_master.specs.Events.{HasComeFrom, log_behind}
+use Rattle.gs_state.specs.TakingBack.{Leads, TakeBack, all_leases_before}
+use Rattle.gs_state.specs.Plans.{fault_of, log_of}
+use Rattle.gs_state.specs.Recorded.{durable_of}
 use Rattle.gs_master.specs.StartingOver.{BeginsAt, IsBackAt, IsBegun, StartsOver}
-use Rattle.gs_master.specs.State.{Log, State, Turn, fits, first_said}
-use Rattle.gs_master.specs.TakingBack.{TakeBack, all_leases_before}
+use Rattle.gs_state.specs.State.{Log, State, Turn, fits, first_said}
 use Rattle.gs_master.specs.Turns.{AreUnfit, GoesBack, HaveRoom, IsTurned, Steps, WhyNotTurned, state_at}
 use Rattle.gs_master.specs.declared.event.Event.{Event}
 use Rattle.gs_master.specs.declared.starting_over.Beginning.{Beginning}

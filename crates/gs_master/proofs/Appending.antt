@@ -8,7 +8,10 @@ use Rattle.gs_base.specs.declared.refusal.Refusal.TheVariants.{Device, Full}
 use Rattle.gs_journal.specs.Journal.{State as Journal, Adds, Closes, IsWithOrWithout, Stands, append_refusal, failures_of_both, record_size}
 use Rattle.gs_journal.specs.Records.{Entry}
 use Rattle.gs_master.specs.Journaled.{Breaks, Gains, IsReadyFor}
-use Rattle.gs_master.proofs.Rooms.{take_next}
+use Rattle.gs_state.proofs.Rooms.{take_next}
+
+pub none_there : (rs : List Entry) (i : ℕ) → rs ≡ [] → i < length rs → ⊥
+none_there rs i none below = let empty = ap length none in omega arith
 
 module _ {D : Type 0} (seen : D → List ℕ) (may_leave : D → List ℕ → Type 0) (failures : D → ℕ) where
   pub gains_one : (old mid new : Journal D) (rs : List Entry) (i : ℕ) (r : Entry) → i < length rs → r ≡ get_or rs i r → Gains seen may_leave failures old (take i rs) mid →

@@ -9,23 +9,23 @@ use Rattle.gs_base.specs.declared.refusal.Refusal.{Refusal}
 use Rattle.gs_journal.specs.declared.version.Version.TheVariants.{Two}
 use Rattle.gs_record.specs.Plain.{PlainEntry, plain}
 use Rattle.gs_record.specs.Writable.{IsEntry}
-use Rattle.gs_master.specs.Applied.{applied, replayed}
-use Rattle.gs_master.specs.Durable.{Durable}
+use Rattle.gs_state.specs.Applied.{applied, replayed}
+use Rattle.gs_state.specs.Durable.{Durable}
 use Rattle.gs_master.specs.Events.{log_behind}
-use Rattle.gs_master.specs.Plans.{log_of}
-use Rattle.gs_master.specs.Recorded.{durable_of}
-use Rattle.gs_master.specs.State.{State, Turn, Log, and_then, fits, first_said, for_each, joined, size_of, size_of_all, unmoved, with_record}
+use Rattle.gs_state.specs.Plans.{log_of}
+use Rattle.gs_state.specs.Recorded.{durable_of}
+use Rattle.gs_state.specs.State.{State, Turn, Log, and_then, fits, first_said, for_each, joined, size_of, size_of_all, unmoved, with_record}
 use Rattle.gs_master.specs.Turns.{AreUnfit, HaveRoom, IsTurned, Steps, WhyNotTurned, state_at}
 use Rattle.gs_master.specs.declared.event.Event.{Event}
 
 -- ---- lists
 
 module _ {X : Type 0} (P : X → Type 0) where
-  all_joined : (xs ys : List X) → AllByRecursion P xs → AllByRecursion P ys → AllByRecursion P (xs ++ ys)
+  pub all_joined : (xs ys : List X) → AllByRecursion P xs → AllByRecursion P ys → AllByRecursion P (xs ++ ys)
   all_joined [] ys h k = k
   all_joined (x ∷ xs) ys h k = (h.0, all_joined xs ys h.1 k)
 
-  all_front : (xs ys : List X) → AllByRecursion P (xs ++ ys) → AllByRecursion P xs
+  pub all_front : (xs ys : List X) → AllByRecursion P (xs ++ ys) → AllByRecursion P xs
   all_front [] ys h = tt
   all_front (x ∷ xs) ys h = (h.0, all_front xs ys h.1)
 
@@ -39,7 +39,7 @@ bound_twice : {A B C : Type 0} (o : Option A) (f : A → Option B) (g : B → Op
 bound_twice None f g h same = refl
 bound_twice (Some x) f g h same = same x
 
-replayed_both : (d : Durable) (xs ys : List PlainEntry) → replayed d (xs ++ ys) ≡ option_and_then (λ mid. replayed mid ys) (replayed d xs)
+pub replayed_both : (d : Durable) (xs ys : List PlainEntry) → replayed d (xs ++ ys) ≡ option_and_then (λ mid. replayed mid ys) (replayed d xs)
 replayed_both d [] ys = refl
 replayed_both d (x ∷ xs) ys = bound_twice (applied d x) (λ next. replayed next xs) (λ mid. replayed mid ys) (λ next. replayed next (xs ++ ys)) (λ next. replayed_both next xs ys)
 
@@ -80,14 +80,14 @@ sums_both : (log : Log) (xs ys : List PlainEntry) → (fold log_behind log xs).s
 sums_both log xs ys = one_more log.size (size_of_all xs) (size_of_all ys) _ (ap (λ n. n + size_of_all ys) (logged_size log xs)) ∙ ap (λ n. log.size + n) (sym (sum_by-append size_of xs ys))
 
 -- what fits behind some records fits with them
-fits_both : (log mid : Log) (xs ys : List PlainEntry) → mid ≡ fold log_behind log xs → fits mid ys ≡ fits log (xs ++ ys)
+pub fits_both : (log mid : Log) (xs ys : List PlainEntry) → mid ≡ fold log_behind log xs → fits mid ys ≡ fits log (xs ++ ys)
 fits_both log mid xs ys h =
     ap (λ l. fits l ys) h ∙ ap (λ limit. nat_le ((fold log_behind log xs).size + size_of_all ys) limit) (logged_limit log xs) ∙ ap (λ size. nat_le size log.limit) (sums_both log xs ys)
 
 no_more : (a b c limit : ℕ) → nat_le (a + b) limit ≡ false → nat_le (a + (b + c)) limit ≡ false
 no_more a b c limit h = grind (arith, nat_tests)
 
-fits_less : (log : Log) (xs ys : List PlainEntry) → fits log xs ≡ false → fits log (xs ++ ys) ≡ false
+pub fits_less : (log : Log) (xs ys : List PlainEntry) → fits log xs ≡ false → fits log (xs ++ ys) ≡ false
 fits_less log xs ys h = ap (λ n. nat_le (log.size + n) log.limit) (sum_by-append size_of xs ys) ∙ no_more log.size (size_of_all xs) (size_of_all ys) log.limit h
 
 room_joined : (old mid : Event) (xs ys : List PlainEntry) → log_of mid.log ≡ fold log_behind (log_of old.log) xs → HaveRoom xs old → HaveRoom ys mid → HaveRoom (xs ++ ys) old

@@ -7,14 +7,15 @@ use Rattle.gs_journal.specs.Journal.{State as Journal}
 use Rattle.gs_journal.specs.declared.version.Version.TheVariants.{Two}
 use Rattle.gs_record.specs.Encoding.{encoded}
 use Rattle.gs_record.specs.Plain.{plain}
-use Rattle.gs_master.specs.Durable.{Durable}
-use Rattle.gs_master.specs.Events.{HasComeFrom, Leads, log_behind}
+use Rattle.gs_state.specs.Durable.{Durable}
+use Rattle.gs_master.specs.Events.{HasComeFrom, log_behind}
+use Rattle.gs_state.specs.TakingBack.{Leads}
 use Rattle.gs_master.specs.Journaled.{AreCut, AreWritten, IsCutAt, IsWhole, stood_before}
-use Rattle.gs_master.specs.Outcomes.{Gives, IsCut, IsDone, cut}
-use Rattle.gs_master.specs.Plans.{fault_of, log_of}
-use Rattle.gs_master.specs.Recorded.{durable_of}
+use Rattle.gs_state.specs.Outcomes.{Gives, IsCut, IsDone, cut}
+use Rattle.gs_state.specs.Plans.{fault_of, log_of}
+use Rattle.gs_state.specs.Recorded.{durable_of}
 use Rattle.gs_master.specs.StartingOver.{IsBegun}
-use Rattle.gs_master.specs.State.{Log, Turn, first_said}
+use Rattle.gs_state.specs.State.{Log, Turn, first_said}
 use Rattle.gs_master.specs.Turns.{GoesBack, IsTurned, state_at}
 use Rattle.gs_master.specs.declared.event.Event.{Event}
 
@@ -28,14 +29,14 @@ comes_from_itself e begun =
       room = inl begun.entries;
     }
 
-gives_done : (t : Turn) (begun old new : Event) → IsBegun begun → begun.sent.items ≡ [] → IsTurned t begun old → IsWhole old new → IsDone t new.sent.items new.said (state_at new)
+pub gives_done : (t : Turn) (begun old new : Event) → IsBegun begun → begun.sent.items ≡ [] → IsTurned t begun old → IsWhole old new → IsDone t new.sent.items new.said (state_at new)
 gives_done t begun old new is none turned whole = record {
   after = whole.after ∙ turned.after;
   sends = whole.sends ∙ turned.sent ∙ ap (λ sent. sent ++ t.sent) none;
   says = whole.says ∙ turned.said ∙ ap (λ said. first_said said t.said) is.said;
 }
 
-gives_cut : (caller : Option ReqId) (place : ℕ) (t : Turn) (begun old new : Event) → IsBegun begun → IsTurned t begun old → GoesBack begun old → IsCutAt (durable_of begun.recorded) (log_of begun.log) caller place old new →
+pub gives_cut : (caller : Option ReqId) (place : ℕ) (t : Turn) (begun old new : Event) → IsBegun begun → IsTurned t begun old → GoesBack begun old → IsCutAt (durable_of begun.recorded) (log_of begun.log) caller place old new →
     IsCut (state_at begun) caller t place new.sent.items new.said (state_at new)
 gives_cut caller place t begun old new is turned back at =
     let records = turned.entries ∙ ap (λ entries. map plain entries ++ t.records) is.entries in

@@ -1,9 +1,9 @@
 -- What is known of an edit by its refusal, and of two plans of which the first has room.
-use Rattle.std.proofs.Common.{◌≡◌, Bool, true, List, [], ◌∷◌, Option, Some, None, Result, Ok, Err, filter, refl, ap, subst, sym}
+use Rattle.std.proofs.Common.{◌≡◌, true, Some, None, Result, Ok, Err, refl, subst, sym}
 use Rattle.std.specs.Prelude.{if◌then◌else◌}
 use Rattle.gs_base.specs.declared.refusal.Refusal.{Refusal}
-use Rattle.gs_master.specs.State.{Plan, State, Turn, and_then, fits, turned}
-use Rattle.gs_master.specs.Trying.{refusal_of}
+use Rattle.gs_state.specs.State.{Plan, State, Turn, and_then, fits, turned}
+use Rattle.gs_state.specs.Trying.{refusal_of}
 use Rattle.gs_master.specs.Turns.{Steps, WhyNotTurned}
 use Rattle.gs_master.specs.declared.event.Event.{Event}
 
@@ -14,10 +14,6 @@ refused_by (Err other) refusal h = cc
 pub accepted_by : {A : Type 0} (r : Result A Refusal) → None ≡ refusal_of r → (done : A) × (r ≡ Ok done)
 accepted_by (Ok done) h = (done, refl)
 accepted_by (Err other) h = cc
-
-pub all_pass : {A : Type 0} (xs : List A) → filter (λ (x : A). true) xs ≡ xs
-all_pass [] = refl
-all_pass (x ∷ xs) = ap (λ rest. x ∷ rest) (all_pass xs)
 
 module _ (s : State) (made plan : Plan) (next : State → Turn) (other : Turn) (same : made ≡ plan) (room : fits s.log plan.records ≡ true) where
   pub steps_with_room : (old new : Event) (result : Result (Unit {0}) Refusal) → Steps (and_then (turned s made) next) old result new

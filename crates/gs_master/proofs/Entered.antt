@@ -7,15 +7,15 @@ use Rattle.std.specs.List.{AllByRecursion, list_any}
 use Rattle.gs_base.specs.declared.refusal.Refusal.{Refusal}
 use Rattle.gs_journal.specs.declared.version.Version.TheVariants.{Two}
 use Rattle.gs_record.specs.Plain.{PlainEntry, plain}
-use Rattle.gs_master.specs.Applied.{applied, replayed}
-use Rattle.gs_master.specs.Durable.{Durable}
+use Rattle.gs_state.specs.Applied.{applied, replayed}
+use Rattle.gs_state.specs.Durable.{Durable}
 use Rattle.gs_master.specs.Events.{IsEntered, KeepsBack, IsUnfit, WhyNot, log_behind}
-use Rattle.gs_master.specs.Plans.{fault_of, log_of}
-use Rattle.gs_master.specs.Recorded.{durable_of}
-use Rattle.gs_master.specs.State.{State, Plan, Log, first_said, turned, fits, size_of, size_of_all, with_record}
-use Rattle.gs_master.specs.TakingBack.{RoomForAll, comes_alone}
+use Rattle.gs_state.specs.Plans.{fault_of, log_of}
+use Rattle.gs_state.specs.Recorded.{durable_of}
+use Rattle.gs_state.specs.State.{State, Plan, Log, first_said, turned, fits, size_of, size_of_all, with_record}
+use Rattle.gs_state.specs.TakingBack.{RoomForAll, comes_alone}
 use Rattle.gs_master.specs.Turns.{AreEntered, AreUnfit, EntersAll, GoesBack, HaveRoom, IsTurned, IsUnderWay, state_at, WhyNotAll}
-use Rattle.gs_master.specs.Volatile.{all_changed}
+use Rattle.gs_state.specs.Volatile.{all_changed}
 use Rattle.gs_msg.specs.declared.message.Message.{Message}
 use Rattle.gs_master.specs.declared.event.Event.{Event}
 

@@ -13,12 +13,12 @@ use Rattle.gs_tree.specs.Edits.{hidden_path, same_path}
 use Rattle.std.specs.FinMap as fin
 use Rattle.std.proofs.lemmas.Bool.{ne_eqb}
 use Rattle.gs_tree.specs.Entry.{Entry, Dir, File}
-use Rattle.gs_master.specs.Beginning.{counted_views, targets_for}
-use Rattle.gs_master.specs.Calls.{answered_with, deleted, edited_by, found_chunk, has_visible_child, location, looked_up}
-use Rattle.gs_master.specs.Chunks.{Chunk, chunk_at, is_wanted, members_of}
-use Rattle.gs_master.specs.Judging.{length_at}
-use Rattle.gs_master.specs.State.{State, Turn, refused}
-use Rattle.gs_master.specs.Working.{created_on, extended_at, extends, replicated_to, replicates_chunk}
+use Rattle.gs_state.specs.Beginning.{counted_views, targets_for}
+use Rattle.gs_state.specs.Calls.{answered_with, deleted, edited_by, found_chunk, has_visible_child, location, looked_up}
+use Rattle.gs_state.specs.Chunks.{Chunk, chunk_at, is_wanted, members_of}
+use Rattle.gs_state.specs.Judging.{length_at}
+use Rattle.gs_state.specs.State.{State, Turn, refused}
+use Rattle.gs_state.specs.Working.{created_on, extended_at, extends, replicated_to, replicates_chunk}
 
 -- a file has so many chunks
 found_file : (entry : Option (Entry ℕ)) (n : ℕ) → length_at entry ≡ Ok n → (chunks : List ℕ) × ((entry ≡ Some (File chunks)) × (length chunks ≡ n))

@@ -7,15 +7,15 @@ use Rattle.gs_lease.specs.declared.view.View.{View}
 use Rattle.gs_msg.specs.declared.answer.Answer.{Answer}
 use Rattle.gs_record.specs.Plain.{PlainEntry, Edited, Said, Propose, Settle, Prepare, Finalize, RollbackBegin, RollbackCommit, Whole, Holder}
 use Rattle.gs_record.specs.declared.checkpoint.Phase.{Phase}
-use Rattle.gs_master.specs.Applied.{is_whole_entry}
-use Rattle.gs_master.specs.Chunks.{holder_records, is_holder, settling, target_of}
-use Rattle.gs_master.specs.Settling.{end_plan}
-use Rattle.gs_master.specs.State.{State, fits, keeps_refusal, refusal_plan}
-use Rattle.gs_master.specs.TakingBack.{comes_alone}
+use Rattle.gs_state.specs.Applied.{is_whole_entry}
+use Rattle.gs_state.specs.Chunks.{holder_records, is_holder, settling, target_of}
+use Rattle.gs_state.specs.Settling.{end_plan}
+use Rattle.gs_state.specs.State.{State, fits, keeps_refusal, refusal_plan}
+use Rattle.gs_state.specs.TakingBack.{comes_alone}
 use Rattle.gs_master.specs.Turns.{ComesWithOthers}
-use Rattle.gs_master.specs.declared.asking.Asking.{Asking}
-use Rattle.gs_master.specs.declared.asking.Prepared.{Prepared}
-use Rattle.gs_master.specs.declared.change.Change.{Change}
+use Rattle.gs_state.specs.declared.asking.Asking.{Asking}
+use Rattle.gs_state.specs.declared.asking.Prepared.{Prepared}
+use Rattle.gs_state.specs.declared.change.Change.{Change}
 
 -- ---- records
 

@@ -1,5 +1,5 @@
 -- What a step of an event makes of the master that has it under way, and what takes all of it back.
-use Rattle.std.specs.Prelude.{◌≡◌, ◌⊎◌, ◌<◌, ◌+◌, ◌++◌, ◌∷◌, [], true, false, List, Some, None, Result, Ok, Err, fold, map, refl, vec_len, vec_capacity}
+use Rattle.std.specs.Prelude.{◌≡◌, ◌⊎◌, ◌<◌, ◌+◌, ◌++◌, ◌∷◌, [], true, false, Some, None, Result, Ok, Err, fold, map, refl, vec_len, vec_capacity}
 use Rattle.std.specs.Ordering.{nat_cmp}
 use Rattle.gs_base.specs.declared.refusal.Refusal.{Refusal}
 use Rattle.gs_base.specs.declared.refusal.Refusal.TheVariants as refusals
@@ -9,14 +9,13 @@ use Rattle.gs_record.specs.Encoding.{encoded}
 use Rattle.gs_record.specs.Plain.{PlainEntry, Prepare, plain}
 use Rattle.gs_record.specs.Writable.{IsEntry}
 use Rattle.gs_table.specs.Slots.{live}
-use Rattle.gs_master.specs.Applied.{applied}
-use Rattle.gs_master.specs.Durable.{Durable}
-use Rattle.gs_master.specs.Plans.{log_of}
-use Rattle.gs_master.specs.Recorded.{durable_of}
-use Rattle.gs_master.specs.State.{Log, fits, size_of}
-use Rattle.gs_master.specs.TakingBack.{StillTakeBack, TakesBack, TakesOneMore, all_leases_before}
+use Rattle.gs_state.specs.Applied.{applied}
+use Rattle.gs_state.specs.Durable.{Durable}
+use Rattle.gs_state.specs.Plans.{log_of}
+use Rattle.gs_state.specs.Recorded.{durable_of}
+use Rattle.gs_state.specs.State.{Log, fits, size_of}
+use Rattle.gs_state.specs.TakingBack.{Leads, StillTakeBack, TakesOneMore, all_leases_before}
 use Rattle.gs_master.specs.declared.event.Event.{Event}
-use Rattle.gs_master.specs.declared.undo.Undo.{Undo}
 
 -- the journal with a record more
 abbrev pub log_behind : Log → PlainEntry → Log
@@ -66,14 +65,6 @@ IsAppliedOrNot entry old (Ok _) new = IsApplied entry old new
 IsAppliedOrNot entry old (Err refusal) new =
     ((refusal ≡ refusals.Memory) ⊎ ((refusal ≡ refusals.BadLine) × (applied (durable_of old.recorded) entry ≡ None)))
     × ((new.undos.items ≡ old.undos.items) × (durable_of new.recorded ≡ durable_of old.recorded))
-
--- each record was applied to what the one before it had left, and is taken back by its own
-abbrev pub Leads : List PlainEntry → List Undo → Durable → Durable → Type 0
-Leads [] [] before now = before ≡ now
-Leads [] (undo ∷ undos) before now = ⊥
-Leads (entry ∷ entries) [] before now = ⊥
-Leads (entry ∷ entries) (undo ∷ undos) before now =
-    (next : Durable) × ((applied before entry ≡ Some next) × (TakesBack undo before next × Leads entries undos next now))
 
 -- What an event has come from: its records lead from there to what stands now, they are to be written in their order, and the
 -- journal has room for them.

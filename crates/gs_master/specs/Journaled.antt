@@ -4,10 +4,10 @@ use Rattle.gs_base.specs.declared.numbers.ReqId.{ReqId}
 use Rattle.gs_journal.specs.Journal.{State as Journal, Stands, failures_of_both, record_size}
 use Rattle.gs_journal.specs.Records.{Entry}
 use Rattle.gs_record.specs.Plain.{plain}
-use Rattle.gs_master.specs.Durable.{Durable}
-use Rattle.gs_master.specs.Outcomes.{cut, cut_refusal, unsure}
-use Rattle.gs_master.specs.Plans.{fault_of, log_of}
-use Rattle.gs_master.specs.State.{Log, State}
+use Rattle.gs_state.specs.Durable.{Durable}
+use Rattle.gs_state.specs.Outcomes.{cut, cut_refusal, unsure}
+use Rattle.gs_state.specs.Plans.{fault_of, log_of}
+use Rattle.gs_state.specs.State.{Log, State}
 use Rattle.gs_master.specs.Turns.{state_at}
 use Rattle.gs_master.specs.declared.event.Event.{Event}
 

@@ -2,9 +2,9 @@
 use Rattle.std.specs.Prelude.{◌≡◌, [], None, take, length, List}
 use Rattle.std.specs.Ordering.{nat_cmp}
 use Rattle.gs_table.specs.Slots.{live}
-use Rattle.gs_master.specs.Durable.{Durable}
-use Rattle.gs_master.specs.Recorded.{durable_of}
-use Rattle.gs_master.specs.TakingBack.{TakeBack, all_leases_before}
+use Rattle.gs_state.specs.Durable.{Durable}
+use Rattle.gs_state.specs.Recorded.{durable_of}
+use Rattle.gs_state.specs.TakingBack.{TakeBack, all_leases_before}
 use Rattle.gs_master.specs.Turns.{state_at}
 use Rattle.gs_master.specs.declared.event.Event.{Event}
 use Rattle.gs_master.specs.declared.starting_over.Beginning.{Beginning}

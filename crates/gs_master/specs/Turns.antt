@@ -7,13 +7,13 @@ use Rattle.gs_journal.specs.declared.version.Version.TheVariants.{Two}
 use Rattle.gs_msg.specs.declared.message.Message.{Message}
 use Rattle.gs_record.specs.Plain.{PlainEntry, plain}
 use Rattle.gs_record.specs.Writable.{IsEntry}
-use Rattle.gs_master.specs.Applied.{replayed}
-use Rattle.gs_master.specs.Durable.{Durable}
+use Rattle.gs_state.specs.Applied.{replayed}
+use Rattle.gs_state.specs.Durable.{Durable}
 use Rattle.gs_master.specs.Events.{KeepsBack, log_behind}
-use Rattle.gs_master.specs.Plans.{fault_of, log_of}
-use Rattle.gs_master.specs.Recorded.{durable_of}
-use Rattle.gs_master.specs.State.{State, Plan, Turn, fits, first_said}
-use Rattle.gs_master.specs.TakingBack.{RoomForAll, comes_alone}
+use Rattle.gs_state.specs.Plans.{fault_of, log_of}
+use Rattle.gs_state.specs.Recorded.{durable_of}
+use Rattle.gs_state.specs.State.{State, Plan, Turn, fits, first_said}
+use Rattle.gs_state.specs.TakingBack.{RoomForAll, comes_alone}
 use Rattle.gs_master.specs.declared.event.Event.{Event}
 
 -- the master as an event has left it so far

@@ -1,69 +1,15 @@
 // What follows of the answers to a proposal.
-ghost use Rattle.std.specs.Prelude.{◌≡◌};
-ghost use Rattle.gs_lease.specs.Transitions.{end_of, term_of};
-ghost use Rattle.gs_master.specs.Chunks.{Chunk, may_settle, view_by};
-ghost use Rattle.gs_master.specs.Hearing.{heard, stepped};
-ghost use Rattle.gs_master.specs.Settling.{settled_by, settled_on};
+ghost use Rattle.gs_state.specs.Chunks.{Chunk, view_by};
+ghost use Rattle.gs_state.specs.Hearing.{heard, stepped};
+ghost use Rattle.gs_state.specs.Settling.{settled_by, settled_on};
 ghost use Rattle.gs_master.specs.Turns.{GoesBack, IsUnderWay, Steps, state_at};
 
-use crate::asking::{Asking, Step};
 use crate::event::Event;
-use crate::settling::{ask_plan, is_with_sealed, send_plan};
-use gs_base::{Handle, Members, Moment, Refusal, ServerId, Stamp};
-use gs_lease::{Purpose, Term, View};
+use gs_base::{Handle, Moment, Refusal};
+use gs_lease::View;
+use gs_plan::settling::{ask_plan, is_with_sealed, send_plan};
+use gs_state::asking::{Asking, Step};
 use gs_view::Answers;
-
-/// A term of 60 ends there.
-pub(crate) fn end_of(moment: Moment) -> Moment
-    ensures { result ≡ end_of moment }
-{
-    Moment(moment.0.saturating_add(60))
-}
-
-impl Asking {
-    /// The lease that is given to the lowest member, where the view was proposed for that.
-    fn term_of(&self, members: Members, moment: Moment) -> Option<Term>
-        ensures { result ≡ term_of self.now.purpose members moment }
-    {
-        if self.purpose != Purpose::Lease {
-            return None;
-        }
-        let primary = members.first()?;
-        let end = end_of(moment);
-        Some(Term { primary, end })
-    }
-
-    /// Whether one of these was asked.
-    fn may_settle(&self, members: Members) -> bool
-        ensures { result ≡ may_settle self.now.asked members }
-    {
-        let mut left = members;
-        while let Some(member) = left.pop_first() {
-            if self.asked.contains(member) {
-                return true;
-            }
-        }
-        false
-    }
-
-    /// The view on those that answered the most edits, where one of them was asked.
-    pub fn view_by(&self, answers: &Answers, moment: Moment) -> Option<View>
-        ensures { (c : Chunk) → result ≡ view_by c self.now answers.now moment }
-    {
-        let Ok((members, count)) = answers.counts.choose() else {
-            return None;
-        };
-        if !self.may_settle(members) {
-            return None;
-        }
-        Some(View {
-            stamp: self.stamp,
-            count,
-            members,
-            term: self.term_of(members, moment),
-        })
-    }
-}
 
 impl Event {
     /// A chunk is settled on a view, and the calls that it concerns go on. Without room for the view nothing is settled, and
@@ -89,7 +35,7 @@ impl Event {
     }
 
     /// A chunk is settled by these answers, and the calls that it concerns go on.
-    #[tactic(auto, unfolding(crate::specs::Settling::settled_by))]
+    #[tactic(auto, unfolding(gs_state::specs::Settling::settled_by))]
     fn settle_by(
         &mut self,
         chunk: Handle,

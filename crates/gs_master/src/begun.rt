@@ -1,7 +1,6 @@
 // Views that are begun in an event.
-ghost use Rattle.std.specs.Prelude.{◌≡◌};
 ghost use Rattle.gs_lease.specs.declared.view.Purpose.TheVariants as purposes;
-ghost use Rattle.gs_master.specs.Beginning.{all_begun, begun};
+ghost use Rattle.gs_state.specs.Beginning.{all_begun, begun};
 ghost use Rattle.gs_master.specs.Turns.{GoesBack, IsUnderWay, Steps, state_at};
 
 use crate::event::Event;

@@ -1,5 +1,5 @@
 // Calls that are refused or answered in the event that brings them.
-ghost use Rattle.std.specs.Prelude.{◌≡◌, [], Some, is_some, IfOk};
+ghost use Rattle.std.specs.Prelude.{Some};
 ghost use Rattle.std.specs.FinMap as fin;
 ghost use Rattle.gs_base.specs.declared.refusal.Refusal.TheVariants as refusals;
 ghost use Rattle.gs_record.specs.Plain.{plain_edit};
@@ -7,61 +7,20 @@ ghost use Rattle.gs_tree.specs.Edits.{old_name};
 ghost use Rattle.gs_edit.specs.Plain.{unhide_target};
 ghost use Rattle.gs_msg.specs.declared.answer.Answer.TheVariants as answers;
 ghost use Rattle.gs_record.specs.Plain as entries;
-ghost use Rattle.gs_master.specs.Calls.{answered_with, deleted, edited_by, found_chunk, has_visible_child, listing, location, looked_up, queried, status};
-ghost use Rattle.gs_master.specs.Plans.{plan_of, state_of};
-ghost use Rattle.gs_master.specs.Recorded.{durable_of};
-ghost use Rattle.gs_master.specs.State.{if_room, refusal_plan, refused, turned};
+ghost use Rattle.gs_state.specs.Calls.{answered_with, deleted, edited_by, found_chunk, has_visible_child, listing, location, looked_up, queried, status};
+ghost use Rattle.gs_state.specs.Plans.{plan_of};
+ghost use Rattle.gs_state.specs.State.{if_room, refused, turned};
 ghost use Rattle.gs_master.specs.Turns.{ComesWithOthers, GoesBack, IsUnderWay, Steps, state_at};
 
-use crate::answering::accept_plan;
 use crate::event::Event;
 use crate::finding::told_phase;
-use crate::hiding::{hidden_path, old_path};
-use crate::plan::Plan;
-use crate::recorded::Recorded;
-use crate::standing::Standing;
 use gs_base::{Moment, Refusal, ReqId};
 use gs_edit::Edit;
 use gs_msg::Answer;
 use gs_path::Path;
-use std::alloc::AllocError;
-
-impl<'a> Standing<'a> {
-    /// A call is refused in the event that brings it.
-    fn refused(&self, req: ReqId, refusal: Refusal) -> Result<Plan, AllocError>
-        ensures { IfOk result (λ plan. plan_of plan ≡ refusal_plan (state_of self.entry.now) req refusal [] (Some refusal)) }
-    {
-        let alloc = self.recorded.alloc;
-        let said = refusal.copy(alloc)?;
-        self.refusal_plan(req, refusal, Vec::new(alloc), Some(said))
-    }
-}
-
-impl Recorded {
-    /// Whether something stands at a path.
-    fn stands(&self, path: &Path) -> bool
-        ensures { result ≡ is_some (fin.get (durable_of self.now).names.tree path.now) }
-    {
-        self.names.tree().status(path).is_ok()
-    }
-
-    /// Whether a directory has a child whose name isn't hidden.
-    fn has_visible_child(&self, path: &Path) -> bool
-        ensures { result ≡ has_visible_child (fin.entries (durable_of self.now).names.tree) path.now }
-    {
-        self.names.tree().has_visible(path)
-    }
-
-    /// Where the chunk at a place of a file is.
-    pub fn location_at(&self, path: &Path, index: u64) -> Result<Answer, Refusal>
-        ensures { result ≡ location (durable_of self.now) (found_chunk (fin.get (durable_of self.now).names.tree path.now) index) }
-    {
-        match self.found_chunk(path, index) {
-            Ok(chunk) => self.location(chunk),
-            Err(refusal) => Err(refusal),
-        }
-    }
-}
+use gs_plan::answering::accept_plan;
+use gs_state::hiding::{hidden_path, old_path};
+use gs_state::plan::Plan;
 
 impl Event {
     /// A call is refused.

@@ -1,22 +1,22 @@
 // The plans of an event are carried out, one after the other.
-ghost use Rattle.std.specs.Prelude.{◌≡◌, ◌++◌, false, true, map, OnOk, IfErr, IfOk};
+ghost use Rattle.std.specs.Prelude.{◌≡◌, ◌++◌, false, map, OnOk, IfErr, IfOk};
 ghost use Rattle.std.specs.List.{list_any};
 ghost use Rattle.gs_record.specs.Plain.{plain};
-ghost use Rattle.gs_master.specs.Applied.{is_whole_entry};
-ghost use Rattle.gs_master.specs.Plans.{log_of, plan_of, state_of};
-ghost use Rattle.gs_master.specs.Recorded.{durable_of};
-ghost use Rattle.gs_master.specs.State.{first_said, fits, turned};
-ghost use Rattle.gs_master.specs.TakingBack.{comes_alone};
+ghost use Rattle.gs_state.specs.Applied.{is_whole_entry};
+ghost use Rattle.gs_state.specs.Plans.{log_of, plan_of};
+ghost use Rattle.gs_plan.specs.Planning.{state_of};
+ghost use Rattle.gs_state.specs.State.{first_said, fits, turned};
+ghost use Rattle.gs_state.specs.TakingBack.{comes_alone};
 ghost use Rattle.gs_master.specs.Turns.{ComesWithOthers, EntersAll, GoesBack, IsUnderWay, Steps, state_at};
-ghost use Rattle.gs_master.specs.Volatile.{all_changed};
+ghost use Rattle.gs_state.specs.Volatile.{all_changed};
 
-use crate::change::Change;
 use crate::event::Event;
-use crate::plan::Plan;
-use crate::standing::Standing;
 use gs_base::Refusal;
 use gs_msg::Message;
+use gs_plan::standing::Standing;
 use gs_record::Entry;
+use gs_state::change::Change;
+use gs_state::plan::Plan;
 use std::alloc::AllocError;
 
 impl Event {

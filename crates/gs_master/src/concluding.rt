@@ -1,20 +1,20 @@
 // That an event which ends gives what its turn says.
 ghost use Rattle.std.specs.Prelude.{◌≡◌, ◌⊎◌, ◌≤◌, ℕ, [], Ok, IfErr, OnOk};
-ghost use Rattle.gs_master.specs.Durable.{Durable};
+ghost use Rattle.gs_state.specs.Durable.{Durable};
 ghost use Rattle.gs_master.specs.Events.{HasComeFrom};
 ghost use Rattle.gs_master.specs.Journaled.{AreCut, AreWritten};
-ghost use Rattle.gs_master.specs.Outcomes.{Gives};
-ghost use Rattle.gs_master.specs.Plans.{log_of};
+ghost use Rattle.gs_state.specs.Outcomes.{Gives};
+ghost use Rattle.gs_state.specs.Plans.{log_of};
 ghost use Rattle.gs_master.specs.StartingOver.{IsBegun};
-ghost use Rattle.gs_master.specs.State.{Turn};
-ghost use Rattle.gs_master.specs.TakingBack.{RoomForAll};
+ghost use Rattle.gs_state.specs.State.{Turn};
+ghost use Rattle.gs_state.specs.TakingBack.{RoomForAll};
 ghost use Rattle.gs_master.specs.Turns.{GoesBack, IsTurned, state_at};
 ghost use Rattle.gs_master.specs.declared.event.Event.{Event as Told_event};
 
 use crate::event::Event;
-use crate::log::Log;
 use gs_base::ReqId;
 use gs_journal::{Disk, Journal};
+use gs_state::log::Log;
 use std::alloc::AllocError;
 
 impl Event {
@@ -35,6 +35,8 @@ impl Event {
             ⊎ ((place : ℕ) × AreCut D.failures before (log_of first) caller place self.old journal.old self.new journal.new)) }
         ensures gives { (begun : Told_event) (t : Turn) → IsBegun begun → begun.sent.items ≡ [] → log_of first ≡ log_of begun.log → IsTurned t begun self.old
             → GoesBack begun self.old → OnOk result (Gives (state_at begun) caller t (Ok (self.new.sent.items, self.new.said)) (state_at self.new)) }
+        ensures counted { self.old.log.records ≤ self.old.log.size → OnOk result (self.new.log.records ≤ self.new.log.size) }
+        ensures still { self.old.written.items ≡ [] → journal.new ≡ journal.old }
     {
         self.end(journal, first, caller)
     }

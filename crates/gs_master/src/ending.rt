@@ -1,30 +1,17 @@
 // Calls that waited, and end.
-ghost use Rattle.std.specs.Prelude.{◌≡◌, None, IfOk};
 ghost use Rattle.gs_record.specs.Plain.{plain_edit};
-ghost use Rattle.gs_master.specs.Plans.{plan_of, state_of};
-ghost use Rattle.gs_master.specs.Settling.{ended_by_edit, ended_with, if_room_for};
-ghost use Rattle.gs_master.specs.State.{all_ended_by, end_changes, ended_by, refusal_plan, turned};
+ghost use Rattle.gs_state.specs.Plans.{plan_of};
+ghost use Rattle.gs_state.specs.Settling.{ended_by_edit, ended_with, if_room_for};
+ghost use Rattle.gs_state.specs.State.{all_ended_by, ended_by, turned};
 ghost use Rattle.gs_master.specs.Turns.{ComesWithOthers, GoesBack, IsUnderWay, Steps, state_at};
 
-use crate::answering::edit_plan;
-use crate::change::Change;
 use crate::event::Event;
-use crate::plan::Plan;
-use crate::standing::Standing;
 use gs_base::{Refusal, ReqId};
 use gs_edit::Edit;
 use gs_msg::Answer;
-use std::alloc::AllocError;
-
-impl<'a> Standing<'a> {
-    /// A call that waits is refused, and ends.
-    fn end_refused(&self, req: ReqId, refusal: Refusal) -> Result<Plan, AllocError>
-        ensures { IfOk result (λ plan. plan_of plan ≡ refusal_plan (state_of self.entry.now) req refusal (end_changes (state_of self.entry.now) req) None) }
-    {
-        let changes = self.end_changes(req)?;
-        self.refusal_plan(req, refusal, changes, None)
-    }
-}
+use gs_plan::answering::edit_plan;
+use gs_state::change::Change;
+use gs_state::plan::Plan;
 
 impl Event {
     /// A call that waits is refused, and ends.

@@ -1,5 +1,5 @@
 // An event at the master, step by step.
-ghost use Rattle.std.specs.Prelude.{◌≡◌, ◌<◌, ◌≤◌, ◌++◌, ◌∷◌, [], true, false, IfOk, OnOk, vec_len, vec_capacity};
+ghost use Rattle.std.specs.Prelude.{◌≡◌, ◌<◌, ◌≤◌, ◌++◌, ◌∷◌, [], true, false, OnOk, vec_len, vec_capacity};
 ghost use Rattle.std.specs.Ordering.{nat_cmp};
 ghost use Rattle.gs_journal.specs.Journal.{record_size};
 ghost use Rattle.gs_journal.specs.declared.version.Version.TheVariants.{Two};
@@ -7,21 +7,20 @@ ghost use Rattle.gs_record.specs.Encoding.{encoded};
 ghost use Rattle.gs_record.specs.Plain.{plain};
 ghost use Rattle.gs_table.specs.Slots.{live};
 ghost use Rattle.gs_master.specs.Events.{Enters, HasPlaces, IsAppliedOrNot, IsEncoded, KeepsBack, log_behind};
-ghost use Rattle.gs_master.specs.Plans.{log_of};
-ghost use Rattle.gs_master.specs.Recorded.{durable_of};
-ghost use Rattle.gs_master.specs.State.{fits};
-ghost use Rattle.gs_master.specs.TakingBack.{IsToldFor, RoomForAll, StillTakeBack, all_leases_before, comes_alone};
+ghost use Rattle.gs_state.specs.Plans.{log_of};
+ghost use Rattle.gs_state.specs.Recorded.{durable_of};
+ghost use Rattle.gs_state.specs.State.{fits};
+ghost use Rattle.gs_state.specs.TakingBack.{RoomForAll, StillTakeBack, all_leases_before, comes_alone};
 
-use crate::fault::Fault;
-use crate::log::Log;
-use crate::recorded::Recorded;
-use crate::tracked::Tracked;
-use crate::undo::Undo;
 use gs_base::Refusal;
-use gs_edit::ListedInverse;
 use gs_journal::Record;
 use gs_msg::Message;
 use gs_record::Entry;
+use gs_state::fault::Fault;
+use gs_state::log::Log;
+use gs_state::recorded::Recorded;
+use gs_state::tracked::Tracked;
+use gs_state::undo::Undo;
 use std::alloc::{AllocError, Global};
 
 /// The master while an event lasts: what it is now, what is to be written and sent, and what takes all of it back.
@@ -45,18 +44,6 @@ pub(crate) fn size_of(encoded: &Record) -> u64
     ensures { result ≡ record_size encoded.now }
 {
     encoded.body().len() as u64 + 6
-}
-
-impl Recorded {
-    /// What takes an entry back, if it is an edit and an upgrade stands.
-    fn inverse_for(&self, entry: &Entry) -> Result<Option<ListedInverse>, AllocError>
-        ensures { IfOk result (λ inverse. IsToldFor (durable_of self.now) (plain entry.now) inverse) }
-    {
-        match entry {
-            Entry::Edit { edit, .. } => self.inverse_list(edit),
-            _ => Ok(None),
-        }
-    }
 }
 
 impl Event {

@@ -1,80 +1,20 @@
 // How a call that waited goes on once a chunk is settled.
-ghost use Rattle.std.specs.Prelude.{◌≡◌, Some, Ok, is_some, IfOk, IfSome};
+ghost use Rattle.std.specs.Prelude.{Some, Ok};
 ghost use Rattle.gs_edit.specs.View.{NamesView};
-ghost use Rattle.gs_lease.specs.declared.view.Purpose.TheVariants as purposes;
-ghost use Rattle.gs_master.specs.Beginning.{begin_at, copy_plan, has_handle, next_stamp, waits_on};
-ghost use Rattle.gs_master.specs.Plans.{plan_of, state_of};
-ghost use Rattle.gs_master.specs.Recorded.{durable_of};
-ghost use Rattle.gs_master.specs.Settling.{all_go_on, copied, copied_tree, extended, goes_on, leased_next, replaced, replaced_if, replicated};
+ghost use Rattle.gs_state.specs.Settling.{all_go_on, copied, copied_tree, extended, goes_on, leased_next, replaced, replaced_if, replicated};
 ghost use Rattle.gs_master.specs.Turns.{GoesBack, IsUnderWay, Steps, state_at};
-ghost use Rattle.gs_master.specs.declared.pending.Waiting.TheVariants as waits;
+ghost use Rattle.gs_state.specs.declared.pending.Waiting.TheVariants as waits;
 
-use crate::beginning::copy_plan;
-use crate::change::Change;
 use crate::event::Event;
-use crate::pending::{Pending, Waiting};
-use crate::plan::Plan;
-use crate::recorded::Recorded;
-use crate::settling::replace_plan;
-use crate::standing::Standing;
 use gs_base::{Handle, Refusal, ReqId, ServerId};
 use gs_edit::Edit;
-use gs_lease::{Purpose, View};
+use gs_lease::View;
 use gs_msg::{Answer, Copied};
 use gs_path::Path;
+use gs_plan::settling::replace_plan;
 use gs_record::Phase;
-use std::alloc::AllocError;
-
-impl Recorded {
-    /// The handle of the next chunk, if one is left.
-    pub(crate) fn next_handle(&self) -> Option<Handle>
-        ensures some { is_some result ≡ has_handle (durable_of self.now) }
-        ensures handle { IfSome result (λ handle. handle ≡ (durable_of self.now).next_handle) }
-    {
-        Handle::new(self.next_handle)
-    }
-}
-
-impl<'a> Standing<'a> {
-    /// A lease of a chunk is asked for, and the call waits for it.
-    fn lease_plan(
-        &self,
-        req: ReqId,
-        path: Path,
-        index: u64,
-        chunk: Handle,
-    ) -> Result<Plan, AllocError>
-        ensures { IfOk result (λ plan. plan_of plan ≡ waits_on (begin_at (state_of self.entry.now) chunk purposes.Lease (Some req)) req (waits.Lease path index chunk)) }
-    {
-        let begun = self.begin_at(chunk, Purpose::Lease, Some(req))?;
-        begun.waits_on(req, Waiting::Lease { path, index, chunk })
-    }
-
-    /// The members of a quiet chunk are told to copy it under a new handle, and the call waits for the copy.
-    fn copying_plan(
-        &self,
-        req: ReqId,
-        path: Path,
-        index: u64,
-        old: Handle,
-        view: &View,
-        new: Handle,
-    ) -> Result<Plan, AllocError>
-        ensures { IfOk result (λ plan. plan_of plan ≡ waits_on (copy_plan (next_stamp (state_of self.entry.now).durable) old view.now new req) req (waits.Copy path index old new)) }
-    {
-        let stamp = self.recorded.next_stamp();
-        let begun = copy_plan(self.recorded.alloc, stamp, old, view, new, req)?;
-        begun.waits_on(
-            req,
-            Waiting::Copy {
-                path,
-                index,
-                old,
-                new,
-            },
-        )
-    }
-}
+use gs_state::change::Change;
+use gs_state::pending::{Pending, Waiting};
 
 impl Event {
     /// The chunk of an extend gets its place.
@@ -214,7 +154,7 @@ impl Event {
     }
 
     /// A call goes on once a chunk is settled on this view, which is the chunk that it waits for or one of a snapshot's.
-    #[tactic(auto, unfolding(crate::specs::Settling::goes_on))]
+    #[tactic(auto, unfolding(gs_state::specs::Settling::goes_on))]
     fn go_on(&mut self, req: ReqId, view: &View, waits: &Waiting) -> Result<(), Refusal>
         requires { IsUnderWay self.old }
         ensures steps { Steps (goes_on (state_at self.old) req view.now waits.now) self.old result self.new }

@@ -1,28 +1,28 @@
 // The end of an event: its records are written to the journal, or as many of them as stand before a disk's failure.
-ghost use Rattle.std.specs.Prelude.{◌≡◌, ◌⊎◌, ◌≤◌, ◌<◌, ◌+◌, ℕ, Some, IfErr, IfOk, OnOk, length, sum_by};
+ghost use Rattle.std.specs.Prelude.{◌≡◌, ◌⊎◌, ◌≤◌, ◌<◌, ◌+◌, ℕ, [], Some, IfErr, IfOk, OnOk, length, sum_by};
 ghost use Rattle.gs_journal.specs.Journal.{record_size};
-ghost use Rattle.gs_master.specs.Durable.{Durable};
+ghost use Rattle.gs_state.specs.Durable.{Durable};
 ghost use Rattle.gs_master.specs.Events.{HasComeFrom};
 ghost use Rattle.gs_master.specs.Journaled.{AreCut, AreWritten, Breaks, Gains, IsCutAt, IsReadyFor, IsWhole};
-ghost use Rattle.gs_master.specs.Outcomes.{caller_of, cut_refusal, unsure};
-ghost use Rattle.gs_master.specs.Plans.{log_of};
-ghost use Rattle.gs_master.specs.TakingBack.{RoomForAll};
+ghost use Rattle.gs_state.specs.Outcomes.{caller_of, cut_refusal, unsure};
+ghost use Rattle.gs_state.specs.Plans.{log_of};
+ghost use Rattle.gs_state.specs.TakingBack.{RoomForAll};
 
 use crate::event::{Event, size_of};
-use crate::fault::Fault;
-use crate::log::Log;
-use crate::posting::reply_to;
 use gs_base::{Refusal, ReqId};
 use gs_journal::{Disk, Journal, Record};
 use gs_msg::{Body, Message};
+use gs_plan::posting::reply_to;
+use gs_state::fault::Fault;
+use gs_state::log::Log;
 use std::alloc::{AllocError, Global};
-use std::mem;
 
 /// Appends records to a journal, in order, until a disk fails. It answers how many were appended.
-fn append_all<D: Disk>(journal: &mut Journal<D>, records: &[Record]) -> usize
+pub(crate) fn append_all<D: Disk>(journal: &mut Journal<D>, records: &[Record]) -> usize
     ensures many { result ≤ length records.now }
     ensures all { IsReadyFor journal.old records.now → result ≡ length records.now → Gains D.seen D.may_leave D.failures journal.old records.now journal.new }
     ensures cut { IsReadyFor journal.old records.now → result < length records.now → Breaks D.failures journal.old records.now result journal.new }
+    ensures none { records.now ≡ [] → journal.new ≡ journal.old }
 {
     for place in 0..records.len() {
         match journal.append(&records[place]) {
@@ -37,7 +37,8 @@ fn append_all<D: Disk>(journal: &mut Journal<D>, records: &[Record]) -> usize
 fn log_behind(first: Log, records: &[Record]) -> Log
     requires room { first.size + sum_by record_size records.now ≤ first.limit }
     requires counted { first.records ≤ first.size }
-    ensures { result ≡ record first { records = first.records + length records.now; size = first.size + sum_by record_size records.now } }
+    ensures behind { result ≡ record first { records = first.records + length records.now; size = first.size + sum_by record_size records.now } }
+    ensures counted { result.records ≤ result.size }
 {
     let mut log = first;
     for place in 0..records.len() {
@@ -89,13 +90,20 @@ impl Event {
     }
 
     /// A disk failed at one of its records. That one and those behind it are taken back, with all else of the event.
-    fn cut(&mut self, place: usize, first: Log, caller: Option<ReqId>, sent: Vec<Message>)
+    pub(crate) fn cut(
+        &mut self,
+        place: usize,
+        first: Log,
+        caller: Option<ReqId>,
+        sent: Vec<Message>,
+    )
         requires room { RoomForAll self.old.recorded self.old.undos.items }
         requires within { place < length self.old.entries.items }
         requires from { (before : Durable) × HasComeFrom before (log_of first) self.old }
         requires counted { first.records ≤ first.size }
         requires sent { sent.items ≡ unsure caller }
-        ensures { (before : Durable) → HasComeFrom before (log_of first) self.old → IsCutAt before (log_of first) caller place self.old self.new }
+        ensures cut { (before : Durable) → HasComeFrom before (log_of first) self.old → IsCutAt before (log_of first) caller place self.old self.new }
+        ensures counted { self.new.log.records ≤ self.new.log.size }
     {
         self.recorded.take_back_to(&mut self.undos, place);
         self.recorded.let_all_go(&mut self.undos);
@@ -125,6 +133,8 @@ impl Event {
         ensures ended { (before : Durable) → HasComeFrom before (log_of first) self.old → OnOk result
             (AreWritten D.seen D.may_leave D.failures (log_of first) self.old journal.old self.new journal.new
             ⊎ ((place : ℕ) × AreCut D.failures before (log_of first) caller place self.old journal.old self.new journal.new)) }
+        ensures counted { self.old.log.records ≤ self.old.log.size → OnOk result (self.new.log.records ≤ self.new.log.size) }
+        ensures still { self.old.written.items ≡ [] → journal.new ≡ journal.old }
     {
         let sent = unsure(self.alloc, caller)?;
         let many = append_all(journal, &self.written);

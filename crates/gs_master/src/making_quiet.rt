@@ -1,25 +1,11 @@
 // Chunks that are made quiet, since a server has lost them.
-ghost use Rattle.std.specs.Prelude.{◌≡◌, ◌+◌, ◌*◌, length, nat_le};
-ghost use Rattle.gs_master.specs.Hearing.{damaged, made_quiet, reported, reported_now};
+ghost use Rattle.gs_state.specs.Hearing.{damaged, made_quiet, reported, reported_now};
 ghost use Rattle.gs_master.specs.Turns.{GoesBack, IsUnderWay, Steps, state_at};
 
 use crate::event::Event;
-use crate::log::Log;
 use gs_base::{Handle, Refusal, ServerId};
 use gs_msg::Reported;
 use gs_record::Phase;
-
-impl Log {
-    /// Whether there is room for so many proposals, of which each takes 22 bytes.
-    pub fn has_room_for_proposals(self, many: usize) -> bool
-        ensures { result ≡ nat_le (self.size + many * 22) self.limit }
-    {
-        match (many as u64).checked_mul(22) {
-            Some(bytes) => self.has_room(bytes),
-            None => false,
-        }
-    }
-}
 
 impl Event {
     /// Chunks are made quiet, if versions are left and the records have room.

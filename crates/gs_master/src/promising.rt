@@ -1,6 +1,6 @@
 // Servers' answers to a proposal, and the tick that waits for no more of them.
-ghost use Rattle.gs_master.specs.Handling.{pressed};
-ghost use Rattle.gs_master.specs.Hearing.{promised, unpromised};
+ghost use Rattle.gs_state.specs.Handling.{pressed};
+ghost use Rattle.gs_state.specs.Hearing.{promised, unpromised};
 ghost use Rattle.gs_master.specs.Turns.{GoesBack, IsUnderWay, Steps, state_at};
 
 use crate::event::Event;

@@ -1,54 +1,16 @@
 // What the master does for servers that ask nothing of a proposal.
-ghost use Rattle.std.specs.Prelude.{◌≡◌, IfOk};
-ghost use Rattle.gs_master.specs.Chunks.{chunk_at};
-ghost use Rattle.gs_master.specs.Hearing.{behind, is_leased_under, learned, next_epoch, renewed, sends};
-ghost use Rattle.gs_master.specs.Plans.{state_of};
-ghost use Rattle.gs_master.specs.Recorded.{durable_of};
-ghost use Rattle.gs_master.specs.State.{met_by};
+ghost use Rattle.gs_state.specs.Hearing.{behind, is_leased_under, learned, next_epoch, renewed, sends};
+ghost use Rattle.gs_state.specs.State.{met_by};
 ghost use Rattle.gs_master.specs.Turns.{GoesBack, IsUnderWay, Steps, state_at};
 
-use crate::answered::end_of;
-use crate::change::Change;
 use crate::event::Event;
-use crate::plan::Plan;
-use crate::posting::{about, post};
-use crate::recorded::Recorded;
-use crate::standing::Standing;
 use gs_base::{Handle, Moment, Refusal, ServerId, Stamp};
-use gs_msg::{Body, Chunk, Items, Message, NodeId};
+use gs_msg::{Chunk, Items, Message};
+use gs_plan::posting::about;
 use gs_record::Phase;
-use std::alloc::AllocError;
-
-impl Recorded {
-    /// How its epoch ended, for a server that is behind.
-    fn next_epoch(&self, server: ServerId, epoch: u64) -> Result<Vec<Message>, AllocError>
-        ensures { IfOk result (λ sent. sent.items ≡ next_epoch (durable_of self.now) server epoch) }
-    {
-        let Some(end) = self.ends.get(epoch as usize) else {
-            return Ok(Vec::new(self.alloc));
-        };
-        let told = Body::Epoch {
-            epoch: epoch + 1,
-            end: *end,
-        };
-        Ok(vec![in self.alloc; post(NodeId::Server(server), told)]?)
-    }
-}
-
-impl<'a> Standing<'a> {
-    /// Whether a chunk is leased under this stamp.
-    fn is_leased_under(&self, stamp: Stamp, chunk: Handle) -> bool
-        ensures { result ≡ is_leased_under stamp (chunk_at (state_of self.entry.now) chunk) }
-    {
-        let Some(known) = self.chunk_at(chunk) else {
-            return false;
-        };
-        match known.view() {
-            Some(view) => known.is_leased() && view.stamp == stamp,
-            None => false,
-        }
-    }
-}
+use gs_state::answered::end_of;
+use gs_state::change::Change;
+use gs_state::plan::Plan;
 
 impl Event {
     /// Messages are sent, and nothing else is done.

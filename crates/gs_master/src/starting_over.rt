@@ -1,15 +1,25 @@
 // An event that is begun anew: what it has done is taken back.
+ghost use Rattle.std.specs.Prelude.{◌≡◌};
 ghost use Rattle.gs_master.specs.StartingOver.{BeginsAt, StartsOver};
-ghost use Rattle.gs_master.specs.TakingBack.{RoomForAll};
+ghost use Rattle.gs_state.specs.TakingBack.{RoomForAll};
 
 use crate::event::Event;
-use crate::log::Log;
+use gs_state::log::Log;
 
 /// Where an event began: the journal's room, and how many messages were to be sent.
 #[derive(Clone, Copy)]
 pub(crate) struct Beginning {
     log: Log,
     sent: usize,
+}
+
+impl Beginning {
+    /// The journal's room there.
+    pub fn log(self) -> Log
+        ensures { result ≡ self.log }
+    {
+        self.log
+    }
 }
 
 impl Event {

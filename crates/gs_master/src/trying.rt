@@ -1,15 +1,15 @@
 // Edits of the names that are judged before they are made.
 ghost use Rattle.std.specs.Prelude.{◌≡◌, IfOk, IfErr};
 ghost use Rattle.gs_record.specs.Plain.{plain_edit};
-ghost use Rattle.gs_master.specs.Recorded.{durable_of};
-ghost use Rattle.gs_master.specs.Trying.{refusal_of};
-ghost use Rattle.gs_master.specs.Undoing.{edited_names};
+ghost use Rattle.gs_state.specs.Recorded.{durable_of};
+ghost use Rattle.gs_state.specs.Trying.{refusal_of};
+ghost use Rattle.gs_state.specs.Undoing.{edited_names};
 
-use crate::entering_edit::enter_names;
 use crate::event::Event;
-use crate::taking_back::put_names_back;
 use gs_base::Refusal;
 use gs_edit::{Edit, Names};
+use gs_state::entering_edit::enter_names;
+use gs_state::taking_back::put_names_back;
 
 /// Why the names refuse an edit, if they do. They stay as they are: an edit that is made is taken back at once.
 fn refusal_of(names: &mut Names, edit: &Edit) -> Result<Option<Refusal>, Refusal>

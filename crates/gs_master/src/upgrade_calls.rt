@@ -1,103 +1,10 @@
 // The calls of an upgrade.
-ghost use Rattle.std.specs.Prelude.{◌≡◌, ◌<◌, ◌+◌, ◌∷◌, [], false, IfNone, IfOk};
-ghost use Rattle.gs_base.specs.Numbers.{last_number};
-ghost use Rattle.gs_base.specs.declared.epoch.EpochEnd.TheVariants as ends;
-ghost use Rattle.gs_record.specs.Plain as entries;
-ghost use Rattle.gs_master.specs.Plans.{plan_of, state_of};
-ghost use Rattle.gs_master.specs.Recorded.{durable_of};
-ghost use Rattle.gs_master.specs.State.{first_of};
+ghost use Rattle.std.specs.Prelude.{◌<◌};
 ghost use Rattle.gs_master.specs.Turns.{GoesBack, IsUnderWay, Steps, state_at};
-ghost use Rattle.gs_master.specs.Upgrades.{accepted_plan, chunk_count, commit_tests, end_tests, finalize, is_last_epoch, prepare_abort, prepare_commit, tell_all};
-ghost use Rattle.gs_master.specs.declared.change.Change.TheVariants as changes;
+ghost use Rattle.gs_state.specs.Upgrades.{finalize, prepare_abort, prepare_commit};
 
-use crate::change::Change;
 use crate::event::Event;
-use crate::plan::Plan;
-use crate::recorded::Recorded;
-use crate::standing::Standing;
-use crate::upgrading::tell_all;
-use gs_base::{Config, EpochEnd, Handle, Moment, Refusal, ReqId};
-use gs_record::{Entry, Phase};
-use std::alloc::AllocError;
-
-impl Recorded {
-    /// Why an upgrade can't be ended, if it can't.
-    pub fn refusal_of_end(&self) -> Option<Refusal>
-        ensures judged { result ≡ first_of (end_tests (durable_of self.now).phase (is_last_epoch (durable_of self.now))) }
-        ensures left { IfNone result ((durable_of self.now).epoch < last_number) }
-    {
-        if self.phase != Phase::Upgrade {
-            return Some(Refusal::NotUpgrading);
-        }
-        if self.epoch == u64::MAX {
-            return Some(Refusal::Exhausted);
-        }
-        None
-    }
-}
-
-impl<'a> Standing<'a> {
-    /// Why an upgrade isn't prepared, if it isn't. These are the chunks that aren't quiet.
-    fn refusal_of_prepare(&self, unquiet: &[Handle]) -> Option<Refusal>
-        ensures judged { result ≡ first_of (commit_tests (state_of self.entry.now).durable.phase (state_of self.entry.now).volatile.is_preparing unquiet.now (is_last_epoch (state_of self.entry.now).durable)) }
-        ensures left { IfNone result ((state_of self.entry.now).durable.epoch < last_number) }
-    {
-        if !self.memory.is_preparing() {
-            if self.recorded.phase != Phase::Ordinary {
-                return Some(Refusal::AlreadyUpgrading);
-            }
-            return Some(Refusal::NotUpgrading);
-        }
-        if let Some(chunk) = unquiet.first() {
-            return Some(Refusal::NotQuiet(*chunk));
-        }
-        if self.recorded.epoch == u64::MAX {
-            return Some(Refusal::Exhausted);
-        }
-        None
-    }
-
-    /// An upgrade is prepared. There is an epoch more.
-    fn prepare_plan(&self, config: &Config, req: ReqId, moment: Moment) -> Result<Plan, AllocError>
-        requires { (state_of self.now).durable.epoch < last_number }
-        ensures { IfOk result (λ plan. plan_of plan ≡ accepted_plan (state_of self.entry.now) req (entries.Prepare ((state_of self.entry.now).durable.epoch + 1) moment.0 (chunk_count (state_of self.entry.now)) ∷ []) (changes.Prepare false ∷ []) (tell_all config.now ((state_of self.entry.now).durable.epoch + 1) ends.Prepare) ((state_of self.entry.now).durable.epoch + 1)) }
-    {
-        let alloc = self.recorded.alloc;
-        let epoch = self.recorded.epoch + 1;
-        let chunks = self.chunk_count();
-        let record = Entry::Prepare {
-            epoch,
-            moment,
-            chunks,
-        };
-        let records = vec![in alloc; record]?;
-        let changes = vec![in alloc; Change::Prepare(false)]?;
-        let sent = tell_all(alloc, config, epoch, EpochEnd::Prepare)?;
-        self.accepted_plan(req, records, changes, sent, epoch)
-    }
-
-    /// An upgrade is finalized. There is an epoch more.
-    fn finalize_plan(&self, config: &Config, req: ReqId) -> Result<Plan, AllocError>
-        requires { (state_of self.now).durable.epoch < last_number }
-        ensures { IfOk result (λ plan. plan_of plan ≡ accepted_plan (state_of self.entry.now) req (entries.Finalize ((state_of self.entry.now).durable.epoch + 1) ∷ []) [] (tell_all config.now ((state_of self.entry.now).durable.epoch + 1) ends.Finalize) ((state_of self.entry.now).durable.epoch + 1)) }
-    {
-        let alloc = self.recorded.alloc;
-        let epoch = self.recorded.epoch + 1;
-        let records = vec![in alloc; Entry::Finalize { epoch }]?;
-        let sent = tell_all(alloc, config, epoch, EpochEnd::Finalize)?;
-        self.accepted_plan(req, records, Vec::new(alloc), sent, epoch)
-    }
-
-    /// Preparing ends, and nothing is prepared.
-    fn abort_plan(&self, req: ReqId) -> Result<Plan, AllocError>
-        ensures { IfOk result (λ plan. plan_of plan ≡ accepted_plan (state_of self.entry.now) req [] (changes.Prepare false ∷ []) [] (state_of self.entry.now).durable.epoch) }
-    {
-        let alloc = self.recorded.alloc;
-        let changes = vec![in alloc; Change::Prepare(false)]?;
-        let epoch = self.recorded.epoch;
-        self.accepted_plan(req, Vec::new(alloc), changes, Vec::new(alloc), epoch)
-    }
-}
+use gs_base::{Config, Moment, Refusal, ReqId};
 
 impl Event {
     /// An upgrade is prepared, where every chunk is quiet.

@@ -1,26 +1,23 @@
 // Calls that begin views, and wait for them.
-ghost use Rattle.std.specs.Prelude.{◌≡◌, ◌&&◌, Ok, Some};
+ghost use Rattle.std.specs.Prelude.{◌≡◌, Ok, Some};
 ghost use Rattle.std.specs.FinMap as fin;
-ghost use Rattle.gs_master.specs.Beginning.{begin_at, copy_plan, next_stamp};
-ghost use Rattle.gs_master.specs.Calls.{found_chunk};
-ghost use Rattle.gs_master.specs.Chunks.{chunk_at, is_leased, view_of};
-ghost use Rattle.gs_master.specs.Judging.{length_at};
-ghost use Rattle.gs_master.specs.Knowing.{known_of};
-ghost use Rattle.gs_master.specs.Recorded.{durable_of};
+ghost use Rattle.gs_state.specs.Beginning.{begin_at, copy_plan, next_stamp};
+ghost use Rattle.gs_state.specs.Calls.{found_chunk};
+ghost use Rattle.gs_state.specs.Chunks.{chunk_at, view_of};
+ghost use Rattle.gs_state.specs.Judging.{length_at};
+ghost use Rattle.gs_state.specs.Knowing.{known_of};
 ghost use Rattle.gs_master.specs.Turns.{GoesBack, IsUnderWay, Steps, state_at};
-ghost use Rattle.gs_master.specs.declared.pending.Waiting.TheVariants as waits;
-ghost use Rattle.gs_master.specs.Working.{begins, begins_new, copied_on_write, created_on, extends, found_for_writing, leased, may_use, replicated_to, replicates, replicates_chunk};
+ghost use Rattle.gs_state.specs.declared.pending.Waiting.TheVariants as waits;
+ghost use Rattle.gs_state.specs.Working.{begins, begins_new, copied_on_write, created_on, extends, found_for_writing, leased, may_use, replicated_to, replicates, replicates_chunk};
 
-use crate::beginning::{copy_plan, create_plan};
 use crate::event::Event;
-use crate::known::Known;
-use crate::pending::Waiting;
-use crate::recorded::Recorded;
 use gs_base::{Config, Handle, Members, Moment, Refusal, ReqId, Stamp};
 use gs_lease::{Purpose, View};
 use gs_msg::Answer;
 use gs_path::Path;
-use gs_tree::Status;
+use gs_plan::beginning::{copy_plan, create_plan};
+use gs_state::known::Known;
+use gs_state::pending::Waiting;
 
 /// The most chunks of a file.
 const MOST_CHUNKS: u64 = 4096;
@@ -31,35 +28,6 @@ struct Place {
     path: Path,
     index: u64,
     chunk: Handle,
-}
-
-impl Known {
-    /// Whether the lease stands, and isn't the one under which the client was refused.
-    fn may_use(&self, stamp: Option<Stamp>, moment: Moment) -> bool
-        ensures { result ≡ (is_leased (known_of self.now) && may_use stamp moment (view_of (known_of self.now))) }
-    {
-        let Some(view) = self.view() else {
-            return false;
-        };
-        let under = view.stamp;
-        let Some(term) = view.term else {
-            return false;
-        };
-        self.is_leased() && moment.0 < term.end.0 && stamp != Some(under)
-    }
-}
-
-impl Recorded {
-    /// How many chunks a file has.
-    fn length_at(&self, path: &Path) -> Result<u64, Refusal>
-        ensures { result ≡ length_at (fin.get (durable_of self.now).names.tree path.now) }
-    {
-        match self.names.tree().status(path) {
-            Ok(Status::File(chunks)) => Ok(chunks.len() as u64),
-            Ok(Status::Dir) => Err(Refusal::IsADirectory),
-            Err(refusal) => Err(refusal),
-        }
-    }
 }
 
 impl Event {

@@ -1,5 +1,5 @@
 use Rattle.std.proofs.Common.{◌≡◌, take}
-use Rattle.gs_master.specs.Settling.{requests_of}
+use Rattle.gs_state.specs.Settling.{requests_of}
 use Rattle.gs_master.proofs.concerning.requests_of.Given as goal
 
 abbrev pub invariant-loop-one : goal.invariant-loop-one

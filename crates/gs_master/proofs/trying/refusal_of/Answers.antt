@@ -1,6 +1,6 @@
 use Rattle.std.proofs.Common.{⊎_elim, ap, sym}
-use Rattle.gs_master.specs.Trying.{refusal_of}
-use Rattle.gs_master.proofs.Edits.{names_after, names_refused}
+use Rattle.gs_state.specs.Trying.{refusal_of}
+use Rattle.gs_state.proofs.Edits.{names_after, names_refused}
 use Rattle.gs_master.proofs.trying.refusal_of.Goals as goal
 
 pub returns-in-Ok-clause-judged : goal.returns-in-Ok-clause-judged

@@ -1,46 +1,25 @@
-use Rattle.std.proofs.Common.{rules, refl, inl, subst, ◌∷◌, []}
+use Rattle.std.proofs.Common.{refl, inl, ◌∙◌, ap, subst}
 use Rattle.gs_journal.specs.Disk.{LeavesPairs}
-use Rattle.gs_journal.specs.Records.{Entry, standing}
-use Rattle.gs_journal.specs.Journal.{IsOldOrNew, checkpointed}
-use Rattle.gs_journal.specs.inner.Pair.{text}
-use Rattle.gs_journal.specs.declared.version.Version.TheVariants.{Two}
-use Rattle.gs_journal.proofs.Views.{stands, moved, unmoved, comes_about, on_ok}
+use Rattle.gs_journal.specs.Records.{standing}
+use Rattle.gs_journal.specs.Journal.{State, IsOldOrNew, checkpointed}
+use Rattle.gs_journal.specs.Drafts.{Drafted, draft_refusal}
+use Rattle.gs_journal.proofs.Views.{unmoved}
+use Rattle.gs_journal.proofs.Drafting.{draft_unrefused, if_err_as}
 use Rattle.gs_journal.proofs.journal.Journal.checkpoint.Goals as goal
 
-pub returns-then-self-2-clause-any_moment : goal.returns-then-self-2-clause-any_moment
-returns-then-self-2-clause-any_moment g c is_open =
+pub returns-in-Err-clause-any_moment : goal.returns-in-Err-clause-any_moment
+returns-in-Err-clause-any_moment g c is_open =
     let d = g.D.Disk in let j = c.self.inside in
-    unmoved d.seen d.may_leave d.moment d.left_since j.disks j.limit j.is_failed c.args.self.now (λ t a b. IsOldOrNew t (checkpointed c.args.body.now) (standing a b)) c.self.view_is (c.self.invariant c.if-self.false) g.met.D.Disk.only_now (inl refl)
+    unmoved d.seen d.may_leave d.moment d.left_since j.disks j.limit j.is_failed c.args.self.now (λ t a b. IsOldOrNew t (checkpointed c.args.body.now) (standing a b)) c.self.view_is
+    (c.self.invariant (ap (λ (v : State _). v.is_failed) c.self.view_is ∙ is_open)) g.met.D.Disk.only_now (inl refl)
 
-pub returns-then-body-self-clause-any_moment : goal.returns-then-body-self-clause-any_moment
-returns-then-body-self-clause-any_moment g c is_open =
-    let d = g.D.Disk in let j = c.self.inside in
-    unmoved d.seen d.may_leave d.moment d.left_since j.disks j.limit j.is_failed c.args.self.now (λ t a b. IsOldOrNew t (checkpointed c.args.body.now) (standing a b)) c.self.view_is (c.self.invariant c.if-self.false) g.met.D.Disk.only_now (inl refl)
-
-pub returns-in_default-clause-any_moment : goal.returns-in_default-clause-any_moment
-returns-in_default-clause-any_moment g c is_open =
-    let d = g.D.Disk in let j = c.self.inside in
-    unmoved d.seen d.may_leave d.moment d.left_since j.disks j.limit j.is_failed c.args.self.now (λ t a b. IsOldOrNew t (checkpointed c.args.body.now) (standing a b)) c.self.view_is (c.self.invariant c.if-self.false) g.met.D.Disk.only_now (inl refl)
-
-pub returns-in_default-begin-clause-any_moment : goal.returns-in_default-begin-clause-any_moment
-returns-in_default-begin-clause-any_moment g c is_open =
-    let d = g.D.Disk in let j = c.self.inside in
-    unmoved d.seen d.may_leave d.moment d.left_since j.disks j.limit j.is_failed c.args.self.now (λ t a b. IsOldOrNew t (checkpointed c.args.body.now) (standing a b)) c.self.view_is (c.self.invariant c.if-self.false) g.met.D.Disk.only_now (inl refl)
-
-pub returns-clause-stands : goal.returns-clause-stands
-returns-clause-stands g c =
-    let d = g.D.Disk in let j = c.self.inside in
-    stands d.seen d.may_leave c.make_other-made.new.self j.limit _ (search rules) (on_ok _ c.make_other-made.result _ c.in_ok-made.was c.make_other-made.ensures.settled)
+pub returns-clause-failed : goal.returns-clause-failed
+returns-clause-failed g c =
+    let is = c.in-Ok.ensures.made in
+    if_err_as _ _ c.write_draft.result (λ e closes none. inl (closes (ap (draft_refusal c.args.self.now) is ∙ draft_unrefused c.args.self.now c.args.body.now none))) c.write_draft.ensures.failed
 
 pub returns-clause-any_moment : goal.returns-clause-any_moment
 returns-clause-any_moment g c is_open =
-    let d = g.D.Disk in let j = c.self.inside in
-    (moved d.seen d.may_leave d.moment d.left_since j.disks j.limit j.is_failed c.args.self.now (λ t a b. IsOldOrNew t (checkpointed c.args.body.now) (standing a b)) _ _ c.self.view_is
-    (subst (λ (e : Entry). LeavesPairs d.moment d.left_since j.disks.first j.disks.second c.make_other-made.new.self.first c.make_other-made.new.self.second (λ x y. IsOldOrNew (text d.seen j.disks) (Two, e ∷ []) (standing x y))) c.in-Ok.ensures.made c.make_other-made.ensures.any_moment))
-
-pub returns-in_err-made-clause-either : goal.returns-in_err-made-clause-either
-returns-in_err-made-clause-either g c =
-    let d = g.D.Disk in let j = c.self.inside in
-    comes_about d.seen d.may_leave d.moment d.left_since _ _ _ _ _ g.met.D.Disk.shows g.met.D.Disk.counts_now
-    (moved d.seen d.may_leave d.moment d.left_since j.disks j.limit j.is_failed c.args.self.now (λ t a b. IsOldOrNew t (checkpointed c.args.body.now) (standing a b)) _ _ c.self.view_is
-    (subst (λ (e : Entry). LeavesPairs d.moment d.left_since j.disks.first j.disks.second c.make_other-made.new.self.first c.make_other-made.new.self.second (λ x y. IsOldOrNew (text d.seen j.disks) (Two, e ∷ []) (standing x y))) c.in-Ok.ensures.made c.make_other-made.ensures.any_moment))
+    let d = g.D.Disk in
+    subst (λ (t : Drafted). LeavesPairs d.moment d.left_since c.args.self.now.first c.args.self.now.second c.write_draft.new.self.first c.write_draft.new.self.second (λ a b. IsOldOrNew c.args.self.now.text (checkpointed t.body) (standing a b)))
+    c.in-Ok.ensures.made (c.write_draft.ensures.any_moment is_open)

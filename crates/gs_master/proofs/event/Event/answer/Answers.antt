@@ -1,5 +1,5 @@
 use Rattle.std.proofs.Common.{ap, subst, sym, ◌∙◌}
-use Rattle.gs_master.specs.State.{answered}
+use Rattle.gs_state.specs.State.{answered}
 use Rattle.gs_master.specs.Turns.{ComesWithOthers, state_at}
 use Rattle.gs_master.proofs.Accepting.{answered_together}
 use Rattle.gs_master.proofs.event.Event.answer.Goals as goal

@@ -2,11 +2,11 @@ use Rattle.std.proofs.Common.{◌≡◌, ◌∷◌, [], None, Some, ap, refl, ru
 use Rattle.std.specs.FinMap as fin
 use Rattle.gs_base.specs.declared.refusal.Refusal.TheVariants as refusals
 use Rattle.gs_record.specs.Plain.{RollbackCommit}
-use Rattle.gs_master.specs.Durable.{prepared_view}
-use Rattle.gs_master.specs.State.{Plan, State, if_room, refused, turned}
+use Rattle.gs_state.specs.Durable.{prepared_view}
+use Rattle.gs_state.specs.State.{Plan, State, if_room, refused, turned}
 use Rattle.gs_master.specs.Turns.{ComesWithOthers, Steps, state_at}
-use Rattle.gs_master.specs.Upgrades.{accepted_plan, answers_for, commit_if, told_of, unrestored}
-use Rattle.gs_master.specs.declared.change.Change.TheVariants as changes
+use Rattle.gs_state.specs.Upgrades.{accepted_plan, answers_for, commit_if, told_of, unrestored}
+use Rattle.gs_state.specs.declared.change.Change.TheVariants as changes
 use Rattle.gs_master.proofs.event.Event.commit_on.Goals as goal
 
 pub carry_out_or_refuse-requires-clause-together : goal.carry_out_or_refuse-requires-clause-together

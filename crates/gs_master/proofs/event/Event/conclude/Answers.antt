@@ -1,4 +1,4 @@
-use Rattle.gs_master.specs.Plans.{log_of}
+use Rattle.gs_state.specs.Plans.{log_of}
 use Rattle.gs_master.proofs.Ended.{concluded}
 use Rattle.gs_master.proofs.event.Event.conclude.Goals as goal
 

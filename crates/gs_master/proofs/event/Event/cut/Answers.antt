@@ -2,17 +2,17 @@ use Rattle.std.proofs.Common.{◌∙◌, ap, false, length, map, refl, subst, sy
 use Rattle.std.specs.Prelude.{Some, option_map}
 use Rattle.std.proofs.lemmas.Option.{slice_get-map, slice_get_read}
 use Rattle.gs_record.specs.Plain.{plain}
-use Rattle.gs_master.specs.Events.{Leads}
+use Rattle.gs_state.specs.TakingBack.{Leads}
 use Rattle.gs_master.specs.Journaled.{stood_before}
-use Rattle.gs_master.specs.Plans.{log_of}
-use Rattle.gs_master.specs.Recorded.{durable_of}
-use Rattle.gs_master.specs.State.{Failed}
-use Rattle.gs_master.specs.Tracked.{NowAndBefore}
+use Rattle.gs_state.specs.Plans.{log_of}
+use Rattle.gs_state.specs.Recorded.{durable_of}
+use Rattle.gs_state.specs.State.{Failed}
+use Rattle.gs_state.specs.Tracked.{NowAndBefore}
 use Rattle.gs_master.proofs.Leading.{cut_gives, log_cut}
 use Rattle.gs_master.proofs.event.Event.cut.Goals as goal
 
-pub returns : goal.returns
-returns c = λ before has.
+pub returns-clause-cut : goal.returns-clause-cut
+returns-clause-cut c = λ before has.
     let e = c.args.self.now in
     let es = map plain e.entries.items in
     let left = c.take_back_to.new.undos.items in
@@ -29,7 +29,7 @@ returns c = λ before has.
           (Failed (Some (plain c.swap_remove-doubt.result)))
           (subst (Leads (take c.args.place es) left before) (sym c.let_all_go.ensures.value) (c.take_back_to.ensures.value es before has.leads))
           (ap (λ (m : NowAndBefore). m.now) back)
-          (ap log_of c.log_behind-self.ensures ∙ log_cut (log_of c.args.first) _ es c.args.place (c.deref.ensures.value ∙ has.written))
+          (ap log_of c.log_behind-self.ensures.behind ∙ log_cut (log_of c.args.first) _ es c.args.place (c.deref.ensures.value ∙ has.written))
           (ap Failed (sym (slice_get-map plain e.entries.items c.args.place ∙ ap (option_map plain) (slice_get_read e.entries.items (length e.entries.items) c.args.place c.swap_remove-doubt.result refl c.requires.within c.swap_remove-doubt.ensures.value))));
       sends = c.requires.sent;
       says = ap Some c.cut_refusal.ensures;

@@ -3,8 +3,8 @@ use Rattle.std.proofs.lemmas.Bool.{and_left, and_right, false≢true}
 use Rattle.std.specs.FinMap as fin
 use Rattle.gs_msg.specs.declared.answer.Answer.TheVariants as answers
 use Rattle.gs_record.specs.Plain.{Hide}
-use Rattle.gs_master.specs.Calls.{edited_by, has_visible_child}
-use Rattle.gs_master.specs.State.{Turn}
+use Rattle.gs_state.specs.Calls.{edited_by, has_visible_child}
+use Rattle.gs_state.specs.State.{Turn}
 use Rattle.gs_master.specs.Turns.{Steps, state_at}
 use Rattle.gs_master.proofs.Lengthened.{deletes}
 use Rattle.gs_master.proofs.event.Event.delete.Goals as goal

@@ -1,6 +1,6 @@
 use Rattle.std.proofs.Common.{◌≡◌, ap, arith, inl, length, subst, sym}
 use Rattle.gs_master.specs.Journaled.{Gains, IsReadyFor}
-use Rattle.gs_master.specs.Plans.{log_of}
+use Rattle.gs_state.specs.Plans.{log_of}
 use Rattle.gs_master.proofs.Leading.{log_stays, ready}
 use Rattle.gs_master.proofs.event.Event.end.Goals as goal
 

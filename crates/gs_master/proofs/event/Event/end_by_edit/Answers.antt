@@ -1,9 +1,9 @@
 use Rattle.std.proofs.Common.{◌≡◌, ◌∙◌, Err, subst, sym}
 use Rattle.gs_record.specs.Plain.{plain_edit}
-use Rattle.gs_master.specs.Settling.{edit_plan, edit_turn}
-use Rattle.gs_master.specs.State.{ended_by}
+use Rattle.gs_state.specs.Settling.{edit_plan, edit_turn}
+use Rattle.gs_state.specs.State.{ended_by}
 use Rattle.gs_master.specs.Turns.{Steps, state_at}
-use Rattle.gs_master.specs.Undoing.{edited_names}
+use Rattle.gs_state.specs.Undoing.{edited_names}
 use Rattle.gs_master.proofs.Ends.{refused_by}
 use Rattle.gs_master.proofs.event.Event.end_by_edit.Goals as goal
 

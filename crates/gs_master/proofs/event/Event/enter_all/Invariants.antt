@@ -3,7 +3,7 @@ use Rattle.std.specs.Prelude.{map, Result}
 use Rattle.std.specs.List.{list_any}
 use Rattle.gs_base.specs.declared.refusal.Refusal.{Refusal}
 use Rattle.gs_record.specs.Plain.{plain}
-use Rattle.gs_master.specs.TakingBack.{comes_alone}
+use Rattle.gs_state.specs.TakingBack.{comes_alone}
 use Rattle.gs_master.specs.Turns.{EntersAll, GoesBack}
 use Rattle.gs_master.specs.declared.event.Event.{Event}
 use Rattle.gs_master.proofs.event.Event.enter_all.Given as goal

@@ -1,10 +1,10 @@
 use Rattle.std.proofs.Common.{ap, subst, sym, ◌∙◌}
 use Rattle.std.proofs.lemmas.Bool.{le-ltb, lt-leb}
 use Rattle.std.specs.FinMap as fin
-use Rattle.gs_master.specs.Beginning.{counted_views, targets_for}
-use Rattle.gs_master.specs.State.{Turn}
+use Rattle.gs_state.specs.Beginning.{counted_views, targets_for}
+use Rattle.gs_state.specs.State.{Turn}
 use Rattle.gs_master.specs.Turns.{Steps, state_at}
-use Rattle.gs_master.specs.Working.{created_on}
+use Rattle.gs_state.specs.Working.{created_on}
 use Rattle.gs_master.proofs.Lengthened.{extends_new}
 use Rattle.gs_master.proofs.event.Event.extend_at.Goals as goal
 

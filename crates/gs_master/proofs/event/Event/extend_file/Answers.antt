@@ -1,6 +1,6 @@
 use Rattle.std.proofs.Common.{subst, sym}
 use Rattle.std.specs.FinMap as fin
-use Rattle.gs_master.specs.State.{Turn}
+use Rattle.gs_state.specs.State.{Turn}
 use Rattle.gs_master.specs.Turns.{Steps, state_at}
 use Rattle.gs_master.proofs.Lengthened.{extends_nothing}
 use Rattle.gs_master.proofs.event.Event.extend_file.Goals as goal

@@ -1,7 +1,7 @@
 use Rattle.std.proofs.Common.{rules, subst}
-use Rattle.gs_master.specs.Hearing.{ask_plan, stepped}
-use Rattle.gs_master.specs.Plans.{plan_of}
-use Rattle.gs_master.specs.State.{State, and_then, turned}
+use Rattle.gs_state.specs.Hearing.{ask_plan, stepped}
+use Rattle.gs_state.specs.Plans.{plan_of}
+use Rattle.gs_state.specs.State.{State, and_then, turned}
 use Rattle.gs_master.specs.Turns.{Steps, WhyNotTurned, state_at}
 use Rattle.gs_master.proofs.Composing.{steps_and, why_not_and}
 use Rattle.gs_master.proofs.Entered.{goes_back_on}

@@ -1,6 +1,6 @@
 use Rattle.std.proofs.Common.{◌≡◌, ◌∙◌, ap, subst}
-use Rattle.gs_master.specs.Hearing.{drops, lost, made_quiet, sends}
-use Rattle.gs_master.specs.State.{and_then}
+use Rattle.gs_state.specs.Hearing.{drops, lost, made_quiet, sends}
+use Rattle.gs_state.specs.State.{and_then}
 use Rattle.gs_master.specs.Turns.{Steps, state_at}
 use Rattle.gs_master.proofs.Composing.{steps_and}
 use Rattle.gs_master.proofs.Entered.{goes_back_on}

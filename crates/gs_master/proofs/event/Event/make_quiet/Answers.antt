@@ -1,6 +1,6 @@
 use Rattle.std.proofs.Common.{◌≡◌, ◌+◌, ◌*◌, true, false, length, rules, subst, sym}
 use Rattle.std.specs.Prelude.{nat_le}
-use Rattle.gs_master.specs.Beginning.{has_versions}
+use Rattle.gs_state.specs.Beginning.{has_versions}
 use Rattle.gs_master.specs.Turns.{IsTurned, Steps, state_at}
 use Rattle.gs_master.proofs.Composing.{unmoved_stays}
 use Rattle.gs_master.proofs.Proposals.{quiet_with_room, quiet_without_room}

@@ -1,6 +1,6 @@
 use Rattle.std.proofs.Common.{[], ap, refl, subst, sym, ◌∙◌}
 use Rattle.std.specs.Prelude.{Some}
-use Rattle.gs_master.specs.State.{refusal_plan}
+use Rattle.gs_state.specs.State.{refusal_plan}
 use Rattle.gs_master.specs.Turns.{ComesWithOthers, state_at}
 use Rattle.gs_master.proofs.Together.{refused_together}
 use Rattle.gs_master.proofs.event.Event.refuse.Goals as goal

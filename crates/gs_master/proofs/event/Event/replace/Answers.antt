@@ -1,9 +1,9 @@
 use Rattle.std.proofs.Common.{◌≡◌, ◌∙◌, Ok, subst, sym}
 use Rattle.gs_record.specs.Plain.{Cow}
-use Rattle.gs_master.specs.Settling.{replaced_if}
-use Rattle.gs_master.specs.Trying.{refusal_of}
+use Rattle.gs_state.specs.Settling.{replaced_if}
+use Rattle.gs_state.specs.Trying.{refusal_of}
 use Rattle.gs_master.specs.Turns.{Steps, state_at}
-use Rattle.gs_master.specs.Undoing.{edited_names}
+use Rattle.gs_state.specs.Undoing.{edited_names}
 use Rattle.gs_master.proofs.Ends.{accepted_by}
 use Rattle.gs_master.proofs.event.Event.replace.Goals as goal
 

@@ -1,8 +1,8 @@
 use Rattle.std.proofs.Common.{ap, subst, sym, ◌∙◌}
-use Rattle.gs_master.specs.Beginning.{counted_views, targets_for}
-use Rattle.gs_master.specs.Chunks.{chunk_at}
-use Rattle.gs_master.specs.Knowing.{known_of}
-use Rattle.gs_master.specs.State.{Turn}
+use Rattle.gs_state.specs.Beginning.{counted_views, targets_for}
+use Rattle.gs_state.specs.Chunks.{chunk_at}
+use Rattle.gs_state.specs.Knowing.{known_of}
+use Rattle.gs_state.specs.State.{Turn}
 use Rattle.gs_master.specs.Turns.{Steps, state_at}
 use Rattle.gs_master.proofs.Lengthened.{replicates_known}
 use Rattle.gs_master.proofs.event.Event.replicate_chunk.Goals as goal

@@ -1,5 +1,5 @@
-use Rattle.gs_master.specs.Handling.{granted, pressed, proposals}
-use Rattle.gs_master.specs.State.{for_each}
+use Rattle.gs_state.specs.Handling.{granted, pressed, proposals}
+use Rattle.gs_state.specs.State.{for_each}
 use Rattle.gs_master.specs.Turns.{state_at}
 use Rattle.gs_master.proofs.Composing.{steps_and}
 use Rattle.gs_master.proofs.Entered.{goes_back_on}

@@ -1,0 +1,163 @@
+-- From a prepare to the commit of its rollback.
+use Rattle.std.proofs.Common.{◌≡◌, ◌∙◌, ◌&&◌, ◌==◌, ℕ, Bool, true, false, cond, List, [], ◌∷◌, nat_lt, refl, sym, ap, subst}
+use Rattle.std.specs.Prelude.{Option, Some, None, is_some, option_map, option_and_then, Result, Ok, Err}
+use Rattle.std.specs.List.{AllByRecursion, cons_option, list_all}
+use Rattle.std.specs.Cmp.{nat_cmp_total}
+use Rattle.std.specs.FinMap as fin
+use Rattle.std.specs.Ordering.{eq_by_cmp, nat_cmp}
+use Rattle.std.proofs.lemmas.Bool.{false≢true, and_parts}
+use Rattle.gs_base.specs.declared.epoch.EpochEnd.TheVariants as ends
+use Rattle.gs_base.specs.declared.numbers.ReqId.{ReqId}
+use Rattle.gs_base.specs.declared.refusal.Refusal.{Refusal}
+use Rattle.gs_edit.specs.View.{NamesView}
+use Rattle.gs_journal.specs.declared.version.Version.TheVariants.{Two}
+use Rattle.gs_lease.specs.declared.view.View.{View}
+use Rattle.gs_record.specs.Plain.{PlainEdit, PlainEntry, Edited, Said, Propose, Settle, Prepare, Finalize, RollbackBegin, RollbackCommit, Whole, Holder}
+use Rattle.gs_record.specs.Writable.{IsEntry}
+use Rattle.gs_record.specs.declared.checkpoint.Phase.{Phase}
+use Rattle.gs_record.specs.declared.checkpoint.Phase.TheVariants.{Ordinary, Upgrade, Rolling}
+use Rattle.gs_record.specs.declared.entry.Answered.{Answered}
+use Rattle.gs_state.specs.Applied.{after_edit, after_undoing, applied, are_answers, are_at_rest, forgotten_by, held_by, is_next_epoch, is_whole_entry, may_be_settled, may_edit, may_propose, proposed, replayed, restored_view, rolled_back, with_edit, with_epoch, with_view, without_prepared}
+use Rattle.gs_state.specs.Durable.{Durable, Settled, is_ordinary, is_rolling, is_upgrade, prepared_view, with_prepared}
+use Rattle.gs_laws.specs.Promises.{IsKept, IsRolledBack, RollsBack, goes_on_within, view_at_prepare}
+use Rattle.gs_state.specs.Undoing.{all_undone, edited_names}
+use Rattle.gs_state.specs.declared.asking.Prepared.{Prepared}
+use Rattle.gs_laws.proofs.Beginnings.{begins_with_all, fits_gives}
+use Rattle.gs_laws.proofs.Kept.{keeps_prepared}
+use Rattle.gs_laws.proofs.KeptAll.{keeps_all}
+use Rattle.gs_laws.proofs.KeptEdits.{forgets_only}
+use Rattle.gs_laws.proofs.KeptEpochs.{prepare_kept, restored}
+use Rattle.gs_laws.proofs.KeptRecords.{settled_is}
+use Rattle.gs_laws.proofs.KeptViews.{same_key}
+use Rattle.gs_laws.proofs.LedBack.{leads_back}
+
+-- ---- records within an upgrade
+
+not_whole : (entry : PlainEntry) → goes_on_within entry ≡ true → is_whole_entry entry ≡ false
+not_whole (Edited by edit) h = refl
+not_whole (Said to refusal) h = refl
+not_whole (Propose chunk version) h = refl
+not_whole (Settle v) h = refl
+not_whole (Prepare epoch moment chunks) h = refl
+not_whole (Finalize epoch) h = refl
+not_whole (RollbackBegin epoch) h = refl
+not_whole (RollbackCommit epoch answers) h = refl
+not_whole (Whole c) h = absurd (false≢true h)
+not_whole (Holder chunk server) h = refl
+
+abbrev SamePhase : Durable → Durable → Type 0
+SamePhase d next = is_ordinary next.phase ≡ is_ordinary d.phase
+
+as_phase : (d n next : Durable) → n ≡ next → SamePhase d n → SamePhase d next
+as_phase d n next is same = subst (SamePhase d) is same
+
+edited_phase : (d next : Durable) (by : ReqId) (edit : PlainEdit) (names : Result NamesView Refusal) → after_edit d by edit names ≡ Some next → SamePhase d next
+edited_phase d next by edit (Ok names) e =
+    as_phase d (with_edit d by edit names) next (fits_gives (may_edit d edit) (with_edit d by edit names) next e).1 (ap (λ (x : Durable). is_ordinary x.phase) (forgets_only d (forgotten_by edit)))
+edited_phase d next by edit (Err refusal) e = absurd (false≢true (ap is_some e))
+
+upgrade_stands : (phase : Phase) → is_upgrade phase ≡ true → false ≡ is_ordinary phase
+upgrade_stands Ordinary h = absurd (false≢true h)
+upgrade_stands Upgrade h = refl
+upgrade_stands Rolling h = refl
+
+-- the upgrade stands still
+phase_within : (entry : PlainEntry) (d next : Durable) → goes_on_within entry ≡ true → applied d entry ≡ Some next → SamePhase d next
+unfolding applied
+phase_within (Edited by edit) d next within e = edited_phase d next by edit (edited_names edit d.names) e
+phase_within (Said to refusal) d next within e = as_phase d _ next (fits_gives true _ next e).1 refl
+phase_within (Propose chunk version) d next within e =
+    as_phase d (proposed d chunk version) next (fits_gives (may_propose d.phase d.next_handle d.next_version chunk version (fin.get d.chunks chunk)) (proposed d chunk version) next e).1 refl
+phase_within (Settle v) d next within e = as_phase d (with_view d v) next (fits_gives (may_be_settled d v) (with_view d v) next e).1 refl
+phase_within (Prepare epoch moment chunks) d next within e = absurd (false≢true within)
+phase_within (Finalize epoch) d next within e = absurd (false≢true within)
+phase_within (RollbackBegin epoch) d next within e =
+    let is = fits_gives (is_upgrade d.phase && is_next_epoch d.epoch epoch) (with_epoch d ends.Rollback Rolling) next e in
+    as_phase d (with_epoch d ends.Rollback Rolling) next is.1 (upgrade_stands d.phase (and_parts (is_upgrade d.phase) (is_next_epoch d.epoch epoch) is.0).0)
+phase_within (RollbackCommit epoch answers) d next within e = absurd (false≢true within)
+phase_within (Whole c) d next within e = absurd (false≢true within)
+phase_within (Holder chunk server) d next within e =
+    as_phase d (record d { prepared = with_prepared d chunk (held_by server (prepared_view d chunk)) }) next
+    (fits_gives (is_upgrade d.phase && (nat_lt server 16 && is_some (prepared_view d chunk))) (record d { prepared = with_prepared d chunk (held_by server (prepared_view d chunk)) }) next e).1 refl
+
+-- ---- since a prepare
+
+-- what stands since, and where it leads back to
+record Since (d now : Durable) : Type 0 where
+  kept : IsKept now
+  stands : is_ordinary now.phase ≡ false
+  names : all_undone now.inverses now.names ≡ Some d.names
+  views : (chunk : ℕ) → view_at_prepare now chunk ≡ option_map (λ (s : Settled). s.view) (fin.get d.chunks chunk)
+
+since_one : (d now next : Durable) (entry : PlainEntry) → Since d now → goes_on_within entry ≡ true → IsEntry Two entry → applied now entry ≡ Some next → Since d next
+since_one d now next entry s within written e = record {
+  kept = keeps_all entry (not_whole entry within) now next written s.kept e;
+  stands = phase_within entry now next within e ∙ s.stands;
+  names = leads_back entry now next s.kept s.stands within e ∙ s.names;
+  views = λ chunk. keeps_prepared entry now next s.stands within e chunk ∙ s.views chunk;
+}
+
+durable_is : {a b : Durable} → ◌≡◌ {A = Option Durable} (Some a) (Some b) → a ≡ b
+durable_is h = cc
+
+since_all : (d now last : Durable) (entries : List PlainEntry) → Since d now → list_all goes_on_within entries ≡ true → AllByRecursion (IsEntry Two) entries → replayed now entries ≡ Some last → Since d last
+since_all d now last [] s within written e = subst (Since d) (durable_is e) s
+since_all d now last (entry ∷ entries) s within written e =
+    let parts = and_parts (goes_on_within entry) (list_all goes_on_within entries) within in
+    each (applied now entry) refl (λ n is rest. since_all d n last entries (since_one d now n entry s parts.0 written.0 is) parts.1 written.1 rest) e
+  where
+    each : (o : Option Durable) → applied now entry ≡ o → ((n : Durable) → applied now entry ≡ Some n → replayed n entries ≡ Some last → Since d last) → option_and_then (λ n. replayed n entries) o ≡ Some last → Since d last
+    each None is all h = absurd (false≢true (ap is_some h))
+    each (Some n) is all h = all n is h
+
+prepared_phase : (d next : Durable) (epoch moment chunks : ℕ) → applied d (Prepare epoch moment chunks) ≡ Some next → is_ordinary next.phase ≡ false
+unfolding applied
+prepared_phase d next epoch moment chunks e =
+    ap (λ (x : Durable). is_ordinary x.phase) (sym (fits_gives (is_ordinary d.phase && (is_next_epoch d.epoch epoch && are_at_rest d)) (without_prepared (with_epoch d ends.Prepare Upgrade)) next e).1)
+
+since_prepare : (d next : Durable) (epoch moment chunks : ℕ) → IsKept d → applied d (Prepare epoch moment chunks) ≡ Some next → Since d next
+since_prepare d next epoch moment chunks k e =
+    let all = begins_with_all d next epoch moment chunks k e in record { kept = prepare_kept d next epoch moment chunks k e; stands = prepared_phase d next epoch moment chunks e; names = all.0; views = all.1 }
+
+-- ---- the commit
+
+-- what is restored has the count of its prepared view
+record FromPrepared (d : Durable) (q : ℕ) (s : Settled) : Type 0 where
+  prepared : Prepared
+  is : prepared_view d q ≡ Some prepared
+  count : s.view.count ≡ prepared.view.count
+
+restored_from : (d : Durable) (answers : List Answered) (q : ℕ) (s : Settled) → fin.find nat_cmp q (restored d answers) ≡ Some s → FromPrepared d q s
+restored_from d [] q s e = absurd (false≢true (ap is_some e))
+restored_from d (answer ∷ answers) q s e = by_prepared (prepared_view d answer.handle) refl (restored_from d answers q s) e
+  where
+    by_key : (p : Prepared) → prepared_view d answer.handle ≡ Some p → (fin.find nat_cmp q (restored d answers) ≡ Some s → FromPrepared d q s) → (b : Bool) → eq_by_cmp nat_cmp q answer.handle ≡ b
+        → cond b (Some (restored_view d.epoch p answer.members)) (fin.find nat_cmp q (restored d answers)) ≡ Some s → FromPrepared d q s
+    by_key p is later true key h = record { prepared = p; is = ap (prepared_view d) (same_key q answer.handle key) ∙ is; count = ap (λ (x : Settled). x.view.count) (sym (settled_is h)) }
+    by_key p is later false key h = later h
+
+    by_prepared : (o : Option Prepared) → prepared_view d answer.handle ≡ o → (fin.find nat_cmp q (restored d answers) ≡ Some s → FromPrepared d q s)
+        → fin.find nat_cmp q (cons_option (option_map (λ (p : Prepared). (answer.handle, restored_view d.epoch p answer.members)) o) (restored d answers)) ≡ Some s → FromPrepared d q s
+    by_prepared None is later h = later h
+    by_prepared (Some p) is later h = by_key p is later (eq_by_cmp nat_cmp q answer.handle) refl h
+
+view_is : {a b : View} → ◌≡◌ {A = Option View} (Some a) (Some b) → a ≡ b
+view_is h = cc
+
+back_to : (d now : Durable) (answers : List Answered) → Since d now → IsRolledBack d (rolled_back now answers d.names)
+back_to d now answers s = record {
+  names = refl;
+  counts = λ chunk before after was is.
+      (let from = restored_from now answers chunk after (sym (fin.get-from_entries nat_cmp_total (restored now answers) chunk) ∙ is) in
+      let view = view_is (sym (ap (option_map (λ (p : Prepared). p.view)) from.is) ∙ s.views chunk ∙ ap (option_map (λ (x : Settled). x.view)) was) in from.count ∙ ap (λ (v : View). v.count) view);
+}
+
+commit_back : (d now next : Durable) (last : ℕ) (answers : List Answered) → Since d now → applied now (RollbackCommit last answers) ≡ Some next → IsRolledBack d next
+unfolding applied
+commit_back d now next last answers s e =
+    let is = fits_gives (is_rolling now.phase && ((last == now.epoch) && are_answers (prepared_view now) (fin.entries d.names.refs) answers)) (rolled_back now answers d.names) next (ap (after_undoing now last answers) (sym s.names) ∙ e) in
+    subst (IsRolledBack d) is.1 (back_to d now answers s)
+
+pub rolls_back : RollsBack
+rolls_back d prepared rolling next epoch moment chunks last entries answers k begun within written between e =
+    commit_back d rolling next last answers (since_all d prepared rolling entries (since_prepare d prepared epoch moment chunks k begun) within written between) e

@@ -1,0 +1,277 @@
+-- What is to hold of the definitions: of each record, of each turn, and of whatever stands.
+use Rattle.std.specs.Prelude.{◌≡◌, ◌⊎◌, ◌≤◌, ◌<◌, ◌↔◌, ℕ, Bool, true, false, List, [], length, Contains, Option, Some, None, option_map, is_some}
+use Rattle.std.specs.FinMap as fin
+use Rattle.std.specs.List.{list_any, list_all, AllByRecursion}
+use Rattle.gs_base.specs.declared.config.Config.{Config}
+use Rattle.gs_base.specs.declared.numbers.Moment.{Moment}
+use Rattle.gs_base.specs.declared.numbers.ClientId.{ClientId}
+use Rattle.gs_base.specs.declared.numbers.ReqId.{ReqId}
+use Rattle.gs_base.specs.declared.refusal.Refusal.TheVariants as refusals
+use Rattle.gs_base.specs.Members.{is_member}
+use Rattle.gs_edit.specs.Names.{IsCounted}
+use Rattle.gs_refs.specs.Counts.{last_count}
+use Rattle.gs_edit.specs.Scan.{is_without_slashes}
+use Rattle.gs_tree.specs.Entry.{Dir}
+use Rattle.gs_tree.specs.Build.{is_tree, below_root}
+use Rattle.gs_edit.specs.View.{NamesView}
+use Rattle.gs_journal.specs.declared.version.Version.TheVariants.{Two}
+use Rattle.gs_record.specs.declared.entry.Answered.{Answered}
+use Rattle.gs_record.specs.Writable.{AreServers, IsEntry, IsTerm}
+use Rattle.gs_base.specs.Told.{IsNumber}
+use Rattle.gs_state.specs.Replies.{outcome_of, told_result}
+use Rattle.gs_state.specs.declared.reply.KeptReply.{KeptReply}
+use Rattle.gs_lease.specs.declared.view.View.{View}
+use Rattle.gs_msg.specs.Bodies.{kind_of}
+use Rattle.gs_msg.specs.declared.call.Call.{Call}
+use Rattle.gs_msg.specs.declared.call.Call.TheVariants as calls
+use Rattle.gs_msg.specs.declared.kind.Kind.{Kind}
+use Rattle.gs_msg.specs.declared.kind.Kind.TheVariants as kinds
+use Rattle.gs_msg.specs.declared.message.Message.{Message}
+use Rattle.gs_record.specs.Plain.{PlainEntry, Edited, Said, Propose, Settle, Prepare, Finalize, RollbackBegin, RollbackCommit, Whole, Holder}
+use Rattle.gs_view.specs.Choice.{Chooses}
+use Rattle.gs_view.specs.declared.answers.Answers.{Answers}
+use Rattle.gs_state.specs.Applied.{applied, replayed, is_fresh, is_prepared_on, is_whole_entry}
+use Rattle.gs_state.specs.Chunks.{Chunk, view_by, may_settle}
+use Rattle.gs_state.specs.Durable.{Durable, Settled, start, is_given, is_ordinary, is_rolling, upgrade_epoch, has_its_primary, prepared_view, is_listed}
+use Rattle.gs_state.specs.Handling.{handle, call_turn, new_call, tidied, tick}
+use Rattle.gs_state.specs.Sane.{IsSane}
+use Rattle.gs_state.specs.State.{State, Turn, size_of_all}
+use Rattle.gs_state.specs.Upgrades.{rollback_commit, told_of}
+use Rattle.gs_state.specs.Undoing.{all_undone}
+use Rattle.gs_state.specs.Whole.{whole_of, checkpoint_of, are_ends, are_hidden_once, is_prepared_before}
+use Rattle.gs_state.specs.declared.asking.Asking.{Asking}
+use Rattle.gs_state.specs.declared.asking.Prepared.{Prepared}
+
+-- ---- what stands
+
+-- each part of a view is one that a record can tell
+abbrev pub IsToldView : View → Type 0
+IsToldView view = IsNumber view.stamp.epoch × (IsNumber view.stamp.version × (IsNumber view.count × (AreServers view.members × IsTerm view.term)))
+
+-- A view is of an epoch that there was, and its version was given; that of a view which a rollback gave is 0. Its primary is a
+-- member, and a record can tell it.
+pub record IsGivenView (d : Durable) (view : View) : Type 0 where
+  pub epoch : view.stamp.epoch ≤ d.epoch
+  pub version : (view.stamp.version ≡ 0) ⊎ (is_given d.next_version view.stamp.version ≡ true)
+  pub primary : has_its_primary view ≡ true
+  pub told : IsToldView view
+
+-- Names as they stand: the root is a directory, and the rows below it are a tree's, in which no element has a slash, so that texts
+-- tell paths apart, and nothing is hidden twice. The counts are the tree's, and each can be told.
+pub record AreKept (names : NamesView) : Type 0 where
+  pub root : fin.get names.tree [] ≡ Some Dir
+  pub tree : is_tree (below_root (fin.entries names.tree)) ≡ true
+  pub plain : list_all (λ r. is_without_slashes r.0) (fin.entries names.tree) ≡ true
+  pub hidden : are_hidden_once (fin.entries names.tree) ≡ true
+  pub counted : IsCounted names
+  pub counts : (chunk count : ℕ) → fin.get names.refs chunk ≡ Some count → count ≤ last_count
+
+-- a chunk is listed, or its prepared view is kept
+abbrev pub IsStillThere : Durable → ℕ → Type 0
+IsStillThere d chunk = (is_listed d chunk ≡ true) ⊎ (is_some (fin.get d.prepared chunk) ≡ true)
+
+-- The names are kept. Each listed chunk is settled, and each settled chunk was given. The epoch is a number, and the ends of those
+-- before it fit the phase. What takes edits back can be undone, and leads to names that are kept too, whose chunks each have a
+-- prepared view, of a stamp before the upgrade, and are still there. A checkpoint can tell each reply.
+pub record IsKept (d : Durable) : Type 0 where
+  pub names : AreKept d.names
+  pub settled : (chunk : ℕ) → is_listed d chunk ≡ true → is_some (fin.get d.chunks chunk) ≡ true
+  pub handles : (chunk : ℕ) → is_some (fin.get d.chunks chunk) ≡ true → is_given d.next_handle chunk ≡ true
+  pub views : (chunk : ℕ) (s : Settled) → fin.get d.chunks chunk ≡ Some s → IsGivenView d s.view
+  pub now : IsNumber d.epoch
+  pub ends : are_ends d.ends d.epoch d.phase ≡ true
+  pub ordinary : upgrade_epoch d.phase d.epoch ≡ None → (d.inverses ≡ []) × ((chunk : ℕ) → fin.get d.prepared chunk ≡ None)
+  pub prepared : (chunk : ℕ) (p : Prepared) → fin.get d.prepared chunk ≡ Some p → (is_given d.next_handle chunk ≡ true) × IsGivenView d p.view × (is_prepared_before (upgrade_epoch d.phase d.epoch) p.view ≡ true)
+  pub back : (names : NamesView) × (all_undone d.inverses d.names ≡ Some names) × AreKept names
+  pub restored : (names : NamesView) (chunk : ℕ) → all_undone d.inverses d.names ≡ Some names → is_ordinary d.phase ≡ false → is_some (fin.get names.refs chunk) ≡ true → is_some (prepared_view d chunk) ≡ true
+  pub still : (names : NamesView) (chunk : ℕ) → all_undone d.inverses d.names ≡ Some names → is_ordinary d.phase ≡ false → is_some (fin.get names.refs chunk) ≡ true → IsStillThere d chunk
+  pub replies : (client : ClientId) (reply : KeptReply) → fin.get d.replies client ≡ Some reply → told_result (outcome_of reply.result) ≡ Some reply.result
+
+-- ---- records
+
+-- a record that can be written keeps what stands
+abbrev pub KeepsAll : PlainEntry → Type 0
+KeepsAll entry = (d next : Durable) → IsEntry Two entry → IsKept d → applied d entry ≡ Some next → IsKept next
+
+-- a checkpoint among records is that of something that stood
+abbrev pub IsOfKept : PlainEntry → Type 0
+IsOfKept (Whole c) = (d : Durable) × (IsKept d × (c ≡ checkpoint_of d))
+IsOfKept entry = Unit {0}
+
+-- So records lead from a new store to what stands, where their checkpoints are such.
+abbrev pub LeadsToKept : Type 0
+LeadsToKept = (entries : List PlainEntry) (d : Durable) → AllByRecursion IsOfKept entries → AllByRecursion (IsEntry Two) entries → replayed start entries ≡ Some d → IsKept d
+
+-- Counters never fall behind a value that was given, and the epoch never falls. A checkpoint tells its own, which are those of
+-- what it was made of.
+abbrev pub KeepsGiven : PlainEntry → Type 0
+KeepsGiven entry = (d next : Durable) (n : ℕ) → is_whole_entry entry ≡ false → applied d entry ≡ Some next →
+    (is_given d.next_handle n ≡ true → is_given next.next_handle n ≡ true) × (is_given d.next_version n ≡ true → is_given next.next_version n ≡ true)
+    × (is_given d.next_hidden n ≡ true → is_given next.next_hidden n ≡ true) × (d.epoch ≤ next.epoch)
+
+-- a checkpoint of what stands tells its counters and its epoch
+pub record SameCounters (d next : Durable) : Type 0 where
+  pub handle : next.next_handle ≡ d.next_handle
+  pub version : next.next_version ≡ d.next_version
+  pub hidden : next.next_hidden ≡ d.next_hidden
+  pub epoch : next.epoch ≡ d.epoch
+
+abbrev pub TellsCounters : Type 0
+TellsCounters = (d next : Durable) → applied d (Whole (checkpoint_of d)) ≡ Some next → SameCounters d next
+
+-- records that go on within an upgrade
+abbrev pub goes_on_within : PlainEntry → Bool
+goes_on_within (Edited by edit) = true
+goes_on_within (Said to refusal) = true
+goes_on_within (Propose chunk version) = true
+goes_on_within (Settle v) = true
+goes_on_within (Prepare epoch moment chunks) = false
+goes_on_within (Finalize epoch) = false
+goes_on_within (RollbackBegin epoch) = true
+goes_on_within (RollbackCommit epoch answers) = false
+goes_on_within (Whole c) = false
+goes_on_within (Holder chunk server) = true
+
+abbrev pub view_at_prepare : Durable → ℕ → Option View
+view_at_prepare d chunk = option_map (λ (p : Prepared). p.view) (prepared_view d chunk)
+
+-- while an upgrade stands, what takes edits back leads to the names of the prepare
+abbrev pub LeadsBack : PlainEntry → Type 0
+LeadsBack entry = (d next : Durable) → IsKept d → is_ordinary d.phase ≡ false → goes_on_within entry ≡ true → applied d entry ≡ Some next →
+    all_undone next.inverses next.names ≡ all_undone d.inverses d.names
+
+-- and each chunk's prepared view stays, also that of a chunk which was forgotten; one that had none gets none
+abbrev pub KeepsPrepared : PlainEntry → Type 0
+KeepsPrepared entry = (d next : Durable) → is_ordinary d.phase ≡ false → goes_on_within entry ≡ true → applied d entry ≡ Some next →
+    (chunk : ℕ) → view_at_prepare next chunk ≡ view_at_prepare d chunk
+
+-- what a prepare begins with
+abbrev pub BeginsWithAll : Type 0
+BeginsWithAll = (d next : Durable) (epoch moment chunks : ℕ) → IsKept d → applied d (Prepare epoch moment chunks) ≡ Some next →
+    (all_undone next.inverses next.names ≡ Some d.names) × ((chunk : ℕ) → view_at_prepare next chunk ≡ option_map (λ (s : Settled). s.view) (fin.get d.chunks chunk))
+
+-- the names are those of the prepare again, and so are the counts of edits that the chunks had
+pub record IsRolledBack (d next : Durable) : Type 0 where
+  pub names : next.names ≡ d.names
+  pub counts : (chunk : ℕ) (before after : Settled) → fin.get d.chunks chunk ≡ Some before → fin.get next.chunks chunk ≡ Some after → after.view.count ≡ before.view.count
+
+-- A rollback leads back to what was prepared, whatever goes on between.
+abbrev pub RollsBack : Type 0
+RollsBack = (d prepared rolling next : Durable) (epoch moment chunks last : ℕ) (entries : List PlainEntry) (answers : List Answered) → IsKept d → applied d (Prepare epoch moment chunks) ≡ Some prepared
+    → list_all goes_on_within entries ≡ true → AllByRecursion (IsEntry Two) entries → replayed prepared entries ≡ Some rolling → applied rolling (RollbackCommit last answers) ≡ Some next → IsRolledBack d next
+
+-- the checkpoint of what stands tells it, but for chunks that stand in no file and never did
+abbrev pub TellsAll : Type 0
+TellsAll = (d : Durable) → IsKept d → whole_of (checkpoint_of d) ≡ Some (tidied d)
+
+-- What such records lead to can be told by a checkpoint, and read from it again.
+abbrev pub IsToldAgain : Type 0
+IsToldAgain = (entries : List PlainEntry) (d : Durable) → AllByRecursion IsOfKept entries → AllByRecursion (IsEntry Two) entries → replayed start entries ≡ Some d →
+    whole_of (checkpoint_of d) ≡ Some (tidied d)
+
+-- ---- turns
+
+-- each record of a turn can be written
+abbrev pub IsWritten : Turn → Type 0
+IsWritten t = AllByRecursion (IsEntry Two) t.records
+
+-- each record of a turn fits what it meets, and together they give what is durable after it
+abbrev pub AllFit : State → Turn → Type 0
+AllFit s t = replayed s.durable t.records ≡ Some t.after.durable
+
+-- So it is of every message and each tick, and what stands goes on so.
+pub record FitsAndStays (s : State) (t : Turn) : Type 0 where
+  pub fits : AllFit s t
+  pub kept : IsKept t.after.durable
+  pub sane : IsSane t.after
+
+abbrev pub AllTurnsFit : Type 0
+AllTurnsFit = (config : Config) (s : State) (message : Message) (moment : Moment) → IsKept s.durable → IsSane s →
+    FitsAndStays s (handle config s message moment) × FitsAndStays s (tick s moment)
+
+-- a refused call leaves the names and the views
+pub record LeavesNames (s : State) (t : Turn) : Type 0 where
+  pub names : t.after.durable.names ≡ s.durable.names
+  pub chunks : t.after.durable.chunks ≡ s.durable.chunks
+
+abbrev pub RefusedLeavesNames : Type 0
+RefusedLeavesNames = (config : Config) (s : State) (req : ReqId) (moment : Moment) (call : Call) → is_some (call_turn config s req moment call).said ≡ true →
+    LeavesNames s (call_turn config s req moment call)
+
+-- its records fit what they meet, and what stands is kept
+pub record FitsAndKeeps (s : State) (t : Turn) : Type 0 where
+  pub fits : AllFit s t
+  pub kept : IsKept s.durable → IsKept t.after.durable
+
+abbrev pub RefusedFits : Type 0
+RefusedFits = (config : Config) (s : State) (req : ReqId) (moment : Moment) (call : Call) → is_some (call_turn config s req moment call).said ≡ true →
+    FitsAndKeeps s (call_turn config s req moment call)
+
+abbrev pub is_proposal : PlainEntry → Bool
+is_proposal (Propose chunk version) = true
+is_proposal entry = false
+
+abbrev pub is_drop : Kind → Bool
+is_drop kinds.Drop = true
+is_drop kind = false
+
+abbrev pub is_drop_message : Message → Bool
+is_drop_message m = is_drop (kind_of m.body)
+
+-- nothing is begun, and nothing dropped
+pub record IsStill (t : Turn) : Type 0 where
+  pub records : list_any is_proposal t.records ≡ false
+  pub sent : list_any is_drop_message t.sent ≡ false
+
+-- so it is while rolling back, whatever comes
+abbrev pub NothingWhileRolling : Type 0
+NothingWhileRolling = (config : Config) (s : State) (message : Message) (moment : Moment) → is_rolling s.durable.phase ≡ true → IsStill (handle config s message moment)
+
+-- and at each tick
+abbrev pub NothingAtTicks : Type 0
+NothingAtTicks = (s : State) (moment : Moment) → is_rolling s.durable.phase ≡ true → IsStill (tick s moment)
+
+-- ---- the commit of a rollback
+
+-- somebody who has the chunk as it stood at prepare has told so
+pub record IsRestored (s : State) (chunk : ℕ) : Type 0 where
+  pub server : ℕ
+  pub prepared : Prepared
+  pub kept : prepared_view s.durable chunk ≡ Some prepared
+  pub has_it : is_prepared_on prepared server ≡ true
+  pub told : is_member (told_of s chunk) server ≡ true
+
+-- A rollback can be committed: one was begun, its edits can be taken back, and each chunk that had a reference at prepare is
+-- restored.
+pub record CanCommit (s : State) : Type 0 where
+  pub begun : is_rolling s.durable.phase ≡ true
+  pub names : NamesView
+  pub back : all_undone s.durable.inverses s.durable.names ≡ Some names
+  pub restored : (chunk count : ℕ) → fin.get names.refs chunk ≡ Some count → 0 < count → IsRestored s chunk
+
+-- it is accepted exactly then, but for want of room
+abbrev pub CommitsExactly : Type 0
+CommitsExactly = (s : State) (req : ReqId) →
+    (((rollback_commit s req).said ≡ None) ⊎ ((rollback_commit s req).said ≡ Some refusals.Full)) ↔ CanCommit s
+
+-- a version that is proposed is above all before it
+abbrev pub ProposesFresh : Type 0
+ProposesFresh = (config : Config) (s : State) (message : Message) (moment : Moment) (chunk version : ℕ) →
+    Contains (handle config s message moment).records (Propose chunk version) → is_fresh s.durable.next_version version ≡ true
+
+-- a view is made of those that answered the most edits, one of whom was asked
+abbrev pub MadeOfTheMost : Type 0
+MadeOfTheMost = (c : Chunk) (asking : Asking) (answers : Answers) (moment : Moment) (view : View) → view_by c asking answers moment ≡ Some view →
+    Chooses answers.counts view.members view.count × (may_settle asking.asked view.members ≡ true)
+
+abbrev pub is_refusal : PlainEntry → Bool
+is_refusal (Said to refusal) = true
+is_refusal entry = false
+
+-- an accepted prepare adds one record of 26 bytes, and a refused one at most a refusal
+pub record AddsOne (t : Turn) : Type 0 where
+  pub accepted : t.said ≡ None → (size_of_all t.records ≡ 26) × (length t.records ≡ 1)
+  pub refused : is_some t.said ≡ true → (length t.records ≤ 1) × (list_all is_refusal t.records ≡ true)
+
+abbrev pub PreparesByOneRecord : Type 0
+PreparesByOneRecord = (config : Config) (s : State) (req : ReqId) (moment : Moment) → AddsOne (new_call config s req moment calls.PrepareCommit)

@@ -1,0 +1,105 @@
+//! What holds of every master: laws of what it keeps, over all records and all calls.
+#![tactic(auto)]
+
+ghost use Rattle.std.specs.Prelude.{◌≡◌, List, None, Some, false};
+ghost use Rattle.gs_state.specs.Applied.{is_whole_entry};
+ghost use Rattle.std.specs.FinMap as fin;
+ghost use Rattle.gs_base.specs.declared.numbers.ClientId.{ClientId};
+ghost use Rattle.gs_record.specs.Plain.{PlainCheckpoint, PlainEntry};
+ghost use Rattle.gs_state.specs.Checkpoints.{read_with};
+ghost use Rattle.gs_state.specs.Whole.{told_replies, whole_of};
+ghost use Rattle.gs_state.specs.declared.reply.KeptReply.{KeptReply};
+ghost use Rattle.gs_state.specs.Recorded.{SayAlone};
+ghost use Rattle.gs_laws.specs.Promises.{BeginsWithAll, IsToldAgain, KeepsAll, KeepsGiven, KeepsPrepared, LeadsBack, LeadsToKept, MadeOfTheMost, NothingAtTicks, NothingWhileRolling, PreparesByOneRecord, RefusedFits, RefusedLeavesNames, RollsBack, TellsAll, TellsCounters};
+ghost use Rattle.gs_state.specs.Undoing.{EditsAsTold};
+
+/// While a rollback is begun and not done, no view is begun, and no replica is dropped, whatever message comes and at each
+/// tick.
+pub fn nothing_is_begun_or_dropped_while_rolling_back()
+    ensures messages { NothingWhileRolling }
+    ensures ticks { NothingAtTicks }
+{}
+
+/// The edit of the names that a record tells is the edit that was recorded.
+pub fn edits_are_as_they_are_told()
+    ensures { EditsAsTold }
+{}
+
+/// A view is made of those that answered the most edits, and one of them was asked: the target of a copy alone makes none.
+pub fn views_are_of_those_with_the_most_edits()
+    ensures { MadeOfTheMost }
+{}
+
+/// A prepare that is accepted adds one record of 26 bytes and nothing else, and one that is refused at most its refusal.
+pub fn a_prepare_adds_one_record()
+    ensures { PreparesByOneRecord }
+{}
+
+/// A call that is refused by the event that brings it leaves the names and all views as they were.
+pub fn a_refused_call_leaves_names_and_views()
+    ensures { RefusedLeavesNames }
+{}
+
+/// The records of a call that is refused by the event that brings it fit what they meet and give what is durable afterwards, and
+/// they keep what stands.
+pub fn a_refused_call_fits()
+    ensures { RefusedFits }
+{}
+
+/// Once a prepare is recorded, nothing is to be taken back, and each settled chunk's view is its prepared one.
+pub fn a_prepare_begins_with_all_that_stands()
+    ensures { BeginsWithAll }
+{}
+
+/// No record but a checkpoint takes a counter behind a value that was given, or the epoch back.
+pub fn counters_never_fall()
+    ensures { (entry : PlainEntry) → KeepsGiven entry }
+{}
+
+/// A checkpoint of what stands tells its counters and its epoch.
+pub fn a_checkpoint_tells_the_counters()
+    ensures { TellsCounters }
+{}
+
+/// While an upgrade stands each record but a checkpoint leaves the prepared view of each chunk, also that of one which is
+/// forgotten, and a chunk that had none gets none, until the upgrade is finalized or rolled back. Holders are not part of it.
+pub fn prepared_views_stay()
+    ensures { (entry : PlainEntry) → KeepsPrepared entry }
+{}
+
+/// While an upgrade stands each record that goes on within it leaves the names to which the inverses lead: those of the prepare.
+pub fn inverses_lead_back()
+    ensures { (entry : PlainEntry) → LeadsBack entry }
+{}
+
+/// Each record but a checkpoint keeps what stands, wherever it can be written and fits. So records lead from a new store to what
+/// stands, where each checkpoint among them is that of something that stood.
+pub fn records_keep_what_stands()
+    ensures each { (entry : PlainEntry) → is_whole_entry entry ≡ false → KeepsAll entry }
+    ensures all { LeadsToKept }
+{}
+
+/// A rollback that is done leads back to the names of the prepare, and each chunk that it restores to the count of edits that the
+/// chunk had then, whatever records went on between.
+pub fn a_rollback_leads_back_to_the_prepare()
+    ensures { RollsBack }
+{}
+
+/// The checkpoint of what stands tells it, but for chunks that stand in no file and never did. So it is of what records lead to
+/// from a new store, where each checkpoint among them is that of something that stood.
+pub fn a_checkpoint_tells_what_stands()
+    ensures stands { TellsAll }
+    ensures again { IsToldAgain }
+{}
+
+/// What takes a deletion, a return, a chunk that is added or changed, a copy or what is forgotten back is said by the edit alone.
+pub fn some_edits_say_what_takes_them_back()
+    ensures { SayAlone }
+{}
+
+/// What is read from a checkpoint with the replies that it tells is what it says, and one whose replies tell nothing says
+/// nothing.
+pub fn a_checkpoint_is_read_with_its_replies()
+    ensures told { (c : PlainCheckpoint) (replies : List (ClientId × KeptReply)) → told_replies c.replies ≡ Some replies → whole_of c ≡ read_with c (fin.from_entries replies) }
+    ensures none { (c : PlainCheckpoint) → told_replies c.replies ≡ None → whole_of c ≡ None }
+{}

@@ -1,0 +1,105 @@
+-- That a master which is opened is what its journal tells.
+use Rattle.std.proofs.Common.{◌≡◌, ◌≢◌, ◌⊎◌, inl, inr, ◌∙◌, ◌+◌, ◌<◌, ◌≤◌, ℕ, true, false, List, [], map, refl, ap, subst, sym}
+use Rattle.std.specs.Prelude.{Option, Some, None, is_some, Result, Ok, Err, unwrap_or}
+use Rattle.std.specs.Result.{is_ok, result_ok}
+use Rattle.std.proofs.lemmas.Bool.{false≢true}
+use Rattle.gs_base.specs.declared.config.Config.{Config}
+use Rattle.gs_base.specs.declared.refusal.Refusal.{Refusal}
+use Rattle.gs_base.specs.declared.refusal.Refusal.TheVariants as refusals
+use Rattle.gs_journal.specs.Journal.{State as Journal, Stands, WhyClosed, failures_of_both}
+use Rattle.gs_journal.specs.Records.{standing}
+use Rattle.gs_journal.specs.declared.journal.Unopened.{Unopened}
+use Rattle.gs_journal.specs.declared.version.Version.{Version}
+use Rattle.gs_journal.specs.declared.version.Version.TheVariants as versions
+use Rattle.gs_record.specs.Encoding.{encoded}
+use Rattle.gs_record.specs.Plain.{PlainEntry}
+use Rattle.gs_state.specs.Applied.{records_behind, replayed}
+use Rattle.gs_state.specs.Durable.{Durable, start}
+use Rattle.gs_master.specs.Finishing.{IsAtRest}
+use Rattle.gs_state.specs.Handling.{answered_or, checkpoint_body, checkpoint_tests, recover, recovered_from, restarted, reopened, tidied, written, written_unless}
+use Rattle.gs_master.specs.Journaled.{IsLogOf}
+use Rattle.gs_master.specs.Masters.{Holds, IsHeld, IsTold}
+use Rattle.gs_state.specs.Plans.{log_of}
+use Rattle.gs_master.specs.Recovering.{AreRecordsOf, IsLeft, IsRecovered, Tells, WhyNotRecovered, WhyNotTold, log_behind_last, log_in}
+use Rattle.gs_master.specs.Starting.{WhyUnopened}
+use Rattle.gs_state.specs.State.{Log, Sound, State, Turn, and_then, first_of}
+use Rattle.gs_master.specs.Turns.{state_at}
+use Rattle.gs_master.specs.declared.event.Event.{Event}
+use Rattle.gs_master.proofs.Renewed.{tells_alone}
+
+abbrev Accepted : Turn → Result Turn Refusal
+Accepted t = Ok t
+
+-- what is opened in each version
+abbrev as_opened : Version → State → State
+as_opened versions.One s = (written s).after
+as_opened versions.Two s = s
+
+given : (t u : Turn) → Accepted t ≡ Accepted u → t ≡ u
+given t u is = ap (λ (r : Result Turn Refusal). unwrap_or (result_ok r) t) is
+
+module _ (config : Config) (log : Log) (d : Durable) (turn : Turn) where
+  opened_if : (o : Option Refusal) (s : State) → (let t = and_then (written_unless s o) (reopened config) in answered_or t t.said) ≡ Ok turn → turn.after ≡ (written s).after
+  opened_if None s is = ap (λ (t : Turn). t.after) (sym (given _ turn is))
+  opened_if (Some refusal) s is = absurd (false≢true (ap is_ok is))
+
+  opened_by : (v : Version) → recovered_from config v log (Some d) ≡ Ok turn → turn.after ≡ as_opened v (restarted d log)
+  opened_by versions.One is = opened_if (first_of (checkpoint_tests false false (restarted d log).log (checkpoint_body d))) (restarted d log) is
+  opened_by versions.Two is = ap (λ (t : Turn). t.after) (sym (given _ turn is))
+
+after_opening : (config : Config) (v : Version) (entries : List PlainEntry) (log : Log) (d : Durable) (turn : Turn) → replayed start entries ≡ Some d → recover config v entries log ≡ Ok turn →
+    turn.after ≡ as_opened v (restarted d (record log { records = records_behind entries }))
+unfolding recover
+after_opening config v entries log d turn replays is =
+    opened_by config (record log { records = records_behind entries }) d turn v (ap (recovered_from config v (record log { records = records_behind entries })) (sym replays) ∙ is)
+
+module _ {D : Type 0} (seen : D → List ℕ) (may_leave : D → List ℕ → Type 0) (failures : D → ℕ) (config : Config) (j k : Journal D) (e : Event) (is : IsRecovered seen may_leave failures config j k e) where
+  state_is : (v : Version) → j.text.0 ≡ v → state_at e ≡ as_opened v (restarted is.durable (log_behind_last j is.entries))
+  state_is v same = is.after ∙ after_opening config v is.entries (log_in j) is.durable is.turn is.tells.replays (subst (λ x. recover config x is.entries (log_in j) ≡ Ok is.turn) same is.recovers)
+
+  held_as : (v : Version) → j.text.0 ≡ v → AreRecordsOf v j.text.1 is.entries → IsLeft seen may_leave failures v is.durable j k → IsLogOf (state_at e).log k → IsHeld seen may_leave (state_at e) k
+  held_as versions.One same are left of_log =
+      subst (λ (s : State). Holds seen may_leave s.durable (state_at e).log k s.fault) (sym (state_is versions.One same)) (left.stands, (of_log, tells_alone seen may_leave failures is.durable k left.made.text))
+  held_as versions.Two same are left of_log =
+      subst (λ (s : State). Holds seen may_leave s.durable (state_at e).log k s.fault) (sym (state_is versions.Two same)) (
+        left.1.0,
+        (
+          of_log,
+          record {
+            first = [];
+            base = start;
+            entries = is.entries;
+            begins = inl (refl, refl);
+            text = left.0.text ∙ (λ i. (same i, j.text.1)) ∙ (λ i. (versions.Two, are.written i));
+            are_entries = are.are_entries;
+            replays = is.tells.replays;
+          },
+        ),
+      )
+
+  pub opened_held : IsHeld seen may_leave (state_at e) k
+  opened_held = held_as j.text.0 refl is.tells.records is.journal is.log
+
+-- ---- what isn't opened
+
+no_log : Log
+no_log = record { records = 0; size = 0; limit = 0; generation = 0 }
+
+module _ {D : Type 0} (seen : D → List ℕ) (failures : D → ℕ) (config : Config) (first second : D) (u : Unopened D) where
+  -- the journal wasn't
+  pub closed_why : WhyClosed (standing (seen first) (seen second)) (failures first + failures second) (failures u.first + failures u.second) u.refusal →
+      (u.refusal ≢ refusals.Device → (seen u.first ≡ seen first) × (seen u.second ≡ seen second)) → WhyUnopened seen failures config first second u
+  closed_why (inl bad) unchanged =
+      let same = unchanged (λ device. absurd (cc (bad.0, device))) in inr ((λ i. standing (same.0 i) (same.1 i)), inl (bad.0, bad.1))
+  closed_why (inr (inl device)) unchanged = inl device
+  closed_why (inr (inr memory)) unchanged =
+      let same = unchanged (λ device. absurd (cc (memory.0, device))) in inr ((λ i. standing (same.0 i) (same.1 i)), inr (no_log, inl memory.0))
+
+  -- the journal was, and tells no master
+  pub untold_why : (j k : Journal D) → j.text ≡ standing (seen first) (seen second) → failures_of_both failures j ≡ failures first + failures second → u.first ≡ k.first → u.second ≡ k.second →
+      standing (seen u.first) (seen u.second) ≡ k.text → WhyNotRecovered failures config j k u.refusal → WhyUnopened seen failures config first second u
+  untold_why j k text quiet f s now (inl same) =
+      inr (now ∙ same.0.stays.text ∙ text, inr (log_in j, subst (λ t. WhyNotTold config t (log_in j) u.refusal) text same.1))
+  untold_why j k text quiet f s now (inr broken) =
+      let fails : failures_of_both failures k ≡ failures u.first + failures u.second = λ i. failures (sym f i) + failures (sym s i) in
+      inl (broken.0, subst (λ n. n < failures u.first + failures u.second) quiet (subst (λ n. failures_of_both failures j < n) fails broken.1.cause))

@@ -1,0 +1,25 @@
+use Rattle.std.proofs.Common.{◌∙◌, ap, false, refl, sym}
+use Rattle.std.specs.Prelude.{fold}
+use Rattle.std.specs.FinMap as fin
+use Rattle.gs_state.specs.Durable.{Durable}
+use Rattle.gs_state.specs.Recorded.{durable_of}
+use Rattle.gs_state.specs.Tracked.{NowAndBefore}
+use Rattle.gs_state.specs.Volatile.{Volatile}
+use Rattle.gs_master.proofs.Renewals.{renewed_gives}
+use Rattle.gs_master.proofs.event.Event.accept_checkpoint.Goals as goal
+
+pub returns-clause-renewed : goal.returns-clause-renewed
+returns-clause-renewed c =
+    let m = c.accept_new.ensures in
+    record {
+      over = record {
+        undos = c.let_all_go.ensures.none;
+        entries = c.clear.ensures.items;
+        written = c.clear-2.ensures.items;
+        memory = λ i. record { now = c.accept_new.new.self.now; before = m.before i; keeps_calls = m.calls i };
+      };
+      after = renewed_gives c.args.self.now c.args.renewal (durable_of c.tidy.new.self) c.accept_new.new.self.now c.deref.result.now c.deref-2.result.now c.requires
+          (c.tidy.ensures ∙ ap (λ (d : Durable). record d { chunks = fold fin.remove d.chunks c.deref.result.now }) c.let_all_go.ensures.value) c.deref.ensures.value m.now c.deref-2.ensures.value;
+      sends = refl;
+      says = refl;
+    }

@@ -1,0 +1,54 @@
+use Rattle.std.proofs.Common.{◌≡◌, ◌∙◌, refl, subst}
+use Rattle.std.specs.Prelude.{Ok}
+use Rattle.gs_journal.specs.Records.{Text}
+use Rattle.gs_state.specs.Handling.{recover}
+use Rattle.gs_master.specs.Recovering.{Tells, log_in}
+use Rattle.gs_master.proofs.Reopened.{closed_why, opened_held, untold_why}
+use Rattle.gs_master.proofs.master.Master.open.Goals as goal
+
+pub returns-in-Err-clause-refused : goal.returns-in-Err-clause-refused
+returns-in-Err-clause-refused g c =
+    let d = g.D.Disk in
+    closed_why d.seen d.failures c.args.config c.args.first c.args.second c.in-Err.unopened c.in-Err.ensures.refused c.in-Err.ensures.unchanged
+
+pub invariant_of-master : goal.invariant_of-master
+invariant_of-master g c =
+    let d = g.D.Disk in
+    let recovered = c.in-Ok-recover.ensures in (
+      record {
+        begun = record {
+          undos = recovered.begun.undos;
+          entries = recovered.begun.entries;
+          written = recovered.begun.written;
+          memory = recovered.begun.memory;
+          said = recovered.begun.said;
+        };
+        sent = (λ i. (c.replace-sent.ensures.after i).items) ∙ c.new.ensures.items;
+        counted = recovered.ready.counted;
+      },
+      opened_held d.seen d.may_leave d.failures c.args.config c.in-Ok.journal c.recover.new.journal c.in-Ok-recover.event recovered,
+    )
+
+pub returns-in-Ok-recover-clause-opened : goal.returns-in-Ok-recover-clause-opened
+returns-in-Ok-recover-clause-opened g c =
+    let text = c.in-Ok.ensures.text in
+    let recovered = c.in-Ok-recover.ensures in
+    let log = log_in c.in-Ok.journal in record {
+      entries = recovered.entries;
+      durable = recovered.durable;
+      tells = subst (λ t. Tells t recovered.entries recovered.durable) text recovered.tells;
+      log = log;
+      turn = recovered.turn;
+      recovers = subst (λ (t : Text). recover c.args.config t.0 recovered.entries log ≡ Ok recovered.turn) text recovered.recovers;
+      state = recovered.after;
+      sends = (λ i. (c.replace-sent.ensures.value i).items) ∙ recovered.sent;
+      config = refl;
+      limit = c.in-Ok.ensures.limit;
+    }
+
+pub returns-in-Err-recover-clause-refused : goal.returns-in-Err-recover-clause-refused
+returns-in-Err-recover-clause-refused g c =
+    let d = g.D.Disk in
+    untold_why d.seen d.failures c.args.config c.args.first c.args.second
+    (record { refusal = c.in-Err-recover.refusal; first = c.into_disks-first.result.0; second = c.into_disks-first.result.1 }) c.in-Ok.journal c.recover.new.journal
+    c.in-Ok.ensures.text c.in-Ok.ensures.quiet c.into_disks-first.ensures.disks.0 c.into_disks-first.ensures.disks.1 c.into_disks-first.ensures.text c.in-Err-recover.ensures

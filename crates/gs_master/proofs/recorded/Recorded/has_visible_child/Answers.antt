@@ -1,8 +1,0 @@
-use Rattle.std.proofs.Common.{ap, ◌∙◌}
-use Rattle.std.specs.FinMap as fin
-use Rattle.gs_master.specs.Calls.{has_visible_child}
-use Rattle.gs_master.proofs.Listed.{has_visible_is}
-use Rattle.gs_master.proofs.recorded.Recorded.has_visible_child.Goals as goal
-
-pub returns : goal.returns
-returns c = has_visible_is c.tree.result.now c.args.path.now c.has_visible.result c.has_visible.ensures ∙ ap (λ m. has_visible_child (fin.entries m) c.args.path.now) c.tree.ensures

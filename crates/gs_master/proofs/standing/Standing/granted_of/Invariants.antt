@@ -1,9 +1,0 @@
-use Rattle.std.proofs.Common.{◌≡◌, take}
-use Rattle.std.specs.Prelude.{flat_map}
-use Rattle.gs_master.specs.Chunks.{chunk_at}
-use Rattle.gs_master.specs.Handling.{granted_at}
-use Rattle.gs_master.specs.Plans.{state_of}
-use Rattle.gs_master.proofs.standing.Standing.granted_of.Given as goal
-
-abbrev pub invariant-loop-chunk : goal.invariant-loop-chunk
-invariant-loop-chunk l = l.sent.items ≡ flat_map (λ chunk. granted_at chunk (chunk_at (state_of l.self) chunk)) (take l.chunk-index l.chunks)

@@ -1,0 +1,87 @@
+-- The master with its journal, and what it answers.
+use Rattle.std.specs.Prelude.{◌≡◌, ◌⊎◌, ◌<◌, ◌++◌, ◌∷◌, ℕ, true, false, List, [], map, Option, Some, None, Result, Ok, Err}
+use Rattle.std.specs.List.{AllByRecursion}
+use Rattle.gs_base.specs.declared.config.Config.{Config}
+use Rattle.gs_base.specs.declared.numbers.ReqId.{ReqId}
+use Rattle.gs_base.specs.declared.refusal.Refusal.{Refusal}
+use Rattle.gs_base.specs.declared.refusal.Refusal.TheVariants as refusals
+use Rattle.gs_journal.specs.Journal.{State as Journal, Stands, failures_of_both}
+use Rattle.gs_journal.specs.Records.{Entry as Record}
+use Rattle.gs_journal.specs.declared.version.Version.TheVariants.{Two}
+use Rattle.gs_msg.specs.declared.message.Message.{Message}
+use Rattle.gs_record.specs.Encoding.{encoded}
+use Rattle.gs_record.specs.Plain.{PlainEntry, Whole}
+use Rattle.gs_record.specs.Writable.{IsEntry}
+use Rattle.gs_state.specs.Applied.{applied, replayed}
+use Rattle.gs_state.specs.Durable.{Durable, start}
+use Rattle.gs_state.specs.Handling.{checkpoint_body, tidied}
+use Rattle.gs_master.specs.Journaled.{IsLogOf}
+use Rattle.gs_state.specs.Outcomes.{IsCut, IsDone}
+use Rattle.gs_state.specs.State.{Fault, Sound, Failed, Unopened, Log, State, Turn, fits}
+use Rattle.gs_state.specs.Whole.{checkpoint_of}
+use Rattle.gs_master.specs.declared.turn.Turn.{Turn as Told}
+
+pub record MasterOf (D : Type 0) : Type 0 where
+  pub config : Config
+  pub state : State
+  pub journal : Journal D
+
+-- ---- what the journal tells
+
+-- a journal begins with nothing, or with the checkpoint of what stood, which tells all but the chunks that no file has or had
+abbrev pub Begins : List Record → Durable → Type 0
+Begins first base = ((first ≡ []) × (base ≡ start)) ⊎ ((d : Durable) × ((first ≡ (9, checkpoint_body d) ∷ []) × (base ≡ tidied d)))
+
+-- its records, and what those behind its beginning come to
+pub record IsTold {D : Type 0} (d : Durable) (j : Journal D) : Type 0 where
+  pub first : List Record
+  pub base : Durable
+  pub entries : List PlainEntry
+  pub begins : Begins first base
+  pub text : j.text ≡ (Two, first ++ map (encoded Two) entries)
+  pub are_entries : AllByRecursion (IsEntry Two) entries
+  pub replays : replayed base entries ≡ Some d
+
+-- a record in doubt stands or doesn't, and a checkpoint of what stood tells that
+abbrev pub DoubtLeaves : Option PlainEntry → Durable → Durable → Type 0
+DoubtLeaves None d found = found ≡ d
+DoubtLeaves (Some entry) d found = (found ≡ d) ⊎ ((applied d entry ≡ Some found) ⊎ ((entry ≡ Whole (checkpoint_of d)) × (found ≡ tidied d)))
+
+-- The journal tells what stands. Once a disk has failed it is closed, and tells that with the record in doubt or without.
+abbrev pub Holds : {D : Type 0} → (D → List ℕ) → (D → List ℕ → Type 0) → Durable → Log → Journal D → Fault → Type 0
+Holds seen may_leave d log j Sound = Stands seen may_leave j × (IsLogOf log j × IsTold d j)
+Holds seen may_leave d log j (Failed doubt) = (j.is_failed ≡ true) × ((found : Durable) × (DoubtLeaves doubt d found × IsTold found j))
+Holds seen may_leave d log j (Unopened doubt) = j.is_failed ≡ true
+
+abbrev pub IsHeld : {D : Type 0} → (D → List ℕ) → (D → List ℕ → Type 0) → State → Journal D → Type 0
+IsHeld seen may_leave s j = Holds seen may_leave s.durable s.log j s.fault
+
+-- ---- what an event answers
+
+-- The turn is done. Each of its records fits what it meets, and stands behind the others in the journal.
+pub record IsAnswered {D : Type 0} (t : Turn) (old : MasterOf D) (told : Told) (new : MasterOf D) : Type 0 where
+  pub done : IsDone t told.sent.items told.said new.state
+  pub fit : replayed old.state.durable t.records ≡ Some new.state.durable
+  pub are_entries : AllByRecursion (IsEntry Two) t.records
+  pub text : new.journal.text ≡ (old.journal.text.0, old.journal.text.1 ++ map (encoded Two) t.records)
+  pub config : new.config ≡ old.config
+
+-- A disk failed at the record at a place, which stands or doesn't.
+pub record IsAnsweredUnsure {D : Type 0} (failures : D → ℕ) (caller : Option ReqId) (t : Turn) (place : ℕ) (old : MasterOf D) (told : Told) (new : MasterOf D) : Type 0 where
+  pub cut : IsCut old.state caller t place told.sent.items told.said new.state
+  pub cause : failures_of_both failures old.journal < failures_of_both failures new.journal
+  pub closed : new.journal.is_failed ≡ true
+  pub config : new.config ≡ old.config
+
+-- Full only where the journal has no room for all records of the turn, BadLine only where one of them doesn't fit what it meets
+-- or can't be written, and else memory is wanting.
+abbrev pub WhyNot : Turn → State → Refusal → Type 0
+WhyNot t s e =
+    (e ≡ refusals.Memory)
+    ⊎ (((e ≡ refusals.Full) × (fits s.log t.records ≡ false))
+    ⊎ ((e ≡ refusals.BadLine) × ((replayed s.durable t.records ≡ None) ⊎ ¬ AllByRecursion (IsEntry Two) t.records)))
+
+-- The turn is done, or cut where a disk failed; or it is refused, and nothing has happened.
+abbrev pub Answers : {D : Type 0} → (D → ℕ) → Option ReqId → Turn → MasterOf D → Result Told Refusal → MasterOf D → Type 0
+Answers failures caller t old (Ok told) new = IsAnswered t old told new ⊎ ((place : ℕ) × IsAnsweredUnsure failures caller t place old told new)
+Answers failures caller t old (Err refusal) new = WhyNot t old.state refusal × (new ≡ old)

@@ -1,0 +1,35 @@
+-- What two disks are opened as.
+use Rattle.std.specs.Prelude.{◌≡◌, ◌⊎◌, ◌+◌, ◌<◌, ℕ, true, false, List, Ok, Result, Err}
+use Rattle.gs_base.specs.declared.config.Config.{Config}
+use Rattle.gs_base.specs.declared.refusal.Refusal.{Refusal}
+use Rattle.gs_base.specs.declared.refusal.Refusal.TheVariants as refusals
+use Rattle.gs_journal.specs.Forms.{is_text}
+use Rattle.gs_journal.specs.Records.{Text, standing}
+use Rattle.gs_journal.specs.declared.journal.Unopened.{Unopened}
+use Rattle.gs_msg.specs.declared.message.Message.{Message}
+use Rattle.gs_record.specs.Plain.{PlainEntry}
+use Rattle.gs_state.specs.Durable.{Durable}
+use Rattle.gs_state.specs.Handling.{recover}
+use Rattle.gs_master.specs.Masters.{MasterOf}
+use Rattle.gs_master.specs.Recovering.{Tells, WhyNotTold}
+use Rattle.gs_state.specs.State.{Log, Turn}
+
+-- The master is what the records tell, and sends what they say. As many bytes as it was told may be written to a disk.
+pub record IsOpened {D : Type 0} (given : Config) (text : Text) (bound : ℕ) (m : MasterOf D) (sent : List Message) : Type 0 where
+  pub entries : List PlainEntry
+  pub durable : Durable
+  pub tells : Tells text entries durable
+  pub log : Log
+  pub turn : Turn
+  pub recovers : recover given text.0 entries log ≡ Ok turn
+  pub state : m.state ≡ turn.after
+  pub sends : sent ≡ turn.sent
+  pub config : m.config ≡ given
+  pub limit : log.limit ≡ bound
+
+-- A disk failed; or the disks say what they said, and that tells no master, or memory is wanting.
+abbrev pub WhyUnopened : {D : Type 0} → (D → List ℕ) → (D → ℕ) → Config → D → D → Unopened D → Type 0
+WhyUnopened seen failures config first second u =
+    ((u.refusal ≡ refusals.Device) × (failures first + failures second < failures u.first + failures u.second))
+    ⊎ ((standing (seen u.first) (seen u.second) ≡ standing (seen first) (seen second))
+    × (((u.refusal ≡ refusals.BadLine) × (is_text (standing (seen first) (seen second)) ≡ false)) ⊎ ((log : Log) × WhyNotTold config (standing (seen first) (seen second)) log u.refusal)))

@@ -1,0 +1,196 @@
+// Views that are begun, and calls that wait for them.
+ghost use Rattle.std.specs.Prelude.{◌≡◌, ◌∷◌, [], Some, IfOk, map};
+ghost use Rattle.gs_lease.specs.declared.view.Purpose.TheVariants as purposes;
+ghost use Rattle.gs_msg.specs.declared.body.Body.TheVariants as bodies;
+ghost use Rattle.gs_msg.specs.declared.chunk.Chunk.TheVariants as chunks;
+ghost use Rattle.gs_msg.specs.declared.node.NodeId.TheVariants as nodes;
+ghost use Rattle.gs_record.specs.Plain as entries;
+ghost use Rattle.gs_record.specs.Plain.{plain};
+ghost use Rattle.gs_state.specs.Chunks.{asking_for, chunk_at};
+ghost use Rattle.gs_state.specs.State.{about, post, to_each};
+ghost use Rattle.gs_state.specs.declared.change.Change.TheVariants as changes;
+ghost use Rattle.gs_state.specs.Beginning.{begin_at, begin_plan, copy_plan, create_plan, members_at, next_stamp};
+ghost use Rattle.gs_state.specs.Plans.{plan_of};
+ghost use Rattle.gs_plan.specs.Planning.{state_of};
+ghost use Rattle.gs_state.specs.Working.{begin_pending};
+
+use crate::posting::to_each;
+use crate::standing::Standing;
+use gs_base::{Handle, Members, ReqId, Stamp};
+use gs_lease::{Purpose, View};
+use gs_msg::{Body, Chunk, Message};
+use gs_record::Entry;
+use gs_state::asking::Asking;
+use gs_state::change::Change;
+use gs_state::pending::{Pending, Waiting};
+use gs_state::plan::Plan;
+use std::alloc::{AllocError, Global};
+
+/// The record of a view that is begun.
+fn proposed(alloc: Global, handle: Handle, version: u64) -> Result<Vec<Entry>, AllocError>
+    ensures { IfOk result (λ records. map plain records.items ≡ entries.Propose handle version ∷ []) }
+{
+    let mut records = Vec::new(alloc);
+    records.push(Entry::Propose { handle, version })?;
+    Ok(records)
+}
+
+/// A chunk is asked for.
+fn asked(alloc: Global, chunk: Handle, asking: &Asking) -> Result<Vec<Change>, AllocError>
+    ensures { IfOk result (λ changed. changed.items ≡ changes.Ask chunk asking.now ∷ []) }
+{
+    let mut changes = Vec::new(alloc);
+    changes.push(Change::Ask(chunk, *asking))?;
+    Ok(changes)
+}
+
+/// A chunk is new, and is asked for.
+fn entered(
+    alloc: Global,
+    chunk: Handle,
+    targets: Members,
+    stamp: Stamp,
+    call: ReqId,
+) -> Result<Vec<Change>, AllocError>
+    ensures { IfOk result (λ changed. changed.items ≡ changes.Enter chunk ∷ changes.Ask chunk (asking_for stamp purposes.Quiet targets (Some call)) ∷ []) }
+{
+    let asking = Asking::of(stamp, Purpose::Quiet, targets, Some(call));
+    let mut changes = asked(alloc, chunk, &asking)?;
+    changes.insert(0, Change::Enter(chunk))?;
+    Ok(changes)
+}
+
+/// The members of a chunk are told to raise their promises.
+fn advanced(
+    alloc: Global,
+    chunk: Handle,
+    members: Members,
+    stamp: Stamp,
+) -> Result<Vec<Message>, AllocError>
+    ensures { IfOk result (λ sent. sent.items ≡ to_each members (about chunk (chunks.Advance stamp))) }
+{
+    to_each(alloc, members, &Body::About(chunk, Chunk::Advance(stamp)))
+}
+
+/// The targets of a new chunk are told to make empty replicas.
+fn created(
+    alloc: Global,
+    chunk: Handle,
+    targets: Members,
+    stamp: Stamp,
+) -> Result<Vec<Message>, AllocError>
+    ensures { IfOk result (λ sent. sent.items ≡ to_each targets (about chunk (chunks.Create stamp))) }
+{
+    to_each(alloc, targets, &Body::About(chunk, Chunk::Create(stamp)))
+}
+
+/// The members of a chunk are told to copy it under a new handle.
+fn copied(
+    alloc: Global,
+    handle: Handle,
+    view: &View,
+    new_handle: Handle,
+    stamp: Stamp,
+) -> Result<Vec<Message>, AllocError>
+    ensures { IfOk result (λ sent. sent.items ≡ to_each view.now.members (λ server. post (nodes.Server server) (bodies.MakeCopy handle view.now.stamp new_handle stamp))) }
+{
+    let body = Body::MakeCopy {
+        handle,
+        at: view.stamp,
+        new_handle,
+        stamp,
+    };
+    to_each(alloc, view.members, &body)
+}
+
+/// A view of a settled chunk is begun on its members.
+pub fn begin_plan(
+    alloc: Global,
+    stamp: Stamp,
+    chunk: Handle,
+    members: Members,
+    purpose: Purpose,
+    call: Option<ReqId>,
+) -> Result<Plan, AllocError>
+    ensures { IfOk result (λ plan. plan_of plan ≡ begin_plan stamp chunk members purpose call) }
+{
+    let asking = Asking::of(stamp, purpose, members, call);
+    Ok(Plan {
+        records: proposed(alloc, chunk, stamp.version)?,
+        changes: asked(alloc, chunk, &asking)?,
+        sent: advanced(alloc, chunk, members, stamp)?,
+        said: None,
+    })
+}
+
+/// The first view of a new chunk is begun.
+pub fn create_plan(
+    alloc: Global,
+    stamp: Stamp,
+    chunk: Handle,
+    targets: Members,
+    call: ReqId,
+) -> Result<Plan, AllocError>
+    ensures { IfOk result (λ plan. plan_of plan ≡ create_plan stamp chunk targets call) }
+{
+    Ok(Plan {
+        records: proposed(alloc, chunk, stamp.version)?,
+        changes: entered(alloc, chunk, targets, stamp, call)?,
+        sent: created(alloc, chunk, targets, stamp)?,
+        said: None,
+    })
+}
+
+/// A new chunk is made as a copy of a quiet one, where each of its members has it.
+pub fn copy_plan(
+    alloc: Global,
+    stamp: Stamp,
+    old: Handle,
+    view: &View,
+    new: Handle,
+    call: ReqId,
+) -> Result<Plan, AllocError>
+    ensures { IfOk result (λ plan. plan_of plan ≡ copy_plan stamp old view.now new call) }
+{
+    Ok(Plan {
+        records: proposed(alloc, new, stamp.version)?,
+        changes: entered(alloc, new, view.members, stamp, call)?,
+        sent: copied(alloc, old, view, new, stamp)?,
+        said: None,
+    })
+}
+
+/// A call begins to wait.
+pub fn begin_pending(alloc: Global, req: ReqId, waits: Waiting) -> Result<Plan, AllocError>
+    ensures { IfOk result (λ plan. plan_of plan ≡ begin_pending req waits) }
+{
+    let mut plan = Plan::nothing(alloc);
+    plan.changes.push(Change::Begin(Pending { req, waits }))?;
+    Ok(plan)
+}
+
+impl<'a> Standing<'a> {
+    /// The members of the settled view of a chunk, if the master knows it and it has one.
+    fn members_at(&self, chunk: Handle) -> Members
+        ensures { result ≡ members_at (chunk_at (state_of self.entry.now) chunk) }
+    {
+        match self.chunk_at(chunk) {
+            Some(known) => known.members(),
+            None => Members::none(),
+        }
+    }
+
+    /// A view of a chunk is begun on its members.
+    pub fn begin_at(
+        &self,
+        chunk: Handle,
+        purpose: Purpose,
+        call: Option<ReqId>,
+    ) -> Result<Plan, AllocError>
+        ensures { IfOk result (λ plan. plan_of plan ≡ begin_at (state_of self.entry.now) chunk purpose call) }
+    {
+        let members = self.members_at(chunk);
+        let stamp = self.recorded.next_stamp();
+        begin_plan(self.recorded.alloc, stamp, chunk, members, purpose, call)
+    }
+}

@@ -1,0 +1,86 @@
+// A checkpoint behind the records of an event.
+ghost use Rattle.std.specs.Prelude.{◌≡◌, ◌<◌, None};
+ghost use Rattle.gs_journal.specs.Journal.{last_generation};
+ghost use Rattle.gs_state.specs.Handling.{checkpoint_tests, due};
+ghost use Rattle.gs_plan.specs.Planning.{state_of};
+ghost use Rattle.gs_plan.specs.Renewable.{MakesRenewal};
+ghost use Rattle.gs_state.specs.State.{first_of, is_failed};
+
+use crate::standing::Standing;
+use gs_base::{Handle, Refusal};
+use gs_journal::{Disk, Draft, Journal};
+use gs_record::Entry;
+use gs_state::log::Log;
+use gs_state::renewing::AROUND;
+
+/// So many records make the next tick write a checkpoint.
+const MANY_RECORDS: u64 = 4096;
+
+/// All that a checkpoint takes: its bytes, the journal's room behind it, the chunks of which it doesn't tell, and of the new
+/// chunks those that are settled and those that wait still. Once it is made, no memory is wanted.
+#[derive(Drop)]
+pub struct Renewal {
+    pub entry: Entry,
+    pub draft: Draft,
+    pub log: Log,
+    pub unlisted: Vec<Handle>,
+    pub placed: Vec<Handle>,
+    pub awaiting: Vec<Handle>,
+}
+
+impl<'a> Standing<'a> {
+    /// Whether so many records stand that the next tick writes a checkpoint.
+    pub fn is_due(&self) -> bool
+        ensures { result ≡ due (state_of self.entry.now) }
+    {
+        MANY_RECORDS <= self.log.records && !self.memory.is_preparing()
+    }
+
+    /// Why no checkpoint of this body is written.
+    fn checkpoint_refusal(&self, body: &[u8]) -> Option<Refusal>
+        ensures left { result ≡ None → self.entry.now.log.generation < last_generation }
+        ensures first { result ≡ first_of (checkpoint_tests (is_failed (state_of self.entry.now).fault) (state_of self.entry.now).volatile.is_preparing (state_of self.entry.now).log body.now) }
+    {
+        if self.fault.is_failed() {
+            return Some(Refusal::Device);
+        }
+        if self.memory.is_preparing() {
+            return Some(Refusal::Preparing);
+        }
+        if self.log.generation == u64::MAX {
+            return Some(Refusal::Exhausted);
+        }
+        if self.log.limit < body.len() as u64 + AROUND {
+            return Some(Refusal::Full);
+        }
+        None
+    }
+
+    /// All that a checkpoint of what stands takes. A refusal but for `Memory` says why none is written. `Memory` too where one
+    /// can't be written down, which is never so of what its records have come to.
+    pub fn renewal<D: Disk>(&self, journal: &Journal<D>) -> Result<Renewal, Refusal>
+        ensures { MakesRenewal (state_of self.entry.now) journal.now result }
+    {
+        let alloc = self.recorded.alloc;
+        let entry = Entry::Checkpoint(self.recorded.checkpoint()?);
+        let encoded = match entry.encode(alloc) {
+            Ok(encoded) => encoded,
+            Err(_) => return Err(Refusal::Memory),
+        };
+        if let Some(refusal) = self.checkpoint_refusal(encoded.body()) {
+            return Err(refusal);
+        }
+        let draft = match journal.draft(alloc, encoded.body()) {
+            Ok(draft) => draft,
+            Err(_) => return Err(Refusal::Memory),
+        };
+        Ok(Renewal {
+            entry,
+            draft,
+            log: self.log.anew(encoded.body()),
+            unlisted: self.recorded.unlisted()?,
+            placed: self.without_place()?,
+            awaiting: self.awaiting()?,
+        })
+    }
+}

@@ -1,0 +1,13 @@
+use Rattle.std.proofs.Common.{ap, ◌∙◌}
+use Rattle.std.specs.Prelude.{Ok}
+use Rattle.std.specs.FinMap as fin
+use Rattle.gs_msg.specs.declared.answer.Answer.TheVariants as answers
+use Rattle.gs_state.specs.Calls.{listing}
+use Rattle.gs_state.proofs.Listed.{listed_as}
+use Rattle.gs_state.proofs.recorded.Recorded.listing.Goals as goal
+
+pub returns : goal.returns
+returns c =
+    ap (λ l. Ok (answers.Names l)) c.new.ensures
+    ∙ listed_as c.tree.result.now c.args.path.now c.in-Ok.listed.items c.in_ok-names.names.items c.in-Ok.ensures c.in_ok-names.ensures
+    ∙ ap (λ m. listing (fin.entries m) c.args.path.now (fin.get m c.args.path.now)) c.tree.ensures

@@ -1,0 +1,45 @@
+-- What the code judges of a call.
+use Rattle.std.specs.Prelude.{◌≡◌, ◌+◌, ℕ, Bool, List, [], ◌∷◌, Option, Some, None, is_none, length, Result, Ok, Err, cond, codes, refl}
+use Rattle.std.specs.declared.cmp.Ordering.{Ordering}
+use Rattle.std.specs.declared.cmp.Ordering.TheVariants.{Less, Equal, Greater}
+use Rattle.std.specs.Cmp.Lexicographic.{slice_cmp}
+use Rattle.std.specs.Ordering.{nat_cmp}
+use Rattle.gs_base.specs.declared.refusal.Refusal.{Refusal}
+use Rattle.gs_base.specs.declared.refusal.Refusal.TheVariants as refusals
+use Rattle.gs_tree.specs.Entry.{Entry, Dir, File}
+use Rattle.gs_msg.specs.declared.lists.ListedName.{ListedName}
+use Rattle.gs_path.specs.Path.{Name, Path, path_text}
+use Rattle.gs_tree.specs.Plain.{Plain}
+
+-- a name as it is told, with whether a directory stands there
+abbrev pub listed_name : Name × Bool → ListedName
+listed_name pair = record { name = pair.0; is_directory = pair.1 }
+
+-- how many chunks a file has
+abbrev pub length_at : Option (Entry ℕ) → Result ℕ Refusal
+length_at None = Err refusals.NotFound
+length_at (Some Dir) = Err refusals.IsADirectory
+length_at (Some (File chunks)) = Ok (length chunks)
+
+-- the lower of two texts
+abbrev pub lower_text : List ℕ → Option (List ℕ) → List ℕ
+lower_text text None = text
+lower_text text (Some other) = lower_by (slice_cmp nat_cmp text other)
+  where
+    lower_by : Ordering → List ℕ
+    lower_by Less = text
+    lower_by Equal = other
+    lower_by Greater = other
+
+-- the lowest text of these paths, and another
+abbrev pub lower_each : List Path → Option (List ℕ) → Option (List ℕ)
+lower_each [] lowest = lowest
+lower_each (path ∷ paths) lowest = Some (lower_text (path_text path) (lower_each paths lowest))
+
+-- of how many paths something stands at each before the first of which nothing does
+abbrev pub leading : Plain ℕ → List Path → ℕ
+leading m [] = 0
+leading m (path ∷ paths) = cond (is_none (m path)) 0 (leading m paths + 1)
+
+a_point_before_a_slash : lower_text (codes "/a/b") (Some (codes "/a.b")) ≡ codes "/a.b"
+a_point_before_a_slash = refl

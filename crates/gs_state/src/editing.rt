@@ -1,0 +1,235 @@
+// What an edit of the names needs, and what it makes of all but the names.
+ghost use Rattle.std.specs.Prelude.{◌≡◌, ◌<◌, [], ◌∷◌, IfOk, vec_len, vec_capacity};
+ghost use Rattle.std.specs.Ordering.{nat_cmp};
+ghost use Rattle.gs_record.specs.Plain as entries;
+ghost use Rattle.gs_record.specs.Plain.{plain_edit};
+ghost use Rattle.gs_table.specs.Slots.{HasRoom, KeepsRoom};
+ghost use Rattle.gs_state.specs.Applied.{after_if, chunk_of_edit, forgotten_by, may_edit, names_well, number_of_edit, view_for, with_answer, without_chunks};
+ghost use Rattle.gs_state.specs.Recorded.{IsToldBack, RoomForEach, RoomToKeep, durable_of, inverses_and, unfit};
+ghost use Rattle.gs_state.specs.Replies.{answer_to, client_cmp};
+ghost use Rattle.gs_state.specs.TakingBack.{Enters};
+
+use crate::hiding::{hidden_path, is_visible, old_name, old_path};
+use crate::recorded::{Recorded, after_number, is_fresh};
+use crate::reply::KeptReply;
+use gs_base::{Handle, Refusal, ReqId};
+use gs_edit::{Edit, ListedInverse};
+use gs_lease::View;
+use gs_msg::Answer;
+use gs_record::Phase;
+use std::alloc::{AllocError, Global};
+
+/// Whether the paths of an edit are as calls may name them.
+fn names_well(alloc: Global, edit: &Edit) -> Result<bool, AllocError>
+    ensures { IfOk result (λ well. well ≡ names_well (plain_edit edit.now)) }
+{
+    match edit {
+        Edit::Mkdirs(path)
+        | Edit::Create(path)
+        | Edit::Hide(path, _, _)
+        | Edit::AddChunk(path, _)
+        | Edit::Cow(path, _, _, _) => Ok(is_visible(path)),
+        Edit::Rename(from, to) | Edit::Snapshot(from, to) => {
+            Ok(is_visible(from) && is_visible(to))
+        }
+        Edit::Unhide(path) => match old_name(alloc, path)? {
+            Some(name) => Ok(!name.is_hidden()),
+            None => Ok(true),
+        },
+        Edit::Remove(_) | Edit::Forget(_) => Ok(true),
+    }
+}
+
+/// The chunk that an edit puts into a file.
+fn chunk_of(edit: &Edit) -> Option<Handle>
+    ensures { result ≡ chunk_of_edit (plain_edit edit.now) }
+{
+    match edit {
+        Edit::AddChunk(_, chunk) => Some(*chunk),
+        Edit::Cow(_, _, _, new) => Some(*new),
+        _ => None,
+    }
+}
+
+/// The number of a deletion.
+fn number_of(edit: &Edit) -> Option<u64>
+    ensures { result ≡ number_of_edit (plain_edit edit.now) }
+{
+    match edit {
+        Edit::Hide(_, _, number) => Some(*number),
+        _ => None,
+    }
+}
+
+/// The chunks that an edit forgets.
+pub fn forgotten_by(edit: &Edit) -> &[Handle]
+    ensures { result.now ≡ forgotten_by (plain_edit edit.now) }
+{
+    match edit {
+        Edit::Forget(chunks) => chunks,
+        _ => &[],
+    }
+}
+
+/// The number of the next deletion behind an edit.
+pub fn next_behind(next: u64, edit: &Edit) -> u64
+    ensures { result ≡ after_if next (number_of_edit (plain_edit edit.now)) }
+{
+    match number_of(edit) {
+        Some(number) => after_number(number),
+        None => next,
+    }
+}
+
+/// An edit that the names refuse doesn't fit them.
+pub fn unfit(refusal: Refusal) -> Refusal
+    ensures { result ≡ unfit refusal }
+{
+    match refusal {
+        Refusal::Memory => Refusal::Memory,
+        _ => Refusal::BadLine,
+    }
+}
+
+/// The answer to an accepted edit, where its record tells it.
+pub fn answer_to(
+    alloc: Global,
+    edit: &Edit,
+    view: Option<View>,
+    epoch: u64,
+) -> Result<Option<Answer>, AllocError>
+    ensures { IfOk result (λ answer. answer ≡ answer_to (plain_edit edit.now) view epoch) }
+{
+    match edit {
+        Edit::Mkdirs(_) | Edit::Create(_) | Edit::Rename(_, _) | Edit::Snapshot(_, _) => {
+            Ok(Some(Answer::Nothing))
+        }
+        Edit::Hide(path, moment, number) => {
+            let hidden = hidden_path(alloc, path, *moment, *number)?;
+            Ok(Some(Answer::Path(hidden)))
+        }
+        Edit::Unhide(path) => {
+            let old = old_path(alloc, path)?;
+            Ok(Some(Answer::Path(old)))
+        }
+        Edit::AddChunk(_, chunk) => match view {
+            Some(view) => Ok(Some(Answer::Location {
+                handle: *chunk,
+                view,
+                epoch,
+            })),
+            None => Ok(None),
+        },
+        Edit::Remove(_) | Edit::Cow(_, _, _, _) | Edit::Forget(_) => Ok(None),
+    }
+}
+
+impl Recorded {
+    /// The settled view of the chunk that an edit puts into a file.
+    pub fn view_for(&self, edit: &Edit) -> Option<View>
+        ensures { result ≡ view_for (durable_of self.now) (chunk_of_edit (plain_edit edit.now)) }
+    {
+        self.view(chunk_of(edit)?)
+    }
+
+    /// Whether an edit may be recorded, whatever the names say.
+    pub fn may_edit(&self, edit: &Edit) -> Result<bool, AllocError>
+        ensures { IfOk result (λ may. may ≡ may_edit (durable_of self.now) (plain_edit edit.now)) }
+    {
+        if self.phase == Phase::Rolling || !names_well(self.alloc, edit)? {
+            return Ok(false);
+        }
+        if chunk_of(edit).is_some() && self.view_for(edit).is_none() {
+            return Ok(false);
+        }
+        match number_of(edit) {
+            Some(number) => Ok(is_fresh(self.next_hidden, number)),
+            None => Ok(true),
+        }
+    }
+
+    /// The answer to a request is kept, if its record tells one. There is room for its client.
+    fn keep_answer(&mut self, by: ReqId, answer: Option<Answer>)
+        requires { HasRoom client_cmp self.old.replies by.client }
+        ensures value { durable_of self.new ≡ record (durable_of self.old) { replies = with_answer (durable_of self.old).replies by answer } }
+        ensures inverses { self.new.inverses ≡ self.old.inverses }
+    {
+        let Some(answer) = answer else {
+            return;
+        };
+        if self.is_later(by) {
+            let number = by.number;
+            self.replies.put(
+                by.client,
+                KeptReply {
+                    number,
+                    result: Ok(answer),
+                },
+            );
+        }
+    }
+
+    /// A chunk is forgotten, and its prepared view kept. There is room for that.
+    fn forget_chunk(&mut self, chunk: Handle)
+        requires { RoomToKeep self.old.phase self.old.prepared chunk }
+        ensures value { durable_of self.new ≡ without_chunks (durable_of self.old) (chunk ∷ []) }
+        ensures replies { self.new.replies ≡ self.old.replies }
+        ensures inverses { self.new.inverses ≡ self.old.inverses }
+        ensures room { KeepsRoom nat_cmp self.old.prepared self.new.prepared }
+    {
+        self.keep_prepared(chunk);
+        let _forgotten = self.leases.remove(chunk);
+    }
+
+    /// Chunks are forgotten, and their prepared views kept. There is room for those.
+    fn forget_chunks(&mut self, chunks: &[Handle])
+        requires { RoomForEach self.old.phase self.old.prepared chunks.now }
+        ensures value { durable_of self.new ≡ without_chunks (durable_of self.old) chunks.now }
+        ensures replies { self.new.replies ≡ self.old.replies }
+        ensures inverses { self.new.inverses ≡ self.old.inverses }
+    {
+        for chunk in chunks {
+            self.forget_chunk(*chunk);
+        }
+    }
+
+    /// What takes an edit back is kept, if it is told. There is room for it.
+    fn keep_inverse(&mut self, inverse: Option<ListedInverse>)
+        requires { vec_len self.old.inverses < vec_capacity self.old.inverses }
+        ensures { durable_of self.new ≡ record (durable_of self.old) { inverses = inverses_and (durable_of self.old).inverses inverse } }
+    {
+        if let Some(inverse) = inverse {
+            let _pushed = self.inverses.push(inverse);
+        }
+    }
+
+    /// An edit of the names, with what takes it back while an upgrade stands. There is room for the reply, for what takes
+    /// it back, and for the prepared views of the chunks that it forgets. It may want memory for the names.
+    pub fn edit(
+        &mut self,
+        by: ReqId,
+        edit: &Edit,
+        inverse: Option<ListedInverse>,
+    ) -> Result<(), Refusal>
+        requires replies { HasRoom client_cmp self.old.replies by.client }
+        requires inverses { vec_len self.old.inverses < vec_capacity self.old.inverses }
+        requires prepared { RoomForEach self.old.phase self.old.prepared (forgotten_by (plain_edit edit.now)) }
+        requires back { IsToldBack (durable_of self.old) (plain_edit edit.now) inverse }
+        ensures { Enters (entries.Edited by (plain_edit edit.now)) result (durable_of self.old) (durable_of self.new) }
+    {
+        if !self.may_edit(edit)? {
+            return Err(Refusal::BadLine);
+        }
+        let answer = answer_to(self.alloc, edit, self.view_for(edit), self.epoch)?;
+        let next_hidden = next_behind(self.next_hidden, edit);
+        let _taken_back = match self.names.apply(edit) {
+            Ok(inverse) => inverse,
+            Err(refusal) => return Err(unfit(refusal)),
+        };
+        self.forget_chunks(forgotten_by(edit));
+        self.next_hidden = next_hidden;
+        self.keep_answer(by, answer);
+        self.keep_inverse(inverse);
+        Ok(())
+    }
+}

@@ -1,0 +1,199 @@
+// Records of events, entered one after the other so that each can be taken back.
+ghost use Rattle.std.specs.Prelude.{◌≡◌, Ok, true, false, IfOk, IfErr};
+ghost use Rattle.std.specs.Ordering.{nat_cmp};
+ghost use Rattle.std.specs.FinMap as fin;
+ghost use Rattle.gs_record.specs.Plain as entries;
+ghost use Rattle.gs_record.specs.Plain.{plain};
+ghost use Rattle.gs_table.specs.Slots.{HasRoom, KeepsRoom, live};
+ghost use Rattle.gs_state.specs.Applied.{with_proposal, with_reply};
+ghost use Rattle.gs_state.specs.Recorded.{Applies, KeepsRooms, RoomFor, RoomToKeep, durable_of};
+ghost use Rattle.gs_state.specs.Replies.{client_cmp};
+ghost use Rattle.gs_state.specs.TakingBack.{Enters, IsRefused, IsToldFor, IsUndo, RoomAt, RoomForReply, comes_alone, with_moved_before, with_proposed_before, with_reply_before};
+
+use crate::asking::Prepared;
+use crate::recorded::{Recorded, after_number, raised};
+use crate::reply::KeptReply;
+use crate::undo::{ChunkBefore, ProposalBefore, ReplyBefore, Undo, exchange};
+use gs_base::{ClientId, Handle, Refusal, ReqId, ServerId, Stamp};
+use gs_edit::ListedInverse;
+use gs_lease::{Lease, restore};
+use gs_msg::Answer;
+use gs_record::{Entry, Phase, SettledView};
+use gs_table::Table;
+
+/// A reply is kept where no later one is. There is room for its client.
+pub fn enter_reply(
+    replies: &mut Table<ClientId, KeptReply>,
+    to: ReqId,
+    answer: Result<Answer, Refusal>,
+) -> Option<ReplyBefore>
+    requires { HasRoom client_cmp replies.old to.client }
+    ensures value { live client_cmp replies.new ≡ with_reply (live client_cmp replies.old) to answer }
+    ensures back { live client_cmp replies.old ≡ with_reply_before result (live client_cmp replies.new) }
+    ensures room { RoomForReply replies.new result }
+    ensures keeps { KeepsRoom client_cmp replies.old replies.new }
+{
+    if let Some(kept) = replies.get(to.client) {
+        if to.number <= kept.number {
+            return None;
+        }
+    }
+    let reply = KeptReply {
+        number: to.number,
+        result: answer,
+    };
+    let before = exchange(replies, to.client, reply);
+    Some(ReplyBefore {
+        client: to.client,
+        reply: before,
+    })
+}
+
+/// Whether a record isn't entered with others: a checkpoint takes the place of all.
+fn comes_alone(entry: &Entry) -> bool
+    ensures { result ≡ comes_alone (plain entry.now) }
+{
+    matches!(entry, Entry::Checkpoint(_))
+}
+
+impl Recorded {
+    /// A request was refused. There is room for its client. It may want memory for the refusal.
+    #[tactic(auto, unfolding(crate::specs::Applied::applied))]
+    fn enter_refusal(&mut self, to: ReqId, refusal: &Refusal) -> Result<Undo, Refusal>
+        requires { HasRoom client_cmp self.old.replies to.client }
+        ensures applied { Enters (entries.Said to refusal.now) result (durable_of self.old) (durable_of self.new) }
+        ensures back { IfOk result (λ undo. IsUndo self.old self.new undo) }
+        ensures leases { IfErr result (λ _. self.new.leases ≡ self.old.leases) }
+        ensures keeps { KeepsRooms self.old self.new }
+    {
+        let refusal = refusal.copy(self.alloc)?;
+        Ok(Undo::Said(enter_reply(&mut self.replies, to, Err(refusal))))
+    }
+
+    /// A settled chunk moves, and nobody is asked by that alone; its lease of before is answered. One that isn't settled
+    /// stays as it is.
+    fn exchange_moving(&mut self, chunk: Handle, stamp: Stamp) -> Option<Lease>
+        requires { HasRoom nat_cmp self.old.leases chunk }
+        ensures value { durable_of self.new ≡ record (durable_of self.old) { chunks = with_proposal (durable_of self.old) chunk (fin.get (durable_of self.old).chunks chunk) } }
+        ensures chunks { (durable_of self.old).chunks ≡ with_proposed_before chunk result (durable_of self.new).chunks }
+        ensures leases { live nat_cmp self.old.leases ≡ with_moved_before chunk result (live nat_cmp self.new.leases) }
+        ensures room { RoomAt nat_cmp self.new.leases chunk result }
+        ensures keeps { KeepsRooms self.old self.new }
+    {
+        let view = self.view(chunk)?;
+        exchange(&mut self.leases, chunk, restore(view, Some(stamp)))
+    }
+
+    /// A view of a chunk is proposed. There is room for the chunk.
+    #[tactic(auto, unfolding(crate::specs::Applied::applied))]
+    fn enter_proposal(&mut self, chunk: Handle, version: u64) -> Result<Undo, Refusal>
+        requires { HasRoom nat_cmp self.old.leases chunk }
+        ensures applied { Applies (entries.Propose chunk version) result (durable_of self.old) (durable_of self.new) }
+        ensures back { IfOk result (λ undo. IsUndo self.old self.new undo) }
+        ensures leases { IfErr result (λ _. self.new.leases ≡ self.old.leases) }
+        ensures keeps { KeepsRooms self.old self.new }
+    {
+        if !self.may_propose(chunk, version) {
+            return Err(Refusal::BadLine);
+        }
+        let epoch = self.epoch;
+        let before = ProposalBefore {
+            chunk,
+            lease: self.exchange_moving(chunk, Stamp { epoch, version }),
+            next_handle: self.next_handle,
+            next_version: self.next_version,
+        };
+        self.next_handle = raised(self.next_handle, chunk.number());
+        self.next_version = after_number(version);
+        Ok(Undo::Propose(before))
+    }
+
+    /// A view of a chunk is settled. There is room for the chunk, and for its prepared view.
+    #[tactic(auto, unfolding(crate::specs::Applied::applied))]
+    fn enter_view(&mut self, settled: &SettledView) -> Result<Undo, Refusal>
+        requires chunk { HasRoom nat_cmp self.old.leases settled.now.handle }
+        requires prepared { RoomToKeep self.old.phase self.old.prepared settled.now.handle }
+        ensures applied { Applies (entries.Settle settled.now) result (durable_of self.old) (durable_of self.new) }
+        ensures back { IfOk result (λ undo. IsUndo self.old self.new undo) }
+        ensures leases { IfErr result (λ _. self.new.leases ≡ self.old.leases) }
+        ensures keeps { KeepsRooms self.old self.new }
+    {
+        if !self.may_be_settled(settled) {
+            return Err(Refusal::BadLine);
+        }
+        let chunk = settled.handle;
+        let prepared = self.prepared.get(chunk).copied();
+        self.keep_prepared(chunk);
+        let lease = exchange(&mut self.leases, chunk, restore(settled.view, None));
+        Ok(Undo::Settle(ChunkBefore {
+            chunk,
+            lease,
+            prepared,
+        }))
+    }
+
+    /// A server got a copy of a chunk with its sealed image. There is room for the chunk's prepared view.
+    #[tactic(auto, unfolding(crate::specs::Applied::applied))]
+    fn enter_holder(&mut self, chunk: Handle, server: ServerId) -> Result<Undo, Refusal>
+        requires { RoomToKeep self.old.phase self.old.prepared chunk }
+        ensures applied { Applies (entries.Holder chunk server) result (durable_of self.old) (durable_of self.new) }
+        ensures back { IfOk result (λ undo. IsUndo self.old self.new undo) }
+        ensures leases { IfErr result (λ _. self.new.leases ≡ self.old.leases) }
+        ensures keeps { KeepsRooms self.old self.new }
+    {
+        if self.phase != Phase::Upgrade {
+            return Err(Refusal::BadLine);
+        }
+        let Some(Prepared { view, mut holders }) = self.prepared_view(chunk) else {
+            return Err(Refusal::BadLine);
+        };
+        holders.insert(server);
+        let before = exchange(&mut self.prepared, chunk, Prepared { view, holders });
+        Ok(Undo::Holder(chunk, before))
+    }
+
+    /// A record is applied for which there is room.
+    fn enter_grown(
+        &mut self,
+        entry: &Entry,
+        inverse: Option<ListedInverse>,
+    ) -> Result<Undo, Refusal>
+        requires kind { comes_alone (plain entry.now) ≡ false }
+        requires room { RoomFor self.old (plain entry.now) }
+        requires back { IsToldFor (durable_of self.old) (plain entry.now) inverse }
+        ensures applied { Enters (plain entry.now) result (durable_of self.old) (durable_of self.new) }
+        ensures back { IfOk result (λ undo. IsUndo self.old self.new undo) }
+        ensures leases { IfErr result (λ _. self.new.leases ≡ self.old.leases) }
+        ensures keeps { IfErr result (λ _. KeepsRooms self.old self.new) }
+    {
+        match entry {
+            Entry::Edit { by, edit } => self.enter_edit(*by, edit, inverse),
+            Entry::Said { to, refusal } => self.enter_refusal(*to, refusal),
+            Entry::Propose { handle, version } => self.enter_proposal(*handle, *version),
+            Entry::Settle(settled) => self.enter_view(settled),
+            Entry::Prepare { epoch, .. } => self.enter_prepare(*epoch),
+            Entry::Finalize { epoch } => self.enter_finalize(*epoch),
+            Entry::RollbackBegin { epoch } => self.enter_rollback(*epoch),
+            Entry::RollbackCommit { epoch, answered } => self.enter_commit(*epoch, answered),
+            Entry::Holder { handle, server } => self.enter_holder(*handle, *server),
+            Entry::Checkpoint(_) => Err(Refusal::BadLine),
+        }
+    }
+
+    /// Makes the room that a record wants, and applies it. What it answers takes the record back. `BadLine` where the record
+    /// doesn't fit: an edit is refused so too, whatever the names' own refusal is, so calls judge their edits before.
+    pub fn enter(&mut self, entry: &Entry, inverse: Option<ListedInverse>) -> Result<Undo, Refusal>
+        requires { IsToldFor (durable_of self.old) (plain entry.now) inverse }
+        ensures applied { comes_alone (plain entry.now) ≡ false → Enters (plain entry.now) result (durable_of self.old) (durable_of self.new) }
+        ensures alone { comes_alone (plain entry.now) ≡ true → IsRefused result (durable_of self.old) (durable_of self.new) }
+        ensures back { IfOk result (λ undo. IsUndo self.old self.new undo) }
+        ensures leases { IfErr result (λ _. live nat_cmp self.new.leases ≡ live nat_cmp self.old.leases) }
+        ensures keeps { IfErr result (λ _. KeepsRooms self.old self.new) }
+    {
+        if comes_alone(entry) {
+            return Err(Refusal::BadLine);
+        }
+        self.grow(entry)?;
+        self.enter_grown(entry, inverse)
+    }
+}

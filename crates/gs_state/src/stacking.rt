@@ -1,0 +1,96 @@
+// The records of an event, entered one after the other and taken back together.
+ghost use Rattle.std.specs.Prelude.{◌≡◌, ◌<◌, ◌≤◌, List, [], take, true, false, IfErr, OnOk, vec_len, vec_capacity};
+ghost use Rattle.std.specs.Ordering.{nat_cmp};
+ghost use Rattle.gs_record.specs.Plain.{PlainEntry, plain};
+ghost use Rattle.gs_table.specs.Slots.{live};
+ghost use Rattle.gs_state.specs.Durable.{Durable};
+ghost use Rattle.gs_state.specs.TakingBack.{Leads, Enters, IsRefused, IsToldFor, RoomForAll, StillTakeBack, TakeBack, TakesOneMore, all_leases_before, all_rooms_before, comes_alone};
+ghost use Rattle.gs_state.specs.Recorded.{KeepsRooms, durable_of};
+
+use crate::entering_edit::push_within;
+use crate::recorded::Recorded;
+use crate::undo::Undo;
+use gs_base::Refusal;
+use gs_edit::ListedInverse;
+use gs_record::Entry;
+
+impl Recorded {
+    /// Enters a record, and puts what takes it back behind what takes those before it back. So these lead from what stands
+    /// afterwards to what stood before the first, also where the record is refused. There is room behind them.
+    pub fn enter_behind(
+        &mut self,
+        undos: &mut Vec<Undo>,
+        entry: &Entry,
+        inverse: Option<ListedInverse>,
+    ) -> Result<(), Refusal>
+        requires told { IsToldFor (durable_of self.old) (plain entry.now) inverse }
+        requires room { RoomForAll self.old undos.old.items }
+        requires place { vec_len undos.old < vec_capacity undos.old }
+        ensures applied { comes_alone (plain entry.now) ≡ false → Enters (plain entry.now) result (durable_of self.old) (durable_of self.new) }
+        ensures alone { comes_alone (plain entry.now) ≡ true → IsRefused result (durable_of self.old) (durable_of self.new) }
+        ensures back { StillTakeBack undos.old.items (durable_of self.old) undos.new.items (durable_of self.new) }
+        ensures leases { all_leases_before undos.new.items (live nat_cmp self.new.leases) ≡ all_leases_before undos.old.items (live nat_cmp self.old.leases) }
+        ensures room { RoomForAll self.new undos.new.items }
+        ensures keeps { KeepsRooms (all_rooms_before undos.old.items self.old) (all_rooms_before undos.new.items self.new) }
+        ensures one { OnOk result (TakesOneMore undos.old.items (durable_of self.old) undos.new.items (durable_of self.new)) }
+        ensures none { IfErr result (λ _. undos.new.items ≡ undos.old.items) }
+        ensures capacity { vec_capacity undos.old ≤ vec_capacity undos.new }
+    {
+        let undo = self.enter(entry, inverse)?;
+        push_within(undos, undo);
+        Ok(())
+    }
+
+    /// Takes records back, the last first. There is room for each, so it takes no memory.
+    pub fn take_all_back(&mut self, mut undos: Vec<Undo>)
+        requires { RoomForAll self.old undos.items }
+        ensures value { (before : Durable) → TakeBack undos.items before (durable_of self.old) → durable_of self.new ≡ before }
+        ensures leases { live nat_cmp self.new.leases ≡ all_leases_before undos.items (live nat_cmp self.old.leases) }
+        ensures keeps { KeepsRooms (all_rooms_before undos.items self.old) self.new }
+    {
+        while let Some(undo) = undos.pop() {
+            self.take_back(undo);
+        }
+    }
+
+    /// Takes records back, the last first, until so many are left. There is room for each, so it takes no memory.
+    pub fn take_back_to(&mut self, undos: &mut Vec<Undo>, many: usize)
+        requires { RoomForAll self.old undos.old.items }
+        ensures left { undos.new.items ≡ take many undos.old.items }
+        ensures value { (entries : List PlainEntry) (before : Durable) → Leads entries undos.old.items before (durable_of self.old)
+            → Leads (take many entries) undos.new.items before (durable_of self.new) }
+        ensures leases { all_leases_before undos.new.items (live nat_cmp self.new.leases) ≡ all_leases_before undos.old.items (live nat_cmp self.old.leases) }
+        ensures room { RoomForAll self.new undos.new.items }
+    {
+        while many < undos.len() {
+            if let Some(undo) = undos.pop() {
+                self.take_back(undo);
+            }
+        }
+    }
+
+    /// The records of an event stand, and are taken back no more. The chunks that they forgot give up the room of their
+    /// leases.
+    pub fn let_go(&mut self, undo: Undo)
+        ensures value { durable_of self.new ≡ durable_of self.old }
+        ensures leases { live nat_cmp self.new.leases ≡ live nat_cmp self.old.leases }
+    {
+        let Undo::Edit(before) = undo else {
+            return;
+        };
+        for stood in &before.forgotten {
+            self.leases.release(stood.chunk);
+        }
+    }
+
+    /// All records of an event stand, and are taken back no more.
+    pub fn let_all_go(&mut self, undos: &mut Vec<Undo>)
+        ensures none { undos.new.items ≡ [] }
+        ensures value { durable_of self.new ≡ durable_of self.old }
+        ensures leases { live nat_cmp self.new.leases ≡ live nat_cmp self.old.leases }
+    {
+        while let Some(undo) = undos.pop() {
+            self.let_go(undo);
+        }
+    }
+}

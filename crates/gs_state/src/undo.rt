@@ -1,0 +1,108 @@
+// What takes a record back that was applied.
+ghost use Rattle.std.specs.Prelude.{◌≡◌};
+ghost use Rattle.std.specs.FinMap as fin;
+ghost use Rattle.gs_table.specs.Slots.{HasRoom, KeepsRoom, live};
+
+use crate::asking::Prepared;
+use crate::reply::KeptReply;
+use gs_base::{ClientId, Handle};
+use gs_edit::{Inverse, ListedInverse, Names};
+use gs_lease::Lease;
+use gs_record::Phase;
+use gs_table::{Key, Table};
+
+/// The reply that stood at a client, if one did.
+#[derive(Drop)]
+pub struct ReplyBefore {
+    pub client: ClientId,
+    pub reply: Option<KeptReply>,
+}
+
+/// What stood of a chunk for which a view was proposed. It has a lease here if it was settled.
+#[derive(Drop)]
+pub struct ProposalBefore {
+    pub chunk: Handle,
+    pub lease: Option<Lease>,
+    pub next_handle: u64,
+    pub next_version: u64,
+}
+
+/// A chunk as it stood, with the prepared view that was kept of it.
+#[derive(Drop)]
+pub struct ChunkBefore {
+    pub chunk: Handle,
+    pub lease: Option<Lease>,
+    pub prepared: Option<Prepared>,
+}
+
+/// How the names of before are come by.
+#[derive(Drop)]
+pub enum NamesBefore {
+    /// What was made of them is undone. That takes no memory.
+    Undone(Inverse),
+    /// They were kept.
+    Kept(Names),
+}
+
+/// What stood before an edit.
+#[derive(Drop)]
+pub struct EditBefore {
+    pub names: NamesBefore,
+    pub forgotten: Vec<ChunkBefore>,
+    /// The reply, if another was put in its place.
+    pub reply: Option<ReplyBefore>,
+    pub next_hidden: u64,
+    /// Whether what takes the edit back was put behind the others.
+    pub keeps_inverse: bool,
+}
+
+/// What was kept since prepare, until it was given up. It was moved here.
+#[derive(Drop)]
+pub struct KeptBefore {
+    pub inverses: Vec<ListedInverse>,
+    pub prepared: Table<Handle, Prepared>,
+}
+
+/// What stood before an upgrade was prepared or kept.
+#[derive(Drop)]
+pub struct EpochBefore {
+    pub epoch: u64,
+    pub phase: Phase,
+    pub kept: KeptBefore,
+}
+
+/// What stood before a rollback was done. It was moved here.
+#[derive(Drop)]
+pub struct RollbackBefore {
+    pub names: Names,
+    pub leases: Table<Handle, Lease>,
+    pub kept: KeptBefore,
+}
+
+/// What stood before a record, as far as the record has changed it. It takes the record back, and wants no memory for that.
+#[derive(Drop)]
+pub enum Undo {
+    /// The reply, if another was put in its place.
+    Said(Option<ReplyBefore>),
+    Propose(ProposalBefore),
+    Settle(ChunkBefore),
+    Holder(Handle, Option<Prepared>),
+    /// The epoch that stood.
+    RollbackBegin(u64),
+    Edit(EditBefore),
+    /// An upgrade was prepared or kept.
+    Epoch(EpochBefore),
+    RollbackCommit(RollbackBefore),
+}
+
+/// Puts a value in the place of another. There is room for it.
+pub fn exchange<K: Key + Drop, V: Drop>(table: &mut Table<K, V>, key: K, value: V) -> Option<V>
+    requires { HasRoom K.cmp table.old key }
+    ensures value { result ≡ fin.get (live K.cmp table.old) key }
+    ensures put { live K.cmp table.new ≡ fin.insert (live K.cmp table.old) key value }
+    ensures keeps { KeepsRoom K.cmp table.old table.new }
+{
+    let before = table.take(key);
+    table.put(key, value);
+    before
+}
