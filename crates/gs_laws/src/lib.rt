@@ -80,7 +80,7 @@ pub fn records_keep_what_stands()
 {}
 
 /// A rollback that is done leads back to the names of the prepare, and each chunk that it restores to the count of edits that the
-/// chunk had then, whatever records went on between.
+/// chunk had then, whatever records but checkpoints went on between.
 pub fn a_rollback_leads_back_to_the_prepare()
     ensures { RollsBack }
 {}

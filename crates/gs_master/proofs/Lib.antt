@@ -1,5 +1,6 @@
 pub mod Accepting
 pub mod Anew
+pub mod Armed
 pub mod Appending
 pub mod Composing
 pub mod Copies

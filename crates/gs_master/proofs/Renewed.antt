@@ -3,7 +3,7 @@ use Rattle.std.proofs.Common.{◌≡◌, ◌⊎◌, inl, inr, ◌∙◌, ◌<◌
 use Rattle.std.specs.Prelude.{Option, Some, None, fold, is_none, slice_get, if◌then◌else◌, Result, Ok, Err}
 use Rattle.std.specs.List.{AllByRecursion}
 use Rattle.std.proofs.lemmas.Bool.{false≢true}
-use Rattle.std.proofs.lemmas.List.{length-map}
+use Rattle.std.proofs.lemmas.List.{length-map, take-append-le}
 use Rattle.gs_base.specs.declared.config.Config.{Config}
 use Rattle.gs_base.specs.declared.numbers.Moment.{Moment}
 use Rattle.gs_base.specs.declared.refusal.Refusal.{Refusal}
@@ -125,11 +125,23 @@ module _ {D : Type 0} (seen : D → List ℕ) (may_leave : D → List ℕ → Ty
     abbrev pub at : Event → Journal D → MasterOf D
     at x y = record { config = config; state = state_at x; journal = y }
 
-    done : (told : Told) → IsFinishedAnew seen may_leave failures steps begun j told e k → IsAnsweredAnew (and_checkpoint steps) steps (at begun j) told (at e k) × IsHeld seen may_leave (state_at e) k
+    log_known : (f : Fault) → Holds seen may_leave (durable_of begun.recorded) (state_at begun).log j f → is_failed f ≡ false → IsLogOf (state_at begun).log j
+    log_known Sound held sound = held.1.0
+    log_known (Failed doubt) held sound = absurd (false≢true (sym sound))
+    log_known (Unopened doubt) held sound = absurd (false≢true (sym sound))
+
+    done : (told : Told) → IsFinishedAnew seen may_leave failures steps begun j told e k → IsAnsweredAnew failures (and_checkpoint steps) steps (at begun j) told (at e k) × IsHeld seen may_leave (state_at e) k
     done told is =
         let f = (state_at begun).fault in
         let gives = renews f (durable_of begun.recorded) steps.after.durable (state_at begun).log (state_at e).log j k held sound is.renews in (
-          record { done = is.done; fit = is.replays; are_entries = is.are_entries; text = gives.1; config = refl },
+          record {
+            done = is.done;
+            fit = is.replays;
+            are_entries = is.are_entries;
+            text = gives.1;
+            quiet = (is.renews (log_known f held sound)).0.quiet;
+            config = refl;
+          },
           subst (λ (s : State). Holds seen may_leave s.durable (state_at e).log k s.fault) (sym is.done.after)
               (subst (Holds seen may_leave (tidied steps.after.durable) (state_at e).log k) (sym is.fault) gives.0),
         )
@@ -148,9 +160,15 @@ module _ {D : Type 0} (seen : D → List ℕ) (may_leave : D → List ℕ → Ty
         let state = after ∙ ap (λ (s : State). record s { fault = Failed (slice_get records place) }) (recorded_as (state_at begun) (take place records) mid front) in
         subst (λ (s : State). IsHeld seen may_leave s k) (sym state) (subst (λ o. Holds seen may_leave mid (fold log_behind (state_at begun).log (take place records)) k (Failed o)) (sym there) held)
 
+    recorded_as_cut : (place : ℕ) (mid : Durable) → replayed (durable_of begun.recorded) (take place (steps.records ++ whole ∷ [])) ≡ Some mid →
+        cut (state_at begun) (steps.records ++ whole ∷ []) place
+        ≡ record (state_at begun) { durable = mid; log = fold log_behind (state_at begun).log (take place (steps.records ++ whole ∷ [])); fault = Failed (slice_get (steps.records ++ whole ∷ []) place) }
+    recorded_as_cut place mid front =
+        let records = steps.records ++ whole ∷ [] in ap (λ (s : State). record s { fault = Failed (slice_get records place) }) (recorded_as (state_at begun) (take place records) mid front)
+
     by_place : (place : ℕ) → state_at e ≡ cut (state_at begun) (steps.records ++ whole ∷ []) place → AllByRecursion (IsEntry Two) steps.records → replayed (durable_of begun.recorded) steps.records ≡ Some steps.after.durable →
         BreaksAnew failures j (map (encoded Two) steps.records) (checkpoint_body steps.after.durable) place k →
-        (failures_of_both failures j < failures_of_both failures k) × ((k.is_failed ≡ true) × IsHeld seen may_leave (state_at e) k)
+        (replayed (durable_of begun.recorded) (take place (steps.records ++ whole ∷ [])) ≡ Some (durable_of e.recorded)) × ((failures_of_both failures j < failures_of_both failures k) × ((k.is_failed ≡ true) × IsHeld seen may_leave (state_at e) k))
     by_place place after are fit (inl (below, broke)) =
         let d = durable_of begun.recorded in
         let rs = steps.records in
@@ -159,7 +177,10 @@ module _ {D : Type 0} (seen : D → List ℕ) (may_leave : D → List ℕ → Ty
         let log = fold log_behind (state_at begun).log (take place rs) in
         let gives = breaks seen may_leave failures (state_at begun).fault d steps.after.durable mid.0 (state_at begun).log log j k rs place held idle within are fit mid.1 (λ is. broke) in
         let state = after ∙ sym (cut_before (state_at begun) rs whole place within) ∙ ap (λ (s : State). record s { fault = Failed (slice_get rs place) }) (recorded_as (state_at begun) (take place rs) mid.0 mid.1) in
-        (gives.0, (gives.1.0, subst (λ (s : State). IsHeld seen may_leave s k) (sym state) gives.1))
+        let front : take place (rs ++ whole ∷ []) ≡ take place rs = take-append-le place rs (whole ∷ []) (omega arith) in (
+          ap (replayed d) front ∙ mid.1 ∙ ap (λ (s : State). Some s.durable) (sym state),
+          (gives.0, (gives.1.0, subst (λ (s : State). IsHeld seen may_leave s k) (sym state) gives.1)),
+        )
     by_place place after are fit (inr (last, broke)) =
         let d = durable_of begun.recorded in
         let rs = steps.records in
@@ -167,20 +188,26 @@ module _ {D : Type 0} (seen : D → List ℕ) (may_leave : D → List ℕ → Ty
         let front = all_before rs whole place here in
         let log = fold log_behind (state_at begun).log (take place (rs ++ whole ∷ [])) in
         let gives = breaks_last (state_at begun).fault d steps.after.durable (state_at begun).log log j k rs held sound are fit (λ is. broke) in
-        (gives.0, (gives.1.0, cut_held place steps.after.durable whole after (ap (replayed d) front ∙ fit) (last_of rs whole place here) gives.1))
-
-    log_known : (f : Fault) → Holds seen may_leave (durable_of begun.recorded) (state_at begun).log j f → is_failed f ≡ false → IsLogOf (state_at begun).log j
-    log_known Sound held sound = held.1.0
-    log_known (Failed doubt) held sound = absurd (false≢true (sym sound))
-    log_known (Unopened doubt) held sound = absurd (false≢true (sym sound))
+        let fits = ap (replayed d) front ∙ fit in (
+          fits ∙ ap (λ (s : State). Some s.durable) (sym (after ∙ recorded_as_cut place steps.after.durable fits)),
+          (gives.0, (gives.1.0, cut_held place steps.after.durable whole after fits (last_of rs whole place here) gives.1)),
+        )
 
     short_held : (told : Told) (place : ℕ) → IsCutShortAnew failures steps place begun j told e k → IsAnsweredUnsure failures None (and_checkpoint steps) place (at begun j) told (at e k) × IsHeld seen may_leave (state_at e) k
     short_held told place is =
-        let gives = by_place place is.cut.after is.are_entries is.replays (is.breaks (log_known (state_at begun).fault held sound)) in
-        (record { cut = is.cut; cause = gives.0; closed = gives.1.0; config = refl }, gives.1.1)
+        let gives = by_place place is.cut.after is.are_entries is.replays (is.breaks (log_known (state_at begun).fault held sound)) in (
+          record {
+            cut = is.cut;
+            fit = gives.0;
+            cause = gives.1.0;
+            closed = gives.1.1.0;
+            config = refl;
+          },
+          gives.1.1.1,
+        )
 
     pub answers_anew : (told : Told) → FinishesAnew seen may_leave failures steps begun j told e k →
-        IsAnsweredAnew (and_checkpoint steps) steps (at begun j) told (at e k) ⊎ ((place : ℕ) × IsAnsweredUnsure failures None (and_checkpoint steps) place (at begun j) told (at e k))
+        IsAnsweredAnew failures (and_checkpoint steps) steps (at begun j) told (at e k) ⊎ ((place : ℕ) × IsAnsweredUnsure failures None (and_checkpoint steps) place (at begun j) told (at e k))
     answers_anew told (inl is) = inl (done told is).0
     answers_anew told (inr is) = inr (is.0, (short_held told is.0 is.1).0)
 
@@ -254,12 +281,14 @@ unrefused_sound s none = by_test (is_failed s.fault) none
     by_test false none = refl
 
 -- a refusal that no message carries
-refused_there : {D : Type 0} (refusal : Refusal) (old : MasterOf D) (told : Told) → told.sent.items ≡ [] → told.said ≡ Some refusal → IsAnswered (met_by old.state refusal) old told old
-refused_there refusal old told sent said = record {
+refused_there : {D : Type 0} (failures : D → ℕ) (refusal : Refusal) (old : MasterOf D) (told : Told) → told.sent.items ≡ [] → told.said ≡ Some refusal → IsAnswered failures (met_by old.state refusal) old told old
+refused_there failures refusal old told sent said = record {
   done = record { after = refl; sends = sent; says = said };
   fit = refl;
   are_entries = tt;
   text = λ i. (old.journal.text.0, sym (append-nil old.journal.text.1) i);
+  quiet = refl;
+  still = λ none. refl;
   config = refl;
 }
 
@@ -268,38 +297,38 @@ module _ {D : Type 0} (failures : D → ℕ) (moment : Moment) (old : MasterOf D
   steps = pressed_all old.state moment
 
   abbrev Either : Bool → Turn → Told → MasterOf D → Type 0
-  Either b t told new = AnswersAs b t steps old told new ⊎ ((place : ℕ) × IsAnsweredUnsure failures None t place old told new)
+  Either b t told new = AnswersAs failures b t steps old told new ⊎ ((place : ℕ) × IsAnsweredUnsure failures None t place old told new)
 
   pub ticks_failed : is_failed old.state.fault ≡ true → (told : Told) → told.sent.items ≡ [] → told.said ≡ Some refusals.Device → AnswersTick failures moment old (Ok told) old
   ticks_failed failed told sent said =
       subst (λ b. Either (not b && (due steps.after && is_written steps.after)) (tick old.state moment) told old) (sym failed)
-      (inl (subst (λ t. IsAnswered t old told old) (sym (failed_tick old.state moment failed)) (refused_there refusals.Device old told sent said)))
+      (inl (subst (λ t. IsAnswered failures t old told old) (sym (failed_tick old.state moment failed)) (refused_there failures refusals.Device old told sent said)))
 
   pub ticks_plain : is_failed old.state.fault ≡ false → (due steps.after && is_written steps.after) ≡ false → (result : Result Told Refusal) (new : MasterOf D) → Answers failures None steps old result new → AnswersTick failures moment old result new
   ticks_plain sound none (Ok told) new answered =
       subst (λ b. Either (not b && (due steps.after && is_written steps.after)) (tick old.state moment) told new) (sym sound)
       (subst (λ b. Either b (tick old.state moment) told new) (sym none)
-      (subst (λ t. IsAnswered t old told new ⊎ ((place : ℕ) × IsAnsweredUnsure failures None t place old told new)) (sym (plain_tick old.state moment sound none)) answered))
+      (subst (λ t. IsAnswered failures t old told new ⊎ ((place : ℕ) × IsAnsweredUnsure failures None t place old told new)) (sym (plain_tick old.state moment sound none)) answered))
   ticks_plain sound none (Err e) new answered = answered
 
   pub ticks_anew : is_failed old.state.fault ≡ false → due steps.after ≡ true → renewal_refusal steps.after ≡ None → (told : Told) (new : MasterOf D) →
-      (IsAnsweredAnew (and_checkpoint steps) steps old told new ⊎ ((place : ℕ) × IsAnsweredUnsure failures None (and_checkpoint steps) place old told new)) → AnswersTick failures moment old (Ok told) new
+      (IsAnsweredAnew failures (and_checkpoint steps) steps old told new ⊎ ((place : ℕ) × IsAnsweredUnsure failures None (and_checkpoint steps) place old told new)) → AnswersTick failures moment old (Ok told) new
   ticks_anew sound is_due none told new answered =
       subst (λ b. Either (not b && (due steps.after && is_written steps.after)) (tick old.state moment) told new) (sym sound)
       (subst (λ b. Either (b && is_written steps.after) (tick old.state moment) told new) (sym is_due)
       (subst (λ o. Either (is_none o) (tick old.state moment) told new) (sym none)
-      (subst (λ t. IsAnsweredAnew t steps old told new ⊎ ((place : ℕ) × IsAnsweredUnsure failures None t place old told new)) (sym (written_tick old.state moment sound is_due none)) answered)))
+      (subst (λ t. IsAnsweredAnew failures t steps old told new ⊎ ((place : ℕ) × IsAnsweredUnsure failures None t place old told new)) (sym (written_tick old.state moment sound is_due none)) answered)))
 
 module _ {D : Type 0} (failures : D → ℕ) (old : MasterOf D) where
   abbrev As : Bool → Turn → Told → MasterOf D → Type 0
-  As b t told new = AnswersAs b t (unmoved old.state) old told new ⊎ ((place : ℕ) × IsAnsweredUnsure failures None t place old told new)
+  As b t told new = AnswersAs failures b t (unmoved old.state) old told new ⊎ ((place : ℕ) × IsAnsweredUnsure failures None t place old told new)
 
   pub checkpoint_written : renewal_refusal old.state ≡ None → (told : Told) (new : MasterOf D) →
-      (IsAnsweredAnew (and_checkpoint (unmoved old.state)) (unmoved old.state) old told new ⊎ ((place : ℕ) × IsAnsweredUnsure failures None (and_checkpoint (unmoved old.state)) place old told new)) → AnswersCheckpoint failures old (Ok told) new
+      (IsAnsweredAnew failures (and_checkpoint (unmoved old.state)) (unmoved old.state) old told new ⊎ ((place : ℕ) × IsAnsweredUnsure failures None (and_checkpoint (unmoved old.state)) place old told new)) → AnswersCheckpoint failures old (Ok told) new
   checkpoint_written none told new answered =
       subst (λ o. As (is_none o) (checkpoint old.state) told new) (sym none)
-      (subst (λ t. IsAnsweredAnew t (unmoved old.state) old told new ⊎ ((place : ℕ) × IsAnsweredUnsure failures None t place old told new)) (sym (checkpoint_alone old.state none)) answered)
+      (subst (λ t. IsAnsweredAnew failures t (unmoved old.state) old told new ⊎ ((place : ℕ) × IsAnsweredUnsure failures None t place old told new)) (sym (checkpoint_alone old.state none)) answered)
 
   pub checkpoint_refused : (refusal : Refusal) → renewal_refusal old.state ≡ Some refusal → (told : Told) → told.sent.items ≡ [] → told.said ≡ Some refusal → AnswersCheckpoint failures old (Ok told) old
   checkpoint_refused refusal some told sent said =
-      subst (λ o. As (is_none o) (checkpoint old.state) told old) (sym some) (inl (subst (λ t. IsAnswered t old told old) (sym (refused_checkpoint old.state refusal some)) (refused_there refusal old told sent said)))
+      subst (λ o. As (is_none o) (checkpoint old.state) told old) (sym some) (inl (subst (λ t. IsAnswered failures t old told old) (sym (refused_checkpoint old.state refusal some)) (refused_there failures refusal old told sent said)))

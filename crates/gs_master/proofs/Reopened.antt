@@ -21,7 +21,7 @@ use Rattle.gs_master.specs.Journaled.{IsLogOf}
 use Rattle.gs_master.specs.Masters.{Holds, IsHeld, IsTold}
 use Rattle.gs_state.specs.Plans.{log_of}
 use Rattle.gs_master.specs.Recovering.{AreRecordsOf, IsLeft, IsRecovered, Tells, WhyNotRecovered, WhyNotTold, log_behind_last, log_in}
-use Rattle.gs_master.specs.Starting.{WhyUnopened}
+use Rattle.gs_master.specs.Starting.{WhyUnopened, left_in}
 use Rattle.gs_state.specs.State.{Log, Sound, State, Turn, and_then, first_of}
 use Rattle.gs_master.specs.Turns.{state_at}
 use Rattle.gs_master.specs.declared.event.Event.{Event}
@@ -80,26 +80,32 @@ module _ {D : Type 0} (seen : D → List ℕ) (may_leave : D → List ℕ → Ty
   pub opened_held : IsHeld seen may_leave (state_at e) k
   opened_held = held_as j.text.0 refl is.tells.records is.journal is.log
 
+-- what is left of the journal
+pub left_of : {D : Type 0} (seen : D → List ℕ) (may_leave : D → List ℕ → Type 0) (failures : D → ℕ) (v : Version) (d : Durable) (j k : Journal D) → IsLeft seen may_leave failures v d j k →
+    (k.text ≡ left_in v j.text d) × (failures_of_both failures k ≡ failures_of_both failures j)
+left_of seen may_leave failures versions.One d j k is = (is.made.text, is.quiet)
+left_of seen may_leave failures versions.Two d j k is = (is.0.text, is.1.1)
+
 -- ---- what isn't opened
 
-no_log : Log
-no_log = record { records = 0; size = 0; limit = 0; generation = 0 }
+abbrev no_log : ℕ → Log
+no_log bound = record { records = 0; size = 0; limit = bound; generation = 0 }
 
-module _ {D : Type 0} (seen : D → List ℕ) (failures : D → ℕ) (config : Config) (first second : D) (u : Unopened D) where
+module _ {D : Type 0} (seen : D → List ℕ) (failures : D → ℕ) (config : Config) (bound : ℕ) (first second : D) (u : Unopened D) where
   -- the journal wasn't
   pub closed_why : WhyClosed (standing (seen first) (seen second)) (failures first + failures second) (failures u.first + failures u.second) u.refusal →
-      (u.refusal ≢ refusals.Device → (seen u.first ≡ seen first) × (seen u.second ≡ seen second)) → WhyUnopened seen failures config first second u
+      (u.refusal ≢ refusals.Device → (seen u.first ≡ seen first) × (seen u.second ≡ seen second)) → WhyUnopened seen failures config bound first second u
   closed_why (inl bad) unchanged =
       let same = unchanged (λ device. absurd (cc (bad.0, device))) in inr ((λ i. standing (same.0 i) (same.1 i)), inl (bad.0, bad.1))
   closed_why (inr (inl device)) unchanged = inl device
   closed_why (inr (inr memory)) unchanged =
-      let same = unchanged (λ device. absurd (cc (memory.0, device))) in inr ((λ i. standing (same.0 i) (same.1 i)), inr (no_log, inl memory.0))
+      let same = unchanged (λ device. absurd (cc (memory.0, device))) in inr ((λ i. standing (same.0 i) (same.1 i)), inr (no_log bound, refl, inl memory.0))
 
   -- the journal was, and tells no master
-  pub untold_why : (j k : Journal D) → j.text ≡ standing (seen first) (seen second) → failures_of_both failures j ≡ failures first + failures second → u.first ≡ k.first → u.second ≡ k.second →
-      standing (seen u.first) (seen u.second) ≡ k.text → WhyNotRecovered failures config j k u.refusal → WhyUnopened seen failures config first second u
-  untold_why j k text quiet f s now (inl same) =
-      inr (now ∙ same.0.stays.text ∙ text, inr (log_in j, subst (λ t. WhyNotTold config t (log_in j) u.refusal) text same.1))
-  untold_why j k text quiet f s now (inr broken) =
+  pub untold_why : (j k : Journal D) → j.limit ≡ bound → j.text ≡ standing (seen first) (seen second) → failures_of_both failures j ≡ failures first + failures second → u.first ≡ k.first → u.second ≡ k.second →
+      standing (seen u.first) (seen u.second) ≡ k.text → WhyNotRecovered failures config j k u.refusal → WhyUnopened seen failures config bound first second u
+  untold_why j k limit text quiet f s now (inl same) =
+      inr (now ∙ same.0.stays.text ∙ text, inr (log_in j, limit, subst (λ t. WhyNotTold config t (log_in j) u.refusal) text same.1))
+  untold_why j k limit text quiet f s now (inr broken) =
       let fails : failures_of_both failures k ≡ failures u.first + failures u.second = λ i. failures (sym f i) + failures (sym s i) in
       inl (broken.0, subst (λ n. n < failures u.first + failures u.second) quiet (subst (λ n. failures_of_both failures j < n) fails broken.1.cause))

@@ -98,6 +98,12 @@ module _ {D : Type 0} (seen : D → List ℕ) (may_leave : D → List ℕ → Ty
       unchanged : rs ≡ [] → k ≡ j → k.text ≡ (j.text.0, j.text.1 ++ map (encoded Two) rs)
       unchanged none same = ap (λ (x : Journal D). x.text) same ∙ (λ i. (j.text.0, sym (append-nil j.text.1) i)) ∙ (λ i. (j.text.0, j.text.1 ++ map (encoded Two) (sym none i)))
 
+  stay_quiet : (f : Fault) (d : Durable) (log after : Log) (j k : Journal D) (rs : List PlainEntry) → Holds seen may_leave d log j f → (is_failed f ≡ true → rs ≡ []) → (rs ≡ [] → k ≡ j) →
+      (IsLogOf log j → Gains seen may_leave failures j (map (encoded Two) rs) k × IsLogOf after k) → failures_of_both failures k ≡ failures_of_both failures j
+  stay_quiet Sound d log after j k rs (stands, (is, told)) idle still gains = (gains is).0.quiet
+  stay_quiet (Failed doubt) d log after j k rs held idle still gains = ap (failures_of_both failures) (still (idle refl))
+  stay_quiet (Unopened doubt) d log after j k rs held idle still gains = ap (failures_of_both failures) (still (idle refl))
+
   -- where a disk failed
   pub breaks : (f : Fault) (d last mid : Durable) (log after : Log) (j k : Journal D) (rs : List PlainEntry) (place : ℕ) → Holds seen may_leave d log j f → (is_failed f ≡ true → rs ≡ []) → place < length rs →
       AllByRecursion (IsEntry Two) rs → replayed d rs ≡ Some last → replayed d (take place rs) ≡ Some mid → (IsLogOf log j → Breaks failures j (map (encoded Two) rs) place k) →
@@ -128,13 +134,15 @@ module _ {D : Type 0} (seen : D → List ℕ) (may_leave : D → List ℕ → Ty
     abbrev pub at : Event → Journal D → MasterOf D
     at x y = record { config = config; state = state_at x; journal = y }
 
-    done : (told : Told) → IsFinished seen may_leave failures t begun j told e k → IsAnswered t (at begun j) told (at e k) × IsHeld seen may_leave (state_at e) k
+    done : (told : Told) → IsFinished seen may_leave failures t begun j told e k → IsAnswered failures t (at begun j) told (at e k) × IsHeld seen may_leave (state_at e) k
     done told is = (
       record {
         done = is.done;
         fit = is.replays;
         are_entries = is.are_entries;
         text = stand_behind (state_at begun).fault (durable_of begun.recorded) (state_at begun).log (state_at e).log j k t.records held idle is.still is.gains;
+        quiet = stay_quiet (state_at begun).fault (durable_of begun.recorded) (state_at begun).log (state_at e).log j k t.records held idle is.still is.gains;
+        still = λ none. is.still none;
         config = refl;
       },
       subst (Holds seen may_leave (durable_of e.recorded) (state_at e).log k) (sym is.fault)
@@ -143,7 +151,13 @@ module _ {D : Type 0} (seen : D → List ℕ) (may_leave : D → List ℕ → Ty
 
     short : (told : Told) (place : ℕ) → IsCutShort failures caller t place begun j told e k → IsAnsweredUnsure failures caller t place (at begun j) told (at e k) × IsHeld seen may_leave (state_at e) k
     short told place is = (
-      record { cut = is.cut; cause = broke.0; closed = broke.1.0; config = refl },
+      record {
+        cut = is.cut;
+        fit = mid.1 ∙ ap (λ (s : State). Some s.durable) (sym state);
+        cause = broke.0;
+        closed = broke.1.0;
+        config = refl;
+      },
       subst (λ (s : State). IsHeld seen may_leave s k) (sym state) broke.1,
     )
       where

@@ -3,6 +3,7 @@ use Rattle.std.specs.Prelude.{◌≡◌, ◌⊎◌, ◌&&◌, ◌≤◌, ◌++�
 use Rattle.std.specs.List.{AllByRecursion}
 use Rattle.gs_base.specs.declared.numbers.ReqId.{ReqId}
 use Rattle.gs_base.specs.declared.refusal.Refusal.{Refusal}
+use Rattle.gs_base.specs.declared.refusal.Refusal.TheVariants as refusals
 use Rattle.gs_journal.specs.Journal.{State as Journal}
 use Rattle.gs_journal.specs.declared.version.Version.TheVariants.{Two}
 use Rattle.gs_msg.specs.declared.message.Message.{Message}
@@ -79,8 +80,9 @@ abbrev pub FinishesAnew : {D : Type 0} → (D → List ℕ) → (D → List ℕ 
 FinishesAnew seen may_leave failures steps begun old told e new =
     IsFinishedAnew seen may_leave failures steps begun old told e new ⊎ ((place : ℕ) × IsCutShortAnew failures steps place begun old told e new)
 
--- All that the checkpoint takes which a tick writes here; none where it isn't due, or something stands against it.
+-- All that the checkpoint takes which a tick writes here; none where it isn't due, or something stands against it. Only memory may be
+-- wanting.
 abbrev pub MakesDue : {D : Type 0} → State → Journal D → Result (Option Renewal) Refusal → Type 0
 MakesDue s j (Ok (Some r)) = (due s ≡ true) × (IsRenewalOf s r × IsBehind j r)
 MakesDue s j (Ok None) = (due s && is_none (renewal_refusal s)) ≡ false
-MakesDue s j (Err e) = Unit {0}
+MakesDue s j (Err e) = e ≡ refusals.Memory

@@ -1,5 +1,5 @@
 -- The master with its journal, and what it answers.
-use Rattle.std.specs.Prelude.{◌≡◌, ◌⊎◌, ◌<◌, ◌++◌, ◌∷◌, ℕ, true, false, List, [], map, Option, Some, None, Result, Ok, Err}
+use Rattle.std.specs.Prelude.{◌≡◌, ◌⊎◌, ◌<◌, ◌++◌, ◌∷◌, ℕ, true, false, List, [], map, take, Option, Some, None, Result, Ok, Err}
 use Rattle.std.specs.List.{AllByRecursion}
 use Rattle.gs_base.specs.declared.config.Config.{Config}
 use Rattle.gs_base.specs.declared.numbers.ReqId.{ReqId}
@@ -25,6 +25,9 @@ pub record MasterOf (D : Type 0) : Type 0 where
   pub config : Config
   pub state : State
   pub journal : Journal D
+
+abbrev pub with_journal : {D : Type 0} → MasterOf D → Journal D → MasterOf D
+with_journal m j = record m { journal = j }
 
 -- ---- what the journal tells
 
@@ -58,17 +61,21 @@ IsHeld seen may_leave s j = Holds seen may_leave s.durable s.log j s.fault
 
 -- ---- what an event answers
 
--- The turn is done. Each of its records fits what it meets, and stands behind the others in the journal.
-pub record IsAnswered {D : Type 0} (t : Turn) (old : MasterOf D) (told : Told) (new : MasterOf D) : Type 0 where
+-- The turn is done, and no disk has failed. Each of its records fits what it meets, and stands behind the others in the journal. Without
+-- a record the journal isn't touched.
+pub record IsAnswered {D : Type 0} (failures : D → ℕ) (t : Turn) (old : MasterOf D) (told : Told) (new : MasterOf D) : Type 0 where
   pub done : IsDone t told.sent.items told.said new.state
   pub fit : replayed old.state.durable t.records ≡ Some new.state.durable
   pub are_entries : AllByRecursion (IsEntry Two) t.records
   pub text : new.journal.text ≡ (old.journal.text.0, old.journal.text.1 ++ map (encoded Two) t.records)
+  pub quiet : failures_of_both failures new.journal ≡ failures_of_both failures old.journal
+  pub still : t.records ≡ [] → new.journal ≡ old.journal
   pub config : new.config ≡ old.config
 
--- A disk failed at the record at a place, which stands or doesn't.
+-- A disk failed at the record at a place, which stands or doesn't. Those before it fit what they meet.
 pub record IsAnsweredUnsure {D : Type 0} (failures : D → ℕ) (caller : Option ReqId) (t : Turn) (place : ℕ) (old : MasterOf D) (told : Told) (new : MasterOf D) : Type 0 where
   pub cut : IsCut old.state caller t place told.sent.items told.said new.state
+  pub fit : replayed old.state.durable (take place t.records) ≡ Some new.state.durable
   pub cause : failures_of_both failures old.journal < failures_of_both failures new.journal
   pub closed : new.journal.is_failed ≡ true
   pub config : new.config ≡ old.config
@@ -83,5 +90,5 @@ WhyNot t s e =
 
 -- The turn is done, or cut where a disk failed; or it is refused, and nothing has happened.
 abbrev pub Answers : {D : Type 0} → (D → ℕ) → Option ReqId → Turn → MasterOf D → Result Told Refusal → MasterOf D → Type 0
-Answers failures caller t old (Ok told) new = IsAnswered t old told new ⊎ ((place : ℕ) × IsAnsweredUnsure failures caller t place old told new)
+Answers failures caller t old (Ok told) new = IsAnswered failures t old told new ⊎ ((place : ℕ) × IsAnsweredUnsure failures caller t place old told new)
 Answers failures caller t old (Err refusal) new = WhyNot t old.state refusal × (new ≡ old)

@@ -5,17 +5,26 @@ use Rattle.gs_base.specs.declared.refusal.Refusal.{Refusal}
 use Rattle.gs_base.specs.declared.refusal.Refusal.TheVariants as refusals
 use Rattle.gs_journal.specs.Forms.{is_text}
 use Rattle.gs_journal.specs.Records.{Text, standing}
+use Rattle.gs_journal.specs.Journal.{checkpointed, failures_of_both}
 use Rattle.gs_journal.specs.declared.journal.Unopened.{Unopened}
+use Rattle.gs_journal.specs.declared.version.Version.{Version}
+use Rattle.gs_journal.specs.declared.version.Version.TheVariants as versions
 use Rattle.gs_msg.specs.declared.message.Message.{Message}
 use Rattle.gs_record.specs.Plain.{PlainEntry}
 use Rattle.gs_state.specs.Durable.{Durable}
-use Rattle.gs_state.specs.Handling.{recover}
+use Rattle.gs_state.specs.Handling.{checkpoint_body, recover}
 use Rattle.gs_master.specs.Masters.{MasterOf}
 use Rattle.gs_master.specs.Recovering.{Tells, WhyNotTold}
 use Rattle.gs_state.specs.State.{Log, Turn}
 
--- The master is what the records tell, and sends what they say. As many bytes as it was told may be written to a disk.
-pub record IsOpened {D : Type 0} (given : Config) (text : Text) (bound : ℕ) (m : MasterOf D) (sent : List Message) : Type 0 where
+-- what is left of a text that tells this: one of the first version is written anew
+abbrev pub left_in : Version → Text → Durable → Text
+left_in versions.One text d = checkpointed (checkpoint_body d)
+left_in versions.Two text d = text
+
+-- The master is what the records tell, and sends what they say. As many bytes as it was told may be written to a disk. No disk has
+-- failed.
+pub record IsOpened {D : Type 0} (failures : D → ℕ) (given : Config) (first second : D) (text : Text) (bound : ℕ) (m : MasterOf D) (sent : List Message) : Type 0 where
   pub entries : List PlainEntry
   pub durable : Durable
   pub tells : Tells text entries durable
@@ -26,10 +35,12 @@ pub record IsOpened {D : Type 0} (given : Config) (text : Text) (bound : ℕ) (m
   pub sends : sent ≡ turn.sent
   pub config : m.config ≡ given
   pub limit : log.limit ≡ bound
+  pub left : m.journal.text ≡ left_in text.0 text durable
+  pub quiet : failures_of_both failures m.journal ≡ failures first + failures second
 
 -- A disk failed; or the disks say what they said, and that tells no master, or memory is wanting.
-abbrev pub WhyUnopened : {D : Type 0} → (D → List ℕ) → (D → ℕ) → Config → D → D → Unopened D → Type 0
-WhyUnopened seen failures config first second u =
+abbrev pub WhyUnopened : {D : Type 0} → (D → List ℕ) → (D → ℕ) → Config → ℕ → D → D → Unopened D → Type 0
+WhyUnopened seen failures config bound first second u =
     ((u.refusal ≡ refusals.Device) × (failures first + failures second < failures u.first + failures u.second))
     ⊎ ((standing (seen u.first) (seen u.second) ≡ standing (seen first) (seen second))
-    × (((u.refusal ≡ refusals.BadLine) × (is_text (standing (seen first) (seen second)) ≡ false)) ⊎ ((log : Log) × WhyNotTold config (standing (seen first) (seen second)) log u.refusal)))
+    × (((u.refusal ≡ refusals.BadLine) × (is_text (standing (seen first) (seen second)) ≡ false)) ⊎ ((log : Log) × (log.limit ≡ bound) × WhyNotTold config (standing (seen first) (seen second)) log u.refusal)))

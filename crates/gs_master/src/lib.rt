@@ -2,6 +2,7 @@
 #![tactic(auto)]
 
 mod answered;
+mod arming;
 mod begun;
 mod calling;
 mod carrying;

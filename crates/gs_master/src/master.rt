@@ -12,7 +12,8 @@ use std::marker::Model;
 
 /// The master: the names of the store, where each chunk is, and the journal whose records all of that comes from.
 ///
-/// Once a disk has failed nothing is recorded any more, and calls are refused `Device`, until the disks are opened again.
+/// Once a disk has failed nothing is recorded any more. Until the disks are opened again calls are refused `Device`, but for those that
+/// were answered before: the last one of a client gets its reply again, an older one is `Old`.
 #[derive(Drop)]
 pub struct Master<D: Disk> {
     pub(crate) config: Config,
@@ -42,8 +43,8 @@ impl<D: Disk> Model for Master<D> {
 }
 
 impl<D: Disk> Master<D> {
-    /// Does what a message asks for, at this moment of the master's clock, in milliseconds. A message that isn't for the master
-    /// is a stray, which it says.
+    /// Does what a message asks for, at this moment of the master's clock, in seconds. One of a kind that the master doesn't take
+    /// is a stray, which it says; whom a message is for isn't looked at.
     ///
     /// A refusal changes nothing: `Memory` where memory is wanting, `Full` where the journal has no room for all that is to be
     /// recorded, `BadLine` where something of it can't be.

@@ -20,7 +20,7 @@ pub struct Started<D: Disk> {
 
 impl<D: Disk> Master<D> {
     /// Opens the two disks of a journal, whatever a crash or a failure left on them: the master is what its records tell. New
-    /// disks are those of a new store. No disk takes more than `limit` bytes. A journal of the first version is written anew in
+    /// disks are those of a new store. Nothing is written past `limit` bytes of a disk. A journal of the first version is written anew in
     /// the second.
     ///
     /// The refusal is `BadLine` where the records aren't those of a store, `Device` where a disk fails, `Memory` where memory is
@@ -33,8 +33,8 @@ impl<D: Disk> Master<D> {
         second: D,
         limit: u32,
     ) -> Result<Started<D>, Unopened<D>>
-        ensures opened { IfOk result (λ started. IsOpened config (standing (D.seen first) (D.seen second)) limit started.master started.sent.items) }
-        ensures refused { IfErr result (WhyUnopened D.seen D.failures config first second) }
+        ensures opened { IfOk result (λ started. IsOpened D.failures config first second (standing (D.seen first) (D.seen second)) limit started.master started.sent.items) }
+        ensures refused { IfErr result (WhyUnopened D.seen D.failures config limit first second) }
     {
         let mut journal = match Journal::open(alloc, first, second, limit) {
             Ok(journal) => journal,

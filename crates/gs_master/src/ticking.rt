@@ -7,9 +7,9 @@ use gs_base::{Moment, Refusal};
 use gs_journal::Disk;
 
 impl<D: Disk> Master<D> {
-    /// A tick of the master's clock, at this moment, in milliseconds. A view that is proposed is settled by one yes, or given up;
-    /// each lease is granted again; and where 4,096 records stand behind the last checkpoint another is written, if nothing
-    /// stands against it.
+    /// A tick of the master's clock, at this moment, in seconds. A view that is proposed is settled by one yes; without a yes the call
+    /// that waits for it is refused, and the chunk moves on. Each lease is granted again; and where 4,096 records stand behind the last checkpoint another is written, if nothing
+    /// stands against it. Once a disk has failed it says `Device` and does nothing.
     ///
     /// A refusal changes nothing, as in `handle`.
     pub fn tick(&mut self, moment: Moment) -> Result<Turn, Refusal>

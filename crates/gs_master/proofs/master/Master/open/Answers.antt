@@ -3,13 +3,14 @@ use Rattle.std.specs.Prelude.{Ok}
 use Rattle.gs_journal.specs.Records.{Text}
 use Rattle.gs_state.specs.Handling.{recover}
 use Rattle.gs_master.specs.Recovering.{Tells, log_in}
-use Rattle.gs_master.proofs.Reopened.{closed_why, opened_held, untold_why}
+use Rattle.gs_master.specs.Starting.{left_in}
+use Rattle.gs_master.proofs.Reopened.{closed_why, left_of, opened_held, untold_why}
 use Rattle.gs_master.proofs.master.Master.open.Goals as goal
 
 pub returns-in-Err-clause-refused : goal.returns-in-Err-clause-refused
 returns-in-Err-clause-refused g c =
     let d = g.D.Disk in
-    closed_why d.seen d.failures c.args.config c.args.first c.args.second c.in-Err.unopened c.in-Err.ensures.refused c.in-Err.ensures.unchanged
+    closed_why d.seen d.failures c.args.config c.args.limit c.args.first c.args.second c.in-Err.unopened c.in-Err.ensures.refused c.in-Err.ensures.unchanged
 
 pub invariant_of-master : goal.invariant_of-master
 invariant_of-master g c =
@@ -33,6 +34,9 @@ pub returns-in-Ok-recover-clause-opened : goal.returns-in-Ok-recover-clause-open
 returns-in-Ok-recover-clause-opened g c =
     let text = c.in-Ok.ensures.text in
     let recovered = c.in-Ok-recover.ensures in
+    let d = g.D.Disk in
+    let k = c.recover.new.journal in
+    let kept = left_of d.seen d.may_leave d.failures c.in-Ok.journal.text.0 recovered.durable c.in-Ok.journal k recovered.journal in
     let log = log_in c.in-Ok.journal in record {
       entries = recovered.entries;
       durable = recovered.durable;
@@ -44,11 +48,13 @@ returns-in-Ok-recover-clause-opened g c =
       sends = (λ i. (c.replace-sent.ensures.value i).items) ∙ recovered.sent;
       config = refl;
       limit = c.in-Ok.ensures.limit;
+      left = subst (λ (t : Text). k.text ≡ left_in t.0 t recovered.durable) text kept.0;
+      quiet = kept.1 ∙ c.in-Ok.ensures.quiet;
     }
 
 pub returns-in-Err-recover-clause-refused : goal.returns-in-Err-recover-clause-refused
 returns-in-Err-recover-clause-refused g c =
     let d = g.D.Disk in
-    untold_why d.seen d.failures c.args.config c.args.first c.args.second
+    untold_why d.seen d.failures c.args.config c.args.limit c.args.first c.args.second
     (record { refusal = c.in-Err-recover.refusal; first = c.into_disks-first.result.0; second = c.into_disks-first.result.1 }) c.in-Ok.journal c.recover.new.journal
-    c.in-Ok.ensures.text c.in-Ok.ensures.quiet c.into_disks-first.ensures.disks.0 c.into_disks-first.ensures.disks.1 c.into_disks-first.ensures.text c.in-Err-recover.ensures
+    c.in-Ok.ensures.limit c.in-Ok.ensures.text c.in-Ok.ensures.quiet c.into_disks-first.ensures.disks.0 c.into_disks-first.ensures.disks.1 c.into_disks-first.ensures.text c.in-Err-recover.ensures
