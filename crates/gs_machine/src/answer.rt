@@ -1,6 +1,6 @@
 ghost use Rattle.std.specs.Prelude.{◌≡◌, ◌++◌, IfOk, codes, string_bytes};
 ghost use Rattle.gs_tree.specs.Listing.{pairs_of};
-ghost use Rattle.gs_machine.specs.Texts.{names_text};
+ghost use Rattle.gs_machine.specs.Texts.{name_text, names_text};
 
 use gs_base::Refusal;
 use gs_path::Path;
@@ -29,17 +29,25 @@ pub enum Answer {
 ghost use Rattle.gs_machine.specs.Reply.{reply_of};
 ghost use Rattle.gs_machine.specs.Texts.{reply_text};
 
+/// One more name, behind a space.
+fn push_name(text: &mut String, child: &Listed) -> Result<(), AllocError>
+    ensures { IfOk result (λ _. string_bytes text.new ≡ string_bytes text.old ++ name_text (child.now.name, child.now.is_dir)) }
+{
+    text.push_str(" ")?;
+    text.push_str(child.name.as_str())?;
+    if child.is_dir {
+        text.push_str("/")?;
+    }
+    Ok(())
+}
+
 /// The names of an answer, each behind a space.
 fn names_text(alloc: Global, listed: &[Listed]) -> Result<String, AllocError>
     ensures { IfOk result (λ text. string_bytes text ≡ codes "ok" ++ names_text (pairs_of listed.now)) }
 {
     let mut text = String::from_str(alloc, "ok")?;
     for child in listed {
-        text.push_str(" ")?;
-        text.push_str(child.name.as_str())?;
-        if child.is_dir {
-            text.push_str("/")?;
-        }
+        push_name(&mut text, child)?;
     }
     Ok(text)
 }

@@ -1,11 +1,37 @@
-use Rattle.std.proofs.Common.{refl, inl, ◌∙◌, ap, subst}
+use Rattle.std.proofs.Common.{◌≡◌, refl, inl, inr, ◌∙◌, ap, subst}
+use Rattle.std.specs.Prelude.{Option, Some, None, Result, Ok, Err, IfSome, OnOk}
 use Rattle.gs_journal.specs.Disk.{LeavesPairs}
 use Rattle.gs_journal.specs.Records.{standing}
-use Rattle.gs_journal.specs.Journal.{State, IsOldOrNew, checkpointed}
+use Rattle.gs_journal.specs.Journal.{State, IsOldOrNew, Makes, checkpointed}
 use Rattle.gs_journal.specs.Drafts.{Drafted, draft_refusal}
 use Rattle.gs_journal.proofs.Views.{unmoved}
 use Rattle.gs_journal.proofs.Drafting.{draft_unrefused, if_err_as}
 use Rattle.gs_journal.proofs.journal.Journal.checkpoint.Goals as goal
+
+-- a refusal that was told is answered
+err_judged : {T E S : Type 0} (U : Type 0) (told : Option E) (r : Result T E) (x : E) (s : S) → IfSome told (λ e. r ≡ Err e) → r ≡ Err x → IfSome told (λ e. (◌≡◌ {A = Result U E} (Err x) (Err e)) × (s ≡ s))
+err_judged U None r x s judged is = tt
+err_judged U (Some e) r x s judged is = (cc (judged, is), refl)
+
+-- where something was made, no refusal was told
+ok_judged : {T E : Type 0} (told : Option E) (r : Result T E) (x : T) (Q : E → Type 0) → IfSome told (λ e. r ≡ Err e) → r ≡ Ok x → IfSome told Q
+ok_judged None r x Q judged is = tt
+ok_judged (Some e) r x Q judged is = absurd (cc (judged, is))
+
+pub returns-in-Err-clause-judged : goal.returns-in-Err-clause-judged
+returns-in-Err-clause-judged g c = err_judged _ _ _ _ _ c.draft.ensures.judged c.in-Err.is
+
+pub returns-in-Err-clause-stands : goal.returns-in-Err-clause-stands
+returns-in-Err-clause-stands g c = tt
+
+pub returns-in-Err-clause-failed : goal.returns-in-Err-clause-failed
+returns-in-Err-clause-failed g c none = inr (c.in-Err.ensures.refused none, refl)
+
+pub returns-in-Err-clause-either : goal.returns-in-Err-clause-either
+returns-in-Err-clause-either g c = inl refl
+
+pub returns-in-Err-clause-counting : goal.returns-in-Err-clause-counting
+returns-in-Err-clause-counting g c = refl
 
 pub returns-in-Err-clause-any_moment : goal.returns-in-Err-clause-any_moment
 returns-in-Err-clause-any_moment g c is_open =
@@ -23,3 +49,22 @@ returns-clause-any_moment g c is_open =
     let d = g.D.Disk in
     subst (λ (t : Drafted). LeavesPairs d.moment d.left_since c.args.self.now.first c.args.self.now.second c.write_draft.new.self.first c.write_draft.new.self.second (λ a b. IsOldOrNew c.args.self.now.text (checkpointed t.body) (standing a b)))
     c.in-Ok.ensures.made (c.write_draft.ensures.any_moment is_open)
+
+pub returns-clause-judged : goal.returns-clause-judged
+returns-clause-judged g c = ok_judged _ _ _ _ c.draft.ensures.judged c.in-Ok.is
+
+pub returns-clause-made : goal.returns-clause-made
+returns-clause-made g c = subst (λ (t : Drafted). OnOk c.write_draft.result (Makes c.args.self.now t.body c.write_draft.new.self)) c.in-Ok.ensures.made c.write_draft.ensures.made
+
+pub returns-clause-stands : goal.returns-clause-stands
+returns-clause-stands g c = c.write_draft.ensures.stands
+
+pub returns-clause-quiet : goal.returns-clause-quiet
+returns-clause-quiet g c = c.write_draft.ensures.quiet
+
+pub returns-clause-either : goal.returns-clause-either
+returns-clause-either g c =
+    subst (λ (t : Drafted). IsOldOrNew c.args.self.now.text (checkpointed t.body) c.write_draft.new.self.text) c.in-Ok.ensures.made c.write_draft.ensures.either
+
+pub returns-clause-counting : goal.returns-clause-counting
+returns-clause-counting g c = c.write_draft.ensures.counting
