@@ -9,7 +9,7 @@ use Rattle.gs_base.specs.declared.numbers.Stamp.{Stamp}
 use Rattle.gs_base.specs.Stamps.{is_before, is_same}
 use Rattle.gs_base.specs.declared.refusal.Refusal.{Refusal}
 use Rattle.gs_base.specs.declared.refusal.Refusal.TheVariants as refusals
-use Rattle.gs_block.specs.Follows.{Foretells, Makes}
+use Rattle.gs_block.specs.Follows.{Answers, Does, Foretells, Makes}
 use Rattle.gs_block.specs.Edits as blocks
 use Rattle.gs_block.specs.Edits.{unless_damaged}
 use Rattle.gs_block.specs.Stored.{Stored, first_damaged}
@@ -80,6 +80,79 @@ foretold stamp count done (Some i) s f told is = absurd (cc)
 
 pub never_lacks : (stamp : Stamp) (h : Held) (f : Refusal) → Foretells {B = Unit {0}} (edits.copied stamp h) (Err f) → f ≡ refusals.Memory → ⊥
 never_lacks stamp h f told is = foretold stamp h.count h.done (first_damaged h.chunk.block h.chunk.bytes h.chunk.digests 0 (length h.chunk.digests)) h.chunk f told is
+
+pub answered : {A B : Type 0} (view : B → A) (m : Result A Refusal) (b : B) → Answers view m (Ok b) → m ≡ Ok (view b)
+answered view (Ok a) b is = ap (λ x. Ok x) (sym is)
+answered view (Err e) b is = elim is [ ]
+
+foretold_err : {A : Type 0} (m : Result A Refusal) (f : Refusal) → Foretells {B = Unit {0}} m (Err f) → m ≡ Err f
+foretold_err (Ok a) f told = elim told [ ]
+foretold_err (Err e) f told = ap (λ x. Err x) (sym told)
+
+does_err : {A : Type 0} (m : Result A Refusal) (f : Refusal) (old new : A) → Does {B = Unit {0}} m (Err f) old new → m ≡ Err f
+does_err (Ok a) f old new done = elim done [ ]
+does_err (Err e) f old new done = ap (λ x. Err x) (sym done.0)
+
+does_ok : {A : Type 0} (m : Result A Refusal) (old new : A) → Does {B = Unit {0}} m (Ok tt) old new → m ≡ Ok new
+does_ok (Ok a) old new done = ap (λ x. Ok x) (sym done)
+does_ok (Err e) old new done = elim done [ ]
+
+pub never_old : (stamp : Stamp) (t : Slot) (f : Refusal) → Does {B = Unit {0}} (again stamp t) (Err f) t t → f ≡ refusals.Memory → ⊥
+never_old stamp t f = by_case (is_same stamp t.promise && is_some t.live)
+  where
+    by_case : (b : Bool) → Does {B = Unit {0}} (cond b (Ok t) (Err refusals.Old)) (Err f) t t → f ≡ refusals.Memory → ⊥
+    by_case true done is = elim done [ ]
+    by_case false done is = absurd (cc (sym done.0 ∙ is))
+
+-- a call for which the source was found
+module _ (at stamp : Stamp) (s target : Slot) (r : State) (found : moves.source at s ≡ Ok r) where
+  through : {A : Type 0} (g : Held → Result A Refusal) (m : Result Held Refusal) → edits.copied stamp r.held ≡ m → and_then (copied_from at stamp s) g ≡ and_then m g
+  through g m is =
+      ap (λ (x : Result State Refusal). and_then (and_then x (λ t. edits.copied stamp t.held)) g) found ∙ ap (λ (x : Result Held Refusal). and_then x g) is
+
+  -- a block of the source fails
+  pub unsound_for : (f : Refusal) → Foretells {B = Unit {0}} (edits.copied stamp r.held) (Err f) → moves.copy_for at stamp s target ≡ Err f
+  unsound_for f told = through (moves.wanted_by target) (Err f) (foretold_err _ f told)
+
+  pub unsound_copy : (f : Refusal) → Foretells {B = Unit {0}} (edits.copied stamp r.held) (Err f) → moves.make_copy at stamp s target ≡ Err f
+  unsound_copy f told = through (λ h. moves.take_copy h target) (Err f) (foretold_err _ f told)
+
+  -- the source is sound, and the target has promised the stamp already
+  sound_then : {A : Type 0} (g : Held → Result A Refusal) (a : Result A Refusal) (m : Result Stored Refusal) → ((c : Stored) → g (record { chunk = c; count = r.held.count; done = r.held.done; promise = stamp }) ≡ a)
+      → Foretells {B = Unit {0}} (held_of stamp r.held.count r.held.done m) (Ok tt) → and_then (held_of stamp r.held.count r.held.done m) g ≡ a
+  sound_then g a (Ok c) each told = each c
+  sound_then g a (Err e) each told = elim told [ ]
+
+  module _ (told : Foretells {B = Unit {0}} (edits.copied stamp r.held) (Ok tt)) (late : is_before target.promise stamp ≡ false) where
+    late_for : moves.copy_for at stamp s target ≡ and_then (again stamp target) (λ t. Ok None)
+    late_for =
+        through (moves.wanted_by target) _ refl
+        ∙ sound_then (moves.wanted_by target) (and_then (again stamp target) (λ t. Ok None)) (blocks.copied r.held.chunk)
+        (λ c. ap (λ (b : Bool). cond b (Ok (Some (record { chunk = c; count = r.held.count; done = r.held.done; promise = stamp }))) (and_then (again stamp target) (λ t. Ok None))) late) told
+
+    late_copy : moves.make_copy at stamp s target ≡ again stamp target
+    late_copy =
+        through (λ h. moves.take_copy h target) _ refl
+        ∙ sound_then (λ h. moves.take_copy h target) (again stamp target) (blocks.copied r.held.chunk)
+        (λ c. ap (λ (b : Bool). cond b (Ok (replaced stamp false (record { held = record { chunk = c; count = r.held.count; done = r.held.done; promise = stamp }; sealed = None }) target)) (again stamp target)) late) told
+
+    pub refused_for : (f : Refusal) → Does {B = Unit {0}} (again stamp target) (Err f) target target → moves.copy_for at stamp s target ≡ Err f
+    refused_for f done = late_for ∙ ap (λ (m : Result Slot Refusal). and_then {B = Option Held} m (λ t. Ok None)) (does_err _ f target target done)
+
+    pub refused_copy : (f : Refusal) → Does {B = Unit {0}} (again stamp target) (Err f) target target → moves.make_copy at stamp s target ≡ Err f
+    refused_copy f done = late_copy ∙ does_err _ f target target done
+
+    pub found_for : Does {B = Unit {0}} (again stamp target) (Ok tt) target target → moves.copy_for at stamp s target ≡ Ok None
+    found_for done = late_for ∙ ap (λ (m : Result Slot Refusal). and_then {B = Option Held} m (λ t. Ok None)) (does_ok _ target target done)
+
+    pub found_copy : Does {B = Unit {0}} (again stamp target) (Ok tt) target target → moves.make_copy at stamp s target ≡ Ok target
+    found_copy done = late_copy ∙ does_ok _ target target done
+
+pub makes_err : {A : Type 0} (m : Result A Refusal) (f : Refusal) → m ≡ Err f → Makes m (Err f)
+makes_err {A = A} m f is = subst (λ (x : Result A Refusal). Makes x (Err f)) (sym is) refl
+
+pub makes_ok : {A : Type 0} (m : Result A Refusal) (a : A) → m ≡ Ok a → Makes m (Ok a)
+makes_ok {A = A} m a is = subst (λ (x : Result A Refusal). Makes x (Ok a)) (sym is) refl
 
 -- where a copy is made, the target's promise is below its stamp
 made_below : (at stamp : Stamp) (target : Slot) (h : Held) (m : Result Stored Refusal) (count : ℕ) (done : fin.FinMap nat_cmp Done) → and_then (held_of stamp count done m) (moves.wanted_by target) ≡ Ok (Some h) → is_before target.promise stamp ≡ true

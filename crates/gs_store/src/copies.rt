@@ -2,12 +2,13 @@ ghost use Rattle.std.specs.Prelude.{◌≡◌, true, None, IfErr};
 ghost use Rattle.std.specs.FinMap as fin;
 ghost use Rattle.gs_base.specs.declared.refusal.Refusal.TheVariants.{Memory};
 ghost use Rattle.gs_base.specs.Stamps.{is_before};
-ghost use Rattle.gs_block.specs.Follows.{FollowsOf, Gives};
+ghost use Rattle.gs_block.specs.Follows.{FollowsOf, Foretells, Gives, Makes};
 ghost use Rattle.gs_store.specs.Slots.{nothing};
-ghost use Rattle.gs_store.specs.Moves.{copy_out};
-ghost use Rattle.gs_store.specs.Stores.{Performs, slot_of, copy_in, make_copy};
+ghost use Rattle.gs_store.specs.Moves as moves;
+ghost use Rattle.gs_store.specs.Moves.{Prepares, copy_out};
+ghost use Rattle.gs_store.specs.Stores.{Performs, slot_of, at_slot, copy_in, make_copy};
 
-use crate::moves::CopyImages;
+use crate::moves::{CopyImages, PreparedCopy};
 use crate::slot::Slot;
 use crate::store::Store;
 use gs_base::{Handle, Refusal, Stamp};
@@ -57,21 +58,51 @@ impl Store {
         ensures edit { Performs (make_copy handle at new_handle stamp self.old) result self.old self.new }
         ensures lacking { IfErr result (λ e. e ≡ Memory → is_before (slot_of new_handle self.old).promise stamp ≡ true) }
     {
-        let empty = Slot::new();
-        let target = self.slot_or(new_handle, &empty);
-        let copy = match self.slot_or(handle, &empty).copy_for(at, stamp, target) {
+        let copy = match self.copy_between(handle, at, new_handle, stamp) {
             Ok(Some(copy)) => copy,
             Ok(None) => return Ok(()),
             Err(refusal) => return Err(refusal),
         };
-        let Some(place) = self.places.get(new_handle) else {
-            let mut slot = Slot::new();
-            if let Err(refusal) = slot.take_copy(copy) {
-                return Err(refusal);
-            }
-            return self.add(new_handle, slot);
+        self.put_copy(new_handle, copy)
+    }
+
+    /// The copy that `make_copy` puts in its place. None where the new handle has promised its stamp already.
+    fn copy_between(
+        &self,
+        handle: Handle,
+        at: Stamp,
+        new_handle: Handle,
+        stamp: Stamp,
+    ) -> Result<Option<PreparedCopy>, Refusal>
+        ensures made { Makes (moves.copy_for at stamp (slot_of handle self.now) (slot_of new_handle self.now)) result }
+        ensures prepares { Prepares (moves.make_copy at stamp (slot_of handle self.now) (slot_of new_handle self.now)) (slot_of new_handle self.now) result }
+        ensures lacking { IfErr result (λ e. e ≡ Memory → is_before (slot_of new_handle self.now).promise stamp ≡ true) }
+    {
+        let empty = Slot::new();
+        let target = self.slot_or(new_handle, &empty);
+        self.slot_or(handle, &empty).copy_for(at, stamp, target)
+    }
+
+    /// Puts a copy into the slot of a handle. Only the first replica of a handle may want memory.
+    fn put_copy(&mut self, handle: Handle, copy: PreparedCopy) -> Result<(), Refusal>
+        ensures { Performs (at_slot handle (moves.take_copy copy) self.old) result self.old self.new }
+    {
+        let Some(place) = self.places.get(handle) else {
+            return self.put_first_copy(handle, copy);
         };
         self.slots[*place].take_copy(copy)
+    }
+
+    /// Puts a copy into a slot that the handle gets.
+    fn put_first_copy(&mut self, handle: Handle, copy: PreparedCopy) -> Result<(), Refusal>
+        requires { fin.get self.old.slots handle ≡ None }
+        ensures { Performs (at_slot handle (moves.take_copy copy) self.old) result self.old self.new }
+    {
+        let mut slot = Slot::new();
+        if let Err(refusal) = slot.take_copy(copy) {
+            return Err(refusal);
+        }
+        self.add(handle, slot)
     }
 
     /// Makes what a copy carries live under a stamp above a handle's promise, in place of the replica that was live. A sealed
@@ -93,6 +124,13 @@ impl Store {
         self.slots[*place].copy_in(self.alloc, self.sizes, stamp, given)
     }
 
+    /// Judges what a copy carries for a handle that has no slot.
+    fn judge_first(&self, stamp: Stamp, given: &CopyImages) -> Result<(), Refusal>
+        ensures { Foretells (moves.copy_in self.now.block self.now.chunk stamp given.now.image given.now.sealed nothing) result }
+    {
+        Slot::new().judge_copy(self.sizes, stamp, given)
+    }
+
     /// Makes what a copy carries live in a slot that the handle gets.
     fn copy_in_first(
         &mut self,
@@ -104,8 +142,7 @@ impl Store {
         ensures edit { FollowsOf given (copy_in handle stamp given.image given.sealed self.old) result self.old self.new }
         ensures lacking { IfErr result (λ r. r.refusal ≡ Memory → is_before nothing.promise stamp ≡ true) }
     {
-        let mut slot = Slot::new();
-        if let Err(refusal) = slot.judge_copy(self.sizes, stamp, &given) {
+        if let Err(refusal) = self.judge_first(stamp, &given) {
             return Err(Refused { refusal, given });
         }
         let refusal = Refusal::Memory;
@@ -115,6 +152,7 @@ impl Store {
         if self.slots.reserve(1).is_err() {
             return Err(Refused { refusal, given });
         }
+        let mut slot = Slot::new();
         if let Err(refused) = slot.copy_in(self.alloc, self.sizes, stamp, given) {
             return Err(refused);
         }

@@ -157,7 +157,9 @@ impl Slot {
         if let Err(refusal) = replica.verify() {
             return Err(refusal);
         }
-        target.find_again(stamp)?;
+        if let Err(refusal) = target.find_again(stamp) {
+            return Err(refusal);
+        }
         Ok(None)
     }
 
