@@ -1,1 +1,3 @@
 pub mod Asked
+pub mod Texts
+pub mod Examples

@@ -20,7 +20,9 @@ pub struct Caller {
 
 impl Caller {
     /// One that has asked nothing yet.
-    pub fn new(alloc: Global, id: ClientId, config: Config) -> Caller {
+    pub fn new(alloc: Global, id: ClientId, config: Config) -> Caller
+        ensures { result.client ≡ record { last = record { client = id; number = 0 }; chunk = config.chunk } }
+    {
         Caller {
             alloc,
             client: Client::new(id, config),

@@ -1,0 +1,32 @@
+-- What holds of a result or an option, made weaker.
+use Rattle.std.proofs.Common.{◌≡◌, Option, Some, None, IfSome, Result, Ok, Err, OnOk, OnErr, IfOk, IfErr, IsErrAnd, subst, sym}
+
+pub on_ok : {T E : Type 0} (r : Result T E) (P Q : Type 0) → (P → Q) → OnOk r P → OnOk r Q
+on_ok (Ok x) P Q f h = f h
+on_ok (Err e) P Q f h = tt
+
+pub on_err : {T E : Type 0} (r : Result T E) (P : Type 0) → P → OnErr r P
+on_err (Ok x) P p = tt
+on_err (Err e) P p = p
+
+pub on_err_weaker : {T E : Type 0} (r : Result T E) (P Q : Type 0) → (P → Q) → OnErr r P → OnErr r Q
+on_err_weaker (Ok x) P Q f h = tt
+on_err_weaker (Err e) P Q f h = f h
+
+pub if_some : {A : Type 0} (o : Option A) (P Q : A → Type 0) → ((x : A) → P x → Q x) → IfSome o P → IfSome o Q
+if_some None P Q f h = tt
+if_some (Some x) P Q f h = f x h
+
+pub if_some₂ : {A : Type 0} (o : Option A) (P Q R : A → Type 0) → ((x : A) → P x → Q x → R x) → IfSome o P → IfSome o Q → IfSome o R
+if_some₂ None P Q R f h k = tt
+if_some₂ (Some x) P Q R f h k = f x h k
+
+-- an error that is x, as `?` hands it on
+pub if_err : {T E : Type 0} (r : Result T E) (x : E) (P : E → Type 0) → IsErrAnd r (λ e. e ≡ x) → P x → IfErr r P
+if_err (Ok t) x P h p = tt
+if_err (Err e) x P h p = subst P (sym h) p
+
+-- there is no value then
+pub if_ok : {T E : Type 0} (r : Result T E) (Q : E → Type 0) (P : T → Type 0) → IsErrAnd r Q → IfOk r P
+if_ok (Ok t) Q P h = absurd h
+if_ok (Err e) Q P h = tt

@@ -1,0 +1,76 @@
+ghost use Rattle.std.specs.Prelude.{◌≡◌, IfOk, Ok};
+ghost use Rattle.gs_world.specs.Nodes.{new_clients, new_nodes, new_servers, nodes_of};
+ghost use Rattle.gs_world.specs.Happenings.{Opens};
+
+use crate::place::MasterPlace;
+use crate::restarting::opened;
+use gs_base::{ClientId, Config, Refusal, ServerId};
+use gs_client::ClientNode;
+use gs_journal::Disk;
+use gs_master::Turn;
+use gs_server::Server;
+use std::alloc::{AllocError, Global};
+
+/// The nodes of a store.
+#[derive(Drop)]
+pub struct World<D: Disk> {
+    pub alloc: Global,
+    pub config: Config,
+    pub master: MasterPlace<D>,
+    /// The servers by their numbers.
+    pub servers: Vec<Server>,
+    /// The clients, which are numbered from 1 upwards.
+    pub clients: Vec<ClientNode>,
+}
+
+/// As many servers as there are, which have heard nothing.
+#[tactic(auto, using(crate::proofs::Starting::one_more_server))]
+fn new_servers(alloc: Global, config: Config) -> Result<Vec<Server>, AllocError>
+    ensures { IfOk result (λ servers. servers.items ≡ new_servers config) }
+{
+    let mut servers = Vec::new(alloc);
+    for number in 0..config.servers {
+        let id = ServerId::new(number).unwrap();
+        servers.push(Server::new(alloc, config, id)?)?;
+    }
+    Ok(servers)
+}
+
+/// So many clients, who have asked nothing.
+#[tactic(auto, using(crate::proofs::Starting::one_more_client))]
+fn new_clients(alloc: Global, many: u32) -> Result<Vec<ClientNode>, AllocError>
+    ensures { IfOk result (λ clients. clients.items ≡ new_clients many) }
+{
+    let mut clients = Vec::new(alloc);
+    for before in 0..many {
+        clients.push(ClientNode::new(ClientId(before + 1)))?;
+    }
+    Ok(clients)
+}
+
+impl<D: Disk + Drop> World<D> {
+    /// The nodes of a store over the disks of a journal, with so many clients. New disks are those of a new store. What the
+    /// master sends first is told beside it.
+    pub fn new(
+        alloc: Global,
+        config: Config,
+        clients: u32,
+        disks: (D, D),
+    ) -> Result<(World<D>, Turn), Refusal>
+        ensures nodes { IfOk result (λ w. nodes_of w.0 ≡ new_nodes config clients w.0.master) }
+        ensures master { IfOk result (λ w. Opens D.seen D.failures config disks (Ok w.1) w.0.master) }
+    {
+        let servers = new_servers(alloc, config)?;
+        let clients = new_clients(alloc, clients)?;
+        let (master, turn) = opened(alloc, config, disks);
+        let turn = turn?;
+        let world = World {
+            alloc,
+            config,
+            master,
+            servers,
+            clients,
+        };
+        Ok((world, turn))
+    }
+}
