@@ -41,8 +41,16 @@ class File:
     def __init__(self, path):
         self.names, self.files = imports(path.read_text())
         self.lines = {}
-        current = None
+        current, is_within = None, False
         for line in path.read_text().splitlines():
+            # What stands in a module with parameters is read as if it stood outside.
+            if line.startswith("module _"):
+                current, is_within = None, True
+                continue
+            if is_within and line.startswith("  "):
+                line = line[2:]
+            elif line.strip():
+                is_within = False
             if not line.strip() or line.startswith(("--", "use ")):
                 current = None if not line.strip() else current
                 continue

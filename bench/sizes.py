@@ -19,6 +19,7 @@ SHELL = os.path.join(ROOT, "chunkstore")
 PROGRAM = os.path.join(ROOT, "crates", "chunkstore", "out", "chunkstore")
 MILLION = 1_000_000
 DEPTH = 64
+MOST_CHUNKS = 4096
 LONG_LINE = 50_000_000
 LEAST_LONG_LINE = 2_500_000
 SHOWN = 60
@@ -26,13 +27,15 @@ MEASURE = "--measure"
 
 
 class Size:
-    """A script of lines, each answered by one line, what stands at the end of the answers, and how many are refusals."""
+    """A script of lines, each answered by one line, what stands at the end of the answers, how many are refusals, and the options
+    of the run."""
 
-    def __init__(self, name, lines, last, refusals=0):
+    def __init__(self, name, lines, last, refusals=0, options=()):
         self.name = name
         self.lines = lines
         self.last = last
         self.refusals = refusals
+        self.options = list(options)
 
 
 def names(prefix, n):
@@ -105,6 +108,70 @@ def long_lines(n):
     return Size("bytes in a line", iter(lines), ["refused 34 BadLine"] * 4 + ["ok"], refusals=4)
 
 
+# Chunks and blocks so small that a run's time isn't that of its digests.
+SMALL = ["--chunk", "16", "--block", "4"]
+BLOCKS = ["--chunk", "1048576", "--block", "4096"]
+
+
+def chunks_of_a_file(n):
+    """One write over so many chunks, and their view."""
+    held = "61" * (16 * n)
+    lines = ["create /f", f"write /f 0 {held}", f"read /f {16 * n - 2} 9", f"append /f 62", f"read /f {16 * n} 1"]
+    past = n >= MOST_CHUNKS
+    last = ["ok 6161", "refused 25 Range" if past else f"ok {16 * n}", "ok" if past else "ok 62"]
+    return Size("chunks of one file", iter(lines), last, refusals=1 if past else 0, options=SMALL)
+
+
+def appends(n):
+    lines = itertools.chain(["create /f"], itertools.repeat("append /f " + "61" * 100, n), ["append /f 62"])
+    per_chunk = 1048576 // 100
+    whole, rest = divmod(n, per_chunk)
+    return Size("appends of 100 bytes to one file", lines, [f"ok {whole * 1048576 + rest * 100}"], options=BLOCKS)
+
+
+def snapshots(n):
+    """Each snapshot is followed by a write, which copies the chunk."""
+    lines = itertools.chain(
+        ["create /f", "write /f 0 6161"],
+        itertools.chain.from_iterable((f"snapshot /f /s{i}", "write /f 1 62") for i in range(n)),
+        ["read /f 0 9", "read /s0 0 9", f"read /s{n - 1} 0 9"],
+    )
+    return Size("snapshots, each with a copy on write", lines, ["ok 6162", "ok 6161", "ok 6162"], options=SMALL)
+
+
+def writes_since_prepare(n):
+    """Files that are written over after a prepare, so that each server keeps what stood, and rolled back."""
+    files = names("f", n)
+    lines = itertools.chain(
+        itertools.chain.from_iterable((f"create /{f}", f"write /{f} 0 61") for f in files),
+        ["rollingUpgrade prepare"],
+        (f"write /{f} 0 62" for f in files),
+        ["rollingUpgrade rollback", f"read /{files[0]} 0 9", f"read /{files[-1]} 0 9"],
+    )
+    return Size("files written since prepare, rolled back", lines, ["ok 2", "ok 61", "ok 61"], options=SMALL)
+
+
+def upgrades(n):
+    """Upgrades one after the other, every other one of which is rolled back."""
+    def one(i):
+        return ["rollingUpgrade prepare", f"write /f 0 {i % 256:02x}", f"rollingUpgrade {'finalize' if i % 2 else 'rollback'}"]
+
+    lines = itertools.chain(["create /f", "write /f 0 ff"], itertools.chain.from_iterable(map(one, range(n))), ["rollingUpgrade query"])
+    return Size("upgrades one after the other", lines, [f"ok ordinary {2 * n}"], options=SMALL)
+
+
+def requests(n):
+    """Requests of one client, after which nothing of them is kept."""
+    lines = itertools.chain(["create /f", "write /f 0 61"], itertools.repeat("read /f 0 1", n))
+    return Size("reads", lines, ["ok 61"], options=SMALL)
+
+
+def held_messages(n):
+    """Reports that are held back, each answered with the drops that it brought."""
+    lines = itertools.chain(["hold on report"], itertools.repeat("beat 0", n), ["hold off", f"deliver {n}", "beat 0"])
+    return Size("messages held back", lines, ["ok", "ok", "ok 0"], options=SMALL)
+
+
 SIZES = [
     (edits_since_prepare, MILLION),
     (mixed_edits_since_prepare, MILLION),
@@ -112,6 +179,13 @@ SIZES = [
     (deep_paths, MILLION),
     (rename_to_and_fro, MILLION),
     (long_lines, LONG_LINE),
+    (chunks_of_a_file, MOST_CHUNKS),
+    (appends, 100_000),
+    (snapshots, 1_000),
+    (writes_since_prepare, 100_000),
+    (upgrades, 1_000),
+    (requests, MILLION),
+    (held_messages, MILLION),
 ]
 
 
@@ -128,15 +202,15 @@ def measure():
     """Runs the program on this process's input and output, and tells on standard error how it ended, its seconds and its
     greatest memory. A process of its own, since a program's memory is counted from that of the process that starts it."""
     begin = time.perf_counter()
-    child = subprocess.Popen([PROGRAM])
+    child = subprocess.Popen([PROGRAM, *sys.argv[2:]])
     _, status, usage = os.wait4(child.pid, 0)
     child.returncode = os.waitstatus_to_exitcode(status)
     print(child.returncode, time.perf_counter() - begin, usage.ru_maxrss * 1024, file=sys.stderr)
 
 
-def run(source, target):
+def run(options, source, target):
     """The status of a run (below 0: the signal that ended it), its seconds and its greatest memory in bytes."""
-    ran = subprocess.run([sys.executable, __file__, MEASURE], stdin=source, stdout=target, stderr=subprocess.PIPE, text=True, check=True)
+    ran = subprocess.run([sys.executable, __file__, MEASURE, *options], stdin=source, stdout=target, stderr=subprocess.PIPE, text=True, check=True)
     status, seconds, memory = ran.stderr.split()[-3:]
     return int(status), float(seconds), int(memory)
 
@@ -161,7 +235,7 @@ def try_size(make, n):
     size = make(n)
     with tempfile.TemporaryFile() as source, tempfile.TemporaryFile() as target:
         count = write_script(size.lines, source)
-        status, seconds, memory = run(source, target)
+        status, seconds, memory = run(size.options, source, target)
         target.seek(0)
         answers = target.read().decode(errors="replace").splitlines()
     wrong = judge(count, status, answers, size)
@@ -170,7 +244,7 @@ def try_size(make, n):
 
 
 def main():
-    if sys.argv[1:] == [MEASURE]:
+    if sys.argv[1:2] == [MEASURE]:
         return measure()
     part = int(sys.argv[1]) if len(sys.argv) > 1 else 100
     subprocess.run([SHELL, "--build"], check=True)

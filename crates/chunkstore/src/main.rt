@@ -1,8 +1,10 @@
 //! The program: the shell of a store, over standard input and standard output.
 #![tactic(auto)]
 
-use gs_base::Refusal;
+use gs_base::{Config, Refusal};
+use gs_journal::MemoryDisk;
 use gs_shell::RunFault;
+use std::alloc::Global;
 use std::env;
 use std::io::{self, BufReader, BufWriter};
 use std::process::ExitCode;
@@ -25,8 +27,13 @@ fn explain(rt: &(impl Eprint + AllocGlobal), words: &[String], refusal: &Refusal
     };
 }
 
-/// Answers standard input on standard output.
-fn serve(rt: &(impl Input + Print + AllocGlobal)) -> Result<(), RunFault> {
+/// A disk in memory with nothing on it.
+fn empty_disk(alloc: Global) -> MemoryDisk {
+    MemoryDisk::new(Vec::new(alloc))
+}
+
+/// Answers standard input on standard output, by a new store whose journal is kept in memory.
+fn serve(rt: &(impl Input + Print + AllocGlobal), config: Config) -> Result<(), RunFault> {
     let alloc = rt.alloc();
     let Ok(mut reader) = BufReader::new(alloc, rt.reader()) else {
         return Err(RunFault::Refused(Refusal::Memory));
@@ -34,7 +41,8 @@ fn serve(rt: &(impl Input + Print + AllocGlobal)) -> Result<(), RunFault> {
     let Ok(mut writer) = BufWriter::new(alloc, io::writer(rt)) else {
         return Err(RunFault::Refused(Refusal::Memory));
     };
-    gs_shell::run(alloc, &mut reader, &mut writer)
+    let disks = (empty_disk(alloc), empty_disk(alloc));
+    gs_shell::run(alloc, config, disks, &mut reader, &mut writer)
 }
 
 /// The status is 0 at the end of the input, 1 where a read or a write fails or the run can't begin, and 2 where the words of
@@ -44,11 +52,14 @@ fn main(rt: HostRuntime) -> ExitCode {
         let _ = eprintln!(rt; "chunkstore: the arguments can't be read");
         return ExitCode::from(2);
     };
-    if let Err(refusal) = gs_options::options(rt.alloc(), &words) {
-        explain(&rt, &words, &refusal);
-        return ExitCode::from(2);
-    }
-    match serve(&rt) {
+    let config = match gs_options::options(rt.alloc(), &words) {
+        Ok(config) => config,
+        Err(refusal) => {
+            explain(&rt, &words, &refusal);
+            return ExitCode::from(2);
+        }
+    };
+    match serve(&rt, config) {
         Ok(()) => ExitCode::SUCCESS,
         Err(fault) => {
             let _ = eprintln!(rt; "chunkstore: {fault}");

@@ -57,6 +57,7 @@ impl ClientNode {
         ensures { Asks (asks number request self.old) result self.old self.new }
     {
         if number <= self.last {
+            drop(request);
             return Err(Refusal::Old);
         }
         let req = ReqId {
@@ -66,7 +67,7 @@ impl ClientNode {
         let sent = messages_of(alloc, req, request)?;
         self.last = number;
         self.waiting = Some(number);
-        self.reply = None;
+        drop(self.reply.take());
         Ok(sent)
     }
 
@@ -100,7 +101,10 @@ impl ClientNode {
                 req,
                 result: Err(refusal),
             } => self.take(req, Reply::Refused(refusal)),
-            _ => return Err(Refusal::Stray),
+            _ => {
+                drop(body);
+                return Err(Refusal::Stray);
+            }
         }
         Ok(())
     }
@@ -110,7 +114,9 @@ impl ClientNode {
     {
         if req.client == self.id && self.waiting == Some(req.number) {
             self.waiting = None;
-            self.reply = Some(reply);
+            drop(self.reply.replace(reply));
+        } else {
+            drop(reply);
         }
     }
 

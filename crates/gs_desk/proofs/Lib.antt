@@ -1,2 +1,4 @@
-pub mod Delivering
-pub mod Doing
+mod Answered
+mod Delivering
+mod Doing
+mod Stepping

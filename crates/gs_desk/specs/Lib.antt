@@ -1,2 +1,4 @@
+pub mod Answering
 pub mod Lines
+pub mod Starting
 pub mod Ways

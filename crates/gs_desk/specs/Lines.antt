@@ -1,9 +1,14 @@
--- What lines do to nodes and messages.
+-- What a line comes to at a desk: what its client asks, or what it does to nodes and messages.
 use Rattle.std.specs.Prelude.{◌≡◌, ◌≢◌, ◌⊎◌, ◌<◌, ◌-◌, ◌==◌, ℕ, Bool, true, false, min, nat_lt, List, [], ◌∷◌, length, Option, Some, None, MatchOption, Result, Ok, Err, slice_get, if◌then◌else◌}
 use Rattle.gs_base.specs.declared.numbers.Moment.{Moment}
 use Rattle.gs_base.specs.declared.refusal.Refusal.{Refusal}
 use Rattle.gs_base.specs.declared.refusal.Refusal.TheVariants as refusals
 use Rattle.gs_block.specs.Follows.{Does as DoesAtServer}
+use Rattle.gs_client.specs.Sends.{Sends as Asks}
+use Rattle.gs_base.specs.declared.numbers.ReqId.{ReqId}
+use Rattle.gs_client.specs.declared.client.Client.{Client}
+use Rattle.gs_client.specs.declared.link.Reply.{Reply}
+use Rattle.gs_msg.specs.declared.event.Request.{Request as Req}
 use Rattle.gs_lines.specs.Grammar.{Request}
 use Rattle.gs_lines.specs.Grammar as lines
 use Rattle.gs_lines.specs.declared.command.Restarted.{Restarted}
@@ -15,10 +20,17 @@ use Rattle.gs_server.specs.Servers as servers
 use Rattle.gs_world.specs.Happenings.{AtServer, Reopens}
 use Rattle.gs_world.specs.Nodes.{Nodes, with_master}
 use Rattle.gs_world.specs.declared.place.MasterPlace.{MasterPlace}
-use Rattle.gs_desk.specs.Ways.{DeliversWhole, Ends, IsDelivered, Sends, Way, shortened, way_of, with_nodes}
-use Rattle.gs_calls.specs.Asked.{answered, done}
+use Rattle.gs_desk.specs.Ways.{Carries, DeliversWhole, Ends, IsDelivered, Sends, Way, shortened, way_of, with_nodes}
+use Rattle.gs_desk.specs.declared.desk.Desk.{Desk}
+use Rattle.gs_desk.specs.declared.wire.Wire.{Wire}
+use Rattle.gs_calls.specs.Asked.{answered, asked_by, done}
 use Rattle.gs_calls.specs.declared.answer.Answer.{Answer}
 use Rattle.gs_calls.specs.declared.answer.Answer.TheVariants as answers
+use Rattle.gs_dialogue.specs.Dialogues.{Follows}
+
+-- how a request is carried over the wire
+abbrev pub carried : {D : Type 0} → (D → ℕ) → Wire D → ReqId → Req → Reply → Wire D → Type 0
+carried failures old req request reply new = Carries failures req request (way_of old) reply (way_of new)
 
 -- ---- what is done to nodes and messages
 
@@ -107,3 +119,11 @@ NodesDo seen failures (lines.Lose server handle) old result new = IsDone (Loses 
 NodesDo seen failures (lines.Damage server handle block) old result new = IsDone (Damages server handle block old) result new
 NodesDo seen failures (lines.Deliver number) old result new = IsDone (HandsOverAt failures number old) result new
 NodesDo seen failures request old result new = ⊥
+
+-- ---- what a line comes to
+
+unfoldable pub Comes : {D : Type 0} → (D → List ℕ) → (D → ℕ) → Request → Desk D → Result Answer Refusal → Desk D → Type 0
+Comes seen failures request old result new =
+    MatchOption (asked_by old.caller.client.chunk request)
+    ((new.caller.client ≡ old.caller.client) × NodesDo seen failures request (way_of old.wire) result (way_of new.wire))
+    (λ call. Follows (Asks (carried failures)) call (old.caller.client, old.wire) result (new.caller.client, new.wire))

@@ -1,10 +1,15 @@
-ghost use Rattle.std.specs.Prelude.{◌≡◌};
+ghost use Rattle.std.specs.Prelude.{◌≡◌, IfOk, IfErr};
+ghost use Rattle.gs_desk.specs.Lines.{Comes};
+ghost use Rattle.gs_desk.specs.Starting.{Starts, begun};
 ghost use Rattle.gs_desk.specs.Ways.{way_of};
+ghost use Rattle.gs_lines.specs.Grammar.{request_of};
+ghost use Rattle.gs_world.specs.Happenings.{WhyNotBegun};
+ghost use Rattle.gs_world.specs.Nodes.{nodes_of};
 
 use crate::wire::Wire;
 use gs_base::{ClientId, Config, Moment, Refusal};
 use gs_calls::{Answer, Caller};
-use gs_journal::Disk;
+use gs_journal::{Disk, Unopened};
 use gs_lines::Command;
 use gs_world::World;
 use std::alloc::Global;
@@ -17,11 +22,12 @@ pub struct Desk<D: Disk> {
     pub wire: Wire<D>,
 }
 
-impl<D: Disk + Drop> Desk<D> {
-    /// A store over the disks of a journal, at moment 0, with client 1, who has asked nothing yet. Nothing is held back.
-    pub fn new(alloc: Global, config: Config, disks: (D, D)) -> Result<Desk<D>, Refusal> {
-        let (world, turn) = World::new(alloc, config, 1, disks)?;
-        let mut wire = Wire {
+impl<D: Disk + Drop> Wire<D> {
+    /// At moment 0, with nothing under way or held back.
+    fn begin(alloc: Global, world: World<D>) -> Wire<D>
+        ensures { way_of result ≡ begun (nodes_of world) }
+    {
+        Wire {
             alloc,
             world,
             moment: Moment(0),
@@ -31,7 +37,19 @@ impl<D: Disk + Drop> Desk<D> {
             drops: 0,
             is_short: false,
             trace: None,
-        };
+        }
+    }
+}
+
+impl<D: Disk + Drop> Desk<D> {
+    /// A store over the disks of a journal, at moment 0, with client 1, who has asked nothing yet. Nothing is held back. New disks
+    /// are those of a new store. Where memory is wanting, or the disks can't be opened, they are handed back.
+    pub fn new(alloc: Global, config: Config, disks: (D, D)) -> Result<Desk<D>, Unopened<D>>
+        ensures starts { IfOk result (λ desk. Starts D.seen D.failures config disks desk) }
+        ensures refused { IfErr result (WhyNotBegun D.seen D.failures config disks) }
+    {
+        let (world, turn) = World::new(alloc, config, 1, disks)?;
+        let mut wire = Wire::begin(alloc, world);
         wire.send_all(turn.sent);
         wire.deliver_all();
         Ok(Desk {
@@ -59,7 +77,9 @@ impl<D: Disk + Drop> Desk<D> {
     }
 
     /// What a line comes to. A refusal `Memory` may leave something of it done.
-    pub fn step(&mut self, command: Command<'_>) -> Result<Answer, Refusal> {
+    pub fn step(&mut self, command: Command<'_>) -> Result<Answer, Refusal>
+        ensures { Comes D.seen D.failures (request_of command.entry) self.old result self.new }
+    {
         match command {
             Command::Beat(server) => self.beat(server),
             Command::At(moment) => self.set_moment(moment),

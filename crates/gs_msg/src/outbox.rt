@@ -141,7 +141,7 @@ impl Outbox {
         ensures posts { self.new.posts ≡ without_message self.old.posts place }
         ensures room { self.new.room ≡ self.old.room }
     {
-        let _message = self.take(place);
+        drop(self.take(place));
     }
 
     /// How many were sent.

@@ -69,7 +69,10 @@ fn advanced(
 ) -> Result<Vec<Message>, AllocError>
     ensures { IfOk result (λ sent. sent.items ≡ to_each members (about chunk (chunks.Advance stamp))) }
 {
-    to_each(alloc, members, &Body::About(chunk, Chunk::Advance(stamp)))
+    let body = Body::About(chunk, Chunk::Advance(stamp));
+    let sent = to_each(alloc, members, &body);
+    drop(body);
+    sent
 }
 
 /// The targets of a new chunk are told to make empty replicas.
@@ -81,7 +84,10 @@ fn created(
 ) -> Result<Vec<Message>, AllocError>
     ensures { IfOk result (λ sent. sent.items ≡ to_each targets (about chunk (chunks.Create stamp))) }
 {
-    to_each(alloc, targets, &Body::About(chunk, Chunk::Create(stamp)))
+    let body = Body::About(chunk, Chunk::Create(stamp));
+    let sent = to_each(alloc, targets, &body);
+    drop(body);
+    sent
 }
 
 /// The members of a chunk are told to copy it under a new handle.
@@ -100,7 +106,9 @@ fn copied(
         new_handle,
         stamp,
     };
-    to_each(alloc, view.members, &body)
+    let sent = to_each(alloc, view.members, &body);
+    drop(body);
+    sent
 }
 
 /// A view of a settled chunk is begun on its members.

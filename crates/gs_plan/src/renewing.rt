@@ -1,10 +1,11 @@
 // A checkpoint behind the records of an event.
-ghost use Rattle.std.specs.Prelude.{◌≡◌, ◌<◌, None};
+ghost use Rattle.std.specs.Prelude.{◌≡◌, ◌<◌, None, IfOk};
 ghost use Rattle.gs_journal.specs.Journal.{last_generation};
-ghost use Rattle.gs_state.specs.Handling.{checkpoint_tests, due};
+ghost use Rattle.gs_state.specs.Handling.{checkpoint_tests, due, without_place};
 ghost use Rattle.gs_plan.specs.Planning.{state_of};
 ghost use Rattle.gs_plan.specs.Renewable.{MakesRenewal};
 ghost use Rattle.gs_state.specs.State.{first_of, is_failed};
+ghost use Rattle.gs_state.specs.Surveying.{awaiting, unlisted};
 
 use crate::standing::Standing;
 use gs_base::{Handle, Refusal};
@@ -12,6 +13,7 @@ use gs_journal::{Disk, Draft, Journal};
 use gs_record::Entry;
 use gs_state::log::Log;
 use gs_state::renewing::AROUND;
+use std::alloc::AllocError;
 
 /// So many records make the next tick write a checkpoint.
 const MANY_RECORDS: u64 = 4096;
@@ -56,6 +58,17 @@ impl<'a> Standing<'a> {
         None
     }
 
+    /// The chunks of which a checkpoint doesn't tell, and of the new chunks those that are settled and those that wait still.
+    fn untold(&self) -> Result<(Vec<Handle>, Vec<Handle>, Vec<Handle>), AllocError>
+        ensures unlisted { IfOk result (λ chunks. chunks.0.items ≡ unlisted (state_of self.entry.now).durable) }
+        ensures placed { IfOk result (λ chunks. chunks.1.items ≡ without_place (state_of self.entry.now)) }
+        ensures awaiting { IfOk result (λ chunks. chunks.2.items ≡ awaiting (state_of self.entry.now)) }
+    {
+        let unlisted = self.recorded.unlisted()?;
+        let placed = self.without_place()?;
+        Ok((unlisted, placed, self.awaiting()?))
+    }
+
     /// All that a checkpoint of what stands takes. A refusal but for `Memory` says why none is written. `Memory` too where one
     /// can't be written down, which is never so of what its records have come to.
     pub fn renewal<D: Disk>(&self, journal: &Journal<D>) -> Result<Renewal, Refusal>
@@ -65,22 +78,38 @@ impl<'a> Standing<'a> {
         let entry = Entry::Checkpoint(self.recorded.checkpoint()?);
         let encoded = match entry.encode(alloc) {
             Ok(encoded) => encoded,
-            Err(_) => return Err(Refusal::Memory),
+            Err(_) => {
+                drop(entry);
+                return Err(Refusal::Memory);
+            }
         };
         if let Some(refusal) = self.checkpoint_refusal(encoded.body()) {
+            drop(encoded);
+            drop(entry);
             return Err(refusal);
         }
         let draft = match journal.draft(alloc, encoded.body()) {
             Ok(draft) => draft,
-            Err(_) => return Err(Refusal::Memory),
+            Err(_) => {
+                drop(encoded);
+                drop(entry);
+                return Err(Refusal::Memory);
+            }
+        };
+        let log = self.log.anew(encoded.body());
+        drop(encoded);
+        let Ok((unlisted, placed, awaiting)) = self.untold() else {
+            drop(draft);
+            drop(entry);
+            return Err(Refusal::Memory);
         };
         Ok(Renewal {
             entry,
             draft,
-            log: self.log.anew(encoded.body()),
-            unlisted: self.recorded.unlisted()?,
-            placed: self.without_place()?,
-            awaiting: self.awaiting()?,
+            log,
+            unlisted,
+            placed,
+            awaiting,
         })
     }
 }

@@ -10,7 +10,7 @@ use Rattle.gs_record.proofs.Laws.{IsBytes, Takes, Reads, reads_both, reads_list}
 use Rattle.gs_record.specs.Encoding.{edit_tag, edit_fields, edit, kind, body}
 use Rattle.gs_record.specs.Plain.{PlainEdit, Mkdirs, Create, Rename, Hide, Unhide, Remove, AddChunk, Cow, Snapshot, Forget, PlainEntry, Edited, Said, Propose, Settle, Prepare, Finalize, RollbackBegin, RollbackCommit, Whole, Holder}
 use Rattle.gs_record.specs.Writable.{IsEdit, AreFields}
-use Rattle.gs_record.specs.inner.Reading.{byte_at, edit_of_chunks_at, edit_fields_at, edit_at, holder_at, entry_at}
+use Rattle.gs_record.specs.inner.Reading.{byte_at, edit_of_chunks_at, edit_fields_at, edit_at, holder_at, later_entry_at, entry_at}
 
 -- ---- edits
 
@@ -69,7 +69,7 @@ holders One n bytes x rest h k e = absurd cc
 holders Two n bytes x rest h k e = arm (entries Two) {k = 10} {of = λ x. Holder x.0 x.1} {other = None} {n = n} (reads_both reads_handle reads_server) (record { is = λ y is. is; tag = λ y. refl; fields = λ y. refl }) h (λ e. absurd cc) (rw k e)
 
 pub any_entry : (version : Version) (n : ℕ) (bytes : List ℕ) (x : PlainEntry) (rest : List ℕ) → IsBytes bytes → entry_at version n bytes ≡ Some (x, rest) → Chosen (entries version) n bytes x rest
-unfolding entry_at
+unfolding entry_at later_entry_at
 any_entry version n bytes x rest h e =
     arm (entries version) {of = λ x. Edited x.0 x.1} (reads_both reads_request reads_edit) (record { is = λ y is. is; tag = λ y. refl; fields = λ y. refl }) h (λ e.
     arm (entries version) {of = λ x. Said x.0 x.1} (reads_both reads_request reads_refusal) (record { is = λ y is. is; tag = λ y. refl; fields = λ y. refl }) h (λ e.
@@ -87,7 +87,7 @@ any_entry version n bytes x rest h e =
     by_kind false k e = absurd cc
 
 pub entry_again : (version : Version) (x : PlainEntry) (rest : List ℕ) → AreFields version x → entry_at version (kind x) (body version x ++ rest) ≡ Some (x, rest)
-unfolding entry_at holder_at
+unfolding entry_at later_entry_at holder_at
 entry_again version (Edited by e) rest is = again (λ x. Edited x.0 x.1) (reads_both reads_request reads_edit) (by, e) rest is
 entry_again version (Said to r) rest is = again (λ x. Said x.0 x.1) (reads_both reads_request reads_refusal) (to, r) rest is
 entry_again version (Propose chunk n) rest is = again (λ x. Propose x.0 x.1) (reads_both reads_handle n64) (chunk, n) rest is

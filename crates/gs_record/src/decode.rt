@@ -4,7 +4,7 @@ ghost use Rattle.gs_base.specs.declared.refusal.Refusal.TheVariants.{Memory, Bad
 ghost use Rattle.gs_record.specs.Encoding.{encoded};
 ghost use Rattle.gs_record.specs.Plain.{PlainEntry, plain};
 ghost use Rattle.gs_record.specs.Writable.{IsEntry};
-ghost use Rattle.gs_record.specs.inner.Reading.{entry_at, entry_of, holder_at};
+ghost use Rattle.gs_record.specs.inner.Reading.{entry_at, entry_of, holder_at, later_entry_at};
 ghost use Rattle.gs_record.specs.inner.Work.{Gives, GivesAll, Decodes};
 
 use crate::entry::{Entry, SettledView};
@@ -36,44 +36,25 @@ fn read_holder(alloc: Global, cursor: &mut Cursor<'_>, version: Version) -> Resu
     match version {
         Version::One => Err(Fault::Form),
         Version::Two => {
-            let handle = Handle::read(alloc, cursor)?;
-            let server = ServerId::read(alloc, cursor)?;
+            let (handle, server) = <(Handle, ServerId)>::read(alloc, cursor)?;
             Ok(Entry::Holder { handle, server })
         }
     }
 }
 
-/// Takes the fields of an entry of this kind from the front.
-#[tactic(auto, unfolding(crate::specs::inner::Reading::entry_at))]
-fn read_fields(
+/// Takes the fields of an entry from the front that tells of an epoch, a checkpoint or a holder.
+#[tactic(auto, unfolding(crate::specs::inner::Reading::later_entry_at))]
+fn read_later_fields(
     alloc: Global,
     cursor: &mut Cursor<'_>,
     version: Version,
     kind: u8,
 ) -> Result<Entry, Fault>
-    ensures { Gives plain result cursor.new.rest.now (entry_at version kind cursor.old.rest.now) }
+    ensures { Gives plain result cursor.new.rest.now (later_entry_at version kind cursor.old.rest.now) }
 {
     match kind {
-        1 => {
-            let by = ReqId::read(alloc, cursor)?;
-            let edit = Edit::read(alloc, cursor)?;
-            Ok(Entry::Edit { by, edit })
-        }
-        2 => {
-            let to = ReqId::read(alloc, cursor)?;
-            let refusal = Refusal::read(alloc, cursor)?;
-            Ok(Entry::Said { to, refusal })
-        }
-        3 => {
-            let handle = Handle::read(alloc, cursor)?;
-            let version = u64::read(alloc, cursor)?;
-            Ok(Entry::Propose { handle, version })
-        }
-        4 => Ok(Entry::Settle(SettledView::read(alloc, cursor)?)),
         5 => {
-            let epoch = u64::read(alloc, cursor)?;
-            let moment = Moment::read(alloc, cursor)?;
-            let chunks = u32::read(alloc, cursor)?;
+            let (epoch, (moment, chunks)) = <(u64, (Moment, u32))>::read(alloc, cursor)?;
             Ok(Entry::Prepare {
                 epoch,
                 moment,
@@ -96,6 +77,34 @@ fn read_fields(
         9 => Ok(Entry::Checkpoint(read_checkpoint(alloc, cursor, version)?)),
         10 => read_holder(alloc, cursor, version),
         _ => Err(Fault::Form),
+    }
+}
+
+/// Takes the fields of an entry of this kind from the front.
+#[tactic(auto, unfolding(crate::specs::inner::Reading::entry_at))]
+fn read_fields(
+    alloc: Global,
+    cursor: &mut Cursor<'_>,
+    version: Version,
+    kind: u8,
+) -> Result<Entry, Fault>
+    ensures { Gives plain result cursor.new.rest.now (entry_at version kind cursor.old.rest.now) }
+{
+    match kind {
+        1 => {
+            let (by, edit) = <(ReqId, Edit)>::read(alloc, cursor)?;
+            Ok(Entry::Edit { by, edit })
+        }
+        2 => {
+            let (to, refusal) = <(ReqId, Refusal)>::read(alloc, cursor)?;
+            Ok(Entry::Said { to, refusal })
+        }
+        3 => {
+            let (handle, version) = <(Handle, u64)>::read(alloc, cursor)?;
+            Ok(Entry::Propose { handle, version })
+        }
+        4 => Ok(Entry::Settle(SettledView::read(alloc, cursor)?)),
+        _ => read_later_fields(alloc, cursor, version, kind),
     }
 }
 

@@ -21,21 +21,17 @@ fn read_edit_of_chunks(alloc: Global, cursor: &mut Cursor<'_>, tag: u8) -> Resul
 {
     match tag {
         4 => {
-            let path = Path::read(alloc, cursor)?;
-            let moment = Moment::read(alloc, cursor)?;
-            let number = u64::read(alloc, cursor)?;
+            let (path, (moment, number)) = <(Path, (Moment, u64))>::read(alloc, cursor)?;
             Ok(Edit::Hide(path, moment, number))
         }
         7 => {
-            let path = Path::read(alloc, cursor)?;
-            let chunk = Handle::read(alloc, cursor)?;
+            let (path, chunk) = <(Path, Handle)>::read(alloc, cursor)?;
             Ok(Edit::AddChunk(path, chunk))
         }
         8 => {
-            let path = Path::read(alloc, cursor)?;
-            let index = u32::read(alloc, cursor)?;
-            let old = Handle::read(alloc, cursor)?;
-            let new = Handle::read(alloc, cursor)?;
+            let (path, (index, (old, new))) = <(Path, (u32, (Handle, Handle)))>::read(
+                alloc, cursor,
+            )?;
             Ok(Edit::Cow(path, index as usize, old, new))
         }
         10 => {
@@ -55,15 +51,13 @@ fn read_fields(alloc: Global, cursor: &mut Cursor<'_>, tag: u8) -> Result<Edit, 
         1 => Ok(Edit::Mkdirs(Path::read(alloc, cursor)?)),
         2 => Ok(Edit::Create(Path::read(alloc, cursor)?)),
         3 => {
-            let from = Path::read(alloc, cursor)?;
-            let to = Path::read(alloc, cursor)?;
+            let (from, to) = <(Path, Path)>::read(alloc, cursor)?;
             Ok(Edit::Rename(from, to))
         }
         5 => Ok(Edit::Unhide(Path::read(alloc, cursor)?)),
         6 => Ok(Edit::Remove(Path::read(alloc, cursor)?)),
         9 => {
-            let from = Path::read(alloc, cursor)?;
-            let to = Path::read(alloc, cursor)?;
+            let (from, to) = <(Path, Path)>::read(alloc, cursor)?;
             Ok(Edit::Snapshot(from, to))
         }
         _ => read_edit_of_chunks(alloc, cursor, tag),

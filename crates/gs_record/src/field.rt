@@ -150,3 +150,29 @@ impl Field for u64 {
         Ok(())
     }
 }
+
+impl<A: Field + Drop, B: Field + Drop> Field for (A, B) {
+    ghost use Rattle.std.specs.Prelude.{◌++◌};
+    ghost use Rattle.gs_record.specs.inner.Reading.{both};
+
+    ghost Plain = { A.Plain × B.Plain };
+
+    ghost plain = { λ x. (A.plain x.0, B.plain x.1) };
+
+    ghost Is = { λ x. A.Is x.0 × B.Is x.1 };
+
+    ghost written = { λ x. A.written x.0 ++ B.written x.1 };
+
+    ghost reading = { both A.reading B.reading };
+
+    fn read(alloc: Global, cursor: &mut Cursor<'_>) -> Result<(A, B), Fault> {
+        let first = A::read(alloc, cursor)?;
+        let second = B::read(alloc, cursor)?;
+        Ok((first, second))
+    }
+
+    fn put(&self, alloc: Global, out: &mut Vec<u8>) -> Result<(), Fault> {
+        self.0.put(alloc, out)?;
+        self.1.put(alloc, out)
+    }
+}

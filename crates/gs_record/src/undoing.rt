@@ -76,9 +76,7 @@ fn read_inverse_of_chunks(
         }
         7 => Ok(ListedInverse::AddChunk(Path::read(alloc, cursor)?)),
         8 => {
-            let path = Path::read(alloc, cursor)?;
-            let index = u32::read(alloc, cursor)?;
-            let old = Handle::read(alloc, cursor)?;
+            let (path, (index, old)) = <(Path, (u32, Handle))>::read(alloc, cursor)?;
             Ok(ListedInverse::Cow(path, index as usize, old))
         }
         9 => Ok(ListedInverse::Snapshot(Path::read(alloc, cursor)?)),
@@ -99,18 +97,15 @@ fn read_fields(alloc: Global, cursor: &mut Cursor<'_>, tag: u8) -> Result<Listed
         1 => Ok(ListedInverse::Mkdirs(read_paths(alloc, cursor)?)),
         2 => Ok(ListedInverse::Create(read_paths(alloc, cursor)?)),
         3 => {
-            let now = Path::read(alloc, cursor)?;
-            let before = Path::read(alloc, cursor)?;
+            let (now, before) = <(Path, Path)>::read(alloc, cursor)?;
             Ok(ListedInverse::Rename(now, before))
         }
         4 => {
-            let now = Path::read(alloc, cursor)?;
-            let before = Path::read(alloc, cursor)?;
+            let (now, before) = <(Path, Path)>::read(alloc, cursor)?;
             Ok(ListedInverse::Hide(now, before))
         }
         5 => {
-            let now = Path::read(alloc, cursor)?;
-            let before = Path::read(alloc, cursor)?;
+            let (now, before) = <(Path, Path)>::read(alloc, cursor)?;
             Ok(ListedInverse::Unhide(now, before))
         }
         _ => read_inverse_of_chunks(alloc, cursor, tag),

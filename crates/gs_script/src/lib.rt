@@ -41,7 +41,7 @@ pub trait Answering {
 
 /// The answer to what stands next in the input, which isn't its end. `Err` where memory is lacking for it: then the answer
 /// is `MEMORY`.
-pub fn answer_line<M: Answering>(
+fn answer_line<M: Answering>(
     alloc: Global,
     machine: &mut M,
     line: &Line,
@@ -94,7 +94,7 @@ pub fn write_line<W: Write>(writer: &mut W, text: &str) -> Result<(), RunFault>
 }
 
 /// Writes the answer to what stands next in the input, which isn't its end.
-fn write_answer<M: Answering, W: Write>(
+pub fn write_answer<M: Answering, W: Write>(
     alloc: Global,
     machine: &mut M,
     writer: &mut W,

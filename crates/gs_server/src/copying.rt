@@ -52,12 +52,24 @@ impl Server {
         ensures { Steps (step_of handle None (copy_in (here_of self.old moment handle None) (place_of handle self.old) stamp given.image given.sealed) self.old) result self.old self.new }
     {
         if let Err(refusal) = self.store.check_epoch(stamp.epoch) {
+            drop(given);
             return self.unpromise(handle, stamp, refusal, moment);
         }
-        let sent = Sending::with_room(self.alloc, 1)?;
+        let sent = match Sending::with_room(self.alloc, 1) {
+            Ok(sent) => sent,
+            Err(error) => {
+                drop(given);
+                return Err(error.into());
+            }
+        };
         match self.store.copy_in(handle, stamp, given) {
             Ok(()) => Ok(self.promise(handle, stamp, sent)),
-            Err(Refused { refusal, .. }) => self.unpromise(handle, stamp, refusal, moment),
+            Err(refused) => {
+                let Refused { refusal, given } = refused;
+                drop(given);
+                drop(sent);
+                self.unpromise(handle, stamp, refusal, moment)
+            }
         }
     }
 }

@@ -32,7 +32,10 @@ impl Server {
             | Body::Bytes { .. }
             | Body::Report { .. }
             | Body::Learned { .. }
-            | Body::Behind { .. } => Ok(Turn::refused(self.alloc, Refusal::Stray)),
+            | Body::Behind { .. } => {
+                drop(body);
+                Ok(Turn::refused(self.alloc, Refusal::Stray))
+            }
         }
     }
 
@@ -104,7 +107,10 @@ impl Server {
             }
             Chunk::Ack { stamp, count } => self.hear_ack(handle, from, stamp, count, moment),
             Chunk::Nack { stamp, refusal } => self.hear_nack(handle, from, stamp, &refusal, moment),
-            _ => Ok(Turn::refused(self.alloc, Refusal::Stray)),
+            _ => {
+                drop(chunk);
+                Ok(Turn::refused(self.alloc, Refusal::Stray))
+            }
         }
     }
 

@@ -87,7 +87,13 @@ impl Server {
     ) -> Result<Vec<Message>, AllocError>
         ensures { IfOk result (λ sent. sent.items ≡ (refused_by handle answer refusal.now self.now).sent) }
     {
-        let mut sent = Vec::with_capacity(self.alloc, 2)?;
+        let mut sent = match Vec::with_capacity(self.alloc, 2) {
+            Ok(sent) => sent,
+            Err(error) => {
+                drop(answer);
+                return Err(error);
+            }
+        };
         sent.push(answer)?;
         if damaged_block(refusal).is_some() {
             let promise = self.store.promised(handle);

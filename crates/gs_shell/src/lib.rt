@@ -1,161 +1,37 @@
-//! The shell of the store: a request on each line of the input, and its answer on a line of the output.
+//! The shell of a store: a script's lines in, their answers out.
 #![tactic(auto)]
 
-ghost use Rattle.std.specs.Prelude.{◌≡◌, ◌≢◌, ◌≤◌, ◌++◌, ◌∷◌, List, ℕ, [], length, take, IfOk, OnOk, IfErr, OnErr, IfSome, string_bytes};
-ghost use Rattle.std.specs.Io.KnownBytes.{Appends};
-ghost use Rattle.gs_line.specs.Line.{IsLine};
-ghost use Rattle.gs_machine.specs.State.{start};
-ghost use Rattle.gs_shell.specs.Run.{AnswersContent, Answers, AppendsBeginning, Turns, TurnFails, Writes, RunFails, memory_text};
+ghost use Rattle.std.specs.Prelude.{◌≡◌, OnOk, IfErr, IfSome};
+ghost use Rattle.gs_shell.specs.Serving.{Serves, ServeFails};
 
-use gs_base::Refusal;
-use gs_command::LineError;
-use gs_line::Line;
-use gs_machine::{Answer, Machine};
-use std::alloc::{AllocError, Global};
-use std::io::{BufRead, ErrorKind, Write};
-use thiserror::Error;
+use gs_base::Config;
+use gs_desk::Desk;
+use gs_journal::Disk;
+pub use gs_script::RunFault;
+use std::alloc::Global;
+use std::io::{BufRead, Write};
 
-/// Why a run ends before its input does, with the text for standard error.
-#[derive(Debug, Drop, Error)]
-pub enum RunFault {
-    #[error("the input can't be read")]
-    Read,
-    #[error("the output can't be written")]
-    Write,
-    /// The run can't begin.
-    #[error("{0}")]
-    Refused(Refusal),
-}
-
-/// The answer to a line, given without its end.
-fn content_answer(alloc: Global, machine: &mut Machine, line: &[u8]) -> Result<String, AllocError>
-    ensures ok { IfOk result (λ text. AnswersContent machine.old line.now (string_bytes text) machine.new) }
-    ensures err { OnErr result (AnswersContent machine.old line.now memory_text machine.new) }
-{
-    match gs_command::parse(alloc, line) {
-        Ok(command) => {
-            let answer = machine.step(command)?;
-            gs_machine::text(alloc, &answer)
-        }
-        Err(LineError::BadLine) => gs_machine::text(alloc, &Answer::Refused(Refusal::BadLine)),
-        Err(LineError::Memory) => Err(AllocError),
-    }
-}
-
-/// The answer to what stands next in the input, which isn't its end.
-fn answer(alloc: Global, machine: &mut Machine, line: &Line) -> Result<String, AllocError>
-    requires { line.now ≢ Line.End }
-    ensures ok { IfOk result (λ text. (whole : List ℕ) → IsLine whole line.now → Answers machine.old whole (string_bytes text) machine.new) }
-    ensures err { OnErr result ((whole : List ℕ) → IsLine whole line.now → Answers machine.old whole memory_text machine.new) }
-{
-    match line {
-        Line::Text(bytes) => content_answer(alloc, machine, bytes),
-        Line::TooLong => gs_machine::text(alloc, &Answer::Refused(Refusal::BadLine)),
-        Line::NoMemory => Err(AllocError),
-        Line::End => unreachable!(),
-    }
-}
-
-/// The answer where memory was lacking for another.
-const MEMORY: &str = "refused 33 Memory";
-
-/// Writes bytes until all are written or the writer takes no more, and says how many were written.
-fn write_out<W: Write>(writer: &mut W, bytes: &[u8]) -> usize
-    ensures bound { result ≤ length bytes.now }
-    ensures bytes { Appends (W.contents writer.old) (W.contents writer.new) (take result bytes.now) }
-{
-    let mut written = 0;
-    for _ in 0..u64::MAX {
-        if written == bytes.len() {
-            return written;
-        }
-        match writer.write(&bytes[written..]) {
-            Ok(0) => return written,
-            Ok(count) => written += count,
-            Err(error) if error.kind() == ErrorKind::Interrupted => {}
-            Err(_) => return written,
-        }
-    }
-    written
-}
-
-/// Writes a text as a line, which is flushed.
-fn write_line<W: Write>(writer: &mut W, text: &str) -> Result<(), RunFault>
-    ensures ok { OnOk result (Appends (W.contents writer.old) (W.contents writer.new) (text.now ++ 10 ∷ [])) }
-    ensures err { OnErr result (AppendsBeginning (W.contents writer.old) (W.contents writer.new) (text.now ++ 10 ∷ [])) }
-    ensures fault { IfErr result (λ e. e ≡ RunFault.Write) }
-{
-    if write_out(writer, text.as_bytes()) < text.len() || write_out(writer, b"\n") < 1 {
-        return Err(RunFault::Write);
-    }
-    writer.flush().map_err(|_| RunFault::Write)
-}
-
-/// Writes the answer to what stands next in the input, which isn't its end.
-fn write_answer<W: Write>(
-    alloc: Global,
-    machine: &mut Machine,
-    writer: &mut W,
-    line: &Line,
-) -> Result<(), RunFault>
-    requires { line.now ≢ Line.End }
-    ensures ok { OnOk result ((whole : List ℕ) → IsLine whole line.now → (text : List ℕ) × Answers machine.old whole text machine.new
-        × Appends (W.contents writer.old) (W.contents writer.new) (text ++ 10 ∷ [])) }
-    ensures err { OnErr result ((whole : List ℕ) → IsLine whole line.now → (text : List ℕ) × Answers machine.old whole text machine.new
-        × AppendsBeginning (W.contents writer.old) (W.contents writer.new) (text ++ 10 ∷ [])) }
-    ensures fault { IfErr result (λ e. e ≡ RunFault.Write) }
-{
-    match answer(alloc, machine, line) {
-        Ok(text) => write_line(writer, &text),
-        Err(_) => write_line(writer, MEMORY),
-    }
-}
-
-/// Answers the next line. Says whether there was one.
-fn turn<R: BufRead, W: Write>(
-    alloc: Global,
-    machine: &mut Machine,
-    reader: &mut R,
-    writer: &mut W,
-) -> Result<bool, RunFault>
-    ensures ok { IfOk result (λ more. IfSome (R.remaining reader.old) (λ xs.
-        Turns xs (R.remaining reader.new) (W.contents writer.old) (W.contents writer.new) machine.old machine.new more)) }
-    ensures err { IfErr result (λ e.
-        TurnFails e (R.remaining reader.old) (R.remaining reader.new) (W.contents writer.old) (W.contents writer.new) machine.old machine.new) }
-{
-    match gs_line::next_line(alloc, reader) {
-        Err(_) => Err(RunFault::Read),
-        Ok(Line::End) => Ok(false),
-        Ok(line) => {
-            write_answer(alloc, machine, writer, &line)?;
-            Ok(true)
-        }
-    }
-}
-
-/// Answers each line of the reader, which holds one request or is refused as `BadLine`, by one line to the writer. The
-/// writer is flushed behind each answer. The store begins with its root alone, in epoch 0.
+/// Begins a store over the two disks of its master's journal, with the servers and sizes of the configuration, and answers each
+/// line of the reader by one line to the writer, which is flushed behind each answer. New disks are those of a new store.
 ///
-/// Where memory is lacking, the answer is `refused 33 Memory`, and the run goes on. A read or a write that fails ends it:
-/// the fault is `Read` or `Write`. Of the line that a failed read stands in, nothing is answered. A write fails that gives
-/// an error other than an interruption, or takes nothing: what stands written is the answers to the lines before, and then
-/// a beginning of the answer to the line that was read last. After 18,446,744,073,709,551,615 lines the fault is
-/// `Read`.
-pub fn run<R: BufRead, W: Write>(
+/// Where memory is lacking, the answer is `refused 33 Memory`, and the run goes on; something of what the line asks may be done
+/// then. Where the disks can't be opened or memory is lacking for the nodes, the fault is `Refused`, and nothing is read or
+/// written. A read or a write that fails ends the run as [`gs_script::run`] says.
+pub fn run<D: Disk + Drop, R: BufRead, W: Write>(
     alloc: Global,
+    config: Config,
+    disks: (D, D),
     reader: &mut R,
     writer: &mut W,
 ) -> Result<(), RunFault>
     ensures ok { OnOk result (IfSome (R.remaining reader.old) (λ input.
-        Writes start input (W.contents writer.old) (W.contents writer.new))) }
+        Serves D.seen D.failures config disks input (W.contents writer.old) (W.contents writer.new))) }
     ensures err { IfErr result (λ e.
-        RunFails e (R.remaining reader.old) (R.remaining reader.new) (W.contents writer.old) (W.contents writer.new)) }
+        ServeFails D.seen D.failures config disks e (R.remaining reader.old) (R.remaining reader.new) (W.contents writer.old) (W.contents writer.new)) }
 {
-    let mut machine = Machine::new(alloc);
-    for _ in 0..u64::MAX {
-        if !turn(alloc, &mut machine, reader, writer)? {
-            return Ok(());
-        }
-    }
-    Err(RunFault::Read)
+    let mut desk = match Desk::new(alloc, config, disks) {
+        Ok(desk) => desk,
+        Err(unopened) => return Err(RunFault::Refused(unopened.refusal)),
+    };
+    gs_script::run(alloc, &mut desk, reader, writer)
 }

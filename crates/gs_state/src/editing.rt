@@ -222,10 +222,15 @@ impl Recorded {
         }
         let answer = answer_to(self.alloc, edit, self.view_for(edit), self.epoch)?;
         let next_hidden = next_behind(self.next_hidden, edit);
-        let _taken_back = match self.names.apply(edit) {
+        let taken_back = match self.names.apply(edit) {
             Ok(inverse) => inverse,
-            Err(refusal) => return Err(unfit(refusal)),
+            Err(refusal) => {
+                drop(answer);
+                drop(inverse);
+                return Err(unfit(refusal));
+            }
         };
+        drop(taken_back);
         self.forget_chunks(forgotten_by(edit));
         self.next_hidden = next_hidden;
         self.keep_answer(by, answer);

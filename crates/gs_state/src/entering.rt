@@ -4,6 +4,8 @@ ghost use Rattle.std.specs.Ordering.{nat_cmp};
 ghost use Rattle.std.specs.FinMap as fin;
 ghost use Rattle.gs_record.specs.Plain as entries;
 ghost use Rattle.gs_record.specs.Plain.{plain};
+ghost use Rattle.gs_base.specs.declared.numbers.ReqId.{ReqId};
+ghost use Rattle.gs_edit.specs.declared.edit.Edit.{Edit};
 ghost use Rattle.gs_table.specs.Slots.{HasRoom, KeepsRoom, live};
 ghost use Rattle.gs_state.specs.Applied.{with_proposal, with_reply};
 ghost use Rattle.gs_state.specs.Recorded.{Applies, KeepsRooms, RoomFor, RoomToKeep, durable_of};
@@ -166,8 +168,25 @@ impl Recorded {
         ensures leases { IfErr result (λ _. self.new.leases ≡ self.old.leases) }
         ensures keeps { IfErr result (λ _. KeepsRooms self.old self.new) }
     {
+        if let Entry::Edit { by, edit } = entry {
+            return self.enter_edit(*by, edit, inverse);
+        }
+        drop(inverse);
+        self.enter_unlike_edit(entry)
+    }
+
+    /// A record that is no edit is applied for which there is room.
+    fn enter_unlike_edit(&mut self, entry: &Entry) -> Result<Undo, Refusal>
+        requires kind { comes_alone (plain entry.now) ≡ false }
+        requires unlike { (by : ReqId) (edit : Edit) → entry.now ≡ Entry.Edit by edit → ⊥ }
+        requires room { RoomFor self.old (plain entry.now) }
+        ensures applied { Enters (plain entry.now) result (durable_of self.old) (durable_of self.new) }
+        ensures back { IfOk result (λ undo. IsUndo self.old self.new undo) }
+        ensures leases { IfErr result (λ _. self.new.leases ≡ self.old.leases) }
+        ensures keeps { IfErr result (λ _. KeepsRooms self.old self.new) }
+    {
         match entry {
-            Entry::Edit { by, edit } => self.enter_edit(*by, edit, inverse),
+            Entry::Edit { .. } => unreachable!(),
             Entry::Said { to, refusal } => self.enter_refusal(*to, refusal),
             Entry::Propose { handle, version } => self.enter_proposal(*handle, *version),
             Entry::Settle(settled) => self.enter_view(settled),

@@ -62,7 +62,7 @@ impl Recorded {
             Entry::Edit { by, edit } => self.replay_edit(*by, edit),
             Entry::Checkpoint(checkpoint) => self.replay_checkpoint(checkpoint),
             _ => {
-                let _undo = self.enter(entry, None)?;
+                drop(self.enter(entry, None)?);
                 Ok(())
             },
         }

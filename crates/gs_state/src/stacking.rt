@@ -75,12 +75,17 @@ impl Recorded {
         ensures value { durable_of self.new ≡ durable_of self.old }
         ensures leases { live nat_cmp self.new.leases ≡ live nat_cmp self.old.leases }
     {
-        let Undo::Edit(before) = undo else {
-            return;
+        let before = match undo {
+            Undo::Edit(before) => before,
+            other => {
+                drop(other);
+                return;
+            }
         };
         for stood in &before.forgotten {
             self.leases.release(stood.chunk);
         }
+        drop(before);
     }
 
     /// All records of an event stand, and are taken back no more.

@@ -39,7 +39,12 @@ impl Store {
     {
         match self.slot(handle) {
             Some(slot) => slot.copy_out(stamp, with_sealed),
-            None => Slot::new().copy_out(stamp, with_sealed),
+            None => {
+                let empty = Slot::new();
+                let copy = empty.copy_out(stamp, with_sealed);
+                drop(empty);
+                copy
+            }
         }
     }
 
@@ -80,7 +85,9 @@ impl Store {
     {
         let empty = Slot::new();
         let target = self.slot_or(new_handle, &empty);
-        self.slot_or(handle, &empty).copy_for(at, stamp, target)
+        let copy = self.slot_or(handle, &empty).copy_for(at, stamp, target);
+        drop(empty);
+        copy
     }
 
     /// Puts a copy into the slot of a handle. Only the first replica of a handle may want memory.
@@ -100,6 +107,7 @@ impl Store {
     {
         let mut slot = Slot::new();
         if let Err(refusal) = slot.take_copy(copy) {
+            drop(slot);
             return Err(refusal);
         }
         self.add(handle, slot)
@@ -128,7 +136,10 @@ impl Store {
     fn judge_first(&self, stamp: Stamp, given: &CopyImages) -> Result<(), Refusal>
         ensures { Foretells (moves.copy_in self.now.block self.now.chunk stamp given.now.image given.now.sealed nothing) result }
     {
-        Slot::new().judge_copy(self.sizes, stamp, given)
+        let empty = Slot::new();
+        let judged = empty.judge_copy(self.sizes, stamp, given);
+        drop(empty);
+        judged
     }
 
     /// Makes what a copy carries live in a slot that the handle gets.
@@ -154,6 +165,7 @@ impl Store {
         }
         let mut slot = Slot::new();
         if let Err(refused) = slot.copy_in(self.alloc, self.sizes, stamp, given) {
+            drop(slot);
             return Err(refused);
         }
         let place = self.slots.len();

@@ -35,6 +35,7 @@ impl Store {
         let Some(place) = self.places.get(handle) else {
             let mut slot = Slot::new();
             if let Err(refusal) = slot.create(self.alloc, self.sizes, stamp) {
+                drop(slot);
                 return Err(refusal);
             }
             return self.add(handle, slot);
@@ -59,7 +60,10 @@ impl Store {
         ensures { Does (drop_replica handle promise self.old) result self.old self.new }
     {
         let Some(place) = self.places.get(handle) else {
-            return Slot::new().drop_replica(promise);
+            let mut empty = Slot::new();
+            let dropped = empty.drop_replica(promise);
+            drop(empty);
+            return dropped;
         };
         self.slots[*place].drop_replica(promise)
     }

@@ -97,7 +97,12 @@ impl Store {
     {
         match self.slot(handle) {
             Some(slot) => slot.promised(),
-            None => Slot::new().promised(),
+            None => {
+                let empty = Slot::new();
+                let promised = empty.promised();
+                drop(empty);
+                promised
+            }
         }
     }
 

@@ -1,21 +1,36 @@
+use gs_base::{Config, Refusal};
+use gs_journal::MemoryDisk;
 use gs_shell::RunFault;
 use std::alloc::{AllocError, Global};
 use std::io::{self, BufRead, ErrorKind, Read, Write};
 use std::test::Fail;
 
-/// What a run writes for a script.
-fn output_of(alloc: Global, script: &[u8]) -> Result<String, Fail> {
+/// Three servers in two racks, each chunk on so many of them, and chunks of 16 bytes in blocks of 4.
+fn store_of(replicas: u64) -> Result<Config, Refusal> {
+    Config::new(3, 2, replicas, 4, 16)
+}
+
+/// The disks of a new store.
+fn new_disks(alloc: Global) -> (MemoryDisk, MemoryDisk) {
+    (
+        MemoryDisk::new(Vec::new(alloc)),
+        MemoryDisk::new(Vec::new(alloc)),
+    )
+}
+
+/// What a run of a new store writes for a script.
+fn output_of(alloc: Global, config: Config, script: &[u8]) -> Result<String, Fail> {
     let mut input = script;
     let mut output = Vec::new(alloc);
-    gs_shell::run(alloc, &mut input, &mut output)
+    gs_shell::run(alloc, config, new_disks(alloc), &mut input, &mut output)
         .ok()
         .ok_or("the run")?;
     Ok(String::from_utf8(output).ok().ok_or("the output")?)
 }
 
 #[test]
-fn answers_scripts(rt: HostRuntime) -> Result<(), Fail> {
-    let rows: [(&[u8], &str); 11] = [
+fn paths_and_names(rt: HostRuntime) -> Result<(), Fail> {
+    let runs: [(&[u8], &str); 5] = [
         // No line at all.
         (b"", ""),
         // A directory that is there again, and a file at its place.
@@ -28,6 +43,125 @@ fn answers_scripts(rt: HostRuntime) -> Result<(), Fail> {
             b"mkdir /a/b\nmv /a /a/b/c\nmkdir /d\ncreate /f\nmv /f /d\nls /d\nls /\n",
             "ok\nrefused 8 IntoItself\nok\nok\nok\nok f\nok a/ d/\n",
         ),
+        // Two elements that are none, one of 200 bytes, one of 201, and a hidden name.
+        (
+            b"mkdir /.\nmkdir /x:y\nmkdir /aaaaaaaaaaaaaaaaaaaaaaaaaaaaaaaaaaaaaaaaaaaaaaaaaaaaaaaaaaaaaaaaaaaaaaaaaaaaaaaaaaaaaaaaaaaaaaaaaaaaaaaaaaaaaaaaaaaaaaaaaaaaaaaaaaaaaaaaaaaaaaaaaaaaaaaaaaaaaaaaaaaaaaaaaaaaaaaaaaaaaaaaaaaaaaaaaaaaaaaa\nmkdir /aaaaaaaaaaaaaaaaaaaaaaaaaaaaaaaaaaaaaaaaaaaaaaaaaaaaaaaaaaaaaaaaaaaaaaaaaaaaaaaaaaaaaaaaaaaaaaaaaaaaaaaaaaaaaaaaaaaaaaaaaaaaaaaaaaaaaaaaaaaaaaaaaaaaaaaaaaaaaaaaaaaaaaaaaaaaaaaaaaaaaaaaaaaaaaaaaaaaaaaaa\nmkdir /.deleted.x\n",
+            "refused 1 BadPath\nrefused 1 BadPath\nok\nrefused 1 BadPath\nrefused 2 HiddenName\n",
+        ),
+        // Moves that end in 64 elements, and in 65.
+        (
+            b"mkdir /x/y\nmkdir /d/d/d/d/d/d/d/d/d/d/d/d/d/d/d/d/d/d/d/d/d/d/d/d/d/d/d/d/d/d/d/d/d/d/d/d/d/d/d/d/d/d/d/d/d/d/d/d/d/d/d/d/d/d/d/d/d/d/d/d/d/d\nmkdir /e/d/d/d/d/d/d/d/d/d/d/d/d/d/d/d/d/d/d/d/d/d/d/d/d/d/d/d/d/d/d/d/d/d/d/d/d/d/d/d/d/d/d/d/d/d/d/d/d/d/d/d/d/d/d/d/d/d/d/d/d/d/d\nmv /x /e/d/d/d/d/d/d/d/d/d/d/d/d/d/d/d/d/d/d/d/d/d/d/d/d/d/d/d/d/d/d/d/d/d/d/d/d/d/d/d/d/d/d/d/d/d/d/d/d/d/d/d/d/d/d/d/d/d/d/d/d/d/d\nmv /x /d/d/d/d/d/d/d/d/d/d/d/d/d/d/d/d/d/d/d/d/d/d/d/d/d/d/d/d/d/d/d/d/d/d/d/d/d/d/d/d/d/d/d/d/d/d/d/d/d/d/d/d/d/d/d/d/d/d/d/d/d/d\n",
+            "ok\nok\nok\nrefused 1 BadPath\nok\n",
+        ),
+    ];
+    for (script, output) in runs {
+        assert_eq!(rt;
+            output_of(rt.alloc(), store_of(3)?, script)?.as_str(),
+            output
+        );
+    }
+    Ok(())
+}
+
+#[test]
+fn files(rt: HostRuntime) -> Result<(), Fail> {
+    let runs: [(&[u8], &str); 4] = [
+        // A write behind the end, over two chunks: what lies before it is zeros.
+        (
+            b"create /f\nwrite /f 14 616263\nread /f 0 32\nstat /f\n",
+            "ok\nok\nok 0000000000000000000000000000616263\nok file 17 1/1/0,1,2 2/1/0,1,2\n",
+        ),
+        // A record of more than a quarter of a chunk is refused. One that no longer fits goes to the next chunk, and zeros
+        // fill the one before.
+        (
+            b"create /f\nappend /f 61626364\nappend /f 6162636465\nwrite /f 4 616161616161616161\nappend /f 7a7a7a7a\nread /f 12 8\nstat /f\n",
+            "ok\nok 0\nrefused 26 TooLong\nok\nok 16\nok 610000007a7a7a7a\nok file 20 1/1/0,1,2 2/1/0,1,2\n",
+        ),
+        // The digest of a block is that of its bytes, and there is none of a block behind the last.
+        (
+            b"create /f\nwrite /f 0 616263\ndigest /f 0 0\ndigest /f 0 1\n",
+            "ok\nok\nok ba7816bf8f01cfea414140de5dae2223b00361a396177a9cb410ff61f20015ad\nrefused 25 Range\n",
+        ),
+        // A write past 4,096 chunks is refused and changes nothing, and the file takes later ones.
+        (
+            b"create /f\nwrite /f 65536 61\nstat /f\nat 60\nwrite /f 0 61\nread /f 0 4\n",
+            "ok\nrefused 25 Range\nok file 0\nok\nok\nok 61\n",
+        ),
+    ];
+    for (script, output) in runs {
+        assert_eq!(rt;
+            output_of(rt.alloc(), store_of(3)?, script)?.as_str(),
+            output
+        );
+    }
+    Ok(())
+}
+
+#[test]
+fn deletion_and_scan(rt: HostRuntime) -> Result<(), Fail> {
+    let runs: [(&[u8], &str); 5] = [
+        // Deletions of nothing, of the root, and of a directory with a child.
+        (
+            b"rm /x\nrm /\nmkdir /a/b\nrm /a\nrm -r\nrm -r /a\n",
+            "ok false\nrefused 9 IsRoot\nok\nrefused 7 NotEmpty\nrefused 1 BadPath\nok /.deleted.00000000000000000000.00000000000000000001.a\n",
+        ),
+        // Hidden children are listed by their own path alone, and hinder no deletion.
+        (
+            b"mkdir /a/b\nrm /a/b\nls /a\nls /a/.deleted.00000000000000000000.00000000000000000001.b\nrm /a\n",
+            "ok\nok /a/.deleted.00000000000000000000.00000000000000000001.b\nok\nok\nok /.deleted.00000000000000000000.00000000000000000002.a\n",
+        ),
+        // A directory is deleted with its hidden child, and is listed by its hidden path from then on.
+        (
+            b"mkdir /d\ncreate /d/f\nrm /d/f\nrm /d\nls /\nls /.deleted.00000000000000000000.00000000000000000002.d\n",
+            "ok\nok\nok /d/.deleted.00000000000000000000.00000000000000000001.f\nok /.deleted.00000000000000000000.00000000000000000002.d\nok\nok\n",
+        ),
+        // A child beside a hidden one hinders the deletion.
+        (
+            b"mkdir /d\ncreate /d/f\nrm /d/f\ncreate /d/g\nrm /d\nls /\nls /.deleted.00000000000000000000.00000000000000000002.d\n",
+            "ok\nok\nok /d/.deleted.00000000000000000000.00000000000000000001.f\nok\nrefused 7 NotEmpty\nok d/\nrefused 3 NotFound\n",
+        ),
+        // What was deleted comes back while it is hidden. A scan removes it once more than 259,200 seconds have gone, and then
+        // a server drops its replica.
+        (
+            b"create /f\nwrite /f 0 61\nrm /f\nat 259199\nscan\nundelete /.deleted.00000000000000000000.00000000000000000001.f\nat 0\nrm /f\nat 259200\nscan\nat 259201\nscan\nbeat 0\nlose 0 1\n",
+            "ok\nok\nok /.deleted.00000000000000000000.00000000000000000001.f\nok\nok 0 0\nok /f\nok\nok /.deleted.00000000000000000000.00000000000000000002.f\nok\nok 0 0\nok\nok 1 1\nok 1\nrefused 28 NoReplica\n",
+        ),
+    ];
+    for (script, output) in runs {
+        assert_eq!(rt;
+            output_of(rt.alloc(), store_of(3)?, script)?.as_str(),
+            output
+        );
+    }
+    Ok(())
+}
+
+#[test]
+fn snapshots(rt: HostRuntime) -> Result<(), Fail> {
+    let runs: [(&[u8], &str); 2] = [
+        // A copy shares its chunk until one of both is written to.
+        (
+            b"create /f\nwrite /f 0 6162\nsnapshot /f /g\nwrite /f 0 78\nwrite /g 0 79\nread /f 0 2\nread /g 0 2\nstat /f\nstat /g\n",
+            "ok\nok\nok\nok\nok\nok 7862\nok 7962\nok file 2 2/1/0,1,2\nok file 2 1/1/0,1,2\n",
+        ),
+        // Both are written to within an upgrade. A rollback gives back the chunk that they shared, and what was deleted.
+        (
+            b"create /f\nwrite /f 0 6162\nsnapshot /f /g\nrollingUpgrade prepare\nwrite /f 0 78\nwrite /g 0 79\nread /f 0 2\nread /g 0 2\nstat /f\nrm /f\nrollingUpgrade rollback\nstat /f\nread /g 0 2\n",
+            "ok\nok\nok\nok 1\nok\nok\nok 7862\nok 7962\nok file 2 2/1/0,1,2\nok /.deleted.00000000000000000000.00000000000000000001.f\nok 2\nok file 2 1/2/0,1,2\nok 6162\n",
+        ),
+    ];
+    for (script, output) in runs {
+        assert_eq!(rt;
+            output_of(rt.alloc(), store_of(3)?, script)?.as_str(),
+            output
+        );
+    }
+    Ok(())
+}
+
+#[test]
+fn upgrades(rt: HostRuntime) -> Result<(), Fail> {
+    let runs: [(&[u8], &str); 5] = [
         // The epochs of an upgrade that is rolled back.
         (
             b"rollingUpgrade query\nrollingUpgrade prepare\nrollingUpgrade rollback\nrollingUpgrade query\n",
@@ -43,34 +177,244 @@ fn answers_scripts(rt: HostRuntime) -> Result<(), Fail> {
             b"rollingUpgrade prepare\nmkdir /a\nrollingUpgrade query\nrollingUpgrade finalize\nrollingUpgrade rollback\nls /\n",
             "ok 1\nok\nok upgrade 1\nok 2\nrefused 13 NotUpgrading\nok a/\n",
         ),
-        // The rules of paths.
+        // A file is written to, moved, deleted, and removed by a scan, and servers drop its replicas. A rollback brings it back
+        // with its bytes.
         (
-            b"mkdir /.\nmkdir /x:y\nmkdir /aaaaaaaaaaaaaaaaaaaaaaaaaaaaaaaaaaaaaaaaaaaaaaaaaaaaaaaaaaaaaaaaaaaaaaaaaaaaaaaaaaaaaaaaaaaaaaaaaaaaaaaaaaaaaaaaaaaaaaaaaaaaaaaaaaaaaaaaaaaaaaaaaaaaaaaaaaaaaaaaaaaaaaaaaaaaaaaaaaaaaaaaaaaaaaaaaaaaaaaa\nmkdir /aaaaaaaaaaaaaaaaaaaaaaaaaaaaaaaaaaaaaaaaaaaaaaaaaaaaaaaaaaaaaaaaaaaaaaaaaaaaaaaaaaaaaaaaaaaaaaaaaaaaaaaaaaaaaaaaaaaaaaaaaaaaaaaaaaaaaaaaaaaaaaaaaaaaaaaaaaaaaaaaaaaaaaaaaaaaaaaaaaaaaaaaaaaaaaaaaaaaaaaaa\nmkdir /.deleted.x\n",
-            "refused 1 BadPath\nrefused 1 BadPath\nok\nrefused 1 BadPath\nrefused 2 HiddenName\n",
+            b"create /f\nwrite /f 0 61626364\nmkdir /d\nrollingUpgrade prepare\nwrite /f 0 7a\nappend /f 7979\nmv /f /d\nrm -r /d\nat 300000\nscan\nbeat 0\nbeat 1\nls /\nrollingUpgrade rollback\nls /\nread /f 0 9\nls /d\n",
+            "ok\nok\nok\nok 1\nok\nok 4\nok\nok /.deleted.00000000000000000000.00000000000000000001.d\nok\nok 1 1\nok 1\nok 1\nok\nok 2\nok d/ f\nok 61626364\nok\n",
         ),
-        // Deletions of nothing, of the root, and of a directory with a child.
+        // The halves of a prepare, in their order and out of it.
         (
-            b"rm /x\nrm /\nmkdir /a/b\nrm /a\nrm -r\nrm -r /a\n",
-            "ok false\nrefused 9 IsRoot\nok\nrefused 7 NotEmpty\nrefused 1 BadPath\nok /.deleted.00000000000000000000.00000000000000000001.a\n",
+            b"rollback-commit\nprepare-commit\nprepare-begin\nprepare-begin\nmkdir /a\nprepare-commit\nprepare-commit\nrollingUpgrade finalize\nrollback-begin\n",
+            "refused 13 NotUpgrading\nrefused 13 NotUpgrading\nok 0\nrefused 14 AlreadyUpgrading\nrefused 11 Preparing\nok 1\nrefused 14 AlreadyUpgrading\nok 2\nrefused 13 NotUpgrading\n",
         ),
-        // Hidden children are listed by their own path alone, and hinder no deletion.
+    ];
+    for (script, output) in runs {
+        assert_eq!(rt;
+            output_of(rt.alloc(), store_of(3)?, script)?.as_str(),
+            output
+        );
+    }
+    Ok(())
+}
+
+#[test]
+fn copies(rt: HostRuntime) -> Result<(), Fail> {
+    let runs: [(&[u8], &str); 5] = [
+        // A lost replica is missed when its server reports, and made again.
         (
-            b"mkdir /a/b\nrm /a/b\nls /a\nls /a/.deleted.00000000000000000000.00000000000000000001.b\nrm /a\n",
-            "ok\nok /a/.deleted.00000000000000000000.00000000000000000001.b\nok\nok\nok /.deleted.00000000000000000000.00000000000000000002.a\n",
+            b"create /f\nwrite /f 0 6161\nlose 1 1\nbeat 1\nstat /f\nreplicate\nstat /f\nreplicate\nread /f 0 2\n",
+            "ok\nok\nok\nok 0\nok file 2 1/1/0,2\nok 1 1\nok file 2 1/1/0,1,2\nok none\nok 6161\n",
         ),
-        // Moves that end in 64 elements, and in 65.
+        // A damaged block is read from the next server. Its replica is left out, dropped and made again.
         (
-            b"mkdir /x/y\nmkdir /d/d/d/d/d/d/d/d/d/d/d/d/d/d/d/d/d/d/d/d/d/d/d/d/d/d/d/d/d/d/d/d/d/d/d/d/d/d/d/d/d/d/d/d/d/d/d/d/d/d/d/d/d/d/d/d/d/d/d/d/d/d\nmkdir /e/d/d/d/d/d/d/d/d/d/d/d/d/d/d/d/d/d/d/d/d/d/d/d/d/d/d/d/d/d/d/d/d/d/d/d/d/d/d/d/d/d/d/d/d/d/d/d/d/d/d/d/d/d/d/d/d/d/d/d/d/d/d\nmv /x /e/d/d/d/d/d/d/d/d/d/d/d/d/d/d/d/d/d/d/d/d/d/d/d/d/d/d/d/d/d/d/d/d/d/d/d/d/d/d/d/d/d/d/d/d/d/d/d/d/d/d/d/d/d/d/d/d/d/d/d/d/d/d\nmv /x /d/d/d/d/d/d/d/d/d/d/d/d/d/d/d/d/d/d/d/d/d/d/d/d/d/d/d/d/d/d/d/d/d/d/d/d/d/d/d/d/d/d/d/d/d/d/d/d/d/d/d/d/d/d/d/d/d/d/d/d/d/d\n",
-            "ok\nok\nok\nrefused 1 BadPath\nok\n",
+            b"create /f\nwrite /f 0 61626364\ndamage 0 1 0\nread /f 0 4\nstat /f\nbeat 0\nreplicate\nstat /f\n",
+            "ok\nok\nok\nok 61626364\nok file 4 1/1/1,2\nok 1\nok 1 0\nok file 4 1/1/0,1,2\n",
         ),
-        // Lines that are not of the grammar; one that ends in \r\n, and a last one that has no end.
+        // A rollback leaves out a replica that was damaged.
+        (
+            b"create /f\nwrite /f 0 61626364\nrollingUpgrade prepare\ndamage 0 1 0\nread /f 0 4\nrollingUpgrade rollback\nstat /f\n",
+            "ok\nok\nok 1\nok\nok 61626364\nok 2\nok file 4 1/1/1,2\n",
+        ),
+        // A rollback takes the one server that still has the chunk as it was sealed.
+        (
+            b"create /f\nwrite /f 0 61\nrollingUpgrade prepare\nlose 0 1\nlose 1 1\nrollingUpgrade rollback\nstat /f\n",
+            "ok\nok\nok 1\nok\nok\nok 2\nok file 1 1/1/2\n",
+        ),
+        // Where none has it, the rollback stays begun, and changes are refused.
+        (
+            b"create /f\nwrite /f 0 61\nrollingUpgrade prepare\nlose 0 1\nlose 1 1\nlose 2 1\nrollingUpgrade rollback\nrollingUpgrade query\nmkdir /x\n",
+            "ok\nok\nok 1\nok\nok\nok\nrefused 16 Unrestored 1\nok rolling 2\nrefused 12 RollingBack\n",
+        ),
+    ];
+    for (script, output) in runs {
+        assert_eq!(rt;
+            output_of(rt.alloc(), store_of(3)?, script)?.as_str(),
+            output
+        );
+    }
+    Ok(())
+}
+
+#[test]
+fn two_replicas_on_three_servers(rt: HostRuntime) -> Result<(), Fail> {
+    let runs: [(&[u8], &str); 2] = [
+        // Each chunk stands in both racks, and first on servers that have the fewest.
+        (
+            b"create /a\nwrite /a 0 61\ncreate /b\nwrite /b 0 62\ncreate /c\nwrite /c 0 63\nstat /a\nstat /b\nstat /c\n",
+            "ok\nok\nok\nok\nok\nok\nok file 1 1/1/0,1\nok file 1 2/1/1,2\nok file 1 3/1/0,1\n",
+        ),
+        // A copy that is made within an upgrade carries what was sealed: a rollback gives that back from the copy alone.
+        (
+            b"create /a\nwrite /a 0 61\ncreate /f\nwrite /f 0 62\nrm /a\nat 259201\nscan\nrollingUpgrade prepare\nlose 2 2\nbeat 2\nreplicate\nlose 1 2\nrollingUpgrade rollback\nread /f 0 1\nstat /f\n",
+            "ok\nok\nok\nok\nok /.deleted.00000000000000000000.00000000000000000001.a\nok\nok 1 1\nok 1\nok\nok 0\nok 2 0\nok\nok 2\nok 62\nok file 1 2/1/0\n",
+        ),
+    ];
+    for (script, output) in runs {
+        assert_eq!(rt;
+            output_of(rt.alloc(), store_of(2)?, script)?.as_str(),
+            output
+        );
+    }
+    Ok(())
+}
+
+#[test]
+fn lost_and_held_messages(rt: HostRuntime) -> Result<(), Fail> {
+    let runs: [(&[u8], &str); 5] = [
+        // A forward that comes after a prepare is refused by its stamp. Its edit stands at the primary alone, and a rollback
+        // keeps it.
+        (
+            b"create /f\nwrite /f 0 61\nhold on forward\nwrite /f 1 62\nhold off\nrollingUpgrade prepare\ndeliver 1\nrollingUpgrade rollback\nread /f 0 2\nstat /f\n",
+            "ok\nok\nok\nrefused 29 Unsure\nok\nok 1\nrefused 22 Stamp 0.3\nok 2\nok 6162\nok file 2 1/1/0\n",
+        ),
+        // An edit that is handed over twice is done once.
+        (
+            b"create /f\nappend /f 6162\nhold on edit\nappend /f 6364\nhold off\ndeliver 1\ndeliver 1\nread /f 0 16\n",
+            "ok\nok 0\nok\nrefused 29 Unsure\nok\nok\nok\nok 61626364\n",
+        ),
+        // Servers that missed an edit of an upgrade are left out once the lease is over. One of them drops its replica and gets
+        // a copy, and a rollback gives all three what was sealed.
+        (
+            b"create /f\nwrite /f 0 6161\nrollingUpgrade prepare\nhold on forward\nwrite /f 0 62\nhold off\nat 60\nwrite /f 1 63\nbeat 1\nreplicate\nwrite /f 0 64\nread /f 0 2\nrollingUpgrade rollback\nread /f 0 2\nstat /f\n",
+            "ok\nok\nok 1\nok\nrefused 29 Unsure\nok\nok\nok\nok 1\nok 1 1\nok\nok 6463\nok 2\nok 6161\nok file 2 1/1/0,1,2\n",
+        ),
+        // A grant comes when a rollback is begun and the master has begun again: it is refused by its epoch, and the commit ends
+        // the rollback.
+        (
+            b"create /f\nwrite /f 0 61\nrollingUpgrade prepare\nhold on grant\nwrite /f 0 62\nhold off\nrollback-begin\nrestart master\ndeliver 2\nrollback-commit\nread /f 0 1\nrollingUpgrade rollback\n",
+            "ok\nok\nok 1\nok\nrefused 20 NotPrimary\nok\nok 2\nok\nrefused 18 Epoch 2\nok 2\nok 61\nrefused 13 NotUpgrading\n",
+        ),
+        // Nothing is written where no server has heard of the upgrade, and it is once they hear of it.
+        (
+            b"create /f\nwrite /f 0 61\nhold on epoch\nrollingUpgrade prepare\nwrite /f 0 62\nhold off\ndeliver 1\nwrite /f 0 62\nrollingUpgrade rollback\nread /f 0 1\nstat /f\n",
+            "ok\nok\nok\nok 1\nrefused 28 NoReplica\nok\nok\nok\nok 2\nok 61\nok file 1 1/1/0,1,2\n",
+        ),
+    ];
+    for (script, output) in runs {
+        assert_eq!(rt;
+            output_of(rt.alloc(), store_of(3)?, script)?.as_str(),
+            output
+        );
+    }
+    Ok(())
+}
+
+#[test]
+fn restarts(rt: HostRuntime) -> Result<(), Fail> {
+    let runs: [(&[u8], &str); 2] = [
+        // A server begins again, and goes on with the replica that it kept.
+        (
+            b"create /f\nwrite /f 0 61\nrestart 0\nwrite /f 1 62\nread /f 0 2\n",
+            "ok\nok\nok\nok\nok 6162\n",
+        ),
+        // The master begins again, and goes on with the names and chunks that its journal tells.
+        (
+            b"mkdir /a\ncreate /f\nwrite /f 0 61\nrestart master\nls /\nread /f 0 1\nwrite /f 1 62\nread /f 0 2\n",
+            "ok\nok\nok\nok\nok a/ f\nok 61\nok\nok 6162\n",
+        ),
+    ];
+    for (script, output) in runs {
+        assert_eq!(rt;
+            output_of(rt.alloc(), store_of(3)?, script)?.as_str(),
+            output
+        );
+    }
+    Ok(())
+}
+
+#[test]
+fn bad_lines(rt: HostRuntime) -> Result<(), Fail> {
+    let runs: [(&[u8], &str); 10] = [
+        // Lines that ask for nothing, and requests for what is not there or may not be.
+        (
+            b"frob\nmkdir\nwrite /f 0 6\nrm /x\nrm /\nread /x 0 1\nundelete /x\nmkdir /a/b\nrm /a\n",
+            "refused 34 BadLine\nrefused 34 BadLine\nrefused 34 BadLine\nok false\nrefused 9 IsRoot\nrefused 3 NotFound\nrefused 38 NotHidden\nok\nrefused 7 NotEmpty\n",
+        ),
+        // An empty line.
+        (b"\n", "refused 34 BadLine\n"),
+        // Two spaces in a row.
+        (b"mkdir  /a\n", "refused 34 BadLine\n"),
+        // A number above 18,446,744,073,709,551,615.
+        (
+            b"write /f 18446744073709551616 61\n",
+            "refused 34 BadLine\n",
+        ),
+        // A letter that is no hexadecimal digit.
+        (b"write /f 0 6g\n", "refused 34 BadLine\n"),
+        // No kind of messages.
+        (b"hold on nothing\n", "refused 34 BadLine\n"),
+        // A line that is not UTF-8.
+        (b"mkdir /a\xff\n", "refused 34 BadLine\n"),
+        // A line that ends in a carriage return and a line feed.
+        (b"mkdir /a\r\n", "ok\n"),
+        // A last line that has no end.
+        (b"mkdir /a\nls /", "ok\nok a/\n"),
+        // Bad lines before good ones, and a carriage return that belongs to no end.
         (
             b"\nls  /\nls /\xff\nls /\r\r\nls /\r\nls /",
             "refused 34 BadLine\nrefused 34 BadLine\nrefused 34 BadLine\nrefused 1 BadPath\nok\nok\n",
         ),
     ];
-    for (script, output) in rows {
-        assert_eq!(rt; output_of(rt.alloc(), script)?.as_str(), output);
+    for (script, output) in runs {
+        assert_eq!(rt;
+            output_of(rt.alloc(), store_of(3)?, script)?.as_str(),
+            output
+        );
+    }
+    Ok(())
+}
+
+/// A line of so many bytes that begins as given and goes on with one byte, and what stands behind it.
+fn long_line(
+    alloc: Global,
+    beginning: &[u8],
+    byte: u8,
+    length: usize,
+    end: &[u8],
+) -> Result<Vec<u8>, AllocError> {
+    let mut script = beginning.to_vec(alloc)?;
+    script.resize(length, byte)?;
+    script.extend_from_slice(end)?;
+    Ok(script)
+}
+
+#[test]
+fn long_lines(rt: HostRuntime) -> Result<(), Fail> {
+    let runs: [(&[u8], u8, usize, &[u8], &str); 4] = [
+        // One byte more than a line may have.
+        (b"m", b'm', 1_048_577, b"\n", "refused 34 BadLine\n"),
+        // The line behind such a one is answered.
+        (
+            b"mkdir /",
+            b'a',
+            1_048_577,
+            b"\nls /\n",
+            "refused 34 BadLine\nok\n",
+        ),
+        // As many bytes as a line may have.
+        (
+            b"mkdir /",
+            b'a',
+            1_048_576,
+            b"\nls /\n",
+            "refused 1 BadPath\nok\n",
+        ),
+        // A carriage return at the end of such a line is not counted.
+        (
+            b"ls ",
+            b'/',
+            1_048_576,
+            b"\r\nls /\n",
+            "refused 1 BadPath\nok\n",
+        ),
+    ];
+    for (beginning, byte, length, end, output) in runs {
+        let script = long_line(rt.alloc(), beginning, byte, length, end)?;
+        assert_eq!(rt;
+            output_of(rt.alloc(), store_of(3)?, &script)?.as_str(),
+            output
+        );
     }
     Ok(())
 }
@@ -86,32 +430,14 @@ fn files_rolled_back(alloc: Global, count: u32) -> Result<String, AllocError> {
     Ok(script)
 }
 
-// A rollback of more edits than a stack would hold calls.
+// A rollback of many edits.
 #[test]
 fn rolls_back_many_edits(rt: HostRuntime) -> Result<(), Fail> {
     let alloc = rt.alloc();
-    let script = files_rolled_back(alloc, 100_000)?;
-    let output = output_of(alloc, script.as_bytes())?;
-    assert_eq!(rt; output.as_str().split('\n').count(), 100_004);
+    let script = files_rolled_back(alloc, 2_000)?;
+    let output = output_of(alloc, store_of(3)?, script.as_bytes())?;
+    assert_eq!(rt; output.as_str().split('\n').count(), 2_004);
     assert!(rt; output.as_str().ends_with("ok\nok 2\nok\n"), "the end");
-    Ok(())
-}
-
-// The longest line that is held, one of one byte more, and one after it.
-#[test]
-fn refuses_a_line_that_is_too_long(rt: HostRuntime) -> Result<(), Fail> {
-    let mut script = vec![in rt.alloc(); b'/'; 1_048_576]?;
-    script[0] = b'l';
-    script[1] = b's';
-    script[2] = b' ';
-    script.extend_from_slice(b"\r\n")?;
-    script.resize(2_097_155, b'x')?;
-    script.extend_from_slice(b"\nls /\n")?;
-    let output = output_of(rt.alloc(), &script)?;
-    assert_eq!(rt;
-        output.as_str(),
-        "refused 1 BadPath\nrefused 34 BadLine\nok\n"
-    );
     Ok(())
 }
 
@@ -157,7 +483,8 @@ fn stops_where_a_read_fails(rt: HostRuntime) -> Result<(), Fail> {
         calls: 0,
     };
     let mut output = Vec::new(rt.alloc());
-    let result = gs_shell::run(rt.alloc(), &mut input, &mut output);
+    let disks = new_disks(rt.alloc());
+    let result = gs_shell::run(rt.alloc(), store_of(3)?, disks, &mut input, &mut output);
     assert!(rt; matches!(result, Err(RunFault::Read)), "the fault");
     assert_eq!(rt;
         output.as_slice(),
@@ -196,7 +523,8 @@ fn stops_where_a_write_fails(rt: HostRuntime) -> Result<(), Fail> {
         written: Vec::new(rt.alloc()),
         room: 5,
     };
-    let result = gs_shell::run(rt.alloc(), &mut input, &mut output);
+    let disks = new_disks(rt.alloc());
+    let result = gs_shell::run(rt.alloc(), store_of(3)?, disks, &mut input, &mut output);
     assert!(rt; matches!(result, Err(RunFault::Write)), "the fault");
     assert_eq!(rt; output.written.as_slice(), b"ok\nok".as_slice());
     Ok(())

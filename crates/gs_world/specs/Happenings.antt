@@ -109,7 +109,7 @@ Hears failures message moment (nodes.Server id) old result new = AtServer id (λ
 Hears failures message moment (nodes.Client id) old result new =
     (said : Option Refusal) × AtClient id None (ClientHears message.body) old said new × Says said result
 
-abbrev pub Delivers : {D : Type 0} → (D → ℕ) → Message → Moment → Nodes D → Result Turn Refusal → Nodes D → Type 0
+unfoldable pub Delivers : {D : Type 0} → (D → ℕ) → Message → Moment → Nodes D → Result Turn Refusal → Nodes D → Type 0
 Delivers failures message moment old result new = Hears failures message moment message.to old result new
 
 -- ---- a restart
@@ -126,6 +126,11 @@ Opens {D} seen failures config disks (Ok turn) new =
     (after : MasterOf D) × (new ≡ Standing after) × IsOpened failures config disks.0 disks.1 (standing (seen disks.0) (seen disks.1)) limit after turn.sent.items × (turn.said ≡ None)
 Opens {D} seen failures config disks (Err refusal) new =
     (u : Unopened D) × (new ≡ Closed u.first u.second) × (refusal ≡ u.refusal) × WhyUnopened seen failures config limit disks.0 disks.1 u
+
+-- memory is wanting for the nodes, and the disks are handed back as they were; or these aren't opened
+abbrev pub WhyNotBegun : {D : Type 0} → (D → List ℕ) → (D → ℕ) → Config → D × D → Unopened D → Type 0
+WhyNotBegun seen failures config disks u =
+    ((u.refusal ≡ refusals.Memory) × (u.first ≡ disks.0) × (u.second ≡ disks.1)) ⊎ WhyUnopened seen failures config limit disks.0 disks.1 u
 
 abbrev pub Reopens : {D : Type 0} → (D → List ℕ) → (D → ℕ) → Config → MasterPlace D → Result Turn Refusal → MasterPlace D → Type 0
 Reopens seen failures config old result new = MatchOption (disks_of old) ((new ≡ old) × (result ≡ Err refusals.Device)) (λ disks. Opens seen failures config disks result new)

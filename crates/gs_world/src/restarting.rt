@@ -13,10 +13,10 @@ use std::alloc::Global;
 use std::mem;
 
 /// The most bytes of a disk of the journal.
-const LIMIT: u32 = 1_073_741_824;
+pub(crate) const LIMIT: u32 = 1_073_741_824;
 
 /// Opens the disks of a journal, or hands them back.
-pub(crate) fn opened<D: Disk>(
+fn opened<D: Disk>(
     alloc: Global,
     config: Config,
     disks: (D, D),

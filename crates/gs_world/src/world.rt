@@ -1,13 +1,13 @@
-ghost use Rattle.std.specs.Prelude.{◌≡◌, IfOk, Ok};
+ghost use Rattle.std.specs.Prelude.{◌≡◌, IfOk, IfErr, Ok};
 ghost use Rattle.gs_world.specs.Nodes.{new_clients, new_nodes, new_servers, nodes_of};
-ghost use Rattle.gs_world.specs.Happenings.{Opens};
+ghost use Rattle.gs_world.specs.Happenings.{Opens, WhyNotBegun};
 
 use crate::place::MasterPlace;
-use crate::restarting::opened;
+use crate::restarting::LIMIT;
 use gs_base::{ClientId, Config, Refusal, ServerId};
 use gs_client::ClientNode;
-use gs_journal::Disk;
-use gs_master::Turn;
+use gs_journal::{Disk, Unopened};
+use gs_master::{Master, Started, Turn};
 use gs_server::Server;
 use std::alloc::{AllocError, Global};
 
@@ -48,29 +48,47 @@ fn new_clients(alloc: Global, many: u32) -> Result<Vec<ClientNode>, AllocError>
     Ok(clients)
 }
 
+/// The servers of a store and so many clients, none of which has heard anything.
+fn silent_nodes(
+    alloc: Global,
+    config: Config,
+    clients: u32,
+) -> Result<(Vec<Server>, Vec<ClientNode>), AllocError>
+    ensures { IfOk result (λ n. (n.0.items ≡ new_servers config) × (n.1.items ≡ new_clients clients)) }
+{
+    Ok((new_servers(alloc, config)?, new_clients(alloc, clients)?))
+}
+
 impl<D: Disk + Drop> World<D> {
     /// The nodes of a store over the disks of a journal, with so many clients. New disks are those of a new store. What the
-    /// master sends first is told beside it.
+    /// master sends first is told beside it. Where memory is wanting, or the disks can't be opened, they are handed back.
     pub fn new(
         alloc: Global,
         config: Config,
         clients: u32,
         disks: (D, D),
-    ) -> Result<(World<D>, Turn), Refusal>
+    ) -> Result<(World<D>, Turn), Unopened<D>>
         ensures nodes { IfOk result (λ w. nodes_of w.0 ≡ new_nodes config clients w.0.master) }
         ensures master { IfOk result (λ w. Opens D.seen D.failures config disks (Ok w.1) w.0.master) }
+        ensures refused { IfErr result (WhyNotBegun D.seen D.failures config disks) }
     {
-        let servers = new_servers(alloc, config)?;
-        let clients = new_clients(alloc, clients)?;
-        let (master, turn) = opened(alloc, config, disks);
-        let turn = turn?;
+        let (first, second) = disks;
+        let Ok((servers, clients)) = silent_nodes(alloc, config, clients) else {
+            let refusal = Refusal::Memory;
+            return Err(Unopened {
+                refusal,
+                first,
+                second,
+            });
+        };
+        let Started { master, sent } = Master::open(alloc, config, first, second, LIMIT)?;
         let world = World {
             alloc,
             config,
-            master,
+            master: MasterPlace::Standing(master),
             servers,
             clients,
         };
-        Ok((world, turn))
+        Ok((world, Turn { sent, said: None }))
     }
 }

@@ -272,18 +272,22 @@ unfoldable pub holder_at : Version → Reader PlainEntry
 holder_at One bytes = None
 holder_at Two bytes = made (λ x. Some (Holder x.0 x.1)) (both handle_at server_at) bytes
 
-unfoldable pub entry_at : Version → ℕ → Reader PlainEntry
-entry_at version kind bytes =
-    if kind == 1 then made (λ x. Some (Edited x.0 x.1)) (both request_at edit_at) bytes else
-    if kind == 2 then made (λ x. Some (Said x.0 x.1)) (both request_at refusal_at) bytes else
-    if kind == 3 then made (λ x. Some (Propose x.0 x.1)) (both handle_at (number_at w64)) bytes else
-    if kind == 4 then made (λ x. Some (Settle x)) settled_at bytes else
+-- of the kinds that tell of epochs, checkpoints and holders
+unfoldable pub later_entry_at : Version → ℕ → Reader PlainEntry
+later_entry_at version kind bytes =
     if kind == 5 then made (λ x. Some (Prepare x.0 x.1.0 x.1.1)) (both (number_at w64) (both (number_at w64) (number_at w32))) bytes else
     if kind == 6 then made (λ x. Some (Finalize x)) (number_at w64) bytes else
     if kind == 7 then made (λ x. Some (RollbackBegin x)) (number_at w64) bytes else
     if kind == 8 then made (λ x. Some (RollbackCommit x.0 x.1)) (both (number_at w64) (list_at answered_at)) bytes else
     if kind == 9 then made (λ x. Some (Whole x)) (checkpoint_at version) bytes else
     if kind == 10 then holder_at version bytes else None
+
+unfoldable pub entry_at : Version → ℕ → Reader PlainEntry
+entry_at version kind bytes =
+    if kind == 1 then made (λ x. Some (Edited x.0 x.1)) (both request_at edit_at) bytes else
+    if kind == 2 then made (λ x. Some (Said x.0 x.1)) (both request_at refusal_at) bytes else
+    if kind == 3 then made (λ x. Some (Propose x.0 x.1)) (both handle_at (number_at w64)) bytes else
+    if kind == 4 then made (λ x. Some (Settle x)) settled_at bytes else later_entry_at version kind bytes
 
 -- all of the bytes, of which a length of four bytes can tell
 abbrev pub whole : {A : Type 0} → Option (A × List ℕ) → Option A

@@ -1,4 +1,0 @@
-pub mod Leading
-pub mod Listed
-pub mod Deleting
-pub mod Refusals
