@@ -5,17 +5,19 @@
     docs/draw.py SCRIPT < TRACE > PICTURE.svg
 
 Time goes down. Each node has a line of its own, each message is an arrow; the lines of the script stand at the left with their
-answers, and at the right what the servers have told of the chunks that they hold, behind each line of the script.
+answers, and at the right, behind each line of the script, which chunks each server holds if all has arrived that was sent to it: what
+it has told of them, and what epochs and forwards make of that. Texts of messages are cut.
 """
 import html
 import re
 import sys
 
 ROW, LEFT, GAP, RIGHT = 15, 300, 170, 330
+LONGEST = 44
 
 
 class Held:
-    """What is known of one server's replicas, from what it says."""
+    """What is known of one server's replicas, from what it says and what was sent to it."""
 
     def __init__(self):
         self.live = {}
@@ -25,7 +27,7 @@ class Held:
         parts = []
         for handle in sorted(self.live):
             stamp, count = self.live[handle]
-            parts.append(f"chunk {handle} at {stamp}, {count} edits")
+            parts.append(f"chunk {handle} at {stamp}, {count} {'edit' if count == 1 else 'edits'}")
         for handle in sorted(self.sealed):
             parts.append(f"sealed with {self.sealed[handle]}")
         return "; ".join(parts) or "nothing told"
@@ -105,7 +107,7 @@ def draw(servers, rows):
             _, kind, sender, receiver, rest = row
             a, b = place.get(sender, LEFT), place.get(receiver, LEFT)
             out.append(f'<line x1="{a}" y1="{y}" x2="{b}" y2="{y}" stroke="#333" marker-end="url(#a)"/>')
-            text = (kind + " " + rest)[:44]
+            text = (kind + " " + rest)[:LONGEST]
             out.append(f'<text x="{min(a, b) + 6}" y="{y - 2}" fill="#036" font-size="9">{html.escape(text)}</text>')
     return "\n".join(out + ["</svg>"])
 
