@@ -1,138 +1,374 @@
 #!/usr/bin/env python3
-"""Lines a second of the store's shell, how they grow with the size, and memory for each file. No test."""
+"""Measures the built program on scripts, beside the digests alone that their lines need.
 
+    bench/run.py [N] [--program PATH] [--digests PATH] [--before PATH] [--repeats R] [--only WORD]
+
+prints a row for each kind of line, and ends with status 1 where a bound is passed. See bench/README.md for what the columns say."""
+
+import argparse
+import itertools
 import os
 import subprocess
 import sys
 import tempfile
-import time
 
 ROOT = os.path.dirname(os.path.dirname(os.path.abspath(__file__)))
 SHELL = os.path.join(ROOT, "chunkstore")
 PROGRAM = os.path.join(ROOT, "crates", "chunkstore", "out", "chunkstore")
-REPEATS = 3
-LEAST_SECONDS = 0.005
+BENCH = os.path.join(ROOT, "crates", "gs_bench")
+DIGESTS = os.path.join(BENCH, "out", "gs_bench")
+
+# Times below this tell nothing.
+LEAST_SECONDS = 0.05
+# Of less that is stored the peak is mostly the program itself.
+LEAST_STORED = 64_000_000
+REPLICAS = 3
+
+MOST_GROWTH = 2.2
+MOST_MEMORY = 1.6
+# What tree commands have to do in a second where the program before nodes did so many.
+LEAST_RATE = 150_000
+RATE_BEFORE = 200_000
+
+BLOCK = 65_536
+RECORD = 100
+# So many records fill a block of 64 KB.
+RECORDS = BLOCK // RECORD
+SHORT_BLOCKS = ["--block", "4096", "--chunk", "4194304"]
+# Chunks and blocks so small that a run's time isn't that of its digests.
+TINY = ["--block", "4", "--chunk", "16"]
+
+BLOCK_HEX = "61" * BLOCK
+RECORD_HEX = "62" * RECORD
 
 
-def files(directory, n):
-    return [f"mkdir {directory}"] + [f"create {directory}/f{i}" for i in range(n)]
+class Kind:
+    """Lines that prepare, lines that are measured, how many things these do, and what is looked at beside their time."""
+
+    def __init__(self, name, before, lines, count, options=(), digests=None, ratio=None, size=0, stored=0, is_tree=False):
+        self.name = name
+        self.before = before
+        self.lines = lines
+        self.count = count
+        self.options = list(options)
+        # The part of gs_bench that makes the digests of these lines alone, how often, and how many times its time they may take.
+        self.digests = digests
+        self.ratio = ratio
+        # The bytes of a line, and how many a whole run stores once.
+        self.size = size
+        self.stored = stored
+        self.is_tree = is_tree
 
 
-# Each kind gives the lines that prepare, the lines that are measured, and how many things these do.
+def files(n):
+    return itertools.chain(["mkdir /a"], (f"create /a/f{i}" for i in range(n)))
+
+
 def mkdirs(n):
-    return [], [f"mkdir /d{i}" for i in range(n)], n
+    n *= 200
+    return Kind("mkdir", [], (f"mkdir /d{i}" for i in range(n)), n, is_tree=True)
 
 
 def creates(n):
-    return ["mkdir /a"], [f"create /a/f{i}" for i in range(n)], n
+    n *= 200
+    return Kind("create", ["mkdir /a"], (f"create /a/f{i}" for i in range(n)), n, is_tree=True)
+
+
+def moves(n):
+    n *= 200
+    return Kind("mv", files(n), (f"mv /a/f{i} /a/g{i}" for i in range(n)), n, is_tree=True)
+
+
+def deletes(n):
+    n *= 200
+    return Kind("rm", files(n), (f"rm /a/f{i}" for i in range(n)), n, is_tree=True)
 
 
 def look_ups(n):
-    return ["mkdir /a/b/c"], ["ls /a/b/c"] * n, n
+    n *= 200
+    return Kind("ls of a directory", ["mkdir /a/b/c/d"], itertools.repeat("ls /a/b/c", n), n)
+
+
+def stats(n):
+    n *= 100
+    return Kind("stat of a file", ["create /f", "write /f 0 61"], itertools.repeat("stat /f", n), n, TINY)
 
 
 def lists(n):
-    return files("/a", n), ["ls /a"] * 4, 4 * n
+    n *= 40
+    return Kind("ls, its names", files(n), ["ls /a"] * 10, 10 * n)
 
 
-def rename(n):
-    return files("/a", n), ["mv /a /b"], n
+def offsets(n):
+    return (i * BLOCK for i in range(n))
 
 
-def deepen(n):
-    return ["mkdir /b"] + files("/a", n), ["mv /a /b"], n
+def writes(n):
+    return (f"write /f {at} {BLOCK_HEX}" for at in offsets(n))
 
 
-def remove(n):
-    return files("/a", n), ["rm -r /a"], n
+def new_blocks(n):
+    digests = ("digest", REPLICAS * n)
+    return Kind("write, new blocks", ["create /f"], writes(n), n, digests=digests, ratio=1.6, size=BLOCK, stored=n * BLOCK)
 
 
-def roll_back(n):
-    changes = [f"mv /a/f{i} /a/g{i}" for i in range(n)]
-    return files("/a", n), ["rollingUpgrade prepare", *changes, "rollingUpgrade rollback"], n
+def old_blocks(n):
+    before = itertools.chain(["create /f"], writes(n))
+    digests = ("digest", 2 * REPLICAS * n)
+    return Kind("write, over old", before, writes(n), n, digests=digests, ratio=1.6, size=BLOCK, stored=n * BLOCK)
 
 
-KINDS = [mkdirs, creates, look_ups, lists, rename, deepen, remove, roll_back]
+def appends(n):
+    """So many that whole blocks are filled."""
+    n = RECORDS * max(1, n // 250)
+    lines = itertools.repeat("append /f " + RECORD_HEX, n)
+    return Kind("append, 64 KB blocks", ["create /f"], lines, n, digests=("digest-appends", REPLICAS * n), ratio=2, size=RECORD)
 
 
-def run(lines):
-    """Seconds of one run, and what is answered."""
-    with tempfile.TemporaryFile() as source, tempfile.TemporaryFile() as target:
-        source.write("".join(line + "\n" for line in lines).encode())
-        source.seek(0)
-        begin = time.perf_counter()
-        child = subprocess.Popen([PROGRAM], stdin=source, stdout=target)
-        status = child.wait()
-        seconds = time.perf_counter() - begin
-        if status != 0:
-            sys.exit(f"the program ended with status {status}")
-        target.seek(0)
-        return seconds, target.read().splitlines()
+def short_appends(n):
+    n *= 20
+    lines = itertools.repeat("append /f " + RECORD_HEX, n)
+    digests = ("digest-short-appends", REPLICAS * n)
+    return Kind("append, 4 KB blocks", ["create /f"], lines, n, SHORT_BLOCKS, digests, 2, RECORD)
 
 
-def fastest(lines):
-    return min((run(lines) for _ in range(REPEATS)), key=lambda measured: measured[0])
+def reads(n):
+    """A member alone is asked, and verifies the block."""
+    before = itertools.chain(["create /f"], writes(n))
+    lines = (f"read /f {at} {BLOCK}" for at in offsets(n))
+    return Kind("read", before, lines, n, digests=("digest", n), size=BLOCK)
 
 
-def measure(kind, n):
-    """Seconds of the measured lines, how many things these do, and how many answers are refusals."""
-    before, lines, count = kind(n)
-    whole, answers = fastest(before + lines)
-    alone, _ = fastest(before)
-    return whole - alone, count, sum(answer.startswith(b"refused") for answer in answers)
+def snapshots(n):
+    """Each is followed by a write, which copies the chunk."""
+    n *= 8
+    pairs = ((f"snapshot /f /s{i}", "write /f 0 62") for i in range(n))
+    return Kind("snapshot and write", ["create /f", "write /f 0 61"], itertools.chain.from_iterable(pairs), n, TINY)
 
 
-def show(kind, sizes):
-    measured = [measure(kind, n) for n in sizes]
-    seconds = [m[0] for m in measured]
-    rates = [f"{count / s:,.0f}" if s >= LEAST_SECONDS else "-" for s, count, _ in measured]
-    growths = [f"{b / a:.2f}" if min(a, b) >= LEAST_SECONDS else "-" for a, b in zip(seconds, seconds[1:])]
-    refused = sum(m[2] for m in measured)
-    note = f"  {refused} refused" if refused else ""
-    print(f"{kind.__name__:<10}", *(f"{r:>12}" for r in rates), *(f"{g:>8}" for g in growths), note)
+def snapshot_of_files(n):
+    n *= 8
+    each = itertools.chain.from_iterable((f"create /a/f{i}", f"write /a/f{i} 0 61") for i in range(n))
+    return Kind("snapshot, its files", each, ["snapshot /a /b"], n, TINY)
 
 
-def peak(count):
-    """Peak bytes of a run that creates so many files. The script is never held here: see show_memory."""
-    with tempfile.TemporaryFile("w+") as source:
-        source.write("mkdir /a\n")
-        for i in range(count):
-            source.write(f"create /a/f{i}\n")
-        source.seek(0)
-        child = subprocess.Popen([PROGRAM], stdin=source, stdout=subprocess.DEVNULL)
+def upgrades(n):
+    n *= 8
+    groups = (
+        ("rollingUpgrade prepare", "write /f 0 62", f"rollingUpgrade {'finalize' if i % 2 else 'rollback'}")
+        for i in range(n)
+    )
+    return Kind("upgrade", ["create /f", "write /f 0 61"], itertools.chain.from_iterable(groups), n, TINY)
+
+
+def upgrade_of_files(n):
+    """An upgrade in which each file is written over, and its rollback."""
+    n *= 8
+    before = itertools.chain.from_iterable((f"create /f{i}", f"write /f{i} 0 61") for i in range(n))
+    lines = itertools.chain(
+        ["rollingUpgrade prepare"], (f"write /f{i} 0 62" for i in range(n)), ["rollingUpgrade rollback"]
+    )
+    return Kind("upgrade, its files", before, lines, n, TINY)
+
+
+def moves_rolled_back(n):
+    n *= 100
+    lines = itertools.chain(
+        ["rollingUpgrade prepare"], (f"mv /a/f{i} /a/g{i}" for i in range(n)), ["rollingUpgrade rollback"]
+    )
+    return Kind("mv, rolled back", files(n), lines, n)
+
+
+KINDS = [
+    mkdirs, creates, moves, deletes, look_ups, stats, lists,
+    new_blocks, old_blocks, appends, short_appends, reads,
+    snapshots, snapshot_of_files, upgrades, upgrade_of_files, moves_rolled_back,
+]  # fmt: skip
+
+
+class Run:
+    """The processor seconds and the peak bytes of a run, and how many lines and refusals it answered."""
+
+    def __init__(self, words, source=None, target=None):
+        with open(os.devnull, "r+b") as nothing:
+            child = subprocess.Popen(words, stdin=source or nothing, stdout=target or nothing, stderr=nothing)
         _, status, usage = os.wait4(child.pid, 0)
         child.returncode = os.waitstatus_to_exitcode(status)
-        return usage.ru_maxrss * 1024
+        if child.returncode != 0:
+            sys.exit(f"{' '.join(words)}: status {child.returncode}")
+        self.seconds = usage.ru_utime + usage.ru_stime
+        self.memory = usage.ru_maxrss * 1024
 
 
-def show_memory(n):
-    """Is run in a fresh Python: a child's peak counts what its Python held when it began, so both sizes lie well above."""
-    least = 1.5 * peak(0)
-    for doublings in range(2, 7):
-        count = n << doublings
-        low = peak(count)
-        if low > least:
-            high = peak(2 * count)
-            print(f"memory: {(high - low) / count:,.0f} bytes a file, from {count:,} to {2 * count:,} files; peak {high:,} bytes")
-            return
-    print(f"memory: {n << 6:,} files take less than half of what Python itself holds")
+class Script:
+    """Lines in a file, which is never held whole: a child's peak counts what its Python held when it began."""
+
+    def __init__(self, *parts):
+        self.source = tempfile.TemporaryFile()
+        self.count = 0
+        for line in itertools.chain(*parts):
+            self.source.write(line.encode() + b"\n")
+            self.count += 1
+
+    def run(self, program, options):
+        """A run, each line of which has to be accepted."""
+        self.source.seek(0)
+        with tempfile.TemporaryFile() as target:
+            ran = Run([program, *options], self.source, target)
+            target.seek(0)
+            answers = 0
+            for answer in target:
+                answers += 1
+                if answer.startswith(b"refused"):
+                    sys.exit(f"answer {answers} is: {answer.decode().strip()}")
+        if answers != self.count:
+            sys.exit(f"{answers:,} answers to {self.count:,} lines")
+        return ran
+
+
+class Size:
+    """What is measured of a kind at a size: the least of several runs, since whatever else a machine does only adds to them."""
+
+    def __init__(self, make, n):
+        self.kind = make(n)
+        self.before = Script(make(n).before)
+        self.whole = Script(self.kind.before, self.kind.lines)
+        self.times = {}
+        self.memory = 0
+
+    def keep(self, name, seconds):
+        self.times[name] = min(seconds, self.times.get(name, seconds))
+
+    def measure(self, options):
+        whole = self.whole.run(options.program, self.kind.options)
+        self.keep("whole", whole.seconds)
+        self.keep("prepared", self.before.run(options.program, self.kind.options).seconds)
+        self.memory = whole.memory
+        if self.kind.digests:
+            part, count = self.kind.digests
+            self.keep("digests", Run([options.digests, part, str(count)]).seconds)
+            self.keep("no digests", Run([options.digests, part, "0"]).seconds)
+        if self.kind.is_tree and options.before:
+            self.keep("before", self.whole.run(options.before, []).seconds)
+            self.keep("prepared before", self.before.run(options.before, []).seconds)
+
+    def seconds(self):
+        return self.times["whole"] - self.times["prepared"]
+
+    def rate(self):
+        return self.kind.count / self.seconds()
+
+    def digests(self):
+        """How many times as long as the digests alone, if there are any."""
+        if "digests" not in self.times:
+            return None
+        return self.seconds() / (self.times["digests"] - self.times["no digests"])
+
+    def held(self):
+        """The peak for each byte that is stored on a server, if there are enough of these."""
+        stored = REPLICAS * self.kind.stored
+        return self.memory / stored if stored >= LEAST_STORED else None
+
+    def least_rate(self):
+        """How many lines a second there have to be, if that is said."""
+        if not self.kind.is_tree:
+            return None
+        if "before" not in self.times:
+            return LEAST_RATE
+        before = self.kind.count / (self.times["before"] - self.times["prepared before"])
+        return before * LEAST_RATE / RATE_BEFORE
+
+
+class Row:
+    """A kind at a size and at twice that."""
+
+    def __init__(self, make, n):
+        self.sizes = [Size(make, n), Size(make, 2 * n)]
+
+    def measure(self, options):
+        for size in self.sizes:
+            size.measure(options)
+
+    def is_long(self):
+        return min(size.seconds() for size in self.sizes) >= LEAST_SECONDS
+
+    def growth(self):
+        small, large = self.sizes
+        return large.seconds() / small.seconds()
+
+    def passed(self):
+        """The bounds that are passed."""
+        if not self.is_long():
+            return []
+        found = [f"growth over {MOST_GROWTH}"] if self.growth() > MOST_GROWTH else []
+        for size in self.sizes:
+            ratio, held, least = size.digests(), size.held(), size.least_rate()
+            if size.kind.ratio and ratio > size.kind.ratio:
+                found.append(f"digests over {size.kind.ratio}")
+            if held and held > MOST_MEMORY:
+                found.append(f"memory over {MOST_MEMORY}")
+            if least and size.rate() < least:
+                found.append(f"below {least:,.0f} a second")
+        return list(dict.fromkeys(found))
+
+    def print(self):
+        small, large = self.sizes
+        is_long = self.is_long()
+        columns = [
+            (12, f"{small.rate():,.0f}" if is_long else "-"),
+            (12, f"{large.rate():,.0f}" if is_long else "-"),
+            (8, f"{large.rate() * large.kind.size / 1e6:,.1f}" if is_long and large.kind.size else ""),
+            (7, f"{self.growth():.2f}" if is_long else "-"),
+            *((8, f"{size.digests():.2f}" if is_long and size.digests() else "") for size in self.sizes),
+            *((8, f"{size.held():.2f}" if size.held() else "") for size in self.sizes),
+        ]
+        shown = "".join(f"{text:>{width}}" for width, text in columns)
+        verdict = ", ".join(self.passed()) or ("well" if is_long else "too short")
+        print(f"{small.kind.name:<20}{shown}  {verdict}", flush=True)
+
+
+def show(make, options):
+    """Measures a kind, more often where a bound is passed, and prints its row. Says whether all is well."""
+    row = Row(make, options.n)
+    for times in range(3 * options.repeats):
+        if times >= options.repeats and not row.passed():
+            break
+        row.measure(options)
+    row.print()
+    return not row.passed()
+
+
+def build_digests():
+    """Proves the program of the digests and builds it."""
+    print("building gs_bench", file=sys.stderr, flush=True)
+    subprocess.run(["rt", "run", "--", "digest", "1"], cwd=BENCH, stdout=subprocess.DEVNULL, stderr=subprocess.DEVNULL, check=True)
+
+
+def parsed():
+    parser = argparse.ArgumentParser()
+    parser.add_argument("n", nargs="?", type=int, default=500)
+    parser.add_argument("--program", help="the built program, which else is built")
+    parser.add_argument("--digests", help="the built gs_bench, which else is built")
+    parser.add_argument("--before", help="a program that tree commands are measured against")
+    parser.add_argument("--repeats", type=int, default=3)
+    parser.add_argument("--only", default="", help="kinds with this in their names")
+    return parser.parse_args()
 
 
 def main():
-    words = sys.argv[1:]
-    if words[:1] == ["memory"]:
-        show_memory(int(words[1]))
-        return
-    n = int(words[0]) if words else 2000
-    sizes = [n, 2 * n, 4 * n]
-    # The script builds the program where it isn't built, and answers nothing.
-    subprocess.run([SHELL], stdin=subprocess.DEVNULL, check=True)
-    print(f"{'a second':<10}", *(f"{'n = ' + str(s):>12}" for s in sizes), f"{'2n/n':>8}", f"{'4n/2n':>8}", flush=True)
-    for kind in KINDS:
-        show(kind, sizes)
-    sys.stdout.flush()
-    subprocess.run([sys.executable, os.path.abspath(__file__), "memory", str(n)], check=True)
+    options = parsed()
+    if not options.program:
+        subprocess.run([SHELL, "--build"], check=True)
+        options.program = PROGRAM
+    if not options.digests:
+        build_digests()
+        options.digests = DIGESTS
+    n = options.n
+    head = ["a second, n", "2n", "MB/s", "2n/n", "digests", "2n", "memory", "2n"]
+    print(f"{f'n = {n}':<20}" + "".join(f"{word:>{width}}" for width, word in zip([12, 12, 8, 7, 8, 8, 8, 8], head)), flush=True)
+    well = [show(make, options) for make in KINDS if options.only in make(1).name]
+    return 0 if all(well) else 1
 
 
 if __name__ == "__main__":
-    main()
+    sys.exit(main())

@@ -14,10 +14,17 @@ const SIZES: Sizes = Sizes {
     chunk: CHUNK,
 };
 
+/// A record that is appended.
+const RECORD: [u8; 100] = [7; 100];
+
+fn sevens(alloc: Global, size: usize) -> Result<Vec<u8>, Refusal> {
+    let mut bytes = Vec::new(alloc);
+    bytes.resize(size, 7)?;
+    Ok(bytes)
+}
+
 fn piece(alloc: Global) -> Result<Vec<u8>, Refusal> {
-    let mut piece = Vec::new(alloc);
-    piece.resize(65_536, 7)?;
-    Ok(piece)
+    sevens(alloc, 65_536)
 }
 
 /// Digests of a block, by the library alone. Each changes the next one's bytes.
@@ -28,6 +35,39 @@ pub(crate) fn digest(alloc: Global, count: u64) -> Result<(), Refusal> {
         if let Some(first) = piece.first_mut() {
             *first = digest[0];
         }
+    }
+    Ok(())
+}
+
+/// What an append behind so many bytes of a block has to digest, by the library alone: these bytes once, both for the digest that
+/// the block has and for the one that it gets.
+fn digest_append(block: &mut [u8], held: u64) -> Result<(), Refusal> {
+    let held = block.len().min(held as usize);
+    let mut hasher = Sha256::new();
+    hasher.update(&block[..held]);
+    let before = hasher.clone()?.finalize();
+    hasher.update(&RECORD);
+    let after = hasher.finalize();
+    if let Some(first) = block.first_mut() {
+        *first = before[0] ^ after[0];
+    }
+    Ok(())
+}
+
+/// What appends of 100 bytes to blocks of 64 KB have to digest.
+pub(crate) fn digest_appends(alloc: Global, count: u64) -> Result<(), Refusal> {
+    let mut block = piece(alloc)?;
+    for i in 0..count {
+        digest_append(&mut block, i % 655 * 100)?;
+    }
+    Ok(())
+}
+
+/// What appends of 100 bytes to blocks of 4 KB have to digest.
+pub(crate) fn digest_short_appends(alloc: Global, count: u64) -> Result<(), Refusal> {
+    let mut block = sevens(alloc, 4096)?;
+    for i in 0..count {
+        digest_append(&mut block, i % 41 * 100)?;
     }
     Ok(())
 }
@@ -88,10 +128,9 @@ fn append_or_renew(alloc: Global, chunk: &mut Blocks, piece: &[u8]) -> Result<()
 
 /// Appends of 100 bytes, to a new chunk where one is full.
 pub(crate) fn append(alloc: Global, count: u64) -> Result<(), Refusal> {
-    let piece = [7; 100];
     let mut chunk = Blocks::new(alloc, SIZES);
     for _ in 0..count {
-        append_or_renew(alloc, &mut chunk, &piece)?;
+        append_or_renew(alloc, &mut chunk, &RECORD)?;
     }
     Ok(())
 }

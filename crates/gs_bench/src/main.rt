@@ -31,6 +31,10 @@ enum Part {
     Snapshot,
     /// Digests of a block by the library alone.
     Digest,
+    /// What appends of 100 bytes to blocks of 64 KB have to digest, by the library alone.
+    DigestAppends,
+    /// The same for blocks of 4 KB.
+    DigestShortAppends,
     /// Whole blocks written over blocks.
     Write,
     /// Appends of 100 bytes.
@@ -57,6 +61,8 @@ impl Part {
             "plant" => Some(Part::Plant),
             "snapshot" => Some(Part::Snapshot),
             "digest" => Some(Part::Digest),
+            "digest-appends" => Some(Part::DigestAppends),
+            "digest-short-appends" => Some(Part::DigestShortAppends),
             "write" => Some(Part::Write),
             "append" => Some(Part::Append),
             "read" => Some(Part::Read),
@@ -79,6 +85,8 @@ impl Part {
             Part::Plant => names::plant(alloc, count).map(|()| 0),
             Part::Snapshot => names::snapshot(alloc, count).map(|()| 0),
             Part::Digest => blocks::digest(alloc, count).map(|()| 0),
+            Part::DigestAppends => blocks::digest_appends(alloc, count).map(|()| 0),
+            Part::DigestShortAppends => blocks::digest_short_appends(alloc, count).map(|()| 0),
             Part::Write => blocks::write(alloc, count).map(|()| 0),
             Part::Append => blocks::append(alloc, count).map(|()| 0),
             Part::Read => blocks::read(alloc, count).map(|()| 0),
