@@ -1,13 +1,15 @@
 #!/usr/bin/env python3
 """Measures the built program on scripts, beside the digests alone that their lines need.
 
-    bench/run.py [N] [--program PATH] [--digests PATH] [--before PATH] [--repeats R] [--only WORD]
+    bench/run.py [N] [--program PATH] [--digests PATH] [--before PATH] [--repeats R] [--limit SECONDS] [--only WORD]
 
 prints a row for each kind of line, and ends with status 1 where a bound is passed. See bench/README.md for what the columns say."""
 
 import argparse
 import itertools
 import os
+import resource
+import signal
 import subprocess
 import sys
 import tempfile
@@ -60,42 +62,42 @@ class Kind:
         self.is_tree = is_tree
 
 
+def part(n, of):
+    """So many of the lines of a kind that costs more for each."""
+    return max(1, n // of)
+
+
 def files(n):
     return itertools.chain(["mkdir /a"], (f"create /a/f{i}" for i in range(n)))
 
 
 def mkdirs(n):
-    n *= 200
     return Kind("mkdir", [], (f"mkdir /d{i}" for i in range(n)), n, is_tree=True)
 
 
 def creates(n):
-    n *= 200
     return Kind("create", ["mkdir /a"], (f"create /a/f{i}" for i in range(n)), n, is_tree=True)
 
 
 def moves(n):
-    n *= 200
     return Kind("mv", files(n), (f"mv /a/f{i} /a/g{i}" for i in range(n)), n, is_tree=True)
 
 
 def deletes(n):
-    n *= 200
     return Kind("rm", files(n), (f"rm /a/f{i}" for i in range(n)), n, is_tree=True)
 
 
 def look_ups(n):
-    n *= 200
     return Kind("ls of a directory", ["mkdir /a/b/c/d"], itertools.repeat("ls /a/b/c", n), n)
 
 
 def stats(n):
-    n *= 100
+    n = part(n, 2)
     return Kind("stat of a file", ["create /f", "write /f 0 61"], itertools.repeat("stat /f", n), n, TINY)
 
 
 def lists(n):
-    n *= 40
+    n = part(n, 5)
     return Kind("ls, its names", files(n), ["ls /a"] * 10, 10 * n)
 
 
@@ -108,11 +110,13 @@ def writes(n):
 
 
 def new_blocks(n):
+    n = part(n, 200)
     digests = ("digest", REPLICAS * n)
     return Kind("write, new blocks", ["create /f"], writes(n), n, digests=digests, ratio=1.6, size=BLOCK, stored=n * BLOCK)
 
 
 def old_blocks(n):
+    n = part(n, 200)
     before = itertools.chain(["create /f"], writes(n))
     digests = ("digest", 2 * REPLICAS * n)
     return Kind("write, over old", before, writes(n), n, digests=digests, ratio=1.6, size=BLOCK, stored=n * BLOCK)
@@ -120,13 +124,13 @@ def old_blocks(n):
 
 def appends(n):
     """So many that whole blocks are filled."""
-    n = RECORDS * max(1, n // 250)
+    n = RECORDS * part(n, 50_000)
     lines = itertools.repeat("append /f " + RECORD_HEX, n)
     return Kind("append, 64 KB blocks", ["create /f"], lines, n, digests=("digest-appends", REPLICAS * n), ratio=2, size=RECORD)
 
 
 def short_appends(n):
-    n *= 20
+    n = part(n, 10)
     lines = itertools.repeat("append /f " + RECORD_HEX, n)
     digests = ("digest-short-appends", REPLICAS * n)
     return Kind("append, 4 KB blocks", ["create /f"], lines, n, SHORT_BLOCKS, digests, 2, RECORD)
@@ -134,6 +138,7 @@ def short_appends(n):
 
 def reads(n):
     """A member alone is asked, and verifies the block."""
+    n = part(n, 200)
     before = itertools.chain(["create /f"], writes(n))
     lines = (f"read /f {at} {BLOCK}" for at in offsets(n))
     return Kind("read", before, lines, n, digests=("digest", n), size=BLOCK)
@@ -141,19 +146,19 @@ def reads(n):
 
 def snapshots(n):
     """Each is followed by a write, which copies the chunk."""
-    n *= 8
+    n = part(n, 25)
     pairs = ((f"snapshot /f /s{i}", "write /f 0 62") for i in range(n))
     return Kind("snapshot and write", ["create /f", "write /f 0 61"], itertools.chain.from_iterable(pairs), n, TINY)
 
 
 def snapshot_of_files(n):
-    n *= 8
+    n = part(n, 25)
     each = itertools.chain.from_iterable((f"create /a/f{i}", f"write /a/f{i} 0 61") for i in range(n))
     return Kind("snapshot, its files", each, ["snapshot /a /b"], n, TINY)
 
 
 def upgrades(n):
-    n *= 8
+    n = part(n, 25)
     groups = (
         ("rollingUpgrade prepare", "write /f 0 62", f"rollingUpgrade {'finalize' if i % 2 else 'rollback'}")
         for i in range(n)
@@ -163,7 +168,7 @@ def upgrades(n):
 
 def upgrade_of_files(n):
     """An upgrade in which each file is written over, and its rollback."""
-    n *= 8
+    n = part(n, 25)
     before = itertools.chain.from_iterable((f"create /f{i}", f"write /f{i} 0 61") for i in range(n))
     lines = itertools.chain(
         ["rollingUpgrade prepare"], (f"write /f{i} 0 62" for i in range(n)), ["rollingUpgrade rollback"]
@@ -172,7 +177,7 @@ def upgrade_of_files(n):
 
 
 def moves_rolled_back(n):
-    n *= 100
+    n = part(n, 2)
     lines = itertools.chain(
         ["rollingUpgrade prepare"], (f"mv /a/f{i} /a/g{i}" for i in range(n)), ["rollingUpgrade rollback"]
     )
@@ -186,14 +191,29 @@ KINDS = [
 ]  # fmt: skip
 
 
+class TooLong(Exception):
+    """A run takes more processor seconds than it may."""
+
+
 class Run:
-    """The processor seconds and the peak bytes of a run, and how many lines and refusals it answered."""
+    """The processor seconds and the peak bytes of a run."""
+
+    limit = 0
 
     def __init__(self, words, source=None, target=None):
+        bound = (Run.limit, Run.limit + 1)
         with open(os.devnull, "r+b") as nothing:
-            child = subprocess.Popen(words, stdin=source or nothing, stdout=target or nothing, stderr=nothing)
+            child = subprocess.Popen(
+                words,
+                stdin=source or nothing,
+                stdout=target or nothing,
+                stderr=nothing,
+                preexec_fn=lambda: resource.setrlimit(resource.RLIMIT_CPU, bound),
+            )
         _, status, usage = os.wait4(child.pid, 0)
         child.returncode = os.waitstatus_to_exitcode(status)
+        if child.returncode in (-signal.SIGXCPU, -signal.SIGKILL):
+            raise TooLong
         if child.returncode != 0:
             sys.exit(f"{' '.join(words)}: status {child.returncode}")
         self.seconds = usage.ru_utime + usage.ru_stime
@@ -330,10 +350,14 @@ class Row:
 def show(make, options):
     """Measures a kind, more often where a bound is passed, and prints its row. Says whether all is well."""
     row = Row(make, options.n)
-    for times in range(3 * options.repeats):
-        if times >= options.repeats and not row.passed():
-            break
-        row.measure(options)
+    try:
+        for times in range(3 * options.repeats):
+            if times >= options.repeats and not row.passed():
+                break
+            row.measure(options)
+    except TooLong:
+        print(f"{make(1).name:<20}  a run takes more than {options.limit} seconds", flush=True)
+        return False
     row.print()
     return not row.passed()
 
@@ -346,17 +370,19 @@ def build_digests():
 
 def parsed():
     parser = argparse.ArgumentParser()
-    parser.add_argument("n", nargs="?", type=int, default=500)
+    parser.add_argument("n", nargs="?", type=int, default=100_000, help="how many tree commands; of what costs more a part of that")
     parser.add_argument("--program", help="the built program, which else is built")
     parser.add_argument("--digests", help="the built gs_bench, which else is built")
     parser.add_argument("--before", help="a program that tree commands are measured against")
     parser.add_argument("--repeats", type=int, default=3)
+    parser.add_argument("--limit", type=int, default=120, help="processor seconds that a run may take")
     parser.add_argument("--only", default="", help="kinds with this in their names")
     return parser.parse_args()
 
 
 def main():
     options = parsed()
+    Run.limit = options.limit
     if not options.program:
         subprocess.run([SHELL, "--build"], check=True)
         options.program = PROGRAM
