@@ -321,15 +321,15 @@ class Row:
         if not self.is_long():
             return []
         found = [f"growth over {MOST_GROWTH}"] if self.growth() > MOST_GROWTH else []
-        for size in self.sizes:
-            ratio, held, least = size.digests(), size.held(), size.least_rate()
-            if size.kind.ratio and ratio > size.kind.ratio:
-                found.append(f"digests over {size.kind.ratio}")
-            if held and held > MOST_MEMORY:
-                found.append(f"memory over {MOST_MEMORY}")
-            if least and size.rate() < least:
-                found.append(f"below {least:,.0f} a second")
-        return list(dict.fromkeys(found))
+        sizes = self.sizes
+        if any(size.kind.ratio and size.digests() > size.kind.ratio for size in sizes):
+            found.append(f"digests over {sizes[0].kind.ratio}")
+        if any(size.held() and size.held() > MOST_MEMORY for size in sizes):
+            found.append(f"memory over {MOST_MEMORY}")
+        least = sizes[-1].least_rate()
+        if least and sizes[-1].rate() < least:
+            found.append(f"below {least:,.0f} a second")
+        return found
 
     def print(self):
         small, large = self.sizes

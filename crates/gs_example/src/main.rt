@@ -62,10 +62,15 @@ fn delete(client: &mut Client, link: &mut Link, path: &str) -> Result<String, Re
     }
 }
 
-/// Begins an upgrade, which can be rolled back from here on, and tells its epoch.
+/// Begins an upgrade, which can be rolled back from here on, and tells its epoch. Where a chunk is still written to, what was
+/// begun is given up.
 fn prepare(client: &mut Client, link: &mut Link) -> Result<u64, Refusal> {
     client.prepare_begin(link)?;
-    client.prepare_commit(link)
+    let committed = client.prepare_commit(link);
+    if let Err(Refusal::NotQuiet(_)) = &committed {
+        client.prepare_abort(link)?;
+    }
+    committed
 }
 
 /// Gives back the tree and the bytes of the prepare, and tells the epoch behind the upgrade.
