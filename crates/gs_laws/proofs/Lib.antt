@@ -3,6 +3,9 @@ pub mod Choosing
 pub mod Commanded
 pub mod Counters
 pub mod EditsBack
+pub mod Fresh
+pub mod FreshCalls
+pub mod FreshTurns
 pub mod Grown
 pub mod Kept
 pub mod KeptAll

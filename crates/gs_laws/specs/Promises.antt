@@ -259,6 +259,11 @@ abbrev pub ProposesFresh : Type 0
 ProposesFresh = (config : Config) (s : State) (message : Message) (moment : Moment) (chunk version : ℕ) →
     Contains (handle config s message moment).records (Propose chunk version) → is_fresh s.durable.next_version version ≡ true
 
+-- and at each tick
+abbrev pub ProposesFreshAtTicks : Type 0
+ProposesFreshAtTicks = (s : State) (moment : Moment) (chunk version : ℕ) →
+    Contains (tick s moment).records (Propose chunk version) → is_fresh s.durable.next_version version ≡ true
+
 -- a view is made of those that answered the most edits, one of whom was asked
 abbrev pub MadeOfTheMost : Type 0
 MadeOfTheMost = (c : Chunk) (asking : Asking) (answers : Answers) (moment : Moment) (view : View) → view_by c asking answers moment ≡ Some view →

@@ -10,7 +10,7 @@ ghost use Rattle.gs_state.specs.Checkpoints.{read_with};
 ghost use Rattle.gs_state.specs.Whole.{told_replies, whole_of};
 ghost use Rattle.gs_state.specs.declared.reply.KeptReply.{KeptReply};
 ghost use Rattle.gs_state.specs.Recorded.{SayAlone};
-ghost use Rattle.gs_laws.specs.Promises.{BeginsWithAll, IsToldAgain, KeepsAll, KeepsGiven, KeepsPrepared, LeadsBack, LeadsToKept, MadeOfTheMost, NothingAtTicks, NothingWhileRolling, PreparesByOneRecord, RefusedFits, RefusedLeavesNames, RollsBack, TellsAll, TellsCounters};
+ghost use Rattle.gs_laws.specs.Promises.{BeginsWithAll, IsToldAgain, KeepsAll, KeepsGiven, KeepsPrepared, LeadsBack, LeadsToKept, MadeOfTheMost, NothingAtTicks, NothingWhileRolling, PreparesByOneRecord, ProposesFresh, ProposesFreshAtTicks, RefusedFits, RefusedLeavesNames, RollsBack, TellsAll, TellsCounters};
 ghost use Rattle.gs_state.specs.Undoing.{EditsAsTold};
 
 /// While a rollback is begun and not done, no view is begun, and no replica is dropped, whatever message comes and at each
@@ -18,6 +18,12 @@ ghost use Rattle.gs_state.specs.Undoing.{EditsAsTold};
 pub fn nothing_is_begun_or_dropped_while_rolling_back()
     ensures messages { NothingWhileRolling }
     ensures ticks { NothingAtTicks }
+{}
+
+/// Each version that is proposed is above all that were given before the event, whatever message comes and at each tick.
+pub fn a_proposed_version_is_above_all_before_it()
+    ensures messages { ProposesFresh }
+    ensures ticks { ProposesFreshAtTicks }
 {}
 
 /// The edit of the names that a record tells is the edit that was recorded.
