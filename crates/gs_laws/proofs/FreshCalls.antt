@@ -28,13 +28,13 @@ use Rattle.gs_msg.specs.declared.call.Call.TheVariants as calls
 use Rattle.gs_place.specs.Needs.{most_needed_of}
 use Rattle.gs_record.specs.Plain.{PlainEdit, Edited, Prepare, Finalize, RollbackBegin, RollbackCommit, Mkdirs, Create, Rename, Hide, Unhide, Snapshot}
 use Rattle.gs_state.specs.Beginning.{next_stamp, has_versions, has_handle, begin_at, all_begun, create_plan, copy_plan, waits_from_now, targets_for, counted_views}
-use Rattle.gs_state.specs.Calls.{edited_by, edit_if, accept_plan, answered, deleted, answered_with, has_visible_child, looked_up, listing, status, location, found_chunk, refused_before, told_phase, is_shared}
+use Rattle.gs_state.specs.Calls.{edited_by, edit_if, accept_plan, deleted, answered_with, has_visible_child, looked_up, listing, status, location, found_chunk, refused_before, told_phase, is_shared}
 use Rattle.gs_state.specs.Chunks.{Chunk, chunk_at, is_leased, is_quiet, is_wanted, view_of, members_of}
 use Rattle.gs_state.specs.Durable.{is_ordinary, is_rolling, prepared_view, values_left}
 use Rattle.gs_state.specs.Handling.{call_turn, called, called_unless, taken_as, numbered, replied_again, waits_still, Numbered, New, Again, Older}
 use Rattle.gs_laws.proofs.Fresh.{IsFreshTurn, may_follow, same_fresh, then_fresh, test_fresh, either_fresh, turn_fresh, refused_fresh, all_ended_fresh, all_ended_same, not_false, next_follows, all_begun_fresh}
 use Rattle.gs_state.specs.Settling.{own_request, requests_of}
-use Rattle.gs_state.specs.State.{State, Plan, Turn, turned, unmoved, and_then, fits, if_room, refused, all_ended_by, is_failed, is_unopened, last_reply, first_of}
+use Rattle.gs_state.specs.State.{State, Plan, Turn, turned, unmoved, and_then, fits, if_room, refused, answered, all_ended_by, is_failed, is_unopened, last_reply, first_of}
 use Rattle.gs_state.specs.Undoing.{edited_names, all_undone}
 use Rattle.gs_state.specs.Upgrades.{accepted_plan, all_unquiet, begin_tests, commit_tests, end_tests, if_pending, lowest_path, pending_paths, is_last_epoch, chunk_count, tell_all, answers_for, unless, prepare_begin, prepare_commit, prepare_abort, finalize, rollback_begin, rollback_commit, commit_on, commit_if, unrestored, told_of}
 use Rattle.gs_state.specs.Volatile.{is_pending}
