@@ -1,6 +1,7 @@
 pub mod Beginnings
 pub mod Choosing
 pub mod Commanded
+pub mod Committing
 pub mod Counters
 pub mod EditsBack
 pub mod Fresh

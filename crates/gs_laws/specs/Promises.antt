@@ -233,9 +233,10 @@ NothingAtTicks = (s : State) (moment : Moment) → is_rolling s.durable.phase �
 
 -- ---- the commit of a rollback
 
--- somebody who has the chunk as it stood at prepare has told so
+-- a server, of which there are 16 at most, that has the chunk as it stood at prepare has told so
 pub record IsRestored (s : State) (chunk : ℕ) : Type 0 where
   pub server : ℕ
+  pub is_server : server < 16
   pub prepared : Prepared
   pub kept : prepared_view s.durable chunk ≡ Some prepared
   pub has_it : is_prepared_on prepared server ≡ true

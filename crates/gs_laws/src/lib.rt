@@ -10,7 +10,7 @@ ghost use Rattle.gs_state.specs.Checkpoints.{read_with};
 ghost use Rattle.gs_state.specs.Whole.{told_replies, whole_of};
 ghost use Rattle.gs_state.specs.declared.reply.KeptReply.{KeptReply};
 ghost use Rattle.gs_state.specs.Recorded.{SayAlone};
-ghost use Rattle.gs_laws.specs.Promises.{BeginsWithAll, IsToldAgain, KeepsAll, KeepsGiven, KeepsPrepared, LeadsBack, LeadsToKept, MadeOfTheMost, NothingAtTicks, NothingWhileRolling, PreparesByOneRecord, ProposesFresh, ProposesFreshAtTicks, RefusedFits, RefusedLeavesNames, RollsBack, TellsAll, TellsCounters};
+ghost use Rattle.gs_laws.specs.Promises.{BeginsWithAll, CommitsExactly, IsToldAgain, KeepsAll, KeepsGiven, KeepsPrepared, LeadsBack, LeadsToKept, MadeOfTheMost, NothingAtTicks, NothingWhileRolling, PreparesByOneRecord, ProposesFresh, ProposesFreshAtTicks, RefusedFits, RefusedLeavesNames, RollsBack, TellsAll, TellsCounters};
 ghost use Rattle.gs_state.specs.Undoing.{EditsAsTold};
 
 /// While a rollback is begun and not done, no view is begun, and no replica is dropped, whatever message comes and at each
@@ -89,6 +89,13 @@ pub fn records_keep_what_stands()
 /// chunk had then, whatever records but checkpoints went on between.
 pub fn a_rollback_leads_back_to_the_prepare()
     ensures { RollsBack }
+{}
+
+/// A rollback is committed exactly where it was begun, its edits can be taken back, and each chunk that had a reference at the prepare
+/// was told of by a server that had it then: a member of its prepared view, or one that was sent it since with its sealed image. Else
+/// it is refused, and so it is where its record has no room.
+pub fn a_rollback_is_committed_exactly_where_all_is_restored()
+    ensures { CommitsExactly }
 {}
 
 /// The checkpoint of what stands tells it, but for chunks that stand in no file and never did. So it is of what records lead to
