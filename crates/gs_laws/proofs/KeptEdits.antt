@@ -365,6 +365,10 @@ edited_parts d next by edit (Ok names) written k named e =
     let is = fits_gives (may_edit d edit) (with_edit d by edit names) next e in as_next is.1 (Parts d) (edit_parts d by edit names written k named is.0)
 edited_parts d next by edit (Err refusal) written k named e = absurd (false≢true (ap is_some e))
 
-pub edit_kept : (d next : Durable) (by : ReqId) (edit : PlainEdit) → IsEntry Two (Edited by edit) → IsKept d → applied d (Edited by edit) ≡ Some next → IsKept next
+-- it is enough that what the edit says can be told
+pub edit_kept_by : (d next : Durable) (by : ReqId) (edit : PlainEdit) → IsEdit edit → IsKept d → applied d (Edited by edit) ≡ Some next → IsKept next
 unfolding applied
-edit_kept d next by edit written k e = within_kept (Edited by edit) d next k refl e (edited_parts d next by edit (edited_names edit d.names) written.0.1 k refl e)
+edit_kept_by d next by edit written k e = within_kept (Edited by edit) d next k refl e (edited_parts d next by edit (edited_names edit d.names) written k refl e)
+
+pub edit_kept : (d next : Durable) (by : ReqId) (edit : PlainEdit) → IsEntry Two (Edited by edit) → IsKept d → applied d (Edited by edit) ≡ Some next → IsKept next
+edit_kept d next by edit written k e = edit_kept_by d next by edit written.0.1 k e

@@ -13,7 +13,7 @@ use Rattle.gs_base.specs.declared.epoch.EpochEnd.TheVariants as ends
 use Rattle.gs_edit.specs.View.{NamesView}
 use Rattle.gs_journal.specs.declared.version.Version.TheVariants.{Two}
 use Rattle.gs_record.specs.Plain.{Prepare, Finalize, RollbackBegin, RollbackCommit}
-use Rattle.gs_record.specs.Writable.{IsAnswered, IsEntry}
+use Rattle.gs_record.specs.Writable.{AreServers, IsAnswered, IsEntry}
 use Rattle.gs_record.specs.declared.checkpoint.Phase.{Phase}
 use Rattle.gs_record.specs.declared.checkpoint.Phase.TheVariants.{Ordinary, Upgrade, Rolling}
 use Rattle.gs_record.specs.declared.entry.Answered.{Answered}
@@ -167,12 +167,20 @@ all_restored d (r ∷ refs) (answer ∷ answers) q h some =
     by_prepared (Some p) is may same true key here later = ap (λ c. is_some (cond (eq_by_cmp nat_cmp q c) (Some (restored_view d.epoch p answer.members)) (fin.find nat_cmp q (restored d answers)))) same ∙ ap (λ b. is_some (cond b (Some (restored_view d.epoch p answer.members)) (fin.find nat_cmp q (restored d answers)))) key
     by_prepared (Some p) is may same false key here later = ap (λ c. is_some (cond (eq_by_cmp nat_cmp q c) (Some (restored_view d.epoch p answer.members)) (fin.find nat_cmp q (restored d answers)))) same ∙ ap (λ b. is_some (cond b (Some (restored_view d.epoch p answer.members)) (fin.find nat_cmp q (restored d answers)))) key ∙ later here
 
+-- who has answered are servers
+abbrev pub IsFromServers : Answered → Type 0
+IsFromServers answer = AreServers answer.members
+
+from_servers : (answers : List Answered) → AllByRecursion IsAnswered answers → AllByRecursion IsFromServers answers
+from_servers [] all = tt
+from_servers (answer ∷ answers) all = (all.0.1, from_servers answers all.1)
+
 -- what is restored was given, under a view of this epoch
 record IsRestoredView (d : Durable) (q : ℕ) (s : Settled) : Type 0 where
   handle : is_given d.next_handle q ≡ true
   view : IsGivenView d s.view
 
-restored_so : (d : Durable) (answers : List Answered) (q : ℕ) (s : Settled) → IsKept d → AllByRecursion IsAnswered answers → fin.find nat_cmp q (restored d answers) ≡ Some s → IsRestoredView d q s
+restored_so : (d : Durable) (answers : List Answered) (q : ℕ) (s : Settled) → IsKept d → AllByRecursion IsFromServers answers → fin.find nat_cmp q (restored d answers) ≡ Some s → IsRestoredView d q s
 restored_so d [] q s k all e = absurd (false≢true (ap is_some e))
 restored_so d (answer ∷ answers) q s k all e = by_prepared (prepared_view d answer.handle) refl (restored_so d answers q s k all.1) e
   where
@@ -182,7 +190,7 @@ restored_so d (answer ∷ answers) q s k all e = by_prepared (prepared_view d an
     here : (p : Prepared) → prepared_view d answer.handle ≡ Some p → IsRestoredView d answer.handle (new p)
     here p is =
         let was = prepared_given d (chunked_of d k) answer.handle p is in
-        record { handle = was.handle; view = record { epoch = omega arith; version = inl refl; primary = refl; told = (k.now, (omega arith, (was.view.told.1.1.0, (all.0.1, tt)))) } }
+        record { handle = was.handle; view = record { epoch = omega arith; version = inl refl; primary = refl; told = (k.now, (omega arith, (was.view.told.1.1.0, (all.0, tt)))) } }
 
     by_key : (p : Prepared) → prepared_view d answer.handle ≡ Some p → (fin.find nat_cmp q (restored d answers) ≡ Some s → IsRestoredView d q s) → (b : Bool) → eq_by_cmp nat_cmp q answer.handle ≡ b → cond b (Some (new p)) (fin.find nat_cmp q (restored d answers)) ≡ Some s → IsRestoredView d q s
     by_key p is later true key h = subst (λ x. IsRestoredView d x s) (sym (same_key q answer.handle key)) (subst (IsRestoredView d answer.handle) (settled_is h) (here p is))
@@ -193,7 +201,7 @@ restored_so d (answer ∷ answers) q s k all e = by_prepared (prepared_view d an
     by_prepared None is later h = later h
     by_prepared (Some p) is later h = by_key p is later (eq_by_cmp nat_cmp q answer.handle) refl h
 
-commit_of : (d next : Durable) (epoch : ℕ) (answers : List Answered) (names : NamesView) → IsKept d → AllByRecursion IsAnswered answers → AreKept names → after_undoing d epoch answers (Some names) ≡ Some next → IsKept next
+commit_of : (d next : Durable) (epoch : ℕ) (answers : List Answered) (names : NamesView) → IsKept d → AllByRecursion IsFromServers answers → AreKept names → after_undoing d epoch answers (Some names) ≡ Some next → IsKept next
 commit_of d next epoch answers names k written kept e =
     let n = rolled_back d answers names in
     let tests = (epoch == d.epoch) && are_answers (prepared_view d) (fin.entries names.refs) answers in
@@ -224,6 +232,10 @@ commit_of d next epoch answers names k written kept e =
     some_handle q None is h = absurd (false≢true h)
     some_handle q (Some s) is h = (restored_so d answers q s k written (sym (fin.get-from_entries nat_cmp_total (restored d answers) q) ∙ is)).handle
 
-pub commit_kept : (d next : Durable) (epoch : ℕ) (answers : List Answered) → IsEntry Two (RollbackCommit epoch answers) → IsKept d → applied d (RollbackCommit epoch answers) ≡ Some next → IsKept next
+-- it is enough that servers have answered
+pub commit_kept_by : (d next : Durable) (epoch : ℕ) (answers : List Answered) → AllByRecursion IsFromServers answers → IsKept d → applied d (RollbackCommit epoch answers) ≡ Some next → IsKept next
 unfolding applied
-commit_kept d next epoch answers written k e = commit_of d next epoch answers k.back.0 k written.0.1.1 k.back.2 (ap (after_undoing d epoch answers) (sym k.back.1) ∙ e)
+commit_kept_by d next epoch answers written k e = commit_of d next epoch answers k.back.0 k written k.back.2 (ap (after_undoing d epoch answers) (sym k.back.1) ∙ e)
+
+pub commit_kept : (d next : Durable) (epoch : ℕ) (answers : List Answered) → IsEntry Two (RollbackCommit epoch answers) → IsKept d → applied d (RollbackCommit epoch answers) ≡ Some next → IsKept next
+commit_kept d next epoch answers written k e = commit_kept_by d next epoch answers (from_servers answers written.0.1.1) k e

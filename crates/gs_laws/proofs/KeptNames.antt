@@ -74,7 +74,7 @@ once_rows rows h = ap not (none rows h)
         let parts = and_parts (list_all is_once r.0) (list_all (λ s. list_all is_once s.0) rows) h in
         ap (λ b. b || list_any (λ s. list_any is_hidden_twice s.0) rows) (none_twice r.0 parts.0) ∙ none rows parts.1
 
-rows_once : (rows : Rows ℕ) → are_hidden_once rows ≡ true → list_all (λ r. list_all is_once r.0) rows ≡ true
+pub rows_once : (rows : Rows ℕ) → are_hidden_once rows ≡ true → list_all (λ r. list_all is_once r.0) rows ≡ true
 rows_once [] h = refl
 rows_once (r ∷ rows) h = each (list_any is_hidden_twice r.0) refl h (rows_once rows)
   where

@@ -1,3 +1,4 @@
+pub mod Accepted
 pub mod Beginnings
 pub mod Choosing
 pub mod Commanded
