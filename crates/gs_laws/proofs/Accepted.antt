@@ -21,7 +21,6 @@ use Rattle.gs_edit.specs.Table.{tabled}
 use Rattle.gs_edit.specs.View.{NamesView}
 use Rattle.gs_msg.specs.declared.answer.Answer.{Answer}
 use Rattle.gs_msg.specs.declared.answer.Answer.TheVariants as answers
-use Rattle.gs_msg.specs.declared.message.Message.{Message}
 use Rattle.gs_record.specs.Plain.{PlainEdit, PlainEntry, Edited, Said, Hide, Unhide}
 use Rattle.gs_record.specs.Writable.{IsEdit}
 use Rattle.gs_state.specs.Applied.{after_edit, applied, chunk_of_edit, if_fits, is_fresh, is_fresh_if, is_visible_name, may_edit, names_well, number_of_edit, replayed, view_for, with_edit}
@@ -30,7 +29,6 @@ use Rattle.gs_state.specs.Durable.{Durable, is_rolling}
 use Rattle.gs_state.specs.State.{State, Plan, Turn, turned, unmoved, and_then, for_each, fits, if_room, refused, ended_by, all_ended_by}
 use Rattle.gs_state.specs.Undoing.{edited_names, names_from}
 use Rattle.gs_state.specs.Whole.{is_hidden_twice}
-use Rattle.gs_state.specs.declared.change.Change.{Change}
 use Rattle.gs_laws.specs.Promises.{AllFit, AreKept, FitsAndKeeps, IsKept}
 use Rattle.gs_laws.proofs.KeptEdits.{edit_kept_by}
 use Rattle.gs_laws.proofs.KeptNames.{rows_each, rows_once}
@@ -49,15 +47,14 @@ one_fits d next None e = absurd (false≢true (ap is_some e))
 one_fits d next (Some n) e = refl
 
 module _ (T : Type 0) where
-  pub one_goes : (s : State) (entry : PlainEntry) (changes : List Change) (sent : List Message) (said : Option Refusal) (next : Durable) → applied s.durable entry ≡ Some next → (T → IsKept s.durable → IsKept next)
-      → Goes T s (turned s (record { records = entry ∷ []; changes = changes; sent = sent; said = said }))
-  one_goes s entry changes sent said next e kept = record {
+  pub one_goes : (s : State) (entry : PlainEntry) (plan : Plan) (next : Durable) → applied s.durable entry ≡ Some next → (T → IsKept s.durable → IsKept next) → Goes T s (turned s (record plan { records = entry ∷ [] }))
+  one_goes s entry plan next e kept = record {
     fits = one_fits s.durable next (applied s.durable entry) e;
     kept = λ t k. subst (λ o. IsKept (unwrap_or o s.durable)) (sym e) (kept t k);
   }
 
-  pub none_goes : (s : State) (changes : List Change) (sent : List Message) (said : Option Refusal) → Goes T s (turned s (record { records = []; changes = changes; sent = sent; said = said }))
-  none_goes s changes sent said = record { fits = refl; kept = λ t k. k }
+  pub none_goes : (s : State) (plan : Plan) → Goes T s (turned s (record plan { records = [] }))
+  none_goes s plan = record { fits = refl; kept = λ t k. k }
 
   pub same_goes : (s : State) (t : Turn) → t.after.durable ≡ s.durable → t.records ≡ [] → Goes T s t
   same_goes s t same none = record { fits = ap (replayed s.durable) none ∙ ap Some (sym same); kept = λ _ k. subst IsKept (sym same) k }
@@ -111,7 +108,7 @@ module _ (T : Type 0) where
   edit_goes s req edit answer may told (Ok names) e =
       let fit = edit_applies s.durable req edit names e (may names e) in
       room_goes s req (turned s (accept_plan req edit answer))
-      (one_goes s (Edited req edit) [] (accept_plan req edit answer).sent None (with_edit s.durable req edit names) fit (λ t k. edit_kept_by s.durable (with_edit s.durable req edit names) req edit (told t) k fit))
+      (one_goes s (Edited req edit) (accept_plan req edit answer) (with_edit s.durable req edit names) fit (λ t k. edit_kept_by s.durable (with_edit s.durable req edit names) req edit (told t) k fit))
   edit_goes s req edit answer may told (Err refusal) e = refused_goes s req refusal
 
   pub edited_goes : (s : State) (req : ReqId) (edit : PlainEdit) (answer : Answer) → ((names : NamesView) → edited_names edit s.durable.names ≡ Ok names → may_edit s.durable edit ≡ true) → (T → IsEdit edit)

@@ -66,7 +66,7 @@ all_found f (x ∷ es) all k v e = each (eq_by_cmp nat_cmp k x.0) refl (and_part
     each false is parts later e = later parts.1 e
 
 module _ (prepared : ℕ → Option Prepared) (told : ℕ → List ℕ) where
-  all_have : (es : List (ℕ × ℕ)) → unrestored prepared told es ≡ None → list_all (λ e. not (lacks_answer prepared told e)) es ≡ true
+  pub all_have : (es : List (ℕ × ℕ)) → unrestored prepared told es ≡ None → list_all (λ e. not (lacks_answer prepared told e)) es ≡ true
   all_have [] e = refl
   all_have (x ∷ es) e = each (lacks_answer prepared told x) (all_have es) e
     where

@@ -1,4 +1,5 @@
 pub mod Accepted
+pub mod AcceptedUpgrades
 pub mod Beginnings
 pub mod Choosing
 pub mod Commanded
@@ -26,6 +27,7 @@ pub mod Refusing
 pub mod Retold
 pub mod RolledBack
 pub mod Rolling
+pub mod ServersTold
 pub mod Sized
 pub mod Spelled
 pub mod StillNamed
