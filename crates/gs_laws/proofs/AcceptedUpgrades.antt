@@ -256,12 +256,12 @@ module _ (T : Type 0) (s : State) (req : ReqId) (k : IsKept s.durable) (begun : 
       let answers = answers_for (prepared_view s.durable) (told_of s) (fin.entries names.refs) in
       ap (after_undoing s.durable s.durable.epoch answers) back
       ∙ ap (λ b. if_fits b (rolled_back s.durable answers names))
-        (both_true (is_rolling s.durable.phase) _ begun
-        (both_true (s.durable.epoch == s.durable.epoch) _ (eqb_itself s.durable.epoch)
-        (answers_fit (prepared_view s.durable) (told_of s) (fin.entries names.refs)
-        (each_found nat_cmp nat_cmp_total fin.nat_cmp-IsAntisymmetric (λ e. is_some (prepared_view s.durable e.0)) (fin.entries names.refs) (fin.entries_sorted names.refs)
-        (λ chunk count found. k.restored names chunk back (rolls s.durable.phase begun) (ap is_some (fin.get-entries names.refs chunk ∙ found))))
-        (all_have (prepared_view s.durable) (told_of s) (fin.entries names.refs) none))))
+      (both_true (is_rolling s.durable.phase) _ begun
+      (both_true (s.durable.epoch == s.durable.epoch) _ (eqb_itself s.durable.epoch)
+      (answers_fit (prepared_view s.durable) (told_of s) (fin.entries names.refs)
+      (each_found nat_cmp nat_cmp_total fin.nat_cmp-IsAntisymmetric (λ e. is_some (prepared_view s.durable e.0)) (fin.entries names.refs) (fin.entries_sorted names.refs)
+      (λ chunk count found. k.restored names chunk back (rolls s.durable.phase begun) (ap is_some (fin.get-entries names.refs chunk ∙ found))))
+      (all_have (prepared_view s.durable) (told_of s) (fin.entries names.refs) none))))
 
   if_goes : (names : NamesView) → all_undone s.durable.inverses s.durable.names ≡ Some names → (chunk : Option ℕ) → unrestored (prepared_view s.durable) (told_of s) (fin.entries names.refs) ≡ chunk → Goes T s (commit_if s req names chunk)
   if_goes names back (Some chunk) is = refused_goes T s req (refusals.Unrestored chunk)

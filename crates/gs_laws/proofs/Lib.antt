@@ -1,4 +1,5 @@
 pub mod Accepted
+pub mod AcceptedCalls
 pub mod AcceptedUpgrades
 pub mod Beginnings
 pub mod Choosing

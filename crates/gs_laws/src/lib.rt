@@ -10,7 +10,7 @@ ghost use Rattle.gs_state.specs.Checkpoints.{read_with};
 ghost use Rattle.gs_state.specs.Whole.{told_replies, whole_of};
 ghost use Rattle.gs_state.specs.declared.reply.KeptReply.{KeptReply};
 ghost use Rattle.gs_state.specs.Recorded.{SayAlone};
-ghost use Rattle.gs_laws.specs.Promises.{BeginsWithAll, CommitsExactly, IsToldAgain, KeepsAll, KeepsGiven, KeepsPrepared, LeadsBack, LeadsToKept, MadeOfTheMost, NothingAtTicks, NothingWhileRolling, PreparesByOneRecord, ProposesFresh, ProposesFreshAtTicks, RefusedFits, RefusedLeavesNames, RollsBack, TellsAll, TellsCounters};
+ghost use Rattle.gs_laws.specs.Promises.{BeginsWithAll, CallsFit, CallsKeep, CommitsExactly, IsToldAgain, KeepsAll, KeepsGiven, KeepsPrepared, LeadsBack, LeadsToKept, MadeOfTheMost, NothingAtTicks, NothingWhileRolling, PreparesByOneRecord, ProposesFresh, ProposesFreshAtTicks, RefusedFits, RefusedLeavesNames, RollsBack, TellsAll, TellsCounters};
 ghost use Rattle.gs_state.specs.Undoing.{EditsAsTold};
 
 /// While a rollback is begun and not done, no view is begun, and no replica is dropped, whatever message comes and at each
@@ -50,6 +50,14 @@ pub fn a_refused_call_leaves_names_and_views()
 /// they keep what stands.
 pub fn a_refused_call_fits()
     ensures { RefusedFits }
+{}
+
+/// The records of each call that begins no view and scans nothing fit what they meet and give what is durable afterwards, whatever is
+/// answered: each edit of names, each look-up, and each call of an upgrade but its beginning. They keep what stands, where the
+/// paths and the numbers that the call's edit says can be told.
+pub fn accepted_calls_fit()
+    ensures fit { CallsFit }
+    ensures kept { CallsKeep }
 {}
 
 /// Once a prepare is recorded, nothing is to be taken back, and each settled chunk's view is its prepared one.
