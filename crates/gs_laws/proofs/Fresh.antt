@@ -184,7 +184,7 @@ left_either : (b : Bool) (d n : Durable) (many : ℕ) → has_versions d many �
 left_either true d n many before after = after
 left_either false d n many before after = before
 
-left_after : (s : State) (chunk many : ℕ) → has_versions s.durable (suc many) ≡ true → has_versions (with_record s (Propose chunk s.durable.next_version)).durable many ≡ true
+pub left_after : (s : State) (chunk many : ℕ) → has_versions s.durable (suc many) ≡ true → has_versions (with_record s (Propose chunk s.durable.next_version)).durable many ≡ true
 unfolding applied
 left_after s chunk many left =
     left_either (may_propose s.durable.phase s.durable.next_handle s.durable.next_version chunk s.durable.next_version (fin.get s.durable.chunks chunk)) s.durable

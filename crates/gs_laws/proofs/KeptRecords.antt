@@ -129,7 +129,7 @@ said_kept d next to refusal k e =
 
 -- ---- views
 
-proposed_some : (d : Durable) (chunk q : ℕ) (o : Option Settled) → fin.get d.chunks chunk ≡ o → is_some (fin.get (with_proposal d chunk o) q) ≡ is_some (fin.get d.chunks q)
+pub proposed_some : (d : Durable) (chunk q : ℕ) (o : Option Settled) → fin.get d.chunks chunk ≡ o → is_some (fin.get (with_proposal d chunk o) q) ≡ is_some (fin.get d.chunks q)
 proposed_some d chunk q None has = refl
 proposed_some d chunk q (Some s) has = ap is_some (fin.get-insert nat_cmp_total d.chunks chunk (record s { is_moving = true }) q) ∙ by_key (eq_by_cmp nat_cmp q chunk) refl
   where

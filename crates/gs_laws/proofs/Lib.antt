@@ -1,6 +1,7 @@
 pub mod Accepted
 pub mod AcceptedCalls
 pub mod AcceptedUpgrades
+pub mod AcceptedViews
 pub mod Beginnings
 pub mod Choosing
 pub mod Commanded
