@@ -62,7 +62,7 @@ unquiet_none (chunk ∷ chunks) exhausted e = absurd (true≢false (ap is_some e
 next_epoch : (epoch : ℕ) → IsNumber epoch → (epoch == last_number) ≡ false → is_next_epoch epoch (epoch + 1) ≡ true
 next_epoch epoch number more = both_true (nat_lt epoch last_number) ((epoch + 1) == (epoch + 1)) (grind (arith, nat_tests)) (eqb_itself (epoch + 1))
 
-unless_goes : (T : Type 0) (s : State) (req : ReqId) (t : Turn) (refusal : Option Refusal) → (refusal ≡ None → Goes T s t) → Goes T s (unless refusal s req t)
+pub unless_goes : (T : Type 0) (s : State) (req : ReqId) (t : Turn) (refusal : Option Refusal) → (refusal ≡ None → Goes T s t) → Goes T s (unless refusal s req t)
 unless_goes T s req t None a = room_goes T s req t (a refl)
 unless_goes T s req t (Some refusal) a = refused_goes T s req refusal
 

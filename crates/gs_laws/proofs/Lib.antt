@@ -2,6 +2,7 @@ pub mod Accepted
 pub mod AcceptedCalls
 pub mod AcceptedUpgrades
 pub mod AcceptedViews
+pub mod AcceptedWork
 pub mod Beginnings
 pub mod Choosing
 pub mod Commanded
