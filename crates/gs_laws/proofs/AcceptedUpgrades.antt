@@ -29,6 +29,7 @@ use Rattle.gs_record.specs.declared.entry.Answered.{Answered}
 use Rattle.gs_state.specs.Applied.{after_undoing, applied, are_answers, are_at_rest, if_fits, is_at_rest, is_next_epoch, is_prepared_on, may_restore, rolled_back, with_epoch, without_prepared}
 use Rattle.gs_state.specs.Chunks.{chunk_at, has_entry}
 use Rattle.gs_state.specs.Durable.{Durable, Settled, is_listed, is_ordinary, is_rolling, is_upgrade, prepared_view}
+use Rattle.gs_state.specs.Sane.{IsSane}
 use Rattle.gs_state.specs.Settling.{is_quiet_at, requests_of}
 use Rattle.gs_state.specs.State.{State, Plan, Turn, turned, and_then, refused, all_ended_by, answer_changes, first_of}
 use Rattle.gs_state.specs.Undoing.{all_undone}
@@ -37,7 +38,7 @@ use Rattle.gs_state.specs.Whole.{is_empty}
 use Rattle.gs_state.specs.Working.{ascending, put_handles}
 use Rattle.gs_state.specs.declared.asking.Prepared.{Prepared}
 use Rattle.gs_state.specs.declared.change.Change.TheVariants as changes
-use Rattle.gs_laws.specs.Promises.{IsKept, PreparesOrdinary}
+use Rattle.gs_laws.specs.Promises.{IsKept}
 use Rattle.gs_laws.proofs.Accepted.{Goes, all_ended_goes, none_goes, one_goes, refused_goes, room_goes, test_goes, then_goes}
 use Rattle.gs_laws.proofs.Committing.{all_have}
 use Rattle.gs_laws.proofs.KeptEpochs.{IsFromServers, begin_kept, commit_kept_by, finalize_kept, prepare_kept}
@@ -126,16 +127,16 @@ all_rest s none =
 
 -- ---- a prepare is committed, or given up
 
-commit_fits : (s : State) (moment chunks : ℕ) → IsKept s.durable → PreparesOrdinary s → first_of (commit_tests s.durable.phase s.volatile.is_preparing (all_unquiet s) (is_last_epoch s.durable)) ≡ None
+commit_fits : (s : State) (moment chunks : ℕ) → IsKept s.durable → IsSane s → first_of (commit_tests s.durable.phase s.volatile.is_preparing (all_unquiet s) (is_last_epoch s.durable)) ≡ None
     → applied s.durable (Prepare (s.durable.epoch + 1) moment chunks) ≡ Some (without_prepared (with_epoch s.durable ends.Prepare Upgrade))
 unfolding applied
-commit_fits s moment chunks k prepares passed =
+commit_fits s moment chunks k sane passed =
     let more = if_unquiet (first_in (all_unquiet s)) ++ (is_last_epoch s.durable, refusals.Exhausted) ∷ [] in
     let one = first_test (not s.volatile.is_preparing && not (is_ordinary s.durable.phase)) refusals.AlreadyUpgrading ((not s.volatile.is_preparing, refusals.NotUpgrading) ∷ more) passed in
     let two = first_test (not s.volatile.is_preparing) refusals.NotUpgrading more one.1 in
     let rest = unquiet_none (all_unquiet s) (is_last_epoch s.durable) two.1 in
     ap (λ b. if_fits b (without_prepared (with_epoch s.durable ends.Prepare Upgrade)))
-    (both_true (is_ordinary s.durable.phase) (is_next_epoch s.durable.epoch (s.durable.epoch + 1) && are_at_rest s.durable) (prepares (not_so s.volatile.is_preparing two.0))
+    (both_true (is_ordinary s.durable.phase) (is_next_epoch s.durable.epoch (s.durable.epoch + 1) && are_at_rest s.durable) (sane.preparing (not_so s.volatile.is_preparing two.0)).0
     (both_true (is_next_epoch s.durable.epoch (s.durable.epoch + 1)) (are_at_rest s.durable) (next_epoch s.durable.epoch k.now rest.1) (all_rest s rest.0)))
 
 ends_next : (d : Durable) → IsKept d → first_of (end_tests d.phase (is_last_epoch d)) ≡ None → (is_upgrade d.phase && is_next_epoch d.epoch (d.epoch + 1)) ≡ true
@@ -153,12 +154,12 @@ unfolding applied
 begin_fits d k passed = ap (λ b. if_fits b (with_epoch d ends.Rollback Rolling)) (ends_next d k passed)
 
 module _ (T : Type 0) where
-  pub commit_goes : (config : Config) (s : State) (req : ReqId) (moment : Moment) → IsKept s.durable → PreparesOrdinary s → Goes T s (prepare_commit config s req moment)
-  commit_goes config s req moment k prepares =
+  pub commit_goes : (config : Config) (s : State) (req : ReqId) (moment : Moment) → IsKept s.durable → IsSane s → Goes T s (prepare_commit config s req moment)
+  commit_goes config s req moment k sane =
       let entry = Prepare (s.durable.epoch + 1) moment.0 (chunk_count s) in
       let plan = accepted_plan s req (entry ∷ []) (changes.Prepare false ∷ []) (tell_all config (s.durable.epoch + 1) ends.Prepare) (s.durable.epoch + 1) in
       let next = without_prepared (with_epoch s.durable ends.Prepare Upgrade) in
-      let fit = commit_fits s moment.0 (chunk_count s) k prepares in
+      let fit = commit_fits s moment.0 (chunk_count s) k sane in
       unless_goes T s req (turned s plan) (first_of (commit_tests s.durable.phase s.volatile.is_preparing (all_unquiet s) (is_last_epoch s.durable)))
       (λ passed. one_goes T s entry plan next (fit passed) (λ t kept. prepare_kept s.durable next (s.durable.epoch + 1) moment.0 (chunk_count s) kept (fit passed)))
 

@@ -207,36 +207,13 @@ abbrev pub RefusedFits : Type 0
 RefusedFits = (config : Config) (s : State) (req : ReqId) (moment : Moment) (call : Call) → is_some (call_turn config s req moment call).said ≡ true →
     FitsAndKeeps s (call_turn config s req moment call)
 
--- calls that begin no view and scan nothing
-abbrev pub begins_nothing : Call → Bool
-begins_nothing (calls.Mkdirs path) = true
-begins_nothing (calls.Create path) = true
-begins_nothing (calls.Rename from to) = true
-begins_nothing (calls.Delete path recursive) = true
-begins_nothing (calls.Undelete path) = true
-begins_nothing (calls.Snapshot from to) = false
-begins_nothing (calls.List path) = true
-begins_nothing (calls.Status path) = true
-begins_nothing (calls.FindForReading path index) = true
-begins_nothing (calls.FindForWriting path index stamp) = false
-begins_nothing (calls.Extend path index) = false
-begins_nothing calls.Scan = false
-begins_nothing calls.Replicate = false
-begins_nothing calls.Query = true
-begins_nothing calls.PrepareBegin = false
-begins_nothing calls.PrepareCommit = true
-begins_nothing calls.PrepareAbort = true
-begins_nothing calls.Finalize = true
-begins_nothing calls.RollbackBegin = true
-begins_nothing calls.RollbackCommit = true
+abbrev pub scans_nothing : Call → Bool
+scans_nothing calls.Scan = false
+scans_nothing call = true
 
--- an upgrade is prepared in ordinary operation alone
-abbrev pub PreparesOrdinary : State → Type 0
-PreparesOrdinary s = s.volatile.is_preparing ≡ true → is_ordinary s.durable.phase ≡ true
-
--- The records of such a call fit what they meet and give what is durable afterwards, whether it is accepted or refused.
+-- The records of each call but a scan fit what they meet and give what is durable afterwards, whether it is accepted or refused.
 abbrev pub CallsFit : Type 0
-CallsFit = (config : Config) (s : State) (req : ReqId) (moment : Moment) (call : Call) → begins_nothing call ≡ true → IsKept s.durable → PreparesOrdinary s →
+CallsFit = (config : Config) (s : State) (req : ReqId) (moment : Moment) (call : Call) → scans_nothing call ≡ true → IsKept s.durable → IsSane s →
     AllFit s (call_turn config s req moment call)
 
 -- what a record of a call's edit tells: its paths, and of a deletion the moment and the number
@@ -246,11 +223,12 @@ IsToldCall d moment (calls.Create path) = IsPath path
 IsToldCall d moment (calls.Rename from to) = IsPath from × IsPath to
 IsToldCall d moment (calls.Delete path recursive) = IsPath path × (IsNumber moment.0 × IsNumber d.next_hidden)
 IsToldCall d moment (calls.Undelete path) = IsPath path
+IsToldCall d moment (calls.Snapshot from to) = IsPath from × IsPath to
 IsToldCall d moment call = Unit {0}
 
 -- And what stands is kept, where the edit's record can tell its paths and numbers.
 abbrev pub CallsKeep : Type 0
-CallsKeep = (config : Config) (s : State) (req : ReqId) (moment : Moment) (call : Call) → begins_nothing call ≡ true → IsKept s.durable → PreparesOrdinary s →
+CallsKeep = (config : Config) (s : State) (req : ReqId) (moment : Moment) (call : Call) → scans_nothing call ≡ true → IsKept s.durable → IsSane s →
     IsToldCall s.durable moment call → IsKept (call_turn config s req moment call).after.durable
 
 abbrev pub is_proposal : PlainEntry → Bool

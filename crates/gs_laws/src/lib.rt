@@ -52,9 +52,8 @@ pub fn a_refused_call_fits()
     ensures { RefusedFits }
 {}
 
-/// The records of each call that begins no view and scans nothing fit what they meet and give what is durable afterwards, whatever is
-/// answered: each edit of names, each look-up, and each call of an upgrade but its beginning. They keep what stands, where the
-/// paths and the numbers that the call's edit says can be told.
+/// The records of each call but a scan fit what they meet and give what is durable afterwards, whatever is answered. They keep
+/// what stands, where the paths and the numbers that the call's edit says can be told.
 pub fn accepted_calls_fit()
     ensures fit { CallsFit }
     ensures kept { CallsKeep }
