@@ -94,7 +94,7 @@ none_passes f (e ∷ es) k none some = by_test (f e.0) refl (eq_by_cmp nat_cmp k
     by_test false is true key h here rest = ap f (same_key k e.0 key) ∙ is
     by_test false is false key h here rest = rest h here
 
-filtered_all : {A : Type 0} (f g : A → Bool) (xs : List A) → list_all (λ x. not (f x) || g x) xs ≡ true → list_all g (filter f xs) ≡ true
+pub filtered_all : {A : Type 0} (f g : A → Bool) (xs : List A) → list_all (λ x. not (f x) || g x) xs ≡ true → list_all g (filter f xs) ≡ true
 filtered_all f g [] all = refl
 filtered_all f g (x ∷ xs) all = let parts = and_parts (not (f x) || g x) (list_all (λ y. not (f y) || g y) xs) all in by_test (f x) parts.0 (filtered_all f g xs parts.1)
   where

@@ -59,7 +59,7 @@ edit_told (Create p) h = read_path p h.1
 edit_told (Rename from to) h = (read_path from h.0.1, read_path to h.1.1)
 edit_told (Hide p moment number) h = (read_path p h.0.1, h.1.0, h.1.1)
 edit_told (Unhide p) h = read_path p h.1
-edit_told (Remove p) h = read_path p h.1
+edit_told (Remove p) h = tt
 edit_told (AddChunk p chunk) h = read_path p h.0.1
 edit_told (Cow p index old new) h = read_path p h.0.1
 edit_told (Snapshot from to) h = (read_path from h.0.1, read_path to h.1.1)
@@ -328,8 +328,12 @@ none_more Ordinary inverses inverse h = refl
 none_more Upgrade inverses inverse h = absurd (false≢true h)
 none_more Rolling inverses inverse h = absurd (false≢true h)
 
-edit_parts : (d : Durable) (by : ReqId) (edit : PlainEdit) (names : NamesView) → IsEdit edit → IsKept d → edited_names edit d.names ≡ Ok names → may_edit d edit ≡ true → Parts d (with_edit d by edit names)
-edit_parts d by edit names written k named may =
+-- the answer that an edit's record tells can be told in a checkpoint
+abbrev pub AnswersTold : Durable → PlainEdit → Type 0
+AnswersTold d edit = names_well edit ≡ true → (a : Answer) → answer_to edit (view_for d (chunk_of_edit edit)) d.epoch ≡ Some a → IsAnswer (Ok a)
+
+edit_parts : (d : Durable) (by : ReqId) (edit : PlainEdit) (names : NamesView) → IsTold edit → AnswersTold d edit → IsKept d → edited_names edit d.names ≡ Ok names → may_edit d edit ≡ true → Parts d (with_edit d by edit names)
+edit_parts d by edit names told answers k named may =
     let so = may_edit_so d edit may in
     let tree = kept_tree d.names k.names in
     let w = left_of d (forgotten_by edit) in
@@ -348,7 +352,7 @@ edit_parts d by edit names written k named may =
     }) in
     let left = subst Chunked (forgets_only d (forgotten_by edit)) (chunked_without d (forgotten_by edit) (chunked_of d k)) in
     as_next same (Parts d) (record {
-      names = kept_by names (still_stands edit d.names names (stands_by d.names k.names tree.grown tree.short) (edit_told edit written) so.well named);
+      names = kept_by names (still_stands edit d.names names (stands_by d.names k.names tree.grown tree.short) told so.well named);
       settled = λ q listed. settled_still d edit q k so.settled (listed_before edit d.names names q named listed);
       chunked = chunked_moves w n left (same_on w n refl refl refl refl) refl (λ q. refl) (λ q s has. (s, (has, refl)));
       now = k.now;
@@ -357,18 +361,24 @@ edit_parts d by edit names written k named may =
       phase = refl;
       still = λ q view there. still_there d edit names q named view there;
       replies = answered_all d.replies by (answer_to edit (view_for d (chunk_of_edit edit)) d.epoch) k.replies
-          (λ a is. edit_answers edit (view_for d (chunk_of_edit edit)) d.epoch a written so.well (λ v has. view_told d (chunk_of_edit edit) v k has) k.now is);
+          (answers so.well);
     })
 
-edited_parts : (d next : Durable) (by : ReqId) (edit : PlainEdit) (names : Result NamesView Refusal) → IsEdit edit → IsKept d → edited_names edit d.names ≡ names → after_edit d by edit names ≡ Some next → Parts d next
-edited_parts d next by edit (Ok names) written k named e =
-    let is = fits_gives (may_edit d edit) (with_edit d by edit names) next e in as_next is.1 (Parts d) (edit_parts d by edit names written k named is.0)
-edited_parts d next by edit (Err refusal) written k named e = absurd (false≢true (ap is_some e))
+edited_parts : (d next : Durable) (by : ReqId) (edit : PlainEdit) (names : Result NamesView Refusal) → IsTold edit → AnswersTold d edit → IsKept d → edited_names edit d.names ≡ names → after_edit d by edit names ≡ Some next → Parts d next
+edited_parts d next by edit (Ok names) told answers k named e =
+    let is = fits_gives (may_edit d edit) (with_edit d by edit names) next e in as_next is.1 (Parts d) (edit_parts d by edit names told answers k named is.0)
+edited_parts d next by edit (Err refusal) told answers k named e = absurd (false≢true (ap is_some e))
 
--- it is enough that what the edit says can be told
-pub edit_kept_by : (d next : Durable) (by : ReqId) (edit : PlainEdit) → IsEdit edit → IsKept d → applied d (Edited by edit) ≡ Some next → IsKept next
+-- It is enough that the paths that come can be told, and the answer.
+pub edit_kept_told : (d next : Durable) (by : ReqId) (edit : PlainEdit) → IsTold edit → AnswersTold d edit → IsKept d → applied d (Edited by edit) ≡ Some next → IsKept next
 unfolding applied
-edit_kept_by d next by edit written k e = within_kept (Edited by edit) d next k refl e (edited_parts d next by edit (edited_names edit d.names) written k refl e)
+edit_kept_told d next by edit told answers k e = within_kept (Edited by edit) d next k refl e (edited_parts d next by edit (edited_names edit d.names) told answers k refl e)
+
+-- and for that, that what the edit says can be told
+pub edit_kept_by : (d next : Durable) (by : ReqId) (edit : PlainEdit) → IsEdit edit → IsKept d → applied d (Edited by edit) ≡ Some next → IsKept next
+edit_kept_by d next by edit written k e =
+    edit_kept_told d next by edit (edit_told edit written)
+    (λ well a is. edit_answers edit (view_for d (chunk_of_edit edit)) d.epoch a written well (λ v has. view_told d (chunk_of_edit edit) v k has) k.now is) k e
 
 pub edit_kept : (d next : Durable) (by : ReqId) (edit : PlainEdit) → IsEntry Two (Edited by edit) → IsKept d → applied d (Edited by edit) ≡ Some next → IsKept next
 edit_kept d next by edit written k e = edit_kept_by d next by edit written.0.1 k e

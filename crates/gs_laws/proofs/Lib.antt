@@ -1,5 +1,7 @@
 pub mod Accepted
 pub mod AcceptedCalls
+pub mod AcceptedForgets
+pub mod AcceptedScans
 pub mod AcceptedUpgrades
 pub mod AcceptedViews
 pub mod AcceptedWork
