@@ -1,9 +1,9 @@
--- The records of each call but a scan fit what they meet, and keep what stands.
+-- The records of each call fit what they meet, and keep what stands.
 use Rattle.std.proofs.Common.{◌≡◌, ◌∙◌, ◌&&◌, ◌||◌, ℕ, Bool, true, false, not, List, [], ◌∷◌, refl, ap, sym}
 use Rattle.std.specs.Prelude.{Option, Some, None, Ok, Err, if◌then◌else◌}
 use Rattle.std.specs.FinMap as fin
 use Rattle.std.specs.List.{list_any}
-use Rattle.std.proofs.lemmas.Bool.{false≢true, true≢false}
+use Rattle.std.proofs.lemmas.Bool.{true≢false}
 use Rattle.gs_base.specs.declared.config.Config.{Config}
 use Rattle.gs_base.specs.declared.numbers.Moment.{Moment}
 use Rattle.gs_base.specs.declared.numbers.ReqId.{ReqId}
@@ -28,9 +28,10 @@ use Rattle.gs_state.specs.Working.{needs_of}
 use Rattle.gs_state.specs.Handling.{call_turn, called, called_unless, taken_as, numbered, replied_again, waits_still, Numbered, New, Again, Older}
 use Rattle.gs_state.specs.State.{State, Turn, unmoved, refused, is_failed, is_unopened, last_reply, first_of}
 use Rattle.gs_state.specs.Volatile.{is_pending}
-use Rattle.gs_laws.specs.Promises.{CallsFit, CallsKeep, IsKept, IsToldCall, scans_nothing}
+use Rattle.gs_laws.specs.Promises.{CallsFit, CallsKeep, IsKept, IsToldCall}
 use Rattle.gs_laws.proofs.Accepted.{Goes, answered_goes, deleted_goes, edited_goes, looked_goes, may_so, refused_goes, same_goes, test_goes, unhide_well}
 use Rattle.gs_laws.proofs.AcceptedWork.{extends_goes, found_goes, most_goes, prepare_goes, snapshot_if_goes}
+use Rattle.gs_laws.proofs.AcceptedForgets.{scans_goes}
 use Rattle.gs_laws.proofs.AcceptedUpgrades.{abort_goes, begin_goes, commit_goes, finalize_goes, first_test, rolled_goes}
 
 -- ---- what the tests before a call say
@@ -66,47 +67,47 @@ two_visible false false h = refl
 
 -- ---- each call
 
-called_goes : (config : Config) (s : State) (req : ReqId) (moment : Moment) (call : Call) → scans_nothing call ≡ true → IsKept s.durable → IsSane s → Passes s call
+called_goes : (config : Config) (s : State) (req : ReqId) (moment : Moment) (call : Call) → IsKept s.durable → IsSane s → Passes s call
     → Goes (IsToldCall s.durable moment call) s (called config s req moment call)
-called_goes config s req moment (calls.Mkdirs path) one k sane p =
+called_goes config s req moment (calls.Mkdirs path) k sane p =
     edited_goes (IsToldCall s.durable moment (calls.Mkdirs path)) s req (Mkdirs path) answers.Nothing
     (λ names e. may_so s.durable (Mkdirs path) (left_false (is_rolling s.durable.phase) p.rolling) (one_visible (list_any is_hidden path) p.hidden) refl refl) (λ t. t)
-called_goes config s req moment (calls.Create path) one k sane p =
+called_goes config s req moment (calls.Create path) k sane p =
     edited_goes (IsToldCall s.durable moment (calls.Create path)) s req (Create path) answers.Nothing
     (λ names e. may_so s.durable (Create path) (left_false (is_rolling s.durable.phase) p.rolling) (one_visible (list_any is_hidden path) p.hidden) refl refl) (λ t. t)
-called_goes config s req moment (calls.Rename from to) one k sane p =
+called_goes config s req moment (calls.Rename from to) k sane p =
     edited_goes (IsToldCall s.durable moment (calls.Rename from to)) s req (Rename from to) answers.Nothing
     (λ names e. may_so s.durable (Rename from to) (left_false (is_rolling s.durable.phase) p.rolling) (two_visible (list_any is_hidden from) (list_any is_hidden to) p.hidden) refl refl) (λ t. t)
-called_goes config s req moment (calls.Delete path recursive) one k sane p =
+called_goes config s req moment (calls.Delete path recursive) k sane p =
     deleted_goes (IsToldCall s.durable moment (calls.Delete path recursive)) s req path recursive moment (left_false (is_rolling s.durable.phase) p.rolling) (one_visible (list_any is_hidden path) p.hidden) (λ t. t)
-called_goes config s req moment (calls.Undelete path) one k sane p =
+called_goes config s req moment (calls.Undelete path) k sane p =
     edited_goes (IsToldCall s.durable moment (calls.Undelete path)) s req (Unhide path) (answers.Path (unhide_target path (old_name path)))
     (λ names e. may_so s.durable (Unhide path) (left_false (is_rolling s.durable.phase) p.rolling) (unhide_well s.durable.names names path k.names e) refl refl) (λ t. t)
-called_goes config s req moment (calls.Snapshot from to) one k sane p =
+called_goes config s req moment (calls.Snapshot from to) k sane p =
     snapshot_if_goes (IsToldCall s.durable moment (calls.Snapshot from to)) s req (left_false (is_rolling s.durable.phase) p.rolling) from to (edited (edits.Snapshot from to) (fin.entries s.durable.names.tree)) k (two_visible (list_any is_hidden from) (list_any is_hidden to) p.hidden) (λ t. t)
-called_goes config s req moment (calls.List path) one k sane p = looked_goes (IsToldCall s.durable moment (calls.List path)) s req (listing (fin.entries s.durable.names.tree) path (fin.get s.durable.names.tree path))
-called_goes config s req moment (calls.Status path) one k sane p = looked_goes (IsToldCall s.durable moment (calls.Status path)) s req (status s.durable (fin.get s.durable.names.tree path))
-called_goes config s req moment (calls.FindForReading path index) one k sane p =
+called_goes config s req moment (calls.List path) k sane p = looked_goes (IsToldCall s.durable moment (calls.List path)) s req (listing (fin.entries s.durable.names.tree) path (fin.get s.durable.names.tree path))
+called_goes config s req moment (calls.Status path) k sane p = looked_goes (IsToldCall s.durable moment (calls.Status path)) s req (status s.durable (fin.get s.durable.names.tree path))
+called_goes config s req moment (calls.FindForReading path index) k sane p =
     looked_goes (IsToldCall s.durable moment (calls.FindForReading path index)) s req (location s.durable (found_chunk (fin.get s.durable.names.tree path) index))
-called_goes config s req moment (calls.FindForWriting path index stamp) one k sane p =
+called_goes config s req moment (calls.FindForWriting path index stamp) k sane p =
     found_goes (IsToldCall s.durable moment (calls.FindForWriting path index stamp)) s req (left_false (is_rolling s.durable.phase) p.rolling) path index stamp moment k (found_chunk (fin.get s.durable.names.tree path) index) refl
-called_goes config s req moment (calls.Extend path index) one k sane p =
+called_goes config s req moment (calls.Extend path index) k sane p =
     extends_goes (IsToldCall s.durable moment (calls.Extend path index)) s req (left_false (is_rolling s.durable.phase) p.rolling) config path index (fin.get s.durable.names.tree path)
-called_goes config s req moment calls.Scan one k sane p = absurd (false≢true one)
-called_goes config s req moment calls.Replicate one k sane p =
+called_goes config s req moment calls.Scan k sane p = scans_goes (IsToldCall s.durable moment calls.Scan) s req moment k (left_false (is_rolling s.durable.phase) p.rolling)
+called_goes config s req moment calls.Replicate k sane p =
     most_goes (IsToldCall s.durable moment calls.Replicate) s req (left_false (is_rolling s.durable.phase) p.rolling) config (most_needed_of config.replicas (needs_of s)) refl
-called_goes config s req moment calls.Query one k sane p = answered_goes (IsToldCall s.durable moment calls.Query) s req (answers.Phase (told_phase s.volatile.is_preparing s.durable.phase) s.durable.epoch)
-called_goes config s req moment calls.PrepareBegin one k sane p =
+called_goes config s req moment calls.Query k sane p = answered_goes (IsToldCall s.durable moment calls.Query) s req (answers.Phase (told_phase s.volatile.is_preparing s.durable.phase) s.durable.epoch)
+called_goes config s req moment calls.PrepareBegin k sane p =
     prepare_goes (IsToldCall s.durable moment calls.PrepareBegin) s req (left_false (is_rolling s.durable.phase) p.rolling) sane
-called_goes config s req moment calls.PrepareCommit one k sane p = commit_goes (IsToldCall s.durable moment calls.PrepareCommit) config s req moment k sane
-called_goes config s req moment calls.PrepareAbort one k sane p = abort_goes (IsToldCall s.durable moment calls.PrepareAbort) s req
-called_goes config s req moment calls.Finalize one k sane p = finalize_goes (IsToldCall s.durable moment calls.Finalize) config s req k
-called_goes config s req moment calls.RollbackBegin one k sane p = begin_goes (IsToldCall s.durable moment calls.RollbackBegin) config s req k
-called_goes config s req moment calls.RollbackCommit one k sane p = rolled_goes (IsToldCall s.durable moment calls.RollbackCommit) s req k
+called_goes config s req moment calls.PrepareCommit k sane p = commit_goes (IsToldCall s.durable moment calls.PrepareCommit) config s req moment k sane
+called_goes config s req moment calls.PrepareAbort k sane p = abort_goes (IsToldCall s.durable moment calls.PrepareAbort) s req
+called_goes config s req moment calls.Finalize k sane p = finalize_goes (IsToldCall s.durable moment calls.Finalize) config s req k
+called_goes config s req moment calls.RollbackBegin k sane p = begin_goes (IsToldCall s.durable moment calls.RollbackBegin) config s req k
+called_goes config s req moment calls.RollbackCommit k sane p = rolled_goes (IsToldCall s.durable moment calls.RollbackCommit) s req k
 
-module _ (config : Config) (s : State) (req : ReqId) (moment : Moment) (call : Call) (one : scans_nothing call ≡ true) (k : IsKept s.durable) (sane : IsSane s) where
+module _ (config : Config) (s : State) (req : ReqId) (moment : Moment) (call : Call) (k : IsKept s.durable) (sane : IsSane s) where
   unless_called : (refusal : Option Refusal) → refused_before s req call ≡ refusal → Goes (IsToldCall s.durable moment call) s (called_unless config s req moment call refusal)
-  unless_called None e = called_goes config s req moment call one k sane (passes s req call e)
+  unless_called None e = called_goes config s req moment call k sane (passes s req call e)
   unless_called (Some refusal) e = refused_goes (IsToldCall s.durable moment call) s req refusal
 
   taken_goes : (how : Numbered) → Goes (IsToldCall s.durable moment call) s (taken_as config s req moment call how)
@@ -126,7 +127,7 @@ module _ (config : Config) (s : State) (req : ReqId) (moment : Moment) (call : C
       (λ _. taken_goes (numbered (last_reply s req.client) req.number)))
 
 pub calls_fit : CallsFit
-calls_fit config s req moment call one k sane = (call_goes config s req moment call one k sane).fits
+calls_fit config s req moment call k sane = (call_goes config s req moment call k sane).fits
 
 pub calls_keep : CallsKeep
-calls_keep config s req moment call one k sane told = (call_goes config s req moment call one k sane).kept told k
+calls_keep config s req moment call k sane told = (call_goes config s req moment call k sane).kept told k

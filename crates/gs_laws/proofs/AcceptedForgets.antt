@@ -87,15 +87,15 @@ module _ (d : Durable) (moment : ℕ) (k : IsKept d) where
       let gone_refs : ℕ → ℕ = λ h. occurrences h (all_chunks (gone moment rows)) in
       let zero : ℕ → Bool = λ h. is_at_zero (fin.get next.names.refs h) in
       let same_rows : rows_without (removed_paths moment rows) rows ≡ left moment rows =
-        ap (λ (f : Path → Bool). filter (λ r. not (f r.0)) rows) (λ i q. gone_is moment (at rows) (removed_paths moment rows) (removed_each moment rows) q i) in
+      ap (λ (f : Path → Bool). filter (λ r. not (f r.0)) rows) (λ i q. gone_is moment (at rows) (removed_paths moment rows) (removed_each moment rows) q i) in
       list_all-map zero (λ (e : ℕ × ℕ). e.0) (filter (λ (e : ℕ × ℕ). e.1 == gone_refs e.0) refs)
       ∙ filtered_all (λ (e : ℕ × ℕ). e.1 == gone_refs e.0) (λ e. zero e.0) refs
-        (each_found nat_cmp nat_cmp_total fin.nat_cmp-IsAntisymmetric (λ (e : ℕ × ℕ). not (e.1 == gone_refs e.0) || zero e.0) refs (fin.entries_sorted d.names.refs)
-        (λ h count found.
-          let has = fin.get-entries d.names.refs h ∙ found in
-          zero_left (fin.get d.names.refs h) (fin.get next.names.refs h) count (gone_refs h) (occurrences h (all_chunks (left moment rows))) has (r.listed h)
-          (sym (ap count_or_zero has) ∙ k.names.counted h ∙ split_chunks h (is_gone moment (at rows)) rows)
-          (r.kept.names.counted h ∙ ap (λ (rs : Rows ℕ). occurrences h (all_chunks rs)) (r.rows ∙ same_rows))))
+      (each_found nat_cmp nat_cmp_total fin.nat_cmp-IsAntisymmetric (λ (e : ℕ × ℕ). not (e.1 == gone_refs e.0) || zero e.0) refs (fin.entries_sorted d.names.refs)
+      (λ h count found.
+      let has = fin.get-entries d.names.refs h ∙ found in
+      zero_left (fin.get d.names.refs h) (fin.get next.names.refs h) count (gone_refs h) (occurrences h (all_chunks (left moment rows))) has (r.listed h)
+      (sym (ap count_or_zero has) ∙ k.names.counted h ∙ split_chunks h (is_gone moment (at rows)) rows)
+      (r.kept.names.counted h ∙ ap (λ (rs : Rows ℕ). occurrences h (all_chunks rs)) (r.rows ∙ same_rows))))
 
   record Scanned (entries : List PlainEntry) : Type 0 where
     next : Durable
@@ -108,8 +108,8 @@ module _ (d : Durable) (moment : ℕ) (k : IsKept d) where
   forgets_one next chunks kept rolling rise zero =
       let names = names_of (fin.from_entries (fin.entries next.names.tree)) (without_each next.names.refs chunks) in
       let made : edited_names (Forget chunks) next.names ≡ Ok names =
-        ap (λ b. names_from (with_counts (Ok (fin.entries next.names.tree)) (cond b (Ok (without_each next.names.refs chunks)) (Err refusals.BadLine))))
-        (both_true (ascends chunks) (list_all (λ h. is_at_zero (fin.get next.names.refs h)) chunks) rise zero) in
+      ap (λ b. names_from (with_counts (Ok (fin.entries next.names.tree)) (cond b (Ok (without_each next.names.refs chunks)) (Err refusals.BadLine))))
+      (both_true (ascends chunks) (list_all (λ h. is_at_zero (fin.get next.names.refs h)) chunks) rise zero) in
       ap (after_edit next own_request (Forget chunks)) made ∙ ap (λ b. if_fits b (with_edit next own_request (Forget chunks) names)) (may_so next (Forget chunks) rolling refl refl refl)
 
   forgets_all : (next : Durable) (chunks : List ℕ) → IsKept next → is_rolling next.phase ≡ false → ascends chunks ≡ true → list_all (λ h. is_at_zero (fin.get next.names.refs h)) chunks ≡ true
@@ -128,7 +128,7 @@ module _ (d : Durable) (moment : ℕ) (k : IsKept d) where
       let chunks = forgotten_chunks moment rows (fin.entries d.names.refs) in
       let first = all_removed d (removed_paths moment rows) moment k rolling (removed_apart moment rows) (removed_goes moment rows) in
       let rest = forgets_all first.next chunks first.removed.kept (ap is_rolling first.removed.phase ∙ rolling)
-        (filtered_ascend (λ (e : ℕ × ℕ). e.1 == gone_refs e.0) (fin.entries d.names.refs) (from_t _ (fin.entries_sorted d.names.refs))) (at_zero first.next first.removed) in
+      (filtered_ascend (λ (e : ℕ × ℕ). e.1 == gone_refs e.0) (fin.entries d.names.refs) (from_t _ (fin.entries_sorted d.names.refs))) (at_zero first.next first.removed) in
       record { next = rest.0; is = first.is (forget_if chunks) ∙ rest.1; kept = rest.2 }
 
 -- ---- the turn

@@ -71,7 +71,7 @@ one_removed d p moment k rolling stands over =
     let names = names_of (fin.from_entries fewer) less.rest in
     let made : edited_names (Remove p) d.names ≡ Ok names = ap names_from (sym (next_itself (named (edits.Remove p) rows d.names.refs)) ∙ less.is) in
     let fit : applied d (Edited own_request (Remove p)) ≡ Some (with_edit d own_request (Remove p) names) =
-      ap (after_edit d own_request (Remove p)) made ∙ ap (λ b. if_fits b (with_edit d own_request (Remove p) names)) (may_so d (Remove p) rolling refl refl refl) in record {
+    ap (after_edit d own_request (Remove p)) made ∙ ap (λ b. if_fits b (with_edit d own_request (Remove p) names)) (may_so d (Remove p) rolling refl refl refl) in record {
       next = with_edit d own_request (Remove p) names;
       is = fit;
       removed = record {
@@ -129,7 +129,7 @@ all_removed d (p ∷ paths) moment k rolling clear all =
     let next = one.next in
     let later = all_removed next paths moment one.removed.kept (ap is_rolling one.removed.phase ∙ rolling) clear.1 (λ q inside. record {
       stands = ap (λ rs. is_some (at rs q)) one.removed.rows ∙ ap is_some (at-filter (λ r. not (begins p r || false)) rows q) ∙ ap (λ b. is_some (cond (not (b || false)) (at rows q) None)) (beside q inside (begins p q) refl)
-        ∙ (all q (or_later (same_path q p) (among paths q) inside)).stands;
+          ∙ (all q (or_later (same_path q p) (among paths q) inside)).stands;
       over = (all q (or_later (same_path q p) (among paths q) inside)).over;
     }) in
     record {
@@ -138,7 +138,7 @@ all_removed d (p ∷ paths) moment k rolling clear all =
       removed = record {
         kept = later.removed.kept;
         rows = later.removed.rows ∙ ap (rows_without paths) one.removed.rows ∙ not_either (λ q. begins p q || false) (λ q. list_any (λ s. begins s q) paths) rows
-          ∙ ap (λ (f : Path → Bool). filter (λ r. not (f r.0)) rows) (λ i q. or_nothing (begins p q) (list_any (λ s. begins s q) paths) i);
+            ∙ ap (λ (f : Path → Bool). filter (λ r. not (f r.0)) rows) (λ i q. or_nothing (begins p q) (list_any (λ s. begins s q) paths) i);
         phase = later.removed.phase ∙ one.removed.phase;
         listed = λ q. later.removed.listed q ∙ one.removed.listed q;
       };

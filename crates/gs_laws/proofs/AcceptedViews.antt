@@ -141,7 +141,6 @@ or_right : (a b : Bool) → b ≡ true → (a || b) ≡ true
 or_right true b h = refl
 or_right false b h = h
 
-
 module _ (T : Type 0) where
   propose_goes : (s : State) (chunk many : ℕ) (plan : Plan) → is_rolling s.durable.phase ≡ false → has_versions s.durable (suc many) ≡ true → (is_settled s.durable chunk || is_fresh s.durable.next_handle chunk) ≡ true
       → Goes T s (turned s (record plan { records = Propose chunk s.durable.next_version ∷ [] }))

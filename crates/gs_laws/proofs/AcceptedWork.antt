@@ -152,8 +152,8 @@ module _ (T : Type 0) (s : State) (req : ReqId) (rolling : is_rolling s.durable.
   all_needs =
       list_all-map (λ (n : Need). is_settled s.durable n.handle) (need_of s.durable) (filter (λ e. has_entry s e.0) (fin.entries s.durable.chunks))
       ∙ passes_all (λ e. is_settled s.durable e.0) (λ e. has_entry s e.0) (fin.entries s.durable.chunks)
-        (each_found nat_cmp nat_cmp_total fin.nat_cmp-IsAntisymmetric (λ e. is_settled s.durable e.0) (fin.entries s.durable.chunks) (fin.entries_sorted s.durable.chunks)
-        (λ chunk settled found. ap is_some (fin.get-entries s.durable.chunks chunk ∙ found)))
+      (each_found nat_cmp nat_cmp_total fin.nat_cmp-IsAntisymmetric (λ e. is_settled s.durable e.0) (fin.entries s.durable.chunks) (fin.entries_sorted s.durable.chunks)
+      (λ chunk settled found. ap is_some (fin.get-entries s.durable.chunks chunk ∙ found)))
 
   pub most_goes : (config : Config) (chunk : Option ℕ) → most_needed_of config.replicas (needs_of s) ≡ chunk → Goes T s (replicates_most config s req chunk)
   most_goes config None is = answered_goes T s req (answers.Copied None)
@@ -230,16 +230,16 @@ prepare_goes T s req rolling sane =
     let exhausted = not (has_versions s.durable (length (all_unquiet s))) in
     unless_goes T s req (and_then (and_then ended begin) accept) (first_of (begin_tests s.durable.phase s.volatile.is_preparing s.volatile.pending exhausted))
     (λ passed.
-      let more = if_pending (lowest_path (pending_paths s.volatile.pending)) ++ (exhausted, refusals.Exhausted) ∷ [] in
-      let one = first_test (s.volatile.is_preparing || not (is_ordinary s.durable.phase)) refusals.AlreadyUpgrading more passed in
-      let rest = pending_none (lowest_path (pending_paths s.volatile.pending)) exhausted one.1 in
-      let left = not_false (has_versions s.durable (length (all_unquiet s))) rest.1 in
-      let known = filter_holds (is_settled s.durable) (λ chunk. has_entry s chunk && not (is_quiet_at s chunk)) (ascending (fin.keys s.durable.chunks ++ fin.keys s.volatile.moving)) (λ chunk h. unquiet_settled s chunk sane rest.0 h) in
-      let reqs = requests_of s.volatile.pending in
-      then_goes T s (and_then ended begin) accept
-      (then_goes T s ended begin (all_ended_goes T reqs refusals.Preparing s)
-      (all_begun_goes T (all_unquiet s) purposes.Quiet None ended.after
-      (all_ended_same (λ d. is_rolling d.phase) (λ d replies. refl) reqs refusals.Preparing s ∙ rolling)
-      (all_ended_same (λ d. has_versions d (length (all_unquiet s))) (λ d replies. refl) reqs refusals.Preparing s ∙ left)
-      (all_ended_same (λ d. list_all (is_settled d) (all_unquiet s)) (λ d replies. refl) reqs refusals.Preparing s ∙ known)))
-      (none_goes T (and_then ended begin).after (last (and_then ended begin).after)))
+    let more = if_pending (lowest_path (pending_paths s.volatile.pending)) ++ (exhausted, refusals.Exhausted) ∷ [] in
+    let one = first_test (s.volatile.is_preparing || not (is_ordinary s.durable.phase)) refusals.AlreadyUpgrading more passed in
+    let rest = pending_none (lowest_path (pending_paths s.volatile.pending)) exhausted one.1 in
+    let left = not_false (has_versions s.durable (length (all_unquiet s))) rest.1 in
+    let known = filter_holds (is_settled s.durable) (λ chunk. has_entry s chunk && not (is_quiet_at s chunk)) (ascending (fin.keys s.durable.chunks ++ fin.keys s.volatile.moving)) (λ chunk h. unquiet_settled s chunk sane rest.0 h) in
+    let reqs = requests_of s.volatile.pending in
+    then_goes T s (and_then ended begin) accept
+    (then_goes T s ended begin (all_ended_goes T reqs refusals.Preparing s)
+    (all_begun_goes T (all_unquiet s) purposes.Quiet None ended.after
+    (all_ended_same (λ d. is_rolling d.phase) (λ d replies. refl) reqs refusals.Preparing s ∙ rolling)
+    (all_ended_same (λ d. has_versions d (length (all_unquiet s))) (λ d replies. refl) reqs refusals.Preparing s ∙ left)
+    (all_ended_same (λ d. list_all (is_settled d) (all_unquiet s)) (λ d replies. refl) reqs refusals.Preparing s ∙ known)))
+    (none_goes T (and_then ended begin).after (last (and_then ended begin).after)))

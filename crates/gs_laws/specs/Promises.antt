@@ -207,14 +207,9 @@ abbrev pub RefusedFits : Type 0
 RefusedFits = (config : Config) (s : State) (req : ReqId) (moment : Moment) (call : Call) → is_some (call_turn config s req moment call).said ≡ true →
     FitsAndKeeps s (call_turn config s req moment call)
 
-abbrev pub scans_nothing : Call → Bool
-scans_nothing calls.Scan = false
-scans_nothing call = true
-
--- The records of each call but a scan fit what they meet and give what is durable afterwards, whether it is accepted or refused.
+-- The records of each call fit what they meet and give what is durable afterwards, whether it is accepted or refused.
 abbrev pub CallsFit : Type 0
-CallsFit = (config : Config) (s : State) (req : ReqId) (moment : Moment) (call : Call) → scans_nothing call ≡ true → IsKept s.durable → IsSane s →
-    AllFit s (call_turn config s req moment call)
+CallsFit = (config : Config) (s : State) (req : ReqId) (moment : Moment) (call : Call) → IsKept s.durable → IsSane s → AllFit s (call_turn config s req moment call)
 
 -- what a record of a call's edit tells: its paths, and of a deletion the moment and the number
 abbrev pub IsToldCall : Durable → Moment → Call → Type 0
@@ -228,8 +223,8 @@ IsToldCall d moment call = Unit {0}
 
 -- And what stands is kept, where the edit's record can tell its paths and numbers.
 abbrev pub CallsKeep : Type 0
-CallsKeep = (config : Config) (s : State) (req : ReqId) (moment : Moment) (call : Call) → scans_nothing call ≡ true → IsKept s.durable → IsSane s →
-    IsToldCall s.durable moment call → IsKept (call_turn config s req moment call).after.durable
+CallsKeep = (config : Config) (s : State) (req : ReqId) (moment : Moment) (call : Call) → IsKept s.durable → IsSane s → IsToldCall s.durable moment call →
+    IsKept (call_turn config s req moment call).after.durable
 
 abbrev pub is_proposal : PlainEntry → Bool
 is_proposal (Propose chunk version) = true

@@ -52,9 +52,9 @@ pub fn a_refused_call_fits()
     ensures { RefusedFits }
 {}
 
-/// The records of each call but a scan fit what they meet and give what is durable afterwards, whatever is answered. They keep
-/// what stands, where the paths and the numbers that the call's edit says can be told.
-pub fn accepted_calls_fit()
+/// The records of each call fit what they meet and give what is durable afterwards, whatever is answered. They keep what stands,
+/// where the paths and the numbers that the call's edit says can be told.
+pub fn each_call_fits()
     ensures fit { CallsFit }
     ensures kept { CallsKeep }
 {}
