@@ -115,7 +115,7 @@ module _ (config : Config) (s : State) (req : ReqId) (moment : Moment) (call : C
   taken_goes (Again result) = same_goes (IsToldCall s.durable moment call) s (replied_again s req result) refl refl
   taken_goes Older = same_goes (IsToldCall s.durable moment call) s (replied_again s req (Err refusals.Old)) refl refl
 
-  call_goes : Goes (IsToldCall s.durable moment call) s (call_turn config s req moment call)
+  pub call_goes : Goes (IsToldCall s.durable moment call) s (call_turn config s req moment call)
   call_goes =
       let T = IsToldCall s.durable moment call in
       let again = replied_again s req (Err refusals.Device) in

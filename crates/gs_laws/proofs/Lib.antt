@@ -1,6 +1,7 @@
 pub mod Accepted
 pub mod AcceptedCalls
 pub mod AcceptedForgets
+pub mod AcceptedMessages
 pub mod AcceptedScans
 pub mod AcceptedUpgrades
 pub mod AcceptedViews

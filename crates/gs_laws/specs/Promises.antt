@@ -22,8 +22,12 @@ use Rattle.gs_state.specs.Replies.{outcome_of, told_result}
 use Rattle.gs_state.specs.declared.reply.KeptReply.{KeptReply}
 use Rattle.gs_lease.specs.declared.view.View.{View}
 use Rattle.gs_msg.specs.Bodies.{kind_of}
+use Rattle.gs_msg.specs.declared.body.Body.{Body}
+use Rattle.gs_msg.specs.declared.body.Body.TheVariants as bodies
 use Rattle.gs_msg.specs.declared.call.Call.{Call}
 use Rattle.gs_msg.specs.declared.call.Call.TheVariants as calls
+use Rattle.gs_msg.specs.declared.chunk.Chunk.{Chunk as About}
+use Rattle.gs_msg.specs.declared.chunk.Chunk.TheVariants as abouts
 use Rattle.gs_msg.specs.declared.kind.Kind.{Kind}
 use Rattle.gs_msg.specs.declared.kind.Kind.TheVariants as kinds
 use Rattle.gs_msg.specs.declared.message.Message.{Message}
@@ -33,7 +37,7 @@ use Rattle.gs_view.specs.declared.answers.Answers.{Answers}
 use Rattle.gs_state.specs.Applied.{applied, replayed, is_fresh, is_prepared_on, is_whole_entry}
 use Rattle.gs_state.specs.Chunks.{Chunk, view_by, may_settle}
 use Rattle.gs_state.specs.Durable.{Durable, Settled, start, is_given, is_ordinary, is_rolling, upgrade_epoch, has_its_primary, prepared_view, is_listed}
-use Rattle.gs_state.specs.Handling.{handle, call_turn, new_call, tidied, tick}
+use Rattle.gs_state.specs.Handling.{handle, call_turn, checkpoint, new_call, tidied, tick}
 use Rattle.gs_state.specs.Sane.{IsSane}
 use Rattle.gs_state.specs.State.{State, Turn, size_of_all}
 use Rattle.gs_state.specs.Upgrades.{rollback_commit, told_of}
@@ -225,6 +229,33 @@ IsToldCall d moment call = Unit {0}
 abbrev pub CallsKeep : Type 0
 CallsKeep = (config : Config) (s : State) (req : ReqId) (moment : Moment) (call : Call) → IsKept s.durable → IsSane s → IsToldCall s.durable moment call →
     IsKept (call_turn config s req moment call).after.durable
+
+-- the answers to a proposal, by which a view is settled
+abbrev pub is_answer_of : About → Bool
+is_answer_of (abouts.Promised stamp count carried) = true
+is_answer_of (abouts.Unpromised stamp refusal) = true
+is_answer_of said = false
+
+abbrev pub is_answer : Body → Bool
+is_answer (bodies.About chunk said) = is_answer_of said
+is_answer said = false
+
+abbrev pub IsToldBody : Durable → Moment → Body → Type 0
+IsToldBody d moment (bodies.Call req call) = IsToldCall d moment call
+IsToldBody d moment said = Unit {0}
+
+-- So it is of each message but an answer to a proposal.
+abbrev pub MessagesFit : Type 0
+MessagesFit = (config : Config) (s : State) (message : Message) (moment : Moment) → is_answer message.body ≡ false → IsKept s.durable → IsSane s →
+    AllFit s (handle config s message moment)
+
+abbrev pub MessagesKeep : Type 0
+MessagesKeep = (config : Config) (s : State) (message : Message) (moment : Moment) → is_answer message.body ≡ false → IsKept s.durable → IsSane s → IsToldBody s.durable moment message.body →
+    IsKept (handle config s message moment).after.durable
+
+-- and of a checkpoint that is asked for
+abbrev pub CheckpointFits : Type 0
+CheckpointFits = (s : State) → IsKept s.durable → FitsAndKeeps s (checkpoint s)
 
 abbrev pub is_proposal : PlainEntry → Bool
 is_proposal (Propose chunk version) = true

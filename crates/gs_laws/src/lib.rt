@@ -10,7 +10,7 @@ ghost use Rattle.gs_state.specs.Checkpoints.{read_with};
 ghost use Rattle.gs_state.specs.Whole.{told_replies, whole_of};
 ghost use Rattle.gs_state.specs.declared.reply.KeptReply.{KeptReply};
 ghost use Rattle.gs_state.specs.Recorded.{SayAlone};
-ghost use Rattle.gs_laws.specs.Promises.{BeginsWithAll, CallsFit, CallsKeep, CommitsExactly, IsToldAgain, KeepsAll, KeepsGiven, KeepsPrepared, LeadsBack, LeadsToKept, MadeOfTheMost, NothingAtTicks, NothingWhileRolling, PreparesByOneRecord, ProposesFresh, ProposesFreshAtTicks, RefusedFits, RefusedLeavesNames, RollsBack, TellsAll, TellsCounters};
+ghost use Rattle.gs_laws.specs.Promises.{BeginsWithAll, CallsFit, CallsKeep, CheckpointFits, CommitsExactly, IsToldAgain, KeepsAll, KeepsGiven, KeepsPrepared, LeadsBack, LeadsToKept, MadeOfTheMost, MessagesFit, MessagesKeep, NothingAtTicks, NothingWhileRolling, PreparesByOneRecord, ProposesFresh, ProposesFreshAtTicks, RefusedFits, RefusedLeavesNames, RollsBack, TellsAll, TellsCounters};
 ghost use Rattle.gs_state.specs.Undoing.{EditsAsTold};
 
 /// While a rollback is begun and not done, no view is begun, and no replica is dropped, whatever message comes and at each
@@ -57,6 +57,18 @@ pub fn a_refused_call_fits()
 pub fn each_call_fits()
     ensures fit { CallsFit }
     ensures kept { CallsKeep }
+{}
+
+/// The same of each message but an answer to a proposal: so of each call, and of what a server reports, has learned, asks to renew or
+/// finds damaged.
+pub fn each_message_but_an_answer_fits()
+    ensures fit { MessagesFit }
+    ensures kept { MessagesKeep }
+{}
+
+/// The record of a checkpoint fits, and gives what stood but for chunks that stand in no file and never did.
+pub fn a_checkpoint_fits()
+    ensures { CheckpointFits }
 {}
 
 /// Once a prepare is recorded, nothing is to be taken back, and each settled chunk's view is its prepared one.
