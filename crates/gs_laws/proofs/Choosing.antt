@@ -11,7 +11,7 @@ use Rattle.gs_state.specs.Chunks.{Chunk, may_settle, proposed_in}
 use Rattle.gs_laws.specs.Promises.{MadeOfTheMost}
 use Rattle.gs_state.specs.declared.asking.Asking.{Asking}
 
-picked : (b : Bool) (v view : View) → (if b then Some v else None) ≡ Some view → (b ≡ true) × (v ≡ view)
+pub picked : (b : Bool) (v view : View) → (if b then Some v else None) ≡ Some view → (b ≡ true) × (v ≡ view)
 picked true v view e = (refl, ap (λ o. unwrap_or o v) e)
 picked false v view e = absurd (false≢true (ap is_some e))
 

@@ -34,6 +34,7 @@ pub mod Retold
 pub mod RolledBack
 pub mod Rolling
 pub mod ServersTold
+pub mod SettlingFits
 pub mod Sized
 pub mod Spelled
 pub mod StillNamed

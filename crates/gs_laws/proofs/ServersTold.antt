@@ -40,7 +40,7 @@ has_member ms i = ap (λ n. eqb n 1) (bit_of_set ms i) ∙ one_of (is_member ms 
 
 -- ---- it has 16 bits
 
-is_low : ℕ → Bool
+abbrev pub is_low : ℕ → Bool
 is_low m = nat_lt m 16
 
 all_kept : (f test : ℕ → Bool) (xs : List ℕ) → list_all f xs ≡ true → list_all f (filter test xs) ≡ true
@@ -60,7 +60,7 @@ unfolding bits_of
 small_set [] all = omega arith
 small_set (m ∷ ms) all = let parts = and_parts (is_low m) (list_all is_low ms) all in or_lt 16 (2 ^ m) (bits_of ms) (low_power m parts.0) (small_set ms parts.1)
 
-low_servers : (test : ℕ → Bool) → list_all is_low (servers_where test) ≡ true
+pub low_servers : (test : ℕ → Bool) → list_all is_low (servers_where test) ≡ true
 unfolding servers_where is_low
 low_servers test = all_kept is_low test (count_from 0 16) refl
 
