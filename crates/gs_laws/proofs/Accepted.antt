@@ -99,7 +99,7 @@ module _ (T : Type 0) where
 
   -- ---- edits
 
-  edit_applies : (d : Durable) (by : ReqId) (edit : PlainEdit) (names : NamesView) → edited_names edit d.names ≡ Ok names → may_edit d edit ≡ true → applied d (Edited by edit) ≡ Some (with_edit d by edit names)
+  pub edit_applies : (d : Durable) (by : ReqId) (edit : PlainEdit) (names : NamesView) → edited_names edit d.names ≡ Ok names → may_edit d edit ≡ true → applied d (Edited by edit) ≡ Some (with_edit d by edit names)
   unfolding applied
   edit_applies d by edit names e may = ap (after_edit d by edit) e ∙ ap (λ b. if_fits b (with_edit d by edit names)) may
 

@@ -133,7 +133,7 @@ module _ (d : Durable) (moment : ℕ) (k : IsKept d) where
 
 -- ---- the turn
 
-folded : (entries : List PlainEntry) (s : State) (d : Durable) → replayed s.durable entries ≡ Some d → (fold with_record s entries).durable ≡ d
+pub folded : (entries : List PlainEntry) (s : State) (d : Durable) → replayed s.durable entries ≡ Some d → (fold with_record s entries).durable ≡ d
 folded [] s d e = ap (λ o. unwrap_or o s.durable) e
 folded (x ∷ entries) s d e = by_first (applied s.durable x) refl e (λ h. folded entries (with_record s x) d h)
   where

@@ -76,7 +76,7 @@ module _ (T : Type 0) where
   renewed_goes s server chunk stamp moment =
       test_goes T s (is_leased_under stamp (chunk_at s chunk) && not s.volatile.is_preparing) _ (unmoved s) (λ _. same_goes T s _ refl refl) (λ _. still_goes s)
 
-  about_goes : (s : State) (server chunk : ℕ) (moment : Moment) (said : About) → is_answer_of said ≡ false → Goes T s (about_turn s server chunk moment said)
+  pub about_goes : (s : State) (server chunk : ℕ) (moment : Moment) (said : About) → is_answer_of said ≡ false → Goes T s (about_turn s server chunk moment said)
   about_goes s server chunk moment (abouts.Promised stamp count carried) other = absurd (true≢false other)
   about_goes s server chunk moment (abouts.Unpromised stamp refusal) other = absurd (true≢false other)
   about_goes s server chunk moment (abouts.Renew stamp) other = renewed_goes s server chunk stamp moment
@@ -108,19 +108,19 @@ module _ (T : Type 0) where
       (λ chunk both. lost_settled s server chunk (and_parts (is_lost_at server (chunk_at s chunk)) (not (is_told_sound replicas chunk)) both).0))))
       (λ _. still_goes s))
 
-  server_goes : (s : State) (server : ℕ) (moment : Moment) (said : Body) → is_answer said ≡ false → Goes T s (server_turn s server moment said)
+  pub server_goes : (s : State) (server : ℕ) (moment : Moment) (said : Body) → is_answer said ≡ false → Goes T s (server_turn s server moment said)
   server_goes s server moment (bodies.About chunk said) other = about_goes s server chunk moment said other
   server_goes s server moment (bodies.Report epoch replicas) other = reported_goes s server epoch replicas
   server_goes s server moment (bodies.Learned epoch handles) other = learned_goes s server epoch handles
   server_goes s server moment (bodies.Behind epoch) other = behind_goes s server epoch
   server_goes s server moment said other = same_goes T s (met_by s refusals.Stray) refl refl
 
-  unless_failed_goes : (s : State) (t : Turn) → Goes T s t → Goes T s (unless_failed s t)
+  pub unless_failed_goes : (s : State) (t : Turn) → Goes T s t → Goes T s (unless_failed s t)
   unless_failed_goes s t g = test_goes T s (is_failed s.fault) (met_by s refusals.Device) t (λ _. same_goes T s (met_by s refusals.Device) refl refl) (λ _. g)
 
 -- ---- messages of clients, and all
 
-client_goes : (config : Config) (s : State) (moment : Moment) (said : Body) → IsKept s.durable → IsSane s → Goes (IsToldBody s.durable moment said) s (from_client config s moment said)
+pub client_goes : (config : Config) (s : State) (moment : Moment) (said : Body) → IsKept s.durable → IsSane s → Goes (IsToldBody s.durable moment said) s (from_client config s moment said)
 client_goes config s moment (bodies.Call req call) k sane = call_goes config s req moment call k sane
 client_goes config s moment said k sane = same_goes (IsToldBody s.durable moment said) s (met_by s refusals.Stray) refl refl
 

@@ -126,7 +126,7 @@ found_settled d path index chunk k e =
 
 -- ---- proposals
 
-proposes : (d : Durable) (chunk many : ℕ) → is_rolling d.phase ≡ false → has_versions d (suc many) ≡ true → (is_settled d chunk || is_fresh d.next_handle chunk) ≡ true → applied d (Propose chunk d.next_version) ≡ Some (proposed d chunk d.next_version)
+pub proposes : (d : Durable) (chunk many : ℕ) → is_rolling d.phase ≡ false → has_versions d (suc many) ≡ true → (is_settled d chunk || is_fresh d.next_handle chunk) ≡ true → applied d (Propose chunk d.next_version) ≡ Some (proposed d chunk d.next_version)
 unfolding applied
 proposes d chunk many rolling left known =
     ap (λ b. if_fits b (proposed d chunk d.next_version))
@@ -137,7 +137,7 @@ pub or_left : (a b : Bool) → a ≡ true → (a || b) ≡ true
 or_left true b h = refl
 or_left false b h = absurd (false≢true h)
 
-or_right : (a b : Bool) → b ≡ true → (a || b) ≡ true
+pub or_right : (a b : Bool) → b ≡ true → (a || b) ≡ true
 or_right true b h = refl
 or_right false b h = h
 

@@ -171,7 +171,7 @@ module _ {X : Type 0} (f : Durable → X) (same : (d : Durable) (replies : fin.F
   said_same true s req refusal = same s.durable (with_reply s.durable.replies req (Err refusal))
   said_same false s req refusal = refl
 
-  all_ended_same : (reqs : List ReqId) (refusal : Refusal) (s : State) → f (all_ended_by s reqs refusal).after.durable ≡ f s.durable
+  pub all_ended_same : (reqs : List ReqId) (refusal : Refusal) (s : State) → f (all_ended_by s reqs refusal).after.durable ≡ f s.durable
   all_ended_same [] refusal s = refl
   all_ended_same (req ∷ reqs) refusal s =
       all_ended_same reqs refusal (ended_by s req refusal).after ∙ said_same (keeps_refusal s req refusal && fits s.log (Said req refusal ∷ [])) s req refusal

@@ -6,6 +6,7 @@ pub mod AcceptedScans
 pub mod AcceptedUpgrades
 pub mod AcceptedViews
 pub mod AcceptedWork
+pub mod Answering
 pub mod Beginnings
 pub mod Choosing
 pub mod Commanded
@@ -15,6 +16,7 @@ pub mod EditsBack
 pub mod Fresh
 pub mod FreshCalls
 pub mod FreshTurns
+pub mod GoingOn
 pub mod Grown
 pub mod Kept
 pub mod KeptAll

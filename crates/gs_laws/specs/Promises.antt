@@ -34,17 +34,19 @@ use Rattle.gs_msg.specs.declared.message.Message.{Message}
 use Rattle.gs_record.specs.Plain.{PlainEntry, Edited, Said, Propose, Settle, Prepare, Finalize, RollbackBegin, RollbackCommit, Whole, Holder}
 use Rattle.gs_view.specs.Choice.{Chooses}
 use Rattle.gs_view.specs.declared.answers.Answers.{Answers}
-use Rattle.gs_state.specs.Applied.{applied, replayed, is_fresh, is_prepared_on, is_whole_entry}
+use Rattle.gs_state.specs.Applied.{applied, replayed, is_fresh, is_prepared_on, is_since, is_visible, is_whole_entry}
 use Rattle.gs_state.specs.Chunks.{Chunk, view_by, may_settle}
 use Rattle.gs_state.specs.Durable.{Durable, Settled, start, is_given, is_ordinary, is_rolling, upgrade_epoch, has_its_primary, prepared_view, is_listed}
 use Rattle.gs_state.specs.Handling.{handle, call_turn, checkpoint, new_call, tidied, tick}
 use Rattle.gs_state.specs.Sane.{IsSane}
 use Rattle.gs_state.specs.State.{State, Turn, size_of_all}
 use Rattle.gs_state.specs.Upgrades.{rollback_commit, told_of}
+use Rattle.gs_state.specs.Volatile.{paths_of}
 use Rattle.gs_state.specs.Undoing.{all_undone}
 use Rattle.gs_state.specs.Whole.{whole_of, checkpoint_of, are_ends, are_hidden_once, is_prepared_before}
 use Rattle.gs_state.specs.declared.asking.Asking.{Asking}
 use Rattle.gs_state.specs.declared.asking.Prepared.{Prepared}
+use Rattle.gs_state.specs.declared.pending.Pending.{Pending}
 
 -- ---- what stands
 
@@ -252,6 +254,17 @@ MessagesFit = (config : Config) (s : State) (message : Message) (moment : Moment
 abbrev pub MessagesKeep : Type 0
 MessagesKeep = (config : Config) (s : State) (message : Message) (moment : Moment) → is_answer message.body ≡ false → IsKept s.durable → IsSane s → IsToldBody s.durable moment message.body →
     IsKept (handle config s message moment).after.durable
+
+-- Beside what is sane: the paths of the calls that wait are as calls may name them, and no chunk that was never settled is asked for
+-- under a stamp of before the upgrade that stands.
+pub record CanGoOn (s : State) : Type 0 where
+  pub visible : list_all (λ (p : Pending). list_all is_visible (paths_of p.waits)) s.volatile.pending ≡ true
+  pub since : (chunk : ℕ) (asking : Asking) → fin.get s.volatile.moving chunk ≡ Some asking →
+      is_since (upgrade_epoch s.durable.phase s.durable.epoch) (fin.get s.durable.chunks chunk) asking.stamp ≡ true
+
+-- Then it is so of every message.
+abbrev pub AllMessagesFit : Type 0
+AllMessagesFit = (config : Config) (s : State) (message : Message) (moment : Moment) → IsKept s.durable → IsSane s → CanGoOn s → AllFit s (handle config s message moment)
 
 -- and of a checkpoint that is asked for
 abbrev pub CheckpointFits : Type 0
