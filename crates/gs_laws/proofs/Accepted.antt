@@ -1,8 +1,8 @@
 -- The records of a call of the tree that is accepted fit what they meet, and keep what stands.
 use Rattle.std.proofs.Common.{◌≡◌, ◌∙◌, ◌&&◌, ◌||◌, ◌==◌, ℕ, Bool, true, false, not, List, [], ◌∷◌, ◌++◌, refl, ap, subst, sym, arith}
-use Rattle.std.specs.Prelude.{nat_lt, is_none, is_some, unwrap_or, option_and_then, option_map, Option, Some, None, Result, Ok, Err, if◌then◌else◌}
+use Rattle.std.specs.Prelude.{is_none, is_some, unwrap_or, option_and_then, option_map, Option, Some, None, Result, Ok, Err, if◌then◌else◌}
 use Rattle.std.specs.FinMap as fin
-use Rattle.std.specs.List.{list_all, list_any}
+use Rattle.std.specs.List.{list_all}
 use Rattle.std.proofs.lemmas.Bool.{false≢true, and_parts}
 use Rattle.std.proofs.lemmas.Bool.Decides.{nat_tests}
 use Rattle.gs_base.specs.declared.numbers.Moment.{Moment}
@@ -15,21 +15,19 @@ use Rattle.gs_tree.specs.Edits.{same_path, hidden_path, old_name, unhidden}
 use Rattle.gs_tree.specs.Entry.{Entry}
 use Rattle.gs_tree.specs.Find.{at}
 use Rattle.gs_tree.proofs.Levels.{both_true}
-use Rattle.gs_refs.specs.Counts.{Counts}
 use Rattle.gs_edit.specs.Edits.{with_counts}
 use Rattle.gs_edit.specs.Table.{tabled}
 use Rattle.gs_edit.specs.View.{NamesView}
 use Rattle.gs_msg.specs.declared.answer.Answer.{Answer}
 use Rattle.gs_msg.specs.declared.answer.Answer.TheVariants as answers
-use Rattle.gs_record.specs.Plain.{PlainEdit, PlainEntry, Edited, Said, Hide, Unhide}
+use Rattle.gs_record.specs.Plain.{PlainEdit, PlainEntry, Edited, Hide, Unhide}
 use Rattle.gs_record.specs.Writable.{IsEdit}
 use Rattle.gs_state.specs.Applied.{after_edit, applied, chunk_of_edit, if_fits, is_fresh, is_fresh_if, is_visible_name, may_edit, names_well, number_of_edit, replayed, view_for, with_edit}
 use Rattle.gs_state.specs.Calls.{accept_plan, answered_with, deleted, edit_if, edited_by, has_visible_child, looked_up}
 use Rattle.gs_state.specs.Durable.{Durable, is_rolling}
 use Rattle.gs_state.specs.State.{State, Plan, Turn, turned, unmoved, and_then, for_each, fits, if_room, refused, ended_by, all_ended_by}
 use Rattle.gs_state.specs.Undoing.{edited_names, names_from}
-use Rattle.gs_state.specs.Whole.{is_hidden_twice}
-use Rattle.gs_laws.specs.Promises.{AllFit, AreKept, FitsAndKeeps, IsKept}
+use Rattle.gs_laws.specs.Promises.{AllFit, AreKept, IsKept}
 use Rattle.gs_laws.proofs.KeptEdits.{edit_kept_by}
 use Rattle.gs_laws.proofs.KeptNames.{rows_each, rows_once}
 use Rattle.gs_laws.proofs.Refusing.{refused_leaves}

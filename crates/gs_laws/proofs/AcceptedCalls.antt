@@ -1,6 +1,6 @@
 -- The records of each call fit what they meet, and keep what stands.
-use Rattle.std.proofs.Common.{◌≡◌, ◌∙◌, ◌&&◌, ◌||◌, ℕ, Bool, true, false, not, List, [], ◌∷◌, refl, ap, sym}
-use Rattle.std.specs.Prelude.{Option, Some, None, Ok, Err, if◌then◌else◌}
+use Rattle.std.proofs.Common.{◌≡◌, ◌&&◌, ◌||◌, Bool, true, false, not, List, [], ◌∷◌, refl}
+use Rattle.std.specs.Prelude.{Option, Some, None, Err, if◌then◌else◌}
 use Rattle.std.specs.FinMap as fin
 use Rattle.std.specs.List.{list_any}
 use Rattle.std.proofs.lemmas.Bool.{true≢false}
@@ -18,15 +18,14 @@ use Rattle.gs_edit.specs.declared.edit.Edit.TheVariants as edits
 use Rattle.gs_msg.specs.declared.answer.Answer.TheVariants as answers
 use Rattle.gs_msg.specs.declared.call.Call.{Call}
 use Rattle.gs_msg.specs.declared.call.Call.TheVariants as calls
-use Rattle.gs_record.specs.Plain.{Mkdirs, Create, Rename, Hide, Unhide}
-use Rattle.gs_state.specs.Applied.{is_visible}
-use Rattle.gs_state.specs.Calls.{found_chunk, is_always_taken, is_any_hidden, is_locked, is_work, listing, location, ordered, queried, refused_before, status, told_phase}
+use Rattle.gs_record.specs.Plain.{Mkdirs, Create, Rename, Unhide}
+use Rattle.gs_state.specs.Calls.{found_chunk, is_always_taken, is_any_hidden, is_locked, is_work, listing, location, refused_before, status, told_phase}
 use Rattle.gs_state.specs.Durable.{is_rolling}
 use Rattle.gs_place.specs.Needs.{most_needed_of}
 use Rattle.gs_state.specs.Sane.{IsSane}
 use Rattle.gs_state.specs.Working.{needs_of}
 use Rattle.gs_state.specs.Handling.{call_turn, called, called_unless, taken_as, numbered, replied_again, waits_still, Numbered, New, Again, Older}
-use Rattle.gs_state.specs.State.{State, Turn, unmoved, refused, is_failed, is_unopened, last_reply, first_of}
+use Rattle.gs_state.specs.State.{State, unmoved, is_failed, is_unopened, last_reply}
 use Rattle.gs_state.specs.Volatile.{is_pending}
 use Rattle.gs_laws.specs.Promises.{CallsFit, CallsKeep, IsKept, IsToldCall}
 use Rattle.gs_laws.proofs.Accepted.{Goes, answered_goes, deleted_goes, edited_goes, looked_goes, may_so, refused_goes, same_goes, test_goes, unhide_well}

@@ -1,39 +1,36 @@
 -- A scan's records fit what they meet, and keep what stands: each removal, then the chunks that are left without a reference.
-use Rattle.std.proofs.Common.{◌≡◌, ◌∙◌, ◌&&◌, ◌||◌, ◌==◌, ◌+◌, ℕ, Bool, true, false, not, cond, T, List, [], ◌∷◌, ◌++◌, length, map, filter, refl, ap, subst, sym, arith}
-use Rattle.std.specs.Prelude.{fold, is_some, nat_lt, option_and_then, unwrap_or, Option, Some, None, Result, Ok, Err}
-use Rattle.std.specs.declared.cmp.Ordering.{Ordering}
-use Rattle.std.specs.declared.cmp.Ordering.TheVariants.{Less, Equal, Greater}
+use Rattle.std.proofs.Common.{◌≡◌, ◌∙◌, ◌||◌, ◌==◌, ◌+◌, ℕ, Bool, true, false, not, cond, T, List, [], ◌∷◌, length, map, filter, refl, ap, subst, sym, arith}
+use Rattle.std.specs.Prelude.{fold, is_some, nat_lt, option_and_then, unwrap_or, Option, Some, None, Ok, Err}
 use Rattle.std.specs.Cmp.{nat_cmp_total}
 use Rattle.std.specs.FinMap as fin
 use Rattle.std.specs.FinMap.Entries.{below_all, is_sorted}
-use Rattle.std.specs.List.{list_all, list_any}
+use Rattle.std.specs.List.{list_all}
 use Rattle.std.specs.Ordering.{is_lt, nat_cmp}
 use Rattle.std.proofs.lemmas.Bool.{false≢true, and_parts}
 use Rattle.std.proofs.lemmas.Bool.Decides.{nat_tests}
 use Rattle.std.proofs.lemmas.List.Folds.{list_all-map}
 use Rattle.gs_base.specs.declared.numbers.Moment.{Moment}
 use Rattle.gs_base.specs.declared.numbers.ReqId.{ReqId}
-use Rattle.gs_base.specs.declared.refusal.Refusal.{Refusal}
 use Rattle.gs_base.specs.declared.refusal.Refusal.TheVariants as refusals
-use Rattle.gs_path.specs.Path.{Path, begins}
-use Rattle.gs_refs.specs.Counts.{Counts, ascends, ascends_from, count_or_zero, is_at_zero, occurrences, taken_each, without_each}
+use Rattle.gs_path.specs.Path.{Path}
+use Rattle.gs_refs.specs.Counts.{ascends, ascends_from, count_or_zero, is_at_zero, occurrences, without_each}
 use Rattle.gs_tree.specs.Chunks.{all_chunks}
 use Rattle.gs_tree.specs.Find.{Rows, at}
 use Rattle.gs_tree.proofs.Levels.{both_true}
 use Rattle.gs_edit.specs.Edits.{with_counts}
 use Rattle.gs_edit.specs.Scan.{gone, is_gone, left}
-use Rattle.gs_edit.specs.View.{NamesView, names_of}
+use Rattle.gs_edit.specs.View.{names_of}
 use Rattle.gs_edit.proofs.Removals.{gone_is}
 use Rattle.gs_edit.proofs.Sweeping.{rows_without, split_chunks}
 use Rattle.gs_msg.specs.declared.answer.Answer.TheVariants as answers
-use Rattle.gs_record.specs.Plain.{PlainEdit, PlainEntry, Edited, Forget, Remove}
+use Rattle.gs_record.specs.Plain.{PlainEntry, Edited, Forget}
 use Rattle.gs_state.specs.Applied.{after_edit, applied, if_fits, replayed, with_edit}
 use Rattle.gs_state.specs.Calls.{answered_with}
 use Rattle.gs_state.specs.Durable.{Durable, is_rolling}
 use Rattle.gs_state.specs.Settling.{own_request}
-use Rattle.gs_state.specs.State.{State, Plan, Turn, turned, and_then, with_record, all_ended_by}
+use Rattle.gs_state.specs.State.{State, Turn, turned, and_then, with_record, all_ended_by}
 use Rattle.gs_state.specs.Undoing.{edited_names, names_from}
-use Rattle.gs_state.specs.Working.{forget_if, forgotten_chunks, removed_paths, scan_edits, scan_plan, scanned, scans, waiting_for}
+use Rattle.gs_state.specs.Working.{forget_if, forgotten_chunks, removed_paths, scan_edits, scan_plan, scans, waiting_for}
 use Rattle.gs_laws.specs.Promises.{IsKept}
 use Rattle.gs_laws.proofs.Accepted.{Goes, all_ended_goes, answered_goes, may_so, room_goes, then_goes}
 use Rattle.gs_laws.proofs.AcceptedScans.{IsRemoved, all_removed, own_edits, removed_apart, removed_each, removed_goes}

@@ -1,6 +1,6 @@
 -- The records of each message but an answer to a proposal fit what they meet, and keep what stands; and so does a checkpoint.
-use Rattle.std.proofs.Common.{◌≡◌, ◌∙◌, ◌&&◌, ◌==◌, ℕ, Bool, true, false, not, List, [], ◌∷◌, length, filter, refl, ap, subst, sym}
-use Rattle.std.specs.Prelude.{nat_lt, is_some, option_and_then, unwrap_or, Option, Some, None, if◌then◌else◌}
+use Rattle.std.proofs.Common.{◌≡◌, ◌&&◌, ◌==◌, ℕ, Bool, true, false, not, List, [], ◌∷◌, length, refl, ap}
+use Rattle.std.specs.Prelude.{nat_lt, is_some, option_and_then, Option, Some, None, if◌then◌else◌}
 use Rattle.std.specs.FinMap as fin
 use Rattle.std.specs.List.{list_all}
 use Rattle.std.proofs.lemmas.Bool.{false≢true, true≢false, and_parts}
@@ -15,21 +15,18 @@ use Rattle.gs_msg.specs.declared.body.Body.{Body}
 use Rattle.gs_msg.specs.declared.body.Body.TheVariants as bodies
 use Rattle.gs_msg.specs.declared.chunk.Chunk.{Chunk as About}
 use Rattle.gs_msg.specs.declared.chunk.Chunk.TheVariants as abouts
-use Rattle.gs_msg.specs.declared.message.Message.{Message}
 use Rattle.gs_msg.specs.declared.node.NodeId.{NodeId}
 use Rattle.gs_msg.specs.declared.node.NodeId.TheVariants as nodes
-use Rattle.gs_record.specs.Plain.{Whole}
 use Rattle.gs_state.specs.Applied.{applied}
 use Rattle.gs_state.specs.Beginning.{all_begun, has_versions}
-use Rattle.gs_state.specs.Chunks.{chunk_at, has_entry, is_leased, may_begin}
+use Rattle.gs_state.specs.Chunks.{chunk_at, has_entry, may_begin}
 use Rattle.gs_state.specs.Durable.{Durable, Settled, is_rolling}
-use Rattle.gs_state.specs.Handling.{about_turn, checkpoint, checkpoint_body, checkpoint_tests, from_client, from_node, from_server, handle, server_turn, tidied, unless_failed, written, written_unless}
+use Rattle.gs_state.specs.Handling.{about_turn, checkpoint, checkpoint_body, checkpoint_tests, from_client, from_node, handle, server_turn, unless_failed, written_unless}
 use Rattle.gs_state.specs.Hearing.{behind, damaged, drops, is_leased_under, is_lost_at, is_told_sound, learned, lost, made_quiet, next_epoch, renewed, reported, reported_now, sends}
 use Rattle.gs_state.specs.Sane.{IsSane}
-use Rattle.gs_state.specs.State.{State, Plan, Turn, turned, unmoved, met_by, and_then, fits, if_room, first_of, is_failed}
-use Rattle.gs_state.specs.Whole.{checkpoint_of, whole_of}
+use Rattle.gs_state.specs.State.{State, Plan, Turn, turned, unmoved, met_by, fits, if_room, first_of, is_failed}
 use Rattle.gs_state.specs.declared.change.Change.TheVariants as changes
-use Rattle.gs_laws.specs.Promises.{AllFit, CheckpointFits, FitsAndKeeps, IsKept, IsToldBody, MessagesFit, MessagesKeep, is_answer, is_answer_of}
+use Rattle.gs_laws.specs.Promises.{CheckpointFits, FitsAndKeeps, IsKept, IsToldBody, MessagesFit, MessagesKeep, is_answer, is_answer_of}
 use Rattle.gs_laws.proofs.Accepted.{Goes, none_goes, same_goes, test_goes, then_goes}
 use Rattle.gs_laws.proofs.AcceptedCalls.{call_goes}
 use Rattle.gs_laws.proofs.AcceptedViews.{all_begun_goes, filter_holds, is_settled}

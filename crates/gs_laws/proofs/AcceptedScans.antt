@@ -1,44 +1,37 @@
 -- What a scan removes and forgets goes, one edit after the other.
-use Rattle.std.proofs.Common.{◌≡◌, ◌∙◌, ◌&&◌, ◌||◌, ◌==◌, ◌+◌, ℕ, Bool, true, false, not, cond, T, List, [], ◌∷◌, ◌++◌, map, filter, refl, ap, subst, sym, arith}
-use Rattle.std.specs.Prelude.{is_some, nat_lt, option_and_then, Option, Some, None, Result, Ok, Err}
+use Rattle.std.proofs.Common.{◌≡◌, ◌∙◌, ◌&&◌, ◌||◌, ◌+◌, ℕ, Bool, true, false, not, cond, T, List, [], ◌∷◌, ◌++◌, map, filter, refl, ap, subst, sym}
+use Rattle.std.specs.Prelude.{is_some, option_and_then, Option, Some, None, Result, Ok, Err}
 use Rattle.std.specs.declared.cmp.Ordering.{Ordering}
 use Rattle.std.specs.declared.cmp.Ordering.TheVariants.{Less, Equal, Greater}
-use Rattle.std.specs.Cmp.{nat_cmp_total, tied_itself, Equal-is}
+use Rattle.std.specs.Cmp.{tied_itself, Equal-is}
 use Rattle.std.specs.FinMap as fin
 use Rattle.std.specs.FinMap.Entries.{below_all, find-put, find-where_key, is_some-find, is_sorted, is_sorted-put, is_sorted-where_key, same_entries}
-use Rattle.std.specs.List.{AllByRecursion, list_all, list_any}
+use Rattle.std.specs.List.{AllByRecursion, list_any}
 use Rattle.std.specs.List.Sorted.{IsStrictlySortedBy}
-use Rattle.std.specs.Ordering.{eq_by_cmp, is_eq, is_lt, nat_cmp, ordering_then}
-use Rattle.std.proofs.lemmas.Bool.{false≢true, true≢false, and_parts}
-use Rattle.std.proofs.lemmas.Bool.Decides.{nat_tests}
-use Rattle.std.proofs.lemmas.List.Folds.{list_all-map}
+use Rattle.std.specs.Ordering.{eq_by_cmp, is_eq, is_lt, ordering_then}
+use Rattle.std.proofs.lemmas.Bool.{false≢true, and_parts}
 use Rattle.gs_base.specs.declared.refusal.Refusal.{Refusal}
 use Rattle.gs_path.specs.Path.{Path, begins, path_cmp, path_total}
-use Rattle.gs_refs.specs.Counts.{Counts, ascends, ascends_from, count_or_zero, is_at_zero, occurrences, taken_each, without_each}
-use Rattle.gs_tree.specs.Chunks.{all_chunks}
+use Rattle.gs_refs.specs.Counts.{Counts}
 use Rattle.gs_tree.specs.Edits.{same_path}
-use Rattle.gs_tree.specs.Entry.{Entry}
 use Rattle.gs_tree.specs.Find.{Rows, at}
-use Rattle.gs_tree.proofs.Levels.{both_true}
-use Rattle.gs_edit.specs.Edits.{named, with_counts}
-use Rattle.gs_edit.specs.Scan.{goes, gone, is_gone, is_removed, left, length_then_text_cmp, removal_cmp, removal_total}
+use Rattle.gs_edit.specs.Edits.{named}
+use Rattle.gs_edit.specs.Scan.{goes, is_removed, length_then_text_cmp, removal_cmp, removal_total}
 use Rattle.gs_edit.specs.Sweep.{and_next}
-use Rattle.gs_edit.specs.View.{NamesView, names_of}
+use Rattle.gs_edit.specs.View.{names_of}
 use Rattle.gs_edit.specs.declared.edit.Edit.TheVariants as edits
-use Rattle.gs_edit.proofs.Removals.{AreApart, apart, begins-itself, gone_is, some_passes}
-use Rattle.gs_edit.proofs.Sweeping.{Goes as GoesAt, all_less, at-filter, rows_without, split_chunks}
+use Rattle.gs_edit.proofs.Removals.{AreApart, apart, begins-itself, some_passes}
+use Rattle.gs_edit.proofs.Sweeping.{Goes as GoesAt, all_less, at-filter, rows_without}
 use Rattle.gs_edit.proofs.Tables.{among, paths_antisymmetric, same_itself, same_path-is}
-use Rattle.gs_record.specs.Plain.{PlainEdit, PlainEntry, Edited, Forget, Remove}
+use Rattle.gs_record.specs.Plain.{PlainEdit, PlainEntry, Edited, Remove}
 use Rattle.gs_state.specs.Applied.{after_edit, applied, if_fits, replayed, with_edit}
 use Rattle.gs_state.specs.Durable.{Durable, is_rolling}
 use Rattle.gs_state.specs.Settling.{own_request}
 use Rattle.gs_state.specs.Undoing.{edited_names, names_from}
-use Rattle.gs_state.specs.Working.{forget_if, forgotten_chunks, put_paths, removed_paths}
+use Rattle.gs_state.specs.Working.{put_paths, removed_paths}
 use Rattle.gs_laws.specs.Promises.{IsKept}
 use Rattle.gs_laws.proofs.Accepted.{may_so}
-use Rattle.gs_laws.proofs.AcceptedUpgrades.{filtered_all}
 use Rattle.gs_laws.proofs.KeptEdits.{edit_kept_told}
-use Rattle.gs_laws.proofs.Retold.{each_found}
 
 -- ---- one removal
 

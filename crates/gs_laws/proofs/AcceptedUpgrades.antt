@@ -1,5 +1,5 @@
 -- The records of a call of an upgrade that is accepted fit what they meet, and keep what stands.
-use Rattle.std.proofs.Common.{◌≡◌, ◌∙◌, ◌+◌, ◌&&◌, ◌||◌, ◌==◌, ℕ, Bool, true, false, not, cond, List, [], ◌∷◌, ◌++◌, map, filter, refl, ap, subst, sym, arith}
+use Rattle.std.proofs.Common.{◌≡◌, ◌∙◌, ◌+◌, ◌&&◌, ◌||◌, ◌==◌, ℕ, Bool, true, false, not, cond, List, [], ◌∷◌, ◌++◌, map, filter, refl, ap, arith}
 use Rattle.std.specs.Prelude.{nat_lt, is_none, is_some, Option, Some, None}
 use Rattle.std.specs.Cmp.{nat_cmp_total}
 use Rattle.std.specs.FinMap as fin
@@ -19,23 +19,21 @@ use Rattle.gs_base.specs.declared.numbers.ReqId.{ReqId}
 use Rattle.gs_base.specs.declared.refusal.Refusal.{Refusal}
 use Rattle.gs_base.specs.declared.refusal.Refusal.TheVariants as refusals
 use Rattle.gs_edit.specs.View.{NamesView}
-use Rattle.gs_msg.specs.declared.message.Message.{Message}
 use Rattle.gs_tree.proofs.Levels.{both_true}
 use Rattle.gs_record.specs.Plain.{Prepare, Finalize, RollbackBegin, RollbackCommit}
 use Rattle.gs_record.specs.Writable.{AreServers}
 use Rattle.gs_record.specs.declared.checkpoint.Phase.{Phase}
 use Rattle.gs_record.specs.declared.checkpoint.Phase.TheVariants.{Ordinary, Upgrade, Rolling}
-use Rattle.gs_record.specs.declared.entry.Answered.{Answered}
 use Rattle.gs_state.specs.Applied.{after_undoing, applied, are_answers, are_at_rest, if_fits, is_at_rest, is_next_epoch, is_prepared_on, may_restore, rolled_back, with_epoch, without_prepared}
 use Rattle.gs_state.specs.Chunks.{chunk_at, has_entry}
 use Rattle.gs_state.specs.Durable.{Durable, Settled, is_listed, is_ordinary, is_rolling, is_upgrade, prepared_view}
 use Rattle.gs_state.specs.Sane.{IsSane}
 use Rattle.gs_state.specs.Settling.{is_quiet_at, requests_of}
-use Rattle.gs_state.specs.State.{State, Plan, Turn, turned, and_then, refused, all_ended_by, answer_changes, first_of}
+use Rattle.gs_state.specs.State.{State, Plan, Turn, turned, and_then, refused, all_ended_by, first_of}
 use Rattle.gs_state.specs.Undoing.{all_undone}
-use Rattle.gs_state.specs.Upgrades.{accepted_plan, all_unquiet, answers_for, chunk_count, commit_if, commit_on, commit_tests, end_tests, finalize, first_in, if_unquiet, is_last_epoch, lacks_answer, needs_answer, prepare_abort, prepare_commit, restored_on, rollback_begin, rollback_commit, tell_all, told_of, unless, unrestored}
+use Rattle.gs_state.specs.Upgrades.{accepted_plan, all_unquiet, answers_for, chunk_count, commit_if, commit_on, commit_tests, end_tests, finalize, first_in, if_unquiet, is_last_epoch, lacks_answer, prepare_abort, prepare_commit, restored_on, rollback_begin, rollback_commit, tell_all, told_of, unless, unrestored}
 use Rattle.gs_state.specs.Whole.{is_empty}
-use Rattle.gs_state.specs.Working.{ascending, put_handles}
+use Rattle.gs_state.specs.Working.{put_handles}
 use Rattle.gs_state.specs.declared.asking.Prepared.{Prepared}
 use Rattle.gs_state.specs.declared.change.Change.TheVariants as changes
 use Rattle.gs_laws.specs.Promises.{IsKept}

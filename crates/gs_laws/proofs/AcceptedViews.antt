@@ -1,19 +1,19 @@
 -- The records of a call that begins views fit what they meet, and keep what stands.
-use Rattle.std.proofs.Common.{◌≡◌, ◌∙◌, ◌<◌, ◌&&◌, ◌||◌, ℕ, zero, suc, Bool, true, false, not, cond, List, [], ◌∷◌, ◌++◌, length, map, filter, refl, ap, subst, sym, arith}
-use Rattle.std.specs.Prelude.{nat_le, is_some, slice_get, unwrap_or, Option, Some, None, Result, Ok, Err, if◌then◌else◌}
+use Rattle.std.proofs.Common.{◌≡◌, ◌∙◌, ◌<◌, ◌&&◌, ◌||◌, ℕ, zero, suc, Bool, true, false, not, cond, List, [], ◌∷◌, length, map, filter, refl, ap, subst, sym, arith}
+use Rattle.std.specs.Prelude.{is_some, slice_get, unwrap_or, Option, Some, None, Result, Ok, Err}
 use Rattle.std.specs.declared.cmp.Ordering.{Ordering}
 use Rattle.std.specs.declared.cmp.Ordering.TheVariants.{Less, Equal, Greater}
 use Rattle.std.specs.FinMap as fin
 use Rattle.std.specs.FinMap.Entries.{by_order}
 use Rattle.std.specs.List.{list_all}
 use Rattle.std.specs.Ordering.{eq_by_cmp, nat_cmp}
-use Rattle.std.proofs.lemmas.Bool.{false≢true, true≢false, and_parts}
+use Rattle.std.proofs.lemmas.Bool.{false≢true, and_parts}
 use Rattle.std.proofs.lemmas.List.Folds.{list_all-append}
 use Rattle.gs_base.specs.declared.numbers.ReqId.{ReqId}
 use Rattle.gs_base.specs.declared.refusal.Refusal.{Refusal}
 use Rattle.gs_base.specs.declared.refusal.Refusal.TheVariants as refusals
 use Rattle.gs_path.specs.Path.{Path, path_cmp}
-use Rattle.gs_refs.specs.Counts.{count_or_zero, occurrences}
+use Rattle.gs_refs.specs.Counts.{count_or_zero}
 use Rattle.gs_tree.specs.Chunks.{all_chunks}
 use Rattle.gs_tree.specs.Edits.{chunks_in}
 use Rattle.gs_tree.specs.Entry.{Entry, Dir, File}
@@ -21,11 +21,11 @@ use Rattle.gs_tree.specs.Find.{Rows, at}
 use Rattle.gs_tree.proofs.Levels.{both_true}
 use Rattle.gs_lease.specs.declared.view.Purpose.{Purpose}
 use Rattle.gs_record.specs.Plain.{Propose}
-use Rattle.gs_state.specs.Applied.{applied, if_fits, is_fresh, may_propose, proposed}
+use Rattle.gs_state.specs.Applied.{applied, if_fits, is_fresh, proposed}
 use Rattle.gs_state.specs.Beginning.{all_begun, begin_at, begun, has_handle, has_versions, waits_from_now}
 use Rattle.gs_state.specs.Calls.{found_chunk}
 use Rattle.gs_state.specs.Durable.{Durable, is_rolling}
-use Rattle.gs_state.specs.State.{State, Plan, Turn, turned, unmoved, if_room, refused}
+use Rattle.gs_state.specs.State.{State, Plan, turned, unmoved, if_room, refused}
 use Rattle.gs_state.specs.Working.{ascending, begins, begins_new, put_handles}
 use Rattle.gs_state.specs.declared.pending.Waiting.{Waiting}
 use Rattle.gs_laws.specs.Promises.{IsKept}

@@ -1,5 +1,5 @@
 -- The records of each call that begins a view and is accepted fit what they meet, and keep what stands.
-use Rattle.std.proofs.Common.{◌≡◌, ◌∙◌, ◌&&◌, ◌||◌, ℕ, zero, suc, Bool, true, false, not, cond, List, [], ◌∷◌, ◌++◌, length, map, filter, refl, ap, subst, sym, arith}
+use Rattle.std.proofs.Common.{◌≡◌, ◌∙◌, ◌&&◌, ◌||◌, ℕ, Bool, true, false, not, cond, List, [], ◌∷◌, ◌++◌, length, filter, refl, ap, subst, sym}
 use Rattle.std.specs.Prelude.{find, fold, nat_le, nat_lt, is_some, Option, Some, None, Result, Ok, Err, if◌then◌else◌}
 use Rattle.std.specs.declared.cmp.Ordering.{Ordering}
 use Rattle.std.specs.declared.cmp.Ordering.TheVariants.{Less, Equal, Greater}
@@ -17,7 +17,6 @@ use Rattle.gs_base.specs.declared.numbers.Stamp.{Stamp}
 use Rattle.gs_base.specs.declared.refusal.Refusal.{Refusal}
 use Rattle.gs_base.specs.declared.refusal.Refusal.TheVariants as refusals
 use Rattle.gs_path.specs.Path.{Path, text_cmp}
-use Rattle.gs_tree.specs.Chunks.{visible_under}
 use Rattle.gs_tree.specs.Entry.{Entry, Dir, File}
 use Rattle.gs_tree.specs.Find.{Rows}
 use Rattle.gs_lease.specs.declared.view.Purpose.TheVariants as purposes
@@ -36,7 +35,7 @@ use Rattle.gs_state.specs.Replies.{client_cmp}
 use Rattle.gs_state.specs.Sane.{IsSane, is_waited_by, makes}
 use Rattle.gs_state.specs.Settling.{is_quiet_at, requests_of, source_chunks}
 use Rattle.gs_state.specs.State.{State, Plan, Turn, turned, and_then, fits, if_room, with_record, refused, ended_by, all_ended_by, keeps_refusal, first_of}
-use Rattle.gs_state.specs.Upgrades.{accepted_plan, all_unquiet, begin_tests, if_pending, lower_path, lowest_path, pending_paths, prepare_begin, unless}
+use Rattle.gs_state.specs.Upgrades.{accepted_plan, all_unquiet, begin_tests, if_pending, lower_path, lowest_path, pending_paths, prepare_begin}
 use Rattle.gs_state.specs.Volatile.{is_call, paths_of}
 use Rattle.gs_state.specs.Working.{ascending, begin_pending, begins, begins_new, begins_snapshot, copied_on_write, created_on, extended_at, extends, found_for_writing, is_wanted_at, leased, may_use, most_chunks, need_of, needs_of, replicated_to, replicates_chunk, replicates_most, snapshot_if, unquiet, written_at}
 use Rattle.gs_state.specs.declared.change.Change.TheVariants as changes

@@ -1,8 +1,8 @@
 -- The records of an answer to a proposal fit what they meet: so those of every message do.
-use Rattle.std.proofs.Common.{◌≡◌, ◌∙◌, ◌&&◌, ◌||◌, ◌==◌, ℕ, Bool, true, false, not, List, [], ◌∷◌, ◌++◌, filter, refl, ap, subst, sym, arith}
-use Rattle.std.specs.Prelude.{is_some, unwrap_or, Option, Some, None, if◌then◌else◌}
+use Rattle.std.proofs.Common.{◌≡◌, ◌∙◌, ◌&&◌, ◌||◌, ◌==◌, ℕ, Bool, true, false, not, List, [], ◌∷◌, filter, refl, ap, subst, sym, arith}
+use Rattle.std.specs.Prelude.{is_some, Option, Some, None, if◌then◌else◌}
 use Rattle.std.specs.FinMap as fin
-use Rattle.std.specs.List.{list_all, list_any}
+use Rattle.std.specs.List.{list_all}
 use Rattle.std.proofs.lemmas.Bool.{false≢true, true≢false, and_parts}
 use Rattle.std.proofs.lemmas.Bool.Decides.{nat_tests}
 use Rattle.gs_base.specs.Members.{is_member}
@@ -10,7 +10,6 @@ use Rattle.gs_base.specs.declared.config.Config.{Config}
 use Rattle.gs_base.specs.declared.numbers.Moment.{Moment}
 use Rattle.gs_base.specs.declared.numbers.ReqId.{ReqId}
 use Rattle.gs_base.specs.declared.numbers.Stamp.{Stamp}
-use Rattle.gs_base.specs.declared.refusal.Refusal.{Refusal}
 use Rattle.gs_base.specs.declared.refusal.Refusal.TheVariants as refusals
 use Rattle.gs_tree.proofs.Levels.{both_true}
 use Rattle.gs_lease.specs.declared.view.View.{View}
@@ -18,18 +17,17 @@ use Rattle.gs_msg.specs.declared.body.Body.{Body}
 use Rattle.gs_msg.specs.declared.body.Body.TheVariants as bodies
 use Rattle.gs_msg.specs.declared.chunk.Chunk.{Chunk as About}
 use Rattle.gs_msg.specs.declared.chunk.Chunk.TheVariants as abouts
-use Rattle.gs_msg.specs.declared.message.Message.{Message}
 use Rattle.gs_msg.specs.declared.node.NodeId.{NodeId}
 use Rattle.gs_msg.specs.declared.node.NodeId.TheVariants as nodes
 use Rattle.gs_view.specs.declared.answers.Answers.{Answers}
 use Rattle.gs_state.specs.Applied.{is_visible}
 use Rattle.gs_state.specs.Chunks.{Chunk, chunk_at, has_entry, heard_no, heard_yes, hears, is_target, settling, step_of_no, step_of_yes, view_by, with_answers}
 use Rattle.gs_state.specs.Durable.{Durable, is_rolling, prepared_view}
-use Rattle.gs_state.specs.Handling.{about_turn, from_node, from_server, handle, server_turn}
+use Rattle.gs_state.specs.Handling.{about_turn, from_node, handle, server_turn}
 use Rattle.gs_state.specs.Hearing.{ask_plan, heard, is_with_sealed, promised, promised_at, promised_for, send_plan, stepped, unpromised, unpromised_at, unpromised_for}
-use Rattle.gs_state.specs.Sane.{IsAsked, IsSane, are_apart, is_waited_by, may_wait_for}
-use Rattle.gs_state.specs.Settling.{all_go_on, all_refused, concerned, failed, is_copied_by, requests_of, settle_plan, settled_by, settled_if, settled_on}
-use Rattle.gs_state.specs.State.{State, Plan, Turn, turned, unmoved, met_by, and_then, fits}
+use Rattle.gs_state.specs.Sane.{IsSane, are_apart, is_waited_by, may_wait_for}
+use Rattle.gs_state.specs.Settling.{all_go_on, all_refused, concerned, is_copied_by, requests_of, settle_plan, settled_by, settled_if, settled_on}
+use Rattle.gs_state.specs.State.{State, turned, unmoved, met_by, and_then, fits}
 use Rattle.gs_state.specs.Volatile.{is_call, is_pending, paths_of}
 use Rattle.gs_state.specs.declared.asking.Asking.{Asking}
 use Rattle.gs_state.specs.declared.asking.Step.{Step}
@@ -37,7 +35,7 @@ use Rattle.gs_state.specs.declared.asking.Step.TheVariants as steps
 use Rattle.gs_state.specs.declared.pending.Pending.{Pending}
 use Rattle.gs_state.specs.declared.pending.Waiting.{Waiting}
 use Rattle.gs_state.specs.declared.pending.Waiting.TheVariants as waits
-use Rattle.gs_laws.specs.Promises.{AllFit, AllMessagesFit, CanGoOn, IsKept, is_answer, is_answer_of}
+use Rattle.gs_laws.specs.Promises.{AllFit, AllMessagesFit, CanGoOn, IsKept}
 use Rattle.gs_laws.proofs.Accepted.{Goes, all_ended_goes, none_goes, same_goes, test_goes, then_goes}
 use Rattle.gs_laws.proofs.AcceptedForgets.{folded}
 use Rattle.gs_laws.proofs.AcceptedMessages.{about_goes, client_goes, server_goes, unless_failed_goes}

@@ -1,9 +1,9 @@
 -- How calls that waited go on once their chunk is settled: each record fits.
-use Rattle.std.proofs.Common.{◌≡◌, ◌∙◌, ◌&&◌, ◌||◌, ◌==◌, ℕ, zero, Bool, true, false, not, List, [], ◌∷◌, ◌++◌, refl, ap, subst, sym, arith}
+use Rattle.std.proofs.Common.{◌≡◌, ◌∙◌, ◌&&◌, ◌||◌, ◌==◌, ℕ, zero, Bool, true, false, not, List, [], ◌∷◌, refl, ap, subst, sym, arith}
 use Rattle.std.specs.Prelude.{is_none, is_some, option_map, unwrap_or, Option, Some, None, Result, Ok, Err, if◌then◌else◌}
 use Rattle.std.specs.FinMap as fin
 use Rattle.std.specs.List.{list_all}
-use Rattle.std.proofs.lemmas.Bool.{false≢true, and_parts}
+use Rattle.std.proofs.lemmas.Bool.{and_parts}
 use Rattle.std.proofs.lemmas.Bool.Decides.{nat_tests}
 use Rattle.gs_base.specs.Members.{is_member}
 use Rattle.gs_base.specs.declared.numbers.ReqId.{ReqId}
@@ -22,8 +22,8 @@ use Rattle.gs_state.specs.Beginning.{begin_at, copy_plan, has_handle, has_versio
 use Rattle.gs_state.specs.Chunks.{may_begin}
 use Rattle.gs_state.specs.Durable.{Durable, Settled, is_rolling}
 use Rattle.gs_state.specs.Sane.{may_wait_for}
-use Rattle.gs_state.specs.Settling.{all_go_on, copied, copied_tree, edit_plan, edit_turn, ended_by_edit, ended_with, extended, goes_on, if_room_for, is_quiet_at, leased_next, own_request, replace_plan, replaced, replaced_if, replicated, source_chunks}
-use Rattle.gs_state.specs.State.{State, Plan, Turn, turned, unmoved, and_then, fits, if_room, ended_by}
+use Rattle.gs_state.specs.Settling.{all_go_on, copied, copied_tree, edit_plan, edit_turn, ended_by_edit, ended_with, extended, goes_on, if_room_for, is_quiet_at, leased_next, own_request, replace_plan, replaced, replaced_if, source_chunks}
+use Rattle.gs_state.specs.State.{State, Plan, Turn, turned, unmoved, and_then, fits, ended_by}
 use Rattle.gs_state.specs.Undoing.{edited_names}
 use Rattle.gs_state.specs.Volatile.{paths_of}
 use Rattle.gs_state.specs.declared.change.Change.{Change}
@@ -31,7 +31,7 @@ use Rattle.gs_state.specs.declared.change.Change.TheVariants as changes
 use Rattle.gs_state.specs.declared.pending.Pending.{Pending}
 use Rattle.gs_state.specs.declared.pending.Waiting.{Waiting}
 use Rattle.gs_state.specs.declared.pending.Waiting.TheVariants as waits
-use Rattle.gs_laws.proofs.Accepted.{Goes, edit_applies, ended_goes, one_goes, same_goes, test_goes, then_goes}
+use Rattle.gs_laws.proofs.Accepted.{Goes, edit_applies, ended_goes, one_goes, same_goes, then_goes}
 use Rattle.gs_laws.proofs.AcceptedViews.{is_settled, or_left, or_right, proposes}
 use Rattle.gs_laws.proofs.AcceptedWork.{all_ended_same}
 use Rattle.gs_laws.proofs.Fresh.{next_is_fresh, not_false}

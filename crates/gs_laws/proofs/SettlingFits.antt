@@ -1,10 +1,10 @@
 -- The records by which a chunk is settled on a view fit what they meet.
-use Rattle.std.proofs.Common.{◌≡◌, ◌∙◌, ◌≤◌, ◌&&◌, ◌||◌, ◌==◌, ℕ, Bool, true, false, not, cond, List, [], ◌∷◌, ◌++◌, refl, ap, subst, sym, eqb, arith}
-use Rattle.std.specs.Prelude.{nat_le, nat_lt, is_some, option_and_then, option_map, unwrap_or, Option, Some, None, if◌then◌else◌}
+use Rattle.std.proofs.Common.{◌≡◌, ◌∙◌, ◌≤◌, ◌&&◌, ◌||◌, ◌==◌, ℕ, Bool, true, false, not, cond, List, [], ◌∷◌, ◌++◌, refl, ap, subst, sym, arith}
+use Rattle.std.specs.Prelude.{nat_le, nat_lt, is_some, option_and_then, option_map, Option, Some, None, if◌then◌else◌}
 use Rattle.std.specs.Cmp.{nat_cmp_total, tied_itself}
 use Rattle.std.specs.FinMap as fin
 use Rattle.std.specs.List.{list_all, list_any}
-use Rattle.std.specs.Ordering.{eq_by_cmp, is_eq, nat_cmp}
+use Rattle.std.specs.Ordering.{is_eq}
 use Rattle.std.proofs.lemmas.Bool.{false≢true, and_parts}
 use Rattle.std.proofs.lemmas.Bool.Decides.{nat_tests}
 use Rattle.gs_base.specs.MemberLaws.{eqb_itself}
@@ -15,13 +15,12 @@ use Rattle.gs_lease.specs.Transitions.{settled_view, term_of}
 use Rattle.gs_lease.specs.declared.view.Purpose.{Purpose}
 use Rattle.gs_lease.specs.declared.view.Purpose.TheVariants as purposes
 use Rattle.gs_lease.specs.declared.view.View.{View}
-use Rattle.gs_view.specs.Choice.{answer_of, answerers, chosen, greatest, is_count}
+use Rattle.gs_view.specs.Choice.{answer_of, answerers, greatest, is_count}
 use Rattle.gs_view.specs.declared.answers.Answers.{Answers}
 use Rattle.gs_record.specs.Plain.{PlainEntry, Holder, Settle}
 use Rattle.gs_state.specs.Applied.{applied, follows_view, held_by, if_fits, is_since, is_sound, may_be_settled, replayed, with_view}
 use Rattle.gs_state.specs.Chunks.{Chunk, holder_records, is_holder, is_target, may_settle, proposed_in, settling, target_of, view_by}
-use Rattle.gs_state.specs.Durable.{Durable, Settled, has_its_primary, is_given, is_upgrade, prepared_view, upgrade_epoch, with_prepared}
-use Rattle.gs_state.specs.Sane.{IsAsked}
+use Rattle.gs_state.specs.Durable.{Durable, has_its_primary, is_given, is_upgrade, prepared_view, upgrade_epoch, with_prepared}
 use Rattle.gs_state.specs.Whole.{is_empty}
 use Rattle.gs_state.specs.declared.asking.Asking.{Asking}
 use Rattle.gs_laws.proofs.AcceptedViews.{is_settled}
