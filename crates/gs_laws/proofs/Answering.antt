@@ -6,6 +6,7 @@ use Rattle.std.specs.List.{list_all}
 use Rattle.std.proofs.lemmas.Bool.{false≢true, true≢false, and_parts}
 use Rattle.std.proofs.lemmas.Bool.Decides.{nat_tests}
 use Rattle.gs_base.specs.Members.{is_member}
+use Rattle.gs_base.specs.Stamps.{is_same}
 use Rattle.gs_base.specs.declared.config.Config.{Config}
 use Rattle.gs_base.specs.declared.numbers.Moment.{Moment}
 use Rattle.gs_base.specs.declared.numbers.ReqId.{ReqId}
@@ -21,9 +22,9 @@ use Rattle.gs_msg.specs.declared.node.NodeId.{NodeId}
 use Rattle.gs_msg.specs.declared.node.NodeId.TheVariants as nodes
 use Rattle.gs_view.specs.declared.answers.Answers.{Answers}
 use Rattle.gs_state.specs.Applied.{is_visible}
-use Rattle.gs_state.specs.Chunks.{Chunk, chunk_at, has_entry, heard_no, heard_yes, hears, is_target, settling, step_of_no, step_of_yes, view_by, with_answers}
+use Rattle.gs_state.specs.Chunks.{Chunk, chunk_at, has_entry, heard_no, heard_yes, hears, is_target, settling, step_of_no, step_at_tick, step_of_yes, view_by, with_answers}
 use Rattle.gs_state.specs.Durable.{Durable, is_rolling, prepared_view}
-use Rattle.gs_state.specs.Handling.{about_turn, from_node, handle, server_turn}
+use Rattle.gs_state.specs.Handling.{about_turn, from_node, handle, pressed, pressed_at, pressed_if, server_turn}
 use Rattle.gs_state.specs.Hearing.{ask_plan, heard, is_with_sealed, promised, promised_at, promised_for, send_plan, stepped, unpromised, unpromised_at, unpromised_for}
 use Rattle.gs_state.specs.Sane.{IsSane, are_apart, is_waited_by, may_wait_for}
 use Rattle.gs_state.specs.Settling.{all_go_on, all_refused, concerned, is_copied_by, requests_of, settle_plan, settled_by, settled_if, settled_on}
@@ -35,7 +36,7 @@ use Rattle.gs_state.specs.declared.asking.Step.TheVariants as steps
 use Rattle.gs_state.specs.declared.pending.Pending.{Pending}
 use Rattle.gs_state.specs.declared.pending.Waiting.{Waiting}
 use Rattle.gs_state.specs.declared.pending.Waiting.TheVariants as waits
-use Rattle.gs_laws.specs.Promises.{AllFit, AllMessagesFit, CanGoOn, IsKept}
+use Rattle.gs_laws.specs.Promises.{AllFit, AllMessagesFit, CanGoOn, IsKept, StepsAtTicksFit}
 use Rattle.gs_laws.proofs.Accepted.{Goes, all_ended_goes, none_goes, same_goes, test_goes, then_goes}
 use Rattle.gs_laws.proofs.AcceptedForgets.{folded}
 use Rattle.gs_laws.proofs.AcceptedMessages.{about_goes, client_goes, server_goes, unless_failed_goes}
@@ -234,6 +235,25 @@ module _ (s : State) (sane : IsSane s) (go : CanGoOn s) where
   all_server_goes : (server : ℕ) (moment : Moment) (said : Body) → Goes ⊥ s (server_turn s server moment said)
   all_server_goes server moment (bodies.About chunk said) = all_about_goes server chunk moment said
   all_server_goes server moment said = server_goes ⊥ s server moment said refl
+
+  -- ---- a step of a tick
+
+  pressed_on : (chunk : ℕ) (stamp : Stamp) (moment : Moment) (c : Chunk) (asking : Option Asking) → fin.get s.volatile.moving chunk ≡ asking → Goes ⊥ s (pressed_if s chunk stamp moment c asking)
+  pressed_on chunk stamp moment c None has = same_goes ⊥ s (unmoved s) refl refl
+  pressed_on chunk stamp moment c (Some asking) has =
+      test_goes ⊥ s (is_same asking.stamp stamp) (stepped s chunk c asking false moment (step_at_tick asking)) (unmoved s)
+      (λ _. stepped_goes s chunk asking (asked_waits chunk asking has) c false moment (step_at_tick asking)) (λ _. same_goes ⊥ s (unmoved s) refl refl)
+
+  pressed_goes : (moment : Moment) (proposal : ℕ × Stamp) → Goes ⊥ s (pressed moment proposal s)
+  unfolding chunk_at
+  pressed_goes moment proposal = by_entry (has_entry s proposal.0)
+    where
+      by_entry : (b : Bool) → Goes ⊥ s (pressed_at s proposal.0 proposal.1 moment (if b then Some (record { settled = fin.get s.durable.chunks proposal.0; asking = fin.get s.volatile.moving proposal.0 }) else None))
+      by_entry true = pressed_on proposal.0 proposal.1 moment (record { settled = fin.get s.durable.chunks proposal.0; asking = fin.get s.volatile.moving proposal.0 }) (fin.get s.volatile.moving proposal.0) refl
+      by_entry false = same_goes ⊥ s (unmoved s) refl refl
+
+pub steps_at_ticks_fit : StepsAtTicksFit
+steps_at_ticks_fit s moment proposal sane go = (pressed_goes s sane go moment proposal).fits
 
 -- ---- every message
 

@@ -6,6 +6,7 @@ use Rattle.gs_base.specs.declared.config.Config.{Config}
 use Rattle.gs_base.specs.declared.numbers.Moment.{Moment}
 use Rattle.gs_base.specs.declared.numbers.ClientId.{ClientId}
 use Rattle.gs_base.specs.declared.numbers.ReqId.{ReqId}
+use Rattle.gs_base.specs.declared.numbers.Stamp.{Stamp}
 use Rattle.gs_base.specs.declared.refusal.Refusal.TheVariants as refusals
 use Rattle.gs_base.specs.Members.{is_member}
 use Rattle.gs_edit.specs.Names.{IsCounted}
@@ -37,7 +38,7 @@ use Rattle.gs_view.specs.declared.answers.Answers.{Answers}
 use Rattle.gs_state.specs.Applied.{applied, replayed, is_fresh, is_prepared_on, is_since, is_visible, is_whole_entry}
 use Rattle.gs_state.specs.Chunks.{Chunk, view_by, may_settle}
 use Rattle.gs_state.specs.Durable.{Durable, Settled, start, is_given, is_ordinary, is_rolling, upgrade_epoch, has_its_primary, prepared_view, is_listed}
-use Rattle.gs_state.specs.Handling.{handle, call_turn, checkpoint, new_call, tidied, tick}
+use Rattle.gs_state.specs.Handling.{handle, call_turn, checkpoint, new_call, pressed, tidied, tick}
 use Rattle.gs_state.specs.Sane.{IsSane}
 use Rattle.gs_state.specs.State.{State, Turn, size_of_all}
 use Rattle.gs_state.specs.Upgrades.{rollback_commit, told_of}
@@ -265,6 +266,10 @@ pub record CanGoOn (s : State) : Type 0 where
 -- Then it is so of every message.
 abbrev pub AllMessagesFit : Type 0
 AllMessagesFit = (config : Config) (s : State) (message : Message) (moment : Moment) → IsKept s.durable → IsSane s → CanGoOn s → AllFit s (handle config s message moment)
+
+-- and of each step of a tick, in the state that it meets
+abbrev pub StepsAtTicksFit : Type 0
+StepsAtTicksFit = (s : State) (moment : Moment) (proposal : ℕ × Stamp) → IsSane s → CanGoOn s → AllFit s (pressed moment proposal s)
 
 -- and of a checkpoint that is asked for
 abbrev pub CheckpointFits : Type 0

@@ -10,7 +10,7 @@ ghost use Rattle.gs_state.specs.Checkpoints.{read_with};
 ghost use Rattle.gs_state.specs.Whole.{told_replies, whole_of};
 ghost use Rattle.gs_state.specs.declared.reply.KeptReply.{KeptReply};
 ghost use Rattle.gs_state.specs.Recorded.{SayAlone};
-ghost use Rattle.gs_laws.specs.Promises.{AllMessagesFit, BeginsWithAll, CallsFit, CallsKeep, CheckpointFits, CommitsExactly, IsToldAgain, KeepsAll, KeepsGiven, KeepsPrepared, LeadsBack, LeadsToKept, MadeOfTheMost, MessagesFit, MessagesKeep, NothingAtTicks, NothingWhileRolling, PreparesByOneRecord, ProposesFresh, ProposesFreshAtTicks, RefusedFits, RefusedLeavesNames, RollsBack, TellsAll, TellsCounters};
+ghost use Rattle.gs_laws.specs.Promises.{AllMessagesFit, BeginsWithAll, CallsFit, CallsKeep, CheckpointFits, CommitsExactly, IsToldAgain, KeepsAll, KeepsGiven, KeepsPrepared, LeadsBack, LeadsToKept, MadeOfTheMost, MessagesFit, MessagesKeep, NothingAtTicks, NothingWhileRolling, PreparesByOneRecord, ProposesFresh, ProposesFreshAtTicks, RefusedFits, RefusedLeavesNames, RollsBack, StepsAtTicksFit, TellsAll, TellsCounters};
 ghost use Rattle.gs_state.specs.Undoing.{EditsAsTold};
 
 /// While a rollback is begun and not done, no view is begun, and no replica is dropped, whatever message comes and at each
@@ -66,9 +66,11 @@ pub fn each_message_but_an_answer_fits()
     ensures kept { MessagesKeep }
 {}
 
-/// The records of every message fit what they meet and give what is durable afterwards, where the calls that wait may go on.
+/// The records of every message fit what they meet and give what is durable afterwards, where the calls that wait may go on; and so
+/// do those of each step of a tick.
 pub fn each_message_fits()
-    ensures { AllMessagesFit }
+    ensures messages { AllMessagesFit }
+    ensures ticks { StepsAtTicksFit }
 {}
 
 /// The record of a checkpoint fits, and gives what stood but for chunks that stand in no file and never did.
