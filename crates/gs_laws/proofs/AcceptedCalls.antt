@@ -1,5 +1,5 @@
 -- The records of each call fit what they meet, and keep what stands.
-use Rattle.std.proofs.Common.{◌≡◌, ◌&&◌, ◌||◌, Bool, true, false, not, List, [], ◌∷◌, refl}
+use Rattle.std.proofs.Common.{◌≡◌, ◌&&◌, ◌||◌, Bool, true, false, not, [], ◌∷◌, refl}
 use Rattle.std.specs.Prelude.{Option, Some, None, Err, if◌then◌else◌}
 use Rattle.std.specs.FinMap as fin
 use Rattle.std.specs.List.{list_any}
@@ -10,7 +10,6 @@ use Rattle.gs_base.specs.declared.numbers.ReqId.{ReqId}
 use Rattle.gs_base.specs.declared.refusal.Refusal.{Refusal}
 use Rattle.gs_base.specs.declared.refusal.Refusal.TheVariants as refusals
 use Rattle.gs_path.specs.Element.{is_hidden}
-use Rattle.gs_path.specs.Path.{Path}
 use Rattle.gs_tree.specs.Edits.{old_name}
 use Rattle.gs_edit.specs.Plain.{unhide_target}
 use Rattle.gs_edit.specs.Edits.{edited}

@@ -1,5 +1,5 @@
 -- When a rollback can be committed.
-use Rattle.std.proofs.Common.{◌≡◌, ◌⊎◌, inl, inr, ◌∙◌, ◌<◌, ◌&&◌, ◌↔◌, ℕ, zero, suc, Bool, true, false, not, cond, List, [], ◌∷◌, map, filter, refl, sym, ap, subst, arith}
+use Rattle.std.proofs.Common.{◌≡◌, ◌⊎◌, inl, inr, ◌∙◌, ◌<◌, ◌&&◌, ℕ, Bool, true, false, not, cond, List, [], ◌∷◌, map, filter, refl, sym, ap, subst, arith}
 use Rattle.std.specs.Prelude.{Option, Some, None, is_some, nat_lt, get_or, unwrap_or, if◌then◌else◌}
 use Rattle.std.specs.Cmp.{Equal-is, nat_cmp_total}
 use Rattle.std.specs.FinMap as fin
@@ -16,7 +16,7 @@ use Rattle.gs_edit.specs.View.{NamesView}
 use Rattle.gs_tree.proofs.Levels.{both_true}
 use Rattle.gs_state.specs.Applied.{is_prepared_on}
 use Rattle.gs_state.specs.Durable.{is_rolling, prepared_view}
-use Rattle.gs_state.specs.State.{State, Turn, fits, refused}
+use Rattle.gs_state.specs.State.{State, Turn, refused}
 use Rattle.gs_state.specs.Undoing.{all_undone}
 use Rattle.gs_state.specs.Upgrades.{commit_if, commit_on, first_in, lacks_answer, needs_answer, rollback_commit, told_of, unrestored}
 use Rattle.gs_state.specs.declared.asking.Prepared.{Prepared}

@@ -52,7 +52,6 @@ all_kept f test (x ∷ xs) all = let parts = and_parts (f x) (list_all f xs) all
     by_test false here rest = rest
 
 low_power : (m : ℕ) → is_low m ≡ true → 2 ^ m < 2 ^ 16
-unfolding is_low
 low_power m low = pow_below m 16 (let t = low in grind (arith, nat_tests))
 
 small_set : (ms : List ℕ) → list_all is_low ms ≡ true → bits_of ms < 2 ^ 16
@@ -61,7 +60,7 @@ small_set [] all = omega arith
 small_set (m ∷ ms) all = let parts = and_parts (is_low m) (list_all is_low ms) all in or_lt 16 (2 ^ m) (bits_of ms) (low_power m parts.0) (small_set ms parts.1)
 
 pub low_servers : (test : ℕ → Bool) → list_all is_low (servers_where test) ≡ true
-unfolding servers_where is_low
+unfolding servers_where
 low_servers test = all_kept is_low test (count_from 0 16) refl
 
 pub servers_told : (test : ℕ → Bool) → AreServers (servers_where test)
