@@ -65,7 +65,7 @@ blank_kept = kept_by blank (record {
   counts = λ chunk count is. absurd (false≢true (sym (ap is_some (fin.get-empty nat_cmp chunk)) ∙ ap is_some is));
 })
 
-start_kept : IsKept start
+pub start_kept : IsKept start
 start_kept = record {
   names = blank_kept;
   settled = λ chunk listed. none_some (fin.get start.names.refs chunk) (fin.get-empty nat_cmp chunk) listed;

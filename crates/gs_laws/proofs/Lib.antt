@@ -39,6 +39,7 @@ pub mod ServersTold
 pub mod SettlingFits
 pub mod Sized
 pub mod Spelled
+pub mod Starting
 pub mod StillNamed
 pub mod Texted
 pub mod ToldAgain

@@ -38,9 +38,9 @@ use Rattle.gs_view.specs.declared.answers.Answers.{Answers}
 use Rattle.gs_state.specs.Applied.{applied, replayed, is_fresh, is_prepared_on, is_since, is_visible, is_whole_entry}
 use Rattle.gs_state.specs.Chunks.{Chunk, view_by, may_settle}
 use Rattle.gs_state.specs.Durable.{Durable, Settled, start, is_given, is_ordinary, is_rolling, upgrade_epoch, has_its_primary, prepared_view, is_listed}
-use Rattle.gs_state.specs.Handling.{handle, call_turn, checkpoint, new_call, pressed, tidied, tick}
+use Rattle.gs_state.specs.Handling.{handle, call_turn, checkpoint, fresh, new_call, pressed, tidied, tick}
 use Rattle.gs_state.specs.Sane.{IsSane}
-use Rattle.gs_state.specs.State.{State, Turn, size_of_all}
+use Rattle.gs_state.specs.State.{State, Log, Turn, size_of_all}
 use Rattle.gs_state.specs.Upgrades.{rollback_commit, told_of}
 use Rattle.gs_state.specs.Volatile.{paths_of}
 use Rattle.gs_state.specs.Undoing.{all_undone}
@@ -271,7 +271,11 @@ AllMessagesFit = (config : Config) (s : State) (message : Message) (moment : Mom
 abbrev pub StepsAtTicksFit : Type 0
 StepsAtTicksFit = (s : State) (moment : Moment) (proposal : ℕ × Stamp) → IsSane s → CanGoOn s → AllFit s (pressed moment proposal s)
 
--- and of a checkpoint that is asked for
+-- A new store is such.
+abbrev pub StartsWell : Type 0
+StartsWell = (log : Log) → IsKept (fresh log).durable × IsSane (fresh log) × CanGoOn (fresh log)
+
+-- It is so of a checkpoint that is asked for.
 abbrev pub CheckpointFits : Type 0
 CheckpointFits = (s : State) → IsKept s.durable → FitsAndKeeps s (checkpoint s)
 
