@@ -4,7 +4,6 @@
 import os
 import subprocess
 import sys
-import time
 
 ROOT = os.path.dirname(os.path.dirname(os.path.abspath(__file__)))
 CRATE = os.path.join(ROOT, "crates", "gs_bench")
@@ -22,13 +21,20 @@ def build():
         subprocess.run(["rt", "run", "--", "build", "1"], cwd=CRATE, stdout=out, stderr=out, check=True)
 
 
-def seconds(part, count):
-    def once():
-        begin = time.perf_counter()
-        subprocess.run([PROGRAM, part, str(count)], check=True, stderr=subprocess.DEVNULL)
-        return time.perf_counter() - begin
+def used(part, count):
+    """What a run of the part has used."""
+    with subprocess.Popen([PROGRAM, part, str(count)], stderr=subprocess.DEVNULL) as run:
+        _, status, used = os.wait4(run.pid, 0)
+        run.returncode = os.waitstatus_to_exitcode(status)
+    if run.returncode:
+        raise SystemExit(f"{part} {count} ended with {run.returncode}")
+    return used
 
-    return min(once() for _ in range(REPEATS))
+
+def seconds(part, count):
+    """Processor seconds, the least of some runs: whatever else runs on the machine only adds to them."""
+    runs = [used(part, count) for _ in range(REPEATS)]
+    return min(run.ru_utime + run.ru_stime for run in runs)
 
 
 # A part of the names, and the part whose time is taken off it.
@@ -37,16 +43,19 @@ NAMES = [("build", None), ("copy", "build"), ("chunks", "build"), ("remove", "ch
 JOURNAL = [("record", None), ("open", "record")]
 # Parts on blocks of 64 KB, the first of which is the library's digest alone.
 BLOCKS = ["digest", "write", "append", "read"]
+BLOCK = 65536
+# A server's parts, the digests alone beside which each stands, and how many times as long it may take.
+SERVER = [("server-store", "digest", 1.2), ("server-write", "digest", 2.4), ("server-append", "digest-appends", 2), ("server-read", "digest", 1.2)]
 
 
 def row(name, times, more=()):
     shown = [f"{1000 * t:,.1f}" if t >= LEAST_SECONDS else "-" for t in times]
     growths = [f"{b / a:.2f}" if min(a, b) >= LEAST_SECONDS else "-" for a, b in zip(times, times[1:])]
-    print(f"{name:<12}", *(f"{s:>14}" for s in shown), *(f"{g:>8}" for g in growths), *(f"{m:>10}" for m in more), flush=True)
+    print(f"{name:<14}", *(f"{s:>14}" for s in shown), *(f"{g:>8}" for g in growths), *(f"{m:>10}" for m in more), flush=True)
 
 
 def head(sizes, more=()):
-    print(f"{'milliseconds':<12}", *(f"{'n = ' + str(s):>14}" for s in sizes), f"{'2n/n':>8}", f"{'4n/2n':>8}", *(f"{m:>10}" for m in more), flush=True)
+    print(f"{'milliseconds':<14}", *(f"{'n = ' + str(s):>14}" for s in sizes), f"{'2n/n':>8}", f"{'4n/2n':>8}", *(f"{m:>10}" for m in more), flush=True)
 
 
 def show_differences(parts, n):
@@ -79,12 +88,40 @@ def show_blocks(n):
         row(part, times, [f"{times[-1] / digests:.2f}"])
 
 
+def peak(part, count):
+    """The most memory that the part holds, in bytes."""
+    return 1024 * used(part, count).ru_maxrss
+
+
+def show_against(part, digests, n, most):
+    """A server's part at three sizes, beside the digests that it needs at the last one."""
+    sizes = [n, 2 * n, 4 * n]
+    start = seconds(part, 0)
+    times = [seconds(part, m) - start for m in sizes]
+    needs = seconds(digests, 4 * n) - seconds(digests, 0)
+    row(part, times, [f"{times[-1] / needs:.2f}", f"{most:.1f}"])
+
+
+def show_servers(n):
+    head([n, 2 * n, 4 * n], ["digests", "at most"])
+    for part, digests, most in SERVER:
+        show_against(part, digests, n, most)
+    few, many = 10, 10000
+    ticks = [seconds("server-tick", m) - seconds("server-hold", m) for m in (few, many)]
+    print(f"100,000 ticks with one edit that waits, of {few} replicas and of {many:,}: {1000 * ticks[0]:,.1f} and {1000 * ticks[1]:,.1f} ms, {ticks[1] / ticks[0]:.2f} times (at most 2)", flush=True)
+    report = seconds("server-report", many) - seconds("server-hold", many)
+    print(f"100 reports of {many:,} replicas: {1000 * report:,.1f} ms", flush=True)
+    blocks = 1000
+    print(f"peak memory of {blocks:,} blocks stored in one chunk: {peak('server-store', blocks) / (blocks * BLOCK):.2f} times their bytes (at most 1.6)", flush=True)
+
+
 def main():
     n = int(sys.argv[1]) if len(sys.argv) > 1 else 25000
     build()
     show_differences(NAMES, n)
     show_journal(40 * n)
     show_blocks(n // 50)
+    show_servers(n // 50)
 
 
 if __name__ == "__main__":

@@ -7,6 +7,8 @@ mod journals;
 mod names;
 mod replica;
 mod script;
+mod servers;
+mod serving;
 
 use gs_base::Refusal;
 use std::alloc::Global;
@@ -49,6 +51,22 @@ enum Part {
     Record,
     /// The same, and one opening of it.
     Open,
+    /// Forwards of whole new blocks to a server.
+    ServerStore,
+    /// Forwards of whole blocks over one that stands.
+    ServerWrite,
+    /// Forwards of appends of 100 bytes.
+    ServerAppend,
+    /// Whole blocks fetched of a server.
+    ServerRead,
+    /// A server with so many replicas.
+    ServerHold,
+    /// The same, and its ticks, where one replica has an edit that waits.
+    ServerTick,
+    /// The same, and its reports.
+    ServerReport,
+    /// What happens to two servers alike, for runs in which growths are refused.
+    Serving,
 }
 
 impl Part {
@@ -70,6 +88,20 @@ impl Part {
             "replica" => Some(Part::Replica),
             "record" => Some(Part::Record),
             "open" => Some(Part::Open),
+            other => Part::of_server(other),
+        }
+    }
+
+    fn of_server(name: &str) -> Option<Part> {
+        match name {
+            "server-store" => Some(Part::ServerStore),
+            "server-write" => Some(Part::ServerWrite),
+            "server-append" => Some(Part::ServerAppend),
+            "server-read" => Some(Part::ServerRead),
+            "server-hold" => Some(Part::ServerHold),
+            "server-tick" => Some(Part::ServerTick),
+            "server-report" => Some(Part::ServerReport),
+            "serving" => Some(Part::Serving),
             _ => None,
         }
     }
@@ -94,6 +126,20 @@ impl Part {
             Part::Replica => replica::run(alloc),
             Part::Record => journals::append(alloc, count),
             Part::Open => journals::open(alloc, count),
+            other => other.run_server(alloc, count),
+        }
+    }
+
+    fn run_server(self, alloc: Global, count: u64) -> Result<u64, Refusal> {
+        match self {
+            Part::ServerStore => servers::store(alloc, count).map(|()| 0),
+            Part::ServerWrite => servers::write(alloc, count).map(|()| 0),
+            Part::ServerAppend => servers::append(alloc, count).map(|()| 0),
+            Part::ServerRead => servers::read(alloc, count).map(|()| 0),
+            Part::ServerHold => servers::hold(alloc, count).map(|()| 0),
+            Part::ServerTick => servers::tick(alloc, count).map(|()| 0),
+            Part::ServerReport => servers::report(alloc, count).map(|()| 0),
+            _ => serving::run(alloc),
         }
     }
 }
@@ -125,7 +171,7 @@ fn main(rt: HostRuntime) -> ExitCode {
         Ok(0) => ExitCode::SUCCESS,
         Ok(written) => {
             let what = match part {
-                Part::Script | Part::Replica => "calls made again",
+                Part::Script | Part::Replica | Part::Serving => "calls made again",
                 _ => "bytes written",
             };
             let _ = eprintln!(rt; "{written} {what}");

@@ -129,7 +129,7 @@ may_so d edit rolling well none fresh =
     (both_true (is_none (chunk_of_edit edit) || is_some (view_for d (chunk_of_edit edit))) _ (ap (λ b. b || is_some (view_for d (chunk_of_edit edit))) none) fresh))
 
 -- the next number is fresh, where one is left
-next_fresh : (n : ℕ) → (n == 0) ≡ false → is_fresh n n ≡ true
+pub next_fresh : (n : ℕ) → (n == 0) ≡ false → is_fresh n n ≡ true
 next_fresh n some = grind (arith, nat_tests)
 
 pub deleted_goes : (T : Type 0) (s : State) (req : ReqId) (path : Path) (recursive : Bool) (moment : Moment) → is_rolling s.durable.phase ≡ false → names_well (Hide path moment.0 s.durable.next_hidden) ≡ true

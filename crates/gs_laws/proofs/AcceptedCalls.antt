@@ -34,11 +34,12 @@ use Rattle.gs_laws.proofs.AcceptedUpgrades.{abort_goes, begin_goes, commit_goes,
 
 -- ---- what the tests before a call say
 
-record Passes (s : State) (call : Call) : Type 0 where
-  rolling : (is_rolling s.durable.phase && not (is_always_taken call)) ≡ false
-  hidden : is_any_hidden call ≡ false
+pub record Passes (s : State) (call : Call) : Type 0 where
+  pub rolling : (is_rolling s.durable.phase && not (is_always_taken call)) ≡ false
+  pub preparing : (s.volatile.is_preparing && is_work call) ≡ false
+  pub hidden : is_any_hidden call ≡ false
 
-passes : (s : State) (req : ReqId) (call : Call) → refused_before s req call ≡ None → Passes s call
+pub passes : (s : State) (req : ReqId) (call : Call) → refused_before s req call ≡ None → Passes s call
 passes s req call e =
     let hidden = (is_any_hidden call, refusals.HiddenName) ∷ [] in
     let locked = (is_locked s req call, refusals.Locked) ∷ hidden in
@@ -48,17 +49,17 @@ passes s req call e =
     let two = first_test (is_rolling s.durable.phase && not (is_always_taken call)) refusals.RollingBack preparing one.1 in
     let three = first_test (s.volatile.is_preparing && is_work call) refusals.Preparing locked two.1 in
     let four = first_test (is_locked s req call) refusals.Locked hidden three.1 in
-    record { rolling = two.0; hidden = (first_test (is_any_hidden call) refusals.HiddenName [] four.1).0 }
+    record { rolling = two.0; preparing = three.0; hidden = (first_test (is_any_hidden call) refusals.HiddenName [] four.1).0 }
 
-left_false : (b : Bool) → (b && true) ≡ false → b ≡ false
+pub left_false : (b : Bool) → (b && true) ≡ false → b ≡ false
 left_false true h = h
 left_false false h = refl
 
-one_visible : (b : Bool) → (b || false) ≡ false → not b ≡ true
+pub one_visible : (b : Bool) → (b || false) ≡ false → not b ≡ true
 one_visible true h = absurd (true≢false h)
 one_visible false h = refl
 
-two_visible : (a b : Bool) → (a || (b || false)) ≡ false → (not a && not b) ≡ true
+pub two_visible : (a b : Bool) → (a || (b || false)) ≡ false → (not a && not b) ≡ true
 two_visible true b h = absurd (true≢false h)
 two_visible false true h = absurd (true≢false h)
 two_visible false false h = refl

@@ -94,10 +94,10 @@ module _ (d : Durable) (moment : ℕ) (k : IsKept d) where
       (sym (ap count_or_zero has) ∙ k.names.counted h ∙ split_chunks h (is_gone moment (at rows)) rows)
       (r.kept.names.counted h ∙ ap (λ (rs : Rows ℕ). occurrences h (all_chunks rs)) (r.rows ∙ same_rows))))
 
-  record Scanned (entries : List PlainEntry) : Type 0 where
-    next : Durable
-    is : replayed d entries ≡ Some next
-    kept : IsKept next
+  pub record Scanned (entries : List PlainEntry) : Type 0 where
+    pub next : Durable
+    pub is : replayed d entries ≡ Some next
+    pub kept : IsKept next
 
   forgets_one : (next : Durable) (chunks : List ℕ) → IsKept next → is_rolling next.phase ≡ false → ascends chunks ≡ true → list_all (λ h. is_at_zero (fin.get next.names.refs h)) chunks ≡ true
       → applied next (Edited own_request (Forget chunks)) ≡ Some (with_edit next own_request (Forget chunks) (names_of (fin.from_entries (fin.entries next.names.tree)) (without_each next.names.refs chunks)))
@@ -118,7 +118,7 @@ module _ (d : Durable) (moment : ℕ) (k : IsKept d) where
       let fit = forgets_one next all kept rolling rise zero in
       (after, ap (λ o. option_and_then (λ (n : Durable). Some n) o) fit, edit_kept_told next after own_request (Forget all) tt (λ well a h. absurd (false≢true (ap is_some h))) kept fit)
 
-  scan_fits : is_rolling d.phase ≡ false → Scanned (own_edits (scan_edits (removed_paths moment (fin.entries d.names.tree)) (forgotten_chunks moment (fin.entries d.names.tree) (fin.entries d.names.refs))))
+  pub scan_fits : is_rolling d.phase ≡ false → Scanned (own_edits (scan_edits (removed_paths moment (fin.entries d.names.tree)) (forgotten_chunks moment (fin.entries d.names.tree) (fin.entries d.names.refs))))
   scan_fits rolling =
       let rows = fin.entries d.names.tree in
       let gone_refs : ℕ → ℕ = λ h. occurrences h (all_chunks (gone moment rows)) in

@@ -137,7 +137,7 @@ messages_keep config s message moment other k sane told = (node_goes config s mo
 
 -- ---- a checkpoint
 
-written_fits : (s : State) (refusal : Option Refusal) → IsKept s.durable → FitsAndKeeps s (written_unless s refusal)
+pub written_fits : (s : State) (refusal : Option Refusal) → IsKept s.durable → FitsAndKeeps s (written_unless s refusal)
 unfolding applied
 written_fits s None k = record { fits = ap (λ o. option_and_then (λ (n : Durable). Some n) o) (tells_all s.durable k); kept = λ kept. tidied_kept s.durable kept }
 written_fits s (Some refusal) k = record { fits = refl; kept = λ kept. kept }

@@ -50,11 +50,11 @@ pub first_test : (b : Bool) (refusal : Refusal) (rest : List (Bool × Refusal)) 
 first_test true refusal rest e = absurd (true≢false (ap is_some e))
 first_test false refusal rest e = (refl, e)
 
-not_so : (b : Bool) → not b ≡ false → b ≡ true
+pub not_so : (b : Bool) → not b ≡ false → b ≡ true
 not_so true e = refl
 not_so false e = absurd (true≢false e)
 
-unquiet_none : (chunks : List ℕ) (exhausted : Bool) → first_of (if_unquiet (first_in chunks) ++ (exhausted, refusals.Exhausted) ∷ []) ≡ None → (chunks ≡ []) × (exhausted ≡ false)
+pub unquiet_none : (chunks : List ℕ) (exhausted : Bool) → first_of (if_unquiet (first_in chunks) ++ (exhausted, refusals.Exhausted) ∷ []) ≡ None → (chunks ≡ []) × (exhausted ≡ false)
 unquiet_none [] exhausted e = (refl, (first_test exhausted refusals.Exhausted [] e).0)
 unquiet_none (chunk ∷ chunks) exhausted e = absurd (true≢false (ap is_some e))
 
@@ -81,7 +81,7 @@ is_nothing : List ℕ → Bool
 is_nothing [] = true
 is_nothing (x ∷ xs) = false
 
-none_passes : (f : ℕ → Bool) (es : List (ℕ × Bool)) (k : ℕ) → filter f (map (λ e. e.0) es) ≡ [] → is_some (fin.find nat_cmp k es) ≡ true → f k ≡ false
+pub none_passes : (f : ℕ → Bool) (es : List (ℕ × Bool)) (k : ℕ) → filter f (map (λ e. e.0) es) ≡ [] → is_some (fin.find nat_cmp k es) ≡ true → f k ≡ false
 unfolding is_nothing
 none_passes f [] k none some = absurd (false≢true some)
 none_passes f (e ∷ es) k none some = by_test (f e.0) refl (eq_by_cmp nat_cmp k e.0) refl none some (none_passes f es k)
@@ -125,16 +125,16 @@ all_rest s none =
 
 -- ---- a prepare is committed, or given up
 
-commit_fits : (s : State) (moment chunks : ℕ) → IsKept s.durable → IsSane s → first_of (commit_tests s.durable.phase s.volatile.is_preparing (all_unquiet s) (is_last_epoch s.durable)) ≡ None
+pub commit_fits : (s : State) (moment chunks : ℕ) → IsKept s.durable → (s.volatile.is_preparing ≡ true → is_ordinary s.durable.phase ≡ true) → first_of (commit_tests s.durable.phase s.volatile.is_preparing (all_unquiet s) (is_last_epoch s.durable)) ≡ None
     → applied s.durable (Prepare (s.durable.epoch + 1) moment chunks) ≡ Some (without_prepared (with_epoch s.durable ends.Prepare Upgrade))
 unfolding applied
-commit_fits s moment chunks k sane passed =
+commit_fits s moment chunks k ordinary passed =
     let more = if_unquiet (first_in (all_unquiet s)) ++ (is_last_epoch s.durable, refusals.Exhausted) ∷ [] in
     let one = first_test (not s.volatile.is_preparing && not (is_ordinary s.durable.phase)) refusals.AlreadyUpgrading ((not s.volatile.is_preparing, refusals.NotUpgrading) ∷ more) passed in
     let two = first_test (not s.volatile.is_preparing) refusals.NotUpgrading more one.1 in
     let rest = unquiet_none (all_unquiet s) (is_last_epoch s.durable) two.1 in
     ap (λ b. if_fits b (without_prepared (with_epoch s.durable ends.Prepare Upgrade)))
-    (both_true (is_ordinary s.durable.phase) (is_next_epoch s.durable.epoch (s.durable.epoch + 1) && are_at_rest s.durable) (sane.preparing (not_so s.volatile.is_preparing two.0)).0
+    (both_true (is_ordinary s.durable.phase) (is_next_epoch s.durable.epoch (s.durable.epoch + 1) && are_at_rest s.durable) (ordinary (not_so s.volatile.is_preparing two.0))
     (both_true (is_next_epoch s.durable.epoch (s.durable.epoch + 1)) (are_at_rest s.durable) (next_epoch s.durable.epoch k.now rest.1) (all_rest s rest.0)))
 
 ends_next : (d : Durable) → IsKept d → first_of (end_tests d.phase (is_last_epoch d)) ≡ None → (is_upgrade d.phase && is_next_epoch d.epoch (d.epoch + 1)) ≡ true
@@ -143,11 +143,11 @@ ends_next d k passed =
     let two = first_test (is_last_epoch d) refusals.Exhausted [] one.1 in
     both_true (is_upgrade d.phase) (is_next_epoch d.epoch (d.epoch + 1)) (not_so (is_upgrade d.phase) one.0) (next_epoch d.epoch k.now two.0)
 
-finalize_fits : (d : Durable) → IsKept d → first_of (end_tests d.phase (is_last_epoch d)) ≡ None → applied d (Finalize (d.epoch + 1)) ≡ Some (without_prepared (with_epoch d ends.Finalize Ordinary))
+pub finalize_fits : (d : Durable) → IsKept d → first_of (end_tests d.phase (is_last_epoch d)) ≡ None → applied d (Finalize (d.epoch + 1)) ≡ Some (without_prepared (with_epoch d ends.Finalize Ordinary))
 unfolding applied
 finalize_fits d k passed = ap (λ b. if_fits b (without_prepared (with_epoch d ends.Finalize Ordinary))) (ends_next d k passed)
 
-begin_fits : (d : Durable) → IsKept d → first_of (end_tests d.phase (is_last_epoch d)) ≡ None → applied d (RollbackBegin (d.epoch + 1)) ≡ Some (with_epoch d ends.Rollback Rolling)
+pub begin_fits : (d : Durable) → IsKept d → first_of (end_tests d.phase (is_last_epoch d)) ≡ None → applied d (RollbackBegin (d.epoch + 1)) ≡ Some (with_epoch d ends.Rollback Rolling)
 unfolding applied
 begin_fits d k passed = ap (λ b. if_fits b (with_epoch d ends.Rollback Rolling)) (ends_next d k passed)
 
@@ -157,7 +157,7 @@ module _ (T : Type 0) where
       let entry = Prepare (s.durable.epoch + 1) moment.0 (chunk_count s) in
       let plan = accepted_plan s req (entry ∷ []) (changes.Prepare false ∷ []) (tell_all config (s.durable.epoch + 1) ends.Prepare) (s.durable.epoch + 1) in
       let next = without_prepared (with_epoch s.durable ends.Prepare Upgrade) in
-      let fit = commit_fits s moment.0 (chunk_count s) k sane in
+      let fit = commit_fits s moment.0 (chunk_count s) k (λ p. (sane.preparing p).0) in
       unless_goes T s req (turned s plan) (first_of (commit_tests s.durable.phase s.volatile.is_preparing (all_unquiet s) (is_last_epoch s.durable)))
       (λ passed. one_goes T s entry plan next (fit passed) (λ t kept. prepare_kept s.durable next (s.durable.epoch + 1) moment.0 (chunk_count s) kept (fit passed)))
 
@@ -233,7 +233,7 @@ module _ (prepared : ℕ → Option Prepared) (told : ℕ → List ℕ) where
       both_true (e.0 == e.0) _ (eqb_itself e.0)
       (both_true (may_restore (prepared e.0) e.1 (restored_on (prepared e.0) (told e.0))) _ (may_be_restored (prepared e.0) (told e.0) e.0 e.1 one.0 two.0) (answers_fit refs one.1 two.1))
 
-  answers_told : (refs : List (ℕ × ℕ)) → AllByRecursion IsFromServers (answers_for prepared told refs)
+  pub answers_told : (refs : List (ℕ × ℕ)) → AllByRecursion IsFromServers (answers_for prepared told refs)
   unfolding servers_where
   answers_told [] = tt
   answers_told (e ∷ refs) = (by_prepared (prepared e.0), answers_told refs)
@@ -248,7 +248,7 @@ rolls Upgrade h = refl
 rolls Rolling h = refl
 
 module _ (T : Type 0) (s : State) (req : ReqId) (k : IsKept s.durable) (begun : is_rolling s.durable.phase ≡ true) where
-  rolled_fits : (names : NamesView) → all_undone s.durable.inverses s.durable.names ≡ Some names → unrestored (prepared_view s.durable) (told_of s) (fin.entries names.refs) ≡ None
+  pub rolled_fits : (names : NamesView) → all_undone s.durable.inverses s.durable.names ≡ Some names → unrestored (prepared_view s.durable) (told_of s) (fin.entries names.refs) ≡ None
       → applied s.durable (RollbackCommit s.durable.epoch (answers_for (prepared_view s.durable) (told_of s) (fin.entries names.refs))) ≡ Some (rolled_back s.durable (answers_for (prepared_view s.durable) (told_of s) (fin.entries names.refs)) names)
   unfolding applied
   rolled_fits names back none =

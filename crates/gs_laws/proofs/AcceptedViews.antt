@@ -68,7 +68,7 @@ fewer_rows f test (r ∷ rows) all =
     by_test true here rest = list_all-append f (chunks_in (Some r.1)) (all_chunks (filter test rows)) ∙ both_true (list_all f (chunks_in (Some r.1))) (list_all f (all_chunks (filter test rows))) here rest
     by_test false here rest = rest
 
-one_row : (f : ℕ → Bool) (rows : Rows ℕ) (p : Path) → list_all f (all_chunks rows) ≡ true → list_all f (chunks_in (at rows p)) ≡ true
+pub one_row : (f : ℕ → Bool) (rows : Rows ℕ) (p : Path) → list_all f (all_chunks rows) ≡ true → list_all f (chunks_in (at rows p)) ≡ true
 one_row f [] p all = refl
 one_row f (r ∷ rows) p all =
     let parts = and_parts (list_all f (chunks_in (Some r.1))) (list_all f (all_chunks rows)) (sym (list_all-append f (chunks_in (Some r.1)) (all_chunks rows)) ∙ all) in
@@ -97,7 +97,7 @@ ascending_all f (x ∷ xs) all = let parts = and_parts (f x) (list_all f xs) all
 abbrev pub is_settled : Durable → ℕ → Bool
 is_settled d chunk = is_some (fin.get d.chunks chunk)
 
-counts_some : (o : Option ℕ) → 0 < count_or_zero o → is_some o ≡ true
+pub counts_some : (o : Option ℕ) → 0 < count_or_zero o → is_some o ≡ true
 counts_some None some = absurd (omega arith)
 counts_some (Some n) some = refl
 
@@ -110,7 +110,7 @@ ok_chunk : Result ℕ Refusal → Option ℕ
 ok_chunk (Ok chunk) = Some chunk
 ok_chunk (Err refusal) = None
 
-found_so : (f : ℕ → Bool) (entry : Option (Entry ℕ)) (index chunk : ℕ) → list_all f (chunks_in entry) ≡ true → found_chunk entry index ≡ Ok chunk → f chunk ≡ true
+pub found_so : (f : ℕ → Bool) (entry : Option (Entry ℕ)) (index chunk : ℕ) → list_all f (chunks_in entry) ≡ true → found_chunk entry index ≡ Ok chunk → f chunk ≡ true
 unfolding ok_chunk
 found_so f None index chunk all e = absurd (false≢true (ap (λ r. is_some (ok_chunk r)) e))
 found_so f (Some Dir) index chunk all e = absurd (false≢true (ap (λ r. is_some (ok_chunk r)) e))

@@ -135,7 +135,7 @@ module _ (T : Type 0) (s : State) (req : ReqId) (rolling : is_rolling s.durable.
       let targets = targets_for config (counted_views s) (members_of c) 1 in
       test_goes T s (is_wanted c) (refused s req refusals.Locked) (replicated_to s req chunk targets) (λ _. refused_goes T s req refusals.Locked) (λ _. replicated_goes chunk targets known)
 
-  found_all : (f test : Need → Bool) (needs : List Need) (chunk : ℕ) → list_all f needs ≡ true → option_map (λ (n : Need). n.handle) (find test needs) ≡ Some chunk → (need : Need) × (f need ≡ true) × (need.handle ≡ chunk)
+  pub found_all : (f test : Need → Bool) (needs : List Need) (chunk : ℕ) → list_all f needs ≡ true → option_map (λ (n : Need). n.handle) (find test needs) ≡ Some chunk → (need : Need) × (f need ≡ true) × (need.handle ≡ chunk)
   found_all f test [] chunk all e = absurd (false≢true (ap is_some e))
   found_all f test (need ∷ needs) chunk all e = let parts = and_parts (f need) (list_all f needs) all in by_test (test need) parts.0 (found_all f test needs chunk parts.1) e
     where
@@ -193,7 +193,7 @@ and_none : (a : Bool) → (a && false) ≡ false
 and_none true = refl
 and_none false = refl
 
-no_makers : (chunk : ℕ) (call : Option ReqId) (pending : List Pending) → lowest_path (pending_paths pending) ≡ None → is_waited_by call (makes chunk) pending ≡ false
+pub no_makers : (chunk : ℕ) (call : Option ReqId) (pending : List Pending) → lowest_path (pending_paths pending) ≡ None → is_waited_by call (makes chunk) pending ≡ false
 no_makers chunk call [] e = refl
 no_makers chunk call (p ∷ pending) e = by_waits p.waits e (no_makers chunk call pending)
   where
@@ -206,17 +206,20 @@ no_makers chunk call (p ∷ pending) e = by_waits p.waits e (no_makers chunk cal
     by_waits (waits.Snapshot from to) h rest = no_path from (to ∷ pending_paths pending) h
     by_waits (waits.Replicate copied target) h rest = ap (λ b. b || is_waited_by call (makes chunk) pending) (and_none (is_call p.req call)) ∙ rest h
 
-unquiet_settled : (s : State) (chunk : ℕ) → IsSane s → lowest_path (pending_paths s.volatile.pending) ≡ None → (has_entry s chunk && not (is_quiet_at s chunk)) ≡ true → is_settled s.durable chunk ≡ true
+abbrev pub AreMade : State → Type 0
+AreMade s = (chunk : ℕ) (asking : Asking) → fin.get s.volatile.moving chunk ≡ Some asking → fin.get s.durable.chunks chunk ≡ None → is_waited_by asking.call (makes chunk) s.volatile.pending ≡ true
+
+pub unquiet_settled : (s : State) (chunk : ℕ) → AreMade s → lowest_path (pending_paths s.volatile.pending) ≡ None → (has_entry s chunk && not (is_quiet_at s chunk)) ≡ true → is_settled s.durable chunk ≡ true
 unfolding chunk_at
-unquiet_settled s chunk sane none h =
+unquiet_settled s chunk made none h =
     let parts = and_parts (has_entry s chunk) (not (is_quiet_at s chunk)) h in by_settled (fin.get s.durable.chunks chunk) refl (fin.get s.volatile.moving chunk) refl parts.0 parts.1
   where
     by_settled : (settled : _) → fin.get s.durable.chunks chunk ≡ settled → (asking : Option Asking) → fin.get s.volatile.moving chunk ≡ asking → has_entry s chunk ≡ true → not (is_quiet_at s chunk) ≡ true → is_settled s.durable chunk ≡ true
     by_settled (Some settled) is asking moving entry loud = ap is_some is
     by_settled None is None moving entry loud = absurd (false≢true (rw (entry, is, moving) at loud))
-    by_settled None is (Some asking) moving entry loud = absurd (false≢true (sym (no_makers chunk asking.call s.volatile.pending none) ∙ (sane.asked chunk asking moving).made is))
+    by_settled None is (Some asking) moving entry loud = absurd (false≢true (sym (no_makers chunk asking.call s.volatile.pending none) ∙ made chunk asking moving is))
 
-pending_none : (o : Option Path) (exhausted : Bool) → first_of (if_pending o ++ (exhausted, refusals.Exhausted) ∷ []) ≡ None → (o ≡ None) × (exhausted ≡ false)
+pub pending_none : (o : Option Path) (exhausted : Bool) → first_of (if_pending o ++ (exhausted, refusals.Exhausted) ∷ []) ≡ None → (o ≡ None) × (exhausted ≡ false)
 pending_none None exhausted e = (refl, (first_test exhausted refusals.Exhausted [] e).0)
 pending_none (Some path) exhausted e = absurd (true≢false (ap is_some e))
 
@@ -233,7 +236,7 @@ prepare_goes T s req rolling sane =
     let one = first_test (s.volatile.is_preparing || not (is_ordinary s.durable.phase)) refusals.AlreadyUpgrading more passed in
     let rest = pending_none (lowest_path (pending_paths s.volatile.pending)) exhausted one.1 in
     let left = not_false (has_versions s.durable (length (all_unquiet s))) rest.1 in
-    let known = filter_holds (is_settled s.durable) (λ chunk. has_entry s chunk && not (is_quiet_at s chunk)) (ascending (fin.keys s.durable.chunks ++ fin.keys s.volatile.moving)) (λ chunk h. unquiet_settled s chunk sane rest.0 h) in
+    let known = filter_holds (is_settled s.durable) (λ chunk. has_entry s chunk && not (is_quiet_at s chunk)) (ascending (fin.keys s.durable.chunks ++ fin.keys s.volatile.moving)) (λ chunk h. unquiet_settled s chunk (λ c a has. (sane.asked c a has).made) rest.0 h) in
     let reqs = requests_of s.volatile.pending in
     then_goes T s (and_then ended begin) accept
     (then_goes T s ended begin (all_ended_goes T reqs refusals.Preparing s)

@@ -55,11 +55,11 @@ same_some : {A B : Type 0} (f : A → B) (o : Option A) → is_some (option_map 
 same_some f None = refl
 same_some f (Some x) = refl
 
-left_true : (b : Bool) → (b && true) ≡ true → b ≡ true
+pub left_true : (b : Bool) → (b && true) ≡ true → b ≡ true
 left_true true h = refl
 left_true false h = h
 
-same_number : (a b : ℕ) → (a == b) ≡ true → b ≡ a
+pub same_number : (a b : ℕ) → (a == b) ≡ true → b ≡ a
 same_number a b h = grind (arith, nat_tests)
 
 module _ (chunk : ℕ) where
@@ -90,12 +90,12 @@ module _ (chunk : ℕ) where
 
   -- ---- edits
 
-  may_place : (d : Durable) (edit : PlainEdit) → Ready chunk d → names_well edit ≡ true → (is_none (chunk_of_edit edit) || is_some (view_for d (chunk_of_edit edit))) ≡ true → is_fresh_if d.next_hidden (number_of_edit edit) ≡ true → may_edit d edit ≡ true
+  pub may_place : (d : Durable) (edit : PlainEdit) → Ready chunk d → names_well edit ≡ true → (is_none (chunk_of_edit edit) || is_some (view_for d (chunk_of_edit edit))) ≡ true → is_fresh_if d.next_hidden (number_of_edit edit) ≡ true → may_edit d edit ≡ true
   may_place d edit r well settled fresh =
       both_true (not (is_rolling d.phase)) _ (ap not r.rolling)
       (both_true (names_well edit) _ well (both_true (is_none (chunk_of_edit edit) || is_some (view_for d (chunk_of_edit edit))) (is_fresh_if d.next_hidden (number_of_edit edit)) settled fresh))
 
-  viewed : (d : Durable) → Ready chunk d → is_some (view_for d (Some chunk)) ≡ true
+  pub viewed : (d : Durable) → Ready chunk d → is_some (view_for d (Some chunk)) ≡ true
   viewed d r = same_some (λ (s : Settled). s.view) (fin.get d.chunks chunk) ∙ r.known
 
   edit_steps : (s : State) (req : ReqId) (edit : PlainEdit) (answer : Answer) (before : List Change) → Ready chunk s.durable → may_edit s.durable edit ≡ true → ((names : NamesView) → Ready chunk (with_edit s.durable req edit names))
@@ -158,7 +158,7 @@ module _ (chunk : ℕ) where
 
   -- ---- any call
 
-  on_steps : (s : State) (req : ReqId) (view : View) (waiting : Waiting) → may_go_on chunk waiting ≡ true → Ready chunk s.durable → Steps chunk s (goes_on s req view waiting)
+  pub on_steps : (s : State) (req : ReqId) (view : View) (waiting : Waiting) → may_go_on chunk waiting ≡ true → Ready chunk s.durable → Steps chunk s (goes_on s req view waiting)
   unfolding goes_on
   on_steps s req view (waits.Extend path new) may r =
       let parts = and_parts (list_all is_visible (path ∷ [])) (new == chunk) may in

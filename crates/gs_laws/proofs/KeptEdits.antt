@@ -2,9 +2,9 @@
 use Rattle.std.proofs.Common.{◌≡◌, ◌⊎◌, inl, inr, ◌∙◌, ◌&&◌, ◌||◌, ℕ, Bool, true, false, cond, not, List, [], ◌∷◌, refl, sym, ap, subst}
 use Rattle.std.specs.Prelude.{Option, Some, None, is_some, is_none, option_map, nat_le, Result, Ok, Err, slice_get}
 use Rattle.std.specs.List.{list_all}
-use Rattle.std.specs.Cmp.{nat_cmp_total}
+use Rattle.std.specs.Cmp.{nat_cmp_total, tied_itself}
 use Rattle.std.specs.FinMap as fin
-use Rattle.std.specs.Ordering.{eq_by_cmp, nat_cmp}
+use Rattle.std.specs.Ordering.{eq_by_cmp, is_eq, nat_cmp}
 use Rattle.std.proofs.lemmas.Bool.{false≢true, and_parts}
 use Rattle.gs_base.specs.Told.{IsNumber}
 use Rattle.gs_base.specs.declared.numbers.ReqId.{ReqId}
@@ -53,7 +53,7 @@ use Rattle.gs_laws.proofs.Undone.{was_named}
 
 -- ---- what an edit's record says is told
 
-edit_told : (edit : PlainEdit) → IsEdit edit → IsTold edit
+pub edit_told : (edit : PlainEdit) → IsEdit edit → IsTold edit
 edit_told (Mkdirs p) h = read_path p h.1
 edit_told (Create p) h = read_path p h.1
 edit_told (Rename from to) h = (read_path from h.0.1, read_path to h.1.1)
@@ -92,7 +92,7 @@ no_answer : {P : Type 0} (a : Answer) → ◌≡◌ {A = Option Answer} None (So
 no_answer a h = absurd (false≢true (ap is_some h))
 
 -- an answer that an edit's record tells
-edit_answers : (edit : PlainEdit) (view : Option View) (epoch : ℕ) (answer : Answer) → IsEdit edit → names_well edit ≡ true → ((v : View) → view ≡ Some v → IsToldView v) → IsNumber epoch → answer_to edit view epoch ≡ Some answer → IsAnswer (Ok answer)
+pub edit_answers : (edit : PlainEdit) (view : Option View) (epoch : ℕ) (answer : Answer) → IsEdit edit → names_well edit ≡ true → ((v : View) → view ≡ Some v → IsToldView v) → IsNumber epoch → answer_to edit view epoch ≡ Some answer → IsAnswer (Ok answer)
 edit_answers (Mkdirs p) view epoch answer written well views now e = subst (λ a. IsAnswer (Ok a)) (answer_is e) refl
 edit_answers (Create p) view epoch answer written well views now e = subst (λ a. IsAnswer (Ok a)) (answer_is e) refl
 edit_answers (Rename from to) view epoch answer written well views now e = subst (λ a. IsAnswer (Ok a)) (answer_is e) refl
@@ -111,7 +111,7 @@ answered_all : (replies : fin.FinMap client_cmp KeptReply) (by : ReqId) (o : Opt
 answered_all replies by None all own = all
 answered_all replies by (Some a) all own = replied replies by (Ok a) all (own a refl)
 
-view_told : (d : Durable) (chunk : Option ℕ) (v : View) → IsKept d → view_for d chunk ≡ Some v → IsToldView v
+pub view_told : (d : Durable) (chunk : Option ℕ) (v : View) → IsKept d → view_for d chunk ≡ Some v → IsToldView v
 view_told d None v k e = absurd (false≢true (ap is_some e))
 view_told d (Some chunk) v k e = each (fin.get d.chunks chunk) refl e
   where
@@ -125,7 +125,7 @@ view_told d (Some chunk) v k e = each (fin.get d.chunks chunk) refl e
 -- ---- which chunks are listed behind it
 
 -- a chunk is the one that the edit puts into a file, or it was listed and isn't forgotten
-abbrev WasListed : PlainEdit → Counts → ℕ → Type 0
+abbrev pub WasListed : PlainEdit → Counts → ℕ → Type 0
 WasListed edit refs q = (chunk_of_edit edit ≡ Some q) ⊎ ((is_some (fin.get refs q) ≡ true) × (among q (forgotten_by edit) ≡ false))
 
 same_listed : (refs new : Counts) (q : ℕ) → ◌≡◌ {A = Result Counts Refusal} (Ok refs) (Ok new) → is_some (fin.get new q) ≡ true → is_some (fin.get refs q) ≡ true
@@ -195,16 +195,16 @@ lists_any (Snapshot from to) old new q e some =
     let parts = admitted (edits.Snapshot from to) (fin.entries old.tree) old.refs new e in inr (sym ((all_raised (visible_chunks_under from (fin.entries old.tree)) old.refs new.1 parts.counts).listed q) ∙ some, refl)
 lists_any (Forget chunks) old new q e some = lists_forget chunks old new q e some
 
-listed_before : (edit : PlainEdit) (old new : NamesView) (q : ℕ) → edited_names edit old ≡ Ok new → is_some (fin.get new.refs q) ≡ true → WasListed edit old.refs q
+pub listed_before : (edit : PlainEdit) (old new : NamesView) (q : ℕ) → edited_names edit old ≡ Ok new → is_some (fin.get new.refs q) ≡ true → WasListed edit old.refs q
 listed_before edit old new q e some =
     let n = was_named edit old new e in lists_any edit old (n.rows, n.refs) q n.made (ap (λ (x : NamesView). is_some (fin.get x.refs q)) n.is ∙ some)
 
 -- ---- a chunk that isn't forgotten stays listed
 
-ok_listed : (refs new : Counts) (q : ℕ) → ◌≡◌ {A = Result Counts Refusal} (Ok refs) (Ok new) → is_some (fin.get refs q) ≡ true → is_some (fin.get new q) ≡ true
+pub ok_listed : (refs new : Counts) (q : ℕ) → ◌≡◌ {A = Result Counts Refusal} (Ok refs) (Ok new) → is_some (fin.get refs q) ≡ true → is_some (fin.get new q) ≡ true
 ok_listed refs new q e some = let same : refs ≡ new = cc in ap (λ (m : Counts). is_some (fin.get m q)) (sym same) ∙ some
 
-put_stays : (refs : Counts) (k v q : ℕ) → is_some (fin.get refs q) ≡ true → is_some (fin.get (fin.insert refs k v) q) ≡ true
+pub put_stays : (refs : Counts) (k v q : ℕ) → is_some (fin.get refs q) ≡ true → is_some (fin.get (fin.insert refs k v) q) ≡ true
 put_stays refs k v q some = ap is_some (fin.get-insert nat_cmp_total refs k v q) ∙ by_key (eq_by_cmp nat_cmp q k)
   where
     by_key : (b : Bool) → is_some (cond b (Some v) (fin.get refs q)) ≡ true
@@ -237,9 +237,18 @@ still_lists (Snapshot from to) old new q e some out =
     (all_raised (visible_chunks_under from (fin.entries old.tree)) old.refs new.1 (admitted (edits.Snapshot from to) (fin.entries old.tree) old.refs new e).counts).listed q ∙ some
 still_lists (Forget chunks) old new q e some out = still_lists_forget chunks old new q e some out
 
-listed_after : (edit : PlainEdit) (old new : NamesView) (q : ℕ) → edited_names edit old ≡ Ok new → is_some (fin.get old.refs q) ≡ true → among q (forgotten_by edit) ≡ false → is_some (fin.get new.refs q) ≡ true
+pub listed_after : (edit : PlainEdit) (old new : NamesView) (q : ℕ) → edited_names edit old ≡ Ok new → is_some (fin.get old.refs q) ≡ true → among q (forgotten_by edit) ≡ false → is_some (fin.get new.refs q) ≡ true
 listed_after edit old new q e some out =
     let n = was_named edit old new e in ap (λ (x : NamesView). is_some (fin.get x.refs q)) (sym n.is) ∙ still_lists edit old (n.rows, n.refs) q n.made some out
+
+-- and the copy of a chunk that takes its place is listed then
+pub cow_lists : (p : Path) (index before chunk : ℕ) (old new : NamesView) → edited_names (Cow p index before chunk) old ≡ Ok new → is_some (fin.get new.refs chunk) ≡ true
+cow_lists p index before chunk old new e =
+    let n = was_named (Cow p index before chunk) old new e in
+    let parts = admitted (edits.Cow p index before chunk) (fin.entries old.tree) old.refs (n.rows, n.refs) n.made in
+    ap (λ (x : NamesView). is_some (fin.get x.refs chunk)) (sym n.is)
+    ∙ ok_listed (handed_over old.refs before chunk) n.refs chunk parts.counts
+    (put_stays (fin.insert old.refs chunk 1) before _ chunk (ap is_some (fin.get-insert nat_cmp_total old.refs chunk 1 chunk) ∙ ap (λ o. is_some (cond (is_eq o) (Some 1) (fin.get old.refs chunk))) (tied_itself nat_cmp_total chunk)))
 
 -- ---- chunks that are forgotten
 
@@ -255,7 +264,7 @@ chunked_without : (d : Durable) (chunks : List ℕ) → Chunked d → Chunked (w
 chunked_without d [] c = c
 chunked_without d (chunk ∷ chunks) c = chunked_without (record d { chunks = fin.remove d.chunks chunk; prepared = kept_before d chunk }) chunks (chunked_forgets d chunk c)
 
-get_left : (d : Durable) (chunks : List ℕ) (q : ℕ) → fin.get (without_chunks d chunks).chunks q ≡ cond (among q chunks) None (fin.get d.chunks q)
+pub get_left : (d : Durable) (chunks : List ℕ) (q : ℕ) → fin.get (without_chunks d chunks).chunks q ≡ cond (among q chunks) None (fin.get d.chunks q)
 get_left d [] q = refl
 get_left d (chunk ∷ chunks) q =
     get_left (record d { chunks = fin.remove d.chunks chunk; prepared = kept_before d chunk }) chunks q ∙ ap (λ v. cond (among q chunks) None v) (fin.get-remove nat_cmp_total d.chunks chunk q)
@@ -312,11 +321,11 @@ settled_still d edit q k settled (inl new) =
 
 -- ---- the record
 
-record MayEdit (d : Durable) (edit : PlainEdit) : Type 0 where
-  well : names_well edit ≡ true
+pub record MayEdit (d : Durable) (edit : PlainEdit) : Type 0 where
+  pub well : names_well edit ≡ true
   settled : (is_none (chunk_of_edit edit) || is_some (view_for d (chunk_of_edit edit))) ≡ true
 
-may_edit_so : (d : Durable) (edit : PlainEdit) → may_edit d edit ≡ true → MayEdit d edit
+pub may_edit_so : (d : Durable) (edit : PlainEdit) → may_edit d edit ≡ true → MayEdit d edit
 may_edit_so d edit may =
     let settled = is_none (chunk_of_edit edit) || is_some (view_for d (chunk_of_edit edit)) in
     let counted = is_fresh_if d.next_hidden (number_of_edit edit) in

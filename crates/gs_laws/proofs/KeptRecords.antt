@@ -17,7 +17,7 @@ use Rattle.gs_record.specs.declared.checkpoint.Phase.TheVariants.{Ordinary, Upgr
 use Rattle.gs_record.specs.declared.entry.SettledView.{SettledView}
 use Rattle.gs_state.specs.Applied.{applied, follows_view, held_by, is_fresh, is_since, is_sound, may_be_settled, may_propose, proposed, with_proposal, with_reply, with_view}
 use Rattle.gs_state.specs.Durable.{Durable, Settled, has_its_primary, is_given, is_listed, is_ordinary, is_rolling, is_upgrade, prepared_view, upgrade_epoch, with_prepared}
-use Rattle.gs_laws.specs.Promises.{AreKept, IsGivenView, IsKept, IsStillThere, goes_on_within}
+use Rattle.gs_laws.specs.Promises.{AreKept, IsGivenView, IsKept, IsStillThere, IsToldView, goes_on_within}
 use Rattle.gs_state.specs.Replies.{client_cmp}
 use Rattle.gs_state.specs.Undoing.{all_undone}
 use Rattle.gs_state.specs.Whole.{are_ends, is_empty}
@@ -185,9 +185,10 @@ may_settle_so d v may =
     let four = and_parts (is_sound v.view) since three.1 in
     record { handle = one.0; version = two.0; epoch = leb-true v.view.stamp.epoch d.epoch three.0; primary = (and_parts (not (is_empty v.view.members)) (has_its_primary v.view) four.0).1 }
 
-pub settle_kept : (d next : Durable) (v : SettledView) → IsEntry Two (Settle v) → IsKept d → applied d (Settle v) ≡ Some next → IsKept next
+-- it is enough that the view can be told
+pub settle_kept_told : (d next : Durable) (v : SettledView) → IsToldView v.view → IsKept d → applied d (Settle v) ≡ Some next → IsKept next
 unfolding applied
-settle_kept d next v written k e =
+settle_kept_told d next v written k e =
     let n = with_view d v in
     let is = fits_gives (may_be_settled d v) n next e in
     let may = may_settle_so d v is.0 in
@@ -214,8 +215,11 @@ settle_kept d next v written k e =
     handle_of q may false is h = k.handles q h
 
     view_of : (q : ℕ) (s : Settled) → MaySettle d v → (b : Bool) → cond b (Some new) (fin.get d.chunks q) ≡ Some s → IsGivenView (with_view d v) s.view
-    view_of q s may true h = subst (λ (x : Settled). IsGivenView (with_view d v) x.view) (settled_is h) (record { epoch = may.epoch; version = inr may.version; primary = may.primary; told = written.0.1 })
+    view_of q s may true h = subst (λ (x : Settled). IsGivenView (with_view d v) x.view) (settled_is h) (record { epoch = may.epoch; version = inr may.version; primary = may.primary; told = written })
     view_of q s may false h = view_stays d (with_view d v) s.view (λ x g. g) (omega arith) (k.views q s h)
+
+pub settle_kept : (d next : Durable) (v : SettledView) → IsEntry Two (Settle v) → IsKept d → applied d (Settle v) ≡ Some next → IsKept next
+settle_kept d next v written k e = settle_kept_told d next v written.0.1 k e
 
 -- ---- holders
 

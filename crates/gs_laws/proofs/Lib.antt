@@ -39,6 +39,16 @@ pub mod ServersTold
 pub mod SettlingFits
 pub mod Sized
 pub mod Spelled
+pub mod Standing
+pub mod StandingAnswers
+pub mod StandingCalls
+pub mod StandingCheckpoints
+pub mod StandingGoing
+pub mod StandingRecords
+pub mod StandingRuns
+pub mod StandingTurns
+pub mod StandingUpgrades
+pub mod StandingViews
 pub mod Starting
 pub mod StillNamed
 pub mod Texted

@@ -186,16 +186,6 @@ IsWritten t = AllByRecursion (IsEntry Two) t.records
 abbrev pub AllFit : State → Turn → Type 0
 AllFit s t = replayed s.durable t.records ≡ Some t.after.durable
 
--- So it is of every message and each tick, and what stands goes on so.
-pub record FitsAndStays (s : State) (t : Turn) : Type 0 where
-  pub fits : AllFit s t
-  pub kept : IsKept t.after.durable
-  pub sane : IsSane t.after
-
-abbrev pub AllTurnsFit : Type 0
-AllTurnsFit = (config : Config) (s : State) (message : Message) (moment : Moment) → IsKept s.durable → IsSane s →
-    FitsAndStays s (handle config s message moment) × FitsAndStays s (tick s moment)
-
 -- a refused call leaves the names and the views
 pub record LeavesNames (s : State) (t : Turn) : Type 0 where
   pub names : t.after.durable.names ≡ s.durable.names

@@ -11,6 +11,7 @@ ghost use Rattle.gs_state.specs.Whole.{told_replies, whole_of};
 ghost use Rattle.gs_state.specs.declared.reply.KeptReply.{KeptReply};
 ghost use Rattle.gs_state.specs.Recorded.{SayAlone};
 ghost use Rattle.gs_laws.specs.Promises.{AllMessagesFit, BeginsWithAll, CallsFit, CallsKeep, CheckpointFits, CommitsExactly, IsToldAgain, KeepsAll, KeepsGiven, KeepsPrepared, LeadsBack, LeadsToKept, MadeOfTheMost, MessagesFit, MessagesKeep, NothingAtTicks, NothingWhileRolling, PreparesByOneRecord, ProposesFresh, ProposesFreshAtTicks, RefusedFits, RefusedLeavesNames, RollsBack, StartsWell, StepsAtTicksFit, TellsAll, TellsCounters};
+ghost use Rattle.gs_laws.specs.Standing.{EventsFit, FirmGoesOn, RunsFit, RunsRecover, StartsFirm};
 ghost use Rattle.gs_state.specs.Undoing.{EditsAsTold};
 
 /// While a rollback is begun and not done, no view is begun, and no replica is dropped, whatever message comes and at each
@@ -76,6 +77,30 @@ pub fn each_message_fits()
 /// A new store is kept and sane, and its calls may go on.
 pub fn a_new_store_starts_well()
     ensures { StartsWell }
+{}
+
+/// A new store is firm.
+pub fn a_new_store_is_firm()
+    ensures { StartsFirm }
+{}
+
+/// The calls of a firm master may go on.
+pub fn a_firm_master_may_go_on()
+    ensures { FirmGoesOn }
+{}
+
+/// Each event finds a firm master and leaves it firm: every message, whoever sends it, each whole tick, a checkpoint, and a restart on
+/// what the journal tells. Its records fit what they meet, and give what is durable afterwards.
+pub fn each_event_fits()
+    ensures { EventsFit }
+{}
+
+/// Over every run from a new store all records fit, and together they lead from a new store to what is durable; and the master is firm
+/// in the end. So a restart on these records opens what was durable. The paths in calls are paths, and the numbers in messages and of
+/// moments are of 64 bits, as the types have it; a device that fails and memory that is wanting are not in it.
+pub fn every_run_fits()
+    ensures fit { RunsFit }
+    ensures again { RunsRecover }
 {}
 
 /// The record of a checkpoint fits, and gives what stood but for chunks that stand in no file and never did.

@@ -1,12 +1,14 @@
 // The end of an event: its records are written to the journal, or as many of them as stand before a disk's failure.
-ghost use Rattle.std.specs.Prelude.{◌≡◌, ◌⊎◌, ◌≤◌, ◌<◌, ◌+◌, ℕ, [], Some, IfErr, IfOk, OnOk, length, sum_by};
+ghost use Rattle.std.specs.Prelude.{◌≡◌, ◌⊎◌, ◌≤◌, ◌<◌, ◌+◌, ℕ, [], List, Some, IfErr, IfOk, OnOk, length, sum_by};
 ghost use Rattle.gs_journal.specs.Journal.{record_size};
 ghost use Rattle.gs_state.specs.Durable.{Durable};
 ghost use Rattle.gs_master.specs.Events.{HasComeFrom};
 ghost use Rattle.gs_master.specs.Journaled.{AreCut, AreWritten, Breaks, Gains, IsCutAt, IsReadyFor, IsWhole};
 ghost use Rattle.gs_state.specs.Outcomes.{caller_of, cut_refusal, unsure};
 ghost use Rattle.gs_state.specs.Plans.{log_of};
-ghost use Rattle.gs_state.specs.TakingBack.{RoomForAll};
+ghost use Rattle.gs_record.specs.Plain.{PlainEntry};
+ghost use Rattle.gs_state.specs.Recorded.{durable_of};
+ghost use Rattle.gs_state.specs.TakingBack.{Leads, RoomForAll};
 
 use crate::event::{Event, size_of};
 use gs_base::{Refusal, ReqId};
@@ -80,10 +82,11 @@ fn cut_refusal(caller: Option<ReqId>) -> Refusal
 impl Event {
     /// All its records are written, and nothing of it is taken back any more.
     fn accept(&mut self)
+        requires { (entries : List PlainEntry) × ((before : Durable) × Leads entries self.old.undos.items before (durable_of self.old.recorded)) }
         ensures whole { IsWhole self.old self.new }
         ensures log { self.new.log ≡ self.old.log }
     {
-        self.recorded.let_all_go(&mut self.undos);
+        self.recorded.let_all_stand(&mut self.undos);
         self.memory.accept();
         self.entries.clear();
         self.written.clear();

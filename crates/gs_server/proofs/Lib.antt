@@ -14,3 +14,7 @@ mod NewEdits
 mod Telling
 mod Others
 mod Lifts
+pub mod Walks
+pub mod Happening
+pub mod Behind
+pub mod Reached

@@ -29,12 +29,12 @@ lease_goes Rollback leases handle = fin.get-empty nat_cmp handle
 lease_goes Prepare leases handle = refl
 lease_goes Finalize leases handle = refl
 
-place_goes : (handle epoch : ℕ) (end : EpochEnd) (s : Server) → place_of handle (next_of epoch end s) ≡ gone_on end epoch (place_of handle s)
+pub place_goes : (handle epoch : ℕ) (end : EpochEnd) (s : Server) → place_of handle (next_of epoch end s) ≡ gone_on end epoch (place_of handle s)
 place_goes handle epoch end s =
     ap (λ l. record { slot = stores.slot_of handle (stores.learned epoch end (store_of s)); lease = l }) (lease_goes end s.dropped.leases handle)
     ∙ ap (λ t. record { slot = t; lease = lease_at end (fin.get s.dropped.leases handle) }) (slot_goes epoch end (store_of s) handle)
 
-apart : (a b : ℕ) (t : Bool) → (a == b) ≡ t → a ≡ b + 1 → t ≡ false
+pub apart : (a b : ℕ) (t : Bool) → (a == b) ≡ t → a ≡ b + 1 → t ≡ false
 apart a b true is next = absurd (let same : a ≡ b = eqb-true a b is in omega arith)
 apart a b false is next = refl
 

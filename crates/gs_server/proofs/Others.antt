@@ -72,7 +72,7 @@ other_refusals (Some req) (Some k) refused client apart = fin.get-insert (on_tot
 
 -- ---- the whole message
 
-used_slots : (asked : Option ReqId) (used : Bool) (t : Store) (other : ℕ) → slot_of other (change_buffer asked used t) ≡ slot_of other t
+pub used_slots : (asked : Option ReqId) (used : Bool) (t : Store) (other : ℕ) → slot_of other (change_buffer asked used t) ≡ slot_of other t
 used_slots None used t other = refl
 used_slots (Some req) true t other = refl
 used_slots (Some req) false t other = refl
@@ -86,7 +86,7 @@ set_epoch : (handle : ℕ) (t : Store) (marked : Option Slot) → (set_slot hand
 set_epoch handle t None = refl
 set_epoch handle t (Some slot) = refl
 
-slot_epoch : (handle : ℕ) (change : SlotChange) (t : Store) → (change_slot handle change t).epoch ≡ t.epoch
+pub slot_epoch : (handle : ℕ) (change : SlotChange) (t : Store) → (change_slot handle change t).epoch ≡ t.epoch
 slot_epoch handle SlotStays t = refl
 slot_epoch handle (SlotBecomes slot) t = refl
 slot_epoch handle (SlotMarked block) t = set_epoch handle t (option_map (slots.mark_bad block) (fin.get t.slots handle))

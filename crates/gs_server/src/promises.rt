@@ -1,6 +1,6 @@
 //! What holds of each server, whatever messages come.
 
-ghost use Rattle.std.specs.Prelude.{◌≡◌, ◌≢◌, ◌<◌, ◌+◌, ◌==◌, ℕ, Bool, true, false, List, [], length, Option, Some, None, Ok, Err};
+ghost use Rattle.std.specs.Prelude.{◌≡◌, ◌≢◌, ◌<◌, ◌≤◌, ◌+◌, ◌==◌, ℕ, Bool, true, false, List, [], length, Option, Some, None, is_some, Ok, Err};
 ghost use Rattle.std.specs.List.{All};
 ghost use Rattle.gs_base.specs.declared.numbers.Moment.{Moment};
 ghost use Rattle.gs_base.specs.declared.numbers.Stamp.{Stamp};
@@ -25,6 +25,13 @@ ghost use Rattle.gs_server.specs.Edits.{edit, forward};
 ghost use Rattle.gs_server.specs.Holding.{grant, ack};
 ghost use Rattle.gs_server.specs.Servers.{Server, store_of, place_of, restart, request_in, about_chunk, handle_chunk, make_copy, learn, tick};
 ghost use Rattle.gs_server.specs.Lifts.{ticked, restarted, gone_on};
+ghost use Rattle.gs_base.specs.Stamps.{is_before};
+ghost use Rattle.gs_replica.specs.Stands.{Edit};
+ghost use Rattle.gs_store.specs.Standing.{StandsIn, LiveUndamaged};
+ghost use Rattle.gs_store.specs.Whole.{Reaches, IsWholeSlot};
+ghost use Rattle.gs_store.specs.Learning.{start_of};
+ghost use Rattle.gs_store.specs.StoreCalls.{names};
+ghost use Rattle.gs_server.specs.Runs.{Event, behind, behind_all, slot_in, IsByOneCall, IsByCalls, TakesLease, IsReached, prepared, rolled_back, KeepSeal, AllSpare};
 ghost use Rattle.gs_server.specs.Laws.{IsHeldFor, IsSpent, IsAbove, LeavesIfRefused, LeavesTheRest, is_yes, IsToldByAll, IsDoneUnder, IsKnownToAll};
 
 /// No edit is numbered but under a lease that is held, that is of the promise and of the stamp that is asked for, and whose end
@@ -95,4 +102,50 @@ pub fn each_place_goes_on()
     ensures tick { (handle : ℕ) (s : Server) (moment : Moment) → place_of handle (tick s moment).after ≡ ticked moment (place_of handle s) }
     ensures restart { (handle : ℕ) (s : Server) → place_of handle (restart s) ≡ restarted (place_of handle s) }
     ensures learn { (handle epoch : ℕ) (end : EpochEnd) (s : Server) → epoch ≡ s.kept.epoch + 1 → place_of handle (learn s epoch end).after ≡ gone_on end epoch (place_of handle s) }
+{}
+
+/// Whatever happens to a server, what becomes of a chunk's slot is what calls of the slot make of it: one call at an event, or none.
+/// So what holds over each run of a slot's calls holds over each run of a server's messages, ticks, restarts, losses and damage.
+pub fn events_are_calls_of_slots()
+    ensures event { (handle : ℕ) (e : Event) (s : Server) → IsByOneCall handle s (behind e s) }
+    ensures run { (handle : ℕ) (events : List Event) (s : Server) → IsByCalls handle s (behind_all events s) }
+{}
+
+/// No promise of a server falls, whatever happens to it, and neither does its epoch.
+pub fn no_promise_falls()
+    ensures promise { (handle : ℕ) (events : List Event) (s : Server) → is_before (slot_in handle (behind_all events s)).promise (slot_in handle s).promise ≡ false }
+    ensures epoch { (events : List Event) (s : Server) → s.kept.epoch ≤ (behind_all events s).kept.epoch }
+{}
+
+/// A lease that an event takes is taken once for good: whatever happens behind it, no event takes that lease again.
+pub fn leases_are_taken_once_for_good()
+    ensures { (handle : ℕ) (stamp : Stamp) (first again : Event) (events : List Event) (s : Server) → TakesLease handle stamp first s → TakesLease handle stamp again (behind_all events (behind first s)) → ⊥ }
+{}
+
+/// What a chunk's live replica stood for as its server was told of a prepare is what a rollback makes live, if it makes anything live,
+/// without a damaged block, whatever happened between, but for the ends of epochs, a loss of the chunk, and copies of it that carry
+/// sealed images. It does make it live where no block was damaged at the prepare and damage since was of blocks that edits had touched.
+pub fn a_rollback_makes_live_what_was_sealed()
+    ensures stands { (handle : ℕ) (edits : List Edit) (events : List Event) (s : Server) → StandsIn s.block s.chunk (slot_in handle s) edits → KeepSeal handle events (prepared s) → is_some (slot_in handle (rolled_back (behind_all events (prepared s)))).live ≡ true → StandsIn s.block s.chunk (slot_in handle (rolled_back (behind_all events (prepared s)))) edits × LiveUndamaged (slot_in handle (rolled_back (behind_all events (prepared s)))).live }
+    ensures live { (handle : ℕ) (events : List Event) (s : Server) → is_some (slot_in handle s).live ≡ true → LiveUndamaged (slot_in handle s).live → KeepSeal handle events (prepared s) → AllSpare handle events (prepared s) → is_some (slot_in handle (rolled_back (behind_all events (prepared s)))).live ≡ true }
+{}
+
+/// At each server that began with nothing, whatever happened to it since: a lease that it holds is the one that was taken last of the
+/// chunk, the promise reaches that stamp, and no promise is of an epoch above the server's.
+pub fn leases_and_promises_are_in_order()
+    ensures held { (handle : ℕ) (s : Server) (l : Lease) → IsReached s → (place_of handle s).lease ≡ Some l → (slot_in handle s).taken ≡ Some l.grant.stamp }
+    ensures reached { (handle : ℕ) (s : Server) → IsReached s → Reaches (slot_in handle s).promise (slot_in handle s).taken }
+    ensures epoch { (handle : ℕ) (s : Server) → IsReached s → (slot_in handle s).promise.epoch ≤ s.kept.epoch }
+{}
+
+/// A lease that is spent is never held again, whatever happens: no messages, ticks or restarts bring it back.
+pub fn a_spent_lease_is_never_held_again()
+    ensures { (handle : ℕ) (stamp : Stamp) (events : List Event) (s : Server) (l : Lease) → IsReached s → IsSpent stamp (place_of handle s) → (place_of handle (behind_all events s)).lease ≡ Some l → l.grant.stamp ≢ stamp }
+{}
+
+/// What a rollback makes live is under the first stamp of its epoch, whatever happened before, and a server names exactly these
+/// chunks.
+pub fn a_rollback_names_what_it_makes_live()
+    ensures promise { (handle : ℕ) (s : Server) → IsReached s → is_some (slot_in handle (rolled_back s)).live ≡ true → (slot_in handle (rolled_back s)).promise ≡ start_of (s.kept.epoch + 1) }
+    ensures named { (handle : ℕ) (s : Server) → IsReached s → IsWholeSlot (slot_in handle s) → names handle (s.kept.epoch + 1) (store_of (rolled_back s)) ≡ is_some (slot_in handle (rolled_back s)).live }
 {}

@@ -29,7 +29,7 @@ all_lead es us before now leads =
     let same = leads_length es us before now leads in
     subst (λ xs. Leads xs us before now) (sym (take_all (length us) es (omega arith))) leads
 
-leads_but_last : (es : List PlainEntry) (us : List Undo) (u : Undo) (before now : Durable) → Leads es (us ++ u ∷ []) before now → (between : Durable) × (Leads (take (length us) es) us before between × TakesBack u between now)
+pub leads_but_last : (es : List PlainEntry) (us : List Undo) (u : Undo) (before now : Durable) → Leads es (us ++ u ∷ []) before now → (between : Durable) × (Leads (take (length us) es) us before between × TakesBack u between now)
 leads_but_last [] [] u before now leads = absurd leads
 leads_but_last [] (v ∷ us) u before now leads = absurd leads
 leads_but_last (e ∷ []) [] u before now leads = (before, (refl, subst (TakesBack u before) leads.1.1.1 leads.1.1.0))

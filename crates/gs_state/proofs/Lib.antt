@@ -7,6 +7,7 @@ pub mod Deleted
 pub mod Digits
 pub mod Edits
 pub mod Fronts
+pub mod Holding
 pub mod Led
 pub mod Listed
 pub mod Lowered

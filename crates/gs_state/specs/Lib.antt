@@ -7,6 +7,7 @@ pub mod Codes
 pub mod Durable
 pub mod Handling
 pub mod Hearing
+pub mod Held
 pub mod Judging
 pub mod Knowing
 pub mod Leases

@@ -16,6 +16,7 @@ use Rattle.gs_record.specs.declared.checkpoint.Phase.TheVariants.{Rolling, Upgra
 use Rattle.gs_table.specs.Slots.{live, set_live, HasRoom}
 use Rattle.gs_state.specs.Applied.{applied}
 use Rattle.gs_state.specs.Durable.{Durable, Settled}
+use Rattle.gs_state.specs.Held.{IsLedBy}
 use Rattle.gs_state.specs.Recorded.{IsToldBack, KeepsRooms, chunks_of, durable_of, settled_by}
 use Rattle.gs_state.specs.Replies.{client_cmp}
 use Rattle.gs_state.specs.declared.recorded.Recorded.{Recorded}
@@ -62,7 +63,7 @@ with_proposed_before chunk (Some lease) chunks = with_settled_before chunk (Some
 -- the names: what was made of them is undone without memory, or they were kept
 abbrev pub AreNamesBefore : NamesBefore → NamesView → NamesView → Type 0
 AreNamesBefore (Undone inverse) before after = NamesTakenBack inverse before after × (takes_memory inverse ≡ false)
-AreNamesBefore (Kept names) before after = before ≡ names
+AreNamesBefore (Kept stood) before after = (before ≡ stood.names) × IsLedBy stood.edit stood.names after
 
 -- an edit that can be taken back without memory is made in place, and any other on a copy
 abbrev pub is_made_in_place : PlainEdit → Bool
@@ -79,7 +80,7 @@ is_made_in_place (Forget chunks) = false
 
 abbrev pub is_undone : NamesBefore → Bool
 is_undone (Undone inverse) = true
-is_undone (Kept names) = false
+is_undone (Kept stood) = false
 
 -- all but the last, where one was put behind them
 abbrev pub AreItemsBefore : {X : Type 0} → Bool → List X → List X → Type 0

@@ -1,5 +1,5 @@
 -- Replies as they are read from their texts.
-use Rattle.std.specs.Prelude.{◌≡◌, ◌⊎◌, ◌&&◌, ◌||◌, ◌==◌, ◌^◌, ℕ, Bool, true, false, nat_lt, List, Option, Some, None, option_map, Result, Ok, Err, if◌then◌else◌, refl}
+use Rattle.std.specs.Prelude.{◌≡◌, ◌⊎◌, ◌||◌, ◌==◌, ◌^◌, ℕ, Bool, nat_lt, List, Option, Some, None, option_map, Result, Ok, Err, if◌then◌else◌, refl}
 use Rattle.std.specs.List.{list_all}
 use Rattle.std.specs.FinMap as fin
 use Rattle.gs_lease.specs.declared.view.Term.{Term}

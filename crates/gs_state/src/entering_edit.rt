@@ -15,57 +15,21 @@ ghost use Rattle.gs_state.specs.TakingBack.{AreItemsBefore, AreNamesBefore, Ente
 
 use crate::editing::{answer_to, forgotten_by, next_behind, unfit};
 use crate::entering::enter_reply;
+use crate::held_names::HeldNames;
 use crate::recorded::Recorded;
 use crate::reply::KeptReply;
 use crate::undo::{ChunkBefore, EditBefore, NamesBefore, ReplyBefore, Undo};
 use gs_base::{ClientId, Handle, Refusal, ReqId};
-use gs_edit::{Edit, ListedInverse, Names};
+use gs_edit::{Edit, ListedInverse};
 use gs_msg::Answer;
 use gs_table::Table;
-use std::mem;
-
-/// Whether an edit can be taken back without memory, so that no copy of the names is needed.
-fn is_made_in_place(edit: &Edit) -> bool
-    ensures value { result ≡ is_made_in_place (plain_edit edit.now) }
-    ensures memory { (inverse : Inverse) → result ≡ true → is_of_kind (kind_of edit.now) inverse ≡ true → takes_memory inverse ≡ false }
-{
-    match edit {
-        Edit::Mkdirs(_) | Edit::Create(_) | Edit::AddChunk(_, _) | Edit::Cow(_, _, _, _) => true,
-        Edit::Rename(_, _)
-        | Edit::Hide(_, _, _)
-        | Edit::Unhide(_)
-        | Edit::Remove(_)
-        | Edit::Snapshot(_, _)
-        | Edit::Forget(_) => false,
-    }
-}
-
-/// Makes an edit on a copy of the names, and keeps those that stood.
-fn enter_on_copy(names: &mut Names, edit: &Edit) -> Result<NamesBefore, Refusal>
-    ensures edit { Applies edit.now names.old result names.new }
-    ensures back { IfOk result (λ before. AreNamesBefore before names.old names.new) }
-    ensures place { IfOk result (λ before. is_undone before ≡ false) }
-{
-    let mut copy = names.copy()?;
-    match copy.apply(edit) {
-        Ok(_) => Ok(NamesBefore::Kept(mem::replace(names, copy))),
-        Err(refusal) => Err(refusal),
-    }
-}
 
 /// Makes an edit: in place where it can be taken back without memory, and else on a copy.
-pub fn enter_names(names: &mut Names, edit: &Edit) -> Result<NamesBefore, Refusal>
+fn enter_names(names: &mut HeldNames, edit: &Edit) -> Result<NamesBefore, Refusal>
     ensures edit { Applies edit.now names.old result names.new }
     ensures back { IfOk result (λ before. AreNamesBefore before names.old names.new) }
-    ensures place { IfOk result (λ before. is_undone before ≡ is_made_in_place (plain_edit edit.now)) }
 {
-    if !is_made_in_place(edit) {
-        return enter_on_copy(names, edit);
-    }
-    match names.apply(edit) {
-        Ok(inverse) => Ok(NamesBefore::Undone(inverse)),
-        Err(refusal) => Err(refusal),
-    }
+    names.enter(edit)
 }
 
 /// The answer to an edit is kept, if its record tells one and no later one is kept. There is room for its client.

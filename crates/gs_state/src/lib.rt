@@ -20,6 +20,7 @@ mod finding;
 mod going_back;
 mod going_on;
 mod growing;
+pub mod held_names;
 pub mod hiding;
 mod inverses;
 pub mod known;

@@ -11,6 +11,7 @@ ghost use Rattle.gs_state.specs.Whole.{names_in};
 
 use crate::checking::{are_ends, are_given, are_prepared, has_upgrade};
 use crate::copying::copied_inverses;
+use crate::held_names::HeldNames;
 use crate::reading::{are_settled, told_leases, told_prepared};
 use crate::recorded::Recorded;
 use crate::reply::KeptReply;
@@ -50,7 +51,7 @@ fn gathered(
     let prepared = told_prepared(alloc, &checkpoint.prepared)?;
     Ok(Recorded {
         alloc,
-        names,
+        names: HeldNames::new(alloc, names),
         leases,
         next_handle: checkpoint.next_handle,
         next_version: checkpoint.next_version,

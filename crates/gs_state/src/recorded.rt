@@ -10,6 +10,7 @@ ghost use Rattle.gs_state.specs.Recorded.{RoomToKeep, durable_of, rests, settled
 ghost use Rattle.gs_state.specs.Replies.{is_later};
 
 use crate::asking::Prepared;
+use crate::held_names::HeldNames;
 use crate::reply::KeptReply;
 use gs_base::{ClientId, EpochEnd, Handle, Members, ReqId};
 use gs_edit::{ListedInverse, Names};
@@ -22,7 +23,7 @@ use std::alloc::Global;
 #[derive(Drop)]
 pub struct Recorded {
     pub alloc: Global,
-    pub names: Names,
+    pub names: HeldNames,
     /// The chunks that the master knows, by their states. A new one moves and has no settled view.
     pub leases: Table<Handle, Lease>,
     /// The handle of the next chunk, or 0 where none is left. The other counters go the same way.
@@ -45,7 +46,7 @@ impl Recorded {
     {
         Recorded {
             alloc,
-            names: Names::new(alloc),
+            names: HeldNames::new(alloc, Names::new(alloc)),
             leases: Table::new(alloc),
             next_handle: 1,
             next_version: 1,

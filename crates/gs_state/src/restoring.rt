@@ -12,6 +12,7 @@ ghost use Rattle.gs_state.specs.TakingBack.{Enters, IsUndo};
 
 use crate::asking::Prepared;
 use crate::entering_epoch::exchange_kept;
+use crate::held_names::HeldNames;
 use crate::recorded::Recorded;
 use crate::undo::{RollbackBefore, Undo};
 use gs_base::{Handle, Members, Refusal, Stamp};
@@ -91,7 +92,7 @@ impl Recorded {
     {
         self.phase = Phase::Ordinary;
         RollbackBefore {
-            names: mem::replace(&mut self.names, names),
+            names: mem::replace(&mut self.names, HeldNames::new(self.alloc, names)),
             leases: mem::replace(&mut self.leases, leases),
             kept: exchange_kept(self.alloc, &mut self.inverses, &mut self.prepared),
         }

@@ -4,12 +4,12 @@ ghost use Rattle.std.specs.Ordering.{nat_cmp};
 ghost use Rattle.gs_record.specs.Plain.{PlainEntry, plain};
 ghost use Rattle.gs_table.specs.Slots.{live};
 ghost use Rattle.gs_state.specs.Durable.{Durable};
-ghost use Rattle.gs_state.specs.TakingBack.{Leads, Enters, IsRefused, IsToldFor, RoomForAll, StillTakeBack, TakeBack, TakesOneMore, all_leases_before, all_rooms_before, comes_alone};
+ghost use Rattle.gs_state.specs.TakingBack.{Leads, Enters, IsRefused, IsToldFor, RoomForAll, StillTakeBack, TakeBack, TakesBack, TakesOneMore, all_leases_before, all_rooms_before, comes_alone};
 ghost use Rattle.gs_state.specs.Recorded.{KeepsRooms, durable_of};
 
 use crate::entering_edit::push_within;
 use crate::recorded::Recorded;
-use crate::undo::Undo;
+use crate::undo::{ChunkBefore, EditBefore, Undo};
 use gs_base::Refusal;
 use gs_edit::ListedInverse;
 use gs_record::Entry;
@@ -69,6 +69,17 @@ impl Recorded {
         }
     }
 
+    /// Chunks that were forgotten give up the room of their leases, where nothing stands.
+    fn release_each(&mut self, forgotten: &[ChunkBefore])
+        ensures value { durable_of self.new ≡ durable_of self.old }
+        ensures leases { live nat_cmp self.new.leases ≡ live nat_cmp self.old.leases }
+        ensures names { self.new.names ≡ self.old.names }
+    {
+        for stood in forgotten {
+            self.leases.release(stood.chunk);
+        }
+    }
+
     /// The records of an event stand, and are taken back no more. The chunks that they forgot give up the room of their
     /// leases.
     pub fn let_go(&mut self, undo: Undo)
@@ -82,10 +93,46 @@ impl Recorded {
                 return;
             }
         };
-        for stood in &before.forgotten {
-            self.leases.release(stood.chunk);
-        }
+        self.release_each(&before.forgotten);
         drop(before);
+    }
+
+    /// The same of the last record. Names that were kept as they stood before its edit follow it, and stand by for a later one.
+    fn let_last_go(&mut self, undo: Undo)
+        requires { (before : Durable) × TakesBack undo before (durable_of self.old) }
+        ensures value { durable_of self.new ≡ durable_of self.old }
+        ensures leases { live nat_cmp self.new.leases ≡ live nat_cmp self.old.leases }
+    {
+        let before = match undo {
+            Undo::Edit(before) => before,
+            other => {
+                drop(other);
+                return;
+            }
+        };
+        let EditBefore {
+            names,
+            forgotten,
+            reply,
+            ..
+        } = before;
+        drop(reply);
+        self.release_each(&forgotten);
+        drop(forgotten);
+        self.names.follow(names);
+    }
+
+    /// All records of an event stand, which are those that lead to what stands now. They are taken back no more.
+    pub fn let_all_stand(&mut self, undos: &mut Vec<Undo>)
+        requires { (entries : List PlainEntry) × ((before : Durable) × Leads entries undos.old.items before (durable_of self.old)) }
+        ensures none { undos.new.items ≡ [] }
+        ensures value { durable_of self.new ≡ durable_of self.old }
+        ensures leases { live nat_cmp self.new.leases ≡ live nat_cmp self.old.leases }
+    {
+        if let Some(undo) = undos.pop() {
+            self.let_last_go(undo);
+        }
+        self.let_all_go(undos);
     }
 
     /// All records of an event stand, and are taken back no more.

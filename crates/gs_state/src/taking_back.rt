@@ -9,6 +9,7 @@ ghost use Rattle.gs_state.specs.Recorded.{KeepsRooms, durable_of};
 ghost use Rattle.gs_state.specs.Replies.{client_cmp};
 ghost use Rattle.gs_state.specs.TakingBack.{AreItemsBefore, AreNamesBefore, IsEditBefore, RoomAt, RoomBack, RoomForChunk, RoomForChunks, RoomForReply, TakesBack, leases_before, rooms_before, with_chunk_before, with_chunks_before, with_leases_before, with_moved_before, with_proposed_before, with_reply_before};
 
+use crate::held_names::HeldNames;
 use crate::recorded::Recorded;
 use crate::reply::KeptReply;
 use crate::undo::{
@@ -16,7 +17,7 @@ use crate::undo::{
     Undo,
 };
 use gs_base::{ClientId, Handle};
-use gs_edit::{ListedInverse, Names};
+use gs_edit::ListedInverse;
 use gs_lease::Lease;
 use gs_record::Phase;
 use gs_table::{Key, Table};
@@ -58,15 +59,10 @@ fn put_moved_back(leases: &mut Table<Handle, Lease>, chunk: Handle, before: Opti
 }
 
 /// The names stand again as they stood.
-pub fn put_names_back(names: &mut Names, before: NamesBefore)
+fn put_names_back(names: &mut HeldNames, before: NamesBefore)
     ensures { (stood : NamesView) → AreNamesBefore before stood names.old → names.new ≡ stood }
 {
-    match before {
-        NamesBefore::Undone(inverse) => {
-            let _undone = names.undo(&inverse);
-        }
-        NamesBefore::Kept(kept) => *names = kept,
-    }
+    names.put_back(before);
 }
 
 /// What takes edits back stands again as it stood, without the last if one was put there.

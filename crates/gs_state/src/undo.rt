@@ -4,9 +4,10 @@ ghost use Rattle.std.specs.FinMap as fin;
 ghost use Rattle.gs_table.specs.Slots.{HasRoom, KeepsRoom, live};
 
 use crate::asking::Prepared;
+use crate::held_names::HeldNames;
 use crate::reply::KeptReply;
 use gs_base::{ClientId, Handle};
-use gs_edit::{Inverse, ListedInverse, Names};
+use gs_edit::{Edit, Inverse, ListedInverse, Names};
 use gs_lease::Lease;
 use gs_record::Phase;
 use gs_table::{Key, Table};
@@ -35,13 +36,20 @@ pub struct ChunkBefore {
     pub prepared: Option<Prepared>,
 }
 
+/// Names as they stood, and the edit that was made since, where they can follow it.
+#[derive(Drop)]
+pub struct StoodNames {
+    pub names: Names,
+    pub edit: Option<Edit>,
+}
+
 /// How the names of before are come by.
 #[derive(Drop)]
 pub enum NamesBefore {
     /// What was made of them is undone. That takes no memory.
     Undone(Inverse),
     /// They were kept.
-    Kept(Names),
+    Kept(StoodNames),
 }
 
 /// What stood before an edit.
@@ -74,7 +82,7 @@ pub struct EpochBefore {
 /// What stood before a rollback was done. It was moved here.
 #[derive(Drop)]
 pub struct RollbackBefore {
-    pub names: Names,
+    pub names: HeldNames,
     pub leases: Table<Handle, Lease>,
     pub kept: KeptBefore,
 }

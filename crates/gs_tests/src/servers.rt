@@ -1,8 +1,10 @@
 use gs_base::{
     ClientId, Config, EpochEnd, Handle, Members, Moment, Refusal, ReqId, ServerId, Stamp,
 };
+use gs_block::Sizes;
 use gs_lease::Grant;
 use gs_msg::{Asked, Body, Bytes, Chunk, Message, NodeId, Op};
+use gs_replica::Replica;
 use gs_server::{Server, Turn};
 use std::alloc::Global;
 use std::process::Abort;
@@ -22,12 +24,20 @@ enum Step {
     Edit(u64, (u64, u64), Op, u64),
     /// A number under a stamp, a request to append, and the bytes that come along, or none.
     Forward(u64, (u64, u64), u64, &'static str),
+    /// The same of any edit.
+    Member(u64, (u64, u64), u64, Op, &'static str),
     /// A server tells a count under a stamp.
     Ack(u8, (u64, u64), u64),
+    /// A client tells one.
+    ClientAck((u64, u64), u64),
     /// A server hasn't the bytes.
     Nack(u8, (u64, u64)),
     Fetch(u64, (u64, u64), Asked),
     CopyOut(u64, u64),
+    /// With the sealed image.
+    CopySealed(u64, u64),
+    /// A copy of a replica that has applied one append, of these bytes, perhaps with the same as its sealed image.
+    CopyIn((u64, u64), &'static str, bool),
     /// A copy under a stamp for chunk 2 under another.
     MakeCopy((u64, u64), (u64, u64)),
     Drop(u64, (u64, u64)),
@@ -44,6 +54,23 @@ enum Step {
 type Row = (Step, &'static str);
 
 const APPEND: Op = Op::Append { length: 2 };
+
+/// A write past a chunk's size, over its last block.
+const LATE: Op = Op::Write {
+    offset: 14,
+    length: 4,
+};
+
+/// As many bytes as a chunk has at most, and one more.
+const WHOLE: Asked = Asked::Bytes {
+    offset: 0,
+    length: 16,
+};
+
+const PAST: Asked = Asked::Bytes {
+    offset: 0,
+    length: 17,
+};
 
 /// At server 0, which leads servers 0 to 2.
 const LEADING: [Row; 43] = [
@@ -298,6 +325,225 @@ const ALONE: [Row; 8] = [
     (Step::Tick(60), ""),
 ];
 
+/// At server 1: a prepare, an edit, a drop, a copy that comes onto the same server, and a rollback; then the same with a copy that
+/// carries a sealed image, which takes the place of the server's own; and at last two epochs that come late.
+const COPIED: [Row; 27] = [
+    (Step::Create(0, 2), "promised S1 M 1 0.2 0 false;"),
+    (Step::Forward(1, (0, 2), 1, "ab"), "ack S1 S0 1 0.2 1;"),
+    (Step::Forward(2, (0, 2), 2, "cd"), "ack S1 S0 1 0.2 2;"),
+    (Step::CopySealed(0, 2), "copyin S1 S2 1 0.2 61626364 2 -;"),
+    (Step::Epoch(1, EpochEnd::Prepare), "learned S1 M 1 -;"),
+    (Step::Advance(1, 3), "promised S1 M 1 1.3 2 false;"),
+    (Step::Forward(3, (1, 3), 3, "ef"), "ack S1 S0 1 1.3 3;"),
+    (
+        Step::CopySealed(1, 3),
+        "copyin S1 S2 1 1.3 616263646566 3 0.2 61626364 2;",
+    ),
+    (Step::CopyOut(1, 3), "copyin S1 S2 1 1.3 616263646566 3 -;"),
+    (Step::Drop(1, (1, 3)), ""),
+    (
+        Step::CopyIn((1, 4), "wxyz", false),
+        "promised S1 M 1 1.4 1 false;",
+    ),
+    (
+        Step::CopyIn((1, 4), "wxyz", false),
+        "promised S1 M 1 1.4 1 false;",
+    ),
+    (
+        Step::Fetch(1, (1, 4), WHOLE),
+        "bytes S1 C7 C7/99 bytes 7778797a;",
+    ),
+    (
+        Step::Fetch(1, (1, 4), Asked::Digest(0)),
+        "bytes S1 C7 C7/99 digest 17f488f768db8fbe7a408a9469203c61e03b5fe43214b95a00e7c0c52d2fd933;",
+    ),
+    (Step::Epoch(2, EpochEnd::Rollback), "learned S1 M 2 1;"),
+    (
+        Step::Fetch(2, (2, 0), WHOLE),
+        "bytes S1 C7 C7/99 bytes 61626364;",
+    ),
+    (Step::Epoch(3, EpochEnd::Prepare), "learned S1 M 3 -;"),
+    (Step::Forward(3, (2, 0), 3, "gh"), "ack S1 S0 1 2.0 3;"),
+    (
+        Step::CopyIn((3, 1), "wxyz", true),
+        "promised S1 M 1 3.1 1 true;",
+    ),
+    (Step::Forward(2, (3, 1), 9, "ij"), "ack S1 S0 1 3.1 2;"),
+    (Step::Epoch(4, EpochEnd::Rollback), "learned S1 M 4 1;"),
+    (
+        Step::Fetch(4, (4, 0), WHOLE),
+        "bytes S1 C7 C7/99 bytes 7778797a;",
+    ),
+    (
+        Step::Epoch(7, EpochEnd::Prepare),
+        "behind S1 M 4;refused 18 Epoch 4",
+    ),
+    (Step::Epoch(5, EpochEnd::Prepare), "learned S1 M 5 -;"),
+    (Step::Epoch(6, EpochEnd::Finalize), "learned S1 M 6 -;"),
+    (Step::Epoch(7, EpochEnd::Prepare), "learned S1 M 7 -;"),
+    (
+        Step::Epoch(6, EpochEnd::Finalize),
+        "behind S1 M 7;refused 18 Epoch 7",
+    ),
+];
+
+/// At server 1, each message with two refusals or more at a time, of which the first in the order is told: where nothing is known of
+/// the chunk.
+const REFUSED_WITHOUT: [Row; 12] = [
+    (
+        Step::Fetch(1, (0, 2), Asked::Length),
+        "bytes S1 C7 C7/99 refused 18 Epoch 0;refused 18 Epoch 0",
+    ),
+    (
+        Step::Fetch(0, (0, 2), PAST),
+        "bytes S1 C7 C7/99 refused 28 NoReplica;refused 28 NoReplica",
+    ),
+    (
+        Step::Advance(1, 2),
+        "unpromised S1 M 1 1.2 refused 18 Epoch 0;refused 18 Epoch 0",
+    ),
+    (Step::Grant(1, 2, 7), "refused 18 Epoch 0"),
+    (Step::Grant(0, 2, 7), "refused 28 NoReplica"),
+    (
+        Step::CopyOut(1, 2),
+        "unpromised S1 M 1 1.2 refused 18 Epoch 0;refused 18 Epoch 0",
+    ),
+    (
+        Step::CopyOut(0, 2),
+        "unpromised S1 M 1 0.2 refused 22 Stamp 0.0;refused 22 Stamp 0.0",
+    ),
+    (
+        Step::MakeCopy((0, 2), (1, 1)),
+        "unpromised S1 M 2 1.1 refused 18 Epoch 0;refused 18 Epoch 0",
+    ),
+    (
+        Step::MakeCopy((0, 2), (0, 0)),
+        "unpromised S1 M 2 0.0 refused 22 Stamp 0.0;refused 22 Stamp 0.0",
+    ),
+    (Step::Drop(1, (0, 2)), "refused 18 Epoch 0"),
+    (Step::Drop(0, (0, 2)), "refused 22 Stamp 0.0"),
+    (
+        Step::Edit(1, (0, 2), APPEND, 0),
+        "done S1 C7 C7/1 refused 28 NoReplica;refused 28 NoReplica",
+    ),
+];
+
+/// The same where server 1 leads the chunk, and its first block is damaged.
+const REFUSED_WITH: [Row; 31] = [
+    (
+        Step::Forward(9, (0, 2), 2, ""),
+        "nack S1 S0 1 0.2 refused 28 NoReplica;refused 28 NoReplica",
+    ),
+    (Step::Create(0, 4), "promised S1 M 1 0.4 0 false;"),
+    (
+        Step::CopyIn((0, 3), "0123456789abcdefg", false),
+        "unpromised S1 M 1 0.3 refused 19 Old;refused 19 Old",
+    ),
+    (
+        Step::CopyIn((0, 5), "0123456789abcdefg", true),
+        "unpromised S1 M 1 0.5 refused 25 Range;refused 25 Range",
+    ),
+    (
+        Step::Edit(2, (0, 9), APPEND, 60),
+        "done S1 C7 C7/2 refused 20 NotPrimary;refused 20 NotPrimary",
+    ),
+    (Step::ClientAck((0, 3), 1), "refused 37 Stray"),
+    (Step::Ack(2, (0, 3), 1), "refused 20 NotPrimary"),
+    (Step::Grant(0, 4, 7), ""),
+    (Step::Ack(2, (0, 3), 1), "refused 22 Stamp 0.4"),
+    (Step::Nack(2, (0, 3)), "refused 22 Stamp 0.4"),
+    (Step::Renewed(0, 3), "refused 22 Stamp 0.4"),
+    (Step::Push(4, "abcd"), ""),
+    (
+        Step::Edit(4, (0, 4), Op::Append { length: 4 }, 0),
+        "forward S1 S0 1 0.4 1 C7/4 append 4 -;forward S1 S2 1 0.4 1 C7/4 append 4 -;",
+    ),
+    (Step::Damage(0), ""),
+    (Step::Push(5, "abcd"), ""),
+    (
+        Step::Edit(5, (0, 4), LATE, 0),
+        "done S1 C7 C7/5 refused 25 Range;refused 25 Range",
+    ),
+    (
+        Step::Member(9, (0, 3), 4, LATE, ""),
+        "nack S1 S0 1 0.3 refused 22 Stamp 0.4;refused 22 Stamp 0.4",
+    ),
+    (
+        Step::Member(3, (0, 4), 4, LATE, ""),
+        "nack S1 S0 1 0.4 refused 23 Gap 1;refused 23 Gap 1",
+    ),
+    (
+        Step::Member(2, (0, 4), 4, LATE, ""),
+        "nack S1 S0 1 0.4 refused 24 NoData;refused 24 NoData",
+    ),
+    (
+        Step::Member(2, (0, 4), 4, LATE, "abcd"),
+        "nack S1 S0 1 0.4 refused 19 Old;refused 19 Old",
+    ),
+    (
+        Step::Member(2, (0, 4), 6, LATE, "abcd"),
+        "nack S1 S0 1 0.4 refused 25 Range;refused 25 Range",
+    ),
+    (
+        Step::Fetch(0, (0, 5), PAST),
+        "bytes S1 C7 C7/99 refused 19 Old;refused 19 Old",
+    ),
+    (
+        Step::Fetch(0, (0, 4), PAST),
+        "bytes S1 C7 C7/99 refused 25 Range;refused 25 Range",
+    ),
+    (
+        Step::Fetch(0, (0, 4), WHOLE),
+        "bytes S1 C7 C7/99 refused 27 Damaged 0;bad S1 M 1 0.4;refused 27 Damaged 0",
+    ),
+    (
+        Step::Advance(0, 3),
+        "unpromised S1 M 1 0.3 refused 27 Damaged 0;bad S1 M 1 0.4;refused 27 Damaged 0",
+    ),
+    (
+        Step::CopyOut(0, 3),
+        "unpromised S1 M 1 0.3 refused 22 Stamp 0.4;refused 22 Stamp 0.4",
+    ),
+    (
+        Step::MakeCopy((0, 3), (0, 0)),
+        "unpromised S1 M 2 0.0 refused 22 Stamp 0.4;refused 22 Stamp 0.4",
+    ),
+    (
+        Step::MakeCopy((0, 4), (0, 0)),
+        "unpromised S1 M 2 0.0 refused 27 Damaged 0;bad S1 M 1 0.4;refused 27 Damaged 0",
+    ),
+    (Step::Restart, ""),
+    (Step::Grant(0, 3, 7), "refused 22 Stamp 0.4"),
+    (Step::Grant(0, 4, 7), "refused 19 Old"),
+];
+
+/// The same where server 1 has dropped the chunk, and then gone on to epoch 1.
+const REFUSED_BEHIND: [Row; 11] = [
+    (Step::Create(0, 4), "promised S1 M 1 0.4 0 false;"),
+    (Step::Grant(0, 4, 7), ""),
+    (Step::Drop(0, (0, 4)), ""),
+    (
+        Step::Advance(0, 3),
+        "unpromised S1 M 1 0.3 refused 28 NoReplica;refused 28 NoReplica",
+    ),
+    (Step::Grant(0, 4, 7), "refused 28 NoReplica"),
+    (
+        Step::Fetch(0, (0, 5), PAST),
+        "bytes S1 C7 C7/99 refused 28 NoReplica;refused 28 NoReplica",
+    ),
+    (Step::Epoch(1, EpochEnd::Prepare), "learned S1 M 1 -;"),
+    (
+        Step::Create(0, 3),
+        "unpromised S1 M 1 0.3 refused 18 Epoch 1;refused 18 Epoch 1",
+    ),
+    (
+        Step::CopyIn((0, 3), "0123456789abcdefg", false),
+        "unpromised S1 M 1 0.3 refused 18 Epoch 1;refused 18 Epoch 1",
+    ),
+    (Step::Create(1, 0), "promised S1 M 1 1.0 0 false;"),
+    (Step::Drop(0, (0, 4)), "refused 18 Epoch 1"),
+];
+
 fn stamp(epoch: u64, version: u64) -> Stamp {
     Stamp { epoch, version }
 }
@@ -351,10 +597,72 @@ fn by_master(step: &Step) -> Result<Option<Chunk>, Refusal> {
             target: server_of(2)?,
             with_sealed: false,
         }),
+        Step::CopySealed(epoch, version) => Some(Chunk::CopyOut {
+            stamp: stamp(*epoch, *version),
+            target: server_of(2)?,
+            with_sealed: true,
+        }),
         Step::Drop(epoch, promise) => Some(Chunk::Drop {
             epoch: *epoch,
             promise: of(*promise),
         }),
+        _ => None,
+    })
+}
+
+/// A replica of chunks of 64 bytes that has applied an append and is sealed.
+fn sealed(alloc: Global, text: &str) -> Result<Replica, Refusal> {
+    let sizes = Sizes {
+        block: 4,
+        chunk: 64,
+    };
+    let mut replica = Replica::new(alloc, sizes, stamp(0, 1));
+    let op = gs_replica::Op::Append;
+    let _inverse = replica.apply(stamp(0, 1), 1, request(1), op, text.as_bytes())?;
+    replica.seal()?;
+    Ok(replica)
+}
+
+/// A copy of such a replica, perhaps with its sealed image.
+fn copy_of(
+    alloc: Global,
+    under: (u64, u64),
+    text: &str,
+    is_carried: bool,
+) -> Result<Chunk, Refusal> {
+    let replica = sealed(alloc, text)?;
+    let sealed = match is_carried {
+        true => Some(replica.sealed_image()?),
+        false => None,
+    };
+    Ok(Chunk::CopyIn {
+        stamp: of(under),
+        image: replica.image()?,
+        sealed,
+    })
+}
+
+/// What other servers say about chunk 1 and its edits, and a client that isn't one.
+fn by_copies(alloc: Global, step: &Step) -> Result<Option<(NodeId, Chunk)>, Refusal> {
+    let from = NodeId::Server(server_of(0)?);
+    Ok(match step {
+        Step::Member(number, told, by, op, text) => {
+            let forward = Chunk::Forward {
+                stamp: of(*told),
+                number: *number,
+                req: request(*by),
+                op: *op,
+                bytes: carried(alloc, text)?,
+            };
+            Some((from, forward))
+        }
+        Step::CopyIn(under, text, is_carried) => {
+            Some((from, copy_of(alloc, *under, text, *is_carried)?))
+        }
+        Step::ClientAck(told, count) => {
+            let (stamp, count) = (of(*told), *count);
+            Some((NodeId::Client(ClientId(7)), Chunk::Ack { stamp, count }))
+        }
         _ => None,
     })
 }
@@ -437,6 +745,10 @@ fn message(alloc: Global, to: ServerId, step: &Step) -> Result<Message, Refusal>
         return Ok(Message { from, to, body });
     }
     if let Some((from, chunk)) = by_others(alloc, step)? {
+        let body = Body::About(Handle::first(), chunk);
+        return Ok(Message { from, to, body });
+    }
+    if let Some((from, chunk)) = by_copies(alloc, step)? {
         let body = Body::About(Handle::first(), chunk);
         return Ok(Message { from, to, body });
     }
@@ -523,46 +835,96 @@ fn started(alloc: Global, id: ServerId) -> Result<Server, Refusal> {
     Ok(Server::new(alloc, config, id)?)
 }
 
+/// How many rows are answered as they say, up to the first that isn't.
+fn answered(
+    alloc: Global,
+    server: &mut Server,
+    id: ServerId,
+    rows: &[Row],
+) -> Result<usize, Refusal> {
+    let mut count: usize = 0;
+    for (step, said) in rows {
+        if answer(alloc, server, id, step)?.as_str() != *said {
+            return Ok(count);
+        }
+        count = count.wrapping_add(1);
+    }
+    Ok(count)
+}
+
+/// The same of a server that begins with nothing.
+fn play(alloc: Global, id: ServerId, rows: &[Row]) -> Result<usize, Refusal> {
+    let mut server = started(alloc, id)?;
+    let count = answered(alloc, &mut server, id, rows);
+    drop(server);
+    count
+}
+
+/// Pushes the bytes of the requests 1 to 65. BadLine where anything is said to that.
+fn push_all(alloc: Global, server: &mut Server, id: ServerId) -> Result<(), Refusal> {
+    for number in 1..66 {
+        if !answer(alloc, server, id, &Step::Push(number, "ab"))?.is_empty() {
+            return Err(Refusal::BadLine);
+        }
+    }
+    Ok(())
+}
+
+/// The same as `play`, behind those pushes.
+fn play_pushed(alloc: Global, id: ServerId, rows: &[Row]) -> Result<usize, Refusal> {
+    let mut server = started(alloc, id)?;
+    let count = match push_all(alloc, &mut server, id) {
+        Ok(()) => answered(alloc, &mut server, id, rows),
+        Err(refusal) => Err(refusal),
+    };
+    drop(server);
+    count
+}
+
 #[test]
 fn a_primary_numbers_edits(rt: HostRuntime) -> Result<(), Fail> {
-    let id = server_of(0)?;
-    let mut server = started(rt.alloc(), id)?;
-    for (step, said) in &LEADING {
-        assert_eq!(rt; answer(rt.alloc(), &mut server, id, step)?.as_str(), *said);
-    }
+    assert_eq!(rt; play(rt.alloc(), server_of(0)?, &LEADING)?, 43);
     Ok(())
 }
 
 #[test]
 fn a_restarted_primary_waits_for_a_lease(rt: HostRuntime) -> Result<(), Fail> {
-    let id = server_of(0)?;
-    let mut server = started(rt.alloc(), id)?;
-    for (step, said) in &RESTARTED {
-        assert_eq!(rt; answer(rt.alloc(), &mut server, id, step)?.as_str(), *said);
-    }
+    assert_eq!(rt; play(rt.alloc(), server_of(0)?, &RESTARTED)?, 12);
     Ok(())
 }
 
 #[test]
 fn a_member_follows_and_goes_back(rt: HostRuntime) -> Result<(), Fail> {
-    let id = server_of(1)?;
-    let mut server = started(rt.alloc(), id)?;
-    for (step, said) in &FOLLOWING {
-        assert_eq!(rt; answer(rt.alloc(), &mut server, id, step)?.as_str(), *said);
-    }
+    assert_eq!(rt; play(rt.alloc(), server_of(1)?, &FOLLOWING)?, 25);
     Ok(())
 }
 
 #[test]
 fn the_oldest_push_of_65_is_missing(rt: HostRuntime) -> Result<(), Fail> {
-    let id = server_of(0)?;
-    let mut server = started(rt.alloc(), id)?;
-    for number in 1..66 {
-        let said = answer(rt.alloc(), &mut server, id, &Step::Push(number, "ab"))?;
-        assert_eq!(rt; said.as_str(), "");
-    }
-    for (step, said) in &ALONE {
-        assert_eq!(rt; answer(rt.alloc(), &mut server, id, step)?.as_str(), *said);
-    }
+    assert_eq!(rt; play_pushed(rt.alloc(), server_of(0)?, &ALONE)?, 8);
+    Ok(())
+}
+
+#[test]
+fn a_copy_comes_onto_a_sealed_server(rt: HostRuntime) -> Result<(), Fail> {
+    assert_eq!(rt; play(rt.alloc(), server_of(1)?, &COPIED)?, 27);
+    Ok(())
+}
+
+#[test]
+fn refusals_come_in_order_without_a_replica(rt: HostRuntime) -> Result<(), Fail> {
+    assert_eq!(rt; play(rt.alloc(), server_of(1)?, &REFUSED_WITHOUT)?, 12);
+    Ok(())
+}
+
+#[test]
+fn refusals_come_in_order_at_a_primary(rt: HostRuntime) -> Result<(), Fail> {
+    assert_eq!(rt; play(rt.alloc(), server_of(1)?, &REFUSED_WITH)?, 31);
+    Ok(())
+}
+
+#[test]
+fn refusals_come_in_order_behind_a_drop(rt: HostRuntime) -> Result<(), Fail> {
+    assert_eq!(rt; play(rt.alloc(), server_of(1)?, &REFUSED_BEHIND)?, 11);
     Ok(())
 }

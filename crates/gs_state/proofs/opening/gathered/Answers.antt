@@ -10,9 +10,9 @@ use Rattle.gs_state.proofs.opening.gathered.Goals as goal
 
 pub returns : goal.returns
 returns c =
-    made_is (plain_checkpoint c.args.checkpoint.now) (live client_cmp c.args.replies) c.args.names (chunks_of (live nat_cmp c.args.leases)) c.in_ok-ends.ends.items (map plain_inverse c.in_ok-inverses.inverses.items) (live nat_cmp c.in_ok-prepared.prepared)
+    made_is (plain_checkpoint c.args.checkpoint.now) (live client_cmp c.args.replies) c.new.result (chunks_of (live nat_cmp c.args.leases)) c.in_ok-ends.ends.items (map plain_inverse c.in_ok-inverses.inverses.items) (live nat_cmp c.in_ok-prepared.prepared)
     (record {
-      the_names = c.requires.names;
+      the_names = c.new.ensures ∙ c.requires.names;
       the_chunks = c.requires.leases;
       the_ends = c.in_ok-ends.ensures.items ∙ c.deref.ensures.value;
       the_inverses = c.in_ok-inverses.ensures ∙ ap (map plain_inverse) c.deref-2.ensures.value;

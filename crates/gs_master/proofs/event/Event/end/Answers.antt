@@ -1,8 +1,12 @@
-use Rattle.std.proofs.Common.{◌≡◌, ap, arith, inl, length, subst, sym}
+use Rattle.std.proofs.Common.{◌≡◌, ap, arith, inl, length, map, subst, sym}
+use Rattle.gs_record.specs.Plain.{plain}
 use Rattle.gs_master.specs.Journaled.{Gains, IsReadyFor}
 use Rattle.gs_state.specs.Plans.{log_of}
 use Rattle.gs_master.proofs.Leading.{log_stays, ready}
 use Rattle.gs_master.proofs.event.Event.end.Goals as goal
+
+pub accept-requires : goal.accept-requires
+accept-requires g c = (map plain c.args.self.now.entries.items, (c.requires.from.0, c.requires.from.1.leads))
 
 pub returns-else-many-len-clause-ended : goal.returns-else-many-len-clause-ended
 returns-else-many-len-clause-ended g c = λ before has. inl (
