@@ -1,5 +1,5 @@
 #!/usr/bin/env python3
-"""Measures parts of the store that no request reaches yet, by a small program over their crates. No test."""
+"""Measures parts of the store by themselves, by a small program over their crates. No test."""
 
 import os
 import subprocess

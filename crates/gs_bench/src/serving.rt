@@ -24,7 +24,7 @@ enum Step {
     Push(u64, &'static [u8]),
     /// A request under a stamp.
     Edit(u64, (u64, u64), Op),
-    /// A number, which is its request's too, under a stamp, with its bytes or those that were pushed.
+    /// A number, whose request is 100 above, under a stamp, with its bytes or those that were pushed.
     Forward(u64, (u64, u64), Op, &'static [u8]),
     Ack(u64, (u64, u64), u64),
     Nack(u64, (u64, u64)),
@@ -103,7 +103,7 @@ const STEPS: [Step; 72] = [
     Step::Forward(4, (0, 4), FIRST, b"p"),
     Step::Forward(4, (0, 4), FIRST, b"p"),
     Step::Forward(5, (0, 4), FIRST, b""),
-    Step::Push(5, b"r"),
+    Step::Push(105, b"r"),
     Step::Forward(5, (0, 4), FIRST, b""),
     Step::Forward(6, (0, 2), FIRST, b"s"),
     Step::Restart,
@@ -123,13 +123,13 @@ const STEPS: [Step; 72] = [
     Step::CopyIn((1, 6), false),
     Step::CopyIn((1, 6), false),
     Step::CopyIn((1, 7), true),
-    Step::Forward(8, (1, 7), FIRST, b"k"),
+    Step::Forward(2, (1, 7), FIRST, b"k"),
     Step::Epoch(2, EpochEnd::Rollback),
     Step::Fetch(2, (2, 0), ALL),
     Step::Epoch(3, EpochEnd::Prepare),
     Step::Damage(0),
     Step::Fetch(3, (2, 0), ALL),
-    Step::Forward(9, (2, 0), FIRST, b"k"),
+    Step::Forward(2, (2, 0), FIRST, b"k"),
     Step::CopyOut(3, 0),
     Step::Epoch(4, EpochEnd::Finalize),
     Step::Lose,
@@ -138,12 +138,17 @@ const STEPS: [Step; 72] = [
     Step::Tick(99),
 ];
 
-/// A server, and another one to which the same happens.
+/// How many forwards the server acknowledges: one that comes twice, one whose bytes were pushed, two of a sealed replica, and one
+/// of a copy that came in with its sealed image.
+const ACKS: u64 = 6;
+
+/// A server, and another one to which the same happens, with the forwards that the first has acknowledged.
 #[derive(Drop)]
 struct Both {
     alloc: Global,
     server: Server,
     other: Server,
+    acks: u64,
 }
 
 fn of(told: (u64, u64)) -> Stamp {
@@ -412,6 +417,17 @@ fn same_reports_at_last(both: &Both) -> Result<u64, Refusal> {
     }
 }
 
+/// How many forwards are acknowledged.
+fn acks(turn: &Turn) -> u64 {
+    let mut count: u64 = 0;
+    for sent in turn.sent.iter() {
+        if let Body::About(_, Chunk::Ack { .. }) = &sent.body {
+            count = count.wrapping_add(1);
+        }
+    }
+    count
+}
+
 /// What happens to the other server. BadLine where its turn differs. Answers how often memory was refused.
 fn other_turn(both: &mut Both, step: &Step, turn: &Turn) -> Result<u64, Refusal> {
     let (other, again) = turn_at_last(both.alloc, &mut both.other, step)?;
@@ -424,6 +440,7 @@ fn other_turn(both: &mut Both, step: &Step, turn: &Turn) -> Result<u64, Refusal>
 /// What happens to both. Answers how often memory was refused and the same was done again.
 fn play(both: &mut Both, step: &Step) -> Result<u64, Refusal> {
     let (turn, again) = turn_at_last(both.alloc, &mut both.server, step)?;
+    both.acks = both.acks.wrapping_add(acks(&turn));
     let other_again = other_turn(both, step, &turn);
     drop(turn);
     let other_again = other_again?;
@@ -439,11 +456,12 @@ fn play_all(both: &mut Both) -> Result<u64, Refusal> {
     for step in &STEPS {
         again = again.wrapping_add(play(both, step)?);
     }
+    judge(both.acks == ACKS)?;
     Ok(again)
 }
 
 /// Does the same to two servers, step by step. Answers how many calls lacked memory and were made again. BadLine where the
-/// servers, one of which has lacked memory, then send, say or report different things.
+/// servers, one of which has lacked memory, then send, say or report different things, or where forwards weren't taken.
 pub(crate) fn run(alloc: Global) -> Result<u64, Refusal> {
     let config = Config::new(3, 3, 3, 4, 16)?;
     let id = server_of(0)?;
@@ -451,6 +469,7 @@ pub(crate) fn run(alloc: Global) -> Result<u64, Refusal> {
         alloc,
         server: Server::new(alloc, config, id)?,
         other: Server::new(alloc, config, id)?,
+        acks: 0,
     };
     play_all(&mut both)
 }

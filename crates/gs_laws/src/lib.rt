@@ -96,8 +96,8 @@ pub fn each_event_fits()
 {}
 
 /// Over every run from a new store all records fit, and together they lead from a new store to what is durable; and the master is firm
-/// in the end. So a restart on these records opens what was durable. The paths in calls are paths, and the numbers in messages and of
-/// moments are of 64 bits, as the types have it; a device that fails and memory that is wanting are not in it.
+/// in the end. So a restart on these records opens what was durable. The paths in calls are paths by the rules, and the numbers in
+/// messages and of moments are of 64 bits, as the types have it; a device that fails and memory that is wanting are not in it.
 pub fn every_run_fits()
     ensures fit { RunsFit }
     ensures again { RunsRecover }

@@ -55,10 +55,10 @@ type Row = (Step, &'static str);
 
 const APPEND: Op = Op::Append { length: 2 };
 
-/// A write past a chunk's size, over its last block.
+/// A write past a chunk's size that begins in its first block.
 const LATE: Op = Op::Write {
-    offset: 14,
-    length: 4,
+    offset: 2,
+    length: 15,
 };
 
 /// As many bytes as a chunk has at most, and one more.
@@ -459,7 +459,7 @@ const REFUSED_WITH: [Row; 31] = [
         "forward S1 S0 1 0.4 1 C7/4 append 4 -;forward S1 S2 1 0.4 1 C7/4 append 4 -;",
     ),
     (Step::Damage(0), ""),
-    (Step::Push(5, "abcd"), ""),
+    (Step::Push(5, "abcdefghijklmno"), ""),
     (
         Step::Edit(5, (0, 4), LATE, 0),
         "done S1 C7 C7/5 refused 25 Range;refused 25 Range",
@@ -477,11 +477,11 @@ const REFUSED_WITH: [Row; 31] = [
         "nack S1 S0 1 0.4 refused 24 NoData;refused 24 NoData",
     ),
     (
-        Step::Member(2, (0, 4), 4, LATE, "abcd"),
+        Step::Member(2, (0, 4), 4, LATE, "abcdefghijklmno"),
         "nack S1 S0 1 0.4 refused 19 Old;refused 19 Old",
     ),
     (
-        Step::Member(2, (0, 4), 6, LATE, "abcd"),
+        Step::Member(2, (0, 4), 6, LATE, "abcdefghijklmno"),
         "nack S1 S0 1 0.4 refused 25 Range;refused 25 Range",
     ),
     (

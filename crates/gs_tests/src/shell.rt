@@ -434,9 +434,9 @@ fn files_rolled_back(alloc: Global, count: u32) -> Result<String, AllocError> {
 #[test]
 fn rolls_back_many_edits(rt: HostRuntime) -> Result<(), Fail> {
     let alloc = rt.alloc();
-    let script = files_rolled_back(alloc, 2_000)?;
+    let script = files_rolled_back(alloc, 100_000)?;
     let output = output_of(alloc, store_of(3)?, script.as_bytes())?;
-    assert_eq!(rt; output.as_str().split('\n').count(), 2_004);
+    assert_eq!(rt; output.as_str().split('\n').count(), 100_004);
     assert!(rt; output.as_str().ends_with("ok\nok 2\nok\n"), "the end");
     Ok(())
 }
