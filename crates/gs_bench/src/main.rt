@@ -5,6 +5,7 @@ mod blocks;
 mod counting;
 mod journals;
 mod names;
+mod records;
 mod replica;
 mod script;
 mod servers;
@@ -47,6 +48,8 @@ enum Part {
     Script,
     /// Edits of a replica, sealed and rolled back, for such runs too.
     Replica,
+    /// Records of all kinds read and written, for such runs too.
+    Records,
     /// Records added to a journal.
     Record,
     /// The same, and one opening of it.
@@ -86,6 +89,7 @@ impl Part {
             "read" => Some(Part::Read),
             "script" => Some(Part::Script),
             "replica" => Some(Part::Replica),
+            "records" => Some(Part::Records),
             "record" => Some(Part::Record),
             "open" => Some(Part::Open),
             other => Part::of_server(other),
@@ -124,6 +128,7 @@ impl Part {
             Part::Read => blocks::read(alloc, count).map(|()| 0),
             Part::Script => script::run(alloc),
             Part::Replica => replica::run(alloc),
+            Part::Records => records::run(alloc),
             Part::Record => journals::append(alloc, count),
             Part::Open => journals::open(alloc, count),
             other => other.run_server(alloc, count),
@@ -171,7 +176,7 @@ fn main(rt: HostRuntime) -> ExitCode {
         Ok(0) => ExitCode::SUCCESS,
         Ok(written) => {
             let what = match part {
-                Part::Script | Part::Replica | Part::Serving => "calls made again",
+                Part::Script | Part::Replica | Part::Records | Part::Serving => "calls made again",
                 _ => "bytes written",
             };
             let _ = eprintln!(rt; "{written} {what}");

@@ -462,7 +462,7 @@ impl BufRead for Weak<'_> {
             return Err(io::Error::from(ErrorKind::Interrupted));
         }
         if self.rest.is_empty() {
-            return Err(io::Error::from(ErrorKind::Other));
+            return Err(io::Error::from(ErrorKind::BrokenPipe));
         }
         Ok(&self.rest[..self.rest.len().min(self.most)])
     }
@@ -489,6 +489,22 @@ fn stops_where_a_read_fails(rt: HostRuntime) -> Result<(), Fail> {
     assert_eq!(rt;
         output.as_slice(),
         b"refused 34 BadLine\nok\nok a/\n".as_slice()
+    );
+    Ok(())
+}
+
+// The error is that of the read that failed.
+#[test]
+fn a_line_fails_as_its_read(rt: HostRuntime) -> Result<(), Fail> {
+    let mut input = Weak {
+        rest: b"ls",
+        most: 1,
+        calls: 0,
+    };
+    let line = gs_line::next_line(rt.alloc(), &mut input);
+    assert!(rt;
+        matches!(line, Err(e) if e.kind() == ErrorKind::BrokenPipe),
+        "the kind"
     );
     Ok(())
 }
