@@ -301,23 +301,35 @@ module _ {D : Type 0} (failures : D → ℕ) (moment : Moment) (old : MasterOf D
 
   pub ticks_failed : is_failed old.state.fault ≡ true → (told : Told) → told.sent.items ≡ [] → told.said ≡ Some refusals.Device → AnswersTick failures moment old (Ok told) old
   ticks_failed failed told sent said =
-      subst (λ b. Either (not b && (due steps.after && is_written steps.after)) (tick old.state moment) told old) (sym failed)
-      (inl (subst (λ t. IsAnswered failures t old told old) (sym (failed_tick old.state moment failed)) (refused_there failures refusals.Device old told sent said)))
+      inl (subst (λ b. Either (not b && (due steps.after && is_written steps.after)) (tick old.state moment) told old) (sym failed)
+      (inl (subst (λ t. IsAnswered failures t old told old) (sym (failed_tick old.state moment failed)) (refused_there failures refusals.Device old told sent said))))
 
   pub ticks_plain : is_failed old.state.fault ≡ false → (due steps.after && is_written steps.after) ≡ false → (result : Result Told Refusal) (new : MasterOf D) → Answers failures None steps old result new → AnswersTick failures moment old result new
   ticks_plain sound none (Ok told) new answered =
-      subst (λ b. Either (not b && (due steps.after && is_written steps.after)) (tick old.state moment) told new) (sym sound)
+      inl (subst (λ b. Either (not b && (due steps.after && is_written steps.after)) (tick old.state moment) told new) (sym sound)
       (subst (λ b. Either b (tick old.state moment) told new) (sym none)
-      (subst (λ t. IsAnswered failures t old told new ⊎ ((place : ℕ) × IsAnsweredUnsure failures None t place old told new)) (sym (plain_tick old.state moment sound none)) answered))
+      (subst (λ t. IsAnswered failures t old told new ⊎ ((place : ℕ) × IsAnsweredUnsure failures None t place old told new)) (sym (plain_tick old.state moment sound none)) answered)))
   ticks_plain sound none (Err e) new answered = answered
+
+  ticks_short : due steps.after ≡ true → (result : Result Told Refusal) (new : MasterOf D) → Answers failures None steps old result new → AnswersTick failures moment old result new
+  ticks_short is_due (Ok told) new answered = inr (is_due, answered)
+  ticks_short is_due (Err e) new answered = answered
+
+  -- no checkpoint is made: none is due, or one is
+  ticks_by : (b : Bool) → due steps.after ≡ b → is_failed old.state.fault ≡ false → (result : Result Told Refusal) (new : MasterOf D) → Answers failures None steps old result new → AnswersTick failures moment old result new
+  ticks_by true is_due sound result new answered = ticks_short is_due result new answered
+  ticks_by false is_not sound result new answered = ticks_plain sound (ap (λ b. b && is_written steps.after) is_not) result new answered
+
+  pub ticks_alone : is_failed old.state.fault ≡ false → (result : Result Told Refusal) (new : MasterOf D) → Answers failures None steps old result new → AnswersTick failures moment old result new
+  ticks_alone sound result new answered = ticks_by (due steps.after) refl sound result new answered
 
   pub ticks_anew : is_failed old.state.fault ≡ false → due steps.after ≡ true → renewal_refusal steps.after ≡ None → (told : Told) (new : MasterOf D) →
       (IsAnsweredAnew failures (and_checkpoint steps) steps old told new ⊎ ((place : ℕ) × IsAnsweredUnsure failures None (and_checkpoint steps) place old told new)) → AnswersTick failures moment old (Ok told) new
   ticks_anew sound is_due none told new answered =
-      subst (λ b. Either (not b && (due steps.after && is_written steps.after)) (tick old.state moment) told new) (sym sound)
+      inl (subst (λ b. Either (not b && (due steps.after && is_written steps.after)) (tick old.state moment) told new) (sym sound)
       (subst (λ b. Either (b && is_written steps.after) (tick old.state moment) told new) (sym is_due)
       (subst (λ o. Either (is_none o) (tick old.state moment) told new) (sym none)
-      (subst (λ t. IsAnsweredAnew failures t steps old told new ⊎ ((place : ℕ) × IsAnsweredUnsure failures None t place old told new)) (sym (written_tick old.state moment sound is_due none)) answered)))
+      (subst (λ t. IsAnsweredAnew failures t steps old told new ⊎ ((place : ℕ) × IsAnsweredUnsure failures None t place old told new)) (sym (written_tick old.state moment sound is_due none)) answered))))
 
 module _ {D : Type 0} (failures : D → ℕ) (old : MasterOf D) where
   abbrev As : Bool → Turn → Told → MasterOf D → Type 0

@@ -1,9 +1,8 @@
 -- What an event that is finished leaves at the master and at its journal.
-use Rattle.std.specs.Prelude.{◌≡◌, ◌⊎◌, ◌&&◌, ◌≤◌, ◌++◌, ◌∷◌, ℕ, true, false, List, [], is_none, map, Option, Some, None, Result, Ok, Err}
+use Rattle.std.specs.Prelude.{◌≡◌, ◌⊎◌, ◌≤◌, ◌++◌, ◌∷◌, ℕ, true, List, [], map, Option, Some, None, Result, Ok, Err}
 use Rattle.std.specs.List.{AllByRecursion}
 use Rattle.gs_base.specs.declared.numbers.ReqId.{ReqId}
 use Rattle.gs_base.specs.declared.refusal.Refusal.{Refusal}
-use Rattle.gs_base.specs.declared.refusal.Refusal.TheVariants as refusals
 use Rattle.gs_journal.specs.Journal.{State as Journal}
 use Rattle.gs_journal.specs.declared.version.Version.TheVariants.{Two}
 use Rattle.gs_msg.specs.declared.message.Message.{Message}
@@ -18,7 +17,7 @@ use Rattle.gs_state.specs.Outcomes.{IsCut, IsDone}
 use Rattle.gs_state.specs.Plans.{fault_of, log_of}
 use Rattle.gs_state.specs.Recorded.{durable_of}
 use Rattle.gs_master.specs.Renewing.{BreaksAnew, Renews}
-use Rattle.gs_plan.specs.Renewable.{IsBehind, IsRenewalOf, renewal_refusal}
+use Rattle.gs_plan.specs.Renewable.{IsBehind, IsRenewalOf}
 use Rattle.gs_master.specs.StartingOver.{IsBegun}
 use Rattle.gs_state.specs.State.{State, Turn}
 use Rattle.gs_master.specs.Turns.{WhyNotTurned, state_at}
@@ -80,9 +79,8 @@ abbrev pub FinishesAnew : {D : Type 0} → (D → List ℕ) → (D → List ℕ 
 FinishesAnew seen may_leave failures steps begun old told e new =
     IsFinishedAnew seen may_leave failures steps begun old told e new ⊎ ((place : ℕ) × IsCutShortAnew failures steps place begun old told e new)
 
--- All that the checkpoint takes which a tick writes here; none where it isn't due, or something stands against it. Only memory may be
--- wanting.
-abbrev pub MakesDue : {D : Type 0} → State → Journal D → Result (Option Renewal) Refusal → Type 0
-MakesDue s j (Ok (Some r)) = (due s ≡ true) × (IsRenewalOf s r × IsBehind j r)
-MakesDue s j (Ok None) = (due s && is_none (renewal_refusal s)) ≡ false
-MakesDue s j (Err e) = e ≡ refusals.Memory
+-- All that the checkpoint takes which a tick writes here; none where it isn't due, or something stands against it, or memory is wanting
+-- for it.
+abbrev pub MakesDue : {D : Type 0} → State → Journal D → Option Renewal → Type 0
+MakesDue s j (Some r) = (due s ≡ true) × (IsRenewalOf s r × IsBehind j r)
+MakesDue s j None = Unit {0}

@@ -9,7 +9,7 @@ use Rattle.gs_journal.specs.declared.version.Version.TheVariants.{Two}
 use Rattle.gs_record.specs.Writable.{IsEntry}
 use Rattle.gs_state.specs.Applied.{replayed}
 use Rattle.gs_state.specs.Handling.{checkpoint, checkpoint_body, due, granted, pressed, proposals, tick}
-use Rattle.gs_master.specs.Masters.{IsAnswered, IsAnsweredUnsure, MasterOf, WhyNot}
+use Rattle.gs_master.specs.Masters.{Answers, IsAnswered, IsAnsweredUnsure, MasterOf, WhyNot}
 use Rattle.gs_state.specs.Outcomes.{IsDone}
 use Rattle.gs_plan.specs.Renewable.{renewal_refusal}
 use Rattle.gs_state.specs.State.{State, Turn, and_then, for_each, is_failed, unmoved}
@@ -40,12 +40,19 @@ is_written s = is_none (renewal_refusal s)
 abbrev pub writes_one : State → Turn → Bool
 writes_one s steps = not (is_failed s.fault) && (due steps.after && is_written steps.after)
 
--- the steps are done, and the checkpoint is written if it is due; or all is cut where a disk failed; or nothing has happened
-abbrev pub AnswersTick : {D : Type 0} → (D → ℕ) → Moment → MasterOf D → Result Told Refusal → MasterOf D → Type 0
-AnswersTick failures moment old (Ok told) new =
+-- the steps are done, and the checkpoint is written if it is due; or all is cut where a disk failed
+abbrev pub AnswersWhole : {D : Type 0} → (D → ℕ) → Moment → MasterOf D → Told → MasterOf D → Type 0
+AnswersWhole failures moment old told new =
     let steps = pressed_all old.state moment in
     let t = tick old.state moment in
     AnswersAs failures (writes_one old.state steps) t steps old told new ⊎ ((place : ℕ) × IsAnsweredUnsure failures None t place old told new)
+
+-- where memory is wanting for a checkpoint that is due, the steps are done without it; where it is wanting for the steps, nothing has
+-- happened
+abbrev pub AnswersTick : {D : Type 0} → (D → ℕ) → Moment → MasterOf D → Result Told Refusal → MasterOf D → Type 0
+AnswersTick failures moment old (Ok told) new =
+    let steps = pressed_all old.state moment in
+    AnswersWhole failures moment old told new ⊎ ((due steps.after ≡ true) × Answers failures None steps old (Ok told) new)
 AnswersTick failures moment old (Err refusal) new = WhyNot (pressed_all old.state moment) old.state refusal × (new ≡ old)
 
 -- a checkpoint is written, or it is said why none is; or a disk failed at it; or memory is wanting, and nothing has happened

@@ -53,20 +53,15 @@ impl Event {
         Ok(self.tell())
     }
 
-    /// All that the checkpoint takes which a tick writes here, if it is due and nothing stands against it. It refuses `Memory`
-    /// alone.
-    pub fn due_renewal<D: Disk>(&self, journal: &Journal<D>) -> Result<Option<Renewal>, Refusal>
+    /// All that the checkpoint takes which a tick writes here, if it is due, nothing stands against it, and memory is there for it.
+    pub fn due_renewal<D: Disk>(&self, journal: &Journal<D>) -> Option<Renewal>
         ensures { MakesDue (state_at self.now) journal.now result }
     {
         let standing = self.standing();
         if !standing.is_due() {
-            return Ok(None);
+            return None;
         }
-        match standing.renewal(journal) {
-            Ok(renewal) => Ok(Some(renewal)),
-            Err(Refusal::Memory) => Err(Refusal::Memory),
-            Err(_) => Ok(None),
-        }
+        standing.renewal(journal).ok()
     }
 
     /// Ends an event whose steps are done, with a checkpoint behind its records. It takes no memory.

@@ -1,7 +1,6 @@
-use Rattle.std.proofs.Common.{◌≡◌, ◌∙◌, [], false, inl, refl, subst, sym, true}
+use Rattle.std.proofs.Common.{◌≡◌, ◌∙◌, subst, sym, true}
 use Rattle.std.proofs.lemmas.Bool.{false≢true}
-use Rattle.std.specs.Prelude.{◌&&◌, Err, None, Ok, is_none}
-use Rattle.gs_base.specs.declared.refusal.Refusal.TheVariants as refusals
+use Rattle.std.specs.Prelude.{None, Ok}
 use Rattle.gs_master.specs.Finishing.{MakesDue}
 use Rattle.gs_state.specs.Handling.{due}
 use Rattle.gs_master.specs.Masters.{IsHeld, MasterOf, WhyNot}
@@ -9,7 +8,7 @@ use Rattle.gs_plan.specs.Renewable.{renewal_refusal}
 use Rattle.gs_master.specs.Ticking.{AnswersTick, pressed_all}
 use Rattle.gs_master.specs.Turns.{state_at}
 use Rattle.gs_master.proofs.Finished.{rests_again, state_again}
-use Rattle.gs_master.proofs.Renewed.{answers_anew, held_anew, ticks_anew, ticks_failed, ticks_plain}
+use Rattle.gs_master.proofs.Renewed.{answers_anew, held_anew, ticks_alone, ticks_anew, ticks_failed}
 use Rattle.gs_master.proofs.Turning.{answers, still_held}
 use Rattle.gs_master.proofs.master.Master.tick.Goals as goal
 
@@ -40,8 +39,8 @@ returns-in-Err g c =
     subst (λ v. WhyNot (pressed_all v.state c.args.moment) v.state c.in-Err.refusal × (record { config = m.config; state = state_at e; journal = m.journal } ≡ v)) c.self.view_is
     (c.in-Err.ensures.steps, λ i. record { config = m.config; state = same i; journal = m.journal })
 
-pub invariant_of-self-in-Ok-Some : goal.invariant_of-self-in-Ok-Some
-invariant_of-self-in-Ok-Some g c =
+pub invariant_of-self-in-Some : goal.invariant_of-self-in-Some
+invariant_of-self-in-Some g c =
     let d = g.D.Disk in
     let m = c.self.inside in
     let steps = pressed_all (state_at m.event) c.args.moment in
@@ -51,8 +50,8 @@ invariant_of-self-in-Ok-Some g c =
           (c.finish_renewed.ensures.finishes m.event steps c.self.invariant.0 c.beginning-beginning.ensures c.tick.ensures.back c.in_default.ensures.steps),
     )
 
-pub returns-in-Ok-Some : goal.returns-in-Ok-Some
-returns-in-Ok-Some g c =
+pub returns-in-Some : goal.returns-in-Some
+returns-in-Some g c =
     let d = g.D.Disk in
     let m = c.self.inside in
     let e = c.finish_renewed.new.self in
@@ -61,7 +60,7 @@ returns-in-Ok-Some g c =
     let steps = pressed_all (state_at m.event) c.args.moment in
     let turned = c.in_default.ensures.steps in
     let sound = sym c.is_failed.ensures ∙ c.if-is_failed.false in
-    let made = subst (λ o. MakesDue (state_at c.tick.new.self) m.journal (Ok o)) c.in-Ok-Some.field-0-is c.in-Ok-Some.ensures in
+    let made = subst (λ o. MakesDue (state_at c.tick.new.self) m.journal o) c.in-Some.field-0-is c.in-Some.ensures in
     let is_due = subst (λ s. due s ≡ true) turned.after made.0 in
     let none = subst (λ s. renewal_refusal s ≡ None) turned.after made.1.0.unrefused in
     let new : MasterOf g.row.D.Denot = record { config = m.config; state = state_at e; journal = k } in
@@ -70,8 +69,8 @@ returns-in-Ok-Some g c =
     (answers_anew d.seen d.may_leave d.failures m.config steps m.event m.journal c.self.invariant.1 sound e k told
     (c.finish_renewed.ensures.finishes m.event steps c.self.invariant.0 c.beginning-beginning.ensures c.tick.ensures.back turned)))
 
-pub invariant_of-self-in-Ok-None : goal.invariant_of-self-in-Ok-None
-invariant_of-self-in-Ok-None g c =
+pub invariant_of-self-in-None : goal.invariant_of-self-in-None
+invariant_of-self-in-None g c =
     let d = g.D.Disk in
     let m = c.self.inside in
     let steps = pressed_all (state_at m.event) c.args.moment in
@@ -81,8 +80,8 @@ invariant_of-self-in-Ok-None g c =
           (c.finish.ensures.finishes m.event steps c.self.invariant.0 c.beginning-beginning.ensures c.tick.ensures.back c.in_default.ensures.steps),
     )
 
-pub returns-in-Ok-None : goal.returns-in-Ok-None
-returns-in-Ok-None g c =
+pub returns : goal.returns
+returns g c =
     let d = g.D.Disk in
     let m = c.self.inside in
     let e = c.finish.new.self in
@@ -90,29 +89,8 @@ returns-in-Ok-None g c =
     let steps = pressed_all (state_at m.event) c.args.moment in
     let turned = c.in_default.ensures.steps in
     let sound = sym c.is_failed.ensures ∙ c.if-is_failed.false in
-    let none = subst (λ s. (due s && is_none (renewal_refusal s)) ≡ false) turned.after (subst (λ o. MakesDue (state_at c.tick.new.self) m.journal (Ok o)) c.in-Ok-None.field-0-is c.in-Ok-None.ensures) in
     let new : MasterOf g.row.D.Denot = record { config = m.config; state = state_at e; journal = k } in
     subst (λ v. AnswersTick d.failures c.args.moment v c.finish.result new) c.self.view_is
-    (ticks_plain d.failures c.args.moment (record { config = m.config; state = state_at m.event; journal = m.journal }) sound none c.finish.result new
+    (ticks_alone d.failures c.args.moment (record { config = m.config; state = state_at m.event; journal = m.journal }) sound c.finish.result new
     (answers d.seen d.may_leave d.failures m.config None steps m.event m.journal c.self.invariant.1 (λ failed. absurd (false≢true (sym sound ∙ failed))) e k c.finish.result
     (c.finish.ensures.finishes m.event steps c.self.invariant.0 c.beginning-beginning.ensures c.tick.ensures.back turned)))
-
-pub invariant_of-self-in-Err-due_renewal : goal.invariant_of-self-in-Err-due_renewal
-invariant_of-self-in-Err-due_renewal g c =
-    let d = g.D.Disk in
-    let m = c.self.inside in
-    let rest = c.self.invariant.0 in
-    let b = c.beginning-beginning in
-    let e = c.start_over-in-Err-due_renewal.new.self in
-    let over = c.start_over-in-Err-due_renewal.ensures in
-    let same = state_again b.result m.event c.tick.new.self e rest b.ensures c.tick.ensures.back over in
-    (rests_again b.result m.event c.tick.new.self e rest b.ensures c.tick.ensures.back over, subst (λ s. IsHeld d.seen d.may_leave s m.journal) (sym same) c.self.invariant.1)
-
-pub returns : goal.returns
-returns g c =
-    let m = c.self.inside in
-    let b = c.beginning-beginning in
-    let e = c.start_over-in-Err-due_renewal.new.self in
-    let same = state_again b.result m.event c.tick.new.self e c.self.invariant.0 b.ensures c.tick.ensures.back c.start_over-in-Err-due_renewal.ensures in
-    subst (λ v. WhyNot (pressed_all v.state c.args.moment) v.state refusals.Memory × (record { config = m.config; state = state_at e; journal = m.journal } ≡ v)) c.self.view_is
-    (inl refl, λ i. record { config = m.config; state = same i; journal = m.journal })
