@@ -1,7 +1,6 @@
 use Rattle.std.proofs.Common.{◌≡◌, ◌∙◌, subst, sym, true}
 use Rattle.std.proofs.lemmas.Bool.{false≢true}
 use Rattle.std.specs.Prelude.{None, Ok}
-use Rattle.gs_master.specs.Finishing.{MakesDue}
 use Rattle.gs_state.specs.Handling.{due}
 use Rattle.gs_master.specs.Masters.{IsHeld, MasterOf, WhyNot}
 use Rattle.gs_plan.specs.Renewable.{renewal_refusal}
@@ -60,7 +59,7 @@ returns-in-Some g c =
     let steps = pressed_all (state_at m.event) c.args.moment in
     let turned = c.in_default.ensures.steps in
     let sound = sym c.is_failed.ensures ∙ c.if-is_failed.false in
-    let made = subst (λ o. MakesDue (state_at c.tick.new.self) m.journal o) c.in-Some.field-0-is c.in-Some.ensures in
+    let made = c.in-Some.ensures in
     let is_due = subst (λ s. due s ≡ true) turned.after made.0 in
     let none = subst (λ s. renewal_refusal s ≡ None) turned.after made.1.0.unrefused in
     let new : MasterOf g.row.D.Denot = record { config = m.config; state = state_at e; journal = k } in
@@ -80,8 +79,8 @@ invariant_of-self-in-None g c =
           (c.finish.ensures.finishes m.event steps c.self.invariant.0 c.beginning-beginning.ensures c.tick.ensures.back c.in_default.ensures.steps),
     )
 
-pub returns : goal.returns
-returns g c =
+pub returns-in-None : goal.returns-in-None
+returns-in-None g c =
     let d = g.D.Disk in
     let m = c.self.inside in
     let e = c.finish.new.self in
