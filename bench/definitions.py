@@ -17,7 +17,7 @@ import sys
 
 ROOT = pathlib.Path(__file__).resolve().parent.parent
 TOP = ["gs_shell", "gs_options", "chunkstore"]
-BESIDE = ["gs_tests", "gs_bench"]
+BESIDE = ["gs_tests"]
 WORD = re.compile(r"[^\s(){}\[\],;`]+")
 IMPORT = re.compile(r"use Rattle\.(\w+)\.specs\.([\w.]+?)(?:\.\{([^}]*)\})?(?: as ([\w-]+))?;?\s*$", re.M)
 HEAD = re.compile(r"^(?:(?:unfoldable|abbrev|opaque|pub)\s+)+(?:record\s+|data\s+)?([^\s:({]+)|^(?:record|data)\s+([^\s:({]+)")

@@ -12,9 +12,9 @@ import subprocess
 import sys
 import tempfile
 
-ROOT = os.path.dirname(os.path.dirname(os.path.abspath(__file__)))
-PROGRAM = os.path.join(ROOT, "crates", "gs_bench", "out", "gs_bench")
-PARTS = ["script", "replica", "records", "serving"]
+import measuring
+
+PARTS = ["script", "replica", "records", "serving", "removed", "copied"]
 SECONDS = 20
 # At the end it says whether the growth was reached.
 LIBRARY = """
@@ -79,14 +79,15 @@ def wrong_runs(program, made, part):
 
 def main():
     parser = argparse.ArgumentParser()
-    parser.add_argument("--program", default=PROGRAM)
+    parser.add_argument("--program", help="the built gs_bench, which else is built")
     parser.add_argument("parts", nargs="*", default=PARTS)
     asked = parser.parse_args()
+    program = asked.program or measuring.built()
     any_wrong = False
     with tempfile.TemporaryDirectory() as folder:
         made = library(folder)
         for part in asked.parts:
-            growths, wrong = wrong_runs(asked.program, made, part)
+            growths, wrong = wrong_runs(program, made, part)
             print(f"{part}: {growths} growths refused in turn, wrong at {wrong or 'none'}", flush=True)
             any_wrong = any_wrong or bool(wrong)
     return 1 if any_wrong else 0

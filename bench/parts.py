@@ -5,25 +5,15 @@ import os
 import subprocess
 import sys
 
-ROOT = os.path.dirname(os.path.dirname(os.path.abspath(__file__)))
-CRATE = os.path.join(ROOT, "crates", "gs_bench")
-PROGRAM = os.path.join(CRATE, "out", "gs_bench")
+import measuring
+
 REPEATS = 3
 LEAST_SECONDS = 0.005
 
 
-def build():
-    """Proves the measuring program and builds it, where it isn't built."""
-    log = os.path.join(CRATE, "out", "build.log")
-    os.makedirs(os.path.dirname(log), exist_ok=True)
-    print(f"building; see {os.path.relpath(log, ROOT)}", file=sys.stderr, flush=True)
-    with open(log, "w") as out:
-        subprocess.run(["rt", "run", "--", "build", "1"], cwd=CRATE, stdout=out, stderr=out, check=True)
-
-
 def used(part, count):
     """What a run of the part has used."""
-    with subprocess.Popen([PROGRAM, part, str(count)], stderr=subprocess.DEVNULL) as run:
+    with subprocess.Popen([measuring.PROGRAM, part, str(count)], stderr=subprocess.DEVNULL) as run:
         _, status, used = os.wait4(run.pid, 0)
         run.returncode = os.waitstatus_to_exitcode(status)
     if run.returncode:
@@ -46,6 +36,10 @@ BLOCKS = ["digest", "write", "append", "read"]
 BLOCK = 65536
 # A server's parts, the digests alone beside which each stands, and how many times as long it may take.
 SERVER = [("server-store", "digest", 1.2), ("server-write", "digest", 2.4), ("server-append", "digest-appends", 2), ("server-read", "digest", 1.2)]
+# A part of the master's journal and of its names, and the part whose time is taken off it.
+MASTER = [("calls", None), ("files", None), ("recover", "calls"), ("renew", "calls"), ("recover-renewed", "renew")]
+# Parts behind 100 files of one chunk each, and behind 100,000.
+SIZED = ["calls", "ticks"]
 
 
 def row(name, times, more=()):
@@ -67,7 +61,7 @@ def show_differences(parts, n):
 
 def written(part, count):
     """The bytes that the part says it has written to its disks."""
-    said = subprocess.run([PROGRAM, part, str(count)], check=True, stderr=subprocess.PIPE, text=True).stderr
+    said = subprocess.run([measuring.PROGRAM, part, str(count)], check=True, stderr=subprocess.PIPE, text=True).stderr
     return int(said.split()[0])
 
 
@@ -115,13 +109,26 @@ def show_servers(n):
     print(f"peak memory of {blocks:,} blocks stored in one chunk: {peak('server-store', blocks) / (blocks * BLOCK):.2f} times their bytes (at most 1.6)", flush=True)
 
 
+def show_master(n):
+    """What calls of the master cost beside the names alone, how that grows, and the memory of files and chunks."""
+    show_differences(MASTER, n)
+    calls, names = (seconds(part, 4 * n) - seconds(part, 0) for part in ("calls", "build"))
+    print(f"calls that make a file, a second: {4 * n / calls:,.0f}; of the names alone: {4 * n / names:,.0f}; ratio {names / calls:.2f} (least 0.5)", flush=True)
+    for part in SIZED:
+        few, many = ((seconds(f"{part}-{size}", 4 * n) - seconds(f"{part}-{size}", 0)) / (4 * n) for size in ("few", "many"))
+        print(f"{part}: {1e6 * few:.2f} microseconds behind 100 files of one chunk, {1e6 * many:.2f} behind 100,000; ratio {many / few:.2f} (most 2)", flush=True)
+    file, both = ((peak(part, 4 * n) - peak(part, 2 * n)) / (2 * n) for part in ("calls", "files"))
+    print(f"bytes in memory, with the journal's: {file:,.0f} for a file, {both - file:,.0f} for its chunk", flush=True)
+
+
 def main():
     n = int(sys.argv[1]) if len(sys.argv) > 1 else 25000
-    build()
+    measuring.built()
     show_differences(NAMES, n)
     show_journal(40 * n)
     show_blocks(n // 50)
     show_servers(n // 50)
+    show_master(n)
 
 
 if __name__ == "__main__":

@@ -14,11 +14,11 @@ import subprocess
 import sys
 import tempfile
 
+import measuring
+
 ROOT = os.path.dirname(os.path.dirname(os.path.abspath(__file__)))
 SHELL = os.path.join(ROOT, "chunkstore")
 PROGRAM = os.path.join(ROOT, "crates", "chunkstore", "out", "chunkstore")
-BENCH = os.path.join(ROOT, "crates", "gs_bench")
-DIGESTS = os.path.join(BENCH, "out", "gs_bench")
 
 # Times below this tell nothing.
 LEAST_SECONDS = 0.05
@@ -362,12 +362,6 @@ def show(make, options):
     return not row.passed()
 
 
-def build_digests():
-    """Proves the program of the digests and builds it."""
-    print("building gs_bench", file=sys.stderr, flush=True)
-    subprocess.run(["rt", "run", "--", "digest", "1"], cwd=BENCH, stdout=subprocess.DEVNULL, stderr=subprocess.DEVNULL, check=True)
-
-
 def parsed():
     parser = argparse.ArgumentParser()
     parser.add_argument("n", nargs="?", type=int, default=100_000, help="how many tree commands; of what costs more a part of that")
@@ -387,8 +381,7 @@ def main():
         subprocess.run([SHELL, "--build"], check=True)
         options.program = PROGRAM
     if not options.digests:
-        build_digests()
-        options.digests = DIGESTS
+        options.digests = measuring.built()
     n = options.n
     head = ["a second, n", "2n", "MB/s", "2n/n", "digests", "2n", "memory", "2n"]
     print(f"{f'n = {n}':<20}" + "".join(f"{word:>{width}}" for width, word in zip([12, 12, 8, 7, 8, 8, 8, 8], head)), flush=True)
