@@ -12,7 +12,7 @@ import subprocess
 import sys
 import tempfile
 
-import measuring
+import beside
 
 PARTS = ["script", "replica", "records", "serving", "removed", "copied"]
 SECONDS = 20
@@ -82,7 +82,7 @@ def main():
     parser.add_argument("--program", help="the built gs_bench, which else is built")
     parser.add_argument("parts", nargs="*", default=PARTS)
     asked = parser.parse_args()
-    program = asked.program or measuring.built()
+    program = asked.program or beside.built()
     any_wrong = False
     with tempfile.TemporaryDirectory() as folder:
         made = library(folder)

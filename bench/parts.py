@@ -5,7 +5,7 @@ import os
 import subprocess
 import sys
 
-import measuring
+import beside
 
 REPEATS = 3
 LEAST_SECONDS = 0.005
@@ -13,7 +13,7 @@ LEAST_SECONDS = 0.005
 
 def used(part, count):
     """What a run of the part has used."""
-    with subprocess.Popen([measuring.PROGRAM, part, str(count)], stderr=subprocess.DEVNULL) as run:
+    with subprocess.Popen([beside.PROGRAM, part, str(count)], stderr=subprocess.DEVNULL) as run:
         _, status, used = os.wait4(run.pid, 0)
         run.returncode = os.waitstatus_to_exitcode(status)
     if run.returncode:
@@ -61,7 +61,7 @@ def show_differences(parts, n):
 
 def written(part, count):
     """The bytes that the part says it has written to its disks."""
-    said = subprocess.run([measuring.PROGRAM, part, str(count)], check=True, stderr=subprocess.PIPE, text=True).stderr
+    said = subprocess.run([beside.PROGRAM, part, str(count)], check=True, stderr=subprocess.PIPE, text=True).stderr
     return int(said.split()[0])
 
 
@@ -123,7 +123,7 @@ def show_master(n):
 
 def main():
     n = int(sys.argv[1]) if len(sys.argv) > 1 else 25000
-    measuring.built()
+    beside.built()
     show_differences(NAMES, n)
     show_journal(40 * n)
     show_blocks(n // 50)

@@ -14,7 +14,7 @@ import subprocess
 import sys
 import tempfile
 
-import measuring
+import beside
 
 ROOT = os.path.dirname(os.path.dirname(os.path.abspath(__file__)))
 SHELL = os.path.join(ROOT, "chunkstore")
@@ -381,7 +381,7 @@ def main():
         subprocess.run([SHELL, "--build"], check=True)
         options.program = PROGRAM
     if not options.digests:
-        options.digests = measuring.built()
+        options.digests = beside.built()
     n = options.n
     head = ["a second, n", "2n", "MB/s", "2n/n", "digests", "2n", "memory", "2n"]
     print(f"{f'n = {n}':<20}" + "".join(f"{word:>{width}}" for width, word in zip([12, 12, 8, 7, 8, 8, 8, 8], head)), flush=True)
