@@ -1,5 +1,5 @@
 -- What is to hold of the definitions: of each record, of each turn, and of whatever stands.
-use Rattle.std.specs.Prelude.{◌≡◌, ◌⊎◌, ◌≤◌, ◌<◌, ◌↔◌, ℕ, Bool, true, false, List, [], length, Contains, Option, Some, None, option_map, is_some}
+use Rattle.std.specs.Prelude.{◌≡◌, ◌⊎◌, ◌≤◌, ◌<◌, ◌↔◌, ◌+◌, ℕ, Bool, true, false, List, [], ◌∷◌, Contains, Option, Some, None, option_map, is_some}
 use Rattle.std.specs.FinMap as fin
 use Rattle.std.specs.List.{list_any, list_all, AllByRecursion}
 use Rattle.gs_base.specs.declared.config.Config.{Config}
@@ -7,6 +7,7 @@ use Rattle.gs_base.specs.declared.numbers.Moment.{Moment}
 use Rattle.gs_base.specs.declared.numbers.ClientId.{ClientId}
 use Rattle.gs_base.specs.declared.numbers.ReqId.{ReqId}
 use Rattle.gs_base.specs.declared.numbers.Stamp.{Stamp}
+use Rattle.gs_base.specs.declared.refusal.Refusal.{Refusal}
 use Rattle.gs_base.specs.declared.refusal.Refusal.TheVariants as refusals
 use Rattle.gs_base.specs.Members.{is_member}
 use Rattle.gs_edit.specs.Names.{IsCounted}
@@ -41,7 +42,7 @@ use Rattle.gs_state.specs.Durable.{Durable, Settled, start, is_given, is_ordinar
 use Rattle.gs_state.specs.Handling.{handle, call_turn, checkpoint, fresh, new_call, pressed, tidied, tick}
 use Rattle.gs_state.specs.Sane.{IsSane}
 use Rattle.gs_state.specs.State.{State, Log, Turn, size_of_all}
-use Rattle.gs_state.specs.Upgrades.{rollback_commit, told_of}
+use Rattle.gs_state.specs.Upgrades.{chunk_count, rollback_commit, told_of}
 use Rattle.gs_state.specs.Volatile.{paths_of}
 use Rattle.gs_state.specs.Undoing.{all_undone}
 use Rattle.gs_state.specs.Whole.{whole_of, checkpoint_of, are_ends, are_hidden_once, is_prepared_before}
@@ -332,14 +333,11 @@ abbrev pub MadeOfTheMost : Type 0
 MadeOfTheMost = (c : Chunk) (asking : Asking) (answers : Answers) (moment : Moment) (view : View) → view_by c asking answers moment ≡ Some view →
     Chooses answers.counts view.members view.count × (may_settle asking.asked view.members ≡ true)
 
-abbrev pub is_refusal : PlainEntry → Bool
-is_refusal (Said to refusal) = true
-is_refusal entry = false
-
--- an accepted prepare adds one record of 26 bytes, and a refused one at most a refusal
-pub record AddsOne (t : Turn) : Type 0 where
-  pub accepted : t.said ≡ None → (size_of_all t.records ≡ 26) × (length t.records ≡ 1)
-  pub refused : is_some t.said ≡ true → (length t.records ≤ 1) × (list_all is_refusal t.records ≡ true)
+-- an accepted prepare adds its record alone, of 26 bytes: the next epoch, the moment, and how many chunks the master knows; a refused
+-- one at most its refusal
+pub record AddsOne (s : State) (req : ReqId) (moment : Moment) (t : Turn) : Type 0 where
+  pub accepted : t.said ≡ None → (t.records ≡ Prepare (s.durable.epoch + 1) moment.0 (chunk_count s) ∷ []) × (size_of_all t.records ≡ 26)
+  pub refused : (refusal : Refusal) → t.said ≡ Some refusal → (t.records ≡ []) ⊎ (t.records ≡ Said req refusal ∷ [])
 
 abbrev pub PreparesByOneRecord : Type 0
-PreparesByOneRecord = (config : Config) (s : State) (req : ReqId) (moment : Moment) → AddsOne (new_call config s req moment calls.PrepareCommit)
+PreparesByOneRecord = (config : Config) (s : State) (req : ReqId) (moment : Moment) → AddsOne s req moment (new_call config s req moment calls.PrepareCommit)

@@ -37,7 +37,8 @@ pub fn views_are_of_those_with_the_most_edits()
     ensures { MadeOfTheMost }
 {}
 
-/// A prepare that is accepted adds one record of 26 bytes and nothing else, and one that is refused at most its refusal.
+/// A prepare that is accepted adds one record of 26 bytes and nothing else: that of a prepare, with the next epoch, the moment and
+/// how many chunks the master knows. One that is refused adds at most its refusal.
 pub fn a_prepare_adds_one_record()
     ensures { PreparesByOneRecord }
 {}
