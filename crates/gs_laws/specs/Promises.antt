@@ -1,5 +1,5 @@
 -- What is to hold of the definitions: of each record, of each turn, and of whatever stands.
-use Rattle.std.specs.Prelude.{◌≡◌, ◌⊎◌, ◌≤◌, ◌<◌, ◌↔◌, ◌+◌, ℕ, Bool, true, false, List, [], ◌∷◌, Contains, Option, Some, None, option_map, is_some}
+use Rattle.std.specs.Prelude.{◌≡◌, ◌⊎◌, ◌≤◌, ◌<◌, ◌↔◌, ◌+◌, ℕ, Bool, true, false, List, [], ◌∷◌, Contains, Option, Some, None, option_map, is_some, Err}
 use Rattle.std.specs.FinMap as fin
 use Rattle.std.specs.List.{list_any, list_all, AllByRecursion}
 use Rattle.gs_base.specs.declared.config.Config.{Config}
@@ -36,12 +36,12 @@ use Rattle.gs_msg.specs.declared.message.Message.{Message}
 use Rattle.gs_record.specs.Plain.{PlainEntry, Edited, Said, Propose, Settle, Prepare, Finalize, RollbackBegin, RollbackCommit, Whole, Holder}
 use Rattle.gs_view.specs.Choice.{Chooses}
 use Rattle.gs_view.specs.declared.answers.Answers.{Answers}
-use Rattle.gs_state.specs.Applied.{applied, replayed, is_fresh, is_prepared_on, is_since, is_visible, is_whole_entry}
+use Rattle.gs_state.specs.Applied.{applied, replayed, is_fresh, is_prepared_on, is_since, is_visible, is_whole_entry, with_reply}
 use Rattle.gs_state.specs.Chunks.{Chunk, view_by, may_settle}
 use Rattle.gs_state.specs.Durable.{Durable, Settled, start, is_given, is_ordinary, is_rolling, upgrade_epoch, has_its_primary, prepared_view, is_listed}
 use Rattle.gs_state.specs.Handling.{handle, call_turn, checkpoint, fresh, new_call, pressed, tidied, tick}
 use Rattle.gs_state.specs.Sane.{IsSane}
-use Rattle.gs_state.specs.State.{State, Log, Turn, size_of_all}
+use Rattle.gs_state.specs.State.{State, Log, Turn, reply_to, size_of, size_of_all}
 use Rattle.gs_state.specs.Upgrades.{chunk_count, rollback_commit, told_of}
 use Rattle.gs_state.specs.Volatile.{paths_of}
 use Rattle.gs_state.specs.Undoing.{all_undone}
@@ -187,14 +187,26 @@ IsWritten t = AllByRecursion (IsEntry Two) t.records
 abbrev pub AllFit : State → Turn → Type 0
 AllFit s t = replayed s.durable t.records ≡ Some t.after.durable
 
--- a refused call leaves the names and the views
-pub record LeavesNames (s : State) (t : Turn) : Type 0 where
-  pub names : t.after.durable.names ≡ s.durable.names
-  pub chunks : t.after.durable.chunks ≡ s.durable.chunks
+-- the record of a refusal is written, and with it the reply that it tells
+abbrev pub with_said : State → ReqId → Refusal → State
+with_said s req refusal = record s {
+  durable = record (s.durable) { replies = with_reply s.durable.replies req (Err refusal) };
+  log = record (s.log) { records = s.log.records + 1; size = s.log.size + size_of (Said req refusal) };
+}
 
-abbrev pub RefusedLeavesNames : Type 0
-RefusedLeavesNames = (config : Config) (s : State) (req : ReqId) (moment : Moment) (call : Call) → is_some (call_turn config s req moment call).said ≡ true →
-    LeavesNames s (call_turn config s req moment call)
+-- the reply is kept in memory alone
+abbrev pub with_kept : State → ReqId → Refusal → State
+with_kept s req refusal =
+    record s { volatile = record (s.volatile) { replies = fin.insert s.volatile.replies req.client (record { number = req.number; result = Err refusal }) } }
+
+-- A refused call leaves all as it was, or all but the kept reply; and its client alone is told.
+pub record LeavesAll (s : State) (req : ReqId) (refusal : Refusal) (t : Turn) : Type 0 where
+  pub left : ((t.after ≡ s) × (t.records ≡ [])) ⊎ (((t.after ≡ with_said s req refusal) × (t.records ≡ Said req refusal ∷ [])) ⊎ ((t.after ≡ with_kept s req refusal) × (t.records ≡ [])))
+  pub sent : t.sent ≡ reply_to req (Err refusal) ∷ []
+
+abbrev pub RefusedLeavesAll : Type 0
+RefusedLeavesAll = (config : Config) (s : State) (req : ReqId) (moment : Moment) (call : Call) (refusal : Refusal) → (call_turn config s req moment call).said ≡ Some refusal →
+    LeavesAll s req refusal (call_turn config s req moment call)
 
 -- its records fit what they meet, and what stands is kept
 pub record FitsAndKeeps (s : State) (t : Turn) : Type 0 where

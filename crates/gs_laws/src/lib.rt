@@ -10,7 +10,7 @@ ghost use Rattle.gs_state.specs.Checkpoints.{read_with};
 ghost use Rattle.gs_state.specs.Whole.{told_replies, whole_of};
 ghost use Rattle.gs_state.specs.declared.reply.KeptReply.{KeptReply};
 ghost use Rattle.gs_state.specs.Recorded.{SayAlone};
-ghost use Rattle.gs_laws.specs.Promises.{AllMessagesFit, BeginsWithAll, CallsFit, CallsKeep, CheckpointFits, CommitsExactly, IsToldAgain, KeepsAll, KeepsGiven, KeepsPrepared, LeadsBack, LeadsToKept, MadeOfTheMost, MessagesFit, MessagesKeep, NothingAtTicks, NothingWhileRolling, PreparesByOneRecord, ProposesFresh, ProposesFreshAtTicks, RefusedFits, RefusedLeavesNames, RollsBack, StartsWell, StepsAtTicksFit, TellsAll, TellsCounters};
+ghost use Rattle.gs_laws.specs.Promises.{AllMessagesFit, BeginsWithAll, CallsFit, CallsKeep, CheckpointFits, CommitsExactly, IsToldAgain, KeepsAll, KeepsGiven, KeepsPrepared, LeadsBack, LeadsToKept, MadeOfTheMost, MessagesFit, MessagesKeep, NothingAtTicks, NothingWhileRolling, PreparesByOneRecord, ProposesFresh, ProposesFreshAtTicks, RefusedFits, RefusedLeavesAll, RollsBack, StartsWell, StepsAtTicksFit, TellsAll, TellsCounters};
 ghost use Rattle.gs_laws.specs.Standing.{EventsFit, FirmGoesOn, RunsFit, RunsRecover, StartsFirm};
 ghost use Rattle.gs_state.specs.Undoing.{EditsAsTold};
 
@@ -43,9 +43,11 @@ pub fn a_prepare_adds_one_record()
     ensures { PreparesByOneRecord }
 {}
 
-/// A call that is refused by the event that brings it leaves the names and all views as they were.
-pub fn a_refused_call_leaves_names_and_views()
-    ensures { RefusedLeavesNames }
+/// A call that is refused by the event that brings it leaves the master as it was, in the journal and in memory, but for the kept reply:
+/// its refusal, of which a record of its own tells, or which is kept in memory alone. And the refusal is sent to its client, and nothing
+/// else is sent.
+pub fn a_refused_call_leaves_all_but_its_reply()
+    ensures { RefusedLeavesAll }
 {}
 
 /// The records of a call that is refused by the event that brings it fit what they meet and give what is durable afterwards, and
