@@ -41,8 +41,8 @@ use Rattle.gs_state.specs.Chunks.{Chunk, view_by, may_settle}
 use Rattle.gs_state.specs.Durable.{Durable, Settled, start, is_given, is_ordinary, is_rolling, upgrade_epoch, has_its_primary, prepared_view, is_listed}
 use Rattle.gs_state.specs.Handling.{handle, call_turn, checkpoint, fresh, new_call, pressed, tidied, tick}
 use Rattle.gs_state.specs.Sane.{IsSane}
-use Rattle.gs_state.specs.State.{State, Log, Turn, reply_to, size_of, size_of_all}
-use Rattle.gs_state.specs.Upgrades.{chunk_count, rollback_commit, told_of}
+use Rattle.gs_state.specs.State.{State, Log, Turn, fits, reply_to, size_of, size_of_all}
+use Rattle.gs_state.specs.Upgrades.{answers_for, chunk_count, rollback_commit, told_of}
 use Rattle.gs_state.specs.Volatile.{paths_of}
 use Rattle.gs_state.specs.Undoing.{all_undone}
 use Rattle.gs_state.specs.Whole.{whole_of, checkpoint_of, are_ends, are_hidden_once, is_prepared_before}
@@ -329,6 +329,34 @@ pub record CanCommit (s : State) : Type 0 where
 abbrev pub CommitsExactly : Type 0
 CommitsExactly = (s : State) (req : ReqId) →
     (((rollback_commit s req).said ≡ None) ⊎ ((rollback_commit s req).said ≡ Some refusals.Full)) ↔ CanCommit s
+
+-- the lowest chunk that isn't restored, of those that had a reference at prepare
+pub record IsFirstUnrestored (s : State) (chunk : ℕ) : Type 0 where
+  pub begun : is_rolling s.durable.phase ≡ true
+  pub names : NamesView
+  pub back : all_undone s.durable.inverses s.durable.names ≡ Some names
+  pub count : ℕ
+  pub found : fin.get names.refs chunk ≡ Some count
+  pub referred : 0 < count
+  pub lacks : IsRestored s chunk → ⊥
+  pub lower : (other many : ℕ) → other < chunk → fin.get names.refs other ≡ Some many → 0 < many → IsRestored s other
+
+-- its record tells who has answered of each chunk that was listed at prepare
+abbrev pub commit_record : State → NamesView → PlainEntry
+commit_record s names = RollbackCommit s.durable.epoch (answers_for (prepared_view s.durable) (told_of s) (fin.entries names.refs))
+
+-- Which refusal comes, and when none does: no rollback was begun; its edits can't be taken back; a chunk isn't restored, the lowest of
+-- such; its record has no room.
+pub record CommitsInOrder (s : State) (t : Turn) : Type 0 where
+  pub unbegun : (t.said ≡ Some refusals.NotUpgrading) ↔ (is_rolling s.durable.phase ≡ false)
+  pub stuck : (t.said ≡ Some refusals.BadLine) ↔ ((is_rolling s.durable.phase ≡ true) × (all_undone s.durable.inverses s.durable.names ≡ None))
+  pub unrestored : (chunk : ℕ) → (t.said ≡ Some (refusals.Unrestored chunk)) ↔ IsFirstUnrestored s chunk
+  pub full : (t.said ≡ Some refusals.Full) ↔ ((can : CanCommit s) × (fits s.log (commit_record s can.names ∷ []) ≡ false))
+  pub done : (t.said ≡ None) ↔ ((can : CanCommit s) × (fits s.log (commit_record s can.names ∷ []) ≡ true))
+  pub records : (can : CanCommit s) → t.said ≡ None → t.records ≡ commit_record s can.names ∷ []
+
+abbrev pub RefusesInOrder : Type 0
+RefusesInOrder = (s : State) (req : ReqId) → CommitsInOrder s (rollback_commit s req)
 
 -- a version that is proposed is above all before it
 abbrev pub ProposesFresh : Type 0
