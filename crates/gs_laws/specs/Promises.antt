@@ -1,5 +1,5 @@
 -- What is to hold of the definitions: of each record, of each turn, and of whatever stands.
-use Rattle.std.specs.Prelude.{◌≡◌, ◌⊎◌, ◌≤◌, ◌<◌, ◌↔◌, ◌+◌, ℕ, Bool, true, false, List, [], ◌∷◌, Contains, Option, Some, None, option_map, is_some, Err}
+use Rattle.std.specs.Prelude.{◌≡◌, ◌⊎◌, ◌≤◌, ◌<◌, ◌↔◌, ◌+◌, ◌==◌, ℕ, Bool, true, false, List, [], ◌∷◌, map, Contains, Option, Some, None, option_map, is_some, Err, if◌then◌else◌}
 use Rattle.std.specs.FinMap as fin
 use Rattle.std.specs.List.{list_any, list_all, AllByRecursion}
 use Rattle.gs_base.specs.declared.config.Config.{Config}
@@ -17,6 +17,7 @@ use Rattle.gs_tree.specs.Entry.{Dir}
 use Rattle.gs_tree.specs.Build.{is_tree, below_root}
 use Rattle.gs_edit.specs.View.{NamesView}
 use Rattle.gs_journal.specs.declared.version.Version.TheVariants.{Two}
+use Rattle.gs_record.specs.declared.checkpoint.Phase.TheVariants.{Ordinary}
 use Rattle.gs_record.specs.declared.entry.Answered.{Answered}
 use Rattle.gs_record.specs.Writable.{AreServers, IsEntry, IsPath, IsTerm}
 use Rattle.gs_base.specs.Told.{IsNumber}
@@ -158,15 +159,30 @@ abbrev pub BeginsWithAll : Type 0
 BeginsWithAll = (d next : Durable) (epoch moment chunks : ℕ) → IsKept d → applied d (Prepare epoch moment chunks) ≡ Some next →
     (all_undone next.inverses next.names ≡ Some d.names) × ((chunk : ℕ) → view_at_prepare next chunk ≡ option_map (λ (s : Settled). s.view) (fin.get d.chunks chunk))
 
--- the names are those of the prepare again, and so are the counts of edits that the chunks had
-pub record IsRolledBack (d next : Durable) : Type 0 where
+-- who has answered of a chunk
+abbrev pub members_for : List Answered → ℕ → List ℕ
+members_for [] chunk = []
+members_for (answer ∷ answers) chunk = if answer.handle == chunk then answer.members else members_for answers chunk
+
+-- a chunk without a primary, of which nothing is asked: under version 0 of this epoch, with so many edits, on these servers
+abbrev pub quiet_again : ℕ → ℕ → List ℕ → Settled
+quiet_again epoch count members = record { view = record { stamp = record { epoch = epoch; version = 0 }; count = count; members = members; term = None }; is_moving = false }
+
+-- The names are those of the prepare again. Each chunk that was listed then was answered once; it is quiet, with the count of edits that
+-- it had then, on exactly those servers that have answered; and no other chunk is settled.
+pub record IsRolledBack (d next : Durable) (epoch : ℕ) (answers : List Answered) : Type 0 where
   pub names : next.names ≡ d.names
-  pub counts : (chunk : ℕ) (before after : Settled) → fin.get d.chunks chunk ≡ Some before → fin.get next.chunks chunk ≡ Some after → after.view.count ≡ before.view.count
+  pub phase : next.phase ≡ Ordinary
+  pub answered : map (λ (a : Answered). a.handle) answers ≡ fin.keys d.names.refs
+  pub restored : (chunk : ℕ) (before : Settled) → is_listed d chunk ≡ true → fin.get d.chunks chunk ≡ Some before →
+      fin.get next.chunks chunk ≡ Some (quiet_again epoch before.view.count (members_for answers chunk))
+  pub others : (chunk : ℕ) → is_listed d chunk ≡ false → fin.get next.chunks chunk ≡ None
 
 -- A rollback leads back to what was prepared, whatever goes on between.
 abbrev pub RollsBack : Type 0
 RollsBack = (d prepared rolling next : Durable) (epoch moment chunks last : ℕ) (entries : List PlainEntry) (answers : List Answered) → IsKept d → applied d (Prepare epoch moment chunks) ≡ Some prepared
-    → list_all goes_on_within entries ≡ true → AllByRecursion (IsEntry Two) entries → replayed prepared entries ≡ Some rolling → applied rolling (RollbackCommit last answers) ≡ Some next → IsRolledBack d next
+    → list_all goes_on_within entries ≡ true → AllByRecursion (IsEntry Two) entries → replayed prepared entries ≡ Some rolling → applied rolling (RollbackCommit last answers) ≡ Some next →
+    IsRolledBack d next last answers
 
 -- the checkpoint of what stands tells it, but for chunks that stand in no file and never did
 abbrev pub TellsAll : Type 0

@@ -144,8 +144,9 @@ pub fn records_keep_what_stands()
     ensures all { LeadsToKept }
 {}
 
-/// A rollback that is done leads back to the names of the prepare, and each chunk that it restores to the count of edits that the
-/// chunk had then, whatever records but checkpoints went on between.
+/// A rollback that is done leads back to the names of the prepare. Each chunk that was listed then is quiet under version 0 of the
+/// rollback's epoch, without a primary, with the count of edits that it had at the prepare, on exactly those servers that have answered by
+/// the rollback's record; and no other chunk is settled. So it is whatever records but checkpoints went on between.
 pub fn a_rollback_leads_back_to_the_prepare()
     ensures { RollsBack }
 {}
