@@ -2,9 +2,9 @@
 use Rattle.std.proofs.Common.{arith, ◌≡◌, ◌∙◌, ◌&&◌, ◌==◌, ℕ, Bool, true, false, cond, List, [], ◌∷◌, nat_lt, refl, sym, ap, subst}
 use Rattle.std.specs.Prelude.{map, Option, Some, None, is_some, option_map, option_and_then, Result, Ok, Err, if◌then◌else◌}
 use Rattle.std.specs.List.{AllByRecursion, cons_option, list_all}
-use Rattle.std.specs.Cmp.{nat_cmp_total, tied_itself}
+use Rattle.std.specs.Cmp.{nat_cmp_total}
 use Rattle.std.specs.FinMap as fin
-use Rattle.std.specs.Ordering.{eq_by_cmp, is_eq, nat_cmp}
+use Rattle.std.specs.Ordering.{eq_by_cmp, nat_cmp}
 use Rattle.std.proofs.lemmas.Bool.{false≢true, and_parts}
 use Rattle.std.proofs.lemmas.Bool.Decides.{nat_tests}
 use Rattle.gs_base.specs.declared.epoch.EpochEnd.TheVariants as ends
@@ -24,7 +24,7 @@ use Rattle.gs_laws.specs.Promises.{IsKept, IsRolledBack, RollsBack, goes_on_with
 use Rattle.gs_state.specs.Undoing.{all_undone, edited_names}
 use Rattle.gs_state.specs.declared.asking.Prepared.{Prepared}
 use Rattle.gs_laws.proofs.Beginnings.{begins_with_all, fits_gives}
-use Rattle.gs_laws.proofs.Kept.{keeps_prepared}
+use Rattle.gs_laws.proofs.Kept.{is_tied, keeps_views}
 use Rattle.gs_laws.proofs.KeptAll.{keeps_all}
 use Rattle.gs_laws.proofs.KeptEdits.{forgets_only}
 use Rattle.gs_laws.proofs.KeptEpochs.{prepare_kept, restored}
@@ -95,7 +95,7 @@ since_one d now next entry s within written e = record {
   kept = keeps_all entry (not_whole entry within) now next written s.kept e;
   stands = phase_within entry now next within e ∙ s.stands;
   names = leads_back entry now next s.kept s.stands within e ∙ s.names;
-  views = λ chunk. keeps_prepared entry now next s.stands within e chunk ∙ s.views chunk;
+  views = λ chunk. keeps_views entry now next s.stands within e chunk ∙ s.views chunk;
 }
 
 durable_is : {a b : Durable} → ◌≡◌ {A = Option Durable} (Some a) (Some b) → a ≡ b
@@ -121,18 +121,6 @@ since_prepare d next epoch moment chunks k e =
     let all = begins_with_all d next epoch moment chunks k e in record { kept = prepare_kept d next epoch moment chunks k e; stands = prepared_phase d next epoch moment chunks e; names = all.0; views = all.1 }
 
 -- ---- the commit
-
-is_tied : (q k : ℕ) → eq_by_cmp nat_cmp q k ≡ (k == q)
-is_tied q k = each (eq_by_cmp nat_cmp q k) refl (k == q) refl
-  where
-    itself : eq_by_cmp nat_cmp q q ≡ true
-    itself = ap is_eq (tied_itself nat_cmp_total q)
-
-    each : (a : Bool) → eq_by_cmp nat_cmp q k ≡ a → (b : Bool) → (k == q) ≡ b → a ≡ b
-    each true tied true same = refl
-    each false tied false same = refl
-    each true tied false same = absurd (let key = same_key q k tied in grind (arith, nat_tests))
-    each false tied true same = let key : k ≡ q = grind (arith, nat_tests) in sym tied ∙ ap (eq_by_cmp nat_cmp q) key ∙ itself
 
 -- the handles of the answers are those that were listed
 same_handles : (d : Durable) (refs : List (ℕ × ℕ)) (answers : List Answered) → are_answers (prepared_view d) refs answers ≡ true → map (λ (a : Answered). a.handle) answers ≡ map (λ (e : ℕ × ℕ). e.0) refs

@@ -1,5 +1,5 @@
 -- What is to hold of the definitions: of each record, of each turn, and of whatever stands.
-use Rattle.std.specs.Prelude.{◌≡◌, ◌⊎◌, ◌≤◌, ◌<◌, ◌↔◌, ◌+◌, ◌==◌, ℕ, Bool, true, false, List, [], ◌∷◌, map, Contains, Option, Some, None, option_map, is_some, Err, if◌then◌else◌}
+use Rattle.std.specs.Prelude.{◌≡◌, ◌⊎◌, ◌≤◌, ◌<◌, ◌↔◌, ◌+◌, ◌==◌, ◌&&◌, ℕ, Bool, true, false, not, List, [], ◌∷◌, map, Contains, Option, Some, None, option_map, is_some, Err, if◌then◌else◌}
 use Rattle.std.specs.FinMap as fin
 use Rattle.std.specs.List.{list_any, list_all, AllByRecursion}
 use Rattle.gs_base.specs.declared.config.Config.{Config}
@@ -37,12 +37,13 @@ use Rattle.gs_msg.specs.declared.message.Message.{Message}
 use Rattle.gs_record.specs.Plain.{PlainEntry, Edited, Said, Propose, Settle, Prepare, Finalize, RollbackBegin, RollbackCommit, Whole, Holder}
 use Rattle.gs_view.specs.Choice.{Chooses}
 use Rattle.gs_view.specs.declared.answers.Answers.{Answers}
-use Rattle.gs_state.specs.Applied.{applied, replayed, is_fresh, is_prepared_on, is_since, is_visible, is_whole_entry, with_reply}
+use Rattle.gs_state.specs.Calls.{is_always_taken, is_locked, is_work, refused_before}
+use Rattle.gs_state.specs.Applied.{applied, held_by, replayed, is_fresh, is_prepared_on, is_since, is_visible, is_whole_entry, with_reply}
 use Rattle.gs_state.specs.Chunks.{Chunk, view_by, may_settle}
 use Rattle.gs_state.specs.Durable.{Durable, Settled, start, is_given, is_ordinary, is_rolling, upgrade_epoch, has_its_primary, prepared_view, is_listed}
 use Rattle.gs_state.specs.Handling.{handle, call_turn, checkpoint, fresh, new_call, pressed, tidied, tick}
 use Rattle.gs_state.specs.Sane.{IsSane}
-use Rattle.gs_state.specs.State.{State, Log, Turn, fits, reply_to, size_of, size_of_all}
+use Rattle.gs_state.specs.State.{State, Log, Turn, fits, is_failed, refused, reply_to, size_of, size_of_all}
 use Rattle.gs_state.specs.Upgrades.{answers_for, chunk_count, rollback_commit, told_of}
 use Rattle.gs_state.specs.Volatile.{paths_of}
 use Rattle.gs_state.specs.Undoing.{all_undone}
@@ -149,10 +150,15 @@ abbrev pub LeadsBack : PlainEntry → Type 0
 LeadsBack entry = (d next : Durable) → IsKept d → is_ordinary d.phase ≡ false → goes_on_within entry ≡ true → applied d entry ≡ Some next →
     all_undone next.inverses next.names ≡ all_undone d.inverses d.names
 
--- and each chunk's prepared view stays, also that of a chunk which was forgotten; one that had none gets none
+-- a record that a server holds a chunk as it stood adds this server
+abbrev pub prepared_behind : PlainEntry → ℕ → Option Prepared → Option Prepared
+prepared_behind (Holder held server) chunk prepared = if held == chunk then held_by server prepared else prepared
+prepared_behind entry chunk prepared = prepared
+
+-- and each chunk's prepared view stays, with those who hold it, also that of a chunk which was forgotten; one that had none gets none
 abbrev pub KeepsPrepared : PlainEntry → Type 0
 KeepsPrepared entry = (d next : Durable) → is_ordinary d.phase ≡ false → goes_on_within entry ≡ true → applied d entry ≡ Some next →
-    (chunk : ℕ) → view_at_prepare next chunk ≡ view_at_prepare d chunk
+    (chunk : ℕ) → prepared_view next chunk ≡ prepared_behind entry chunk (prepared_view d chunk)
 
 -- what a prepare begins with
 abbrev pub BeginsWithAll : Type 0
@@ -321,6 +327,21 @@ NothingWhileRolling = (config : Config) (s : State) (message : Message) (moment 
 -- and at each tick
 abbrev pub NothingAtTicks : Type 0
 NothingAtTicks = (s : State) (moment : Moment) → is_rolling s.durable.phase ≡ true → IsStill (tick s moment)
+
+-- ---- locks
+
+-- what comes before locks doesn't refuse the call: a disk that has failed, a rollback, a prepare
+abbrev pub comes_to_locks : State → Call → Bool
+comes_to_locks s call = not (is_failed s.fault) && (not (is_rolling s.durable.phase && not (is_always_taken call)) && not (s.volatile.is_preparing && is_work call))
+
+-- A new call is refused for its locks exactly where it comes to them, and one of a call that waits is in the way.
+abbrev pub LockedExactly : Type 0
+LockedExactly = (s : State) (req : ReqId) (call : Call) →
+    (refused_before s req call ≡ Some refusals.Locked) ↔ ((comes_to_locks s call ≡ true) × (is_locked s req call ≡ true))
+
+abbrev pub RefusedAtLocks : Type 0
+RefusedAtLocks = (config : Config) (s : State) (req : ReqId) (moment : Moment) (call : Call) → comes_to_locks s call ≡ true → is_locked s req call ≡ true →
+    new_call config s req moment call ≡ refused s req refusals.Locked
 
 -- ---- the commit of a rollback
 

@@ -10,7 +10,7 @@ ghost use Rattle.gs_state.specs.Checkpoints.{read_with};
 ghost use Rattle.gs_state.specs.Whole.{told_replies, whole_of};
 ghost use Rattle.gs_state.specs.declared.reply.KeptReply.{KeptReply};
 ghost use Rattle.gs_state.specs.Recorded.{SayAlone};
-ghost use Rattle.gs_laws.specs.Promises.{AllMessagesFit, BeginsWithAll, CallsFit, CallsKeep, CheckpointFits, CommitsExactly, IsToldAgain, KeepsAll, KeepsGiven, KeepsPrepared, LeadsBack, LeadsToKept, MadeOfTheMost, MessagesFit, MessagesKeep, NothingAtTicks, NothingWhileRolling, PreparesByOneRecord, ProposesFresh, ProposesFreshAtTicks, RefusesInOrder, RefusedFits, RefusedLeavesAll, RollsBack, StartsWell, StepsAtTicksFit, TellsAll, TellsCounters};
+ghost use Rattle.gs_laws.specs.Promises.{AllMessagesFit, BeginsWithAll, CallsFit, CallsKeep, CheckpointFits, CommitsExactly, IsToldAgain, KeepsAll, KeepsGiven, KeepsPrepared, LeadsBack, LeadsToKept, LockedExactly, MadeOfTheMost, MessagesFit, MessagesKeep, NothingAtTicks, NothingWhileRolling, PreparesByOneRecord, ProposesFresh, ProposesFreshAtTicks, RefusesInOrder, RefusedAtLocks, RefusedFits, RefusedLeavesAll, RollsBack, StartsWell, StepsAtTicksFit, TellsAll, TellsCounters};
 ghost use Rattle.gs_laws.specs.Standing.{EventsFit, FirmGoesOn, RunsFit, RunsRecover, StartsFirm};
 ghost use Rattle.gs_state.specs.Undoing.{EditsAsTold};
 
@@ -48,6 +48,13 @@ pub fn a_prepare_adds_one_record()
 /// else is sent.
 pub fn a_refused_call_leaves_all_but_its_reply()
     ensures { RefusedLeavesAll }
+{}
+
+/// Before its own tests a new call is refused as `Locked` exactly where a lock of a call that waits is in the way of what it reads or
+/// writes, no disk has failed, no rollback stands against it, and no prepare; and then that is what becomes of it.
+pub fn a_call_is_locked_exactly_at_a_conflict()
+    ensures exactly { LockedExactly }
+    ensures taken { RefusedAtLocks }
 {}
 
 /// The records of a call that is refused by the event that brings it fit what they meet and give what is durable afterwards, and
@@ -126,8 +133,9 @@ pub fn a_checkpoint_tells_the_counters()
     ensures { TellsCounters }
 {}
 
-/// While an upgrade stands each record but a checkpoint leaves the prepared view of each chunk, also that of one which is
-/// forgotten, and a chunk that had none gets none, until the upgrade is finalized or rolled back. Holders are not part of it.
+/// While an upgrade stands each record but a checkpoint leaves the prepared view of each chunk and the servers that hold it, also those of
+/// one which is forgotten, until the upgrade is finalized or rolled back; a record that a server holds a chunk as it stood adds this server
+/// alone. A chunk that had no prepared view gets none.
 pub fn prepared_views_stay()
     ensures { (entry : PlainEntry) → KeepsPrepared entry }
 {}
