@@ -1,5 +1,5 @@
 -- When a rollback can be committed.
-use Rattle.std.proofs.Common.{T, ◌≡◌, ◌⊎◌, inl, inr, ◌∙◌, ◌<◌, ◌&&◌, ℕ, Bool, true, false, not, cond, List, [], ◌∷◌, map, filter, refl, sym, ap, subst, arith}
+use Rattle.std.proofs.Common.{T, ◌≡◌, ◌⊎◌, inl, inr, ◌∙◌, ◌<◌, ◌&&◌, ◌==◌, ℕ, Bool, true, false, not, cond, List, [], ◌∷◌, map, filter, refl, sym, ap, subst, arith}
 use Rattle.std.specs.Prelude.{Option, Some, None, is_some, nat_lt, get_or, unwrap_or, if◌then◌else◌}
 use Rattle.std.proofs.lemmas.Cmp.{ranked}
 use Rattle.std.specs.Cmp.{Equal-is, nat_cmp_total, tied_itself}
@@ -12,7 +12,7 @@ use Rattle.std.specs.declared.cmp.Ordering.TheVariants.{Less, Equal, Greater}
 use Rattle.std.proofs.lemmas.Bool.{false≢true, true≢false, and_parts}
 use Rattle.std.proofs.lemmas.Bool.Decides.{nat_tests}
 use Rattle.gs_base.specs.Members.{count_from, is_member, servers_where}
-use Rattle.gs_base.specs.MemberLaws.{is_member-servers_where}
+use Rattle.gs_base.specs.MemberLaws.{is_member-servers_where, is_member-servers_where_above}
 use Rattle.gs_base.specs.declared.numbers.ReqId.{ReqId}
 use Rattle.gs_base.specs.declared.refusal.Refusal.{Refusal}
 use Rattle.gs_base.specs.declared.refusal.Refusal.TheVariants as refusals
@@ -22,9 +22,10 @@ use Rattle.gs_state.specs.Applied.{is_prepared_on}
 use Rattle.gs_state.specs.Durable.{is_rolling, prepared_view}
 use Rattle.gs_state.specs.State.{State, Turn, fits, refused}
 use Rattle.gs_state.specs.Undoing.{all_undone}
-use Rattle.gs_state.specs.Upgrades.{commit_if, commit_on, first_in, lacks_answer, needs_answer, rollback_commit, told_of, unrestored}
+use Rattle.gs_state.specs.Upgrades.{answers_for, commit_if, commit_on, first_in, lacks_answer, needs_answer, restored_on, rollback_commit, told_of, unrestored}
 use Rattle.gs_state.specs.declared.asking.Prepared.{Prepared}
-use Rattle.gs_laws.specs.Promises.{CanCommit, CommitsExactly, CommitsInOrder, IsFirstUnrestored, IsRestored, RefusesInOrder, commit_record}
+use Rattle.gs_laws.specs.Promises.{AnswersExactly, CanCommit, CommitsExactly, CommitsInOrder, HasTold, IsFirstUnrestored, IsRestored, RefusesInOrder, commit_record, members_for}
+use Rattle.gs_laws.proofs.Kept.{is_tied}
 use Rattle.gs_laws.proofs.Retold.{below_found, each_found}
 
 and_none : (b : Bool) → (b && false) ≡ false
@@ -105,14 +106,14 @@ module _ (s : State) where
       by_servers (m ∷ ms) e =
           let both = found_server (test_of chunk prepared) m ms e in
           let parts = and_parts (is_member (told_of s chunk) m) (is_prepared_on prepared m) both.0 in
-          record { server = m; is_server = both.1; prepared = prepared; kept = is; has_it = parts.1; told = parts.0 }
+          (m, record { is_server = both.1; prepared = prepared; kept = is; has_it = parts.1; told = parts.0 })
 
   has_one : (chunk count : ℕ) → IsRestored s chunk → not (lacks_answer (prepared_view s.durable) (told_of s) (chunk, count)) ≡ true
   unfolding test_of
-  has_one chunk count r = subst (λ o. not (lacks_answer (λ c. o) (told_of s) (chunk, count)) ≡ true) (sym r.kept) (by_servers (servers_where (test_of chunk r.prepared)) refl)
+  has_one chunk count (server, r) = subst (λ o. not (lacks_answer (λ c. o) (told_of s) (chunk, count)) ≡ true) (sym r.kept) (by_servers (servers_where (test_of chunk r.prepared)) refl)
     where
       by_servers : (servers : List ℕ) → servers_where (test_of chunk r.prepared) ≡ servers → not (lacks_answer (λ c. Some r.prepared) (told_of s) (chunk, count)) ≡ true
-      by_servers [] e = absurd (no_server (test_of chunk r.prepared) r.server e r.is_server (both_true (is_member (told_of s chunk) r.server) (is_prepared_on r.prepared r.server) r.told r.has_it))
+      by_servers [] e = absurd (no_server (test_of chunk r.prepared) server e r.is_server (both_true (is_member (told_of s chunk) server) (is_prepared_on r.prepared server) r.told r.has_it))
       by_servers (m ∷ ms) e = rw e (ap not (and_none (needs_answer count)))
 
   needs_none : (chunk count : ℕ) → needs_answer count ≡ false → not (lacks_answer (prepared_view s.durable) (told_of s) (chunk, count)) ≡ true
@@ -423,6 +424,43 @@ module _ (s : State) (req : ReqId) (t : Turn) where
     done = (is_done c, says_done c);
     records = λ can none. has_records can c none;
   }
+
+-- ---- who has answered
+
+members_are : (prepared : ℕ → Option Prepared) (told : ℕ → List ℕ) (refs : List (ℕ × ℕ)) (chunk : ℕ) → is_some (fin.find nat_cmp chunk refs) ≡ true →
+    members_for (answers_for prepared told refs) chunk ≡ restored_on (prepared chunk) (told chunk)
+members_are prepared told [] chunk some = absurd (false≢true some)
+members_are prepared told (r ∷ refs) chunk some = each (eq_by_cmp nat_cmp chunk r.0) refl some (members_are prepared told refs chunk)
+  where
+    each : (b : Bool) → eq_by_cmp nat_cmp chunk r.0 ≡ b → is_some (cond b (Some r.1) (fin.find nat_cmp chunk refs)) ≡ true
+        → (is_some (fin.find nat_cmp chunk refs) ≡ true → members_for (answers_for prepared told refs) chunk ≡ restored_on (prepared chunk) (told chunk))
+        → (if r.0 == chunk then restored_on (prepared r.0) (told r.0) else members_for (answers_for prepared told refs) chunk) ≡ restored_on (prepared chunk) (told chunk)
+    each true is some later = ap (λ b. if b then restored_on (prepared r.0) (told r.0) else members_for (answers_for prepared told refs) chunk) (sym (is_tied chunk r.0) ∙ is)
+        ∙ ap (λ c. restored_on (prepared c) (told c)) (sym (fin.nat_cmp-IsAntisymmetric chunk r.0 ((Equal-is (nat_cmp chunk r.0)).0 is)))
+    each false is some later = ap (λ b. if b then restored_on (prepared r.0) (told r.0) else members_for (answers_for prepared told refs) chunk) (sym (is_tied chunk r.0) ∙ is) ∙ later some
+
+module _ (s : State) (chunk server : ℕ) where
+  has_told : (o : Option Prepared) → prepared_view s.durable chunk ≡ o → is_member (restored_on o (told_of s chunk)) server ≡ true → HasTold s chunk server
+  has_told None is h = absurd (false≢true h)
+  has_told (Some prepared) is h = by_number (nat_lt server 16) refl
+    where
+      by_number : (b : Bool) → nat_lt server 16 ≡ b → HasTold s chunk server
+      by_number true low =
+          let within : server < 16 = low_server server low in
+          let parts = and_parts (is_member (told_of s chunk) server) (is_prepared_on prepared server) (sym (is_member-servers_where (λ m. is_member (told_of s chunk) m && is_prepared_on prepared m) server within) ∙ h) in
+          record { is_server = within; prepared = prepared; kept = is; has_it = parts.1; told = parts.0 }
+      by_number false high = absurd (false≢true (sym (is_member-servers_where_above (λ m. is_member (told_of s chunk) m && is_prepared_on prepared m) server (grind (arith, nat_tests))) ∙ h))
+
+  is_named : HasTold s chunk server → is_member (restored_on (prepared_view s.durable chunk) (told_of s chunk)) server ≡ true
+  is_named h = ap (λ o. is_member (restored_on o (told_of s chunk)) server) h.kept
+      ∙ is_member-servers_where (λ m. is_member (told_of s chunk) m && is_prepared_on h.prepared m) server h.is_server ∙ both_true (is_member (told_of s chunk) server) (is_prepared_on h.prepared server) h.told h.has_it
+
+pub answers_exactly : AnswersExactly
+answers_exactly s names chunk server listed =
+    let are = members_are (prepared_view s.durable) (told_of s) (fin.entries names.refs) chunk (ap is_some (sym (fin.get-entries names.refs chunk)) ∙ listed) in (
+      λ h. has_told s chunk server (prepared_view s.durable chunk) refl (ap (λ m. is_member m server) (sym are) ∙ h),
+      λ h. ap (λ m. is_member m server) are ∙ is_named s chunk server h,
+    )
 
 pub refuses_in_order : RefusesInOrder
 refuses_in_order s req = in_order s req (rollback_commit s req) (came s req)

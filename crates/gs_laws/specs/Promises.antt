@@ -346,13 +346,15 @@ RefusedAtLocks = (config : Config) (s : State) (req : ReqId) (moment : Moment) (
 -- ---- the commit of a rollback
 
 -- a server, of which there are 16 at most, that has the chunk as it stood at prepare has told so
-pub record IsRestored (s : State) (chunk : ℕ) : Type 0 where
-  pub server : ℕ
+pub record HasTold (s : State) (chunk server : ℕ) : Type 0 where
   pub is_server : server < 16
   pub prepared : Prepared
   pub kept : prepared_view s.durable chunk ≡ Some prepared
   pub has_it : is_prepared_on prepared server ≡ true
   pub told : is_member (told_of s chunk) server ≡ true
+
+abbrev pub IsRestored : State → ℕ → Type 0
+IsRestored s chunk = (server : ℕ) × HasTold s chunk server
 
 -- A rollback can be committed: one was begun, its edits can be taken back, and each chunk that had a reference at prepare is
 -- restored.
@@ -379,8 +381,16 @@ pub record IsFirstUnrestored (s : State) (chunk : ℕ) : Type 0 where
   pub lower : (other many : ℕ) → other < chunk → fin.get names.refs other ≡ Some many → 0 < many → IsRestored s other
 
 -- its record tells who has answered of each chunk that was listed at prepare
+abbrev pub answers_of : State → NamesView → List Answered
+answers_of s names = answers_for (prepared_view s.durable) (told_of s) (fin.entries names.refs)
+
 abbrev pub commit_record : State → NamesView → PlainEntry
-commit_record s names = RollbackCommit s.durable.epoch (answers_for (prepared_view s.durable) (told_of s) (fin.entries names.refs))
+commit_record s names = RollbackCommit s.durable.epoch (answers_of s names)
+
+-- those are exactly the servers that have told of it
+abbrev pub AnswersExactly : Type 0
+AnswersExactly = (s : State) (names : NamesView) (chunk server : ℕ) → is_some (fin.get names.refs chunk) ≡ true →
+    (is_member (members_for (answers_of s names) chunk) server ≡ true) ↔ HasTold s chunk server
 
 -- Which refusal comes, and when none does: no rollback was begun; its edits can't be taken back; a chunk isn't restored, the lowest of
 -- such; its record has no room.

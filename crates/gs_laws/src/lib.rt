@@ -10,7 +10,7 @@ ghost use Rattle.gs_state.specs.Checkpoints.{read_with};
 ghost use Rattle.gs_state.specs.Whole.{told_replies, whole_of};
 ghost use Rattle.gs_state.specs.declared.reply.KeptReply.{KeptReply};
 ghost use Rattle.gs_state.specs.Recorded.{SayAlone};
-ghost use Rattle.gs_laws.specs.Promises.{AllMessagesFit, BeginsWithAll, CallsFit, CallsKeep, CheckpointFits, CommitsExactly, IsToldAgain, KeepsAll, KeepsGiven, KeepsPrepared, LeadsBack, LeadsToKept, LockedExactly, MadeOfTheMost, MessagesFit, MessagesKeep, NothingAtTicks, NothingWhileRolling, PreparesByOneRecord, ProposesFresh, ProposesFreshAtTicks, RefusesInOrder, RefusedAtLocks, RefusedFits, RefusedLeavesAll, RollsBack, StartsWell, StepsAtTicksFit, TellsAll, TellsCounters};
+ghost use Rattle.gs_laws.specs.Promises.{AllMessagesFit, AnswersExactly, BeginsWithAll, CallsFit, CallsKeep, CheckpointFits, CommitsExactly, IsToldAgain, KeepsAll, KeepsGiven, KeepsPrepared, LeadsBack, LeadsToKept, LockedExactly, MadeOfTheMost, MessagesFit, MessagesKeep, NothingAtTicks, NothingWhileRolling, PreparesByOneRecord, ProposesFresh, ProposesFreshAtTicks, RefusesInOrder, RefusedAtLocks, RefusedFits, RefusedLeavesAll, RollsBack, StartsWell, StepsAtTicksFit, TellsAll, TellsCounters};
 ghost use Rattle.gs_laws.specs.Standing.{EventsFit, FirmGoesOn, RunsFit, RunsRecover, StartsFirm};
 ghost use Rattle.gs_state.specs.Undoing.{EditsAsTold};
 
@@ -162,10 +162,12 @@ pub fn a_rollback_leads_back_to_the_prepare()
 /// A rollback is committed exactly where it was begun, its edits can be taken back, and each chunk that had a reference at the prepare
 /// was told of by a server that had it then: a member of its prepared view, or one that was sent it since with its sealed image; and where
 /// its record has room. Else it is refused, and which refusal comes is said of each: that no rollback was begun, that its edits can't be
-/// taken back, the lowest chunk that lacks such a server, or that there is no room, in this order.
+/// taken back, the lowest chunk that lacks such a server, or that there is no room, in this order. The record of the commit tells of each
+/// chunk that was listed at the prepare exactly those servers.
 pub fn a_rollback_is_committed_exactly_where_all_is_restored()
     ensures can { CommitsExactly }
     ensures order { RefusesInOrder }
+    ensures answers { AnswersExactly }
 {}
 
 /// The checkpoint of what stands tells it, but for chunks that stand in no file and never did. So it is of what records lead to
