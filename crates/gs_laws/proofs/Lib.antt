@@ -55,3 +55,4 @@ pub mod StillNamed
 pub mod Texted
 pub mod ToldAgain
 pub mod Undone
+pub mod Wanting

@@ -61,17 +61,17 @@ silent_leaves s req t none refusal some = absurd (false≢true (ap is_some (sym 
 
 -- ---- what says nothing
 
-then_silent : (t : Turn) (f : State → Turn) → Silent t → ((s : State) → Silent (f s)) → Silent (and_then t f)
+pub then_silent : (t : Turn) (f : State → Turn) → Silent t → ((s : State) → Silent (f s)) → Silent (and_then t f)
 then_silent t f a h = rw (a, h t.after) refl
 
 each_silent : {A : Type 0} (xs : List A) (step : A → State → Turn) → ((x : A) (s : State) → Silent (step x s)) → (s : State) → Silent (for_each s xs step)
 each_silent [] step h s = refl
 each_silent (x ∷ xs) step h s = then_silent (step x s) (λ next. for_each next xs step) (h x s) (λ n. each_silent xs step h n)
 
-ended_silent : (reqs : List ReqId) (refusal : Refusal) (s : State) → Silent (all_ended_by s reqs refusal)
+pub ended_silent : (reqs : List ReqId) (refusal : Refusal) (s : State) → Silent (all_ended_by s reqs refusal)
 ended_silent reqs refusal s = each_silent reqs (λ req next. ended_by next req refusal) (λ req next. refl) s
 
-begun_silent : (many : List ℕ) (call : Option ReqId) (s : State) → Silent (all_begun s many purposes.Quiet call)
+pub begun_silent : (many : List ℕ) (call : Option ReqId) (s : State) → Silent (all_begun s many purposes.Quiet call)
 begun_silent many call s = each_silent many (λ chunk next. begun next chunk purposes.Quiet call) (λ chunk next. refl) s
 
 -- ---- refusals

@@ -1,5 +1,5 @@
 -- What is to hold of the definitions: of each record, of each turn, and of whatever stands.
-use Rattle.std.specs.Prelude.{◌≡◌, ◌⊎◌, ◌≤◌, ◌<◌, ◌↔◌, ◌+◌, ◌==◌, ◌&&◌, ℕ, Bool, true, false, not, List, [], ◌∷◌, map, Contains, Option, Some, None, option_map, is_some, Err, if◌then◌else◌}
+use Rattle.std.specs.Prelude.{◌≡◌, ◌⊎◌, ◌≤◌, ◌<◌, ◌↔◌, ◌+◌, ◌==◌, ◌&&◌, ℕ, Bool, true, false, not, List, [], ◌∷◌, map, Contains, Option, Some, None, option_map, is_some, Ok, Err, if◌then◌else◌}
 use Rattle.std.specs.FinMap as fin
 use Rattle.std.specs.List.{list_any, list_all, AllByRecursion}
 use Rattle.gs_base.specs.declared.config.Config.{Config}
@@ -37,7 +37,7 @@ use Rattle.gs_msg.specs.declared.message.Message.{Message}
 use Rattle.gs_record.specs.Plain.{PlainEntry, Edited, Said, Propose, Settle, Prepare, Finalize, RollbackBegin, RollbackCommit, Whole, Holder}
 use Rattle.gs_view.specs.Choice.{Chooses}
 use Rattle.gs_view.specs.declared.answers.Answers.{Answers}
-use Rattle.gs_state.specs.Calls.{is_always_taken, is_locked, is_work, refused_before}
+use Rattle.gs_state.specs.Calls.{found_chunk, is_always_taken, is_locked, is_work, refused_before}
 use Rattle.gs_state.specs.Applied.{applied, held_by, replayed, is_fresh, is_prepared_on, is_since, is_visible, is_whole_entry, with_reply}
 use Rattle.gs_state.specs.Chunks.{Chunk, view_by, may_settle}
 use Rattle.gs_state.specs.Durable.{Durable, Settled, start, is_given, is_ordinary, is_rolling, upgrade_epoch, has_its_primary, prepared_view, is_listed}
@@ -46,6 +46,8 @@ use Rattle.gs_state.specs.Sane.{IsSane}
 use Rattle.gs_state.specs.State.{State, Log, Turn, fits, is_failed, refused, reply_to, size_of, size_of_all}
 use Rattle.gs_state.specs.Upgrades.{answers_for, chunk_count, rollback_commit, told_of}
 use Rattle.gs_state.specs.Volatile.{paths_of}
+use Rattle.gs_state.specs.Working.{is_wanted_at, needs_of, unquiet}
+use Rattle.gs_place.specs.Needs.{most_needed_of}
 use Rattle.gs_state.specs.Undoing.{all_undone}
 use Rattle.gs_state.specs.Whole.{whole_of, checkpoint_of, are_ends, are_hidden_once, is_prepared_before}
 use Rattle.gs_state.specs.declared.asking.Asking.{Asking}
@@ -342,6 +344,18 @@ LockedExactly = (s : State) (req : ReqId) (call : Call) →
 abbrev pub RefusedAtLocks : Type 0
 RefusedAtLocks = (config : Config) (s : State) (req : ReqId) (moment : Moment) (call : Call) → comes_to_locks s call ≡ true → is_locked s req call ≡ true →
     new_call config s req moment call ≡ refused s req refusals.Locked
+
+-- the chunks of which a call begins a view at once
+abbrev pub MayBegin : Config → State → Call → ℕ → Type 0
+MayBegin config s (calls.FindForWriting path index stamp) chunk = found_chunk (fin.get s.durable.names.tree path) index ≡ Ok chunk
+MayBegin config s (calls.Snapshot from to) chunk = is_member (unquiet s from) chunk ≡ true
+MayBegin config s calls.Replicate chunk = most_needed_of config.replicas (needs_of s) ≡ Some chunk
+MayBegin config s call chunk = ⊥
+
+-- Else only what would begin a view of a chunk that moves for another call is refused so.
+abbrev pub LockedElse : Type 0
+LockedElse = (config : Config) (s : State) (req : ReqId) (moment : Moment) (call : Call) → (new_call config s req moment call).said ≡ Some refusals.Locked →
+    ((comes_to_locks s call ≡ true) × (is_locked s req call ≡ true)) ⊎ ((chunk : ℕ) × (MayBegin config s call chunk × (is_wanted_at s chunk ≡ true)))
 
 -- ---- the commit of a rollback
 

@@ -10,7 +10,7 @@ ghost use Rattle.gs_state.specs.Checkpoints.{read_with};
 ghost use Rattle.gs_state.specs.Whole.{told_replies, whole_of};
 ghost use Rattle.gs_state.specs.declared.reply.KeptReply.{KeptReply};
 ghost use Rattle.gs_state.specs.Recorded.{SayAlone};
-ghost use Rattle.gs_laws.specs.Promises.{AllMessagesFit, AnswersExactly, BeginsWithAll, CallsFit, CallsKeep, CheckpointFits, CommitsExactly, IsToldAgain, KeepsAll, KeepsGiven, KeepsPrepared, LeadsBack, LeadsToKept, LockedExactly, MadeOfTheMost, MessagesFit, MessagesKeep, NothingAtTicks, NothingWhileRolling, PreparesByOneRecord, ProposesFresh, ProposesFreshAtTicks, RefusesInOrder, RefusedAtLocks, RefusedFits, RefusedLeavesAll, RollsBack, StartsWell, StepsAtTicksFit, TellsAll, TellsCounters};
+ghost use Rattle.gs_laws.specs.Promises.{AllMessagesFit, AnswersExactly, BeginsWithAll, CallsFit, CallsKeep, CheckpointFits, CommitsExactly, IsToldAgain, KeepsAll, KeepsGiven, KeepsPrepared, LeadsBack, LeadsToKept, LockedElse, LockedExactly, MadeOfTheMost, MessagesFit, MessagesKeep, NothingAtTicks, NothingWhileRolling, PreparesByOneRecord, ProposesFresh, ProposesFreshAtTicks, RefusesInOrder, RefusedAtLocks, RefusedFits, RefusedLeavesAll, RollsBack, StartsWell, StepsAtTicksFit, TellsAll, TellsCounters};
 ghost use Rattle.gs_laws.specs.Standing.{EventsFit, FirmGoesOn, RunsFit, RunsRecover, StartsFirm};
 ghost use Rattle.gs_state.specs.Undoing.{EditsAsTold};
 
@@ -51,10 +51,12 @@ pub fn a_refused_call_leaves_all_but_its_reply()
 {}
 
 /// Before its own tests a new call is refused as `Locked` exactly where a lock of a call that waits is in the way of what it reads or
-/// writes, no disk has failed, no rollback stands against it, and no prepare; and then that is what becomes of it.
+/// writes, no disk has failed, no rollback stands against it, and no prepare; and then that is what becomes of it. Beside that only finding
+/// for writing, a snapshot and a replicate are refused so, of which a chunk moves for another call.
 pub fn a_call_is_locked_exactly_at_a_conflict()
     ensures exactly { LockedExactly }
     ensures taken { RefusedAtLocks }
+    ensures alone { LockedElse }
 {}
 
 /// The records of a call that is refused by the event that brings it fit what they meet and give what is durable afterwards, and
