@@ -1,17 +1,13 @@
 -- When a call is refused for its locks.
 use Rattle.std.proofs.Common.{◌≡◌, ◌&&◌, Bool, true, false, not, [], ◌∷◌, refl, ap}
-use Rattle.std.specs.Prelude.{Option, Some, None, is_some}
+use Rattle.std.specs.Prelude.{Option, Some, is_some}
 use Rattle.std.proofs.lemmas.Bool.{false≢true}
-use Rattle.gs_base.specs.declared.config.Config.{Config}
-use Rattle.gs_base.specs.declared.numbers.Moment.{Moment}
-use Rattle.gs_base.specs.declared.numbers.ReqId.{ReqId}
 use Rattle.gs_base.specs.declared.refusal.Refusal.{Refusal}
 use Rattle.gs_base.specs.declared.refusal.Refusal.TheVariants as refusals
-use Rattle.gs_msg.specs.declared.call.Call.{Call}
 use Rattle.gs_state.specs.Calls.{is_always_taken, is_any_hidden, is_locked, is_work}
 use Rattle.gs_state.specs.Durable.{is_rolling}
 use Rattle.gs_state.specs.Handling.{called_unless}
-use Rattle.gs_state.specs.State.{State, first_of, is_failed}
+use Rattle.gs_state.specs.State.{first_of, is_failed}
 use Rattle.gs_laws.specs.Promises.{LockedExactly, RefusedAtLocks}
 
 abbrev first : Bool → Bool → Bool → Bool → Bool → Option Refusal

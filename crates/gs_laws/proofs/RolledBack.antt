@@ -20,7 +20,7 @@ use Rattle.gs_record.specs.declared.checkpoint.Phase.TheVariants.{Ordinary, Upgr
 use Rattle.gs_record.specs.declared.entry.Answered.{Answered}
 use Rattle.gs_state.specs.Applied.{after_edit, after_undoing, applied, are_answers, are_at_rest, forgotten_by, held_by, is_next_epoch, is_whole_entry, may_be_settled, may_edit, may_propose, may_restore, proposed, replayed, restored_view, rolled_back, with_edit, with_epoch, with_view, without_prepared}
 use Rattle.gs_state.specs.Durable.{Durable, Settled, is_listed, is_ordinary, is_rolling, is_upgrade, prepared_view, with_prepared}
-use Rattle.gs_laws.specs.Promises.{IsKept, IsRolledBack, RollsBack, goes_on_within, members_for, quiet_again, view_at_prepare}
+use Rattle.gs_laws.specs.Promises.{IsKept, IsRolledBack, RollsBack, goes_on_within, members_for, prepared_from, quiet_again, view_at_prepare}
 use Rattle.gs_state.specs.Undoing.{all_undone, edited_names}
 use Rattle.gs_state.specs.declared.asking.Prepared.{Prepared}
 use Rattle.gs_laws.proofs.Beginnings.{begins_with_all, fits_gives}
@@ -28,7 +28,6 @@ use Rattle.gs_laws.proofs.Kept.{is_tied, keeps_views}
 use Rattle.gs_laws.proofs.KeptAll.{keeps_all}
 use Rattle.gs_laws.proofs.KeptEdits.{forgets_only}
 use Rattle.gs_laws.proofs.KeptEpochs.{prepare_kept, restored}
-use Rattle.gs_laws.proofs.KeptRecords.{settled_is}
 use Rattle.gs_laws.proofs.KeptViews.{same_key}
 use Rattle.gs_laws.proofs.LedBack.{leads_back}
 
@@ -118,7 +117,11 @@ prepared_phase d next epoch moment chunks e =
 
 since_prepare : (d next : Durable) (epoch moment chunks : ℕ) → IsKept d → applied d (Prepare epoch moment chunks) ≡ Some next → Since d next
 since_prepare d next epoch moment chunks k e =
-    let all = begins_with_all d next epoch moment chunks k e in record { kept = prepare_kept d next epoch moment chunks k e; stands = prepared_phase d next epoch moment chunks e; names = all.0; views = all.1 }
+    let all = begins_with_all d next epoch moment chunks k e in record { kept = prepare_kept d next epoch moment chunks k e; stands = prepared_phase d next epoch moment chunks e; names = all.0; views = λ chunk. ap (option_map (λ (p : Prepared). p.view)) (all.1 chunk) ∙ view_in (fin.get d.chunks chunk) }
+  where
+    view_in : (o : Option Settled) → option_map (λ (p : Prepared). p.view) (option_map prepared_from o) ≡ option_map (λ (s : Settled). s.view) o
+    view_in None = refl
+    view_in (Some s) = refl
 
 -- ---- the commit
 

@@ -1,6 +1,6 @@
 -- Which calls are refused as locked.
-use Rattle.std.proofs.Common.{◌≡◌, ◌⊎◌, inl, inr, ◌∙◌, ◌++◌, ℕ, Bool, true, false, not, ◌&&◌, ◌||◌, ◌==◌, ◌+◌, List, [], ◌∷◌, length, refl, ap, subst, sym}
-use Rattle.std.specs.Prelude.{fold, nat_lt, nat_le, is_none, Option, Some, None, is_some, Result, Ok, Err, if◌then◌else◌}
+use Rattle.std.proofs.Common.{◌≡◌, ◌⊎◌, inl, inr, ◌∙◌, ◌++◌, ℕ, Bool, true, false, not, ◌&&◌, ◌||◌, ◌==◌, ◌+◌, List, [], ◌∷◌, length, refl, ap, sym}
+use Rattle.std.specs.Prelude.{nat_lt, nat_le, is_none, Option, Some, None, is_some, Result, Ok, Err, if◌then◌else◌}
 use Rattle.std.specs.List.{list_any}
 use Rattle.std.specs.FinMap as fin
 use Rattle.std.proofs.lemmas.Bool.{false≢true}
@@ -27,21 +27,19 @@ use Rattle.gs_msg.specs.declared.call.Call.TheVariants as calls
 use Rattle.gs_place.specs.Needs.{most_needed_of}
 use Rattle.gs_base.specs.declared.epoch.EpochEnd.TheVariants as ends
 use Rattle.gs_state.specs.declared.change.Change.TheVariants as changes
-use Rattle.gs_record.specs.Plain.{Prepare, Finalize, RollbackBegin, RollbackCommit, PlainEdit, Said, Mkdirs, Create, Rename, Hide, Unhide, Snapshot}
-use Rattle.gs_state.specs.Applied.{applied, replayed, with_reply}
-use Rattle.gs_state.specs.Beginning.{next_stamp, has_versions, has_handle, begin_at, begun, all_begun, create_plan, copy_plan, waits_from_now, targets_for, counted_views}
+use Rattle.gs_record.specs.Plain.{Prepare, Finalize, RollbackBegin, RollbackCommit, PlainEdit, Mkdirs, Create, Rename, Hide, Unhide, Snapshot}
+use Rattle.gs_state.specs.Beginning.{next_stamp, has_versions, has_handle, begin_at, all_begun, create_plan, copy_plan, waits_from_now, targets_for, counted_views}
 use Rattle.gs_state.specs.Calls.{edited_by, edit_if, accept_plan, deleted, answered_with, has_visible_child, looked_up, listing, status, location, found_chunk, refused_before, queried, is_shared}
 use Rattle.gs_state.specs.Chunks.{Chunk, chunk_at, is_leased, is_quiet, is_wanted, view_of, members_of}
 use Rattle.gs_state.specs.Durable.{is_rolling, prepared_view}
-use Rattle.gs_state.specs.Handling.{call_turn, called, called_unless, taken_as, numbered, replied_again, waits_still, Numbered, New, Again, Older}
+use Rattle.gs_state.specs.Handling.{called, called_unless}
 use Rattle.gs_laws.specs.Promises.{LockedElse, MayBegin, comes_to_locks}
 use Rattle.gs_laws.proofs.Refusing.{begun_silent, ended_silent, then_silent}
 use Rattle.gs_laws.proofs.Locking.{locked_exactly}
 use Rattle.gs_state.specs.Settling.{requests_of}
-use Rattle.gs_state.specs.State.{State, Plan, Turn, with_record, turned, unmoved, and_then, for_each, fits, if_room, refused, ended_by, all_ended_by, keeps_refusal, kept_in_memory, reply_to, is_failed, is_unopened, last_reply, first_of}
+use Rattle.gs_state.specs.State.{State, Plan, Turn, turned, and_then, fits, if_room, refused, all_ended_by, first_of}
 use Rattle.gs_state.specs.Undoing.{edited_names, all_undone}
 use Rattle.gs_state.specs.Upgrades.{accepted_plan, all_unquiet, begin_tests, commit_tests, end_tests, is_last_epoch, chunk_count, tell_all, answers_for, unless, prepare_begin, prepare_commit, prepare_abort, finalize, rollback_begin, rollback_commit, commit_on, commit_if, unrestored, told_of}
-use Rattle.gs_state.specs.Volatile.{is_pending}
 use Rattle.gs_state.specs.Working.{begins, begins_new, may_use, leased, copied_on_write, written_at, found_for_writing, most_chunks, created_on, extended_at, extends, unquiet, is_wanted_at, begin_pending, begins_snapshot, snapshot_if, replicated_to, replicates_chunk, replicates_most, needs_of, scanned, scan_plan, waiting_for, removed_paths, forgotten_chunks}
 use Rattle.gs_state.specs.declared.pending.Waiting.{Waiting}
 use Rattle.gs_state.specs.declared.pending.Waiting.TheVariants as waits
@@ -52,7 +50,7 @@ use Rattle.gs_base.specs.MemberLaws.{eqb_itself}
 use Rattle.gs_refs.specs.Counts.{Counts, raised_each, and_then as counts_then, last_count, raised_listed_from}
 use Rattle.gs_tree.specs.Plain.{Plain}
 use Rattle.gs_tree.specs.Find.{at, is_too_deep, is_copied_too_deep}
-use Rattle.gs_tree.specs.Edits.{beside, create, file_above, hide, is_file, mkdirs, parent, placed, rename, renamed_beside, snapshot, target_of, unhide, unhidden}
+use Rattle.gs_tree.specs.Edits.{beside, create, file_above, hide, is_file, mkdirs, parent, placed, rename, snapshot, target_of, unhidden}
 use Rattle.gs_tree.specs.Chunks.{visible_chunks_under}
 use Rattle.gs_edit.specs.Edits.{with_counts}
 use Rattle.gs_edit.specs.Table.{tabled}
@@ -60,7 +58,6 @@ use Rattle.gs_path.specs.Path.{Name, begins as begins_path}
 use Rattle.gs_state.specs.Durable.{Durable}
 use Rattle.gs_state.specs.Undoing.{names_from}
 use Rattle.gs_state.specs.Upgrades.{first_in, if_pending, if_unquiet, lowest_path, pending_paths}
-use Rattle.gs_state.specs.Working.{snapshots, replicates, scans}
 use Rattle.gs_state.specs.Calls.{location_on, is_locked}
 use Rattle.gs_state.specs.Applied.{view_in}
 

@@ -162,10 +162,14 @@ abbrev pub KeepsPrepared : PlainEntry → Type 0
 KeepsPrepared entry = (d next : Durable) → is_ordinary d.phase ≡ false → goes_on_within entry ≡ true → applied d entry ≡ Some next →
     (chunk : ℕ) → prepared_view next chunk ≡ prepared_behind entry chunk (prepared_view d chunk)
 
+-- a chunk as it is settled, which its members alone hold
+abbrev pub prepared_from : Settled → Prepared
+prepared_from settled = record { view = settled.view; holders = [] }
+
 -- what a prepare begins with
 abbrev pub BeginsWithAll : Type 0
 BeginsWithAll = (d next : Durable) (epoch moment chunks : ℕ) → IsKept d → applied d (Prepare epoch moment chunks) ≡ Some next →
-    (all_undone next.inverses next.names ≡ Some d.names) × ((chunk : ℕ) → view_at_prepare next chunk ≡ option_map (λ (s : Settled). s.view) (fin.get d.chunks chunk))
+    (all_undone next.inverses next.names ≡ Some d.names) × ((chunk : ℕ) → prepared_view next chunk ≡ option_map prepared_from (fin.get d.chunks chunk))
 
 -- who has answered of a chunk
 abbrev pub members_for : List Answered → ℕ → List ℕ

@@ -120,7 +120,8 @@ pub fn a_checkpoint_fits()
     ensures { CheckpointFits }
 {}
 
-/// Once a prepare is recorded, nothing is to be taken back, and each settled chunk's view is its prepared one.
+/// Once a prepare is recorded, nothing is to be taken back, and each settled chunk's view is its prepared one, which its members alone
+/// hold; no other chunk has one.
 pub fn a_prepare_begins_with_all_that_stands()
     ensures { BeginsWithAll }
 {}
