@@ -1,6 +1,6 @@
 -- When a rollback can be committed.
 use Rattle.std.proofs.Common.{T, ◌≡◌, ◌⊎◌, inl, inr, ◌∙◌, ◌<◌, ◌&&◌, ◌==◌, ℕ, Bool, true, false, not, cond, List, [], ◌∷◌, map, filter, refl, sym, ap, subst, arith}
-use Rattle.std.specs.Prelude.{Option, Some, None, is_some, nat_lt, get_or, unwrap_or, if◌then◌else◌}
+use Rattle.std.specs.Prelude.{Ok, Option, Some, None, is_some, nat_lt, get_or, unwrap_or, if◌then◌else◌}
 use Rattle.std.proofs.lemmas.Cmp.{ranked}
 use Rattle.std.specs.Cmp.{Equal-is, nat_cmp_total, tied_itself}
 use Rattle.std.specs.FinMap as fin
@@ -20,7 +20,11 @@ use Rattle.gs_edit.specs.View.{NamesView}
 use Rattle.gs_tree.proofs.Levels.{both_true}
 use Rattle.gs_state.specs.Applied.{is_prepared_on}
 use Rattle.gs_state.specs.Durable.{is_rolling, prepared_view}
-use Rattle.gs_state.specs.State.{State, Turn, fits, refused}
+use Rattle.gs_state.specs.State.{State, Turn, fits, kept_in_memory, last_reply, refused}
+use Rattle.gs_state.specs.Replies.{is_later}
+use Rattle.gs_state.specs.Volatile.{all_changed}
+use Rattle.gs_state.specs.declared.change.Change.TheVariants as changes
+use Rattle.gs_msg.specs.declared.answer.Answer.TheVariants as answers
 use Rattle.gs_state.specs.Undoing.{all_undone}
 use Rattle.gs_state.specs.Upgrades.{answers_for, commit_if, commit_on, first_in, lacks_answer, needs_answer, restored_on, rollback_commit, told_of, unrestored}
 use Rattle.gs_state.specs.declared.asking.Prepared.{Prepared}
@@ -276,23 +280,31 @@ module _ (s : State) (req : ReqId) where
       needs_part true rest h = refl
       needs_part false rest h = h
 
+  abbrev IsQuiet : Turn → Type 0
+  IsQuiet t = (t.after.volatile.moving ≡ fin.empty) × (t.after.volatile.unplaced ≡ [])
+
   -- what comes
   data Came (t : Turn) : Type 0 where
     Unbegun : t.said ≡ Some refusals.NotUpgrading → is_rolling s.durable.phase ≡ false → Came t
     Stuck : t.said ≡ Some refusals.BadLine → is_rolling s.durable.phase ≡ true → all_undone s.durable.inverses s.durable.names ≡ None → Came t
     Lacking : (chunk : ℕ) → t.said ≡ Some (refusals.Unrestored chunk) → IsFirstUnrestored s chunk → Came t
     Full : t.said ≡ Some refusals.Full → (can : CanCommit s) → fits s.log (commit_record s can.names ∷ []) ≡ false → Came t
-    Done : t.said ≡ None → (can : CanCommit s) → fits s.log (commit_record s can.names ∷ []) ≡ true → t.records ≡ commit_record s can.names ∷ [] → Came t
+    Done : t.said ≡ None → (can : CanCommit s) → fits s.log (commit_record s can.names ∷ []) ≡ true → t.records ≡ commit_record s can.names ∷ [] → IsQuiet t → Came t
 
-  came_by_room : (can : CanCommit s) (b : Bool) → fits s.log (commit_record s can.names ∷ []) ≡ b → (t : Turn) → t.said ≡ None → t.records ≡ commit_record s can.names ∷ [] → Came (if b then t else refused s req refusals.Full)
-  came_by_room can true room t none is = Done none can room is
-  came_by_room can false room t none is = Full refl can room
+  came_by_room : (can : CanCommit s) (b : Bool) → fits s.log (commit_record s can.names ∷ []) ≡ b → (t : Turn) → t.said ≡ None → t.records ≡ commit_record s can.names ∷ [] → IsQuiet t → Came (if b then t else refused s req refusals.Full)
+  came_by_room can true room t none is quiet = Done none can room is quiet
+  came_by_room can false room t none is quiet = Full refl can room
+
+  -- the reply is kept, or not
+  nothing_asked : (b : Bool) → let v = all_changed s.volatile (changes.RolledBack ∷ (if b then kept_in_memory req (Ok (answers.Epoch s.durable.epoch)) ∷ [] else [])) in (v.moving ≡ fin.empty) × (v.unplaced ≡ [])
+  nothing_asked true = (refl, refl)
+  nothing_asked false = (refl, refl)
 
   came_by_chunk : (names : NamesView) → is_rolling s.durable.phase ≡ true → all_undone s.durable.inverses s.durable.names ≡ Some names →
       (chunk : Option ℕ) → unrestored (prepared_view s.durable) (told_of s) (fin.entries names.refs) ≡ chunk → Came (commit_if s req names chunk)
   unfolding can_commit
   came_by_chunk names begun back (Some chunk) is = Lacking chunk refl (first_unrestored names chunk begun back is)
-  came_by_chunk names begun back None is = let can = can_commit s req names begun back is in came_by_room can (fits s.log (commit_record s names ∷ [])) refl _ refl refl
+  came_by_chunk names begun back None is = let can = can_commit s req names begun back is in came_by_room can (fits s.log (commit_record s names ∷ [])) refl _ refl refl (nothing_asked (is_later (last_reply s req.client) req.number))
 
   came_by_names : is_rolling s.durable.phase ≡ true → (names : Option NamesView) → all_undone s.durable.inverses s.durable.names ≡ names → Came (commit_on s req names)
   came_by_names begun None back = Stuck refl begun back
@@ -343,77 +355,84 @@ module _ (s : State) (req : ReqId) (t : Turn) where
   is_unbegun (Stuck e begun is) h = absurd (let f = sym e ∙ h in cc)
   is_unbegun (Lacking chunk e is) h = absurd (let f = sym e ∙ h in cc)
   is_unbegun (Full e can room) h = absurd (let f = sym e ∙ h in cc)
-  is_unbegun (Done e can room is) h = absurd (let f = sym e ∙ h in cc)
+  is_unbegun (Done e can room is quiet) h = absurd (let f = sym e ∙ h in cc)
 
   is_stuck : Came s req t → t.said ≡ Some refusals.BadLine → (is_rolling s.durable.phase ≡ true) × (all_undone s.durable.inverses s.durable.names ≡ None)
   is_stuck (Unbegun e is) h = absurd (let f = sym e ∙ h in cc)
   is_stuck (Stuck e begun is) h = (begun, is)
   is_stuck (Lacking chunk e is) h = absurd (let f = sym e ∙ h in cc)
   is_stuck (Full e can room) h = absurd (let f = sym e ∙ h in cc)
-  is_stuck (Done e can room is) h = absurd (let f = sym e ∙ h in cc)
+  is_stuck (Done e can room is quiet) h = absurd (let f = sym e ∙ h in cc)
 
   is_lacking : (other : ℕ) → Came s req t → t.said ≡ Some (refusals.Unrestored other) → IsFirstUnrestored s other
   is_lacking other (Unbegun e is) h = absurd (let f = sym e ∙ h in cc)
   is_lacking other (Stuck e begun is) h = absurd (let f = sym e ∙ h in cc)
   is_lacking other (Lacking chunk e is) h = subst (IsFirstUnrestored s) (let f = sym e ∙ h in cc) is
   is_lacking other (Full e can room) h = absurd (let f = sym e ∙ h in cc)
-  is_lacking other (Done e can room is) h = absurd (let f = sym e ∙ h in cc)
+  is_lacking other (Done e can room is quiet) h = absurd (let f = sym e ∙ h in cc)
 
   is_without_room : Came s req t → t.said ≡ Some refusals.Full → HasRoom s req false
   is_without_room (Unbegun e is) h = absurd (let f = sym e ∙ h in cc)
   is_without_room (Stuck e begun is) h = absurd (let f = sym e ∙ h in cc)
   is_without_room (Lacking chunk e is) h = absurd (let f = sym e ∙ h in cc)
   is_without_room (Full e can room) h = (can, room)
-  is_without_room (Done e can room is) h = absurd (let f = sym e ∙ h in cc)
+  is_without_room (Done e can room is quiet) h = absurd (let f = sym e ∙ h in cc)
 
   is_done : Came s req t → t.said ≡ None → HasRoom s req true
   is_done (Unbegun e is) h = absurd (let f = sym e ∙ h in cc)
   is_done (Stuck e begun is) h = absurd (let f = sym e ∙ h in cc)
   is_done (Lacking chunk e is) h = absurd (let f = sym e ∙ h in cc)
   is_done (Full e can room) h = absurd (let f = sym e ∙ h in cc)
-  is_done (Done e can room is) h = (can, room)
+  is_done (Done e can room is quiet) h = (can, room)
 
   says_unbegun : Came s req t → is_rolling s.durable.phase ≡ false → t.said ≡ Some refusals.NotUpgrading
   says_unbegun (Unbegun e is) h = e
   says_unbegun (Stuck e begun is) h = absurd (begun_and_not s req h begun)
   says_unbegun (Lacking chunk e is) h = absurd (begun_and_not s req h is.begun)
   says_unbegun (Full e can room) h = absurd (begun_and_not s req h can.begun)
-  says_unbegun (Done e can room is) h = absurd (begun_and_not s req h can.begun)
+  says_unbegun (Done e can room is quiet) h = absurd (begun_and_not s req h can.begun)
 
   says_stuck : Came s req t → (is_rolling s.durable.phase ≡ true) × (all_undone s.durable.inverses s.durable.names ≡ None) → t.said ≡ Some refusals.BadLine
   says_stuck (Unbegun e is) h = absurd (begun_and_not s req is h.0)
   says_stuck (Stuck e begun is) h = e
   says_stuck (Lacking chunk e is) h = absurd (none_and_some s req h.1 is.back)
   says_stuck (Full e can room) h = absurd (none_and_some s req h.1 can.back)
-  says_stuck (Done e can room is) h = absurd (none_and_some s req h.1 can.back)
+  says_stuck (Done e can room is quiet) h = absurd (none_and_some s req h.1 can.back)
 
   says_lacking : (other : ℕ) → Came s req t → IsFirstUnrestored s other → t.said ≡ Some (refusals.Unrestored other)
   says_lacking other (Unbegun e is) h = absurd (begun_and_not s req is h.begun)
   says_lacking other (Stuck e begun is) h = absurd (none_and_some s req is h.back)
   says_lacking other (Lacking chunk e is) h = e ∙ ap (λ c. Some (refusals.Unrestored c)) (same_first s req chunk other is h)
   says_lacking other (Full e can room) h = absurd (can_and_lacks s req other can h)
-  says_lacking other (Done e can room is) h = absurd (can_and_lacks s req other can h)
+  says_lacking other (Done e can room is quiet) h = absurd (can_and_lacks s req other can h)
 
   says_full : Came s req t → HasRoom s req false → t.said ≡ Some refusals.Full
   says_full (Unbegun e is) h = absurd (begun_and_not s req is h.0.begun)
   says_full (Stuck e begun is) h = absurd (none_and_some s req is h.0.back)
   says_full (Lacking chunk e is) h = absurd (can_and_lacks s req chunk h.0 is)
   says_full (Full e can room) h = e
-  says_full (Done e can room is) h = absurd (false≢true (sym h.1 ∙ room_same s req h.0 can ∙ room))
+  says_full (Done e can room is quiet) h = absurd (false≢true (sym h.1 ∙ room_same s req h.0 can ∙ room))
 
   says_done : Came s req t → HasRoom s req true → t.said ≡ None
   says_done (Unbegun e is) h = absurd (begun_and_not s req is h.0.begun)
   says_done (Stuck e begun is) h = absurd (none_and_some s req is h.0.back)
   says_done (Lacking chunk e is) h = absurd (can_and_lacks s req chunk h.0 is)
   says_done (Full e can room) h = absurd (false≢true (sym room ∙ room_same s req can h.0 ∙ h.1))
-  says_done (Done e can room is) h = e
+  says_done (Done e can room is quiet) h = e
 
   has_records : (other : CanCommit s) → Came s req t → t.said ≡ None → t.records ≡ commit_record s other.names ∷ []
   has_records other (Unbegun e is) h = absurd (false≢true (ap is_some (sym h ∙ e)))
   has_records other (Stuck e begun is) h = absurd (false≢true (ap is_some (sym h ∙ e)))
   has_records other (Lacking chunk e is) h = absurd (false≢true (ap is_some (sym h ∙ e)))
   has_records other (Full e can room) h = absurd (false≢true (ap is_some (sym h ∙ e)))
-  has_records other (Done e can room is) h = is ∙ ap (λ n. commit_record s n ∷ []) (names_same s req can.back other.back)
+  has_records other (Done e can room is quiet) h = is ∙ ap (λ n. commit_record s n ∷ []) (names_same s req can.back other.back)
+
+  is_quiet : Came s req t → t.said ≡ None → IsQuiet s req t
+  is_quiet (Unbegun e is) h = absurd (false≢true (ap is_some (sym h ∙ e)))
+  is_quiet (Stuck e begun is) h = absurd (false≢true (ap is_some (sym h ∙ e)))
+  is_quiet (Lacking chunk e is) h = absurd (false≢true (ap is_some (sym h ∙ e)))
+  is_quiet (Full e can room) h = absurd (false≢true (ap is_some (sym h ∙ e)))
+  is_quiet (Done e can room is quiet) h = quiet
 
   in_order : Came s req t → CommitsInOrder s t
   in_order c = record {
@@ -423,6 +442,7 @@ module _ (s : State) (req : ReqId) (t : Turn) where
     full = (is_without_room c, says_full c);
     done = (is_done c, says_done c);
     records = λ can none. has_records can c none;
+    quiet = is_quiet c;
   }
 
 -- ---- who has answered

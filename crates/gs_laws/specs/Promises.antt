@@ -411,7 +411,7 @@ AnswersExactly = (s : State) (names : NamesView) (chunk server : ℕ) → is_som
     (is_member (members_for (answers_of s names) chunk) server ≡ true) ↔ HasTold s chunk server
 
 -- Which refusal comes, and when none does: no rollback was begun; its edits can't be taken back; a chunk isn't restored, the lowest of
--- such; its record has no room.
+-- such; its record has no room. Behind its record nothing is asked for any chunk, and none is without a place.
 pub record CommitsInOrder (s : State) (t : Turn) : Type 0 where
   pub unbegun : (t.said ≡ Some refusals.NotUpgrading) ↔ (is_rolling s.durable.phase ≡ false)
   pub stuck : (t.said ≡ Some refusals.BadLine) ↔ ((is_rolling s.durable.phase ≡ true) × (all_undone s.durable.inverses s.durable.names ≡ None))
@@ -419,6 +419,7 @@ pub record CommitsInOrder (s : State) (t : Turn) : Type 0 where
   pub full : (t.said ≡ Some refusals.Full) ↔ ((can : CanCommit s) × (fits s.log (commit_record s can.names ∷ []) ≡ false))
   pub done : (t.said ≡ None) ↔ ((can : CanCommit s) × (fits s.log (commit_record s can.names ∷ []) ≡ true))
   pub records : (can : CanCommit s) → t.said ≡ None → t.records ≡ commit_record s can.names ∷ []
+  pub quiet : t.said ≡ None → (t.after.volatile.moving ≡ fin.empty) × (t.after.volatile.unplaced ≡ [])
 
 abbrev pub RefusesInOrder : Type 0
 RefusesInOrder = (s : State) (req : ReqId) → CommitsInOrder s (rollback_commit s req)

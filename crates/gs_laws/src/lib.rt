@@ -52,7 +52,7 @@ pub fn a_refused_call_leaves_all_but_its_reply()
 
 /// Before its own tests a new call is refused as `Locked` exactly where a lock of a call that waits is in the way of what it reads or
 /// writes, no disk has failed, no rollback stands against it, and no prepare; and then that is what becomes of it. Beside that only finding
-/// for writing, a snapshot and a replicate are refused so, of which a chunk moves for another call.
+/// for writing, a snapshot and a replicate are refused so, where a chunk of theirs moves for another call.
 pub fn a_call_is_locked_exactly_at_a_conflict()
     ensures exactly { LockedExactly }
     ensures taken { RefusedAtLocks }
@@ -166,7 +166,7 @@ pub fn a_rollback_leads_back_to_the_prepare()
 /// was told of by a server that had it then: a member of its prepared view, or one that was sent it since with its sealed image; and where
 /// its record has room. Else it is refused, and which refusal comes is said of each: that no rollback was begun, that its edits can't be
 /// taken back, the lowest chunk that lacks such a server, or that there is no room, in this order. The record of the commit tells of each
-/// chunk that was listed at the prepare exactly those servers.
+/// chunk that was listed at the prepare exactly those servers; and behind it nothing is asked for any chunk.
 pub fn a_rollback_is_committed_exactly_where_all_is_restored()
     ensures can { CommitsExactly }
     ensures order { RefusesInOrder }
