@@ -21,7 +21,7 @@ use Rattle.gs_record.specs.declared.checkpoint.Phase.TheVariants.{Ordinary, Upgr
 use Rattle.gs_record.specs.declared.entry.SettledView.{SettledView}
 use Rattle.gs_state.specs.Applied.{after_edit, applied, follows_view, forgotten_by, held_by, is_next_epoch, is_since, is_sound, may_be_settled, may_edit, may_propose, proposed, with_edit, with_epoch, with_proposal, with_view, without_chunks}
 use Rattle.gs_state.specs.Durable.{Durable, Settled, if_before, is_given, is_ordinary, is_upgrade, kept_before, prepared_of, prepared_view, upgrade_epoch, with_prepared}
-use Rattle.gs_laws.specs.Promises.{KeepsPrepared, TellsCounters, goes_on_within, prepared_behind, view_at_prepare}
+use Rattle.gs_laws.specs.Promises.{KeepsPrepared, TellsCounters, goes_on_within, prepared_behind}
 use Rattle.gs_state.specs.Undoing.{edited_names, all_undone}
 use Rattle.gs_state.specs.Whole.{can_go_back, checkpoint_of, durable_with, if_it_can, is_whole, told_replies, whole_of}
 use Rattle.gs_state.specs.declared.asking.Prepared.{Prepared}
@@ -217,6 +217,9 @@ keeps_prepared (Holder chunk server) d next stands within e q =
     after d (record d { prepared = with_prepared d chunk (held_by server (prepared_view d chunk)) }) next q (prepared_behind (Holder chunk server) q (prepared_view d q))
     (fits_gives (is_upgrade d.phase && (nat_lt server 16 && is_some (prepared_view d chunk))) (record d { prepared = with_prepared d chunk (held_by server (prepared_view d chunk)) }) next e).1
     (held_keeps d server chunk q)
+
+abbrev pub view_at_prepare : Durable → ℕ → Option View
+view_at_prepare d chunk = view_in_it (prepared_view d chunk)
 
 -- a holder more leaves the view
 same_view : (entry : PlainEntry) (q : ℕ) (o : Option Prepared) → view_in_it (prepared_behind entry q o) ≡ view_in_it o

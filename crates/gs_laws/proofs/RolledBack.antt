@@ -20,11 +20,11 @@ use Rattle.gs_record.specs.declared.checkpoint.Phase.TheVariants.{Ordinary, Upgr
 use Rattle.gs_record.specs.declared.entry.Answered.{Answered}
 use Rattle.gs_state.specs.Applied.{after_edit, after_undoing, applied, are_answers, are_at_rest, forgotten_by, held_by, is_next_epoch, is_whole_entry, may_be_settled, may_edit, may_propose, may_restore, proposed, replayed, restored_view, rolled_back, with_edit, with_epoch, with_view, without_prepared}
 use Rattle.gs_state.specs.Durable.{Durable, Settled, is_listed, is_ordinary, is_rolling, is_upgrade, prepared_view, with_prepared}
-use Rattle.gs_laws.specs.Promises.{IsKept, IsRolledBack, RollsBack, goes_on_within, members_for, prepared_from, quiet_again, view_at_prepare}
+use Rattle.gs_laws.specs.Promises.{IsKept, IsRolledBack, RollsBack, goes_on_within, members_for, prepared_from, quiet_again}
 use Rattle.gs_state.specs.Undoing.{all_undone, edited_names}
 use Rattle.gs_state.specs.declared.asking.Prepared.{Prepared}
 use Rattle.gs_laws.proofs.Beginnings.{begins_with_all, fits_gives}
-use Rattle.gs_laws.proofs.Kept.{is_tied, keeps_views}
+use Rattle.gs_laws.proofs.Kept.{is_tied, keeps_views, view_at_prepare}
 use Rattle.gs_laws.proofs.KeptAll.{keeps_all}
 use Rattle.gs_laws.proofs.KeptEdits.{forgets_only}
 use Rattle.gs_laws.proofs.KeptEpochs.{prepare_kept, restored}

@@ -144,9 +144,6 @@ goes_on_within (RollbackCommit epoch answers) = false
 goes_on_within (Whole c) = false
 goes_on_within (Holder chunk server) = true
 
-abbrev pub view_at_prepare : Durable → ℕ → Option View
-view_at_prepare d chunk = option_map (λ (p : Prepared). p.view) (prepared_view d chunk)
-
 -- while an upgrade stands, what takes edits back leads to the names of the prepare
 abbrev pub LeadsBack : PlainEntry → Type 0
 LeadsBack entry = (d next : Durable) → IsKept d → is_ordinary d.phase ≡ false → goes_on_within entry ≡ true → applied d entry ≡ Some next →
