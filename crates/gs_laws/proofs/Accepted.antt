@@ -58,10 +58,10 @@ module _ (T : Type 0) where
   same_goes s t same none = record { fits = ap (replayed s.durable) none ∙ ap Some (sym same); kept = λ _ k. subst IsKept (sym same) k }
 
   pub refused_goes : (s : State) (req : ReqId) (refusal : Refusal) → Goes T s (refused s req refusal)
-  refused_goes s req refusal = let f = (refused_leaves s req refusal refl).fits in record { fits = f.fits; kept = λ t k. f.kept k }
+  refused_goes s req refusal = let f = (refused_leaves s req refusal refusal refl).fits in record { fits = f.fits; kept = λ t k. f.kept k }
 
   pub ended_goes : (s : State) (req : ReqId) (refusal : Refusal) → Goes T s (ended_by s req refusal)
-  ended_goes s req refusal = let f = (refused_leaves s req refusal refl).fits in record { fits = f.fits; kept = λ t k. f.kept k }
+  ended_goes s req refusal = let f = (refused_leaves s req refusal refusal refl).fits in record { fits = f.fits; kept = λ t k. f.kept k }
 
   -- ---- one thing after another
 

@@ -7,12 +7,10 @@ use Rattle.std.proofs.lemmas.Bool.{false≢true}
 use Rattle.std.proofs.lemmas.Bool.Decides.{nat_tests}
 use Rattle.gs_base.specs.declared.epoch.EpochEnd.TheVariants as ends
 use Rattle.gs_record.specs.declared.checkpoint.Phase.TheVariants.{Upgrade}
-use Rattle.gs_lease.specs.declared.view.View.{View}
 use Rattle.gs_state.specs.Applied.{applied, if_fits, is_next_epoch, are_at_rest, with_epoch, without_prepared}
-use Rattle.gs_state.specs.Durable.{Durable, Settled, is_ordinary, if_before}
-use Rattle.gs_laws.specs.Promises.{IsKept, BeginsWithAll, view_at_prepare}
+use Rattle.gs_state.specs.Durable.{Durable, Settled, is_ordinary, if_before, prepared_view}
+use Rattle.gs_laws.specs.Promises.{IsKept, BeginsWithAll, prepared_from}
 use Rattle.gs_state.specs.Undoing.{all_undone}
-use Rattle.gs_state.specs.declared.asking.Prepared.{Prepared}
 
 pub fits_gives : (b : Bool) (n next : Durable) → if_fits b n ≡ Some next → (b ≡ true) × (n ≡ next)
 fits_gives true n next e = (refl, ap (λ o. unwrap_or o n) e)
@@ -21,15 +19,12 @@ fits_gives false n next e = absurd (false≢true (ap is_some e))
 abbrev upgraded : Durable → Durable
 upgraded d = without_prepared (with_epoch d ends.Prepare Upgrade)
 
-abbrev view_of_prepared : Option Prepared → Option View
-view_of_prepared prepared = option_map (λ (p : Prepared). p.view) prepared
-
-before_it : (upgrade : ℕ) (settled : Option Settled) → ((s : Settled) → settled ≡ Some s → s.view.stamp.epoch < upgrade) → view_of_prepared (if_before upgrade settled) ≡ option_map (λ (s : Settled). s.view) settled
+before_it : (upgrade : ℕ) (settled : Option Settled) → ((s : Settled) → settled ≡ Some s → s.view.stamp.epoch < upgrade) → if_before upgrade settled ≡ option_map prepared_from settled
 before_it upgrade None below = refl
 before_it upgrade (Some s) below =
     let is : nat_lt s.view.stamp.epoch upgrade ≡ true = (let h = below s refl in grind (arith, nat_tests)) in rw is refl
 
-settled_before : (d : Durable) → IsKept d → (chunk : ℕ) → view_at_prepare (upgraded d) chunk ≡ option_map (λ (s : Settled). s.view) (fin.get d.chunks chunk)
+settled_before : (d : Durable) → IsKept d → (chunk : ℕ) → prepared_view (upgraded d) chunk ≡ option_map prepared_from (fin.get d.chunks chunk)
 settled_before d kept chunk =
     let none : fin.get (upgraded d).prepared chunk ≡ None = fin.get-empty nat_cmp chunk in rw none (before_it (d.epoch + 1) (fin.get d.chunks chunk) (λ s is. let h = (kept.views chunk s is).epoch in omega arith))
 
@@ -37,5 +32,5 @@ pub begins_with_all : BeginsWithAll
 unfolding applied
 begins_with_all d next epoch moment chunks kept e =
     let is = (fits_gives (is_ordinary d.phase && (is_next_epoch d.epoch epoch && are_at_rest d)) (upgraded d) next e).1 in
-    subst (λ (n : Durable). (all_undone n.inverses n.names ≡ Some d.names) × ((chunk : ℕ) → view_at_prepare n chunk ≡ option_map (λ (s : Settled). s.view) (fin.get d.chunks chunk))) is
+    subst (λ (n : Durable). (all_undone n.inverses n.names ≡ Some d.names) × ((chunk : ℕ) → prepared_view n chunk ≡ option_map prepared_from (fin.get d.chunks chunk))) is
     (refl, λ chunk. settled_before d kept chunk)

@@ -1,8 +1,8 @@
 -- What stays of a prepare while the upgrade stands, and what a checkpoint tells of the counters.
-use Rattle.std.proofs.Common.{◌≡◌, ◌∙◌, ◌+◌, ◌&&◌, ℕ, Bool, true, false, cond, List, [], ◌∷◌, refl, ap, subst, sym, arith}
+use Rattle.std.proofs.Common.{◌≡◌, ◌∙◌, ◌+◌, ◌&&◌, ◌==◌, ℕ, Bool, true, false, cond, List, [], ◌∷◌, refl, ap, subst, sym, arith}
 use Rattle.std.specs.Prelude.{nat_lt, nat_le, Option, Some, None, is_some, option_map, option_and_then, Result, Ok, Err, if◌then◌else◌}
 use Rattle.std.specs.FinMap as fin
-use Rattle.std.specs.Cmp.{nat_cmp_total}
+use Rattle.std.specs.Cmp.{nat_cmp_total, tied_itself}
 use Rattle.std.specs.Ordering.{nat_cmp, eq_by_cmp, is_eq}
 use Rattle.std.specs.declared.cmp.Ordering.{Ordering}
 use Rattle.std.specs.declared.cmp.Ordering.TheVariants.{Less, Equal, Greater}
@@ -20,8 +20,8 @@ use Rattle.gs_record.specs.declared.checkpoint.Phase.{Phase}
 use Rattle.gs_record.specs.declared.checkpoint.Phase.TheVariants.{Ordinary, Upgrade, Rolling}
 use Rattle.gs_record.specs.declared.entry.SettledView.{SettledView}
 use Rattle.gs_state.specs.Applied.{after_edit, applied, follows_view, forgotten_by, held_by, is_next_epoch, is_since, is_sound, may_be_settled, may_edit, may_propose, proposed, with_edit, with_epoch, with_proposal, with_view, without_chunks}
-use Rattle.gs_state.specs.Durable.{Durable, Settled, if_before, is_given, is_upgrade, kept_before, prepared_of, prepared_view, upgrade_epoch, with_prepared}
-use Rattle.gs_laws.specs.Promises.{KeepsPrepared, TellsCounters, view_at_prepare}
+use Rattle.gs_state.specs.Durable.{Durable, Settled, if_before, is_given, is_ordinary, is_upgrade, kept_before, prepared_of, prepared_view, upgrade_epoch, with_prepared}
+use Rattle.gs_laws.specs.Promises.{KeepsPrepared, TellsCounters, goes_on_within, prepared_behind}
 use Rattle.gs_state.specs.Undoing.{edited_names, all_undone}
 use Rattle.gs_state.specs.Whole.{can_go_back, checkpoint_of, durable_with, if_it_can, is_whole, told_replies, whole_of}
 use Rattle.gs_state.specs.declared.asking.Prepared.{Prepared}
@@ -156,53 +156,91 @@ goes_on Rolling epoch is = absurd (false≢true is)
 abbrev view_in_it : Option Prepared → Option View
 view_in_it prepared = option_map (λ (p : Prepared). p.view) prepared
 
-held_at : (server : ℕ) (u : Option ℕ) (kept : Option Prepared) (settled : Option Settled) → view_in_it (prepared_of u (or_kept (held_by server (prepared_of u kept settled)) kept) settled) ≡ view_in_it (prepared_of u kept settled)
+held_at : (server : ℕ) (u : Option ℕ) (kept : Option Prepared) (settled : Option Settled) → prepared_of u (or_kept (held_by server (prepared_of u kept settled)) kept) settled ≡ held_by server (prepared_of u kept settled)
 unfolding or_kept
 held_at server None kept settled = refl
 held_at server (Some upgrade) (Some view) settled = refl
 held_at server (Some upgrade) None settled = by_view (if_before upgrade settled) refl
   where
-    by_view : (o : Option Prepared) → if_before upgrade settled ≡ o → view_in_it (prepared_of (Some upgrade) (or_kept (held_by server o) None) settled) ≡ view_in_it o
-    by_view None is = ap view_in_it is
+    by_view : (o : Option Prepared) → if_before upgrade settled ≡ o → prepared_of (Some upgrade) (or_kept (held_by server o) None) settled ≡ held_by server o
+    by_view None is = is
     by_view (Some view) is = refl
 
+-- numbers are tied where they are equal
+pub is_tied : (q k : ℕ) → eq_by_cmp nat_cmp q k ≡ (k == q)
+is_tied q k = each (eq_by_cmp nat_cmp q k) refl (k == q) refl
+  where
+    itself : eq_by_cmp nat_cmp q q ≡ true
+    itself = ap is_eq (tied_itself nat_cmp_total q)
+
+    each : (a : Bool) → eq_by_cmp nat_cmp q k ≡ a → (b : Bool) → (k == q) ≡ b → a ≡ b
+    each true tied true same = refl
+    each false tied false same = refl
+    each true tied false same = absurd (let key = same_key q k tied in grind (arith, nat_tests))
+    each false tied true same = let key : k ≡ q = grind (arith, nat_tests) in sym tied ∙ ap (eq_by_cmp nat_cmp q) key ∙ itself
+
 held_key : (d : Durable) (server k q : ℕ) (b : Bool) → eq_by_cmp nat_cmp q k ≡ b →
-    view_in_it (prepared_of (upgrade_epoch d.phase d.epoch) (cond b (or_kept (held_by server (prepared_view d k)) (fin.get d.prepared k)) (fin.get d.prepared q)) (fin.get d.chunks q)) ≡ view_at_prepare d q
+    prepared_of (upgrade_epoch d.phase d.epoch) (cond b (or_kept (held_by server (prepared_view d k)) (fin.get d.prepared k)) (fin.get d.prepared q)) (fin.get d.chunks q) ≡ (if b then held_by server (prepared_view d q) else prepared_view d q)
 held_key d server k q true is =
-    ap (λ x. view_in_it (prepared_of (upgrade_epoch d.phase d.epoch) (or_kept (held_by server (prepared_view d k)) (fin.get d.prepared k)) (fin.get d.chunks x))) (same_key q k is)
-    ∙ held_at server (upgrade_epoch d.phase d.epoch) (fin.get d.prepared k) (fin.get d.chunks k) ∙ ap (view_at_prepare d) (sym (same_key q k is))
+    ap (λ x. prepared_of (upgrade_epoch d.phase d.epoch) (or_kept (held_by server (prepared_view d k)) (fin.get d.prepared k)) (fin.get d.chunks x)) (same_key q k is)
+    ∙ held_at server (upgrade_epoch d.phase d.epoch) (fin.get d.prepared k) (fin.get d.chunks k) ∙ ap (λ x. held_by server (prepared_view d x)) (sym (same_key q k is))
 held_key d server k q false is = refl
 
-held_keeps : (d : Durable) (server k q : ℕ) → view_at_prepare (record d { prepared = with_prepared d k (held_by server (prepared_view d k)) }) q ≡ view_at_prepare d q
+held_keeps : (d : Durable) (server k q : ℕ) → prepared_view (record d { prepared = with_prepared d k (held_by server (prepared_view d k)) }) q ≡ prepared_behind (Holder k server) q (prepared_view d q)
 held_keeps d server k q =
-    ap (λ kept. view_in_it (prepared_of (upgrade_epoch d.phase d.epoch) kept (fin.get d.chunks q))) (get_kept d k (held_by server (prepared_view d k)) q) ∙ held_key d server k q (eq_by_cmp nat_cmp q k) refl
+    ap (λ kept. prepared_of (upgrade_epoch d.phase d.epoch) kept (fin.get d.chunks q)) (get_kept d k (held_by server (prepared_view d k)) q) ∙ held_key d server k q (eq_by_cmp nat_cmp q k) refl
+    ∙ ap (λ b. if b then held_by server (prepared_view d q) else prepared_view d q) (is_tied q k)
 
 -- ---- all records
 
-after : (d n next : Durable) (q : ℕ) → n ≡ next → view_at_prepare n q ≡ view_at_prepare d q → view_at_prepare next q ≡ view_at_prepare d q
-after d n next q is kept = subst (λ (x : Durable). view_at_prepare x q ≡ view_at_prepare d q) is kept
+after : (d n next : Durable) (q : ℕ) (o : Option Prepared) → n ≡ next → prepared_view n q ≡ o → prepared_view next q ≡ o
+after d n next q o is kept = subst (λ (x : Durable). prepared_view x q ≡ o) is kept
 
 pub keeps_prepared : (entry : PlainEntry) → KeepsPrepared entry
 unfolding applied
-keeps_prepared (Edited by edit) d next stands within e q = ap view_in_it (edited_keeps d next by edit (edited_names edit d.names) e q)
-keeps_prepared (Said to refusal) d next stands within e q = after d _ next q (fits_gives true _ next e).1 refl
+keeps_prepared (Edited by edit) d next stands within e q = edited_keeps d next by edit (edited_names edit d.names) e q
+keeps_prepared (Said to refusal) d next stands within e q = after d _ next q (prepared_view d q) (fits_gives true _ next e).1 refl
 keeps_prepared (Propose chunk version) d next stands within e q =
-    after d (proposed d chunk version) next q (fits_gives (may_propose d.phase d.next_handle d.next_version chunk version (fin.get d.chunks chunk)) (proposed d chunk version) next e).1
-    (ap view_in_it (proposed_keeps d chunk q (fin.get d.chunks chunk) refl))
+    after d (proposed d chunk version) next q (prepared_view d q) (fits_gives (may_propose d.phase d.next_handle d.next_version chunk version (fin.get d.chunks chunk)) (proposed d chunk version) next e).1
+    (proposed_keeps d chunk q (fin.get d.chunks chunk) refl)
 keeps_prepared (Settle v) d next stands within e q =
-    let is = fits_gives (may_be_settled d v) (with_view d v) next e in after d (with_view d v) next q is.1 (ap view_in_it (settled_keeps d v q is.0))
+    let is = fits_gives (may_be_settled d v) (with_view d v) next e in after d (with_view d v) next q (prepared_view d q) is.1 (settled_keeps d v q is.0)
 keeps_prepared (Prepare epoch moment chunks) d next stands within e q = absurd (false≢true within)
 keeps_prepared (Finalize epoch) d next stands within e q = absurd (false≢true within)
 keeps_prepared (RollbackBegin epoch) d next stands within e q =
     let is = fits_gives (is_upgrade d.phase && is_next_epoch d.epoch epoch) (with_epoch d ends.Rollback Rolling) next e in
-    after d (with_epoch d ends.Rollback Rolling) next q is.1
-    (ap (λ u. view_in_it (prepared_of u (fin.get d.prepared q) (fin.get d.chunks q))) (goes_on d.phase d.epoch (and_parts (is_upgrade d.phase) (is_next_epoch d.epoch epoch) is.0).0))
+    after d (with_epoch d ends.Rollback Rolling) next q (prepared_view d q) is.1
+    (ap (λ u. prepared_of u (fin.get d.prepared q) (fin.get d.chunks q)) (goes_on d.phase d.epoch (and_parts (is_upgrade d.phase) (is_next_epoch d.epoch epoch) is.0).0))
 keeps_prepared (RollbackCommit epoch answers) d next stands within e q = absurd (false≢true within)
 keeps_prepared (Whole c) d next stands within e q = absurd (false≢true within)
 keeps_prepared (Holder chunk server) d next stands within e q =
-    after d (record d { prepared = with_prepared d chunk (held_by server (prepared_view d chunk)) }) next q
+    after d (record d { prepared = with_prepared d chunk (held_by server (prepared_view d chunk)) }) next q (prepared_behind (Holder chunk server) q (prepared_view d q))
     (fits_gives (is_upgrade d.phase && (nat_lt server 16 && is_some (prepared_view d chunk))) (record d { prepared = with_prepared d chunk (held_by server (prepared_view d chunk)) }) next e).1
     (held_keeps d server chunk q)
+
+abbrev pub view_at_prepare : Durable → ℕ → Option View
+view_at_prepare d chunk = view_in_it (prepared_view d chunk)
+
+-- a holder more leaves the view
+same_view : (entry : PlainEntry) (q : ℕ) (o : Option Prepared) → view_in_it (prepared_behind entry q o) ≡ view_in_it o
+same_view (Edited by edit) q o = refl
+same_view (Said to refusal) q o = refl
+same_view (Propose chunk version) q o = refl
+same_view (Settle v) q o = refl
+same_view (Prepare epoch moment chunks) q o = refl
+same_view (Finalize epoch) q o = refl
+same_view (RollbackBegin epoch) q o = refl
+same_view (RollbackCommit epoch answers) q o = refl
+same_view (Whole c) q o = refl
+same_view (Holder chunk server) q o = each (chunk == q) o
+  where
+    each : (b : Bool) (x : Option Prepared) → view_in_it (if b then held_by server x else x) ≡ view_in_it x
+    each true None = refl
+    each true (Some p) = refl
+    each false x = refl
+
+pub keeps_views : (entry : PlainEntry) (d next : Durable) → is_ordinary d.phase ≡ false → goes_on_within entry ≡ true → applied d entry ≡ Some next → (q : ℕ) → view_at_prepare next q ≡ view_at_prepare d q
+keeps_views entry d next stands within e q = ap view_in_it (keeps_prepared entry d next stands within e q) ∙ same_view entry q (prepared_view d q)
 
 -- ---- a checkpoint
 

@@ -19,7 +19,7 @@ use Rattle.gs_record.specs.declared.checkpoint.Phase.TheVariants.{Ordinary, Upgr
 use Rattle.gs_record.specs.declared.entry.Answered.{Answered}
 use Rattle.gs_state.specs.Applied.{after_undoing, applied, are_answers, are_at_rest, is_next_epoch, may_restore, restored_chunk, restored_view, rolled_back, with_epoch, without_prepared}
 use Rattle.gs_state.specs.Durable.{Durable, Settled, is_given, is_listed, is_ordinary, is_rolling, is_upgrade, prepared_view, upgrade_epoch}
-use Rattle.gs_laws.specs.Promises.{AreKept, IsGivenView, IsKept}
+use Rattle.gs_laws.specs.Promises.{AreKept, IsGivenView, IsKept, prepared_from}
 use Rattle.gs_state.specs.Whole.{are_ends}
 use Rattle.gs_state.specs.declared.asking.Prepared.{Prepared}
 use Rattle.gs_laws.proofs.Beginnings.{begins_with_all, fits_gives}
@@ -63,7 +63,7 @@ prepare_kept d next epoch moment chunks k e =
       back = (d.names, refl, k.names);
       restored = λ names chunk undone stands some.
           (let listed : is_listed d chunk ≡ true = ap (λ (x : NamesView). is_some (fin.get x.refs chunk)) (names_is undone) ∙ some in
-          sym (same_some (λ (v : Prepared). v.view) (prepared_view n chunk)) ∙ ap is_some (all.1 chunk) ∙ same_some (λ (s : Settled). s.view) (fin.get d.chunks chunk) ∙ k.settled chunk listed);
+          ap is_some (all.1 chunk) ∙ same_some prepared_from (fin.get d.chunks chunk) ∙ k.settled chunk listed);
       still = λ names chunk undone stands some. inl (ap (λ (x : NamesView). is_some (fin.get x.refs chunk)) (names_is undone) ∙ some);
       replies = k.replies;
     })

@@ -25,7 +25,7 @@ use Rattle.gs_state.specs.declared.asking.Prepared.{Prepared}
 use Rattle.gs_state.specs.declared.reply.KeptReply.{KeptReply}
 use Rattle.gs_laws.proofs.Beginnings.{fits_gives}
 use Rattle.gs_laws.proofs.Counters.{given_behind, given_raised}
-use Rattle.gs_laws.proofs.Kept.{keeps_prepared}
+use Rattle.gs_laws.proofs.Kept.{keeps_views}
 use Rattle.gs_laws.proofs.KeptReplies.{AreTold, replied}
 use Rattle.gs_laws.proofs.KeptViews.{Chunked, IsPreparedOf, Onward, chunked_moves, chunked_of, kept_grows, kept_stays, none_kept, prepared_given, same_key, same_on, view_stays}
 use Rattle.gs_laws.proofs.LedBack.{leads_back}
@@ -82,7 +82,7 @@ within_kept entry d next k within e p = record {
   restored = λ names chunk undone stands some.
       (let before : is_ordinary d.phase ≡ false = sym p.phase ∙ stands in
       let was = k.restored names chunk (sym (leads_back entry d next k before within e) ∙ undone) before some in
-      sym (same_some (λ (v : Prepared). v.view) (prepared_view next chunk)) ∙ ap is_some (keeps_prepared entry d next before within e chunk) ∙ same_some (λ (v : Prepared). v.view) (prepared_view d chunk) ∙ was);
+      sym (same_some (λ (v : Prepared). v.view) (prepared_view next chunk)) ∙ ap is_some (keeps_views entry d next before within e chunk) ∙ same_some (λ (v : Prepared). v.view) (prepared_view d chunk) ∙ was);
   still = λ names chunk undone stands some.
       (let before : is_ordinary d.phase ≡ false = sym p.phase ∙ stands in
       let was = sym (leads_back entry d next k before within e) ∙ undone in p.still chunk (k.restored names chunk was before some) (k.still names chunk was before some));

@@ -28,6 +28,7 @@ pub mod KeptRecords
 pub mod KeptReplies
 pub mod KeptViews
 pub mod LedBack
+pub mod Locking
 pub mod Parents
 pub mod Planted
 pub mod Preparing
@@ -54,3 +55,4 @@ pub mod StillNamed
 pub mod Texted
 pub mod ToldAgain
 pub mod Undone
+pub mod Wanting

@@ -30,7 +30,7 @@ Nodes = List (Path × Option (List ℕ))
 -- ---- what holds of each entry of a map
 
 module _ {K X : Type 0} (R : K → K → Ordering) (total : IsTotalOrder R) (exact : (x y : K) → R x y ≡ Equal → x ≡ y) where
-  below_found : (p k : K) (es : List (K × X)) → T (below_all R p es) → is_some (fin.find R k es) ≡ true → T (is_lt (R p k))
+  pub below_found : (p k : K) (es : List (K × X)) → T (below_all R p es) → is_some (fin.find R k es) ≡ true → T (is_lt (R p k))
   below_found p k [] below some = absurd (false≢true some)
   below_found p k (e ∷ es) below some = each (below_found p k es (snd (is_lt (R p e.0)) (below_all R p es) below)) (eq_by_cmp R k e.0) refl some
     where

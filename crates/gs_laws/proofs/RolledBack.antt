@@ -1,11 +1,12 @@
 -- From a prepare to the commit of its rollback.
-use Rattle.std.proofs.Common.{◌≡◌, ◌∙◌, ◌&&◌, ◌==◌, ℕ, Bool, true, false, cond, List, [], ◌∷◌, nat_lt, refl, sym, ap, subst}
-use Rattle.std.specs.Prelude.{Option, Some, None, is_some, option_map, option_and_then, Result, Ok, Err}
+use Rattle.std.proofs.Common.{arith, ◌≡◌, ◌∙◌, ◌&&◌, ◌==◌, ℕ, Bool, true, false, cond, List, [], ◌∷◌, nat_lt, refl, sym, ap, subst}
+use Rattle.std.specs.Prelude.{map, Option, Some, None, is_some, option_map, option_and_then, Result, Ok, Err, if◌then◌else◌}
 use Rattle.std.specs.List.{AllByRecursion, cons_option, list_all}
 use Rattle.std.specs.Cmp.{nat_cmp_total}
 use Rattle.std.specs.FinMap as fin
 use Rattle.std.specs.Ordering.{eq_by_cmp, nat_cmp}
 use Rattle.std.proofs.lemmas.Bool.{false≢true, and_parts}
+use Rattle.std.proofs.lemmas.Bool.Decides.{nat_tests}
 use Rattle.gs_base.specs.declared.epoch.EpochEnd.TheVariants as ends
 use Rattle.gs_base.specs.declared.numbers.ReqId.{ReqId}
 use Rattle.gs_base.specs.declared.refusal.Refusal.{Refusal}
@@ -17,17 +18,16 @@ use Rattle.gs_record.specs.Writable.{IsEntry}
 use Rattle.gs_record.specs.declared.checkpoint.Phase.{Phase}
 use Rattle.gs_record.specs.declared.checkpoint.Phase.TheVariants.{Ordinary, Upgrade, Rolling}
 use Rattle.gs_record.specs.declared.entry.Answered.{Answered}
-use Rattle.gs_state.specs.Applied.{after_edit, after_undoing, applied, are_answers, are_at_rest, forgotten_by, held_by, is_next_epoch, is_whole_entry, may_be_settled, may_edit, may_propose, proposed, replayed, restored_view, rolled_back, with_edit, with_epoch, with_view, without_prepared}
-use Rattle.gs_state.specs.Durable.{Durable, Settled, is_ordinary, is_rolling, is_upgrade, prepared_view, with_prepared}
-use Rattle.gs_laws.specs.Promises.{IsKept, IsRolledBack, RollsBack, goes_on_within, view_at_prepare}
+use Rattle.gs_state.specs.Applied.{after_edit, after_undoing, applied, are_answers, are_at_rest, forgotten_by, held_by, is_next_epoch, is_whole_entry, may_be_settled, may_edit, may_propose, may_restore, proposed, replayed, restored_view, rolled_back, with_edit, with_epoch, with_view, without_prepared}
+use Rattle.gs_state.specs.Durable.{Durable, Settled, is_listed, is_ordinary, is_rolling, is_upgrade, prepared_view, with_prepared}
+use Rattle.gs_laws.specs.Promises.{IsKept, IsRolledBack, RollsBack, goes_on_within, members_for, prepared_from, quiet_again}
 use Rattle.gs_state.specs.Undoing.{all_undone, edited_names}
 use Rattle.gs_state.specs.declared.asking.Prepared.{Prepared}
 use Rattle.gs_laws.proofs.Beginnings.{begins_with_all, fits_gives}
-use Rattle.gs_laws.proofs.Kept.{keeps_prepared}
+use Rattle.gs_laws.proofs.Kept.{is_tied, keeps_views, view_at_prepare}
 use Rattle.gs_laws.proofs.KeptAll.{keeps_all}
 use Rattle.gs_laws.proofs.KeptEdits.{forgets_only}
 use Rattle.gs_laws.proofs.KeptEpochs.{prepare_kept, restored}
-use Rattle.gs_laws.proofs.KeptRecords.{settled_is}
 use Rattle.gs_laws.proofs.KeptViews.{same_key}
 use Rattle.gs_laws.proofs.LedBack.{leads_back}
 
@@ -94,7 +94,7 @@ since_one d now next entry s within written e = record {
   kept = keeps_all entry (not_whole entry within) now next written s.kept e;
   stands = phase_within entry now next within e ∙ s.stands;
   names = leads_back entry now next s.kept s.stands within e ∙ s.names;
-  views = λ chunk. keeps_prepared entry now next s.stands within e chunk ∙ s.views chunk;
+  views = λ chunk. keeps_views entry now next s.stands within e chunk ∙ s.views chunk;
 }
 
 durable_is : {a b : Durable} → ◌≡◌ {A = Option Durable} (Some a) (Some b) → a ≡ b
@@ -117,46 +117,85 @@ prepared_phase d next epoch moment chunks e =
 
 since_prepare : (d next : Durable) (epoch moment chunks : ℕ) → IsKept d → applied d (Prepare epoch moment chunks) ≡ Some next → Since d next
 since_prepare d next epoch moment chunks k e =
-    let all = begins_with_all d next epoch moment chunks k e in record { kept = prepare_kept d next epoch moment chunks k e; stands = prepared_phase d next epoch moment chunks e; names = all.0; views = all.1 }
+    let all = begins_with_all d next epoch moment chunks k e in record { kept = prepare_kept d next epoch moment chunks k e; stands = prepared_phase d next epoch moment chunks e; names = all.0; views = λ chunk. ap (option_map (λ (p : Prepared). p.view)) (all.1 chunk) ∙ view_in (fin.get d.chunks chunk) }
+  where
+    view_in : (o : Option Settled) → option_map (λ (p : Prepared). p.view) (option_map prepared_from o) ≡ option_map (λ (s : Settled). s.view) o
+    view_in None = refl
+    view_in (Some s) = refl
 
 -- ---- the commit
 
--- what is restored has the count of its prepared view
-record FromPrepared (d : Durable) (q : ℕ) (s : Settled) : Type 0 where
-  prepared : Prepared
-  is : prepared_view d q ≡ Some prepared
-  count : s.view.count ≡ prepared.view.count
+-- the handles of the answers are those that were listed
+same_handles : (d : Durable) (refs : List (ℕ × ℕ)) (answers : List Answered) → are_answers (prepared_view d) refs answers ≡ true → map (λ (a : Answered). a.handle) answers ≡ map (λ (e : ℕ × ℕ). e.0) refs
+same_handles d [] [] h = refl
+same_handles d [] (answer ∷ answers) h = absurd (false≢true h)
+same_handles d (r ∷ refs) [] h = absurd (false≢true h)
+same_handles d (r ∷ refs) (answer ∷ answers) h =
+    let one = and_parts (answer.handle == r.0) (may_restore (prepared_view d r.0) r.1 answer.members && are_answers (prepared_view d) refs answers) h in
+    let same : answer.handle ≡ r.0 = (let t = one.0 in grind (arith, nat_tests)) in
+    let rest = same_handles d refs answers (and_parts (may_restore (prepared_view d r.0) r.1 answer.members) (are_answers (prepared_view d) refs answers) one.1).1 in λ i. same i ∷ rest i
 
-restored_from : (d : Durable) (answers : List Answered) (q : ℕ) (s : Settled) → fin.find nat_cmp q (restored d answers) ≡ Some s → FromPrepared d q s
-restored_from d [] q s e = absurd (false≢true (ap is_some e))
-restored_from d (answer ∷ answers) q s e = by_prepared (prepared_view d answer.handle) refl (restored_from d answers q s) e
+-- each chunk that was listed is restored from its prepared view, and no other is
+abbrev restored_as : Durable → List Answered → ℕ → Bool → Option Settled
+restored_as d answers q listed = if listed then option_map (λ (p : Prepared). restored_view d.epoch p (members_for answers q)) (prepared_view d q) else None
+
+all_restored : (d : Durable) (refs : List (ℕ × ℕ)) (answers : List Answered) (q : ℕ) → are_answers (prepared_view d) refs answers ≡ true → fin.find nat_cmp q (restored d answers) ≡ restored_as d answers q (is_some (fin.find nat_cmp q refs))
+all_restored d [] [] q h = refl
+all_restored d [] (answer ∷ answers) q h = absurd (false≢true h)
+all_restored d (r ∷ refs) [] q h = absurd (false≢true h)
+all_restored d (r ∷ refs) (answer ∷ answers) q h =
+    let one = and_parts (answer.handle == r.0) (may_restore (prepared_view d r.0) r.1 answer.members && are_answers (prepared_view d) refs answers) h in
+    let two = and_parts (may_restore (prepared_view d r.0) r.1 answer.members) (are_answers (prepared_view d) refs answers) one.1 in
+    let same : answer.handle ≡ r.0 = (let t = one.0 in grind (arith, nat_tests)) in
+    by_prepared (all_restored d refs answers q two.1) (prepared_view d answer.handle) refl (ap (λ c. may_restore (prepared_view d c) r.1 answer.members) same ∙ two.0)
+    ∙ ap (λ k. restored_as d (answer ∷ answers) q (is_some (cond (eq_by_cmp nat_cmp q k) (Some r.1) (fin.find nat_cmp q refs)))) same
   where
-    by_key : (p : Prepared) → prepared_view d answer.handle ≡ Some p → (fin.find nat_cmp q (restored d answers) ≡ Some s → FromPrepared d q s) → (b : Bool) → eq_by_cmp nat_cmp q answer.handle ≡ b
-        → cond b (Some (restored_view d.epoch p answer.members)) (fin.find nat_cmp q (restored d answers)) ≡ Some s → FromPrepared d q s
-    by_key p is later true key h = record { prepared = p; is = ap (prepared_view d) (same_key q answer.handle key) ∙ is; count = ap (λ (x : Settled). x.view.count) (sym (settled_is h)) }
-    by_key p is later false key h = later h
+    by_key : (fin.find nat_cmp q (restored d answers) ≡ restored_as d answers q (is_some (fin.find nat_cmp q refs))) → (p : Prepared) → prepared_view d answer.handle ≡ Some p → (b : Bool) → eq_by_cmp nat_cmp q answer.handle ≡ b
+        → cond b (Some (restored_view d.epoch p answer.members)) (fin.find nat_cmp q (restored d answers)) ≡ restored_as d (answer ∷ answers) q (is_some (cond b (Some r.1) (fin.find nat_cmp q refs)))
+    by_key rest p is true key = sym
+        (ap (λ b. option_map (λ (v : Prepared). restored_view d.epoch v (if b then answer.members else members_for answers q)) (prepared_view d q)) (sym (is_tied q answer.handle) ∙ key)
+        ∙ ap (λ k. option_map (λ (v : Prepared). restored_view d.epoch v answer.members) (prepared_view d k)) (same_key q answer.handle key)
+        ∙ ap (option_map (λ (v : Prepared). restored_view d.epoch v answer.members)) is)
+    by_key rest p is false key = rest
+        ∙ ap (λ b. if is_some (fin.find nat_cmp q refs) then option_map (λ (v : Prepared). restored_view d.epoch v (if b then answer.members else members_for answers q)) (prepared_view d q) else None) (sym (sym (is_tied q answer.handle) ∙ key))
 
-    by_prepared : (o : Option Prepared) → prepared_view d answer.handle ≡ o → (fin.find nat_cmp q (restored d answers) ≡ Some s → FromPrepared d q s)
-        → fin.find nat_cmp q (cons_option (option_map (λ (p : Prepared). (answer.handle, restored_view d.epoch p answer.members)) o) (restored d answers)) ≡ Some s → FromPrepared d q s
-    by_prepared None is later h = later h
-    by_prepared (Some p) is later h = by_key p is later (eq_by_cmp nat_cmp q answer.handle) refl h
+    by_prepared : (fin.find nat_cmp q (restored d answers) ≡ restored_as d answers q (is_some (fin.find nat_cmp q refs))) → (o : Option Prepared) → prepared_view d answer.handle ≡ o → may_restore o r.1 answer.members ≡ true
+        → fin.find nat_cmp q (cons_option (option_map (λ (p : Prepared). (answer.handle, restored_view d.epoch p answer.members)) o) (restored d answers)) ≡ restored_as d (answer ∷ answers) q (is_some (cond (eq_by_cmp nat_cmp q answer.handle) (Some r.1) (fin.find nat_cmp q refs)))
+    by_prepared rest None is may = absurd (false≢true may)
+    by_prepared rest (Some p) is may = by_key rest p is (eq_by_cmp nat_cmp q answer.handle) refl
 
-view_is : {a b : View} → ◌≡◌ {A = Option View} (Some a) (Some b) → a ≡ b
-view_is h = cc
+-- a chunk's prepared view is the one that it had before the prepare
+from_before : (d now : Durable) (answers : List Answered) (chunk : ℕ) (before : Settled) → Since d now → fin.get d.chunks chunk ≡ Some before →
+    restored_as now answers chunk true ≡ Some (quiet_again now.epoch before.view.count (members_for answers chunk))
+from_before d now answers chunk before s was = by_view (prepared_view now chunk) (s.views chunk ∙ ap (option_map (λ (x : Settled). x.view)) was)
+  where
+    by_view : (o : Option Prepared) → option_map (λ (p : Prepared). p.view) o ≡ Some before.view → option_map (λ (p : Prepared). restored_view now.epoch p (members_for answers chunk)) o ≡ Some (quiet_again now.epoch before.view.count (members_for answers chunk))
+    by_view None h = absurd (false≢true (ap is_some h))
+    by_view (Some p) h = ap (λ n. Some (quiet_again now.epoch n (members_for answers chunk))) (ap (λ (v : View). v.count) (view_is h))
+      where
+        view_is : {a b : View} → ◌≡◌ {A = Option View} (Some a) (Some b) → a ≡ b
+        view_is e = cc
 
-back_to : (d now : Durable) (answers : List Answered) → Since d now → IsRolledBack d (rolled_back now answers d.names)
-back_to d now answers s = record {
+back_to : (d now : Durable) (last : ℕ) (answers : List Answered) → Since d now → last ≡ now.epoch → are_answers (prepared_view now) (fin.entries d.names.refs) answers ≡ true → IsRolledBack d (rolled_back now answers d.names) last answers
+back_to d now last answers s same all = record {
   names = refl;
-  counts = λ chunk before after was is.
-      (let from = restored_from now answers chunk after (sym (fin.get-from_entries nat_cmp_total (restored now answers) chunk) ∙ is) in
-      let view = view_is (sym (ap (option_map (λ (p : Prepared). p.view)) from.is) ∙ s.views chunk ∙ ap (option_map (λ (x : Settled). x.view)) was) in from.count ∙ ap (λ (v : View). v.count) view);
+  phase = refl;
+  answered = same_handles now (fin.entries d.names.refs) answers all;
+  restored = λ chunk before listed was.
+      found chunk ∙ ap (restored_as now answers chunk) listed ∙ from_before d now answers chunk before s was ∙ ap (λ e. Some (quiet_again e before.view.count (members_for answers chunk))) (sym same);
+  others = λ chunk none. found chunk ∙ ap (restored_as now answers chunk) none;
 }
+  where
+    found : (chunk : ℕ) → fin.get (rolled_back now answers d.names).chunks chunk ≡ restored_as now answers chunk (is_listed d chunk)
+    found chunk = fin.get-from_entries nat_cmp_total (restored now answers) chunk ∙ all_restored now (fin.entries d.names.refs) answers chunk all ∙ ap (λ o. restored_as now answers chunk (is_some o)) (sym (fin.get-entries d.names.refs chunk))
 
-commit_back : (d now next : Durable) (last : ℕ) (answers : List Answered) → Since d now → applied now (RollbackCommit last answers) ≡ Some next → IsRolledBack d next
+commit_back : (d now next : Durable) (last : ℕ) (answers : List Answered) → Since d now → applied now (RollbackCommit last answers) ≡ Some next → IsRolledBack d next last answers
 unfolding applied
 commit_back d now next last answers s e =
     let is = fits_gives (is_rolling now.phase && ((last == now.epoch) && are_answers (prepared_view now) (fin.entries d.names.refs) answers)) (rolled_back now answers d.names) next (ap (after_undoing now last answers) (sym s.names) ∙ e) in
-    subst (IsRolledBack d) is.1 (back_to d now answers s)
+    let tests = and_parts (last == now.epoch) (are_answers (prepared_view now) (fin.entries d.names.refs) answers) (and_parts (is_rolling now.phase) ((last == now.epoch) && are_answers (prepared_view now) (fin.entries d.names.refs) answers) is.0).1 in
+    let same : last ≡ now.epoch = (let t = tests.0 in grind (arith, nat_tests)) in
+    subst (λ n. IsRolledBack d n last answers) is.1 (back_to d now last answers s same tests.1)
 
 pub rolls_back : RollsBack
 rolls_back d prepared rolling next epoch moment chunks last entries answers k begun within written between e =

@@ -1,5 +1,5 @@
 -- What is to hold of the definitions: of each record, of each turn, and of whatever stands.
-use Rattle.std.specs.Prelude.{◌≡◌, ◌⊎◌, ◌≤◌, ◌<◌, ◌↔◌, ℕ, Bool, true, false, List, [], length, Contains, Option, Some, None, option_map, is_some}
+use Rattle.std.specs.Prelude.{◌≡◌, ◌⊎◌, ◌≤◌, ◌<◌, ◌↔◌, ◌+◌, ◌==◌, ◌&&◌, ℕ, Bool, true, false, not, List, [], ◌∷◌, map, Contains, Option, Some, None, option_map, is_some, Ok, Err, if◌then◌else◌}
 use Rattle.std.specs.FinMap as fin
 use Rattle.std.specs.List.{list_any, list_all, AllByRecursion}
 use Rattle.gs_base.specs.declared.config.Config.{Config}
@@ -7,6 +7,7 @@ use Rattle.gs_base.specs.declared.numbers.Moment.{Moment}
 use Rattle.gs_base.specs.declared.numbers.ClientId.{ClientId}
 use Rattle.gs_base.specs.declared.numbers.ReqId.{ReqId}
 use Rattle.gs_base.specs.declared.numbers.Stamp.{Stamp}
+use Rattle.gs_base.specs.declared.refusal.Refusal.{Refusal}
 use Rattle.gs_base.specs.declared.refusal.Refusal.TheVariants as refusals
 use Rattle.gs_base.specs.Members.{is_member}
 use Rattle.gs_edit.specs.Names.{IsCounted}
@@ -16,6 +17,7 @@ use Rattle.gs_tree.specs.Entry.{Dir}
 use Rattle.gs_tree.specs.Build.{is_tree, below_root}
 use Rattle.gs_edit.specs.View.{NamesView}
 use Rattle.gs_journal.specs.declared.version.Version.TheVariants.{Two}
+use Rattle.gs_record.specs.declared.checkpoint.Phase.TheVariants.{Ordinary}
 use Rattle.gs_record.specs.declared.entry.Answered.{Answered}
 use Rattle.gs_record.specs.Writable.{AreServers, IsEntry, IsPath, IsTerm}
 use Rattle.gs_base.specs.Told.{IsNumber}
@@ -35,14 +37,17 @@ use Rattle.gs_msg.specs.declared.message.Message.{Message}
 use Rattle.gs_record.specs.Plain.{PlainEntry, Edited, Said, Propose, Settle, Prepare, Finalize, RollbackBegin, RollbackCommit, Whole, Holder}
 use Rattle.gs_view.specs.Choice.{Chooses}
 use Rattle.gs_view.specs.declared.answers.Answers.{Answers}
-use Rattle.gs_state.specs.Applied.{applied, replayed, is_fresh, is_prepared_on, is_since, is_visible, is_whole_entry}
+use Rattle.gs_state.specs.Calls.{found_chunk, is_always_taken, is_locked, is_work, refused_before}
+use Rattle.gs_state.specs.Applied.{applied, held_by, replayed, is_fresh, is_prepared_on, is_since, is_visible, is_whole_entry, with_reply}
 use Rattle.gs_state.specs.Chunks.{Chunk, view_by, may_settle}
 use Rattle.gs_state.specs.Durable.{Durable, Settled, start, is_given, is_ordinary, is_rolling, upgrade_epoch, has_its_primary, prepared_view, is_listed}
 use Rattle.gs_state.specs.Handling.{handle, call_turn, checkpoint, fresh, new_call, pressed, tidied, tick}
 use Rattle.gs_state.specs.Sane.{IsSane}
-use Rattle.gs_state.specs.State.{State, Log, Turn, size_of_all}
-use Rattle.gs_state.specs.Upgrades.{rollback_commit, told_of}
+use Rattle.gs_state.specs.State.{State, Log, Turn, fits, is_failed, refused, reply_to, size_of, size_of_all}
+use Rattle.gs_state.specs.Upgrades.{answers_for, chunk_count, rollback_commit, told_of}
 use Rattle.gs_state.specs.Volatile.{paths_of}
+use Rattle.gs_state.specs.Working.{is_wanted_at, needs_of, unquiet}
+use Rattle.gs_place.specs.Needs.{most_needed_of}
 use Rattle.gs_state.specs.Undoing.{all_undone}
 use Rattle.gs_state.specs.Whole.{whole_of, checkpoint_of, are_ends, are_hidden_once, is_prepared_before}
 use Rattle.gs_state.specs.declared.asking.Asking.{Asking}
@@ -139,33 +144,54 @@ goes_on_within (RollbackCommit epoch answers) = false
 goes_on_within (Whole c) = false
 goes_on_within (Holder chunk server) = true
 
-abbrev pub view_at_prepare : Durable → ℕ → Option View
-view_at_prepare d chunk = option_map (λ (p : Prepared). p.view) (prepared_view d chunk)
-
 -- while an upgrade stands, what takes edits back leads to the names of the prepare
 abbrev pub LeadsBack : PlainEntry → Type 0
 LeadsBack entry = (d next : Durable) → IsKept d → is_ordinary d.phase ≡ false → goes_on_within entry ≡ true → applied d entry ≡ Some next →
     all_undone next.inverses next.names ≡ all_undone d.inverses d.names
 
--- and each chunk's prepared view stays, also that of a chunk which was forgotten; one that had none gets none
+-- a record that a server holds a chunk as it stood adds this server
+abbrev pub prepared_behind : PlainEntry → ℕ → Option Prepared → Option Prepared
+prepared_behind (Holder held server) chunk prepared = if held == chunk then held_by server prepared else prepared
+prepared_behind entry chunk prepared = prepared
+
+-- and each chunk's prepared view stays, with those who hold it, also that of a chunk which was forgotten; one that had none gets none
 abbrev pub KeepsPrepared : PlainEntry → Type 0
 KeepsPrepared entry = (d next : Durable) → is_ordinary d.phase ≡ false → goes_on_within entry ≡ true → applied d entry ≡ Some next →
-    (chunk : ℕ) → view_at_prepare next chunk ≡ view_at_prepare d chunk
+    (chunk : ℕ) → prepared_view next chunk ≡ prepared_behind entry chunk (prepared_view d chunk)
+
+-- a chunk as it is settled, which its members alone hold
+abbrev pub prepared_from : Settled → Prepared
+prepared_from settled = record { view = settled.view; holders = [] }
 
 -- what a prepare begins with
 abbrev pub BeginsWithAll : Type 0
 BeginsWithAll = (d next : Durable) (epoch moment chunks : ℕ) → IsKept d → applied d (Prepare epoch moment chunks) ≡ Some next →
-    (all_undone next.inverses next.names ≡ Some d.names) × ((chunk : ℕ) → view_at_prepare next chunk ≡ option_map (λ (s : Settled). s.view) (fin.get d.chunks chunk))
+    (all_undone next.inverses next.names ≡ Some d.names) × ((chunk : ℕ) → prepared_view next chunk ≡ option_map prepared_from (fin.get d.chunks chunk))
 
--- the names are those of the prepare again, and so are the counts of edits that the chunks had
-pub record IsRolledBack (d next : Durable) : Type 0 where
+-- who has answered of a chunk
+abbrev pub members_for : List Answered → ℕ → List ℕ
+members_for [] chunk = []
+members_for (answer ∷ answers) chunk = if answer.handle == chunk then answer.members else members_for answers chunk
+
+-- a chunk without a primary, of which nothing is asked: under version 0 of this epoch, with so many edits, on these servers
+abbrev pub quiet_again : ℕ → ℕ → List ℕ → Settled
+quiet_again epoch count members = record { view = record { stamp = record { epoch = epoch; version = 0 }; count = count; members = members; term = None }; is_moving = false }
+
+-- The names are those of the prepare again. Each chunk that was listed then was answered once; it is quiet, with the count of edits that
+-- it had then, on exactly those servers that have answered; and no other chunk is settled.
+pub record IsRolledBack (d next : Durable) (epoch : ℕ) (answers : List Answered) : Type 0 where
   pub names : next.names ≡ d.names
-  pub counts : (chunk : ℕ) (before after : Settled) → fin.get d.chunks chunk ≡ Some before → fin.get next.chunks chunk ≡ Some after → after.view.count ≡ before.view.count
+  pub phase : next.phase ≡ Ordinary
+  pub answered : map (λ (a : Answered). a.handle) answers ≡ fin.keys d.names.refs
+  pub restored : (chunk : ℕ) (before : Settled) → is_listed d chunk ≡ true → fin.get d.chunks chunk ≡ Some before →
+      fin.get next.chunks chunk ≡ Some (quiet_again epoch before.view.count (members_for answers chunk))
+  pub others : (chunk : ℕ) → is_listed d chunk ≡ false → fin.get next.chunks chunk ≡ None
 
 -- A rollback leads back to what was prepared, whatever goes on between.
 abbrev pub RollsBack : Type 0
 RollsBack = (d prepared rolling next : Durable) (epoch moment chunks last : ℕ) (entries : List PlainEntry) (answers : List Answered) → IsKept d → applied d (Prepare epoch moment chunks) ≡ Some prepared
-    → list_all goes_on_within entries ≡ true → AllByRecursion (IsEntry Two) entries → replayed prepared entries ≡ Some rolling → applied rolling (RollbackCommit last answers) ≡ Some next → IsRolledBack d next
+    → list_all goes_on_within entries ≡ true → AllByRecursion (IsEntry Two) entries → replayed prepared entries ≡ Some rolling → applied rolling (RollbackCommit last answers) ≡ Some next →
+    IsRolledBack d next last answers
 
 -- the checkpoint of what stands tells it, but for chunks that stand in no file and never did
 abbrev pub TellsAll : Type 0
@@ -186,14 +212,26 @@ IsWritten t = AllByRecursion (IsEntry Two) t.records
 abbrev pub AllFit : State → Turn → Type 0
 AllFit s t = replayed s.durable t.records ≡ Some t.after.durable
 
--- a refused call leaves the names and the views
-pub record LeavesNames (s : State) (t : Turn) : Type 0 where
-  pub names : t.after.durable.names ≡ s.durable.names
-  pub chunks : t.after.durable.chunks ≡ s.durable.chunks
+-- the record of a refusal is written, and with it the reply that it tells
+abbrev pub with_said : State → ReqId → Refusal → State
+with_said s req refusal = record s {
+  durable = record (s.durable) { replies = with_reply s.durable.replies req (Err refusal) };
+  log = record (s.log) { records = s.log.records + 1; size = s.log.size + size_of (Said req refusal) };
+}
 
-abbrev pub RefusedLeavesNames : Type 0
-RefusedLeavesNames = (config : Config) (s : State) (req : ReqId) (moment : Moment) (call : Call) → is_some (call_turn config s req moment call).said ≡ true →
-    LeavesNames s (call_turn config s req moment call)
+-- the reply is kept in memory alone
+abbrev pub with_kept : State → ReqId → Refusal → State
+with_kept s req refusal =
+    record s { volatile = record (s.volatile) { replies = fin.insert s.volatile.replies req.client (record { number = req.number; result = Err refusal }) } }
+
+-- A refused call leaves all as it was, or all but the kept reply; and its client alone is told.
+pub record LeavesAll (s : State) (req : ReqId) (refusal : Refusal) (t : Turn) : Type 0 where
+  pub left : ((t.after ≡ s) × (t.records ≡ [])) ⊎ (((t.after ≡ with_said s req refusal) × (t.records ≡ Said req refusal ∷ [])) ⊎ ((t.after ≡ with_kept s req refusal) × (t.records ≡ [])))
+  pub sent : t.sent ≡ reply_to req (Err refusal) ∷ []
+
+abbrev pub RefusedLeavesAll : Type 0
+RefusedLeavesAll = (config : Config) (s : State) (req : ReqId) (moment : Moment) (call : Call) (refusal : Refusal) → (call_turn config s req moment call).said ≡ Some refusal →
+    LeavesAll s req refusal (call_turn config s req moment call)
 
 -- its records fit what they meet, and what stands is kept
 pub record FitsAndKeeps (s : State) (t : Turn) : Type 0 where
@@ -293,16 +331,45 @@ NothingWhileRolling = (config : Config) (s : State) (message : Message) (moment 
 abbrev pub NothingAtTicks : Type 0
 NothingAtTicks = (s : State) (moment : Moment) → is_rolling s.durable.phase ≡ true → IsStill (tick s moment)
 
+-- ---- locks
+
+-- what comes before locks doesn't refuse the call: a disk that has failed, a rollback, a prepare
+abbrev pub comes_to_locks : State → Call → Bool
+comes_to_locks s call = not (is_failed s.fault) && (not (is_rolling s.durable.phase && not (is_always_taken call)) && not (s.volatile.is_preparing && is_work call))
+
+-- A new call is refused for its locks exactly where it comes to them, and one of a call that waits is in the way.
+abbrev pub LockedExactly : Type 0
+LockedExactly = (s : State) (req : ReqId) (call : Call) →
+    (refused_before s req call ≡ Some refusals.Locked) ↔ ((comes_to_locks s call ≡ true) × (is_locked s req call ≡ true))
+
+abbrev pub RefusedAtLocks : Type 0
+RefusedAtLocks = (config : Config) (s : State) (req : ReqId) (moment : Moment) (call : Call) → comes_to_locks s call ≡ true → is_locked s req call ≡ true →
+    new_call config s req moment call ≡ refused s req refusals.Locked
+
+-- the chunks of which a call begins a view at once
+abbrev pub MayBegin : Config → State → Call → ℕ → Type 0
+MayBegin config s (calls.FindForWriting path index stamp) chunk = found_chunk (fin.get s.durable.names.tree path) index ≡ Ok chunk
+MayBegin config s (calls.Snapshot from to) chunk = is_member (unquiet s from) chunk ≡ true
+MayBegin config s calls.Replicate chunk = most_needed_of config.replicas (needs_of s) ≡ Some chunk
+MayBegin config s call chunk = ⊥
+
+-- Else only what would begin a view of a chunk that moves for another call is refused so.
+abbrev pub LockedElse : Type 0
+LockedElse = (config : Config) (s : State) (req : ReqId) (moment : Moment) (call : Call) → (new_call config s req moment call).said ≡ Some refusals.Locked →
+    ((comes_to_locks s call ≡ true) × (is_locked s req call ≡ true)) ⊎ ((chunk : ℕ) × (MayBegin config s call chunk × (is_wanted_at s chunk ≡ true)))
+
 -- ---- the commit of a rollback
 
 -- a server, of which there are 16 at most, that has the chunk as it stood at prepare has told so
-pub record IsRestored (s : State) (chunk : ℕ) : Type 0 where
-  pub server : ℕ
+pub record HasTold (s : State) (chunk server : ℕ) : Type 0 where
   pub is_server : server < 16
   pub prepared : Prepared
   pub kept : prepared_view s.durable chunk ≡ Some prepared
   pub has_it : is_prepared_on prepared server ≡ true
   pub told : is_member (told_of s chunk) server ≡ true
+
+abbrev pub IsRestored : State → ℕ → Type 0
+IsRestored s chunk = (server : ℕ) × HasTold s chunk server
 
 -- A rollback can be committed: one was begun, its edits can be taken back, and each chunk that had a reference at prepare is
 -- restored.
@@ -316,6 +383,43 @@ pub record CanCommit (s : State) : Type 0 where
 abbrev pub CommitsExactly : Type 0
 CommitsExactly = (s : State) (req : ReqId) →
     (((rollback_commit s req).said ≡ None) ⊎ ((rollback_commit s req).said ≡ Some refusals.Full)) ↔ CanCommit s
+
+-- the lowest chunk that isn't restored, of those that had a reference at prepare
+pub record IsFirstUnrestored (s : State) (chunk : ℕ) : Type 0 where
+  pub begun : is_rolling s.durable.phase ≡ true
+  pub names : NamesView
+  pub back : all_undone s.durable.inverses s.durable.names ≡ Some names
+  pub count : ℕ
+  pub found : fin.get names.refs chunk ≡ Some count
+  pub referred : 0 < count
+  pub lacks : IsRestored s chunk → ⊥
+  pub lower : (other many : ℕ) → other < chunk → fin.get names.refs other ≡ Some many → 0 < many → IsRestored s other
+
+-- its record tells who has answered of each chunk that was listed at prepare
+abbrev pub answers_of : State → NamesView → List Answered
+answers_of s names = answers_for (prepared_view s.durable) (told_of s) (fin.entries names.refs)
+
+abbrev pub commit_record : State → NamesView → PlainEntry
+commit_record s names = RollbackCommit s.durable.epoch (answers_of s names)
+
+-- those are exactly the servers that have told of it
+abbrev pub AnswersExactly : Type 0
+AnswersExactly = (s : State) (names : NamesView) (chunk server : ℕ) → is_some (fin.get names.refs chunk) ≡ true →
+    (is_member (members_for (answers_of s names) chunk) server ≡ true) ↔ HasTold s chunk server
+
+-- Which refusal comes, and when none does: no rollback was begun; its edits can't be taken back; a chunk isn't restored, the lowest of
+-- such; its record has no room. Behind its record nothing is asked for any chunk, and none is without a place.
+pub record CommitsInOrder (s : State) (t : Turn) : Type 0 where
+  pub unbegun : (t.said ≡ Some refusals.NotUpgrading) ↔ (is_rolling s.durable.phase ≡ false)
+  pub stuck : (t.said ≡ Some refusals.BadLine) ↔ ((is_rolling s.durable.phase ≡ true) × (all_undone s.durable.inverses s.durable.names ≡ None))
+  pub unrestored : (chunk : ℕ) → (t.said ≡ Some (refusals.Unrestored chunk)) ↔ IsFirstUnrestored s chunk
+  pub full : (t.said ≡ Some refusals.Full) ↔ ((can : CanCommit s) × (fits s.log (commit_record s can.names ∷ []) ≡ false))
+  pub done : (t.said ≡ None) ↔ ((can : CanCommit s) × (fits s.log (commit_record s can.names ∷ []) ≡ true))
+  pub records : (can : CanCommit s) → t.said ≡ None → t.records ≡ commit_record s can.names ∷ []
+  pub quiet : t.said ≡ None → (t.after.volatile.moving ≡ fin.empty) × (t.after.volatile.unplaced ≡ [])
+
+abbrev pub RefusesInOrder : Type 0
+RefusesInOrder = (s : State) (req : ReqId) → CommitsInOrder s (rollback_commit s req)
 
 -- a version that is proposed is above all before it
 abbrev pub ProposesFresh : Type 0
@@ -332,14 +436,11 @@ abbrev pub MadeOfTheMost : Type 0
 MadeOfTheMost = (c : Chunk) (asking : Asking) (answers : Answers) (moment : Moment) (view : View) → view_by c asking answers moment ≡ Some view →
     Chooses answers.counts view.members view.count × (may_settle asking.asked view.members ≡ true)
 
-abbrev pub is_refusal : PlainEntry → Bool
-is_refusal (Said to refusal) = true
-is_refusal entry = false
-
--- an accepted prepare adds one record of 26 bytes, and a refused one at most a refusal
-pub record AddsOne (t : Turn) : Type 0 where
-  pub accepted : t.said ≡ None → (size_of_all t.records ≡ 26) × (length t.records ≡ 1)
-  pub refused : is_some t.said ≡ true → (length t.records ≤ 1) × (list_all is_refusal t.records ≡ true)
+-- an accepted prepare adds its record alone, of 26 bytes: the next epoch, the moment, and how many chunks the master knows; a refused
+-- one at most its refusal
+pub record AddsOne (s : State) (req : ReqId) (moment : Moment) (t : Turn) : Type 0 where
+  pub accepted : t.said ≡ None → (t.records ≡ Prepare (s.durable.epoch + 1) moment.0 (chunk_count s) ∷ []) × (size_of_all t.records ≡ 26)
+  pub refused : (refusal : Refusal) → t.said ≡ Some refusal → (t.records ≡ []) ⊎ (t.records ≡ Said req refusal ∷ [])
 
 abbrev pub PreparesByOneRecord : Type 0
-PreparesByOneRecord = (config : Config) (s : State) (req : ReqId) (moment : Moment) → AddsOne (new_call config s req moment calls.PrepareCommit)
+PreparesByOneRecord = (config : Config) (s : State) (req : ReqId) (moment : Moment) → AddsOne s req moment (new_call config s req moment calls.PrepareCommit)

@@ -10,7 +10,7 @@ ghost use Rattle.gs_state.specs.Checkpoints.{read_with};
 ghost use Rattle.gs_state.specs.Whole.{told_replies, whole_of};
 ghost use Rattle.gs_state.specs.declared.reply.KeptReply.{KeptReply};
 ghost use Rattle.gs_state.specs.Recorded.{SayAlone};
-ghost use Rattle.gs_laws.specs.Promises.{AllMessagesFit, BeginsWithAll, CallsFit, CallsKeep, CheckpointFits, CommitsExactly, IsToldAgain, KeepsAll, KeepsGiven, KeepsPrepared, LeadsBack, LeadsToKept, MadeOfTheMost, MessagesFit, MessagesKeep, NothingAtTicks, NothingWhileRolling, PreparesByOneRecord, ProposesFresh, ProposesFreshAtTicks, RefusedFits, RefusedLeavesNames, RollsBack, StartsWell, StepsAtTicksFit, TellsAll, TellsCounters};
+ghost use Rattle.gs_laws.specs.Promises.{AllMessagesFit, AnswersExactly, BeginsWithAll, CallsFit, CallsKeep, CheckpointFits, CommitsExactly, IsToldAgain, KeepsAll, KeepsGiven, KeepsPrepared, LeadsBack, LeadsToKept, LockedElse, LockedExactly, MadeOfTheMost, MessagesFit, MessagesKeep, NothingAtTicks, NothingWhileRolling, PreparesByOneRecord, ProposesFresh, ProposesFreshAtTicks, RefusesInOrder, RefusedAtLocks, RefusedFits, RefusedLeavesAll, RollsBack, StartsWell, StepsAtTicksFit, TellsAll, TellsCounters};
 ghost use Rattle.gs_laws.specs.Standing.{EventsFit, FirmGoesOn, RunsFit, RunsRecover, StartsFirm};
 ghost use Rattle.gs_state.specs.Undoing.{EditsAsTold};
 
@@ -37,14 +37,26 @@ pub fn views_are_of_those_with_the_most_edits()
     ensures { MadeOfTheMost }
 {}
 
-/// A prepare that is accepted adds one record of 26 bytes and nothing else, and one that is refused at most its refusal.
+/// A prepare that is accepted adds one record of 26 bytes and nothing else: that of a prepare, with the next epoch, the moment and
+/// how many chunks the master knows. One that is refused adds at most its refusal.
 pub fn a_prepare_adds_one_record()
     ensures { PreparesByOneRecord }
 {}
 
-/// A call that is refused by the event that brings it leaves the names and all views as they were.
-pub fn a_refused_call_leaves_names_and_views()
-    ensures { RefusedLeavesNames }
+/// A call that is refused by the event that brings it leaves the master as it was, in the journal and in memory, but for the kept reply:
+/// its refusal, of which a record of its own tells, or which is kept in memory alone. And the refusal is sent to its client, and nothing
+/// else is sent.
+pub fn a_refused_call_leaves_all_but_its_reply()
+    ensures { RefusedLeavesAll }
+{}
+
+/// Before its own tests a new call is refused as `Locked` exactly where a lock of a call that waits is in the way of what it reads or
+/// writes, no disk has failed, no rollback stands against it, and no prepare; and then that is what becomes of it. Beside that only finding
+/// for writing, a snapshot and a replicate are refused so, where a chunk of theirs moves for another call.
+pub fn a_call_is_locked_exactly_at_a_conflict()
+    ensures exactly { LockedExactly }
+    ensures taken { RefusedAtLocks }
+    ensures alone { LockedElse }
 {}
 
 /// The records of a call that is refused by the event that brings it fit what they meet and give what is durable afterwards, and
@@ -108,7 +120,8 @@ pub fn a_checkpoint_fits()
     ensures { CheckpointFits }
 {}
 
-/// Once a prepare is recorded, nothing is to be taken back, and each settled chunk's view is its prepared one.
+/// Once a prepare is recorded, nothing is to be taken back, and each settled chunk's view is its prepared one, which its members alone
+/// hold; no other chunk has one.
 pub fn a_prepare_begins_with_all_that_stands()
     ensures { BeginsWithAll }
 {}
@@ -123,8 +136,9 @@ pub fn a_checkpoint_tells_the_counters()
     ensures { TellsCounters }
 {}
 
-/// While an upgrade stands each record but a checkpoint leaves the prepared view of each chunk, also that of one which is
-/// forgotten, and a chunk that had none gets none, until the upgrade is finalized or rolled back. Holders are not part of it.
+/// While an upgrade stands each record but a checkpoint leaves the prepared view of each chunk and the servers that hold it, also those of
+/// one which is forgotten, until the upgrade is finalized or rolled back; a record that a server holds a chunk as it stood adds this server
+/// alone. A chunk that had no prepared view gets none.
 pub fn prepared_views_stay()
     ensures { (entry : PlainEntry) → KeepsPrepared entry }
 {}
@@ -141,17 +155,22 @@ pub fn records_keep_what_stands()
     ensures all { LeadsToKept }
 {}
 
-/// A rollback that is done leads back to the names of the prepare, and each chunk that it restores to the count of edits that the
-/// chunk had then, whatever records but checkpoints went on between.
+/// A rollback that is done leads back to the names of the prepare. Each chunk that was listed then is quiet under version 0 of the
+/// rollback's epoch, without a primary, with the count of edits that it had at the prepare, on exactly those servers that have answered by
+/// the rollback's record; and no other chunk is settled. So it is whatever records but checkpoints went on between.
 pub fn a_rollback_leads_back_to_the_prepare()
     ensures { RollsBack }
 {}
 
 /// A rollback is committed exactly where it was begun, its edits can be taken back, and each chunk that had a reference at the prepare
-/// was told of by a server that had it then: a member of its prepared view, or one that was sent it since with its sealed image. Else
-/// it is refused, and so it is where its record has no room.
+/// was told of by a server that had it then: a member of its prepared view, or one that was sent it since with its sealed image; and where
+/// its record has room. Else it is refused, and which refusal comes is said of each: that no rollback was begun, that its edits can't be
+/// taken back, the lowest chunk that lacks such a server, or that there is no room, in this order. The record of the commit tells of each
+/// chunk that was listed at the prepare exactly those servers; and behind it nothing is asked for any chunk.
 pub fn a_rollback_is_committed_exactly_where_all_is_restored()
-    ensures { CommitsExactly }
+    ensures can { CommitsExactly }
+    ensures order { RefusesInOrder }
+    ensures answers { AnswersExactly }
 {}
 
 /// The checkpoint of what stands tells it, but for chunks that stand in no file and never did. So it is of what records lead to
