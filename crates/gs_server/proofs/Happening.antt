@@ -1,6 +1,6 @@
 -- What an event makes of a chunk's place: one call of its slot, or none.
 use Rattle.std.proofs.Common.{◌≡◌, ℕ, ◌+◌, Bool, true, false, cond, List, [], ◌∷◌, Option, Some, None, refl, sym, ap, subst, ◌∙◌, inl, inr, true≢false}
-use Rattle.std.specs.Prelude.{Result, Ok, Err, ◌==◌, ◌&&◌, option_map}
+use Rattle.std.specs.Prelude.{Result, Ok, Err, ◌==◌, ◌&&◌, is_some, option_map}
 use Rattle.std.proofs.lemmas.Bool.{eqb-true, eq-eqb}
 use Rattle.std.specs.FinMap as fin
 use Rattle.std.specs.Ordering.{nat_cmp}
@@ -16,6 +16,7 @@ use Rattle.gs_block.specs.Stored.{Stored}
 use Rattle.gs_block.specs.Edits as blocks
 use Rattle.gs_replica.specs.Edits.{copied, held_of}
 use Rattle.gs_replica.specs.Seals.{State}
+use Rattle.gs_replica.specs.Seals as replicas
 use Rattle.gs_replica.specs.Held.{Held}
 use Rattle.gs_replica.specs.Copies.{and_then}
 use Rattle.gs_msg.specs.declared.node.NodeId.{NodeId}
@@ -24,12 +25,14 @@ use Rattle.gs_msg.specs.declared.message.Message.{Message}
 use Rattle.gs_msg.specs.declared.body.Body.{Body}
 use Rattle.gs_msg.specs.declared.body.Body.TheVariants as bodies
 use Rattle.gs_msg.specs.declared.chunk.Chunk.{Chunk}
-use Rattle.gs_store.specs.Slots.{Slot, nothing}
+use Rattle.gs_store.specs.Slots.{Live, Slot, nothing}
 use Rattle.gs_store.specs.Slots as slots
 use Rattle.gs_store.specs.Moves as moves
 use Rattle.gs_store.specs.Stores.{Store, or_nothing, slot_of, set_slot, with_slot, put_slot}
 use Rattle.gs_store.specs.Calls.{Call, TakesCopy, Seals, Unseals, RollsBack, called, IsNoLease, KeepsSeal, IsSparing}
 use Rattle.gs_store.specs.Calls as calls
+use Rattle.gs_store.proofs.Laws.{Holds, of_cond}
+use Rattle.gs_store.proofs.Standing.{of_live, of_trash}
 use Rattle.gs_store.proofs.StoreLaws.{own_slot, other_slot, not_ok}
 use Rattle.gs_server.specs.Leases.{Lease, tell}
 use Rattle.gs_server.specs.Lifts.{gone_on}
@@ -41,7 +44,7 @@ use Rattle.gs_server.specs.inner.Learning.{next_of}
 use Rattle.gs_server.specs.Runs.{Event, Hears, Ticks, Restarts, Loses, Damages, unless_refused, behind, slot_in, carries_seal, reseals, reseals_by, Spares}
 use Rattle.gs_server.proofs.Others.{other_changed, used_slots, rest_stays}
 use Rattle.gs_server.proofs.Lifts.{ticked_is, restarted_is, place_goes}
-use Rattle.gs_server.proofs.Walks.{GoesOn, Goes, Suits, IsWithin, same_lease, stays, marks, about, of_epoch, promise_lease}
+use Rattle.gs_server.proofs.Walks.{GoesOn, Goes, Suits, IsWithin, same_lease, of_same, stays, marks, about, of_epoch, promise_lease, lease_of_promise}
 
 -- ---- a message about a chunk makes of its place what its part says
 
@@ -82,7 +85,7 @@ unmoved block chunk P p q is = subst (Goes block chunk P p) (sym is) (stays bloc
 -- where the calls are said less of
 pub weaker : (block chunk : ℕ) (P Q : Call → Type 0) (p q : Place) → ((c : Call) → P c → Q c) → Goes block chunk P p q → Goes block chunk Q p q
 weaker block chunk P Q p q each (inl still) = inl still
-weaker block chunk P Q p q each (inr (inl m)) = inr (inl (record { call = m.call; is = m.is; no_lease = m.no_lease; fits = each m.call m.fits; lease = m.lease }))
+weaker block chunk P Q p q each (inr (inl m)) = inr (inl (record { call = m.call; is = m.is; no_lease = m.no_lease; fits = each m.call m.fits; lease = m.lease; promised = m.promised }))
 weaker block chunk P Q p q each (inr (inr t)) = inr (inr t)
 
 suits_with : (epoch now : ℕ) (carries reseals : Bool) (Spared : Type 0) (s : Slot) → now ≡ epoch → (reseals ≡ false → carries ≡ false) → (c : Call) → Suits epoch carries (Unit {0}) s c → Suits now reseals Spared s c
@@ -164,6 +167,7 @@ target_made q new_handle s stamp t sent reseals copy here = by_case (q == new_ha
           no_lease = tt;
           fits = record { seal = λ _. tt; spares = λ _. tt; within = ap (λ (p : Stamp). p.epoch) copy.promise ∙ here };
           lease = promise_lease t.promise (fin.get s.dropped.leases new_handle);
+          promised = λ _. lease_of_promise t.promise (fin.get s.dropped.leases new_handle);
         }))))
     by_case false apart =
         unmoved s.block s.chunk _ (place_of q s) (place_of q (changed_by new_handle None (promising t (place_of new_handle s) sent) s))
@@ -195,9 +199,9 @@ step_if epoch end s here next =
     (record { after = s; sent = tell s.me nodes.Master (bodies.Behind s.kept.epoch) ∷ []; said = Some (refusals.Epoch s.kept.epoch) }))
 
 gone : (block chunk epoch : ℕ) (end : EpochEnd) (p : Place) → Goes block chunk (Suits epoch true (Unit {0}) p.slot) p (gone_on end epoch p)
-gone block chunk epoch Prepare p = inr (inl (record { call = Seals; is = refl; no_lease = tt; fits = record { seal = λ no. absurd (true≢false no); spares = λ _. tt; within = tt }; lease = same_lease p.lease }))
-gone block chunk epoch Finalize p = inr (inl (record { call = Unseals; is = refl; no_lease = tt; fits = record { seal = λ no. absurd (true≢false no); spares = λ _. tt; within = tt }; lease = same_lease p.lease }))
-gone block chunk epoch Rollback p = inr (inl (record { call = RollsBack epoch; is = refl; no_lease = tt; fits = record { seal = λ no. absurd (true≢false no); spares = λ _. tt; within = refl }; lease = tt }))
+gone block chunk epoch Prepare p = inr (inl (record { call = Seals; is = refl; no_lease = tt; fits = record { seal = λ no. absurd (true≢false no); spares = λ _. tt; within = tt }; lease = same_lease p.lease; promised = λ of. of }))
+gone block chunk epoch Finalize p = inr (inl (record { call = Unseals; is = refl; no_lease = tt; fits = record { seal = λ no. absurd (true≢false no); spares = λ _. tt; within = tt }; lease = same_lease p.lease; promised = λ of. of }))
+gone block chunk epoch Rollback p = inr (inl (record { call = RollsBack epoch; is = refl; no_lease = tt; fits = record { seal = λ no. absurd (true≢false no); spares = λ _. tt; within = refl }; lease = tt; promised = λ _. tt }))
 
 learn_if : (q epoch : ℕ) (end : EpochEnd) (s : Server) (here next : Bool)
     → Goes s.block s.chunk (Suits (step_if epoch end s here next).after.kept.epoch next (Unit {0}) (slot_in q s)) (place_of q s) (place_of q (step_if epoch end s here next).after)
@@ -224,17 +228,27 @@ lease_if : (b : Bool) (lease : Option Lease) → GoesOn lease (cond b lease None
 lease_if true lease = same_lease lease
 lease_if false lease = tt
 
--- a loss or a damage of one handle
-put_goes : (q handle : ℕ) (s : Server) (P : Call → Type 0) (c : Call) (m : Result Slot Refusal) → called s.block s.chunk c (slot_in handle s) ≡ m → IsNoLease c → ((q == handle) ≡ true → P c)
+-- a loss or a damage of one handle, which leaves its promise
+lost_promise : (s : Slot) → Holds (λ (t : Slot). t.promise ≡ s.promise) (slots.lose s)
+lost_promise s =
+    of_cond (λ (t : Slot). t.promise ≡ s.promise) (is_some s.live) (Ok (slots.lost s)) (cond (is_some s.trash) (Ok (slots.lost s)) (Err refusals.NoReplica)) (λ _. refl)
+    (λ _. of_cond (λ (t : Slot). t.promise ≡ s.promise) (is_some s.trash) (Ok (slots.lost s)) (Err refusals.NoReplica) (λ _. refl) (λ _. tt))
+
+damaged_promise : (block : ℕ) (s : Slot) (live : Option Live) (trash : Option State) → Holds (λ (t : Slot). t.promise ≡ s.promise) (slots.damage_of block s live trash)
+damaged_promise block s None None = tt
+damaged_promise block s None (Some r) = of_trash (λ (t : Slot). t.promise ≡ s.promise) s (replicas.damage block r) (λ q e. refl)
+damaged_promise block s (Some l) trash = of_live (λ (t : Slot). t.promise ≡ s.promise) s l.bad (replicas.damage block l.replica) (λ q e. refl)
+
+put_goes : (q handle : ℕ) (s : Server) (P : Call → Type 0) (c : Call) (m : Result Slot Refusal) → called s.block s.chunk c (slot_in handle s) ≡ m → IsNoLease c → Holds (λ (t : Slot). t.promise ≡ (slot_in handle s).promise) m → ((q == handle) ≡ true → P c)
     → Goes s.block s.chunk P (place_of q s) (place_of q (unless_refused s (in_store s (put_slot handle (store_of s) m))))
-put_goes q handle s P c (Err e) is no_lease fits = stays s.block s.chunk P (place_of q s)
-put_goes q handle s P c (Ok t) is no_lease fits = by_case (q == handle) refl
+put_goes q handle s P c (Err e) is no_lease kept fits = stays s.block s.chunk P (place_of q s)
+put_goes q handle s P c (Ok t) is no_lease kept fits = by_case (q == handle) refl
   where
     by_case : (b : Bool) → (q == handle) ≡ b → Goes s.block s.chunk P (place_of q s) (place_of q (with_store (with_slot handle t (store_of s)) s))
     by_case true same =
         subst (λ k. Goes s.block s.chunk P (place_of k s) (place_of k (with_store (with_slot handle t (store_of s)) s))) (sym (eqb-true q handle same))
         (subst (λ (x : Slot). Goes s.block s.chunk P (place_of handle s) (at_place x (fin.get s.dropped.leases handle))) (sym (own_slot handle t (store_of s)))
-        (inr (inl (record { call = c; is = is; no_lease = no_lease; fits = fits same; lease = same_lease (fin.get s.dropped.leases handle) }))))
+        (inr (inl (record { call = c; is = is; no_lease = no_lease; fits = fits same; lease = same_lease (fin.get s.dropped.leases handle); promised = of_same (slot_in handle s) t (fin.get s.dropped.leases handle) kept }))))
     by_case false apart =
         unmoved s.block s.chunk P (place_of q s) (place_of q (with_store (with_slot handle t (store_of s)) s))
         (ap (λ (x : Slot). at_place x (fin.get s.dropped.leases q)) (other_slot handle q t (store_of s) apart))
@@ -246,6 +260,6 @@ goes_at q (Ticks moment) s =
     (inl (record { slot = refl; lease = lease_if (stands_at moment (fin.get s.dropped.leases q)) (fin.get s.dropped.leases q) }))
 goes_at q Restarts s = subst (Goes s.block s.chunk (Fits q Restarts s) (place_of q s)) (sym (restarted_is q s)) (inl (record { slot = refl; lease = tt }))
 goes_at q (Loses handle) s =
-    put_goes q handle s (Fits q (Loses handle) s) calls.Loses (slots.lose (slot_in handle s)) refl tt (λ same. record { seal = λ none. absurd (true≢false (sym same ∙ none)); spares = λ _. tt; within = tt })
+    put_goes q handle s (Fits q (Loses handle) s) calls.Loses (slots.lose (slot_in handle s)) refl tt (lost_promise (slot_in handle s)) (λ same. record { seal = λ none. absurd (true≢false (sym same ∙ none)); spares = λ _. tt; within = tt })
 goes_at q (Damages handle block) s =
-    put_goes q handle s (Fits q (Damages handle block) s) (calls.Damages block) (slots.damage block (slot_in handle s)) refl tt (λ same. record { seal = λ _. tt; spares = λ spare. spare same; within = tt })
+    put_goes q handle s (Fits q (Damages handle block) s) (calls.Damages block) (slots.damage block (slot_in handle s)) refl tt (damaged_promise block (slot_in handle s) (slot_in handle s).live (slot_in handle s).trash) (λ same. record { seal = λ _. tt; spares = λ spare. spare same; within = tt })

@@ -131,9 +131,12 @@ pub fn a_rollback_makes_live_what_was_sealed()
 {}
 
 /// At each server that began with nothing, whatever happened to it since: a lease that it holds is the one that was taken last of the
-/// chunk, the promise reaches that stamp, and no promise is of an epoch above the server's.
+/// chunk and is of the promise, the promise reaches the stamp that was taken last, and no promise is of an epoch above the server's. So
+/// an event that changes a promise spends the lease.
 pub fn leases_and_promises_are_in_order()
     ensures held { (handle : ℕ) (s : Server) (l : Lease) → IsReached s → (place_of handle s).lease ≡ Some l → (slot_in handle s).taken ≡ Some l.grant.stamp }
+    ensures promised { (handle : ℕ) (s : Server) (l : Lease) → IsReached s → (place_of handle s).lease ≡ Some l → l.grant.stamp ≡ (slot_in handle s).promise }
+    ensures spent { (handle : ℕ) (e : Event) (s : Server) → IsReached s → (slot_in handle (behind e s)).promise ≢ (slot_in handle s).promise → (place_of handle (behind e s)).lease ≡ None }
     ensures reached { (handle : ℕ) (s : Server) → IsReached s → Reaches (slot_in handle s).promise (slot_in handle s).taken }
     ensures epoch { (handle : ℕ) (s : Server) → IsReached s → (slot_in handle s).promise.epoch ≤ s.kept.epoch }
 {}
