@@ -32,7 +32,8 @@ ghost use Rattle.gs_store.specs.Whole.{Reaches, IsWholeSlot};
 ghost use Rattle.gs_store.specs.Learning.{start_of};
 ghost use Rattle.gs_store.specs.StoreCalls.{names};
 ghost use Rattle.gs_server.specs.Runs.{Event, behind, behind_all, slot_in, IsByOneCall, IsByCalls, TakesLease, IsReached, prepared, rolled_back, KeepSeal, AllSpare};
-ghost use Rattle.gs_server.specs.Laws.{IsHeldFor, IsSpent, IsAbove, LeavesIfRefused, LeavesTheRest, is_yes, IsToldByAll, IsDoneUnder, IsKnownToAll};
+ghost use Rattle.gs_server.specs.Promises as promising;
+ghost use Rattle.gs_server.specs.Laws.{IsHeldFor, IsSpent, IsAbove, LeavesIfRefused, LeavesIfNotCopied, LeavesTheRest, LeavesAllBut, edit_in, is_yes, IsToldByAll, IsDoneUnder, IsKnownToAll};
 
 /// No edit is numbered but under a lease that is held, that is of the promise and of the stamp that is asked for, and whose end
 /// has not come.
@@ -58,10 +59,12 @@ pub fn a_spent_lease_is_not_taken_again()
     ensures restart { (handle : ℕ) (s : Server) (stamp : Stamp) → (place_of handle s).slot.taken ≡ Some stamp → IsSpent stamp (place_of handle (restart s)) }
 {}
 
-/// A message about a chunk that is refused leaves what is kept of the chunk, but that its replica may be marked as bad; it
-/// leaves the lease, and the pushed bytes.
+/// A message about a chunk that is refused leaves what is kept of the chunk, but that a damaged block by which it is refused may mark
+/// its replica as bad; it leaves the lease, and the pushed bytes. Only an edit that is refused changes which refusal is kept of a
+/// client. A copy under a new handle that is refused leaves the new chunk, and of the old one as much.
 pub fn a_refused_message_leaves_the_chunk()
-    ensures { (h : Here) (p : Place) (from : NodeId) (chunk : Chunk) → LeavesIfRefused (about_chunk h p from chunk) }
+    ensures chunk { (h : Here) (p : Place) (from : NodeId) (chunk : Chunk) → LeavesIfRefused (edit_in chunk) (about_chunk h p from chunk) }
+    ensures copy { (h : Here) (source : Place) (at : Stamp) (new : Here) (target : Place) (stamp : Stamp) → LeavesIfNotCopied (promising.make_copy h source at new target stamp) }
 {}
 
 /// An epoch that isn't refused leaves the store as the store learns it, and a refused one leaves the server.
@@ -90,10 +93,11 @@ pub fn an_append_that_does_not_fit_is_a_pad()
 {}
 
 /// A message about a chunk changes what is kept of that chunk and of no other, and of the rest at most what is kept of the client
-/// of its request, and the bytes that were pushed for the request. A copy under a new handle changes no third chunk.
+/// of its request, and the bytes that were pushed for the request. A copy under a new handle changes no third chunk, and nothing of
+/// the rest.
 pub fn a_message_about_a_chunk_leaves_the_others()
     ensures chunk { (s : Server) (from : NodeId) (handle : ℕ) (chunk : Chunk) (moment : Moment) → LeavesTheRest handle (request_in chunk) s (handle_chunk s from handle chunk moment).after }
-    ensures copy { (s : Server) (handle new_handle other : ℕ) (at stamp : Stamp) (moment : Moment) → (other == handle) ≡ false → (other == new_handle) ≡ false → place_of other (make_copy s handle at new_handle stamp moment).after ≡ place_of other s }
+    ensures copy { (s : Server) (handle new_handle : ℕ) (at stamp : Stamp) (moment : Moment) → LeavesAllBut handle new_handle s (make_copy s handle at new_handle stamp moment).after }
 {}
 
 /// What touches every chunk is one function on the place of each: at a tick a lease that is over is spent, at a restart each
