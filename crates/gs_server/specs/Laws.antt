@@ -1,5 +1,5 @@
 -- What the laws of a server speak of.
-use Rattle.std.specs.Prelude.{◌≡◌, ◌<◌, ◌≤◌, ◌==◌, ℕ, Bool, false, true, Contains, Option, Some, None, Ok}
+use Rattle.std.specs.Prelude.{◌≡◌, ◌<◌, ◌≤◌, ◌==◌, ℕ, Bool, false, true, [], Contains, Option, Some, None, Ok}
 use Rattle.std.specs.List.{All}
 use Rattle.std.specs.FinMap as fin
 use Rattle.std.specs.Ordering.{eq_by_cmp}
@@ -9,6 +9,8 @@ use Rattle.gs_base.specs.declared.numbers.Stamp.{Stamp}
 use Rattle.gs_base.specs.declared.numbers.ReqId.{ReqId}
 use Rattle.gs_base.specs.Stamps.{is_same}
 use Rattle.gs_replica.specs.declared.op.Done.{Done}
+use Rattle.gs_replica.specs.declared.op.Outcome.TheVariants.{Padded}
+use Rattle.gs_msg.specs.declared.op.Op.TheVariants.{Pad}
 use Rattle.gs_msg.specs.declared.message.Message.{Message}
 use Rattle.gs_msg.specs.declared.body.Body.{Body}
 use Rattle.gs_msg.specs.declared.body.Body.TheVariants as bodies
@@ -87,6 +89,16 @@ is_yes body = false
 -- every member of a lease has told a count that reaches a number
 pub record IsToldByAll (l : Lease) (number : ℕ) : Type 0 where
   pub each : All (λ server. number ≤ told_by l.told server) l.grant.members
+
+-- a lease is held under which every member has
+pub record IsToldUnder (held : Option Lease) (number : ℕ) : Type 0 where
+  pub lease : Lease
+  pub is : held ≡ Some lease
+  pub told : IsToldByAll lease number
+
+-- a pad that is numbered
+abbrev pub padding : ReqId → Open
+padding req = record { req = req; op = Pad; bytes = []; outcome = Padded }
 
 -- what is told of an edit that waits under a lease, and of which every member has told
 pub record IsDoneUnder (me : ℕ) (l : Lease) (m : Message) : Type 0 where

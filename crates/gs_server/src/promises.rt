@@ -1,6 +1,6 @@
 //! What holds of each server, whatever messages come.
 
-ghost use Rattle.std.specs.Prelude.{◌≡◌, ◌≢◌, ◌<◌, ◌≤◌, ◌+◌, ◌==◌, ℕ, Bool, true, false, List, [], length, Option, Some, None, is_some, Ok, Err};
+ghost use Rattle.std.specs.Prelude.{◌≡◌, ◌≢◌, ◌<◌, ◌≤◌, ◌+◌, ◌==◌, ℕ, Bool, true, false, List, [], ◌++◌, length, Option, Some, None, is_some, Ok, Err};
 ghost use Rattle.std.specs.List.{All};
 ghost use Rattle.gs_base.specs.declared.numbers.Moment.{Moment};
 ghost use Rattle.gs_base.specs.declared.numbers.Stamp.{Stamp};
@@ -19,7 +19,7 @@ ghost use Rattle.gs_msg.specs.declared.chunk.Chunk.{Chunk};
 ghost use Rattle.gs_store.specs.Slots.{Live, Slot};
 ghost use Rattle.gs_store.specs.Serving.{apply, done_in};
 ghost use Rattle.gs_store.specs.Stores as stores;
-ghost use Rattle.gs_server.specs.Leases.{Lease, hears};
+ghost use Rattle.gs_server.specs.Leases.{Lease, hears, forwards, done_at_once};
 ghost use Rattle.gs_server.specs.Places.{Place, Here, Part, SlotBecomes, LeaseBecomes, after};
 ghost use Rattle.gs_server.specs.Edits.{edit, forward};
 ghost use Rattle.gs_server.specs.Holding.{grant, ack};
@@ -33,7 +33,7 @@ ghost use Rattle.gs_store.specs.Learning.{start_of};
 ghost use Rattle.gs_store.specs.StoreCalls.{names};
 ghost use Rattle.gs_server.specs.Runs.{Event, behind, behind_all, slot_in, IsByOneCall, IsByCalls, TakesLease, IsReached, prepared, rolled_back, KeepSeal, AllSpare};
 ghost use Rattle.gs_server.specs.Promises as promising;
-ghost use Rattle.gs_server.specs.Laws.{IsHeldFor, IsSpent, IsAbove, LeavesIfRefused, LeavesIfNotCopied, LeavesTheRest, LeavesAllBut, edit_in, is_yes, IsToldByAll, IsDoneUnder, IsKnownToAll};
+ghost use Rattle.gs_server.specs.Laws.{IsHeldFor, IsSpent, IsAbove, LeavesIfRefused, LeavesIfNotCopied, LeavesTheRest, LeavesAllBut, edit_in, is_yes, IsToldByAll, IsToldUnder, IsDoneUnder, IsKnownToAll, padding};
 
 /// No edit is numbered but under a lease that is held, that is of the promise and of the stamp that is asked for, and whose end
 /// has not come.
@@ -77,6 +77,7 @@ pub fn a_server_learns_as_its_store_does()
 /// and an acknowledgement does so of the edits that waited. A record that a full chunk passes on isn't numbered.
 pub fn edits_are_done_where_all_have_them()
     ensures at_once { (h : Here) (p : Place) (req : ReqId) (stamp : Stamp) (op : Op) (live : Live) (l : Lease) → p.slot.live ≡ Some live → (edit h p req stamp op).lease ≡ LeaseBecomes l → All (λ m. is_yes m.body ≡ true → IsToldByAll l (live.replica.held.count + 1)) (edit h p req stamp op).sent }
+    ensures numbered { (h : Here) (p : Place) (req : ReqId) (stamp : Stamp) (op : Op) (live : Live) (s : Slot) → p.slot.live ≡ Some live → (edit h p req stamp op).slot ≡ SlotBecomes s → All (λ m. is_yes m.body ≡ true → IsToldUnder (after p (edit h p req stamp op)).lease (live.replica.held.count + 1)) (edit h p req stamp op).sent }
     ensures later { (h : Here) (p : Place) (server : ℕ) (stamp : Stamp) (count : ℕ) (l : Lease) → p.lease ≡ Some l → All (IsDoneUnder h.me (hears server count l)) (ack h p server stamp count).sent }
     ensures unleased { (h : Here) (p : Place) (server : ℕ) (stamp : Stamp) (count : ℕ) → p.lease ≡ None → (ack h p server stamp count).sent ≡ [] }
 {}
@@ -87,9 +88,10 @@ pub fn repeats_are_done_where_all_have_them()
     ensures { (h : Here) (p : Place) (req : ReqId) (stamp : Stamp) (op : Op) (last : Done) → done_in p.slot.live req.client.0 ≡ Some last → req.number ≡ last.number → All (λ m. is_yes m.body ≡ true → IsKnownToAll req p) (edit h p req stamp op).sent }
 {}
 
-/// An append that doesn't fit is numbered as a pad.
+/// An append that doesn't fit is numbered as a pad, goes to the other members as that pad, and is told its client as padded.
 pub fn an_append_that_does_not_fit_is_a_pad()
-    ensures { (h : Here) (p : Place) (req : ReqId) (stamp : Stamp) (many : ℕ) (live : Live) (s : Slot) → p.slot.live ≡ Some live → h.chunk < length live.replica.held.chunk.bytes + many → (edit h p req stamp (Append many)).slot ≡ SlotBecomes s → apply stamp (live.replica.held.count + 1) req Pad [] p.slot ≡ Ok s }
+    ensures slot { (h : Here) (p : Place) (req : ReqId) (stamp : Stamp) (many : ℕ) (live : Live) (s : Slot) → p.slot.live ≡ Some live → h.chunk < length live.replica.held.chunk.bytes + many → (edit h p req stamp (Append many)).slot ≡ SlotBecomes s → apply stamp (live.replica.held.count + 1) req Pad [] p.slot ≡ Ok s }
+    ensures sent { (h : Here) (p : Place) (req : ReqId) (stamp : Stamp) (many : ℕ) (live : Live) (l : Lease) (s : Slot) → p.slot.live ≡ Some live → p.lease ≡ Some l → h.chunk < length live.replica.held.chunk.bytes + many → (edit h p req stamp (Append many)).slot ≡ SlotBecomes s → (edit h p req stamp (Append many)).sent ≡ forwards h.me h.handle l (live.replica.held.count + 1, padding req) ++ done_at_once h.me (live.replica.held.count + 1) (padding req) l }
 {}
 
 /// A message about a chunk changes what is kept of that chunk and of no other, and of the rest at most what is kept of the client
