@@ -14,6 +14,7 @@ use Rattle.gs_base.specs.declared.refusal.Refusal.{Refusal}
 use Rattle.gs_base.specs.declared.refusal.Refusal.TheVariants as refusals
 use Rattle.gs_base.specs.Stamps.{is_before}
 use Rattle.gs_replica.specs.Edits.{fresh}
+use Rattle.gs_replica.specs.Held.{Held}
 use Rattle.gs_replica.specs.Seals.{State, roll_back_to}
 use Rattle.gs_replica.specs.Seals as replicas
 use Rattle.gs_replica.specs.declared.op.Op.{Op}
@@ -28,7 +29,7 @@ use Rattle.gs_store.specs.Learning.{later, start_of, rolled_to}
 use Rattle.gs_store.specs.Stores.{Store, or_nothing, slot_of, set_slot, put_slot, learn}
 use Rattle.gs_store.specs.Stores as stores
 use Rattle.gs_store.specs.StoreCalls.{names}
-use Rattle.gs_store.specs.Whole.{Reaches, IsWholeSlot}
+use Rattle.gs_store.specs.Whole.{Reaches}
 use Rattle.gs_store.specs.Calls.{Call, Creates, Advances, CopiesIn, TakesCopy, Drops, TakesLease, Loses, Damages, MarksBad, Applies, Seals, Unseals, RollsBack, called}
 use Rattle.gs_store.proofs.Laws.{Holds, of_ok, of_cond, of_unless, of_again, of_raised}
 use Rattle.gs_store.proofs.Standing.{of_live, of_trash}
@@ -47,7 +48,8 @@ use Rattle.gs_server.proofs.Lifts.{apart}
 use Rattle.gs_server.proofs.Others.{slot_epoch, rest_stays}
 use Rattle.gs_server.proofs.Walks.{IsLeaseOf, GoesOn, IsOf, Stays, Makes, Takes, Suits, IsWithin, leased_promise}
 use Rattle.gs_server.proofs.Walks as walks
-use Rattle.gs_server.proofs.Happening.{goes_at, step_if}
+use Rattle.gs_server.proofs.Happening.{goes_at, step_if, IsCopied}
+use Rattle.gs_server.proofs.Wholes.{each_whole}
 use Rattle.gs_server.proofs.Behind.{last_taken, not_refused, rolled_slot, taken_itself}
 
 -- ---- promises of no later epoch
@@ -176,10 +178,10 @@ same_slot epoch p q is on sound = record {
   within = subst (Within epoch) (sym is) sound.within;
 }
 
-sound_on : (block chunk epoch now : ℕ) (reseals : Bool) (Spared : Type 0) (p q : Place) → epoch ≤ now → walks.Goes block chunk (Suits now reseals Spared p.slot) p q → IsSound epoch p → IsSound now q
-sound_on block chunk epoch now reseals Spared p q rise (inl still) sound =
+sound_on : (block chunk epoch now : ℕ) (reseals : Bool) (Comes : Held → Type 0) (Spared : Type 0) (p q : Place) → epoch ≤ now → walks.Goes block chunk (Suits now reseals Comes Spared p.slot) p q → IsSound epoch p → IsSound now q
+sound_on block chunk epoch now reseals Comes Spared p q rise (inl still) sound =
     same_slot now p q still.slot still.lease (record { held = sound.held; promised = sound.promised; reaches = sound.reaches; within = up_to p.slot.promise.epoch epoch now sound.within rise })
-sound_on block chunk epoch now reseals Spared p q rise (inr (inl m)) sound =
+sound_on block chunk epoch now reseals Comes Spared p q rise (inr (inl m)) sound =
     let taken : q.slot.taken ≡ p.slot.taken = of_ok (λ (x : Slot). x.taken ≡ p.slot.taken) (called block chunk m.call p.slot) q.slot m.is (keeps block chunk m.call p.slot m.no_lease) in
     let g = of_ok (Goes p.slot) (called block chunk m.call p.slot) q.slot m.is (goes block chunk m.call p.slot) in
     record {
@@ -188,7 +190,7 @@ sound_on block chunk epoch now reseals Spared p q rise (inr (inl m)) sound =
       reaches = subst (Reaches q.slot.promise) (sym taken) (reaches_on p.slot.promise q.slot.promise p.slot.taken g.rises sound.reaches);
       within = of_ok (Within now) (called block chunk m.call p.slot) q.slot m.is (stays_within now block chunk m.call p.slot m.fits.within (up_to p.slot.promise.epoch epoch now sound.within rise));
     }
-sound_on block chunk epoch now reseals Spared p q rise (inr (inr t)) sound =
+sound_on block chunk epoch now reseals Comes Spared p q rise (inr (inr t)) sound =
     let taken = last_taken t.given.stamp p.slot q.slot t.is in
     let spent = of_ok (IsSpent t.given.stamp) (take_lease t.given.stamp p.slot) q.slot t.is (taken_spent t.given.stamp p.slot) in
     record {
@@ -200,7 +202,7 @@ sound_on block chunk epoch now reseals Spared p q rise (inr (inr t)) sound =
 
 sound_behind : (handle : ℕ) (e : Event) (s : Server) → IsSound s.kept.epoch (place_of handle s) → IsSound (behind e s).kept.epoch (place_of handle (behind e s))
 sound_behind handle e s sound =
-    sound_on s.block s.chunk s.kept.epoch (behind e s).kept.epoch (reseals handle e s) (Spares handle e s) (place_of handle s) (place_of handle (behind e s)) (epoch_rises e s) (goes_at handle e s) sound
+    sound_on s.block s.chunk s.kept.epoch (behind e s).kept.epoch (reseals handle e s) (IsCopied s) (Spares handle e s) (place_of handle s) (place_of handle (behind e s)) (epoch_rises e s) (goes_at handle e s) sound
 
 sound_behind_all : (handle : ℕ) (events : List Event) (s : Server) → IsSound s.kept.epoch (place_of handle s) → IsSound (behind_all events s).kept.epoch (place_of handle (behind_all events s))
 sound_behind_all handle [] s sound = sound
@@ -303,6 +305,6 @@ learned_store s =
     (sym (apart epoch s.kept.epoch (epoch == s.kept.epoch) refl refl))
     (subst (λ next. cond next (Ok (stores.learned epoch Rollback (store_of s))) (Err (refusals.Epoch s.kept.epoch)) ≡ Ok (store_of (step_if epoch Rollback s false next).after)) (sym (eq-eqb epoch (s.kept.epoch + 1) refl)) refl)
 
-pub names_live : (handle : ℕ) (s : Server) → IsReached s → IsWholeSlot (slot_in handle s) → names handle (s.kept.epoch + 1) (store_of (rolled_back s)) ≡ is_some (slot_in handle (rolled_back s)).live
-names_live handle s r whole =
-    named_is (s.kept.epoch + 1) handle (store_of s) (store_of (rolled_back s)) refl (learned_store s) whole (not_above (slot_in handle s).promise s.kept.epoch (sound_where handle s r).within)
+pub names_live : (handle : ℕ) (s : Server) → IsReached s → names handle (s.kept.epoch + 1) (store_of (rolled_back s)) ≡ is_some (slot_in handle (rolled_back s)).live
+names_live handle s r =
+    named_is (s.kept.epoch + 1) handle (store_of s) (store_of (rolled_back s)) refl (learned_store s) (each_whole handle s r) (not_above (slot_in handle s).promise s.kept.epoch (sound_where handle s r).within)

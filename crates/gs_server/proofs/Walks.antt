@@ -9,6 +9,7 @@ use Rattle.gs_base.specs.declared.refusal.Refusal.{Refusal}
 use Rattle.gs_base.specs.declared.refusal.Refusal.TheVariants as refusals
 use Rattle.gs_lease.specs.declared.held.Grant.{Grant}
 use Rattle.gs_replica.specs.Copies.{Image, SealedImage}
+use Rattle.gs_replica.specs.Held.{Held}
 use Rattle.gs_replica.specs.declared.op.Outcome.TheVariants.{Padded}
 use Rattle.gs_replica.specs.declared.op.Done.{Done}
 use Rattle.gs_replica.specs.declared.op.Op.{Op as ReplicaOp}
@@ -81,8 +82,8 @@ pub record Takes (p q : Place) : Type 0 where
 abbrev pub Goes : ℕ → ℕ → (Call → Type 0) → Place → Place → Type 0
 Goes block chunk P p q = Stays p q ⊎ (Makes block chunk P p q ⊎ Takes p q)
 
--- What is said of the calls: which of them may change the seal, which damage blocks, and that a call of another epoch than that
--- which stands, or stood before, makes no promise.
+-- What is said of the calls: which of them may change the seal, which damage blocks, that a call of another epoch than that which
+-- stands, or stood before, makes no promise, and which copies are taken.
 abbrev pub IsWithin : ℕ → Call → Type 0
 IsWithin epoch (Creates stamp) = stamp.epoch ≡ epoch
 IsWithin epoch (Advances stamp) = stamp.epoch ≡ epoch
@@ -98,10 +99,23 @@ IsWithin epoch Seals = Unit {0}
 IsWithin epoch Unseals = Unit {0}
 IsWithin epoch (RollsBack last) = last ≡ epoch
 
-pub record Suits (epoch : ℕ) (reseals : Bool) (Spared : Type 0) (s : Slot) (c : Call) : Type 0 where
+-- of a replica that is taken as a copy
+abbrev pub brought : Call → Option Held
+brought (TakesCopy h) = Some h
+brought c = None
+
+abbrev pub OfHeld : (Held → Type 0) → Option Held → Type 0
+OfHeld Comes None = Unit {0}
+OfHeld Comes (Some h) = Comes h
+
+abbrev pub Brings : (Held → Type 0) → Call → Type 0
+Brings Comes c = OfHeld Comes (brought c)
+
+pub record Suits (epoch : ℕ) (reseals : Bool) (Comes : Held → Type 0) (Spared : Type 0) (s : Slot) (c : Call) : Type 0 where
   pub seal : reseals ≡ false → KeepsSeal c
   pub spares : Spared → IsSparing c s
   pub within : IsWithin epoch c
+  pub comes : Brings Comes c
 
 -- ---- leases
 
@@ -159,27 +173,27 @@ leased_promise stamp s t is =
 pub stays : (block chunk : ℕ) (P : Call → Type 0) (p : Place) → Goes block chunk P p p
 stays block chunk P p = inl (record { slot = refl; lease = same_lease p.lease })
 
-pub marks : (block chunk epoch : ℕ) (reseals : Bool) (Spared : Type 0) (p : Place) (o : Option ℕ)
-    → Goes block chunk (Suits epoch reseals Spared p.slot) p (record { slot = slot_after p.slot (marked_by o); lease = p.lease })
-marks block chunk epoch reseals Spared p None = stays block chunk (Suits epoch reseals Spared p.slot) p
-marks block chunk epoch reseals Spared p (Some index) = inr (inl (record {
+pub marks : (block chunk epoch : ℕ) (reseals : Bool) (Comes : Held → Type 0) (Spared : Type 0) (p : Place) (o : Option ℕ)
+    → Goes block chunk (Suits epoch reseals Comes Spared p.slot) p (record { slot = slot_after p.slot (marked_by o); lease = p.lease })
+marks block chunk epoch reseals Comes Spared p None = stays block chunk (Suits epoch reseals Comes Spared p.slot) p
+marks block chunk epoch reseals Comes Spared p (Some index) = inr (inl (record {
   call = MarksBad index;
   is = refl;
   no_lease = tt;
-  fits = record { seal = λ _. tt; spares = λ _. tt; within = tt };
+  fits = record { seal = λ _. tt; spares = λ _. tt; within = tt; comes = tt };
   lease = same_lease p.lease;
   promised = λ of. of;
 }))
 
 -- of a message about a chunk, whose damage marks alone
 abbrev pub Does : Here → Chunk → Place → Part → Type 0
-Does h chunk p part = Goes h.block h.chunk (Suits h.epoch (carries_seal chunk) (Unit {0}) p.slot) p (after p part)
+Does h chunk p part = Goes h.block h.chunk (Suits h.epoch (carries_seal chunk) (λ _. ⊥) (Unit {0}) p.slot) p (after p part)
 
-nothing : (h : Here) (chunk : Chunk) (p : Place) → Goes h.block h.chunk (Suits h.epoch (carries_seal chunk) (Unit {0}) p.slot) p p
-nothing h chunk p = stays h.block h.chunk (Suits h.epoch (carries_seal chunk) (Unit {0}) p.slot) p
+nothing : (h : Here) (chunk : Chunk) (p : Place) → Goes h.block h.chunk (Suits h.epoch (carries_seal chunk) (λ _. ⊥) (Unit {0}) p.slot) p p
+nothing h chunk p = stays h.block h.chunk (Suits h.epoch (carries_seal chunk) (λ _. ⊥) (Unit {0}) p.slot) p
 
-marking : (h : Here) (chunk : Chunk) (p : Place) (e : Refusal) → Goes h.block h.chunk (Suits h.epoch (carries_seal chunk) (Unit {0}) p.slot) p (record { slot = slot_after p.slot (marked_by (damaged_block e)); lease = p.lease })
-marking h chunk p e = marks h.block h.chunk h.epoch (carries_seal chunk) (Unit {0}) p (damaged_block e)
+marking : (h : Here) (chunk : Chunk) (p : Place) (e : Refusal) → Goes h.block h.chunk (Suits h.epoch (carries_seal chunk) (λ _. ⊥) (Unit {0}) p.slot) p (record { slot = slot_after p.slot (marked_by (damaged_block e)); lease = p.lease })
+marking h chunk p e = marks h.block h.chunk h.epoch (carries_seal chunk) (λ _. ⊥) (Unit {0}) p (damaged_block e)
 
 or_does : (h : Here) (chunk : Chunk) (p : Place) (o : Option Refusal) (refuses : Refusal → Part) (part : Part) → ((e : Refusal) → Does h chunk p (refuses e)) → (o ≡ None → Does h chunk p part) → Does h chunk p (or_else o refuses part)
 or_does h chunk p None refuses part each does = does refl
@@ -197,7 +211,7 @@ of_epoch h epoch none = eqb-true epoch h.epoch (true_where (epoch == h.epoch) (n
     true_where true is = refl
     true_where false is = absurd (true≢false is)
 
-promises : (h : Here) (chunk : Chunk) (p : Place) (stamp : Stamp) (m : Result Slot Refusal) (c : Call) → called h.block h.chunk c p.slot ≡ m → IsNoLease c → Suits h.epoch (carries_seal chunk) (Unit {0}) p.slot c → Does h chunk p (promising.promises h p stamp m)
+promises : (h : Here) (chunk : Chunk) (p : Place) (stamp : Stamp) (m : Result Slot Refusal) (c : Call) → called h.block h.chunk c p.slot ≡ m → IsNoLease c → Suits h.epoch (carries_seal chunk) (λ _. ⊥) (Unit {0}) p.slot c → Does h chunk p (promising.promises h p stamp m)
 promises h chunk p stamp (Ok s) c is no_lease fits = inr (inl (record { call = c; is = is; no_lease = no_lease; fits = fits; lease = promise_lease s.promise p.lease; promised = λ _. lease_of_promise s.promise p.lease }))
 promises h chunk p stamp (Err e) c is no_lease fits = marking h chunk p e
 
@@ -206,7 +220,7 @@ sends h chunk p stamp target (Ok copy) = nothing h chunk p
 sends h chunk p stamp target (Err e) = marking h chunk p e
 
 drops : (h : Here) (chunk : Chunk) (p : Place) (promise : Stamp) (m : Result Slot Refusal) → slots.drop_replica promise p.slot ≡ m → Does h chunk p (promising.drops m)
-drops h chunk p promise (Ok s) is = inr (inl (record { call = Drops promise; is = is; no_lease = tt; fits = record { seal = λ _. tt; spares = λ _. tt; within = tt }; lease = tt; promised = λ _. tt }))
+drops h chunk p promise (Ok s) is = inr (inl (record { call = Drops promise; is = is; no_lease = tt; fits = record { seal = λ _. tt; spares = λ _. tt; within = tt; comes = tt }; lease = tt; promised = λ _. tt }))
 drops h chunk p promise (Err e) is = nothing h chunk p
 
 granting : (h : Here) (chunk : Chunk) (p : Place) (given : Grant) (m : Result Slot Refusal) → take_lease given.stamp p.slot ≡ m → Does h chunk p (takes given m)
@@ -240,7 +254,7 @@ numbering_if h chunk s l count edit (Ok t) is =
       call = Applies l.grant.stamp (count + 1) edit.req (in_replica edit.op) edit.bytes;
       is = is;
       no_lease = tt;
-      fits = record { seal = λ _. tt; spares = λ _. tt; within = tt };
+      fits = record { seal = λ _. tt; spares = λ _. tt; within = tt; comes = tt };
       lease = record { l = l; is = refl; same = opened_stamp h.me (count + 1) edit l };
       promised = λ of. opened_stamp h.me (count + 1) edit l ∙ of ∙ sym (applied_promise l.grant.stamp (count + 1) edit.req (in_replica edit.op) edit.bytes s t is);
     })))
@@ -274,7 +288,7 @@ taking_if h chunk p from stamp number req op bytes (Ok s) is = inr (inl (record 
   call = Applies stamp number req (in_replica op) bytes;
   is = is;
   no_lease = tt;
-  fits = record { seal = λ _. tt; spares = λ _. tt; within = tt };
+  fits = record { seal = λ _. tt; spares = λ _. tt; within = tt; comes = tt };
   lease = same_lease p.lease;
   promised = of_same p.slot s p.lease (applied_promise stamp number req (in_replica op) bytes p.slot s is);
 }))
@@ -301,10 +315,10 @@ carried stamp image (Some i) none = absurd (true≢false none)
 pub about : (h : Here) (p : Place) (from : NodeId) (chunk : Chunk) → Does h chunk p (about_chunk h p from chunk)
 about h p from (chunks.Create stamp) =
     or_does h (chunks.Create stamp) p (other_epoch h stamp.epoch) (promising.unpromised h p stamp) (promising.promises h p stamp (slots.create h.block h.chunk stamp p.slot)) (λ e. marking h (chunks.Create stamp) p e)
-    (λ here. promises h (chunks.Create stamp) p stamp (slots.create h.block h.chunk stamp p.slot) (Creates stamp) refl tt (record { seal = λ _. tt; spares = λ _. tt; within = of_epoch h stamp.epoch here }))
+    (λ here. promises h (chunks.Create stamp) p stamp (slots.create h.block h.chunk stamp p.slot) (Creates stamp) refl tt (record { seal = λ _. tt; spares = λ _. tt; within = of_epoch h stamp.epoch here; comes = tt }))
 about h p from (chunks.Advance stamp) =
     or_does h (chunks.Advance stamp) p (other_epoch h stamp.epoch) (promising.unpromised h p stamp) (promising.promises h p stamp (slots.advance stamp p.slot)) (λ e. marking h (chunks.Advance stamp) p e)
-    (λ here. promises h (chunks.Advance stamp) p stamp (slots.advance stamp p.slot) (Advances stamp) refl tt (record { seal = λ _. tt; spares = λ _. tt; within = of_epoch h stamp.epoch here }))
+    (λ here. promises h (chunks.Advance stamp) p stamp (slots.advance stamp p.slot) (Advances stamp) refl tt (record { seal = λ _. tt; spares = λ _. tt; within = of_epoch h stamp.epoch here; comes = tt }))
 about h p from (chunks.Grant given) =
     or_does h (chunks.Grant given) p (first_of (other_epoch h given.stamp.epoch ∷ check_grant given.stamp p.slot ∷ [])) unanswered (cond (is_held given.stamp p.lease) (sending []) (takes given (take_lease given.stamp p.slot))) (λ e. nothing h (chunks.Grant given) p)
     (λ _. either_does h (chunks.Grant given) p (is_held given.stamp p.lease) (sending []) (takes given (take_lease given.stamp p.slot)) (nothing h (chunks.Grant given) p)
@@ -337,7 +351,7 @@ about h p from (chunks.CopyOut stamp target with_sealed) =
 about h p from (chunks.CopyIn stamp image sealed) =
     or_does h (chunks.CopyIn stamp image sealed) p (other_epoch h stamp.epoch) (promising.unpromised h p stamp) (promising.promises h p stamp (moves.copy_in h.block h.chunk stamp image sealed p.slot)) (λ e. marking h (chunks.CopyIn stamp image sealed) p e)
     (λ here. promises h (chunks.CopyIn stamp image sealed) p stamp (moves.copy_in h.block h.chunk stamp image sealed p.slot) (CopiesIn stamp image sealed) refl tt
-    (record { seal = carried stamp image sealed; spares = λ _. tt; within = of_epoch h stamp.epoch here }))
+    (record { seal = carried stamp image sealed; spares = λ _. tt; within = of_epoch h stamp.epoch here; comes = tt }))
 about h p from (chunks.Drop epoch promise) =
     or_does h (chunks.Drop epoch promise) p (other_epoch h epoch) unanswered (promising.drops (slots.drop_replica promise p.slot)) (λ e. nothing h (chunks.Drop epoch promise) p)
     (λ _. drops h (chunks.Drop epoch promise) p promise (slots.drop_replica promise p.slot) refl)

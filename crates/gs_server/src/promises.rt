@@ -152,9 +152,16 @@ pub fn a_spent_lease_is_never_held_again()
     ensures { (handle : ℕ) (stamp : Stamp) (events : List Event) (s : Server) (l : Lease) → IsReached s → IsSpent stamp (place_of handle s) → (place_of handle (behind_all events s)).lease ≡ Some l → l.grant.stamp ≢ stamp }
 {}
 
+/// Each chunk is whole at each server that began with nothing, whatever came to it: its live replica is under the promise, what is in the
+/// trash is sealed and stands beside no other sealed image, and each replica, and what undoing gives of it, has sizes that chunks
+/// have and one digest for each block.
+pub fn each_chunk_is_whole()
+    ensures { (handle : ℕ) (s : Server) → IsReached s → IsWholeSlot (slot_in handle s) }
+{}
+
 /// What a rollback makes live is under the first stamp of its epoch, whatever happened before, and a server names exactly these
 /// chunks.
 pub fn a_rollback_names_what_it_makes_live()
     ensures promise { (handle : ℕ) (s : Server) → IsReached s → is_some (slot_in handle (rolled_back s)).live ≡ true → (slot_in handle (rolled_back s)).promise ≡ start_of (s.kept.epoch + 1) }
-    ensures named { (handle : ℕ) (s : Server) → IsReached s → IsWholeSlot (slot_in handle s) → names handle (s.kept.epoch + 1) (store_of (rolled_back s)) ≡ is_some (slot_in handle (rolled_back s)).live }
+    ensures named { (handle : ℕ) (s : Server) → IsReached s → names handle (s.kept.epoch + 1) (store_of (rolled_back s)) ≡ is_some (slot_in handle (rolled_back s)).live }
 {}
