@@ -18,7 +18,7 @@ use Rattle.gs_store.specs.Slots.{Live, Slot, first_of, when, unless, unless_live
 use Rattle.gs_store.specs.Serving.{done_in, apply}
 use Rattle.gs_server.specs.declared.turn.KeptRefusal.{KeptRefusal}
 use Rattle.gs_server.specs.Leases.{Lease, renews, settled, hears, dones}
-use Rattle.gs_server.specs.Places.{Place, Here, Part, SlotChange, SlotStays, SlotBecomes, SlotMarked, marked_by, damaged_block, or_else, other_epoch, unanswered, sending, refused, after, count_or_none}
+use Rattle.gs_server.specs.Places.{Place, Here, Part, SlotChange, SlotStays, SlotBecomes, SlotMarked, marked_by, damaged_block, or_else, other_epoch, unanswered, sending, after, count_or_none}
 use Rattle.gs_server.specs.Holding.{grant, is_held, takes, goes_on, supplies_to, from_server, unless_leased}
 use Rattle.gs_server.specs.Edits.{edit, new_edit, unless_numbered, numbers_or_passes, unless_holding, unless_over, unless_there, is_too_long, bytes_of, bytes_or_none, refused_edit, refused_once, repeated, is_known_of_all, unless_kept, unless_done, forward, declines}
 use Rattle.gs_server.specs.Edits as edits

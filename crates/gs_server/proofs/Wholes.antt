@@ -15,7 +15,7 @@ use Rattle.gs_block.specs.Chunk.{written}
 use Rattle.gs_block.specs.Stored.{Stored, IsStored, count_of, digest_at, digests_from, digests_of}
 use Rattle.gs_block.specs.Edits.{with_bytes, damaged_between, unless_damaged}
 use Rattle.gs_block.specs.Edits as blocks
-use Rattle.gs_block.specs.Images.{damage_before, or_same}
+use Rattle.gs_block.specs.Images.{or_same}
 use Rattle.gs_block.proofs.Counts.{first_counted, count_max, empty_stored}
 use Rattle.gs_block.proofs.Kept.{length_of_parts}
 use Rattle.gs_block.proofs.Writing.{length-written}
@@ -25,10 +25,10 @@ use Rattle.gs_replica.specs.Held.{Held}
 use Rattle.gs_replica.specs.Edits as edits
 use Rattle.gs_replica.specs.Seals.{Sealed, State, with_seal, on_seal, touch_seal, damage_seal, lowest_damaged, roll_back_to}
 use Rattle.gs_replica.specs.Seals as replicas
-use Rattle.gs_replica.specs.Copies.{Image, SealedImage, of_image, of_sealed, sealed_there}
+use Rattle.gs_replica.specs.Copies.{Image, SealedImage, of_sealed, sealed_there}
 use Rattle.gs_replica.specs.Whole.{HasUndone}
 use Rattle.gs_replica.proofs.Listing.{seal_ok, judged_ok}
-use Rattle.gs_store.specs.Slots.{Live, Slot, nothing, damage_of, when, first_of, unless_live, unless_promised, if_bad, check_grant, is_taken, taking, lost, removed, risen, mark_bad, again, replaced, trash_of, trash_behind, trashed_seal, seal_in, seal_of, sealed_of, take_lease}
+use Rattle.gs_store.specs.Slots.{Live, Slot, damage_of, when, first_of, unless_live, unless_promised, if_bad, check_grant, is_taken, taking, lost, removed, risen, mark_bad, again, replaced, trash_of, trash_behind, trashed_seal, seal_in, seal_of, sealed_of, take_lease}
 use Rattle.gs_store.specs.Whole.{TrashSealed, Reaches, Keeps, LiveWhole, TrashWhole, IsWholeSlot}
 use Rattle.gs_store.specs.Serving.{apply_to}
 use Rattle.gs_store.specs.Moves.{in_trash, copied_in}
