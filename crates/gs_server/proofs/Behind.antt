@@ -11,6 +11,7 @@ use Rattle.gs_base.specs.declared.epoch.EpochEnd.{EpochEnd}
 use Rattle.gs_base.specs.declared.epoch.EpochEnd.TheVariants.{Prepare, Rollback}
 use Rattle.gs_base.specs.declared.refusal.Refusal.{Refusal}
 use Rattle.gs_base.specs.Stamps.{is_before, is_same}
+use Rattle.gs_replica.specs.Held.{Held}
 use Rattle.gs_replica.specs.Stands.{Edit}
 use Rattle.gs_msg.specs.declared.node.NodeId.{NodeId}
 use Rattle.gs_msg.specs.declared.body.Body.{Body}
@@ -34,7 +35,7 @@ use Rattle.gs_server.specs.Runs.{Event, Hears, Ticks, Restarts, Loses, Damages, 
 use Rattle.gs_server.specs.Runs as runs
 use Rattle.gs_server.proofs.Lifts.{next_is}
 use Rattle.gs_server.proofs.Walks.{Goes, Suits}
-use Rattle.gs_server.proofs.Happening.{goes_at, step_if}
+use Rattle.gs_server.proofs.Happening.{goes_at, step_if, IsCopied}
 
 -- ---- the sizes of blocks and chunks stay
 
@@ -94,7 +95,7 @@ body_sizes s from (bodies.Report epoch replicas) moment = same (store_of s)
 body_sizes s from (bodies.Learned epoch handles) moment = same (store_of s)
 body_sizes s from (bodies.Behind epoch) moment = same (store_of s)
 
-event_sizes : (e : Event) (s : Server) → SameSizes (store_of s) (store_of (behind e s))
+pub event_sizes : (e : Event) (s : Server) → SameSizes (store_of s) (store_of (behind e s))
 event_sizes (Hears message moment) s = body_sizes s message.from message.body moment
 event_sizes (Ticks moment) s = same (store_of s)
 event_sizes Restarts s = record { block = refl; chunk = refl }
@@ -204,20 +205,20 @@ append_sparing : (block chunk : ℕ) (s mid end : Slot) (xs ys : List Call) → 
 append_sparing block chunk s mid end [] ys first second = subst (λ (x : Slot). LeadsSparing block chunk x ys end) first second
 append_sparing block chunk s mid end (c ∷ xs) ys first second = (first.0, first.1, first.2, append_sparing block chunk first.0 mid end xs ys first.3 second)
 
-keeps_seal : (block chunk epoch : ℕ) (reseals : Bool) (Spared : Type 0) (p q : Place) → reseals ≡ false → Goes block chunk (Suits epoch reseals Spared p.slot) p q → KeepingCalls block chunk p.slot q.slot
-keeps_seal block chunk epoch reseals Spared p q none (inl still) = record { list = []; keep = tt; leads = still.slot }
-keeps_seal block chunk epoch reseals Spared p q none (inr (inl m)) = record { list = m.call ∷ []; keep = (m.fits.seal none, tt); leads = (q.slot, m.is, refl) }
-keeps_seal block chunk epoch reseals Spared p q none (inr (inr t)) = record { list = TakesLease t.given.stamp ∷ []; keep = (tt, tt); leads = (q.slot, t.is, refl) }
+keeps_seal : (block chunk epoch : ℕ) (reseals : Bool) (Comes : Held → Type 0) (Spared : Type 0) (p q : Place) → reseals ≡ false → Goes block chunk (Suits epoch reseals Comes Spared p.slot) p q → KeepingCalls block chunk p.slot q.slot
+keeps_seal block chunk epoch reseals Comes Spared p q none (inl still) = record { list = []; keep = tt; leads = still.slot }
+keeps_seal block chunk epoch reseals Comes Spared p q none (inr (inl m)) = record { list = m.call ∷ []; keep = (m.fits.seal none, tt); leads = (q.slot, m.is, refl) }
+keeps_seal block chunk epoch reseals Comes Spared p q none (inr (inr t)) = record { list = TakesLease t.given.stamp ∷ []; keep = (tt, tt); leads = (q.slot, t.is, refl) }
 
-spares_seal : (block chunk epoch : ℕ) (reseals : Bool) (Spared : Type 0) (p q : Place) → reseals ≡ false → Spared → Goes block chunk (Suits epoch reseals Spared p.slot) p q → SparingCalls block chunk p.slot q.slot
-spares_seal block chunk epoch reseals Spared p q none spared (inl still) = record { list = []; keep = tt; leads = still.slot }
-spares_seal block chunk epoch reseals Spared p q none spared (inr (inl m)) = record { list = m.call ∷ []; keep = (m.fits.seal none, tt); leads = (q.slot, m.is, m.fits.spares spared, refl) }
-spares_seal block chunk epoch reseals Spared p q none spared (inr (inr t)) = record { list = TakesLease t.given.stamp ∷ []; keep = (tt, tt); leads = (q.slot, t.is, tt, refl) }
+spares_seal : (block chunk epoch : ℕ) (reseals : Bool) (Comes : Held → Type 0) (Spared : Type 0) (p q : Place) → reseals ≡ false → Spared → Goes block chunk (Suits epoch reseals Comes Spared p.slot) p q → SparingCalls block chunk p.slot q.slot
+spares_seal block chunk epoch reseals Comes Spared p q none spared (inl still) = record { list = []; keep = tt; leads = still.slot }
+spares_seal block chunk epoch reseals Comes Spared p q none spared (inr (inl m)) = record { list = m.call ∷ []; keep = (m.fits.seal none, tt); leads = (q.slot, m.is, m.fits.spares spared, refl) }
+spares_seal block chunk epoch reseals Comes Spared p q none spared (inr (inr t)) = record { list = TakesLease t.given.stamp ∷ []; keep = (tt, tt); leads = (q.slot, t.is, tt, refl) }
 
 run_keeps : (block chunk handle : ℕ) (events : List Event) (s : Server) → s.block ≡ block → s.chunk ≡ chunk → KeepSeal handle events s → KeepingCalls block chunk (slot_in handle s) (slot_in handle (behind_all events s))
 run_keeps block chunk handle [] s b c keep = record { list = []; keep = tt; leads = refl }
 run_keeps block chunk handle (e ∷ events) s b c keep =
-    let first = keeps_seal s.block s.chunk (behind e s).kept.epoch (reseals handle e s) (Spares handle e s) (place_of handle s) (place_of handle (behind e s)) keep.0 (goes_at handle e s) in
+    let first = keeps_seal s.block s.chunk (behind e s).kept.epoch (reseals handle e s) (IsCopied s) (Spares handle e s) (place_of handle s) (place_of handle (behind e s)) keep.0 (goes_at handle e s) in
     let sizes = event_sizes e s in
     let rest = run_keeps block chunk handle events (behind e s) (sizes.block ∙ b) (sizes.chunk ∙ c) keep.1 in
     record {
@@ -234,7 +235,7 @@ in_sizes_sparing block chunk b c s end xs same_block same_chunk leads = subst (�
 run_spares : (block chunk handle : ℕ) (events : List Event) (s : Server) → s.block ≡ block → s.chunk ≡ chunk → KeepSeal handle events s → AllSpare handle events s → SparingCalls block chunk (slot_in handle s) (slot_in handle (behind_all events s))
 run_spares block chunk handle [] s b c keep spare = record { list = []; keep = tt; leads = refl }
 run_spares block chunk handle (e ∷ events) s b c keep spare =
-    let first = spares_seal s.block s.chunk (behind e s).kept.epoch (reseals handle e s) (Spares handle e s) (place_of handle s) (place_of handle (behind e s)) keep.0 spare.0 (goes_at handle e s) in
+    let first = spares_seal s.block s.chunk (behind e s).kept.epoch (reseals handle e s) (IsCopied s) (Spares handle e s) (place_of handle s) (place_of handle (behind e s)) keep.0 spare.0 (goes_at handle e s) in
     let sizes = event_sizes e s in
     let rest = run_spares block chunk handle events (behind e s) (sizes.block ∙ b) (sizes.chunk ∙ c) keep.1 spare.1 in
     record {

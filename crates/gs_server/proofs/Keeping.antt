@@ -18,7 +18,7 @@ use Rattle.gs_store.specs.Slots.{Live, Slot, first_of, when, unless, unless_live
 use Rattle.gs_store.specs.Serving.{done_in, apply}
 use Rattle.gs_server.specs.declared.turn.KeptRefusal.{KeptRefusal}
 use Rattle.gs_server.specs.Leases.{Lease, renews, settled, hears, dones}
-use Rattle.gs_server.specs.Places.{Place, Here, Part, SlotChange, SlotStays, SlotBecomes, SlotMarked, marked_by, damaged_block, or_else, other_epoch, unanswered, sending, refused, after}
+use Rattle.gs_server.specs.Places.{Place, Here, Part, SlotChange, SlotStays, SlotBecomes, SlotMarked, marked_by, damaged_block, or_else, other_epoch, unanswered, sending, after, count_or_none}
 use Rattle.gs_server.specs.Holding.{grant, is_held, takes, goes_on, supplies_to, from_server, unless_leased}
 use Rattle.gs_server.specs.Edits.{edit, new_edit, unless_numbered, numbers_or_passes, unless_holding, unless_over, unless_there, is_too_long, bytes_of, bytes_or_none, refused_edit, refused_once, repeated, is_known_of_all, unless_kept, unless_done, forward, declines}
 use Rattle.gs_server.specs.Edits as edits
@@ -36,7 +36,8 @@ use Rattle.gs_msg.specs.declared.message.Message.{Message}
 use Rattle.gs_msg.specs.declared.body.Given.{Given}
 use Rattle.gs_msg.specs.declared.chunk.Chunk.{Chunk}
 use Rattle.gs_msg.specs.declared.chunk.Chunk.TheVariants as chunks
-use Rattle.gs_server.specs.Laws.{IsHeldFor, IsAbove, IsKept, LeavesIfRefused}
+use Rattle.gs_server.specs.Promises.{Copying}
+use Rattle.gs_server.specs.Laws.{IsHeldFor, IsAbove, IsKept, LeavesIfRefused, LeavesIfNotCopied, edit_in}
 
 -- A fact of what a slot becomes.
 abbrev pub IfBecomes : Type 0 → SlotChange → Type 0
@@ -186,128 +187,155 @@ spent_stays h p given taken =
     (either_stays p (is_held given.stamp p.lease) _ _ refl
     (taken_again p given (check_grant given.stamp p.slot) (is_taken given.stamp p.slot.taken) _ (ap (is_taken given.stamp) taken ∙ same_itself given.stamp)))
 
+-- a refusal that names a damaged block
+damaged_is : (e : Refusal) (block : ℕ) → damaged_block e ≡ Some block → e ≡ refusals.Damaged block
+damaged_is (refusals.Damaged other) block is = ap (λ o. refusals.Damaged (count_or_none o)) is
+damaged_is e block is = absurd (cc)
+
 -- A message that is refused, by its kinds.
-leaves_marked : (o : Option ℕ) → IsKept (marked_by o)
-leaves_marked None = tt
-leaves_marked (Some block) = tt
+marked_by_it : (e : Refusal) (o : Option ℕ) → damaged_block e ≡ o → IsKept e (marked_by o)
+marked_by_it e None is = tt
+marked_by_it e (Some block) is = damaged_is e block is
 
-leaves_refused : (h : Here) (s : Slot) (answer : Message) (e : Refusal) → LeavesIfRefused (refused h s answer e)
-leaves_refused h s answer e = (leaves_marked (damaged_block e), refl, refl)
+leaves_marked : (e : Refusal) → IsKept e (marked_by (damaged_block e))
+leaves_marked e = marked_by_it e (damaged_block e) refl
 
-leaves_unanswered : (e : Refusal) → LeavesIfRefused (unanswered e)
-leaves_unanswered e = (tt, refl, refl)
+-- any message keeps no refusal, but for an edit
+module _ (edited : Option ReqId) where
+  leaves_unanswered : (e : Refusal) → LeavesIfRefused edited (unanswered e)
+  leaves_unanswered e = ((tt, refl, refl), tt)
 
-leaves_or : (o : Option Refusal) (refuses : Refusal → Part) (part : Part) → ((e : Refusal) → LeavesIfRefused (refuses e)) → LeavesIfRefused part → LeavesIfRefused (or_else o refuses part)
-leaves_or None refuses part each leaves = leaves
-leaves_or (Some e) refuses part each leaves = each e
+  leaves_or : (o : Option Refusal) (refuses : Refusal → Part) (part : Part) → ((e : Refusal) → LeavesIfRefused edited (refuses e)) → LeavesIfRefused edited part → LeavesIfRefused edited (or_else o refuses part)
+  leaves_or None refuses part each leaves = leaves
+  leaves_or (Some e) refuses part each leaves = each e
 
-leaves_either : (test : Bool) (x y : Part) → LeavesIfRefused x → LeavesIfRefused y → LeavesIfRefused (cond test x y)
-leaves_either true x y first second = first
-leaves_either false x y first second = second
+  leaves_either : (test : Bool) (x y : Part) → LeavesIfRefused edited x → LeavesIfRefused edited y → LeavesIfRefused edited (cond test x y)
+  leaves_either true x y first second = first
+  leaves_either false x y first second = second
 
-leaves_unpromised : (h : Here) (p : Place) (stamp : Stamp) (e : Refusal) → LeavesIfRefused (promising.unpromised h p stamp e)
-leaves_unpromised h p stamp e = (leaves_marked (damaged_block e), refl, refl)
+  leaves_unpromised : (h : Here) (p : Place) (stamp : Stamp) (e : Refusal) → LeavesIfRefused edited (promising.unpromised h p stamp e)
+  leaves_unpromised h p stamp e = ((leaves_marked e, refl, refl), tt)
 
-leaves_promises : (h : Here) (p : Place) (stamp : Stamp) (m : Result Slot Refusal) → LeavesIfRefused (promising.promises h p stamp m)
-leaves_promises h p stamp (Ok s) = tt
-leaves_promises h p stamp (Err e) = leaves_unpromised h p stamp e
+  leaves_promises : (h : Here) (p : Place) (stamp : Stamp) (m : Result Slot Refusal) → LeavesIfRefused edited (promising.promises h p stamp m)
+  leaves_promises h p stamp (Ok s) = (tt, tt)
+  leaves_promises h p stamp (Err e) = leaves_unpromised h p stamp e
 
-leaves_sends : (h : Here) (p : Place) (stamp : Stamp) (target : ℕ) (m : Result (Image × Option SealedImage) Refusal) → LeavesIfRefused (promising.sends_copy h p stamp target m)
-leaves_sends h p stamp target (Ok copy) = tt
-leaves_sends h p stamp target (Err e) = leaves_unpromised h p stamp e
+  leaves_sends : (h : Here) (p : Place) (stamp : Stamp) (target : ℕ) (m : Result (Image × Option SealedImage) Refusal) → LeavesIfRefused edited (promising.sends_copy h p stamp target m)
+  leaves_sends h p stamp target (Ok copy) = (tt, tt)
+  leaves_sends h p stamp target (Err e) = leaves_unpromised h p stamp e
 
-leaves_drops : (m : Result Slot Refusal) → LeavesIfRefused (promising.drops m)
-leaves_drops (Ok s) = tt
-leaves_drops (Err e) = leaves_unanswered e
+  leaves_drops : (m : Result Slot Refusal) → LeavesIfRefused edited (promising.drops m)
+  leaves_drops (Ok s) = (tt, tt)
+  leaves_drops (Err e) = leaves_unanswered e
 
-leaves_takes : (given : Grant) (m : Result Slot Refusal) → LeavesIfRefused (takes given m)
-leaves_takes given (Ok s) = tt
-leaves_takes given (Err e) = leaves_unanswered e
+  leaves_takes : (given : Grant) (m : Result Slot Refusal) → LeavesIfRefused edited (takes given m)
+  leaves_takes given (Ok s) = (tt, tt)
+  leaves_takes given (Err e) = leaves_unanswered e
 
-leaves_goes_on : (next : Lease → Lease) (sent : Lease → List Message) (l : Option Lease) → LeavesIfRefused (goes_on next sent l)
-leaves_goes_on next sent None = tt
-leaves_goes_on next sent (Some l) = tt
+  leaves_goes_on : (next : Lease → Lease) (sent : Lease → List Message) (l : Option Lease) → LeavesIfRefused edited (goes_on next sent l)
+  leaves_goes_on next sent None = (tt, tt)
+  leaves_goes_on next sent (Some l) = (tt, tt)
 
-leaves_supplies : (h : Here) (e : Refusal) (server : ℕ) (l : Option Lease) → LeavesIfRefused (supplies_to h e server l)
-leaves_supplies h e server None = tt
-leaves_supplies h e server (Some l) = tt
+  leaves_supplies : (h : Here) (e : Refusal) (server : ℕ) (l : Option Lease) → LeavesIfRefused edited (supplies_to h e server l)
+  leaves_supplies h e server None = (tt, tt)
+  leaves_supplies h e server (Some l) = (tt, tt)
 
-leaves_gives : (h : Here) (p : Place) (req : ReqId) (m : Result Given Refusal) → LeavesIfRefused (fetching.gives h p req m)
-leaves_gives h p req (Ok found) = tt
-leaves_gives h p req (Err e) = (leaves_marked (damaged_block e), refl, refl)
+  leaves_gives : (h : Here) (p : Place) (req : ReqId) (m : Result Given Refusal) → LeavesIfRefused edited (fetching.gives h p req m)
+  leaves_gives h p req (Ok found) = (tt, tt)
+  leaves_gives h p req (Err e) = ((leaves_marked e, refl, refl), tt)
 
-leaves_edit_refused : (h : Here) (p : Place) (req : ReqId) (e : Refusal) → LeavesIfRefused (refused_edit h p req e)
-leaves_edit_refused h p req e = (leaves_marked (damaged_block e), refl, refl)
+  leaves_takes_if : (h : Here) (p : Place) (from : NodeId) (stamp : Stamp) (number : ℕ) (op : Op) (m : Result Slot Refusal) → LeavesIfRefused edited (edits.takes_if h p from stamp number op m)
+  leaves_takes_if h p from stamp number op (Ok s) = (tt, tt)
+  leaves_takes_if h p from stamp number op (Err e) = ((leaves_marked e, refl, refl), tt)
 
-leaves_numbers_if : (h : Here) (p : Place) (l : Lease) (count : ℕ) (edit : Open) (m : Result Slot Refusal) → LeavesIfRefused (edits.numbers_if h p l count edit m)
+  leaves_forward_to : (h : Here) (p : Place) (from : NodeId) (stamp : Stamp) (number : ℕ) (req : ReqId) (op : Op) (bytes : Option (List ℕ)) (live : Option Live) → LeavesIfRefused edited (edits.takes h p from stamp number req op bytes live)
+  leaves_forward_to h p from stamp number req op bytes None = ((leaves_marked refusals.NoReplica, refl, refl), tt)
+  leaves_forward_to h p from stamp number req op bytes (Some live) =
+      leaves_either (nat_le number live.replica.held.count) (edits.acknowledges h from stamp live.replica.held.count) (edits.takes_next h p from stamp number req op bytes live.replica.held.count) (tt, tt)
+      (leaves_or (edits.unless_next live.replica.held.count number bytes) (declines h p from stamp) (edits.takes_if h p from stamp number op (apply stamp number req (in_replica op) (bytes_or_none bytes) p.slot)) (λ e. ((leaves_marked e, refl, refl), tt))
+      (leaves_takes_if h p from stamp number op (apply stamp number req (in_replica op) (bytes_or_none bytes) p.slot)))
+
+  leaves_from : (from : NodeId) (part : ℕ → Part) → ((server : ℕ) → LeavesIfRefused edited (part server)) → LeavesIfRefused edited (from_server from part)
+  leaves_from (nodes.Server server) part each = each server
+  leaves_from nodes.Master part each = leaves_unanswered refusals.Stray
+  leaves_from (nodes.Client client) part each = leaves_unanswered refusals.Stray
+
+leaves_edit_refused : (h : Here) (p : Place) (req : ReqId) (e : Refusal) → LeavesIfRefused (Some req) (refused_edit h p req e)
+leaves_edit_refused h p req e = ((leaves_marked e, refl, refl), refl)
+
+leaves_numbers_if : (h : Here) (p : Place) (l : Lease) (count : ℕ) (edit : Open) (m : Result Slot Refusal) → LeavesIfRefused (Some edit.req) (edits.numbers_if h p l count edit m)
 leaves_numbers_if h p l count edit (Err e) = leaves_edit_refused h p edit.req e
-leaves_numbers_if h p l count edit (Ok s) = leaves_either (count == edits.last_count) (refused_edit h p edit.req refusals.Exhausted) (edits.numbers h s l (count + 1) edit) (leaves_edit_refused h p edit.req refusals.Exhausted) tt
+leaves_numbers_if h p l count edit (Ok s) = leaves_either (Some edit.req) (count == edits.last_count) (refused_edit h p edit.req refusals.Exhausted) (edits.numbers h s l (count + 1) edit) (leaves_edit_refused h p edit.req refusals.Exhausted) (tt, tt)
 
-leaves_passes : (h : Here) (p : Place) (req : ReqId) (op : Op) (bytes : List ℕ) (live : Option Live) (l : Option Lease) → LeavesIfRefused (numbers_or_passes h p req op bytes live l)
+leaves_passes : (h : Here) (p : Place) (req : ReqId) (op : Op) (bytes : List ℕ) (live : Option Live) (l : Option Lease) → LeavesIfRefused (Some req) (numbers_or_passes h p req op bytes live l)
 leaves_passes h p req op bytes None l = leaves_edit_refused h p req refusals.NoReplica
 leaves_passes h p req op bytes (Some live) None = leaves_edit_refused h p req refusals.NotPrimary
 leaves_passes h p req op bytes (Some live) (Some l) =
     let edit : Open = edits.opened req (edits.numbered_op h.chunk (length live.replica.held.chunk.bytes) op) bytes live in
-    leaves_either (edits.is_passed h.chunk (length live.replica.held.chunk.bytes) op) (sending (edits.done h req (Ok Padded) ∷ [])) (edits.numbers_as h p live l edit) tt
+    leaves_either (Some req) (edits.is_passed h.chunk (length live.replica.held.chunk.bytes) op) (sending (edits.done h req (Ok Padded) ∷ [])) (edits.numbers_as h p live l edit) (tt, tt)
     (leaves_numbers_if h p l live.replica.held.count edit (apply l.grant.stamp (live.replica.held.count + 1) edit.req (in_replica edit.op) edit.bytes p.slot))
 
-leaves_kept : (h : Here) (req : ReqId) (kept : Option KeptRefusal) (part : Part) → LeavesIfRefused part → LeavesIfRefused (unless_kept h req kept part)
+leaves_kept : (h : Here) (req : ReqId) (kept : Option KeptRefusal) (part : Part) → LeavesIfRefused (Some req) part → LeavesIfRefused (Some req) (unless_kept h req kept part)
 leaves_kept h req None part leaves = leaves
-leaves_kept h req (Some kept) part leaves = leaves_either (nat_lt req.number kept.number) (refused_once h req refusals.Old) (cond (req.number == kept.number) (refused_once h req kept.refusal) part) (tt, refl, refl) (leaves_either (req.number == kept.number) (refused_once h req kept.refusal) part (tt, refl, refl) leaves)
+leaves_kept h req (Some kept) part leaves =
+    leaves_either (Some req) (nat_lt req.number kept.number) (refused_once h req refusals.Old) (cond (req.number == kept.number) (refused_once h req kept.refusal) part) ((tt, refl, refl), tt)
+    (leaves_either (Some req) (req.number == kept.number) (refused_once h req kept.refusal) part ((tt, refl, refl), tt) leaves)
 
-leaves_done : (h : Here) (p : Place) (req : ReqId) (last : Option Done) (part : Part) → LeavesIfRefused part → LeavesIfRefused (unless_done h p req last part)
+leaves_done : (h : Here) (p : Place) (req : ReqId) (last : Option Done) (part : Part) → LeavesIfRefused (Some req) part → LeavesIfRefused (Some req) (unless_done h p req last part)
 leaves_done h p req None part leaves = leaves
 leaves_done h p req (Some last) part leaves =
-    leaves_either (req.number == last.number) (repeated h p req last.outcome) (cond (nat_lt req.number last.number) (refused_once h req refusals.Old) part)
-    (leaves_either (is_known_of_all req p.slot p.lease) (sending (edits.done h req (Ok last.outcome) ∷ [])) (sending []) tt tt) (leaves_either (nat_lt req.number last.number) (refused_once h req refusals.Old) part (tt, refl, refl) leaves)
+    leaves_either (Some req) (req.number == last.number) (repeated h p req last.outcome) (cond (nat_lt req.number last.number) (refused_once h req refusals.Old) part)
+    (leaves_either (Some req) (is_known_of_all req p.slot p.lease) (sending (edits.done h req (Ok last.outcome) ∷ [])) (sending []) (tt, tt) (tt, tt))
+    (leaves_either (Some req) (nat_lt req.number last.number) (refused_once h req refusals.Old) part ((tt, refl, refl), tt) leaves)
 
-leaves_takes_if : (h : Here) (p : Place) (from : NodeId) (stamp : Stamp) (number : ℕ) (op : Op) (m : Result Slot Refusal) → LeavesIfRefused (edits.takes_if h p from stamp number op m)
-leaves_takes_if h p from stamp number op (Ok s) = tt
-leaves_takes_if h p from stamp number op (Err e) = (leaves_marked (damaged_block e), refl, refl)
-
-leaves_forward_to : (h : Here) (p : Place) (from : NodeId) (stamp : Stamp) (number : ℕ) (req : ReqId) (op : Op) (bytes : Option (List ℕ)) (live : Option Live) → LeavesIfRefused (edits.takes h p from stamp number req op bytes live)
-leaves_forward_to h p from stamp number req op bytes None = (leaves_marked (damaged_block refusals.NoReplica), refl, refl)
-leaves_forward_to h p from stamp number req op bytes (Some live) =
-    leaves_either (nat_le number live.replica.held.count) (edits.acknowledges h from stamp live.replica.held.count) (edits.takes_next h p from stamp number req op bytes live.replica.held.count) tt
-    (leaves_or (edits.unless_next live.replica.held.count number bytes) (declines h p from stamp) (edits.takes_if h p from stamp number op (apply stamp number req (in_replica op) (bytes_or_none bytes) p.slot)) (λ e. (leaves_marked (damaged_block e), refl, refl))
-    (leaves_takes_if h p from stamp number op (apply stamp number req (in_replica op) (bytes_or_none bytes) p.slot)))
-
-leaves_from : (from : NodeId) (part : ℕ → Part) → ((server : ℕ) → LeavesIfRefused (part server)) → LeavesIfRefused (from_server from part)
-leaves_from (nodes.Server server) part each = each server
-leaves_from nodes.Master part each = leaves_unanswered refusals.Stray
-leaves_from (nodes.Client client) part each = leaves_unanswered refusals.Stray
-
-pub leaves : (h : Here) (p : Place) (from : NodeId) (chunk : Chunk) → LeavesIfRefused (about_chunk h p from chunk)
+pub leaves : (h : Here) (p : Place) (from : NodeId) (chunk : Chunk) → LeavesIfRefused (edit_in chunk) (about_chunk h p from chunk)
 leaves h p from (chunks.Create stamp) =
-    leaves_or (other_epoch h stamp.epoch) (promising.unpromised h p stamp) (promising.promises h p stamp (slots.create h.block h.chunk stamp p.slot)) (leaves_unpromised h p stamp) (leaves_promises h p stamp (slots.create h.block h.chunk stamp p.slot))
+    leaves_or None (other_epoch h stamp.epoch) (promising.unpromised h p stamp) (promising.promises h p stamp (slots.create h.block h.chunk stamp p.slot)) (leaves_unpromised None h p stamp) (leaves_promises None h p stamp (slots.create h.block h.chunk stamp p.slot))
 leaves h p from (chunks.Advance stamp) =
-    leaves_or (other_epoch h stamp.epoch) (promising.unpromised h p stamp) (promising.promises h p stamp (slots.advance stamp p.slot)) (leaves_unpromised h p stamp) (leaves_promises h p stamp (slots.advance stamp p.slot))
+    leaves_or None (other_epoch h stamp.epoch) (promising.unpromised h p stamp) (promising.promises h p stamp (slots.advance stamp p.slot)) (leaves_unpromised None h p stamp) (leaves_promises None h p stamp (slots.advance stamp p.slot))
 leaves h p from (chunks.Grant given) =
-    leaves_or (first_of (other_epoch h given.stamp.epoch ∷ check_grant given.stamp p.slot ∷ [])) unanswered (cond (is_held given.stamp p.lease) (sending []) (takes given (take_lease given.stamp p.slot))) leaves_unanswered
-    (leaves_either (is_held given.stamp p.lease) (sending []) (takes given (take_lease given.stamp p.slot)) tt (leaves_takes given (take_lease given.stamp p.slot)))
+    leaves_or None (first_of (other_epoch h given.stamp.epoch ∷ check_grant given.stamp p.slot ∷ [])) unanswered (cond (is_held given.stamp p.lease) (sending []) (takes given (take_lease given.stamp p.slot))) (leaves_unanswered None)
+    (leaves_either None (is_held given.stamp p.lease) (sending []) (takes given (take_lease given.stamp p.slot)) (tt, tt) (leaves_takes None given (take_lease given.stamp p.slot)))
 leaves h p from (chunks.Renewed stamp end) =
-    leaves_or (unless_leased stamp p.slot p.lease) unanswered (goes_on (renews end) (λ l. []) p.lease) leaves_unanswered (leaves_goes_on (renews end) (λ l. []) p.lease)
+    leaves_or None (unless_leased stamp p.slot p.lease) unanswered (goes_on (renews end) (λ l. []) p.lease) (leaves_unanswered None) (leaves_goes_on None (renews end) (λ l. []) p.lease)
 leaves h p from (chunks.Edit req stamp op) =
     let part : Part = numbers_or_passes h p req op (bytes_or_none (bytes_of op None h.pushed)) p.slot.live p.lease in
     leaves_done h p req (done_in p.slot.live req.client.0) (unless_kept h req h.refused (new_edit h p req stamp op)) (leaves_kept h req h.refused (new_edit h p req stamp op)
-    (leaves_or (unless_numbered h p stamp op) (refused_edit h p req) part (leaves_edit_refused h p req) (leaves_passes h p req op (bytes_or_none (bytes_of op None h.pushed)) p.slot.live p.lease)))
+    (leaves_or (Some req) (unless_numbered h p stamp op) (refused_edit h p req) part (leaves_edit_refused h p req) (leaves_passes h p req op (bytes_or_none (bytes_of op None h.pushed)) p.slot.live p.lease)))
 leaves h p from (chunks.Forward stamp number req op bytes) =
-    leaves_or (first_of (unless_live p.slot.live ∷ unless_promised stamp p.slot ∷ [])) (declines h p from stamp) (edits.takes h p from stamp number req op (bytes_of op bytes h.pushed) p.slot.live) (λ e. (leaves_marked (damaged_block e), refl, refl))
-    (leaves_forward_to h p from stamp number req op (bytes_of op bytes h.pushed) p.slot.live)
-leaves h p from (chunks.Ack stamp count) = leaves_from from (λ server. holding.ack h p server stamp count) (λ server.
-    leaves_or (unless_leased stamp p.slot p.lease) unanswered (goes_on (λ l. settled (hears server count l)) (λ l. dones h.me (hears server count l)) p.lease) leaves_unanswered
-    (leaves_goes_on (λ l. settled (hears server count l)) (λ l. dones h.me (hears server count l)) p.lease))
-leaves h p from (chunks.Nack stamp e) = leaves_from from (λ server. holding.nack h p server stamp e) (λ server.
-    leaves_or (unless_leased stamp p.slot p.lease) unanswered (supplies_to h e server p.lease) leaves_unanswered (leaves_supplies h e server p.lease))
+    leaves_or None (first_of (unless_live p.slot.live ∷ unless_promised stamp p.slot ∷ [])) (declines h p from stamp) (edits.takes h p from stamp number req op (bytes_of op bytes h.pushed) p.slot.live) (λ e. ((leaves_marked e, refl, refl), tt))
+    (leaves_forward_to None h p from stamp number req op (bytes_of op bytes h.pushed) p.slot.live)
+leaves h p from (chunks.Ack stamp count) = leaves_from None from (λ server. holding.ack h p server stamp count) (λ server.
+    leaves_or None (unless_leased stamp p.slot p.lease) unanswered (goes_on (λ l. settled (hears server count l)) (λ l. dones h.me (hears server count l)) p.lease) (leaves_unanswered None)
+    (leaves_goes_on None (λ l. settled (hears server count l)) (λ l. dones h.me (hears server count l)) p.lease))
+leaves h p from (chunks.Nack stamp e) = leaves_from None from (λ server. holding.nack h p server stamp e) (λ server.
+    leaves_or None (unless_leased stamp p.slot p.lease) unanswered (supplies_to h e server p.lease) (leaves_unanswered None) (leaves_supplies None h e server p.lease))
 leaves h p from (chunks.Fetch req stamp epoch asked) =
-    leaves_or (other_epoch h epoch) (fetching.refuses h p req) (fetching.gives h p req (fetching.given stamp asked p.slot)) (λ e. (leaves_marked (damaged_block e), refl, refl)) (leaves_gives h p req (fetching.given stamp asked p.slot))
+    leaves_or None (other_epoch h epoch) (fetching.refuses h p req) (fetching.gives h p req (fetching.given stamp asked p.slot)) (λ e. ((leaves_marked e, refl, refl), tt)) (leaves_gives None h p req (fetching.given stamp asked p.slot))
 leaves h p from (chunks.CopyOut stamp target with_sealed) =
-    leaves_or (other_epoch h stamp.epoch) (promising.unpromised h p stamp) (promising.sends_copy h p stamp target (moves.copy_out stamp with_sealed p.slot)) (leaves_unpromised h p stamp) (leaves_sends h p stamp target (moves.copy_out stamp with_sealed p.slot))
+    leaves_or None (other_epoch h stamp.epoch) (promising.unpromised h p stamp) (promising.sends_copy h p stamp target (moves.copy_out stamp with_sealed p.slot)) (leaves_unpromised None h p stamp) (leaves_sends None h p stamp target (moves.copy_out stamp with_sealed p.slot))
 leaves h p from (chunks.CopyIn stamp image sealed) =
-    leaves_or (other_epoch h stamp.epoch) (promising.unpromised h p stamp) (promising.promises h p stamp (moves.copy_in h.block h.chunk stamp image sealed p.slot)) (leaves_unpromised h p stamp) (leaves_promises h p stamp (moves.copy_in h.block h.chunk stamp image sealed p.slot))
+    leaves_or None (other_epoch h stamp.epoch) (promising.unpromised h p stamp) (promising.promises h p stamp (moves.copy_in h.block h.chunk stamp image sealed p.slot)) (leaves_unpromised None h p stamp) (leaves_promises None h p stamp (moves.copy_in h.block h.chunk stamp image sealed p.slot))
 leaves h p from (chunks.Drop epoch promise) =
-    leaves_or (other_epoch h epoch) unanswered (promising.drops (slots.drop_replica promise p.slot)) leaves_unanswered (leaves_drops (slots.drop_replica promise p.slot))
-leaves h p from (chunks.Promised stamp count carried) = leaves_unanswered refusals.Stray
-leaves h p from (chunks.Unpromised stamp e) = leaves_unanswered refusals.Stray
-leaves h p from (chunks.Renew stamp) = leaves_unanswered refusals.Stray
-leaves h p from (chunks.Bad stamp) = leaves_unanswered refusals.Stray
+    leaves_or None (other_epoch h epoch) unanswered (promising.drops (slots.drop_replica promise p.slot)) (leaves_unanswered None) (leaves_drops None (slots.drop_replica promise p.slot))
+leaves h p from (chunks.Promised stamp count carried) = leaves_unanswered None refusals.Stray
+leaves h p from (chunks.Unpromised stamp e) = leaves_unanswered None refusals.Stray
+leaves h p from (chunks.Renew stamp) = leaves_unanswered None refusals.Stray
+leaves h p from (chunks.Bad stamp) = leaves_unanswered None refusals.Stray
+
+-- a copy under a new handle
+not_copied_leaves : (h : Here) (source : Place) (new : Here) (stamp : Stamp) (e : Refusal) → LeavesIfNotCopied (promising.not_copied h source new stamp e)
+not_copied_leaves h source new stamp e = (leaves_marked e, refl, refl)
+
+copies_leave : (h : Here) (source : Place) (new : Here) (target : Place) (stamp : Stamp) (m : Result Slot Refusal) → LeavesIfNotCopied (promising.copies h source new target stamp m)
+copies_leave h source new target stamp (Ok s) = refl
+copies_leave h source new target stamp (Err e) = not_copied_leaves h source new stamp e
+
+or_copy_leaves : (o : Option Refusal) (refuses : Refusal → Copying) (copying : Copying) → ((e : Refusal) → LeavesIfNotCopied (refuses e)) → LeavesIfNotCopied copying → LeavesIfNotCopied (promising.or_copy o refuses copying)
+or_copy_leaves None refuses copying each made = made
+or_copy_leaves (Some e) refuses copying each made = each e
+
+pub refused_copy : (h : Here) (source : Place) (at : Stamp) (new : Here) (target : Place) (stamp : Stamp) → LeavesIfNotCopied (promising.make_copy h source at new target stamp)
+refused_copy h source at new target stamp =
+    or_copy_leaves (other_epoch h stamp.epoch) (promising.not_copied h source new stamp) (promising.copies h source new target stamp (moves.make_copy at stamp source.slot target.slot)) (not_copied_leaves h source new stamp)
+    (copies_leave h source new target stamp (moves.make_copy at stamp source.slot target.slot))

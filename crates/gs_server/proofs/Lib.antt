@@ -17,4 +17,5 @@ mod Lifts
 pub mod Walks
 pub mod Happening
 pub mod Behind
+pub mod Wholes
 pub mod Reached

@@ -17,7 +17,7 @@ use Rattle.gs_store.specs.Stores.{Store, slot_of, set_slot}
 use Rattle.gs_store.proofs.StoreLaws.{other_slot}
 use Rattle.gs_store.proofs.Places.{same_key}
 use Rattle.gs_server.specs.declared.turn.KeptRefusal.{KeptRefusal}
-use Rattle.gs_server.specs.Laws.{LeavesTheRest, is_of_client, is_asked_by}
+use Rattle.gs_server.specs.Laws.{LeavesTheRest, LeavesAllBut, is_of_client, is_asked_by}
 use Rattle.gs_server.specs.Leases.{Lease}
 use Rattle.gs_server.specs.Places.{Part, SlotChange, SlotStays, SlotBecomes, SlotMarked, LeaseChange, LeaseStays, LeaseBecomes, LeaseSpent}
 use Rattle.gs_server.specs.Servers.{Server, client_cmp, place_of, store_of, change_slot, change_lease, change_buffer, keep_refusal, changed_by, with_store, copies}
@@ -113,8 +113,13 @@ rest_stays handle asked part s = record {
         ap (λ (x : Slot). record { slot = x; lease = fin.get (change_lease handle part.lease s.dropped.leases) other }) (used_slots asked part.used (change_slot handle part.slot (store_of s)) other ∙ other_changed handle other part.slot (store_of s) apart)
         ∙ ap (λ (l : Option Lease). record { slot = slot_of other (store_of s); lease = l }) (other_lease handle other part.lease s.dropped.leases apart)
 
-pub copy_leaves : (handle new_handle other : ℕ) (copying : Copying) (s : Server) → (other == handle) ≡ false → (other == new_handle) ≡ false → place_of other (copies handle new_handle copying s).after ≡ place_of other s
-copy_leaves handle new_handle other copying s apart new_apart =
-    let marked = with_store (change_slot handle copying.source (store_of s)) s in
-    (rest_stays new_handle None copying.target marked).places other new_apart
-    ∙ ap (λ (x : Slot). record { slot = x; lease = fin.get s.dropped.leases other }) (other_changed handle other copying.source (store_of s) apart)
+pub copy_leaves : (handle new_handle : ℕ) (copying : Copying) (s : Server) → LeavesAllBut handle new_handle s (copies handle new_handle copying s).after
+copy_leaves handle new_handle copying s =
+    let marked : Server = with_store (change_slot handle copying.source (store_of s)) s in
+    let rest = rest_stays new_handle None copying.target marked in
+    record {
+      places = λ other apart new_apart. rest.places other new_apart ∙ ap (λ (x : Slot). record { slot = x; lease = fin.get s.dropped.leases other }) (other_changed handle other copying.source (store_of s) apart);
+      epoch = rest.epoch ∙ slot_epoch handle copying.source (store_of s);
+      refused = refl;
+      pushes = slot_buffer new_handle copying.target.slot (store_of marked) ∙ slot_buffer handle copying.source (store_of s);
+    }

@@ -1,5 +1,5 @@
 -- What holds of each chunk at every server that began with nothing.
-use Rattle.std.proofs.Common.{◌≡◌, ◌≤◌, ℕ, ◌+◌, Bool, true, false, cond, List, [], ◌∷◌, Option, Some, None, refl, sym, ap, subst, ◌∙◌, inl, inr, arith}
+use Rattle.std.proofs.Common.{◌≡◌, ◌≢◌, ◌≤◌, ℕ, ◌+◌, Bool, true, false, cond, List, [], ◌∷◌, Option, Some, None, refl, sym, ap, subst, ◌∙◌, inl, inr, arith}
 use Rattle.std.specs.Prelude.{Result, Ok, Err, ◌==◌, is_some}
 use Rattle.std.proofs.lemmas.Bool.{eqb-true, eq-eqb}
 use Rattle.std.proofs.lemmas.Bool.Decides.{nat_tests}
@@ -14,6 +14,7 @@ use Rattle.gs_base.specs.declared.refusal.Refusal.{Refusal}
 use Rattle.gs_base.specs.declared.refusal.Refusal.TheVariants as refusals
 use Rattle.gs_base.specs.Stamps.{is_before}
 use Rattle.gs_replica.specs.Edits.{fresh}
+use Rattle.gs_replica.specs.Held.{Held}
 use Rattle.gs_replica.specs.Seals.{State, roll_back_to}
 use Rattle.gs_replica.specs.Seals as replicas
 use Rattle.gs_replica.specs.declared.op.Op.{Op}
@@ -28,7 +29,7 @@ use Rattle.gs_store.specs.Learning.{later, start_of, rolled_to}
 use Rattle.gs_store.specs.Stores.{Store, or_nothing, slot_of, set_slot, put_slot, learn}
 use Rattle.gs_store.specs.Stores as stores
 use Rattle.gs_store.specs.StoreCalls.{names}
-use Rattle.gs_store.specs.Whole.{Reaches, IsWholeSlot}
+use Rattle.gs_store.specs.Whole.{Reaches}
 use Rattle.gs_store.specs.Calls.{Call, Creates, Advances, CopiesIn, TakesCopy, Drops, TakesLease, Loses, Damages, MarksBad, Applies, Seals, Unseals, RollsBack, called}
 use Rattle.gs_store.proofs.Laws.{Holds, of_ok, of_cond, of_unless, of_again, of_raised}
 use Rattle.gs_store.proofs.Standing.{of_live, of_trash}
@@ -45,9 +46,10 @@ use Rattle.gs_server.specs.Servers.{Server, new, place_of, here_of, store_of, ch
 use Rattle.gs_server.specs.Runs.{Event, Hears, Ticks, Restarts, Loses, Damages, unless_refused, behind, behind_all, slot_in, rolled_back, reseals, Spares, IsReached}
 use Rattle.gs_server.proofs.Lifts.{apart}
 use Rattle.gs_server.proofs.Others.{slot_epoch, rest_stays}
-use Rattle.gs_server.proofs.Walks.{IsLeaseOf, GoesOn, Stays, Makes, Takes, Suits, IsWithin}
+use Rattle.gs_server.proofs.Walks.{IsLeaseOf, GoesOn, IsOf, Stays, Makes, Takes, Suits, IsWithin, leased_promise}
 use Rattle.gs_server.proofs.Walks as walks
-use Rattle.gs_server.proofs.Happening.{goes_at, step_if}
+use Rattle.gs_server.proofs.Happening.{goes_at, step_if, IsCopied}
+use Rattle.gs_server.proofs.Wholes.{each_whole}
 use Rattle.gs_server.proofs.Behind.{last_taken, not_refused, rolled_slot, taken_itself}
 
 -- ---- promises of no later epoch
@@ -152,12 +154,17 @@ LastOf (Some l) taken = taken ≡ Some l.grant.stamp
 
 pub record IsSound (epoch : ℕ) (p : Place) : Type 0 where
   pub held : LastOf p.lease p.slot.taken
+  pub promised : IsOf p.slot.promise p.lease
   pub reaches : Reaches p.slot.promise p.slot.taken
   pub within : p.slot.promise.epoch ≤ epoch
 
 last_on : (old new : Option Lease) (taken : Option Stamp) → GoesOn old new → LastOf old taken → LastOf new taken
 last_on old None taken on last = tt
 last_on old (Some l) taken on last = subst (λ (o : Option Lease). LastOf o taken) on.is last ∙ ap (λ (x : Stamp). Some x) (sym on.same)
+
+of_on : (old new : Option Lease) (promise : Stamp) → GoesOn old new → IsOf promise old → IsOf promise new
+of_on old None promise on of = tt
+of_on old (Some l) promise on of = on.same ∙ subst (IsOf promise) on.is of
 
 reaches_on : (a b : Stamp) (taken : Option Stamp) → is_before b a ≡ false → Reaches a taken → Reaches b taken
 reaches_on a b None rises reached = tt
@@ -166,33 +173,36 @@ reaches_on a b (Some t) rises reached = never_below t a b reached rises
 same_slot : (epoch : ℕ) (p q : Place) → q.slot ≡ p.slot → GoesOn p.lease q.lease → IsSound epoch p → IsSound epoch q
 same_slot epoch p q is on sound = record {
   held = subst (λ (x : Slot). LastOf q.lease x.taken) (sym is) (last_on p.lease q.lease p.slot.taken on sound.held);
+  promised = subst (λ (x : Slot). IsOf x.promise q.lease) (sym is) (of_on p.lease q.lease p.slot.promise on sound.promised);
   reaches = subst (λ (x : Slot). Reaches x.promise x.taken) (sym is) sound.reaches;
   within = subst (Within epoch) (sym is) sound.within;
 }
 
-sound_on : (block chunk epoch now : ℕ) (reseals : Bool) (Spared : Type 0) (p q : Place) → epoch ≤ now → walks.Goes block chunk (Suits now reseals Spared p.slot) p q → IsSound epoch p → IsSound now q
-sound_on block chunk epoch now reseals Spared p q rise (inl still) sound =
-    same_slot now p q still.slot still.lease (record { held = sound.held; reaches = sound.reaches; within = up_to p.slot.promise.epoch epoch now sound.within rise })
-sound_on block chunk epoch now reseals Spared p q rise (inr (inl m)) sound =
+sound_on : (block chunk epoch now : ℕ) (reseals : Bool) (Comes : Held → Type 0) (Spared : Type 0) (p q : Place) → epoch ≤ now → walks.Goes block chunk (Suits now reseals Comes Spared p.slot) p q → IsSound epoch p → IsSound now q
+sound_on block chunk epoch now reseals Comes Spared p q rise (inl still) sound =
+    same_slot now p q still.slot still.lease (record { held = sound.held; promised = sound.promised; reaches = sound.reaches; within = up_to p.slot.promise.epoch epoch now sound.within rise })
+sound_on block chunk epoch now reseals Comes Spared p q rise (inr (inl m)) sound =
     let taken : q.slot.taken ≡ p.slot.taken = of_ok (λ (x : Slot). x.taken ≡ p.slot.taken) (called block chunk m.call p.slot) q.slot m.is (keeps block chunk m.call p.slot m.no_lease) in
     let g = of_ok (Goes p.slot) (called block chunk m.call p.slot) q.slot m.is (goes block chunk m.call p.slot) in
     record {
       held = subst (LastOf q.lease) (sym taken) (last_on p.lease q.lease p.slot.taken m.lease sound.held);
+      promised = m.promised sound.promised;
       reaches = subst (Reaches q.slot.promise) (sym taken) (reaches_on p.slot.promise q.slot.promise p.slot.taken g.rises sound.reaches);
       within = of_ok (Within now) (called block chunk m.call p.slot) q.slot m.is (stays_within now block chunk m.call p.slot m.fits.within (up_to p.slot.promise.epoch epoch now sound.within rise));
     }
-sound_on block chunk epoch now reseals Spared p q rise (inr (inr t)) sound =
+sound_on block chunk epoch now reseals Comes Spared p q rise (inr (inr t)) sound =
     let taken = last_taken t.given.stamp p.slot q.slot t.is in
     let spent = of_ok (IsSpent t.given.stamp) (take_lease t.given.stamp p.slot) q.slot t.is (taken_spent t.given.stamp p.slot) in
     record {
       held = subst (λ (o : Option Lease). LastOf o q.slot.taken) (sym t.lease) taken;
+      promised = subst (IsOf q.slot.promise) (sym t.lease) (leased_promise t.given.stamp p.slot q.slot t.is).1;
       reaches = subst (Reaches q.slot.promise) (sym taken) spent.reached;
       within = of_ok (Within now) (take_lease t.given.stamp p.slot) q.slot t.is (stays_within now block chunk (TakesLease t.given.stamp) p.slot tt (up_to p.slot.promise.epoch epoch now sound.within rise));
     }
 
 sound_behind : (handle : ℕ) (e : Event) (s : Server) → IsSound s.kept.epoch (place_of handle s) → IsSound (behind e s).kept.epoch (place_of handle (behind e s))
 sound_behind handle e s sound =
-    sound_on s.block s.chunk s.kept.epoch (behind e s).kept.epoch (reseals handle e s) (Spares handle e s) (place_of handle s) (place_of handle (behind e s)) (epoch_rises e s) (goes_at handle e s) sound
+    sound_on s.block s.chunk s.kept.epoch (behind e s).kept.epoch (reseals handle e s) (IsCopied s) (Spares handle e s) (place_of handle s) (place_of handle (behind e s)) (epoch_rises e s) (goes_at handle e s) sound
 
 sound_behind_all : (handle : ℕ) (events : List Event) (s : Server) → IsSound s.kept.epoch (place_of handle s) → IsSound (behind_all events s).kept.epoch (place_of handle (behind_all events s))
 sound_behind_all handle [] s sound = sound
@@ -202,7 +212,7 @@ nothing_sound : (me block chunk handle : ℕ) → IsSound 0 (place_of handle (ne
 nothing_sound me block chunk handle =
     subst (λ (o : Option Lease). IsSound 0 (record { slot = slot_in handle (new me block chunk); lease = o })) (sym (fin.get-empty nat_cmp handle))
     (subst (λ (o : Option Slot). IsSound 0 (record { slot = or_nothing o; lease = None })) (sym (fin.get-empty nat_cmp handle))
-    (record { held = tt; reaches = tt; within = at_most 0 0 refl }))
+    (record { held = tt; promised = tt; reaches = tt; within = at_most 0 0 refl }))
 
 pub sound_where : (handle : ℕ) (s : Server) → IsReached s → IsSound s.kept.epoch (place_of handle s)
 sound_where handle s r =
@@ -210,6 +220,23 @@ sound_where handle s r =
 
 pub held_last : (handle : ℕ) (s : Server) (l : Lease) → IsReached s → (place_of handle s).lease ≡ Some l → (slot_in handle s).taken ≡ Some l.grant.stamp
 held_last handle s l r held = subst (λ (o : Option Lease). LastOf o (slot_in handle s).taken) held (sound_where handle s r).held
+
+pub held_promise : (handle : ℕ) (s : Server) (l : Lease) → IsReached s → (place_of handle s).lease ≡ Some l → l.grant.stamp ≡ (slot_in handle s).promise
+held_promise handle s l r held = subst (IsOf (slot_in handle s).promise) held (sound_where handle s r).promised
+
+-- ---- a promise that changes spends the lease
+
+both_of : (p q : Place) (lease : Option Lease) → q.lease ≡ lease → q.slot.promise ≢ p.slot.promise → GoesOn p.lease lease → IsOf p.slot.promise p.lease → IsOf q.slot.promise lease → q.lease ≡ None
+both_of p q None is changed on old new = is
+both_of p q (Some l) is changed on old new = absurd (changed (sym new ∙ of_on p.lease (Some l) p.slot.promise on old))
+
+changed_spends : (block chunk : ℕ) (P : Call → Type 0) (p q : Place) → IsOf p.slot.promise p.lease → q.slot.promise ≢ p.slot.promise → walks.Goes block chunk P p q → q.lease ≡ None
+changed_spends block chunk P p q of changed (inl still) = absurd (changed (ap (λ (x : Slot). x.promise) still.slot))
+changed_spends block chunk P p q of changed (inr (inl m)) = both_of p q q.lease refl changed m.lease of (m.promised of)
+changed_spends block chunk P p q of changed (inr (inr t)) = absurd (changed (leased_promise t.given.stamp p.slot q.slot t.is).0)
+
+pub rises_spend : (handle : ℕ) (e : Event) (s : Server) → IsReached s → (slot_in handle (behind e s)).promise ≢ (slot_in handle s).promise → (place_of handle (behind e s)).lease ≡ None
+rises_spend handle e s r changed = changed_spends s.block s.chunk _ (place_of handle s) (place_of handle (behind e s)) (sound_where handle s r).promised changed (goes_at handle e s)
 
 -- ---- a spent lease
 
@@ -278,6 +305,6 @@ learned_store s =
     (sym (apart epoch s.kept.epoch (epoch == s.kept.epoch) refl refl))
     (subst (λ next. cond next (Ok (stores.learned epoch Rollback (store_of s))) (Err (refusals.Epoch s.kept.epoch)) ≡ Ok (store_of (step_if epoch Rollback s false next).after)) (sym (eq-eqb epoch (s.kept.epoch + 1) refl)) refl)
 
-pub names_live : (handle : ℕ) (s : Server) → IsReached s → IsWholeSlot (slot_in handle s) → names handle (s.kept.epoch + 1) (store_of (rolled_back s)) ≡ is_some (slot_in handle (rolled_back s)).live
-names_live handle s r whole =
-    named_is (s.kept.epoch + 1) handle (store_of s) (store_of (rolled_back s)) refl (learned_store s) whole (not_above (slot_in handle s).promise s.kept.epoch (sound_where handle s r).within)
+pub names_live : (handle : ℕ) (s : Server) → IsReached s → names handle (s.kept.epoch + 1) (store_of (rolled_back s)) ≡ is_some (slot_in handle (rolled_back s)).live
+names_live handle s r =
+    named_is (s.kept.epoch + 1) handle (store_of s) (store_of (rolled_back s)) refl (learned_store s) (each_whole handle s r) (not_above (slot_in handle s).promise s.kept.epoch (sound_where handle s r).within)

@@ -15,16 +15,17 @@ use Rattle.gs_replica.specs.declared.op.Op.TheVariants as applied
 use Rattle.gs_replica.specs.declared.op.Done.{Done}
 use Rattle.gs_msg.specs.declared.op.Op.{Op}
 use Rattle.gs_msg.specs.declared.op.Op.TheVariants.{Append, Pad}
+use Rattle.gs_msg.specs.Ops.{in_replica}
 use Rattle.gs_msg.specs.declared.message.Message.{Message}
 use Rattle.gs_store.specs.Slots.{Live, Slot}
 use Rattle.gs_store.specs.Serving.{done_in, apply}
 use Rattle.gs_server.specs.declared.turn.KeptRefusal.{KeptRefusal}
 use Rattle.gs_server.specs.declared.lease.Open.{Open}
 use Rattle.gs_server.specs.Leases.{Lease, told_by, lacks, hears, waits, waits_for, opens_edit, is_acknowledged, done_of, dones, done_at_once, forward_of, forwards, settled}
-use Rattle.gs_server.specs.Places.{Place, Here, Part, SlotChange, SlotStays, SlotBecomes, SlotMarked, LeaseChange, LeaseStays, LeaseBecomes, LeaseSpent, marked_by, damaged_block, or_else, sending, unanswered}
+use Rattle.gs_server.specs.Places.{Place, Here, Part, SlotChange, SlotStays, SlotBecomes, SlotMarked, LeaseChange, LeaseStays, LeaseBecomes, LeaseSpent, marked_by, damaged_block, or_else, sending, unanswered, after}
 use Rattle.gs_server.specs.Holding.{unless_leased, goes_on, ack}
 use Rattle.gs_server.specs.Edits.{edit, new_edit, unless_numbered, numbers, numbers_if, numbers_as, numbers_or_passes, opened, numbered_op, is_passed, bytes_of, bytes_or_none, last_count, done, refused_edit, refused_once, repeated, is_known_of_all, unless_kept, unless_done}
-use Rattle.gs_server.specs.Laws.{is_yes, IsToldByAll, IsDoneUnder, IsKnownToAll, IsHeldFor}
+use Rattle.gs_server.specs.Laws.{is_yes, IsToldByAll, IsToldUnder, IsDoneUnder, IsKnownToAll, IsHeldFor, padding}
 use Rattle.gs_server.proofs.Made.{inside}
 use Rattle.gs_server.proofs.Counted.{same_stamp, both_first, both_second}
 use Rattle.gs_server.proofs.Keeping.{numbered_is, of_becomes}
@@ -165,67 +166,119 @@ pub repeats_tell : (h : Here) (p : Place) (req : ReqId) (stamp : Stamp) (op : Op
 repeats_tell h p req stamp op last found same =
     subst (λ o. All (λ m. is_yes m.body ≡ true → IsKnownToAll req p) (unless_done h p req o (unless_kept h req h.refused (new_edit h p req stamp op))).sent) (sym found) (repeat_told h p req last _ same)
 
+-- of an edit that is numbered
+abbrev IfNumbered : (Part → Type 0) → Part → SlotChange → Type 0
+IfNumbered P part SlotStays = Unit {0}
+IfNumbered P part (SlotBecomes s) = P part
+IfNumbered P part (SlotMarked block) = Unit {0}
+
+-- under each lease, of each live replica, as the replica takes it
+abbrev EachNumbered : (Part → Type 0) → Here → Place → ReqId → Op → List ℕ → Option Live → Option Lease → Type 0
+EachNumbered P h p req op bytes live lease =
+    (v : Live) (l : Lease) → live ≡ Some v → lease ≡ Some l → (s : Slot) → (let e : Open = opened req (numbered_op h.chunk (length v.replica.held.chunk.bytes) op) bytes v in
+    apply l.grant.stamp (v.replica.held.count + 1) req (in_replica e.op) e.bytes p.slot ≡ Ok s → P (numbers h s l (v.replica.held.count + 1) e))
+
+module _ (P : Part → Type 0) where
+  numbered_either : (test : Bool) (x y : Part) → IfNumbered P x x.slot → IfNumbered P y y.slot → IfNumbered P (cond test x y) (cond test x y).slot
+  numbered_either true x y first second = first
+  numbered_either false x y first second = second
+
+  marks : (part : Part) (o : Option ℕ) → IfNumbered P part (marked_by o)
+  marks part None = tt
+  marks part (Some block) = tt
+
+  or_numbered : (o : Option Refusal) (h : Here) (p : Place) (req : ReqId) (part : Part) → IfNumbered P part part.slot → IfNumbered P (or_else o (refused_edit h p req) part) (or_else o (refused_edit h p req) part).slot
+  or_numbered None h p req part fact = fact
+  or_numbered (Some e) h p req part fact = marks (refused_edit h p req e) (damaged_block e)
+
+  kept_numbered : (h : Here) (req : ReqId) (kept : Option KeptRefusal) (part : Part) → IfNumbered P part part.slot → IfNumbered P (unless_kept h req kept part) (unless_kept h req kept part).slot
+  kept_numbered h req None part fact = fact
+  kept_numbered h req (Some kept) part fact =
+      numbered_either (nat_lt req.number kept.number) (refused_once h req refusals.Old) (cond (req.number == kept.number) (refused_once h req kept.refusal) part) tt
+      (numbered_either (req.number == kept.number) (refused_once h req kept.refusal) part tt fact)
+
+  done_numbered : (h : Here) (p : Place) (req : ReqId) (last : Option Done) (part : Part) → IfNumbered P part part.slot → IfNumbered P (unless_done h p req last part) (unless_done h p req last part).slot
+  done_numbered h p req None part fact = fact
+  done_numbered h p req (Some last) part fact =
+      numbered_either (req.number == last.number) (repeated h p req last.outcome) (cond (nat_lt req.number last.number) (refused_once h req refusals.Old) part)
+      (numbered_either (is_known_of_all req p.slot p.lease) (sending (done h req (Ok last.outcome) ∷ [])) (sending []) tt tt)
+      (numbered_either (nat_lt req.number last.number) (refused_once h req refusals.Old) part tt fact)
+
+  if_numbered : (h : Here) (p : Place) (l : Lease) (count : ℕ) (e : Open) (r : Result Slot Refusal) → ((s : Slot) → r ≡ Ok s → P (numbers h s l (count + 1) e)) → IfNumbered P (numbers_if h p l count e r) (numbers_if h p l count e r).slot
+  if_numbered h p l count e (Err f) fact = marks (refused_edit h p e.req f) (damaged_block f)
+  if_numbered h p l count e (Ok s) fact =
+      numbered_either (count == last_count) (refused_edit h p e.req refusals.Exhausted) (numbers h s l (count + 1) e) (marks (refused_edit h p e.req refusals.Exhausted) (damaged_block refusals.Exhausted)) (fact s refl)
+
+  live_numbered : (h : Here) (p : Place) (req : ReqId) (op : Op) (bytes : List ℕ) (live : Option Live) (lease : Option Lease) → EachNumbered P h p req op bytes live lease →
+      IfNumbered P (numbers_or_passes h p req op bytes live lease) (numbers_or_passes h p req op bytes live lease).slot
+  live_numbered h p req op bytes None lease fact = marks (refused_edit h p req refusals.NoReplica) (damaged_block refusals.NoReplica)
+  live_numbered h p req op bytes (Some v) None fact = marks (refused_edit h p req refusals.NotPrimary) (damaged_block refusals.NotPrimary)
+  live_numbered h p req op bytes (Some v) (Some l) fact =
+      let e : Open = opened req (numbered_op h.chunk (length v.replica.held.chunk.bytes) op) bytes v in
+      numbered_either (is_passed h.chunk (length v.replica.held.chunk.bytes) op) (sending (done h req (Ok Padded) ∷ [])) (numbers_as h p v l e) tt
+      (if_numbered h p l v.replica.held.count e (apply l.grant.stamp (v.replica.held.count + 1) req (in_replica e.op) e.bytes p.slot) (fact v l refl refl))
+
+  numbered_part : (h : Here) (p : Place) (req : ReqId) (stamp : Stamp) (op : Op) (s : Slot) → (edit h p req stamp op).slot ≡ SlotBecomes s → EachNumbered P h p req op (bytes_or_none (bytes_of op None h.pushed)) p.slot.live p.lease → P (edit h p req stamp op)
+  numbered_part h p req stamp op s is fact =
+      subst (IfNumbered P (edit h p req stamp op)) is
+      (done_numbered h p req (done_in p.slot.live req.client.0) _ (kept_numbered h req h.refused _ (or_numbered (unless_numbered h p stamp op) h p req _
+      (live_numbered h p req op (bytes_or_none (bytes_of op None h.pushed)) p.slot.live p.lease fact))))
+
+-- what is told of it at once
+tells_under : (me handle : ℕ) (l : Lease) (n : ℕ) (e : Open) → All (λ m. is_yes m.body ≡ true → IsToldUnder (Some (opens_edit me n e l)) n) (forwards me handle l (n, e) ++ done_at_once me n e l)
+tells_under me handle l n e =
+    All-weaker (λ (m : Message). is_yes m.body ≡ true → IsToldByAll (opens_edit me n e l) n) (λ m. is_yes m.body ≡ true → IsToldUnder (Some (opens_edit me n e l)) n)
+    (λ m told yes. record { lease = opens_edit me n e l; is = refl; told = told yes }) (forwards me handle l (n, e) ++ done_at_once me n e l) (numbered_told me handle l n e)
+
+pub numbered_tells : (h : Here) (p : Place) (req : ReqId) (stamp : Stamp) (op : Op) (live : Live) (s : Slot) → p.slot.live ≡ Some live → (edit h p req stamp op).slot ≡ SlotBecomes s →
+    All (λ m. is_yes m.body ≡ true → IsToldUnder (after p (edit h p req stamp op)).lease (live.replica.held.count + 1)) (edit h p req stamp op).sent
+numbered_tells h p req stamp op live s lives is =
+    numbered_part (λ part. All (λ m. is_yes m.body ≡ true → IsToldUnder (after p part).lease (live.replica.held.count + 1)) part.sent) h p req stamp op s is (λ v l found leased t does.
+    let e : Open = opened req (numbered_op h.chunk (length v.replica.held.chunk.bytes) op) (bytes_or_none (bytes_of op None h.pushed)) v in
+    subst (λ k. All (λ m. is_yes m.body ≡ true → IsToldUnder (after p (numbers h t l (v.replica.held.count + 1) e)).lease k) (numbers h t l (v.replica.held.count + 1) e).sent)
+    (ap (λ (x : Live). x.replica.held.count + 1) (inside v live (sym found ∙ lives)))
+    (tells_under h.me h.handle l (v.replica.held.count + 1) e))
+
 -- of an append that doesn't fit
-abbrev IfSlot : (Slot → Type 0) → SlotChange → Type 0
-IfSlot P SlotStays = Unit {0}
-IfSlot P (SlotBecomes s) = P s
-IfSlot P (SlotMarked block) = Unit {0}
-
-module _ (P : Slot → Type 0) where
-  becomes_either : (test : Bool) (x y : Part) → IfSlot P x.slot → IfSlot P y.slot → IfSlot P (cond test x y).slot
-  becomes_either true x y first second = first
-  becomes_either false x y first second = second
-
-  marks : (o : Option ℕ) → IfSlot P (marked_by o)
-  marks None = tt
-  marks (Some block) = tt
-
-  or_becomes : (o : Option Refusal) (h : Here) (p : Place) (req : ReqId) (part : Part) → IfSlot P part.slot → IfSlot P (or_else o (refused_edit h p req) part).slot
-  or_becomes None h p req part fact = fact
-  or_becomes (Some e) h p req part fact = marks (damaged_block e)
-
-  kept_becomes : (h : Here) (req : ReqId) (kept : Option KeptRefusal) (part : Part) → IfSlot P part.slot → IfSlot P (unless_kept h req kept part).slot
-  kept_becomes h req None part fact = fact
-  kept_becomes h req (Some kept) part fact =
-      becomes_either (nat_lt req.number kept.number) (refused_once h req refusals.Old) _ tt (becomes_either (req.number == kept.number) (refused_once h req kept.refusal) part tt fact)
-
-  done_becomes : (h : Here) (p : Place) (req : ReqId) (last : Option Done) (part : Part) → IfSlot P part.slot → IfSlot P (unless_done h p req last part).slot
-  done_becomes h p req None part fact = fact
-  done_becomes h p req (Some last) part fact =
-      becomes_either (req.number == last.number) (repeated h p req last.outcome) _ (becomes_either (is_known_of_all req p.slot p.lease) (sending (done h req (Ok last.outcome) ∷ [])) (sending []) tt tt)
-      (becomes_either (nat_lt req.number last.number) (refused_once h req refusals.Old) part tt fact)
-
-  numbers_become : (h : Here) (p : Place) (l : Lease) (count : ℕ) (e : Open) (r : Result Slot Refusal) → ((s : Slot) → r ≡ Ok s → P s) → IfSlot P (numbers_if h p l count e r).slot
-  numbers_become h p l count e (Err f) fact = marks (damaged_block f)
-  numbers_become h p l count e (Ok s) fact = becomes_either (count == last_count) (refused_edit h p e.req refusals.Exhausted) (numbers h s l (count + 1) e) (marks (damaged_block refusals.Exhausted)) (fact s refl)
-
-  padded : (h : Here) (p : Place) (req : ReqId) (many : ℕ) (bytes : List ℕ) (v : Live) (l : Lease) (test : Bool) → test ≡ true → ((s : Slot) → apply l.grant.stamp (v.replica.held.count + 1) req applied.Pad [] p.slot ≡ Ok s → P s) →
-      IfSlot P (numbers_as h p v l (opened req (cond test Pad (Append many)) bytes v)).slot
-  padded h p req many bytes v l true is fact = numbers_become h p l v.replica.held.count (opened req Pad bytes v) (apply l.grant.stamp (v.replica.held.count + 1) req applied.Pad [] p.slot) fact
-  padded h p req many bytes v l false is fact = never_true is
-
-  pads : (h : Here) (p : Place) (req : ReqId) (many : ℕ) (bytes : List ℕ) (live : Option Live) (lease : Option Lease) →
-      ((v : Live) → live ≡ Some v → nat_lt h.chunk (length v.replica.held.chunk.bytes + many) ≡ true) →
-      ((v : Live) (l : Lease) → live ≡ Some v → lease ≡ Some l → (s : Slot) → apply l.grant.stamp (v.replica.held.count + 1) req applied.Pad [] p.slot ≡ Ok s → P s) → IfSlot P (numbers_or_passes h p req (Append many) bytes live lease).slot
-  pads h p req many bytes None lease out fact = marks (damaged_block refusals.NoReplica)
-  pads h p req many bytes (Some v) None out fact = marks (damaged_block refusals.NotPrimary)
-  pads h p req many bytes (Some v) (Some l) out fact =
-      becomes_either (is_passed h.chunk (length v.replica.held.chunk.bytes) (Append many)) (sending (done h req (Ok Padded) ∷ [])) (numbers_as h p v l (opened req (numbered_op h.chunk (length v.replica.held.chunk.bytes) (Append many)) bytes v)) tt
-      (padded h p req many bytes v l (nat_lt h.chunk (length v.replica.held.chunk.bytes + many)) (out v refl) (fact v l refl refl))
-
 is_out : (chunk end : ℕ) → chunk < end → nat_lt chunk end ≡ true
 is_out chunk end is = grind (arith, nat_tests)
+
+module _ (P : Part → Type 0) (h : Here) (p : Place) (req : ReqId) (many : ℕ) where
+  abbrev EachPad : Type 0
+  EachPad = (v : Live) (l : Lease) (t : Slot) → p.slot.live ≡ Some v → p.lease ≡ Some l → apply l.grant.stamp (v.replica.held.count + 1) req applied.Pad [] p.slot ≡ Ok t → P (numbers h t l (v.replica.held.count + 1) (padding req))
+
+  pad_case : (bytes : List ℕ) (v : Live) (l : Lease) (t : Slot) (test : Bool) → test ≡ true → (apply l.grant.stamp (v.replica.held.count + 1) req applied.Pad [] p.slot ≡ Ok t → P (numbers h t l (v.replica.held.count + 1) (padding req))) →
+      (let e : Open = opened req (cond test Pad (Append many)) bytes v in apply l.grant.stamp (v.replica.held.count + 1) req (in_replica e.op) e.bytes p.slot ≡ Ok t → P (numbers h t l (v.replica.held.count + 1) e))
+  pad_case bytes v l t true is fact = fact
+  pad_case bytes v l t false is fact = never_true is
+
+  pad_numbered : (stamp : Stamp) (live : Live) (s : Slot) → p.slot.live ≡ Some live → h.chunk < length live.replica.held.chunk.bytes + many → (edit h p req stamp (Append many)).slot ≡ SlotBecomes s → EachPad → P (edit h p req stamp (Append many))
+  pad_numbered stamp live s lives out is fact =
+      numbered_part P h p req stamp (Append many) s is (λ v l found leased t.
+      pad_case (bytes_or_none (bytes_of (Append many) None h.pushed)) v l t (nat_lt h.chunk (length v.replica.held.chunk.bytes + many))
+      (is_out h.chunk _ (subst (λ (x : Live). h.chunk < length x.replica.held.chunk.bytes + many) (inside live v (sym lives ∙ found)) out)) (fact v l t found leased))
+
+abbrev IfSlot : (Slot → Type 0) → SlotChange → Type 0
+IfSlot Q SlotStays = Unit {0}
+IfSlot Q (SlotBecomes s) = Q s
+IfSlot Q (SlotMarked block) = Unit {0}
 
 pub appends_pad : (h : Here) (p : Place) (req : ReqId) (stamp : Stamp) (many : ℕ) (live : Live) (s : Slot) → p.slot.live ≡ Some live → h.chunk < length live.replica.held.chunk.bytes + many → (edit h p req stamp (Append many)).slot ≡ SlotBecomes s →
     apply stamp (live.replica.held.count + 1) req applied.Pad [] p.slot ≡ Ok s
 appends_pad h p req stamp many live s lives out is =
-    let P : Slot → Type 0 = λ new. apply stamp (live.replica.held.count + 1) req applied.Pad [] p.slot ≡ Ok new in
+    let Q : Slot → Type 0 = λ new. apply stamp (live.replica.held.count + 1) req applied.Pad [] p.slot ≡ Ok new in
     let held : IsHeldFor h.moment stamp p = of_becomes _ (edit h p req stamp (Append many)).slot s is (numbered_is h p req stamp (Append many)) in
-    subst (IfSlot P) is
-    (done_becomes P h p req (done_in p.slot.live req.client.0) _ (kept_becomes P h req h.refused _ (or_becomes P (unless_numbered h p stamp (Append many)) h p req _
-    (pads P h p req many (bytes_or_none (bytes_of (Append many) None h.pushed)) p.slot.live p.lease
-    (λ v found. is_out h.chunk _ (subst (λ (x : Live). h.chunk < length x.replica.held.chunk.bytes + many) (inside live v (sym lives ∙ found)) out))
-    (λ v l found leased new does.
+    subst (IfSlot Q) is
+    (pad_numbered (λ part. IfSlot Q part.slot) h p req many stamp live s lives out is (λ v l t found leased does.
     ap (λ (x : Live). apply stamp (x.replica.held.count + 1) req applied.Pad [] p.slot) (inside live v (sym lives ∙ found))
     ∙ ap (λ (x : Stamp). apply x (v.replica.held.count + 1) req applied.Pad [] p.slot) (same_stamp stamp held.lease.grant.stamp held.asked ∙ ap (λ (x : Lease). x.grant.stamp) (inside held.lease l (sym held.held ∙ leased)))
-    ∙ does)))))
+    ∙ does))
+
+abbrev sends_pad : Here → ReqId → Live → Lease → List Message
+sends_pad h req v l = forwards h.me h.handle l (v.replica.held.count + 1, padding req) ++ done_at_once h.me (v.replica.held.count + 1) (padding req) l
+
+pub pads_sent : (h : Here) (p : Place) (req : ReqId) (stamp : Stamp) (many : ℕ) (live : Live) (l : Lease) (s : Slot) → p.slot.live ≡ Some live → p.lease ≡ Some l → h.chunk < length live.replica.held.chunk.bytes + many → (edit h p req stamp (Append many)).slot ≡ SlotBecomes s →
+    (edit h p req stamp (Append many)).sent ≡ sends_pad h req live l
+pads_sent h p req stamp many live l s lives leases out is =
+    pad_numbered (λ part. part.sent ≡ sends_pad h req live l) h p req many stamp live s lives out is (λ v k t found leased does.
+    ap (λ (x : Live). sends_pad h req x k) (inside v live (sym found ∙ lives)) ∙ ap (sends_pad h req live) (inside k l (sym leased ∙ leases)))

@@ -1,5 +1,5 @@
 -- What a message about a chunk makes of the chunk's place: one call of its slot, or none.
-use Rattle.std.proofs.Common.{◌≡◌, ℕ, ◌+◌, Bool, true, false, cond, List, [], ◌∷◌, Option, Some, None, refl, length, inl, inr, true≢false}
+use Rattle.std.proofs.Common.{◌≡◌, ℕ, ◌+◌, Bool, true, false, cond, List, [], ◌∷◌, Option, Some, None, refl, sym, subst, ◌∙◌, length, inl, inr, true≢false}
 use Rattle.std.specs.Prelude.{Result, Ok, Err, ◌⊎◌, ◌==◌, not, is_some, nat_lt, nat_le}
 use Rattle.std.proofs.lemmas.Bool.{eqb-true}
 use Rattle.gs_base.specs.declared.numbers.Stamp.{Stamp}
@@ -9,8 +9,11 @@ use Rattle.gs_base.specs.declared.refusal.Refusal.{Refusal}
 use Rattle.gs_base.specs.declared.refusal.Refusal.TheVariants as refusals
 use Rattle.gs_lease.specs.declared.held.Grant.{Grant}
 use Rattle.gs_replica.specs.Copies.{Image, SealedImage}
+use Rattle.gs_replica.specs.Held.{Held}
 use Rattle.gs_replica.specs.declared.op.Outcome.TheVariants.{Padded}
 use Rattle.gs_replica.specs.declared.op.Done.{Done}
+use Rattle.gs_replica.specs.declared.op.Op.{Op as ReplicaOp}
+use Rattle.gs_replica.specs.Seals as replicas
 use Rattle.gs_msg.specs.declared.op.Op.{Op}
 use Rattle.gs_msg.specs.Ops.{in_replica}
 use Rattle.gs_msg.specs.declared.node.NodeId.{NodeId}
@@ -19,11 +22,14 @@ use Rattle.gs_msg.specs.declared.message.Message.{Message}
 use Rattle.gs_msg.specs.declared.body.Given.{Given}
 use Rattle.gs_msg.specs.declared.chunk.Chunk.{Chunk}
 use Rattle.gs_msg.specs.declared.chunk.Chunk.TheVariants as chunks
-use Rattle.gs_store.specs.Slots.{Live, Slot, first_of, unless_live, unless_promised, check_grant, take_lease}
+use Rattle.gs_store.specs.Slots.{Live, Slot, first_of, when, unless_live, unless_promised, check_grant, is_taken, take_lease, taking}
 use Rattle.gs_store.specs.Slots as slots
-use Rattle.gs_store.specs.Serving.{apply, done_in}
+use Rattle.gs_store.specs.Serving.{apply, apply_to, done_in}
 use Rattle.gs_store.specs.Moves as moves
 use Rattle.gs_store.specs.Calls.{Call, Creates, Advances, CopiesIn, TakesCopy, Drops, TakesLease, Loses, Damages, MarksBad, Applies, Seals, Unseals, RollsBack, called, IsNoLease, KeepsSeal, IsSparing}
+use Rattle.gs_store.proofs.Laws.{Holds, of_ok, of_unless}
+use Rattle.gs_store.proofs.Standing.{of_live}
+use Rattle.gs_store.proofs.Running.{is_granted, first_none}
 use Rattle.gs_server.specs.declared.turn.KeptRefusal.{KeptRefusal}
 use Rattle.gs_server.specs.declared.lease.Open.{Open}
 use Rattle.gs_server.specs.Leases.{Lease, granted, renews, settled, hears, dones, is_acknowledged, waits_for, opens_edit}
@@ -36,6 +42,7 @@ use Rattle.gs_server.specs.Edits as edits
 use Rattle.gs_server.specs.Fetches as fetching
 use Rattle.gs_server.specs.Servers.{about_chunk}
 use Rattle.gs_server.specs.Runs.{carries_seal}
+use Rattle.gs_server.proofs.Counted.{same_stamp}
 use Rattle.gs_server.proofs.Keeping.{not_met}
 
 -- a lease of a stamp
@@ -49,6 +56,11 @@ abbrev pub GoesOn : Option Lease → Option Lease → Type 0
 GoesOn old None = Unit {0}
 GoesOn old (Some l) = IsLeaseOf l.grant.stamp old
 
+-- a lease is of the promise
+abbrev pub IsOf : Stamp → Option Lease → Type 0
+IsOf promise None = Unit {0}
+IsOf promise (Some l) = l.grant.stamp ≡ promise
+
 -- What becomes of a place: its slot stays; or a call that takes no lease makes it; or a lease is taken, and is held.
 pub record Stays (p q : Place) : Type 0 where
   pub slot : q.slot ≡ p.slot
@@ -60,6 +72,7 @@ pub record Makes (block chunk : ℕ) (P : Call → Type 0) (p q : Place) : Type 
   pub no_lease : IsNoLease call
   pub fits : P call
   pub lease : GoesOn p.lease q.lease
+  pub promised : IsOf p.slot.promise p.lease → IsOf q.slot.promise q.lease
 
 pub record Takes (p q : Place) : Type 0 where
   pub given : Grant
@@ -69,8 +82,8 @@ pub record Takes (p q : Place) : Type 0 where
 abbrev pub Goes : ℕ → ℕ → (Call → Type 0) → Place → Place → Type 0
 Goes block chunk P p q = Stays p q ⊎ (Makes block chunk P p q ⊎ Takes p q)
 
--- What is said of the calls: which of them may change the seal, which damage blocks, and that a call of another epoch than that
--- which stands, or stood before, makes no promise.
+-- What is said of the calls: which of them may change the seal, which damage blocks, that a call of another epoch than that which
+-- stands, or stood before, makes no promise, and which copies are taken.
 abbrev pub IsWithin : ℕ → Call → Type 0
 IsWithin epoch (Creates stamp) = stamp.epoch ≡ epoch
 IsWithin epoch (Advances stamp) = stamp.epoch ≡ epoch
@@ -86,10 +99,23 @@ IsWithin epoch Seals = Unit {0}
 IsWithin epoch Unseals = Unit {0}
 IsWithin epoch (RollsBack last) = last ≡ epoch
 
-pub record Suits (epoch : ℕ) (reseals : Bool) (Spared : Type 0) (s : Slot) (c : Call) : Type 0 where
+-- of a replica that is taken as a copy
+abbrev pub brought : Call → Option Held
+brought (TakesCopy h) = Some h
+brought c = None
+
+abbrev pub OfHeld : (Held → Type 0) → Option Held → Type 0
+OfHeld Comes None = Unit {0}
+OfHeld Comes (Some h) = Comes h
+
+abbrev pub Brings : (Held → Type 0) → Call → Type 0
+Brings Comes c = OfHeld Comes (brought c)
+
+pub record Suits (epoch : ℕ) (reseals : Bool) (Comes : Held → Type 0) (Spared : Type 0) (s : Slot) (c : Call) : Type 0 where
   pub seal : reseals ≡ false → KeepsSeal c
   pub spares : Spared → IsSparing c s
   pub within : IsWithin epoch c
+  pub comes : Brings Comes c
 
 -- ---- leases
 
@@ -105,6 +131,17 @@ pub promise_lease : (promise : Stamp) (lease : Option Lease) → GoesOn lease (l
 promise_lease promise None = tt
 promise_lease promise (Some l) = promised_or_spent l (is_same l.grant.stamp promise)
 
+of_or_spent : (promise : Stamp) (l : Lease) (b : Bool) → is_same l.grant.stamp promise ≡ b → IsOf promise (lease_after (Some l) (cond b LeaseStays LeaseSpent))
+of_or_spent promise l true is = same_stamp l.grant.stamp promise is
+of_or_spent promise l false is = tt
+
+pub lease_of_promise : (promise : Stamp) (lease : Option Lease) → IsOf promise (lease_after lease (of_promise promise lease))
+lease_of_promise promise None = tt
+lease_of_promise promise (Some l) = of_or_spent promise l (is_same l.grant.stamp promise) refl
+
+pub of_same : (s t : Slot) (lease : Option Lease) → t.promise ≡ s.promise → IsOf s.promise lease → IsOf t.promise lease
+of_same s t lease same of = subst (λ (x : Stamp). IsOf x lease) (sym same) of
+
 either_lease : (b : Bool) (l m : Lease) (stamp : Stamp) → l.grant.stamp ≡ stamp → m.grant.stamp ≡ stamp → (cond b l m).grant.stamp ≡ stamp
 either_lease true l m stamp first second = first
 either_lease false l m stamp first second = second
@@ -112,31 +149,51 @@ either_lease false l m stamp first second = second
 opened_stamp : (me number : ℕ) (edit : Open) (l : Lease) → (opens_edit me number edit l).grant.stamp ≡ l.grant.stamp
 opened_stamp me number edit l = either_lease (is_acknowledged (hears me number l) number) (hears me number l) (waits_for number edit (hears me number l)) l.grant.stamp refl refl
 
+-- ---- promises that stay
+
+abbrev SamePromise : Slot → Slot → Type 0
+SamePromise s x = x.promise ≡ s.promise
+
+applied_to : (stamp : Stamp) (number : ℕ) (req : ReqId) (op : ReplicaOp) (bytes : List ℕ) (s : Slot) (live : Option Live) → Holds (SamePromise s) (apply_to stamp number req op bytes s live)
+applied_to stamp number req op bytes s None = tt
+applied_to stamp number req op bytes s (Some l) = of_live (SamePromise s) s l.bad (replicas.apply stamp number req op bytes l.replica) (λ r e. refl)
+
+applied_promise : (stamp : Stamp) (number : ℕ) (req : ReqId) (op : ReplicaOp) (bytes : List ℕ) (s t : Slot) → apply stamp number req op bytes s ≡ Ok t → t.promise ≡ s.promise
+applied_promise stamp number req op bytes s t is = of_ok (SamePromise s) (apply stamp number req op bytes s) t is (applied_to stamp number req op bytes s s.live)
+
+-- a lease is taken of the promise
+pub leased_promise : (stamp : Stamp) (s t : Slot) → take_lease stamp s ≡ Ok t → (t.promise ≡ s.promise) × (stamp ≡ t.promise)
+leased_promise stamp s t is =
+    of_ok (λ (x : Slot). (x.promise ≡ s.promise) × (stamp ≡ x.promise)) (take_lease stamp s) t is
+    (of_unless (λ (x : Slot). (x.promise ≡ s.promise) × (stamp ≡ x.promise)) (first_of (check_grant stamp s ∷ when (is_taken stamp s.taken) refusals.Old ∷ [])) (taking stamp s)
+    (λ none. (refl, same_stamp stamp s.promise (is_granted stamp s (unless_live s.live) (is_same stamp s.promise) (first_none (check_grant stamp s) (when (is_taken stamp s.taken) refusals.Old) none)))))
+
 -- ---- parts
 
 pub stays : (block chunk : ℕ) (P : Call → Type 0) (p : Place) → Goes block chunk P p p
 stays block chunk P p = inl (record { slot = refl; lease = same_lease p.lease })
 
-pub marks : (block chunk epoch : ℕ) (reseals : Bool) (Spared : Type 0) (p : Place) (o : Option ℕ)
-    → Goes block chunk (Suits epoch reseals Spared p.slot) p (record { slot = slot_after p.slot (marked_by o); lease = p.lease })
-marks block chunk epoch reseals Spared p None = stays block chunk (Suits epoch reseals Spared p.slot) p
-marks block chunk epoch reseals Spared p (Some index) = inr (inl (record {
+pub marks : (block chunk epoch : ℕ) (reseals : Bool) (Comes : Held → Type 0) (Spared : Type 0) (p : Place) (o : Option ℕ)
+    → Goes block chunk (Suits epoch reseals Comes Spared p.slot) p (record { slot = slot_after p.slot (marked_by o); lease = p.lease })
+marks block chunk epoch reseals Comes Spared p None = stays block chunk (Suits epoch reseals Comes Spared p.slot) p
+marks block chunk epoch reseals Comes Spared p (Some index) = inr (inl (record {
   call = MarksBad index;
   is = refl;
   no_lease = tt;
-  fits = record { seal = λ _. tt; spares = λ _. tt; within = tt };
+  fits = record { seal = λ _. tt; spares = λ _. tt; within = tt; comes = tt };
   lease = same_lease p.lease;
+  promised = λ of. of;
 }))
 
 -- of a message about a chunk, whose damage marks alone
 abbrev pub Does : Here → Chunk → Place → Part → Type 0
-Does h chunk p part = Goes h.block h.chunk (Suits h.epoch (carries_seal chunk) (Unit {0}) p.slot) p (after p part)
+Does h chunk p part = Goes h.block h.chunk (Suits h.epoch (carries_seal chunk) (λ _. ⊥) (Unit {0}) p.slot) p (after p part)
 
-nothing : (h : Here) (chunk : Chunk) (p : Place) → Goes h.block h.chunk (Suits h.epoch (carries_seal chunk) (Unit {0}) p.slot) p p
-nothing h chunk p = stays h.block h.chunk (Suits h.epoch (carries_seal chunk) (Unit {0}) p.slot) p
+nothing : (h : Here) (chunk : Chunk) (p : Place) → Goes h.block h.chunk (Suits h.epoch (carries_seal chunk) (λ _. ⊥) (Unit {0}) p.slot) p p
+nothing h chunk p = stays h.block h.chunk (Suits h.epoch (carries_seal chunk) (λ _. ⊥) (Unit {0}) p.slot) p
 
-marking : (h : Here) (chunk : Chunk) (p : Place) (e : Refusal) → Goes h.block h.chunk (Suits h.epoch (carries_seal chunk) (Unit {0}) p.slot) p (record { slot = slot_after p.slot (marked_by (damaged_block e)); lease = p.lease })
-marking h chunk p e = marks h.block h.chunk h.epoch (carries_seal chunk) (Unit {0}) p (damaged_block e)
+marking : (h : Here) (chunk : Chunk) (p : Place) (e : Refusal) → Goes h.block h.chunk (Suits h.epoch (carries_seal chunk) (λ _. ⊥) (Unit {0}) p.slot) p (record { slot = slot_after p.slot (marked_by (damaged_block e)); lease = p.lease })
+marking h chunk p e = marks h.block h.chunk h.epoch (carries_seal chunk) (λ _. ⊥) (Unit {0}) p (damaged_block e)
 
 or_does : (h : Here) (chunk : Chunk) (p : Place) (o : Option Refusal) (refuses : Refusal → Part) (part : Part) → ((e : Refusal) → Does h chunk p (refuses e)) → (o ≡ None → Does h chunk p part) → Does h chunk p (or_else o refuses part)
 or_does h chunk p None refuses part each does = does refl
@@ -154,8 +211,8 @@ of_epoch h epoch none = eqb-true epoch h.epoch (true_where (epoch == h.epoch) (n
     true_where true is = refl
     true_where false is = absurd (true≢false is)
 
-promises : (h : Here) (chunk : Chunk) (p : Place) (stamp : Stamp) (m : Result Slot Refusal) (c : Call) → called h.block h.chunk c p.slot ≡ m → IsNoLease c → Suits h.epoch (carries_seal chunk) (Unit {0}) p.slot c → Does h chunk p (promising.promises h p stamp m)
-promises h chunk p stamp (Ok s) c is no_lease fits = inr (inl (record { call = c; is = is; no_lease = no_lease; fits = fits; lease = promise_lease s.promise p.lease }))
+promises : (h : Here) (chunk : Chunk) (p : Place) (stamp : Stamp) (m : Result Slot Refusal) (c : Call) → called h.block h.chunk c p.slot ≡ m → IsNoLease c → Suits h.epoch (carries_seal chunk) (λ _. ⊥) (Unit {0}) p.slot c → Does h chunk p (promising.promises h p stamp m)
+promises h chunk p stamp (Ok s) c is no_lease fits = inr (inl (record { call = c; is = is; no_lease = no_lease; fits = fits; lease = promise_lease s.promise p.lease; promised = λ _. lease_of_promise s.promise p.lease }))
 promises h chunk p stamp (Err e) c is no_lease fits = marking h chunk p e
 
 sends : (h : Here) (chunk : Chunk) (p : Place) (stamp : Stamp) (target : ℕ) (m : Result (Image × Option SealedImage) Refusal) → Does h chunk p (promising.sends_copy h p stamp target m)
@@ -163,7 +220,7 @@ sends h chunk p stamp target (Ok copy) = nothing h chunk p
 sends h chunk p stamp target (Err e) = marking h chunk p e
 
 drops : (h : Here) (chunk : Chunk) (p : Place) (promise : Stamp) (m : Result Slot Refusal) → slots.drop_replica promise p.slot ≡ m → Does h chunk p (promising.drops m)
-drops h chunk p promise (Ok s) is = inr (inl (record { call = Drops promise; is = is; no_lease = tt; fits = record { seal = λ _. tt; spares = λ _. tt; within = tt }; lease = tt }))
+drops h chunk p promise (Ok s) is = inr (inl (record { call = Drops promise; is = is; no_lease = tt; fits = record { seal = λ _. tt; spares = λ _. tt; within = tt; comes = tt }; lease = tt; promised = λ _. tt }))
 drops h chunk p promise (Err e) is = nothing h chunk p
 
 granting : (h : Here) (chunk : Chunk) (p : Place) (given : Grant) (m : Result Slot Refusal) → take_lease given.stamp p.slot ≡ m → Does h chunk p (takes given m)
@@ -197,8 +254,9 @@ numbering_if h chunk s l count edit (Ok t) is =
       call = Applies l.grant.stamp (count + 1) edit.req (in_replica edit.op) edit.bytes;
       is = is;
       no_lease = tt;
-      fits = record { seal = λ _. tt; spares = λ _. tt; within = tt };
+      fits = record { seal = λ _. tt; spares = λ _. tt; within = tt; comes = tt };
       lease = record { l = l; is = refl; same = opened_stamp h.me (count + 1) edit l };
+      promised = λ of. opened_stamp h.me (count + 1) edit l ∙ of ∙ sym (applied_promise l.grant.stamp (count + 1) edit.req (in_replica edit.op) edit.bytes s t is);
     })))
 
 numbering : (h : Here) (chunk : Chunk) (s : Slot) (req : ReqId) (op : Op) (bytes : List ℕ) (live : Option Live) (lease : Option Lease)
@@ -230,8 +288,9 @@ taking_if h chunk p from stamp number req op bytes (Ok s) is = inr (inl (record 
   call = Applies stamp number req (in_replica op) bytes;
   is = is;
   no_lease = tt;
-  fits = record { seal = λ _. tt; spares = λ _. tt; within = tt };
+  fits = record { seal = λ _. tt; spares = λ _. tt; within = tt; comes = tt };
   lease = same_lease p.lease;
+  promised = of_same p.slot s p.lease (applied_promise stamp number req (in_replica op) bytes p.slot s is);
 }))
 taking_if h chunk p from stamp number req op bytes (Err e) is = marking h chunk p e
 
@@ -256,10 +315,10 @@ carried stamp image (Some i) none = absurd (true≢false none)
 pub about : (h : Here) (p : Place) (from : NodeId) (chunk : Chunk) → Does h chunk p (about_chunk h p from chunk)
 about h p from (chunks.Create stamp) =
     or_does h (chunks.Create stamp) p (other_epoch h stamp.epoch) (promising.unpromised h p stamp) (promising.promises h p stamp (slots.create h.block h.chunk stamp p.slot)) (λ e. marking h (chunks.Create stamp) p e)
-    (λ here. promises h (chunks.Create stamp) p stamp (slots.create h.block h.chunk stamp p.slot) (Creates stamp) refl tt (record { seal = λ _. tt; spares = λ _. tt; within = of_epoch h stamp.epoch here }))
+    (λ here. promises h (chunks.Create stamp) p stamp (slots.create h.block h.chunk stamp p.slot) (Creates stamp) refl tt (record { seal = λ _. tt; spares = λ _. tt; within = of_epoch h stamp.epoch here; comes = tt }))
 about h p from (chunks.Advance stamp) =
     or_does h (chunks.Advance stamp) p (other_epoch h stamp.epoch) (promising.unpromised h p stamp) (promising.promises h p stamp (slots.advance stamp p.slot)) (λ e. marking h (chunks.Advance stamp) p e)
-    (λ here. promises h (chunks.Advance stamp) p stamp (slots.advance stamp p.slot) (Advances stamp) refl tt (record { seal = λ _. tt; spares = λ _. tt; within = of_epoch h stamp.epoch here }))
+    (λ here. promises h (chunks.Advance stamp) p stamp (slots.advance stamp p.slot) (Advances stamp) refl tt (record { seal = λ _. tt; spares = λ _. tt; within = of_epoch h stamp.epoch here; comes = tt }))
 about h p from (chunks.Grant given) =
     or_does h (chunks.Grant given) p (first_of (other_epoch h given.stamp.epoch ∷ check_grant given.stamp p.slot ∷ [])) unanswered (cond (is_held given.stamp p.lease) (sending []) (takes given (take_lease given.stamp p.slot))) (λ e. nothing h (chunks.Grant given) p)
     (λ _. either_does h (chunks.Grant given) p (is_held given.stamp p.lease) (sending []) (takes given (take_lease given.stamp p.slot)) (nothing h (chunks.Grant given) p)
@@ -292,7 +351,7 @@ about h p from (chunks.CopyOut stamp target with_sealed) =
 about h p from (chunks.CopyIn stamp image sealed) =
     or_does h (chunks.CopyIn stamp image sealed) p (other_epoch h stamp.epoch) (promising.unpromised h p stamp) (promising.promises h p stamp (moves.copy_in h.block h.chunk stamp image sealed p.slot)) (λ e. marking h (chunks.CopyIn stamp image sealed) p e)
     (λ here. promises h (chunks.CopyIn stamp image sealed) p stamp (moves.copy_in h.block h.chunk stamp image sealed p.slot) (CopiesIn stamp image sealed) refl tt
-    (record { seal = carried stamp image sealed; spares = λ _. tt; within = of_epoch h stamp.epoch here }))
+    (record { seal = carried stamp image sealed; spares = λ _. tt; within = of_epoch h stamp.epoch here; comes = tt }))
 about h p from (chunks.Drop epoch promise) =
     or_does h (chunks.Drop epoch promise) p (other_epoch h epoch) unanswered (promising.drops (slots.drop_replica promise p.slot)) (λ e. nothing h (chunks.Drop epoch promise) p)
     (λ _. drops h (chunks.Drop epoch promise) p promise (slots.drop_replica promise p.slot) refl)

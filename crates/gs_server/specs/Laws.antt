@@ -1,5 +1,5 @@
 -- What the laws of a server speak of.
-use Rattle.std.specs.Prelude.{◌≡◌, ◌<◌, ◌≤◌, ◌==◌, ℕ, Bool, false, true, Contains, Option, Some, None, Ok}
+use Rattle.std.specs.Prelude.{◌≡◌, ◌<◌, ◌≤◌, ◌==◌, ℕ, Bool, false, true, [], Contains, Option, Some, None, Ok}
 use Rattle.std.specs.List.{All}
 use Rattle.std.specs.FinMap as fin
 use Rattle.std.specs.Ordering.{eq_by_cmp}
@@ -9,12 +9,19 @@ use Rattle.gs_base.specs.declared.numbers.Stamp.{Stamp}
 use Rattle.gs_base.specs.declared.numbers.ReqId.{ReqId}
 use Rattle.gs_base.specs.Stamps.{is_same}
 use Rattle.gs_replica.specs.declared.op.Done.{Done}
+use Rattle.gs_replica.specs.declared.op.Outcome.TheVariants.{Padded}
+use Rattle.gs_msg.specs.declared.op.Op.TheVariants.{Pad}
 use Rattle.gs_msg.specs.declared.message.Message.{Message}
 use Rattle.gs_msg.specs.declared.body.Body.{Body}
 use Rattle.gs_msg.specs.declared.body.Body.TheVariants as bodies
 use Rattle.gs_server.specs.declared.lease.Open.{Open}
 use Rattle.gs_server.specs.Leases.{Lease, is_over, told_by, done_of, waits}
 use Rattle.gs_base.specs.declared.refusal.Refusal.{Refusal}
+use Rattle.gs_base.specs.declared.refusal.Refusal.TheVariants as refusals
+use Rattle.gs_msg.specs.declared.chunk.Chunk.{Chunk}
+use Rattle.gs_msg.specs.declared.chunk.Chunk.TheVariants as chunks
+use Rattle.gs_server.specs.declared.turn.KeptRefusal.{KeptRefusal}
+use Rattle.gs_server.specs.Promises.{Copying}
 use Rattle.gs_store.specs.Buffers.{pushed, same_request}
 use Rattle.gs_server.specs.Servers.{Server, client_cmp, place_of}
 use Rattle.gs_server.specs.Places.{Place, Part, SlotChange, SlotStays, SlotBecomes, SlotMarked, LeaseStays}
@@ -36,19 +43,43 @@ pub record IsSpent (stamp : Stamp) (p : Place) : Type 0 where
 abbrev pub IsAbove : Done → ReqId → Type 0
 IsAbove last req = last.number < req.number
 
--- What a message that is refused leaves: the slot stays, but that its replica may be marked as bad; the lease stays; and nothing
--- leaves the buffer.
-abbrev pub IsKept : SlotChange → Type 0
-IsKept SlotStays = Unit {0}
-IsKept (SlotMarked block) = Unit {0}
-IsKept (SlotBecomes s) = ⊥
+-- What a message that is refused leaves: the slot stays, but that a damaged block by which it is refused may mark its replica as bad;
+-- the lease stays; and nothing leaves the buffer.
+abbrev pub IsKept : Refusal → SlotChange → Type 0
+IsKept refusal SlotStays = Unit {0}
+IsKept refusal (SlotMarked block) = refusal ≡ refusals.Damaged block
+IsKept refusal (SlotBecomes s) = ⊥
 
 abbrev pub LeavesWhere : Option Refusal → Part → Type 0
 LeavesWhere None part = Unit {0}
-LeavesWhere (Some refusal) part = IsKept part.slot × (part.lease ≡ LeaseStays) × (part.used ≡ false)
+LeavesWhere (Some refusal) part = IsKept refusal part.slot × (part.lease ≡ LeaseStays) × (part.used ≡ false)
 
-abbrev pub LeavesIfRefused : Part → Type 0
-LeavesIfRefused part = LeavesWhere part.said part
+-- the request of an edit
+abbrev pub edit_in : Chunk → Option ReqId
+edit_in (chunks.Edit req stamp op) = Some req
+edit_in chunk = None
+
+-- A refusal that is kept is that of an edit, under the edit's number.
+abbrev pub KeepsOwn : Option ReqId → Option Refusal → KeptRefusal → Type 0
+KeepsOwn None said kept = ⊥
+KeepsOwn (Some req) None kept = ⊥
+KeepsOwn (Some req) (Some refusal) kept = kept ≡ record { number = req.number; refusal = refusal }
+
+abbrev pub KeepsReply : Option KeptRefusal → Option ReqId → Option Refusal → Type 0
+KeepsReply None edited said = Unit {0}
+KeepsReply (Some kept) edited said = KeepsOwn edited said kept
+
+abbrev pub LeavesIfRefused : Option ReqId → Part → Type 0
+LeavesIfRefused edited part = LeavesWhere part.said part × KeepsReply part.kept edited part.said
+
+-- A copy under a new handle that is refused leaves the new one's place, and of the old one what any refused message leaves; one
+-- that is made leaves the old one's place.
+abbrev pub LeavesCopied : Option Refusal → Copying → Type 0
+LeavesCopied None copying = copying.source ≡ SlotStays
+LeavesCopied (Some refusal) copying = IsKept refusal copying.source × (copying.target.slot ≡ SlotStays) × (copying.target.lease ≡ LeaseStays)
+
+abbrev pub LeavesIfNotCopied : Copying → Type 0
+LeavesIfNotCopied copying = LeavesCopied copying.target.said copying
 
 -- a client is told that its edit is done
 abbrev pub is_yes : Body → Bool
@@ -58,6 +89,16 @@ is_yes body = false
 -- every member of a lease has told a count that reaches a number
 pub record IsToldByAll (l : Lease) (number : ℕ) : Type 0 where
   pub each : All (λ server. number ≤ told_by l.told server) l.grant.members
+
+-- a lease is held under which every member has
+pub record IsToldUnder (held : Option Lease) (number : ℕ) : Type 0 where
+  pub lease : Lease
+  pub is : held ≡ Some lease
+  pub told : IsToldByAll lease number
+
+-- a pad that is numbered
+abbrev pub padding : ReqId → Open
+padding req = record { req = req; op = Pad; bytes = []; outcome = Padded }
 
 -- what is told of an edit that waits under a lease, and of which every member has told
 pub record IsDoneUnder (me : ℕ) (l : Lease) (m : Message) : Type 0 where
@@ -83,6 +124,13 @@ is_of_client client (Some req) = eq_by_cmp client_cmp client req.client
 abbrev pub is_asked_by : ReqId → Option ReqId → Bool
 is_asked_by other None = false
 is_asked_by other (Some req) = same_request req other
+
+-- What a copy under a new handle leaves of the rest: every third chunk, the epoch, and all that is kept of clients or was pushed.
+pub record LeavesAllBut (handle new_handle : ℕ) (s after : Server) : Type 0 where
+  pub places : (other : ℕ) → (other == handle) ≡ false → (other == new_handle) ≡ false → place_of other after ≡ place_of other s
+  pub epoch : after.kept.epoch ≡ s.kept.epoch
+  pub refused : after.kept.refused ≡ s.kept.refused
+  pub pushes : after.dropped.buffer ≡ s.dropped.buffer
 
 -- What a message about a chunk leaves of the rest: every other chunk, the epoch, what is kept of every other client, and the
 -- bytes that were pushed for every other request.

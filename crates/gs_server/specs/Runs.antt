@@ -1,5 +1,5 @@
 -- What happens at a server, event by event.
-use Rattle.std.specs.Prelude.{◌≡◌, ℕ, ◌+◌, ◌==◌, ◌&&◌, Bool, true, false, List, [], ◌∷◌, Option, Some, None, is_some, Result, Ok, Err, refl}
+use Rattle.std.specs.Prelude.{◌≡◌, ◌≤◌, ℕ, ◌+◌, ◌==◌, ◌&&◌, Bool, true, false, List, [], ◌∷◌, Option, Some, None, is_some, Result, Ok, Err, refl}
 use Rattle.gs_base.specs.declared.numbers.Moment.{Moment}
 use Rattle.gs_base.specs.declared.numbers.Stamp.{Stamp}
 use Rattle.gs_base.specs.declared.numbers.ReqId.{ReqId}
@@ -67,11 +67,14 @@ pub record TakesLease (handle : ℕ) (stamp : Stamp) (e : Event) (s : Server) : 
   pub other : is_taken stamp (slot_in handle s).taken ≡ false
   pub taken : (slot_in handle (behind e s)).taken ≡ Some stamp
 
--- a server that has begun with nothing, behind some events
+-- a server of sizes that a configuration has, which has begun with nothing, behind some events
 pub record IsReached (s : Server) : Type 0 where
   pub me : ℕ
   pub block : ℕ
   pub chunk : ℕ
+  pub some_block : 1 ≤ block
+  pub block_fits : block ≤ 65536
+  pub chunk_fits : chunk ≤ 67108864
   pub events : List Event
   pub is : s ≡ behind_all events (new me block chunk)
 

@@ -1,6 +1,6 @@
 //! What holds of each server, whatever messages come.
 
-ghost use Rattle.std.specs.Prelude.{◌≡◌, ◌≢◌, ◌<◌, ◌≤◌, ◌+◌, ◌==◌, ℕ, Bool, true, false, List, [], length, Option, Some, None, is_some, Ok, Err};
+ghost use Rattle.std.specs.Prelude.{◌≡◌, ◌≢◌, ◌<◌, ◌≤◌, ◌+◌, ◌==◌, ℕ, Bool, true, false, List, [], ◌++◌, length, Option, Some, None, is_some, Ok, Err};
 ghost use Rattle.std.specs.List.{All};
 ghost use Rattle.gs_base.specs.declared.numbers.Moment.{Moment};
 ghost use Rattle.gs_base.specs.declared.numbers.Stamp.{Stamp};
@@ -19,7 +19,7 @@ ghost use Rattle.gs_msg.specs.declared.chunk.Chunk.{Chunk};
 ghost use Rattle.gs_store.specs.Slots.{Live, Slot};
 ghost use Rattle.gs_store.specs.Serving.{apply, done_in};
 ghost use Rattle.gs_store.specs.Stores as stores;
-ghost use Rattle.gs_server.specs.Leases.{Lease, hears};
+ghost use Rattle.gs_server.specs.Leases.{Lease, hears, forwards, done_at_once};
 ghost use Rattle.gs_server.specs.Places.{Place, Here, Part, SlotBecomes, LeaseBecomes, after};
 ghost use Rattle.gs_server.specs.Edits.{edit, forward};
 ghost use Rattle.gs_server.specs.Holding.{grant, ack};
@@ -32,7 +32,8 @@ ghost use Rattle.gs_store.specs.Whole.{Reaches, IsWholeSlot};
 ghost use Rattle.gs_store.specs.Learning.{start_of};
 ghost use Rattle.gs_store.specs.StoreCalls.{names};
 ghost use Rattle.gs_server.specs.Runs.{Event, behind, behind_all, slot_in, IsByOneCall, IsByCalls, TakesLease, IsReached, prepared, rolled_back, KeepSeal, AllSpare};
-ghost use Rattle.gs_server.specs.Laws.{IsHeldFor, IsSpent, IsAbove, LeavesIfRefused, LeavesTheRest, is_yes, IsToldByAll, IsDoneUnder, IsKnownToAll};
+ghost use Rattle.gs_server.specs.Promises as promising;
+ghost use Rattle.gs_server.specs.Laws.{IsHeldFor, IsSpent, IsAbove, LeavesIfRefused, LeavesIfNotCopied, LeavesTheRest, LeavesAllBut, edit_in, is_yes, IsToldByAll, IsToldUnder, IsDoneUnder, IsKnownToAll, padding};
 
 /// No edit is numbered but under a lease that is held, that is of the promise and of the stamp that is asked for, and whose end
 /// has not come.
@@ -58,10 +59,12 @@ pub fn a_spent_lease_is_not_taken_again()
     ensures restart { (handle : ℕ) (s : Server) (stamp : Stamp) → (place_of handle s).slot.taken ≡ Some stamp → IsSpent stamp (place_of handle (restart s)) }
 {}
 
-/// A message about a chunk that is refused leaves what is kept of the chunk, but that its replica may be marked as bad; it
-/// leaves the lease, and the pushed bytes.
+/// A message about a chunk that is refused leaves what is kept of the chunk, but that a damaged block by which it is refused may mark
+/// its replica as bad; it leaves the lease, and the pushed bytes. Only an edit that is refused changes which refusal is kept of a
+/// client. A copy under a new handle that is refused leaves the new chunk, and of the old one as much.
 pub fn a_refused_message_leaves_the_chunk()
-    ensures { (h : Here) (p : Place) (from : NodeId) (chunk : Chunk) → LeavesIfRefused (about_chunk h p from chunk) }
+    ensures chunk { (h : Here) (p : Place) (from : NodeId) (chunk : Chunk) → LeavesIfRefused (edit_in chunk) (about_chunk h p from chunk) }
+    ensures copy { (h : Here) (source : Place) (at : Stamp) (new : Here) (target : Place) (stamp : Stamp) → LeavesIfNotCopied (promising.make_copy h source at new target stamp) }
 {}
 
 /// An epoch that isn't refused leaves the store as the store learns it, and a refused one leaves the server.
@@ -74,6 +77,7 @@ pub fn a_server_learns_as_its_store_does()
 /// and an acknowledgement does so of the edits that waited. A record that a full chunk passes on isn't numbered.
 pub fn edits_are_done_where_all_have_them()
     ensures at_once { (h : Here) (p : Place) (req : ReqId) (stamp : Stamp) (op : Op) (live : Live) (l : Lease) → p.slot.live ≡ Some live → (edit h p req stamp op).lease ≡ LeaseBecomes l → All (λ m. is_yes m.body ≡ true → IsToldByAll l (live.replica.held.count + 1)) (edit h p req stamp op).sent }
+    ensures numbered { (h : Here) (p : Place) (req : ReqId) (stamp : Stamp) (op : Op) (live : Live) (s : Slot) → p.slot.live ≡ Some live → (edit h p req stamp op).slot ≡ SlotBecomes s → All (λ m. is_yes m.body ≡ true → IsToldUnder (after p (edit h p req stamp op)).lease (live.replica.held.count + 1)) (edit h p req stamp op).sent }
     ensures later { (h : Here) (p : Place) (server : ℕ) (stamp : Stamp) (count : ℕ) (l : Lease) → p.lease ≡ Some l → All (IsDoneUnder h.me (hears server count l)) (ack h p server stamp count).sent }
     ensures unleased { (h : Here) (p : Place) (server : ℕ) (stamp : Stamp) (count : ℕ) → p.lease ≡ None → (ack h p server stamp count).sent ≡ [] }
 {}
@@ -84,16 +88,18 @@ pub fn repeats_are_done_where_all_have_them()
     ensures { (h : Here) (p : Place) (req : ReqId) (stamp : Stamp) (op : Op) (last : Done) → done_in p.slot.live req.client.0 ≡ Some last → req.number ≡ last.number → All (λ m. is_yes m.body ≡ true → IsKnownToAll req p) (edit h p req stamp op).sent }
 {}
 
-/// An append that doesn't fit is numbered as a pad.
+/// An append that doesn't fit is numbered as a pad, goes to the other members as that pad, and is told its client as padded.
 pub fn an_append_that_does_not_fit_is_a_pad()
-    ensures { (h : Here) (p : Place) (req : ReqId) (stamp : Stamp) (many : ℕ) (live : Live) (s : Slot) → p.slot.live ≡ Some live → h.chunk < length live.replica.held.chunk.bytes + many → (edit h p req stamp (Append many)).slot ≡ SlotBecomes s → apply stamp (live.replica.held.count + 1) req Pad [] p.slot ≡ Ok s }
+    ensures slot { (h : Here) (p : Place) (req : ReqId) (stamp : Stamp) (many : ℕ) (live : Live) (s : Slot) → p.slot.live ≡ Some live → h.chunk < length live.replica.held.chunk.bytes + many → (edit h p req stamp (Append many)).slot ≡ SlotBecomes s → apply stamp (live.replica.held.count + 1) req Pad [] p.slot ≡ Ok s }
+    ensures sent { (h : Here) (p : Place) (req : ReqId) (stamp : Stamp) (many : ℕ) (live : Live) (l : Lease) (s : Slot) → p.slot.live ≡ Some live → p.lease ≡ Some l → h.chunk < length live.replica.held.chunk.bytes + many → (edit h p req stamp (Append many)).slot ≡ SlotBecomes s → (edit h p req stamp (Append many)).sent ≡ forwards h.me h.handle l (live.replica.held.count + 1, padding req) ++ done_at_once h.me (live.replica.held.count + 1) (padding req) l }
 {}
 
 /// A message about a chunk changes what is kept of that chunk and of no other, and of the rest at most what is kept of the client
-/// of its request, and the bytes that were pushed for the request. A copy under a new handle changes no third chunk.
+/// of its request, and the bytes that were pushed for the request. A copy under a new handle changes no third chunk, and nothing of
+/// the rest.
 pub fn a_message_about_a_chunk_leaves_the_others()
     ensures chunk { (s : Server) (from : NodeId) (handle : ℕ) (chunk : Chunk) (moment : Moment) → LeavesTheRest handle (request_in chunk) s (handle_chunk s from handle chunk moment).after }
-    ensures copy { (s : Server) (handle new_handle other : ℕ) (at stamp : Stamp) (moment : Moment) → (other == handle) ≡ false → (other == new_handle) ≡ false → place_of other (make_copy s handle at new_handle stamp moment).after ≡ place_of other s }
+    ensures copy { (s : Server) (handle new_handle : ℕ) (at stamp : Stamp) (moment : Moment) → LeavesAllBut handle new_handle s (make_copy s handle at new_handle stamp moment).after }
 {}
 
 /// What touches every chunk is one function on the place of each: at a tick a lease that is over is spent, at a restart each
@@ -131,9 +137,12 @@ pub fn a_rollback_makes_live_what_was_sealed()
 {}
 
 /// At each server that began with nothing, whatever happened to it since: a lease that it holds is the one that was taken last of the
-/// chunk, the promise reaches that stamp, and no promise is of an epoch above the server's.
+/// chunk and is of the promise, the promise reaches the stamp that was taken last, and no promise is of an epoch above the server's. So
+/// an event that changes a promise spends the lease.
 pub fn leases_and_promises_are_in_order()
     ensures held { (handle : ℕ) (s : Server) (l : Lease) → IsReached s → (place_of handle s).lease ≡ Some l → (slot_in handle s).taken ≡ Some l.grant.stamp }
+    ensures promised { (handle : ℕ) (s : Server) (l : Lease) → IsReached s → (place_of handle s).lease ≡ Some l → l.grant.stamp ≡ (slot_in handle s).promise }
+    ensures spent { (handle : ℕ) (e : Event) (s : Server) → IsReached s → (slot_in handle (behind e s)).promise ≢ (slot_in handle s).promise → (place_of handle (behind e s)).lease ≡ None }
     ensures reached { (handle : ℕ) (s : Server) → IsReached s → Reaches (slot_in handle s).promise (slot_in handle s).taken }
     ensures epoch { (handle : ℕ) (s : Server) → IsReached s → (slot_in handle s).promise.epoch ≤ s.kept.epoch }
 {}
@@ -143,9 +152,16 @@ pub fn a_spent_lease_is_never_held_again()
     ensures { (handle : ℕ) (stamp : Stamp) (events : List Event) (s : Server) (l : Lease) → IsReached s → IsSpent stamp (place_of handle s) → (place_of handle (behind_all events s)).lease ≡ Some l → l.grant.stamp ≢ stamp }
 {}
 
+/// Each chunk is whole at each server that began with nothing, whatever came to it: its live replica is under the promise, what is in the
+/// trash is sealed and stands beside no other sealed image, and each replica, and what undoing gives of it, has sizes that chunks
+/// have and one digest for each block.
+pub fn each_chunk_is_whole()
+    ensures { (handle : ℕ) (s : Server) → IsReached s → IsWholeSlot (slot_in handle s) }
+{}
+
 /// What a rollback makes live is under the first stamp of its epoch, whatever happened before, and a server names exactly these
 /// chunks.
 pub fn a_rollback_names_what_it_makes_live()
     ensures promise { (handle : ℕ) (s : Server) → IsReached s → is_some (slot_in handle (rolled_back s)).live ≡ true → (slot_in handle (rolled_back s)).promise ≡ start_of (s.kept.epoch + 1) }
-    ensures named { (handle : ℕ) (s : Server) → IsReached s → IsWholeSlot (slot_in handle s) → names handle (s.kept.epoch + 1) (store_of (rolled_back s)) ≡ is_some (slot_in handle (rolled_back s)).live }
+    ensures named { (handle : ℕ) (s : Server) → IsReached s → names handle (s.kept.epoch + 1) (store_of (rolled_back s)) ≡ is_some (slot_in handle (rolled_back s)).live }
 {}

@@ -8,5 +8,5 @@ pub returns-clause-chunk : goal.returns-clause-chunk
 returns-clause-chunk c = λ s from handle chunk moment. rest_stays handle (request_in chunk) (about_chunk (here_of s moment handle (request_in chunk)) (place_of handle s) from chunk) s
 
 pub returns-clause-copy : goal.returns-clause-copy
-returns-clause-copy c = λ s handle new_handle other at stamp moment apart new_apart.
-    copy_leaves handle new_handle other (promises.make_copy (here_of s moment handle None) (place_of handle s) at (here_of s moment new_handle None) (place_of new_handle s) stamp) s apart new_apart
+returns-clause-copy c = λ s handle new_handle at stamp moment.
+    copy_leaves handle new_handle (promises.make_copy (here_of s moment handle None) (place_of handle s) at (here_of s moment new_handle None) (place_of new_handle s) stamp) s

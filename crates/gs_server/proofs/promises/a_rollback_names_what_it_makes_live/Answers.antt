@@ -5,4 +5,4 @@ pub returns-clause-promise : goal.returns-clause-promise
 returns-clause-promise c = λ handle s r live. starts_anew handle s r live
 
 pub returns-clause-named : goal.returns-clause-named
-returns-clause-named c = λ handle s r whole. names_live handle s r whole
+returns-clause-named c = λ handle s r. names_live handle s r
