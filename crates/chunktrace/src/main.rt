@@ -142,7 +142,9 @@ fn serve(rt: &(impl Input + Print + AllocGlobal), config: Config) -> Result<(), 
         Err(unopened) => return Err(RunFault::Refused(unopened.refusal)),
     };
     desk.start_trace();
-    run(alloc, &mut desk, &mut reader, &mut writer)
+    let done = run(alloc, &mut desk, &mut reader, &mut writer);
+    desk.close();
+    done
 }
 
 /// The status is 0 at the end of the input, 1 where a read or a write fails or the run can't begin, and 2 where the words of
