@@ -142,9 +142,7 @@ fn serve(rt: &(impl Input + Print + AllocGlobal), config: Config) -> Result<(), 
         Err(unopened) => return Err(RunFault::Refused(unopened.refusal)),
     };
     desk.start_trace();
-    let done = run(alloc, &mut desk, &mut reader, &mut writer);
-    desk.close();
-    done
+    run(alloc, &mut desk, &mut reader, &mut writer)
 }
 
 /// The status is 0 at the end of the input, 1 where a read or a write fails or the run can't begin, and 2 where the words of

@@ -58,11 +58,6 @@ impl<D: Disk + Drop> Desk<D> {
         })
     }
 
-    /// Ends the store: its nodes are let go, and their disks.
-    pub fn close(self) {
-        self.wire.close();
-    }
-
     /// From now on the text of each message that is sent is kept.
     pub fn start_trace(&mut self)
         ensures client { self.new.caller.client ≡ self.old.caller.client }

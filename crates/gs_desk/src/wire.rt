@@ -93,16 +93,6 @@ impl<D: Disk + Drop> Wire<D> {
         }
     }
 
-    /// Lets the nodes go, with what is under way and what is held back.
-    pub fn close(self) {
-        let Wire {
-            world, queue, held, ..
-        } = self;
-        world.close();
-        drop(queue);
-        drop(held);
-    }
-
     /// What an event comes to: its messages are sent. The answer is what was said.
     pub(crate) fn end(&mut self, done: Result<Turn, Refusal>) -> Result<(), Refusal>
         ensures { Ends done (way_of self.old) result (way_of self.new) }

@@ -116,7 +116,5 @@ fn tour(rt: &impl Print, client: &mut Client, link: &mut Link) -> Result<(), Fau
 
 fn main(rt: HostRuntime) -> Result<(), Fault> {
     let mut store = new_store(rt.alloc())?;
-    let done = tour(&rt, &mut store.caller.client, &mut store.wire);
-    store.close();
-    done
+    tour(&rt, &mut store.caller.client, &mut store.wire)
 }

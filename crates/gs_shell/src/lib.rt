@@ -33,7 +33,5 @@ pub fn run<D: Disk + Drop, R: BufRead, W: Write>(
         Ok(desk) => desk,
         Err(unopened) => return Err(RunFault::Refused(unopened.refusal)),
     };
-    let done = gs_script::run(alloc, &mut desk, reader, writer);
-    desk.close();
-    done
+    gs_script::run(alloc, &mut desk, reader, writer)
 }

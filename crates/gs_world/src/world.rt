@@ -91,7 +91,4 @@ impl<D: Disk + Drop> World<D> {
         };
         Ok((world, Turn { sent, said: None }))
     }
-
-    /// Lets the nodes go, and the disks with them. A crate above that ends a world so needn't prove how each part of it is let go.
-    pub fn close(self) {}
 }
