@@ -1,3 +1,4 @@
+pub mod Granting
 pub mod Restored
 pub mod Targets
 pub mod Waits

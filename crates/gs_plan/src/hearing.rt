@@ -67,10 +67,13 @@ impl<'a> Standing<'a> {
         Ok(sent)
     }
 
-    /// The grants of all leases that stand, ascending.
+    /// The grants of all leases that stand, ascending. Where no chunk has a primary, no chunk is looked at.
     pub fn grants(&self) -> Result<Vec<Message>, AllocError>
         ensures { IfOk result (λ sent. sent.items ≡ flat_map (λ chunk. granted_at chunk (chunk_at (state_of self.entry.now) chunk)) (fin.keys (state_of self.entry.now).durable.chunks)) }
     {
+        if !self.recorded.leases.has_primary() {
+            return Ok(Vec::new(self.recorded.alloc));
+        }
         let chunks = self.settled_chunks()?;
         self.granted_of(&chunks)
     }

@@ -1,12 +1,12 @@
 // On which servers replicas are put.
-ghost use Rattle.std.specs.Prelude.{◌≡◌, ◌+◌, ◌<◌, ◌^◌, ℕ, slice_index};
+ghost use Rattle.std.specs.Prelude.{◌≡◌};
 ghost use Rattle.gs_state.specs.Beginning.{counted_views, targets_for};
 ghost use Rattle.gs_state.specs.Chunks.{has_entry};
 ghost use Rattle.gs_plan.specs.Planning.{state_of};
-ghost use Rattle.gs_state.specs.Surveying.{AreCounts, CountsMembers, view_by_lease, view_where};
+ghost use Rattle.gs_state.specs.Surveying.{AreCounts, view_by_lease, view_where};
 
 use crate::standing::Standing;
-use gs_base::{Config, Handle, Members, ServerId};
+use gs_base::{Config, Handle, Members};
 use gs_lease::{Lease, Told, View};
 use gs_place::targets;
 
@@ -16,19 +16,6 @@ fn view_by_lease(lease: &Lease) -> Option<View>
     ensures { result ≡ view_by_lease lease.now }
 {
     Told::of(lease).settled
-}
-
-/// Counts a view at each of its members.
-fn count_members(counts: &mut [u64; 16], members: Members)
-    requires { (server : ℕ) → server < 16 → slice_index counts.old server < 2 ^ 63 }
-    ensures { CountsMembers members counts.old counts.new }
-{
-    for number in 0..16 {
-        let server = ServerId::new(number).unwrap();
-        if members.contains(server) {
-            counts[number as usize] += 1;
-        }
-    }
 }
 
 impl<'a> Standing<'a> {
@@ -43,17 +30,11 @@ impl<'a> Standing<'a> {
         }
     }
 
-    /// Of how many views each server is a member.
+    /// Of how many settled views each server is a member.
     fn replica_counts(&self) -> [u64; 16]
         ensures { AreCounts (counted_views (state_of self.entry.now)) result }
     {
-        let mut counts = [0; 16];
-        for (chunk, lease) in self.recorded.leases.iter() {
-            if let Some(view) = self.counted_view(chunk, lease) {
-                count_members(&mut counts, view.members);
-            }
-        }
-        counts
+        self.recorded.leases.replica_counts()
     }
 
     /// As many servers as are wanted for replicas of a chunk that has these members now, if there are so many.

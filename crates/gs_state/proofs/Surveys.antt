@@ -1,16 +1,21 @@
 -- What is found in all leases is what is found in all settled chunks.
-use Rattle.std.proofs.Common.{◌≡◌, ◌∙◌, ◌+◌, ◌==◌, ◌&&◌, ◌||◌, ℕ, Bool, true, false, not, cond, List, [], ◌∷◌, map, filter, length, refl, ap, sym, subst, Option, Some, None}
+use Rattle.std.proofs.Common.{arith, ◌≡◌, ◌∙◌, ◌+◌, ◌==◌, ◌&&◌, ◌||◌, ℕ, Bool, true, false, not, cond, T, List, [], ◌∷◌, map, filter, length, refl, ap, sym, subst, Option, Some, None}
 use Rattle.std.specs.Prelude.{Option, Some, None, filter_map, option_map, is_some, if◌then◌else◌}
 use Rattle.std.specs.FinMap as fin
+use Rattle.std.specs.FinMap.Entries.{below_all, is_sorted}
+use Rattle.std.specs.declared.cmp.Ordering.{Ordering}
+use Rattle.std.specs.declared.cmp.Ordering.TheVariants.{Less, Equal, Greater}
 use Rattle.std.proofs.lemmas.List.Sums.{sum_by-cons}
 use Rattle.std.proofs.lemmas.List.Folds.{list_any-append}
-use Rattle.std.specs.List.{list_any}
+use Rattle.std.specs.List.{AllByRecursion, list_any}
 use Rattle.std.specs.List.Sorted.{IsStrictlySortedBy}
-use Rattle.std.specs.Ordering.{nat_cmp}
+use Rattle.std.specs.Ordering.{is_lt, nat_cmp}
 use Rattle.gs_base.specs.Members.{is_member}
 use Rattle.gs_base.specs.declared.numbers.Stamp.{Stamp}
+use Rattle.gs_lease.specs.Told.{told_of}
 use Rattle.gs_lease.specs.declared.lease.Lease.{Lease}
 use Rattle.gs_lease.specs.declared.view.View.{View}
+use Rattle.gs_lease_table.specs.Tallies.{AreReplicas, has_primary, members_of, replicas}
 use Rattle.gs_msg.specs.declared.body.Reported.{Reported}
 use Rattle.gs_path.specs.Element.{is_hidden}
 use Rattle.gs_tree.specs.Chunks.{all_chunks, visible_chunks_under, visible_under}
@@ -23,7 +28,7 @@ use Rattle.gs_state.specs.Durable.{Settled}
 use Rattle.gs_state.specs.Hearing.{is_told_sound}
 use Rattle.gs_state.specs.Recorded.{durable_of, settled_as, settled_by}
 use Rattle.gs_state.specs.State.{State}
-use Rattle.gs_state.specs.Surveying.{AreSound, AreVisible, chunk_set, need_by, need_where, settled_where, sound_handles, view_where}
+use Rattle.gs_state.specs.Surveying.{AreCounts, AreSound, AreVisible, chunk_set, need_by, need_where, settled_where, sound_handles, view_where}
 use Rattle.gs_state.specs.Working.{is_visible, need_of, needs_of}
 use Rattle.gs_state.specs.declared.recorded.Recorded.{Recorded}
 use Rattle.gs_state.proofs.ChunkSets.{in_set, keys_where}
@@ -169,9 +174,55 @@ one_view_more v e rest k view is = ap (λ l. replicas_on l k) (with_one v e rest
 pub no_view_more : (v : ℕ × Lease → Option View) (e : ℕ × Lease) (rest : List (ℕ × Lease)) (k : ℕ) → None ≡ v e → replicas_on (filter_map v (e ∷ rest)) k ≡ replicas_on (filter_map v rest) k
 no_view_more v e rest k is = ap (λ l. replicas_on l k) (without v e rest (sym is))
 
-pub found_more : {A B : Type 0} (f : A → Option B) (x : A) (xs : List A) (y : B) → f x ≡ Some y → filter_map f (x ∷ xs) ≡ y ∷ filter_map f xs
-found_more f x xs y is = with_one f x xs y is
+none_more : (n : ℕ) → 0 + n ≡ n
+none_more n = omega arith
+
+told_one : (server : ℕ) (e : ℕ × Lease) (es : List (ℕ × Lease)) (v : Option View) → (told_of e.1).settled ≡ v → replicas server es ≡ replicas_on (filter_map (view_where (λ chunk. true)) es) server →
+    replicas server (e ∷ es) ≡ replicas_on (filter_map (view_where (λ chunk. true)) (e ∷ es)) server
+told_one server e es None is rest =
+    ap (λ v. (if is_member (members_of v) server then 1 else 0) + replicas server es) is ∙ none_more (replicas server es) ∙ rest
+    ∙ sym (no_view_more (view_where (λ chunk. true)) e es server (sym is ∙ view_told (told_of e.1).settled (told_of e.1).proposed))
+told_one server e es (Some view) is rest =
+    ap (λ v. (if is_member (members_of v) server then 1 else 0) + replicas server es) is ∙ ap (λ n. (if is_member view.members server then 1 else 0) + n) rest
+    ∙ sym (one_view_more (view_where (λ chunk. true)) e es server view (sym is ∙ view_told (told_of e.1).settled (told_of e.1).proposed))
+
+replicas_told : (server : ℕ) (es : List (ℕ × Lease)) → replicas server es ≡ replicas_on (filter_map (view_where (λ chunk. true)) es) server
+replicas_told server [] = refl
+replicas_told server (e ∷ es) = told_one server e es (told_of e.1).settled refl (replicas_told server es)
 
 pub all_pass : {A : Type 0} (xs : List A) → filter (λ (x : A). true) xs ≡ xs
 all_pass [] = refl
 all_pass (x ∷ xs) = ap (λ rest. x ∷ rest) (all_pass xs)
+
+left : (a b : Bool) → T (a && b) → T a
+left true b h = tt
+left false b h = absurd h
+
+right : (a b : Bool) → T (a && b) → T b
+right true b h = h
+right false b h = absurd h
+
+is_less : (r : Ordering) → T (is_lt r) → r ≡ Less
+is_less Less h = refl
+is_less Equal h = absurd h
+is_less Greater h = absurd h
+
+all_above : (chunk : ℕ) (es : List (ℕ × Lease)) → T (below_all nat_cmp chunk es) → AllByRecursion (λ y. nat_cmp chunk y ≡ Less) (map (λ (e : ℕ × Lease). e.0) es)
+all_above chunk [] h = tt
+all_above chunk (e ∷ es) h = (is_less (nat_cmp chunk e.0) (left (is_lt (nat_cmp chunk e.0)) (below_all nat_cmp chunk es) h), all_above chunk es (right (is_lt (nat_cmp chunk e.0)) (below_all nat_cmp chunk es) h))
+
+rising : (es : List (ℕ × Lease)) → T (is_sorted nat_cmp es) → IsStrictlySortedBy nat_cmp (map (λ (e : ℕ × Lease). e.0) es)
+unfolding IsStrictlySortedBy
+rising [] h = tt
+rising (e ∷ es) h = (all_above e.0 es (left (below_all nat_cmp e.0 es) (is_sorted nat_cmp es) h), rising es (right (below_all nat_cmp e.0 es) (is_sorted nat_cmp es) h))
+
+-- what a table of leases counts is what is counted of the settled views
+pub counted_all : (r : Recorded) (counts : List ℕ) → AreReplicas (fin.entries (live nat_cmp r.leases)) counts → AreCounts (map (λ (e : ℕ × Settled). e.1.view) (fin.entries (durable_of r).chunks)) counts
+counted_all r counts are = record {
+  each = λ server low.
+      are.each server low ∙ replicas_told server (fin.entries (live nat_cmp r.leases))
+      ∙ ap (λ views. replicas_on views server) (views_in (λ chunk. true) r (fin.entries (live nat_cmp r.leases)) (record { all = refl; rise = rising _ (fin.entries_sorted (live nat_cmp r.leases)) }) ∙ ap (map (λ (e : ℕ × Settled). e.1.view)) (all_pass (fin.entries (durable_of r).chunks)));
+}
+
+pub found_more : {A B : Type 0} (f : A → Option B) (x : A) (xs : List A) (y : B) → f x ≡ Some y → filter_map f (x ∷ xs) ≡ y ∷ filter_map f xs
+found_more f x xs y is = with_one f x xs y is

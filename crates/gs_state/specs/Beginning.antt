@@ -14,7 +14,7 @@ use Rattle.gs_msg.specs.declared.chunk.Chunk.TheVariants as chunks
 use Rattle.gs_msg.specs.declared.node.NodeId.TheVariants as nodes
 use Rattle.gs_place.specs.Targets.{targets_of}
 use Rattle.gs_record.specs.Plain.{Propose}
-use Rattle.gs_state.specs.Chunks.{Chunk, chunk_at, members_of, has_entry, asking_for}
+use Rattle.gs_state.specs.Chunks.{Chunk, chunk_at, members_of, asking_for}
 use Rattle.gs_state.specs.Durable.{Durable, values_left}
 use Rattle.gs_state.specs.State.{State, Plan, Turn, turned, for_each, about, post, to_each}
 use Rattle.gs_state.specs.declared.change.Change.TheVariants as changes
@@ -82,10 +82,10 @@ waits_from_now plan req waiting = record plan { changes = plan.changes ++ change
 abbrev pub waits_on : Plan → ReqId → Waiting → Plan
 waits_on plan req waiting = record plan { changes = plan.changes ++ changes.Wait req waiting ∷ [] }
 
--- ---- placement: views that have a server as a member
+-- ---- placement: settled views that have a server as a member
 
 abbrev pub counted_views : State → List View
-counted_views s = map (λ e. e.1.view) (filter (λ e. has_entry s e.0) (fin.entries s.durable.chunks))
+counted_views s = map (λ e. e.1.view) (fin.entries s.durable.chunks)
 
 abbrev pub replicas_on : List View → ℕ → ℕ
 replicas_on views server = count_by (λ (v : View). is_member v.members server) views

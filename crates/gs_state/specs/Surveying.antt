@@ -1,5 +1,5 @@
 -- What the code looks for in all chunks: each by its lease, once.
-use Rattle.std.specs.Prelude.{◌≡◌, ◌+◌, ◌<◌, ◌&&◌, ℕ, Bool, true, not, List, [], ◌∷◌, map, filter, slice_index, Option, Some, None, option_map, is_some, if◌then◌else◌, refl}
+use Rattle.std.specs.Prelude.{◌≡◌, ◌<◌, ◌&&◌, ℕ, Bool, true, not, List, [], ◌∷◌, map, filter, slice_index, Option, Some, None, option_map, is_some, if◌then◌else◌, refl}
 use Rattle.std.specs.FinMap as fin
 use Rattle.std.specs.Ordering.{nat_cmp}
 use Rattle.gs_base.specs.Members.{is_member}
@@ -51,10 +51,6 @@ chunk_set (chunk ∷ chunks) = fin.insert (chunk_set chunks) chunk true
 -- of how many of these views each server is a member
 pub record AreCounts (views : List View) (counts : List ℕ) : Type 0 where
   pub each : (server : ℕ) → server < 16 → slice_index counts server ≡ replicas_on views server
-
--- a view more is counted at each of its members
-pub record CountsMembers (members : List ℕ) (old new : List ℕ) : Type 0 where
-  pub each : (server : ℕ) → server < 16 → slice_index new server ≡ slice_index old server + (if is_member members server then 1 else 0)
 
 -- a set has just these chunks
 pub record AreIn (chunks : List ℕ) (set : fin.FinMap nat_cmp Bool) : Type 0 where

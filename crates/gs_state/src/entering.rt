@@ -83,7 +83,7 @@ impl Recorded {
         ensures keeps { KeepsRooms self.old self.new }
     {
         let view = self.view(chunk)?;
-        exchange(&mut self.leases, chunk, restore(view, Some(stamp)))
+        self.leases.exchange(chunk, restore(view, Some(stamp)))
     }
 
     /// A view of a chunk is proposed. There is room for the chunk.
@@ -126,7 +126,7 @@ impl Recorded {
         let chunk = settled.handle;
         let prepared = self.prepared.get(chunk).copied();
         self.keep_prepared(chunk);
-        let lease = exchange(&mut self.leases, chunk, restore(settled.view, None));
+        let lease = self.leases.exchange(chunk, restore(settled.view, None));
         Ok(Undo::Settle(ChunkBefore {
             chunk,
             lease,

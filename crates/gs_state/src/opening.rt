@@ -19,7 +19,7 @@ use crate::telling::told_names;
 use crate::told_answers::told_replies;
 use gs_base::{ClientId, Handle, Refusal};
 use gs_edit::Names;
-use gs_lease::Lease;
+use gs_lease_table::LeaseTable;
 use gs_record::Checkpoint;
 use gs_table::Table;
 use std::alloc::{AllocError, Global};
@@ -39,7 +39,7 @@ fn gathered(
     alloc: Global,
     checkpoint: &Checkpoint,
     names: Names,
-    leases: Table<Handle, Lease>,
+    leases: LeaseTable,
     replies: Table<ClientId, KeptReply>,
 ) -> Result<Recorded, AllocError>
     requires names { names ≡ names_in (plain_checkpoint checkpoint.now) }

@@ -15,6 +15,7 @@ use crate::checking::are_hidden_once;
 use crate::recorded::Recorded;
 use gs_base::{Handle, Refusal};
 use gs_lease::{Lease, Told, restore};
+use gs_lease_table::LeaseTable;
 use gs_record::{Checkpoint, Phase, PreparedView, Reference, SettledEntry};
 use gs_refs::Refs;
 use gs_table::Table;
@@ -33,13 +34,10 @@ fn lease_of(entry: &SettledEntry) -> Lease
 }
 
 /// The chunks that are told. Of a chunk that is told twice the first view stands.
-pub fn told_leases(
-    alloc: Global,
-    entries: &[SettledEntry],
-) -> Result<Table<Handle, Lease>, AllocError>
+pub fn told_leases(alloc: Global, entries: &[SettledEntry]) -> Result<LeaseTable, AllocError>
     ensures { IfOk result (λ leases. chunks_of (live nat_cmp leases) ≡ told_chunks entries.now) }
 {
-    let mut leases = Table::new(alloc);
+    let mut leases = LeaseTable::new(alloc);
     let mut left = entries.len();
     while left > 0 {
         left -= 1;
@@ -74,7 +72,7 @@ pub fn told_prepared(
 
 /// Whether a chunk has a settled view.
 #[tactic(auto, using(crate::proofs::Recording::get_chunks))]
-fn has_view(leases: &Table<Handle, Lease>, chunk: Handle) -> bool
+fn has_view(leases: &LeaseTable, chunk: Handle) -> bool
     ensures { result ≡ is_some (fin.get (chunks_of (live nat_cmp leases.now)) chunk) }
 {
     match leases.get(chunk) {
@@ -83,7 +81,7 @@ fn has_view(leases: &Table<Handle, Lease>, chunk: Handle) -> bool
     }
 }
 
-fn have_views(leases: &Table<Handle, Lease>, references: &[Reference]) -> bool
+fn have_views(leases: &LeaseTable, references: &[Reference]) -> bool
     ensures { result ≡ have_views (chunks_of (live nat_cmp leases.now)) references.now }
 {
     for reference in references {
@@ -95,7 +93,7 @@ fn have_views(leases: &Table<Handle, Lease>, references: &[Reference]) -> bool
 }
 
 /// Whether each counted chunk is settled, by the chunks that the checkpoint tells.
-pub fn are_settled(checkpoint: &Checkpoint, leases: &Table<Handle, Lease>) -> bool
+pub fn are_settled(checkpoint: &Checkpoint, leases: &LeaseTable) -> bool
     requires { chunks_of (live nat_cmp leases.now) ≡ told_chunks (plain_checkpoint checkpoint.now).settled }
     ensures { result ≡ are_settled (plain_checkpoint checkpoint.now).references (plain_checkpoint checkpoint.now).settled }
 {

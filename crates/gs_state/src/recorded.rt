@@ -15,6 +15,7 @@ use crate::reply::KeptReply;
 use gs_base::{ClientId, EpochEnd, Handle, Members, ReqId};
 use gs_edit::{ListedInverse, Names};
 use gs_lease::{Lease, Told, View};
+use gs_lease_table::LeaseTable;
 use gs_record::{Phase, SettledView};
 use gs_table::Table;
 use std::alloc::Global;
@@ -25,7 +26,7 @@ pub struct Recorded {
     pub alloc: Global,
     pub names: HeldNames,
     /// The chunks that the master knows, by their states. A new one moves and has no settled view.
-    pub leases: Table<Handle, Lease>,
+    pub leases: LeaseTable,
     /// The handle of the next chunk, or 0 where none is left. The other counters go the same way.
     pub next_handle: u64,
     pub next_version: u64,
@@ -47,7 +48,7 @@ impl Recorded {
         Recorded {
             alloc,
             names: HeldNames::new(alloc, Names::new(alloc)),
-            leases: Table::new(alloc),
+            leases: LeaseTable::new(alloc),
             next_handle: 1,
             next_version: 1,
             next_hidden: 1,

@@ -17,9 +17,9 @@ use crate::recorded::Recorded;
 use crate::undo::{RollbackBefore, Undo};
 use gs_base::{Handle, Members, Refusal, Stamp};
 use gs_edit::Names;
-use gs_lease::{Lease, View, restore};
+use gs_lease::{View, restore};
+use gs_lease_table::LeaseTable;
 use gs_record::{Answered, Phase};
-use gs_table::Table;
 use std::alloc::AllocError;
 use std::mem;
 
@@ -61,10 +61,10 @@ impl Recorded {
     }
 
     /// The chunks as they stood at prepare, on the servers that have answered.
-    pub fn restored(&self, answered: &[Answered]) -> Result<Table<Handle, Lease>, AllocError>
+    pub fn restored(&self, answered: &[Answered]) -> Result<LeaseTable, AllocError>
         ensures { IfOk result (λ leases. chunks_of (live nat_cmp leases) ≡ restored_chunks (durable_of self.now) answered.now) }
     {
-        let mut leases = Table::new(self.alloc);
+        let mut leases = LeaseTable::new(self.alloc);
         let mut left = answered.len();
         while left > 0 {
             left -= 1;
@@ -86,7 +86,7 @@ impl Recorded {
     }
 
     /// These names and chunks stand, and what was kept since prepare is given up. It answers what stood.
-    fn exchange_all(&mut self, names: Names, leases: Table<Handle, Lease>) -> RollbackBefore
+    fn exchange_all(&mut self, names: Names, leases: LeaseTable) -> RollbackBefore
         ensures value { durable_of self.new ≡ record (without_prepared (durable_of self.old)) { names = names; chunks = chunks_of (live nat_cmp leases); phase = Ordinary } }
         ensures back { self.old.phase ≡ Rolling → IsUndo self.old self.new (Undo.RollbackCommit result) }
     {

@@ -19,6 +19,7 @@ use crate::undo::{
 use gs_base::{ClientId, Handle};
 use gs_edit::ListedInverse;
 use gs_lease::Lease;
+use gs_lease_table::LeaseTable;
 use gs_record::Phase;
 use gs_table::{Key, Table};
 
@@ -36,6 +37,20 @@ fn put_back<K: Key + Drop, V: Drop>(table: &mut Table<K, V>, key: K, before: Opt
     }
 }
 
+/// What stood at a chunk stands there again, or nothing.
+fn put_lease_back(leases: &mut LeaseTable, chunk: Handle, before: Option<Lease>)
+    requires { RoomAt nat_cmp leases.old chunk before }
+    ensures put { live nat_cmp leases.new ≡ set_live chunk before (live nat_cmp leases.old) }
+    ensures keeps { KeepsRoom nat_cmp leases.old leases.new }
+{
+    match before {
+        Some(lease) => leases.put(chunk, lease),
+        None => {
+            let _taken = leases.take(chunk);
+        }
+    }
+}
+
 /// The reply stands again in whose place another was put.
 fn put_reply_back(replies: &mut Table<ClientId, KeptReply>, before: Option<ReplyBefore>)
     requires { RoomForReply replies.old before }
@@ -48,7 +63,7 @@ fn put_reply_back(replies: &mut Table<ClientId, KeptReply>, before: Option<Reply
 }
 
 /// The lease of a chunk stands again that moves since, if it was settled.
-fn put_moved_back(leases: &mut Table<Handle, Lease>, chunk: Handle, before: Option<Lease>)
+fn put_moved_back(leases: &mut LeaseTable, chunk: Handle, before: Option<Lease>)
     requires { RoomAt nat_cmp leases.old chunk before }
     ensures put { live nat_cmp leases.new ≡ with_moved_before chunk before (live nat_cmp leases.old) }
     ensures keeps { KeepsRoom nat_cmp leases.old leases.new }
@@ -107,7 +122,7 @@ impl Recorded {
             lease,
             prepared,
         } = before;
-        put_back(&mut self.leases, chunk, lease);
+        put_lease_back(&mut self.leases, chunk, lease);
         put_back(&mut self.prepared, chunk, prepared);
     }
 

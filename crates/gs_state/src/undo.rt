@@ -9,6 +9,7 @@ use crate::reply::KeptReply;
 use gs_base::{ClientId, Handle};
 use gs_edit::{Edit, Inverse, ListedInverse, Names};
 use gs_lease::Lease;
+use gs_lease_table::LeaseTable;
 use gs_record::Phase;
 use gs_table::{Key, Table};
 
@@ -83,7 +84,7 @@ pub struct EpochBefore {
 #[derive(Drop)]
 pub struct RollbackBefore {
     pub names: HeldNames,
-    pub leases: Table<Handle, Lease>,
+    pub leases: LeaseTable,
     pub kept: KeptBefore,
 }
 

@@ -10,13 +10,13 @@ use Rattle.gs_state.proofs.recorded.Recorded.enter_view.Goals as goal
 
 pub returns-clause-applied : goal.returns-clause-applied
 returns-clause-applied c =
-    settled_gives c.args.self.now c.keep_prepared.new.self c.exchange-lease.new.table c.args.settled.now _ (search rules) c.keep_prepared.ensures.value c.keep_prepared.ensures.leases c.exchange-lease.ensures.put c.restore.ensures
+    settled_gives c.args.self.now c.keep_prepared.new.self c.exchange-lease.new.self c.args.settled.now _ (search rules) c.keep_prepared.ensures.value c.keep_prepared.ensures.leases c.exchange-lease.ensures.put c.restore.ensures
 
 pub returns-clause-back : goal.returns-clause-back
 returns-clause-back c =
     let leases = ap (live nat_cmp) (sym c.keep_prepared.ensures.leases) ∙ exchanged nat_cmp_total fin.nat_cmp-IsAntisymmetric _ _ c.args.settled.now.handle _ _ c.exchange-lease.ensures.value c.exchange-lease.ensures.put in
     record {
-      value = chunk_undone (durable_of c.args.self.now) (durable_of c.keep_prepared.new.self) (live nat_cmp c.args.self.now.leases) (live nat_cmp c.exchange-lease.new.table) c.args.settled.now.handle
+      value = chunk_undone (durable_of c.args.self.now) (durable_of c.keep_prepared.new.self) (live nat_cmp c.args.self.now.leases) (live nat_cmp c.exchange-lease.new.self) c.args.settled.now.handle
           c.exchange-lease.result c.copied-prepared.result c.keep_prepared.ensures.value refl leases (search rules);
       leases = leases;
       room = (

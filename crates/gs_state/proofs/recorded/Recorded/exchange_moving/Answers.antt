@@ -9,12 +9,12 @@ use Rattle.gs_state.proofs.Before.{lease_before, moved_back, room_at}
 use Rattle.gs_state.proofs.recorded.Recorded.exchange_moving.Goals as goal
 
 pub returns-clause-value : goal.returns-clause-value
-returns-clause-value c = marked c.args.self.now c.exchange.new.table c.args.chunk _ c.in_ok-view.view c.args.stamp c.exchange.ensures.put c.restore.ensures (search rules)
+returns-clause-value c = marked c.args.self.now c.exchange.new.self c.args.chunk _ c.in_ok-view.view c.args.stamp c.exchange.ensures.put c.restore.ensures (search rules)
 
 pub returns-clause-chunks : goal.returns-clause-chunks
 returns-clause-chunks c =
     let has : Some c.in_ok-view.view ≡ view_in (fin.get (chunks_of (live nat_cmp c.args.self.now.leases)) c.args.chunk) = search rules in
-    ap chunks_of (lease_before _ _ c.args.chunk _ c.exchange.result c.in_ok-view.view c.exchange.ensures.value c.exchange.ensures.put has) ∙ moved_back (live nat_cmp c.exchange.new.table) c.args.chunk c.exchange.result
+    ap chunks_of (lease_before _ _ c.args.chunk _ c.exchange.result c.in_ok-view.view c.exchange.ensures.value c.exchange.ensures.put has) ∙ moved_back (live nat_cmp c.exchange.new.self) c.args.chunk c.exchange.result
 
 pub returns-clause-leases : goal.returns-clause-leases
 returns-clause-leases c =

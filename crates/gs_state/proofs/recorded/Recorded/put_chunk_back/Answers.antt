@@ -7,6 +7,6 @@ use Rattle.gs_state.proofs.recorded.Recorded.put_chunk_back.Goals as goal
 
 pub returns-clause-value : goal.returns-clause-value
 returns-clause-value c = λ i. record (durable_of c.args.self.now) {
-  chunks = (ap chunks_of c.put_back.ensures.put ∙ chunks_set (live nat_cmp c.args.self.now.leases) c.args.before.chunk c.args.before.lease) i;
-  prepared = c.put_back-2.ensures.put i;
+  chunks = (ap chunks_of c.put_lease_back.ensures.put ∙ chunks_set (live nat_cmp c.args.self.now.leases) c.args.before.chunk c.args.before.lease) i;
+  prepared = c.put_back.ensures.put i;
 }

@@ -1,0 +1,147 @@
+ghost use Rattle.std.specs.Prelude.{◌≡◌, ◌<◌, ◌^◌, OnOk, OnSome, None, ℕ, length, map};
+ghost use Rattle.std.specs.Option.{option_copied};
+ghost use Rattle.std.specs.FinMap as fin;
+ghost use Rattle.std.specs.List.{list_any};
+ghost use Rattle.std.specs.List.Sorted.{IsStrictlySortedBy};
+ghost use Rattle.std.specs.Ordering.{nat_cmp};
+ghost use Rattle.gs_lease.specs.declared.lease.Lease.{Lease as AnyLease};
+ghost use Rattle.gs_table.specs.Slots.{GivesUpRoom, HasRoom, KeepsRoom, live};
+ghost use Rattle.gs_lease_table.specs.Tallies.{AreReplicas, has_primary};
+
+use crate::tally::{Tally, are_few};
+use gs_base::Handle;
+use gs_lease::Lease;
+use gs_table::{Entries, Table};
+use std::alloc::{AllocError, Global};
+use std::marker::Model;
+
+/// The leases of a master's chunks: a [`Table`] that keeps count of the settled views of which each server is a member, and of
+/// those that have a primary. A change costs what a table's costs and a look at each server; none looks at another chunk.
+#[derive(Drop)]
+pub struct LeaseTable {
+    leases: Table<Handle, Lease>,
+    tally: Tally,
+}
+
+impl Model for LeaseTable {
+    ghost use Rattle.std.specs.Prelude.{List, Option, ℕ};
+    ghost use Rattle.std.specs.FinMap as fin;
+    ghost use Rattle.std.specs.Ordering.{nat_cmp};
+    ghost use Rattle.gs_lease.specs.declared.lease.Lease.{Lease};
+    ghost use Rattle.gs_table.specs.Slots.{live};
+    ghost use Rattle.gs_lease_table.specs.Tallies.{IsTallyOf};
+
+    ghost Value = { List (ℕ × Option Lease) };
+
+    ghost view = { λ t. t.leases };
+
+    ghost invariant = { λ t. IsTallyOf (fin.entries (live nat_cmp t.leases)) t.tally };
+}
+
+impl LeaseTable {
+    pub fn new(alloc: Global) -> LeaseTable
+        ensures { live nat_cmp result ≡ fin.empty }
+    {
+        LeaseTable {
+            leases: Table::new(alloc),
+            tally: Tally {
+                replicas: [0; 16],
+                primaries: 0,
+            },
+        }
+    }
+
+    /// Of how many settled views each server is a member, by the servers' numbers. It looks at no lease.
+    pub fn replica_counts(&self) -> [u64; 16]
+        ensures { AreReplicas (fin.entries (live nat_cmp self.now)) result }
+    {
+        self.tally.replicas
+    }
+
+    /// Whether some settled view has a primary. It looks at no lease.
+    pub fn has_primary(&self) -> bool
+        ensures { result ≡ list_any (λ (e : ℕ × AnyLease). has_primary e.1) (fin.entries (live nat_cmp self.now)) }
+    {
+        0 < self.tally.primaries
+    }
+
+    /// What stands at a chunk. A chunk at which something stands has room.
+    pub fn get(&self, chunk: Handle) -> Option<&Lease>
+        ensures value { option_copied result ≡ fin.get (live nat_cmp self.now) chunk }
+        ensures room { OnSome result (HasRoom nat_cmp self.now chunk) }
+    {
+        self.leases.get(chunk)
+    }
+
+    /// What lives, in the order of the chunks.
+    pub fn iter(&self) -> Entries<'_, Handle, Lease>
+        ensures entries { result ≡ fin.entries (live nat_cmp self.entry.now) }
+        ensures ordered { IsStrictlySortedBy nat_cmp (map (λ entry. entry.0) result) }
+        ensures fits { length result < 2 ^ 63 }
+    {
+        self.leases.iter()
+    }
+
+    /// Makes room for a chunk.
+    pub fn reserve(&mut self, chunk: Handle) -> Result<(), AllocError>
+        ensures same { live nat_cmp self.new ≡ live nat_cmp self.old }
+        ensures ok { OnOk result (HasRoom nat_cmp self.new chunk) }
+        ensures keeps { KeepsRoom nat_cmp self.old self.new }
+    {
+        self.leases.reserve(chunk)
+    }
+
+    /// Puts a lease at a chunk that has room, and answers what stood there. It takes no memory.
+    pub fn exchange(&mut self, chunk: Handle, lease: Lease) -> Option<Lease>
+        requires { HasRoom nat_cmp self.old chunk }
+        ensures value { result ≡ fin.get (live nat_cmp self.old) chunk }
+        ensures put { live nat_cmp self.new ≡ fin.insert (live nat_cmp self.old) chunk lease }
+        ensures keeps { KeepsRoom nat_cmp self.old self.new }
+    {
+        let before = self.take(chunk);
+        are_few(&self.leases);
+        self.tally.add(&lease);
+        self.leases.put(chunk, lease);
+        before
+    }
+
+    /// The same, where what stood there isn't wanted any more.
+    pub fn put(&mut self, chunk: Handle, lease: Lease)
+        requires { HasRoom nat_cmp self.old chunk }
+        ensures put { live nat_cmp self.new ≡ fin.insert (live nat_cmp self.old) chunk lease }
+        ensures keeps { KeepsRoom nat_cmp self.old self.new }
+    {
+        let _before = self.exchange(chunk, lease);
+    }
+
+    /// Takes out what stands at a chunk, and leaves its room. It takes no memory.
+    pub fn take(&mut self, chunk: Handle) -> Option<Lease>
+        ensures value { result ≡ fin.get (live nat_cmp self.old) chunk }
+        ensures taken { live nat_cmp self.new ≡ fin.remove (live nat_cmp self.old) chunk }
+        ensures keeps { KeepsRoom nat_cmp self.old self.new }
+    {
+        let lease = self.leases.take(chunk)?;
+        self.tally.subtract(&lease);
+        Some(lease)
+    }
+
+    /// Takes out what stands at a chunk, and gives up its room. It takes no memory.
+    pub fn remove(&mut self, chunk: Handle) -> Option<Lease>
+        ensures value { result ≡ fin.get (live nat_cmp self.old) chunk }
+        ensures removed { live nat_cmp self.new ≡ fin.remove (live nat_cmp self.old) chunk }
+        ensures room { GivesUpRoom nat_cmp self.old self.new chunk }
+    {
+        let lease = self.leases.remove(chunk)?;
+        self.tally.subtract(&lease);
+        Some(lease)
+    }
+
+    /// Gives up the room of a chunk at which nothing stands. It takes no memory.
+    pub fn release(&mut self, chunk: Handle)
+        ensures same { live nat_cmp self.new ≡ live nat_cmp self.old }
+        ensures empty { fin.get (live nat_cmp self.old) chunk ≡ None → GivesUpRoom nat_cmp self.old self.new chunk }
+        ensures kept { OnSome (fin.get (live nat_cmp self.old) chunk) (self.new ≡ self.old) }
+    {
+        self.leases.release(chunk);
+    }
+}
