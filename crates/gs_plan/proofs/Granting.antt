@@ -1,6 +1,6 @@
 -- Where no settled view has a primary, no lease is granted.
 use Rattle.std.proofs.Common.{◌≡◌, ◌∙◌, ◌&&◌, ◌||◌, ℕ, Bool, true, false, not, cond, List, [], ◌∷◌, Option, Some, None, refl, ap, sym}
-use Rattle.std.specs.Prelude.{flat_map, option_and_then, option_map, is_some, if◌then◌else◌}
+use Rattle.std.specs.Prelude.{flat_map, option_and_then, option_map, is_some}
 use Rattle.std.specs.FinMap as fin
 use Rattle.std.specs.List.{list_any}
 use Rattle.std.specs.Ordering.{nat_cmp, eq_by_cmp}
@@ -10,10 +10,10 @@ use Rattle.gs_lease.specs.declared.view.View.{View}
 use Rattle.gs_lease_table.specs.Tallies.{has_primary}
 use Rattle.gs_msg.specs.declared.message.Message.{Message}
 use Rattle.gs_table.specs.Slots.{live}
-use Rattle.gs_state.specs.Chunks.{Chunk, chunk_at, has_entry, is_leased, is_moving, term_of, view_of}
+use Rattle.gs_state.specs.Chunks.{Chunk, chunk_at, has_entry, is_moving, term_of}
 use Rattle.gs_state.specs.Durable.{Settled}
 use Rattle.gs_state.specs.Handling.{granted_at}
-use Rattle.gs_state.specs.Recorded.{durable_of, settled_as, settled_by}
+use Rattle.gs_state.specs.Recorded.{durable_of, settled_by}
 use Rattle.gs_state.specs.State.{State}
 use Rattle.gs_state.specs.declared.recorded.Recorded.{Recorded}
 use Rattle.gs_state.proofs.Recording.{get_chunks}

@@ -10,7 +10,7 @@ use Rattle.gs_base.specs.declared.refusal.Refusal.{Refusal}
 use Rattle.gs_base.specs.declared.refusal.Refusal.TheVariants as refusals
 use Rattle.gs_base.specs.Members.{count_from, is_member, with_member}
 use Rattle.gs_lease.specs.declared.view.View.{View}
-use Rattle.gs_place.specs.Targets.{candidates, comes_before, first_candidate, is_candidate, picked_from, rack_rank, targets_of}
+use Rattle.gs_place.specs.Targets.{comes_before, first_candidate, is_candidate, picked_from, rack_rank, targets_of}
 use Rattle.gs_place.specs.Order.{precedes}
 use Rattle.gs_state.specs.Beginning.{replica_counts, replicas_on, targets_for}
 use Rattle.gs_state.specs.Surveying.{AreCounts}

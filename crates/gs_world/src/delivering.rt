@@ -59,7 +59,10 @@ impl<D: Disk + Drop> World<D> {
                 Ok(turn) => Ok(turn_of(turn)),
                 Err(refusal) => Err(refusal),
             },
-            None => Err(Refusal::Range),
+            None => {
+                drop(message);
+                Err(Refusal::Range)
+            }
         }
     }
 
@@ -67,6 +70,7 @@ impl<D: Disk + Drop> World<D> {
         ensures { AtClient client None (ClientHears body) (nodes_of self.old) result (nodes_of self.new) }
     {
         if client.0 == 0 {
+            drop(body);
             return None;
         }
         match self.clients.get_mut((client.0 - 1) as usize) {
@@ -74,7 +78,10 @@ impl<D: Disk + Drop> World<D> {
                 Ok(()) => None,
                 Err(refusal) => Some(refusal),
             },
-            None => None,
+            None => {
+                drop(body);
+                None
+            }
         }
     }
 }

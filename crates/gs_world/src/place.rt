@@ -47,7 +47,9 @@ impl<D: Disk> MasterPlace<D> {
         match self {
             MasterPlace::Standing(master) => master.handle(message, moment),
             _ => {
-                let sent = refusal_of_call(alloc, &message.body)?;
+                let answered = refusal_of_call(alloc, &message.body);
+                drop(message);
+                let sent = answered?;
                 let said = Some(Refusal::Device);
                 Ok(Turn { sent, said })
             }

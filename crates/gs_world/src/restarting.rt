@@ -66,7 +66,7 @@ impl<D: Disk + Drop> World<D> {
             return Err(Refusal::Device);
         };
         let (master, turn) = opened(self.alloc, self.config, disks);
-        self.master = master;
+        drop(mem::replace(&mut self.master, master));
         turn
     }
 
