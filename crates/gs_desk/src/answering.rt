@@ -19,7 +19,9 @@ impl<D: Disk + Drop> Desk<D> {
         match gs_lines::parse(alloc, line) {
             Ok(command) => {
                 let answer = self.step(command);
-                gs_calls::text(alloc, &answer)
+                let text = gs_calls::text(alloc, &answer);
+                drop(answer);
+                text
             }
             Err(LineError::BadLine) => gs_calls::text(alloc, &Err(Refusal::BadLine)),
             Err(LineError::Memory) => Err(AllocError),

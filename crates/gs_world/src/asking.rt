@@ -19,11 +19,15 @@ impl<D: Disk + Drop> World<D> {
         ensures { AtClient req.client (Err refusals.Range) (ClientAsks req.number request) (nodes_of self.old) result (nodes_of self.new) }
     {
         if req.client.0 == 0 {
+            drop(request);
             return Err(Refusal::Range);
         }
         match self.clients.get_mut((req.client.0 - 1) as usize) {
             Some(node) => node.ask(self.alloc, req.number, request),
-            None => Err(Refusal::Range),
+            None => {
+                drop(request);
+                Err(Refusal::Range)
+            }
         }
     }
 
