@@ -33,5 +33,7 @@ pub fn run<D: Disk + Drop, R: BufRead, W: Write>(
         Ok(desk) => desk,
         Err(unopened) => return Err(RunFault::Refused(unopened.refusal)),
     };
-    gs_script::run(alloc, &mut desk, reader, writer)
+    let result = gs_script::run(alloc, &mut desk, reader, writer);
+    drop(desk);
+    result
 }

@@ -4,8 +4,8 @@ use Rattle.gs_shell.proofs.run.Goals as goal
 
 pub returns-clause-ok : goal.returns-clause-ok
 returns-clause-ok g c =
-    serves g.D.Disk.seen g.D.Disk.failures c.args.config c.args.disks c.in-Ok.desk c.run.new.machine (g.R.Read.remaining c.args.reader.now) None _ _ c.in-Ok.ensures.starts c.run.result c.run.ensures.ok
+    serves g.D.Disk.seen g.D.Disk.failures c.args.config c.args.disks c.in-Ok.desk c.run-result.new.machine (g.R.Read.remaining c.args.reader.now) None _ _ c.in-Ok.ensures.starts c.run-result.result c.run-result.ensures.ok
 
 pub returns-clause-err : goal.returns-clause-err
 returns-clause-err g c =
-    breaks_off g.D.Disk.seen g.D.Disk.failures c.args.config c.args.disks c.in-Ok.desk c.run.new.machine (g.R.Read.remaining c.args.reader.now) _ _ _ c.in-Ok.ensures.starts c.run.result c.run.ensures.err
+    breaks_off g.D.Disk.seen g.D.Disk.failures c.args.config c.args.disks c.in-Ok.desk c.run-result.new.machine (g.R.Read.remaining c.args.reader.now) _ _ _ c.in-Ok.ensures.starts c.run-result.result c.run-result.ensures.err
