@@ -1,3 +1,4 @@
+mod Counting
 pub mod Granting
 pub mod Restored
 pub mod Targets
