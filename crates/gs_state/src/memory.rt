@@ -18,7 +18,6 @@ use gs_table::Table;
 use std::alloc::Global;
 
 /// What the master keeps in memory alone. A restart drops it.
-#[derive(Drop)]
 pub struct Memory {
     pub alloc: Global,
     pub is_preparing: bool,
@@ -28,6 +27,21 @@ pub struct Memory {
     pub locks: LockTable,
     pub restored: Table<Handle, Members>,
     pub replies: Table<ClientId, KeptReply>,
+}
+
+impl Drop for Memory {
+    fn drop(self) {
+        let Self {
+            alloc: _,
+            is_preparing: _,
+            moving: _,
+            unplaced: _,
+            pending: _,
+            locks: _,
+            restored: _,
+            replies: _,
+        } = self;
+    }
 }
 
 impl Memory {
