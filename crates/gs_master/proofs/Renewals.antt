@@ -19,14 +19,13 @@ use Rattle.gs_journal.specs.Journal.{State as Journal, Closes, IsOldOrNew, Makes
 use Rattle.gs_record.specs.Plain.{PlainEntry, plain}
 use Rattle.gs_state.specs.Durable.{Durable, Settled, is_listed}
 use Rattle.gs_master.specs.Events.{HasComeFrom}
-use Rattle.gs_state.specs.Handling.{checkpoint_body, still_new, tidied, written}
+use Rattle.gs_state.specs.Handling.{checkpoint_body, still_new, tidied, unlisted, written}
 use Rattle.gs_master.specs.Journaled.{Gains, IsLogOf}
 use Rattle.gs_state.specs.Outcomes.{cut}
 use Rattle.gs_state.specs.Plans.{fault_of, log_of}
 use Rattle.gs_state.specs.Recorded.{durable_of}
 use Rattle.gs_master.specs.Renewing.{BreaksLast, Renews}
 use Rattle.gs_plan.specs.Renewable.{IsBehind, IsRenewalOf}
-use Rattle.gs_state.specs.Surveying.{unlisted}
 use Rattle.gs_state.specs.State.{Failed, Log, State, first_of, is_failed, with_record}
 use Rattle.gs_master.specs.Turns.{state_at}
 use Rattle.gs_state.specs.Volatile.{Volatile}
@@ -120,7 +119,7 @@ all_tidied d = fin.same_map nat_cmp_total fin.nat_cmp-IsAntisymmetric _ _ (λ q.
 
 pub renewed_gives : (old : Event) (r : Renewal) (now : Durable) (volatile : Volatile) (unlisted placed : List ℕ) → IsRenewalOf (state_at old) r →
     now ≡ record (durable_of old.recorded) { chunks = fold fin.remove (durable_of old.recorded).chunks unlisted } → unlisted ≡ r.unlisted.items →
-    volatile ≡ record (old.memory.now) { moving = fold fin.remove old.memory.now.moving placed; unplaced = r.awaiting.items } → placed ≡ r.placed.items →
+    volatile ≡ record (old.memory.now) { moving = fold fin.remove old.memory.now.moving placed; unplaced = r.awaiting.items; taken_out = [] } → placed ≡ r.placed.items →
     record { durable = now; volatile = volatile; log = log_of r.log; fault = fault_of old.fault } ≡ (written (state_at old)).after
 renewed_gives old r now volatile unlisted placed is d u v p = λ i. record { durable = durable i; volatile = kept i; log = is.log i; fault = fault_of old.fault }
   where
@@ -130,7 +129,7 @@ renewed_gives old r now volatile unlisted placed is d u v p = λ i. record { dur
         ∙ ap (λ m. record (durable_of old.recorded) { chunks = m }) (all_tidied (durable_of old.recorded))
 
     kept : volatile ≡ still_new (state_at old)
-    kept = v ∙ (λ i. record (old.memory.now) { moving = fold fin.remove old.memory.now.moving ((p ∙ is.placed) i); unplaced = is.awaiting i })
+    kept = v ∙ (λ i. record (old.memory.now) { moving = fold fin.remove old.memory.now.moving ((p ∙ is.placed) i); unplaced = is.awaiting i; taken_out = [] })
 
 -- ---- what becomes of the journal
 

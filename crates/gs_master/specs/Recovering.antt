@@ -55,6 +55,13 @@ log_behind_last j entries = record (log_in j) { records = records_behind entries
 -- ---- before anything is written
 
 -- the master as a restart leaves it, where an event begins
+pub record IsRestarted (d : Durable) (log : Log) (e : Event) : Type 0 where
+  pub state : state_at e ≡ restarted d log
+  pub begun : IsBegun e
+  pub ready : IsUnderWay e
+  pub sent : e.sent.items ≡ []
+
+-- that of the records of a journal
 pub record IsRested {D : Type 0} (j : Journal D) (entries : List PlainEntry) (e : Event) : Type 0 where
   pub durable : Durable
   pub replays : replayed start entries ≡ Some durable

@@ -81,7 +81,7 @@ fn rested<D: Disk>(alloc: Global, journal: &Journal<D>, entries: &[Entry]) -> Re
         return Err(Refusal::Memory);
     };
     match Recorded::replayed(alloc, entries) {
-        Ok(recorded) => Ok(Event::restarted(alloc, recorded, log)),
+        Ok(recorded) => Ok(Event::restarted(alloc, recorded, log)?),
         Err(refusal) => Err(refusal),
     }
 }

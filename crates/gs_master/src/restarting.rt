@@ -1,38 +1,34 @@
 // The master once its journal is opened.
-ghost use Rattle.std.specs.Prelude.{◌≡◌, ◌≤◌, []};
-ghost use Rattle.gs_state.specs.Handling.{restarted};
+ghost use Rattle.std.specs.Prelude.{◌≤◌, IfOk};
 ghost use Rattle.gs_state.specs.Plans.{log_of};
 ghost use Rattle.gs_state.specs.Recorded.{durable_of};
-ghost use Rattle.gs_master.specs.StartingOver.{IsBegun};
-ghost use Rattle.gs_master.specs.Turns.{IsUnderWay, state_at};
+ghost use Rattle.gs_master.specs.Recovering.{IsRestarted};
 
 use crate::event::Event;
 use gs_state::fault::Fault;
 use gs_state::log::Log;
 use gs_state::recorded::Recorded;
 use gs_state::tracked::Tracked;
-use std::alloc::Global;
+use std::alloc::{AllocError, Global};
 
 impl Event {
     /// The master as a restart leaves it, where an event begins: nothing is asked, nobody waits.
-    pub fn restarted(alloc: Global, recorded: Recorded, log: Log) -> Event
+    pub fn restarted(alloc: Global, recorded: Recorded, log: Log) -> Result<Event, AllocError>
         requires { log.records ≤ log.size }
-        ensures state { state_at result ≡ restarted (durable_of recorded) (log_of log) }
-        ensures ready { IsUnderWay result }
-        ensures begun { IsBegun result }
-        ensures sent { result.sent.items ≡ [] }
+        ensures { IfOk result (IsRestarted (durable_of recorded) (log_of log)) }
     {
-        Event {
+        let taken_out = recorded.unlisted()?;
+        Ok(Event {
             alloc,
             recorded,
             undos: Vec::new(alloc),
-            memory: Tracked::new(alloc),
+            memory: Tracked::new(alloc, taken_out),
             log,
             fault: Fault::Sound,
             entries: Vec::new(alloc),
             written: Vec::new(alloc),
             sent: Vec::new(alloc),
             said: None,
-        }
+        })
     }
 }

@@ -9,7 +9,8 @@ use Rattle.gs_state.specs.Plans.{log_of}
 use Rattle.gs_state.specs.State.{State, first_of, is_failed}
 use Rattle.gs_state.specs.Whole.{checkpoint_of}
 use Rattle.gs_plan.specs.declared.renewing.Renewal.{Renewal}
-use Rattle.gs_state.specs.Surveying.{unlisted, awaiting}
+use Rattle.gs_state.specs.Handling.{unlisted}
+use Rattle.gs_state.specs.Surveying.{awaiting}
 
 -- why no checkpoint of this state is written
 abbrev pub renewal_refusal : State → Option Refusal

@@ -5,7 +5,8 @@ ghost use Rattle.gs_state.specs.Handling.{checkpoint_tests, due, without_place};
 ghost use Rattle.gs_plan.specs.Planning.{state_of};
 ghost use Rattle.gs_plan.specs.Renewable.{MakesRenewal};
 ghost use Rattle.gs_state.specs.State.{first_of, is_failed};
-ghost use Rattle.gs_state.specs.Surveying.{awaiting, unlisted};
+ghost use Rattle.gs_state.specs.Handling.{unlisted};
+ghost use Rattle.gs_state.specs.Surveying.{awaiting};
 
 use crate::standing::Standing;
 use gs_base::{Handle, Refusal};

@@ -1,5 +1,5 @@
 -- How a view is begun: a fresh version is recorded, and who has the chunk is asked.
-use Rattle.std.specs.Prelude.{◌≡◌, ℕ, Bool, nat_le, List, [], ◌∷◌, ◌++◌, map, filter, Option, Some, None, refl}
+use Rattle.std.specs.Prelude.{◌≡◌, ◌||◌, ℕ, Bool, not, nat_le, List, [], ◌∷◌, ◌++◌, map, filter, Option, Some, None, refl}
 use Rattle.std.specs.List.{count_by}
 use Rattle.std.specs.FinMap as fin
 use Rattle.gs_base.specs.Members.{is_member, count_from}
@@ -15,7 +15,7 @@ use Rattle.gs_msg.specs.declared.node.NodeId.TheVariants as nodes
 use Rattle.gs_place.specs.Targets.{targets_of}
 use Rattle.gs_record.specs.Plain.{Propose}
 use Rattle.gs_state.specs.Chunks.{Chunk, chunk_at, members_of, asking_for}
-use Rattle.gs_state.specs.Durable.{Durable, values_left}
+use Rattle.gs_state.specs.Durable.{Durable, is_listed, values_left}
 use Rattle.gs_state.specs.State.{State, Plan, Turn, turned, for_each, about, post, to_each}
 use Rattle.gs_state.specs.declared.change.Change.TheVariants as changes
 use Rattle.gs_state.specs.declared.pending.Waiting.{Waiting}
@@ -84,8 +84,12 @@ waits_on plan req waiting = record plan { changes = plan.changes ++ changes.Wait
 
 -- ---- placement: settled views that have a server as a member
 
+-- that of a chunk which a restart took out counts no more
+abbrev pub is_counted : State → ℕ → Bool
+is_counted s chunk = is_listed s.durable chunk || not (is_member s.volatile.taken_out chunk)
+
 abbrev pub counted_views : State → List View
-counted_views s = map (λ e. e.1.view) (fin.entries s.durable.chunks)
+counted_views s = map (λ e. e.1.view) (filter (λ e. is_counted s e.0) (fin.entries s.durable.chunks))
 
 abbrev pub replicas_on : List View → ℕ → ℕ
 replicas_on views server = count_by (λ (v : View). is_member v.members server) views

@@ -17,8 +17,8 @@ use Rattle.gs_state.specs.declared.reply.KeptReply.{KeptReply}
 
 abbrev pub coded_volatile : Coded Volatile
 coded_volatile =
-    code_by (Bool × (fin.FinMap nat_cmp Asking × (List ℕ × (List Pending × (List Lock × (fin.FinMap nat_cmp (List ℕ) × fin.FinMap client_cmp KeptReply))))))
+    code_by (Bool × (fin.FinMap nat_cmp Asking × (List ℕ × (List Pending × (List Lock × (fin.FinMap nat_cmp (List ℕ) × (fin.FinMap client_cmp KeptReply × List ℕ)))))))
     (coded× coded_bool (coded× (fin.code coded_ℕ asking.the_row.coded) (coded× (coded_list coded_ℕ) (coded× (coded_list pending.the_row.coded) (coded× (coded_list locks.the_row.coded)
-    (coded× (fin.code coded_ℕ (coded_list coded_ℕ)) (fin.code clients.the_row.coded replies.the_row.coded)))))))
-    (λ v. (v.is_preparing, (v.moving, (v.unplaced, (v.pending, (v.locks, (v.restored, v.replies)))))))
-    (λ p. record { is_preparing = p.0; moving = p.1.0; unplaced = p.1.1.0; pending = p.1.1.1.0; locks = p.1.1.1.1.0; restored = p.1.1.1.1.1.0; replies = p.1.1.1.1.1.1 }) (λ _. refl)
+    (coded× (fin.code coded_ℕ (coded_list coded_ℕ)) (coded× (fin.code clients.the_row.coded replies.the_row.coded) (coded_list coded_ℕ))))))))
+    (λ v. (v.is_preparing, (v.moving, (v.unplaced, (v.pending, (v.locks, (v.restored, (v.replies, v.taken_out))))))))
+    (λ p. record { is_preparing = p.0; moving = p.1.0; unplaced = p.1.1.0; pending = p.1.1.1.0; locks = p.1.1.1.1.0; restored = p.1.1.1.1.1.0; replies = p.1.1.1.1.1.1.0; taken_out = p.1.1.1.1.1.1.1 }) (λ _. refl)

@@ -36,7 +36,7 @@ use Rattle.gs_state.specs.Hearing.{promised, unpromised, renewed, reported, dama
 use Rattle.gs_state.specs.Settling.{grants}
 use Rattle.gs_state.specs.State.{State, Log, Turn, unmoved, met_by, and_then, for_each, reply_to, refused, last_reply, first_of, is_failed, is_unopened, Sound}
 use Rattle.gs_state.specs.Upgrades.{prepare_begin, prepare_commit, prepare_abort, finalize, rollback_begin, rollback_commit, tell_all}
-use Rattle.gs_state.specs.Volatile.{Volatile, nothing, is_pending}
+use Rattle.gs_state.specs.Volatile.{Volatile, behind_restart, is_pending}
 use Rattle.gs_state.specs.Whole.{checkpoint_of}
 use Rattle.gs_state.specs.Working.{found_for_writing, extends, snapshots, replicates, scans}
 use Rattle.gs_state.specs.declared.asking.Asking.{Asking}
@@ -208,7 +208,7 @@ abbrev pub without_place : State → List ℕ
 without_place s = filter (λ chunk. is_some (fin.get s.durable.chunks chunk)) s.volatile.unplaced
 
 abbrev pub still_new : State → Volatile
-still_new s = record (s.volatile) { moving = fold fin.remove s.volatile.moving (without_place s); unplaced = filter (awaits_first s) s.volatile.unplaced }
+still_new s = record (s.volatile) { moving = fold fin.remove s.volatile.moving (without_place s); unplaced = filter (awaits_first s) s.volatile.unplaced; taken_out = [] }
 
 abbrev pub written : State → Turn
 written s = record {
@@ -238,9 +238,13 @@ tick s moment =
 
 -- ---- a restart
 
+-- the settled chunks that no file has or had, of which a checkpoint doesn't tell
+abbrev pub unlisted : Durable → List ℕ
+unlisted d = filter (λ chunk. not (is_listed d chunk)) (fin.keys d.chunks)
+
 -- Nothing is asked for any chunk, and none is new: so one that stands in no file and never did has no entry any more.
 abbrev pub restarted : Durable → Log → State
-restarted d log = record { durable = d; volatile = nothing; log = log; fault = Sound }
+restarted d log = record { durable = d; volatile = behind_restart (unlisted d); log = log; fault = Sound }
 
 -- while rolling back every server is told again
 abbrev pub told_again : Config → Durable → List Message

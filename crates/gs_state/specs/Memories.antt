@@ -14,6 +14,7 @@ volatile_of m = record {
   locks = m.locks;
   restored = live nat_cmp m.restored;
   replies = live client_cmp m.replies;
+  taken_out = m.taken_out.items;
 }
 
 -- whatever had room has it still

@@ -1,5 +1,5 @@
 -- What the code looks for in all chunks: each by its lease, once.
-use Rattle.std.specs.Prelude.{◌≡◌, ◌<◌, ◌&&◌, ℕ, Bool, true, not, List, [], ◌∷◌, map, filter, slice_index, Option, Some, None, option_map, is_some, if◌then◌else◌, refl}
+use Rattle.std.specs.Prelude.{◌≡◌, ◌+◌, ◌<◌, ◌&&◌, ℕ, Bool, true, not, List, [], ◌∷◌, map, filter, slice_index, Option, Some, None, option_map, is_some, if◌then◌else◌, refl}
 use Rattle.std.specs.FinMap as fin
 use Rattle.std.specs.Ordering.{nat_cmp}
 use Rattle.gs_base.specs.Members.{is_member}
@@ -14,7 +14,7 @@ use Rattle.gs_tree.specs.Find.{Rows}
 use Rattle.gs_state.specs.Beginning.{replicas_on}
 use Rattle.gs_state.specs.Calls.{references}
 use Rattle.gs_state.specs.Chunks.{chunk_at, has_entry}
-use Rattle.gs_state.specs.Durable.{Durable, Settled, is_listed}
+use Rattle.gs_state.specs.Durable.{Durable, Settled}
 use Rattle.gs_state.specs.Hearing.{is_lost_at, is_told_sound}
 use Rattle.gs_state.specs.Recorded.{settled_by}
 use Rattle.gs_state.specs.Settling.{is_quiet_at}
@@ -52,6 +52,10 @@ chunk_set (chunk ∷ chunks) = fin.insert (chunk_set chunks) chunk true
 pub record AreCounts (views : List View) (counts : List ℕ) : Type 0 where
   pub each : (server : ℕ) → server < 16 → slice_index counts server ≡ replicas_on views server
 
+-- a view more is counted at each of its members
+pub record CountsMembers (members : List ℕ) (old new : List ℕ) : Type 0 where
+  pub each : (server : ℕ) → server < 16 → slice_index new server ≡ slice_index old server + (if is_member members server then 1 else 0)
+
 -- a set has just these chunks
 pub record AreIn (chunks : List ℕ) (set : fin.FinMap nat_cmp Bool) : Type 0 where
   pub each : (chunk : ℕ) → is_some (fin.get set chunk) ≡ is_member chunks chunk
@@ -82,10 +86,6 @@ is_lost s server reported chunk = is_lost_at server (chunk_at s chunk) && not (i
 
 one_of_none : view_where (λ chunk. true) ≡ λ e. view_by_lease e.1
 one_of_none = refl
-
--- the settled chunks that no file has or had, of which a checkpoint doesn't tell
-abbrev pub unlisted : Durable → List ℕ
-unlisted d = filter (λ chunk. not (is_listed d chunk)) (fin.keys d.chunks)
 
 -- the new chunks that wait for their first view
 abbrev pub awaiting : State → List ℕ

@@ -23,7 +23,8 @@ use Rattle.gs_state.specs.declared.reply.KeptReply.{KeptReply}
 
 -- Whether an upgrade is being prepared; what is asked for chunks; the chunks that have no place in a file yet; the calls that
 -- wait, in the order in which they began, with their locks; which servers have told of each chunk that they have it as it was
--- sealed; and the last replies, of which perhaps no record tells.
+-- sealed; the last replies, of which perhaps no record tells; and the settled chunks that a restart took out, since no file had or
+-- has them.
 pub record Volatile : Type 0 where
   pub is_preparing : Bool
   pub moving : fin.FinMap nat_cmp Asking
@@ -32,10 +33,14 @@ pub record Volatile : Type 0 where
   pub locks : List Lock
   pub restored : fin.FinMap nat_cmp (List ℕ)
   pub replies : fin.FinMap client_cmp KeptReply
+  pub taken_out : List ℕ
 
--- as a restart leaves it
 abbrev pub nothing : Volatile
-nothing = record { is_preparing = false; moving = fin.empty; unplaced = []; pending = []; locks = []; restored = fin.empty; replies = fin.empty }
+nothing = record { is_preparing = false; moving = fin.empty; unplaced = []; pending = []; locks = []; restored = fin.empty; replies = fin.empty; taken_out = [] }
+
+-- as a restart leaves it, which takes these chunks out
+abbrev pub behind_restart : List ℕ → Volatile
+behind_restart taken_out = record nothing { taken_out = taken_out }
 
 -- ---- locks of calls that wait
 

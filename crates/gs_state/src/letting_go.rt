@@ -28,6 +28,13 @@ impl Memory {
         self.unplaced.iter().any(|new| *new == chunk)
     }
 
+    /// Whether a restart took out a chunk.
+    pub fn is_taken_out(&self, chunk: Handle) -> bool
+        ensures { result ≡ is_member (volatile_of self.now).taken_out chunk }
+    {
+        self.taken_out.iter().any(|out| *out == chunk)
+    }
+
     /// What becomes of a chunk that moves, once a call ends: a new one is no more, any other moves on by itself.
     fn let_go_of(&self, req: ReqId, chunk: Handle, asking: &Asking) -> Option<Change>
         ensures { option_to_list result ≡ let_go_of (volatile_of self.now).unplaced req (chunk, asking.now) }

@@ -27,6 +27,8 @@ pub struct Memory {
     pub locks: LockTable,
     pub restored: Table<Handle, Members>,
     pub replies: Table<ClientId, KeptReply>,
+    /// The settled chunks that a restart took out, since no file had or has them.
+    pub taken_out: Vec<Handle>,
 }
 
 impl Drop for Memory {
@@ -45,11 +47,11 @@ impl Drop for Memory {
 }
 
 impl Memory {
-    ghost use Rattle.gs_state.specs.Volatile.{nothing, is_pending};
+    ghost use Rattle.gs_state.specs.Volatile.{behind_restart, is_pending};
 
-    /// What stands in memory after a restart.
-    pub fn new(alloc: Global) -> Memory
-        ensures { volatile_of result ≡ nothing }
+    /// What stands in memory after a restart that takes these chunks out.
+    pub fn new(alloc: Global, taken_out: Vec<Handle>) -> Memory
+        ensures { volatile_of result ≡ behind_restart taken_out.items }
     {
         Memory {
             alloc,
@@ -60,6 +62,7 @@ impl Memory {
             locks: LockTable::new(alloc),
             restored: Table::new(alloc),
             replies: Table::new(alloc),
+            taken_out,
         }
     }
 

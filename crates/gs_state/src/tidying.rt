@@ -1,9 +1,9 @@
 // What a checkpoint doesn't tell, and the master gives up.
-ghost use Rattle.std.specs.Prelude.{◌≡◌, IfOk, fold, is_some};
+ghost use Rattle.std.specs.Prelude.{◌≡◌, [], IfOk, fold, is_some};
 ghost use Rattle.std.specs.FinMap as fin;
 ghost use Rattle.gs_state.specs.Memories.{volatile_of};
 ghost use Rattle.gs_state.specs.Recorded.{durable_of};
-ghost use Rattle.gs_state.specs.Surveying.{awaiting, unlisted};
+ghost use Rattle.gs_state.specs.Handling.{unlisted};
 
 use crate::memory::Memory;
 use crate::quieting::is_settled;
@@ -50,13 +50,15 @@ impl Recorded {
 }
 
 impl Memory {
-    /// Of the new chunks these stay, and of those that got no place nothing is asked any more. It takes no memory.
+    /// Of the new chunks these stay, and of those that got no place nothing is asked any more; of those that a restart took out
+    /// nothing is left. It takes no memory.
     pub fn keep_new(&mut self, placeless: &[Handle], awaiting: Vec<Handle>)
-        ensures { volatile_of self.new ≡ record (volatile_of self.old) { moving = fold fin.remove (volatile_of self.old).moving placeless.now; unplaced = awaiting.items } }
+        ensures { volatile_of self.new ≡ record (volatile_of self.old) { moving = fold fin.remove (volatile_of self.old).moving placeless.now; unplaced = awaiting.items; taken_out = [] } }
     {
         for chunk in placeless {
             let _asked = self.moving.remove(*chunk);
         }
         self.unplaced = awaiting;
+        self.taken_out.clear();
     }
 }

@@ -6,7 +6,7 @@ ghost use Rattle.gs_table.specs.Slots.{HasRoom};
 ghost use Rattle.gs_state.specs.Memories.{KeepsRooms, volatile_of};
 ghost use Rattle.gs_state.specs.Replies.{client_cmp};
 ghost use Rattle.gs_state.specs.Tracked.{HasRoomBack, HaveRoomBack, rooms_before, slot_back, slots_back};
-ghost use Rattle.gs_state.specs.Volatile.{changed, nothing, with_restored};
+ghost use Rattle.gs_state.specs.Volatile.{behind_restart, changed, with_restored};
 ghost use Rattle.gs_state.specs.declared.change.Change.TheVariants as changes;
 ghost use Rattle.gs_state.specs.declared.tracked.Slot.TheVariants as slots;
 
@@ -152,12 +152,12 @@ fn release_all(memory: &mut Memory, touched: Vec<Slot>)
 }
 
 impl Tracked {
-    /// As a restart leaves it.
-    pub fn new(alloc: Global) -> Tracked
-        ensures { result ≡ record { now = nothing; before = nothing; keeps_calls = false } }
+    /// As a restart leaves it that takes these chunks out.
+    pub fn new(alloc: Global, taken_out: Vec<Handle>) -> Tracked
+        ensures { result ≡ record { now = behind_restart taken_out.items; before = behind_restart taken_out.items; keeps_calls = false } }
     {
         Tracked {
-            memory: Memory::new(alloc),
+            memory: Memory::new(alloc, taken_out),
             touched: Vec::new(alloc),
             calls: None,
         }
@@ -411,12 +411,12 @@ impl Tracked {
         release_all(&mut self.memory, touched);
     }
 
-    /// The same, behind which a checkpoint is written: of the new chunks these stay, and of those that got no place nothing is
-    /// asked any more. It takes no memory.
+    /// The same, behind which a checkpoint is written: of the new chunks these stay, of those that got no place nothing is asked
+    /// any more, and of those that a restart took out nothing is left. It takes no memory.
     pub fn accept_new(&mut self, placeless: &[Handle], awaiting: Vec<Handle>)
         ensures before { self.new.before ≡ self.new.now }
         ensures calls { self.new.keeps_calls ≡ false }
-        ensures now { self.new.now ≡ record self.old.now { moving = fold fin.remove self.old.now.moving placeless.now; unplaced = awaiting.items } }
+        ensures now { self.new.now ≡ record self.old.now { moving = fold fin.remove self.old.now.moving placeless.now; unplaced = awaiting.items; taken_out = [] } }
     {
         self.calls = None;
         let accepted = mem::replace(&mut self.touched, Vec::new(self.memory.alloc));

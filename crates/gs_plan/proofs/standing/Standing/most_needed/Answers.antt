@@ -7,14 +7,14 @@ use Rattle.gs_state.specs.Surveying.{need_by, need_where}
 use Rattle.gs_state.proofs.Surveys.{found_more, need_at, needs_in}
 use Rattle.gs_plan.proofs.standing.Standing.most_needed.Goals as goal
 
-pub loop-chunk-preserved-in-Some-counted_view : goal.loop-chunk-preserved-in-Some-counted_view
-loop-chunk-preserved-in-Some-counted_view c =
+pub loop-chunk-preserved-in-Some-known_view : goal.loop-chunk-preserved-in-Some-known_view
+loop-chunk-preserved-in-Some-known_view c =
     let s = state_of c.args.self.now in
     let found = filter_map (need_where s) in
     let needs = c.loop-chunk.invariant.0 in
     let need = c.need_of.result in
     let e : ℕ × Lease = (c.in-Some.chunk, c.in-Some.lease.now) in
-    let needed = need_at s e c.in-Some-counted_view.view c.in-Some-counted_view.ensures ∙ ap (λ n. Some (need_by s.durable c.in-Some.chunk n)) (sym c.len-members.ensures) ∙ ap Some (sym c.need_of.ensures) in (
+    let needed = need_at s e c.in-Some-known_view.view c.in-Some-known_view.ensures ∙ ap (λ n. Some (need_by s.durable c.in-Some.chunk n)) (sym c.len-members.ensures) ∙ ap Some (sym c.need_of.ensures) in (
       needs ++ need ∷ [],
       (
         c.offer.ensures c.args.config.now.replicas needs c.loop-chunk.invariant.1.0,
