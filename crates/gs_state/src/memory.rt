@@ -42,6 +42,7 @@ impl Drop for Memory {
             locks: _,
             restored: _,
             replies: _,
+            taken_out: _,
         } = self;
     }
 }
