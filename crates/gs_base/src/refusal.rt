@@ -7,9 +7,15 @@ use std::fmt;
 use std::marker::Model;
 
 /// The text of a path, as a refusal names it.
-#[derive(Debug, Drop)]
+#[derive(Debug)]
 pub struct PathText {
     text: String,
+}
+
+impl Drop for PathText {
+    fn drop(self) {
+        let Self { text: _ } = self;
+    }
 }
 
 impl Model for PathText {

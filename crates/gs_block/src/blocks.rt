@@ -29,13 +29,25 @@ pub struct BlockParts {
 }
 
 /// The bytes of a chunk in blocks, each with its digest.
-#[derive(Debug, Drop)]
+#[derive(Debug)]
 pub struct Blocks {
     alloc: Global,
     block: usize,
     chunk: usize,
     bytes: Vec<u8>,
     digests: Vec<Digest>,
+}
+
+impl Drop for Blocks {
+    fn drop(self) {
+        let Self {
+            alloc: _,
+            block: _,
+            chunk: _,
+            bytes: _,
+            digests: _,
+        } = self;
+    }
 }
 
 impl Model for Blocks {
@@ -141,10 +153,14 @@ impl Blocks {
         ensures bytes { result.bytes.items ≡ self.bytes }
         ensures digests { result.digests.items ≡ self.digests }
     {
-        BlockParts {
-            bytes: self.bytes,
-            digests: self.digests,
-        }
+        let Self {
+            alloc: _,
+            block: _,
+            chunk: _,
+            bytes,
+            digests,
+        } = self;
+        BlockParts { bytes, digests }
     }
 
     /// Verifies every block: `Damaged` names the lowest that fails. It takes no memory.

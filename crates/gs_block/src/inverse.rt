@@ -2,13 +2,25 @@ use crate::digests::Digest;
 use std::marker::Model;
 
 /// What takes an edit of a chunk back: the bytes that it overwrote, and the digests of the blocks that it touched.
-#[derive(Debug, Drop)]
+#[derive(Debug)]
 pub struct BlockInverse {
     pub(crate) at: usize,
     pub(crate) old_length: usize,
     pub(crate) new_length: usize,
     pub(crate) bytes: Vec<u8>,
     pub(crate) digests: Vec<Digest>,
+}
+
+impl Drop for BlockInverse {
+    fn drop(self) {
+        let Self {
+            at: _,
+            old_length: _,
+            new_length: _,
+            bytes: _,
+            digests: _,
+        } = self;
+    }
 }
 
 impl Model for BlockInverse {

@@ -12,10 +12,19 @@ use gs_lines::Command;
 use std::alloc::Global;
 
 /// A client who asks what lines say.
-#[derive(Debug, Drop)]
+#[derive(Debug)]
 pub struct Caller {
     pub alloc: Global,
     pub client: Client,
+}
+
+impl Drop for Caller {
+    fn drop(self) {
+        let Self {
+            alloc: _,
+            client: _,
+        } = self;
+    }
 }
 
 impl Caller {

@@ -17,12 +17,18 @@ use std::marker::Model;
 /// stands or doesn't. One that only looks answers `NoReplica` where no reply came. `Stray` is for a reply of another kind than the
 /// call waits for. All other refusals are those of the nodes. Calls that take an allocator copy paths and bytes, and answer
 /// `Memory` where it was refused; the requests that were made before it stand.
-#[derive(Debug, Drop)]
+#[derive(Debug)]
 pub struct Client {
     /// The last request that was sent. Number 0 is of none.
     last: ReqId,
     /// The bytes of a chunk.
     chunk: u64,
+}
+
+impl Drop for Client {
+    fn drop(self) {
+        let Self { last: _, chunk: _ } = self;
+    }
 }
 
 impl Model for Client {

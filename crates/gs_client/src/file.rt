@@ -28,7 +28,7 @@ pub struct Reading(());
 pub struct Writing(());
 
 /// An open file. It keeps how many chunks it was opened with for its first call alone; later calls ask anew.
-#[derive(Debug, Drop)]
+#[derive(Debug)]
 pub struct OpenFile<M> {
     path: Path,
     opened: Option<u64>,
@@ -37,6 +37,18 @@ pub struct OpenFile<M> {
     /// How many edits were acknowledged.
     edits: u64,
     mode: M,
+}
+
+impl<M: Drop> Drop for OpenFile<M> {
+    fn drop(self) {
+        let Self {
+            path: _,
+            opened: _,
+            located: _,
+            edits: _,
+            mode: _,
+        } = self;
+    }
 }
 
 impl<M> Model for OpenFile<M> {

@@ -9,12 +9,23 @@ use std::alloc::{AllocError, Global};
 use std::marker::Model;
 
 /// A client as a node of a store: the number that it used last, what it waits for, and what came back.
-#[derive(Debug, Drop)]
+#[derive(Debug)]
 pub struct ClientNode {
     id: ClientId,
     last: u64,
     waiting: Option<u64>,
     reply: Option<Reply>,
+}
+
+impl Drop for ClientNode {
+    fn drop(self) {
+        let Self {
+            id: _,
+            last: _,
+            waiting: _,
+            reply: _,
+        } = self;
+    }
 }
 
 impl Model for ClientNode {

@@ -16,10 +16,15 @@ use std::alloc::Global;
 use std::collections::VecDeque;
 
 /// One client of a store, and what carries its requests to the nodes.
-#[derive(Drop)]
 pub struct Desk<D: Disk> {
     pub caller: Caller,
     pub wire: Wire<D>,
+}
+
+impl<D: Disk + Drop> Drop for Desk<D> {
+    fn drop(self) {
+        let Self { caller: _, wire: _ } = self;
+    }
 }
 
 impl<D: Disk + Drop> Wire<D> {

@@ -14,7 +14,6 @@ use std::alloc::{AllocError, Global};
 use std::collections::VecDeque;
 
 /// The nodes of a store, what is under way between them, and what is held back.
-#[derive(Drop)]
 pub struct Wire<D: Disk> {
     pub alloc: Global,
     pub world: World<D>,
@@ -32,6 +31,22 @@ pub struct Wire<D: Disk> {
     pub is_short: bool,
     /// The texts of what was sent since they were taken, where they are kept.
     pub trace: Option<Vec<String>>,
+}
+
+impl<D: Disk + Drop> Drop for Wire<D> {
+    fn drop(self) {
+        let Self {
+            alloc: _,
+            world: _,
+            moment: _,
+            queue: _,
+            held_kind: _,
+            held: _,
+            drops: _,
+            is_short: _,
+            trace: _,
+        } = self;
+    }
 }
 
 fn is_drop(kind: Kind) -> bool

@@ -374,11 +374,20 @@ fn give_back(refs: &mut Refs, chunk: Handle, old: Handle)
 }
 
 /// The tree of a store, and of each chunk how often it stands in it.
-#[derive(Drop)]
 pub struct Names {
     alloc: Global,
     tree: Tree,
     refs: Refs,
+}
+
+impl Drop for Names {
+    fn drop(self) {
+        let Self {
+            alloc: _,
+            tree: _,
+            refs: _,
+        } = self;
+    }
 }
 
 impl Model for Names {

@@ -14,11 +14,21 @@ use std::marker::Model;
 const CHECKPOINT: u8 = 9;
 
 /// A checkpoint that is made and not yet written: all the bytes of its disk, which is to be of one generation.
-#[derive(Debug, Drop)]
+#[derive(Debug)]
 pub struct Draft {
     generation: u64,
     entry: Record,
     bytes: Vec<u8>,
+}
+
+impl Drop for Draft {
+    fn drop(self) {
+        let Self {
+            generation: _,
+            entry: _,
+            bytes: _,
+        } = self;
+    }
 }
 
 impl Model for Draft {

@@ -10,11 +10,20 @@ use gs_base::Refusal;
 use std::marker::Model;
 
 /// A disk over another, of which the calls fail that its fault names. All other calls are those of the disk below.
-#[derive(Drop)]
 pub struct FaultyDisk<D: Disk> {
     disk: D,
     fault: Fault,
     failures: History,
+}
+
+impl<D: Disk + Drop> Drop for FaultyDisk<D> {
+    fn drop(self) {
+        let Self {
+            disk: _,
+            fault: _,
+            failures: _,
+        } = self;
+    }
 }
 
 impl<D: Disk> Model for FaultyDisk<D> {
@@ -56,7 +65,12 @@ impl<D: Disk> FaultyDisk<D> {
     pub fn into_disk(self) -> D
         ensures { result ≡ self.disk }
     {
-        self.disk
+        let Self {
+            disk,
+            fault: _,
+            failures: _,
+        } = self;
+        disk
     }
 }
 

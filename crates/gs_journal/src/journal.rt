@@ -23,11 +23,20 @@ use std::marker::Model;
 ///
 /// A call in which a disk fails refuses `Device` and leaves the journal closed: every later one refuses `Device` until the
 /// disks are opened again.
-#[derive(Drop)]
 pub struct Journal<D: Disk> {
     disks: Pair<D>,
     limit: u32,
     is_failed: bool,
+}
+
+impl<D: Disk + Drop> Drop for Journal<D> {
+    fn drop(self) {
+        let Self {
+            disks: _,
+            limit: _,
+            is_failed: _,
+        } = self;
+    }
 }
 
 impl<D: Disk> Model for Journal<D> {
@@ -117,7 +126,12 @@ impl<D: Disk> Journal<D> {
         ensures disks { (result.0 ≡ self.first) × (result.1 ≡ self.second) }
         ensures text { standing (D.seen result.0) (D.seen result.1) ≡ self.text }
     {
-        (self.disks.first, self.disks.second)
+        let Self {
+            disks,
+            limit: _,
+            is_failed: _,
+        } = self;
+        (disks.first, disks.second)
     }
 
     /// The version that the journal is written in. `Device` where a disk has failed since the journal was opened.

@@ -11,10 +11,18 @@ use gs_base::Refusal;
 use std::alloc::Global;
 
 /// A disk in memory. Each call is done at once, so a crash leaves what is there. It fails where a growth is refused.
-#[derive(Drop)]
 pub struct MemoryDisk {
     bytes: Vec<u8>,
     history: History,
+}
+
+impl Drop for MemoryDisk {
+    fn drop(self) {
+        let Self {
+            bytes: _,
+            history: _,
+        } = self;
+    }
 }
 
 impl MemoryDisk {
@@ -41,7 +49,8 @@ impl MemoryDisk {
     pub fn into_bytes(self) -> Vec<u8>
         ensures { result.items ≡ bytes_of self }
     {
-        self.bytes
+        let Self { bytes, history: _ } = self;
+        bytes
     }
 }
 

@@ -8,9 +8,15 @@ use std::alloc::Global;
 use std::marker::Model;
 
 /// A record: a kind and a body of fewer than 4,294,967,296 bytes. It holds the bytes that `append` writes.
-#[derive(Debug, Drop)]
+#[derive(Debug)]
 pub struct Record {
     bytes: Vec<u8>,
+}
+
+impl Drop for Record {
+    fn drop(self) {
+        let Self { bytes: _ } = self;
+    }
 }
 
 impl Model for Record {

@@ -17,10 +17,18 @@ use std::marker::Model;
 
 /// The leases of a master's chunks: a [`Table`] that keeps count of the settled views of which each server is a member, and of
 /// those that have a primary. A change costs what a table's costs and a look at each server; none looks at another chunk.
-#[derive(Drop)]
 pub struct LeaseTable {
     leases: Table<Handle, Lease>,
     tally: Tally,
+}
+
+impl Drop for LeaseTable {
+    fn drop(self) {
+        let Self {
+            leases: _,
+            tally: _,
+        } = self;
+    }
 }
 
 impl Model for LeaseTable {

@@ -13,11 +13,20 @@ use std::marker::Model;
 
 /// The locks of pending operations, seen as the list of them. Two operations conflict where one writes a path that the
 /// other reads or writes.
-#[derive(Drop)]
 pub struct LockTable {
     alloc: Global,
     locks: Vec<Lock>,
     index: Index,
+}
+
+impl Drop for LockTable {
+    fn drop(self) {
+        let Self {
+            alloc: _,
+            locks: _,
+            index: _,
+        } = self;
+    }
 }
 
 impl Model for LockTable {

@@ -24,7 +24,6 @@ use gs_state::undo::Undo;
 use std::alloc::{AllocError, Global};
 
 /// The master while an event lasts: what it is now, what is to be written and sent, and what takes all of it back.
-#[derive(Drop)]
 pub(crate) struct Event {
     pub(crate) alloc: Global,
     pub(crate) recorded: Recorded,
@@ -37,6 +36,23 @@ pub(crate) struct Event {
     pub(crate) written: Vec<Record>,
     pub(crate) sent: Vec<Message>,
     pub(crate) said: Option<Refusal>,
+}
+
+impl Drop for Event {
+    fn drop(self) {
+        let Self {
+            alloc: _,
+            recorded: _,
+            undos: _,
+            memory: _,
+            log: _,
+            fault: _,
+            entries: _,
+            written: _,
+            sent: _,
+            said: _,
+        } = self;
+    }
 }
 
 /// How many bytes a record takes in the journal.

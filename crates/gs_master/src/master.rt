@@ -1,3 +1,5 @@
+ghost use Rattle.std.specs.Prelude.{◌≡◌};
+ghost use Rattle.gs_journal.specs.Records.{standing};
 ghost use Rattle.gs_state.specs.Handling.{handle};
 ghost use Rattle.gs_master.specs.Masters.{Answers};
 ghost use Rattle.gs_state.specs.Outcomes.{caller_of};
@@ -14,11 +16,20 @@ use std::marker::Model;
 ///
 /// Once a disk has failed nothing is recorded any more. Until the disks are opened again calls are refused `Device`, but for those that
 /// were answered before: the last one of a client gets its reply again, an older one is `Old`.
-#[derive(Drop)]
 pub struct Master<D: Disk> {
     pub(crate) config: Config,
     pub(crate) journal: Journal<D>,
     pub(crate) event: Event,
+}
+
+impl<D: Disk + Drop> Drop for Master<D> {
+    fn drop(self) {
+        let Self {
+            config: _,
+            journal: _,
+            event: _,
+        } = self;
+    }
 }
 
 impl<D: Disk> Model for Master<D> {
@@ -56,5 +67,18 @@ impl<D: Disk> Master<D> {
         let done = self.event.take(&self.config, message, moment);
         self.event
             .finish(&mut self.journal, beginning, caller, done)
+    }
+
+    /// The disks, the first one first, to open them again.
+    pub fn into_disks(self) -> (D, D)
+        ensures disks { (result.0 ≡ self.journal.first) × (result.1 ≡ self.journal.second) }
+        ensures text { standing (D.seen result.0) (D.seen result.1) ≡ self.journal.text }
+    {
+        let Self {
+            config: _,
+            journal,
+            event: _,
+        } = self;
+        journal.into_disks()
     }
 }

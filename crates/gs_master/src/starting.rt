@@ -1,5 +1,5 @@
 // The master as its disks tell it.
-ghost use Rattle.std.specs.Prelude.{◌≡◌, IfErr, IfOk};
+ghost use Rattle.std.specs.Prelude.{IfErr, IfOk};
 ghost use Rattle.gs_journal.specs.Records.{standing};
 ghost use Rattle.gs_master.specs.Starting.{IsOpened, WhyUnopened};
 
@@ -59,13 +59,5 @@ impl<D: Disk> Master<D> {
                 })
             }
         }
-    }
-
-    /// The disks, the first one first, to open them again.
-    pub fn into_disks(self) -> (D, D)
-        ensures disks { (result.0 ≡ self.journal.first) × (result.1 ≡ self.journal.second) }
-        ensures text { standing (D.seen result.0) (D.seen result.1) ≡ self.journal.text }
-    {
-        self.journal.into_disks()
     }
 }

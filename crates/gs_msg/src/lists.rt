@@ -6,9 +6,15 @@ use std::alloc::{AllocError, Global};
 use std::marker::Model;
 
 /// The bytes that a message carries.
-#[derive(Debug, Drop)]
+#[derive(Debug)]
 pub struct Bytes {
     bytes: Vec<u8>,
+}
+
+impl Drop for Bytes {
+    fn drop(self) {
+        let Self { bytes: _ } = self;
+    }
 }
 
 impl Model for Bytes {
@@ -52,14 +58,21 @@ impl Bytes {
     pub fn into_vec(self) -> Vec<u8>
         ensures { result.items ≡ self }
     {
-        self.bytes
+        let Self { bytes } = self;
+        bytes
     }
 }
 
 /// A list that a message carries, of items without memory of their own.
-#[derive(Debug, Drop)]
+#[derive(Debug)]
 pub struct Items<T> {
     items: Vec<T>,
+}
+
+impl<T: Drop> Drop for Items<T> {
+    fn drop(self) {
+        let Self { items: _ } = self;
+    }
 }
 
 impl<T> Model for Items<T> {
@@ -125,9 +138,15 @@ impl ListedName {
 }
 
 /// The names in a directory, in the order of their bytes.
-#[derive(Debug, Drop)]
+#[derive(Debug)]
 pub struct Names {
     names: Vec<ListedName>,
+}
+
+impl Drop for Names {
+    fn drop(self) {
+        let Self { names: _ } = self;
+    }
 }
 
 impl Model for Names {

@@ -54,9 +54,15 @@ fn copied_message(alloc: Global, message: &Option<Message>) -> Result<Option<Mes
 
 /// All that a node has sent, in order. A post's place in it never changes, also where its message is given up. Room for
 /// more can be made first, so that sending takes no memory.
-#[derive(Debug, Drop)]
+#[derive(Debug)]
 pub struct Outbox {
     posts: Vec<Post>,
+}
+
+impl Drop for Outbox {
+    fn drop(self) {
+        let Self { posts: _ } = self;
+    }
 }
 
 impl Model for Outbox {

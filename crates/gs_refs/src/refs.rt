@@ -10,9 +10,15 @@ use std::marker::Model;
 
 /// The chunks that a master lists, each with the count of the files' entries that refer to it. A chunk without references
 /// stays listed until it is taken out.
-#[derive(Debug, Drop)]
+#[derive(Debug)]
 pub struct Refs {
     counts: BTreeMap<Handle, u32>,
+}
+
+impl Drop for Refs {
+    fn drop(self) {
+        let Self { counts: _ } = self;
+    }
 }
 
 impl Model for Refs {

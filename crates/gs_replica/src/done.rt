@@ -12,10 +12,19 @@ use std::collections::BTreeMap;
 use std::marker::Model;
 
 /// The last applied request of each client that has one.
-#[derive(Debug, Drop)]
+#[derive(Debug)]
 pub struct DoneTable {
     alloc: Global,
     entries: BTreeMap<u32, Done>,
+}
+
+impl Drop for DoneTable {
+    fn drop(self) {
+        let Self {
+            alloc: _,
+            entries: _,
+        } = self;
+    }
 }
 
 impl Model for DoneTable {

@@ -47,12 +47,23 @@ impl Model for Live {
 
 /// What takes an edit of a replica back: the bytes that it overwrote, the count that it left, and the client's request
 /// before it.
-#[derive(Debug, Drop)]
+#[derive(Debug)]
 pub struct ReplicaInverse {
     pub(crate) blocks: BlockInverse,
     pub(crate) count: u64,
     pub(crate) client: ClientId,
     pub(crate) before: Option<Done>,
+}
+
+impl Drop for ReplicaInverse {
+    fn drop(self) {
+        let Self {
+            blocks: _,
+            count: _,
+            client: _,
+            before: _,
+        } = self;
+    }
 }
 
 fn is_same(stamp: Stamp, other: Stamp) -> bool

@@ -7,10 +7,15 @@ use std::marker::Model;
 use std::snapshot::Snapshot;
 
 /// What seals a replica, made beforehand. It is seen as the replica of which it was made, and holds no copy of it.
-#[derive(Drop)]
 pub struct PreparedSeal {
     of: Snapshot<Live>,
     seal: Seal,
+}
+
+impl Drop for PreparedSeal {
+    fn drop(self) {
+        let Self { of: _, seal: _ } = self;
+    }
 }
 
 impl Model for PreparedSeal {

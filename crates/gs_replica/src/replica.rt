@@ -24,10 +24,16 @@ use std::alloc::{AllocError, Global};
 use std::marker::Model;
 
 /// A replica of a chunk, which may be sealed.
-#[derive(Debug, Drop)]
+#[derive(Debug)]
 pub struct Replica {
     live: Live,
     seal: Option<Seal>,
+}
+
+impl Drop for Replica {
+    fn drop(self) {
+        let Self { live: _, seal: _ } = self;
+    }
 }
 
 impl Model for Replica {
@@ -96,7 +102,8 @@ impl Replica {
     pub fn into_image(self) -> Image
         ensures { result ≡ image_of self.held }
     {
-        self.live.into_image()
+        let Self { live, seal: _ } = self;
+        live.into_image()
     }
 
     /// What a copy carries of the replica as it stands, sealed or not. Every block is verified first: `Damaged` names the lowest

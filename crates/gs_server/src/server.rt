@@ -18,13 +18,24 @@ use std::alloc::{AllocError, Global};
 use std::marker::Model;
 
 /// A chunkserver. What it keeps over a restart is in its store, but for the pushed bytes there, and in its kept refusals.
-#[derive(Drop)]
 pub struct Server {
     pub(crate) alloc: Global,
     pub(crate) id: ServerId,
     pub(crate) store: Store,
     pub(crate) leases: Table<Handle, Lease>,
     pub(crate) refused: Table<ClientId, KeptRefusal>,
+}
+
+impl Drop for Server {
+    fn drop(self) {
+        let Self {
+            alloc: _,
+            id: _,
+            store: _,
+            leases: _,
+            refused: _,
+        } = self;
+    }
 }
 
 impl Model for Server {

@@ -146,11 +146,20 @@ fn undo(names: &mut Names, inverse: &Inverse)
 ///
 /// The first edit that can't be taken back in place copies the names. From then on each edit is made on both, so a further
 /// one costs its path and not the names. Where memory is wanting for the copy it goes, and a later edit copies the names again.
-#[derive(Drop)]
 pub struct HeldNames {
     alloc: Global,
     names: Names,
     spare: Option<Names>,
+}
+
+impl Drop for HeldNames {
+    fn drop(self) {
+        let Self {
+            alloc: _,
+            names: _,
+            spare: _,
+        } = self;
+    }
 }
 
 impl Model for HeldNames {

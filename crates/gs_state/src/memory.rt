@@ -18,7 +18,6 @@ use gs_table::Table;
 use std::alloc::Global;
 
 /// What the master keeps in memory alone. A restart drops it.
-#[derive(Drop)]
 pub struct Memory {
     pub alloc: Global,
     pub is_preparing: bool,
@@ -30,6 +29,22 @@ pub struct Memory {
     pub replies: Table<ClientId, KeptReply>,
     /// The settled chunks that a restart took out, since no file had or has them.
     pub taken_out: Vec<Handle>,
+}
+
+impl Drop for Memory {
+    fn drop(self) {
+        let Self {
+            alloc: _,
+            is_preparing: _,
+            moving: _,
+            unplaced: _,
+            pending: _,
+            locks: _,
+            restored: _,
+            replies: _,
+            taken_out: _,
+        } = self;
+    }
 }
 
 impl Memory {

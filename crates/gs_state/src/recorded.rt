@@ -21,7 +21,6 @@ use gs_table::Table;
 use std::alloc::Global;
 
 /// What the records of the journal come to. A restart reads it from them again.
-#[derive(Drop)]
 pub struct Recorded {
     pub alloc: Global,
     pub names: HeldNames,
@@ -37,6 +36,25 @@ pub struct Recorded {
     pub replies: Table<ClientId, KeptReply>,
     pub inverses: Vec<ListedInverse>,
     pub prepared: Table<Handle, Prepared>,
+}
+
+impl Drop for Recorded {
+    fn drop(self) {
+        let Self {
+            alloc: _,
+            names: _,
+            leases: _,
+            next_handle: _,
+            next_version: _,
+            next_hidden: _,
+            epoch: _,
+            phase: _,
+            ends: _,
+            replies: _,
+            inverses: _,
+            prepared: _,
+        } = self;
+    }
 }
 
 impl Recorded {

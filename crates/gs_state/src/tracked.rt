@@ -43,11 +43,20 @@ pub struct Calls {
 }
 
 /// What is kept in memory alone. While an event lasts, what stood before is kept too.
-#[derive(Drop)]
 pub struct Tracked {
     memory: Memory,
     touched: Vec<Slot>,
     calls: Option<Calls>,
+}
+
+impl Drop for Tracked {
+    fn drop(self) {
+        let Self {
+            memory: _,
+            touched: _,
+            calls: _,
+        } = self;
+    }
 }
 
 impl Model for Tracked {

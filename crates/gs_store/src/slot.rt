@@ -29,13 +29,25 @@ impl Model for LiveReplica {
 }
 
 /// What a server keeps of one handle. The promise is kept for good, also when the replica goes.
-#[derive(Debug, Drop)]
+#[derive(Debug)]
 pub struct Slot {
     pub(crate) promise: Stamp,
     pub(crate) carried: bool,
     pub(crate) live: Option<LiveReplica>,
     pub(crate) trash: Option<Replica>,
     pub(crate) taken: Option<Stamp>,
+}
+
+impl Drop for Slot {
+    fn drop(self) {
+        let Self {
+            promise: _,
+            carried: _,
+            live: _,
+            trash: _,
+            taken: _,
+        } = self;
+    }
 }
 
 impl Model for Slot {

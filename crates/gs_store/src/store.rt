@@ -16,7 +16,6 @@ use std::alloc::{AllocError, Global};
 use std::marker::Model;
 
 /// What a server keeps of all its handles, and the bytes that clients have pushed.
-#[derive(Drop)]
 pub struct Store {
     pub(crate) alloc: Global,
     pub(crate) sizes: Sizes,
@@ -24,6 +23,19 @@ pub struct Store {
     pub(crate) places: Table<Handle, usize>,
     pub(crate) slots: Vec<Slot>,
     pub(crate) buffer: PushBuffer,
+}
+
+impl Drop for Store {
+    fn drop(self) {
+        let Self {
+            alloc: _,
+            sizes: _,
+            epoch: _,
+            places: _,
+            slots: _,
+            buffer: _,
+        } = self;
+    }
 }
 
 impl Model for Store {

@@ -12,9 +12,14 @@ use std::marker::Model;
 
 /// A map in which room is made for a key first, so that putting a value at it takes no memory. It is seen as its slots;
 /// what lives in them is the map that callers speak of.
-#[derive(Drop)]
 pub struct Table<K: Ord, V> {
     slots: BTreeMap<K, Option<V>>,
+}
+
+impl<K: Ord + Drop, V: Drop> Drop for Table<K, V> {
+    fn drop(self) {
+        let Self { slots: _ } = self;
+    }
 }
 
 impl<K: Ord, V> Model for Table<K, V> {

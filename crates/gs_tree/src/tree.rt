@@ -42,10 +42,15 @@ pub enum Status<'a> {
 }
 
 /// A tree of directories and files. It begins with the root, a directory that always stands.
-#[derive(Drop)]
 pub struct Tree {
     alloc: Global,
     root: Node,
+}
+
+impl Drop for Tree {
+    fn drop(self) {
+        let Self { alloc: _, root: _ } = self;
+    }
 }
 
 impl Model for Tree {

@@ -12,7 +12,6 @@ use gs_server::Server;
 use std::alloc::{AllocError, Global};
 
 /// The nodes of a store.
-#[derive(Drop)]
 pub struct World<D: Disk> {
     pub alloc: Global,
     pub config: Config,
@@ -21,6 +20,18 @@ pub struct World<D: Disk> {
     pub servers: Vec<Server>,
     /// The clients, which are numbered from 1 upwards.
     pub clients: Vec<ClientNode>,
+}
+
+impl<D: Disk + Drop> Drop for World<D> {
+    fn drop(self) {
+        let Self {
+            alloc: _,
+            config: _,
+            master: _,
+            servers: _,
+            clients: _,
+        } = self;
+    }
 }
 
 /// As many servers as there are, which have heard nothing.
