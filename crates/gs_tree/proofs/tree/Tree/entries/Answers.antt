@@ -14,7 +14,7 @@ returns-clause-rows c =
 
 pub returns-clause-tree : goal.returns-clause-tree
 returns-clause-tree c =
-    let rows = rows_of_entries c.list_below-2.new.listed.items in
+    let rows = rows_of_entries c.list_below.new.listed.items in
     let sound : IsSound c.self.inside.root = c.in_ok-list_below.ensures.sound in
     let is : c.self.inside.root ≡ rooted_rows rows = sym (sound_entries c.self.inside.root sound) ∙ ap entries c.self.view_is ∙ sym (returns-clause-rows c) in
     ap (list_all (λ r. is_short r.0)) (sym (returns-clause-rows c)) ∙ sound-tree rows (subst IsSound is sound)
