@@ -116,7 +116,10 @@ impl<D: Disk + Drop> Wire<D> {
             Ok(turn) => {
                 self.send_all(turn.sent);
                 match turn.said {
-                    Some(refusal) => Err(refusal),
+                    Some(refusal) => {
+                        self.note(&refusal);
+                        Err(refusal)
+                    }
                     None => Ok(()),
                 }
             }

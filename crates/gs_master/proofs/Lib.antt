@@ -9,6 +9,7 @@ pub mod Ends
 pub mod Entered
 pub mod Finished
 pub mod Idle
+pub mod Lacking
 pub mod Leading
 pub mod Lengthened
 pub mod Proposals

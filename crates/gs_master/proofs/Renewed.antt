@@ -1,5 +1,5 @@
 -- That an event which is ended with a checkpoint is finished, and what the journal tells then.
-use Rattle.std.proofs.Common.{◌≡◌, ◌⊎◌, inl, inr, ◌∙◌, ◌<◌, ◌++◌, ◌&&◌, ℕ, Bool, true, false, not, List, [], ◌∷◌, map, length, take, refl, ap, arith, subst, sym, append-nil}
+use Rattle.std.proofs.Common.{◌≡◌, ◌⊎◌, inl, inr, ◌∙◌, ◌+◌, ◌<◌, ◌++◌, ◌&&◌, ℕ, zero, suc, Bool, true, false, not, List, [], ◌∷◌, map, length, take, refl, ap, arith, subst, sym, append-nil}
 use Rattle.std.specs.Prelude.{Option, Some, None, fold, is_none, slice_get, if◌then◌else◌, Result, Ok, Err}
 use Rattle.std.specs.List.{AllByRecursion}
 use Rattle.std.proofs.lemmas.Bool.{false≢true}
@@ -9,6 +9,7 @@ use Rattle.gs_base.specs.declared.numbers.Moment.{Moment}
 use Rattle.gs_base.specs.declared.refusal.Refusal.{Refusal}
 use Rattle.gs_base.specs.declared.refusal.Refusal.TheVariants as refusals
 use Rattle.gs_journal.specs.Journal.{State as Journal, checkpointed, failures_of_both}
+use Rattle.gs_journal.specs.Records.{Text}
 use Rattle.gs_journal.specs.declared.version.Version.TheVariants.{Two}
 use Rattle.gs_record.specs.Encoding.{encoded}
 use Rattle.gs_record.specs.Plain.{PlainEntry, Whole, plain}
@@ -19,14 +20,14 @@ use Rattle.gs_master.specs.Events.{log_behind}
 use Rattle.gs_master.specs.Finishing.{FinishesAnew, IsAtRest, IsCutShortAnew, IsFinishedAnew, and_checkpoint}
 use Rattle.gs_state.specs.Handling.{checkpoint, checkpoint_body, checkpoint_tests, due, tick, tidied, unless_failed, written, written_if_due, written_unless}
 use Rattle.gs_master.specs.Journaled.{IsLogOf, IsOver}
-use Rattle.gs_master.specs.Masters.{Answers, DoubtLeaves, Holds, IsAnswered, IsAnsweredUnsure, IsHeld, IsTold, MasterOf}
+use Rattle.gs_master.specs.Masters.{Answers, DoubtLeaves, Holds, IsAnswered, IsAnsweredUnsure, IsHeld, IsTold, LeavesText, MasterOf}
 use Rattle.gs_state.specs.Outcomes.{IsDone, cut}
 use Rattle.gs_state.specs.Plans.{fault_of, log_of}
 use Rattle.gs_state.specs.Recorded.{durable_of}
 use Rattle.gs_master.specs.Renewing.{AreCutAnew, AreRenewed, BreaksAnew, BreaksLast, IsCutAnew, IsRenewed, Renews}
 use Rattle.gs_plan.specs.Renewable.{renewal_refusal}
 use Rattle.gs_state.specs.State.{Fault, Sound, Failed, Unopened, Log, State, Turn, first_of, first_said, is_failed, joined, met_by, unmoved, with_record}
-use Rattle.gs_master.specs.Ticking.{AnswersAs, AnswersCheckpoint, AnswersTick, IsAnsweredAnew, is_written, pressed_all}
+use Rattle.gs_master.specs.Ticking.{AnswersAs, AnswersCheckpoint, AnswersTick, IsAnsweredAnew, is_written, lacking, pressed_all}
 use Rattle.gs_master.specs.Turns.{GoesBack, IsTurned, state_at}
 use Rattle.gs_state.specs.Whole.{checkpoint_of}
 use Rattle.gs_master.specs.declared.event.Event.{Event}
@@ -34,7 +35,7 @@ use Rattle.gs_master.specs.declared.turn.Turn.{Turn as Told}
 use Rattle.gs_master.proofs.Entered.{recorded_as}
 use Rattle.gs_master.proofs.Finished.{IsLeft, came, records_are, stood_is}
 use Rattle.gs_master.proofs.Renewals.{all_before, cut_before, last_of}
-use Rattle.gs_master.proofs.Turning.{breaks, front_fits, told_more}
+use Rattle.gs_master.proofs.Turning.{breaks, front_fits, left_by, told_more}
 
 -- ---- an event that is ended with a checkpoint
 
@@ -84,6 +85,27 @@ module _ {D : Type 0} (seen : D → List ℕ) (may_leave : D → List ℕ → Ty
       FinishesAnew seen may_leave failures steps begun j told e k
   finished_anew told mid e j k left (inl renewed) = inl (anew told mid e j k left renewed)
   finished_anew told mid e j k left (inr at) = inr (at.0, short at.0 told mid e j k left at.1)
+
+-- ---- what a failure leaves of a text
+
+slice_get_more : (rs more : List PlainEntry) (place : ℕ) (entry : PlainEntry) → slice_get rs place ≡ Some entry → slice_get (rs ++ more) place ≡ Some entry
+slice_get_more [] more place entry found = absurd cc
+slice_get_more (r ∷ rs) more zero entry found = found
+slice_get_more (r ∷ rs) more (suc place) entry found = slice_get_more rs more place entry found
+
+-- the same where another record stands behind
+more_left : (old new : Text) (rs : List PlainEntry) (whole : PlainEntry) (place : ℕ) → place < length rs → LeavesText rs place old new → LeavesText (rs ++ whole ∷ []) place old new
+more_left old new rs whole place within (inl text) =
+    inl (text ∙ (λ i. (old.0, old.1 ++ map (encoded Two) (sym (take-append-le place rs (whole ∷ []) (omega arith)) i))))
+more_left old new rs whole place within (inr (inl text)) =
+    inr (inl (text ∙ (λ i. (old.0, old.1 ++ map (encoded Two) (sym (take-append-le (place + 1) rs (whole ∷ []) (omega arith)) i)))))
+more_left old new rs whole place within (inr (inr (d, found, text))) = inr (inr (d, slice_get_more rs (whole ∷ []) place (Whole (checkpoint_of d)) found, text))
+
+-- or it is the last that was to be written, which takes the place of all
+last_left : (d : Durable) (old new : Text) (rs : List PlainEntry) (place : ℕ) → place ≡ length rs
+    → ((new ≡ (old.0, old.1 ++ map (encoded Two) rs)) ⊎ (new ≡ checkpointed (checkpoint_body d))) → LeavesText (rs ++ Whole (checkpoint_of d) ∷ []) place old new
+last_left d old new rs place here (inl text) = inl (text ∙ (λ i. (old.0, old.1 ++ map (encoded Two) (sym (all_before rs (Whole (checkpoint_of d)) place here) i))))
+last_left d old new rs place here (inr text) = inr (inr (d, last_of rs (Whole (checkpoint_of d)) place here, text))
 
 -- ---- what the journal tells
 
@@ -193,12 +215,21 @@ module _ {D : Type 0} (seen : D → List ℕ) (may_leave : D → List ℕ → Ty
           (gives.0, (gives.1.0, cut_held place steps.after.durable whole after fits (last_of rs whole place here) gives.1)),
         )
 
+    -- what is left of the text
+    left_anew : (place : ℕ) → BreaksAnew failures j (map (encoded Two) steps.records) (checkpoint_body steps.after.durable) place k → LeavesText (steps.records ++ whole ∷ []) place j.text k.text
+    left_anew place (inl (below, broke)) =
+        let rs = steps.records in
+        let within : place < length rs = subst (λ n. place < n) (length-map rs (encoded Two)) below in
+        more_left j.text k.text rs whole place within (left_by j.text k.text rs place broke.text)
+    left_anew place (inr (last, broke)) = last_left steps.after.durable j.text k.text steps.records place (last ∙ length-map steps.records (encoded Two)) broke.text
+
     short_held : (told : Told) (place : ℕ) → IsCutShortAnew failures steps place begun j told e k → IsAnsweredUnsure failures None (and_checkpoint steps) place (at begun j) told (at e k) × IsHeld seen may_leave (state_at e) k
     short_held told place is =
         let gives = by_place place is.cut.after is.are_entries is.replays (is.breaks (log_known (state_at begun).fault held sound)) in (
           record {
             cut = is.cut;
             fit = gives.0;
+            left = left_anew place (is.breaks (log_known (state_at begun).fault held sound));
             cause = gives.1.0;
             closed = gives.1.1.0;
             config = refl;
@@ -311,17 +342,10 @@ module _ {D : Type 0} (failures : D → ℕ) (moment : Moment) (old : MasterOf D
       (subst (λ t. IsAnswered failures t old told new ⊎ ((place : ℕ) × IsAnsweredUnsure failures None t place old told new)) (sym (plain_tick old.state moment sound none)) answered)))
   ticks_plain sound none (Err e) new answered = answered
 
-  ticks_short : due steps.after ≡ true → (result : Result Told Refusal) (new : MasterOf D) → Answers failures None steps old result new → AnswersTick failures moment old result new
+  -- a checkpoint is due, and memory is wanting for it
+  pub ticks_short : due steps.after ≡ true → (result : Result Told Refusal) (new : MasterOf D) → Answers failures None (lacking steps) old result new → AnswersTick failures moment old result new
   ticks_short is_due (Ok told) new answered = inr (is_due, answered)
   ticks_short is_due (Err e) new answered = answered
-
-  -- no checkpoint is made: none is due, or one is
-  ticks_by : (b : Bool) → due steps.after ≡ b → is_failed old.state.fault ≡ false → (result : Result Told Refusal) (new : MasterOf D) → Answers failures None steps old result new → AnswersTick failures moment old result new
-  ticks_by true is_due sound result new answered = ticks_short is_due result new answered
-  ticks_by false is_not sound result new answered = ticks_plain sound (ap (λ b. b && is_written steps.after) is_not) result new answered
-
-  pub ticks_alone : is_failed old.state.fault ≡ false → (result : Result Told Refusal) (new : MasterOf D) → Answers failures None steps old result new → AnswersTick failures moment old result new
-  ticks_alone sound result new answered = ticks_by (due steps.after) refl sound result new answered
 
   pub ticks_anew : is_failed old.state.fault ≡ false → due steps.after ≡ true → renewal_refusal steps.after ≡ None → (told : Told) (new : MasterOf D) →
       (IsAnsweredAnew failures (and_checkpoint steps) steps old told new ⊎ ((place : ℕ) × IsAnsweredUnsure failures None (and_checkpoint steps) place old told new)) → AnswersTick failures moment old (Ok told) new

@@ -21,7 +21,7 @@ use Rattle.gs_master.specs.Journaled.{IsLogOf}
 use Rattle.gs_master.specs.Masters.{Holds, IsHeld, IsTold}
 use Rattle.gs_state.specs.Plans.{log_of}
 use Rattle.gs_master.specs.Recovering.{AreRecordsOf, IsLeft, IsRecovered, Tells, WhyNotRecovered, WhyNotTold, log_behind_last, log_in}
-use Rattle.gs_master.specs.Starting.{WhyUnopened, left_in}
+use Rattle.gs_master.specs.Starting.{IsAsSeen, WhyUnopened, left_in}
 use Rattle.gs_state.specs.State.{Log, Sound, State, Turn, and_then, first_of}
 use Rattle.gs_master.specs.Turns.{state_at}
 use Rattle.gs_master.specs.declared.event.Event.{Event}
@@ -85,6 +85,14 @@ pub left_of : {D : Type 0} (seen : D → List ℕ) (may_leave : D → List ℕ �
     (k.text ≡ left_in v j.text d) × (failures_of_both failures k ≡ failures_of_both failures j)
 left_of seen may_leave failures versions.One d j k is = (is.made.text, is.quiet)
 left_of seen may_leave failures versions.Two d j k is = (is.0.text, is.1.1)
+
+as_seen : {D : Type 0} (seen : D → List ℕ) (may_leave : D → List ℕ → Type 0) (k : Journal D) → Stands seen may_leave k → IsAsSeen seen k
+as_seen seen may_leave k stands = record { text = stands.text; size = stands.size; generation = stands.generation }
+
+-- and it is as its disks are seen
+pub seen_of : {D : Type 0} (seen : D → List ℕ) (may_leave : D → List ℕ → Type 0) (failures : D → ℕ) (v : Version) (d : Durable) (j k : Journal D) → IsLeft seen may_leave failures v d j k → IsAsSeen seen k
+seen_of seen may_leave failures versions.One d j k is = as_seen seen may_leave k is.stands
+seen_of seen may_leave failures versions.Two d j k is = as_seen seen may_leave k is.1.0
 
 -- ---- what isn't opened
 

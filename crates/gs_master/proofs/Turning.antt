@@ -18,7 +18,7 @@ use Rattle.gs_state.specs.Durable.{Durable}
 use Rattle.gs_master.specs.Events.{log_behind}
 use Rattle.gs_master.specs.Finishing.{Finishes, IsAtRest, IsCutShort, IsFinished}
 use Rattle.gs_master.specs.Journaled.{Breaks, Gains, IsLogOf}
-use Rattle.gs_master.specs.Masters.{Answers, DoubtLeaves, Holds, IsAnswered, IsAnsweredUnsure, IsHeld, IsTold, MasterOf}
+use Rattle.gs_master.specs.Masters.{Answers, DoubtLeaves, Holds, IsAnswered, IsAnsweredUnsure, IsHeld, IsTold, LeavesText, MasterOf}
 use Rattle.gs_state.specs.Recorded.{durable_of}
 use Rattle.gs_state.specs.State.{Fault, Sound, Failed, Unopened, Log, State, Turn, is_failed, with_record}
 use Rattle.gs_master.specs.Turns.{state_at}
@@ -53,6 +53,12 @@ in_doubt (e ∷ es) (suc place) d mid found below one two =
     let a = is_before (applied d e) (λ next. replayed next (take place es)) mid one in
     let b = is_before (applied d e) (λ next. replayed next (take (suc place) es)) found two in
     in_doubt es place a.0 mid found (omega arith) a.1.1 (subst (λ x. replayed x (take (suc place) es) ≡ Some found) (ap (λ o. unwrap_or o d) (sym b.1.0 ∙ a.1.0)) b.1.1)
+
+-- what is left of a text, the records being written
+pub left_by : (old new : Text) (rs : List PlainEntry) (place : ℕ)
+    → ((new ≡ (old.0, old.1 ++ take place (map (encoded Two) rs))) ⊎ (new ≡ (old.0, old.1 ++ take (place + 1) (map (encoded Two) rs)))) → LeavesText rs place old new
+left_by old new rs place (inl text) = inl (text ∙ (λ i. (old.0, old.1 ++ take-map (encoded Two) place rs i)))
+left_by old new rs place (inr text) = inr (inl (text ∙ (λ i. (old.0, old.1 ++ take-map (encoded Two) (place + 1) rs i))))
 
 without_doubt : (doubt : Option PlainEntry) (d : Durable) → DoubtLeaves doubt d d
 without_doubt None d = refl
@@ -128,6 +134,13 @@ module _ {D : Type 0} (seen : D → List ℕ) (may_leave : D → List ℕ → Ty
           let found = front_fits d last rs (suc place) fit in
           (found.0, (in_doubt rs place d mid found.0 below front found.1, front_told (suc place) found.0 found.1 (text ∙ (λ i. (j.text.0, j.text.1 ++ take (next i) (map (encoded Two) rs))))))
 
+  -- what is left of the text
+  pub left_text : (f : Fault) (d : Durable) (log : Log) (j k : Journal D) (rs : List PlainEntry) (place : ℕ) → Holds seen may_leave d log j f → (is_failed f ≡ true → rs ≡ []) → place < length rs →
+      (IsLogOf log j → Breaks failures j (map (encoded Two) rs) place k) → LeavesText rs place j.text k.text
+  left_text Sound d log j k rs place (stands, (is, told)) idle below broke = left_by j.text k.text rs place (broke is).text
+  left_text (Failed doubt) d log j k rs place held idle below broke = let none = ap length (idle refl) in absurd (omega arith)
+  left_text (Unopened doubt) d log j k rs place held idle below broke = let none = ap length (idle refl) in absurd (omega arith)
+
   -- ---- the master
 
   module _ (config : Config) (caller : Option ReqId) (t : Turn) (begun : Event) (j : Journal D) (held : IsHeld seen may_leave (state_at begun) j) (idle : is_failed (state_at begun).fault ≡ true → t.records ≡ []) (e : Event) (k : Journal D) where
@@ -154,6 +167,7 @@ module _ {D : Type 0} (seen : D → List ℕ) (may_leave : D → List ℕ → Ty
       record {
         cut = is.cut;
         fit = mid.1 ∙ ap (λ (s : State). Some s.durable) (sym state);
+        left = left_text (state_at begun).fault (durable_of begun.recorded) (state_at begun).log j k t.records place held idle is.cut.within is.breaks;
         cause = broke.0;
         closed = broke.1.0;
         config = refl;

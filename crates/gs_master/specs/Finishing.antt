@@ -1,6 +1,7 @@
 -- What an event that is finished leaves at the master and at its journal.
-use Rattle.std.specs.Prelude.{◌≡◌, ◌⊎◌, ◌≤◌, ◌++◌, ◌∷◌, ℕ, true, List, [], map, Option, Some, None, Result, Ok, Err}
+use Rattle.std.specs.Prelude.{◌≡◌, ◌⊎◌, ◌≤◌, ◌++◌, ◌∷◌, ◌&&◌, ℕ, true, false, List, [], map, Option, Some, None, is_none, Result, Ok, Err}
 use Rattle.std.specs.List.{AllByRecursion}
+use Rattle.std.specs.declared.alloc.AllocError.{AllocError}
 use Rattle.gs_base.specs.declared.numbers.ReqId.{ReqId}
 use Rattle.gs_base.specs.declared.refusal.Refusal.{Refusal}
 use Rattle.gs_journal.specs.Journal.{State as Journal}
@@ -17,7 +18,7 @@ use Rattle.gs_state.specs.Outcomes.{IsCut, IsDone}
 use Rattle.gs_state.specs.Plans.{fault_of, log_of}
 use Rattle.gs_state.specs.Recorded.{durable_of}
 use Rattle.gs_master.specs.Renewing.{BreaksAnew, Renews}
-use Rattle.gs_plan.specs.Renewable.{IsBehind, IsRenewalOf}
+use Rattle.gs_plan.specs.Renewable.{IsBehind, IsRenewalOf, renewal_refusal}
 use Rattle.gs_master.specs.StartingOver.{IsBegun}
 use Rattle.gs_state.specs.State.{State, Turn}
 use Rattle.gs_master.specs.Turns.{WhyNotTurned, state_at}
@@ -79,8 +80,9 @@ abbrev pub FinishesAnew : {D : Type 0} → (D → List ℕ) → (D → List ℕ 
 FinishesAnew seen may_leave failures steps begun old told e new =
     IsFinishedAnew seen may_leave failures steps begun old told e new ⊎ ((place : ℕ) × IsCutShortAnew failures steps place begun old told e new)
 
--- All that the checkpoint takes which a tick writes here; none where it isn't due, or something stands against it, or memory is wanting
--- for it.
-abbrev pub MakesDue : {D : Type 0} → State → Journal D → Option Renewal → Type 0
-MakesDue s j (Some r) = (due s ≡ true) × (IsRenewalOf s r × IsBehind j r)
-MakesDue s j None = Unit {0}
+-- All that the checkpoint takes which a tick writes here; none where it isn't due, or something stands against it; or one is due, and memory
+-- is wanting for it.
+abbrev pub MakesDue : {D : Type 0} → State → Journal D → Result (Option Renewal) AllocError → Type 0
+MakesDue s j (Ok (Some r)) = (due s ≡ true) × (IsRenewalOf s r × IsBehind j r)
+MakesDue s j (Ok None) = (due s && is_none (renewal_refusal s)) ≡ false
+MakesDue s j (Err e) = due s ≡ true

@@ -1,12 +1,12 @@
 -- The master with its journal, and what it answers.
-use Rattle.std.specs.Prelude.{◌≡◌, ◌⊎◌, ◌<◌, ◌++◌, ◌∷◌, ℕ, true, false, List, [], map, take, Option, Some, None, Result, Ok, Err}
+use Rattle.std.specs.Prelude.{◌≡◌, ◌⊎◌, ◌<◌, ◌+◌, ◌++◌, ◌∷◌, ℕ, true, false, List, [], map, take, Option, Some, None, Result, Ok, Err, slice_get}
 use Rattle.std.specs.List.{AllByRecursion}
 use Rattle.gs_base.specs.declared.config.Config.{Config}
 use Rattle.gs_base.specs.declared.numbers.ReqId.{ReqId}
 use Rattle.gs_base.specs.declared.refusal.Refusal.{Refusal}
 use Rattle.gs_base.specs.declared.refusal.Refusal.TheVariants as refusals
-use Rattle.gs_journal.specs.Journal.{State as Journal, Stands, failures_of_both}
-use Rattle.gs_journal.specs.Records.{Entry as Record}
+use Rattle.gs_journal.specs.Journal.{State as Journal, Stands, checkpointed, failures_of_both}
+use Rattle.gs_journal.specs.Records.{Entry as Record, Text}
 use Rattle.gs_journal.specs.declared.version.Version.TheVariants.{Two}
 use Rattle.gs_msg.specs.declared.message.Message.{Message}
 use Rattle.gs_record.specs.Encoding.{encoded}
@@ -72,10 +72,19 @@ pub record IsAnswered {D : Type 0} (failures : D → ℕ) (t : Turn) (old : Mast
   pub still : t.records ≡ [] → new.journal ≡ old.journal
   pub config : new.config ≡ old.config
 
+-- What a failure at the record at a place leaves of a text: the records before it stand behind the others, and it stands or doesn't; a
+-- checkpoint that stands takes the place of all.
+abbrev pub LeavesText : List PlainEntry → ℕ → Text → Text → Type 0
+LeavesText records place old new =
+    (new ≡ (old.0, old.1 ++ map (encoded Two) (take place records)))
+    ⊎ ((new ≡ (old.0, old.1 ++ map (encoded Two) (take (place + 1) records)))
+    ⊎ ((d : Durable) × (slice_get records place ≡ Some (Whole (checkpoint_of d))) × (new ≡ checkpointed (checkpoint_body d))))
+
 -- A disk failed at the record at a place, which stands or doesn't. Those before it fit what they meet.
 pub record IsAnsweredUnsure {D : Type 0} (failures : D → ℕ) (caller : Option ReqId) (t : Turn) (place : ℕ) (old : MasterOf D) (told : Told) (new : MasterOf D) : Type 0 where
   pub cut : IsCut old.state caller t place told.sent.items told.said new.state
   pub fit : replayed old.state.durable (take place t.records) ≡ Some new.state.durable
+  pub left : LeavesText t.records place old.journal.text new.journal.text
   pub cause : failures_of_both failures old.journal < failures_of_both failures new.journal
   pub closed : new.journal.is_failed ≡ true
   pub config : new.config ≡ old.config

@@ -1,11 +1,11 @@
 -- What two disks are opened as.
-use Rattle.std.specs.Prelude.{◌≡◌, ◌⊎◌, ◌+◌, ◌<◌, ℕ, true, false, List, Ok, Result, Err}
+use Rattle.std.specs.Prelude.{◌≡◌, ◌⊎◌, ◌+◌, ◌<◌, ℕ, true, false, List, length, Ok, Result, Err}
 use Rattle.gs_base.specs.declared.config.Config.{Config}
 use Rattle.gs_base.specs.declared.refusal.Refusal.{Refusal}
 use Rattle.gs_base.specs.declared.refusal.Refusal.TheVariants as refusals
 use Rattle.gs_journal.specs.Forms.{is_text}
-use Rattle.gs_journal.specs.Records.{Text, standing}
-use Rattle.gs_journal.specs.Journal.{checkpointed, failures_of_both}
+use Rattle.gs_journal.specs.Records.{Text, generation_of, standing}
+use Rattle.gs_journal.specs.Journal.{State as Journal, checkpointed, counting, failures_of_both}
 use Rattle.gs_journal.specs.declared.journal.Unopened.{Unopened}
 use Rattle.gs_journal.specs.declared.version.Version.{Version}
 use Rattle.gs_journal.specs.declared.version.Version.TheVariants as versions
@@ -13,6 +13,7 @@ use Rattle.gs_msg.specs.declared.message.Message.{Message}
 use Rattle.gs_record.specs.Plain.{PlainEntry}
 use Rattle.gs_state.specs.Durable.{Durable}
 use Rattle.gs_state.specs.Handling.{checkpoint_body, recover}
+use Rattle.gs_master.specs.Journaled.{IsLogOf}
 use Rattle.gs_master.specs.Masters.{MasterOf}
 use Rattle.gs_master.specs.Recovering.{Tells, WhyNotTold}
 use Rattle.gs_state.specs.State.{Log, Turn}
@@ -22,9 +23,15 @@ abbrev pub left_in : Version → Text → Durable → Text
 left_in versions.One text d = checkpointed (checkpoint_body d)
 left_in versions.Two text d = text
 
--- The master is what the records tell, and sends what they say. As many bytes as it was told may be written to a disk. No disk has
--- failed.
-pub record IsOpened {D : Type 0} (failures : D → ℕ) (given : Config) (first second : D) (text : Text) (bound : ℕ) (m : MasterOf D) (sent : List Message) : Type 0 where
+-- a journal is as its disks are seen
+pub record IsAsSeen {D : Type 0} (seen : D → List ℕ) (j : Journal D) : Type 0 where
+  pub text : standing (seen j.first) (seen j.second) ≡ j.text
+  pub size : length (counting (seen j.first) (seen j.second)) ≡ j.size
+  pub generation : generation_of (counting (seen j.first) (seen j.second)) ≡ j.generation
+
+-- The master is what the records tell, and sends what they say. Its journal is as its disks are seen, and the master knows its room: as many
+-- bytes as it was told may be written to a disk. No disk has failed.
+pub record IsOpened {D : Type 0} (seen : D → List ℕ) (failures : D → ℕ) (given : Config) (first second : D) (text : Text) (bound : ℕ) (m : MasterOf D) (sent : List Message) : Type 0 where
   pub entries : List PlainEntry
   pub durable : Durable
   pub tells : Tells text entries durable
@@ -36,6 +43,8 @@ pub record IsOpened {D : Type 0} (failures : D → ℕ) (given : Config) (first 
   pub config : m.config ≡ given
   pub limit : log.limit ≡ bound
   pub left : m.journal.text ≡ left_in text.0 text durable
+  pub journal : IsAsSeen seen m.journal
+  pub known : IsLogOf m.state.log m.journal
   pub quiet : failures_of_both failures m.journal ≡ failures first + failures second
 
 -- A disk failed; or the disks say what they said, and that tells no master, or memory is wanting.

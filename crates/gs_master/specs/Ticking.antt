@@ -47,12 +47,16 @@ AnswersWhole failures moment old told new =
     let t = tick old.state moment in
     AnswersAs failures (writes_one old.state steps) t steps old told new ⊎ ((place : ℕ) × IsAnsweredUnsure failures None t place old told new)
 
--- where memory is wanting for a checkpoint that is due, the steps are done without it; where it is wanting for the steps, nothing has
--- happened
+-- these steps, where memory was wanting for a checkpoint
+abbrev pub lacking : Turn → Turn
+lacking steps = record steps { said = Some refusals.Memory }
+
+-- where memory is wanting for a checkpoint that is due, the steps are done without it, and that is said; where it is wanting for the steps,
+-- nothing has happened
 abbrev pub AnswersTick : {D : Type 0} → (D → ℕ) → Moment → MasterOf D → Result Told Refusal → MasterOf D → Type 0
 AnswersTick failures moment old (Ok told) new =
     let steps = pressed_all old.state moment in
-    AnswersWhole failures moment old told new ⊎ ((due steps.after ≡ true) × Answers failures None steps old (Ok told) new)
+    AnswersWhole failures moment old told new ⊎ ((due steps.after ≡ true) × Answers failures None (lacking steps) old (Ok told) new)
 AnswersTick failures moment old (Err refusal) new = WhyNot (pressed_all old.state moment) old.state refusal × (new ≡ old)
 
 -- a checkpoint is written, or it is said why none is; or a disk failed at it; or memory is wanting, and nothing has happened

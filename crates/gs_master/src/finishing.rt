@@ -1,5 +1,6 @@
 // The end of an event, whatever came of its turn.
-ghost use Rattle.std.specs.Prelude.{◌≡◌, [], None};
+ghost use Rattle.std.specs.Prelude.{◌≡◌, [], None, Some};
+ghost use Rattle.gs_base.specs.declared.refusal.Refusal.TheVariants as refusals;
 ghost use Rattle.gs_master.specs.Finishing.{Finishes, FinishesAnew, IsAtRest, MakesDue};
 ghost use Rattle.gs_plan.specs.Renewable.{IsBehind, IsRenewalOf};
 ghost use Rattle.gs_master.specs.StartingOver.{BeginsAt};
@@ -13,6 +14,7 @@ use crate::turn::Turn;
 use gs_base::{Refusal, ReqId};
 use gs_journal::{Disk, Journal};
 use gs_plan::renewing::Renewal;
+use std::alloc::AllocError;
 use std::mem;
 
 impl Event {
@@ -53,15 +55,26 @@ impl Event {
         Ok(self.tell())
     }
 
-    /// All that the checkpoint takes which a tick writes here, if it is due, nothing stands against it, and memory is there for it.
-    pub fn due_renewal<D: Disk>(&self, journal: &Journal<D>) -> Option<Renewal>
+    /// All that the checkpoint takes which a tick writes here, if it is due and nothing stands against it.
+    pub fn due_renewal<D: Disk>(&self, journal: &Journal<D>) -> Result<Option<Renewal>, AllocError>
         ensures { MakesDue (state_at self.now) journal.now result }
     {
         let standing = self.standing();
         if !standing.is_due() {
-            return None;
+            return Ok(None);
         }
-        standing.renewal(journal).ok()
+        match standing.renewal(journal) {
+            Ok(renewal) => Ok(Some(renewal)),
+            Err(Refusal::Memory) => Err(AllocError),
+            Err(_) => Ok(None),
+        }
+    }
+
+    /// Says that memory was wanting for a checkpoint.
+    pub fn lack(&mut self)
+        ensures { self.new ≡ record self.old { said = Some refusals.Memory } }
+    {
+        self.said = Some(Refusal::Memory);
     }
 
     /// Ends an event whose steps are done, with a checkpoint behind its records. It takes no memory.

@@ -33,7 +33,7 @@ impl<D: Disk> Master<D> {
         second: D,
         limit: u32,
     ) -> Result<Started<D>, Unopened<D>>
-        ensures opened { IfOk result (λ started. IsOpened D.failures config first second (standing (D.seen first) (D.seen second)) limit started.master started.sent.items) }
+        ensures opened { IfOk result (λ started. IsOpened D.seen D.failures config first second (standing (D.seen first) (D.seen second)) limit started.master started.sent.items) }
         ensures refused { IfErr result (WhyUnopened D.seen D.failures config limit first second) }
     {
         let mut journal = match Journal::open(alloc, first, second, limit) {

@@ -9,7 +9,8 @@ use gs_journal::Disk;
 impl<D: Disk> Master<D> {
     /// A tick of the master's clock, at this moment, in seconds. A view that is proposed is settled by one yes; without a yes the call
     /// that waits for it is refused, and the chunk moves on. Each lease is granted again; and where 4,096 records stand behind the last checkpoint another is written, if nothing
-    /// stands against it and memory is there for it. Once a disk has failed it says `Device` and does nothing.
+    /// stands against it; where memory is wanting for that it says `Memory`, and all else is done. Once a disk has failed it says `Device` and
+    /// does nothing.
     ///
     /// A refusal changes nothing, as in `handle`.
     pub fn tick(&mut self, moment: Moment) -> Result<Turn, Refusal>
@@ -24,13 +25,18 @@ impl<D: Disk> Master<D> {
             return Err(refusal);
         }
         match self.event.due_renewal(&self.journal) {
-            Some(renewal) => Ok(
+            Ok(Some(renewal)) => Ok(
                 self.event
                     .finish_renewed(&mut self.journal, beginning, renewal),
             ),
-            None => self
+            Ok(None) => self
                 .event
                 .finish(&mut self.journal, beginning, None, Ok(())),
+            Err(_) => {
+                self.event.lack();
+                self.event
+                    .finish(&mut self.journal, beginning, None, Ok(()))
+            }
         }
     }
 

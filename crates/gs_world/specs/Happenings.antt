@@ -123,7 +123,7 @@ disks_of Away = None
 -- The master is what its disks tell, and sends what they say. Where they aren't opened they are handed back, and wait.
 abbrev pub Opens : {D : Type 0} → (D → List ℕ) → (D → ℕ) → Config → D × D → Result Turn Refusal → MasterPlace D → Type 0
 Opens {D} seen failures config disks (Ok turn) new =
-    (after : MasterOf D) × (new ≡ Standing after) × IsOpened failures config disks.0 disks.1 (standing (seen disks.0) (seen disks.1)) limit after turn.sent.items × (turn.said ≡ None)
+    (after : MasterOf D) × (new ≡ Standing after) × IsOpened seen failures config disks.0 disks.1 (standing (seen disks.0) (seen disks.1)) limit after turn.sent.items × (turn.said ≡ None)
 Opens {D} seen failures config disks (Err refusal) new =
     (u : Unopened D) × (new ≡ Closed u.first u.second) × (refusal ≡ u.refusal) × WhyUnopened seen failures config limit disks.0 disks.1 u
 

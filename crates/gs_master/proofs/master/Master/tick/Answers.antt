@@ -1,13 +1,17 @@
-use Rattle.std.proofs.Common.{◌≡◌, ◌∙◌, subst, sym, true}
+use Rattle.std.proofs.Common.{◌≡◌, ◌∙◌, ◌&&◌, ap, false, subst, sym, true}
 use Rattle.std.proofs.lemmas.Bool.{false≢true}
-use Rattle.std.specs.Prelude.{None, Ok}
+use Rattle.std.specs.Prelude.{None, Some, Ok, is_none}
+use Rattle.gs_base.specs.declared.refusal.Refusal.TheVariants as refusals
 use Rattle.gs_state.specs.Handling.{due}
+use Rattle.gs_master.specs.Finishing.{MakesDue}
 use Rattle.gs_master.specs.Masters.{IsHeld, MasterOf, WhyNot}
 use Rattle.gs_plan.specs.Renewable.{renewal_refusal}
-use Rattle.gs_master.specs.Ticking.{AnswersTick, pressed_all}
-use Rattle.gs_master.specs.Turns.{state_at}
+use Rattle.gs_master.specs.Ticking.{AnswersTick, lacking, pressed_all}
+use Rattle.gs_master.specs.Turns.{GoesBack, IsTurned, state_at}
+use Rattle.gs_master.specs.declared.event.Event.{Event}
 use Rattle.gs_master.proofs.Finished.{rests_again, state_again}
-use Rattle.gs_master.proofs.Renewed.{answers_anew, held_anew, ticks_alone, ticks_anew, ticks_failed}
+use Rattle.gs_master.proofs.Renewed.{answers_anew, held_anew, ticks_plain, ticks_anew, ticks_failed, ticks_short}
+use Rattle.gs_master.proofs.Lacking.{goes_back, lacks}
 use Rattle.gs_master.proofs.Turning.{answers, still_held}
 use Rattle.gs_master.proofs.master.Master.tick.Goals as goal
 
@@ -38,8 +42,8 @@ returns-in-Err g c =
     subst (λ v. WhyNot (pressed_all v.state c.args.moment) v.state c.in-Err.refusal × (record { config = m.config; state = state_at e; journal = m.journal } ≡ v)) c.self.view_is
     (c.in-Err.ensures.steps, λ i. record { config = m.config; state = same i; journal = m.journal })
 
-pub invariant_of-self-in-Some : goal.invariant_of-self-in-Some
-invariant_of-self-in-Some g c =
+pub invariant_of-self-in-Ok-Some : goal.invariant_of-self-in-Ok-Some
+invariant_of-self-in-Ok-Some g c =
     let d = g.D.Disk in
     let m = c.self.inside in
     let steps = pressed_all (state_at m.event) c.args.moment in
@@ -49,8 +53,8 @@ invariant_of-self-in-Some g c =
           (c.finish_renewed.ensures.finishes m.event steps c.self.invariant.0 c.beginning-beginning.ensures c.tick.ensures.back c.in_default.ensures.steps),
     )
 
-pub returns-in-Some : goal.returns-in-Some
-returns-in-Some g c =
+pub returns-in-Ok-Some : goal.returns-in-Ok-Some
+returns-in-Ok-Some g c =
     let d = g.D.Disk in
     let m = c.self.inside in
     let e = c.finish_renewed.new.self in
@@ -59,7 +63,7 @@ returns-in-Some g c =
     let steps = pressed_all (state_at m.event) c.args.moment in
     let turned = c.in_default.ensures.steps in
     let sound = sym c.is_failed.ensures ∙ c.if-is_failed.false in
-    let made = c.in-Some.ensures in
+    let made = subst (λ r. MakesDue (state_at c.tick.new.self) m.journal r) (c.in-Ok-Some.is ∙ ap (λ o. Ok o) c.in-Ok-Some.field-0-is) c.due_renewal.ensures in
     let is_due = subst (λ s. due s ≡ true) turned.after made.0 in
     let none = subst (λ s. renewal_refusal s ≡ None) turned.after made.1.0.unrefused in
     let new : MasterOf g.row.D.Denot = record { config = m.config; state = state_at e; journal = k } in
@@ -68,8 +72,8 @@ returns-in-Some g c =
     (answers_anew d.seen d.may_leave d.failures m.config steps m.event m.journal c.self.invariant.1 sound e k told
     (c.finish_renewed.ensures.finishes m.event steps c.self.invariant.0 c.beginning-beginning.ensures c.tick.ensures.back turned)))
 
-pub invariant_of-self-in-None : goal.invariant_of-self-in-None
-invariant_of-self-in-None g c =
+pub invariant_of-self-in-Ok-None : goal.invariant_of-self-in-Ok-None
+invariant_of-self-in-Ok-None g c =
     let d = g.D.Disk in
     let m = c.self.inside in
     let steps = pressed_all (state_at m.event) c.args.moment in
@@ -79,8 +83,8 @@ invariant_of-self-in-None g c =
           (c.finish.ensures.finishes m.event steps c.self.invariant.0 c.beginning-beginning.ensures c.tick.ensures.back c.in_default.ensures.steps),
     )
 
-pub returns-in-None : goal.returns-in-None
-returns-in-None g c =
+pub returns-in-Ok-None : goal.returns-in-Ok-None
+returns-in-Ok-None g c =
     let d = g.D.Disk in
     let m = c.self.inside in
     let e = c.finish.new.self in
@@ -88,8 +92,56 @@ returns-in-None g c =
     let steps = pressed_all (state_at m.event) c.args.moment in
     let turned = c.in_default.ensures.steps in
     let sound = sym c.is_failed.ensures ∙ c.if-is_failed.false in
+    let made = subst (λ r. MakesDue (state_at c.tick.new.self) m.journal r) (c.in-Ok-None.is ∙ ap (λ o. Ok o) c.in-Ok-None.field-0-is) c.due_renewal.ensures in
+    let none = subst (λ s. (due s && is_none (renewal_refusal s)) ≡ false) turned.after made in
     let new : MasterOf g.row.D.Denot = record { config = m.config; state = state_at e; journal = k } in
     subst (λ v. AnswersTick d.failures c.args.moment v c.finish.result new) c.self.view_is
-    (ticks_alone d.failures c.args.moment (record { config = m.config; state = state_at m.event; journal = m.journal }) sound c.finish.result new
+    (ticks_plain d.failures c.args.moment (record { config = m.config; state = state_at m.event; journal = m.journal }) sound none c.finish.result new
     (answers d.seen d.may_leave d.failures m.config None steps m.event m.journal c.self.invariant.1 (λ failed. absurd (false≢true (sym sound ∙ failed))) e k c.finish.result
     (c.finish.ensures.finishes m.event steps c.self.invariant.0 c.beginning-beginning.ensures c.tick.ensures.back turned)))
+
+pub finish-requires-in-Err-due_renewal : goal.finish-requires-in-Err-due_renewal
+finish-requires-in-Err-due_renewal g c =
+    let m = c.self.inside in
+    let e = c.tick.new.self in
+    record {
+      begun = (
+        m.event,
+        c.self.invariant.0,
+        c.beginning-beginning.ensures,
+        subst (λ (x : Event). GoesBack m.event x) (sym c.lack.ensures) (goes_back (Some refusals.Memory) m.event e c.tick.ensures.back),
+      );
+    }
+
+pub invariant_of-self-in-Err-due_renewal : goal.invariant_of-self-in-Err-due_renewal
+invariant_of-self-in-Err-due_renewal g c =
+    let d = g.D.Disk in
+    let m = c.self.inside in
+    let e = c.tick.new.self in
+    let steps = lacking (pressed_all (state_at m.event) c.args.moment) in
+    let sound = sym c.is_failed.ensures ∙ c.if-is_failed.false in
+    let f = c.finish-in-Err-due_renewal in
+    let back = subst (λ (x : Event). GoesBack m.event x) (sym c.lack.ensures) (goes_back (Some refusals.Memory) m.event e c.tick.ensures.back) in
+    let turned = subst (λ (x : Event). IsTurned steps m.event x) (sym c.lack.ensures) (lacks (pressed_all (state_at m.event) c.args.moment) m.event e c.self.invariant.0.begun.said c.in_default.ensures.steps) in (
+      f.ensures.rest,
+      still_held d.seen d.may_leave d.failures m.config None steps m.event m.journal c.self.invariant.1 (λ failed. absurd (false≢true (sym sound ∙ failed))) f.new.self f.new.journal f.result
+          (f.ensures.finishes m.event steps c.self.invariant.0 c.beginning-beginning.ensures back turned),
+    )
+
+pub returns-in-Err-due_renewal : goal.returns-in-Err-due_renewal
+returns-in-Err-due_renewal g c =
+    let d = g.D.Disk in
+    let m = c.self.inside in
+    let e = c.tick.new.self in
+    let f = c.finish-in-Err-due_renewal in
+    let all = pressed_all (state_at m.event) c.args.moment in
+    let steps = lacking all in
+    let sound = sym c.is_failed.ensures ∙ c.if-is_failed.false in
+    let back = subst (λ (x : Event). GoesBack m.event x) (sym c.lack.ensures) (goes_back (Some refusals.Memory) m.event e c.tick.ensures.back) in
+    let turned = subst (λ (x : Event). IsTurned steps m.event x) (sym c.lack.ensures) (lacks all m.event e c.self.invariant.0.begun.said c.in_default.ensures.steps) in
+    let is_due = subst (λ s. due s ≡ true) c.in_default.ensures.steps.after c.in-Err-due_renewal.ensures in
+    let new : MasterOf g.row.D.Denot = record { config = m.config; state = state_at f.new.self; journal = f.new.journal } in
+    subst (λ v. AnswersTick d.failures c.args.moment v f.result new) c.self.view_is
+    (ticks_short d.failures c.args.moment (record { config = m.config; state = state_at m.event; journal = m.journal }) is_due f.result new
+    (answers d.seen d.may_leave d.failures m.config None steps m.event m.journal c.self.invariant.1 (λ failed. absurd (false≢true (sym sound ∙ failed))) f.new.self f.new.journal f.result
+    (f.ensures.finishes m.event steps c.self.invariant.0 c.beginning-beginning.ensures back turned)))
