@@ -32,6 +32,7 @@ pub mod Locking
 pub mod Parents
 pub mod Planted
 pub mod Preparing
+pub mod Reached
 pub mod Refusing
 pub mod Retold
 pub mod RolledBack

@@ -126,7 +126,7 @@ module _ (s : State) (h : Stands s.durable s.volatile) where
     preparing = h.preparing;
   }
 
-written_good : (s : State) (refusal : Option Refusal) → Holds true s → Good true s (written_unless s refusal)
+pub written_good : (s : State) (refusal : Option Refusal) → Holds true s → Good true s (written_unless s refusal)
 written_good s None h = record { fits = (written_fits s None h.stands.kept).fits; holds = record { stands = tidied_stands s h.stands; rolling = λ c r. h.rolling c r } }
 written_good s (Some refusal) h = same_good true s (met_by s refusal) refl refl h
 

@@ -11,6 +11,7 @@ ghost use Rattle.gs_state.specs.Whole.{told_replies, whole_of};
 ghost use Rattle.gs_state.specs.declared.reply.KeptReply.{KeptReply};
 ghost use Rattle.gs_state.specs.Recorded.{SayAlone};
 ghost use Rattle.gs_laws.specs.Promises.{AllMessagesFit, AnswersExactly, BeginsWithAll, CallsFit, CallsKeep, CheckpointFits, CommitsExactly, IsToldAgain, KeepsAll, KeepsGiven, KeepsPrepared, LeadsBack, LeadsToKept, LockedElse, LockedExactly, MadeOfTheMost, MessagesFit, MessagesKeep, NothingAtTicks, NothingWhileRolling, PreparesByOneRecord, ProposesFresh, ProposesFreshAtTicks, RefusesInOrder, RefusedAtLocks, RefusedFits, RefusedLeavesAll, RollsBack, StartsWell, StepsAtTicksFit, TellsAll, TellsCounters};
+ghost use Rattle.gs_laws.specs.Reached.{OpensFirm, RecoversFirm, RollsBackThrough, RunsRecoverFromLast, SameFromLast};
 ghost use Rattle.gs_laws.specs.Standing.{EventsFit, FirmGoesOn, RunsFit, RunsRecover, StartsFirm};
 ghost use Rattle.gs_state.specs.Undoing.{EditsAsTold};
 
@@ -96,6 +97,13 @@ pub fn a_new_store_is_firm()
     ensures { StartsFirm }
 {}
 
+/// What stands, with counters that can be told, is opened as a firm master: so is whatever records lead to from a new store, where each
+/// checkpoint among them is that of something that stood, also where they are written anew, as those of a journal of version 1 are.
+pub fn an_opened_master_is_firm()
+    ensures opened { OpensFirm }
+    ensures recovered { RecoversFirm }
+{}
+
 /// The calls of a firm master may go on.
 pub fn a_firm_master_may_go_on()
     ensures { FirmGoesOn }
@@ -113,6 +121,13 @@ pub fn each_event_fits()
 pub fn every_run_fits()
     ensures fit { RunsFit }
     ensures again { RunsRecover }
+{}
+
+/// A restart reads the records from the last checkpoint on, which is all that a disk holds, as it would read all: what it opens is the same,
+/// wherever all fit. So a restart at the end of any run from a new store opens what was durable, from these alone.
+pub fn a_restart_reads_the_last_checkpoint()
+    ensures alike { SameFromLast }
+    ensures runs { RunsRecoverFromLast }
 {}
 
 /// The record of a checkpoint fits, and gives what stood but for chunks that stand in no file and never did.
@@ -160,6 +175,11 @@ pub fn records_keep_what_stands()
 /// the rollback's record; and no other chunk is settled. So it is whatever records but checkpoints went on between.
 pub fn a_rollback_leads_back_to_the_prepare()
     ensures { RollsBack }
+{}
+
+/// The same where checkpoints are written between, each of what stands then: a rollback leads back to the prepare also through these.
+pub fn a_rollback_leads_back_through_checkpoints()
+    ensures { RollsBackThrough }
 {}
 
 /// A rollback is committed exactly where it was begun, its edits can be taken back, and each chunk that had a reference at the prepare
