@@ -34,6 +34,7 @@ pub mod Planted
 pub mod Preparing
 pub mod Reached
 pub mod Refusing
+pub mod Resting
 pub mod Retold
 pub mod RolledBack
 pub mod Rolling

@@ -1,3 +1,4 @@
 pub mod Promises
 pub mod Reached
+pub mod Resting
 pub mod Standing

@@ -12,6 +12,7 @@ ghost use Rattle.gs_state.specs.declared.reply.KeptReply.{KeptReply};
 ghost use Rattle.gs_state.specs.Recorded.{SayAlone};
 ghost use Rattle.gs_laws.specs.Promises.{AllMessagesFit, AnswersExactly, BeginsWithAll, CallsFit, CallsKeep, CheckpointFits, CommitsExactly, IsToldAgain, KeepsAll, KeepsGiven, KeepsPrepared, LeadsBack, LeadsToKept, LockedElse, LockedExactly, MadeOfTheMost, MessagesFit, MessagesKeep, NothingAtTicks, NothingWhileRolling, PreparesByOneRecord, ProposesFresh, ProposesFreshAtTicks, RefusesInOrder, RefusedAtLocks, RefusedFits, RefusedLeavesAll, RollsBack, StartsWell, StepsAtTicksFit, TellsAll, TellsCounters};
 ghost use Rattle.gs_laws.specs.Reached.{OpensFirm, RecoversFirm, RollsBackThrough, RunsRecoverFromLast, SameFromLast};
+ghost use Rattle.gs_laws.specs.Resting.{PreparesExactly, TakesPrepares};
 ghost use Rattle.gs_laws.specs.Standing.{EventsFit, FirmGoesOn, RunsFit, RunsRecover, StartsFirm};
 ghost use Rattle.gs_state.specs.Undoing.{EditsAsTold};
 
@@ -42,6 +43,15 @@ pub fn views_are_of_those_with_the_most_edits()
 /// how many chunks the master knows. One that is refused adds at most its refusal.
 pub fn a_prepare_adds_one_record()
     ensures { PreparesByOneRecord }
+{}
+
+/// A prepare is committed exactly where it was begun, each chunk that the master knows is at rest, and an epoch is left: nothing is asked
+/// for a chunk at rest, no other view of it is proposed, and none has its lease; and where its record has room. Else it is refused, and which
+/// refusal comes is said of each: that an upgrade stands, that no prepare was begun, the lowest chunk that isn't at rest, that no epoch is
+/// left, or that there is no room, in this order. A new such call comes to these tests wherever no disk has failed and no rollback is begun.
+pub fn a_prepare_is_accepted_exactly_where_all_is_quiet()
+    ensures order { PreparesExactly }
+    ensures taken { TakesPrepares }
 {}
 
 /// A call that is refused by the event that brings it leaves the master as it was, in the journal and in memory, but for the kept reply:
