@@ -39,6 +39,9 @@ pub mod Retold
 pub mod RolledBack
 pub mod Rolling
 pub mod ServersTold
+pub mod Rooms
+pub mod RoomsOfCalls
+pub mod RoomsOfTurns
 pub mod SettlingFits
 pub mod Sized
 pub mod Spelled

@@ -1,4 +1,5 @@
 pub mod Promises
 pub mod Reached
 pub mod Resting
+pub mod Rooms
 pub mod Standing

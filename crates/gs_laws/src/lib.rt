@@ -13,6 +13,7 @@ ghost use Rattle.gs_state.specs.Recorded.{SayAlone};
 ghost use Rattle.gs_laws.specs.Promises.{AllMessagesFit, AnswersExactly, BeginsWithAll, CallsFit, CallsKeep, CheckpointFits, CommitsExactly, IsToldAgain, KeepsAll, KeepsGiven, KeepsPrepared, LeadsBack, LeadsToKept, LockedElse, LockedExactly, MadeOfTheMost, MessagesFit, MessagesKeep, NothingAtTicks, NothingWhileRolling, PreparesByOneRecord, ProposesFresh, ProposesFreshAtTicks, RefusesInOrder, RefusedAtLocks, RefusedFits, RefusedLeavesAll, RollsBack, StartsWell, StepsAtTicksFit, TellsAll, TellsCounters};
 ghost use Rattle.gs_laws.specs.Reached.{OpensFirm, RecoversFirm, RollsBackThrough, RunsRecoverFromLast, SameFromLast};
 ghost use Rattle.gs_laws.specs.Resting.{PreparesExactly, TakesPrepares};
+ghost use Rattle.gs_laws.specs.Rooms.{LogsStayWithin, MessagesCopyStill, MessagesHaveRoom, OthersLeave, StepsHaveRoom, TellsAdd, TellsSince, TicksCopyStill, TicksHaveRoom, TicksLeave};
 ghost use Rattle.gs_laws.specs.Standing.{EventsFit, FirmGoesOn, RunsFit, RunsRecover, StartsFirm};
 ghost use Rattle.gs_state.specs.Undoing.{EditsAsTold};
 
@@ -123,6 +124,32 @@ pub fn a_firm_master_may_go_on()
 /// what the journal tells. Its records fit what they meet, and give what is durable afterwards.
 pub fn each_event_fits()
     ensures { EventsFit }
+{}
+
+/// The records of every message are none, or have room in the log that it meets; so have those of each step of a tick, and of all its steps
+/// together. So no event takes the log beyond its limit, a checkpoint neither.
+pub fn each_event_has_room()
+    ensures messages { MessagesHaveRoom }
+    ensures steps { StepsHaveRoom }
+    ensures ticks { TicksHaveRoom }
+    ensures within { LogsStayWithin }
+{}
+
+/// Who has told that it has a chunk as it was sealed is who has said so in the epoch of the rollback that is begun, since it was begun: such
+/// a message adds its server for the chunks that it names. Every other message and each tick leaves who has told, but the commit of the
+/// rollback, behind which nobody has; and where no rollback is begun nobody has told of anything.
+pub fn who_has_told_is_who_has_learned()
+    ensures added { TellsAdd }
+    ensures others { OthersLeave }
+    ensures ticks { TicksLeave }
+    ensures since { TellsSince }
+{}
+
+/// Each snapshot that is recorded, by whatever message and at each tick, copies only chunks that are still in what is durable as its record
+/// meets it: no other view is proposed for such a chunk, and none has its lease.
+pub fn snapshots_copy_what_is_still()
+    ensures messages { MessagesCopyStill }
+    ensures ticks { TicksCopyStill }
 {}
 
 /// Over every run from a new store all records fit, and together they lead from a new store to what is durable; and the master is firm
