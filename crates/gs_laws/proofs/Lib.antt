@@ -12,6 +12,7 @@ pub mod Choosing
 pub mod Commanded
 pub mod Committing
 pub mod Counters
+pub mod Counting
 pub mod EditsBack
 pub mod Fresh
 pub mod FreshCalls

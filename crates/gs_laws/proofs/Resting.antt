@@ -1,11 +1,11 @@
 -- When a prepare is accepted: where all that the master knows is at rest.
 use Rattle.std.proofs.Common.{T, ◌≡◌, ◌∙◌, ◌<◌, ◌+◌, ◌&&◌, ◌||◌, ◌==◌, ℕ, Bool, true, false, not, cond, List, [], ◌∷◌, ◌++◌, map, filter, refl, ap, sym, subst, arith}
 use Rattle.std.specs.Prelude.{nat_lt, is_some, is_none, Option, Some, None, Ok, if◌then◌else◌}
-use Rattle.std.specs.Cmp.{nat_cmp_total}
+use Rattle.std.specs.Cmp.{nat_cmp_total, tied_itself}
 use Rattle.std.specs.FinMap as fin
 use Rattle.std.specs.FinMap.Entries.{below_all, is_sorted}
 use Rattle.std.specs.List.{list_any}
-use Rattle.std.specs.Ordering.{eq_by_cmp, is_lt, nat_cmp}
+use Rattle.std.specs.Ordering.{eq_by_cmp, is_eq, is_lt, nat_cmp}
 use Rattle.std.specs.declared.cmp.Ordering.{Ordering}
 use Rattle.std.specs.declared.cmp.Ordering.TheVariants.{Less, Equal, Greater}
 use Rattle.std.proofs.lemmas.Bool.{false≢true, true≢false, and_parts}
@@ -134,7 +134,7 @@ lowest f (x ∷ es) sorted c e = by_test (f x.0) refl (lowest f es (last_part (b
         (subst (λ y. f y ≡ true) same is, λ k low some. absurd (none_lower k (eq_by_cmp nat_cmp k x.0) refl (subst (λ y. k < y) (sym same) low) some))
     by_test false is rest h = let r = rest h in (r.0, λ k low some. lower is r.1 k (eq_by_cmp nat_cmp k x.0) refl low some)
 
-found_member : {V : Type 0} (es : List (ℕ × V)) (k : ℕ) → is_some (fin.find nat_cmp k es) ≡ true → is_member (map (λ e. e.0) es) k ≡ true
+pub found_member : {V : Type 0} (es : List (ℕ × V)) (k : ℕ) → is_some (fin.find nat_cmp k es) ≡ true → is_member (map (λ e. e.0) es) k ≡ true
 found_member [] k some = absurd (false≢true some)
 found_member (e ∷ es) k some = by_key (eq_by_cmp nat_cmp k e.0) refl some (found_member es k)
   where
@@ -145,6 +145,21 @@ found_member (e ∷ es) k some = by_key (eq_by_cmp nat_cmp k e.0) refl some (fou
         or_second : (a b : Bool) → b ≡ true → (a || b) ≡ true
         or_second true b h = refl
         or_second false b h = h
+
+pub member_found : {V : Type 0} (es : List (ℕ × V)) (k : ℕ) → is_member (map (λ e. e.0) es) k ≡ true → is_some (fin.find nat_cmp k es) ≡ true
+member_found [] k here = absurd (false≢true here)
+member_found (e ∷ es) k here = by_head (e.0 == k) refl here (member_found es k)
+  where
+    same : (a b : ℕ) → (a == b) ≡ true → a ≡ b
+    same a b t = grind (arith, nat_tests)
+
+    by_key : (b : Bool) → is_some (fin.find nat_cmp k es) ≡ true → is_some (cond b (Some e.1) (fin.find nat_cmp k es)) ≡ true
+    by_key true some = refl
+    by_key false some = some
+
+    by_head : (b : Bool) → (e.0 == k) ≡ b → (b || is_member (map (λ e. e.0) es) k) ≡ true → (is_member (map (λ e. e.0) es) k ≡ true → is_some (fin.find nat_cmp k es) ≡ true) → is_some (cond (eq_by_cmp nat_cmp k e.0) (Some e.1) (fin.find nat_cmp k es)) ≡ true
+    by_head true is h rest = ap (λ x. is_some (cond (eq_by_cmp nat_cmp x e.0) (Some e.1) (fin.find nat_cmp k es))) (sym (same e.0 k is)) ∙ ap (λ o. is_some (cond (is_eq o) (Some e.1) (fin.find nat_cmp k es))) (tied_itself nat_cmp_total e.0)
+    by_head false is h rest = by_key (eq_by_cmp nat_cmp k e.0) (rest h)
 
 -- ---- all that the master knows
 

@@ -25,9 +25,10 @@ use Rattle.gs_record.specs.Writable.{IsTerm}
 use Rattle.gs_view.specs.Choice.{answer_of, answerers, greater, greatest, is_count}
 use Rattle.gs_view.specs.Spoken.{with_no, with_yes}
 use Rattle.gs_view.specs.declared.answers.Answers.{Answers}
-use Rattle.gs_state.specs.Applied.{applied, follows_view, is_since, replayed}
+use Rattle.gs_edit.specs.View.{NamesView}
+use Rattle.gs_state.specs.Applied.{applied, follows_view, held_by, is_since, may_be_settled, replayed, with_view}
 use Rattle.gs_state.specs.Chunks.{Chunk, chunk_at, ends_copy, has_entry, has_yes, have_all_spoken, heard_no, heard_yes, hears, holder_records, is_holder, is_target, may_settle, once_spoken, proposed_in, sent_from, settling, source_in, step_after, step_at_tick, step_of_no, step_of_target, step_of_yes, target_of, view_by, with_answers}
-use Rattle.gs_state.specs.Durable.{Durable, is_given, is_rolling, prepared_view, upgrade_epoch}
+use Rattle.gs_state.specs.Durable.{Durable, is_given, is_rolling, is_upgrade, prepared_view, upgrade_epoch, with_prepared}
 use Rattle.gs_state.specs.Handling.{pressed, pressed_at, pressed_if}
 use Rattle.gs_state.specs.Hearing.{ask_plan, heard, is_with_sealed, promised, promised_at, promised_for, send_plan, stepped, unpromised, unpromised_at, unpromised_for}
 use Rattle.gs_state.specs.Sane.{are_apart, is_waited_by, makes, may_wait_for}
@@ -51,6 +52,7 @@ use Rattle.gs_laws.proofs.ServersTold.{low_servers, servers_told}
 use Rattle.gs_laws.proofs.SettlingFits.{CanSettle, settling_fits, view_made}
 use Rattle.gs_laws.proofs.Standing.{apart_parts, ask, either_none, recorded, same_back, same_call, same_number, same_parts, same_self, settled}
 use Rattle.gs_laws.proofs.StandingGoing.{Apart, CanGo, Going, all_going, is_snapshot}
+use Rattle.gs_laws.proofs.Beginnings.{fits_gives}
 use Rattle.gs_laws.proofs.StandingRecords.{holder_onto, settle_onto}
 use Rattle.gs_laws.proofs.StandingTurns.{Good, Holds, all_given_up, none_good, same_good, test_good, then_good}
 
@@ -307,34 +309,44 @@ concerned_go s chunk asking h sought =
 
 -- ---- the records of a view
 
-abbrev IsOfView : Volatile → PlainEntry → Type 0
-IsOfView v (Settle view) = IsToldView view.view × (fin.get v.moving view.handle ≡ None)
-IsOfView v (Holder chunk server) = Unit {0}
-IsOfView v entry = ⊥
+-- of a chunk that the master knows by these names
+abbrev IsOfView : NamesView → Volatile → PlainEntry → Type 0
+IsOfView names v (Settle view) = IsToldView view.view × (fin.get v.moving view.handle ≡ None) × ((is_some (fin.get names.refs view.handle) || is_member v.unplaced view.handle) ≡ true)
+IsOfView names v (Holder chunk server) = Unit {0}
+IsOfView names v entry = ⊥
 
-views_stand : (entries : List PlainEntry) (d e : Durable) (v : Volatile) → Stands d v → AllByRecursion (IsOfView v) entries → replayed d entries ≡ Some e → Stands e v
-views_stand [] d e v h all fit = subst (λ x. Stands x v) (some_is fit) h
+-- they leave the names
+view_names : (names : NamesView) (v : Volatile) (x : PlainEntry) (d n : Durable) → IsOfView names v x → applied d x ≡ Some n → n.names ≡ d.names
+unfolding applied
+view_names names v (Settle view) d n of_view is = ap (λ (x : Durable). x.names) (sym (fits_gives (may_be_settled d view) (with_view d view) n is).1)
+view_names names v (Holder chunk server) d n of_view is =
+    ap (λ (x : Durable). x.names) (sym (fits_gives (is_upgrade d.phase && (nat_lt server 16 && is_some (prepared_view d chunk))) (record d { prepared = with_prepared d chunk (held_by server (prepared_view d chunk)) }) n is).1)
+view_names names v x d n of_view is = absurd of_view
+
+views_stand : (entries : List PlainEntry) (d e : Durable) (v : Volatile) → Stands d v → (names : NamesView) → d.names ≡ names → AllByRecursion (IsOfView names v) entries → replayed d entries ≡ Some e → Stands e v
+views_stand [] d e v h names same all fit = subst (λ x. Stands x v) (some_is fit) h
   where
     some_is : {a c : Durable} → ◌≡◌ {A = Option Durable} (Some a) (Some c) → a ≡ c
     some_is k = cc
-views_stand (entry ∷ entries) d e v h all fit = by_first (applied d entry) refl (λ n k r. views_stand entries n e v k all.1 r) fit
+views_stand (entry ∷ entries) d e v h names same all fit = by_first (applied d entry) refl (λ n is k r. views_stand entries n e v k names (view_names names v entry d n all.0 is ∙ same) all.1 r) fit
   where
-    stood : (x : PlainEntry) (n : Durable) → IsOfView v x → applied d x ≡ Some n → Stands n v
-    stood (Settle view) n told is = recorded d n v (settle_onto d n v view h told.0 told.1 is) h
+    stood : (x : PlainEntry) (n : Durable) → IsOfView names v x → applied d x ≡ Some n → Stands n v
+    stood (Settle view) n told is = recorded d n v (settle_onto d n v view h told.0 told.1 (ap (λ (m : NamesView). is_some (fin.get m.refs view.handle) || is_member v.unplaced view.handle) same ∙ told.2) is) h
     stood (Holder chunk server) n told is = recorded d n v (holder_onto d n v chunk server h is) h
     stood x n told is = absurd told
 
-    by_first : (o : Option Durable) → applied d entry ≡ o → ((n : Durable) → Stands n v → replayed n entries ≡ Some e → Stands e v) → option_and_then (λ n. replayed n entries) o ≡ Some e → Stands e v
+    by_first : (o : Option Durable) → applied d entry ≡ o → ((n : Durable) → applied d entry ≡ Some n → Stands n v → replayed n entries ≡ Some e → Stands e v) → option_and_then (λ n. replayed n entries) o ≡ Some e → Stands e v
     by_first None is rest r = absurd (false≢true (ap is_some r))
-    by_first (Some n) is rest r = rest n (stood entry n all.0 is) r
+    by_first (Some n) is rest r = rest n is (stood entry n all.0 is) r
 
-settling_of : (v : Volatile) (phase : _) (prepared : _) (carried : Bool) (chunk : ℕ) (asking : Asking) (view : View) → IsToldView view → fin.get v.moving chunk ≡ None → AllByRecursion (IsOfView v) (settling phase prepared carried chunk asking view)
-settling_of v phase prepared carried chunk asking view told none = by_target (is_holder phase prepared carried asking view) (target_of asking.purpose)
+settling_of : (names : NamesView) (v : Volatile) (phase : _) (prepared : _) (carried : Bool) (chunk : ℕ) (asking : Asking) (view : View) → IsToldView view → fin.get v.moving chunk ≡ None → (is_some (fin.get names.refs chunk) || is_member v.unplaced chunk) ≡ true
+    → AllByRecursion (IsOfView names v) (settling phase prepared carried chunk asking view)
+settling_of names v phase prepared carried chunk asking view told none known = by_target (is_holder phase prepared carried asking view) (target_of asking.purpose)
   where
-    by_target : (b : Bool) (target : Option ℕ) → AllByRecursion (IsOfView v) (holder_records b chunk target ++ Settle (record { handle = chunk; view = view }) ∷ [])
-    by_target b None = ((told, none), tt)
-    by_target true (Some target) = (tt, ((told, none), tt))
-    by_target false (Some target) = ((told, none), tt)
+    by_target : (b : Bool) (target : Option ℕ) → AllByRecursion (IsOfView names v) (holder_records b chunk target ++ Settle (record { handle = chunk; view = view }) ∷ [])
+    by_target b None = ((told, none, known), tt)
+    by_target true (Some target) = (tt, ((told, none, known), tt))
+    by_target false (Some target) = ((told, none, known), tt)
 
 -- ---- a chunk is settled, and its calls go on
 
@@ -351,6 +363,7 @@ sought_on d v chunk asking new stamp call told k = record {
   wanted = ap (λ c. list_all (λ (p : Pending). not (is_call p.req c) || may_wait_for chunk p.waits) v.pending) call ∙ k.wanted;
   made = λ none. ap (λ c. is_waited_by c (makes chunk) v.pending) call ∙ k.made none;
   own = λ r is here. ap (λ c. is_waited_by c (makes chunk) v.pending) call ∙ k.own r (sym call ∙ is) here;
+  first = λ r is here. k.first r (sym call ∙ is) here;
   past = λ r is. k.past r (sym call ∙ is);
 }
 
@@ -367,7 +380,7 @@ module _ (s : State) (chunk : ℕ) (asking : Asking) (h : Holds true s) (has : f
       let removed : fin.get v.moving chunk ≡ None = fin.get-remove nat_cmp_total s.volatile.moving chunk chunk ∙ ap (λ o. cond (is_eq o) None (fin.get s.volatile.moving chunk)) (tied_itself nat_cmp_total chunk) in
       let low : IsNumber asking.stamp.epoch = (let a = k.epoch in let n = h.stands.kept.now in omega arith) in
       let view_is = view_told c asking by moment view told low k.number e in
-      let stands = views_stand records s.durable set.after v (settled s.durable s.volatile h.stands chunk) (settling_of v s.durable.phase (prepared_view s.durable chunk) carried chunk asking view view_is removed) set.is in
+      let stands = views_stand records s.durable set.after v (settled s.durable s.volatile h.stands chunk) s.durable.names refl (settling_of s.durable.names v s.durable.phase (prepared_view s.durable chunk) carried chunk asking view view_is removed k.known) set.is in
       let first : Good true s (turned s plan) = record {
         fits = set.is ∙ ap Some (sym same);
         holds = record { stands = subst (λ d. Stands d v) (sym same) stands; rolling = λ x r. h.rolling refl (sym (ap is_rolling set.phase) ∙ sym (ap (λ (d : Durable). is_rolling d.phase) same) ∙ r) };

@@ -1,5 +1,5 @@
 -- What stands is kept where calls that waited go on.
-use Rattle.std.proofs.Common.{◌≡◌, ◌∙◌, ◌&&◌, ◌||◌, inl, ℕ, zero, Bool, true, false, not, cond, List, [], ◌∷◌, ◌++◌, refl, ap, subst, sym, arith}
+use Rattle.std.proofs.Common.{◌≡◌, ◌==◌, ◌∙◌, ◌&&◌, ◌||◌, inl, ℕ, zero, Bool, true, false, not, cond, List, [], ◌∷◌, ◌++◌, refl, ap, subst, sym, arith}
 use Rattle.std.specs.Prelude.{is_some, unwrap_or, Option, Some, None, Result, Ok, Err, if◌then◌else◌}
 use Rattle.std.specs.Cmp.{nat_cmp_total}
 use Rattle.std.specs.FinMap as fin
@@ -23,7 +23,7 @@ use Rattle.gs_record.specs.Writable.{IsHandle, IsPath}
 use Rattle.gs_state.specs.Applied.{is_fresh, is_visible, may_edit, with_edit}
 use Rattle.gs_state.specs.Beginning.{begin_at, copy_plan, has_handle, has_versions, members_at, next_stamp, waits_on}
 use Rattle.gs_state.specs.Chunks.{asking_for, chunk_at, may_begin}
-use Rattle.gs_state.specs.Durable.{Durable, is_listed, is_rolling}
+use Rattle.gs_state.specs.Durable.{Durable, is_given, is_listed, is_rolling}
 use Rattle.gs_state.specs.Sane.{are_apart, is_waited_by, makes, may_wait_for}
 use Rattle.gs_state.specs.Settling.{all_go_on, copied, edit_plan, edit_turn, ended_by_edit, ended_with, extended, goes_on, if_room_for, is_quiet_at, leased_next, own_request, replace_plan, replaced, replaced_if, source_chunks}
 use Rattle.gs_state.specs.State.{State, Turn, turned, unmoved, and_then, fits, ended_by, kept_in_memory, last_reply}
@@ -41,9 +41,9 @@ use Rattle.gs_laws.proofs.Accepted.{edit_applies}
 use Rattle.gs_laws.proofs.AcceptedViews.{is_settled, or_left, or_right, proposes}
 use Rattle.gs_laws.proofs.Fresh.{next_is_fresh, not_false}
 use Rattle.gs_laws.proofs.GoingOn.{Ready, left_true, may_place, on_steps, viewed}
-use Rattle.gs_laws.proofs.KeptEdits.{cow_lists, edit_told}
+use Rattle.gs_laws.proofs.KeptEdits.{add_lists, cow_lists, edit_told}
 use Rattle.gs_laws.proofs.Spelled.{read_path}
-use Rattle.gs_laws.proofs.Standing.{NotAsked, end, keep, member_gone, now_answered, others_still, others_wait, place, recorded, same_call, same_number, same_parts, same_self, set_pending, set_so, set_wanted, wait, waits_now}
+use Rattle.gs_laws.proofs.Standing.{NotAsked, end, fewer_out, keep, member_gone, now_answered, others_still, others_wait, put_out, recorded, same_call, same_number, same_parts, same_self, set_pending, set_so, set_wanted, wait, waits_now}
 use Rattle.gs_laws.proofs.StandingCalls.{answers_of}
 use Rattle.gs_laws.proofs.StandingRecords.{edit_onto}
 use Rattle.gs_laws.proofs.StandingTurns.{Good, Holds, given_up, same_good, then_good}
@@ -196,6 +196,18 @@ module _ (chunk : ℕ) (req : ReqId) (waiting : Waiting) where
           })
       by_names (Err refusal) e = given_stepped s refusal h
 
+  -- a chunk that is settled was given
+  given_so : (d : Durable) (new : ℕ) {v : Volatile} → Stands d v → is_settled d new ≡ true → is_given d.next_handle new ≡ true
+  given_so d new h some = h.kept.handles new some
+
+  -- one that has its place is out no more
+  back_in : (e : Durable) (w : Volatile) (new : ℕ) (outs : List ℕ) → Stands e (record w { taken_out = new ∷ outs }) → is_listed e new ≡ true → Stands e (record w { taken_out = outs })
+  back_in e w new outs h listed = fewer_out e (record w { taken_out = new ∷ outs }) h outs (λ q here. or_right (new == q) (is_member outs q) here) (λ q some. by_test q (new == q) refl (h.counted q some))
+    where
+      by_test : (q : ℕ) (b : Bool) → (new == q) ≡ b → (is_listed e q || (is_member w.unplaced q || (b || is_member outs q))) ≡ true → (is_listed e q || (is_member w.unplaced q || is_member outs q)) ≡ true
+      by_test q true is k = ap (λ b. b || (is_member w.unplaced q || is_member outs q)) (ap (is_listed e) (sym (same_number new q is)) ∙ listed)
+      by_test q false is k = k
+
   -- the chunk of an extend gets its place
   extended_stepped : (s : State) (path : Path) (new : ℕ) (view : View) → IsPath path → is_visible path ≡ true → IsHandle new → new ≡ chunk → Holds true s → NotAsked s.volatile req → fin.get s.volatile.moving new ≡ None → is_snapshot waiting ≡ false → Ready chunk s.durable
       → Stepped req waiting s (extended s req path new view)
@@ -213,9 +225,11 @@ module _ (chunk : ℕ) (req : ReqId) (waiting : Waiting) where
           let fit = edit_applies ⊥ s.durable req edit names e may in
           let next = with_edit s.durable req edit names in
           let w = changed s.volatile (changes.Place new) in
-          let placed = place s.durable s.volatile h.stands new still in
-          let on = recorded s.durable next w (edit_onto s.durable next w req edit placed (edit_told edit (told, handle)) (answers_of s.durable edit h.stands.kept (told, handle))
+          let wide = record w { taken_out = new ∷ s.volatile.taken_out } in
+          let placed = put_out s.durable s.volatile h.stands new (given_so s.durable new h.stands (ap (is_settled s.durable) same ∙ r.known)) still in
+          let into = recorded s.durable next wide (edit_onto s.durable next wide req edit placed (edit_told edit (told, handle)) (answers_of s.durable edit h.stands.kept (told, handle))
           (record { asked = λ q some. refl; placed = λ q here k. false≢true (sym (member_gone s.durable s.volatile h.stands s.volatile.unplaced new) ∙ ap (is_member (without_handle s.volatile.unplaced new)) (number_is k) ∙ here) }) fit) placed in
+          let on = back_in next w new s.volatile.taken_out into (add_lists path new s.durable.names names e) in
           room_stepped s (turned s (edit_plan req edit answer (changes.Place new ∷ []))) h (record {
             stands = subst (λ o. Stands (unwrap_or o s.durable) (changed w (changes.End req))) (sym fit) (end req next w on (λ c a has call. absurd (true≢false (sym call ∙ none c a has))));
             others = others_end req s.volatile (changed w (changes.End req)) refl (λ q out. out);
@@ -302,9 +316,11 @@ module _ (chunk : ℕ) (req : ReqId) (waiting : Waiting) where
           let fit = edit_applies ⊥ s.durable own_request edit names e may in
           let next = with_edit s.durable own_request edit names in
           let w = changed s.volatile (changes.Place new) in
-          let placed = place s.durable s.volatile h.stands new still in
-          let on = recorded s.durable next w (edit_onto s.durable next w own_request edit placed (read_path path told.1) (λ well a is. absurd (false≢true (ap is_some is)))
+          let wide = record w { taken_out = new ∷ s.volatile.taken_out } in
+          let placed = put_out s.durable s.volatile h.stands new (given_so s.durable new h.stands (ap (is_settled s.durable) same ∙ r.known)) still in
+          let into = recorded s.durable next wide (edit_onto s.durable next wide own_request edit placed (read_path path told.1) (λ well a is. absurd (false≢true (ap is_some is)))
           (record { asked = λ q some. refl; placed = λ q out k. false≢true (sym (member_gone s.durable s.volatile h.stands s.volatile.unplaced new) ∙ ap (is_member (without_handle s.volatile.unplaced new)) (number_is k) ∙ out) }) fit) placed in
+          let on = back_in next w new s.volatile.taken_out into (cow_lists path index old new s.durable.names names e) in
           let after = (turned s plan).after in
           let held : Holds true after = record {
             stands = subst (λ o. Stands (unwrap_or o s.durable) w) (sym fit) on;

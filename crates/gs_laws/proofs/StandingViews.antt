@@ -153,9 +153,14 @@ module _ (d : Durable) (w : Volatile) (purpose : Purpose) (members : List ℕ) (
         wanted = for.wanted;
         made = λ none. absurd (false≢true (sym (ap is_some none) ∙ ap is_some now));
         own = λ r is here. not_owned r is here owned;
+        first = λ r is here. absurd (no_owner r is here owned);
         past = for.past;
       }
     where
+      no_owner : (r : ReqId) → call ≡ Some r → is_member w.unplaced chunk ≡ true → (is_listed d chunk ≡ true) ⊎ (call ≡ None) → ⊥
+      no_owner r is here (inl listed) = true≢false (sym listed ∙ (h.unplaced chunk here).1)
+      no_owner r is here (inr none) = false≢true (sym (ap is_some none) ∙ ap is_some is)
+
       not_owned : (r : ReqId) → call ≡ Some r → is_member w.unplaced chunk ≡ true → (is_listed d chunk ≡ true) ⊎ (call ≡ None) → is_waited_by call (makes chunk) w.pending ≡ true
       not_owned r is here (inl listed) = absurd (true≢false (sym listed ∙ (h.unplaced chunk here).1))
       not_owned r is here (inr none) = absurd (false≢true (sym (ap is_some none) ∙ ap is_some is))
@@ -198,6 +203,7 @@ module _ (d : Durable) (w : Volatile) (purpose : Purpose) (members : List ℕ) (
         wanted = for.wanted;
         made = λ none. made;
         own = λ r is here. made;
+        first = λ r is here. now;
         past = for.past;
       }
 
@@ -226,13 +232,20 @@ module _ (d : Durable) (w : Volatile) (purpose : Purpose) (members : List ℕ) (
       let fit = proposes d new zero rolling left (or_right (is_settled d new) (is_fresh new new) fresh) in
       let few = raised_new new new h.counters.handle h.counters.handle in
       let on = recorded d e w (propose_onto d e w new d.next_version h h.counters.version few fit) h in
-      let entered = enter e w on new (given_raised_itself new new fresh) (unlisted fresh) (unasked fresh) in
+      let entered = enter e w on new (given_raised_itself new new fresh) (unlisted fresh) (never_out fresh) (unasked fresh) in
       let x = changed w (changes.Enter new) in
       ask e x entered new (asking_for (next_stamp d) purpose members call)
       (sought_new fresh for made)
     where
       not_given : (n : ℕ) → is_given n n ≡ true → is_fresh n n ≡ true → ⊥
       not_given n g f = absurd (grind (arith, nat_tests))
+
+      never_out : is_fresh d.next_handle d.next_handle ≡ true → is_member w.taken_out d.next_handle ≡ false
+      never_out fresh = by_test (is_member w.taken_out d.next_handle) refl
+        where
+          by_test : (b : Bool) → is_member w.taken_out d.next_handle ≡ b → b ≡ false
+          by_test true is = absurd (not_given d.next_handle (h.out d.next_handle is).0 fresh)
+          by_test false is = refl
 
       unasked : is_fresh d.next_handle d.next_handle ≡ true → fin.get w.moving d.next_handle ≡ None
       unasked fresh = by_entry (fin.get w.moving d.next_handle) refl

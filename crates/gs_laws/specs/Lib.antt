@@ -1,3 +1,4 @@
+pub mod Counting
 pub mod Promises
 pub mod Reached
 pub mod Resting

@@ -10,6 +10,7 @@ ghost use Rattle.gs_state.specs.Checkpoints.{read_with};
 ghost use Rattle.gs_state.specs.Whole.{told_replies, whole_of};
 ghost use Rattle.gs_state.specs.declared.reply.KeptReply.{KeptReply};
 ghost use Rattle.gs_state.specs.Recorded.{SayAlone};
+ghost use Rattle.gs_laws.specs.Counting.{CountsKnown, CountsViews, NewOrOut};
 ghost use Rattle.gs_laws.specs.Promises.{AllMessagesFit, AnswersExactly, BeginsWithAll, CallsFit, CallsKeep, CheckpointFits, CommitsExactly, IsToldAgain, KeepsAll, KeepsGiven, KeepsPrepared, LeadsBack, LeadsToKept, LockedElse, LockedExactly, MadeOfTheMost, MessagesFit, MessagesKeep, NothingAtTicks, NothingWhileRolling, PreparesByOneRecord, ProposesFresh, ProposesFreshAtTicks, RefusesInOrder, RefusedAtLocks, RefusedFits, RefusedLeavesAll, RollsBack, StartsWell, StepsAtTicksFit, TellsAll, TellsCounters};
 ghost use Rattle.gs_laws.specs.Reached.{OpensFirm, RecoversFirm, RollsBackThrough, RunsRecoverFromLast, SameFromLast};
 ghost use Rattle.gs_laws.specs.Resting.{PreparesExactly, TakesPrepares};
@@ -124,6 +125,14 @@ pub fn a_firm_master_may_go_on()
 /// what the journal tells. Its records fit what they meet, and give what is durable afterwards.
 pub fn each_event_fits()
     ensures { EventsFit }
+{}
+
+/// The chunks that placement counts are those that the master knows: in a firm master a settled chunk that stands in no file, and never did,
+/// is new exactly where no restart took it out. And a master is firm at the start, once it is opened, and behind each event.
+pub fn placement_counts_what_is_known()
+    ensures either { NewOrOut }
+    ensures counted { CountsKnown }
+    ensures views { CountsViews }
 {}
 
 /// The records of every message are none, or have room in the log that it meets; so have those of each step of a tick, and of all its steps
