@@ -340,7 +340,7 @@ may_edit_so d edit may =
     let one = and_parts (not (is_rolling d.phase)) (names_well edit && (settled && counted)) may in
     let two = and_parts (names_well edit) (settled && counted) one.1 in record { well = two.0; settled = (and_parts settled counted two.1).0 }
 
-none_more : (phase : Phase) (inverses : List PlainInverse) (inverse : PlainInverse) → is_ordinary phase ≡ true → inverses_with phase inverses inverse ≡ inverses
+pub none_more : (phase : Phase) (inverses : List PlainInverse) (inverse : PlainInverse) → is_ordinary phase ≡ true → inverses_with phase inverses inverse ≡ inverses
 none_more Ordinary inverses inverse h = refl
 none_more Upgrade inverses inverse h = absurd (false≢true h)
 none_more Rolling inverses inverse h = absurd (false≢true h)

@@ -30,6 +30,7 @@ pub mod KeptReplies
 pub mod KeptViews
 pub mod LedBack
 pub mod Locking
+pub mod Numbered
 pub mod Parents
 pub mod Planted
 pub mod Preparing

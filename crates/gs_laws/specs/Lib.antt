@@ -1,4 +1,5 @@
 pub mod Counting
+pub mod Numbered
 pub mod Promises
 pub mod Reached
 pub mod Resting

@@ -11,6 +11,7 @@ ghost use Rattle.gs_state.specs.Whole.{told_replies, whole_of};
 ghost use Rattle.gs_state.specs.declared.reply.KeptReply.{KeptReply};
 ghost use Rattle.gs_state.specs.Recorded.{SayAlone};
 ghost use Rattle.gs_laws.specs.Counting.{CountsKnown, CountsViews, NewOrOut};
+ghost use Rattle.gs_laws.specs.Numbered.{LeadsToNumbers, RecordsKeepNumbers, TellsNumbers};
 ghost use Rattle.gs_laws.specs.Promises.{AllMessagesFit, AnswersExactly, BeginsWithAll, CallsFit, CallsKeep, CheckpointFits, CommitsExactly, IsToldAgain, KeepsAll, KeepsGiven, KeepsPrepared, LeadsBack, LeadsToKept, LockedElse, LockedExactly, MadeOfTheMost, MessagesFit, MessagesKeep, NothingAtTicks, NothingWhileRolling, PreparesByOneRecord, ProposesFresh, ProposesFreshAtTicks, RefusesInOrder, RefusedAtLocks, RefusedFits, RefusedLeavesAll, RollsBack, StartsWell, StepsAtTicksFit, TellsAll, TellsCounters};
 ghost use Rattle.gs_laws.specs.Reached.{OpensFirm, RecoversFirm, RollsBackThrough, RunsRecoverFromLast, SameFromLast};
 ghost use Rattle.gs_laws.specs.Resting.{PreparesExactly, TakesPrepares};
@@ -190,6 +191,15 @@ pub fn a_prepare_begins_with_all_that_stands()
 /// No record but a checkpoint takes a counter behind a value that was given, or the epoch back.
 pub fn counters_never_fall()
     ensures { (entry : PlainEntry) → KeepsGiven entry }
+{}
+
+/// The number that each standing hidden name tells was given, now and in the names to which a rollback would lead back: each record that can
+/// be written keeps it, the checkpoint of what stands tells it, and so it is of whatever such records lead to from a new store. So no name
+/// stands with the number of a deletion to come.
+pub fn hidden_names_tell_numbers_that_were_given()
+    ensures records { RecordsKeepNumbers }
+    ensures checkpoints { TellsNumbers }
+    ensures all { LeadsToNumbers }
 {}
 
 /// A checkpoint of what stands tells its counters and its epoch.
