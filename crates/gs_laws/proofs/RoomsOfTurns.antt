@@ -1,10 +1,12 @@
 -- The records of each message, and of each step of a tick, have room; who has told of a chunk; and what snapshots copy.
-use Rattle.std.proofs.Common.{◌≡◌, ◌⊎◌, inl, inr, ◌≤◌, ◌+◌, ◌∙◌, arith, ap, sym, subst, ◌&&◌, ◌++◌, ◌==◌, ℕ, Bool, true, false, not, List, [], ◌∷◌, length, refl}
+use Rattle.std.specs.Cmp.{nat_cmp_total}
+use Rattle.std.specs.Ordering.{eq_by_cmp, nat_cmp}
+use Rattle.std.proofs.Common.{◌≡◌, ◌⊎◌, inl, inr, ◌≤◌, ◌<◌, ◌||◌, cond, ◌+◌, ◌∙◌, arith, ap, sym, subst, ◌&&◌, ◌++◌, ◌==◌, ℕ, Bool, true, false, not, List, [], ◌∷◌, length, refl}
 use Rattle.std.specs.Prelude.{flat_map, nat_lt, Option, Some, None, Result, Ok, Err, if◌then◌else◌}
 use Rattle.std.specs.List.{list_all}
 use Rattle.std.specs.FinMap as fin
 use Rattle.std.proofs.lemmas.Bool.{and_parts}
-use Rattle.gs_base.specs.Members.{is_member}
+use Rattle.gs_base.specs.Members.{is_member, with_member}
 use Rattle.gs_base.specs.Stamps.{is_same}
 use Rattle.gs_base.specs.declared.config.Config.{Config}
 use Rattle.gs_base.specs.declared.numbers.Moment.{Moment}
@@ -33,16 +35,18 @@ use Rattle.gs_state.specs.Chunks.{Chunk, chunk_at, may_begin, hears, heard_yes, 
 use Rattle.gs_state.specs.Durable.{is_rolling, prepared_view}
 use Rattle.gs_state.specs.Handling.{call_turn, handle, about_turn, server_turn, from_client, from_node, pressed, pressed_at, pressed_if, proposals, granted, granted_at, written_unless, written_if_due, checkpoint, checkpoint_tests, checkpoint_body, due, tick}
 use Rattle.gs_state.specs.Hearing.{stepped, heard, ask_plan, send_plan, is_with_sealed, promised_for, promised_at, unpromised_for, unpromised_at, sends, next_epoch, behind, learned, drops, lost, is_lost_at, made_quiet, reported, reported_now, damaged, renewed, is_leased_under}
-use Rattle.gs_laws.specs.Rooms.{AllCopyStill, CommitsRollback, CopiesStill, HasRoom, LogsStayWithin, MessagesCopyStill, MessagesHaveRoom, NoneHasTold, OthersLeave, StepsHaveRoom, Tells, TellsAdd, TellsSince, TicksCopyStill, TicksHaveRoom, TicksLeave, restored_in}
+use Rattle.gs_laws.specs.Rooms.{AllCopyStill, CommitsRollback, CopiesStill, HasRoom, LogsStayWithin, MessagesCopyStill, MessagesHaveRoom, NoneHasTold, OthersLeave, StepsHaveRoom, Tells, TellsAdd, TellsOf, TellsSince, TicksCopyStill, TicksHaveRoom, TicksLeave, restored_in}
 use Rattle.gs_laws.specs.Standing.{Comes, Ticks, Renews, Restarts}
 use Rattle.gs_laws.proofs.Rooms.{Adds, Roomy, all_begun_adds, all_ended_roomy, answer_leaves, both_leave, both_still, each_roomy, either_roomy, ended_roomy, is_plain, leaves_told, plan_adds, plan_roomy, quiet_adds, records_add, same_roomy, test_roomy, then_roomy, tried_roomy}
+use Rattle.gs_laws.proofs.Kept.{is_tied}
+use Rattle.gs_laws.proofs.KeptViews.{same_key}
 use Rattle.gs_laws.proofs.RoomsOfCalls.{Leaves, call_leaves, list_quiet_still, pick}
-use Rattle.gs_base.specs.MemberLaws.{eqb_itself}
+use Rattle.gs_base.specs.MemberLaws.{eqb_itself, is_member-servers_where}
 use Rattle.gs_journal.specs.Journal.{checkpoint_size, last_generation}
 use Rattle.gs_record.specs.Plain.{PlainEntry}
 use Rattle.gs_state.specs.Durable.{Durable}
 use Rattle.gs_state.specs.State.{answer_changes, size_of_all}
-use Rattle.gs_state.specs.Volatile.{with_restored}
+use Rattle.gs_state.specs.Volatile.{servers_or_none, with_restored}
 use Rattle.std.proofs.lemmas.Bool.{false≢true, true≢false}
 use Rattle.std.proofs.lemmas.Bool.Decides.{nat_tests}
 use Rattle.std.specs.Prelude.{fold, is_some, nat_le}
@@ -403,6 +407,39 @@ tells_add config s message moment server handles t =
     ∙ ap (λ b. restored_in (if b then sends s (next_epoch s.durable server s.durable.epoch) else if is_rolling s.durable.phase && (s.durable.epoch == s.durable.epoch) then turned s (told_plan server handles) else unmoved s).after) (not_below s.durable.epoch)
     ∙ ap (λ b. restored_in (if b && (s.durable.epoch == s.durable.epoch) then turned s (told_plan server handles) else unmoved s).after) t.begun
     ∙ ap (λ b. restored_in (if b then turned s (told_plan server handles) else unmoved s).after) (eqb_itself s.durable.epoch)
+
+told_more : (server : ℕ) (handles : List ℕ) (m : fin.FinMap nat_cmp (List ℕ)) (chunk other : ℕ) → other < 16 →
+    is_member (servers_or_none (fin.get (fold (with_restored server) m handles) chunk)) other ≡ (is_member (servers_or_none (fin.get m chunk)) other || ((other == server) && is_member handles chunk))
+told_more server [] m chunk other low = nothing (is_member (servers_or_none (fin.get m chunk)) other) (other == server)
+  where
+    nothing : (a b : Bool) → a ≡ (a || (b && false))
+    nothing true b = refl
+    nothing false true = refl
+    nothing false false = refl
+told_more server (h ∷ handles) m chunk other low =
+    told_more server handles (with_restored server m h) chunk other low
+    ∙ ap (λ o. is_member (servers_or_none o) other || ((other == server) && is_member handles chunk)) (fin.get-insert nat_cmp_total m h (with_member (servers_or_none (fin.get m h)) server) chunk)
+    ∙ by_key (eq_by_cmp nat_cmp chunk h) refl
+  where
+    now_told : (a x b : Bool) → ((a || x) || (a && b)) ≡ (x || (a && true))
+    now_told true true b = refl
+    now_told true false b = refl
+    now_told false true b = refl
+    now_told false false b = refl
+
+    by_key : (b : Bool) → eq_by_cmp nat_cmp chunk h ≡ b
+        → (is_member (servers_or_none (cond b (Some (with_member (servers_or_none (fin.get m h)) server)) (fin.get m chunk))) other || ((other == server) && is_member handles chunk))
+        ≡ (is_member (servers_or_none (fin.get m chunk)) other || ((other == server) && ((h == chunk) || is_member handles chunk)))
+    by_key true is =
+        ap (λ b. b || ((other == server) && is_member handles chunk)) (is_member-servers_where (λ s. (s == server) || is_member (servers_or_none (fin.get m h)) s) other low)
+        ∙ now_told (other == server) (is_member (servers_or_none (fin.get m h)) other) (is_member handles chunk)
+        ∙ ap (λ k. is_member (servers_or_none (fin.get m k)) other || ((other == server) && true)) (sym (same_key chunk h is))
+        ∙ ap (λ b. is_member (servers_or_none (fin.get m chunk)) other || ((other == server) && (b || is_member handles chunk))) (sym (sym (is_tied chunk h) ∙ is))
+    by_key false is = ap (λ b. is_member (servers_or_none (fin.get m chunk)) other || ((other == server) && (b || is_member handles chunk))) (sym (sym (is_tied chunk h) ∙ is))
+
+pub tells_of : TellsOf
+tells_of config s message moment server handles chunk other t low =
+    ap (λ (r : fin.FinMap nat_cmp (List ℕ)). is_member (servers_or_none (fin.get r chunk)) other) (tells_add config s message moment server handles t) ∙ told_more server handles (restored_in s) chunk other low
 
 others_by : (s : State) (message : Message) (t : Turn) → ((server : ℕ) (handles : List ℕ) → Tells s message server handles → ⊥) → Came s message t → (restored_in t.after ≡ restored_in s) ⊎ (CommitsRollback s t × (restored_in t.after ≡ fin.empty))
 others_by s message t other (Same r) = inl (r.adds.restored refl)

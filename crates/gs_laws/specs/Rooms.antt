@@ -1,5 +1,5 @@
 -- What each event has room for, whom it counts as having told of a chunk, and what a snapshot copies.
-use Rattle.std.specs.Prelude.{◌≡◌, ◌⊎◌, ◌≤◌, ℕ, true, false, List, [], ◌∷◌, fold, Some, None}
+use Rattle.std.specs.Prelude.{◌≡◌, ◌⊎◌, ◌≤◌, ◌<◌, ◌==◌, ◌&&◌, ◌||◌, ℕ, true, false, List, [], ◌∷◌, fold, Some, None}
 use Rattle.std.specs.FinMap as fin
 use Rattle.std.specs.Ordering.{nat_cmp}
 use Rattle.gs_base.specs.Members.{is_member}
@@ -15,6 +15,7 @@ use Rattle.gs_state.specs.Applied.{applied}
 use Rattle.gs_state.specs.Durable.{Durable, Settled, is_rolling}
 use Rattle.gs_state.specs.Handling.{granted, handle, pressed, proposals, tick}
 use Rattle.gs_state.specs.State.{State, Turn, and_then, fits, for_each, is_failed}
+use Rattle.gs_state.specs.Upgrades.{told_of}
 use Rattle.gs_state.specs.Volatile.{with_restored}
 use Rattle.gs_tree.specs.Chunks.{visible_chunks_under}
 use Rattle.gs_laws.specs.Standing.{Event, turn_of}
@@ -58,6 +59,11 @@ restored_in s = s.volatile.restored
 abbrev pub TellsAdd : Type 0
 TellsAdd = (config : Config) (s : State) (message : Message) (moment : Moment) (server : ℕ) (handles : List ℕ) → Tells s message server handles →
     restored_in (handle config s message moment).after ≡ fold (with_restored server) (restored_in s) handles
+
+-- So who has told of a chunk is who had, and this server, where it names the chunk.
+abbrev pub TellsOf : Type 0
+TellsOf = (config : Config) (s : State) (message : Message) (moment : Moment) (server : ℕ) (handles : List ℕ) (chunk other : ℕ) → Tells s message server handles → other < 16 →
+    is_member (told_of (handle config s message moment).after chunk) other ≡ (is_member (told_of s chunk) other || ((other == server) && is_member handles chunk))
 
 -- the commit of the rollback is recorded
 abbrev pub CommitsRollback : State → Turn → Type 0
