@@ -30,7 +30,7 @@ use Rattle.gs_state.specs.declared.pending.Waiting.{Waiting}
 use Rattle.gs_state.specs.declared.reply.KeptReply.{KeptReply}
 use Rattle.gs_state.proofs.Tracking.{client_total}
 use Rattle.gs_laws.specs.Promises.{IsKept}
-use Rattle.gs_laws.specs.Standing.{AreCounters, CanWait, IsSought, IsToldCount, Stands, was_answered}
+use Rattle.gs_laws.specs.Standing.{AreCounters, CanWait, IsSought, IsToldCount, Stands, may_ask, was_answered}
 use Rattle.gs_laws.proofs.KeptViews.{same_key}
 use Rattle.gs_laws.proofs.Retold.{each_entry}
 
@@ -222,6 +222,7 @@ recorded d e v o h = record {
         since = l.since asking.stamp a.since;
         told = a.told;
         wanted = a.wanted;
+        purposed = a.purposed;
         made = λ none. a.made (l.none none);
         own = a.own;
         first = λ req call here. l.bare (a.first req call here);
@@ -297,6 +298,7 @@ module _ (d : Durable) (v : Volatile) (h : Stands d v) where
           since = a.since;
           told = a.told;
           wanted = a.wanted;
+          purposed = a.purposed;
           made = a.made;
           own = a.own;
           first = a.first;
@@ -321,7 +323,7 @@ module _ (d : Durable) (v : Volatile) (h : Stands d v) where
     counters = h.counters;
     asked = λ chunk asking has.
         (let a = all chunk asking has in
-        record { known = a.known; handle = a.handle; version = a.version; number = a.number; epoch = a.epoch; follows = a.follows; since = a.since; told = a.told; wanted = a.wanted; made = a.made; own = a.own; first = a.first; past = a.past });
+        record { known = a.known; handle = a.handle; version = a.version; number = a.number; epoch = a.epoch; follows = a.follows; since = a.since; told = a.told; wanted = a.wanted; purposed = a.purposed; made = a.made; own = a.own; first = a.first; past = a.past });
     unplaced = h.unplaced;
     counted = h.counted;
     out = h.out;
@@ -371,6 +373,7 @@ module _ (d : Durable) (v : Volatile) (h : Stands d v) where
           since = s.since;
           told = s.told;
           wanted = s.wanted;
+          purposed = s.purposed;
           made = s.made;
           past = s.past;
           own = λ r call here. s.own r call (was_there q (ap is_some has) (is_member v.unplaced q) refl (sym (member_more v.unplaced chunk q) ∙ here));
@@ -450,6 +453,7 @@ module _ (d : Durable) (v : Volatile) (h : Stands d v) where
           since = s.since;
           told = s.told;
           wanted = s.wanted;
+          purposed = s.purposed;
           made = s.made;
           past = s.past;
           own = λ r call here. s.own r call (member_less v.unplaced chunk q here);
@@ -514,7 +518,7 @@ module _ (d : Durable) (v : Volatile) (h : Stands d v) where
   }
     where
       again : (q : ℕ) (a : Asking) → IsSought d v q a → IsSought d (record v { taken_out = outs }) q a
-      again q a s = record { known = s.known; handle = s.handle; version = s.version; number = s.number; epoch = s.epoch; follows = s.follows; since = s.since; told = s.told; wanted = s.wanted; made = s.made; own = s.own; first = s.first; past = s.past }
+      again q a s = record { known = s.known; handle = s.handle; version = s.version; number = s.number; epoch = s.epoch; follows = s.follows; since = s.since; told = s.told; wanted = s.wanted; purposed = s.purposed; made = s.made; own = s.own; first = s.first; past = s.past }
 
   all_removed_was : (chunks : List ℕ) (m : fin.FinMap nat_cmp Asking) (q : ℕ) (a : Asking) → fin.get (fold fin.remove m chunks) q ≡ Some a → fin.get m q ≡ Some a
   all_removed_was [] m q a has = has
@@ -568,6 +572,9 @@ module _ (d : Durable) (v : Volatile) (h : Stands d v) where
           wanted = list_all-append (λ (x : Pending). not (is_call x.req a.call) || may_wait_for q x.waits) v.pending (p ∷ [])
               ∙ both_true (list_all (λ (x : Pending). not (is_call x.req a.call) || may_wait_for q x.waits) v.pending) ((not (is_call p.req a.call) || may_wait_for q p.waits) && true) s.wanted
               (both_true (not (is_call p.req a.call) || may_wait_for q p.waits) true (or_left_true (is_call p.req a.call) (may_wait_for q p.waits) (none q a has)) refl);
+          purposed = list_all-append (λ (x : Pending). not (is_call x.req a.call) || may_ask a.purpose x.waits) v.pending (p ∷ [])
+              ∙ both_true (list_all (λ (x : Pending). not (is_call x.req a.call) || may_ask a.purpose x.waits) v.pending) ((not (is_call p.req a.call) || may_ask a.purpose p.waits) && true) s.purposed
+              (both_true (not (is_call p.req a.call) || may_ask a.purpose p.waits) true (or_left_true (is_call p.req a.call) (may_ask a.purpose p.waits) (none q a has)) refl);
           made = λ new. list_any-append (λ (x : Pending). is_call x.req a.call && makes q x.waits) v.pending (p ∷ []) ∙ or_first (is_waited_by a.call (makes q) v.pending) ((is_call p.req a.call && makes q p.waits) || false) (s.made new);
           first = s.first;
           own = λ r call here. list_any-append (λ (x : Pending). is_call x.req a.call && makes q x.waits) v.pending (p ∷ []) ∙ or_first (is_waited_by a.call (makes q) v.pending) ((is_call p.req a.call && makes q p.waits) || false) (s.own r call here);
@@ -587,13 +594,13 @@ module _ (d : Durable) (v : Volatile) (h : Stands d v) where
   prepare b now = record { kept = h.kept; counters = h.counters; asked = λ q a has. again q a (h.asked q a has); unplaced = h.unplaced; counted = h.counted; out = h.out; apart = h.apart; calls = h.calls; preparing = now }
     where
       again : (q : ℕ) (a : Asking) → IsSought d v q a → IsSought d (record v { is_preparing = b }) q a
-      again q a s = record { known = s.known; handle = s.handle; version = s.version; number = s.number; epoch = s.epoch; follows = s.follows; since = s.since; told = s.told; wanted = s.wanted; made = s.made; own = s.own; first = s.first; past = s.past }
+      again q a s = record { known = s.known; handle = s.handle; version = s.version; number = s.number; epoch = s.epoch; follows = s.follows; since = s.since; told = s.told; wanted = s.wanted; purposed = s.purposed; made = s.made; own = s.own; first = s.first; past = s.past }
 
   pub restored : (server : ℕ) (chunks : List ℕ) → Stands d (changed v (changes.Restored server chunks))
   restored server chunks = record { kept = h.kept; counters = h.counters; asked = λ q a has. again q a (h.asked q a has); unplaced = h.unplaced; counted = h.counted; out = h.out; apart = h.apart; calls = h.calls; preparing = h.preparing }
     where
       again : (q : ℕ) (a : Asking) → IsSought d v q a → IsSought d (changed v (changes.Restored server chunks)) q a
-      again q a s = record { known = s.known; handle = s.handle; version = s.version; number = s.number; epoch = s.epoch; follows = s.follows; since = s.since; told = s.told; wanted = s.wanted; made = s.made; own = s.own; first = s.first; past = s.past }
+      again q a s = record { known = s.known; handle = s.handle; version = s.version; number = s.number; epoch = s.epoch; follows = s.follows; since = s.since; told = s.told; wanted = s.wanted; purposed = s.purposed; made = s.made; own = s.own; first = s.first; past = s.past }
 
 -- Nothing is asked any more, and no chunk is new. Those that were are out, until the record that follows.
 pub rolled : (d : Durable) (v : Volatile) → Stands d v → Stands d (record (changed v changes.RolledBack) { taken_out = v.unplaced ++ v.taken_out })
@@ -692,6 +699,7 @@ module _ (req : ReqId) where
           since = s.since;
           told = s.told;
           wanted = kept_all (λ (p : Pending). not (is_call p.req a.call) || may_wait_for q p.waits) v.pending s.wanted;
+          purposed = kept_all (λ (p : Pending). not (is_call p.req a.call) || may_ask a.purpose p.waits) v.pending s.purposed;
           first = s.first;
           made = λ new. made_still q a (λ out. absurd (false≢true (sym (ap is_some new) ∙ (may q a has out).1.0))) a.call refl (s.made new);
           own = λ r call here. made_still q a (λ out. absurd (false≢true (sym (may q a has out).1.1 ∙ here))) a.call refl (s.own r call here);
@@ -762,6 +770,7 @@ free_sought d w chunk a f = record {
   since = f.since;
   told = f.told;
   wanted = no_call (may_wait_for chunk) w.pending;
+  purposed = no_call (may_ask a.purpose) w.pending;
   made = λ none. absurd (false≢true (sym (ap is_some none) ∙ f.settled));
   own = λ req call here. absurd (false≢true (ap is_some call));
   first = λ req call here. absurd (false≢true (ap is_some call));
@@ -1027,6 +1036,7 @@ module _ (req : ReqId) (waiting : Waiting) where
           since = s.since;
           told = s.told;
           wanted = set_all (λ (p : Pending). not (is_call p.req a.call) || may_wait_for q p.waits) v.pending (or_left_false (is_call req a.call) (may_wait_for q waiting) (none q a has)) s.wanted;
+          purposed = set_all (λ (p : Pending). not (is_call p.req a.call) || may_ask a.purpose p.waits) v.pending (or_left_false (is_call req a.call) (may_ask a.purpose waiting) (none q a has)) s.purposed;
           first = s.first;
           made = λ new. made_still q a a.call refl (none q a has) (s.made new);
           own = λ r call here. made_still q a a.call refl (none q a has) (s.own r call here);

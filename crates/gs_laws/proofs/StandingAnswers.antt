@@ -43,7 +43,7 @@ use Rattle.gs_state.specs.declared.pending.Pending.{Pending}
 use Rattle.gs_state.specs.declared.pending.Waiting.{Waiting}
 use Rattle.gs_state.specs.declared.pending.Waiting.TheVariants as waits
 use Rattle.gs_laws.specs.Promises.{IsToldView}
-use Rattle.gs_laws.specs.Standing.{CanWait, IsSought, IsToldCount, Stands}
+use Rattle.gs_laws.specs.Standing.{CanWait, IsSought, IsToldCount, Stands, may_ask}
 use Rattle.gs_laws.proofs.AcceptedForgets.{folded}
 use Rattle.gs_laws.proofs.AcceptedViews.{or_right}
 use Rattle.gs_laws.proofs.Choosing.{picked}
@@ -350,8 +350,8 @@ settling_of names v phase prepared carried chunk asking view told none known = b
 
 -- ---- a chunk is settled, and its calls go on
 
-sought_on : (d : Durable) (v : Volatile) (chunk : ℕ) (asking new : Asking) → new.stamp ≡ asking.stamp → new.call ≡ asking.call → AreCounts new.answers → IsSought d v chunk asking → IsSought d v chunk new
-sought_on d v chunk asking new stamp call told k = record {
+sought_on : (d : Durable) (v : Volatile) (chunk : ℕ) (asking new : Asking) → new.stamp ≡ asking.stamp → new.call ≡ asking.call → new.purpose ≡ asking.purpose → AreCounts new.answers → IsSought d v chunk asking → IsSought d v chunk new
+sought_on d v chunk asking new stamp call purpose told k = record {
   known = k.known;
   handle = k.handle;
   version = ap (λ (x : Stamp). is_given d.next_version x.version) stamp ∙ k.version;
@@ -361,6 +361,7 @@ sought_on d v chunk asking new stamp call told k = record {
   since = ap (is_since (upgrade_epoch d.phase d.epoch) (fin.get d.chunks chunk)) stamp ∙ k.since;
   told = told;
   wanted = ap (λ c. list_all (λ (p : Pending). not (is_call p.req c) || may_wait_for chunk p.waits) v.pending) call ∙ k.wanted;
+  purposed = (λ i. list_all (λ (p : Pending). not (is_call p.req (call i)) || may_ask (purpose i) p.waits) v.pending) ∙ k.purposed;
   made = λ none. ap (λ c. is_waited_by c (makes chunk) v.pending) call ∙ k.made none;
   own = λ r is here. ap (λ c. is_waited_by c (makes chunk) v.pending) call ∙ k.own r (sym call ∙ is) here;
   first = λ r is here. k.first r (sym call ∙ is) here;
@@ -406,7 +407,7 @@ module _ (s : State) (chunk : ℕ) (asking : Asking) (h : Holds true s) (has : f
   stepped_good c carried moment (steps.Send source target) told =
       let k = h.stands.asked chunk asking has in
       none_good true s (send_plan chunk asking source target (is_with_sealed s.durable.phase (prepared_view s.durable chunk) source))
-      (ask s.durable s.volatile h.stands chunk (record asking { source = Some source }) (sought_on s.durable s.volatile chunk asking (record asking { source = Some source }) refl refl k.told k)) (λ x r. h.rolling x r)
+      (ask s.durable s.volatile h.stands chunk (record asking { source = Some source }) (sought_on s.durable s.volatile chunk asking (record asking { source = Some source }) refl refl refl k.told k)) (λ x r. h.rolling x r)
   stepped_good c carried moment (steps.Settle by) told = if_good c by carried moment (view_by c asking by moment) told refl
   stepped_good c carried moment steps.Fail told = all_given_up true (requests_of (concerned s chunk asking.call)) refusals.NoReplica s h
 
@@ -415,7 +416,7 @@ module _ (s : State) (chunk : ℕ) (asking : Asking) (h : Holds true s) (has : f
 module _ (s : State) (h : Holds true s) where
   heard_good : (chunk : ℕ) (c : Chunk) (asking : Asking) (b : Bool) (by : Answers) (carried : Bool) (moment : Moment) (step : Step) → fin.get s.volatile.moving chunk ≡ Some asking
       → AreCounts (if b then with_answers asking by else asking).answers → IsToldStep step → Good true s (heard s chunk c (if b then with_answers asking by else asking) carried moment step)
-  heard_good chunk c asking b by carried moment step has told step_told = on (if b then with_answers asking by else asking) (stamps b) (calls_same b) told
+  heard_good chunk c asking b by carried moment step has told step_told = on (if b then with_answers asking by else asking) (stamps b) (calls_same b) (purposes_same b) told
     where
       stamps : (x : Bool) → (if x then with_answers asking by else asking).stamp ≡ asking.stamp
       stamps true = refl
@@ -425,10 +426,14 @@ module _ (s : State) (h : Holds true s) where
       calls_same true = refl
       calls_same false = refl
 
-      on : (new : Asking) → new.stamp ≡ asking.stamp → new.call ≡ asking.call → AreCounts new.answers → Good true s (heard s chunk c new carried moment step)
-      on new stamp call counts =
+      purposes_same : (x : Bool) → (if x then with_answers asking by else asking).purpose ≡ asking.purpose
+      purposes_same true = refl
+      purposes_same false = refl
+
+      on : (new : Asking) → new.stamp ≡ asking.stamp → new.call ≡ asking.call → new.purpose ≡ asking.purpose → AreCounts new.answers → Good true s (heard s chunk c new carried moment step)
+      on new stamp call purpose counts =
           let plan = ask_plan chunk new in
-          let first = none_good true s plan (ask s.durable s.volatile h.stands chunk new (sought_on s.durable s.volatile chunk asking new stamp call counts (h.stands.asked chunk asking has))) (λ x r. h.rolling x r) in
+          let first = none_good true s plan (ask s.durable s.volatile h.stands chunk new (sought_on s.durable s.volatile chunk asking new stamp call purpose counts (h.stands.asked chunk asking has))) (λ x r. h.rolling x r) in
           let now : fin.get (fin.insert s.volatile.moving chunk new) chunk ≡ Some new = fin.get-insert nat_cmp_total s.volatile.moving chunk new chunk ∙ ap (λ o. cond (is_eq o) (Some new) (fin.get s.volatile.moving chunk)) (tied_itself nat_cmp_total chunk) in
           then_good true s (turned s plan) (λ next. stepped next chunk c new carried moment step) first (stepped_good (turned s plan).after chunk new first.holds now c carried moment step step_told)
 

@@ -14,6 +14,7 @@ use Rattle.gs_base.specs.declared.refusal.Refusal.TheVariants as refusals
 use Rattle.gs_edit.specs.View.{NamesView}
 use Rattle.gs_path.specs.Path.{Path}
 use Rattle.gs_tree.proofs.Levels.{both_true}
+use Rattle.gs_lease.specs.declared.view.Purpose.{Purpose}
 use Rattle.gs_lease.specs.declared.view.Purpose.TheVariants as purposes
 use Rattle.gs_lease.specs.declared.view.View.{View}
 use Rattle.gs_msg.specs.declared.answer.Answer.{Answer}
@@ -36,7 +37,7 @@ use Rattle.gs_state.specs.declared.pending.Pending.{Pending}
 use Rattle.gs_state.specs.declared.pending.Waiting.{Waiting}
 use Rattle.gs_state.specs.declared.pending.Waiting.TheVariants as waits
 use Rattle.gs_state.specs.declared.reply.KeptReply.{KeptReply}
-use Rattle.gs_laws.specs.Standing.{CanWait, IsToldWaiting, Stands}
+use Rattle.gs_laws.specs.Standing.{CanWait, IsToldWaiting, Stands, may_ask}
 use Rattle.gs_laws.proofs.Accepted.{edit_applies}
 use Rattle.gs_laws.proofs.AcceptedViews.{is_settled, or_left, or_right, proposes}
 use Rattle.gs_laws.proofs.Fresh.{next_is_fresh, not_false}
@@ -242,8 +243,9 @@ module _ (chunk : ℕ) (req : ReqId) (waiting : Waiting) where
 
   -- ---- views
 
-  waits_wanted : (v : Volatile) (next : Waiting) (c : ℕ) → are_apart v.pending ≡ true → may_wait_for c next ≡ true → is_pending v.pending req ≡ true → (d : Durable) → IsFor d (changed v (changes.Wait req next)) c (Some req)
-  waits_wanted v next c apart right here d = record {
+  waits_wanted : (v : Volatile) (next : Waiting) (c : ℕ) (purpose : Purpose) → are_apart v.pending ≡ true → may_wait_for c next ≡ true → may_ask purpose next ≡ true → is_pending v.pending req ≡ true → (d : Durable) → IsFor d (changed v (changes.Wait req next)) c purpose (Some req)
+  waits_wanted v next c purpose apart right asks here d = record {
+    purposed = ap (λ ps. list_all (λ (p : Pending). not (same_call p.req req) || may_ask purpose p.waits) ps) (set_so v.pending req next) ∙ set_wanted req next (may_ask purpose) v.pending apart asks here;
     wanted = ap (λ ps. list_all (λ (p : Pending). not (same_call p.req req) || may_wait_for c p.waits) ps) (set_so v.pending req next) ∙ set_wanted req next (may_wait_for c) v.pending apart right here;
     past = λ r e. or_left (is_pending (with_waiting v.pending req next) r) _ (ap (λ ps. is_pending ps r) (set_so v.pending req next) ∙ set_pending req next r v.pending ∙ ap (is_pending v.pending) (sym (req_is e)) ∙ here);
   }
@@ -268,7 +270,7 @@ module _ (chunk : ℕ) (req : ReqId) (waiting : Waiting) where
       let waited = wait req next s.durable v h.stands (visible, told) none in
       let fit = proposes s.durable new zero r.rolling parts.1 (or_right (is_settled s.durable new) (is_fresh new new) (next_is_fresh new 1 (omega arith) parts.0)) in
       let made = ap (is_waited_by (Some req) (makes new)) (set_so v.pending req next) ∙ waits_now req next (makes new) v.pending h.stands.apart here ∙ ap (λ b. b || false) (eqb_itself new) in
-      let stands = proposed_new s.durable w purposes.Quiet view.members (Some req) waited r.rolling parts.1 parts.0 (waits_wanted v next new h.stands.apart (eqb_itself new) here s.durable) made in
+      let stands = proposed_new s.durable w purposes.Quiet view.members (Some req) waited r.rolling parts.1 parts.0 (waits_wanted v next new purposes.Quiet h.stands.apart (eqb_itself new) refl here s.durable) made in
       let asking = asking_for (next_stamp s.durable) purposes.Quiet view.members (Some req) in
       room_stepped s (turned s plan) h (record {
         stands = subst (λ o. Stands (unwrap_or o s.durable) (changed (changed w (changes.Enter new)) (changes.Ask new asking))) (sym fit) stands;
@@ -292,7 +294,7 @@ module _ (chunk : ℕ) (req : ReqId) (waiting : Waiting) where
       let members = members_at (chunk_at s new) in
       let waited = wait req next s.durable v h.stands (visible, told) none in
       let fit = proposes s.durable new zero rolling some (or_left (is_settled s.durable new) (is_fresh s.durable.next_handle new) known) in
-      let stands = proposed_settled s.durable w purposes.Lease members (Some req) waited rolling some new known (or_left (is_listed s.durable new) (is_member v.unplaced new) listed) (inl listed) (waits_wanted v next new h.stands.apart (eqb_itself new) here s.durable) in
+      let stands = proposed_settled s.durable w purposes.Lease members (Some req) waited rolling some new known (or_left (is_listed s.durable new) (is_member v.unplaced new) listed) (inl listed) (waits_wanted v next new purposes.Lease h.stands.apart (eqb_itself new) refl here s.durable) in
       let asking = asking_for (next_stamp s.durable) purposes.Lease members (Some req) in
       room_stepped s (turned s plan) h (record {
         stands = subst (λ o. Stands (unwrap_or o s.durable) (changed w (changes.Ask new asking))) (sym fit) stands;
