@@ -11,6 +11,7 @@ pub mod Beginnings
 pub mod Choosing
 pub mod Commanded
 pub mod Committing
+pub mod CopyingCalls
 pub mod Counters
 pub mod Counting
 pub mod EditsBack
