@@ -1,5 +1,5 @@
 -- The copies on write that a call begins are of chunks at rest.
-use Rattle.std.proofs.Common.{◌≡◌, ◌⊎◌, inl, inr, arith, ◌∙◌, ◌==◌, ◌&&◌, ◌||◌, ◌+◌, ◌++◌, ℕ, Bool, true, false, not, List, [], ◌∷◌, length, map, refl, ap, sym}
+use Rattle.std.proofs.Common.{◌≡◌, arith, ◌∙◌, ◌==◌, ◌&&◌, ◌||◌, ◌+◌, ◌++◌, ℕ, Bool, true, false, not, List, [], ◌∷◌, length, refl, ap, sym}
 use Rattle.std.specs.Prelude.{nat_lt, nat_le, is_none, is_some, Option, Some, None, Result, Ok, Err, if◌then◌else◌}
 use Rattle.std.specs.List.{list_all, list_any}
 use Rattle.std.specs.FinMap as fin
@@ -26,29 +26,26 @@ use Rattle.gs_msg.specs.declared.answer.Answer.TheVariants as answers
 use Rattle.gs_msg.specs.declared.call.Call.{Call}
 use Rattle.gs_msg.specs.declared.call.Call.TheVariants as calls
 use Rattle.gs_place.specs.Needs.{most_needed_of}
-use Rattle.gs_record.specs.Plain.{PlainEdit, Edited, Prepare, Finalize, RollbackBegin, RollbackCommit, Mkdirs, Create, Rename, Hide, Unhide, Snapshot}
+use Rattle.gs_record.specs.Plain.{PlainEdit, Prepare, Finalize, RollbackBegin, RollbackCommit, Mkdirs, Create, Rename, Hide, Unhide, Snapshot}
 use Rattle.gs_state.specs.Beginning.{next_stamp, has_versions, has_handle, begin_at, all_begun, create_plan, copy_plan, waits_from_now, targets_for, counted_views}
 use Rattle.gs_state.specs.Calls.{edited_by, edit_if, accept_plan, deleted, answered_with, has_visible_child, looked_up, listing, status, location, found_chunk, refused_before, told_phase, is_shared}
 use Rattle.gs_state.specs.Chunks.{Chunk, chunk_at, has_entry, is_leased, is_quiet, is_wanted, view_of, members_of}
 use Rattle.gs_state.specs.Durable.{Settled, is_rolling, prepared_view}
 use Rattle.gs_state.specs.Handling.{call_turn, called, called_unless, taken_as, numbered, replied_again, waits_still, Numbered, New, Again, Older}
-use Rattle.gs_state.specs.Replies.{is_later}
-use Rattle.gs_state.specs.Surveying.{chunk_set}
 use Rattle.gs_base.specs.Members.{is_member}
 use Rattle.std.specs.Ordering.{nat_cmp}
 use Rattle.std.proofs.lemmas.Bool.{true≢false, and_parts}
 use Rattle.std.proofs.lemmas.Bool.Decides.{nat_tests}
-use Rattle.gs_state.specs.Settling.{is_quiet_at, own_request, requests_of, source_chunks}
-use Rattle.gs_state.specs.State.{State, Plan, Turn, turned, unmoved, and_then, fits, if_room, refused, answered, all_ended_by, answer_changes, kept_in_memory, is_failed, is_unopened, last_reply, first_of}
+use Rattle.gs_state.specs.Settling.{requests_of}
+use Rattle.gs_state.specs.State.{State, Plan, Turn, turned, unmoved, and_then, fits, if_room, refused, all_ended_by, is_failed, is_unopened, last_reply, first_of}
 use Rattle.gs_state.specs.Undoing.{edited_names, all_undone}
-use Rattle.gs_state.specs.Upgrades.{accepted_plan, all_unquiet, begin_tests, commit_tests, end_tests, is_last_epoch, chunk_count, tell_all, answers_for, unless, prepare_begin, prepare_commit, prepare_abort, finalize, rollback_begin, rollback_commit, commit_on, commit_if, unrestored, told_of}
-use Rattle.gs_state.specs.Volatile.{all_changed, is_pending}
-use Rattle.gs_state.specs.Working.{begins, begins_new, may_use, leased, copied_on_write, written_at, found_for_writing, most_chunks, created_on, extended_at, extends, unquiet, is_wanted_at, begin_pending, begins_snapshot, snapshot_if, replicated_to, replicates_chunk, replicates_most, needs_of, put_handles, scanned, scan_plan, scan_edits, forget_if, waiting_for, removed_paths, forgotten_chunks}
+use Rattle.gs_state.specs.Upgrades.{accepted_plan, all_unquiet, begin_tests, commit_tests, end_tests, is_last_epoch, chunk_count, tell_all, answers_for, unless, prepare_begin, prepare_commit, finalize, rollback_begin, commit_on, commit_if, unrestored, told_of}
+use Rattle.gs_state.specs.Volatile.{is_pending}
+use Rattle.gs_state.specs.Working.{begins, begins_new, may_use, leased, copied_on_write, written_at, found_for_writing, most_chunks, created_on, extended_at, extends, unquiet, is_wanted_at, begin_pending, begins_snapshot, snapshot_if, replicated_to, replicates_chunk, replicates_most, needs_of, scanned, scan_plan, waiting_for, removed_paths, forgotten_chunks}
 use Rattle.gs_state.specs.declared.change.Change.{Change}
 use Rattle.gs_state.specs.declared.change.Change.TheVariants as changes
 use Rattle.gs_state.specs.declared.pending.Waiting.{Waiting}
 use Rattle.gs_state.specs.declared.pending.Waiting.TheVariants as waits
-
 use Rattle.gs_base.specs.declared.epoch.EpochEnd.{EpochEnd}
 use Rattle.gs_base.specs.Members.{count_from}
 use Rattle.gs_base.specs.MemberLaws.{eqb_itself}
@@ -109,7 +106,7 @@ pub each_mute : (servers : List ℕ) (message : ℕ → Message) → ((server : 
 each_mute [] message none = refl
 each_mute (server ∷ servers) message none = and_from (not (is_copy (message server).body)) (list_all (λ (m : Message). not (is_copy m.body)) (to_each servers message)) (none server) (each_mute servers message none)
 
-begun_mute : (s : State) (chunk : ℕ) (purpose : Purpose) (call : Option ReqId) → Mute (begin_at s chunk purpose call).sent
+pub begun_mute : (s : State) (chunk : ℕ) (purpose : Purpose) (call : Option ReqId) → Mute (begin_at s chunk purpose call).sent
 begun_mute s chunk purpose call = each_mute (members_at (chunk_at s chunk)) (about chunk (chunks.Advance (next_stamp s.durable))) (λ server. refl)
 
 pub all_begun_mute : (many : List ℕ) (purpose : Purpose) (call : Option ReqId) (s : State) → IsMute (all_begun s many purpose call)
@@ -351,7 +348,7 @@ new_leaves s chunk settled k handle has = (by_fit (may_propose s.durable.phase s
 abbrev pub Rests : Turn → Type 0
 Rests t = AreCopiesOf t.after t.sent
 
-mute_rests : (t : Turn) → IsMute t → Rests t
+pub mute_rests : (t : Turn) → IsMute t → Rests t
 mute_rests t mute = mute_copies t.after t.sent mute
 
 quiet_parts : (moving : Bool) (asked still : Bool) → (not (asked || moving) && still) ≡ true → (asked ≡ false) × ((moving ≡ false) × (still ≡ true))

@@ -12,6 +12,7 @@ pub mod Choosing
 pub mod Commanded
 pub mod Committing
 pub mod CopyingCalls
+pub mod CopyingTurns
 pub mod Counters
 pub mod Counting
 pub mod EditsBack

@@ -58,7 +58,7 @@ use Rattle.gs_laws.proofs.StandingTurns.{Good, Holds, all_given_up, none_good, s
 
 -- ---- what was answered can be told
 
-abbrev AreCounts : Answers → Type 0
+abbrev pub AreCounts : Answers → Type 0
 AreCounts answers = AllByRecursion IsToldCount answers.counts
 
 set_count : (xs : List (Option ℕ)) (i : ℕ) (x : Option ℕ) → AllByRecursion IsToldCount xs → IsToldCount x → AllByRecursion IsToldCount (slice_set xs i x)
@@ -112,7 +112,7 @@ view_told c asking by moment view counts epoch version e = by_most (greatest by.
         (epoch, (version, (greatest_told by.counts count counts is, (servers_told (λ server. is_count count (answer_of by.counts server)), term_told asking.purpose (answerers by.counts count) (low_servers (λ server. is_count count (answer_of by.counts server)))))))
 
 -- what a step settles by
-abbrev IsToldStep : Step → Type 0
+abbrev pub IsToldStep : Step → Type 0
 IsToldStep (steps.Settle by) = AreCounts by
 IsToldStep step = Unit {0}
 
@@ -134,7 +134,7 @@ after_told asking told = by_tests (not (have_all_spoken asking)) (not (has_yes a
     by_tests false true purpose source = tt
     by_tests false false purpose source = once purpose source
 
-yes_told : (asking : Asking) (server count : ℕ) → AreCounts asking.answers → IsNumber count → AreCounts (heard_yes asking server count).answers × IsToldStep (step_of_yes asking server count)
+pub yes_told : (asking : Asking) (server count : ℕ) → AreCounts asking.answers → IsNumber count → AreCounts (heard_yes asking server count).answers × IsToldStep (step_of_yes asking server count)
 yes_told asking server count told low = by_member (is_member asking.asked server)
   where
     more : AreCounts (with_yes asking.answers server count)
@@ -153,7 +153,7 @@ yes_told asking server count told low = by_member (is_member asking.asked server
     by_member true = (more, after_told (with_answers asking (with_yes asking.answers server count)) more)
     by_member false = (told, of_target asking.source)
 
-no_told : (asking : Asking) (server : ℕ) → AreCounts asking.answers → AreCounts (heard_no asking server).answers × IsToldStep (step_of_no asking server)
+pub no_told : (asking : Asking) (server : ℕ) → AreCounts asking.answers → AreCounts (heard_no asking server).answers × IsToldStep (step_of_no asking server)
 no_told asking server told = by_tests (ends_copy asking server) (is_member asking.asked server)
   where
     by_spoken : (b : Bool) → AreCounts (if b then asking.answers else (record { counts = asking.answers.counts; refused = with_member asking.answers.refused server }))
@@ -170,7 +170,7 @@ no_told asking server told = by_tests (ends_copy asking server) (is_member askin
     by_tests false true = (more, after_told (with_answers asking (with_no asking.answers server)) more)
     by_tests false false = (told, tt)
 
-tick_told : (asking : Asking) → AreCounts asking.answers → IsToldStep (step_at_tick asking)
+pub tick_told : (asking : Asking) → AreCounts asking.answers → IsToldStep (step_at_tick asking)
 tick_told asking told = by_test (has_yes asking)
   where
     by_test : (b : Bool) → IsToldStep (if b then steps.Settle asking.answers else steps.Fail)
@@ -369,12 +369,19 @@ sought_on d v chunk asking new stamp call purpose told k = record {
 }
 
 module _ (s : State) (chunk : ℕ) (asking : Asking) (h : Holds true s) (has : fin.get s.volatile.moving chunk ≡ Some asking) where
-  settled_good : (c : Chunk) (by : Answers) (carried : Bool) (moment : Moment) (view : View) → AreCounts by → view_by c asking by moment ≡ Some view → Good true s (settled_on s chunk asking carried view)
-  settled_good c by carried moment view told e =
+  -- the view is recorded, and what the calls that go on meet
+  pub record SettlesSo (carried : Bool) (view : View) : Type 0 where
+    pub good : Good true s (turned s (settle_plan (settling s.durable.phase (prepared_view s.durable chunk) carried chunk asking view) chunk view))
+    pub going : Going chunk (changed s.volatile (changes.Settled chunk)) (concerned s chunk asking.call)
+    pub ready : is_rolling s.durable.phase ≡ false → Ready chunk (turned s (settle_plan (settling s.durable.phase (prepared_view s.durable chunk) carried chunk asking view) chunk view)).after.durable
+    pub exact : fin.get (turned s (settle_plan (settling s.durable.phase (prepared_view s.durable chunk) carried chunk asking view) chunk view)).after.durable.chunks chunk ≡ Some (record { view = view; is_moving = false })
+    pub unasked : fin.get (changed s.volatile (changes.Settled chunk)).moving chunk ≡ None
+
+  pub settles_so : (c : Chunk) (by : Answers) (carried : Bool) (moment : Moment) (view : View) → AreCounts by → view_by c asking by moment ≡ Some view → SettlesSo carried view
+  settles_so c by carried moment view told e =
       let k = h.stands.asked chunk asking has in
       let v = changed s.volatile (changes.Settled chunk) in
       let records = settling s.durable.phase (prepared_view s.durable chunk) carried chunk asking view in
-      let plan = settle_plan records chunk view in
       let can : CanSettle s.durable chunk asking.stamp = record { handle = k.handle; version = k.version; epoch = k.epoch; follows = k.follows; since = k.since } in
       let set = settling_fits s.durable chunk asking view can (view_made c asking by moment view e) carried in
       let same = folded records s set.after set.is in
@@ -382,14 +389,25 @@ module _ (s : State) (chunk : ℕ) (asking : Asking) (h : Holds true s) (has : f
       let low : IsNumber asking.stamp.epoch = (let a = k.epoch in let n = h.stands.kept.now in omega arith) in
       let view_is = view_told c asking by moment view told low k.number e in
       let stands = views_stand records s.durable set.after v (settled s.durable s.volatile h.stands chunk) s.durable.names refl (settling_of s.durable.names v s.durable.phase (prepared_view s.durable chunk) carried chunk asking view view_is removed k.known) set.is in
-      let first : Good true s (turned s plan) = record {
-        fits = set.is ∙ ap Some (sym same);
-        holds = record { stands = subst (λ d. Stands d v) (sym same) stands; rolling = λ x r. h.rolling refl (sym (ap is_rolling set.phase) ∙ sym (ap (λ (d : Durable). is_rolling d.phase) same) ∙ r) };
-      } in
+      record {
+        good = record {
+          fits = set.is ∙ ap Some (sym same);
+          holds = record { stands = subst (λ d. Stands d v) (sym same) stands; rolling = λ x r. h.rolling refl (sym (ap is_rolling set.phase) ∙ sym (ap (λ (d : Durable). is_rolling d.phase) same) ∙ r) };
+        };
+        going = concerned_go s chunk asking h.stands k;
+        ready = λ still. record { rolling = ap (λ (d : Durable). is_rolling d.phase) same ∙ ap is_rolling set.phase ∙ still; known = ap (λ (d : Durable). is_some (fin.get d.chunks chunk)) same ∙ set.known };
+        exact = ap (λ (d : Durable). fin.get d.chunks chunk) same ∙ set.exact;
+        unasked = removed;
+      }
+
+  settled_good : (c : Chunk) (by : Answers) (carried : Bool) (moment : Moment) (view : View) → AreCounts by → view_by c asking by moment ≡ Some view → Good true s (settled_on s chunk asking carried view)
+  settled_good c by carried moment view told e =
+      let records = settling s.durable.phase (prepared_view s.durable chunk) carried chunk asking view in
+      let plan = settle_plan records chunk view in
+      let so = settles_so c by carried moment view told e in
       test_good true s (fits s.log records) (and_then (turned s plan) (all_go_on view (concerned s chunk asking.call))) (all_refused s chunk asking.call refusals.Full)
-      (λ _. then_good true s (turned s plan) (all_go_on view (concerned s chunk asking.call)) first
-      (by_rolling view (turned s plan).after first.holds (concerned_go s chunk asking h.stands k) (is_rolling s.durable.phase) refl
-      (λ still. record { rolling = ap (λ (d : Durable). is_rolling d.phase) same ∙ ap is_rolling set.phase ∙ still; known = ap (λ (d : Durable). is_some (fin.get d.chunks chunk)) same ∙ set.known })))
+      (λ _. then_good true s (turned s plan) (all_go_on view (concerned s chunk asking.call)) so.good
+      (by_rolling view (turned s plan).after so.good.holds so.going (is_rolling s.durable.phase) refl so.ready))
       (λ _. all_given_up true (requests_of (concerned s chunk asking.call)) refusals.Full s h)
     where
       by_rolling : (view : View) (next : State) → Holds true next → Going chunk next.volatile (concerned s chunk asking.call) → (b : Bool) → is_rolling s.durable.phase ≡ b → (is_rolling s.durable.phase ≡ false → Ready chunk next.durable) → Good true next (all_go_on view (concerned s chunk asking.call) next)
@@ -414,6 +432,11 @@ module _ (s : State) (chunk : ℕ) (asking : Asking) (h : Holds true s) (has : f
 -- ---- answers
 
 module _ (s : State) (h : Holds true s) where
+  -- what is asked now, once it was answered
+  pub asked_so : (chunk : ℕ) (asking new : Asking) → fin.get s.volatile.moving chunk ≡ Some asking → new.stamp ≡ asking.stamp → new.call ≡ asking.call → new.purpose ≡ asking.purpose → AreCounts new.answers → Good true s (turned s (ask_plan chunk new))
+  asked_so chunk asking new has stamp call purpose counts =
+      none_good true s (ask_plan chunk new) (ask s.durable s.volatile h.stands chunk new (sought_on s.durable s.volatile chunk asking new stamp call purpose counts (h.stands.asked chunk asking has))) (λ x r. h.rolling x r)
+
   heard_good : (chunk : ℕ) (c : Chunk) (asking : Asking) (b : Bool) (by : Answers) (carried : Bool) (moment : Moment) (step : Step) → fin.get s.volatile.moving chunk ≡ Some asking
       → AreCounts (if b then with_answers asking by else asking).answers → IsToldStep step → Good true s (heard s chunk c (if b then with_answers asking by else asking) carried moment step)
   heard_good chunk c asking b by carried moment step has told step_told = on (if b then with_answers asking by else asking) (stamps b) (calls_same b) (purposes_same b) told
@@ -433,7 +456,7 @@ module _ (s : State) (h : Holds true s) where
       on : (new : Asking) → new.stamp ≡ asking.stamp → new.call ≡ asking.call → new.purpose ≡ asking.purpose → AreCounts new.answers → Good true s (heard s chunk c new carried moment step)
       on new stamp call purpose counts =
           let plan = ask_plan chunk new in
-          let first = none_good true s plan (ask s.durable s.volatile h.stands chunk new (sought_on s.durable s.volatile chunk asking new stamp call purpose counts (h.stands.asked chunk asking has))) (λ x r. h.rolling x r) in
+          let first = asked_so chunk asking new has stamp call purpose counts in
           let now : fin.get (fin.insert s.volatile.moving chunk new) chunk ≡ Some new = fin.get-insert nat_cmp_total s.volatile.moving chunk new chunk ∙ ap (λ o. cond (is_eq o) (Some new) (fin.get s.volatile.moving chunk)) (tied_itself nat_cmp_total chunk) in
           then_good true s (turned s plan) (λ next. stepped next chunk c new carried moment step) first (stepped_good (turned s plan).after chunk new first.holds now c carried moment step step_told)
 

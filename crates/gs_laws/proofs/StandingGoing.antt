@@ -399,6 +399,25 @@ still_going : (chunk : ℕ) (v w : Volatile) (p : Pending) (ps : List Pending) �
 still_going chunk v w p [] o bare apart go = tt
 still_going chunk v w p (q ∷ ps) o bare apart go = (still_can chunk v w p q o bare apart.0 go.0, (go.1.0, still_going chunk v w p ps o bare apart.1 go.1.1))
 
+-- one goes on, and what the rest meets
+pub record GoesSo (chunk : ℕ) (view : View) (p : Pending) (calls : List Pending) (s : State) : Type 0 where
+  pub held : Holds true (goes_on s p.req view p.waits).after
+  pub going : Going chunk (goes_on s p.req view p.waits).after.volatile calls
+  pub ready : Ready chunk (goes_on s p.req view p.waits).after.durable
+  pub bare : is_snapshot p.waits ≡ true → (c : ℕ) → fin.get s.volatile.moving c ≡ None → fin.get (goes_on s p.req view p.waits).after.volatile.moving c ≡ None
+
+pub one_goes_so : (chunk : ℕ) (view : View) (p : Pending) (calls : List Pending) (s : State) → Holds true s → Going chunk s.volatile (p ∷ calls) → Ready chunk s.durable → GoesSo chunk view p calls s
+one_goes_so chunk view p calls s h go r =
+    let t = goes_on s p.req view p.waits in
+    let steps = on_steps chunk s p.req view p.waits (both_true (list_all is_visible (paths_of p.waits)) (may_wait_for chunk p.waits) go.0.can.0 go.0.may) r in
+    let so = goes_so chunk s p.req view p.waits h go.0 r in
+    record {
+      held = record { stands = so.stands; rolling = λ c k. absurd (true≢false (sym k ∙ steps.ready.rolling)) };
+      going = still_going chunk s.volatile t.after.volatile p calls so.others so.bare go.1.0 go.1.1;
+      ready = steps.ready;
+      bare = so.bare;
+    }
+
 pub all_going : (chunk : ℕ) (view : View) (calls : List Pending) (s : State) → Holds true s → Going chunk s.volatile calls → Ready chunk s.durable → Good true s (all_go_on view calls s)
 all_going chunk view [] s h go r = same_good true s (unmoved s) refl refl h
 all_going chunk view (p ∷ calls) s h go r =

@@ -10,6 +10,7 @@ ghost use Rattle.gs_state.specs.Checkpoints.{read_with};
 ghost use Rattle.gs_state.specs.Whole.{told_replies, whole_of};
 ghost use Rattle.gs_state.specs.declared.reply.KeptReply.{KeptReply};
 ghost use Rattle.gs_state.specs.Recorded.{SayAlone};
+ghost use Rattle.gs_laws.specs.Copying.{CopiesAtRest, StepsCopyAtRest};
 ghost use Rattle.gs_laws.specs.Counting.{CountsKnown, CountsViews, NewOrOut};
 ghost use Rattle.gs_laws.specs.Numbered.{LeadsToNumbers, RecordsKeepNumbers, TellsNumbers};
 ghost use Rattle.gs_laws.specs.Promises.{AllMessagesFit, AnswersExactly, BeginsWithAll, CallsFit, CallsKeep, CheckpointFits, CommitsExactly, IsToldAgain, KeepsAll, KeepsGiven, KeepsPrepared, LeadsBack, LeadsToKept, LockedElse, LockedExactly, MadeOfTheMost, MessagesFit, MessagesKeep, NothingAtTicks, NothingWhileRolling, PreparesByOneRecord, ProposesFresh, ProposesFreshAtTicks, RefusesInOrder, RefusedAtLocks, RefusedFits, RefusedLeavesAll, RollsBack, StartsWell, StepsAtTicksFit, TellsAll, TellsCounters};
@@ -126,6 +127,14 @@ pub fn a_firm_master_may_go_on()
 /// what the journal tells. Its records fit what they meet, and give what is durable afterwards.
 pub fn each_event_fits()
     ensures { EventsFit }
+{}
+
+/// Each server that a firm master tells to make a copy of a chunk, by whatever message and at each step of a tick, has the chunk by its
+/// settled view, whose stamp it is told; and in the state that is left the chunk is at rest: no other view of it is proposed, none has its
+/// lease, and nothing is asked for it.
+pub fn copies_on_write_are_of_chunks_at_rest()
+    ensures messages { CopiesAtRest }
+    ensures steps { StepsCopyAtRest }
 {}
 
 /// The chunks that placement counts are those that the master knows: in a firm master a settled chunk that stands in no file, and never did,
