@@ -126,22 +126,22 @@ since_checkpoint : (d now next : Durable) (entry : PlainEntry) → Since d now �
 unfolding applied
 since_checkpoint d now next entry s is e = subst (Since d) (durable_is (sym (tells_all now s.kept) ∙ ap (applied now) (sym is) ∙ e)) (since_tidied d now s)
 
-since_any : (d now next : Durable) (entry : PlainEntry) → Since d now → (goes_on_within entry ≡ true) ⊎ (entry ≡ Whole (checkpoint_of now)) → IsEntry Two entry → applied now entry ≡ Some next → Since d next
-since_any d now next entry s (inl within) written e = since_one d now next entry s within written e
-since_any d now next entry s (inr is) written e = since_checkpoint d now next entry s is e
+since_any : (d now next : Durable) (entry : PlainEntry) → Since d now → ((goes_on_within entry ≡ true) × IsEntry Two entry) ⊎ (entry ≡ Whole (checkpoint_of now)) → applied now entry ≡ Some next → Since d next
+since_any d now next entry s (inl within) e = since_one d now next entry s within.0 within.1 e
+since_any d now next entry s (inr is) e = since_checkpoint d now next entry s is e
 
-since_all : (d now last : Durable) (entries : List PlainEntry) → Since d now → GoWithin now entries → AllByRecursion (IsEntry Two) entries → replayed now entries ≡ Some last → Since d last
-since_all d now last [] s within written e = subst (Since d) (durable_is e) s
-since_all d now last (entry ∷ entries) s within written e = each (applied now entry) refl (λ n is rest. since_all d n last entries (since_any d now n entry s within.0 written.0 is) (within.1 n is) written.1 rest) e
+since_all : (d now last : Durable) (entries : List PlainEntry) → Since d now → GoWithin now entries → replayed now entries ≡ Some last → Since d last
+since_all d now last [] s within e = subst (Since d) (durable_is e) s
+since_all d now last (entry ∷ entries) s within e = each (applied now entry) refl (λ n is rest. since_all d n last entries (since_any d now n entry s within.0 is) (within.1 n is) rest) e
   where
     each : (o : Option Durable) → applied now entry ≡ o → ((n : Durable) → applied now entry ≡ Some n → replayed n entries ≡ Some last → Since d last) → option_and_then (λ n. replayed n entries) o ≡ Some last → Since d last
     each None is all h = absurd (false≢true (ap is_some h))
     each (Some n) is all h = all n is h
 
 -- records without a checkpoint are such
-go_within : (now : Durable) (entries : List PlainEntry) → list_all goes_on_within entries ≡ true → GoWithin now entries
-go_within now [] e = tt
-go_within now (entry ∷ entries) e = let parts = and_parts (goes_on_within entry) (list_all goes_on_within entries) e in (inl parts.0, λ next is. go_within next entries parts.1)
+go_within : (now : Durable) (entries : List PlainEntry) → list_all goes_on_within entries ≡ true → AllByRecursion (IsEntry Two) entries → GoWithin now entries
+go_within now [] e written = tt
+go_within now (entry ∷ entries) e written = let parts = and_parts (goes_on_within entry) (list_all goes_on_within entries) e in (inl (parts.0, written.0), λ next is. go_within next entries parts.1 written.1)
 
 prepared_phase : (d next : Durable) (epoch moment chunks : ℕ) → applied d (Prepare epoch moment chunks) ≡ Some next → is_ordinary next.phase ≡ false
 unfolding applied
@@ -231,9 +231,9 @@ commit_back d now next last answers s e =
     subst (λ n. IsRolledBack d n last answers) is.1 (back_to d now last answers s same tests.1)
 
 pub rolls_back_through : RollsBackThrough
-rolls_back_through d prepared rolling next epoch moment chunks last entries answers k begun within written between e =
-    commit_back d rolling next last answers (since_all d prepared rolling entries (since_prepare d prepared epoch moment chunks k begun) within written between) e
+rolls_back_through d prepared rolling next epoch moment chunks last entries answers k begun within between e =
+    commit_back d rolling next last answers (since_all d prepared rolling entries (since_prepare d prepared epoch moment chunks k begun) within between) e
 
 pub rolls_back : RollsBack
 rolls_back d prepared rolling next epoch moment chunks last entries answers k begun within written between e =
-    rolls_back_through d prepared rolling next epoch moment chunks last entries answers k begun (go_within prepared entries within) written between e
+    rolls_back_through d prepared rolling next epoch moment chunks last entries answers k begun (go_within prepared entries within written) between e

@@ -47,15 +47,15 @@ RunsRecoverFromLast = (config : Config) (log now : Log) (events : List Event) �
 
 -- ---- a rollback
 
--- records that go on within an upgrade, and among them checkpoints, each of what stands where it is written
+-- records that go on within an upgrade and can be written, and among them checkpoints, each of what stands where it is written
 abbrev pub GoWithin : Durable → List PlainEntry → Type 0
 GoWithin d [] = Unit {0}
-GoWithin d (entry ∷ entries) = ((goes_on_within entry ≡ true) ⊎ (entry ≡ Whole (checkpoint_of d))) × ((next : Durable) → applied d entry ≡ Some next → GoWithin next entries)
+GoWithin d (entry ∷ entries) = (((goes_on_within entry ≡ true) × IsEntry Two entry) ⊎ (entry ≡ Whole (checkpoint_of d))) × ((next : Durable) → applied d entry ≡ Some next → GoWithin next entries)
 
 -- also through these a rollback leads back to what was prepared
 abbrev pub RollsBackThrough : Type 0
 RollsBackThrough = (d prepared rolling next : Durable) (epoch moment chunks last : ℕ) (entries : List PlainEntry) (answers : List Answered) → IsKept d → applied d (Prepare epoch moment chunks) ≡ Some prepared
-    → GoWithin prepared entries → AllByRecursion (IsEntry Two) entries → replayed prepared entries ≡ Some rolling → applied rolling (RollbackCommit last answers) ≡ Some next →
+    → GoWithin prepared entries → replayed prepared entries ≡ Some rolling → applied rolling (RollbackCommit last answers) ≡ Some next →
     IsRolledBack d next last answers
 
 -- ---- examples
