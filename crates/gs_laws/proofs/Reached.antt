@@ -1,5 +1,5 @@
 -- A restart opens a firm master, of the records from the last checkpoint on.
-use Rattle.std.proofs.Common.{◌≡◌, ◌∙◌, ◌+◌, ◌&&◌, ◌||◌, ◌==◌, ℕ, Bool, true, false, List, [], ◌∷◌, refl, ap, sym, subst, arith}
+use Rattle.std.proofs.Common.{◌≡◌, ◌∙◌, ◌+◌, ◌&&◌, ◌||◌, ◌==◌, ◌++◌, ℕ, Bool, true, false, List, [], ◌∷◌, refl, ap, sym, subst, arith}
 use Rattle.std.specs.Prelude.{is_some, nat_lt, option_and_then, Option, Some, None, Result, Ok, Err, if◌then◌else◌}
 use Rattle.std.specs.FinMap as fin
 use Rattle.std.specs.List.{AllByRecursion, list_any}
@@ -22,15 +22,15 @@ use Rattle.gs_state.specs.State.{Log, State, Turn, and_then, first_of}
 use Rattle.gs_state.specs.Undoing.{all_undone, edited_names}
 use Rattle.gs_state.specs.Whole.{checkpoint_of}
 use Rattle.gs_laws.specs.Promises.{IsOfKept}
-use Rattle.gs_laws.specs.Reached.{OpensFirm, RecoversFirm, RunsRecoverFromLast, SameFromLast, from_last}
-use Rattle.gs_laws.specs.Standing.{AreCounters, IsFirm, run_of}
+use Rattle.gs_laws.specs.Reached.{DisksHold, OpensFirm, RecoversFirm, RunsRecoverFromLast, SameFromLast, from_last}
+use Rattle.gs_laws.specs.Standing.{AreCounters, IsFirm, run_of, turn_of}
 use Rattle.gs_laws.proofs.Beginnings.{fits_gives}
 use Rattle.gs_laws.proofs.Kept.{tells_counters}
 use Rattle.gs_laws.proofs.KeptAll.{leads_to_kept}
 use Rattle.gs_laws.proofs.KeptEdits.{forgets_only}
 use Rattle.gs_laws.proofs.StandingCheckpoints.{written_good}
 use Rattle.gs_laws.proofs.StandingRecords.{number_more}
-use Rattle.gs_laws.proofs.StandingRuns.{opens_firm, runs_fit, runs_recover}
+use Rattle.gs_laws.proofs.StandingRuns.{events_fit, opens_firm, runs_fit, runs_recover}
 use Rattle.gs_laws.proofs.StandingTurns.{Holds}
 
 -- ---- the counters that records tell are numbers
@@ -219,3 +219,12 @@ pub runs_recover_from_last : RunsRecoverFromLast
 runs_recover_from_last config log now events named =
     let t = run_of config (fresh log) events in
     same_from_last config versions.Two t.records now t.after.durable (runs_fit config log events named).fits ∙ runs_recover config log now events named
+
+both_replayed : (xs ys : List PlainEntry) (d e last : Durable) → replayed d xs ≡ Some e → replayed e ys ≡ Some last → replayed d (xs ++ ys) ≡ Some last
+both_replayed [] ys d e last a b = ap (λ x. replayed x ys) (durable_is a) ∙ b
+both_replayed (x ∷ xs) ys d e last a b =
+    let over = goes_over d x xs e a in ap (option_and_then (λ n. replayed n (xs ++ ys))) over.first ∙ both_replayed xs ys over.next e last over.rest b
+
+pub disks_hold : DisksHold
+disks_hold config held s event named firm holds =
+    let t = turn_of config s event in from_start (held ++ t.records) t.after.durable (both_replayed held t.records start s.durable t.after.durable holds (events_fit config s event named firm).fits)

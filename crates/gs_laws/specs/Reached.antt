@@ -1,5 +1,5 @@
 -- What a restart makes of what is kept, of which records it reads it, and what a rollback leads back to.
-use Rattle.std.specs.Prelude.{◌≡◌, ◌⊎◌, ℕ, true, List, [], ◌∷◌, Some, Ok, if◌then◌else◌, refl}
+use Rattle.std.specs.Prelude.{◌≡◌, ◌⊎◌, ◌++◌, ℕ, true, List, [], ◌∷◌, Some, Ok, if◌then◌else◌, refl}
 use Rattle.std.specs.List.{list_any, AllByRecursion}
 use Rattle.gs_base.specs.declared.config.Config.{Config}
 use Rattle.gs_journal.specs.declared.version.Version.{Version}
@@ -10,11 +10,11 @@ use Rattle.gs_record.specs.Writable.{IsEntry}
 use Rattle.gs_state.specs.Applied.{applied, is_whole_entry, records_behind, replayed}
 use Rattle.gs_state.specs.Durable.{Durable, start}
 use Rattle.gs_state.specs.Handling.{fresh, recover, reopened, restarted}
-use Rattle.gs_state.specs.State.{Log, Turn}
+use Rattle.gs_state.specs.State.{State, Log, Turn}
 use Rattle.gs_state.specs.Whole.{checkpoint_of}
 use Rattle.gs_record.specs.declared.entry.Answered.{Answered}
 use Rattle.gs_laws.specs.Promises.{IsKept, IsOfKept, IsRolledBack, goes_on_within}
-use Rattle.gs_laws.specs.Standing.{AreCounters, Event, IsFirm, IsNamed, run_of}
+use Rattle.gs_laws.specs.Standing.{AreCounters, Event, IsFirm, IsNamed, run_of, turn_of}
 
 -- ---- the master that is opened
 
@@ -44,6 +44,14 @@ SameFromLast = (config : Config) (version : Version) (entries : List PlainEntry)
 abbrev pub RunsRecoverFromLast : Type 0
 RunsRecoverFromLast = (config : Config) (log now : Log) (events : List Event) → AllByRecursion IsNamed events → let t = run_of config (fresh log) events in
     recover config Two (from_last t.records) now ≡ Ok (reopened config (restarted t.after.durable (record now { records = records_behind t.records })))
+
+-- So it is of a disk from event to event, also behind restarts: if what it holds comes to what is durable, so do what it held and the event's
+-- records behind it, from the last checkpoint on.
+abbrev pub HoldsDurable : List PlainEntry → State → Type 0
+HoldsDurable held s = replayed start held ≡ Some s.durable
+
+abbrev pub DisksHold : Type 0
+DisksHold = (config : Config) (held : List PlainEntry) (s : State) (event : Event) → IsNamed event → IsFirm s → HoldsDurable held s → let t = turn_of config s event in HoldsDurable (from_last (held ++ t.records)) t.after
 
 -- ---- a rollback
 

@@ -18,7 +18,7 @@ use Rattle.gs_state.specs.State.{State, Turn, and_then, fits, for_each, is_faile
 use Rattle.gs_state.specs.Upgrades.{told_of}
 use Rattle.gs_state.specs.Volatile.{with_restored}
 use Rattle.gs_tree.specs.Chunks.{visible_chunks_under}
-use Rattle.gs_laws.specs.Standing.{Event, turn_of}
+use Rattle.gs_laws.specs.Standing.{Event, run_of, turn_of}
 
 -- ---- room
 
@@ -38,10 +38,15 @@ StepsHaveRoom = (s : State) (moment : Moment) (proposal : ℕ × Stamp) → HasR
 abbrev pub TicksHaveRoom : Type 0
 TicksHaveRoom = (s : State) (moment : Moment) → HasRoom s (and_then (for_each s (proposals s) (pressed moment)) granted)
 
--- So no event takes the log beyond its limit, and none changes the limit.
+-- So no event takes the log beyond its limit, and none changes the limit,
 abbrev pub LogsStayWithin : Type 0
 LogsStayWithin = (config : Config) (s : State) (event : Event) → s.log.size ≤ s.log.limit →
     let now = (turn_of config s event).after.log in (now.size ≤ now.limit) × (now.limit ≡ s.log.limit)
+
+-- and so no run does.
+abbrev pub RunsStayWithin : Type 0
+RunsStayWithin = (config : Config) (events : List Event) (s : State) → s.log.size ≤ s.log.limit →
+    let now = (run_of config s events).after.log in (now.size ≤ now.limit) × (now.limit ≡ s.log.limit)
 
 -- ---- who has told of a chunk
 

@@ -14,9 +14,9 @@ ghost use Rattle.gs_laws.specs.Copying.{CopiesAtRest, StepsCopyAtRest};
 ghost use Rattle.gs_laws.specs.Counting.{CountsKnown, CountsViews, NewOrOut};
 ghost use Rattle.gs_laws.specs.Numbered.{LeadsToNumbers, RecordsKeepNumbers, TellsNumbers};
 ghost use Rattle.gs_laws.specs.Promises.{AllMessagesFit, AnswersExactly, BeginsWithAll, CallsFit, CallsKeep, CheckpointFits, CommitsExactly, IsToldAgain, KeepsAll, KeepsGiven, KeepsPrepared, LeadsBack, LeadsToKept, LockedElse, LockedExactly, MadeOfTheMost, MessagesFit, MessagesKeep, NothingAtTicks, NothingWhileRolling, PreparesByOneRecord, ProposesFresh, ProposesFreshAtTicks, RefusesInOrder, RefusedAtLocks, RefusedFits, RefusedLeavesAll, RollsBack, StartsWell, StepsAtTicksFit, TellsAll, TellsCounters};
-ghost use Rattle.gs_laws.specs.Reached.{OpensFirm, RecoversFirm, RollsBackThrough, RunsRecoverFromLast, SameFromLast};
+ghost use Rattle.gs_laws.specs.Reached.{DisksHold, OpensFirm, RecoversFirm, RollsBackThrough, RunsRecoverFromLast, SameFromLast};
 ghost use Rattle.gs_laws.specs.Resting.{PreparesExactly, TakesPrepares};
-ghost use Rattle.gs_laws.specs.Rooms.{LogsStayWithin, MessagesCopyStill, MessagesHaveRoom, OthersLeave, StepsHaveRoom, TellsAdd, TellsOf, TellsSince, TicksCopyStill, TicksHaveRoom, TicksLeave};
+ghost use Rattle.gs_laws.specs.Rooms.{LogsStayWithin, MessagesCopyStill, MessagesHaveRoom, OthersLeave, RunsStayWithin, StepsHaveRoom, TellsAdd, TellsOf, TellsSince, TicksCopyStill, TicksHaveRoom, TicksLeave};
 ghost use Rattle.gs_laws.specs.Standing.{EventsFit, FirmGoesOn, RunsFit, RunsRecover, StartsFirm};
 ghost use Rattle.gs_state.specs.Undoing.{EditsAsTold};
 
@@ -146,12 +146,13 @@ pub fn placement_counts_what_is_known()
 {}
 
 /// The records of every message are none, or have room in the log that it meets; so have those of each step of a tick, and of all its steps
-/// together. So no event takes the log beyond its limit, a checkpoint neither.
+/// together. So no event and no run takes the log beyond its limit, a checkpoint neither.
 pub fn each_event_has_room()
     ensures messages { MessagesHaveRoom }
     ensures steps { StepsHaveRoom }
     ensures ticks { TicksHaveRoom }
     ensures within { LogsStayWithin }
+    ensures runs { RunsStayWithin }
 {}
 
 /// Who has told that it has a chunk as it was sealed is who has said so in the epoch of the rollback that is begun, since it was begun: such
@@ -181,10 +182,12 @@ pub fn every_run_fits()
 {}
 
 /// A restart reads the records from the last checkpoint on, which is all that a disk holds, as it would read all: what it opens is the same,
-/// wherever all fit. So a restart at the end of any run from a new store opens what was durable, from these alone.
+/// wherever all fit. So a restart at the end of any run from a new store opens what was durable, from these alone; and from event to event, also behind restarts,
+/// what a disk holds comes to what is durable.
 pub fn a_restart_reads_the_last_checkpoint()
     ensures alike { SameFromLast }
     ensures runs { RunsRecoverFromLast }
+    ensures disks { DisksHold }
 {}
 
 /// The record of a checkpoint fits, and gives what stood but for chunks that stand in no file and never did.
