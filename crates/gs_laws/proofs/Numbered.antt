@@ -246,24 +246,36 @@ undone_numbers d next epoch answers None h back e = absurd (false≢true (ap is_
 undone_numbers d next epoch answers (Some names) h back e =
     subst HasNumbers (fits_gives (is_rolling d.phase && ((epoch == d.epoch) && are_answers (prepared_view d) (fin.entries names.refs) answers)) (rolled_back d answers names) next e).1 (none_back (rolled_back d answers names) refl (h.before names back))
 
-pub records_keep_numbers : RecordsKeepNumbers
+-- the paths of its edit are read, and its numbers those of a type
+abbrev pub IsToldIn : PlainEntry → Type 0
+IsToldIn (Edited by edit) = IsTold edit
+IsToldIn entry = Unit {0}
+
+told_in : (entry : PlainEntry) → IsEntry Two entry → IsToldIn entry
+told_in (Edited by edit) written = edit_told edit written.0.1
+told_in entry written = tt
+
+pub keeps_numbers : (entry : PlainEntry) → is_whole_entry entry ≡ false → (d next : Durable) → IsToldIn entry → IsKept d → HasNumbers d → applied d entry ≡ Some next → HasNumbers next
 unfolding applied
-records_keep_numbers (Edited by edit) other d next written k h e = edit_numbers d next by edit (edit_told edit written.0.1) k h e (edited_names edit d.names) refl e
-records_keep_numbers (Said to refusal) other d next written k h e = same_numbers (Said to refusal) d _ next k h refl refl e (fits_gives true _ next e).1 refl refl refl
-records_keep_numbers (Propose chunk version) other d next written k h e =
+keeps_numbers (Edited by edit) other d next told k h e = edit_numbers d next by edit told k h e (edited_names edit d.names) refl e
+keeps_numbers (Said to refusal) other d next told k h e = same_numbers (Said to refusal) d _ next k h refl refl e (fits_gives true _ next e).1 refl refl refl
+keeps_numbers (Propose chunk version) other d next told k h e =
     same_numbers (Propose chunk version) d (proposed d chunk version) next k h refl refl e (fits_gives (may_propose d.phase d.next_handle d.next_version chunk version (fin.get d.chunks chunk)) (proposed d chunk version) next e).1 refl refl refl
-records_keep_numbers (Settle v) other d next written k h e = same_numbers (Settle v) d (with_view d v) next k h refl refl e (fits_gives (may_be_settled d v) (with_view d v) next e).1 refl refl refl
-records_keep_numbers (Prepare epoch moment chunks) other d next written k h e =
+keeps_numbers (Settle v) other d next told k h e = same_numbers (Settle v) d (with_view d v) next k h refl refl e (fits_gives (may_be_settled d v) (with_view d v) next e).1 refl refl refl
+keeps_numbers (Prepare epoch moment chunks) other d next told k h e =
     let n = without_prepared (with_epoch d ends.Prepare Upgrade) in subst HasNumbers (fits_gives (is_ordinary d.phase && (is_next_epoch d.epoch epoch && are_at_rest d)) n next e).1 (none_back n refl h.now)
-records_keep_numbers (Finalize epoch) other d next written k h e =
+keeps_numbers (Finalize epoch) other d next told k h e =
     let n = without_prepared (with_epoch d ends.Finalize Ordinary) in subst HasNumbers (fits_gives (is_upgrade d.phase && is_next_epoch d.epoch epoch) n next e).1 (none_back n refl h.now)
-records_keep_numbers (RollbackBegin epoch) other d next written k h e =
+keeps_numbers (RollbackBegin epoch) other d next told k h e =
     let n = with_epoch d ends.Rollback Rolling in same_numbers (RollbackBegin epoch) d n next k h refl refl e (fits_gives (is_upgrade d.phase && is_next_epoch d.epoch epoch) n next e).1 refl refl refl
-records_keep_numbers (RollbackCommit epoch answers) other d next written k h e = undone_numbers d next epoch answers (all_undone d.inverses d.names) h refl e
-records_keep_numbers (Whole c) other d next written k h e = absurd (false≢true (sym other))
-records_keep_numbers (Holder chunk server) other d next written k h e =
+keeps_numbers (RollbackCommit epoch answers) other d next told k h e = undone_numbers d next epoch answers (all_undone d.inverses d.names) h refl e
+keeps_numbers (Whole c) other d next told k h e = absurd (false≢true (sym other))
+keeps_numbers (Holder chunk server) other d next told k h e =
     let n = record d { prepared = with_prepared d chunk (held_by server (prepared_view d chunk)) } in
     same_numbers (Holder chunk server) d n next k h refl refl e (fits_gives (is_upgrade d.phase && (nat_lt server 16 && is_some (prepared_view d chunk))) n next e).1 refl refl refl
+
+pub records_keep_numbers : RecordsKeepNumbers
+records_keep_numbers entry other d next written k h e = keeps_numbers entry other d next (told_in entry written) k h e
 
 -- ---- checkpoints
 
@@ -309,7 +321,7 @@ replay_numbered (entry ∷ entries) d last n own written e = by_first (applied d
     by_first (Some m) is rest h = rest m is h
 
 -- in a new store the root alone stands
-start_numbers : HasNumbers start
+pub start_numbers : HasNumbers start
 start_numbers = none_back start refl (λ q some. at_root q some)
   where
     at_root : (q : Path) → is_some (fin.get blank.tree q) ≡ true → list_all (is_numbered 1) q ≡ true

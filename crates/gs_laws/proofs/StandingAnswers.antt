@@ -26,7 +26,7 @@ use Rattle.gs_view.specs.Choice.{answer_of, answerers, greater, greatest, is_cou
 use Rattle.gs_view.specs.Spoken.{with_no, with_yes}
 use Rattle.gs_view.specs.declared.answers.Answers.{Answers}
 use Rattle.gs_edit.specs.View.{NamesView}
-use Rattle.gs_state.specs.Applied.{applied, follows_view, held_by, is_since, may_be_settled, replayed, with_view}
+use Rattle.gs_state.specs.Applied.{applied, follows_view, held_by, is_since, is_whole_entry, may_be_settled, replayed, with_view}
 use Rattle.gs_state.specs.Chunks.{Chunk, chunk_at, ends_copy, has_entry, has_yes, have_all_spoken, heard_no, heard_yes, hears, holder_records, is_holder, is_target, may_settle, once_spoken, proposed_in, sent_from, settling, source_in, step_after, step_at_tick, step_of_no, step_of_target, step_of_yes, target_of, view_by, with_answers}
 use Rattle.gs_state.specs.Durable.{Durable, is_given, is_rolling, is_upgrade, prepared_view, upgrade_epoch, with_prepared}
 use Rattle.gs_state.specs.Handling.{pressed, pressed_at, pressed_if}
@@ -52,7 +52,9 @@ use Rattle.gs_laws.proofs.ServersTold.{low_servers, servers_told}
 use Rattle.gs_laws.proofs.SettlingFits.{CanSettle, settling_fits, view_made}
 use Rattle.gs_laws.proofs.Standing.{apart_parts, ask, either_none, recorded, same_back, same_call, same_number, same_parts, same_self, settled}
 use Rattle.gs_laws.proofs.StandingGoing.{Apart, CanGo, Going, all_going, is_snapshot}
+use Rattle.gs_laws.specs.Numbered.{HasNumbers}
 use Rattle.gs_laws.proofs.Beginnings.{fits_gives}
+use Rattle.gs_laws.proofs.Numbered.{IsToldIn, keeps_numbers}
 use Rattle.gs_laws.proofs.StandingRecords.{holder_onto, settle_onto}
 use Rattle.gs_laws.proofs.StandingTurns.{Good, Holds, all_given_up, none_good, same_good, test_good, then_good}
 
@@ -339,6 +341,23 @@ views_stand (entry ∷ entries) d e v h names same all fit = by_first (applied d
     by_first None is rest r = absurd (false≢true (ap is_some r))
     by_first (Some n) is rest r = rest n is (stood entry n all.0 is) r
 
+views_numbers : (entries : List PlainEntry) (d e : Durable) (v : Volatile) → Stands d v → (names : NamesView) → d.names ≡ names → AllByRecursion (IsOfView names v) entries → replayed d entries ≡ Some e → HasNumbers d → HasNumbers e
+views_numbers [] d e v h names same all fit numbers = subst HasNumbers (some_is fit) numbers
+  where
+    some_is : {a c : Durable} → ◌≡◌ {A = Option Durable} (Some a) (Some c) → a ≡ c
+    some_is k = cc
+views_numbers (entry ∷ entries) d e v h names same all fit numbers = by_first (applied d entry) refl (λ n is k r m. views_numbers entries n e v k names (view_names names v entry d n all.0 is ∙ same) all.1 r m) fit
+  where
+    told : (x : PlainEntry) → IsOfView names v x → (is_whole_entry x ≡ false) × IsToldIn x
+    told (Settle view) of_view = (refl, tt)
+    told (Holder chunk server) of_view = (refl, tt)
+    told x of_view = absurd of_view
+
+    by_first : (o : Option Durable) → applied d entry ≡ o → ((n : Durable) → applied d entry ≡ Some n → Stands n v → replayed n entries ≡ Some e → HasNumbers n → HasNumbers e) → option_and_then (λ n. replayed n entries) o ≡ Some e → HasNumbers e
+    by_first None is rest r = absurd (false≢true (ap is_some r))
+    by_first (Some n) is rest r =
+        let so = told entry all.0 in rest n is (views_stand (entry ∷ []) d n v h names same (all.0, tt) (ap (option_and_then (λ x. Some x)) is)) r (keeps_numbers entry so.0 d n so.1 h.kept numbers is)
+
 settling_of : (names : NamesView) (v : Volatile) (phase : _) (prepared : _) (carried : Bool) (chunk : ℕ) (asking : Asking) (view : View) → IsToldView view → fin.get v.moving chunk ≡ None → (is_some (fin.get names.refs chunk) || is_member v.unplaced chunk) ≡ true
     → AllByRecursion (IsOfView names v) (settling phase prepared carried chunk asking view)
 settling_of names v phase prepared carried chunk asking view told none known = by_target (is_holder phase prepared carried asking view) (target_of asking.purpose)
@@ -391,6 +410,7 @@ module _ (s : State) (chunk : ℕ) (asking : Asking) (h : Holds true s) (has : f
       let stands = views_stand records s.durable set.after v (settled s.durable s.volatile h.stands chunk) s.durable.names refl (settling_of s.durable.names v s.durable.phase (prepared_view s.durable chunk) carried chunk asking view view_is removed k.known) set.is in
       record {
         good = record {
+          numbers = λ n. subst HasNumbers (sym same) (views_numbers records s.durable set.after v (settled s.durable s.volatile h.stands chunk) s.durable.names refl (settling_of s.durable.names v s.durable.phase (prepared_view s.durable chunk) carried chunk asking view view_is removed k.known) set.is n);
           fits = set.is ∙ ap Some (sym same);
           holds = record { stands = subst (λ d. Stands d v) (sym same) stands; rolling = λ x r. h.rolling refl (sym (ap is_rolling set.phase) ∙ sym (ap (λ (d : Durable). is_rolling d.phase) same) ∙ r) };
         };

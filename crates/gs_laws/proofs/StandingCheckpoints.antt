@@ -135,7 +135,7 @@ module _ (s : State) (h : Stands s.durable s.volatile) where
       told_listed chunk false some = absurd (false≢true some)
 
 pub written_good : (s : State) (refusal : Option Refusal) → Holds true s → Good true s (written_unless s refusal)
-written_good s None h = record { fits = (written_fits s None h.stands.kept).fits; holds = record { stands = tidied_stands s h.stands; rolling = λ c r. h.rolling c r } }
+written_good s None h = record { numbers = λ n. record { now = n.now; before = n.before }; fits = (written_fits s None h.stands.kept).fits; holds = record { stands = tidied_stands s h.stands; rolling = λ c r. h.rolling c r } }
 written_good s (Some refusal) h = same_good true s (met_by s refusal) refl refl h
 
 pub checkpoint_good : (s : State) → Holds true s → Good true s (checkpoint s)
@@ -146,4 +146,4 @@ pub due_good : (s : State) → Holds true s → Good true s (written_if_due s)
 due_good s h =
     let t = checkpoint s in
     let g = checkpoint_good s h in
-    test_good true s (due s) (record t { said = None }) (unmoved s) (λ _. record { fits = g.fits; holds = g.holds }) (λ _. same_good true s (unmoved s) refl refl h)
+    test_good true s (due s) (record t { said = None }) (unmoved s) (λ _. record { numbers = g.numbers; fits = g.fits; holds = g.holds }) (λ _. same_good true s (unmoved s) refl refl h)

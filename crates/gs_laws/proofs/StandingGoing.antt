@@ -19,9 +19,9 @@ use Rattle.gs_lease.specs.declared.view.Purpose.TheVariants as purposes
 use Rattle.gs_lease.specs.declared.view.View.{View}
 use Rattle.gs_msg.specs.declared.answer.Answer.{Answer}
 use Rattle.gs_msg.specs.declared.answer.Answer.TheVariants as answers
-use Rattle.gs_record.specs.Plain.{PlainEdit, AddChunk, Cow, Snapshot, Edited}
+use Rattle.gs_record.specs.Plain.{PlainEdit, AddChunk, Cow, Snapshot, Propose, Edited}
 use Rattle.gs_record.specs.Writable.{IsHandle, IsPath}
-use Rattle.gs_state.specs.Applied.{is_fresh, is_visible, may_edit, with_edit}
+use Rattle.gs_state.specs.Applied.{proposed, is_fresh, is_visible, may_edit, with_edit}
 use Rattle.gs_state.specs.Beginning.{begin_at, copy_plan, has_handle, has_versions, members_at, next_stamp, waits_on}
 use Rattle.gs_state.specs.Chunks.{asking_for, chunk_at, may_begin}
 use Rattle.gs_state.specs.Durable.{Durable, is_given, is_listed, is_rolling}
@@ -44,6 +44,8 @@ use Rattle.gs_laws.proofs.Fresh.{next_is_fresh, not_false}
 use Rattle.gs_laws.proofs.GoingOn.{Ready, left_true, may_place, on_steps, viewed}
 use Rattle.gs_laws.proofs.KeptEdits.{add_lists, cow_lists, edit_told}
 use Rattle.gs_laws.proofs.Spelled.{read_path}
+use Rattle.gs_laws.specs.Numbered.{HasNumbers}
+use Rattle.gs_laws.proofs.Numbered.{keeps_numbers}
 use Rattle.gs_laws.proofs.Standing.{NotAsked, end, fewer_out, keep, member_gone, now_answered, others_still, others_wait, put_out, recorded, same_call, same_number, same_parts, same_self, set_pending, set_so, set_wanted, wait, waits_now}
 use Rattle.gs_laws.proofs.StandingCalls.{answers_of}
 use Rattle.gs_laws.proofs.StandingRecords.{edit_onto}
@@ -103,6 +105,7 @@ pub record Stepped (req : ReqId) (waiting : Waiting) (s : State) (t : Turn) : Ty
   pub stands : Stands t.after.durable t.after.volatile
   pub others : Others req s.volatile t.after.volatile
   pub bare : is_snapshot waiting ≡ true → (c : ℕ) → fin.get s.volatile.moving c ≡ None → fin.get t.after.volatile.moving c ≡ None
+  pub numbers : HasNumbers s.durable → HasNumbers t.after.durable
 
 module _ (chunk : ℕ) (req : ReqId) (waiting : Waiting) where
   test_stepped : (s : State) (b : Bool) (t u : Turn) → (b ≡ true → Stepped req waiting s t) → (b ≡ false → Stepped req waiting s u) → Stepped req waiting s (if b then t else u)
@@ -111,13 +114,13 @@ module _ (chunk : ℕ) (req : ReqId) (waiting : Waiting) where
 
   given_stepped : (s : State) (refusal : Refusal) → Holds true s → Stepped req waiting s (ended_by s req refusal)
   given_stepped s refusal h =
-      let g = given_up true s req refusal h in record { stands = g.good.holds.stands; others = others_end req s.volatile (ended_by s req refusal).after.volatile g.pending g.fewer; bare = λ is c none. g.bare c none }
+      let g = given_up true s req refusal h in record { stands = g.good.holds.stands; others = others_end req s.volatile (ended_by s req refusal).after.volatile g.pending g.fewer; bare = λ is c none. g.bare c none; numbers = g.good.numbers }
 
   room_stepped : (s : State) (t : Turn) → Holds true s → Stepped req waiting s t → Stepped req waiting s (if_room_for s req t)
   room_stepped s t h a = test_stepped s (fits s.log t.records) t (ended_by s req refusals.Full) (λ _. a) (λ _. given_stepped s refusals.Full h)
 
   same_stepped : (s : State) → Holds true s → Stepped req waiting s (unmoved s)
-  same_stepped s h = record { stands = h.stands; others = record { waits = λ q f other. refl; asks = λ q other out. out }; bare = λ is c none. none }
+  same_stepped s h = record { stands = h.stands; others = record { waits = λ q f other. refl; asks = λ q other out. out }; bare = λ is c none. none; numbers = λ n. n }
 
   -- a call that is answered, for which nothing is asked
   record Answers_left (s : State) (w : Volatile) : Type 0 where
@@ -134,7 +137,7 @@ module _ (chunk : ℕ) (req : ReqId) (waiting : Waiting) where
 
   answered_stepped : (s : State) (answer : Answer) → Holds true s → NotAsked s.volatile req → Stepped req waiting s (ended_with s req answer)
   answered_stepped s answer h none =
-      let l = by_test (is_later (last_reply s req.client) req.number) refl in record { stands = l.stands; others = l.others; bare = λ is c out. l.bare c out }
+      let l = by_test (is_later (last_reply s req.client) req.number) refl in record { stands = l.stands; others = l.others; bare = λ is c out. l.bare c out; numbers = λ n. n }
     where
       reply : KeptReply
       reply = record { number = req.number; result = Ok answer }
@@ -191,6 +194,7 @@ module _ (chunk : ℕ) (req : ReqId) (waiting : Waiting) where
             ),
           )) in
           room_stepped s (turned s (edit_plan req edit answers.Nothing [])) h (record {
+            numbers = λ n. subst (λ o. HasNumbers (unwrap_or o s.durable)) (sym fit) (keeps_numbers (Edited req edit) refl s.durable next (edit_told edit told) h.stands.kept n fit);
             stands = subst (λ o. Stands (unwrap_or o s.durable) (changed v (changes.End req))) (sym fit) ended;
             others = others_end req v (changed v (changes.End req)) refl (λ q out. out);
             bare = λ is c none. none;
@@ -232,6 +236,7 @@ module _ (chunk : ℕ) (req : ReqId) (waiting : Waiting) where
           (record { asked = λ q some. refl; placed = λ q here k. false≢true (sym (member_gone s.durable s.volatile h.stands s.volatile.unplaced new) ∙ ap (is_member (without_handle s.volatile.unplaced new)) (number_is k) ∙ here) }) fit) placed in
           let on = back_in next w new s.volatile.taken_out into (add_lists path new s.durable.names names e) in
           room_stepped s (turned s (edit_plan req edit answer (changes.Place new ∷ []))) h (record {
+            numbers = λ n. subst (λ o. HasNumbers (unwrap_or o s.durable)) (sym fit) (keeps_numbers (Edited req edit) refl s.durable next (edit_told edit (told, handle)) h.stands.kept n fit);
             stands = subst (λ o. Stands (unwrap_or o s.durable) (changed w (changes.End req))) (sym fit) (end req next w on (λ c a has call. absurd (true≢false (sym call ∙ none c a has))));
             others = others_end req s.volatile (changed w (changes.End req)) refl (λ q out. out);
             bare = λ is. absurd (true≢false (sym is ∙ other));
@@ -273,6 +278,7 @@ module _ (chunk : ℕ) (req : ReqId) (waiting : Waiting) where
       let stands = proposed_new s.durable w purposes.Quiet view.members (Some req) waited r.rolling parts.1 parts.0 (waits_wanted v next new purposes.Quiet h.stands.apart (eqb_itself new) refl here s.durable) made in
       let asking = asking_for (next_stamp s.durable) purposes.Quiet view.members (Some req) in
       room_stepped s (turned s plan) h (record {
+        numbers = λ n. subst (λ o. HasNumbers (unwrap_or o s.durable)) (sym fit) (keeps_numbers (Propose new s.durable.next_version) refl s.durable (proposed s.durable new s.durable.next_version) tt h.stands.kept n fit);
         stands = subst (λ o. Stands (unwrap_or o s.durable) (changed (changed w (changes.Enter new)) (changes.Ask new asking))) (sym fit) stands;
         others = others_waits req next v (changed (changed w (changes.Enter new)) (changes.Ask new asking)) new asking refl refl refl;
         bare = λ is. absurd (true≢false (sym is ∙ other));
@@ -297,6 +303,7 @@ module _ (chunk : ℕ) (req : ReqId) (waiting : Waiting) where
       let stands = proposed_settled s.durable w purposes.Lease members (Some req) waited rolling some new known (or_left (is_listed s.durable new) (is_member v.unplaced new) listed) (inl listed) (waits_wanted v next new purposes.Lease h.stands.apart (eqb_itself new) refl here s.durable) in
       let asking = asking_for (next_stamp s.durable) purposes.Lease members (Some req) in
       room_stepped s (turned s plan) h (record {
+        numbers = λ n. subst (λ o. HasNumbers (unwrap_or o s.durable)) (sym fit) (keeps_numbers (Propose new s.durable.next_version) refl s.durable (proposed s.durable new s.durable.next_version) tt h.stands.kept n fit);
         stands = subst (λ o. Stands (unwrap_or o s.durable) (changed w (changes.Ask new asking))) (sym fit) stands;
         others = others_waits req next v (changed w (changes.Ask new asking)) new asking refl refl refl;
         bare = λ is. absurd (true≢false (sym is ∙ other));
@@ -331,7 +338,7 @@ module _ (chunk : ℕ) (req : ReqId) (waiting : Waiting) where
           let rest = leased_stepped after path index new told visible held none here other (ap (λ o. is_rolling (unwrap_or o s.durable).phase) fit ∙ r.rolling)
           (ap (λ o. is_settled (unwrap_or o s.durable) new) fit ∙ ap (is_settled s.durable) same ∙ r.known) (ap (λ o. is_listed (unwrap_or o s.durable) new) fit ∙ cow_lists path index old new s.durable.names names e) in
           test_stepped s (fits s.log (Edited own_request edit ∷ [])) (and_then (turned s plan) then_lease) (ended_by s req refusals.Full)
-          (λ _. record { stands = rest.stands; others = record { waits = λ q f out. rest.others.waits q f out; asks = λ q out k. rest.others.asks q out k }; bare = λ is. absurd (true≢false (sym is ∙ other)) })
+          (λ _. record { numbers = λ n. rest.numbers (subst (λ o. HasNumbers (unwrap_or o s.durable)) (sym fit) (keeps_numbers (Edited own_request edit) refl s.durable next (read_path path told.1) h.stands.kept n fit)); stands = rest.stands; others = record { waits = λ q f out. rest.others.waits q f out; asks = λ q out k. rest.others.asks q out k }; bare = λ is. absurd (true≢false (sym is ∙ other)) })
           (λ _. given_stepped s refusals.Full h)
         where
           number_is : {a b : ℕ} → ◌≡◌ {A = Option ℕ} (Some a) (Some b) → a ≡ b
@@ -425,5 +432,5 @@ all_going chunk view (p ∷ calls) s h go r =
     let steps = on_steps chunk s p.req view p.waits (both_true (list_all is_visible (paths_of p.waits)) (may_wait_for chunk p.waits) go.0.can.0 go.0.may) r in
     let so = goes_so chunk s p.req view p.waits h go.0 r in
     let held : Holds true t.after = record { stands = so.stands; rolling = λ c k. absurd (true≢false (sym k ∙ steps.ready.rolling)) } in
-    then_good true s t (all_go_on view calls) (record { fits = steps.goes.fits; holds = held })
+    then_good true s t (all_go_on view calls) (record { numbers = so.numbers; fits = steps.goes.fits; holds = held })
     (all_going chunk view calls t.after held (still_going chunk s.volatile t.after.volatile p calls so.others so.bare go.1.0 go.1.1) steps.ready)

@@ -54,7 +54,9 @@ use Rattle.gs_laws.specs.Standing.{RunsRecover, AreCounters, CanWait, FirmGoesOn
 use Rattle.gs_laws.proofs.Accepted.{may_so, unhide_well}
 use Rattle.gs_laws.proofs.AcceptedCalls.{Passes, left_false, one_visible, passes, two_visible}
 use Rattle.gs_laws.proofs.AcceptedViews.{filter_holds, is_settled}
+use Rattle.gs_laws.specs.Numbered.{EventsKeepNumbers, RunsKeepNumbers}
 use Rattle.gs_laws.proofs.KeptAll.{start_kept}
+use Rattle.gs_laws.proofs.Numbered.{start_numbers}
 use Rattle.gs_laws.proofs.Standing.{restored}
 use Rattle.gs_laws.proofs.StandingAnswers.{pressed_good, promised_good, unpromised_good}
 use Rattle.gs_laws.proofs.StandingCalls.{deleted_good, extends_good, found_good, most_good, plain_good, snapshot_if_good}
@@ -287,7 +289,7 @@ event_good : (config : Config) (event : Event) (s : State) → IsNamed event →
 event_good config (Comes message moment) s named h = message_good s h config message moment named.0 named.1
 event_good config (Ticks moment) s named h = tick_good s moment h
 event_good config Renews s named h = checkpoint_good s h
-event_good config Restarts s named h = let f = opens_firm s.durable s.log h.stands.kept h.stands.counters in record { fits = refl; holds = record { stands = f.stands; rolling = λ c r. f.rolling r } }
+event_good config Restarts s named h = let f = opens_firm s.durable s.log h.stands.kept h.stands.counters in record { numbers = λ n. n; fits = refl; holds = record { stands = f.stands; rolling = λ c r. f.rolling r } }
 
 pub events_fit : EventsFit
 events_fit config s event named firm = firm_of s (turn_of config s event) (event_good config event s named (holds_of s firm))
@@ -299,6 +301,12 @@ run_good config (event ∷ events) s named h =
 
 pub runs_fit : RunsFit
 runs_fit config log events named = firm_of (fresh log) (run_of config (fresh log) events) (run_good config events (fresh log) named (holds_of (fresh log) (starts_firm log)))
+
+pub events_keep_numbers : EventsKeepNumbers
+events_keep_numbers config s event named firm = (event_good config event s named (holds_of s firm)).numbers
+
+pub runs_keep_numbers : RunsKeepNumbers
+runs_keep_numbers config log events named = (run_good config events (fresh log) named (holds_of (fresh log) (starts_firm log))).numbers start_numbers
 
 -- ---- what is firm may go on
 

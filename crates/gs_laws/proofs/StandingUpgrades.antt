@@ -51,6 +51,8 @@ use Rattle.gs_laws.proofs.Fresh.{not_false}
 use Rattle.gs_laws.proofs.KeptEdits.{AnswersTold}
 use Rattle.gs_laws.proofs.KeptEpochs.{commit_kept_by}
 use Rattle.gs_laws.proofs.KeptRecords.{as_next}
+use Rattle.gs_laws.specs.Numbered.{HasNumbers}
+use Rattle.gs_laws.proofs.Numbered.{keeps_numbers}
 use Rattle.gs_laws.proofs.Standing.{Onto, fewer_out, prepare, recorded, rolled, forget, same_call, same_self}
 use Rattle.gs_laws.proofs.StandingRecords.{MayStand, begin_onto, edit_onto, finalize_onto, prepare_onto}
 use Rattle.gs_laws.proofs.StandingTurns.{Good, Holds, all_given_up, answered_good, answered_last, edited_phase, given_up, none_good, one_good, refused_good, room_good, test_good, then_good}
@@ -240,7 +242,7 @@ commit_good config s req moment h =
     let over = prepare s.durable s.volatile h.stands false (λ p. absurd (false≢true p)) in
     let stands = recorded s.durable e w (prepare_onto s.durable e w (s.durable.epoch + 1) moment.0 (chunk_count s) over (none_moves s h.stands quiet) refl fit) over in
     let l = answered_last true s e req (answers.Epoch (s.durable.epoch + 1)) (changes.Prepare false ∷ []) refl refl stands in
-    one_good true s entry plan e fit l.0 (λ c r. absurd (false≢true r)))
+    one_good true s entry plan e fit l.0 (λ c r. absurd (false≢true r)) (λ n. keeps_numbers entry refl s.durable e tt h.stands.kept n fit))
 
 pub abort_good : (s : State) (req : ReqId) → Holds true s → Good true s (prepare_abort s req)
 abort_good s req h =
@@ -259,7 +261,7 @@ finalize_good config s req h =
     (λ passed.
     let fit = finalize_fits s.durable h.stands.kept passed in
     let l = answered_last true s e req (answers.Epoch (s.durable.epoch + 1)) [] refl refl (recorded s.durable e s.volatile (finalize_onto s.durable e s.volatile (s.durable.epoch + 1) h.stands fit) h.stands) in
-    one_good true s entry plan e fit l.0 (λ c r. absurd (false≢true r)))
+    one_good true s entry plan e fit l.0 (λ c r. absurd (false≢true r)) (λ n. keeps_numbers entry refl s.durable e tt h.stands.kept n fit))
 
 pub begin_good : (config : Config) (s : State) (req : ReqId) → Holds true s → Good true s (rollback_begin config s req)
 begin_good config s req h =
@@ -274,13 +276,13 @@ begin_good config s req h =
     unless_good s req (and_then (and_then begins ended) accept) (first_of (end_tests s.durable.phase (is_last_epoch s.durable))) h
     (λ passed.
     let fit = begin_fits s.durable h.stands.kept passed in
-    let first = one_good false s entry plan e fit (recorded s.durable e s.volatile (begin_onto s.durable e s.volatile (s.durable.epoch + 1) h.stands fit) h.stands) (λ c r. absurd (false≢true c)) in
+    let first = one_good false s entry plan e fit (recorded s.durable e s.volatile (begin_onto s.durable e s.volatile (s.durable.epoch + 1) h.stands fit) h.stands) (λ c r. absurd (false≢true c)) (λ n. keeps_numbers entry refl s.durable e tt h.stands.kept n fit) in
     let second = all_given_up false reqs refusals.RollingBack begins.after first.holds in
     let two = then_good false s begins ended first second in
     let next = (and_then begins ended).after in
     let l = answered_last false next next.durable req (answers.Epoch (s.durable.epoch + 1)) [] refl refl two.holds.stands in
     let all = then_good false s (and_then begins ended) accept two (none_good false next (last next) l.0 (λ c r. absurd (false≢true c))) in
-    record { fits = all.fits; holds = record { stands = all.holds.stands; rolling = λ c r. l.1 ∙ ended_pending false reqs refusals.RollingBack begins.after first.holds ∙ none_waits s.volatile.pending } })
+    record { numbers = all.numbers; fits = all.fits; holds = record { stands = all.holds.stands; rolling = λ c r. l.1 ∙ ended_pending false reqs refusals.RollingBack begins.after first.holds ∙ none_waits s.volatile.pending } })
 
 -- ---- a rollback is committed
 
@@ -339,7 +341,7 @@ module _ (s : State) (req : ReqId) (h : Holds true s) (begun : is_rolling s.dura
       let stands = fewer_out e wide on s.volatile.taken_out (λ q here. list_any-append (λ m. m == q) s.volatile.unplaced s.volatile.taken_out ∙ or_any (is_member s.volatile.unplaced q) (is_member s.volatile.taken_out q) here)
       (λ q some. ap (λ b. b || (is_member w.unplaced q || is_member s.volatile.taken_out q)) (listed q some)) in
       let l = answered_last true s e req (answers.Epoch s.durable.epoch) (changes.RolledBack ∷ []) refl refl stands in
-      room_good true s req (turned s plan) h (one_good true s entry plan e fit l.0 (λ c r. absurd (false≢true r)))
+      room_good true s req (turned s plan) h (one_good true s entry plan e fit l.0 (λ c r. absurd (false≢true r)) (λ n. keeps_numbers entry refl s.durable e tt h.stands.kept n fit))
 
   commit_on_good : (names : Option NamesView) → all_undone s.durable.inverses s.durable.names ≡ names → Good true s (commit_on s req names)
   commit_on_good None back = refused_good true s req refusals.BadLine h
@@ -368,6 +370,17 @@ own_stand (edit ∷ edits) d e v h all fit = by_first (applied d (Edited own_req
     by_first : (o : Option Durable) → applied d (Edited own_request edit) ≡ o → ((n : Durable) → Stands n v → replayed n (own_edits edits) ≡ Some e → Stands e v) → option_and_then (λ n. replayed n (own_edits edits)) o ≡ Some e → Stands e v
     by_first None is rest r = absurd (false≢true (ap is_some r))
     by_first (Some n) is rest r = rest n (recorded d n v (edit_onto d n v own_request edit h all.0.told (all.0.silent d) all.0.may is) h) r
+
+own_numbers : (edits : List PlainEdit) (d e : Durable) (v : Volatile) → Stands d v → AllByRecursion (IsOwn v) edits → replayed d (own_edits edits) ≡ Some e → HasNumbers d → HasNumbers e
+own_numbers [] d e v h all fit numbers = subst HasNumbers (some_is fit) numbers
+  where
+    some_is : {a c : Durable} → ◌≡◌ {A = Option Durable} (Some a) (Some c) → a ≡ c
+    some_is k = cc
+own_numbers (edit ∷ edits) d e v h all fit numbers = by_first (applied d (Edited own_request edit)) refl (λ n k r m. own_numbers edits n e v k all.1 r m) fit
+  where
+    by_first : (o : Option Durable) → applied d (Edited own_request edit) ≡ o → ((n : Durable) → Stands n v → replayed n (own_edits edits) ≡ Some e → HasNumbers n → HasNumbers e) → option_and_then (λ n. replayed n (own_edits edits)) o ≡ Some e → HasNumbers e
+    by_first None is rest r = absurd (false≢true (ap is_some r))
+    by_first (Some n) is rest r = rest n (recorded d n v (edit_onto d n v own_request edit h all.0.told (all.0.silent d) all.0.may is) h) r (keeps_numbers (Edited own_request edit) refl d n all.0.told h.kept numbers is)
 
 own_phase : (edits : List PlainEdit) (d e : Durable) → replayed d (own_edits edits) ≡ Some e → e.phase ≡ d.phase
 own_phase [] d e fit = ap (λ (x : Durable). x.phase) (sym (some_is fit))
@@ -403,7 +416,7 @@ scans_good s req moment h rolling =
     let plan = scan_plan removed forgotten in
     let w = changed s.volatile (changes.Forget forgotten) in
     let stands = own_stand (scan_edits removed forgotten) s.durable fit.next w (forget s.durable s.volatile h.stands forgotten) (scan_own removed forgotten w (λ q some. (kept_out forgotten s.volatile.moving q some).0)) fit.is in
-    let first : Good true s (turned s plan) = record { fits = fit.is ∙ ap Some (sym same); holds = record { stands = subst (λ d. Stands d w) (sym same) stands; rolling = λ c r. absurd (true≢false (sym r ∙ ap (λ (d : Durable). is_rolling d.phase) same ∙ ap is_rolling (own_phase (scan_edits removed forgotten) s.durable fit.next fit.is) ∙ rolling)) } } in
+    let first : Good true s (turned s plan) = record { numbers = λ n. subst HasNumbers (sym same) (own_numbers (scan_edits removed forgotten) s.durable fit.next w (forget s.durable s.volatile h.stands forgotten) (scan_own removed forgotten w (λ q some. (kept_out forgotten s.volatile.moving q some).0)) fit.is n); fits = fit.is ∙ ap Some (sym same); holds = record { stands = subst (λ d. Stands d w) (sym same) stands; rolling = λ c r. absurd (true≢false (sym r ∙ ap (λ (d : Durable). is_rolling d.phase) same ∙ ap is_rolling (own_phase (scan_edits removed forgotten) s.durable fit.next fit.is) ∙ rolling)) } } in
     let ended : State → Turn = λ next. all_ended_by next (waiting_for s forgotten) refusals.NoReplica in
     let answer : State → Turn = λ next. answered_with next req (answers.Scanned (length removed) (length forgotten)) in
     let second = all_given_up true (waiting_for s forgotten) refusals.NoReplica (turned s plan).after first.holds in

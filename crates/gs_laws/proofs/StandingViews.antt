@@ -37,6 +37,7 @@ use Rattle.gs_laws.proofs.Fresh.{next_is_fresh, not_false, left_after}
 use Rattle.gs_laws.proofs.KeptRecords.{proposed_some}
 use Rattle.gs_laws.proofs.Standing.{ask, begin, enter, fresh_call, recorded, same_call, same_parts, same_self}
 use Rattle.gs_laws.proofs.StandingRecords.{number_more, propose_onto}
+use Rattle.gs_laws.proofs.Numbered.{keeps_numbers}
 use Rattle.gs_laws.proofs.StandingTurns.{Good, Holds, one_good, refused_good, room_good, same_good, test_good, then_good}
 
 -- ---- numbers
@@ -297,7 +298,8 @@ module _ (b : Bool) (s : State) (req : ReqId) (h : Holds b s) (may : MayBegin s 
       (one_good b s (Propose chunk s.durable.next_version) plan (proposed s.durable chunk s.durable.next_version) (proposes s.durable chunk zero may.rolling some (or_left (is_settled s.durable chunk) (is_fresh s.durable.next_handle chunk) known))
       (proposed_settled s.durable (changed s.volatile (changes.Begin (waiting_call waiting))) purpose (members_at (chunk_at s chunk)) (Some req) (begun_call waiting can) may.rolling some chunk known (or_left (is_listed s.durable chunk) (is_member s.volatile.unplaced chunk) listed) (inl listed)
       (for_begun s.durable s.volatile (waiting_call waiting) chunk purpose may.out right asks))
-      (not_rolling (proposed s.durable chunk s.durable.next_version) refl)))
+      (not_rolling (proposed s.durable chunk s.durable.next_version) refl)
+      (λ n. keeps_numbers (Propose chunk s.durable.next_version) refl s.durable (proposed s.durable chunk s.durable.next_version) tt h.stands.kept n (proposes s.durable chunk zero may.rolling some (or_left (is_settled s.durable chunk) (is_fresh s.durable.next_handle chunk) known)))))
 
   -- and so is one of a new chunk
   pub begins_new_good : (plan : Plan) (members : List ℕ) (waiting : Waiting) → may_wait_for s.durable.next_handle waiting ≡ true → makes s.durable.next_handle waiting ≡ true → (has_handle s.durable ≡ true → IsToldWaiting waiting) → list_all is_visible (paths_of waiting) ≡ true
@@ -314,7 +316,8 @@ module _ (b : Bool) (s : State) (req : ReqId) (h : Holds b s) (may : MayBegin s 
       (one_good b s (Propose new s.durable.next_version) whole (proposed s.durable new s.durable.next_version) (proposes s.durable new zero may.rolling some (or_right (is_settled s.durable new) (is_fresh new new) (next_is_fresh new 1 (omega arith) one)))
       (proposed_new s.durable (changed s.volatile (changes.Begin (waiting_call waiting))) purposes.Quiet members (Some req) (begun_call waiting (visible, told one)) may.rolling some one
       (for_begun s.durable s.volatile (waiting_call waiting) new purposes.Quiet may.out right refl) (made_begun s.volatile (waiting_call waiting) new makes_it))
-      (not_rolling (proposed s.durable new s.durable.next_version) refl))))
+      (not_rolling (proposed s.durable new s.durable.next_version) refl)
+      (λ n. keeps_numbers (Propose new s.durable.next_version) refl s.durable (proposed s.durable new s.durable.next_version) tt h.stands.kept n (proposes s.durable new zero may.rolling some (or_right (is_settled s.durable new) (is_fresh new new) (next_is_fresh new 1 (omega arith) one)))))))
 
 -- ---- several are begun
 
@@ -341,7 +344,7 @@ module _ (b : Bool) where
       let next = proposed s.durable chunk s.durable.next_version in
       let fit = proposes s.durable chunk (length many) a.rolling a.left (or_left (is_settled s.durable chunk) (is_fresh s.durable.next_handle chunk) here.0) in
       let stands = proposed_settled s.durable s.volatile purpose (members_at (chunk_at s chunk)) call h.stands a.rolling some chunk here.0 here.1 (first_owned a.owned) (a.for chunk) in
-      let one = one_good b s (Propose chunk s.durable.next_version) (begin_at s chunk purpose call) next fit stands (λ c r. h.rolling c r) in
+      let one = one_good b s (Propose chunk s.durable.next_version) (begin_at s chunk purpose call) next fit stands (λ c r. h.rolling c r) (λ n. keeps_numbers (Propose chunk s.durable.next_version) refl s.durable next tt h.stands.kept n fit) in
       then_good b s (begun s chunk purpose call) (λ after. all_begun after many purpose call) one
       (all_begun_good many purpose call (begun s chunk purpose call).after one.holds (record {
         rolling = ap (λ o. is_rolling (unwrap_or o s.durable).phase) fit ∙ a.rolling;

@@ -12,7 +12,11 @@ use Rattle.gs_state.specs.Applied.{applied, is_whole_entry, replayed}
 use Rattle.gs_state.specs.Durable.{Durable, is_given, start}
 use Rattle.gs_state.specs.Undoing.{all_undone}
 use Rattle.gs_state.specs.Whole.{checkpoint_of}
+use Rattle.gs_base.specs.declared.config.Config.{Config}
+use Rattle.gs_state.specs.Handling.{fresh}
+use Rattle.gs_state.specs.State.{State, Log}
 use Rattle.gs_laws.specs.Promises.{IsKept}
+use Rattle.gs_laws.specs.Standing.{Event, IsFirm, IsNamed, run_of, turn_of}
 
 -- the number that a hidden name tells was given; any other name tells none
 abbrev pub is_numbered : ℕ → Name → Bool
@@ -50,6 +54,16 @@ IsOfNumbered entry = Unit {0}
 -- So it is of whatever such records lead to from a new store.
 abbrev pub LeadsToNumbers : Type 0
 LeadsToNumbers = (entries : List PlainEntry) (d : Durable) → AllByRecursion IsOfNumbered entries → AllByRecursion (IsEntry Two) entries → replayed start entries ≡ Some d → HasNumbers d
+
+-- ---- events
+
+-- each event of a firm master keeps it
+abbrev pub EventsKeepNumbers : Type 0
+EventsKeepNumbers = (config : Config) (s : State) (event : Event) → IsNamed event → IsFirm s → HasNumbers s.durable → HasNumbers (turn_of config s event).after.durable
+
+-- So it is at the end of every run from a new store.
+abbrev pub RunsKeepNumbers : Type 0
+RunsKeepNumbers = (config : Config) (log : Log) (events : List Event) → AllByRecursion IsNamed events → HasNumbers (run_of config (fresh log) events).after.durable
 
 -- ---- examples
 

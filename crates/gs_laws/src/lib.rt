@@ -12,7 +12,7 @@ ghost use Rattle.gs_state.specs.declared.reply.KeptReply.{KeptReply};
 ghost use Rattle.gs_state.specs.Recorded.{SayAlone};
 ghost use Rattle.gs_laws.specs.Copying.{CopiesAtRest, StepsCopyAtRest};
 ghost use Rattle.gs_laws.specs.Counting.{CountsKnown, CountsViews, NewOrOut};
-ghost use Rattle.gs_laws.specs.Numbered.{LeadsToNumbers, RecordsKeepNumbers, TellsNumbers};
+ghost use Rattle.gs_laws.specs.Numbered.{EventsKeepNumbers, LeadsToNumbers, RecordsKeepNumbers, RunsKeepNumbers, TellsNumbers};
 ghost use Rattle.gs_laws.specs.Promises.{AllMessagesFit, AnswersExactly, BeginsWithAll, CallsFit, CallsKeep, CheckpointFits, CommitsExactly, IsToldAgain, KeepsAll, KeepsGiven, KeepsPrepared, LeadsBack, LeadsToKept, LockedElse, LockedExactly, MadeOfTheMost, MessagesFit, MessagesKeep, NothingAtTicks, NothingWhileRolling, PreparesByOneRecord, ProposesFresh, ProposesFreshAtTicks, RefusesInOrder, RefusedAtLocks, RefusedFits, RefusedLeavesAll, RollsBack, StartsWell, StepsAtTicksFit, TellsAll, TellsCounters};
 ghost use Rattle.gs_laws.specs.Reached.{DisksHold, OpensFirm, RecoversFirm, RollsBackThrough, RunsRecoverFromLast, SameFromLast};
 ghost use Rattle.gs_laws.specs.Resting.{PreparesExactly, TakesPrepares};
@@ -207,12 +207,14 @@ pub fn counters_never_fall()
 {}
 
 /// The number that each standing hidden name tells was given, now and in the names to which a rollback would lead back: each record that can
-/// be written keeps it, the checkpoint of what stands tells it, and so it is of whatever such records lead to from a new store. So no name
-/// stands with the number of a deletion to come.
+/// be written keeps it, the checkpoint of what stands tells it, and so it is of whatever such records lead to from a new store. Each event of a
+/// firm master keeps it too, so it is so at the end of every run from a new store: no name stands with the number of a deletion to come.
 pub fn hidden_names_tell_numbers_that_were_given()
     ensures records { RecordsKeepNumbers }
     ensures checkpoints { TellsNumbers }
     ensures all { LeadsToNumbers }
+    ensures events { EventsKeepNumbers }
+    ensures runs { RunsKeepNumbers }
 {}
 
 /// A checkpoint of what stands tells its counters and its epoch.
