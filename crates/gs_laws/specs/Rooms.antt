@@ -18,7 +18,7 @@ use Rattle.gs_state.specs.State.{State, Turn, and_then, fits, for_each, is_faile
 use Rattle.gs_state.specs.Upgrades.{told_of}
 use Rattle.gs_state.specs.Volatile.{with_restored}
 use Rattle.gs_tree.specs.Chunks.{visible_chunks_under}
-use Rattle.gs_laws.specs.Standing.{Event, run_of, turn_of}
+use Rattle.gs_laws.specs.Standing.{Event, Restarts, run_of, turn_of}
 
 -- ---- room
 
@@ -82,6 +82,10 @@ OthersLeave = (config : Config) (s : State) (message : Message) (moment : Moment
 -- and so does each tick
 abbrev pub TicksLeave : Type 0
 TicksLeave = (s : State) (moment : Moment) → restored_in (tick s moment).after ≡ restored_in s
+
+-- A restart forgets who has.
+abbrev pub RestartsForget : Type 0
+RestartsForget = (config : Config) (s : State) → restored_in (turn_of config s Restarts).after ≡ fin.empty
 
 -- Where no rollback is begun nobody has told of anything, and so it is behind each event. So whoever has told has told since it was begun.
 abbrev pub NoneHasTold : State → Type 0

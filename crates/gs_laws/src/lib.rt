@@ -16,7 +16,7 @@ ghost use Rattle.gs_laws.specs.Numbered.{EventsKeepNumbers, LeadsToNumbers, Reco
 ghost use Rattle.gs_laws.specs.Promises.{AllMessagesFit, AnswersExactly, BeginsWithAll, CallsFit, CallsKeep, CheckpointFits, CommitsExactly, IsToldAgain, KeepsAll, KeepsGiven, KeepsPrepared, LeadsBack, LeadsToKept, LockedElse, LockedExactly, MadeOfTheMost, MessagesFit, MessagesKeep, NothingAtTicks, NothingWhileRolling, PreparesByOneRecord, ProposesFresh, ProposesFreshAtTicks, RefusesInOrder, RefusedAtLocks, RefusedFits, RefusedLeavesAll, RollsBack, StartsWell, StepsAtTicksFit, TellsAll, TellsCounters};
 ghost use Rattle.gs_laws.specs.Reached.{DisksHold, OpensFirm, RecoversFirm, RollsBackThrough, RunsRecoverFromLast, SameFromLast};
 ghost use Rattle.gs_laws.specs.Resting.{PreparesExactly, TakesPrepares};
-ghost use Rattle.gs_laws.specs.Rooms.{LogsStayWithin, MessagesCopyStill, MessagesHaveRoom, OthersLeave, RunsStayWithin, StepsHaveRoom, TellsAdd, TellsOf, TellsSince, TicksCopyStill, TicksHaveRoom, TicksLeave};
+ghost use Rattle.gs_laws.specs.Rooms.{LogsStayWithin, MessagesCopyStill, MessagesHaveRoom, OthersLeave, RestartsForget, RunsStayWithin, StepsHaveRoom, TellsAdd, TellsOf, TellsSince, TicksCopyStill, TicksHaveRoom, TicksLeave};
 ghost use Rattle.gs_laws.specs.Standing.{EventsFit, FirmGoesOn, RunsFit, RunsRecover, StartsFirm};
 ghost use Rattle.gs_state.specs.Undoing.{EditsAsTold};
 
@@ -157,12 +157,13 @@ pub fn each_event_has_room()
 
 /// Who has told that it has a chunk as it was sealed is who has said so in the epoch of the rollback that is begun, since it was begun: such
 /// a message adds its server for the chunks that it names. Every other message and each tick leaves who has told, but the commit of the
-/// rollback, behind which nobody has; and where no rollback is begun nobody has told of anything.
+/// rollback, behind which nobody has; a restart forgets it; and where no rollback is begun nobody has told of anything.
 pub fn who_has_told_is_who_has_learned()
     ensures added { TellsAdd }
     ensures of_each { TellsOf }
     ensures others { OthersLeave }
     ensures ticks { TicksLeave }
+    ensures restarts { RestartsForget }
     ensures since { TellsSince }
 {}
 
