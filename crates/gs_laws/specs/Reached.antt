@@ -40,7 +40,7 @@ abbrev pub SameFromLast : Type 0
 SameFromLast = (config : Config) (version : Version) (entries : List PlainEntry) (log : Log) (d : Durable) → replayed start entries ≡ Some d →
     recover config version (from_last entries) log ≡ recover config version entries log
 
--- So a restart at the end of a run reads what is durable from the records behind the run's last checkpoint, and this.
+-- So a restart at the end of a run reads what is durable from the run's last checkpoint and the records behind it.
 abbrev pub RunsRecoverFromLast : Type 0
 RunsRecoverFromLast = (config : Config) (log now : Log) (events : List Event) → AllByRecursion IsNamed events → let t = run_of config (fresh log) events in
     recover config Two (from_last t.records) now ≡ Ok (reopened config (restarted t.after.durable (record now { records = records_behind t.records })))

@@ -1,4 +1,4 @@
--- What is done only where chunks are at rest: a prepare, and the copies of a snapshot and of a write.
+-- When a prepare is committed: where each chunk that the master knows is at rest.
 use Rattle.std.specs.Prelude.{◌≡◌, ◌<◌, ◌↔◌, ◌+◌, ℕ, true, false, [], ◌∷◌, Some, None}
 use Rattle.std.specs.FinMap as fin
 use Rattle.gs_base.specs.Numbers.{last_number}
