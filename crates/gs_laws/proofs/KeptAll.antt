@@ -48,7 +48,7 @@ blank_at q = fin.get-from_entries path_total root_rows q
 none_some : {A : Type 0} {P : Type 0} (o : Option A) → o ≡ None → is_some o ≡ true → P
 none_some o none some = absurd (false≢true (sym (ap is_some none) ∙ some))
 
-only_root : (x : Name) (p : Path) {P : Type 0} → is_some (fin.get blank.tree (x ∷ p)) ≡ true → P
+pub only_root : (x : Name) (p : Path) {P : Type 0} → is_some (fin.get blank.tree (x ∷ p)) ≡ true → P
 only_root x p some = none_some (fin.get blank.tree (x ∷ p)) (blank_at (x ∷ p)) some
 
 at_root : (P : Path → Type 0) → P [] → (q : Path) → is_some (fin.get blank.tree q) ≡ true → P q

@@ -241,6 +241,14 @@ pub listed_after : (edit : PlainEdit) (old new : NamesView) (q : ℕ) → edited
 listed_after edit old new q e some out =
     let n = was_named edit old new e in ap (λ (x : NamesView). is_some (fin.get x.refs q)) (sym n.is) ∙ still_lists edit old (n.rows, n.refs) q n.made some out
 
+-- a chunk that gets its place is listed then
+pub add_lists : (p : Path) (chunk : ℕ) (old new : NamesView) → edited_names (AddChunk p chunk) old ≡ Ok new → is_some (fin.get new.refs chunk) ≡ true
+add_lists p chunk old new e =
+    let n = was_named (AddChunk p chunk) old new e in
+    let parts = admitted (edits.AddChunk p chunk) (fin.entries old.tree) old.refs (n.rows, n.refs) n.made in
+    ap (λ (x : NamesView). is_some (fin.get x.refs chunk)) (sym n.is)
+    ∙ ok_listed (fin.insert old.refs chunk 1) n.refs chunk parts.counts (ap is_some (fin.get-insert nat_cmp_total old.refs chunk 1 chunk) ∙ ap (λ o. is_some (cond (is_eq o) (Some 1) (fin.get old.refs chunk))) (tied_itself nat_cmp_total chunk))
+
 -- and the copy of a chunk that takes its place is listed then
 pub cow_lists : (p : Path) (index before chunk : ℕ) (old new : NamesView) → edited_names (Cow p index before chunk) old ≡ Ok new → is_some (fin.get new.refs chunk) ≡ true
 cow_lists p index before chunk old new e =
@@ -332,7 +340,7 @@ may_edit_so d edit may =
     let one = and_parts (not (is_rolling d.phase)) (names_well edit && (settled && counted)) may in
     let two = and_parts (names_well edit) (settled && counted) one.1 in record { well = two.0; settled = (and_parts settled counted two.1).0 }
 
-none_more : (phase : Phase) (inverses : List PlainInverse) (inverse : PlainInverse) → is_ordinary phase ≡ true → inverses_with phase inverses inverse ≡ inverses
+pub none_more : (phase : Phase) (inverses : List PlainInverse) (inverse : PlainInverse) → is_ordinary phase ≡ true → inverses_with phase inverses inverse ≡ inverses
 none_more Ordinary inverses inverse h = refl
 none_more Upgrade inverses inverse h = absurd (false≢true h)
 none_more Rolling inverses inverse h = absurd (false≢true h)

@@ -1,5 +1,5 @@
 -- From a prepare to the commit of its rollback.
-use Rattle.std.proofs.Common.{arith, ◌≡◌, ◌∙◌, ◌&&◌, ◌==◌, ℕ, Bool, true, false, cond, List, [], ◌∷◌, nat_lt, refl, sym, ap, subst}
+use Rattle.std.proofs.Common.{arith, ◌≡◌, ◌⊎◌, inl, inr, ◌∙◌, ◌&&◌, ◌==◌, ℕ, Bool, true, false, cond, List, [], ◌∷◌, nat_lt, refl, sym, ap, subst}
 use Rattle.std.specs.Prelude.{map, Option, Some, None, is_some, option_map, option_and_then, Result, Ok, Err, if◌then◌else◌}
 use Rattle.std.specs.List.{AllByRecursion, cons_option, list_all}
 use Rattle.std.specs.Cmp.{nat_cmp_total}
@@ -19,17 +19,21 @@ use Rattle.gs_record.specs.declared.checkpoint.Phase.{Phase}
 use Rattle.gs_record.specs.declared.checkpoint.Phase.TheVariants.{Ordinary, Upgrade, Rolling}
 use Rattle.gs_record.specs.declared.entry.Answered.{Answered}
 use Rattle.gs_state.specs.Applied.{after_edit, after_undoing, applied, are_answers, are_at_rest, forgotten_by, held_by, is_next_epoch, is_whole_entry, may_be_settled, may_edit, may_propose, may_restore, proposed, replayed, restored_view, rolled_back, with_edit, with_epoch, with_view, without_prepared}
-use Rattle.gs_state.specs.Durable.{Durable, Settled, is_listed, is_ordinary, is_rolling, is_upgrade, prepared_view, with_prepared}
-use Rattle.gs_laws.specs.Promises.{IsKept, IsRolledBack, RollsBack, goes_on_within, members_for, prepared_from, quiet_again}
+use Rattle.gs_state.specs.Durable.{Durable, Settled, is_listed, is_ordinary, is_rolling, is_upgrade, prepared_of, prepared_view, upgrade_epoch, with_prepared}
+use Rattle.gs_state.specs.Handling.{tidied}
+use Rattle.gs_state.specs.Whole.{checkpoint_of}
+use Rattle.gs_laws.specs.Reached.{GoWithin, RollsBackThrough}
+use Rattle.gs_laws.specs.Promises.{IsKept, IsRolledBack, IsStillThere, RollsBack, goes_on_within, members_for, prepared_from, quiet_again}
 use Rattle.gs_state.specs.Undoing.{all_undone, edited_names}
 use Rattle.gs_state.specs.declared.asking.Prepared.{Prepared}
 use Rattle.gs_laws.proofs.Beginnings.{begins_with_all, fits_gives}
 use Rattle.gs_laws.proofs.Kept.{is_tied, keeps_views, view_at_prepare}
-use Rattle.gs_laws.proofs.KeptAll.{keeps_all}
+use Rattle.gs_laws.proofs.KeptAll.{keeps_all, tidied_kept}
 use Rattle.gs_laws.proofs.KeptEdits.{forgets_only}
 use Rattle.gs_laws.proofs.KeptEpochs.{prepare_kept, restored}
 use Rattle.gs_laws.proofs.KeptViews.{same_key}
 use Rattle.gs_laws.proofs.LedBack.{leads_back}
+use Rattle.gs_laws.proofs.ToldAgain.{get_tidied, tells_all}
 
 -- ---- records within an upgrade
 
@@ -82,33 +86,62 @@ phase_within (Holder chunk server) d next within e =
 
 -- ---- since a prepare
 
--- what stands since, and where it leads back to
+-- what stands since, and where it leads back to, of each chunk that was listed
 record Since (d now : Durable) : Type 0 where
   kept : IsKept now
   stands : is_ordinary now.phase ≡ false
   names : all_undone now.inverses now.names ≡ Some d.names
-  views : (chunk : ℕ) → view_at_prepare now chunk ≡ option_map (λ (s : Settled). s.view) (fin.get d.chunks chunk)
+  views : (chunk : ℕ) → is_listed d chunk ≡ true → view_at_prepare now chunk ≡ option_map (λ (s : Settled). s.view) (fin.get d.chunks chunk)
 
 since_one : (d now next : Durable) (entry : PlainEntry) → Since d now → goes_on_within entry ≡ true → IsEntry Two entry → applied now entry ≡ Some next → Since d next
 since_one d now next entry s within written e = record {
   kept = keeps_all entry (not_whole entry within) now next written s.kept e;
   stands = phase_within entry now next within e ∙ s.stands;
   names = leads_back entry now next s.kept s.stands within e ∙ s.names;
-  views = λ chunk. keeps_views entry now next s.stands within e chunk ∙ s.views chunk;
+  views = λ chunk listed. keeps_views entry now next s.stands within e chunk ∙ s.views chunk listed;
 }
 
 durable_is : {a b : Durable} → ◌≡◌ {A = Option Durable} (Some a) (Some b) → a ≡ b
 durable_is h = cc
 
-since_all : (d now last : Durable) (entries : List PlainEntry) → Since d now → list_all goes_on_within entries ≡ true → AllByRecursion (IsEntry Two) entries → replayed now entries ≡ Some last → Since d last
-since_all d now last [] s within written e = subst (Since d) (durable_is e) s
-since_all d now last (entry ∷ entries) s within written e =
-    let parts = and_parts (goes_on_within entry) (list_all goes_on_within entries) within in
-    each (applied now entry) refl (λ n is rest. since_all d n last entries (since_one d now n entry s parts.0 written.0 is) parts.1 written.1 rest) e
+-- a checkpoint of what stands leaves the prepared view of each chunk that is still there
+tidied_view : (now : Durable) (chunk : ℕ) → IsStillThere now chunk → prepared_view (tidied now) chunk ≡ prepared_view now chunk
+tidied_view now chunk (inl listed) = ap (prepared_of (upgrade_epoch now.phase now.epoch) (fin.get now.prepared chunk)) (get_tidied now chunk ∙ ap (λ b. cond b (fin.get now.chunks chunk) None) listed)
+tidied_view now chunk (inr kept) = each (upgrade_epoch now.phase now.epoch) (fin.get now.prepared chunk) kept
+  where
+    each : (u : Option ℕ) (o : Option Prepared) → is_some o ≡ true → prepared_of u o (fin.get (tidied now).chunks chunk) ≡ prepared_of u o (fin.get now.chunks chunk)
+    each None o some = refl
+    each (Some up) None some = absurd (false≢true some)
+    each (Some up) (Some p) some = refl
+
+since_tidied : (d now : Durable) → Since d now → Since d (tidied now)
+since_tidied d now s = record {
+  kept = tidied_kept now s.kept;
+  stands = s.stands;
+  names = s.names;
+  views = λ chunk listed. ap (option_map (λ (p : Prepared). p.view)) (tidied_view now chunk (s.kept.still d.names chunk s.names s.stands listed)) ∙ s.views chunk listed;
+}
+
+since_checkpoint : (d now next : Durable) (entry : PlainEntry) → Since d now → entry ≡ Whole (checkpoint_of now) → applied now entry ≡ Some next → Since d next
+unfolding applied
+since_checkpoint d now next entry s is e = subst (Since d) (durable_is (sym (tells_all now s.kept) ∙ ap (applied now) (sym is) ∙ e)) (since_tidied d now s)
+
+since_any : (d now next : Durable) (entry : PlainEntry) → Since d now → ((goes_on_within entry ≡ true) × IsEntry Two entry) ⊎ (entry ≡ Whole (checkpoint_of now)) → applied now entry ≡ Some next → Since d next
+since_any d now next entry s (inl within) e = since_one d now next entry s within.0 within.1 e
+since_any d now next entry s (inr is) e = since_checkpoint d now next entry s is e
+
+since_all : (d now last : Durable) (entries : List PlainEntry) → Since d now → GoWithin now entries → replayed now entries ≡ Some last → Since d last
+since_all d now last [] s within e = subst (Since d) (durable_is e) s
+since_all d now last (entry ∷ entries) s within e = each (applied now entry) refl (λ n is rest. since_all d n last entries (since_any d now n entry s within.0 is) (within.1 n is) rest) e
   where
     each : (o : Option Durable) → applied now entry ≡ o → ((n : Durable) → applied now entry ≡ Some n → replayed n entries ≡ Some last → Since d last) → option_and_then (λ n. replayed n entries) o ≡ Some last → Since d last
     each None is all h = absurd (false≢true (ap is_some h))
     each (Some n) is all h = all n is h
+
+-- records without a checkpoint are such
+go_within : (now : Durable) (entries : List PlainEntry) → list_all goes_on_within entries ≡ true → AllByRecursion (IsEntry Two) entries → GoWithin now entries
+go_within now [] e written = tt
+go_within now (entry ∷ entries) e written = let parts = and_parts (goes_on_within entry) (list_all goes_on_within entries) e in (inl (parts.0, written.0), λ next is. go_within next entries parts.1 written.1)
 
 prepared_phase : (d next : Durable) (epoch moment chunks : ℕ) → applied d (Prepare epoch moment chunks) ≡ Some next → is_ordinary next.phase ≡ false
 unfolding applied
@@ -117,7 +150,7 @@ prepared_phase d next epoch moment chunks e =
 
 since_prepare : (d next : Durable) (epoch moment chunks : ℕ) → IsKept d → applied d (Prepare epoch moment chunks) ≡ Some next → Since d next
 since_prepare d next epoch moment chunks k e =
-    let all = begins_with_all d next epoch moment chunks k e in record { kept = prepare_kept d next epoch moment chunks k e; stands = prepared_phase d next epoch moment chunks e; names = all.0; views = λ chunk. ap (option_map (λ (p : Prepared). p.view)) (all.1 chunk) ∙ view_in (fin.get d.chunks chunk) }
+    let all = begins_with_all d next epoch moment chunks k e in record { kept = prepare_kept d next epoch moment chunks k e; stands = prepared_phase d next epoch moment chunks e; names = all.0; views = λ chunk listed. ap (option_map (λ (p : Prepared). p.view)) (all.1 chunk) ∙ view_in (fin.get d.chunks chunk) }
   where
     view_in : (o : Option Settled) → option_map (λ (p : Prepared). p.view) (option_map prepared_from o) ≡ option_map (λ (s : Settled). s.view) o
     view_in None = refl
@@ -165,9 +198,9 @@ all_restored d (r ∷ refs) (answer ∷ answers) q h =
     by_prepared rest (Some p) is may = by_key rest p is (eq_by_cmp nat_cmp q answer.handle) refl
 
 -- a chunk's prepared view is the one that it had before the prepare
-from_before : (d now : Durable) (answers : List Answered) (chunk : ℕ) (before : Settled) → Since d now → fin.get d.chunks chunk ≡ Some before →
+from_before : (d now : Durable) (answers : List Answered) (chunk : ℕ) (before : Settled) → Since d now → is_listed d chunk ≡ true → fin.get d.chunks chunk ≡ Some before →
     restored_as now answers chunk true ≡ Some (quiet_again now.epoch before.view.count (members_for answers chunk))
-from_before d now answers chunk before s was = by_view (prepared_view now chunk) (s.views chunk ∙ ap (option_map (λ (x : Settled). x.view)) was)
+from_before d now answers chunk before s listed was = by_view (prepared_view now chunk) (s.views chunk listed ∙ ap (option_map (λ (x : Settled). x.view)) was)
   where
     by_view : (o : Option Prepared) → option_map (λ (p : Prepared). p.view) o ≡ Some before.view → option_map (λ (p : Prepared). restored_view now.epoch p (members_for answers chunk)) o ≡ Some (quiet_again now.epoch before.view.count (members_for answers chunk))
     by_view None h = absurd (false≢true (ap is_some h))
@@ -182,7 +215,7 @@ back_to d now last answers s same all = record {
   phase = refl;
   answered = same_handles now (fin.entries d.names.refs) answers all;
   restored = λ chunk before listed was.
-      found chunk ∙ ap (restored_as now answers chunk) listed ∙ from_before d now answers chunk before s was ∙ ap (λ e. Some (quiet_again e before.view.count (members_for answers chunk))) (sym same);
+      found chunk ∙ ap (restored_as now answers chunk) listed ∙ from_before d now answers chunk before s listed was ∙ ap (λ e. Some (quiet_again e before.view.count (members_for answers chunk))) (sym same);
   others = λ chunk none. found chunk ∙ ap (restored_as now answers chunk) none;
 }
   where
@@ -197,6 +230,10 @@ commit_back d now next last answers s e =
     let same : last ≡ now.epoch = (let t = tests.0 in grind (arith, nat_tests)) in
     subst (λ n. IsRolledBack d n last answers) is.1 (back_to d now last answers s same tests.1)
 
+pub rolls_back_through : RollsBackThrough
+rolls_back_through d prepared rolling next epoch moment chunks last entries answers k begun within between e =
+    commit_back d rolling next last answers (since_all d prepared rolling entries (since_prepare d prepared epoch moment chunks k begun) within between) e
+
 pub rolls_back : RollsBack
 rolls_back d prepared rolling next epoch moment chunks last entries answers k begun within written between e =
-    commit_back d rolling next last answers (since_all d prepared rolling entries (since_prepare d prepared epoch moment chunks k begun) within written between) e
+    rolls_back_through d prepared rolling next epoch moment chunks last entries answers k begun (go_within prepared entries within written) between e

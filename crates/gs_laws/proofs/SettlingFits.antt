@@ -90,26 +90,28 @@ target_low target (m ∷ ms) low any = let parts = and_parts (is_low m) (list_al
     by_test true is here rest h = grind (arith, nat_tests)
     by_test false is here rest h = rest h
 
-pub record IsSettledBy (d : Durable) (chunk : ℕ) (entries : List PlainEntry) : Type 0 where
+pub record IsSettledBy (d : Durable) (chunk : ℕ) (view : View) (entries : List PlainEntry) : Type 0 where
   pub after : Durable
   pub is : replayed d entries ≡ Some after
   pub phase : after.phase ≡ d.phase
   pub known : is_settled after chunk ≡ true
+  pub exact : fin.get after.chunks chunk ≡ Some (record { view = view; is_moving = false })
 
 module _ (d : Durable) (chunk : ℕ) (asking : Asking) (view : View) (can : CanSettle d chunk asking.stamp) (made : IsMade asking view) where
-  viewed : (e : Durable) → may_be_settled e (record { handle = chunk; view = view }) ≡ true → e.phase ≡ d.phase → IsSettledBy e chunk (Settle (record { handle = chunk; view = view }) ∷ [])
+  viewed : (e : Durable) → may_be_settled e (record { handle = chunk; view = view }) ≡ true → e.phase ≡ d.phase → IsSettledBy e chunk view (Settle (record { handle = chunk; view = view }) ∷ [])
   unfolding applied
   viewed e may phase = record {
     after = with_view e (record { handle = chunk; view = view });
     is = ap (λ b. option_and_then (λ (n : Durable). Some n) (if_fits b (with_view e (record { handle = chunk; view = view })))) may;
     phase = refl;
     known = ap is_some (fin.get-insert nat_cmp_total e.chunks chunk (record { view = view; is_moving = false }) chunk ∙ ap (λ o. cond (is_eq o) (Some (record { view = view; is_moving = false })) (fin.get e.chunks chunk)) (tied_itself nat_cmp_total chunk));
+    exact = fin.get-insert nat_cmp_total e.chunks chunk (record { view = view; is_moving = false }) chunk ∙ ap (λ o. cond (is_eq o) (Some (record { view = view; is_moving = false })) (fin.get e.chunks chunk)) (tied_itself nat_cmp_total chunk);
   }
 
-  plain : IsSettledBy d chunk (Settle (record { handle = chunk; view = view }) ∷ [])
+  plain : IsSettledBy d chunk view (Settle (record { handle = chunk; view = view }) ∷ [])
   plain = viewed d (may_so d chunk asking view can made) refl
 
-  held : (target : ℕ) → (is_upgrade d.phase && (nat_lt target 16 && is_some (prepared_view d chunk))) ≡ true → IsSettledBy d chunk (Holder chunk target ∷ Settle (record { handle = chunk; view = view }) ∷ [])
+  held : (target : ℕ) → (is_upgrade d.phase && (nat_lt target 16 && is_some (prepared_view d chunk))) ≡ true → IsSettledBy d chunk view (Holder chunk target ∷ Settle (record { handle = chunk; view = view }) ∷ [])
   unfolding applied
   held target may =
       let next = record d { prepared = with_prepared d chunk (held_by target (prepared_view d chunk)) } in
@@ -118,10 +120,11 @@ module _ (d : Durable) (chunk : ℕ) (asking : Asking) (view : View) (can : CanS
         is = ap (λ b. option_and_then (λ (n : Durable). replayed n (Settle (record { handle = chunk; view = view }) ∷ [])) (if_fits b next)) may ∙ last.is;
         phase = last.phase;
         known = last.known;
+        exact = last.exact;
       }
 
   with_holder : (carried : Bool) (target : Option ℕ) → target_of asking.purpose ≡ target → (b : Bool) → is_holder d.phase (prepared_view d chunk) carried asking view ≡ b
-      → IsSettledBy d chunk (holder_records b chunk target ++ Settle (record { handle = chunk; view = view }) ∷ [])
+      → IsSettledBy d chunk view (holder_records b chunk target ++ Settle (record { handle = chunk; view = view }) ∷ [])
   with_holder carried None to b is = plain
   with_holder carried (Some target) to false is = plain
   with_holder carried (Some target) to true is =
@@ -131,5 +134,5 @@ module _ (d : Durable) (chunk : ℕ) (asking : Asking) (view : View) (can : CanS
       let low = target_low target view.members made.low (ap (λ t. list_any (λ m. is_count m t) view.members) (sym to) ∙ three.1) in
       held target (both_true (is_upgrade d.phase) (nat_lt target 16 && is_some (prepared_view d chunk)) two.0 (both_true (nat_lt target 16) (is_some (prepared_view d chunk)) low three.0))
 
-  pub settling_fits : (carried : Bool) → IsSettledBy d chunk (settling d.phase (prepared_view d chunk) carried chunk asking view)
+  pub settling_fits : (carried : Bool) → IsSettledBy d chunk view (settling d.phase (prepared_view d chunk) carried chunk asking view)
   settling_fits carried = with_holder carried (target_of asking.purpose) refl (is_holder d.phase (prepared_view d chunk) carried asking view) refl

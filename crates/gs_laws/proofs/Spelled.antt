@@ -153,7 +153,7 @@ hidden_false false h = refl
 pub once_visible : (x : Name) → not (is_hidden x) ≡ true → is_once x ≡ true
 once_visible x h = rw (hidden_false (is_hidden x) h) refl
 
-element_of : (x : Name) → can_hide x ≡ true → is_element x ≡ true
+pub element_of : (x : Name) → can_hide x ≡ true → is_element x ≡ true
 element_of x h = let parts = and_parts (is_stored x) (not (is_hidden x)) h in by_mark (is_hidden x) (hidden_false (is_hidden x) parts.1) parts.0
   where
     by_mark : (b : Bool) → b ≡ false → (if b then is_some (hidden_parts x) else is_element x) ≡ true → is_element x ≡ true

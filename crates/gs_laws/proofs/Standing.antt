@@ -1,5 +1,5 @@
 -- What stands is kept by each record and by each change of what is kept in memory.
-use Rattle.std.proofs.Common.{◌≡◌, ◌∙◌, ◌≤◌, ◌&&◌, ◌||◌, ◌==◌, ◌+◌, ℕ, suc, Bool, true, false, not, cond, List, [], ◌∷◌, ◌++◌, refl, ap, subst, sym, arith}
+use Rattle.std.proofs.Common.{◌≡◌, ◌⊎◌, inl, inr, ◌∙◌, ◌≤◌, ◌&&◌, ◌||◌, ◌==◌, ◌+◌, ℕ, suc, Bool, true, false, not, cond, List, [], ◌∷◌, ◌++◌, refl, ap, subst, sym, arith}
 use Rattle.std.specs.Prelude.{nat_lt, is_some, fold, flat_map, Option, Some, None, Result, if◌then◌else◌, length, slice_set}
 use Rattle.std.specs.Cmp.{nat_cmp_total, tied_itself}
 use Rattle.std.specs.FinMap as fin
@@ -30,7 +30,7 @@ use Rattle.gs_state.specs.declared.pending.Waiting.{Waiting}
 use Rattle.gs_state.specs.declared.reply.KeptReply.{KeptReply}
 use Rattle.gs_state.proofs.Tracking.{client_total}
 use Rattle.gs_laws.specs.Promises.{IsKept}
-use Rattle.gs_laws.specs.Standing.{AreCounters, CanWait, IsSought, IsToldCount, Stands, was_answered}
+use Rattle.gs_laws.specs.Standing.{AreCounters, CanWait, IsSought, IsToldCount, Stands, may_ask, was_answered}
 use Rattle.gs_laws.proofs.KeptViews.{same_key}
 use Rattle.gs_laws.proofs.Retold.{each_entry}
 
@@ -159,6 +159,11 @@ pub record Leaves (d e : Durable) (chunk : ℕ) : Type 0 where
   pub follows : (stamp : Stamp) → follows_view (fin.get d.chunks chunk) stamp ≡ true → follows_view (fin.get e.chunks chunk) stamp ≡ true
   pub since : (stamp : Stamp) → is_since (upgrade_epoch d.phase d.epoch) (fin.get d.chunks chunk) stamp ≡ true → is_since (upgrade_epoch e.phase e.epoch) (fin.get e.chunks chunk) stamp ≡ true
   pub none : fin.get e.chunks chunk ≡ None → fin.get d.chunks chunk ≡ None
+  pub bare : fin.get d.chunks chunk ≡ None → fin.get e.chunks chunk ≡ None
+
+-- a chunk that is settled behind it was before, and stands in a file if it did; or the master knows it
+abbrev pub WasSettled : Durable → Durable → Volatile → ℕ → Type 0
+WasSettled d e v chunk = ((is_some (fin.get d.chunks chunk) ≡ true) × (is_listed d chunk ≡ true → is_listed e chunk ≡ true)) ⊎ ((is_listed e chunk || is_member v.unplaced chunk) ≡ true)
 
 -- and of all else
 pub record Onto (d e : Durable) (v : Volatile) : Type 0 where
@@ -169,6 +174,7 @@ pub record Onto (d e : Durable) (v : Volatile) : Type 0 where
   pub epoch : d.epoch ≤ e.epoch
   pub chunks : (chunk : ℕ) → is_some (fin.get v.moving chunk) ≡ true → Leaves d e chunk
   pub unlisted : (chunk : ℕ) → is_member v.unplaced chunk ≡ true → is_listed d chunk ≡ false → is_listed e chunk ≡ false
+  pub settled : (chunk : ℕ) → is_some (fin.get e.chunks chunk) ≡ true → WasSettled d e v chunk
   pub answered : StaysAnswered d v e v
   pub ordinary : v.is_preparing ≡ true → is_ordinary d.phase ≡ true → is_ordinary e.phase ≡ true
 
@@ -190,6 +196,12 @@ or_first : (a b : Bool) → a ≡ true → (a || b) ≡ true
 or_first true b e = refl
 or_first false b e = absurd (false≢true e)
 
+-- one that is known is counted
+known_counted : (a b c : Bool) → (a || b) ≡ true → (a || (b || c)) ≡ true
+known_counted true b c h = refl
+known_counted false true c h = refl
+known_counted false false c h = absurd (false≢true h)
+
 pub same_number : (a b : ℕ) → (a == b) ≡ true → a ≡ b
 same_number a b e = grind (arith, nat_tests)
 
@@ -210,15 +222,23 @@ recorded d e v o h = record {
         since = l.since asking.stamp a.since;
         told = a.told;
         wanted = a.wanted;
+        purposed = a.purposed;
         made = λ none. a.made (l.none none);
         own = a.own;
+        first = λ req call here. l.bare (a.first req call here);
         past = λ req call. or_on (is_pending v.pending req) (was_answered d v req) (was_answered e v req) (o.answered req) (a.past req call);
       });
   unplaced = λ chunk here. (let u = h.unplaced chunk here in (o.handles chunk u.0, o.unlisted chunk here u.1));
+  counted = λ chunk some. by_settled chunk (o.settled chunk some);
+  out = λ chunk here. (let u = h.out chunk here in (o.handles chunk u.0, u.1));
   apart = h.apart;
   calls = h.calls;
   preparing = λ p. (let q = h.preparing p in (o.ordinary p q.0, q.1));
 }
+  where
+    by_settled : (chunk : ℕ) → WasSettled d e v chunk → (is_listed e chunk || (is_member v.unplaced chunk || is_member v.taken_out chunk)) ≡ true
+    by_settled chunk (inl was) = either_on (is_listed d chunk) (is_member v.unplaced chunk || is_member v.taken_out chunk) (is_listed e chunk) was.1 (h.counted chunk was.0)
+    by_settled chunk (inr known) = known_counted (is_listed e chunk) (is_member v.unplaced chunk) (is_member v.taken_out chunk) known
 
 -- ---- calls that wait
 
@@ -278,12 +298,16 @@ module _ (d : Durable) (v : Volatile) (h : Stands d v) where
           since = a.since;
           told = a.told;
           wanted = a.wanted;
+          purposed = a.purposed;
           made = a.made;
           own = a.own;
+          first = a.first;
           past = λ req call.
               or_on (is_pending v.pending req) (was_answered d v req) (was_answered d (record v { replies = fin.insert v.replies client reply }) req) (kept_answers d v client reply new req) (a.past req call);
         });
     unplaced = h.unplaced;
+    counted = h.counted;
+    out = h.out;
     apart = h.apart;
     calls = h.calls;
     preparing = h.preparing;
@@ -299,8 +323,10 @@ module _ (d : Durable) (v : Volatile) (h : Stands d v) where
     counters = h.counters;
     asked = λ chunk asking has.
         (let a = all chunk asking has in
-        record { known = a.known; handle = a.handle; version = a.version; number = a.number; epoch = a.epoch; follows = a.follows; since = a.since; told = a.told; wanted = a.wanted; made = a.made; own = a.own; past = a.past });
+        record { known = a.known; handle = a.handle; version = a.version; number = a.number; epoch = a.epoch; follows = a.follows; since = a.since; told = a.told; wanted = a.wanted; purposed = a.purposed; made = a.made; own = a.own; first = a.first; past = a.past });
     unplaced = h.unplaced;
+    counted = h.counted;
+    out = h.out;
     apart = h.apart;
     calls = h.calls;
     preparing = h.preparing;
@@ -331,8 +357,8 @@ module _ (d : Durable) (v : Volatile) (h : Stands d v) where
   member_more : (xs : List ℕ) (c q : ℕ) → is_member (xs ++ c ∷ []) q ≡ (is_member xs q || ((c == q) || false))
   member_more xs c q = list_any-append (λ m. m == q) xs (c ∷ [])
 
-  pub enter : (chunk : ℕ) → is_given d.next_handle chunk ≡ true → is_listed d chunk ≡ false → fin.get v.moving chunk ≡ None → Stands d (changed v (changes.Enter chunk))
-  enter chunk given unlisted none = record {
+  pub enter : (chunk : ℕ) → is_given d.next_handle chunk ≡ true → is_listed d chunk ≡ false → is_member v.taken_out chunk ≡ false → fin.get v.moving chunk ≡ None → Stands d (changed v (changes.Enter chunk))
+  enter chunk given unlisted in_it none = record {
     kept = h.kept;
     counters = h.counters;
     asked = λ q a has.
@@ -347,16 +373,25 @@ module _ (d : Durable) (v : Volatile) (h : Stands d v) where
           since = s.since;
           told = s.told;
           wanted = s.wanted;
+          purposed = s.purposed;
           made = s.made;
           past = s.past;
           own = λ r call here. s.own r call (was_there q (ap is_some has) (is_member v.unplaced q) refl (sym (member_more v.unplaced chunk q) ∙ here));
+          first = λ r call here. s.first r call (was_there q (ap is_some has) (is_member v.unplaced q) refl (sym (member_more v.unplaced chunk q) ∙ here));
         });
     unplaced = λ q here. by_old q (is_member v.unplaced q) refl (sym (member_more v.unplaced chunk q) ∙ here);
+    counted = λ q some. or_on (is_listed d q) (is_member v.unplaced q || is_member v.taken_out q) (is_member (v.unplaced ++ chunk ∷ []) q || is_member v.taken_out q)
+        (either_on (is_member v.unplaced q) (is_member v.taken_out q) (is_member (v.unplaced ++ chunk ∷ []) q) (λ here. member_more v.unplaced chunk q ∙ or_first (is_member v.unplaced q) ((chunk == q) || false) here)) (h.counted q some);
+    out = λ q here. (let u = h.out q here in (u.0, member_more v.unplaced chunk q ∙ ap (λ b. b || ((chunk == q) || false)) u.1 ∙ not_it q here (chunk == q) refl));
     apart = h.apart;
     calls = h.calls;
     preparing = h.preparing;
   }
     where
+      not_it : (q : ℕ) → is_member v.taken_out q ≡ true → (b : Bool) → (chunk == q) ≡ b → (b || false) ≡ false
+      not_it q here true is = absurd (false≢true (sym in_it ∙ ap (is_member v.taken_out) (same_number chunk q is) ∙ here))
+      not_it q here false is = refl
+
       not_new : (q : ℕ) → is_some (fin.get v.moving q) ≡ true → (b : Bool) → (chunk == q) ≡ b → (b || false) ≡ true → ⊥
       not_new q some true is e = false≢true (sym (ap is_some none) ∙ ap (λ c. is_some (fin.get v.moving c)) (same_number chunk q is) ∙ some)
       not_new q some false is e = false≢true e
@@ -399,8 +434,10 @@ module _ (d : Durable) (v : Volatile) (h : Stands d v) where
       by_test true is rest = rest
       by_test false is rest = ap (λ b. b || is_member (without_handle xs c) c) is ∙ rest
 
-  pub place : (chunk : ℕ) → fin.get v.moving chunk ≡ None → Stands d (changed v (changes.Place chunk))
-  place chunk none = record {
+  -- a chunk is without a place no more, and these are out
+  put_elsewhere : (chunk : ℕ) → fin.get v.moving chunk ≡ None → (outs : List ℕ) → ((q : ℕ) → is_some (fin.get d.chunks q) ≡ true → (is_listed d q || (is_member (without_handle v.unplaced chunk) q || is_member outs q)) ≡ true)
+      → ((q : ℕ) → is_member outs q ≡ true → (is_given d.next_handle q ≡ true) × (is_member (without_handle v.unplaced chunk) q ≡ false)) → Stands d (record v { unplaced = without_handle v.unplaced chunk; taken_out = outs })
+  put_elsewhere chunk none outs counted out = record {
     kept = h.kept;
     counters = h.counters;
     asked = λ q a has.
@@ -416,15 +453,72 @@ module _ (d : Durable) (v : Volatile) (h : Stands d v) where
           since = s.since;
           told = s.told;
           wanted = s.wanted;
+          purposed = s.purposed;
           made = s.made;
           past = s.past;
           own = λ r call here. s.own r call (member_less v.unplaced chunk q here);
+          first = λ r call here. s.first r call (member_less v.unplaced chunk q here);
         });
     unplaced = λ q here. h.unplaced q (member_less v.unplaced chunk q here);
+    counted = counted;
+    out = out;
     apart = h.apart;
     calls = h.calls;
     preparing = h.preparing;
   }
+
+  -- one that isn't settled is without a place no more
+  place : (chunk : ℕ) → fin.get d.chunks chunk ≡ None → fin.get v.moving chunk ≡ None → Stands d (changed v (changes.Place chunk))
+  place chunk bare none = put_elsewhere chunk none v.taken_out (λ q some. by_chunk q some (chunk == q) refl) (λ q here. (let u = h.out q here in (u.0, less_out q u.1)))
+    where
+      counted_still : (q : ℕ) → (chunk == q) ≡ false → (is_listed d q || (is_member v.unplaced q || is_member v.taken_out q)) ≡ true → (is_listed d q || (is_member (without_handle v.unplaced chunk) q || is_member v.taken_out q)) ≡ true
+      counted_still q other k = or_on (is_listed d q) (is_member v.unplaced q || is_member v.taken_out q) (is_member (without_handle v.unplaced chunk) q || is_member v.taken_out q)
+          (either_on (is_member v.unplaced q) (is_member v.taken_out q) (is_member (without_handle v.unplaced chunk) q) (member_same v.unplaced chunk q (λ same. absurd (false≢true (sym other ∙ ap (λ c. c == q) (sym same) ∙ eqb_itself q))))) k
+
+      by_chunk : (q : ℕ) → is_some (fin.get d.chunks q) ≡ true → (b : Bool) → (chunk == q) ≡ b → (is_listed d q || (is_member (without_handle v.unplaced chunk) q || is_member v.taken_out q)) ≡ true
+      by_chunk q some true is = absurd (false≢true (sym (ap is_some bare) ∙ ap (λ c. is_some (fin.get d.chunks c)) (same_number chunk q is) ∙ some))
+      by_chunk q some false is = counted_still q is (h.counted q some)
+
+      less_out : (q : ℕ) → is_member v.unplaced q ≡ false → is_member (without_handle v.unplaced chunk) q ≡ false
+      less_out q no_member = by_test (is_member (without_handle v.unplaced chunk) q) refl
+        where
+          by_test : (b : Bool) → is_member (without_handle v.unplaced chunk) q ≡ b → b ≡ false
+          by_test true is = absurd (false≢true (sym no_member ∙ member_less v.unplaced chunk q is))
+          by_test false is = refl
+
+  -- one that gets its place in the record that follows is out as long
+  pub put_out : (chunk : ℕ) → is_given d.next_handle chunk ≡ true → fin.get v.moving chunk ≡ None → Stands d (record v { unplaced = without_handle v.unplaced chunk; taken_out = chunk ∷ v.taken_out })
+  put_out chunk given none = put_elsewhere chunk none (chunk ∷ v.taken_out) (λ q some. counted_out q (chunk == q) refl (h.counted q some)) (λ q here. by_out q (chunk == q) refl here)
+    where
+      counted_out : (q : ℕ) (b : Bool) → (chunk == q) ≡ b → (is_listed d q || (is_member v.unplaced q || is_member v.taken_out q)) ≡ true → (is_listed d q || (is_member (without_handle v.unplaced chunk) q || (b || is_member v.taken_out q))) ≡ true
+      counted_out q true is k = or_second (is_listed d q) (is_member (without_handle v.unplaced chunk) q || true) (or_second (is_member (without_handle v.unplaced chunk) q) true refl)
+      counted_out q false is k = or_on (is_listed d q) (is_member v.unplaced q || is_member v.taken_out q) (is_member (without_handle v.unplaced chunk) q || is_member v.taken_out q)
+          (either_on (is_member v.unplaced q) (is_member v.taken_out q) (is_member (without_handle v.unplaced chunk) q) (member_same v.unplaced chunk q (λ same. absurd (false≢true (sym is ∙ ap (λ c. c == q) (sym same) ∙ eqb_itself q))))) k
+
+      by_test : (q : ℕ) → is_member v.unplaced q ≡ false → (b : Bool) → is_member (without_handle v.unplaced chunk) q ≡ b → b ≡ false
+      by_test q no_member true is = absurd (false≢true (sym no_member ∙ member_less v.unplaced chunk q is))
+      by_test q no_member false is = refl
+
+      by_out : (q : ℕ) (b : Bool) → (chunk == q) ≡ b → (b || is_member v.taken_out q) ≡ true → (is_given d.next_handle q ≡ true) × (is_member (without_handle v.unplaced chunk) q ≡ false)
+      by_out q true is here = subst (λ x. (is_given d.next_handle x ≡ true) × (is_member (without_handle v.unplaced chunk) x ≡ false)) (same_number chunk q is) (given, member_gone v.unplaced chunk)
+      by_out q false is here = let u = h.out q here in (u.0, by_test q u.1 (is_member (without_handle v.unplaced chunk) q) refl)
+
+  -- fewer are out, where each settled chunk is counted still
+  pub fewer_out : (outs : List ℕ) → ((q : ℕ) → is_member outs q ≡ true → is_member v.taken_out q ≡ true) → ((q : ℕ) → is_some (fin.get d.chunks q) ≡ true → (is_listed d q || (is_member v.unplaced q || is_member outs q)) ≡ true) → Stands d (record v { taken_out = outs })
+  fewer_out outs fewer counted = record {
+    kept = h.kept;
+    counters = h.counters;
+    asked = λ q a has. again q a (h.asked q a has);
+    unplaced = h.unplaced;
+    counted = counted;
+    out = λ q here. h.out q (fewer q here);
+    apart = h.apart;
+    calls = h.calls;
+    preparing = h.preparing;
+  }
+    where
+      again : (q : ℕ) (a : Asking) → IsSought d v q a → IsSought d (record v { taken_out = outs }) q a
+      again q a s = record { known = s.known; handle = s.handle; version = s.version; number = s.number; epoch = s.epoch; follows = s.follows; since = s.since; told = s.told; wanted = s.wanted; purposed = s.purposed; made = s.made; own = s.own; first = s.first; past = s.past }
 
   all_removed_was : (chunks : List ℕ) (m : fin.FinMap nat_cmp Asking) (q : ℕ) (a : Asking) → fin.get (fold fin.remove m chunks) q ≡ Some a → fin.get m q ≡ Some a
   all_removed_was [] m q a has = has
@@ -478,47 +572,60 @@ module _ (d : Durable) (v : Volatile) (h : Stands d v) where
           wanted = list_all-append (λ (x : Pending). not (is_call x.req a.call) || may_wait_for q x.waits) v.pending (p ∷ [])
               ∙ both_true (list_all (λ (x : Pending). not (is_call x.req a.call) || may_wait_for q x.waits) v.pending) ((not (is_call p.req a.call) || may_wait_for q p.waits) && true) s.wanted
               (both_true (not (is_call p.req a.call) || may_wait_for q p.waits) true (or_left_true (is_call p.req a.call) (may_wait_for q p.waits) (none q a has)) refl);
+          purposed = list_all-append (λ (x : Pending). not (is_call x.req a.call) || may_ask a.purpose x.waits) v.pending (p ∷ [])
+              ∙ both_true (list_all (λ (x : Pending). not (is_call x.req a.call) || may_ask a.purpose x.waits) v.pending) ((not (is_call p.req a.call) || may_ask a.purpose p.waits) && true) s.purposed
+              (both_true (not (is_call p.req a.call) || may_ask a.purpose p.waits) true (or_left_true (is_call p.req a.call) (may_ask a.purpose p.waits) (none q a has)) refl);
           made = λ new. list_any-append (λ (x : Pending). is_call x.req a.call && makes q x.waits) v.pending (p ∷ []) ∙ or_first (is_waited_by a.call (makes q) v.pending) ((is_call p.req a.call && makes q p.waits) || false) (s.made new);
+          first = s.first;
           own = λ r call here. list_any-append (λ (x : Pending). is_call x.req a.call && makes q x.waits) v.pending (p ∷ []) ∙ or_first (is_waited_by a.call (makes q) v.pending) ((is_call p.req a.call && makes q p.waits) || false) (s.own r call here);
           past = λ req call.
               either_on (is_pending v.pending req) (was_answered d v req) (is_pending (v.pending ++ p ∷ []) req)
               (λ here. list_any-append (λ (x : Pending). same_call req x.req) v.pending (p ∷ []) ∙ or_first (is_pending v.pending req) (same_call req p.req || false) here) (s.past req call);
         });
     unplaced = h.unplaced;
+    counted = h.counted;
+    out = h.out;
     apart = apart_more v.pending p h.apart out;
     calls = all_more CanWait v.pending p h.calls can;
     preparing = λ now. absurd (false≢true (sym still ∙ now));
   }
 
   pub prepare : (b : Bool) → (b ≡ true → (is_ordinary d.phase ≡ true) × (v.pending ≡ [])) → Stands d (changed v (changes.Prepare b))
-  prepare b now = record { kept = h.kept; counters = h.counters; asked = λ q a has. again q a (h.asked q a has); unplaced = h.unplaced; apart = h.apart; calls = h.calls; preparing = now }
+  prepare b now = record { kept = h.kept; counters = h.counters; asked = λ q a has. again q a (h.asked q a has); unplaced = h.unplaced; counted = h.counted; out = h.out; apart = h.apart; calls = h.calls; preparing = now }
     where
       again : (q : ℕ) (a : Asking) → IsSought d v q a → IsSought d (record v { is_preparing = b }) q a
-      again q a s = record { known = s.known; handle = s.handle; version = s.version; number = s.number; epoch = s.epoch; follows = s.follows; since = s.since; told = s.told; wanted = s.wanted; made = s.made; own = s.own; past = s.past }
+      again q a s = record { known = s.known; handle = s.handle; version = s.version; number = s.number; epoch = s.epoch; follows = s.follows; since = s.since; told = s.told; wanted = s.wanted; purposed = s.purposed; made = s.made; own = s.own; first = s.first; past = s.past }
 
   pub restored : (server : ℕ) (chunks : List ℕ) → Stands d (changed v (changes.Restored server chunks))
-  restored server chunks = record { kept = h.kept; counters = h.counters; asked = λ q a has. again q a (h.asked q a has); unplaced = h.unplaced; apart = h.apart; calls = h.calls; preparing = h.preparing }
+  restored server chunks = record { kept = h.kept; counters = h.counters; asked = λ q a has. again q a (h.asked q a has); unplaced = h.unplaced; counted = h.counted; out = h.out; apart = h.apart; calls = h.calls; preparing = h.preparing }
     where
       again : (q : ℕ) (a : Asking) → IsSought d v q a → IsSought d (changed v (changes.Restored server chunks)) q a
-      again q a s = record { known = s.known; handle = s.handle; version = s.version; number = s.number; epoch = s.epoch; follows = s.follows; since = s.since; told = s.told; wanted = s.wanted; made = s.made; own = s.own; past = s.past }
+      again q a s = record { known = s.known; handle = s.handle; version = s.version; number = s.number; epoch = s.epoch; follows = s.follows; since = s.since; told = s.told; wanted = s.wanted; purposed = s.purposed; made = s.made; own = s.own; first = s.first; past = s.past }
 
--- nothing is asked any more, and no chunk is new
-pub rolled : (d : Durable) (v : Volatile) → Stands d v → Stands d (changed v changes.RolledBack)
+-- Nothing is asked any more, and no chunk is new. Those that were are out, until the record that follows.
+pub rolled : (d : Durable) (v : Volatile) → Stands d v → Stands d (record (changed v changes.RolledBack) { taken_out = v.unplaced ++ v.taken_out })
 rolled d v h = record {
   kept = h.kept;
   counters = h.counters;
   asked = λ chunk asking has. absurd (false≢true (sym (ap is_some (fin.get-empty nat_cmp chunk)) ∙ ap is_some has));
   unplaced = λ chunk here. absurd (false≢true here);
+  counted = λ chunk some. ap (λ b. is_listed d chunk || b) (list_any-append (λ m. m == chunk) v.unplaced v.taken_out) ∙ h.counted chunk some;
+  out = λ chunk here. (by_either chunk (is_member v.unplaced chunk) refl (sym (list_any-append (λ m. m == chunk) v.unplaced v.taken_out) ∙ here), refl);
   apart = h.apart;
   calls = h.calls;
   preparing = h.preparing;
 }
+  where
+    by_either : (chunk : ℕ) (b : Bool) → is_member v.unplaced chunk ≡ b → (b || is_member v.taken_out chunk) ≡ true → is_given d.next_handle chunk ≡ true
+    by_either chunk true is k = (h.unplaced chunk is).0
+    by_either chunk false is k = (h.out chunk k).0
 
 -- ---- a call ends
 
-pub lose : (d : Durable) (v : Volatile) (h : Stands d v) (chunk : ℕ) → Stands d (changed v (changes.Lose chunk))
-lose d v h chunk =
-    place d (changed v (changes.Settled chunk)) (settled d v h chunk) chunk
+-- a new chunk that isn't settled
+pub lose : (d : Durable) (v : Volatile) (h : Stands d v) (chunk : ℕ) → fin.get d.chunks chunk ≡ None → Stands d (changed v (changes.Lose chunk))
+lose d v h chunk bare =
+    place d (changed v (changes.Settled chunk)) (settled d v h chunk) chunk bare
     (fin.get-remove nat_cmp_total v.moving chunk chunk ∙ ap (λ o. cond (is_eq o) None (fin.get v.moving chunk)) (tied_itself nat_cmp_total chunk))
 
 module _ (req : ReqId) where
@@ -592,11 +699,15 @@ module _ (req : ReqId) where
           since = s.since;
           told = s.told;
           wanted = kept_all (λ (p : Pending). not (is_call p.req a.call) || may_wait_for q p.waits) v.pending s.wanted;
+          purposed = kept_all (λ (p : Pending). not (is_call p.req a.call) || may_ask a.purpose p.waits) v.pending s.purposed;
+          first = s.first;
           made = λ new. made_still q a (λ out. absurd (false≢true (sym (ap is_some new) ∙ (may q a has out).1.0))) a.call refl (s.made new);
           own = λ r call here. made_still q a (λ out. absurd (false≢true (sym (may q a has out).1.1 ∙ here))) a.call refl (s.own r call here);
           past = λ r call. past_still q a has r call (same_call req r) refl (s.past r call);
         });
     unplaced = h.unplaced;
+    counted = h.counted;
+    out = h.out;
     apart = fewer_apart v.pending h.apart;
     calls = kept_each CanWait v.pending h.calls;
     preparing = λ p. (let q = h.preparing p in (q.0, ap (λ ps. without_pending ps req) q.1));
@@ -659,8 +770,10 @@ free_sought d w chunk a f = record {
   since = f.since;
   told = f.told;
   wanted = no_call (may_wait_for chunk) w.pending;
+  purposed = no_call (may_ask a.purpose) w.pending;
   made = λ none. absurd (false≢true (sym (ap is_some none) ∙ f.settled));
   own = λ req call here. absurd (false≢true (ap is_some call));
+  first = λ req call here. absurd (false≢true (ap is_some call));
   past = λ req call. absurd (false≢true (ap is_some call));
 }
 
@@ -682,7 +795,7 @@ module _ (req : ReqId) (d : Durable) (new : List ℕ) where
     gone : ((c : ℕ) (a : Asking) → fin.get w.moving c ≡ Some a → is_call req a.call ≡ true → fin.find nat_cmp c es ≡ Some a) → NotAsked x req
 
   abbrev MayGo : ℕ → Asking → Type 0
-  MayGo chunk a = is_member new chunk ≡ false → Free d chunk a
+  MayGo chunk a = (is_member new chunk ≡ false → Free d chunk a) × (is_member new chunk ≡ true → is_call req a.call ≡ true → fin.get d.chunks chunk ≡ None)
 
   loosed : (es : List (ℕ × Asking)) → AllByRecursion (λ e. MayGo e.0 e.1) es → (w : Volatile) → Stands d w → Loosed es w (all_changed w (flat_map (let_go_of new req) es))
   loosed [] all w h = record {
@@ -709,7 +822,7 @@ module _ (req : ReqId) (d : Durable) (new : List ℕ) where
 
       by_new : Rest → is_call req e.1.call ≡ true → (b : Bool) → is_member new e.0 ≡ b → Loosed (e ∷ es) w (all_changed w ((if b then changes.Lose e.0 ∷ [] else changes.Ask e.0 (without_call e.1) ∷ []) ++ flat_map (let_go_of new req) es))
       by_new more own true is =
-          let rest = more (changed w (changes.Lose e.0)) (lose d w h e.0) in
+          let rest = more (changed w (changes.Lose e.0)) (lose d w h e.0 (all.0.1 is own)) in
           record {
             stands = rest.stands;
             pending = rest.pending;
@@ -727,7 +840,7 @@ module _ (req : ReqId) (d : Durable) (new : List ℕ) where
           later : (c : ℕ) (a : Asking) → fin.get (fin.remove w.moving e.0) c ≡ Some a → fin.find nat_cmp c (e ∷ es) ≡ Some a → fin.find nat_cmp c es ≡ Some a
           later c a has k = still c a (eq_by_cmp nat_cmp c e.0) (λ tied. false≢true (sym (ap (λ b. is_some (cond b None (fin.get w.moving c))) tied) ∙ ap is_some (sym (fin.get-remove nat_cmp_total w.moving e.0 c) ∙ has))) k
       by_new more own false is =
-          let rest = more (changed w (changes.Ask e.0 (without_call e.1))) (ask d w h e.0 (without_call e.1) (free_sought d w e.0 e.1 (all.0 is))) in
+          let rest = more (changed w (changes.Ask e.0 (without_call e.1))) (ask d w h e.0 (without_call e.1) (free_sought d w e.0 e.1 (all.0.0 is))) in
           record {
             stands = rest.stands;
             pending = rest.pending;
@@ -769,7 +882,8 @@ pub record IsEnded (req : ReqId) (d : Durable) (w x : Volatile) : Type 0 where
 pub ends : (req : ReqId) (d : Durable) (w : Volatile) → Stands d w → IsEnded req d w (all_changed w (let_go w req ++ changes.End req ∷ []))
 ends req d w h =
     let es = fin.entries w.moving in
-    let facts = each_entry nat_cmp nat_cmp_total fin.nat_cmp-IsAntisymmetric (λ chunk a. is_member w.unplaced chunk ≡ false → Free d chunk a) es (fin.entries_sorted w.moving) (λ chunk a found placed. free_of d w h chunk a (fin.get-entries w.moving chunk ∙ found) placed) in
+    let facts = each_entry nat_cmp nat_cmp_total fin.nat_cmp-IsAntisymmetric (λ chunk a. (is_member w.unplaced chunk ≡ false → Free d chunk a) × (is_member w.unplaced chunk ≡ true → is_call req a.call ≡ true → fin.get d.chunks chunk ≡ None)) es (fin.entries_sorted w.moving)
+    (λ chunk a found. (λ placed. free_of d w h chunk a (fin.get-entries w.moving chunk ∙ found) placed, λ here call. first_of chunk a (h.asked chunk a (fin.get-entries w.moving chunk ∙ found)) here a.call refl call)) in
     let l = loosed req d w.unplaced es facts w h in
     let x = all_changed w (flat_map (let_go_of w.unplaced req) es) in
     let none = l.gone (λ c a has call. sym (fin.get-entries w.moving c) ∙ has) in
@@ -783,6 +897,10 @@ ends req d w h =
       none = none;
     })
   where
+    first_of : (chunk : ℕ) (a : Asking) → IsSought d w chunk a → is_member w.unplaced chunk ≡ true → (call : Option ReqId) → a.call ≡ call → is_call req call ≡ true → fin.get d.chunks chunk ≡ None
+    first_of chunk a s here None is own = absurd (false≢true own)
+    first_of chunk a s here (Some r) is own = s.first r is here
+
     not_tied : (c chunk : ℕ) → fin.get w.moving c ≡ None → {a : Asking} → fin.get w.moving chunk ≡ Some a → (t : Bool) → eq_by_cmp nat_cmp c chunk ≡ t → t ≡ false
     not_tied c chunk none has true is = absurd (false≢true (sym (ap is_some none) ∙ ap (λ k. is_some (fin.get w.moving k)) (same_key c chunk is) ∙ ap is_some has))
     not_tied c chunk none has false is = refl
@@ -918,11 +1036,15 @@ module _ (req : ReqId) (waiting : Waiting) where
           since = s.since;
           told = s.told;
           wanted = set_all (λ (p : Pending). not (is_call p.req a.call) || may_wait_for q p.waits) v.pending (or_left_false (is_call req a.call) (may_wait_for q waiting) (none q a has)) s.wanted;
+          purposed = set_all (λ (p : Pending). not (is_call p.req a.call) || may_ask a.purpose p.waits) v.pending (or_left_false (is_call req a.call) (may_ask a.purpose waiting) (none q a has)) s.purposed;
+          first = s.first;
           made = λ new. made_still q a a.call refl (none q a has) (s.made new);
           own = λ r call here. made_still q a a.call refl (none q a has) (s.own r call here);
           past = λ r call. ap (λ b. b || was_answered d v r) (set_pending r v.pending) ∙ s.past r call;
         });
     unplaced = h.unplaced;
+    counted = h.counted;
+    out = h.out;
     apart = set_apart v.pending h.apart;
     calls = set_each CanWait v.pending can h.calls;
     preparing = λ p. (let q = h.preparing p in (q.0, ap (λ ps. set_waiting ps req waiting) q.1));

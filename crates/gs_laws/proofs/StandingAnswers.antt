@@ -25,9 +25,10 @@ use Rattle.gs_record.specs.Writable.{IsTerm}
 use Rattle.gs_view.specs.Choice.{answer_of, answerers, greater, greatest, is_count}
 use Rattle.gs_view.specs.Spoken.{with_no, with_yes}
 use Rattle.gs_view.specs.declared.answers.Answers.{Answers}
-use Rattle.gs_state.specs.Applied.{applied, follows_view, is_since, replayed}
+use Rattle.gs_edit.specs.View.{NamesView}
+use Rattle.gs_state.specs.Applied.{applied, follows_view, held_by, is_since, is_whole_entry, may_be_settled, replayed, with_view}
 use Rattle.gs_state.specs.Chunks.{Chunk, chunk_at, ends_copy, has_entry, has_yes, have_all_spoken, heard_no, heard_yes, hears, holder_records, is_holder, is_target, may_settle, once_spoken, proposed_in, sent_from, settling, source_in, step_after, step_at_tick, step_of_no, step_of_target, step_of_yes, target_of, view_by, with_answers}
-use Rattle.gs_state.specs.Durable.{Durable, is_given, is_rolling, prepared_view, upgrade_epoch}
+use Rattle.gs_state.specs.Durable.{Durable, is_given, is_rolling, is_upgrade, prepared_view, upgrade_epoch, with_prepared}
 use Rattle.gs_state.specs.Handling.{pressed, pressed_at, pressed_if}
 use Rattle.gs_state.specs.Hearing.{ask_plan, heard, is_with_sealed, promised, promised_at, promised_for, send_plan, stepped, unpromised, unpromised_at, unpromised_for}
 use Rattle.gs_state.specs.Sane.{are_apart, is_waited_by, makes, may_wait_for}
@@ -42,7 +43,7 @@ use Rattle.gs_state.specs.declared.pending.Pending.{Pending}
 use Rattle.gs_state.specs.declared.pending.Waiting.{Waiting}
 use Rattle.gs_state.specs.declared.pending.Waiting.TheVariants as waits
 use Rattle.gs_laws.specs.Promises.{IsToldView}
-use Rattle.gs_laws.specs.Standing.{CanWait, IsSought, IsToldCount, Stands}
+use Rattle.gs_laws.specs.Standing.{CanWait, IsSought, IsToldCount, Stands, may_ask}
 use Rattle.gs_laws.proofs.AcceptedForgets.{folded}
 use Rattle.gs_laws.proofs.AcceptedViews.{or_right}
 use Rattle.gs_laws.proofs.Choosing.{picked}
@@ -51,12 +52,15 @@ use Rattle.gs_laws.proofs.ServersTold.{low_servers, servers_told}
 use Rattle.gs_laws.proofs.SettlingFits.{CanSettle, settling_fits, view_made}
 use Rattle.gs_laws.proofs.Standing.{apart_parts, ask, either_none, recorded, same_back, same_call, same_number, same_parts, same_self, settled}
 use Rattle.gs_laws.proofs.StandingGoing.{Apart, CanGo, Going, all_going, is_snapshot}
+use Rattle.gs_laws.specs.Numbered.{HasNumbers}
+use Rattle.gs_laws.proofs.Beginnings.{fits_gives}
+use Rattle.gs_laws.proofs.Numbered.{IsToldIn, keeps_numbers}
 use Rattle.gs_laws.proofs.StandingRecords.{holder_onto, settle_onto}
 use Rattle.gs_laws.proofs.StandingTurns.{Good, Holds, all_given_up, none_good, same_good, test_good, then_good}
 
 -- ---- what was answered can be told
 
-abbrev AreCounts : Answers → Type 0
+abbrev pub AreCounts : Answers → Type 0
 AreCounts answers = AllByRecursion IsToldCount answers.counts
 
 set_count : (xs : List (Option ℕ)) (i : ℕ) (x : Option ℕ) → AllByRecursion IsToldCount xs → IsToldCount x → AllByRecursion IsToldCount (slice_set xs i x)
@@ -110,7 +114,7 @@ view_told c asking by moment view counts epoch version e = by_most (greatest by.
         (epoch, (version, (greatest_told by.counts count counts is, (servers_told (λ server. is_count count (answer_of by.counts server)), term_told asking.purpose (answerers by.counts count) (low_servers (λ server. is_count count (answer_of by.counts server)))))))
 
 -- what a step settles by
-abbrev IsToldStep : Step → Type 0
+abbrev pub IsToldStep : Step → Type 0
 IsToldStep (steps.Settle by) = AreCounts by
 IsToldStep step = Unit {0}
 
@@ -132,7 +136,7 @@ after_told asking told = by_tests (not (have_all_spoken asking)) (not (has_yes a
     by_tests false true purpose source = tt
     by_tests false false purpose source = once purpose source
 
-yes_told : (asking : Asking) (server count : ℕ) → AreCounts asking.answers → IsNumber count → AreCounts (heard_yes asking server count).answers × IsToldStep (step_of_yes asking server count)
+pub yes_told : (asking : Asking) (server count : ℕ) → AreCounts asking.answers → IsNumber count → AreCounts (heard_yes asking server count).answers × IsToldStep (step_of_yes asking server count)
 yes_told asking server count told low = by_member (is_member asking.asked server)
   where
     more : AreCounts (with_yes asking.answers server count)
@@ -151,7 +155,7 @@ yes_told asking server count told low = by_member (is_member asking.asked server
     by_member true = (more, after_told (with_answers asking (with_yes asking.answers server count)) more)
     by_member false = (told, of_target asking.source)
 
-no_told : (asking : Asking) (server : ℕ) → AreCounts asking.answers → AreCounts (heard_no asking server).answers × IsToldStep (step_of_no asking server)
+pub no_told : (asking : Asking) (server : ℕ) → AreCounts asking.answers → AreCounts (heard_no asking server).answers × IsToldStep (step_of_no asking server)
 no_told asking server told = by_tests (ends_copy asking server) (is_member asking.asked server)
   where
     by_spoken : (b : Bool) → AreCounts (if b then asking.answers else (record { counts = asking.answers.counts; refused = with_member asking.answers.refused server }))
@@ -168,7 +172,7 @@ no_told asking server told = by_tests (ends_copy asking server) (is_member askin
     by_tests false true = (more, after_told (with_answers asking (with_no asking.answers server)) more)
     by_tests false false = (told, tt)
 
-tick_told : (asking : Asking) → AreCounts asking.answers → IsToldStep (step_at_tick asking)
+pub tick_told : (asking : Asking) → AreCounts asking.answers → IsToldStep (step_at_tick asking)
 tick_told asking told = by_test (has_yes asking)
   where
     by_test : (b : Bool) → IsToldStep (if b then steps.Settle asking.answers else steps.Fail)
@@ -307,39 +311,66 @@ concerned_go s chunk asking h sought =
 
 -- ---- the records of a view
 
-abbrev IsOfView : Volatile → PlainEntry → Type 0
-IsOfView v (Settle view) = IsToldView view.view × (fin.get v.moving view.handle ≡ None)
-IsOfView v (Holder chunk server) = Unit {0}
-IsOfView v entry = ⊥
+-- of a chunk that the master knows by these names
+abbrev IsOfView : NamesView → Volatile → PlainEntry → Type 0
+IsOfView names v (Settle view) = IsToldView view.view × (fin.get v.moving view.handle ≡ None) × ((is_some (fin.get names.refs view.handle) || is_member v.unplaced view.handle) ≡ true)
+IsOfView names v (Holder chunk server) = Unit {0}
+IsOfView names v entry = ⊥
 
-views_stand : (entries : List PlainEntry) (d e : Durable) (v : Volatile) → Stands d v → AllByRecursion (IsOfView v) entries → replayed d entries ≡ Some e → Stands e v
-views_stand [] d e v h all fit = subst (λ x. Stands x v) (some_is fit) h
+-- they leave the names
+view_names : (names : NamesView) (v : Volatile) (x : PlainEntry) (d n : Durable) → IsOfView names v x → applied d x ≡ Some n → n.names ≡ d.names
+unfolding applied
+view_names names v (Settle view) d n of_view is = ap (λ (x : Durable). x.names) (sym (fits_gives (may_be_settled d view) (with_view d view) n is).1)
+view_names names v (Holder chunk server) d n of_view is =
+    ap (λ (x : Durable). x.names) (sym (fits_gives (is_upgrade d.phase && (nat_lt server 16 && is_some (prepared_view d chunk))) (record d { prepared = with_prepared d chunk (held_by server (prepared_view d chunk)) }) n is).1)
+view_names names v x d n of_view is = absurd of_view
+
+views_stand : (entries : List PlainEntry) (d e : Durable) (v : Volatile) → Stands d v → (names : NamesView) → d.names ≡ names → AllByRecursion (IsOfView names v) entries → replayed d entries ≡ Some e → Stands e v
+views_stand [] d e v h names same all fit = subst (λ x. Stands x v) (some_is fit) h
   where
     some_is : {a c : Durable} → ◌≡◌ {A = Option Durable} (Some a) (Some c) → a ≡ c
     some_is k = cc
-views_stand (entry ∷ entries) d e v h all fit = by_first (applied d entry) refl (λ n k r. views_stand entries n e v k all.1 r) fit
+views_stand (entry ∷ entries) d e v h names same all fit = by_first (applied d entry) refl (λ n is k r. views_stand entries n e v k names (view_names names v entry d n all.0 is ∙ same) all.1 r) fit
   where
-    stood : (x : PlainEntry) (n : Durable) → IsOfView v x → applied d x ≡ Some n → Stands n v
-    stood (Settle view) n told is = recorded d n v (settle_onto d n v view h told.0 told.1 is) h
+    stood : (x : PlainEntry) (n : Durable) → IsOfView names v x → applied d x ≡ Some n → Stands n v
+    stood (Settle view) n told is = recorded d n v (settle_onto d n v view h told.0 told.1 (ap (λ (m : NamesView). is_some (fin.get m.refs view.handle) || is_member v.unplaced view.handle) same ∙ told.2) is) h
     stood (Holder chunk server) n told is = recorded d n v (holder_onto d n v chunk server h is) h
     stood x n told is = absurd told
 
-    by_first : (o : Option Durable) → applied d entry ≡ o → ((n : Durable) → Stands n v → replayed n entries ≡ Some e → Stands e v) → option_and_then (λ n. replayed n entries) o ≡ Some e → Stands e v
+    by_first : (o : Option Durable) → applied d entry ≡ o → ((n : Durable) → applied d entry ≡ Some n → Stands n v → replayed n entries ≡ Some e → Stands e v) → option_and_then (λ n. replayed n entries) o ≡ Some e → Stands e v
     by_first None is rest r = absurd (false≢true (ap is_some r))
-    by_first (Some n) is rest r = rest n (stood entry n all.0 is) r
+    by_first (Some n) is rest r = rest n is (stood entry n all.0 is) r
 
-settling_of : (v : Volatile) (phase : _) (prepared : _) (carried : Bool) (chunk : ℕ) (asking : Asking) (view : View) → IsToldView view → fin.get v.moving chunk ≡ None → AllByRecursion (IsOfView v) (settling phase prepared carried chunk asking view)
-settling_of v phase prepared carried chunk asking view told none = by_target (is_holder phase prepared carried asking view) (target_of asking.purpose)
+views_numbers : (entries : List PlainEntry) (d e : Durable) (v : Volatile) → Stands d v → (names : NamesView) → d.names ≡ names → AllByRecursion (IsOfView names v) entries → replayed d entries ≡ Some e → HasNumbers d → HasNumbers e
+views_numbers [] d e v h names same all fit numbers = subst HasNumbers (some_is fit) numbers
   where
-    by_target : (b : Bool) (target : Option ℕ) → AllByRecursion (IsOfView v) (holder_records b chunk target ++ Settle (record { handle = chunk; view = view }) ∷ [])
-    by_target b None = ((told, none), tt)
-    by_target true (Some target) = (tt, ((told, none), tt))
-    by_target false (Some target) = ((told, none), tt)
+    some_is : {a c : Durable} → ◌≡◌ {A = Option Durable} (Some a) (Some c) → a ≡ c
+    some_is k = cc
+views_numbers (entry ∷ entries) d e v h names same all fit numbers = by_first (applied d entry) refl (λ n is k r m. views_numbers entries n e v k names (view_names names v entry d n all.0 is ∙ same) all.1 r m) fit
+  where
+    told : (x : PlainEntry) → IsOfView names v x → (is_whole_entry x ≡ false) × IsToldIn x
+    told (Settle view) of_view = (refl, tt)
+    told (Holder chunk server) of_view = (refl, tt)
+    told x of_view = absurd of_view
+
+    by_first : (o : Option Durable) → applied d entry ≡ o → ((n : Durable) → applied d entry ≡ Some n → Stands n v → replayed n entries ≡ Some e → HasNumbers n → HasNumbers e) → option_and_then (λ n. replayed n entries) o ≡ Some e → HasNumbers e
+    by_first None is rest r = absurd (false≢true (ap is_some r))
+    by_first (Some n) is rest r =
+        let so = told entry all.0 in rest n is (views_stand (entry ∷ []) d n v h names same (all.0, tt) (ap (option_and_then (λ x. Some x)) is)) r (keeps_numbers entry so.0 d n so.1 h.kept numbers is)
+
+settling_of : (names : NamesView) (v : Volatile) (phase : _) (prepared : _) (carried : Bool) (chunk : ℕ) (asking : Asking) (view : View) → IsToldView view → fin.get v.moving chunk ≡ None → (is_some (fin.get names.refs chunk) || is_member v.unplaced chunk) ≡ true
+    → AllByRecursion (IsOfView names v) (settling phase prepared carried chunk asking view)
+settling_of names v phase prepared carried chunk asking view told none known = by_target (is_holder phase prepared carried asking view) (target_of asking.purpose)
+  where
+    by_target : (b : Bool) (target : Option ℕ) → AllByRecursion (IsOfView names v) (holder_records b chunk target ++ Settle (record { handle = chunk; view = view }) ∷ [])
+    by_target b None = ((told, none, known), tt)
+    by_target true (Some target) = (tt, ((told, none, known), tt))
+    by_target false (Some target) = ((told, none, known), tt)
 
 -- ---- a chunk is settled, and its calls go on
 
-sought_on : (d : Durable) (v : Volatile) (chunk : ℕ) (asking new : Asking) → new.stamp ≡ asking.stamp → new.call ≡ asking.call → AreCounts new.answers → IsSought d v chunk asking → IsSought d v chunk new
-sought_on d v chunk asking new stamp call told k = record {
+sought_on : (d : Durable) (v : Volatile) (chunk : ℕ) (asking new : Asking) → new.stamp ≡ asking.stamp → new.call ≡ asking.call → new.purpose ≡ asking.purpose → AreCounts new.answers → IsSought d v chunk asking → IsSought d v chunk new
+sought_on d v chunk asking new stamp call purpose told k = record {
   known = k.known;
   handle = k.handle;
   version = ap (λ (x : Stamp). is_given d.next_version x.version) stamp ∙ k.version;
@@ -349,33 +380,54 @@ sought_on d v chunk asking new stamp call told k = record {
   since = ap (is_since (upgrade_epoch d.phase d.epoch) (fin.get d.chunks chunk)) stamp ∙ k.since;
   told = told;
   wanted = ap (λ c. list_all (λ (p : Pending). not (is_call p.req c) || may_wait_for chunk p.waits) v.pending) call ∙ k.wanted;
+  purposed = (λ i. list_all (λ (p : Pending). not (is_call p.req (call i)) || may_ask (purpose i) p.waits) v.pending) ∙ k.purposed;
   made = λ none. ap (λ c. is_waited_by c (makes chunk) v.pending) call ∙ k.made none;
   own = λ r is here. ap (λ c. is_waited_by c (makes chunk) v.pending) call ∙ k.own r (sym call ∙ is) here;
+  first = λ r is here. k.first r (sym call ∙ is) here;
   past = λ r is. k.past r (sym call ∙ is);
 }
 
 module _ (s : State) (chunk : ℕ) (asking : Asking) (h : Holds true s) (has : fin.get s.volatile.moving chunk ≡ Some asking) where
-  settled_good : (c : Chunk) (by : Answers) (carried : Bool) (moment : Moment) (view : View) → AreCounts by → view_by c asking by moment ≡ Some view → Good true s (settled_on s chunk asking carried view)
-  settled_good c by carried moment view told e =
+  -- the view is recorded, and what the calls that go on meet
+  pub record SettlesSo (carried : Bool) (view : View) : Type 0 where
+    pub good : Good true s (turned s (settle_plan (settling s.durable.phase (prepared_view s.durable chunk) carried chunk asking view) chunk view))
+    pub going : Going chunk (changed s.volatile (changes.Settled chunk)) (concerned s chunk asking.call)
+    pub ready : is_rolling s.durable.phase ≡ false → Ready chunk (turned s (settle_plan (settling s.durable.phase (prepared_view s.durable chunk) carried chunk asking view) chunk view)).after.durable
+    pub exact : fin.get (turned s (settle_plan (settling s.durable.phase (prepared_view s.durable chunk) carried chunk asking view) chunk view)).after.durable.chunks chunk ≡ Some (record { view = view; is_moving = false })
+    pub unasked : fin.get (changed s.volatile (changes.Settled chunk)).moving chunk ≡ None
+
+  pub settles_so : (c : Chunk) (by : Answers) (carried : Bool) (moment : Moment) (view : View) → AreCounts by → view_by c asking by moment ≡ Some view → SettlesSo carried view
+  settles_so c by carried moment view told e =
       let k = h.stands.asked chunk asking has in
       let v = changed s.volatile (changes.Settled chunk) in
       let records = settling s.durable.phase (prepared_view s.durable chunk) carried chunk asking view in
-      let plan = settle_plan records chunk view in
       let can : CanSettle s.durable chunk asking.stamp = record { handle = k.handle; version = k.version; epoch = k.epoch; follows = k.follows; since = k.since } in
       let set = settling_fits s.durable chunk asking view can (view_made c asking by moment view e) carried in
       let same = folded records s set.after set.is in
       let removed : fin.get v.moving chunk ≡ None = fin.get-remove nat_cmp_total s.volatile.moving chunk chunk ∙ ap (λ o. cond (is_eq o) None (fin.get s.volatile.moving chunk)) (tied_itself nat_cmp_total chunk) in
       let low : IsNumber asking.stamp.epoch = (let a = k.epoch in let n = h.stands.kept.now in omega arith) in
       let view_is = view_told c asking by moment view told low k.number e in
-      let stands = views_stand records s.durable set.after v (settled s.durable s.volatile h.stands chunk) (settling_of v s.durable.phase (prepared_view s.durable chunk) carried chunk asking view view_is removed) set.is in
-      let first : Good true s (turned s plan) = record {
-        fits = set.is ∙ ap Some (sym same);
-        holds = record { stands = subst (λ d. Stands d v) (sym same) stands; rolling = λ x r. h.rolling refl (sym (ap is_rolling set.phase) ∙ sym (ap (λ (d : Durable). is_rolling d.phase) same) ∙ r) };
-      } in
+      let stands = views_stand records s.durable set.after v (settled s.durable s.volatile h.stands chunk) s.durable.names refl (settling_of s.durable.names v s.durable.phase (prepared_view s.durable chunk) carried chunk asking view view_is removed k.known) set.is in
+      record {
+        good = record {
+          numbers = λ n. subst HasNumbers (sym same) (views_numbers records s.durable set.after v (settled s.durable s.volatile h.stands chunk) s.durable.names refl (settling_of s.durable.names v s.durable.phase (prepared_view s.durable chunk) carried chunk asking view view_is removed k.known) set.is n);
+          fits = set.is ∙ ap Some (sym same);
+          holds = record { stands = subst (λ d. Stands d v) (sym same) stands; rolling = λ x r. h.rolling refl (sym (ap is_rolling set.phase) ∙ sym (ap (λ (d : Durable). is_rolling d.phase) same) ∙ r) };
+        };
+        going = concerned_go s chunk asking h.stands k;
+        ready = λ still. record { rolling = ap (λ (d : Durable). is_rolling d.phase) same ∙ ap is_rolling set.phase ∙ still; known = ap (λ (d : Durable). is_some (fin.get d.chunks chunk)) same ∙ set.known };
+        exact = ap (λ (d : Durable). fin.get d.chunks chunk) same ∙ set.exact;
+        unasked = removed;
+      }
+
+  settled_good : (c : Chunk) (by : Answers) (carried : Bool) (moment : Moment) (view : View) → AreCounts by → view_by c asking by moment ≡ Some view → Good true s (settled_on s chunk asking carried view)
+  settled_good c by carried moment view told e =
+      let records = settling s.durable.phase (prepared_view s.durable chunk) carried chunk asking view in
+      let plan = settle_plan records chunk view in
+      let so = settles_so c by carried moment view told e in
       test_good true s (fits s.log records) (and_then (turned s plan) (all_go_on view (concerned s chunk asking.call))) (all_refused s chunk asking.call refusals.Full)
-      (λ _. then_good true s (turned s plan) (all_go_on view (concerned s chunk asking.call)) first
-      (by_rolling view (turned s plan).after first.holds (concerned_go s chunk asking h.stands k) (is_rolling s.durable.phase) refl
-      (λ still. record { rolling = ap (λ (d : Durable). is_rolling d.phase) same ∙ ap is_rolling set.phase ∙ still; known = ap (λ (d : Durable). is_some (fin.get d.chunks chunk)) same ∙ set.known })))
+      (λ _. then_good true s (turned s plan) (all_go_on view (concerned s chunk asking.call)) so.good
+      (by_rolling view (turned s plan).after so.good.holds so.going (is_rolling s.durable.phase) refl so.ready))
       (λ _. all_given_up true (requests_of (concerned s chunk asking.call)) refusals.Full s h)
     where
       by_rolling : (view : View) (next : State) → Holds true next → Going chunk next.volatile (concerned s chunk asking.call) → (b : Bool) → is_rolling s.durable.phase ≡ b → (is_rolling s.durable.phase ≡ false → Ready chunk next.durable) → Good true next (all_go_on view (concerned s chunk asking.call) next)
@@ -393,16 +445,21 @@ module _ (s : State) (chunk : ℕ) (asking : Asking) (h : Holds true s) (has : f
   stepped_good c carried moment (steps.Send source target) told =
       let k = h.stands.asked chunk asking has in
       none_good true s (send_plan chunk asking source target (is_with_sealed s.durable.phase (prepared_view s.durable chunk) source))
-      (ask s.durable s.volatile h.stands chunk (record asking { source = Some source }) (sought_on s.durable s.volatile chunk asking (record asking { source = Some source }) refl refl k.told k)) (λ x r. h.rolling x r)
+      (ask s.durable s.volatile h.stands chunk (record asking { source = Some source }) (sought_on s.durable s.volatile chunk asking (record asking { source = Some source }) refl refl refl k.told k)) (λ x r. h.rolling x r)
   stepped_good c carried moment (steps.Settle by) told = if_good c by carried moment (view_by c asking by moment) told refl
   stepped_good c carried moment steps.Fail told = all_given_up true (requests_of (concerned s chunk asking.call)) refusals.NoReplica s h
 
 -- ---- answers
 
 module _ (s : State) (h : Holds true s) where
+  -- what is asked now, once it was answered
+  pub asked_so : (chunk : ℕ) (asking new : Asking) → fin.get s.volatile.moving chunk ≡ Some asking → new.stamp ≡ asking.stamp → new.call ≡ asking.call → new.purpose ≡ asking.purpose → AreCounts new.answers → Good true s (turned s (ask_plan chunk new))
+  asked_so chunk asking new has stamp call purpose counts =
+      none_good true s (ask_plan chunk new) (ask s.durable s.volatile h.stands chunk new (sought_on s.durable s.volatile chunk asking new stamp call purpose counts (h.stands.asked chunk asking has))) (λ x r. h.rolling x r)
+
   heard_good : (chunk : ℕ) (c : Chunk) (asking : Asking) (b : Bool) (by : Answers) (carried : Bool) (moment : Moment) (step : Step) → fin.get s.volatile.moving chunk ≡ Some asking
       → AreCounts (if b then with_answers asking by else asking).answers → IsToldStep step → Good true s (heard s chunk c (if b then with_answers asking by else asking) carried moment step)
-  heard_good chunk c asking b by carried moment step has told step_told = on (if b then with_answers asking by else asking) (stamps b) (calls_same b) told
+  heard_good chunk c asking b by carried moment step has told step_told = on (if b then with_answers asking by else asking) (stamps b) (calls_same b) (purposes_same b) told
     where
       stamps : (x : Bool) → (if x then with_answers asking by else asking).stamp ≡ asking.stamp
       stamps true = refl
@@ -412,10 +469,14 @@ module _ (s : State) (h : Holds true s) where
       calls_same true = refl
       calls_same false = refl
 
-      on : (new : Asking) → new.stamp ≡ asking.stamp → new.call ≡ asking.call → AreCounts new.answers → Good true s (heard s chunk c new carried moment step)
-      on new stamp call counts =
+      purposes_same : (x : Bool) → (if x then with_answers asking by else asking).purpose ≡ asking.purpose
+      purposes_same true = refl
+      purposes_same false = refl
+
+      on : (new : Asking) → new.stamp ≡ asking.stamp → new.call ≡ asking.call → new.purpose ≡ asking.purpose → AreCounts new.answers → Good true s (heard s chunk c new carried moment step)
+      on new stamp call purpose counts =
           let plan = ask_plan chunk new in
-          let first = none_good true s plan (ask s.durable s.volatile h.stands chunk new (sought_on s.durable s.volatile chunk asking new stamp call counts (h.stands.asked chunk asking has))) (λ x r. h.rolling x r) in
+          let first = asked_so chunk asking new has stamp call purpose counts in
           let now : fin.get (fin.insert s.volatile.moving chunk new) chunk ≡ Some new = fin.get-insert nat_cmp_total s.volatile.moving chunk new chunk ∙ ap (λ o. cond (is_eq o) (Some new) (fin.get s.volatile.moving chunk)) (tied_itself nat_cmp_total chunk) in
           then_good true s (turned s plan) (λ next. stepped next chunk c new carried moment step) first (stepped_good (turned s plan).after chunk new first.holds now c carried moment step step_told)
 

@@ -120,7 +120,7 @@ module _ (s : State) (req : ReqId) (h : Holds true s) (may : MayBegin s req) whe
       test_good true s (is_leased c && may_use stamp moment (view_of c)) (looked_up s req (location s.durable (Ok chunk))) (if is_wanted c then refused s req refusals.Locked else begin)
       (λ _. looked_good true s req (location s.durable (Ok chunk)) h)
       (λ _. test_good true s (is_wanted c) (refused s req refusals.Locked) begin (λ _. refused_good true s req refusals.Locked h)
-      (λ _. begins_good true s req h may chunk purposes.Lease (waits.Lease path index chunk) parts.1 parts.0 (eqb_itself chunk) (one_path path visible, is_path)))
+      (λ _. begins_good true s req h may chunk purposes.Lease (waits.Lease path index chunk) parts.1 parts.0 (eqb_itself chunk) refl (one_path path visible, is_path)))
 
   handle_told : has_handle s.durable ≡ true → IsHandle s.durable.next_handle
   handle_told left = (some s.durable.next_handle (next_is_fresh s.durable.next_handle 1 (omega arith) left), h.stands.counters.handle)
@@ -138,7 +138,7 @@ module _ (s : State) (req : ReqId) (h : Holds true s) (may : MayBegin s req) whe
       test_good true s (is_wanted c) (refused s req refusals.Locked) (if is_quiet c then begins_copy else begins_quiet) (λ _. refused_good true s req refusals.Locked h)
       (λ _. test_good true s (is_quiet c) begins_copy begins_quiet
       (λ _. begins_new_good true s req h may copy view.members (waits.Copy path index chunk s.durable.next_handle) (eqb_itself s.durable.next_handle) (eqb_itself s.durable.next_handle) (λ _. is_path) (one_path path visible))
-      (λ _. begins_good true s req h may chunk purposes.Quiet (waits.Quiet path index chunk) parts.1 parts.0 (eqb_itself chunk) (one_path path visible, is_path)))
+      (λ _. begins_good true s req h may chunk purposes.Quiet (waits.Quiet path index chunk) parts.1 parts.0 (eqb_itself chunk) refl (one_path path visible, is_path)))
 
   written_good : (path : Path) (index : ℕ) (stamp : Option Stamp) (moment : Moment) (chunk : ℕ) (c : Option Chunk) → is_placed s.durable chunk ≡ true → IsPath path → is_visible path ≡ true → Good true s (written_at s req path index stamp moment chunk c)
   written_good path index stamp moment chunk None known is_path visible = refused_good true s req refusals.NoReplica h
@@ -193,7 +193,7 @@ module _ (s : State) (req : ReqId) (h : Holds true s) (may : MayBegin s req) whe
         left = not_false (has_versions s.durable (length many)) left;
         known = list_weaker (is_placed s.durable) (λ c. is_settled s.durable c && has_entry s c) many (λ c k. (let p = and_parts (is_listed s.durable c) (is_settled s.durable c) k in both_true (is_settled s.durable c) (has_entry s c) p.1 (or_left (is_listed s.durable c) (is_member s.volatile.unplaced c) p.0))) known;
         owned = inl (list_weaker (is_placed s.durable) (is_listed s.durable) many (λ c k. (and_parts (is_listed s.durable c) (is_settled s.durable c) k).0) known);
-        for = λ c. for_begun s.durable s.volatile (record { req = req; waits = waiting }) c may.out refl;
+        for = λ c. for_begun s.durable s.volatile (record { req = req; waits = waiting }) c purposes.Quiet may.out refl refl;
       })))))
 
   pub snapshot_if_good : (from to : Path) (rows : Result (Rows ℕ) Refusal) → names_well (Snapshot from to) ≡ true → IsPath from → IsPath to → Good true s (snapshot_if s req from to rows)
@@ -210,7 +210,7 @@ module _ (s : State) (req : ReqId) (h : Holds true s) (may : MayBegin s req) whe
   replicated_good chunk (Some []) known = refused_good true s req refusals.NoServer h
   replicated_good chunk (Some (target ∷ targets)) known =
       let parts = and_parts (is_listed s.durable chunk) (is_settled s.durable chunk) known in
-      begins_good true s req h may chunk (purposes.Copy target) (waits.Replicate chunk target) parts.1 parts.0 (eqb_itself chunk) (refl, tt)
+      begins_good true s req h may chunk (purposes.Copy target) (waits.Replicate chunk target) parts.1 parts.0 (eqb_itself chunk) refl (refl, tt)
 
   replicates_good : (config : Config) (chunk : ℕ) (c : Option Chunk) → is_placed s.durable chunk ≡ true → Good true s (replicates_chunk config s req chunk c)
   replicates_good config chunk None known = refused_good true s req refusals.NoReplica h

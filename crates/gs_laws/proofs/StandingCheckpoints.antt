@@ -25,7 +25,7 @@ use Rattle.gs_laws.proofs.ToldAgain.{get_tidied}
 
 -- ---- those of a list that pass a test
 
-member_was : (f : ℕ → Bool) (xs : List ℕ) (q : ℕ) → is_member (filter f xs) q ≡ true → is_member xs q ≡ true
+pub member_was : (f : ℕ → Bool) (xs : List ℕ) (q : ℕ) → is_member (filter f xs) q ≡ true → is_member xs q ≡ true
 member_was f [] q e = e
 member_was f (x ∷ xs) q e = by_test (f x) (member_was f xs q) e
   where
@@ -37,7 +37,7 @@ member_was f (x ∷ xs) q e = by_test (f x) (member_was f xs q) e
         by_head false j = rest j
     by_test false rest k = or_right (x == q) (is_member xs q) (rest k)
 
-member_stays : (f : ℕ → Bool) (xs : List ℕ) (q : ℕ) → f q ≡ true → is_member xs q ≡ true → is_member (filter f xs) q ≡ true
+pub member_stays : (f : ℕ → Bool) (xs : List ℕ) (q : ℕ) → f q ≡ true → is_member xs q ≡ true → is_member (filter f xs) q ≡ true
 member_stays f [] q pass e = e
 member_stays f (x ∷ xs) q pass e = by_head (x == q) refl (member_stays f xs q pass) e
   where
@@ -116,18 +116,26 @@ module _ (s : State) (h : Stands s.durable s.volatile) where
           since = ap (λ o. is_since (upgrade_epoch s.durable.phase s.durable.epoch) o a.stamp) still.same ∙ k.since;
           told = k.told;
           wanted = k.wanted;
+          purposed = k.purposed;
           made = λ none. k.made (sym still.same ∙ none);
           own = λ req call here. k.own req call (member_was (awaits_first s) s.volatile.unplaced chunk here);
+          first = λ req call here. still.same ∙ k.first req call (member_was (awaits_first s) s.volatile.unplaced chunk here);
           past = k.past;
         });
     unplaced = λ chunk here. h.unplaced chunk (member_was (awaits_first s) s.volatile.unplaced chunk here);
+    counted = λ chunk some. told_listed chunk (is_listed s.durable chunk) (sym (ap is_some (get_tidied s.durable chunk)) ∙ some);
+    out = λ chunk here. absurd (false≢true here);
     apart = h.apart;
     calls = h.calls;
     preparing = h.preparing;
   }
+    where
+      told_listed : (chunk : ℕ) (b : Bool) → is_some (cond b (fin.get s.durable.chunks chunk) None) ≡ true → (b || (is_member (filter (awaits_first s) s.volatile.unplaced) chunk || false)) ≡ true
+      told_listed chunk true some = refl
+      told_listed chunk false some = absurd (false≢true some)
 
-written_good : (s : State) (refusal : Option Refusal) → Holds true s → Good true s (written_unless s refusal)
-written_good s None h = record { fits = (written_fits s None h.stands.kept).fits; holds = record { stands = tidied_stands s h.stands; rolling = λ c r. h.rolling c r } }
+pub written_good : (s : State) (refusal : Option Refusal) → Holds true s → Good true s (written_unless s refusal)
+written_good s None h = record { numbers = λ n. record { now = n.now; before = n.before }; fits = (written_fits s None h.stands.kept).fits; holds = record { stands = tidied_stands s h.stands; rolling = λ c r. h.rolling c r } }
 written_good s (Some refusal) h = same_good true s (met_by s refusal) refl refl h
 
 pub checkpoint_good : (s : State) → Holds true s → Good true s (checkpoint s)
@@ -138,4 +146,4 @@ pub due_good : (s : State) → Holds true s → Good true s (written_if_due s)
 due_good s h =
     let t = checkpoint s in
     let g = checkpoint_good s h in
-    test_good true s (due s) (record t { said = None }) (unmoved s) (λ _. record { fits = g.fits; holds = g.holds }) (λ _. same_good true s (unmoved s) refl refl h)
+    test_good true s (due s) (record t { said = None }) (unmoved s) (λ _. record { numbers = g.numbers; fits = g.fits; holds = g.holds }) (λ _. same_good true s (unmoved s) refl refl h)

@@ -1,5 +1,5 @@
 -- What stands is kept where calls that waited go on.
-use Rattle.std.proofs.Common.{◌≡◌, ◌∙◌, ◌&&◌, ◌||◌, inl, ℕ, zero, Bool, true, false, not, cond, List, [], ◌∷◌, ◌++◌, refl, ap, subst, sym, arith}
+use Rattle.std.proofs.Common.{◌≡◌, ◌==◌, ◌∙◌, ◌&&◌, ◌||◌, inl, ℕ, zero, Bool, true, false, not, cond, List, [], ◌∷◌, ◌++◌, refl, ap, subst, sym, arith}
 use Rattle.std.specs.Prelude.{is_some, unwrap_or, Option, Some, None, Result, Ok, Err, if◌then◌else◌}
 use Rattle.std.specs.Cmp.{nat_cmp_total}
 use Rattle.std.specs.FinMap as fin
@@ -14,16 +14,17 @@ use Rattle.gs_base.specs.declared.refusal.Refusal.TheVariants as refusals
 use Rattle.gs_edit.specs.View.{NamesView}
 use Rattle.gs_path.specs.Path.{Path}
 use Rattle.gs_tree.proofs.Levels.{both_true}
+use Rattle.gs_lease.specs.declared.view.Purpose.{Purpose}
 use Rattle.gs_lease.specs.declared.view.Purpose.TheVariants as purposes
 use Rattle.gs_lease.specs.declared.view.View.{View}
 use Rattle.gs_msg.specs.declared.answer.Answer.{Answer}
 use Rattle.gs_msg.specs.declared.answer.Answer.TheVariants as answers
-use Rattle.gs_record.specs.Plain.{PlainEdit, AddChunk, Cow, Snapshot, Edited}
+use Rattle.gs_record.specs.Plain.{PlainEdit, AddChunk, Cow, Snapshot, Propose, Edited}
 use Rattle.gs_record.specs.Writable.{IsHandle, IsPath}
-use Rattle.gs_state.specs.Applied.{is_fresh, is_visible, may_edit, with_edit}
+use Rattle.gs_state.specs.Applied.{proposed, is_fresh, is_visible, may_edit, with_edit}
 use Rattle.gs_state.specs.Beginning.{begin_at, copy_plan, has_handle, has_versions, members_at, next_stamp, waits_on}
 use Rattle.gs_state.specs.Chunks.{asking_for, chunk_at, may_begin}
-use Rattle.gs_state.specs.Durable.{Durable, is_listed, is_rolling}
+use Rattle.gs_state.specs.Durable.{Durable, is_given, is_listed, is_rolling}
 use Rattle.gs_state.specs.Sane.{are_apart, is_waited_by, makes, may_wait_for}
 use Rattle.gs_state.specs.Settling.{all_go_on, copied, edit_plan, edit_turn, ended_by_edit, ended_with, extended, goes_on, if_room_for, is_quiet_at, leased_next, own_request, replace_plan, replaced, replaced_if, source_chunks}
 use Rattle.gs_state.specs.State.{State, Turn, turned, unmoved, and_then, fits, ended_by, kept_in_memory, last_reply}
@@ -36,14 +37,16 @@ use Rattle.gs_state.specs.declared.pending.Pending.{Pending}
 use Rattle.gs_state.specs.declared.pending.Waiting.{Waiting}
 use Rattle.gs_state.specs.declared.pending.Waiting.TheVariants as waits
 use Rattle.gs_state.specs.declared.reply.KeptReply.{KeptReply}
-use Rattle.gs_laws.specs.Standing.{CanWait, IsToldWaiting, Stands}
+use Rattle.gs_laws.specs.Standing.{CanWait, IsToldWaiting, Stands, may_ask}
 use Rattle.gs_laws.proofs.Accepted.{edit_applies}
 use Rattle.gs_laws.proofs.AcceptedViews.{is_settled, or_left, or_right, proposes}
 use Rattle.gs_laws.proofs.Fresh.{next_is_fresh, not_false}
 use Rattle.gs_laws.proofs.GoingOn.{Ready, left_true, may_place, on_steps, viewed}
-use Rattle.gs_laws.proofs.KeptEdits.{cow_lists, edit_told}
+use Rattle.gs_laws.proofs.KeptEdits.{add_lists, cow_lists, edit_told}
 use Rattle.gs_laws.proofs.Spelled.{read_path}
-use Rattle.gs_laws.proofs.Standing.{NotAsked, end, keep, member_gone, now_answered, others_still, others_wait, place, recorded, same_call, same_number, same_parts, same_self, set_pending, set_so, set_wanted, wait, waits_now}
+use Rattle.gs_laws.specs.Numbered.{HasNumbers}
+use Rattle.gs_laws.proofs.Numbered.{keeps_numbers}
+use Rattle.gs_laws.proofs.Standing.{NotAsked, end, fewer_out, keep, member_gone, now_answered, others_still, others_wait, put_out, recorded, same_call, same_number, same_parts, same_self, set_pending, set_so, set_wanted, wait, waits_now}
 use Rattle.gs_laws.proofs.StandingCalls.{answers_of}
 use Rattle.gs_laws.proofs.StandingRecords.{edit_onto}
 use Rattle.gs_laws.proofs.StandingTurns.{Good, Holds, given_up, same_good, then_good}
@@ -102,6 +105,7 @@ pub record Stepped (req : ReqId) (waiting : Waiting) (s : State) (t : Turn) : Ty
   pub stands : Stands t.after.durable t.after.volatile
   pub others : Others req s.volatile t.after.volatile
   pub bare : is_snapshot waiting ≡ true → (c : ℕ) → fin.get s.volatile.moving c ≡ None → fin.get t.after.volatile.moving c ≡ None
+  pub numbers : HasNumbers s.durable → HasNumbers t.after.durable
 
 module _ (chunk : ℕ) (req : ReqId) (waiting : Waiting) where
   test_stepped : (s : State) (b : Bool) (t u : Turn) → (b ≡ true → Stepped req waiting s t) → (b ≡ false → Stepped req waiting s u) → Stepped req waiting s (if b then t else u)
@@ -110,13 +114,13 @@ module _ (chunk : ℕ) (req : ReqId) (waiting : Waiting) where
 
   given_stepped : (s : State) (refusal : Refusal) → Holds true s → Stepped req waiting s (ended_by s req refusal)
   given_stepped s refusal h =
-      let g = given_up true s req refusal h in record { stands = g.good.holds.stands; others = others_end req s.volatile (ended_by s req refusal).after.volatile g.pending g.fewer; bare = λ is c none. g.bare c none }
+      let g = given_up true s req refusal h in record { stands = g.good.holds.stands; others = others_end req s.volatile (ended_by s req refusal).after.volatile g.pending g.fewer; bare = λ is c none. g.bare c none; numbers = g.good.numbers }
 
   room_stepped : (s : State) (t : Turn) → Holds true s → Stepped req waiting s t → Stepped req waiting s (if_room_for s req t)
   room_stepped s t h a = test_stepped s (fits s.log t.records) t (ended_by s req refusals.Full) (λ _. a) (λ _. given_stepped s refusals.Full h)
 
   same_stepped : (s : State) → Holds true s → Stepped req waiting s (unmoved s)
-  same_stepped s h = record { stands = h.stands; others = record { waits = λ q f other. refl; asks = λ q other out. out }; bare = λ is c none. none }
+  same_stepped s h = record { stands = h.stands; others = record { waits = λ q f other. refl; asks = λ q other out. out }; bare = λ is c none. none; numbers = λ n. n }
 
   -- a call that is answered, for which nothing is asked
   record Answers_left (s : State) (w : Volatile) : Type 0 where
@@ -133,7 +137,7 @@ module _ (chunk : ℕ) (req : ReqId) (waiting : Waiting) where
 
   answered_stepped : (s : State) (answer : Answer) → Holds true s → NotAsked s.volatile req → Stepped req waiting s (ended_with s req answer)
   answered_stepped s answer h none =
-      let l = by_test (is_later (last_reply s req.client) req.number) refl in record { stands = l.stands; others = l.others; bare = λ is c out. l.bare c out }
+      let l = by_test (is_later (last_reply s req.client) req.number) refl in record { stands = l.stands; others = l.others; bare = λ is c out. l.bare c out; numbers = λ n. n }
     where
       reply : KeptReply
       reply = record { number = req.number; result = Ok answer }
@@ -190,11 +194,24 @@ module _ (chunk : ℕ) (req : ReqId) (waiting : Waiting) where
             ),
           )) in
           room_stepped s (turned s (edit_plan req edit answers.Nothing [])) h (record {
+            numbers = λ n. subst (λ o. HasNumbers (unwrap_or o s.durable)) (sym fit) (keeps_numbers (Edited req edit) refl s.durable next (edit_told edit told) h.stands.kept n fit);
             stands = subst (λ o. Stands (unwrap_or o s.durable) (changed v (changes.End req))) (sym fit) ended;
             others = others_end req v (changed v (changes.End req)) refl (λ q out. out);
             bare = λ is c none. none;
           })
       by_names (Err refusal) e = given_stepped s refusal h
+
+  -- a chunk that is settled was given
+  given_so : (d : Durable) (new : ℕ) {v : Volatile} → Stands d v → is_settled d new ≡ true → is_given d.next_handle new ≡ true
+  given_so d new h some = h.kept.handles new some
+
+  -- one that has its place is out no more
+  back_in : (e : Durable) (w : Volatile) (new : ℕ) (outs : List ℕ) → Stands e (record w { taken_out = new ∷ outs }) → is_listed e new ≡ true → Stands e (record w { taken_out = outs })
+  back_in e w new outs h listed = fewer_out e (record w { taken_out = new ∷ outs }) h outs (λ q here. or_right (new == q) (is_member outs q) here) (λ q some. by_test q (new == q) refl (h.counted q some))
+    where
+      by_test : (q : ℕ) (b : Bool) → (new == q) ≡ b → (is_listed e q || (is_member w.unplaced q || (b || is_member outs q))) ≡ true → (is_listed e q || (is_member w.unplaced q || is_member outs q)) ≡ true
+      by_test q true is k = ap (λ b. b || (is_member w.unplaced q || is_member outs q)) (ap (is_listed e) (sym (same_number new q is)) ∙ listed)
+      by_test q false is k = k
 
   -- the chunk of an extend gets its place
   extended_stepped : (s : State) (path : Path) (new : ℕ) (view : View) → IsPath path → is_visible path ≡ true → IsHandle new → new ≡ chunk → Holds true s → NotAsked s.volatile req → fin.get s.volatile.moving new ≡ None → is_snapshot waiting ≡ false → Ready chunk s.durable
@@ -213,10 +230,13 @@ module _ (chunk : ℕ) (req : ReqId) (waiting : Waiting) where
           let fit = edit_applies ⊥ s.durable req edit names e may in
           let next = with_edit s.durable req edit names in
           let w = changed s.volatile (changes.Place new) in
-          let placed = place s.durable s.volatile h.stands new still in
-          let on = recorded s.durable next w (edit_onto s.durable next w req edit placed (edit_told edit (told, handle)) (answers_of s.durable edit h.stands.kept (told, handle))
+          let wide = record w { taken_out = new ∷ s.volatile.taken_out } in
+          let placed = put_out s.durable s.volatile h.stands new (given_so s.durable new h.stands (ap (is_settled s.durable) same ∙ r.known)) still in
+          let into = recorded s.durable next wide (edit_onto s.durable next wide req edit placed (edit_told edit (told, handle)) (answers_of s.durable edit h.stands.kept (told, handle))
           (record { asked = λ q some. refl; placed = λ q here k. false≢true (sym (member_gone s.durable s.volatile h.stands s.volatile.unplaced new) ∙ ap (is_member (without_handle s.volatile.unplaced new)) (number_is k) ∙ here) }) fit) placed in
+          let on = back_in next w new s.volatile.taken_out into (add_lists path new s.durable.names names e) in
           room_stepped s (turned s (edit_plan req edit answer (changes.Place new ∷ []))) h (record {
+            numbers = λ n. subst (λ o. HasNumbers (unwrap_or o s.durable)) (sym fit) (keeps_numbers (Edited req edit) refl s.durable next (edit_told edit (told, handle)) h.stands.kept n fit);
             stands = subst (λ o. Stands (unwrap_or o s.durable) (changed w (changes.End req))) (sym fit) (end req next w on (λ c a has call. absurd (true≢false (sym call ∙ none c a has))));
             others = others_end req s.volatile (changed w (changes.End req)) refl (λ q out. out);
             bare = λ is. absurd (true≢false (sym is ∙ other));
@@ -228,8 +248,9 @@ module _ (chunk : ℕ) (req : ReqId) (waiting : Waiting) where
 
   -- ---- views
 
-  waits_wanted : (v : Volatile) (next : Waiting) (c : ℕ) → are_apart v.pending ≡ true → may_wait_for c next ≡ true → is_pending v.pending req ≡ true → (d : Durable) → IsFor d (changed v (changes.Wait req next)) c (Some req)
-  waits_wanted v next c apart right here d = record {
+  waits_wanted : (v : Volatile) (next : Waiting) (c : ℕ) (purpose : Purpose) → are_apart v.pending ≡ true → may_wait_for c next ≡ true → may_ask purpose next ≡ true → is_pending v.pending req ≡ true → (d : Durable) → IsFor d (changed v (changes.Wait req next)) c purpose (Some req)
+  waits_wanted v next c purpose apart right asks here d = record {
+    purposed = ap (λ ps. list_all (λ (p : Pending). not (same_call p.req req) || may_ask purpose p.waits) ps) (set_so v.pending req next) ∙ set_wanted req next (may_ask purpose) v.pending apart asks here;
     wanted = ap (λ ps. list_all (λ (p : Pending). not (same_call p.req req) || may_wait_for c p.waits) ps) (set_so v.pending req next) ∙ set_wanted req next (may_wait_for c) v.pending apart right here;
     past = λ r e. or_left (is_pending (with_waiting v.pending req next) r) _ (ap (λ ps. is_pending ps r) (set_so v.pending req next) ∙ set_pending req next r v.pending ∙ ap (is_pending v.pending) (sym (req_is e)) ∙ here);
   }
@@ -254,9 +275,10 @@ module _ (chunk : ℕ) (req : ReqId) (waiting : Waiting) where
       let waited = wait req next s.durable v h.stands (visible, told) none in
       let fit = proposes s.durable new zero r.rolling parts.1 (or_right (is_settled s.durable new) (is_fresh new new) (next_is_fresh new 1 (omega arith) parts.0)) in
       let made = ap (is_waited_by (Some req) (makes new)) (set_so v.pending req next) ∙ waits_now req next (makes new) v.pending h.stands.apart here ∙ ap (λ b. b || false) (eqb_itself new) in
-      let stands = proposed_new s.durable w purposes.Quiet view.members (Some req) waited r.rolling parts.1 parts.0 (waits_wanted v next new h.stands.apart (eqb_itself new) here s.durable) made in
+      let stands = proposed_new s.durable w purposes.Quiet view.members (Some req) waited r.rolling parts.1 parts.0 (waits_wanted v next new purposes.Quiet h.stands.apart (eqb_itself new) refl here s.durable) made in
       let asking = asking_for (next_stamp s.durable) purposes.Quiet view.members (Some req) in
       room_stepped s (turned s plan) h (record {
+        numbers = λ n. subst (λ o. HasNumbers (unwrap_or o s.durable)) (sym fit) (keeps_numbers (Propose new s.durable.next_version) refl s.durable (proposed s.durable new s.durable.next_version) tt h.stands.kept n fit);
         stands = subst (λ o. Stands (unwrap_or o s.durable) (changed (changed w (changes.Enter new)) (changes.Ask new asking))) (sym fit) stands;
         others = others_waits req next v (changed (changed w (changes.Enter new)) (changes.Ask new asking)) new asking refl refl refl;
         bare = λ is. absurd (true≢false (sym is ∙ other));
@@ -278,9 +300,10 @@ module _ (chunk : ℕ) (req : ReqId) (waiting : Waiting) where
       let members = members_at (chunk_at s new) in
       let waited = wait req next s.durable v h.stands (visible, told) none in
       let fit = proposes s.durable new zero rolling some (or_left (is_settled s.durable new) (is_fresh s.durable.next_handle new) known) in
-      let stands = proposed_settled s.durable w purposes.Lease members (Some req) waited rolling some new known (or_left (is_listed s.durable new) (is_member v.unplaced new) listed) (inl listed) (waits_wanted v next new h.stands.apart (eqb_itself new) here s.durable) in
+      let stands = proposed_settled s.durable w purposes.Lease members (Some req) waited rolling some new known (or_left (is_listed s.durable new) (is_member v.unplaced new) listed) (inl listed) (waits_wanted v next new purposes.Lease h.stands.apart (eqb_itself new) refl here s.durable) in
       let asking = asking_for (next_stamp s.durable) purposes.Lease members (Some req) in
       room_stepped s (turned s plan) h (record {
+        numbers = λ n. subst (λ o. HasNumbers (unwrap_or o s.durable)) (sym fit) (keeps_numbers (Propose new s.durable.next_version) refl s.durable (proposed s.durable new s.durable.next_version) tt h.stands.kept n fit);
         stands = subst (λ o. Stands (unwrap_or o s.durable) (changed w (changes.Ask new asking))) (sym fit) stands;
         others = others_waits req next v (changed w (changes.Ask new asking)) new asking refl refl refl;
         bare = λ is. absurd (true≢false (sym is ∙ other));
@@ -302,9 +325,11 @@ module _ (chunk : ℕ) (req : ReqId) (waiting : Waiting) where
           let fit = edit_applies ⊥ s.durable own_request edit names e may in
           let next = with_edit s.durable own_request edit names in
           let w = changed s.volatile (changes.Place new) in
-          let placed = place s.durable s.volatile h.stands new still in
-          let on = recorded s.durable next w (edit_onto s.durable next w own_request edit placed (read_path path told.1) (λ well a is. absurd (false≢true (ap is_some is)))
+          let wide = record w { taken_out = new ∷ s.volatile.taken_out } in
+          let placed = put_out s.durable s.volatile h.stands new (given_so s.durable new h.stands (ap (is_settled s.durable) same ∙ r.known)) still in
+          let into = recorded s.durable next wide (edit_onto s.durable next wide own_request edit placed (read_path path told.1) (λ well a is. absurd (false≢true (ap is_some is)))
           (record { asked = λ q some. refl; placed = λ q out k. false≢true (sym (member_gone s.durable s.volatile h.stands s.volatile.unplaced new) ∙ ap (is_member (without_handle s.volatile.unplaced new)) (number_is k) ∙ out) }) fit) placed in
+          let on = back_in next w new s.volatile.taken_out into (cow_lists path index old new s.durable.names names e) in
           let after = (turned s plan).after in
           let held : Holds true after = record {
             stands = subst (λ o. Stands (unwrap_or o s.durable) w) (sym fit) on;
@@ -313,7 +338,7 @@ module _ (chunk : ℕ) (req : ReqId) (waiting : Waiting) where
           let rest = leased_stepped after path index new told visible held none here other (ap (λ o. is_rolling (unwrap_or o s.durable).phase) fit ∙ r.rolling)
           (ap (λ o. is_settled (unwrap_or o s.durable) new) fit ∙ ap (is_settled s.durable) same ∙ r.known) (ap (λ o. is_listed (unwrap_or o s.durable) new) fit ∙ cow_lists path index old new s.durable.names names e) in
           test_stepped s (fits s.log (Edited own_request edit ∷ [])) (and_then (turned s plan) then_lease) (ended_by s req refusals.Full)
-          (λ _. record { stands = rest.stands; others = record { waits = λ q f out. rest.others.waits q f out; asks = λ q out k. rest.others.asks q out k }; bare = λ is. absurd (true≢false (sym is ∙ other)) })
+          (λ _. record { numbers = λ n. rest.numbers (subst (λ o. HasNumbers (unwrap_or o s.durable)) (sym fit) (keeps_numbers (Edited own_request edit) refl s.durable next (read_path path told.1) h.stands.kept n fit)); stands = rest.stands; others = record { waits = λ q f out. rest.others.waits q f out; asks = λ q out k. rest.others.asks q out k }; bare = λ is. absurd (true≢false (sym is ∙ other)) })
           (λ _. given_stepped s refusals.Full h)
         where
           number_is : {a b : ℕ} → ◌≡◌ {A = Option ℕ} (Some a) (Some b) → a ≡ b
@@ -381,6 +406,25 @@ still_going : (chunk : ℕ) (v w : Volatile) (p : Pending) (ps : List Pending) �
 still_going chunk v w p [] o bare apart go = tt
 still_going chunk v w p (q ∷ ps) o bare apart go = (still_can chunk v w p q o bare apart.0 go.0, (go.1.0, still_going chunk v w p ps o bare apart.1 go.1.1))
 
+-- one goes on, and what the rest meets
+pub record GoesSo (chunk : ℕ) (view : View) (p : Pending) (calls : List Pending) (s : State) : Type 0 where
+  pub held : Holds true (goes_on s p.req view p.waits).after
+  pub going : Going chunk (goes_on s p.req view p.waits).after.volatile calls
+  pub ready : Ready chunk (goes_on s p.req view p.waits).after.durable
+  pub bare : is_snapshot p.waits ≡ true → (c : ℕ) → fin.get s.volatile.moving c ≡ None → fin.get (goes_on s p.req view p.waits).after.volatile.moving c ≡ None
+
+pub one_goes_so : (chunk : ℕ) (view : View) (p : Pending) (calls : List Pending) (s : State) → Holds true s → Going chunk s.volatile (p ∷ calls) → Ready chunk s.durable → GoesSo chunk view p calls s
+one_goes_so chunk view p calls s h go r =
+    let t = goes_on s p.req view p.waits in
+    let steps = on_steps chunk s p.req view p.waits (both_true (list_all is_visible (paths_of p.waits)) (may_wait_for chunk p.waits) go.0.can.0 go.0.may) r in
+    let so = goes_so chunk s p.req view p.waits h go.0 r in
+    record {
+      held = record { stands = so.stands; rolling = λ c k. absurd (true≢false (sym k ∙ steps.ready.rolling)) };
+      going = still_going chunk s.volatile t.after.volatile p calls so.others so.bare go.1.0 go.1.1;
+      ready = steps.ready;
+      bare = so.bare;
+    }
+
 pub all_going : (chunk : ℕ) (view : View) (calls : List Pending) (s : State) → Holds true s → Going chunk s.volatile calls → Ready chunk s.durable → Good true s (all_go_on view calls s)
 all_going chunk view [] s h go r = same_good true s (unmoved s) refl refl h
 all_going chunk view (p ∷ calls) s h go r =
@@ -388,5 +432,5 @@ all_going chunk view (p ∷ calls) s h go r =
     let steps = on_steps chunk s p.req view p.waits (both_true (list_all is_visible (paths_of p.waits)) (may_wait_for chunk p.waits) go.0.can.0 go.0.may) r in
     let so = goes_so chunk s p.req view p.waits h go.0 r in
     let held : Holds true t.after = record { stands = so.stands; rolling = λ c k. absurd (true≢false (sym k ∙ steps.ready.rolling)) } in
-    then_good true s t (all_go_on view calls) (record { fits = steps.goes.fits; holds = held })
+    then_good true s t (all_go_on view calls) (record { numbers = so.numbers; fits = steps.goes.fits; holds = held })
     (all_going chunk view calls t.after held (still_going chunk s.volatile t.after.volatile p calls so.others so.bare go.1.0 go.1.1) steps.ready)

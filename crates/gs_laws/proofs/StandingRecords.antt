@@ -1,5 +1,5 @@
 -- What stands is kept by each record.
-use Rattle.std.proofs.Common.{◌≡◌, inl, inr, ◌∙◌, ◌+◌, ◌&&◌, ◌||◌, ◌==◌, ℕ, Bool, true, false, not, cond, refl, ap, sym, arith}
+use Rattle.std.proofs.Common.{◌≡◌, ◌⊎◌, inl, inr, ◌∙◌, ◌+◌, ◌&&◌, ◌||◌, ◌==◌, ℕ, Bool, true, false, not, cond, refl, ap, sym, arith}
 use Rattle.std.specs.Prelude.{nat_lt, is_some, Option, Some, None, Result, Ok, Err, if◌then◌else◌}
 use Rattle.std.specs.Cmp.{nat_cmp_total}
 use Rattle.std.specs.FinMap as fin
@@ -45,6 +45,7 @@ same_leaves d e chunk names chunks upgrade = record {
   follows = λ stamp f. ap (λ m. follows_view (fin.get m chunk) stamp) chunks ∙ f;
   since = λ stamp f. ap (λ m. is_since (upgrade_epoch e.phase e.epoch) (fin.get m chunk) stamp) chunks ∙ ap (λ u. is_since u (fin.get d.chunks chunk) stamp) upgrade ∙ f;
   none = λ n. ap (λ m. fin.get m chunk) (sym chunks) ∙ n;
+  bare = λ n. ap (λ m. fin.get m chunk) chunks ∙ n;
 }
 
 pub said_onto : (d e : Durable) (v : Volatile) (to : ReqId) (refusal : Refusal) → Stands d v → applied d (Said to refusal) ≡ Some e → Onto d e v
@@ -58,6 +59,7 @@ said_onto d e v to refusal h fit =
       versions = λ q g. g;
       epoch = omega arith;
       chunks = λ q some. same_leaves d n q refl refl refl;
+      settled = λ q some. inl (some, λ l. l);
       unlisted = λ q here out. out;
       answered = told_answers d v to (Err refusal);
       ordinary = λ p o. o;
@@ -122,12 +124,18 @@ named_onto d e v by edit h told answers may fit (Ok names) named k =
             follows = λ stamp f. ap (λ o. follows_view o stamp) same_chunk ∙ f;
             since = λ stamp f. ap (λ o. is_since (upgrade_epoch d.phase d.epoch) o stamp) same_chunk ∙ f;
             none = λ new. sym same_chunk ∙ new;
+            bare = λ new. same_chunk ∙ new;
           });
+      settled = λ q some. by_forgotten q (among q (forgotten_by edit)) refl (sym (ap is_some (get_left d (forgotten_by edit) q)) ∙ some);
       unlisted = λ q here out. not_so (is_some (fin.get names.refs q)) (λ listed. by_before q here out (listed_before edit d.names names q named listed));
       answered = λ req was. answers_stay d v by (answer_to edit (view_for d (chunk_of_edit edit)) d.epoch) req was;
       ordinary = λ p o. o;
     })
   where
+    by_forgotten : (q : ℕ) (b : Bool) → among q (forgotten_by edit) ≡ b → is_some (cond b None (fin.get d.chunks q)) ≡ true → ((is_some (fin.get d.chunks q) ≡ true) × (is_listed d q ≡ true → is_some (fin.get names.refs q) ≡ true)) ⊎ ((is_some (fin.get names.refs q) || is_member v.unplaced q) ≡ true)
+    by_forgotten q true is some = absurd (false≢true some)
+    by_forgotten q false is some = inl (some, λ l. listed_after edit d.names names q named l is)
+
     by_before : (q : ℕ) → is_member v.unplaced q ≡ true → is_listed d q ≡ false → WasListed edit d.names.refs q → ⊥
     by_before q here out (inl new) = may.placed q here new
     by_before q here out (inr was) = true≢false (sym was.0 ∙ out)
@@ -152,6 +160,7 @@ propose_onto d e v chunk version h low few fit =
       versions = λ q g. given_behind d.next_version version q fresh g;
       epoch = omega arith;
       chunks = λ q some. proposed_leaves (fin.get d.chunks chunk) refl q;
+      settled = λ q some. inl (was_settled (fin.get d.chunks chunk) refl q some, λ l. l);
       unlisted = λ q here out. out;
       answered = λ req was. was;
       ordinary = λ p o. o;
@@ -166,24 +175,32 @@ propose_onto d e v chunk version h low few fit =
 
     by_key : (s : Settled) (q : ℕ) → fin.get d.chunks chunk ≡ Some s → (b : Bool) → eq_by_cmp nat_cmp q chunk ≡ b → (o : Option Settled) → o ≡ cond b (Some (record s { is_moving = true })) (fin.get d.chunks q)
         → ((stamp : Stamp) → follows_view (fin.get d.chunks q) stamp ≡ true → follows_view o stamp ≡ true) × (((stamp : Stamp) → is_since (upgrade_epoch d.phase d.epoch) (fin.get d.chunks q) stamp ≡ true → is_since (upgrade_epoch d.phase d.epoch) o stamp ≡ true)
-        × (o ≡ None → fin.get d.chunks q ≡ None))
+        × ((o ≡ None → fin.get d.chunks q ≡ None) × (fin.get d.chunks q ≡ None → o ≡ None)))
     by_key s q has true is o e = (
       λ stamp f. ap (λ x. follows_view x stamp) e ∙ moves s.is_moving (is_before s.view.stamp stamp) (ap (λ x. follows_view x stamp) (sym (ap (fin.get d.chunks) (same_key q chunk is) ∙ has)) ∙ f),
-      (λ stamp f. ap (λ x. is_since (upgrade_epoch d.phase d.epoch) x stamp) e ∙ since_any (upgrade_epoch d.phase d.epoch) (record s { is_moving = true }) stamp, λ none. absurd (false≢true (sym (ap is_some none) ∙ ap is_some e))),
+      (λ stamp f. ap (λ x. is_since (upgrade_epoch d.phase d.epoch) x stamp) e ∙ since_any (upgrade_epoch d.phase d.epoch) (record s { is_moving = true }) stamp, (λ none. absurd (false≢true (sym (ap is_some none) ∙ ap is_some e)), λ none. absurd (false≢true (sym (ap is_some none) ∙ ap is_some (ap (fin.get d.chunks) (same_key q chunk is) ∙ has))))),
     )
-    by_key s q has false is o e = (λ stamp f. ap (λ x. follows_view x stamp) e ∙ f, (λ stamp f. ap (λ x. is_since (upgrade_epoch d.phase d.epoch) x stamp) e ∙ f, λ none. sym e ∙ none))
+    by_key s q has false is o e = (λ stamp f. ap (λ x. follows_view x stamp) e ∙ f, (λ stamp f. ap (λ x. is_since (upgrade_epoch d.phase d.epoch) x stamp) e ∙ f, (λ none. sym e ∙ none, λ none. e ∙ none)))
+
+    was_settled : (o : Option Settled) → fin.get d.chunks chunk ≡ o → (q : ℕ) → is_some (fin.get (with_proposal d chunk o) q) ≡ true → is_some (fin.get d.chunks q) ≡ true
+    was_settled None has q some = some
+    was_settled (Some s) has q some = by_tied (eq_by_cmp nat_cmp q chunk) refl (sym (ap is_some (fin.get-insert nat_cmp_total d.chunks chunk (record s { is_moving = true }) q)) ∙ some)
+      where
+        by_tied : (b : Bool) → eq_by_cmp nat_cmp q chunk ≡ b → is_some (cond b (Some (record s { is_moving = true })) (fin.get d.chunks q)) ≡ true → is_some (fin.get d.chunks q) ≡ true
+        by_tied true is k = ap is_some (ap (fin.get d.chunks) (same_key q chunk is) ∙ has)
+        by_tied false is k = k
 
     proposed_leaves : (o : Option Settled) → fin.get d.chunks chunk ≡ o → (q : ℕ) → Leaves d (record (proposed d chunk version) { chunks = with_proposal d chunk o }) q
-    proposed_leaves None has q = record { listed = λ l. l; follows = λ stamp f. f; since = λ stamp f. f; none = λ none. none }
+    proposed_leaves None has q = record { listed = λ l. l; follows = λ stamp f. f; since = λ stamp f. f; none = λ none. none; bare = λ none. none }
     proposed_leaves (Some s) has q =
         let k = by_key s q has (eq_by_cmp nat_cmp q chunk) refl (fin.get (fin.insert d.chunks chunk (record s { is_moving = true })) q) (fin.get-insert nat_cmp_total d.chunks chunk (record s { is_moving = true }) q) in
-        record { listed = λ l. l; follows = k.0; since = k.1.0; none = k.1.1 }
+        record { listed = λ l. l; follows = k.0; since = k.1.0; none = k.1.1.0; bare = k.1.1.1 }
 
 -- ---- views
 
-pub settle_onto : (d e : Durable) (v : Volatile) (view : SettledView) → Stands d v → IsToldView view.view → fin.get v.moving view.handle ≡ None → applied d (Settle view) ≡ Some e → Onto d e v
+pub settle_onto : (d e : Durable) (v : Volatile) (view : SettledView) → Stands d v → IsToldView view.view → fin.get v.moving view.handle ≡ None → (is_listed d view.handle || is_member v.unplaced view.handle) ≡ true → applied d (Settle view) ≡ Some e → Onto d e v
 unfolding applied
-settle_onto d e v view h told none fit =
+settle_onto d e v view h told none known fit =
     let n = with_view d view in
     let is = fits_gives (may_be_settled d view) n e fit in
     as_next is.1 (λ x. Onto d x v) (record {
@@ -193,12 +210,17 @@ settle_onto d e v view h told none fit =
       versions = λ q g. g;
       epoch = omega arith;
       chunks = λ q some. (let same = fin.get-insert nat_cmp_total d.chunks view.handle (record { view = view.view; is_moving = false }) q ∙ by_key q some (eq_by_cmp nat_cmp q view.handle) refl in
-          record { listed = λ l. l; follows = λ stamp f. ap (λ o. follows_view o stamp) same ∙ f; since = λ stamp f. ap (λ o. is_since (upgrade_epoch d.phase d.epoch) o stamp) same ∙ f; none = λ new. sym same ∙ new });
+          record { listed = λ l. l; follows = λ stamp f. ap (λ o. follows_view o stamp) same ∙ f; since = λ stamp f. ap (λ o. is_since (upgrade_epoch d.phase d.epoch) o stamp) same ∙ f; none = λ new. sym same ∙ new; bare = λ new. same ∙ new });
+      settled = λ q some. by_handle q (eq_by_cmp nat_cmp q view.handle) refl (sym (ap is_some (fin.get-insert nat_cmp_total d.chunks view.handle (record { view = view.view; is_moving = false }) q)) ∙ some);
       unlisted = λ q here out. out;
       answered = λ req was. was;
       ordinary = λ p o. o;
     })
   where
+    by_handle : (q : ℕ) (b : Bool) → eq_by_cmp nat_cmp q view.handle ≡ b → is_some (cond b (Some (record { view = view.view; is_moving = false })) (fin.get d.chunks q)) ≡ true → ((is_some (fin.get d.chunks q) ≡ true) × (is_listed d q ≡ true → is_listed d q ≡ true)) ⊎ ((is_listed d q || is_member v.unplaced q) ≡ true)
+    by_handle q true is some = inr (ap (λ c. is_listed d c || is_member v.unplaced c) (same_key q view.handle is) ∙ known)
+    by_handle q false is some = inl (some, λ l. l)
+
     by_key : (q : ℕ) → is_some (fin.get v.moving q) ≡ true → (b : Bool) → eq_by_cmp nat_cmp q view.handle ≡ b → cond b (Some (record { view = view.view; is_moving = false })) (fin.get d.chunks q) ≡ fin.get d.chunks q
     by_key q some true is = absurd (false≢true (sym (ap is_some none) ∙ ap (λ c. is_some (fin.get v.moving c)) (sym (same_key q view.handle is)) ∙ some))
     by_key q some false is = refl
@@ -215,6 +237,7 @@ holder_onto d e v chunk server h fit =
       versions = λ q g. g;
       epoch = omega arith;
       chunks = λ q some. same_leaves d n q refl refl refl;
+      settled = λ q some. inl (some, λ l. l);
       unlisted = λ q here out. out;
       answered = λ req was. was;
       ordinary = λ p o. o;
@@ -234,6 +257,7 @@ prepare_onto d e v epoch moment chunks h still over fit =
       versions = λ q g. g;
       epoch = omega arith;
       chunks = λ q some. absurd (false≢true (sym (ap is_some (still q)) ∙ some));
+      settled = λ q some. inl (some, λ l. l);
       unlisted = λ q here out. out;
       answered = λ req was. was;
       ordinary = λ p o. absurd (false≢true (sym over ∙ p));
@@ -250,7 +274,8 @@ finalize_onto d e v epoch h fit =
       handles = λ q g. g;
       versions = λ q g. g;
       epoch = omega arith;
-      chunks = λ q some. record { listed = λ l. l; follows = λ stamp f. f; since = λ stamp f. refl; none = λ new. new };
+      chunks = λ q some. record { listed = λ l. l; follows = λ stamp f. f; since = λ stamp f. refl; none = λ new. new; bare = λ new. new };
+      settled = λ q some. inl (some, λ l. l);
       unlisted = λ q here out. out;
       answered = λ req was. was;
       ordinary = λ p o. refl;
@@ -269,6 +294,7 @@ begin_onto d e v epoch h fit =
       versions = λ q g. g;
       epoch = omega arith;
       chunks = λ q some. same_leaves d n q refl refl (goes_on d.phase upgrade);
+      settled = λ q some. inl (some, λ l. l);
       unlisted = λ q here out. out;
       answered = λ req was. was;
       ordinary = λ p o. absurd (not_both d.phase upgrade o);

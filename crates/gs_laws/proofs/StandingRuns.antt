@@ -1,11 +1,12 @@
 -- What stands is kept by every event, so over every run.
-use Rattle.std.proofs.Common.{◌≡◌, ◌∙◌, ◌&&◌, ◌==◌, inr, ℕ, Bool, true, false, not, List, [], ◌∷◌, length, refl, ap, sym, arith}
+use Rattle.std.proofs.Common.{◌≡◌, ◌∙◌, ◌&&◌, ◌||◌, ◌==◌, inr, ℕ, Bool, true, false, not, List, [], ◌∷◌, length, refl, ap, sym, arith}
 use Rattle.std.specs.Prelude.{is_some, nat_lt, Option, Some, None, Err, if◌then◌else◌}
 use Rattle.std.specs.FinMap as fin
 use Rattle.std.specs.List.{AllByRecursion, list_all, list_any}
 use Rattle.std.specs.Ordering.{nat_cmp}
 use Rattle.std.proofs.lemmas.Bool.{false≢true, and_parts}
 use Rattle.std.proofs.lemmas.Bool.Decides.{nat_tests}
+use Rattle.gs_base.specs.Members.{is_member}
 use Rattle.gs_base.specs.Told.{IsNumber}
 use Rattle.gs_base.specs.declared.config.Config.{Config}
 use Rattle.gs_base.specs.declared.numbers.Moment.{Moment}
@@ -36,8 +37,8 @@ use Rattle.gs_record.specs.Plain.{Mkdirs, Create, Rename, Unhide}
 use Rattle.gs_state.specs.Beginning.{all_begun, has_versions}
 use Rattle.gs_state.specs.Calls.{found_chunk, is_always_taken, is_work, listing, location, refused_before, status, told_phase}
 use Rattle.gs_state.specs.Chunks.{chunk_at, has_entry, may_begin}
-use Rattle.gs_state.specs.Durable.{Durable, Settled, is_rolling}
-use Rattle.gs_state.specs.Handling.{recover, recovered_from, about_turn, call_turn, called, called_unless, fresh, from_client, from_node, granted, handle, numbered, pressed, proposals, replied_again, restarted, server_turn, taken_as, tick, unless_failed, waits_still, written_if_due, Numbered, New, Again, Older}
+use Rattle.gs_state.specs.Durable.{Durable, Settled, is_listed, is_rolling}
+use Rattle.gs_state.specs.Handling.{recover, recovered_from, about_turn, call_turn, called, called_unless, fresh, from_client, from_node, granted, handle, numbered, pressed, proposals, replied_again, restarted, unlisted, server_turn, taken_as, tick, unless_failed, waits_still, written_if_due, Numbered, New, Again, Older}
 use Rattle.gs_state.specs.Hearing.{behind, damaged, drops, is_leased_under, is_lost_at, is_told_sound, learned, lost, made_quiet, next_epoch, renewed, reported, reported_now, sends}
 use Rattle.gs_state.specs.Replies.{is_later}
 use Rattle.gs_state.specs.State.{State, Log, Plan, Turn, turned, unmoved, met_by, and_then, fits, for_each, if_room, is_failed, is_unopened, last_reply}
@@ -53,11 +54,14 @@ use Rattle.gs_laws.specs.Standing.{RunsRecover, AreCounters, CanWait, FirmGoesOn
 use Rattle.gs_laws.proofs.Accepted.{may_so, unhide_well}
 use Rattle.gs_laws.proofs.AcceptedCalls.{Passes, left_false, one_visible, passes, two_visible}
 use Rattle.gs_laws.proofs.AcceptedViews.{filter_holds, is_settled}
+use Rattle.gs_laws.specs.Numbered.{EventsKeepNumbers, RunsKeepNumbers}
 use Rattle.gs_laws.proofs.KeptAll.{start_kept}
+use Rattle.gs_laws.proofs.Numbered.{start_numbers}
 use Rattle.gs_laws.proofs.Standing.{restored}
 use Rattle.gs_laws.proofs.StandingAnswers.{pressed_good, promised_good, unpromised_good}
 use Rattle.gs_laws.proofs.StandingCalls.{deleted_good, extends_good, found_good, most_good, plain_good, snapshot_if_good}
-use Rattle.gs_laws.proofs.StandingCheckpoints.{checkpoint_good, due_good}
+use Rattle.gs_laws.proofs.Resting.{found_member, member_found}
+use Rattle.gs_laws.proofs.StandingCheckpoints.{checkpoint_good, due_good, member_stays, member_was}
 use Rattle.gs_laws.proofs.StandingTurns.{Good, Holds, answered_good, looked_good, none_good, refused_good, same_good, test_good, then_good}
 use Rattle.gs_laws.proofs.StandingUpgrades.{abort_good, begin_good, commit_good, finalize_good, prepare_good, rolled_good, scans_good}
 use Rattle.gs_laws.proofs.StandingViews.{MayBegin, all_begun_good, for_none}
@@ -70,12 +74,21 @@ opens_firm d log kept counters = record {
     counters = counters;
     asked = λ chunk asking has. absurd (false≢true (sym (ap is_some (fin.get-empty nat_cmp chunk)) ∙ ap is_some has));
     unplaced = λ chunk here. absurd (false≢true here);
+    counted = λ chunk some. by_listed chunk some (is_listed d chunk) refl;
+    out = λ chunk here. (kept.handles chunk (was_settled chunk here), refl);
     apart = refl;
     calls = tt;
     preparing = λ p. absurd (false≢true p);
   };
   rolling = λ r. refl;
 }
+  where
+    by_listed : (chunk : ℕ) → is_some (fin.get d.chunks chunk) ≡ true → (b : Bool) → is_listed d chunk ≡ b → (b || (false || is_member (unlisted d) chunk)) ≡ true
+    by_listed chunk some true is = refl
+    by_listed chunk some false is = member_stays (λ c. not (is_listed d c)) (fin.keys d.chunks) chunk (ap not is) (found_member (fin.entries d.chunks) chunk (ap is_some (sym (fin.get-entries d.chunks chunk)) ∙ some))
+
+    was_settled : (chunk : ℕ) → is_member (unlisted d) chunk ≡ true → is_some (fin.get d.chunks chunk) ≡ true
+    was_settled chunk here = ap is_some (fin.get-entries d.chunks chunk) ∙ member_found (fin.entries d.chunks) chunk (member_was (λ c. not (is_listed d c)) (fin.keys d.chunks) chunk here)
 
 pub starts_firm : StartsFirm
 starts_firm log = opens_firm (fresh log).durable log start_kept (record { handle = omega arith; version = omega arith; hidden = omega arith })
@@ -183,7 +196,7 @@ module _ (s : State) (h : Holds true s) where
       let all = all_begun s many purposes.Quiet None in
       test_good true s (has_versions s.durable (length many)) (if_room s all (unmoved s)) (unmoved s)
       (λ left. test_good true s (fits s.log all.records) all (unmoved s)
-      (λ _. all_begun_good true many purposes.Quiet None s h (record { rolling = rolling; left = left; known = known; owned = inr refl; for = λ c. for_none s.durable s.volatile c })) (λ _. still_good)) (λ _. still_good)
+      (λ _. all_begun_good true many purposes.Quiet None s h (record { rolling = rolling; left = left; known = known; owned = inr refl; for = λ c. for_none s.durable s.volatile c purposes.Quiet })) (λ _. still_good)) (λ _. still_good)
 
   damaged_good : (server chunk : ℕ) → Good true s (damaged s server chunk)
   damaged_good server chunk =
@@ -276,7 +289,7 @@ event_good : (config : Config) (event : Event) (s : State) → IsNamed event →
 event_good config (Comes message moment) s named h = message_good s h config message moment named.0 named.1
 event_good config (Ticks moment) s named h = tick_good s moment h
 event_good config Renews s named h = checkpoint_good s h
-event_good config Restarts s named h = let f = opens_firm s.durable s.log h.stands.kept h.stands.counters in record { fits = refl; holds = record { stands = f.stands; rolling = λ c r. f.rolling r } }
+event_good config Restarts s named h = let f = opens_firm s.durable s.log h.stands.kept h.stands.counters in record { numbers = λ n. n; fits = refl; holds = record { stands = f.stands; rolling = λ c r. f.rolling r } }
 
 pub events_fit : EventsFit
 events_fit config s event named firm = firm_of s (turn_of config s event) (event_good config event s named (holds_of s firm))
@@ -288,6 +301,12 @@ run_good config (event ∷ events) s named h =
 
 pub runs_fit : RunsFit
 runs_fit config log events named = firm_of (fresh log) (run_of config (fresh log) events) (run_good config events (fresh log) named (holds_of (fresh log) (starts_firm log)))
+
+pub events_keep_numbers : EventsKeepNumbers
+events_keep_numbers config s event named firm = (event_good config event s named (holds_of s firm)).numbers
+
+pub runs_keep_numbers : RunsKeepNumbers
+runs_keep_numbers config log events named = (run_good config events (fresh log) named (holds_of (fresh log) (starts_firm log))).numbers start_numbers
 
 -- ---- what is firm may go on
 

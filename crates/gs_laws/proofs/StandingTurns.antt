@@ -20,11 +20,13 @@ use Rattle.gs_state.specs.Volatile.{Volatile, all_changed, is_call, without_pend
 use Rattle.gs_state.specs.declared.asking.Asking.{Asking}
 use Rattle.gs_state.specs.declared.change.Change.{Change}
 use Rattle.gs_state.specs.declared.reply.KeptReply.{KeptReply}
+use Rattle.gs_laws.specs.Numbered.{HasNumbers}
 use Rattle.gs_laws.specs.Promises.{AllFit}
 use Rattle.gs_laws.specs.Standing.{Stands}
 use Rattle.gs_laws.proofs.Accepted.{Goes, edit_applies, then_goes}
 use Rattle.gs_laws.proofs.Beginnings.{fits_gives}
 use Rattle.gs_laws.proofs.KeptEdits.{AnswersTold, forgets_only}
+use Rattle.gs_laws.proofs.Numbered.{keeps_numbers}
 use Rattle.gs_laws.proofs.Standing.{NotAsked, changed_more, ends, keep, recorded}
 use Rattle.gs_laws.proofs.StandingRecords.{MayStand, edit_onto, said_onto}
 use Rattle.gs_laws.proofs.StillNamed.{IsTold}
@@ -38,6 +40,7 @@ pub record Holds (b : Bool) (s : State) : Type 0 where
 pub record Good (b : Bool) (s : State) (t : Turn) : Type 0 where
   pub fits : AllFit s t
   pub holds : Holds b t.after
+  pub numbers : HasNumbers s.durable → HasNumbers t.after.durable
 
 as_goes : (s : State) (t : Turn) → AllFit s t → Goes ⊥ s t
 as_goes s t f = record { fits = f; kept = λ t k. absurd t }
@@ -48,18 +51,19 @@ one_fits d e (Some n) is = refl
 
 module _ (b : Bool) where
   pub then_good : (s : State) (t : Turn) (f : State → Turn) → Good b s t → Good b t.after (f t.after) → Good b s (and_then t f)
-  then_good s t f one next = record { fits = (then_goes ⊥ s t f (as_goes s t one.fits) (as_goes t.after (f t.after) next.fits)).fits; holds = next.holds }
+  then_good s t f one next = record { fits = (then_goes ⊥ s t f (as_goes s t one.fits) (as_goes t.after (f t.after) next.fits)).fits; holds = next.holds; numbers = λ n. next.numbers (one.numbers n) }
 
   pub test_good : (s : State) (c : Bool) (t u : Turn) → (c ≡ true → Good b s t) → (c ≡ false → Good b s u) → Good b s (if c then t else u)
   test_good s true t u f g = f refl
   test_good s false t u f g = g refl
 
   pub same_good : (s : State) (t : Turn) → t.after ≡ s → t.records ≡ [] → Holds b s → Good b s t
-  same_good s t same none h = record { fits = ap (replayed s.durable) none ∙ ap (λ (x : State). Some x.durable) (sym same); holds = subst (Holds b) (sym same) h }
+  same_good s t same none h = record { fits = ap (replayed s.durable) none ∙ ap (λ (x : State). Some x.durable) (sym same); holds = subst (Holds b) (sym same) h; numbers = λ n. subst (λ (x : State). HasNumbers x.durable) (sym same) n }
 
   pub one_good : (s : State) (entry : PlainEntry) (plan : Plan) (e : Durable) → applied s.durable entry ≡ Some e → Stands e (all_changed s.volatile plan.changes)
-      → (b ≡ true → is_rolling e.phase ≡ true → (all_changed s.volatile plan.changes).pending ≡ []) → Good b s (turned s (record plan { records = entry ∷ [] }))
-  one_good s entry plan e is stands rolling = record {
+      → (b ≡ true → is_rolling e.phase ≡ true → (all_changed s.volatile plan.changes).pending ≡ []) → (HasNumbers s.durable → HasNumbers e) → Good b s (turned s (record plan { records = entry ∷ [] }))
+  one_good s entry plan e is stands rolling numbers = record {
+    numbers = λ n. subst (λ o. HasNumbers (unwrap_or o s.durable)) (sym is) (numbers n);
     fits = one_fits s.durable e (applied s.durable entry) is;
     holds = record {
       stands = subst (λ o. Stands (unwrap_or o s.durable) (all_changed s.volatile plan.changes)) (sym is) stands;
@@ -68,7 +72,7 @@ module _ (b : Bool) where
   }
 
   pub none_good : (s : State) (plan : Plan) → Stands s.durable (all_changed s.volatile plan.changes) → (b ≡ true → is_rolling s.durable.phase ≡ true → (all_changed s.volatile plan.changes).pending ≡ []) → Good b s (turned s (record plan { records = [] }))
-  none_good s plan stands rolling = record { fits = refl; holds = record { stands = stands; rolling = rolling } }
+  none_good s plan stands rolling = record { numbers = λ n. n; fits = refl; holds = record { stands = stands; rolling = rolling } }
 
 -- an edit leaves the phase
 pub phase_stays : (d : Durable) (chunks : List ℕ) → (without_chunks d chunks).phase ≡ d.phase
@@ -83,6 +87,15 @@ edited_phase d e by edit fit = by_names (edited_names edit d.names) fit
     by_names (Err refusal) k = absurd (false≢true (ap is_some k))
 
 -- ---- refusals
+
+-- what a refusal records leaves the names
+said_numbers : (s : State) (req : ReqId) (refusal : Refusal) → HasNumbers s.durable → HasNumbers (fold with_record s (said_records (keeps_refusal s req refusal) s.log req refusal)).durable
+unfolding applied
+said_numbers s req refusal n = by_test (keeps_refusal s req refusal && fits s.log (Said req refusal ∷ []))
+  where
+    by_test : (b : Bool) → HasNumbers (fold with_record s (if b then Said req refusal ∷ [] else [])).durable
+    by_test true = record { now = n.now; before = n.before }
+    by_test false = n
 
 -- What a refusal leaves: perhaps a record of it, or a reply in memory.
 module _ (s : State) (req : ReqId) (refusal : Refusal) (h : Stands s.durable s.volatile) where
@@ -122,6 +135,7 @@ module _ (s : State) (req : ReqId) (refusal : Refusal) (h : Stands s.durable s.v
 module _ (b : Bool) where
   pub refused_good : (s : State) (req : ReqId) (refusal : Refusal) → Holds b s → Good b s (refused s req refusal)
   refused_good s req refusal h = record {
+    numbers = said_numbers s req refusal;
     fits = refused_fits s req refusal h.stands [] (Some refusal);
     holds = (let l = said_left s req refusal h.stands (λ d w. Stands d w × (b ≡ true → is_rolling d.phase ≡ true → w.pending ≡ [])) [] (λ d replies stands phase. (stands, λ e r. h.rolling e (ap is_rolling (sym phase) ∙ r))) in
         record { stands = l.0; rolling = l.1 });
@@ -154,6 +168,7 @@ module _ (b : Bool) where
       (λ d replies stands phase. (let e = ends req d (record (s.volatile) { replies = replies }) stands in record { stands = e.stands; phase = phase; pending = e.pending; preparing = e.preparing; placed = e.placed; bare = e.bare; fewer = e.fewer })) in
       record {
         good = record {
+          numbers = said_numbers s req refusal;
           fits = refused_fits s req refusal h.stands (end_changes s req) None;
           holds = record { stands = l.stands; rolling = λ e r. l.pending ∙ ap (λ ps. without_pending ps req) (h.rolling e (ap is_rolling (sym l.phase) ∙ r)) };
         };
@@ -190,7 +205,7 @@ module _ (b : Bool) where
   pub answered_good : (s : State) (req : ReqId) (answer : Answer) → Holds b s → Good b s (answered_with s req answer)
   answered_good s req answer h =
       let l = answered_last s s.durable req answer [] refl refl h.stands in
-      record { fits = refl; holds = record { stands = l.0; rolling = λ e r. l.1 ∙ h.rolling e r } }
+      record { numbers = λ n. n; fits = refl; holds = record { stands = l.0; rolling = λ e r. l.1 ∙ h.rolling e r } }
 
   pub looked_good : (s : State) (req : ReqId) (result : Result Answer Refusal) → Holds b s → Good b s (looked_up s req result)
   looked_good s req (Ok answer) h = answered_good s req answer h
@@ -205,7 +220,7 @@ module _ (b : Bool) where
       let next = with_edit s.durable req edit names in
       room_good s req (turned s (accept_plan req edit answer)) h
       (one_good b s (Edited req edit) (accept_plan req edit answer) next fit (recorded s.durable next s.volatile (edit_onto s.durable next s.volatile req edit h.stands told answers stand fit) h.stands)
-      (λ c r. h.rolling c (ap is_rolling (sym (phase_stays s.durable (forgotten_by edit))) ∙ r)))
+      (λ c r. h.rolling c (ap is_rolling (sym (phase_stays s.durable (forgotten_by edit))) ∙ r)) (λ n. keeps_numbers (Edited req edit) refl s.durable next told h.stands.kept n fit))
   edit_good s req edit answer h may told answers stand rolling (Err refusal) e = refused_good s req refusal h
 
   pub edited_good : (s : State) (req : ReqId) (edit : PlainEdit) (answer : Answer) → Holds b s → ((names : NamesView) → edited_names edit s.durable.names ≡ Ok names → may_edit s.durable edit ≡ true) → IsTold edit → AnswersTold s.durable edit

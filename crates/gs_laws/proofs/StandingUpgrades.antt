@@ -1,12 +1,13 @@
 -- What stands is kept by each call of an upgrade, and by a scan.
-use Rattle.std.proofs.Common.{◌≡◌, ◌∙◌, ◌+◌, ◌&&◌, ◌||◌, inr, ℕ, Bool, true, false, not, cond, List, [], ◌∷◌, ◌++◌, map, length, refl, ap, subst, sym, arith}
-use Rattle.std.specs.Prelude.{fold, is_some, option_and_then, unwrap_or, Option, Some, None}
+use Rattle.std.proofs.Common.{◌≡◌, ◌∙◌, ◌+◌, ◌&&◌, ◌||◌, ◌==◌, inr, ℕ, Bool, true, false, not, cond, List, [], ◌∷◌, ◌++◌, map, length, refl, ap, subst, sym, arith}
+use Rattle.std.specs.Prelude.{filter_map, fold, is_some, option_and_then, option_map, unwrap_or, Option, Some, None}
 use Rattle.std.specs.Cmp.{nat_cmp_total}
 use Rattle.std.specs.FinMap as fin
 use Rattle.std.specs.FinMap.Entries.{find-put}
-use Rattle.std.specs.List.{AllByRecursion, list_all, list_any}
+use Rattle.std.specs.List.{AllByRecursion, cons_option, list_all, list_any}
 use Rattle.std.specs.Ordering.{eq_by_cmp, nat_cmp}
 use Rattle.std.proofs.lemmas.Bool.{false≢true, true≢false, and_parts}
+use Rattle.std.proofs.lemmas.List.Folds.{list_any-append}
 use Rattle.gs_base.specs.Members.{is_member}
 use Rattle.gs_base.specs.declared.config.Config.{Config}
 use Rattle.gs_base.specs.declared.epoch.EpochEnd.TheVariants as ends
@@ -23,19 +24,20 @@ use Rattle.gs_msg.specs.declared.answer.Answer.TheVariants as answers
 use Rattle.gs_record.specs.Plain.{PlainEdit, Edited, Propose, Prepare, Finalize, RollbackBegin, RollbackCommit}
 use Rattle.gs_record.specs.declared.checkpoint.Phase.TheVariants.{Ordinary, Upgrade, Rolling}
 use Rattle.gs_record.specs.declared.entry.Answered.{Answered}
-use Rattle.gs_state.specs.Applied.{applied, if_fits, may_propose, proposed, replayed, rolled_back, with_epoch, without_prepared}
+use Rattle.gs_state.specs.Applied.{applied, if_fits, may_propose, proposed, replayed, restored_chunk, restored_view, rolled_back, with_epoch, without_prepared}
 use Rattle.gs_state.specs.Beginning.{all_begun, begun, has_versions}
 use Rattle.gs_state.specs.Calls.{answered_with}
 use Rattle.gs_state.specs.Chunks.{chunk_at, has_entry}
-use Rattle.gs_state.specs.Durable.{Durable, is_listed, is_ordinary, is_rolling, prepared_view}
+use Rattle.gs_state.specs.Durable.{Durable, Settled, is_listed, is_ordinary, is_rolling, prepared_view}
 use Rattle.gs_state.specs.Sane.{is_waited_by, makes}
 use Rattle.gs_state.specs.Settling.{is_quiet_at, own_request, requests_of}
 use Rattle.gs_state.specs.State.{State, Plan, Turn, turned, and_then, with_record, refused, ended_by, all_ended_by, first_of}
 use Rattle.gs_state.specs.Undoing.{all_undone}
-use Rattle.gs_state.specs.Upgrades.{accepted_plan, all_unquiet, answers_for, begin_tests, chunk_count, commit_if, commit_on, commit_tests, end_tests, finalize, if_pending, if_unquiet, first_in, is_last_epoch, lowest_path, pending_paths, prepare_abort, prepare_begin, prepare_commit, rollback_begin, rollback_commit, tell_all, told_of, unless, unrestored}
+use Rattle.gs_state.specs.Upgrades.{accepted_plan, all_unquiet, answers_for, begin_tests, chunk_count, commit_if, commit_on, commit_tests, end_tests, finalize, if_pending, if_unquiet, first_in, is_last_epoch, lowest_path, pending_paths, prepare_abort, prepare_begin, prepare_commit, restored_on, rollback_begin, rollback_commit, tell_all, told_of, unless, unrestored}
 use Rattle.gs_state.specs.Volatile.{Volatile, changed, is_call, without_pending}
 use Rattle.gs_state.specs.Working.{ascending, forgotten_chunks, put_handles, removed_paths, scan_edits, scan_plan, scans, waiting_for}
 use Rattle.gs_state.specs.declared.asking.Asking.{Asking}
+use Rattle.gs_state.specs.declared.asking.Prepared.{Prepared}
 use Rattle.gs_state.specs.declared.change.Change.TheVariants as changes
 use Rattle.gs_state.specs.declared.pending.Pending.{Pending}
 use Rattle.gs_laws.specs.Promises.{IsKept}
@@ -49,7 +51,9 @@ use Rattle.gs_laws.proofs.Fresh.{not_false}
 use Rattle.gs_laws.proofs.KeptEdits.{AnswersTold}
 use Rattle.gs_laws.proofs.KeptEpochs.{commit_kept_by}
 use Rattle.gs_laws.proofs.KeptRecords.{as_next}
-use Rattle.gs_laws.proofs.Standing.{Onto, prepare, recorded, rolled, forget, same_call, same_self}
+use Rattle.gs_laws.specs.Numbered.{HasNumbers}
+use Rattle.gs_laws.proofs.Numbered.{keeps_numbers}
+use Rattle.gs_laws.proofs.Standing.{Onto, fewer_out, prepare, recorded, rolled, forget, same_call, same_self}
 use Rattle.gs_laws.proofs.StandingRecords.{MayStand, begin_onto, edit_onto, finalize_onto, prepare_onto}
 use Rattle.gs_laws.proofs.StandingTurns.{Good, Holds, all_given_up, answered_good, answered_last, edited_phase, given_up, none_good, one_good, refused_good, room_good, test_good, then_good}
 use Rattle.gs_laws.proofs.StandingViews.{all_begun_good, for_none}
@@ -180,7 +184,7 @@ prepare_good s req h rolling =
       known = ap (λ u. list_all (λ c. is_settled ended.after.durable c && (is_listed ended.after.durable c || is_member u c)) many) placed
           ∙ all_ended_same (λ d. list_all (λ c. is_settled d c && (is_listed d c || is_member s.volatile.unplaced c)) many) (λ d replies. refl) reqs refusals.Preparing s ∙ known;
       owned = inr refl;
-      for = λ c. for_none ended.after.durable ended.after.volatile c;
+      for = λ c. for_none ended.after.durable ended.after.volatile c purposes.Quiet;
     }) in
     let two = then_good true s ended begin first second in
     let next = (and_then ended begin).after in
@@ -238,7 +242,7 @@ commit_good config s req moment h =
     let over = prepare s.durable s.volatile h.stands false (λ p. absurd (false≢true p)) in
     let stands = recorded s.durable e w (prepare_onto s.durable e w (s.durable.epoch + 1) moment.0 (chunk_count s) over (none_moves s h.stands quiet) refl fit) over in
     let l = answered_last true s e req (answers.Epoch (s.durable.epoch + 1)) (changes.Prepare false ∷ []) refl refl stands in
-    one_good true s entry plan e fit l.0 (λ c r. absurd (false≢true r)))
+    one_good true s entry plan e fit l.0 (λ c r. absurd (false≢true r)) (λ n. keeps_numbers entry refl s.durable e tt h.stands.kept n fit))
 
 pub abort_good : (s : State) (req : ReqId) → Holds true s → Good true s (prepare_abort s req)
 abort_good s req h =
@@ -257,7 +261,7 @@ finalize_good config s req h =
     (λ passed.
     let fit = finalize_fits s.durable h.stands.kept passed in
     let l = answered_last true s e req (answers.Epoch (s.durable.epoch + 1)) [] refl refl (recorded s.durable e s.volatile (finalize_onto s.durable e s.volatile (s.durable.epoch + 1) h.stands fit) h.stands) in
-    one_good true s entry plan e fit l.0 (λ c r. absurd (false≢true r)))
+    one_good true s entry plan e fit l.0 (λ c r. absurd (false≢true r)) (λ n. keeps_numbers entry refl s.durable e tt h.stands.kept n fit))
 
 pub begin_good : (config : Config) (s : State) (req : ReqId) → Holds true s → Good true s (rollback_begin config s req)
 begin_good config s req h =
@@ -272,18 +276,18 @@ begin_good config s req h =
     unless_good s req (and_then (and_then begins ended) accept) (first_of (end_tests s.durable.phase (is_last_epoch s.durable))) h
     (λ passed.
     let fit = begin_fits s.durable h.stands.kept passed in
-    let first = one_good false s entry plan e fit (recorded s.durable e s.volatile (begin_onto s.durable e s.volatile (s.durable.epoch + 1) h.stands fit) h.stands) (λ c r. absurd (false≢true c)) in
+    let first = one_good false s entry plan e fit (recorded s.durable e s.volatile (begin_onto s.durable e s.volatile (s.durable.epoch + 1) h.stands fit) h.stands) (λ c r. absurd (false≢true c)) (λ n. keeps_numbers entry refl s.durable e tt h.stands.kept n fit) in
     let second = all_given_up false reqs refusals.RollingBack begins.after first.holds in
     let two = then_good false s begins ended first second in
     let next = (and_then begins ended).after in
     let l = answered_last false next next.durable req (answers.Epoch (s.durable.epoch + 1)) [] refl refl two.holds.stands in
     let all = then_good false s (and_then begins ended) accept two (none_good false next (last next) l.0 (λ c r. absurd (false≢true c))) in
-    record { fits = all.fits; holds = record { stands = all.holds.stands; rolling = λ c r. l.1 ∙ ended_pending false reqs refusals.RollingBack begins.after first.holds ∙ none_waits s.volatile.pending } })
+    record { numbers = all.numbers; fits = all.fits; holds = record { stands = all.holds.stands; rolling = λ c r. l.1 ∙ ended_pending false reqs refusals.RollingBack begins.after first.holds ∙ none_waits s.volatile.pending } })
 
 -- ---- a rollback is committed
 
-commit_onto : (d e : Durable) (v : Volatile) (epoch : ℕ) (answers : List Answered) (names : NamesView) → Stands d v → IsKept e → e ≡ rolled_back d answers names → ((chunk : ℕ) → fin.get v.moving chunk ≡ None) → v.unplaced ≡ [] → Onto d e v
-commit_onto d e v epoch answers names h kept is still none =
+commit_onto : (d e : Durable) (v : Volatile) (epoch : ℕ) (answers : List Answered) (names : NamesView) → Stands d v → IsKept e → e ≡ rolled_back d answers names → ((chunk : ℕ) → fin.get v.moving chunk ≡ None) → v.unplaced ≡ [] → ((chunk : ℕ) → is_some (fin.get e.chunks chunk) ≡ true → is_listed e chunk ≡ true) → Onto d e v
+commit_onto d e v epoch answers names h kept is still none all_listed =
     let n = rolled_back d answers names in
     as_next (sym is) (λ x. Onto d x v) (record {
       kept = subst IsKept is kept;
@@ -292,10 +296,31 @@ commit_onto d e v epoch answers names h kept is still none =
       versions = λ q g. g;
       epoch = omega arith;
       chunks = λ q some. absurd (false≢true (sym (ap is_some (still q)) ∙ some));
+      settled = λ q some. inr (ap (λ b. b || is_member v.unplaced q) (subst (λ x. is_some (fin.get x.chunks q) ≡ true → is_listed x q ≡ true) is (all_listed q) some));
       unlisted = λ q here out. absurd (false≢true (ap (λ u. is_member u q) (sym none) ∙ here));
       answered = λ req was. was;
       ordinary = λ p o. refl;
     })
+
+-- each chunk that is restored is listed
+restored_listed : (d : Durable) (told : ℕ → List ℕ) (refs : List (ℕ × ℕ)) (q : ℕ) → is_some (fin.find nat_cmp q (filter_map (restored_chunk d) (answers_for (prepared_view d) told refs))) ≡ true → is_some (fin.find nat_cmp q refs) ≡ true
+restored_listed d told [] q some = absurd (false≢true some)
+restored_listed d told (r ∷ refs) q some = by_view (restored_listed d told refs q) (prepared_view d r.0) some
+  where
+    by_key : (b : Bool) → (is_some (fin.find nat_cmp q (filter_map (restored_chunk d) (answers_for (prepared_view d) told refs))) ≡ true → is_some (fin.find nat_cmp q refs) ≡ true) → (x : Settled)
+        → is_some (cond b (Some x) (fin.find nat_cmp q (filter_map (restored_chunk d) (answers_for (prepared_view d) told refs)))) ≡ true → is_some (cond b (Some r.1) (fin.find nat_cmp q refs)) ≡ true
+    by_key true rest x k = refl
+    by_key false rest x k = rest k
+
+    skipped : (b : Bool) → is_some (fin.find nat_cmp q refs) ≡ true → is_some (cond b (Some r.1) (fin.find nat_cmp q refs)) ≡ true
+    skipped true k = refl
+    skipped false k = k
+
+    by_view : (is_some (fin.find nat_cmp q (filter_map (restored_chunk d) (answers_for (prepared_view d) told refs))) ≡ true → is_some (fin.find nat_cmp q refs) ≡ true) → (o : Option Prepared)
+        → is_some (fin.find nat_cmp q (cons_option (option_map (λ (p : Prepared). (r.0, restored_view d.epoch p (restored_on (prepared_view d r.0) (told r.0)))) o) (filter_map (restored_chunk d) (answers_for (prepared_view d) told refs)))) ≡ true
+        → is_some (cond (eq_by_cmp nat_cmp q r.0) (Some r.1) (fin.find nat_cmp q refs)) ≡ true
+    by_view rest None k = skipped (eq_by_cmp nat_cmp q r.0) (rest k)
+    by_view rest (Some p) k = by_key (eq_by_cmp nat_cmp q r.0) rest (restored_view d.epoch p (restored_on (prepared_view d r.0) (told r.0))) k
 
 module _ (s : State) (req : ReqId) (h : Holds true s) (begun : is_rolling s.durable.phase ≡ true) where
   commit_if_good : (names : NamesView) → all_undone s.durable.inverses s.durable.names ≡ Some names → (chunk : Option ℕ) → unrestored (prepared_view s.durable) (told_of s) (fin.entries names.refs) ≡ chunk → Good true s (commit_if s req names chunk)
@@ -307,11 +332,16 @@ module _ (s : State) (req : ReqId) (h : Holds true s) (begun : is_rolling s.dura
       let plan = accepted_plan s req (entry ∷ []) (changes.RolledBack ∷ []) [] s.durable.epoch in
       let fit = rolled_fits ⊥ s req h.stands.kept begun names back is in
       let w = changed s.volatile changes.RolledBack in
+      let wide = record w { taken_out = s.volatile.unplaced ++ s.volatile.taken_out } in
       let over = rolled s.durable s.volatile h.stands in
+      let listed : (q : ℕ) → is_some (fin.get e.chunks q) ≡ true → is_listed e q ≡ true = (λ q some. ap is_some (fin.get-entries names.refs q) ∙ restored_listed s.durable (told_of s) (fin.entries names.refs) q
+      (sym (ap is_some (fin.get-from_entries nat_cmp_total (filter_map (restored_chunk s.durable) given) q)) ∙ some)) in
       let kept = commit_kept_by s.durable e s.durable.epoch given (answers_told (prepared_view s.durable) (told_of s) (fin.entries names.refs)) h.stands.kept fit in
-      let stands = recorded s.durable e w (commit_onto s.durable e w s.durable.epoch given names over kept refl (λ chunk. fin.get-empty nat_cmp chunk) refl) over in
+      let on = recorded s.durable e wide (commit_onto s.durable e wide s.durable.epoch given names over kept refl (λ chunk. fin.get-empty nat_cmp chunk) refl listed) over in
+      let stands = fewer_out e wide on s.volatile.taken_out (λ q here. list_any-append (λ m. m == q) s.volatile.unplaced s.volatile.taken_out ∙ or_any (is_member s.volatile.unplaced q) (is_member s.volatile.taken_out q) here)
+      (λ q some. ap (λ b. b || (is_member w.unplaced q || is_member s.volatile.taken_out q)) (listed q some)) in
       let l = answered_last true s e req (answers.Epoch s.durable.epoch) (changes.RolledBack ∷ []) refl refl stands in
-      room_good true s req (turned s plan) h (one_good true s entry plan e fit l.0 (λ c r. absurd (false≢true r)))
+      room_good true s req (turned s plan) h (one_good true s entry plan e fit l.0 (λ c r. absurd (false≢true r)) (λ n. keeps_numbers entry refl s.durable e tt h.stands.kept n fit))
 
   commit_on_good : (names : Option NamesView) → all_undone s.durable.inverses s.durable.names ≡ names → Good true s (commit_on s req names)
   commit_on_good None back = refused_good true s req refusals.BadLine h
@@ -340,6 +370,17 @@ own_stand (edit ∷ edits) d e v h all fit = by_first (applied d (Edited own_req
     by_first : (o : Option Durable) → applied d (Edited own_request edit) ≡ o → ((n : Durable) → Stands n v → replayed n (own_edits edits) ≡ Some e → Stands e v) → option_and_then (λ n. replayed n (own_edits edits)) o ≡ Some e → Stands e v
     by_first None is rest r = absurd (false≢true (ap is_some r))
     by_first (Some n) is rest r = rest n (recorded d n v (edit_onto d n v own_request edit h all.0.told (all.0.silent d) all.0.may is) h) r
+
+own_numbers : (edits : List PlainEdit) (d e : Durable) (v : Volatile) → Stands d v → AllByRecursion (IsOwn v) edits → replayed d (own_edits edits) ≡ Some e → HasNumbers d → HasNumbers e
+own_numbers [] d e v h all fit numbers = subst HasNumbers (some_is fit) numbers
+  where
+    some_is : {a c : Durable} → ◌≡◌ {A = Option Durable} (Some a) (Some c) → a ≡ c
+    some_is k = cc
+own_numbers (edit ∷ edits) d e v h all fit numbers = by_first (applied d (Edited own_request edit)) refl (λ n k r m. own_numbers edits n e v k all.1 r m) fit
+  where
+    by_first : (o : Option Durable) → applied d (Edited own_request edit) ≡ o → ((n : Durable) → Stands n v → replayed n (own_edits edits) ≡ Some e → HasNumbers n → HasNumbers e) → option_and_then (λ n. replayed n (own_edits edits)) o ≡ Some e → HasNumbers e
+    by_first None is rest r = absurd (false≢true (ap is_some r))
+    by_first (Some n) is rest r = rest n (recorded d n v (edit_onto d n v own_request edit h all.0.told (all.0.silent d) all.0.may is) h) r (keeps_numbers (Edited own_request edit) refl d n all.0.told h.kept numbers is)
 
 own_phase : (edits : List PlainEdit) (d e : Durable) → replayed d (own_edits edits) ≡ Some e → e.phase ≡ d.phase
 own_phase [] d e fit = ap (λ (x : Durable). x.phase) (sym (some_is fit))
@@ -375,7 +416,7 @@ scans_good s req moment h rolling =
     let plan = scan_plan removed forgotten in
     let w = changed s.volatile (changes.Forget forgotten) in
     let stands = own_stand (scan_edits removed forgotten) s.durable fit.next w (forget s.durable s.volatile h.stands forgotten) (scan_own removed forgotten w (λ q some. (kept_out forgotten s.volatile.moving q some).0)) fit.is in
-    let first : Good true s (turned s plan) = record { fits = fit.is ∙ ap Some (sym same); holds = record { stands = subst (λ d. Stands d w) (sym same) stands; rolling = λ c r. absurd (true≢false (sym r ∙ ap (λ (d : Durable). is_rolling d.phase) same ∙ ap is_rolling (own_phase (scan_edits removed forgotten) s.durable fit.next fit.is) ∙ rolling)) } } in
+    let first : Good true s (turned s plan) = record { numbers = λ n. subst HasNumbers (sym same) (own_numbers (scan_edits removed forgotten) s.durable fit.next w (forget s.durable s.volatile h.stands forgotten) (scan_own removed forgotten w (λ q some. (kept_out forgotten s.volatile.moving q some).0)) fit.is n); fits = fit.is ∙ ap Some (sym same); holds = record { stands = subst (λ d. Stands d w) (sym same) stands; rolling = λ c r. absurd (true≢false (sym r ∙ ap (λ (d : Durable). is_rolling d.phase) same ∙ ap is_rolling (own_phase (scan_edits removed forgotten) s.durable fit.next fit.is) ∙ rolling)) } } in
     let ended : State → Turn = λ next. all_ended_by next (waiting_for s forgotten) refusals.NoReplica in
     let answer : State → Turn = λ next. answered_with next req (answers.Scanned (length removed) (length forgotten)) in
     let second = all_given_up true (waiting_for s forgotten) refusals.NoReplica (turned s plan).after first.holds in

@@ -31,12 +31,13 @@ use Rattle.gs_state.specs.declared.asking.Asking.{Asking}
 use Rattle.gs_state.specs.declared.change.Change.TheVariants as changes
 use Rattle.gs_state.specs.declared.pending.Pending.{Pending}
 use Rattle.gs_state.specs.declared.pending.Waiting.{Waiting}
-use Rattle.gs_laws.specs.Standing.{CanWait, IsSought, IsToldCount, IsToldWaiting, Stands, was_answered}
+use Rattle.gs_laws.specs.Standing.{CanWait, IsSought, IsToldCount, IsToldWaiting, Stands, may_ask, was_answered}
 use Rattle.gs_laws.proofs.AcceptedViews.{is_settled, or_left, or_right, proposes}
 use Rattle.gs_laws.proofs.Fresh.{next_is_fresh, not_false, left_after}
 use Rattle.gs_laws.proofs.KeptRecords.{proposed_some}
 use Rattle.gs_laws.proofs.Standing.{ask, begin, enter, fresh_call, recorded, same_call, same_parts, same_self}
 use Rattle.gs_laws.proofs.StandingRecords.{number_more, propose_onto}
+use Rattle.gs_laws.proofs.Numbered.{keeps_numbers}
 use Rattle.gs_laws.proofs.StandingTurns.{Good, Holds, one_good, refused_good, room_good, same_good, test_good, then_good}
 
 -- ---- numbers
@@ -85,16 +86,17 @@ since_now Rolling epoch version o rolling = absurd (true≢false rolling)
 
 -- ---- for which call a chunk moves
 
-pub record IsFor (d : Durable) (w : Volatile) (chunk : ℕ) (call : Option ReqId) : Type 0 where
+pub record IsFor (d : Durable) (w : Volatile) (chunk : ℕ) (purpose : Purpose) (call : Option ReqId) : Type 0 where
   pub wanted : list_all (λ (p : Pending). not (is_call p.req call) || may_wait_for chunk p.waits) w.pending ≡ true
+  pub purposed : list_all (λ (p : Pending). not (is_call p.req call) || may_ask purpose p.waits) w.pending ≡ true
   pub past : (req : ReqId) → call ≡ Some req → (is_pending w.pending req || was_answered d w req) ≡ true
 
-pub for_none : (d : Durable) (w : Volatile) (chunk : ℕ) → IsFor d w chunk None
-for_none d w chunk = record { wanted = nobody w.pending; past = λ req call. absurd (false≢true (ap is_some call)) }
+pub for_none : (d : Durable) (w : Volatile) (chunk : ℕ) (purpose : Purpose) → IsFor d w chunk purpose None
+for_none d w chunk purpose = record { wanted = nobody (may_wait_for chunk) w.pending; purposed = nobody (may_ask purpose) w.pending; past = λ req call. absurd (false≢true (ap is_some call)) }
   where
-    nobody : (ps : List Pending) → list_all (λ (p : Pending). not (is_call p.req None) || may_wait_for chunk p.waits) ps ≡ true
-    nobody [] = refl
-    nobody (p ∷ ps) = nobody ps
+    nobody : (f : Waiting → Bool) (ps : List Pending) → list_all (λ (p : Pending). not (is_call p.req None) || f p.waits) ps ≡ true
+    nobody f [] = refl
+    nobody f (p ∷ ps) = nobody f ps
 
 other_way : (a b : ReqId) → same_call a b ≡ false → same_call b a ≡ false
 other_way a b h = by_test (same_call b a) refl
@@ -112,14 +114,18 @@ unwaited req f (p ∷ ps) out = by_test (same_call req p.req) refl out (λ h. un
     by_test false is h rest = both_true (not (same_call p.req req) || f p.waits) _ (ap (λ b. not b || f p.waits) (other_way req p.req is)) (rest h)
 
 -- a call that has just begun to wait
-pub for_begun : (d : Durable) (v : Volatile) (p : Pending) (chunk : ℕ) → is_pending v.pending p.req ≡ false → may_wait_for chunk p.waits ≡ true → IsFor d (changed v (changes.Begin p)) chunk (Some p.req)
-for_begun d v p chunk out may = record {
-  wanted = list_all-append (λ (q : Pending). not (same_call q.req p.req) || may_wait_for chunk q.waits) v.pending (p ∷ [])
-      ∙ both_true (list_all (λ (q : Pending). not (same_call q.req p.req) || may_wait_for chunk q.waits) v.pending) ((not (same_call p.req p.req) || may_wait_for chunk p.waits) && true)
-      (unwaited p.req (may_wait_for chunk) v.pending out) (both_true (not (same_call p.req p.req) || may_wait_for chunk p.waits) true (or_right (not (same_call p.req p.req)) (may_wait_for chunk p.waits) may) refl);
+pub for_begun : (d : Durable) (v : Volatile) (p : Pending) (chunk : ℕ) (purpose : Purpose) → is_pending v.pending p.req ≡ false → may_wait_for chunk p.waits ≡ true → may_ask purpose p.waits ≡ true → IsFor d (changed v (changes.Begin p)) chunk purpose (Some p.req)
+for_begun d v p chunk purpose out may asks = record {
+  wanted = own (may_wait_for chunk) may;
+  purposed = own (may_ask purpose) asks;
   past = λ req call. or_left (is_pending (v.pending ++ p ∷ []) req) (was_answered d v req) (here req (req_is call));
 }
   where
+    own : (f : Waiting → Bool) → f p.waits ≡ true → list_all (λ (q : Pending). not (same_call q.req p.req) || f q.waits) (v.pending ++ p ∷ []) ≡ true
+    own f so = list_all-append (λ (q : Pending). not (same_call q.req p.req) || f q.waits) v.pending (p ∷ [])
+        ∙ both_true (list_all (λ (q : Pending). not (same_call q.req p.req) || f q.waits) v.pending) ((not (same_call p.req p.req) || f p.waits) && true)
+        (unwaited p.req f v.pending out) (both_true (not (same_call p.req p.req) || f p.waits) true (or_right (not (same_call p.req p.req)) (f p.waits) so) refl)
+
     req_is : {a b : ReqId} → ◌≡◌ {A = Option ReqId} (Some a) (Some b) → a ≡ b
     req_is e = cc
 
@@ -135,7 +141,7 @@ made_begun v p chunk made =
 
 module _ (d : Durable) (w : Volatile) (purpose : Purpose) (members : List ℕ) (call : Option ReqId) (h : Stands d w) (rolling : is_rolling d.phase ≡ false) (left : has_versions d 1 ≡ true) where
   -- for a chunk that is settled
-  sought_settled : (chunk : ℕ) (s : Settled) → fin.get d.chunks chunk ≡ Some s → (is_listed d chunk || is_member w.unplaced chunk) ≡ true → ((is_listed d chunk ≡ true) ⊎ (call ≡ None)) → IsFor d w chunk call
+  sought_settled : (chunk : ℕ) (s : Settled) → fin.get d.chunks chunk ≡ Some s → (is_listed d chunk || is_member w.unplaced chunk) ≡ true → ((is_listed d chunk ≡ true) ⊎ (call ≡ None)) → IsFor d w chunk purpose call
       → IsSought (proposed d chunk d.next_version) w chunk (asking_for (next_stamp d) purpose members call)
   sought_settled chunk s has known owned for =
       let fresh = next_is_fresh d.next_version 1 (omega arith) left in
@@ -151,11 +157,17 @@ module _ (d : Durable) (w : Volatile) (purpose : Purpose) (members : List ℕ) (
         since = since_now d.phase d.epoch d.next_version (fin.get (proposed d chunk d.next_version).chunks chunk) rolling;
         told = none_told 16;
         wanted = for.wanted;
+        purposed = for.purposed;
         made = λ none. absurd (false≢true (sym (ap is_some none) ∙ ap is_some now));
         own = λ r is here. not_owned r is here owned;
+        first = λ r is here. absurd (no_owner r is here owned);
         past = for.past;
       }
     where
+      no_owner : (r : ReqId) → call ≡ Some r → is_member w.unplaced chunk ≡ true → (is_listed d chunk ≡ true) ⊎ (call ≡ None) → ⊥
+      no_owner r is here (inl listed) = true≢false (sym listed ∙ (h.unplaced chunk here).1)
+      no_owner r is here (inr none) = false≢true (sym (ap is_some none) ∙ ap is_some is)
+
       not_owned : (r : ReqId) → call ≡ Some r → is_member w.unplaced chunk ≡ true → (is_listed d chunk ≡ true) ⊎ (call ≡ None) → is_waited_by call (makes chunk) w.pending ≡ true
       not_owned r is here (inl listed) = absurd (true≢false (sym listed ∙ (h.unplaced chunk here).1))
       not_owned r is here (inr none) = absurd (false≢true (sym (ap is_some none) ∙ ap is_some is))
@@ -179,7 +191,7 @@ module _ (d : Durable) (w : Volatile) (purpose : Purpose) (members : List ℕ) (
       by_entry None is = refl
       by_entry (Some s) is = absurd (not_given d.next_handle (h.kept.handles d.next_handle (ap is_some is)) fresh)
 
-  sought_new : is_fresh d.next_handle d.next_handle ≡ true → IsFor d w d.next_handle call → is_waited_by call (makes d.next_handle) w.pending ≡ true
+  sought_new : is_fresh d.next_handle d.next_handle ≡ true → IsFor d w d.next_handle purpose call → is_waited_by call (makes d.next_handle) w.pending ≡ true
       → IsSought (proposed d d.next_handle d.next_version) (changed w (changes.Enter d.next_handle)) d.next_handle (asking_for (next_stamp d) purpose members call)
   sought_new fresh for made =
       let new = d.next_handle in
@@ -196,14 +208,16 @@ module _ (d : Durable) (w : Volatile) (purpose : Purpose) (members : List ℕ) (
         since = since_now d.phase d.epoch d.next_version (fin.get e.chunks d.next_handle) rolling;
         told = none_told 16;
         wanted = for.wanted;
+        purposed = for.purposed;
         made = λ none. made;
         own = λ r is here. made;
+        first = λ r is here. now;
         past = for.past;
       }
 
   -- ---- so it is proposed
 
-  pub proposed_settled : (chunk : ℕ) → is_settled d chunk ≡ true → (is_listed d chunk || is_member w.unplaced chunk) ≡ true → ((is_listed d chunk ≡ true) ⊎ (call ≡ None)) → IsFor d w chunk call
+  pub proposed_settled : (chunk : ℕ) → is_settled d chunk ≡ true → (is_listed d chunk || is_member w.unplaced chunk) ≡ true → ((is_listed d chunk ≡ true) ⊎ (call ≡ None)) → IsFor d w chunk purpose call
       → Stands (proposed d chunk d.next_version) (changed w (changes.Ask chunk (asking_for (next_stamp d) purpose members call)))
   proposed_settled chunk some known owned for = by_entry (fin.get d.chunks chunk) refl some
     where
@@ -217,7 +231,7 @@ module _ (d : Durable) (w : Volatile) (purpose : Purpose) (members : List ℕ) (
           let few = raised_settled d.next_handle chunk (h.kept.handles chunk some) h.counters.handle in
           ask e w (recorded d e w (propose_onto d e w chunk d.next_version h h.counters.version few fit) h) chunk (asking_for (next_stamp d) purpose members call) (sought_settled chunk s is known owned for)
 
-  pub proposed_new : has_handle d ≡ true → IsFor d w d.next_handle call → is_waited_by call (makes d.next_handle) w.pending ≡ true
+  pub proposed_new : has_handle d ≡ true → IsFor d w d.next_handle purpose call → is_waited_by call (makes d.next_handle) w.pending ≡ true
       → Stands (proposed d d.next_handle d.next_version) (changed (changed w (changes.Enter d.next_handle)) (changes.Ask d.next_handle (asking_for (next_stamp d) purpose members call)))
   proposed_new handle for made =
       let fresh = next_is_fresh d.next_handle 1 (omega arith) handle in
@@ -226,13 +240,20 @@ module _ (d : Durable) (w : Volatile) (purpose : Purpose) (members : List ℕ) (
       let fit = proposes d new zero rolling left (or_right (is_settled d new) (is_fresh new new) fresh) in
       let few = raised_new new new h.counters.handle h.counters.handle in
       let on = recorded d e w (propose_onto d e w new d.next_version h h.counters.version few fit) h in
-      let entered = enter e w on new (given_raised_itself new new fresh) (unlisted fresh) (unasked fresh) in
+      let entered = enter e w on new (given_raised_itself new new fresh) (unlisted fresh) (never_out fresh) (unasked fresh) in
       let x = changed w (changes.Enter new) in
       ask e x entered new (asking_for (next_stamp d) purpose members call)
       (sought_new fresh for made)
     where
       not_given : (n : ℕ) → is_given n n ≡ true → is_fresh n n ≡ true → ⊥
       not_given n g f = absurd (grind (arith, nat_tests))
+
+      never_out : is_fresh d.next_handle d.next_handle ≡ true → is_member w.taken_out d.next_handle ≡ false
+      never_out fresh = by_test (is_member w.taken_out d.next_handle) refl
+        where
+          by_test : (b : Bool) → is_member w.taken_out d.next_handle ≡ b → b ≡ false
+          by_test true is = absurd (not_given d.next_handle (h.out d.next_handle is).0 fresh)
+          by_test false is = refl
 
       unasked : is_fresh d.next_handle d.next_handle ≡ true → fin.get w.moving d.next_handle ≡ None
       unasked fresh = by_entry (fin.get w.moving d.next_handle) refl
@@ -267,17 +288,18 @@ module _ (b : Bool) (s : State) (req : ReqId) (h : Holds b s) (may : MayBegin s 
   begun_call waiting can = begin s.durable s.volatile h.stands (waiting_call waiting) can may.out (fresh_call s.durable s.volatile h.stands req may.out may.new) may.preparing
 
   -- a view is begun for it
-  pub begins_good : (chunk : ℕ) (purpose : Purpose) (waiting : Waiting) → is_settled s.durable chunk ≡ true → is_listed s.durable chunk ≡ true → may_wait_for chunk waiting ≡ true → CanWait (waiting_call waiting)
+  pub begins_good : (chunk : ℕ) (purpose : Purpose) (waiting : Waiting) → is_settled s.durable chunk ≡ true → is_listed s.durable chunk ≡ true → may_wait_for chunk waiting ≡ true → may_ask purpose waiting ≡ true → CanWait (waiting_call waiting)
       → Good b s (begins s req (begin_at s chunk purpose (Some req)) waiting)
-  begins_good chunk purpose waiting known listed right can =
+  begins_good chunk purpose waiting known listed right asks can =
       let plan = waits_from_now (begin_at s chunk purpose (Some req)) req waiting in
       test_good b s (not (has_versions s.durable 1)) (refused s req refusals.Exhausted) (if_room s (turned s plan) (refused s req refusals.Full)) (λ c. refused_good b s req refusals.Exhausted h)
       (λ left. let some = not_false (has_versions s.durable 1) left in
       room_good b s req (turned s plan) h
       (one_good b s (Propose chunk s.durable.next_version) plan (proposed s.durable chunk s.durable.next_version) (proposes s.durable chunk zero may.rolling some (or_left (is_settled s.durable chunk) (is_fresh s.durable.next_handle chunk) known))
       (proposed_settled s.durable (changed s.volatile (changes.Begin (waiting_call waiting))) purpose (members_at (chunk_at s chunk)) (Some req) (begun_call waiting can) may.rolling some chunk known (or_left (is_listed s.durable chunk) (is_member s.volatile.unplaced chunk) listed) (inl listed)
-      (for_begun s.durable s.volatile (waiting_call waiting) chunk may.out right))
-      (not_rolling (proposed s.durable chunk s.durable.next_version) refl)))
+      (for_begun s.durable s.volatile (waiting_call waiting) chunk purpose may.out right asks))
+      (not_rolling (proposed s.durable chunk s.durable.next_version) refl)
+      (λ n. keeps_numbers (Propose chunk s.durable.next_version) refl s.durable (proposed s.durable chunk s.durable.next_version) tt h.stands.kept n (proposes s.durable chunk zero may.rolling some (or_left (is_settled s.durable chunk) (is_fresh s.durable.next_handle chunk) known)))))
 
   -- and so is one of a new chunk
   pub begins_new_good : (plan : Plan) (members : List ℕ) (waiting : Waiting) → may_wait_for s.durable.next_handle waiting ≡ true → makes s.durable.next_handle waiting ≡ true → (has_handle s.durable ≡ true → IsToldWaiting waiting) → list_all is_visible (paths_of waiting) ≡ true
@@ -293,18 +315,19 @@ module _ (b : Bool) (s : State) (req : ReqId) (h : Holds b s) (may : MayBegin s 
       room_good b s req (turned s whole) h
       (one_good b s (Propose new s.durable.next_version) whole (proposed s.durable new s.durable.next_version) (proposes s.durable new zero may.rolling some (or_right (is_settled s.durable new) (is_fresh new new) (next_is_fresh new 1 (omega arith) one)))
       (proposed_new s.durable (changed s.volatile (changes.Begin (waiting_call waiting))) purposes.Quiet members (Some req) (begun_call waiting (visible, told one)) may.rolling some one
-      (for_begun s.durable s.volatile (waiting_call waiting) new may.out right) (made_begun s.volatile (waiting_call waiting) new makes_it))
-      (not_rolling (proposed s.durable new s.durable.next_version) refl))))
+      (for_begun s.durable s.volatile (waiting_call waiting) new purposes.Quiet may.out right refl) (made_begun s.volatile (waiting_call waiting) new makes_it))
+      (not_rolling (proposed s.durable new s.durable.next_version) refl)
+      (λ n. keeps_numbers (Propose new s.durable.next_version) refl s.durable (proposed s.durable new s.durable.next_version) tt h.stands.kept n (proposes s.durable new zero may.rolling some (or_right (is_settled s.durable new) (is_fresh new new) (next_is_fresh new 1 (omega arith) one)))))))
 
 -- ---- several are begun
 
 module _ (b : Bool) where
-  pub record AreBegun (s : State) (many : List ℕ) (call : Option ReqId) : Type 0 where
+  pub record AreBegun (s : State) (many : List ℕ) (purpose : Purpose) (call : Option ReqId) : Type 0 where
     pub rolling : is_rolling s.durable.phase ≡ false
     pub left : has_versions s.durable (length many) ≡ true
     pub known : list_all (λ c. is_settled s.durable c && has_entry s c) many ≡ true
     pub owned : (list_all (is_listed s.durable) many ≡ true) ⊎ (call ≡ None)
-    pub for : (chunk : ℕ) → IsFor s.durable s.volatile chunk call
+    pub for : (chunk : ℕ) → IsFor s.durable s.volatile chunk purpose call
 
   some_left : (d : Durable) (many : ℕ) → has_versions d (suc many) ≡ true → has_versions d 1 ≡ true
   some_left d many left = fewer many (values_left d.next_version) left
@@ -312,7 +335,7 @@ module _ (b : Bool) where
       fewer : (m n : ℕ) → nat_le (suc m) n ≡ true → nat_le 1 n ≡ true
       fewer m n e = grind (arith, nat_tests)
 
-  pub all_begun_good : (many : List ℕ) (purpose : Purpose) (call : Option ReqId) (s : State) → Holds b s → AreBegun s many call → Good b s (all_begun s many purpose call)
+  pub all_begun_good : (many : List ℕ) (purpose : Purpose) (call : Option ReqId) (s : State) → Holds b s → AreBegun s many purpose call → Good b s (all_begun s many purpose call)
   all_begun_good [] purpose call s h a = same_good b s (unmoved s) refl refl h
   all_begun_good (chunk ∷ many) purpose call s h a =
       let parts = and_parts (is_settled s.durable chunk && has_entry s chunk) (list_all (λ c. is_settled s.durable c && has_entry s c) many) a.known in
@@ -321,7 +344,7 @@ module _ (b : Bool) where
       let next = proposed s.durable chunk s.durable.next_version in
       let fit = proposes s.durable chunk (length many) a.rolling a.left (or_left (is_settled s.durable chunk) (is_fresh s.durable.next_handle chunk) here.0) in
       let stands = proposed_settled s.durable s.volatile purpose (members_at (chunk_at s chunk)) call h.stands a.rolling some chunk here.0 here.1 (first_owned a.owned) (a.for chunk) in
-      let one = one_good b s (Propose chunk s.durable.next_version) (begin_at s chunk purpose call) next fit stands (λ c r. h.rolling c r) in
+      let one = one_good b s (Propose chunk s.durable.next_version) (begin_at s chunk purpose call) next fit stands (λ c r. h.rolling c r) (λ n. keeps_numbers (Propose chunk s.durable.next_version) refl s.durable next tt h.stands.kept n fit) in
       then_good b s (begun s chunk purpose call) (λ after. all_begun after many purpose call) one
       (all_begun_good many purpose call (begun s chunk purpose call).after one.holds (record {
         rolling = ap (λ o. is_rolling (unwrap_or o s.durable).phase) fit ∙ a.rolling;
@@ -329,7 +352,7 @@ module _ (b : Bool) where
         known = ap (λ o. list_all (λ c. is_settled (unwrap_or o s.durable) c && (is_listed (unwrap_or o s.durable) c || is_member s.volatile.unplaced c)) many) fit
             ∙ ap (λ (f : ℕ → Bool). list_all f many) (λ i c. proposed_some s.durable chunk c (fin.get s.durable.chunks chunk) refl i && has_entry s c) ∙ parts.1;
         owned = rest_owned fit a.owned;
-        for = λ c. subst (λ o. IsFor (unwrap_or o s.durable) (begun s chunk purpose call).after.volatile c call) (sym fit) (record { wanted = (a.for c).wanted; past = (a.for c).past });
+        for = λ c. subst (λ o. IsFor (unwrap_or o s.durable) (begun s chunk purpose call).after.volatile c purpose call) (sym fit) (record { wanted = (a.for c).wanted; purposed = (a.for c).purposed; past = (a.for c).past });
       }))
     where
       first_owned : (list_all (is_listed s.durable) (chunk ∷ many) ≡ true) ⊎ (call ≡ None) → (is_listed s.durable chunk ≡ true) ⊎ (call ≡ None)

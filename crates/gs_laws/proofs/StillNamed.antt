@@ -62,7 +62,7 @@ not_false : (b : Bool) → not b ≡ true → b ≡ false
 not_false true h = absurd (false≢true h)
 not_false false h = refl
 
-each_visible : (p : Path) → is_visible p ≡ true → list_all (λ x. not (is_hidden x)) p ≡ true
+pub each_visible : (p : Path) → is_visible p ≡ true → list_all (λ x. not (is_hidden x)) p ≡ true
 each_visible [] h = refl
 each_visible (x ∷ p) h = by_test (each_visible p) (is_hidden x) refl h
   where
@@ -70,7 +70,7 @@ each_visible (x ∷ p) h = by_test (each_visible p) (is_hidden x) refl h
     by_test rest true is k = absurd (false≢true k)
     by_test rest false is k = both_true (not (is_hidden x)) (list_all (λ y. not (is_hidden y)) p) (ap not is) (rest k)
 
-all_by : (f g : Name → Bool) (p : Path) → ((x : Name) → f x ≡ true → g x ≡ true) → list_all f p ≡ true → list_all g p ≡ true
+pub all_by : (f g : Name → Bool) (p : Path) → ((x : Name) → f x ≡ true → g x ≡ true) → list_all f p ≡ true → list_all g p ≡ true
 all_by f g [] h all = refl
 all_by f g (x ∷ p) h all = let parts = and_parts (f x) (list_all f p) all in both_true (g x) (list_all g p) (h x parts.0) (all_by f g p h parts.1)
 

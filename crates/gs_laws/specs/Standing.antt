@@ -1,5 +1,5 @@
 -- What stands of a whole master: of what it keeps, of what it asks for chunks, and of the calls that wait. So it is over every run.
-use Rattle.std.specs.Prelude.{◌≡◌, ◌≤◌, ◌||◌, ℕ, Bool, true, false, not, List, [], Option, Some, None, Ok}
+use Rattle.std.specs.Prelude.{◌≡◌, ◌≤◌, ◌||◌, ℕ, Bool, true, false, not, is_some, List, [], Option, Some, None, Ok}
 use Rattle.std.specs.FinMap as fin
 use Rattle.std.specs.List.{list_all, AllByRecursion}
 use Rattle.gs_base.specs.Members.{is_member}
@@ -7,6 +7,8 @@ use Rattle.gs_base.specs.Told.{IsNumber}
 use Rattle.gs_base.specs.declared.config.Config.{Config}
 use Rattle.gs_base.specs.declared.numbers.Moment.{Moment}
 use Rattle.gs_base.specs.declared.numbers.ReqId.{ReqId}
+use Rattle.gs_lease.specs.declared.view.Purpose.{Purpose}
+use Rattle.gs_lease.specs.declared.view.Purpose.TheVariants as purposes
 use Rattle.gs_msg.specs.declared.body.Body.{Body}
 use Rattle.gs_msg.specs.declared.body.Body.TheVariants as bodies
 use Rattle.gs_msg.specs.declared.call.Call.{Call}
@@ -56,14 +58,20 @@ was_answered d v req = not (is_later (later (fin.get d.replies req.client) (fin.
 
 -- ---- what is asked for a chunk
 
+-- a lease is asked for a call only where it waits for one
+abbrev pub may_ask : Purpose → Waiting → Bool
+may_ask purposes.Lease (waits.Lease path index chunk) = true
+may_ask purposes.Lease waiting = false
+may_ask purpose waiting = true
+
 abbrev pub IsToldCount : Option ℕ → Type 0
 IsToldCount None = Unit {0}
 IsToldCount (Some count) = IsNumber count
 
 -- The master knows the chunk; its handle and the version were given, in an epoch that there was; a view that was settled is moving,
--- under a smaller stamp, and one that never was belongs to the upgrade that stands. A call for which the chunk moves waits for it, or
--- was answered. A chunk without a settled view is made by a call that waits, and so is one without a place that moves for a call.
--- What was answered can be told.
+-- under a smaller stamp, and one that never was belongs to the upgrade that stands. A call for which the chunk moves waits for it, and for
+-- such a view, or was answered. A chunk without a settled view is made by a call that waits, and so is one without a place that moves for a call, which
+-- has no settled view then. What was answered can be told.
 pub record IsSought (d : Durable) (v : Volatile) (chunk : ℕ) (asking : Asking) : Type 0 where
   pub known : (is_listed d chunk || is_member v.unplaced chunk) ≡ true
   pub handle : is_given d.next_handle chunk ≡ true
@@ -74,19 +82,24 @@ pub record IsSought (d : Durable) (v : Volatile) (chunk : ℕ) (asking : Asking)
   pub since : is_since (upgrade_epoch d.phase d.epoch) (fin.get d.chunks chunk) asking.stamp ≡ true
   pub told : AllByRecursion IsToldCount asking.answers.counts
   pub wanted : list_all (λ (p : Pending). not (is_call p.req asking.call) || may_wait_for chunk p.waits) v.pending ≡ true
+  pub purposed : list_all (λ (p : Pending). not (is_call p.req asking.call) || may_ask asking.purpose p.waits) v.pending ≡ true
   pub made : fin.get d.chunks chunk ≡ None → is_waited_by asking.call (makes chunk) v.pending ≡ true
   pub own : (req : ReqId) → asking.call ≡ Some req → is_member v.unplaced chunk ≡ true → is_waited_by asking.call (makes chunk) v.pending ≡ true
+  pub first : (req : ReqId) → asking.call ≡ Some req → is_member v.unplaced chunk ≡ true → fin.get d.chunks chunk ≡ None
   pub past : (req : ReqId) → asking.call ≡ Some req → (is_pending v.pending req || was_answered d v req) ≡ true
 
 -- ---- all of it
 
 -- What is kept stands, and the counters can be told. So is all that is asked for chunks. A new chunk was given, and stands in no
--- file. Each call waits once, and can, and none while an upgrade is prepared.
+-- file. A settled chunk that stands in none, and never did, is new, or a restart took it out, and never both. Each call waits once, and can,
+-- and none while an upgrade is prepared.
 pub record Stands (d : Durable) (v : Volatile) : Type 0 where
   pub kept : IsKept d
   pub counters : AreCounters d
   pub asked : (chunk : ℕ) (asking : Asking) → fin.get v.moving chunk ≡ Some asking → IsSought d v chunk asking
   pub unplaced : (chunk : ℕ) → is_member v.unplaced chunk ≡ true → (is_given d.next_handle chunk ≡ true) × (is_listed d chunk ≡ false)
+  pub counted : (chunk : ℕ) → is_some (fin.get d.chunks chunk) ≡ true → (is_listed d chunk || (is_member v.unplaced chunk || is_member v.taken_out chunk)) ≡ true
+  pub out : (chunk : ℕ) → is_member v.taken_out chunk ≡ true → (is_given d.next_handle chunk ≡ true) × (is_member v.unplaced chunk ≡ false)
   pub apart : are_apart v.pending ≡ true
   pub calls : AllByRecursion CanWait v.pending
   pub preparing : v.is_preparing ≡ true → (is_ordinary d.phase ≡ true) × (v.pending ≡ [])

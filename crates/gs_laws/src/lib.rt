@@ -10,7 +10,13 @@ ghost use Rattle.gs_state.specs.Checkpoints.{read_with};
 ghost use Rattle.gs_state.specs.Whole.{told_replies, whole_of};
 ghost use Rattle.gs_state.specs.declared.reply.KeptReply.{KeptReply};
 ghost use Rattle.gs_state.specs.Recorded.{SayAlone};
+ghost use Rattle.gs_laws.specs.Copying.{CopiesAtRest, StepsCopyAtRest};
+ghost use Rattle.gs_laws.specs.Counting.{CountsKnown, CountsViews, NewOrOut};
+ghost use Rattle.gs_laws.specs.Numbered.{EventsKeepNumbers, LeadsToNumbers, RecordsKeepNumbers, RunsKeepNumbers, TellsNumbers};
 ghost use Rattle.gs_laws.specs.Promises.{AllMessagesFit, AnswersExactly, BeginsWithAll, CallsFit, CallsKeep, CheckpointFits, CommitsExactly, IsToldAgain, KeepsAll, KeepsGiven, KeepsPrepared, LeadsBack, LeadsToKept, LockedElse, LockedExactly, MadeOfTheMost, MessagesFit, MessagesKeep, NothingAtTicks, NothingWhileRolling, PreparesByOneRecord, ProposesFresh, ProposesFreshAtTicks, RefusesInOrder, RefusedAtLocks, RefusedFits, RefusedLeavesAll, RollsBack, StartsWell, StepsAtTicksFit, TellsAll, TellsCounters};
+ghost use Rattle.gs_laws.specs.Reached.{DisksHold, OpensFirm, RecoversFirm, RollsBackThrough, RunsRecoverFromLast, SameFromLast};
+ghost use Rattle.gs_laws.specs.Resting.{PreparesExactly, TakesPrepares};
+ghost use Rattle.gs_laws.specs.Rooms.{LogsStayWithin, MessagesCopyStill, MessagesHaveRoom, OthersLeave, RestartsForget, RunsStayWithin, StepsHaveRoom, TellsAdd, TellsOf, TellsSince, TicksCopyStill, TicksHaveRoom, TicksLeave};
 ghost use Rattle.gs_laws.specs.Standing.{EventsFit, FirmGoesOn, RunsFit, RunsRecover, StartsFirm};
 ghost use Rattle.gs_state.specs.Undoing.{EditsAsTold};
 
@@ -41,6 +47,15 @@ pub fn views_are_of_those_with_the_most_edits()
 /// how many chunks the master knows. One that is refused adds at most its refusal.
 pub fn a_prepare_adds_one_record()
     ensures { PreparesByOneRecord }
+{}
+
+/// A prepare is committed exactly where it was begun, each chunk that the master knows is at rest, and an epoch is left: nothing is asked
+/// for a chunk at rest, no other view of it is proposed, and none has its lease; and where its record has room. Else it is refused, and which
+/// refusal comes is said of each: that an upgrade stands, that no prepare was begun, the lowest chunk that isn't at rest, that no epoch is
+/// left, or that there is no room, in this order. A new such call comes to these tests wherever no disk has failed and no rollback is begun.
+pub fn a_prepare_is_accepted_exactly_where_all_is_quiet()
+    ensures order { PreparesExactly }
+    ensures taken { TakesPrepares }
 {}
 
 /// A call that is refused by the event that brings it leaves the master as it was, in the journal and in memory, but for the kept reply:
@@ -96,6 +111,13 @@ pub fn a_new_store_is_firm()
     ensures { StartsFirm }
 {}
 
+/// What stands, with counters that can be told, is opened as a firm master: so is whatever records lead to from a new store, where each
+/// checkpoint among them is that of something that stood, also where they are written anew, as those of a journal of version 1 are.
+pub fn an_opened_master_is_firm()
+    ensures opened { OpensFirm }
+    ensures recovered { RecoversFirm }
+{}
+
 /// The calls of a firm master may go on.
 pub fn a_firm_master_may_go_on()
     ensures { FirmGoesOn }
@@ -107,12 +129,66 @@ pub fn each_event_fits()
     ensures { EventsFit }
 {}
 
+/// Each server that a firm master tells to make a copy of a chunk, by whatever message and at each step of a tick, has the chunk by its
+/// settled view, whose stamp it is told; and in the state that is left the chunk is at rest: no other view of it is proposed, none has its
+/// lease, and nothing is asked for it.
+pub fn copies_on_write_are_of_chunks_at_rest()
+    ensures messages { CopiesAtRest }
+    ensures steps { StepsCopyAtRest }
+{}
+
+/// The chunks that placement counts are those that the master knows: in a firm master a settled chunk that stands in no file, and never did,
+/// is new exactly where no restart took it out. And a master is firm at the start, once it is opened, and behind each event.
+pub fn placement_counts_what_is_known()
+    ensures either { NewOrOut }
+    ensures counted { CountsKnown }
+    ensures views { CountsViews }
+{}
+
+/// The records of every message are none, or have room in the log that it meets; so have those of each step of a tick, and of all its steps
+/// together. So no event and no run takes the log beyond its limit, a checkpoint neither.
+pub fn each_event_has_room()
+    ensures messages { MessagesHaveRoom }
+    ensures steps { StepsHaveRoom }
+    ensures ticks { TicksHaveRoom }
+    ensures within { LogsStayWithin }
+    ensures runs { RunsStayWithin }
+{}
+
+/// Who has told that it has a chunk as it was sealed is who has said so in the epoch of the rollback that is begun, since it was begun: such
+/// a message adds its server for the chunks that it names. Every other message and each tick leaves who has told, but the commit of the
+/// rollback, behind which nobody has; a restart forgets it; and where no rollback is begun nobody has told of anything.
+pub fn who_has_told_is_who_has_learned()
+    ensures added { TellsAdd }
+    ensures of_each { TellsOf }
+    ensures others { OthersLeave }
+    ensures ticks { TicksLeave }
+    ensures restarts { RestartsForget }
+    ensures since { TellsSince }
+{}
+
+/// Each snapshot that is recorded, by whatever message and at each tick, copies only chunks that are still in what is durable as its record
+/// meets it: no other view is proposed for such a chunk, and none has its lease.
+pub fn snapshots_copy_what_is_still()
+    ensures messages { MessagesCopyStill }
+    ensures ticks { TicksCopyStill }
+{}
+
 /// Over every run from a new store all records fit, and together they lead from a new store to what is durable; and the master is firm
 /// in the end. So a restart on these records opens what was durable. The paths in calls are paths by the rules, and the numbers in
 /// messages and of moments are of 64 bits, as the types have it; a device that fails and memory that is wanting are not in it.
 pub fn every_run_fits()
     ensures fit { RunsFit }
     ensures again { RunsRecover }
+{}
+
+/// A restart reads the records from the last checkpoint on, which is all that a disk holds, as it would read all: what it opens is the same,
+/// wherever all fit. So a restart at the end of any run from a new store opens what was durable, from these alone; and from event to event, also behind restarts,
+/// what a disk holds comes to what is durable.
+pub fn a_restart_reads_the_last_checkpoint()
+    ensures alike { SameFromLast }
+    ensures runs { RunsRecoverFromLast }
+    ensures disks { DisksHold }
 {}
 
 /// The record of a checkpoint fits, and gives what stood but for chunks that stand in no file and never did.
@@ -129,6 +205,17 @@ pub fn a_prepare_begins_with_all_that_stands()
 /// No record but a checkpoint takes a counter behind a value that was given, or the epoch back.
 pub fn counters_never_fall()
     ensures { (entry : PlainEntry) → KeepsGiven entry }
+{}
+
+/// The number that each standing hidden name tells was given, now and in the names to which a rollback would lead back: each record that can
+/// be written keeps it, the checkpoint of what stands tells it, and so it is of whatever such records lead to from a new store. Each event of a
+/// firm master keeps it too, so it is so at the end of every run from a new store: no name stands with the number of a deletion to come.
+pub fn hidden_names_tell_numbers_that_were_given()
+    ensures records { RecordsKeepNumbers }
+    ensures checkpoints { TellsNumbers }
+    ensures all { LeadsToNumbers }
+    ensures events { EventsKeepNumbers }
+    ensures runs { RunsKeepNumbers }
 {}
 
 /// A checkpoint of what stands tells its counters and its epoch.
@@ -160,6 +247,11 @@ pub fn records_keep_what_stands()
 /// the rollback's record; and no other chunk is settled. So it is whatever records but checkpoints went on between.
 pub fn a_rollback_leads_back_to_the_prepare()
     ensures { RollsBack }
+{}
+
+/// The same where checkpoints are written between, each of what stands then: a rollback leads back to the prepare also through these.
+pub fn a_rollback_leads_back_through_checkpoints()
+    ensures { RollsBackThrough }
 {}
 
 /// A rollback is committed exactly where it was begun, its edits can be taken back, and each chunk that had a reference at the prepare
