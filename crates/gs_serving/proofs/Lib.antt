@@ -1,2 +1,3 @@
 mod Tests
 mod Editing
+mod Calling

@@ -9,6 +9,9 @@ ghost use Rattle.gs_msg.specs.declared.node.NodeId.{NodeId};
 ghost use Rattle.gs_store.specs.Slots.{Slot};
 ghost use Rattle.gs_server.specs.Places.{Place, Here, SlotBecomes};
 ghost use Rattle.gs_server.specs.Edits.{edit, forward};
+ghost use Rattle.gs_server.specs.Servers.{Server};
+ghost use Rattle.gs_server.specs.Runs.{Event, behind, slot_in, BecomesBy};
+ghost use Rattle.gs_serving.specs.Calling.{call_by};
 ghost use Rattle.gs_serving.specs.Editing.{IsTakenBy, IsNumberedBy};
 
 /// A message edits a replica by what it says. A forward that changes a chunk is its replica's next edit, applied under the stamp and the
@@ -18,4 +21,11 @@ ghost use Rattle.gs_serving.specs.Editing.{IsTakenBy, IsNumberedBy};
 pub fn a_message_edits_a_replica_by_what_it_says()
     ensures forward { (h : Here) (p : Place) (from : NodeId) (stamp : Stamp) (number : ℕ) (req : ReqId) (op : Op) (carried : Option (List ℕ)) (s : Slot) → (forward h p from stamp number req op carried).slot ≡ SlotBecomes s → IsTakenBy h p from stamp number req op carried (forward h p from stamp number req op carried) s }
     ensures edit { (h : Here) (p : Place) (req : ReqId) (stamp : Stamp) (op : Op) (s : Slot) → (edit h p req stamp op).slot ≡ SlotBecomes s → IsNumberedBy h p req stamp op (edit h p req stamp op) s }
+{}
+
+/// Whatever happens to a server, what becomes of a chunk's slot is what one call of it makes, and it is said which: the one that a message
+/// about the chunk asks for, where the message changes the slot; the mark of a block by which a message is refused; the copy of a replica
+/// that a message brings under the chunk's handle; the end of an epoch; a loss, or damage. Otherwise the slot stays.
+pub fn an_event_calls_what_it_says()
+    ensures { (handle : ℕ) (e : Event) (s : Server) → BecomesBy s.block s.chunk (slot_in handle s) (call_by handle e s) (slot_in handle (behind e s)) }
 {}
