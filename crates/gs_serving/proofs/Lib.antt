@@ -1,3 +1,4 @@
 mod Tests
 mod Editing
 mod Calling
+mod Following

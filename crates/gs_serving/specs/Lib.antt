@@ -1,2 +1,3 @@
 pub mod Editing
 pub mod Calling
+pub mod Following

@@ -1,17 +1,20 @@
 //! The laws of a chunkserver over all messages.
 #![tactic(auto)]
 
-ghost use Rattle.std.specs.Prelude.{◌≡◌, ℕ, List, Option};
+ghost use Rattle.std.specs.Prelude.{◌≡◌, ℕ, true, false, List, Option, is_some};
 ghost use Rattle.gs_base.specs.declared.numbers.Stamp.{Stamp};
 ghost use Rattle.gs_base.specs.declared.numbers.ReqId.{ReqId};
 ghost use Rattle.gs_msg.specs.declared.op.Op.{Op};
 ghost use Rattle.gs_msg.specs.declared.node.NodeId.{NodeId};
+ghost use Rattle.gs_replica.specs.Stands.{Edit};
 ghost use Rattle.gs_store.specs.Slots.{Slot};
+ghost use Rattle.gs_store.specs.Standing.{StandsIn};
 ghost use Rattle.gs_server.specs.Places.{Place, Here, SlotBecomes};
 ghost use Rattle.gs_server.specs.Edits.{edit, forward};
 ghost use Rattle.gs_server.specs.Servers.{Server};
-ghost use Rattle.gs_server.specs.Runs.{Event, behind, slot_in, BecomesBy};
+ghost use Rattle.gs_server.specs.Runs.{Event, behind, behind_all, slot_in, BecomesBy};
 ghost use Rattle.gs_serving.specs.Calling.{call_by};
+ghost use Rattle.gs_serving.specs.Following.{IsToldBefore, AreToldBefore, remakes, NoneRemakes, edits_behind, edits_behind_all};
 ghost use Rattle.gs_serving.specs.Editing.{IsTakenBy, IsNumberedBy};
 
 /// A message edits a replica by what it says. A forward that changes a chunk is its replica's next edit, applied under the stamp and the
@@ -28,4 +31,14 @@ pub fn a_message_edits_a_replica_by_what_it_says()
 /// that a message brings under the chunk's handle; the end of an epoch; a loss, or damage. Otherwise the slot stays.
 pub fn an_event_calls_what_it_says()
     ensures { (handle : ℕ) (e : Event) (s : Server) → BecomesBy s.block s.chunk (slot_in handle s) (call_by handle e s) (slot_in handle (behind e s)) }
+{}
+
+/// What a live replica stands for goes on. An event behind which a chunk's replica is live leaves the list of edits for which it stood, or
+/// lengthens it by exactly the one edit that the event applies, but where the replica is made anew: by a create or a copy under a stamp above
+/// the promise, or by a rollback. The same over a run of events, and a replica that is live at the end of such a run was live throughout. At
+/// each edit that is applied, digests are to tell the replica's blocks from those of its list, where they differ.
+pub fn what_a_replica_stands_for_goes_on()
+    ensures event { (handle : ℕ) (e : Event) (s : Server) (edits : List Edit) → StandsIn s.block s.chunk (slot_in handle s) edits → IsToldBefore handle e s edits → remakes handle e s ≡ false → is_some (slot_in handle (behind e s)).live ≡ true → StandsIn s.block s.chunk (slot_in handle (behind e s)) (edits_behind handle e s edits) }
+    ensures run { (handle : ℕ) (events : List Event) (s : Server) (edits : List Edit) → StandsIn s.block s.chunk (slot_in handle s) edits → AreToldBefore handle events s edits → NoneRemakes handle events s → is_some (slot_in handle (behind_all events s)).live ≡ true → StandsIn s.block s.chunk (slot_in handle (behind_all events s)) (edits_behind_all handle events s edits) }
+    ensures lived { (handle : ℕ) (events : List Event) (s : Server) → NoneRemakes handle events s → is_some (slot_in handle (behind_all events s)).live ≡ true → is_some (slot_in handle s).live ≡ true }
 {}
