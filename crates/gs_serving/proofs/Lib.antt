@@ -2,3 +2,4 @@ mod Tests
 mod Editing
 mod Calling
 mod Following
+mod Telling

@@ -1,16 +1,25 @@
 //! The laws of a chunkserver over all messages.
 #![tactic(auto)]
 
-ghost use Rattle.std.specs.Prelude.{◌≡◌, ℕ, true, false, List, Option, is_some};
+ghost use Rattle.std.specs.Prelude.{◌≡◌, ◌<◌, ◌+◌, ℕ, true, false, List, [], ◌∷◌, length, Contains, Option, Some, is_some, Ok};
 ghost use Rattle.gs_base.specs.declared.numbers.Stamp.{Stamp};
 ghost use Rattle.gs_base.specs.declared.numbers.ReqId.{ReqId};
 ghost use Rattle.gs_msg.specs.declared.op.Op.{Op};
 ghost use Rattle.gs_msg.specs.declared.node.NodeId.{NodeId};
+ghost use Rattle.gs_base.specs.Stamps.{is_same};
+ghost use Rattle.gs_replica.specs.declared.op.Done.{Done};
+ghost use Rattle.gs_replica.specs.Edits.{outcome_of};
 ghost use Rattle.gs_replica.specs.Stands.{Edit};
-ghost use Rattle.gs_store.specs.Slots.{Slot};
+ghost use Rattle.gs_msg.specs.Ops.{in_replica};
+ghost use Rattle.gs_store.specs.Slots.{Live, Slot};
+ghost use Rattle.gs_store.specs.Serving.{done_in};
 ghost use Rattle.gs_store.specs.Standing.{StandsIn};
-ghost use Rattle.gs_server.specs.Places.{Place, Here, SlotBecomes};
-ghost use Rattle.gs_server.specs.Edits.{edit, forward};
+ghost use Rattle.gs_server.specs.Places.{Place, Here, SlotBecomes, after};
+ghost use Rattle.gs_server.specs.declared.lease.Open.{Open};
+ghost use Rattle.gs_server.specs.Leases.{Lease, hears, done_of};
+ghost use Rattle.gs_server.specs.Holding.{ack, is_held};
+ghost use Rattle.gs_server.specs.Laws.{IsToldByAll, IsKnownToAll};
+ghost use Rattle.gs_server.specs.Edits.{edit, forward, done, numbered_op};
 ghost use Rattle.gs_server.specs.Servers.{Server};
 ghost use Rattle.gs_server.specs.Runs.{Event, behind, behind_all, slot_in, BecomesBy};
 ghost use Rattle.gs_serving.specs.Calling.{call_by};
@@ -41,4 +50,16 @@ pub fn what_a_replica_stands_for_goes_on()
     ensures event { (handle : ℕ) (e : Event) (s : Server) (edits : List Edit) → StandsIn s.block s.chunk (slot_in handle s) edits → IsToldBefore handle e s edits → remakes handle e s ≡ false → is_some (slot_in handle (behind e s)).live ≡ true → StandsIn s.block s.chunk (slot_in handle (behind e s)) (edits_behind handle e s edits) }
     ensures run { (handle : ℕ) (events : List Event) (s : Server) (edits : List Edit) → StandsIn s.block s.chunk (slot_in handle s) edits → AreToldBefore handle events s edits → NoneRemakes handle events s → is_some (slot_in handle (behind_all events s)).live ≡ true → StandsIn s.block s.chunk (slot_in handle (behind_all events s)) (edits_behind_all handle events s edits) }
     ensures lived { (handle : ℕ) (events : List Event) (s : Server) → NoneRemakes handle events s → is_some (slot_in handle (behind_all events s)).live ≡ true → is_some (slot_in handle s).live ≡ true }
+{}
+
+/// Edits that all members have are done. An acknowledgement under the stamp of the lease that is held tells the client of each edit that
+/// waits, whose number every member has told of once the acknowledgement is heard. An edit of which every member has told where it is numbered
+/// is done at once: so is each where the server is the only member. A client's last edit that comes again is answered as done where every
+/// member is known to have it. An acknowledgement under any other stamp sends nothing, and changes nothing of the chunk.
+pub fn edits_that_all_have_are_done()
+    ensures later { (h : Here) (p : Place) (server : ℕ) (stamp : Stamp) (count : ℕ) (l : Lease) (number : ℕ) (edit : Open) → p.lease ≡ Some l → is_same stamp l.grant.stamp ≡ true → Contains l.outbox (number, edit) → IsToldByAll (hears server count l) number → Contains (ack h p server stamp count).sent (done_of h.me (number, edit)) }
+    ensures at_once { (h : Here) (p : Place) (req : ReqId) (stamp : Stamp) (op : Op) (live : Live) (l : Lease) (s : Slot) → p.slot.live ≡ Some live → p.lease ≡ Some l → (edit h p req stamp op).slot ≡ SlotBecomes s → IsToldByAll (hears h.me (live.replica.held.count + 1) l) (live.replica.held.count + 1) → Contains (edit h p req stamp op).sent (done h req (Ok (outcome_of (in_replica (numbered_op h.chunk (length live.replica.held.chunk.bytes) op)) live.replica.held.chunk))) }
+    ensures alone { (me number : ℕ) (l : Lease) → l.grant.members ≡ me ∷ [] → me < length l.told → IsToldByAll (hears me number l) number }
+    ensures repeat { (h : Here) (p : Place) (req : ReqId) (stamp : Stamp) (op : Op) (last : Done) → done_in p.slot.live req.client.0 ≡ Some last → req.number ≡ last.number → IsKnownToAll req p → (edit h p req stamp op).sent ≡ done h req (Ok last.outcome) ∷ [] }
+    ensures other { (h : Here) (p : Place) (server : ℕ) (stamp : Stamp) (count : ℕ) → is_held stamp p.lease ≡ false → ((ack h p server stamp count).sent ≡ []) × (after p (ack h p server stamp count) ≡ p) }
 {}
