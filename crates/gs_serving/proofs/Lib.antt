@@ -3,3 +3,4 @@ mod Editing
 mod Calling
 mod Following
 mod Telling
+mod Refusing

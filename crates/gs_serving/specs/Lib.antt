@@ -1,3 +1,4 @@
 pub mod Editing
 pub mod Calling
 pub mod Following
+pub mod Refusing

@@ -4,6 +4,10 @@
 ghost use Rattle.std.specs.Prelude.{◌≡◌, ◌<◌, ◌+◌, ℕ, true, false, List, [], ◌∷◌, length, Contains, Option, Some, is_some, Ok};
 ghost use Rattle.gs_base.specs.declared.numbers.Stamp.{Stamp};
 ghost use Rattle.gs_base.specs.declared.numbers.ReqId.{ReqId};
+ghost use Rattle.gs_base.specs.declared.numbers.Moment.{Moment};
+ghost use Rattle.gs_base.specs.declared.refusal.Refusal.{Refusal};
+ghost use Rattle.gs_msg.specs.declared.chunk.Chunk.{Chunk};
+ghost use Rattle.gs_msg.specs.declared.message.Message.{Message};
 ghost use Rattle.gs_msg.specs.declared.op.Op.{Op};
 ghost use Rattle.gs_msg.specs.declared.node.NodeId.{NodeId};
 ghost use Rattle.gs_base.specs.Stamps.{is_same};
@@ -20,11 +24,14 @@ ghost use Rattle.gs_server.specs.Leases.{Lease, hears, done_of};
 ghost use Rattle.gs_server.specs.Holding.{ack, is_held};
 ghost use Rattle.gs_server.specs.Laws.{IsToldByAll, IsKnownToAll};
 ghost use Rattle.gs_server.specs.Edits.{edit, forward, done, numbered_op};
-ghost use Rattle.gs_server.specs.Servers.{Server};
+ghost use Rattle.gs_server.specs.Servers.{Server, handle, handle_chunk, about_chunk, here_of, place_of, request_in};
 ghost use Rattle.gs_server.specs.Runs.{Event, behind, behind_all, slot_in, BecomesBy};
 ghost use Rattle.gs_serving.specs.Calling.{call_by};
 ghost use Rattle.gs_serving.specs.Following.{IsToldBefore, AreToldBefore, remakes, NoneRemakes, edits_behind, edits_behind_all};
+ghost use Rattle.gs_serving.specs.Refusing.{LeavesBut};
 ghost use Rattle.gs_serving.specs.Editing.{IsTakenBy, IsNumberedBy};
+
+use gs_server::promises::a_refused_message_leaves_the_chunk;
 
 /// A message edits a replica by what it says. A forward that changes a chunk is its replica's next edit, applied under the stamp and the
 /// number of the message, with the operation that it says and the bytes that it carries or that were pushed; it is acknowledged to its
@@ -62,4 +69,18 @@ pub fn edits_that_all_have_are_done()
     ensures alone { (me number : ℕ) (l : Lease) → l.grant.members ≡ me ∷ [] → me < length l.told → IsToldByAll (hears me number l) number }
     ensures repeat { (h : Here) (p : Place) (req : ReqId) (stamp : Stamp) (op : Op) (last : Done) → done_in p.slot.live req.client.0 ≡ Some last → req.number ≡ last.number → IsKnownToAll req p → (edit h p req stamp op).sent ≡ done h req (Ok last.outcome) ∷ [] }
     ensures other { (h : Here) (p : Place) (server : ℕ) (stamp : Stamp) (count : ℕ) → is_held stamp p.lease ≡ false → ((ack h p server stamp count).sent ≡ []) × (after p (ack h p server stamp count) ≡ p) }
+{}
+
+/// A refused message leaves the server: all that it keeps is the same, but that a damaged block by which the message is refused may mark the
+/// replica that it is of as bad, and that the refusal of an edit may be kept for its client, under the edit's number. A message that is for
+/// another kind of node, and an epoch that is refused, leave all.
+pub fn a_refused_message_leaves_the_server()
+    ensures { (s : Server) (message : Message) (moment : Moment) (refusal : Refusal) → (handle s message moment).said ≡ Some refusal → LeavesBut message.body refusal s (handle s message moment).after }
+{
+    a_refused_message_leaves_the_chunk();
+}
+
+/// A message about a chunk makes of what is kept of the chunk exactly what its part says.
+pub fn a_message_about_a_chunk_makes_what_it_says()
+    ensures { (s : Server) (from : NodeId) (handle : ℕ) (chunk : Chunk) (moment : Moment) → place_of handle (handle_chunk s from handle chunk moment).after ≡ after (place_of handle s) (about_chunk (here_of s moment handle (request_in chunk)) (place_of handle s) from chunk) }
 {}
