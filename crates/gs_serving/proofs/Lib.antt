@@ -4,3 +4,5 @@ mod Calling
 mod Following
 mod Telling
 mod Refusing
+mod Counting
+mod Waiting

@@ -2,3 +2,4 @@ pub mod Editing
 pub mod Calling
 pub mod Following
 pub mod Refusing
+pub mod Waiting

@@ -25,10 +25,11 @@ ghost use Rattle.gs_server.specs.Holding.{ack, is_held};
 ghost use Rattle.gs_server.specs.Laws.{IsToldByAll, IsKnownToAll};
 ghost use Rattle.gs_server.specs.Edits.{edit, forward, done, numbered_op};
 ghost use Rattle.gs_server.specs.Servers.{Server, handle, handle_chunk, about_chunk, here_of, place_of, request_in};
-ghost use Rattle.gs_server.specs.Runs.{Event, behind, behind_all, slot_in, BecomesBy};
+ghost use Rattle.gs_server.specs.Runs.{Event, behind, behind_all, slot_in, BecomesBy, IsReached};
 ghost use Rattle.gs_serving.specs.Calling.{call_by};
 ghost use Rattle.gs_serving.specs.Following.{IsToldBefore, AreToldBefore, remakes, NoneRemakes, edits_behind, edits_behind_all};
 ghost use Rattle.gs_serving.specs.Refusing.{LeavesBut};
+ghost use Rattle.gs_serving.specs.Waiting.{AreRising, AreCounted};
 ghost use Rattle.gs_serving.specs.Editing.{IsTakenBy, IsNumberedBy};
 
 use gs_server::promises::a_refused_message_leaves_the_chunk;
@@ -83,4 +84,12 @@ pub fn a_refused_message_leaves_the_server()
 /// A message about a chunk makes of what is kept of the chunk exactly what its part says.
 pub fn a_message_about_a_chunk_makes_what_it_says()
     ensures { (s : Server) (from : NodeId) (handle : ℕ) (chunk : Chunk) (moment : Moment) → place_of handle (handle_chunk s from handle chunk moment).after ≡ after (place_of handle s) (about_chunk (here_of s moment handle (request_in chunk)) (place_of handle s) from chunk) }
+{}
+
+/// At each server that began with nothing, whatever happened to it since: the numbers of the edits that wait under a lease rise, so the first
+/// of them is the lowest, and each is at most the count of the live replica, if there is one. What members have told is kept of 16 servers.
+pub fn outboxes_are_in_order()
+    ensures rising { (handle : ℕ) (s : Server) (l : Lease) → IsReached s → (place_of handle s).lease ≡ Some l → AreRising l.outbox }
+    ensures counted { (handle : ℕ) (s : Server) (l : Lease) (live : Live) → IsReached s → (place_of handle s).lease ≡ Some l → (slot_in handle s).live ≡ Some live → AreCounted live.replica.held.count l.outbox }
+    ensures told { (handle : ℕ) (s : Server) (l : Lease) → IsReached s → (place_of handle s).lease ≡ Some l → length l.told ≡ 16 }
 {}
