@@ -6,3 +6,4 @@ mod Telling
 mod Refusing
 mod Counting
 mod Waiting
+mod Sealing

@@ -3,3 +3,4 @@ pub mod Calling
 pub mod Following
 pub mod Refusing
 pub mod Waiting
+pub mod Sealing

@@ -1,23 +1,26 @@
 //! The laws of a chunkserver over all messages.
 #![tactic(auto)]
 
-ghost use Rattle.std.specs.Prelude.{◌≡◌, ◌<◌, ◌+◌, ℕ, true, false, List, [], ◌∷◌, length, Contains, Option, Some, is_some, Ok};
+ghost use Rattle.std.specs.Prelude.{◌≡◌, ◌<◌, ◌+◌, ℕ, true, false, List, [], ◌∷◌, length, Contains, Option, Some, None, is_some, Ok};
 ghost use Rattle.gs_base.specs.declared.numbers.Stamp.{Stamp};
 ghost use Rattle.gs_base.specs.declared.numbers.ReqId.{ReqId};
 ghost use Rattle.gs_base.specs.declared.numbers.Moment.{Moment};
 ghost use Rattle.gs_base.specs.declared.refusal.Refusal.{Refusal};
 ghost use Rattle.gs_msg.specs.declared.chunk.Chunk.{Chunk};
+ghost use Rattle.gs_msg.specs.declared.chunk.Chunk.TheVariants.{CopyIn};
 ghost use Rattle.gs_msg.specs.declared.message.Message.{Message};
 ghost use Rattle.gs_msg.specs.declared.op.Op.{Op};
 ghost use Rattle.gs_msg.specs.declared.node.NodeId.{NodeId};
-ghost use Rattle.gs_base.specs.Stamps.{is_same};
+ghost use Rattle.gs_base.specs.Stamps.{is_same, is_before};
 ghost use Rattle.gs_replica.specs.declared.op.Done.{Done};
 ghost use Rattle.gs_replica.specs.Edits.{outcome_of};
+ghost use Rattle.gs_replica.specs.Copies.{Image, SealedImage};
 ghost use Rattle.gs_replica.specs.Stands.{Edit};
 ghost use Rattle.gs_msg.specs.Ops.{in_replica};
-ghost use Rattle.gs_store.specs.Slots.{Live, Slot};
+ghost use Rattle.gs_store.specs.Slots.{Live, Slot, sealed_of};
 ghost use Rattle.gs_store.specs.Serving.{done_in};
-ghost use Rattle.gs_store.specs.Standing.{StandsIn};
+ghost use Rattle.gs_store.specs.Standing.{StandsIn, StoodIn, LiveUndamaged};
+ghost use Rattle.gs_store.specs.Moves.{sound_image};
 ghost use Rattle.gs_server.specs.Places.{Place, Here, SlotBecomes, after};
 ghost use Rattle.gs_server.specs.declared.lease.Open.{Open};
 ghost use Rattle.gs_server.specs.Leases.{Lease, hears, done_of};
@@ -25,11 +28,12 @@ ghost use Rattle.gs_server.specs.Holding.{ack, is_held};
 ghost use Rattle.gs_server.specs.Laws.{IsToldByAll, IsKnownToAll};
 ghost use Rattle.gs_server.specs.Edits.{edit, forward, done, numbered_op};
 ghost use Rattle.gs_server.specs.Servers.{Server, handle, handle_chunk, about_chunk, here_of, place_of, request_in};
-ghost use Rattle.gs_server.specs.Runs.{Event, behind, behind_all, slot_in, BecomesBy, IsReached};
+ghost use Rattle.gs_server.specs.Runs.{Event, behind, behind_all, slot_in, BecomesBy, IsReached, KeepSeal, AllSpare, rolled_back};
 ghost use Rattle.gs_serving.specs.Calling.{call_by};
 ghost use Rattle.gs_serving.specs.Following.{IsToldBefore, AreToldBefore, remakes, NoneRemakes, edits_behind, edits_behind_all};
 ghost use Rattle.gs_serving.specs.Refusing.{LeavesBut};
 ghost use Rattle.gs_serving.specs.Waiting.{AreRising, AreCounted};
+ghost use Rattle.gs_serving.specs.Sealing.{IsImageOf};
 ghost use Rattle.gs_serving.specs.Editing.{IsTakenBy, IsNumberedBy};
 
 use gs_server::promises::a_refused_message_leaves_the_chunk;
@@ -92,4 +96,15 @@ pub fn outboxes_are_in_order()
     ensures rising { (handle : ℕ) (s : Server) (l : Lease) → IsReached s → (place_of handle s).lease ≡ Some l → AreRising l.outbox }
     ensures counted { (handle : ℕ) (s : Server) (l : Lease) (live : Live) → IsReached s → (place_of handle s).lease ≡ Some l → (slot_in handle s).live ≡ Some live → AreCounted live.replica.held.count l.outbox }
     ensures told { (handle : ℕ) (s : Server) (l : Lease) → IsReached s → (place_of handle s).lease ≡ Some l → length l.told ≡ 16 }
+{}
+
+/// What is sealed of a chunk stays on a server: what it stood for when it was sealed it stands for behind each run of events that keeps the
+/// seal, and where damage was of blocks that edits had touched, a copy carries the same image. So an accepted copy under a stamp above the
+/// promise that carries a sealed image, then such a run, and then a rollback make live, if anything, what the image stood for, without a
+/// damaged block; and they do make it live where damage was of blocks that edits had touched.
+pub fn sealed_images_stay_on_a_server()
+    ensures stood { (handle : ℕ) (events : List Event) (s : Server) (edits : List Edit) → StoodIn s.block s.chunk (slot_in handle s) edits → KeepSeal handle events s → StoodIn s.block s.chunk (slot_in handle (behind_all events s)) edits }
+    ensures spared { (handle : ℕ) (events : List Event) (s : Server) → KeepSeal handle events s → AllSpare handle events s → sound_image (sealed_of (slot_in handle (behind_all events s))) ≡ sound_image (sealed_of (slot_in handle s)) }
+    ensures copied { (s : Server) (from : NodeId) (handle : ℕ) (stamp : Stamp) (image : Image) (t : SealedImage) (moment : Moment) (edits : List Edit) (events : List Event) → (handle_chunk s from handle (CopyIn stamp image (Some t)) moment).said ≡ None → is_before (slot_in handle s).promise stamp ≡ true → IsImageOf t edits s → KeepSeal handle events (handle_chunk s from handle (CopyIn stamp image (Some t)) moment).after → is_some (slot_in handle (rolled_back (behind_all events (handle_chunk s from handle (CopyIn stamp image (Some t)) moment).after))).live ≡ true → StandsIn s.block s.chunk (slot_in handle (rolled_back (behind_all events (handle_chunk s from handle (CopyIn stamp image (Some t)) moment).after))) edits × LiveUndamaged (slot_in handle (rolled_back (behind_all events (handle_chunk s from handle (CopyIn stamp image (Some t)) moment).after))).live }
+    ensures live { (s : Server) (from : NodeId) (handle : ℕ) (stamp : Stamp) (image : Image) (t : SealedImage) (moment : Moment) (edits : List Edit) (events : List Event) → (handle_chunk s from handle (CopyIn stamp image (Some t)) moment).said ≡ None → is_before (slot_in handle s).promise stamp ≡ true → IsImageOf t edits s → KeepSeal handle events (handle_chunk s from handle (CopyIn stamp image (Some t)) moment).after → AllSpare handle events (handle_chunk s from handle (CopyIn stamp image (Some t)) moment).after → is_some (slot_in handle (rolled_back (behind_all events (handle_chunk s from handle (CopyIn stamp image (Some t)) moment).after))).live ≡ true }
 {}
