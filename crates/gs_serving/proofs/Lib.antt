@@ -7,3 +7,4 @@ mod Refusing
 mod Counting
 mod Waiting
 mod Sealing
+mod Repeating

@@ -7,23 +7,25 @@ ghost use Rattle.gs_base.specs.declared.numbers.ReqId.{ReqId};
 ghost use Rattle.gs_base.specs.declared.numbers.Moment.{Moment};
 ghost use Rattle.gs_base.specs.declared.refusal.Refusal.{Refusal};
 ghost use Rattle.gs_msg.specs.declared.chunk.Chunk.{Chunk};
-ghost use Rattle.gs_msg.specs.declared.chunk.Chunk.TheVariants.{CopyIn};
+ghost use Rattle.gs_msg.specs.declared.chunk.Chunk.TheVariants.{CopyIn, Create};
 ghost use Rattle.gs_msg.specs.declared.message.Message.{Message};
 ghost use Rattle.gs_msg.specs.declared.op.Op.{Op};
 ghost use Rattle.gs_msg.specs.declared.node.NodeId.{NodeId};
 ghost use Rattle.gs_base.specs.Stamps.{is_same, is_before};
 ghost use Rattle.gs_replica.specs.declared.op.Done.{Done};
 ghost use Rattle.gs_replica.specs.Edits.{outcome_of};
+ghost use Rattle.gs_replica.specs.Held.{Held};
 ghost use Rattle.gs_replica.specs.Copies.{Image, SealedImage};
 ghost use Rattle.gs_replica.specs.Stands.{Edit};
 ghost use Rattle.gs_msg.specs.Ops.{in_replica};
-ghost use Rattle.gs_store.specs.Slots.{Live, Slot, sealed_of};
+ghost use Rattle.gs_store.specs.Slots.{Live, Slot, sealed_of, create};
 ghost use Rattle.gs_store.specs.Serving.{done_in};
 ghost use Rattle.gs_store.specs.Standing.{StandsIn, StoodIn, LiveUndamaged};
-ghost use Rattle.gs_store.specs.Moves.{sound_image};
+ghost use Rattle.gs_store.specs.Moves.{sound_image, take_copy};
 ghost use Rattle.gs_server.specs.Places.{Place, Here, SlotBecomes, after};
 ghost use Rattle.gs_server.specs.declared.lease.Open.{Open};
 ghost use Rattle.gs_server.specs.Leases.{Lease, hears, done_of};
+ghost use Rattle.gs_server.specs.Promises.{drop_replica};
 ghost use Rattle.gs_server.specs.Holding.{ack, is_held};
 ghost use Rattle.gs_server.specs.Laws.{IsToldByAll, IsKnownToAll};
 ghost use Rattle.gs_server.specs.Edits.{edit, forward, done, numbered_op};
@@ -107,4 +109,19 @@ pub fn sealed_images_stay_on_a_server()
     ensures spared { (handle : ℕ) (events : List Event) (s : Server) → KeepSeal handle events s → AllSpare handle events s → sound_image (sealed_of (slot_in handle (behind_all events s))) ≡ sound_image (sealed_of (slot_in handle s)) }
     ensures copied { (s : Server) (from : NodeId) (handle : ℕ) (stamp : Stamp) (image : Image) (t : SealedImage) (moment : Moment) (edits : List Edit) (events : List Event) → (handle_chunk s from handle (CopyIn stamp image (Some t)) moment).said ≡ None → is_before (slot_in handle s).promise stamp ≡ true → IsImageOf t edits s → KeepSeal handle events (handle_chunk s from handle (CopyIn stamp image (Some t)) moment).after → is_some (slot_in handle (rolled_back (behind_all events (handle_chunk s from handle (CopyIn stamp image (Some t)) moment).after))).live ≡ true → StandsIn s.block s.chunk (slot_in handle (rolled_back (behind_all events (handle_chunk s from handle (CopyIn stamp image (Some t)) moment).after))) edits × LiveUndamaged (slot_in handle (rolled_back (behind_all events (handle_chunk s from handle (CopyIn stamp image (Some t)) moment).after))).live }
     ensures live { (s : Server) (from : NodeId) (handle : ℕ) (stamp : Stamp) (image : Image) (t : SealedImage) (moment : Moment) (edits : List Edit) (events : List Event) → (handle_chunk s from handle (CopyIn stamp image (Some t)) moment).said ≡ None → is_before (slot_in handle s).promise stamp ≡ true → IsImageOf t edits s → KeepSeal handle events (handle_chunk s from handle (CopyIn stamp image (Some t)) moment).after → AllSpare handle events (handle_chunk s from handle (CopyIn stamp image (Some t)) moment).after → is_some (slot_in handle (rolled_back (behind_all events (handle_chunk s from handle (CopyIn stamp image (Some t)) moment).after))).live ≡ true }
+{}
+
+/// What is promised again leaves what stands. A create, a copy for another handle and a copy that is sent, under a stamp that isn't above
+/// the promise, leave the slot as it is, if they are accepted at all. At each server that began with nothing such a message leaves the lease
+/// too.
+pub fn what_is_promised_again_leaves_what_stands()
+    ensures created { (block chunk : ℕ) (stamp : Stamp) (s s2 : Slot) → is_before s.promise stamp ≡ false → create block chunk stamp s ≡ Ok s2 → s2 ≡ s }
+    ensures taken { (h : Held) (s s2 : Slot) → is_before s.promise h.promise ≡ false → take_copy h s ≡ Ok s2 → s2 ≡ s }
+    ensures create { (s : Server) (from : NodeId) (handle : ℕ) (stamp : Stamp) (moment : Moment) → IsReached s → is_before (slot_in handle s).promise stamp ≡ false → place_of handle (handle_chunk s from handle (Create stamp) moment).after ≡ place_of handle s }
+    ensures copy { (s : Server) (from : NodeId) (handle : ℕ) (stamp : Stamp) (image : Image) (sealed : Option SealedImage) (moment : Moment) → IsReached s → is_before (slot_in handle s).promise stamp ≡ false → place_of handle (handle_chunk s from handle (CopyIn stamp image sealed) moment).after ≡ place_of handle s }
+{}
+
+/// A drop that is accepted leaves neither a live replica nor a lease of the chunk.
+pub fn a_dropped_replica_leaves_no_lease()
+    ensures { (h : Here) (p : Place) (epoch : ℕ) (promise : Stamp) → (drop_replica h p epoch promise).said ≡ None → ((after p (drop_replica h p epoch promise)).lease ≡ None) × ((after p (drop_replica h p epoch promise)).slot.live ≡ None) }
 {}
