@@ -4,7 +4,6 @@ use Rattle.std.specs.Prelude.{Result, Ok, Err, is_some}
 use Rattle.gs_base.specs.declared.numbers.Moment.{Moment}
 use Rattle.gs_base.specs.declared.numbers.Stamp.{Stamp}
 use Rattle.gs_base.specs.declared.refusal.Refusal.{Refusal}
-use Rattle.gs_base.specs.Stamps.{is_before}
 use Rattle.gs_block.specs.Edits.{unless_damaged}
 use Rattle.gs_replica.specs.Seals.{Sealed, State, lowest_damaged, roll_back_to}
 use Rattle.gs_replica.specs.Copies.{Image, SealedImage, as_sealed}
@@ -24,12 +23,12 @@ use Rattle.gs_store.proofs.Sealing.{run_stood, back}
 use Rattle.gs_store.proofs.Sparing.{run_same}
 use Rattle.gs_server.specs.Places.{Place, Here, Part, SlotChange, SlotBecomes, slot_after, or_else, other_epoch}
 use Rattle.gs_server.specs.Promises as messages
-use Rattle.gs_server.specs.Servers.{Server, place_of, here_of, handle_chunk}
+use Rattle.gs_server.specs.Servers.{Server, place_of, here_of, changed_by, handle_chunk}
 use Rattle.gs_server.specs.Runs.{Event, Hears, behind, behind_all, slot_in, rolled_back, reseals, KeepSeal, Spares, AllSpare}
 use Rattle.gs_server.proofs.Behind.{event_sizes, rolled_slot}
 use Rattle.gs_server.proofs.Happening.{goes_at, IsCopied}
 use Rattle.gs_server.proofs.Walks.{Goes, Suits}
-use Rattle.gs_serving.specs.Sealing.{IsImageOf}
+use Rattle.gs_serving.specs.Sealing.{TakesSealed}
 use Rattle.gs_serving.proofs.Calling.{own_part}
 
 -- ---- what is sealed stays
@@ -69,33 +68,34 @@ run_images handle (e ∷ events) s keep spare =
 
 -- ---- a copy that is accepted carries it there
 
-record Accepts (part : Part) (m : Result Slot Refusal) : Type 0 where
-  slot : Slot
-  made : m ≡ Ok slot
-  becomes : part.slot ≡ SlotBecomes slot
+pub record Accepts (part : Part) (m : Result Slot Refusal) : Type 0 where
+  pub slot : Slot
+  pub made : m ≡ Ok slot
+  pub becomes : part.slot ≡ SlotBecomes slot
 
-accepts : (h : Here) (p : Place) (stamp : Stamp) (o : Option Refusal) (m : Result Slot Refusal) → (or_else o (messages.unpromised h p stamp) (messages.promises h p stamp m)).said ≡ None → Accepts (or_else o (messages.unpromised h p stamp) (messages.promises h p stamp m)) m
+pub accepts : (h : Here) (p : Place) (stamp : Stamp) (o : Option Refusal) (m : Result Slot Refusal) → (or_else o (messages.unpromised h p stamp) (messages.promises h p stamp m)).said ≡ None → Accepts (or_else o (messages.unpromised h p stamp) (messages.promises h p stamp m)) m
 accepts h p stamp (Some e) m said = absurd (cc)
 accepts h p stamp None (Err e) said = absurd (cc)
 accepts h p stamp None (Ok s) said = record { slot = s; made = refl; becomes = refl }
 
-module _ (s : Server) (from : NodeId) (handle : ℕ) (stamp : Stamp) (image : Image) (t : SealedImage) (moment : Moment) (edits : List Edit) where
-  abbrev next : Server
-  next = (handle_chunk s from handle (chunks.CopyIn stamp image (Some t)) moment).after
+pub becomes_it : (handle : ℕ) (part : Part) (s : Server) (m : Result Slot Refusal) → Accepts part m → m ≡ Ok (slot_in handle (changed_by handle None part s))
+becomes_it handle part s m a = a.made ∙ ap (λ (x : Slot). (let r : Result Slot Refusal = Ok x in r)) (sym (own_part handle None part s ∙ ap (λ (c : SlotChange). slot_after (slot_in handle s) c) a.becomes))
 
-  taken_copy : (handle_chunk s from handle (chunks.CopyIn stamp image (Some t)) moment).said ≡ None → copy_in s.block s.chunk stamp image (Some t) (slot_in handle s) ≡ Ok (slot_in handle next)
-  taken_copy said =
-      let h : Here = here_of s moment handle None in
-      let p : Place = place_of handle s in
-      let part : Part = messages.copy_in h p stamp image (Some t) in
-      let a = accepts h p stamp (other_epoch h stamp.epoch) (copy_in s.block s.chunk stamp image (Some t) (slot_in handle s)) said in
-      a.made ∙ ap (λ (x : Slot). (let m : Result Slot Refusal = Ok x in m)) (sym (own_part handle None part s ∙ ap (λ (c : SlotChange). slot_after (slot_in handle s) c) a.becomes))
+pub taken_copy : (s : Server) (from : NodeId) (handle : ℕ) (stamp : Stamp) (image : Image) (sealed : Option SealedImage) (moment : Moment) → (handle_chunk s from handle (chunks.CopyIn stamp image sealed) moment).said ≡ None
+    → copy_in s.block s.chunk stamp image sealed (slot_in handle s) ≡ Ok (slot_in handle (handle_chunk s from handle (chunks.CopyIn stamp image sealed) moment).after)
+taken_copy s from handle stamp image sealed moment said =
+    let h : Here = here_of s moment handle None in
+    let p : Place = place_of handle s in
+    becomes_it handle (messages.copy_in h p stamp image sealed) s (copy_in s.block s.chunk stamp image sealed p.slot) (accepts h p stamp (other_epoch h stamp.epoch) (copy_in s.block s.chunk stamp image sealed p.slot) said)
 
-  carried_there : (handle_chunk s from handle (chunks.CopyIn stamp image (Some t)) moment).said ≡ None → is_before (slot_in handle s).promise stamp ≡ true → IsImageOf t edits s → ArrivesSealed s.block s.chunk edits t (sealed_of (slot_in handle next))
-  carried_there said above fits =
-      of_ok (λ (x : Slot). ArrivesSealed s.block s.chunk edits t (sealed_of x)) (copy_in s.block s.chunk stamp image (Some t) (slot_in handle s)) (slot_in handle next) (taken_copy said)
-      (of_above (λ (x : Slot). ArrivesSealed s.block s.chunk edits t (sealed_of x)) s.block s.chunk stamp image (Some t) (slot_in handle s) above
-      (arrived_sealed s.block s.chunk stamp image t (slot_in handle s) edits fits.some_block fits.block_fits fits.chunk_fits fits.taken fits.image fits.digests))
+carried_there : (handle : ℕ) (edits : List Edit) (s next : Server) (takes : TakesSealed handle edits s next) → ArrivesSealed s.block s.chunk edits takes.sealed (sealed_of (slot_in handle next))
+carried_there handle edits s next takes =
+    let image = takes.is_sealed.image in
+    let copy : Result Slot Refusal = copy_in s.block s.chunk takes.stamp takes.image (Some takes.sealed) (slot_in handle s) in
+    subst (λ (x : Server). ArrivesSealed s.block s.chunk edits takes.sealed (sealed_of (slot_in handle x))) (sym takes.is)
+    (of_ok (λ (x : Slot). ArrivesSealed s.block s.chunk edits takes.sealed (sealed_of x)) copy _ (taken_copy s takes.from handle takes.stamp takes.image (Some takes.sealed) takes.moment takes.taken)
+    (of_above (λ (x : Slot). ArrivesSealed s.block s.chunk edits takes.sealed (sealed_of x)) s.block s.chunk takes.stamp takes.image (Some takes.sealed) (slot_in handle s) takes.above
+    (arrived_sealed s.block s.chunk takes.stamp takes.image takes.sealed (slot_in handle s) edits takes.sizes.some_block takes.sizes.block_fits takes.sizes.chunk_fits image.taken image.is takes.is_sealed.digests)))
 
 -- ---- and a rollback makes it live
 
@@ -117,23 +117,17 @@ rolled_lives handle s =
     let t : Slot = slot_in handle s in
     ap (λ (x : Slot). is_some x.live) (rolled_slot handle s) ∙ live_then (later t.promise (start_of (s.kept.epoch + 1))) (sealed_of t) t
 
-module _ (s : Server) (from : NodeId) (handle : ℕ) (stamp : Stamp) (image : Image) (t : SealedImage) (moment : Moment) (edits : List Edit) (events : List Event) where
-  abbrev copied : Server
-  copied = (handle_chunk s from handle (chunks.CopyIn stamp image (Some t)) moment).after
-
+module _ (handle : ℕ) (edits : List Edit) (events : List Event) (s next : Server) (takes : TakesSealed handle edits s next) (keep : KeepSeal handle events next) where
   abbrev heard : Event
-  heard = Hears (record { from = from; to = nodes.Master; body = bodies.About handle (chunks.CopyIn stamp image (Some t)) }) moment
+  heard = Hears (record { from = takes.from; to = nodes.Master; body = bodies.About handle (chunks.CopyIn takes.stamp takes.image (Some takes.sealed)) }) takes.moment
 
-  copied_end : (handle_chunk s from handle (chunks.CopyIn stamp image (Some t)) moment).said ≡ None → is_before (slot_in handle s).promise stamp ≡ true → IsImageOf t edits s → KeepSeal handle events copied → StoodIn s.block s.chunk (slot_in handle (behind_all events copied)) edits
-  copied_end said above fits keep =
+  copied_end : StoodIn s.block s.chunk (slot_in handle (behind_all events next)) edits
+  copied_end =
       let sizes = event_sizes heard s in
-      run_seals s.block s.chunk handle events copied edits sizes.block sizes.chunk keep (carried_there s from handle stamp image t moment edits said above fits).0
+      run_seals s.block s.chunk handle events next edits (ap (λ (x : Server). x.block) takes.is ∙ sizes.block) (ap (λ (x : Server). x.chunk) takes.is ∙ sizes.chunk) keep (carried_there handle edits s next takes).0
 
-  pub copied_stands : (handle_chunk s from handle (chunks.CopyIn stamp image (Some t)) moment).said ≡ None → is_before (slot_in handle s).promise stamp ≡ true → IsImageOf t edits s → KeepSeal handle events copied
-      → is_some (slot_in handle (rolled_back (behind_all events copied))).live ≡ true → StandsIn s.block s.chunk (slot_in handle (rolled_back (behind_all events copied))) edits × LiveUndamaged (slot_in handle (rolled_back (behind_all events copied))).live
-  copied_stands said above fits keep live = rolled_stands s.block s.chunk handle (behind_all events copied) edits (copied_end said above fits keep) live
+  pub copied_stands : is_some (slot_in handle (rolled_back (behind_all events next))).live ≡ true → StandsIn s.block s.chunk (slot_in handle (rolled_back (behind_all events next))) edits × LiveUndamaged (slot_in handle (rolled_back (behind_all events next))).live
+  copied_stands live = rolled_stands s.block s.chunk handle (behind_all events next) edits copied_end live
 
-  pub copied_lives : (handle_chunk s from handle (chunks.CopyIn stamp image (Some t)) moment).said ≡ None → is_before (slot_in handle s).promise stamp ≡ true → IsImageOf t edits s → KeepSeal handle events copied → AllSpare handle events copied
-      → is_some (slot_in handle (rolled_back (behind_all events copied))).live ≡ true
-  copied_lives said above fits keep spare =
-      rolled_lives handle (behind_all events copied) ∙ ap is_some (run_images handle events copied keep spare ∙ (carried_there s from handle stamp image t moment edits said above fits).1)
+  pub copied_lives : AllSpare handle events next → is_some (slot_in handle (rolled_back (behind_all events next))).live ≡ true
+  copied_lives spare = rolled_lives handle (behind_all events next) ∙ ap is_some (run_images handle events next keep spare ∙ (carried_there handle edits s next takes).1)

@@ -35,7 +35,7 @@ ghost use Rattle.gs_serving.specs.Calling.{call_by};
 ghost use Rattle.gs_serving.specs.Following.{IsToldBefore, AreToldBefore, remakes, NoneRemakes, edits_behind, edits_behind_all};
 ghost use Rattle.gs_serving.specs.Refusing.{LeavesBut};
 ghost use Rattle.gs_serving.specs.Waiting.{AreRising, AreCounted};
-ghost use Rattle.gs_serving.specs.Sealing.{IsImageOf};
+ghost use Rattle.gs_serving.specs.Sealing.{TakesSealed};
 ghost use Rattle.gs_serving.specs.Editing.{IsTakenBy, IsNumberedBy};
 
 use gs_server::promises::a_refused_message_leaves_the_chunk;
@@ -73,7 +73,7 @@ pub fn what_a_replica_stands_for_goes_on()
 pub fn edits_that_all_have_are_done()
     ensures later { (h : Here) (p : Place) (server : ℕ) (stamp : Stamp) (count : ℕ) (l : Lease) (number : ℕ) (edit : Open) → p.lease ≡ Some l → is_same stamp l.grant.stamp ≡ true → Contains l.outbox (number, edit) → IsToldByAll (hears server count l) number → Contains (ack h p server stamp count).sent (done_of h.me (number, edit)) }
     ensures at_once { (h : Here) (p : Place) (req : ReqId) (stamp : Stamp) (op : Op) (live : Live) (l : Lease) (s : Slot) → p.slot.live ≡ Some live → p.lease ≡ Some l → (edit h p req stamp op).slot ≡ SlotBecomes s → IsToldByAll (hears h.me (live.replica.held.count + 1) l) (live.replica.held.count + 1) → Contains (edit h p req stamp op).sent (done h req (Ok (outcome_of (in_replica (numbered_op h.chunk (length live.replica.held.chunk.bytes) op)) live.replica.held.chunk))) }
-    ensures alone { (me number : ℕ) (l : Lease) → l.grant.members ≡ me ∷ [] → me < length l.told → IsToldByAll (hears me number l) number }
+    ensures alone { (h : Here) (p : Place) (req : ReqId) (stamp : Stamp) (op : Op) (live : Live) (l : Lease) (s : Slot) → p.slot.live ≡ Some live → p.lease ≡ Some l → (edit h p req stamp op).slot ≡ SlotBecomes s → l.grant.members ≡ h.me ∷ [] → h.me < length l.told → Contains (edit h p req stamp op).sent (done h req (Ok (outcome_of (in_replica (numbered_op h.chunk (length live.replica.held.chunk.bytes) op)) live.replica.held.chunk))) }
     ensures repeat { (h : Here) (p : Place) (req : ReqId) (stamp : Stamp) (op : Op) (last : Done) → done_in p.slot.live req.client.0 ≡ Some last → req.number ≡ last.number → IsKnownToAll req p → (edit h p req stamp op).sent ≡ done h req (Ok last.outcome) ∷ [] }
     ensures other { (h : Here) (p : Place) (server : ℕ) (stamp : Stamp) (count : ℕ) → is_held stamp p.lease ≡ false → ((ack h p server stamp count).sent ≡ []) × (after p (ack h p server stamp count) ≡ p) }
 {}
@@ -107,13 +107,13 @@ pub fn outboxes_are_in_order()
 pub fn sealed_images_stay_on_a_server()
     ensures stood { (handle : ℕ) (events : List Event) (s : Server) (edits : List Edit) → StoodIn s.block s.chunk (slot_in handle s) edits → KeepSeal handle events s → StoodIn s.block s.chunk (slot_in handle (behind_all events s)) edits }
     ensures spared { (handle : ℕ) (events : List Event) (s : Server) → KeepSeal handle events s → AllSpare handle events s → sound_image (sealed_of (slot_in handle (behind_all events s))) ≡ sound_image (sealed_of (slot_in handle s)) }
-    ensures copied { (s : Server) (from : NodeId) (handle : ℕ) (stamp : Stamp) (image : Image) (t : SealedImage) (moment : Moment) (edits : List Edit) (events : List Event) → (handle_chunk s from handle (CopyIn stamp image (Some t)) moment).said ≡ None → is_before (slot_in handle s).promise stamp ≡ true → IsImageOf t edits s → KeepSeal handle events (handle_chunk s from handle (CopyIn stamp image (Some t)) moment).after → is_some (slot_in handle (rolled_back (behind_all events (handle_chunk s from handle (CopyIn stamp image (Some t)) moment).after))).live ≡ true → StandsIn s.block s.chunk (slot_in handle (rolled_back (behind_all events (handle_chunk s from handle (CopyIn stamp image (Some t)) moment).after))) edits × LiveUndamaged (slot_in handle (rolled_back (behind_all events (handle_chunk s from handle (CopyIn stamp image (Some t)) moment).after))).live }
-    ensures live { (s : Server) (from : NodeId) (handle : ℕ) (stamp : Stamp) (image : Image) (t : SealedImage) (moment : Moment) (edits : List Edit) (events : List Event) → (handle_chunk s from handle (CopyIn stamp image (Some t)) moment).said ≡ None → is_before (slot_in handle s).promise stamp ≡ true → IsImageOf t edits s → KeepSeal handle events (handle_chunk s from handle (CopyIn stamp image (Some t)) moment).after → AllSpare handle events (handle_chunk s from handle (CopyIn stamp image (Some t)) moment).after → is_some (slot_in handle (rolled_back (behind_all events (handle_chunk s from handle (CopyIn stamp image (Some t)) moment).after))).live ≡ true }
+    ensures copied { (handle : ℕ) (edits : List Edit) (events : List Event) (s next : Server) → TakesSealed handle edits s next → KeepSeal handle events next → is_some (slot_in handle (rolled_back (behind_all events next))).live ≡ true → StandsIn s.block s.chunk (slot_in handle (rolled_back (behind_all events next))) edits × LiveUndamaged (slot_in handle (rolled_back (behind_all events next))).live }
+    ensures live { (handle : ℕ) (edits : List Edit) (events : List Event) (s next : Server) → TakesSealed handle edits s next → KeepSeal handle events next → AllSpare handle events next → is_some (slot_in handle (rolled_back (behind_all events next))).live ≡ true }
 {}
 
 /// What is promised again leaves what stands. A create, a copy for another handle and a copy that is sent, under a stamp that isn't above
-/// the promise, leave the slot as it is, if they are accepted at all. At each server that began with nothing such a message leaves the lease
-/// too.
+/// the promise, leave the slot as it is, if they are accepted at all. At each server that began with nothing, a message by which a chunk is
+/// created or a copy of it is sent, under such a stamp, leaves the lease too.
 pub fn what_is_promised_again_leaves_what_stands()
     ensures created { (block chunk : ℕ) (stamp : Stamp) (s s2 : Slot) → is_before s.promise stamp ≡ false → create block chunk stamp s ≡ Ok s2 → s2 ≡ s }
     ensures taken { (h : Held) (s s2 : Slot) → is_before s.promise h.promise ≡ false → take_copy h s ≡ Ok s2 → s2 ≡ s }

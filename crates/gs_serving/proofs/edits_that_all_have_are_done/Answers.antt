@@ -1,3 +1,4 @@
+use Rattle.std.proofs.Common.{◌+◌}
 use Rattle.gs_serving.proofs.Telling.{ack_tells, edit_tells, alone_told, repeat_tells, other_acks}
 use Rattle.gs_serving.proofs.edits_that_all_have_are_done.Goals as goal
 
@@ -8,7 +9,7 @@ pub returns-clause-at_once : goal.returns-clause-at_once
 returns-clause-at_once c = λ h p req stamp op live l s lives held becomes told. edit_tells h p req stamp op live l s lives held becomes told
 
 pub returns-clause-alone : goal.returns-clause-alone
-returns-clause-alone c = λ me number l alone below. alone_told me number l alone below
+returns-clause-alone c = λ h p req stamp op live l s lives held becomes alone below. edit_tells h p req stamp op live l s lives held becomes (alone_told h.me (live.replica.held.count + 1) l alone below)
 
 pub returns-clause-repeat : goal.returns-clause-repeat
 returns-clause-repeat c = λ h p req stamp op last found same known. repeat_tells h p req stamp op last found same known

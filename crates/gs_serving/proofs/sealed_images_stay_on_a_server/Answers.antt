@@ -9,7 +9,7 @@ pub returns-clause-spared : goal.returns-clause-spared
 returns-clause-spared c = λ handle events s keep spare. run_images handle events s keep spare
 
 pub returns-clause-copied : goal.returns-clause-copied
-returns-clause-copied c = λ s from handle stamp image t moment edits events said above fits keep live. copied_stands s from handle stamp image t moment edits events said above fits keep live
+returns-clause-copied c = λ handle edits events s next takes keep live. copied_stands handle edits events s next takes keep live
 
 pub returns-clause-live : goal.returns-clause-live
-returns-clause-live c = λ s from handle stamp image t moment edits events said above fits keep spare. copied_lives s from handle stamp image t moment edits events said above fits keep spare
+returns-clause-live c = λ handle edits events s next takes keep spare. copied_lives handle edits events s next takes keep spare
