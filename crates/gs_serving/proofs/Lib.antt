@@ -8,3 +8,4 @@ mod Counting
 mod Waiting
 mod Sealing
 mod Repeating
+mod Making

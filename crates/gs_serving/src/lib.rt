@@ -1,41 +1,43 @@
 //! The laws of a chunkserver over all messages.
 #![tactic(auto)]
 
-ghost use Rattle.std.specs.Prelude.{◌≡◌, ◌<◌, ◌+◌, ℕ, true, false, List, [], ◌∷◌, length, Contains, Option, Some, None, is_some, Ok};
+ghost use Rattle.std.specs.Prelude.{◌≡◌, ◌<◌, ◌+◌, ℕ, cond, Bool, true, false, List, [], ◌∷◌, length, Contains, Option, Some, None, is_some, Ok};
 ghost use Rattle.gs_base.specs.declared.numbers.Stamp.{Stamp};
 ghost use Rattle.gs_base.specs.declared.numbers.ReqId.{ReqId};
 ghost use Rattle.gs_base.specs.declared.numbers.Moment.{Moment};
 ghost use Rattle.gs_base.specs.declared.refusal.Refusal.{Refusal};
 ghost use Rattle.gs_msg.specs.declared.chunk.Chunk.{Chunk};
-ghost use Rattle.gs_msg.specs.declared.chunk.Chunk.TheVariants.{CopyIn, Create};
+ghost use Rattle.gs_msg.specs.declared.chunk.Chunk.TheVariants.{CopyIn, CopyOut, Create};
+ghost use Rattle.gs_msg.specs.declared.body.Body.TheVariants.{About};
 ghost use Rattle.gs_msg.specs.declared.message.Message.{Message};
 ghost use Rattle.gs_msg.specs.declared.op.Op.{Op};
 ghost use Rattle.gs_msg.specs.declared.node.NodeId.{NodeId};
+ghost use Rattle.gs_msg.specs.declared.node.NodeId.TheVariants as nodes;
 ghost use Rattle.gs_base.specs.Stamps.{is_same, is_before};
 ghost use Rattle.gs_replica.specs.declared.op.Done.{Done};
 ghost use Rattle.gs_replica.specs.Edits.{outcome_of};
 ghost use Rattle.gs_replica.specs.Held.{Held};
 ghost use Rattle.gs_replica.specs.Copies.{Image, SealedImage};
-ghost use Rattle.gs_replica.specs.Stands.{Edit};
+ghost use Rattle.gs_replica.specs.Stands.{Edit, replica_of};
 ghost use Rattle.gs_msg.specs.Ops.{in_replica};
 ghost use Rattle.gs_store.specs.Slots.{Live, Slot, sealed_of, create};
 ghost use Rattle.gs_store.specs.Serving.{done_in};
-ghost use Rattle.gs_store.specs.Standing.{StandsIn, StoodIn, LiveUndamaged};
+ghost use Rattle.gs_store.specs.Standing.{StandsIn, IsToldIn, StoodIn, LiveUndamaged};
 ghost use Rattle.gs_store.specs.Moves.{sound_image, take_copy};
 ghost use Rattle.gs_server.specs.Places.{Place, Here, SlotBecomes, after};
 ghost use Rattle.gs_server.specs.declared.lease.Open.{Open};
-ghost use Rattle.gs_server.specs.Leases.{Lease, hears, done_of};
+ghost use Rattle.gs_server.specs.Leases.{Lease, tell, hears, done_of};
 ghost use Rattle.gs_server.specs.Promises.{drop_replica};
 ghost use Rattle.gs_server.specs.Holding.{ack, is_held};
 ghost use Rattle.gs_server.specs.Laws.{IsToldByAll, IsKnownToAll};
 ghost use Rattle.gs_server.specs.Edits.{edit, forward, done, numbered_op};
-ghost use Rattle.gs_server.specs.Servers.{Server, handle, handle_chunk, about_chunk, here_of, place_of, request_in};
+ghost use Rattle.gs_server.specs.Servers.{Server, handle, handle_chunk, make_copy, about_chunk, here_of, place_of, request_in};
 ghost use Rattle.gs_server.specs.Runs.{Event, behind, behind_all, slot_in, BecomesBy, IsReached, KeepSeal, AllSpare, rolled_back};
 ghost use Rattle.gs_serving.specs.Calling.{call_by};
 ghost use Rattle.gs_serving.specs.Following.{IsToldBefore, AreToldBefore, remakes, NoneRemakes, edits_behind, edits_behind_all};
 ghost use Rattle.gs_serving.specs.Refusing.{LeavesBut};
 ghost use Rattle.gs_serving.specs.Waiting.{AreRising, AreCounted};
-ghost use Rattle.gs_serving.specs.Sealing.{TakesSealed};
+ghost use Rattle.gs_serving.specs.Sealing.{HasSizes, IsImageOf, TakesSealed};
 ghost use Rattle.gs_serving.specs.Editing.{IsTakenBy, IsNumberedBy};
 
 use gs_server::promises::a_refused_message_leaves_the_chunk;
@@ -64,6 +66,20 @@ pub fn what_a_replica_stands_for_goes_on()
     ensures event { (handle : ℕ) (e : Event) (s : Server) (edits : List Edit) → StandsIn s.block s.chunk (slot_in handle s) edits → IsToldBefore handle e s edits → remakes handle e s ≡ false → is_some (slot_in handle (behind e s)).live ≡ true → StandsIn s.block s.chunk (slot_in handle (behind e s)) (edits_behind handle e s edits) }
     ensures run { (handle : ℕ) (events : List Event) (s : Server) (edits : List Edit) → StandsIn s.block s.chunk (slot_in handle s) edits → AreToldBefore handle events s edits → NoneRemakes handle events s → is_some (slot_in handle (behind_all events s)).live ≡ true → StandsIn s.block s.chunk (slot_in handle (behind_all events s)) (edits_behind_all handle events s edits) }
     ensures lived { (handle : ℕ) (events : List Event) (s : Server) → NoneRemakes handle events s → is_some (slot_in handle (behind_all events s)).live ≡ true → is_some (slot_in handle s).live ≡ true }
+{}
+
+/// What is made anew of a chunk stands for what it is made of. A create that is accepted, under a stamp above the promise, makes a replica of
+/// no edits. A copy that is sent carries exactly what the edits of its source give, and its sealed image where that is asked for and has each
+/// block; one that is taken, under a stamp above the promise, stands for the edits that give its image. A copy under a new handle stands for
+/// the edits of the old one, and what a rollback makes live for those that were sealed. No block of these is damaged. Each server that began
+/// with nothing has sizes at which this holds.
+pub fn what_is_made_anew_stands_for_what_it_is_made_of()
+    ensures created { (s : Server) (from : NodeId) (handle : ℕ) (stamp : Stamp) (moment : Moment) → HasSizes s → is_before (slot_in handle s).promise stamp ≡ true → (handle_chunk s from handle (Create stamp) moment).said ≡ None → StandsIn s.block s.chunk (slot_in handle (handle_chunk s from handle (Create stamp) moment).after) [] }
+    ensures sent { (s : Server) (from : NodeId) (handle : ℕ) (stamp : Stamp) (target : ℕ) (with_sealed : Bool) (moment : Moment) (edits : List Edit) → StandsIn s.block s.chunk (slot_in handle s) edits → IsToldIn s.block s.chunk (slot_in handle s) edits → (handle_chunk s from handle (CopyOut stamp target with_sealed) moment).said ≡ None → (handle_chunk s from handle (CopyOut stamp target with_sealed) moment).sent ≡ tell s.me (nodes.Server target) (About handle (CopyIn stamp (replica_of s.chunk edits) (cond with_sealed (sound_image (sealed_of (slot_in handle s))) None))) ∷ [] }
+    ensures taken { (s : Server) (from : NodeId) (handle : ℕ) (stamp : Stamp) (image : Image) (sealed : Option SealedImage) (moment : Moment) (edits : List Edit) → HasSizes s → IsImageOf image edits s → is_before (slot_in handle s).promise stamp ≡ true → (handle_chunk s from handle (CopyIn stamp image sealed) moment).said ≡ None → StandsIn s.block s.chunk (slot_in handle (handle_chunk s from handle (CopyIn stamp image sealed) moment).after) edits × LiveUndamaged (slot_in handle (handle_chunk s from handle (CopyIn stamp image sealed) moment).after).live }
+    ensures copied { (s : Server) (handle : ℕ) (at : Stamp) (new_handle : ℕ) (stamp : Stamp) (moment : Moment) (edits : List Edit) → StandsIn s.block s.chunk (slot_in handle s) edits → is_before (slot_in new_handle s).promise stamp ≡ true → (make_copy s handle at new_handle stamp moment).said ≡ None → StandsIn s.block s.chunk (slot_in new_handle (make_copy s handle at new_handle stamp moment).after) edits × LiveUndamaged (slot_in new_handle (make_copy s handle at new_handle stamp moment).after).live }
+    ensures rolled_back { (handle : ℕ) (s : Server) (edits : List Edit) → StoodIn s.block s.chunk (slot_in handle s) edits → is_some (slot_in handle (rolled_back s)).live ≡ true → StandsIn s.block s.chunk (slot_in handle (rolled_back s)) edits × LiveUndamaged (slot_in handle (rolled_back s)).live }
+    ensures sizes { (s : Server) → IsReached s → HasSizes s }
 {}
 
 /// Edits that all members have are done. An acknowledgement under the stamp of the lease that is held tells the client of each edit that
