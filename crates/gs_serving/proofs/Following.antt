@@ -1,5 +1,5 @@
 -- What a live replica stands for, event by event.
-use Rattle.std.proofs.Common.{◌≡◌, ℕ, Bool, true, false, cond, List, [], ◌∷◌, ◌++◌, Option, Some, None, refl, sym, ap, subst, ◌∙◌, true≢false}
+use Rattle.std.proofs.Common.{◌≡◌, ℕ, true, false, cond, List, [], ◌∷◌, ◌++◌, Option, Some, None, refl, sym, ap, subst, ◌∙◌, true≢false}
 use Rattle.std.specs.Prelude.{Result, Ok, Err, is_some}
 use Rattle.gs_base.specs.declared.numbers.Stamp.{Stamp}
 use Rattle.gs_base.specs.declared.numbers.ReqId.{ReqId}
@@ -24,6 +24,7 @@ use Rattle.gs_server.specs.Runs.{Event, behind, behind_all, slot_in, BecomesBy}
 use Rattle.gs_server.proofs.Behind.{event_sizes}
 use Rattle.gs_serving.specs.Calling.{call_by}
 use Rattle.gs_serving.specs.Following.{applied_edit, edit_in, lengthened, edits_behind, edits_behind_all, remakes_by, remakes_in, remakes, NoneRemakes, IfEdits, IsToldBefore, AreToldBefore}
+use Rattle.gs_serving.proofs.Tests.{never_both, never_true}
 use Rattle.gs_serving.proofs.Calling.{event_calls}
 
 weaker : (P Q : Slot → Type 0) (m : Result Slot Refusal) → ((t : Slot) → P t → Q t) → Holds P m → Holds Q m
@@ -34,10 +35,7 @@ weaker P Q (Err e) each fact = tt
 
 -- nothing that is live comes of a replica that goes
 none_lives : {Z : Type 0} → (let o : Option Live = None in is_some o) ≡ true → Z
-none_lives is = elim (subst (λ (b : Bool). cond b ⊥ (Unit {0})) is tt) [ ]
-
-not_remade : {Z : Type 0} (b : Bool) → b ≡ true → b ≡ false → Z
-not_remade b above below = absurd (true≢false (sym above ∙ below))
+none_lives is = never_true is
 
 sealed_stands : (size limit : ℕ) (live : Option Live) (xs : List Edit) → LiveStandsFor size limit live xs → LiveStandsFor size limit (sealed_live live) xs
 sealed_stands size limit None xs stands = stands
@@ -52,14 +50,14 @@ module _ (size limit : ℕ) (xs : List Edit) where
   Stands ys t = is_some t.live ≡ true → LiveStandsFor size limit t.live ys
 
   raised_stands : (stamp : Stamp) (r : State) (s : Slot) → is_before s.promise stamp ≡ false → StandsIn size limit s xs → Holds (Stands xs) (cond (is_before s.promise stamp) (Ok (replaced stamp false r s)) (again stamp s))
-  raised_stands stamp r s below stands = of_raised (Stands xs) stamp false r s (λ _. stands) (λ above. not_remade (is_before s.promise stamp) above below)
+  raised_stands stamp r s below stands = of_raised (Stands xs) stamp false r s (λ _. stands) (λ above. never_both (is_before s.promise stamp) above below)
 
   call_stands : (c : Call) (s : Slot) → remakes_by s c ≡ false → StandsIn size limit s xs → IfEdits (applied_edit c) (IsToldIn size limit s xs) → Holds (Stands (lengthened xs (applied_edit c))) (called size limit c s)
   call_stands (Creates stamp) s kept stands told = raised_stands stamp (record { held = fresh size limit stamp; sealed = None }) s kept stands
   call_stands (Advances stamp) s kept stands told =
       of_unless (Stands xs) (first_of (unless_live s.live ∷ if_bad s.live ∷ when (is_before stamp s.promise) refusals.Old ∷ [])) (risen stamp s) (λ _ _. risen_stands size limit stamp s.live xs stands)
   call_stands (CopiesIn stamp image sealed) s kept stands told =
-      of_cond (Stands xs) (is_before s.promise stamp) (copied_in size limit stamp image sealed s) (again stamp s) (λ above. not_remade (is_before s.promise stamp) above kept) (λ _. of_again (Stands xs) stamp s (λ _. stands))
+      of_cond (Stands xs) (is_before s.promise stamp) (copied_in size limit stamp image sealed s) (again stamp s) (λ above. never_both (is_before s.promise stamp) above kept) (λ _. of_again (Stands xs) stamp s (λ _. stands))
   call_stands (TakesCopy h) s kept stands told = raised_stands h.promise (record { held = h; sealed = None }) s kept stands
   call_stands (Drops promise) s kept stands told = of_unless (Stands xs) (first_of (unless_promised promise s ∷ unless_live s.live ∷ [])) (removed s) (λ _ live. none_lives live)
   call_stands (TakesLease stamp) s kept stands told = of_unless (Stands xs) (first_of (check_grant stamp s ∷ when (is_taken stamp s.taken) refusals.Old ∷ [])) (taking stamp s) (λ _ _. stands)
@@ -111,14 +109,14 @@ applied_lives stamp number req op bytes s None is = tt
 applied_lives stamp number req op bytes s (Some l) is = of_live (WasLive s) s l.bad (replicas.apply stamp number req op bytes l.replica) (λ q e there. ap is_some is)
 
 raised_lives : (stamp : Stamp) (r : State) (s : Slot) → is_before s.promise stamp ≡ false → Holds (WasLive s) (cond (is_before s.promise stamp) (Ok (replaced stamp false r s)) (again stamp s))
-raised_lives stamp r s below = of_raised (WasLive s) stamp false r s (λ there. there) (λ above. not_remade (is_before s.promise stamp) above below)
+raised_lives stamp r s below = of_raised (WasLive s) stamp false r s (λ there. there) (λ above. never_both (is_before s.promise stamp) above below)
 
 call_lives : (size limit : ℕ) (c : Call) (s : Slot) → remakes_by s c ≡ false → Holds (WasLive s) (called size limit c s)
 call_lives size limit (Creates stamp) s kept = raised_lives stamp (record { held = fresh size limit stamp; sealed = None }) s kept
 call_lives size limit (Advances stamp) s kept =
     of_unless (WasLive s) (first_of (unless_live s.live ∷ if_bad s.live ∷ when (is_before stamp s.promise) refusals.Old ∷ [])) (risen stamp s) (λ _. under_lives stamp s.live)
 call_lives size limit (CopiesIn stamp image sealed) s kept =
-    of_cond (WasLive s) (is_before s.promise stamp) (copied_in size limit stamp image sealed s) (again stamp s) (λ above. not_remade (is_before s.promise stamp) above kept) (λ _. of_again (WasLive s) stamp s (λ there. there))
+    of_cond (WasLive s) (is_before s.promise stamp) (copied_in size limit stamp image sealed s) (again stamp s) (λ above. never_both (is_before s.promise stamp) above kept) (λ _. of_again (WasLive s) stamp s (λ there. there))
 call_lives size limit (TakesCopy h) s kept = raised_lives h.promise (record { held = h; sealed = None }) s kept
 call_lives size limit (Drops promise) s kept = of_unless (WasLive s) (first_of (unless_promised promise s ∷ unless_live s.live ∷ [])) (removed s) (λ _ live. none_lives live)
 call_lives size limit (TakesLease stamp) s kept = of_unless (WasLive s) (first_of (check_grant stamp s ∷ when (is_taken stamp s.taken) refusals.Old ∷ [])) (taking stamp s) (λ _ there. there)

@@ -9,3 +9,4 @@ mod Waiting
 mod Sealing
 mod Repeating
 mod Making
+mod Accepting

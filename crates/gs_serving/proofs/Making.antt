@@ -1,5 +1,5 @@
 -- What a replica that is made anew stands for.
-use Rattle.std.proofs.Common.{◌≡◌, ◌≤◌, ℕ, Bool, true, false, cond, List, [], ◌∷◌, Option, Some, None, refl, sym, ap, subst, ◌∙◌, true≢false}
+use Rattle.std.proofs.Common.{◌≡◌, ◌≤◌, ℕ, Bool, true, false, cond, List, [], ◌∷◌, Option, Some, None, refl, sym, ap, subst, ◌∙◌}
 use Rattle.std.specs.Prelude.{Result, Ok, Err}
 use Rattle.gs_base.specs.declared.numbers.Moment.{Moment}
 use Rattle.gs_base.specs.declared.numbers.Stamp.{Stamp}
@@ -34,11 +34,9 @@ use Rattle.gs_server.specs.Servers.{Server, new, place_of, here_of, copies, hand
 use Rattle.gs_server.specs.Runs.{Event, behind, behind_all, slot_in, IsReached}
 use Rattle.gs_server.proofs.Behind.{event_sizes}
 use Rattle.gs_serving.specs.Sealing.{HasSizes, IsImageOf}
+use Rattle.gs_serving.proofs.Tests.{never_both}
 use Rattle.gs_serving.proofs.Calling.{own_part}
 use Rattle.gs_serving.proofs.Sealing.{accepts, becomes_it, taken_copy}
-
-not_above : {Z : Type 0} (b : Bool) → b ≡ true → b ≡ false → Z
-not_above b above below = absurd (true≢false (sym above ∙ below))
 
 -- ---- a create
 
@@ -50,7 +48,7 @@ created_stands s from handle stamp moment sizes above said =
     let made : Result Slot Refusal = slots.create s.block s.chunk stamp p.slot in
     of_ok (λ (x : Slot). StandsIn s.block s.chunk x []) made _ (becomes_it handle (messages.create h p stamp) s made (accepts h p stamp (other_epoch h stamp.epoch) made said))
     (of_cond (λ (x : Slot). StandsIn s.block s.chunk x []) (is_before p.slot.promise stamp) (Ok (replaced stamp false (record { held = fresh s.block s.chunk stamp; sealed = None }) p.slot)) (again stamp p.slot)
-    (λ _. fresh_in s.block s.chunk stamp sizes.some_block sizes.block_fits sizes.chunk_fits) (λ below. not_above (is_before p.slot.promise stamp) above below))
+    (λ _. fresh_in s.block s.chunk stamp sizes.some_block sizes.block_fits sizes.chunk_fits) (λ below. never_both (is_before p.slot.promise stamp) above below))
 
 -- ---- a copy that is sent, and one that is taken
 
@@ -113,7 +111,7 @@ made_stands block chunk at stamp old target t xs stands above is =
     of_ok (Stands block chunk xs) (take_copy held target) t a.then
     (of_cond (Stands block chunk xs) (is_before target.promise held.promise) (Ok (replaced held.promise false (record { held = held; sealed = None }) target)) (again held.promise target)
     (λ _. (alike_stands block chunk r held xs xs there c.0 c.1, c.2))
-    (λ below. not_above (is_before target.promise held.promise) (ap (is_before target.promise) promise ∙ above) below))
+    (λ below. never_both (is_before target.promise held.promise) (ap (is_before target.promise) promise ∙ above) below))
 
 copying_stands : (s : Server) (handle new_handle : ℕ) (h new : Here) (at stamp : Stamp) (xs : List Edit) (o : Option Refusal) (m : Result Slot Refusal) → ((t : Slot) → m ≡ Ok t → Stands s.block s.chunk xs t)
     → (messages.or_copy o (messages.not_copied h (place_of handle s) new stamp) (messages.copies h (place_of handle s) new (place_of new_handle s) stamp m)).target.said ≡ None

@@ -23,7 +23,7 @@ use Rattle.gs_server.specs.Promises as messages
 use Rattle.gs_server.specs.Servers.{Server, place_of, here_of, handle_chunk}
 use Rattle.gs_server.specs.Runs.{slot_in, IsReached}
 use Rattle.gs_server.proofs.Happening.{own_place}
-use Rattle.gs_server.proofs.Reached.{held_promise}
+use Rattle.gs_serving.proofs.Waiting.{IsOf, of_promise_at}
 
 -- ---- on the slot
 
@@ -39,23 +39,12 @@ taken_again h s s2 below is = raised_again h.promise (record { held = h; sealed 
 
 -- ---- at a server, where a lease that is held is of the promise
 
-abbrev IsOf : Stamp → Option Lease → Type 0
-IsOf promise None = Unit {0}
-IsOf promise (Some l) = l.grant.stamp ≡ promise
-
 same_itself : (a : Stamp) → is_same a a ≡ true
 same_itself a = grind (arith, nat_tests)
 
 kept_lease : (promise : Stamp) (lease : Option Lease) → IsOf promise lease → lease_after lease (of_promise promise lease) ≡ lease
 kept_lease promise None of = refl
 kept_lease promise (Some l) of = ap (λ b. lease_after (Some l) (cond b LeaseStays LeaseSpent)) (ap (λ (x : Stamp). is_same x promise) of ∙ same_itself promise)
-
-of_promise_at : (q : ℕ) (s : Server) → IsReached s → IsOf (slot_in q s).promise (place_of q s).lease
-of_promise_at q s reached = by_case (place_of q s).lease refl
-  where
-    by_case : (o : Option Lease) → (place_of q s).lease ≡ o → IsOf (slot_in q s).promise o
-    by_case None is = tt
-    by_case (Some l) is = held_promise q s l reached is
 
 module _ (h : Here) (p : Place) (stamp : Stamp) (of : IsOf p.slot.promise p.lease) where
   found : (b : Bool) → after p (messages.promises h p stamp (cond b (Ok p.slot) (Err refusals.Old))) ≡ p

@@ -1,5 +1,5 @@
 -- The tests before a refusal, where none of them is met.
-use Rattle.std.proofs.Common.{◌≡◌, ℕ, ◌+◌, Bool, true, false, cond, not, List, ◌∷◌, Option, Some, None, refl, sym, subst, arith}
+use Rattle.std.proofs.Common.{◌≡◌, ℕ, ◌+◌, Bool, true, false, cond, not, List, ◌∷◌, Option, Some, None, refl, sym, subst, ◌∙◌, arith}
 use Rattle.std.specs.Prelude.{◌||◌, ◌&&◌, ◌==◌, nat_lt, nat_le}
 use Rattle.std.proofs.lemmas.Bool.Decides.{nat_tests}
 use Rattle.gs_base.specs.declared.numbers.Stamp.{Stamp}
@@ -31,6 +31,9 @@ never_true is = elim (subst (λ (b : Bool). cond b ⊥ (Unit {0})) is tt) [ ]
 
 pub never_false : {Z : Type 0} → true ≡ false → Z
 never_false is = elim (subst (λ (b : Bool). cond b (Unit {0}) ⊥) is tt) [ ]
+
+pub never_both : {Z : Type 0} (b : Bool) → b ≡ true → b ≡ false → Z
+never_both b above below = never_true (sym below ∙ above)
 
 pub first_same : (a b : Bool) → (not a || not b) ≡ false → a ≡ true
 first_same true b is = refl

@@ -171,7 +171,7 @@ abbrev LeaseGoes : Slot → Option Lease → Slot → Option Lease → Type 0
 LeaseGoes s old t None = Unit {0}
 LeaseGoes s old t (Some new) = Comes s old t new
 
-abbrev IsOf : Stamp → Option Lease → Type 0
+abbrev pub IsOf : Stamp → Option Lease → Type 0
 IsOf promise None = Unit {0}
 IsOf promise (Some l) = l.grant.stamp ≡ promise
 
@@ -484,7 +484,7 @@ event_fits q (runs.Damages handle block) s =
 abbrev OrderedAt : ℕ → Server → Type 0
 OrderedAt q s = Ordered (slot_in q s).live (place_of q s).lease
 
-of_promise_at : (q : ℕ) (s : Server) → IsReached s → IsOf (slot_in q s).promise (place_of q s).lease
+pub of_promise_at : (q : ℕ) (s : Server) → IsReached s → IsOf (slot_in q s).promise (place_of q s).lease
 of_promise_at q s reached = by_case (place_of q s).lease refl
   where
     by_case : (o : Option Lease) → (place_of q s).lease ≡ o → IsOf (slot_in q s).promise o

@@ -6,6 +6,12 @@ ghost use Rattle.gs_base.specs.declared.numbers.Stamp.{Stamp};
 ghost use Rattle.gs_base.specs.declared.numbers.ReqId.{ReqId};
 ghost use Rattle.gs_base.specs.declared.numbers.Moment.{Moment};
 ghost use Rattle.gs_base.specs.declared.refusal.Refusal.{Refusal};
+ghost use Rattle.gs_base.specs.Stamps.{is_same, is_before};
+ghost use Rattle.gs_replica.specs.declared.op.Done.{Done};
+ghost use Rattle.gs_replica.specs.Edits.{outcome_of};
+ghost use Rattle.gs_replica.specs.Held.{Held};
+ghost use Rattle.gs_replica.specs.Copies.{Image, SealedImage};
+ghost use Rattle.gs_replica.specs.Stands.{Edit, replica_of};
 ghost use Rattle.gs_msg.specs.declared.chunk.Chunk.{Chunk};
 ghost use Rattle.gs_msg.specs.declared.chunk.Chunk.TheVariants.{CopyIn, CopyOut, Create};
 ghost use Rattle.gs_msg.specs.declared.body.Body.TheVariants.{About};
@@ -13,15 +19,9 @@ ghost use Rattle.gs_msg.specs.declared.message.Message.{Message};
 ghost use Rattle.gs_msg.specs.declared.op.Op.{Op};
 ghost use Rattle.gs_msg.specs.declared.node.NodeId.{NodeId};
 ghost use Rattle.gs_msg.specs.declared.node.NodeId.TheVariants as nodes;
-ghost use Rattle.gs_base.specs.Stamps.{is_same, is_before};
-ghost use Rattle.gs_replica.specs.declared.op.Done.{Done};
-ghost use Rattle.gs_replica.specs.Edits.{outcome_of};
-ghost use Rattle.gs_replica.specs.Held.{Held};
-ghost use Rattle.gs_replica.specs.Copies.{Image, SealedImage};
-ghost use Rattle.gs_replica.specs.Stands.{Edit, replica_of};
 ghost use Rattle.gs_msg.specs.Ops.{in_replica};
 ghost use Rattle.gs_store.specs.Slots.{Live, Slot, sealed_of, create};
-ghost use Rattle.gs_store.specs.Serving.{done_in};
+ghost use Rattle.gs_store.specs.Serving.{apply, done_in};
 ghost use Rattle.gs_store.specs.Standing.{StandsIn, IsToldIn, StoodIn, LiveUndamaged};
 ghost use Rattle.gs_store.specs.Moves.{sound_image, take_copy};
 ghost use Rattle.gs_server.specs.Places.{Place, Here, SlotBecomes, after};
@@ -38,17 +38,20 @@ ghost use Rattle.gs_serving.specs.Following.{IsToldBefore, AreToldBefore, remake
 ghost use Rattle.gs_serving.specs.Refusing.{LeavesBut};
 ghost use Rattle.gs_serving.specs.Waiting.{AreRising, AreCounted};
 ghost use Rattle.gs_serving.specs.Sealing.{HasSizes, IsImageOf, TakesSealed};
-ghost use Rattle.gs_serving.specs.Editing.{IsTakenBy, IsNumberedBy};
+ghost use Rattle.gs_serving.specs.Editing.{IsTakenBy, IsNumberedBy, MayBeTaken, MayBeNumbered, numbered_edit};
 
 use gs_server::promises::a_refused_message_leaves_the_chunk;
 
 /// A message edits a replica by what it says. A forward that changes a chunk is its replica's next edit, applied under the stamp and the
 /// number of the message, with the operation that it says and the bytes that it carries or that were pushed; it is acknowledged to its
 /// sender under both, and nothing else is sent. A client's edit is its replica's next one too, under the stamp of the lease that is held; the
-/// same edit, under the same number, waits under that lease and goes to the other members.
+/// same edit, under the same number, waits under that lease and goes to the other members. And where the replica takes it, a forward of the
+/// promise that is the next one and whose bytes are there is taken, and a client's new edit is numbered under a lease of the promise.
 pub fn a_message_edits_a_replica_by_what_it_says()
     ensures forward { (h : Here) (p : Place) (from : NodeId) (stamp : Stamp) (number : ℕ) (req : ReqId) (op : Op) (carried : Option (List ℕ)) (s : Slot) → (forward h p from stamp number req op carried).slot ≡ SlotBecomes s → IsTakenBy h p from stamp number req op carried (forward h p from stamp number req op carried) s }
     ensures edit { (h : Here) (p : Place) (req : ReqId) (stamp : Stamp) (op : Op) (s : Slot) → (edit h p req stamp op).slot ≡ SlotBecomes s → IsNumberedBy h p req stamp op (edit h p req stamp op) s }
+    ensures taken { (h : Here) (p : Place) (from : NodeId) (stamp : Stamp) (number : ℕ) (req : ReqId) (op : Op) (carried : Option (List ℕ)) (live : Live) (bytes : List ℕ) (s : Slot) → MayBeTaken h p stamp number op carried live bytes → apply stamp number req (in_replica op) bytes p.slot ≡ Ok s → (forward h p from stamp number req op carried).slot ≡ SlotBecomes s }
+    ensures numbered { (h : Here) (p : Place) (req : ReqId) (stamp : Stamp) (op : Op) (live : Live) (l : Lease) (bytes : List ℕ) (s : Slot) → MayBeNumbered h p req stamp op live l bytes → apply l.grant.stamp (live.replica.held.count + 1) req (in_replica (numbered_edit h req op bytes live).op) (numbered_edit h req op bytes live).bytes p.slot ≡ Ok s → (edit h p req stamp op).slot ≡ SlotBecomes s }
 {}
 
 /// Whatever happens to a server, what becomes of a chunk's slot is what one call of it makes, and it is said which: the one that a message
@@ -87,7 +90,7 @@ pub fn what_is_made_anew_stands_for_what_it_is_made_of()
 /// is done at once: so is each where the server is the only member. A client's last edit that comes again is answered as done where every
 /// member is known to have it. An acknowledgement under any other stamp sends nothing, and changes nothing of the chunk.
 pub fn edits_that_all_have_are_done()
-    ensures later { (h : Here) (p : Place) (server : ℕ) (stamp : Stamp) (count : ℕ) (l : Lease) (number : ℕ) (edit : Open) → p.lease ≡ Some l → is_same stamp l.grant.stamp ≡ true → Contains l.outbox (number, edit) → IsToldByAll (hears server count l) number → Contains (ack h p server stamp count).sent (done_of h.me (number, edit)) }
+    ensures later { (h : Here) (p : Place) (server : ℕ) (stamp : Stamp) (count : ℕ) (l : Lease) (number : ℕ) (waiting : Open) → p.lease ≡ Some l → is_same stamp l.grant.stamp ≡ true → Contains l.outbox (number, waiting) → IsToldByAll (hears server count l) number → Contains (ack h p server stamp count).sent (done_of h.me (number, waiting)) }
     ensures at_once { (h : Here) (p : Place) (req : ReqId) (stamp : Stamp) (op : Op) (live : Live) (l : Lease) (s : Slot) → p.slot.live ≡ Some live → p.lease ≡ Some l → (edit h p req stamp op).slot ≡ SlotBecomes s → IsToldByAll (hears h.me (live.replica.held.count + 1) l) (live.replica.held.count + 1) → Contains (edit h p req stamp op).sent (done h req (Ok (outcome_of (in_replica (numbered_op h.chunk (length live.replica.held.chunk.bytes) op)) live.replica.held.chunk))) }
     ensures alone { (h : Here) (p : Place) (req : ReqId) (stamp : Stamp) (op : Op) (live : Live) (l : Lease) (s : Slot) → p.slot.live ≡ Some live → p.lease ≡ Some l → (edit h p req stamp op).slot ≡ SlotBecomes s → l.grant.members ≡ h.me ∷ [] → h.me < length l.told → Contains (edit h p req stamp op).sent (done h req (Ok (outcome_of (in_replica (numbered_op h.chunk (length live.replica.held.chunk.bytes) op)) live.replica.held.chunk))) }
     ensures repeat { (h : Here) (p : Place) (req : ReqId) (stamp : Stamp) (op : Op) (last : Done) → done_in p.slot.live req.client.0 ≡ Some last → req.number ≡ last.number → IsKnownToAll req p → (edit h p req stamp op).sent ≡ done h req (Ok last.outcome) ∷ [] }
