@@ -1,0 +1,12 @@
+mod Tests
+mod Editing
+mod Calling
+mod Following
+mod Telling
+mod Refusing
+mod Counting
+mod Waiting
+mod Sealing
+mod Repeating
+mod Making
+mod Accepting

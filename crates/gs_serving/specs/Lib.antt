@@ -1,0 +1,6 @@
+pub mod Editing
+pub mod Calling
+pub mod Following
+pub mod Refusing
+pub mod Waiting
+pub mod Sealing
