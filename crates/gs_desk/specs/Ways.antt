@@ -92,14 +92,9 @@ SendsAll {D} (message ∷ messages) old new = (mid : Way D) × Sends message old
 
 -- ---- what an event comes to
 
--- what was said is noted
-abbrev pub noted : {D : Type 0} → Option Refusal → Way D → Way D
-noted None w = w
-noted (Some refusal) w = shortened_by refusal w
-
 -- what a node did is sent, and what it said is the answer; or nothing happened
 abbrev pub Ends : {D : Type 0} → Result Turn Refusal → Way D → Result (Unit {0}) Refusal → Way D → Type 0
-Ends {D} (Ok turn) old result new = (mid : Way D) × SendsAll turn.sent.items old mid × (new ≡ noted turn.said mid) × (result ≡ met_by turn.said)
+Ends (Ok turn) old result new = SendsAll turn.sent.items old new × (result ≡ met_by turn.said)
 Ends (Err refusal) old result new = (new ≡ shortened_by refusal old) × (result ≡ Err refusal)
 
 abbrev pub with_nodes : {D : Type 0} → Nodes D → Way D → Way D

@@ -116,10 +116,7 @@ impl<D: Disk + Drop> Wire<D> {
             Ok(turn) => {
                 self.send_all(turn.sent);
                 match turn.said {
-                    Some(refusal) => {
-                        self.note(&refusal);
-                        Err(refusal)
-                    }
+                    Some(refusal) => Err(refusal),
                     None => Ok(()),
                 }
             }
