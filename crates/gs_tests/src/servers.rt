@@ -73,7 +73,7 @@ const PAST: Asked = Asked::Bytes {
 };
 
 /// At server 0, which leads servers 0 to 2.
-const LEADING: [Row; 43] = [
+const LEADING: [Row; 46] = [
     (Step::Create(0, 2), "promised S0 M 1 0.2 0 false;"),
     (
         Step::Edit(1, (0, 2), APPEND, 0),
@@ -169,11 +169,16 @@ const LEADING: [Row; 43] = [
         ),
         "done S0 C7 C7/10 refused 25 Range;refused 25 Range",
     ),
+    (Step::Push(11, "abcde"), ""),
+    (
+        Step::Edit(11, (0, 2), Op::Append { length: 5 }, 0),
+        "done S0 C7 C7/11 refused 26 TooLong;refused 26 TooLong",
+    ),
     (Step::Damage(0), ""),
-    (Step::Push(11, "a"), ""),
+    (Step::Push(12, "a"), ""),
     (
         Step::Edit(
-            11,
+            12,
             (0, 2),
             Op::Write {
                 offset: 0,
@@ -181,7 +186,11 @@ const LEADING: [Row; 43] = [
             },
             0,
         ),
-        "done S0 C7 C7/11 refused 27 Damaged 0;bad S0 M 1 0.2;refused 27 Damaged 0",
+        "done S0 C7 C7/12 refused 27 Damaged 0;bad S0 M 1 0.2;refused 27 Damaged 0",
+    ),
+    (
+        Step::Edit(11, (0, 2), APPEND, 0),
+        "done S0 C7 C7/11 refused 19 Old;refused 19 Old",
     ),
     (Step::Beat, "report S0 M 0 1/0.2/true"),
     (
@@ -198,8 +207,8 @@ const LEADING: [Row; 43] = [
         "bytes S0 C7 C7/99 refused 28 NoReplica;refused 28 NoReplica",
     ),
     (
-        Step::Edit(12, (0, 2), APPEND, 0),
-        "done S0 C7 C7/12 refused 28 NoReplica;refused 28 NoReplica",
+        Step::Edit(13, (0, 2), APPEND, 0),
+        "done S0 C7 C7/13 refused 28 NoReplica;refused 28 NoReplica",
     ),
 ];
 
@@ -277,7 +286,7 @@ const FOLLOWING: [Row; 25] = [
 ];
 
 /// At server 0, which restarts between an edit and what the members tell of it, and gets a lease again.
-const RESTARTED: [Row; 12] = [
+const RESTARTED: [Row; 14] = [
     (Step::Create(0, 2), "promised S0 M 1 0.2 0 false;"),
     (Step::Grant(0, 2, 3), ""),
     (Step::Push(1, "ab"), ""),
@@ -296,6 +305,8 @@ const RESTARTED: [Row; 12] = [
         Step::Edit(1, (0, 3), APPEND, 0),
         "done S0 C7 C7/1 appended 0;",
     ),
+    (Step::Advance(0, 4), "promised S0 M 1 0.4 1 false;"),
+    (Step::Grant(0, 3, 3), "refused 22 Stamp 0.4"),
 ];
 
 /// At server 0, which is the one member.
@@ -389,7 +400,7 @@ const COPIED: [Row; 27] = [
 
 /// At server 1, each message with two refusals or more at a time, of which the first in the order is told: where nothing is known of
 /// the chunk.
-const REFUSED_WITHOUT: [Row; 12] = [
+const REFUSED_WITHOUT: [Row; 15] = [
     (
         Step::Fetch(1, (0, 2), Asked::Length),
         "bytes S1 C7 C7/99 refused 18 Epoch 0;refused 18 Epoch 0",
@@ -420,8 +431,14 @@ const REFUSED_WITHOUT: [Row; 12] = [
         Step::MakeCopy((0, 2), (0, 0)),
         "unpromised S1 M 2 0.0 refused 22 Stamp 0.0;refused 22 Stamp 0.0",
     ),
+    (
+        Step::MakeCopy((0, 0), (0, 0)),
+        "unpromised S1 M 2 0.0 refused 28 NoReplica;refused 28 NoReplica",
+    ),
     (Step::Drop(1, (0, 2)), "refused 18 Epoch 0"),
     (Step::Drop(0, (0, 2)), "refused 22 Stamp 0.0"),
+    (Step::Nack(2, (0, 2)), "refused 20 NotPrimary"),
+    (Step::Renewed(0, 2), "refused 20 NotPrimary"),
     (
         Step::Edit(1, (0, 2), APPEND, 0),
         "done S1 C7 C7/1 refused 28 NoReplica;refused 28 NoReplica",
@@ -883,13 +900,13 @@ fn play_pushed(alloc: Global, id: ServerId, rows: &[Row]) -> Result<usize, Refus
 
 #[test]
 fn a_primary_numbers_edits(rt: HostRuntime) -> Result<(), Fail> {
-    assert_eq!(rt; play(rt.alloc(), server_of(0)?, &LEADING)?, 43);
+    assert_eq!(rt; play(rt.alloc(), server_of(0)?, &LEADING)?, 46);
     Ok(())
 }
 
 #[test]
 fn a_restarted_primary_waits_for_a_lease(rt: HostRuntime) -> Result<(), Fail> {
-    assert_eq!(rt; play(rt.alloc(), server_of(0)?, &RESTARTED)?, 12);
+    assert_eq!(rt; play(rt.alloc(), server_of(0)?, &RESTARTED)?, 14);
     Ok(())
 }
 
@@ -913,7 +930,7 @@ fn a_copy_comes_onto_a_sealed_server(rt: HostRuntime) -> Result<(), Fail> {
 
 #[test]
 fn refusals_come_in_order_without_a_replica(rt: HostRuntime) -> Result<(), Fail> {
-    assert_eq!(rt; play(rt.alloc(), server_of(1)?, &REFUSED_WITHOUT)?, 12);
+    assert_eq!(rt; play(rt.alloc(), server_of(1)?, &REFUSED_WITHOUT)?, 15);
     Ok(())
 }
 

@@ -1,0 +1,6 @@
+pub mod Ongoing
+pub mod Posting
+pub mod Reaching
+pub mod Sending
+pub mod Serving
+pub mod Staying
