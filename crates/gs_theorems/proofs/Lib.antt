@@ -1,0 +1,4 @@
+pub mod Ending
+pub mod Lines
+pub mod Sending
+pub mod Ways

@@ -1,0 +1,33 @@
+//! The theorems over every run of the whole store.
+#![tactic(auto)]
+
+ghost use Rattle.std.specs.Prelude.{◌≡◌, ℕ, List, Option, Some, slice_get};
+ghost use Rattle.gs_base.specs.declared.config.Config.{Config};
+ghost use Rattle.gs_desk.specs.Answering.{AnswersText};
+ghost use Rattle.gs_desk.specs.Starting.{Starts};
+ghost use Rattle.gs_desk.specs.declared.desk.Desk.{Desk};
+ghost use Rattle.gs_server.specs.Runs.{IsReached};
+ghost use Rattle.gs_server.specs.Servers.{Server};
+ghost use Rattle.gs_shell.specs.Serving.{Serves};
+ghost use Rattle.gs_desk.specs.Ways.{way_of};
+ghost use Rattle.gs_run.specs.Sent.{Sent};
+ghost use Rattle.gs_theorems.specs.Reached.{Covers, IsReachedDesk, Steps};
+
+use gs_block::promises::configurations_have_sizes;
+
+/// A desk that begins is at a store that has begun over the same disks, and each line leads on by steps of that store: events of its nodes,
+/// and answers that its client takes. All that is under way was sent by a node, and so is all that the nodes hear. What a script leaves that
+/// is read and answered to its end is a store behind such steps.
+pub fn each_script_is_a_run<D>()
+    ensures begins { (seen : D → List ℕ) (failures : D → ℕ) (config : Config) (disks : D × D) (desk : Desk D) → Starts seen failures config disks desk → IsReachedDesk seen failures config disks desk }
+    ensures line { (seen : D → List ℕ) (failures : D → ℕ) (old new : Desk D) (line text : List ℕ) (sent : Sent) → AnswersText seen failures old line text new → Covers sent (way_of old.wire) → Steps seen failures (way_of old.wire) (way_of new.wire) sent }
+    ensures script { (seen : D → List ℕ) (failures : D → ℕ) (config : Config) (disks : D × D) (input : List ℕ) (old new : Option (List ℕ)) (s : Serves seen failures config disks input old new) → IsReachedDesk seen failures config disks s.ended }
+{}
+
+/// Each server of a store is, behind each script, one that has begun with nothing, behind events of its own. So the laws of such servers
+/// hold of it.
+pub fn each_server_of_a_script_is_reached<D>()
+    ensures { (seen : D → List ℕ) (failures : D → ℕ) (config : Config) (disks : D × D) (desk : Desk D) (id : ℕ) (s : Server) → IsReachedDesk seen failures config disks desk → slice_get desk.wire.world.servers.items id ≡ Some s → IsReached s }
+{
+    configurations_have_sizes();
+}
