@@ -16,30 +16,30 @@ one_more_ticks many old mid new before ticks = subst (λ n. ServersTick n old ne
   next : (n : ℕ) → suc n ≡ n + 1
   next n = omega arith
 
-module _ {D : Type 0} (failures : D → ℕ) where
+module _ {D : Type 0} (seen : D → List ℕ) (failures : D → ℕ) where
   -- what comes next, of what is under way
   abbrev pub Next : ℕ → Way D → Way D → List Message → Type 0
   Next many old new queue =
       WithFirst queue (new ≡ old)
-      (λ message rest. (said : Result (Unit {0}) Refusal) × (mid : Way D) × IsDelivered failures message (with_queue rest old) said mid × DeliversAll failures many mid new)
+      (λ message rest. (said : Result (Unit {0}) Refusal) × (mid : Way D) × IsDelivered seen failures message (with_queue rest old) said mid × DeliversAll seen failures many mid new)
 
   -- nothing is under way
-  pub none_left : (many : ℕ) (w : Way D) → w.queue ≡ [] → DeliversAll failures many w w
+  pub none_left : (many : ℕ) (w : Way D) → w.queue ≡ [] → DeliversAll seen failures many w w
   unfolding DeliversAll
   none_left zero w none = refl
   none_left (suc many) w none = subst (λ queue. Next many w w queue) (sym none) refl
 
   -- so many were delivered
-  pub over : (many done : ℕ) (w : Way D) → many ≤ done → DeliversAll failures (many - done) w w
+  pub over : (many done : ℕ) (w : Way D) → many ≤ done → DeliversAll seen failures (many - done) w w
   unfolding DeliversAll
-  over many done w above = subst (λ n. DeliversAll failures n w w) (nothing_left many done above) refl where
+  over many done w above = subst (λ n. DeliversAll seen failures n w w) (nothing_left many done above) refl where
     nothing_left : (many done : ℕ) → many ≤ done → 0 ≡ many - done
     nothing_left many done above = omega arith
 
   -- the first message is delivered, and then the others
   pub one_more : (many : ℕ) (old mid new : Way D) (message : Message) (rest : List Message) (said : Result (Unit {0}) Refusal)
-      → old.queue ≡ message ∷ rest → IsDelivered failures message (with_queue rest old) said mid → DeliversAll failures many mid new
-      → DeliversAll failures (suc many) old new
+      → old.queue ≡ message ∷ rest → IsDelivered seen failures message (with_queue rest old) said mid → DeliversAll seen failures many mid new
+      → DeliversAll seen failures (suc many) old new
   unfolding DeliversAll
   one_more many old mid new message rest said first delivered others =
       subst (λ queue. Next many old new queue) (sym first) (said, mid, delivered, others)
@@ -48,10 +48,10 @@ module _ {D : Type 0} (failures : D → ℕ) where
   one_less many done below = omega arith
 
   pub delivers : (many done : ℕ) (old mid new : Way D) (message : Message) (rest : List Message) (said : Result (Unit {0}) Refusal)
-      → done < many → old.queue ≡ message ∷ rest → IsDelivered failures message (with_queue rest old) said mid → DeliversAll failures (many - (done + 1)) mid new
-      → DeliversAll failures (many - done) old new
+      → done < many → old.queue ≡ message ∷ rest → IsDelivered seen failures message (with_queue rest old) said mid → DeliversAll seen failures (many - (done + 1)) mid new
+      → DeliversAll seen failures (many - done) old new
   delivers many done old mid new message rest said below first delivered others =
-      subst (λ n. DeliversAll failures n old new) (one_less many done below) (one_more (many - (done + 1)) old mid new message rest said first delivered others)
+      subst (λ n. DeliversAll seen failures n old new) (one_less many done below) (one_more (many - (done + 1)) old mid new message rest said first delivered others)
 
 module _ {D : Type 0} (message : Message) (old : Way D) (is : Bool) (same : is_held old.kind (kind_of message.body) ≡ is) where
   puts : (new : Way D) → new ≡ (if is then held_back message old else under_way message old) → Puts message old new

@@ -29,8 +29,8 @@ use Rattle.gs_calls.specs.declared.answer.Answer.TheVariants as answers
 use Rattle.gs_dialogue.specs.Dialogues.{Follows}
 
 -- how a request is carried over the wire
-abbrev pub carried : {D : Type 0} → (D → ℕ) → Wire D → ReqId → Req → Reply → Wire D → Type 0
-carried failures old req request reply new = Carries failures req request (way_of old) reply (way_of new)
+abbrev pub carried : {D : Type 0} → (D → List ℕ) → (D → ℕ) → Wire D → ReqId → Req → Reply → Wire D → Type 0
+carried seen failures old req request reply new = Carries seen failures req request (way_of old) reply (way_of new)
 
 -- ---- what is done to nodes and messages
 
@@ -51,16 +51,16 @@ abbrev pub held_at : ℕ → List Message → Option Message
 held_at number held = if number == 0 then None else slice_get held (number - 1)
 
 -- it is handed over, with all that follows; or memory is wanting for its copy
-abbrev pub HandsOver : {D : Type 0} → (D → ℕ) → Message → Way D → Result (Unit {0}) Refusal → Way D → Type 0
-HandsOver {D} failures message old result new =
+abbrev pub HandsOver : {D : Type 0} → (D → List ℕ) → (D → ℕ) → Message → Way D → Result (Unit {0}) Refusal → Way D → Type 0
+HandsOver {D} seen failures message old result new =
     ((result ≡ Err refusals.Memory) × (new ≡ shortened old))
-    ⊎ ((mid : Way D) × IsDelivered failures message old result mid × DeliversWhole failures mid new)
+    ⊎ ((mid : Way D) × IsDelivered seen failures message old result mid × DeliversWhole seen failures mid new)
 
 -- the report is sent, with all that follows; or memory is wanting for it. The answer is how many drops that brought.
-abbrev pub Beats : {D : Type 0} → (D → ℕ) → Message → Way D → Result ℕ Refusal → Way D → Type 0
-Beats {D} failures report old result new =
+abbrev pub Beats : {D : Type 0} → (D → List ℕ) → (D → ℕ) → Message → Way D → Result ℕ Refusal → Way D → Type 0
+Beats {D} seen failures report old result new =
     ((result ≡ Err refusals.Memory) × (new ≡ shortened old))
-    ⊎ ((mid : Way D) × Sends report (record old { drops = 0 }) mid × DeliversWhole failures mid new × (result ≡ Ok new.drops))
+    ⊎ ((mid : Way D) × Sends report (record old { drops = 0 }) mid × DeliversWhole seen failures mid new × (result ≡ Ok new.drops))
 
 -- the master begins again with what its disks tell, and all that follows is delivered
 pub record MasterRestarts {D : Type 0} (seen : D → List ℕ) (failures : D → ℕ) (old : Way D) (result : Result (Unit {0}) Refusal) (new : Way D) : Type 0 where
@@ -69,7 +69,7 @@ pub record MasterRestarts {D : Type 0} (seen : D → List ℕ) (failures : D →
   pub mid : Way D
   pub opens : Reopens seen failures old.nodes.config old.nodes.master turn place
   pub ends : Ends turn (with_nodes (with_master place old.nodes) old) result mid
-  pub delivers : DeliversWhole failures mid new
+  pub delivers : DeliversWhole seen failures mid new
 
 -- what one server does, and nothing else
 abbrev pub AtOne : {D : Type 0} → ℕ → (servers.Server → Result (Unit {0}) Refusal → servers.Server → Type 0) → Way D → Result (Unit {0}) Refusal → Way D → Type 0
@@ -97,27 +97,27 @@ Damages number handle block old result new =
     ForServer number (OfHandle handle (AtOne number (λ s result after. DoesAtServer (servers.damage handle block s) result s after) old) old) old result new
 
 -- of a number of which there is none nothing is handed over
-abbrev pub HandsOverAt : {D : Type 0} → (D → ℕ) → ℕ → Way D → Result (Unit {0}) Refusal → Way D → Type 0
-HandsOverAt failures number old result new =
-    MatchOption (held_at number old.held) ((result ≡ Err refusals.Range) × (new ≡ old)) (λ message. HandsOver failures message old result new)
+abbrev pub HandsOverAt : {D : Type 0} → (D → List ℕ) → (D → ℕ) → ℕ → Way D → Result (Unit {0}) Refusal → Way D → Type 0
+HandsOverAt seen failures number old result new =
+    MatchOption (held_at number old.held) ((result ≡ Err refusals.Range) × (new ≡ old)) (λ message. HandsOver seen failures message old result new)
 
-abbrev pub BeatsOf : {D : Type 0} → (D → ℕ) → ℕ → Way D → Result ℕ Refusal → Way D → Type 0
-BeatsOf failures number old result new =
-    MatchOption (slice_get old.nodes.servers number) ((result ≡ Err refusals.Range) × (new ≡ old)) (λ s. Beats failures (servers.beat s) old result new)
+abbrev pub BeatsOf : {D : Type 0} → (D → List ℕ) → (D → ℕ) → ℕ → Way D → Result ℕ Refusal → Way D → Type 0
+BeatsOf seen failures number old result new =
+    MatchOption (slice_get old.nodes.servers number) ((result ≡ Err refusals.Range) × (new ≡ old)) (λ s. Beats seen failures (servers.beat s) old result new)
 
-abbrev pub BeatsAt : {D : Type 0} → (D → ℕ) → ℕ → Way D → Result ℕ Refusal → Way D → Type 0
-BeatsAt failures number old result new = ForServer number (BeatsOf failures number old) old result new
+abbrev pub BeatsAt : {D : Type 0} → (D → List ℕ) → (D → ℕ) → ℕ → Way D → Result ℕ Refusal → Way D → Type 0
+BeatsAt seen failures number old result new = ForServer number (BeatsOf seen failures number old) old result new
 
 -- what a line does that asks nothing of the store
 abbrev pub NodesDo : {D : Type 0} → (D → List ℕ) → (D → ℕ) → Request → Way D → Result Answer Refusal → Way D → Type 0
 NodesDo {D} seen failures (lines.Beat number) old result new =
-    (drops : Result ℕ Refusal) × BeatsAt failures number old drops new × (result ≡ answered answers.Number drops)
+    (drops : Result ℕ Refusal) × BeatsAt seen failures number old drops new × (result ≡ answered answers.Number drops)
 NodesDo seen failures (lines.At moment) old result new = (result ≡ Ok answers.Done) × (new ≡ record old { moment = record { 0 = moment } })
 NodesDo seen failures (lines.Hold kind) old result new = (result ≡ Ok answers.Done) × (new ≡ record old { kind = kind })
 NodesDo seen failures (lines.Restart node) old result new = IsDone (Restarts seen failures node old) result new
 NodesDo seen failures (lines.Lose server handle) old result new = IsDone (Loses server handle old) result new
 NodesDo seen failures (lines.Damage server handle block) old result new = IsDone (Damages server handle block old) result new
-NodesDo seen failures (lines.Deliver number) old result new = IsDone (HandsOverAt failures number old) result new
+NodesDo seen failures (lines.Deliver number) old result new = IsDone (HandsOverAt seen failures number old) result new
 NodesDo seen failures request old result new = ⊥
 
 -- ---- what a line comes to
@@ -126,4 +126,4 @@ unfoldable pub Comes : {D : Type 0} → (D → List ℕ) → (D → ℕ) → Req
 Comes seen failures request old result new =
     MatchOption (asked_by old.caller.client.chunk request)
     ((new.caller.client ≡ old.caller.client) × NodesDo seen failures request (way_of old.wire) result (way_of new.wire))
-    (λ call. Follows (Asks (carried failures)) call (old.caller.client, old.wire) result (new.caller.client, new.wire))
+    (λ call. Follows (Asks (carried seen failures)) call (old.caller.client, old.wire) result (new.caller.client, new.wire))

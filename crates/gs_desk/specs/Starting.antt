@@ -26,5 +26,5 @@ pub record Starts {D : Type 0} (seen : D → List ℕ) (failures : D → ℕ) (c
   pub mid : Way D
   pub opens : Opens seen failures config disks (Ok turn) place
   pub sends : SendsAll turn.sent.items (begun (new_nodes config 1 place)) mid
-  pub delivers : DeliversWhole failures mid (way_of new.wire)
+  pub delivers : DeliversWhole seen failures mid (way_of new.wire)
   pub client : new.caller.client ≡ new_client 1 config

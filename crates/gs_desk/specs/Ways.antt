@@ -101,10 +101,10 @@ abbrev pub with_nodes : {D : Type 0} → Nodes D → Way D → Way D
 with_nodes nodes w = record w { nodes = nodes }
 
 -- a message comes to its receiver
-pub record IsDelivered {D : Type 0} (failures : D → ℕ) (message : Message) (old : Way D) (result : Result (Unit {0}) Refusal) (new : Way D) : Type 0 where
+pub record IsDelivered {D : Type 0} (seen : D → List ℕ) (failures : D → ℕ) (message : Message) (old : Way D) (result : Result (Unit {0}) Refusal) (new : Way D) : Type 0 where
   pub nodes : Nodes D
   pub turn : Result Turn Refusal
-  pub delivers : Delivers failures message old.moment old.nodes turn nodes
+  pub delivers : Delivers seen failures message old.moment old.nodes turn nodes
   pub ends : Ends turn (with_nodes nodes old) result new
 
 abbrev pub with_queue : {D : Type 0} → List Message → Way D → Way D
@@ -115,22 +115,22 @@ abbrev pub WithFirst : {A : Type 0} → List A → Type 0 → (A → List A → 
 WithFirst [] none some = none
 WithFirst (x ∷ xs) none some = some x xs
 
-unfoldable pub DeliversAll : {D : Type 0} → (D → ℕ) → ℕ → Way D → Way D → Type 0
-DeliversAll failures zero old new = new ≡ old
-DeliversAll {D} failures (suc many) old new =
+unfoldable pub DeliversAll : {D : Type 0} → (D → List ℕ) → (D → ℕ) → ℕ → Way D → Way D → Type 0
+DeliversAll seen failures zero old new = new ≡ old
+DeliversAll {D} seen failures (suc many) old new =
     WithFirst old.queue (new ≡ old)
-    (λ message queue. (said : Result (Unit {0}) Refusal) × (mid : Way D) × IsDelivered failures message (with_queue queue old) said mid × DeliversAll failures many mid new)
+    (λ message queue. (said : Result (Unit {0}) Refusal) × (mid : Way D) × IsDelivered seen failures message (with_queue queue old) said mid × DeliversAll seen failures many mid new)
 
-abbrev pub DeliversWhole : {D : Type 0} → (D → ℕ) → Way D → Way D → Type 0
-DeliversWhole failures old new = DeliversAll failures last_count old new
+abbrev pub DeliversWhole : {D : Type 0} → (D → List ℕ) → (D → ℕ) → Way D → Way D → Type 0
+DeliversWhole seen failures old new = DeliversAll seen failures last_count old new
 
 -- ---- ticks
 
-pub record MasterTicked {D : Type 0} (failures : D → ℕ) (old new : Way D) : Type 0 where
+pub record MasterTicked {D : Type 0} (seen : D → List ℕ) (failures : D → ℕ) (old new : Way D) : Type 0 where
   pub place : MasterPlace D
   pub turn : Result Turn Refusal
   pub said : Result (Unit {0}) Refusal
-  pub ticks : MasterTicks failures old.moment old.nodes.master turn place
+  pub ticks : MasterTicks seen failures old.moment old.nodes.master turn place
   pub ends : Ends turn (with_nodes (with_master place old.nodes) old) said new
 
 pub record ServerTicked {D : Type 0} (server : ℕ) (old new : Way D) : Type 0 where
@@ -146,8 +146,8 @@ ServersTick zero old new = new ≡ old
 ServersTick {D} (suc server) old new = (mid : Way D) × ServersTick server old mid × ServerTicked server mid new
 
 -- the master and then the servers, ascending, 16 of them at most
-abbrev pub AllTick : {D : Type 0} → (D → ℕ) → Way D → Way D → Type 0
-AllTick {D} failures old new = (mid : Way D) × MasterTicked failures old mid × ServersTick (min (length old.nodes.servers) 16) mid new
+abbrev pub AllTick : {D : Type 0} → (D → List ℕ) → (D → ℕ) → Way D → Way D → Type 0
+AllTick {D} seen failures old new = (mid : Way D) × MasterTicked seen failures old mid × ServersTick (min (length old.nodes.servers) 16) mid new
 
 -- ---- a request
 
@@ -162,31 +162,31 @@ abbrev pub Waits : {D : Type 0} → ClientId → Way D → Bool → Type 0
 Waits client w waits = MatchOption (client_in w.nodes.clients client) (waits ≡ false) (λ n. waits ≡ is_some n.waiting)
 
 -- where there is no answer all tick once, and again all is delivered
-abbrev pub TicksIf : {D : Type 0} → (D → ℕ) → Bool → Way D → Way D → Type 0
-TicksIf failures false old new = new ≡ old
-TicksIf {D} failures true old new = (mid : Way D) × AllTick failures old mid × DeliversWhole failures mid new
+abbrev pub TicksIf : {D : Type 0} → (D → List ℕ) → (D → ℕ) → Bool → Way D → Way D → Type 0
+TicksIf seen failures false old new = new ≡ old
+TicksIf {D} seen failures true old new = (mid : Way D) × AllTick seen failures old mid × DeliversWhole seen failures mid new
 
-abbrev pub Waited : {D : Type 0} → (D → ℕ) → ClientId → Way D → Way D → Type 0
-Waited failures client old new = (waits : Bool) × Waits client old waits × TicksIf failures waits old new
+abbrev pub Waited : {D : Type 0} → (D → List ℕ) → (D → ℕ) → ClientId → Way D → Way D → Type 0
+Waited seen failures client old new = (waits : Bool) × Waits client old waits × TicksIf seen failures waits old new
 
-pub record IsAsked {D : Type 0} (failures : D → ℕ) (client : ClientId) (sent : List Message) (old : Way D) (reply : Reply) (new : Way D) : Type 0 where
+pub record IsAsked {D : Type 0} (seen : D → List ℕ) (failures : D → ℕ) (client : ClientId) (sent : List Message) (old : Way D) (reply : Reply) (new : Way D) : Type 0 where
   pub first : Way D
   pub second : Way D
   pub third : Way D
   pub sends : SendsAll sent old first
-  pub delivers : DeliversWhole failures first second
-  pub waited : Waited failures client second third
+  pub delivers : DeliversWhole seen failures first second
+  pub waited : Waited seen failures client second third
   pub heard : Heard client third reply new
 
 -- a client can't ask, or memory is wanting for it
-abbrev pub Answers : {D : Type 0} → (D → ℕ) → ClientId → Result (Vec Message Global) Refusal → Way D → Reply → Way D → Type 0
-Answers failures client (Ok sent) old reply new = IsAsked failures client sent.items old reply new
-Answers failures client (Err refusal) old reply new = (reply ≡ replies.Refused refusal) × (new ≡ shortened_by refusal old)
+abbrev pub Answers : {D : Type 0} → (D → List ℕ) → (D → ℕ) → ClientId → Result (Vec Message Global) Refusal → Way D → Reply → Way D → Type 0
+Answers seen failures client (Ok sent) old reply new = IsAsked seen failures client sent.items old reply new
+Answers seen failures client (Err refusal) old reply new = (reply ≡ replies.Refused refusal) × (new ≡ shortened_by refusal old)
 
 -- A client's request: what it asks is sent and delivered with all that follows; if there is no answer then, all nodes tick once
 -- and all is delivered again.
-pub record Carries {D : Type 0} (failures : D → ℕ) (req : ReqId) (request : Request) (old : Way D) (reply : Reply) (new : Way D) : Type 0 where
+pub record Carries {D : Type 0} (seen : D → List ℕ) (failures : D → ℕ) (req : ReqId) (request : Request) (old : Way D) (reply : Reply) (new : Way D) : Type 0 where
   pub nodes : Nodes D
   pub asked : Result (Vec Message Global) Refusal
   pub asks : AtClient req.client (Err refusals.Range) (ClientAsks req.number request) old.nodes asked nodes
-  pub answers : Answers failures req.client asked (with_nodes nodes old) reply new
+  pub answers : Answers seen failures req.client asked (with_nodes nodes old) reply new

@@ -96,7 +96,7 @@ impl<D: Disk + Drop> Wire<D> {
 
     /// Hands over what was held back under a number, once more, and delivers what follows.
     fn hand_over(&mut self, number: u64) -> Result<(), Refusal>
-        ensures { HandsOverAt D.failures number (way_of self.old) result (way_of self.new) }
+        ensures { HandsOverAt D.seen D.failures number (way_of self.old) result (way_of self.new) }
     {
         let message = match self.held_message(number) {
             Ok(message) => message,
@@ -112,7 +112,7 @@ impl<D: Disk + Drop> Wire<D> {
 
     /// A server reports, and what follows is delivered. The answer is how many drops that brought.
     fn beat(&mut self, number: u64) -> Result<u64, Refusal>
-        ensures { BeatsAt D.failures number (way_of self.old) result (way_of self.new) }
+        ensures { BeatsAt D.seen D.failures number (way_of self.old) result (way_of self.new) }
     {
         let Some(server) = self.server(number) else {
             return Err(Refusal::Range);

@@ -129,7 +129,7 @@ impl<D: Disk + Drop> Wire<D> {
 
     /// Hands a message to its receiver, and tells with what it was met.
     pub(crate) fn deliver(&mut self, message: Message) -> Result<(), Refusal>
-        ensures { IsDelivered D.failures message (way_of self.old) result (way_of self.new) }
+        ensures { IsDelivered D.seen D.failures message (way_of self.old) result (way_of self.new) }
     {
         let done = self.world.deliver(message, self.moment);
         self.end(done)
@@ -137,7 +137,7 @@ impl<D: Disk + Drop> Wire<D> {
 
     /// Delivers what is under way, in the order sent, until nothing is.
     pub(crate) fn deliver_all(&mut self)
-        ensures { DeliversWhole D.failures (way_of self.old) (way_of self.new) }
+        ensures { DeliversWhole D.seen D.failures (way_of self.old) (way_of self.new) }
     {
         for _done in 0..u64::MAX {
             let Some(message) = self.queue.pop_front() else {
@@ -148,7 +148,7 @@ impl<D: Disk + Drop> Wire<D> {
     }
 
     fn tick_master(&mut self)
-        ensures { MasterTicked D.failures (way_of self.old) (way_of self.new) }
+        ensures { MasterTicked D.seen D.failures (way_of self.old) (way_of self.new) }
     {
         let done = self.world.tick_master(self.moment);
         let _said = self.end(done);
@@ -178,7 +178,7 @@ impl<D: Disk + Drop> Wire<D> {
 
     /// The master and all servers tick once, in this order.
     fn tick_all(&mut self)
-        ensures { AllTick D.failures (way_of self.old) (way_of self.new) }
+        ensures { AllTick D.seen D.failures (way_of self.old) (way_of self.new) }
     {
         let many = self.world.servers.len().min(16) as u64;
         self.tick_master();
@@ -197,7 +197,7 @@ impl<D: Disk + Drop> Wire<D> {
 
     /// Where a client has no answer, all tick once, and what follows is delivered.
     fn tick_unless_answered(&mut self, client: ClientId)
-        ensures { Waited D.failures client (way_of self.old) (way_of self.new) }
+        ensures { Waited D.seen D.failures client (way_of self.old) (way_of self.new) }
     {
         if self.world.is_waiting(client) {
             self.tick_all();
@@ -208,7 +208,7 @@ impl<D: Disk + Drop> Wire<D> {
     /// Sends what a client asked, and delivers until nothing is under way. If there is no answer then, all tick once, and again all is
     /// delivered.
     fn answer(&mut self, client: ClientId, sent: Vec<Message>) -> Reply
-        ensures { IsAsked D.failures client sent.items (way_of self.old) result (way_of self.new) }
+        ensures { IsAsked D.seen D.failures client sent.items (way_of self.old) result (way_of self.new) }
     {
         self.send_all(sent);
         self.deliver_all();
@@ -218,7 +218,7 @@ impl<D: Disk + Drop> Wire<D> {
 
     /// Carries what a client asks to its answer.
     fn carry(&mut self, req: ReqId, request: Request) -> Reply
-        ensures { Carries D.failures req request (way_of self.old) result (way_of self.new) }
+        ensures { Carries D.seen D.failures req request (way_of self.old) result (way_of self.new) }
     {
         match self.world.ask(req, request) {
             Ok(sent) => self.answer(req.client, sent),
@@ -231,7 +231,7 @@ impl<D: Disk + Drop> Wire<D> {
 }
 
 impl<D: Disk + Drop> Link for Wire<D> {
-    ghost Carries = { λ old req request reply new. Carries D.failures req request (way_of old) reply (way_of new) };
+    ghost Carries = { λ old req request reply new. Carries D.seen D.failures req request (way_of old) reply (way_of new) };
 
     fn request(&mut self, req: ReqId, request: Request) -> Reply {
         self.carry(req, request)

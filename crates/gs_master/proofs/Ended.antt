@@ -60,15 +60,15 @@ on_ok (Err e) A B then a = tt
 
 -- what the end of an event answers
 pub concluded : {D E : Type 0} (seen : D → List ℕ) (may_leave : D → List ℕ → Type 0) (failures : D → ℕ) (result : Result (Unit {0}) E) (first : Log) (caller : Option ReqId) (t : Turn) (begun old new : Event) (old_journal new_journal : Journal D) →
-    ((before : Durable) → HasComeFrom before first old → OnOk result (AreWritten seen may_leave failures first old old_journal new new_journal ⊎ ((place : ℕ) × AreCut failures before first caller place old old_journal new new_journal))) →
+    ((before : Durable) → HasComeFrom before first old → OnOk result (AreWritten seen may_leave failures first old old_journal new new_journal ⊎ ((place : ℕ) × AreCut seen failures before first caller place old old_journal new new_journal))) →
     IsBegun begun → begun.sent.items ≡ [] → first ≡ log_of begun.log → IsTurned t begun old → GoesBack begun old → OnOk result (Gives (state_at begun) caller t (Ok (new.sent.items, new.said)) (state_at new))
 concluded seen may_leave failures result first caller t begun old new old_journal new_journal ended is none same turned back =
     let d = durable_of begun.recorded in
     let from = back.keeps.from d first (subst (λ log. HasComeFrom d log begun) (sym same) (comes_from_itself begun is)) in
-    on_ok result (AreWritten seen may_leave failures first old old_journal new new_journal ⊎ ((place : ℕ) × AreCut failures d first caller place old old_journal new new_journal)) _
+    on_ok result (AreWritten seen may_leave failures first old old_journal new new_journal ⊎ ((place : ℕ) × AreCut seen failures d first caller place old old_journal new new_journal)) _
     (λ ends. gives caller t begun old new is none turned back (by_end ends)) (ended d from)
   where
-    by_end : AreWritten seen may_leave failures first old old_journal new new_journal ⊎ ((place : ℕ) × AreCut failures (durable_of begun.recorded) first caller place old old_journal new new_journal) →
+    by_end : AreWritten seen may_leave failures first old old_journal new new_journal ⊎ ((place : ℕ) × AreCut seen failures (durable_of begun.recorded) first caller place old old_journal new new_journal) →
         IsWhole old new ⊎ ((place : ℕ) × IsCutAt (durable_of begun.recorded) (log_of begun.log) caller place old new)
     by_end (inl written) = inl written.0
     by_end (inr at) = inr (at.0, subst (λ log. IsCutAt (durable_of begun.recorded) log caller at.0 old new) same at.1.0)

@@ -71,19 +71,19 @@ module _ {D : Type 0} (seen : D → List ℕ) (may_leave : D → List ℕ → Ty
             (subst (λ rs. Gains seen may_leave failures j rs k) bytes gained.0, subst (λ (s : State). IsLogOf s.log k) (sym after) gained.1);
       }
 
-  short : (place : ℕ) (told : Told) (mid e : Event) (j k : Journal D) → IsLeft mid told e → AreCut failures (durable_of begun.recorded) (log_of begun.log) caller place old j mid k → IsCutShort failures caller t place begun j told e k
+  short : (place : ℕ) (told : Told) (mid e : Event) (j k : Journal D) → IsLeft mid told e → AreCut seen failures (durable_of begun.recorded) (log_of begun.log) caller place old j mid k → IsCutShort seen failures caller t place begun j told e k
   short place told mid e j k left at =
       let cut = gives_cut caller place t begun old mid rest.begun turned back at.0 in
       let after : state_at e ≡ state_at mid = ap state_at left.others in record {
         cut = record { within = cut.within; after = after ∙ cut.after; sends = left.sent ∙ cut.sends; says = left.said ∙ cut.says };
         replays = (durable_of old.recorded, turned.replays);
         are_entries = turned.are_entries;
-        breaks = λ is. subst (λ rs. Breaks failures j rs place k) bytes (at.1 is);
+        breaks = λ is. subst (λ rs. Breaks seen failures j rs place k) bytes (at.1 is);
       }
 
   pub finished : (told : Told) (mid e : Event) (j k : Journal D) → IsLeft mid told e → (old.written.items ≡ [] → k ≡ j) →
-      (AreWritten seen may_leave failures (log_of begun.log) old j mid k ⊎ ((place : ℕ) × AreCut failures (durable_of begun.recorded) (log_of begun.log) caller place old j mid k)) →
-      IsFinished seen may_leave failures t begun j told e k ⊎ ((place : ℕ) × IsCutShort failures caller t place begun j told e k)
+      (AreWritten seen may_leave failures (log_of begun.log) old j mid k ⊎ ((place : ℕ) × AreCut seen failures (durable_of begun.recorded) (log_of begun.log) caller place old j mid k)) →
+      IsFinished seen may_leave failures t begun j told e k ⊎ ((place : ℕ) × IsCutShort seen failures caller t place begun j told e k)
   finished told mid e j k left still (inl written) = inl (whole told mid e j k left still written)
   finished told mid e j k left still (inr at) = inr (at.0, short at.0 told mid e j k left at.1)
 
@@ -122,12 +122,12 @@ ready_at_rest e rest = record { room = subst (RoomForAll e.recorded) (sym rest.b
 
 -- an event that is ended is over
 pub ended_over : {D : Type 0} (seen : D → List ℕ) (may_leave : D → List ℕ → Type 0) (failures : D → ℕ) (before : Durable) (first : Log) (caller : Option ReqId) (old mid : Event) (j k : Journal D) →
-    (AreWritten seen may_leave failures first old j mid k ⊎ ((place : ℕ) × AreCut failures before first caller place old j mid k)) → IsOver mid
+    (AreWritten seen may_leave failures first old j mid k ⊎ ((place : ℕ) × AreCut seen failures before first caller place old j mid k)) → IsOver mid
 ended_over seen may_leave failures before first caller old mid j k (inl written) = written.0.over
 ended_over seen may_leave failures before first caller old mid j k (inr at) = at.1.0.over
 
 pub renewed_over : {D : Type 0} (seen : D → List ℕ) (may_leave : D → List ℕ → Type 0) (failures : D → ℕ) (before : Durable) (first : Log) (old mid : Event) (j k : Journal D) →
-    (AreRenewed seen may_leave failures first old j mid k ⊎ ((place : ℕ) × AreCutAnew failures before first place old j mid k)) → IsOver mid
+    (AreRenewed seen may_leave failures first old j mid k ⊎ ((place : ℕ) × AreCutAnew seen failures before first place old j mid k)) → IsOver mid
 renewed_over seen may_leave failures before first old mid j k (inl renewed) = renewed.0.over
 renewed_over seen may_leave failures before first old mid j k (inr at) = at.1.0.over
 

@@ -182,7 +182,7 @@ none_counted records size none = omega arith
 
 module _ {D : Type 0} (seen : D → List ℕ) (may_leave : D → List ℕ → Type 0) (failures : D → ℕ) (old new : Event) (old_journal new_journal : Journal D) (begun : IsBegun old) (log : IsLogOf (log_of old.log) old_journal) where
   abbrev ends : Type 0
-  ends = AreRenewed seen may_leave failures (log_of old.log) old old_journal new new_journal ⊎ ((place : ℕ) × AreCutAnew failures (durable_of old.recorded) (log_of old.log) place old old_journal new new_journal)
+  ends = AreRenewed seen may_leave failures (log_of old.log) old old_journal new new_journal ⊎ ((place : ℕ) × AreCutAnew seen failures (durable_of old.recorded) (log_of old.log) place old old_journal new new_journal)
 
   pub whole_anew : renewal_refusal (state_at old) ≡ None → ends → is_some new.said ≡ false → IsAnew seen may_leave failures old old_journal new new_journal
   whole_anew unrefused (inr (place, cut)) unsaid = absurd (false≢true (sym unsaid ∙ ap is_some cut.0.says))
@@ -204,11 +204,11 @@ module _ {D : Type 0} (seen : D → List ℕ) (may_leave : D → List ℕ → Ty
     log = (written_to log).1;
   }
 
-  pub cut_anew : ends → is_some new.said ≡ true → BreaksLast failures old_journal [] (checkpoint_body (durable_of old.recorded)) new_journal
+  pub cut_anew : ends → is_some new.said ≡ true → BreaksLast seen failures old_journal [] (checkpoint_body (durable_of old.recorded)) new_journal
   cut_anew (inl (is, written_to)) said = absurd (false≢true (ap is_some (sym (is.says ∙ begun.said)) ∙ said))
   cut_anew (inr (place, cut)) said = elim (cut.1 log) [
     | inl early ↦ absurd (no_records place (length old.written.items) early.0 (ap length begun.written))
-    | inr last ↦ subst (λ records. BreaksLast failures old_journal records (checkpoint_body (durable_of old.recorded)) new_journal) begun.written last.1
+    | inr last ↦ subst (λ records. BreaksLast seen failures old_journal records (checkpoint_body (durable_of old.recorded)) new_journal) begun.written last.1
   ]
 
 -- ---- what the master is opened with

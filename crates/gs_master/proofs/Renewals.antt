@@ -16,15 +16,16 @@ use Rattle.gs_base.specs.declared.refusal.Refusal.{Refusal}
 use Rattle.gs_base.specs.declared.refusal.Refusal.TheVariants as refusals
 use Rattle.gs_journal.specs.Drafts.{draft_refusal}
 use Rattle.gs_journal.specs.Journal.{State as Journal, Closes, IsOldOrNew, Makes, Stands, checkpoint_size, checkpointed, failures_of_both, last_generation}
+use Rattle.gs_journal.specs.Records.{Text}
 use Rattle.gs_record.specs.Plain.{PlainEntry, plain}
 use Rattle.gs_state.specs.Durable.{Durable, Settled, is_listed}
 use Rattle.gs_master.specs.Events.{HasComeFrom}
 use Rattle.gs_state.specs.Handling.{checkpoint_body, still_new, tidied, unlisted, written}
-use Rattle.gs_master.specs.Journaled.{Gains, IsLogOf}
+use Rattle.gs_master.specs.Journaled.{Gains, IsLogOf, text_seen}
 use Rattle.gs_state.specs.Outcomes.{cut}
 use Rattle.gs_state.specs.Plans.{fault_of, log_of}
 use Rattle.gs_state.specs.Recorded.{durable_of}
-use Rattle.gs_master.specs.Renewing.{BreaksLast, Renews}
+use Rattle.gs_master.specs.Renewing.{BreaksLast, Renews, StandOrNot}
 use Rattle.gs_plan.specs.Renewable.{IsBehind, IsRenewalOf}
 use Rattle.gs_state.specs.State.{Failed, Log, State, first_of, is_failed, with_record}
 use Rattle.gs_master.specs.Turns.{state_at}
@@ -198,14 +199,16 @@ module _ {D : Type 0} {seen : D → List ℕ} {may_leave : D → List ℕ → Ty
       }
 
   -- a disk fails
+  stand_or_not : (text : Text) → IsOldOrNew mid.text (checkpointed r.draft.body) text → StandOrNot e.written.items (checkpoint_body (durable_of e.recorded)) old.text text
+  stand_or_not text (inl stays) = inl (stays ∙ s.gains.text)
+  stand_or_not text (inr made) = inr (made ∙ ap checkpointed s.renewal.body)
+
   pub breaks_last : (new : Journal D) (refusal : Refusal) → (draft_refusal mid r.draft ≡ None → Closes failures mid new refusal) → IsOldOrNew mid.text (checkpointed r.draft.body) new.text →
-      BreaksLast failures old e.written.items (checkpoint_body (durable_of e.recorded)) new
-  breaks_last new refusal closes either =
+      IsOldOrNew mid.text (checkpointed r.draft.body) (text_seen seen new) → BreaksLast seen failures old e.written.items (checkpoint_body (durable_of e.recorded)) new
+  breaks_last new refusal closes either shown =
       let closed = closes undrafted in record {
         cause = subst (λ n. n < failures_of_both failures new) s.gains.quiet closed.cause;
         closed = closed.closed;
-        text = elim either [
-          | inl stays ↦ inl (stays ∙ s.gains.text)
-          | inr made ↦ inr (made ∙ ap checkpointed s.renewal.body)
-        ];
+        text = stand_or_not new.text either;
+        shown = stand_or_not (text_seen seen new) shown;
       }

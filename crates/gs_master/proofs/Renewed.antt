@@ -1,5 +1,5 @@
 -- That an event which is ended with a checkpoint is finished, and what the journal tells then.
-use Rattle.std.proofs.Common.{◌≡◌, ◌⊎◌, inl, inr, ◌∙◌, ◌+◌, ◌<◌, ◌++◌, ◌&&◌, ℕ, zero, suc, Bool, true, false, not, List, [], ◌∷◌, map, length, take, refl, ap, arith, subst, sym, append-nil}
+use Rattle.std.proofs.Common.{◌≡◌, ◌⊎◌, inl, inr, ◌∙◌, ◌<◌, ◌++◌, ◌&&◌, ℕ, Bool, true, false, not, List, [], ◌∷◌, map, length, take, refl, ap, arith, subst, sym, append-nil}
 use Rattle.std.specs.Prelude.{Option, Some, None, fold, is_none, slice_get, if◌then◌else◌, Result, Ok, Err}
 use Rattle.std.specs.List.{AllByRecursion}
 use Rattle.std.proofs.lemmas.Bool.{false≢true}
@@ -9,7 +9,6 @@ use Rattle.gs_base.specs.declared.numbers.Moment.{Moment}
 use Rattle.gs_base.specs.declared.refusal.Refusal.{Refusal}
 use Rattle.gs_base.specs.declared.refusal.Refusal.TheVariants as refusals
 use Rattle.gs_journal.specs.Journal.{State as Journal, checkpointed, failures_of_both}
-use Rattle.gs_journal.specs.Records.{Text}
 use Rattle.gs_journal.specs.declared.version.Version.TheVariants.{Two}
 use Rattle.gs_record.specs.Encoding.{encoded}
 use Rattle.gs_record.specs.Plain.{PlainEntry, Whole, plain}
@@ -19,15 +18,15 @@ use Rattle.gs_state.specs.Durable.{Durable}
 use Rattle.gs_master.specs.Events.{log_behind}
 use Rattle.gs_master.specs.Finishing.{FinishesAnew, IsAtRest, IsCutShortAnew, IsFinishedAnew, and_checkpoint}
 use Rattle.gs_state.specs.Handling.{checkpoint, checkpoint_body, checkpoint_tests, due, tick, tidied, unless_failed, written, written_if_due, written_unless}
-use Rattle.gs_master.specs.Journaled.{IsLogOf, IsOver}
-use Rattle.gs_master.specs.Masters.{Answers, DoubtLeaves, Holds, IsAnswered, IsAnsweredUnsure, IsHeld, IsTold, LeavesText, MasterOf}
+use Rattle.gs_master.specs.Journaled.{IsAsSeen, IsLogOf, IsOver, text_seen}
+use Rattle.gs_master.specs.Masters.{Answers, DoubtLeaves, Holds, IsAnswered, IsAnsweredUnsure, IsHeld, IsTold, MasterOf}
 use Rattle.gs_state.specs.Outcomes.{IsDone, cut}
 use Rattle.gs_state.specs.Plans.{fault_of, log_of}
 use Rattle.gs_state.specs.Recorded.{durable_of}
 use Rattle.gs_master.specs.Renewing.{AreCutAnew, AreRenewed, BreaksAnew, BreaksLast, IsCutAnew, IsRenewed, Renews}
-use Rattle.gs_plan.specs.Renewable.{renewal_refusal}
+use Rattle.gs_plan.specs.Renewable.{refusal_beforehand, renewal_refusal}
 use Rattle.gs_state.specs.State.{Fault, Sound, Failed, Unopened, Log, State, Turn, first_of, first_said, is_failed, joined, met_by, unmoved, with_record}
-use Rattle.gs_master.specs.Ticking.{AnswersAs, AnswersCheckpoint, AnswersTick, IsAnsweredAnew, is_written, lacking, pressed_all}
+use Rattle.gs_master.specs.Ticking.{AnswersAs, AnswersCheckpoint, AnswersTick, IsAnsweredAnew, LeavesAnew, is_written, lacking, pressed_all}
 use Rattle.gs_master.specs.Turns.{GoesBack, IsTurned, state_at}
 use Rattle.gs_state.specs.Whole.{checkpoint_of}
 use Rattle.gs_master.specs.declared.event.Event.{Event}
@@ -56,13 +55,14 @@ module _ {D : Type 0} (seen : D → List ℕ) (may_leave : D → List ℕ → Ty
         };
         replays = replays;
         are_entries = turned.are_entries;
+        is_entry = subst (λ (s : State). IsEntry Two (Whole (checkpoint_of s.durable))) turned.after renewed.0.is_entry;
         fault = sym (ap (λ (s : State). s.fault) turned.after) ∙ ap fault_of back.fault;
         renews = λ is.
             let gained = renewed.1 is in
             (subst (λ (s : State). Renews seen may_leave failures j (checkpoint_body s.durable) k) turned.after gained.0, subst (λ (s : State). IsLogOf s.log k) (sym after) gained.1);
       }
 
-  short : (place : ℕ) (told : Told) (mid e : Event) (j k : Journal D) → IsLeft mid told e → AreCutAnew failures (durable_of begun.recorded) (log_of begun.log) place old j mid k → IsCutShortAnew failures steps place begun j told e k
+  short : (place : ℕ) (told : Told) (mid e : Event) (j k : Journal D) → IsLeft mid told e → AreCutAnew seen failures (durable_of begun.recorded) (log_of begun.log) place old j mid k → IsCutShortAnew seen failures steps place begun j told e k
   short place told mid e j k left at =
       let after : state_at e ≡ state_at mid = ap state_at left.others in
       let records : map plain old.entries.items ++ Whole (checkpoint_of (durable_of old.recorded)) ∷ [] ≡ steps.records ++ Whole (checkpoint_of steps.after.durable) ∷ [] =
@@ -76,36 +76,15 @@ module _ {D : Type 0} (seen : D → List ℕ) (may_leave : D → List ℕ → Ty
         };
         replays = replays;
         are_entries = turned.are_entries;
-        breaks = λ is. subst (λ (s : State). BreaksAnew failures j (map (encoded Two) steps.records) (checkpoint_body s.durable) place k) turned.after
-            (subst (λ rs. BreaksAnew failures j rs (checkpoint_body (durable_of old.recorded)) place k) bytes (at.1 is));
+        breaks = λ is. subst (λ (s : State). BreaksAnew seen failures j (map (encoded Two) steps.records) (checkpoint_body s.durable) place k) turned.after
+            (subst (λ rs. BreaksAnew seen failures j rs (checkpoint_body (durable_of old.recorded)) place k) bytes (at.1 is));
       }
 
   pub finished_anew : (told : Told) (mid e : Event) (j k : Journal D) → IsLeft mid told e →
-      (AreRenewed seen may_leave failures (log_of begun.log) old j mid k ⊎ ((place : ℕ) × AreCutAnew failures (durable_of begun.recorded) (log_of begun.log) place old j mid k)) →
+      (AreRenewed seen may_leave failures (log_of begun.log) old j mid k ⊎ ((place : ℕ) × AreCutAnew seen failures (durable_of begun.recorded) (log_of begun.log) place old j mid k)) →
       FinishesAnew seen may_leave failures steps begun j told e k
   finished_anew told mid e j k left (inl renewed) = inl (anew told mid e j k left renewed)
   finished_anew told mid e j k left (inr at) = inr (at.0, short at.0 told mid e j k left at.1)
-
--- ---- what a failure leaves of a text
-
-slice_get_more : (rs more : List PlainEntry) (place : ℕ) (entry : PlainEntry) → slice_get rs place ≡ Some entry → slice_get (rs ++ more) place ≡ Some entry
-slice_get_more [] more place entry found = absurd cc
-slice_get_more (r ∷ rs) more zero entry found = found
-slice_get_more (r ∷ rs) more (suc place) entry found = slice_get_more rs more place entry found
-
--- the same where another record stands behind
-more_left : (old new : Text) (rs : List PlainEntry) (whole : PlainEntry) (place : ℕ) → place < length rs → LeavesText rs place old new → LeavesText (rs ++ whole ∷ []) place old new
-more_left old new rs whole place within (inl text) =
-    inl (text ∙ (λ i. (old.0, old.1 ++ map (encoded Two) (sym (take-append-le place rs (whole ∷ []) (omega arith)) i))))
-more_left old new rs whole place within (inr (inl text)) =
-    inr (inl (text ∙ (λ i. (old.0, old.1 ++ map (encoded Two) (sym (take-append-le (place + 1) rs (whole ∷ []) (omega arith)) i)))))
-more_left old new rs whole place within (inr (inr (d, found, text))) = inr (inr (d, slice_get_more rs (whole ∷ []) place (Whole (checkpoint_of d)) found, text))
-
--- or it is the last that was to be written, which takes the place of all
-last_left : (d : Durable) (old new : Text) (rs : List PlainEntry) (place : ℕ) → place ≡ length rs
-    → ((new ≡ (old.0, old.1 ++ map (encoded Two) rs)) ⊎ (new ≡ checkpointed (checkpoint_body d))) → LeavesText (rs ++ Whole (checkpoint_of d) ∷ []) place old new
-last_left d old new rs place here (inl text) = inl (text ∙ (λ i. (old.0, old.1 ++ map (encoded Two) (sym (all_before rs (Whole (checkpoint_of d)) place here) i))))
-last_left d old new rs place here (inr text) = inr (inr (d, last_of rs (Whole (checkpoint_of d)) place here, text))
 
 -- ---- what the journal tells
 
@@ -128,11 +107,11 @@ module _ {D : Type 0} (seen : D → List ℕ) (may_leave : D → List ℕ → Ty
   renews (Unopened doubt) d next log after j k held sound gives = absurd (false≢true (sym sound))
 
   breaks_last : (f : Fault) (d next : Durable) (log after : Log) (j k : Journal D) (rs : List PlainEntry) → Holds seen may_leave d log j f → is_failed f ≡ false → AllByRecursion (IsEntry Two) rs → replayed d rs ≡ Some next →
-      (IsLogOf log j → BreaksLast failures j (map (encoded Two) rs) (checkpoint_body next) k) →
+      (IsLogOf log j → BreaksLast seen failures j (map (encoded Two) rs) (checkpoint_body next) k) →
       (failures_of_both failures j < failures_of_both failures k) × Holds seen may_leave next after k (Failed (Some (Whole (checkpoint_of next))))
   breaks_last Sound d next log after j k rs (stands, (is, told)) sound are fit broke = (broken.cause, (broken.closed, by_text broken.text))
     where
-      broken : BreaksLast failures j (map (encoded Two) rs) (checkpoint_body next) k
+      broken : BreaksLast seen failures j (map (encoded Two) rs) (checkpoint_body next) k
       broken = broke is
 
       by_text : (k.text ≡ (j.text.0, j.text.1 ++ map (encoded Two) rs)) ⊎ (k.text ≡ checkpointed (checkpoint_body next)) → (found : Durable) × (DoubtLeaves (Some (Whole (checkpoint_of next))) next found × IsTold found k)
@@ -152,16 +131,21 @@ module _ {D : Type 0} (seen : D → List ℕ) (may_leave : D → List ℕ → Ty
     log_known (Failed doubt) held sound = absurd (false≢true (sym sound))
     log_known (Unopened doubt) held sound = absurd (false≢true (sym sound))
 
-    done : (told : Told) → IsFinishedAnew seen may_leave failures steps begun j told e k → IsAnsweredAnew failures (and_checkpoint steps) steps (at begun j) told (at e k) × IsHeld seen may_leave (state_at e) k
+    done : (told : Told) → IsFinishedAnew seen may_leave failures steps begun j told e k → IsAnsweredAnew seen failures (and_checkpoint steps) steps (at begun j) told (at e k) × IsHeld seen may_leave (state_at e) k
     done told is =
         let f = (state_at begun).fault in
+        let renewed = is.renews (log_known f held sound) in
         let gives = renews f (durable_of begun.recorded) steps.after.durable (state_at begun).log (state_at e).log j k held sound is.renews in (
           record {
             done = is.done;
             fit = is.replays;
             are_entries = is.are_entries;
+            is_entry = is.is_entry;
             text = gives.1;
-            quiet = (is.renews (log_known f held sound)).0.quiet;
+            fault = ap (λ (s : State). s.fault) is.done.after ∙ is.fault;
+            as_seen = record { text = renewed.0.stands.text; size = renewed.0.stands.size; generation = renewed.0.stands.generation };
+            known = renewed.1;
+            quiet = renewed.0.quiet;
             config = refl;
           },
           subst (λ (s : State). Holds seen may_leave s.durable (state_at e).log k s.fault) (sym is.done.after)
@@ -189,7 +173,7 @@ module _ {D : Type 0} (seen : D → List ℕ) (may_leave : D → List ℕ → Ty
         let records = steps.records ++ whole ∷ [] in ap (λ (s : State). record s { fault = Failed (slice_get records place) }) (recorded_as (state_at begun) (take place records) mid front)
 
     by_place : (place : ℕ) → state_at e ≡ cut (state_at begun) (steps.records ++ whole ∷ []) place → AllByRecursion (IsEntry Two) steps.records → replayed (durable_of begun.recorded) steps.records ≡ Some steps.after.durable →
-        BreaksAnew failures j (map (encoded Two) steps.records) (checkpoint_body steps.after.durable) place k →
+        BreaksAnew seen failures j (map (encoded Two) steps.records) (checkpoint_body steps.after.durable) place k →
         (replayed (durable_of begun.recorded) (take place (steps.records ++ whole ∷ [])) ≡ Some (durable_of e.recorded)) × ((failures_of_both failures j < failures_of_both failures k) × ((k.is_failed ≡ true) × IsHeld seen may_leave (state_at e) k))
     by_place place after are fit (inl (below, broke)) =
         let d = durable_of begun.recorded in
@@ -215,21 +199,25 @@ module _ {D : Type 0} (seen : D → List ℕ) (may_leave : D → List ℕ → Ty
           (gives.0, (gives.1.0, cut_held place steps.after.durable whole after fits (last_of rs whole place here) gives.1)),
         )
 
-    -- what is left of the text
-    left_anew : (place : ℕ) → BreaksAnew failures j (map (encoded Two) steps.records) (checkpoint_body steps.after.durable) place k → LeavesText (steps.records ++ whole ∷ []) place j.text k.text
+    -- what is left of the text, and what the disks are seen to say
+    left_anew : (place : ℕ) → BreaksAnew seen failures j (map (encoded Two) steps.records) (checkpoint_body steps.after.durable) place k → LeavesAnew steps place j.text k.text × LeavesAnew steps place j.text (text_seen seen k)
     left_anew place (inl (below, broke)) =
         let rs = steps.records in
         let within : place < length rs = subst (λ n. place < n) (length-map rs (encoded Two)) below in
-        more_left j.text k.text rs whole place within (left_by j.text k.text rs place broke.text)
-    left_anew place (inr (last, broke)) = last_left steps.after.durable j.text k.text steps.records place (last ∙ length-map steps.records (encoded Two)) broke.text
+        (inl (within, left_by j.text k.text rs place broke.text), inl (within, left_by j.text (text_seen seen k) rs place broke.shown))
+    left_anew place (inr (last, broke)) =
+        let here : place ≡ length steps.records = last ∙ length-map steps.records (encoded Two) in (inr (here, broke.text), inr (here, broke.shown))
 
-    short_held : (told : Told) (place : ℕ) → IsCutShortAnew failures steps place begun j told e k → IsAnsweredUnsure failures None (and_checkpoint steps) place (at begun j) told (at e k) × IsHeld seen may_leave (state_at e) k
+    short_held : (told : Told) (place : ℕ) → IsCutShortAnew seen failures steps place begun j told e k → IsAnsweredUnsure seen failures (LeavesAnew steps) None (and_checkpoint steps) place (at begun j) told (at e k) × IsHeld seen may_leave (state_at e) k
     short_held told place is =
-        let gives = by_place place is.cut.after is.are_entries is.replays (is.breaks (log_known (state_at begun).fault held sound)) in (
+        let broke = is.breaks (log_known (state_at begun).fault held sound) in
+        let texts = left_anew place broke in
+        let gives = by_place place is.cut.after is.are_entries is.replays broke in (
           record {
             cut = is.cut;
             fit = gives.0;
-            left = left_anew place (is.breaks (log_known (state_at begun).fault held sound));
+            left = texts.0;
+            shown = texts.1;
             cause = gives.1.0;
             closed = gives.1.1.0;
             config = refl;
@@ -238,7 +226,7 @@ module _ {D : Type 0} (seen : D → List ℕ) (may_leave : D → List ℕ → Ty
         )
 
     pub answers_anew : (told : Told) → FinishesAnew seen may_leave failures steps begun j told e k →
-        IsAnsweredAnew failures (and_checkpoint steps) steps (at begun j) told (at e k) ⊎ ((place : ℕ) × IsAnsweredUnsure failures None (and_checkpoint steps) place (at begun j) told (at e k))
+        IsAnsweredAnew seen failures (and_checkpoint steps) steps (at begun j) told (at e k) ⊎ ((place : ℕ) × IsAnsweredUnsure seen failures (LeavesAnew steps) None (and_checkpoint steps) place (at begun j) told (at e k))
     answers_anew told (inl is) = inl (done told is).0
     answers_anew told (inr is) = inr (is.0, (short_held told is.0 is.1).0)
 
@@ -311,60 +299,70 @@ unrefused_sound s none = by_test (is_failed s.fault) none
     by_test true none = absurd (false≢true (ap is_none none))
     by_test false none = refl
 
+-- what is known of a journal where no disk has failed
+abbrev pub IsKnown : {D : Type 0} → (D → List ℕ) → MasterOf D → Type 0
+IsKnown seen m = is_failed m.state.fault ≡ false → IsAsSeen seen m.journal × IsLogOf m.state.log m.journal
+
 -- a refusal that no message carries
-refused_there : {D : Type 0} (failures : D → ℕ) (refusal : Refusal) (old : MasterOf D) (told : Told) → told.sent.items ≡ [] → told.said ≡ Some refusal → IsAnswered failures (met_by old.state refusal) old told old
-refused_there failures refusal old told sent said = record {
+refused_there : {D : Type 0} (seen : D → List ℕ) (failures : D → ℕ) (refusal : Refusal) (old : MasterOf D) (told : Told) → IsKnown seen old → told.sent.items ≡ [] → told.said ≡ Some refusal →
+    IsAnswered seen failures (met_by old.state refusal) old told old
+refused_there seen failures refusal old told known sent said = record {
   done = record { after = refl; sends = sent; says = said };
   fit = refl;
   are_entries = tt;
   text = λ i. (old.journal.text.0, sym (append-nil old.journal.text.1) i);
+  fault = refl;
+  as_seen = λ sound. (known sound).0;
+  known = λ sound. (known sound).1;
   quiet = refl;
   still = λ none. refl;
   config = refl;
 }
 
-module _ {D : Type 0} (failures : D → ℕ) (moment : Moment) (old : MasterOf D) where
+module _ {D : Type 0} (seen : D → List ℕ) (failures : D → ℕ) (moment : Moment) (old : MasterOf D) where
   abbrev steps : Turn
   steps = pressed_all old.state moment
 
-  abbrev Either : Bool → Turn → Told → MasterOf D → Type 0
-  Either b t told new = AnswersAs failures b t steps old told new ⊎ ((place : ℕ) × IsAnsweredUnsure failures None t place old told new)
+  abbrev As : Bool → Turn → Told → MasterOf D → Type 0
+  As b t told new = AnswersAs seen failures b t steps old told new
 
-  pub ticks_failed : is_failed old.state.fault ≡ true → (told : Told) → told.sent.items ≡ [] → told.said ≡ Some refusals.Device → AnswersTick failures moment old (Ok told) old
+  pub ticks_failed : is_failed old.state.fault ≡ true → (told : Told) → told.sent.items ≡ [] → told.said ≡ Some refusals.Device → AnswersTick seen failures moment old (Ok told) old
   ticks_failed failed told sent said =
-      inl (subst (λ b. Either (not b && (due steps.after && is_written steps.after)) (tick old.state moment) told old) (sym failed)
-      (inl (subst (λ t. IsAnswered failures t old told old) (sym (failed_tick old.state moment failed)) (refused_there failures refusals.Device old told sent said))))
+      inl (subst (λ b. As (not b && (due steps.after && is_written steps.after)) (tick old.state moment) told old) (sym failed)
+      (subst (λ t. As false t told old) (sym (failed_tick old.state moment failed))
+      (inl (refused_there seen failures refusals.Device old told (λ sound. absurd (false≢true (sym sound ∙ failed))) sent said))))
 
-  pub ticks_plain : is_failed old.state.fault ≡ false → (due steps.after && is_written steps.after) ≡ false → (result : Result Told Refusal) (new : MasterOf D) → Answers failures None steps old result new → AnswersTick failures moment old result new
+  pub ticks_plain : is_failed old.state.fault ≡ false → (due steps.after && is_written steps.after) ≡ false → (result : Result Told Refusal) (new : MasterOf D) → Answers seen failures None steps old result new → AnswersTick seen failures moment old result new
   ticks_plain sound none (Ok told) new answered =
-      inl (subst (λ b. Either (not b && (due steps.after && is_written steps.after)) (tick old.state moment) told new) (sym sound)
-      (subst (λ b. Either b (tick old.state moment) told new) (sym none)
-      (subst (λ t. IsAnswered failures t old told new ⊎ ((place : ℕ) × IsAnsweredUnsure failures None t place old told new)) (sym (plain_tick old.state moment sound none)) answered)))
+      inl (subst (λ b. As (not b && (due steps.after && is_written steps.after)) (tick old.state moment) told new) (sym sound)
+      (subst (λ b. As b (tick old.state moment) told new) (sym none)
+      (subst (λ t. As false t told new) (sym (plain_tick old.state moment sound none)) answered)))
   ticks_plain sound none (Err e) new answered = answered
 
   -- a checkpoint is due, and memory is wanting for it
-  pub ticks_short : due steps.after ≡ true → (result : Result Told Refusal) (new : MasterOf D) → Answers failures None (lacking steps) old result new → AnswersTick failures moment old result new
-  ticks_short is_due (Ok told) new answered = inr (is_due, answered)
-  ticks_short is_due (Err e) new answered = answered
+  pub ticks_short : is_failed old.state.fault ≡ false → due steps.after ≡ true → refusal_beforehand steps.after ≡ None → (result : Result Told Refusal) (new : MasterOf D) →
+      Answers seen failures None (lacking steps) old result new → AnswersTick seen failures moment old result new
+  ticks_short sound is_due none (Ok told) new answered = inr (sound, is_due, none, answered)
+  ticks_short sound is_due none (Err e) new answered = answered
 
   pub ticks_anew : is_failed old.state.fault ≡ false → due steps.after ≡ true → renewal_refusal steps.after ≡ None → (told : Told) (new : MasterOf D) →
-      (IsAnsweredAnew failures (and_checkpoint steps) steps old told new ⊎ ((place : ℕ) × IsAnsweredUnsure failures None (and_checkpoint steps) place old told new)) → AnswersTick failures moment old (Ok told) new
+      AnswersAs seen failures true (and_checkpoint steps) steps old told new → AnswersTick seen failures moment old (Ok told) new
   ticks_anew sound is_due none told new answered =
-      inl (subst (λ b. Either (not b && (due steps.after && is_written steps.after)) (tick old.state moment) told new) (sym sound)
-      (subst (λ b. Either (b && is_written steps.after) (tick old.state moment) told new) (sym is_due)
-      (subst (λ o. Either (is_none o) (tick old.state moment) told new) (sym none)
-      (subst (λ t. IsAnsweredAnew failures t steps old told new ⊎ ((place : ℕ) × IsAnsweredUnsure failures None t place old told new)) (sym (written_tick old.state moment sound is_due none)) answered))))
+      inl (subst (λ b. As (not b && (due steps.after && is_written steps.after)) (tick old.state moment) told new) (sym sound)
+      (subst (λ b. As (b && is_written steps.after) (tick old.state moment) told new) (sym is_due)
+      (subst (λ o. As (is_none o) (tick old.state moment) told new) (sym none)
+      (subst (λ t. As true t told new) (sym (written_tick old.state moment sound is_due none)) answered))))
 
-module _ {D : Type 0} (failures : D → ℕ) (old : MasterOf D) where
-  abbrev As : Bool → Turn → Told → MasterOf D → Type 0
-  As b t told new = AnswersAs failures b t (unmoved old.state) old told new ⊎ ((place : ℕ) × IsAnsweredUnsure failures None t place old told new)
+module _ {D : Type 0} (seen : D → List ℕ) (failures : D → ℕ) (old : MasterOf D) where
+  abbrev AsAlone : Bool → Turn → Told → MasterOf D → Type 0
+  AsAlone b t told new = AnswersAs seen failures b t (unmoved old.state) old told new
 
   pub checkpoint_written : renewal_refusal old.state ≡ None → (told : Told) (new : MasterOf D) →
-      (IsAnsweredAnew failures (and_checkpoint (unmoved old.state)) (unmoved old.state) old told new ⊎ ((place : ℕ) × IsAnsweredUnsure failures None (and_checkpoint (unmoved old.state)) place old told new)) → AnswersCheckpoint failures old (Ok told) new
+      AnswersAs seen failures true (and_checkpoint (unmoved old.state)) (unmoved old.state) old told new → AnswersCheckpoint seen failures old (Ok told) new
   checkpoint_written none told new answered =
-      subst (λ o. As (is_none o) (checkpoint old.state) told new) (sym none)
-      (subst (λ t. IsAnsweredAnew failures t (unmoved old.state) old told new ⊎ ((place : ℕ) × IsAnsweredUnsure failures None t place old told new)) (sym (checkpoint_alone old.state none)) answered)
+      subst (λ o. AsAlone (is_none o) (checkpoint old.state) told new) (sym none) (subst (λ t. AsAlone true t told new) (sym (checkpoint_alone old.state none)) answered)
 
-  pub checkpoint_refused : (refusal : Refusal) → renewal_refusal old.state ≡ Some refusal → (told : Told) → told.sent.items ≡ [] → told.said ≡ Some refusal → AnswersCheckpoint failures old (Ok told) old
-  checkpoint_refused refusal some told sent said =
-      subst (λ o. As (is_none o) (checkpoint old.state) told old) (sym some) (inl (subst (λ t. IsAnswered failures t old told old) (sym (refused_checkpoint old.state refusal some)) (refused_there failures refusal old told sent said)))
+  pub checkpoint_refused : (refusal : Refusal) → renewal_refusal old.state ≡ Some refusal → (told : Told) → IsKnown seen old → told.sent.items ≡ [] → told.said ≡ Some refusal → AnswersCheckpoint seen failures old (Ok told) old
+  checkpoint_refused refusal some told known sent said =
+      subst (λ o. AsAlone (is_none o) (checkpoint old.state) told old) (sym some)
+      (subst (λ t. AsAlone false t told old) (sym (refused_checkpoint old.state refusal some)) (inl (refused_there seen failures refusal old told known sent said)))

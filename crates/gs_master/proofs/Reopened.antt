@@ -17,11 +17,11 @@ use Rattle.gs_state.specs.Applied.{records_behind, replayed}
 use Rattle.gs_state.specs.Durable.{Durable, start}
 use Rattle.gs_master.specs.Finishing.{IsAtRest}
 use Rattle.gs_state.specs.Handling.{answered_or, checkpoint_body, checkpoint_tests, recover, recovered_from, restarted, reopened, tidied, written, written_unless}
-use Rattle.gs_master.specs.Journaled.{IsLogOf}
+use Rattle.gs_master.specs.Journaled.{IsAsSeen, IsLogOf}
 use Rattle.gs_master.specs.Masters.{Holds, IsHeld, IsTold}
 use Rattle.gs_state.specs.Plans.{log_of}
 use Rattle.gs_master.specs.Recovering.{AreRecordsOf, IsLeft, IsRecovered, Tells, WhyNotRecovered, WhyNotTold, log_behind_last, log_in}
-use Rattle.gs_master.specs.Starting.{IsAsSeen, WhyUnopened, left_in}
+use Rattle.gs_master.specs.Starting.{WhyUnopened, left_in}
 use Rattle.gs_state.specs.State.{Log, Sound, State, Turn, and_then, first_of}
 use Rattle.gs_master.specs.Turns.{state_at}
 use Rattle.gs_master.specs.declared.event.Event.{Event}
@@ -31,7 +31,7 @@ abbrev Accepted : Turn → Result Turn Refusal
 Accepted t = Ok t
 
 -- what is opened in each version
-abbrev as_opened : Version → State → State
+abbrev pub as_opened : Version → State → State
 as_opened versions.One s = (written s).after
 as_opened versions.Two s = s
 
@@ -47,7 +47,7 @@ module _ (config : Config) (log : Log) (d : Durable) (turn : Turn) where
   opened_by versions.One is = opened_if (first_of (checkpoint_tests false false (restarted d log).log (checkpoint_body d))) (restarted d log) is
   opened_by versions.Two is = ap (λ (t : Turn). t.after) (sym (given _ turn is))
 
-after_opening : (config : Config) (v : Version) (entries : List PlainEntry) (log : Log) (d : Durable) (turn : Turn) → replayed start entries ≡ Some d → recover config v entries log ≡ Ok turn →
+pub after_opening : (config : Config) (v : Version) (entries : List PlainEntry) (log : Log) (d : Durable) (turn : Turn) → replayed start entries ≡ Some d → recover config v entries log ≡ Ok turn →
     turn.after ≡ as_opened v (restarted d (record log { records = records_behind entries }))
 unfolding recover
 after_opening config v entries log d turn replays is =

@@ -17,7 +17,7 @@ use Rattle.gs_state.specs.Applied.{applied, replayed}
 use Rattle.gs_state.specs.Durable.{Durable}
 use Rattle.gs_master.specs.Events.{log_behind}
 use Rattle.gs_master.specs.Finishing.{Finishes, IsAtRest, IsCutShort, IsFinished}
-use Rattle.gs_master.specs.Journaled.{Breaks, Gains, IsLogOf}
+use Rattle.gs_master.specs.Journaled.{Breaks, Gains, IsAsSeen, IsLogOf, StandUpTo, text_seen}
 use Rattle.gs_master.specs.Masters.{Answers, DoubtLeaves, Holds, IsAnswered, IsAnsweredUnsure, IsHeld, IsTold, LeavesText, MasterOf}
 use Rattle.gs_state.specs.Recorded.{durable_of}
 use Rattle.gs_state.specs.State.{Fault, Sound, Failed, Unopened, Log, State, Turn, is_failed, with_record}
@@ -56,9 +56,9 @@ in_doubt (e ∷ es) (suc place) d mid found below one two =
 
 -- what is left of a text, the records being written
 pub left_by : (old new : Text) (rs : List PlainEntry) (place : ℕ)
-    → ((new ≡ (old.0, old.1 ++ take place (map (encoded Two) rs))) ⊎ (new ≡ (old.0, old.1 ++ take (place + 1) (map (encoded Two) rs)))) → LeavesText rs place old new
+    → StandUpTo (map (encoded Two) rs) place old new → LeavesText rs place old new
 left_by old new rs place (inl text) = inl (text ∙ (λ i. (old.0, old.1 ++ take-map (encoded Two) place rs i)))
-left_by old new rs place (inr text) = inr (inl (text ∙ (λ i. (old.0, old.1 ++ take-map (encoded Two) (place + 1) rs i))))
+left_by old new rs place (inr text) = inr (text ∙ (λ i. (old.0, old.1 ++ take-map (encoded Two) (place + 1) rs i)))
 
 without_doubt : (doubt : Option PlainEntry) (d : Durable) → DoubtLeaves doubt d d
 without_doubt None d = refl
@@ -110,15 +110,24 @@ module _ {D : Type 0} (seen : D → List ℕ) (may_leave : D → List ℕ → Ty
   stay_quiet (Failed doubt) d log after j k rs held idle still gains = ap (failures_of_both failures) (still (idle refl))
   stay_quiet (Unopened doubt) d log after j k rs held idle still gains = ap (failures_of_both failures) (still (idle refl))
 
+  -- where no disk has failed the journal is as its disks are seen, and the master knows its room
+  pub known_of : (s : State) (k : Journal D) → IsHeld seen may_leave s k → is_failed s.fault ≡ false → IsAsSeen seen k × IsLogOf s.log k
+  known_of s k held sound = by_fault s.fault held sound
+    where
+      by_fault : (f : Fault) → Holds seen may_leave s.durable s.log k f → is_failed f ≡ false → IsAsSeen seen k × IsLogOf s.log k
+      by_fault Sound (stands, (is, told)) sound = (record { text = stands.text; size = stands.size; generation = stands.generation }, is)
+      by_fault (Failed doubt) held sound = absurd (false≢true (sym sound))
+      by_fault (Unopened doubt) held sound = absurd (false≢true (sym sound))
+
   -- where a disk failed
   pub breaks : (f : Fault) (d last mid : Durable) (log after : Log) (j k : Journal D) (rs : List PlainEntry) (place : ℕ) → Holds seen may_leave d log j f → (is_failed f ≡ true → rs ≡ []) → place < length rs →
-      AllByRecursion (IsEntry Two) rs → replayed d rs ≡ Some last → replayed d (take place rs) ≡ Some mid → (IsLogOf log j → Breaks failures j (map (encoded Two) rs) place k) →
+      AllByRecursion (IsEntry Two) rs → replayed d rs ≡ Some last → replayed d (take place rs) ≡ Some mid → (IsLogOf log j → Breaks seen failures j (map (encoded Two) rs) place k) →
       (failures_of_both failures j < failures_of_both failures k) × Holds seen may_leave mid after k (Failed (slice_get rs place))
   breaks (Failed doubt) d last mid log after j k rs place held idle below are fit front broke = let none = ap length (idle refl) in absurd (omega arith)
   breaks (Unopened doubt) d last mid log after j k rs place held idle below are fit front broke = let none = ap length (idle refl) in absurd (omega arith)
   breaks Sound d last mid log after j k rs place (stands, (is, told)) idle below are fit front broke = (broken.cause, (broken.closed, by_text broken.text))
     where
-      broken : Breaks failures j (map (encoded Two) rs) place k
+      broken : Breaks seen failures j (map (encoded Two) rs) place k
       broken = broke is
 
       front_told : (n : ℕ) (x : Durable) → replayed d (take n rs) ≡ Some x → k.text ≡ (j.text.0, j.text.1 ++ take n (map (encoded Two) rs)) → IsTold x k
@@ -134,10 +143,11 @@ module _ {D : Type 0} (seen : D → List ℕ) (may_leave : D → List ℕ → Ty
           let found = front_fits d last rs (suc place) fit in
           (found.0, (in_doubt rs place d mid found.0 below front found.1, front_told (suc place) found.0 found.1 (text ∙ (λ i. (j.text.0, j.text.1 ++ take (next i) (map (encoded Two) rs))))))
 
-  -- what is left of the text
+  -- what is left of the text, and what the disks are seen to say
   pub left_text : (f : Fault) (d : Durable) (log : Log) (j k : Journal D) (rs : List PlainEntry) (place : ℕ) → Holds seen may_leave d log j f → (is_failed f ≡ true → rs ≡ []) → place < length rs →
-      (IsLogOf log j → Breaks failures j (map (encoded Two) rs) place k) → LeavesText rs place j.text k.text
-  left_text Sound d log j k rs place (stands, (is, told)) idle below broke = left_by j.text k.text rs place (broke is).text
+      (IsLogOf log j → Breaks seen failures j (map (encoded Two) rs) place k) → LeavesText rs place j.text k.text × LeavesText rs place j.text (text_seen seen k)
+  left_text Sound d log j k rs place (stands, (is, told)) idle below broke =
+      let broken = broke is in (left_by j.text k.text rs place broken.text, left_by j.text (text_seen seen k) rs place broken.shown)
   left_text (Failed doubt) d log j k rs place held idle below broke = let none = ap length (idle refl) in absurd (omega arith)
   left_text (Unopened doubt) d log j k rs place held idle below broke = let none = ap length (idle refl) in absurd (omega arith)
 
@@ -147,10 +157,18 @@ module _ {D : Type 0} (seen : D → List ℕ) (may_leave : D → List ℕ → Ty
     abbrev pub at : Event → Journal D → MasterOf D
     at x y = record { config = config; state = state_at x; journal = y }
 
-    done : (told : Told) → IsFinished seen may_leave failures t begun j told e k → IsAnswered failures t (at begun j) told (at e k) × IsHeld seen may_leave (state_at e) k
+    done_held : (told : Told) → IsFinished seen may_leave failures t begun j told e k → IsHeld seen may_leave (state_at e) k
+    done_held told is =
+        subst (Holds seen may_leave (durable_of e.recorded) (state_at e).log k) (sym is.fault)
+        (stays (state_at begun).fault (durable_of begun.recorded) (durable_of e.recorded) (state_at begun).log (state_at e).log j k t.records held idle is.still is.are_entries is.replays is.gains)
+
+    done : (told : Told) → IsFinished seen may_leave failures t begun j told e k → IsAnswered seen failures t (at begun j) told (at e k) × IsHeld seen may_leave (state_at e) k
     done told is = (
       record {
         done = is.done;
+        fault = is.fault;
+        as_seen = λ sound. (known_of (state_at e) k (done_held told is) sound).0;
+        known = λ sound. (known_of (state_at e) k (done_held told is) sound).1;
         fit = is.replays;
         are_entries = is.are_entries;
         text = stand_behind (state_at begun).fault (durable_of begun.recorded) (state_at begun).log (state_at e).log j k t.records held idle is.still is.gains;
@@ -158,16 +176,16 @@ module _ {D : Type 0} (seen : D → List ℕ) (may_leave : D → List ℕ → Ty
         still = λ none. is.still none;
         config = refl;
       },
-      subst (Holds seen may_leave (durable_of e.recorded) (state_at e).log k) (sym is.fault)
-          (stays (state_at begun).fault (durable_of begun.recorded) (durable_of e.recorded) (state_at begun).log (state_at e).log j k t.records held idle is.still is.are_entries is.replays is.gains),
+      done_held told is,
     )
 
-    short : (told : Told) (place : ℕ) → IsCutShort failures caller t place begun j told e k → IsAnsweredUnsure failures caller t place (at begun j) told (at e k) × IsHeld seen may_leave (state_at e) k
+    short : (told : Told) (place : ℕ) → IsCutShort seen failures caller t place begun j told e k → IsAnsweredUnsure seen failures (LeavesText t.records) caller t place (at begun j) told (at e k) × IsHeld seen may_leave (state_at e) k
     short told place is = (
       record {
         cut = is.cut;
         fit = mid.1 ∙ ap (λ (s : State). Some s.durable) (sym state);
-        left = left_text (state_at begun).fault (durable_of begun.recorded) (state_at begun).log j k t.records place held idle is.cut.within is.breaks;
+        left = texts.0;
+        shown = texts.1;
         cause = broke.0;
         closed = broke.1.0;
         config = refl;
@@ -178,6 +196,9 @@ module _ {D : Type 0} (seen : D → List ℕ) (may_leave : D → List ℕ → Ty
         mid : (mid : Durable) × (replayed (durable_of begun.recorded) (take place t.records) ≡ Some mid)
         mid = front_fits (durable_of begun.recorded) is.replays.0 t.records place is.replays.1
 
+        texts : LeavesText t.records place j.text k.text × LeavesText t.records place j.text (text_seen seen k)
+        texts = left_text (state_at begun).fault (durable_of begun.recorded) (state_at begun).log j k t.records place held idle is.cut.within is.breaks
+
         log : Log
         log = fold log_behind (state_at begun).log (take place t.records)
 
@@ -187,7 +208,7 @@ module _ {D : Type 0} (seen : D → List ℕ) (may_leave : D → List ℕ → Ty
         broke : (failures_of_both failures j < failures_of_both failures k) × Holds seen may_leave mid.0 log k (Failed (slice_get t.records place))
         broke = breaks (state_at begun).fault (durable_of begun.recorded) is.replays.0 mid.0 (state_at begun).log log j k t.records place held idle is.cut.within is.are_entries is.replays.1 mid.1 is.breaks
 
-    pub answers : (result : Result Told Refusal) → Finishes seen may_leave failures caller t begun j result e k → Answers failures caller t (at begun j) result (at e k)
+    pub answers : (result : Result Told Refusal) → Finishes seen may_leave failures caller t begun j result e k → Answers seen failures caller t (at begun j) result (at e k)
     answers (Ok told) (inl is) = inl (done told is).0
     answers (Ok told) (inr is) = inr (is.0, (short told is.0 is.1).0)
     answers (Err refusal) (why, (state, journal)) = (why, λ i. record { config = config; state = state i; journal = journal i })

@@ -1,8 +1,8 @@
 -- What the records of an event become at the journal, and what is left of the event where a disk fails at one of them.
 use Rattle.std.specs.Prelude.{◌≡◌, ◌⊎◌, ◌+◌, ◌<◌, ◌≤◌, ◌++◌, ℕ, true, false, List, [], length, map, take, sum_by, Option, Some}
 use Rattle.gs_base.specs.declared.numbers.ReqId.{ReqId}
-use Rattle.gs_journal.specs.Journal.{State as Journal, Stands, failures_of_both, record_size}
-use Rattle.gs_journal.specs.Records.{Entry}
+use Rattle.gs_journal.specs.Journal.{State as Journal, Stands, counting, failures_of_both, record_size}
+use Rattle.gs_journal.specs.Records.{Entry, Text, generation_of, standing}
 use Rattle.gs_record.specs.Plain.{plain}
 use Rattle.gs_state.specs.Durable.{Durable}
 use Rattle.gs_state.specs.Outcomes.{cut, cut_refusal, unsure}
@@ -10,6 +10,18 @@ use Rattle.gs_state.specs.Plans.{fault_of, log_of}
 use Rattle.gs_state.specs.State.{Log, State}
 use Rattle.gs_master.specs.Turns.{state_at}
 use Rattle.gs_master.specs.declared.event.Event.{Event}
+
+-- ---- what is seen of a journal
+
+-- what its disks say
+abbrev pub text_seen : {D : Type 0} → (D → List ℕ) → Journal D → Text
+text_seen seen j = standing (seen j.first) (seen j.second)
+
+-- a journal is as its disks are seen
+pub record IsAsSeen {D : Type 0} (seen : D → List ℕ) (j : Journal D) : Type 0 where
+  pub text : text_seen seen j ≡ j.text
+  pub size : length (counting (seen j.first) (seen j.second)) ≡ j.size
+  pub generation : generation_of (counting (seen j.first) (seen j.second)) ≡ j.generation
 
 -- ---- several records at a journal
 
@@ -28,11 +40,16 @@ pub record Gains {D : Type 0} (seen : D → List ℕ) (may_leave : D → List �
   pub quiet : failures_of_both failures new ≡ failures_of_both failures old
   pub stands : Stands seen may_leave old → Stands seen may_leave new
 
--- a disk failed at the one at a place: those before it stand, and it stands or doesn't
-pub record Breaks {D : Type 0} (failures : D → ℕ) (old : Journal D) (records : List Entry) (place : ℕ) (new : Journal D) : Type 0 where
+-- of these records those before a place stand behind a text, and that one stands or doesn't
+abbrev pub StandUpTo : List Entry → ℕ → Text → Text → Type 0
+StandUpTo records place old new = (new ≡ (old.0, old.1 ++ take place records)) ⊎ (new ≡ (old.0, old.1 ++ take (place + 1) records))
+
+-- a disk failed at the one at a place, and so the journal is left and its disks are seen
+pub record Breaks {D : Type 0} (seen : D → List ℕ) (failures : D → ℕ) (old : Journal D) (records : List Entry) (place : ℕ) (new : Journal D) : Type 0 where
   pub cause : failures_of_both failures old < failures_of_both failures new
   pub closed : new.is_failed ≡ true
-  pub text : (new.text ≡ (old.text.0, old.text.1 ++ take place records)) ⊎ (new.text ≡ (old.text.0, old.text.1 ++ take (place + 1) records))
+  pub text : StandUpTo records place old.text new.text
+  pub shown : StandUpTo records place old.text (text_seen seen new)
 
 -- the master knows the journal's room
 pub record IsLogOf {D : Type 0} (log : Log) (j : Journal D) : Type 0 where
@@ -74,6 +91,6 @@ abbrev pub AreWritten : {D : Type 0} → (D → List ℕ) → (D → List ℕ �
 AreWritten seen may_leave failures first old old_journal new new_journal =
     IsWhole old new × (IsLogOf first old_journal → Gains seen may_leave failures old_journal old.written.items new_journal × IsLogOf (log_of new.log) new_journal)
 
-abbrev pub AreCut : {D : Type 0} → (D → ℕ) → Durable → Log → Option ReqId → ℕ → Event → Journal D → Event → Journal D → Type 0
-AreCut failures before first caller place old old_journal new new_journal =
-    IsCutAt before first caller place old new × (IsLogOf first old_journal → Breaks failures old_journal old.written.items place new_journal)
+abbrev pub AreCut : {D : Type 0} → (D → List ℕ) → (D → ℕ) → Durable → Log → Option ReqId → ℕ → Event → Journal D → Event → Journal D → Type 0
+AreCut seen failures before first caller place old old_journal new new_journal =
+    IsCutAt before first caller place old new × (IsLogOf first old_journal → Breaks seen failures old_journal old.written.items place new_journal)

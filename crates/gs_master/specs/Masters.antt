@@ -1,11 +1,11 @@
 -- The master with its journal, and what it answers.
-use Rattle.std.specs.Prelude.{◌≡◌, ◌⊎◌, ◌<◌, ◌+◌, ◌++◌, ◌∷◌, ℕ, true, false, List, [], map, take, Option, Some, None, Result, Ok, Err, slice_get}
+use Rattle.std.specs.Prelude.{◌≡◌, ◌⊎◌, ◌<◌, ◌+◌, ◌++◌, ◌∷◌, ℕ, true, false, List, [], map, take, Option, Some, None, Result, Ok, Err}
 use Rattle.std.specs.List.{AllByRecursion}
 use Rattle.gs_base.specs.declared.config.Config.{Config}
 use Rattle.gs_base.specs.declared.numbers.ReqId.{ReqId}
 use Rattle.gs_base.specs.declared.refusal.Refusal.{Refusal}
 use Rattle.gs_base.specs.declared.refusal.Refusal.TheVariants as refusals
-use Rattle.gs_journal.specs.Journal.{State as Journal, Stands, checkpointed, failures_of_both}
+use Rattle.gs_journal.specs.Journal.{State as Journal, Stands, failures_of_both}
 use Rattle.gs_journal.specs.Records.{Entry as Record, Text}
 use Rattle.gs_journal.specs.declared.version.Version.TheVariants.{Two}
 use Rattle.gs_msg.specs.declared.message.Message.{Message}
@@ -15,9 +15,9 @@ use Rattle.gs_record.specs.Writable.{IsEntry}
 use Rattle.gs_state.specs.Applied.{applied, replayed}
 use Rattle.gs_state.specs.Durable.{Durable, start}
 use Rattle.gs_state.specs.Handling.{checkpoint_body, tidied}
-use Rattle.gs_master.specs.Journaled.{IsLogOf}
+use Rattle.gs_master.specs.Journaled.{IsAsSeen, IsLogOf, text_seen}
 use Rattle.gs_state.specs.Outcomes.{IsCut, IsDone}
-use Rattle.gs_state.specs.State.{Fault, Sound, Failed, Unopened, Log, State, Turn, fits}
+use Rattle.gs_state.specs.State.{Fault, Sound, Failed, Unopened, Log, State, Turn, fits, is_failed}
 use Rattle.gs_state.specs.Whole.{checkpoint_of}
 use Rattle.gs_master.specs.declared.turn.Turn.{Turn as Told}
 
@@ -61,30 +61,32 @@ IsHeld seen may_leave s j = Holds seen may_leave s.durable s.log j s.fault
 
 -- ---- what an event answers
 
--- The turn is done, and no disk has failed. Each of its records fits what it meets, and stands behind the others in the journal. Without
--- a record the journal isn't touched.
-pub record IsAnswered {D : Type 0} (failures : D → ℕ) (t : Turn) (old : MasterOf D) (told : Told) (new : MasterOf D) : Type 0 where
+-- The turn is done, and no disk has failed in it. Each of its records fits what it meets, and stands behind the others in the journal. Without
+-- a record the journal isn't touched. It is as its disks are seen, and the master knows its room, if no disk failed before.
+pub record IsAnswered {D : Type 0} (seen : D → List ℕ) (failures : D → ℕ) (t : Turn) (old : MasterOf D) (told : Told) (new : MasterOf D) : Type 0 where
   pub done : IsDone t told.sent.items told.said new.state
   pub fit : replayed old.state.durable t.records ≡ Some new.state.durable
   pub are_entries : AllByRecursion (IsEntry Two) t.records
   pub text : new.journal.text ≡ (old.journal.text.0, old.journal.text.1 ++ map (encoded Two) t.records)
+  pub fault : new.state.fault ≡ old.state.fault
+  pub as_seen : is_failed new.state.fault ≡ false → IsAsSeen seen new.journal
+  pub known : is_failed new.state.fault ≡ false → IsLogOf new.state.log new.journal
   pub quiet : failures_of_both failures new.journal ≡ failures_of_both failures old.journal
   pub still : t.records ≡ [] → new.journal ≡ old.journal
   pub config : new.config ≡ old.config
 
--- What a failure at the record at a place leaves of a text: the records before it stand behind the others, and it stands or doesn't; a
--- checkpoint that stands takes the place of all.
+-- what a failure at the record at a place leaves of a text: the records before it stand behind the others, and it stands or doesn't
 abbrev pub LeavesText : List PlainEntry → ℕ → Text → Text → Type 0
 LeavesText records place old new =
-    (new ≡ (old.0, old.1 ++ map (encoded Two) (take place records)))
-    ⊎ ((new ≡ (old.0, old.1 ++ map (encoded Two) (take (place + 1) records)))
-    ⊎ ((d : Durable) × (slice_get records place ≡ Some (Whole (checkpoint_of d))) × (new ≡ checkpointed (checkpoint_body d))))
+    (new ≡ (old.0, old.1 ++ map (encoded Two) (take place records))) ⊎ (new ≡ (old.0, old.1 ++ map (encoded Two) (take (place + 1) records)))
 
--- A disk failed at the record at a place, which stands or doesn't. Those before it fit what they meet.
-pub record IsAnsweredUnsure {D : Type 0} (failures : D → ℕ) (caller : Option ReqId) (t : Turn) (place : ℕ) (old : MasterOf D) (told : Told) (new : MasterOf D) : Type 0 where
+-- A disk failed at the record at a place. Those before it fit what they meet. So much is left of the text, and so much the disks are seen to
+-- say, which the next opening goes by. The journal is closed until then.
+pub record IsAnsweredUnsure {D : Type 0} (seen : D → List ℕ) (failures : D → ℕ) (Leaves : ℕ → Text → Text → Type 0) (caller : Option ReqId) (t : Turn) (place : ℕ) (old : MasterOf D) (told : Told) (new : MasterOf D) : Type 0 where
   pub cut : IsCut old.state caller t place told.sent.items told.said new.state
   pub fit : replayed old.state.durable (take place t.records) ≡ Some new.state.durable
-  pub left : LeavesText t.records place old.journal.text new.journal.text
+  pub left : Leaves place old.journal.text new.journal.text
+  pub shown : Leaves place old.journal.text (text_seen seen new.journal)
   pub cause : failures_of_both failures old.journal < failures_of_both failures new.journal
   pub closed : new.journal.is_failed ≡ true
   pub config : new.config ≡ old.config
@@ -98,6 +100,6 @@ WhyNot t s e =
     ⊎ ((e ≡ refusals.BadLine) × ((replayed s.durable t.records ≡ None) ⊎ ¬ AllByRecursion (IsEntry Two) t.records)))
 
 -- The turn is done, or cut where a disk failed; or it is refused, and nothing has happened.
-abbrev pub Answers : {D : Type 0} → (D → ℕ) → Option ReqId → Turn → MasterOf D → Result Told Refusal → MasterOf D → Type 0
-Answers failures caller t old (Ok told) new = IsAnswered failures t old told new ⊎ ((place : ℕ) × IsAnsweredUnsure failures caller t place old told new)
-Answers failures caller t old (Err refusal) new = WhyNot t old.state refusal × (new ≡ old)
+abbrev pub Answers : {D : Type 0} → (D → List ℕ) → (D → ℕ) → Option ReqId → Turn → MasterOf D → Result Told Refusal → MasterOf D → Type 0
+Answers seen failures caller t old (Ok told) new = IsAnswered seen failures t old told new ⊎ ((place : ℕ) × IsAnsweredUnsure seen failures (LeavesText t.records) caller t place old told new)
+Answers seen failures caller t old (Err refusal) new = WhyNot t old.state refusal × (new ≡ old)

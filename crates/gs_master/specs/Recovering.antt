@@ -87,14 +87,14 @@ pub record IsAnew {D : Type 0} (seen : D → List ℕ) (may_leave : D → List �
   pub log : IsLogOf (log_of new.log) new_journal
 
 -- memory is wanting, or something stands against it, and nothing is written; or a disk failed at it
-abbrev pub WhyNotAnew : {D : Type 0} → (D → ℕ) → Event → Journal D → Refusal → Journal D → Type 0
-WhyNotAnew failures old old_journal e new_journal =
+abbrev pub WhyNotAnew : {D : Type 0} → (D → List ℕ) → (D → ℕ) → Event → Journal D → Refusal → Journal D → Type 0
+WhyNotAnew seen failures old old_journal e new_journal =
     ((new_journal ≡ old_journal) × ((e ≡ refusals.Memory) ⊎ (renewal_refusal (state_at old) ≡ Some e)))
-    ⊎ ((e ≡ refusals.Device) × BreaksLast failures old_journal [] (checkpoint_body (durable_of old.recorded)) new_journal)
+    ⊎ ((e ≡ refusals.Device) × BreaksLast seen failures old_journal [] (checkpoint_body (durable_of old.recorded)) new_journal)
 
 abbrev pub WritesAnew : {D : Type 0} → (D → List ℕ) → (D → List ℕ → Type 0) → (D → ℕ) → Event → Journal D → Result (Unit {0}) Refusal → Event → Journal D → Type 0
 WritesAnew seen may_leave failures old old_journal (Ok _) new new_journal = IsAnew seen may_leave failures old old_journal new new_journal
-WritesAnew seen may_leave failures old old_journal (Err e) new new_journal = WhyNotAnew failures old old_journal e new_journal
+WritesAnew seen may_leave failures old old_journal (Err e) new new_journal = WhyNotAnew seen failures old old_journal e new_journal
 
 -- nothing is written to one of version 2
 abbrev pub Updates : {D : Type 0} → (D → List ℕ) → (D → List ℕ → Type 0) → (D → ℕ) → Version → Event → Journal D → Result (Unit {0}) Refusal → Event → Journal D → Type 0

@@ -1,11 +1,11 @@
 -- What two disks are opened as.
-use Rattle.std.specs.Prelude.{◌≡◌, ◌⊎◌, ◌+◌, ◌<◌, ℕ, true, false, List, length, Ok, Result, Err}
+use Rattle.std.specs.Prelude.{◌≡◌, ◌⊎◌, ◌+◌, ◌<◌, ℕ, true, false, List, Ok, Result, Err}
 use Rattle.gs_base.specs.declared.config.Config.{Config}
 use Rattle.gs_base.specs.declared.refusal.Refusal.{Refusal}
 use Rattle.gs_base.specs.declared.refusal.Refusal.TheVariants as refusals
 use Rattle.gs_journal.specs.Forms.{is_text}
-use Rattle.gs_journal.specs.Records.{Text, generation_of, standing}
-use Rattle.gs_journal.specs.Journal.{State as Journal, checkpointed, counting, failures_of_both}
+use Rattle.gs_journal.specs.Records.{Text, standing}
+use Rattle.gs_journal.specs.Journal.{checkpointed, failures_of_both}
 use Rattle.gs_journal.specs.declared.journal.Unopened.{Unopened}
 use Rattle.gs_journal.specs.declared.version.Version.{Version}
 use Rattle.gs_journal.specs.declared.version.Version.TheVariants as versions
@@ -13,7 +13,7 @@ use Rattle.gs_msg.specs.declared.message.Message.{Message}
 use Rattle.gs_record.specs.Plain.{PlainEntry}
 use Rattle.gs_state.specs.Durable.{Durable}
 use Rattle.gs_state.specs.Handling.{checkpoint_body, recover}
-use Rattle.gs_master.specs.Journaled.{IsLogOf}
+use Rattle.gs_master.specs.Journaled.{IsAsSeen, IsLogOf}
 use Rattle.gs_master.specs.Masters.{MasterOf}
 use Rattle.gs_master.specs.Recovering.{Tells, WhyNotTold}
 use Rattle.gs_state.specs.State.{Log, Turn}
@@ -22,12 +22,6 @@ use Rattle.gs_state.specs.State.{Log, Turn}
 abbrev pub left_in : Version → Text → Durable → Text
 left_in versions.One text d = checkpointed (checkpoint_body d)
 left_in versions.Two text d = text
-
--- a journal is as its disks are seen
-pub record IsAsSeen {D : Type 0} (seen : D → List ℕ) (j : Journal D) : Type 0 where
-  pub text : standing (seen j.first) (seen j.second) ≡ j.text
-  pub size : length (counting (seen j.first) (seen j.second)) ≡ j.size
-  pub generation : generation_of (counting (seen j.first) (seen j.second)) ≡ j.generation
 
 -- The master is what the records tell, and sends what they say. Its journal is as its disks are seen, and the master knows its room: as many
 -- bytes as it was told may be written to a disk. No disk has failed.

@@ -32,7 +32,7 @@ impl Event {
         ensures memory { IfErr result (λ _. (self.new ≡ self.old) × (journal.new ≡ journal.old)) }
         ensures ended { (before : Durable) → HasComeFrom before (log_of first) self.old → OnOk result
             (AreWritten D.seen D.may_leave D.failures (log_of first) self.old journal.old self.new journal.new
-            ⊎ ((place : ℕ) × AreCut D.failures before (log_of first) caller place self.old journal.old self.new journal.new)) }
+            ⊎ ((place : ℕ) × AreCut D.seen D.failures before (log_of first) caller place self.old journal.old self.new journal.new)) }
         ensures gives { (begun : Told_event) (t : Turn) → IsBegun begun → begun.sent.items ≡ [] → log_of first ≡ log_of begun.log → IsTurned t begun self.old
             → GoesBack begun self.old → OnOk result (Gives (state_at begun) caller t (Ok (self.new.sent.items, self.new.said)) (state_at self.new)) }
         ensures counted { self.old.log.records ≤ self.old.log.size → OnOk result (self.new.log.records ≤ self.new.log.size) }

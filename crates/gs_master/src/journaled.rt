@@ -23,7 +23,7 @@ use std::alloc::{AllocError, Global};
 pub(crate) fn append_all<D: Disk>(journal: &mut Journal<D>, records: &[Record]) -> usize
     ensures many { result ≤ length records.now }
     ensures all { IsReadyFor journal.old records.now → result ≡ length records.now → Gains D.seen D.may_leave D.failures journal.old records.now journal.new }
-    ensures cut { IsReadyFor journal.old records.now → result < length records.now → Breaks D.failures journal.old records.now result journal.new }
+    ensures cut { IsReadyFor journal.old records.now → result < length records.now → Breaks D.seen D.failures journal.old records.now result journal.new }
     ensures none { records.now ≡ [] → journal.new ≡ journal.old }
 {
     for place in 0..records.len() {
@@ -135,7 +135,7 @@ impl Event {
         ensures memory { IfErr result (λ _. (self.new ≡ self.old) × (journal.new ≡ journal.old)) }
         ensures ended { (before : Durable) → HasComeFrom before (log_of first) self.old → OnOk result
             (AreWritten D.seen D.may_leave D.failures (log_of first) self.old journal.old self.new journal.new
-            ⊎ ((place : ℕ) × AreCut D.failures before (log_of first) caller place self.old journal.old self.new journal.new)) }
+            ⊎ ((place : ℕ) × AreCut D.seen D.failures before (log_of first) caller place self.old journal.old self.new journal.new)) }
         ensures counted { self.old.log.records ≤ self.old.log.size → OnOk result (self.new.log.records ≤ self.new.log.size) }
         ensures still { self.old.written.items ≡ [] → journal.new ≡ journal.old }
     {

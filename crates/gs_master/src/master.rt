@@ -60,7 +60,7 @@ impl<D: Disk> Master<D> {
     /// A refusal changes nothing: `Memory` where memory is wanting, `Full` where the journal has no room for all that is to be
     /// recorded, `BadLine` where something of it can't be.
     pub fn handle(&mut self, message: Message, moment: Moment) -> Result<Turn, Refusal>
-        ensures { Answers D.failures (caller_of message.body) (handle self.old.config self.old.state message moment) self.old result self.new }
+        ensures { Answers D.seen D.failures (caller_of message.body) (handle self.old.config self.old.state message moment) self.old result self.new }
     {
         let caller = caller_of(&message.body);
         let beginning = self.event.beginning();

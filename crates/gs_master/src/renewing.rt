@@ -67,7 +67,7 @@ impl Event {
         requires generation { IsBehind journal.old renewal }
         ensures ended { (before : Durable) → HasComeFrom before (log_of first) self.old →
             (AreRenewed D.seen D.may_leave D.failures (log_of first) self.old journal.old self.new journal.new
-            ⊎ ((place : ℕ) × AreCutAnew D.failures before (log_of first) place self.old journal.old self.new journal.new)) }
+            ⊎ ((place : ℕ) × AreCutAnew D.seen D.failures before (log_of first) place self.old journal.old self.new journal.new)) }
         ensures counted { self.old.log.records ≤ self.old.log.size → self.new.log.records ≤ self.new.log.size }
     {
         let many = append_all(journal, &self.written);

@@ -14,7 +14,7 @@ impl<D: Disk> Master<D> {
     ///
     /// A refusal changes nothing, as in `handle`.
     pub fn tick(&mut self, moment: Moment) -> Result<Turn, Refusal>
-        ensures { AnswersTick D.failures moment self.old result self.new }
+        ensures { AnswersTick D.seen D.failures moment self.old result self.new }
     {
         if self.event.fault.is_failed() {
             return Ok(Turn::refused(self.event.alloc, Refusal::Device));
@@ -45,7 +45,7 @@ impl<D: Disk> Master<D> {
     ///
     /// `Memory` changes nothing.
     pub fn checkpoint(&mut self) -> Result<Turn, Refusal>
-        ensures { AnswersCheckpoint D.failures self.old result self.new }
+        ensures { AnswersCheckpoint D.seen D.failures self.old result self.new }
     {
         let beginning = self.event.beginning();
         match self.event.standing().renewal(&self.journal) {

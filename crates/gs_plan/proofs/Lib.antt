@@ -1,5 +1,6 @@
 mod Counting
 pub mod Granting
+pub mod Renewals
 pub mod Restored
 pub mod Targets
 pub mod Waits

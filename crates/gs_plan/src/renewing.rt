@@ -3,7 +3,7 @@ ghost use Rattle.std.specs.Prelude.{◌≡◌, ◌<◌, None, IfOk};
 ghost use Rattle.gs_journal.specs.Journal.{last_generation};
 ghost use Rattle.gs_state.specs.Handling.{checkpoint_tests, due, without_place};
 ghost use Rattle.gs_plan.specs.Planning.{state_of};
-ghost use Rattle.gs_plan.specs.Renewable.{MakesRenewal};
+ghost use Rattle.gs_plan.specs.Renewable.{MakesRenewal, refusal_beforehand};
 ghost use Rattle.gs_state.specs.State.{first_of, is_failed};
 ghost use Rattle.gs_state.specs.Handling.{unlisted};
 ghost use Rattle.gs_state.specs.Surveying.{awaiting};
@@ -39,10 +39,10 @@ impl<'a> Standing<'a> {
         MANY_RECORDS <= self.log.records && !self.memory.is_preparing()
     }
 
-    /// Why no checkpoint of this body is written.
-    fn checkpoint_refusal(&self, body: &[u8]) -> Option<Refusal>
+    /// Why no checkpoint is written, as far as that is known before one is made.
+    fn refusal_beforehand(&self) -> Option<Refusal>
         ensures left { result ≡ None → self.entry.now.log.generation < last_generation }
-        ensures first { result ≡ first_of (checkpoint_tests (is_failed (state_of self.entry.now).fault) (state_of self.entry.now).volatile.is_preparing (state_of self.entry.now).log body.now) }
+        ensures first { result ≡ refusal_beforehand (state_of self.entry.now) }
     {
         if self.fault.is_failed() {
             return Some(Refusal::Device);
@@ -52,6 +52,17 @@ impl<'a> Standing<'a> {
         }
         if self.log.generation == u64::MAX {
             return Some(Refusal::Exhausted);
+        }
+        None
+    }
+
+    /// Why no checkpoint of this body is written.
+    fn checkpoint_refusal(&self, body: &[u8]) -> Option<Refusal>
+        ensures left { result ≡ None → self.entry.now.log.generation < last_generation }
+        ensures first { result ≡ first_of (checkpoint_tests (is_failed (state_of self.entry.now).fault) (state_of self.entry.now).volatile.is_preparing (state_of self.entry.now).log body.now) }
+    {
+        if let Some(refusal) = self.refusal_beforehand() {
+            return Some(refusal);
         }
         if self.log.limit < body.len() as u64 + AROUND {
             return Some(Refusal::Full);
@@ -70,11 +81,15 @@ impl<'a> Standing<'a> {
         Ok((unlisted, placed, self.awaiting()?))
     }
 
-    /// All that a checkpoint of what stands takes. A refusal but for `Memory` says why none is written. `Memory` too where one
-    /// can't be written down, which is never so of what its records have come to.
+    /// All that a checkpoint of what stands takes, or why none is written: `Device`, then `Preparing`, then `Exhausted`, whatever memory
+    /// there is, and then `Full`. `Memory` may hide `Full` alone, for the room that a checkpoint takes is known once it is made. `Memory` too
+    /// where one can't be written down, which is never so of what its records have come to.
     pub fn renewal<D: Disk>(&self, journal: &Journal<D>) -> Result<Renewal, Refusal>
         ensures { MakesRenewal (state_of self.entry.now) journal.now result }
     {
+        if let Some(known) = self.refusal_beforehand() {
+            return Err(known);
+        }
         let alloc = self.recorded.alloc;
         let entry = Entry::Checkpoint(self.recorded.checkpoint()?);
         let encoded = match entry.encode(alloc) {

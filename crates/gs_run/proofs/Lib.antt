@@ -1,3 +1,4 @@
+pub mod Lasting
 pub mod Ongoing
 pub mod Posting
 pub mod Reaching

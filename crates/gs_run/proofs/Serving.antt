@@ -120,19 +120,19 @@ at_client client none does old result new at = known (client_in old.clients clie
 
 -- ---- an event
 
-heard : {D : Type 0} (failures : D → ℕ) (message : Message) (moment : Moment) (to : NodeId) (old : Nodes D) (turn : Result Turn Refusal) (new : Nodes D) (sent : Sent)
-    → message.to ≡ to → IsSent message sent → HearsAt failures message moment to old turn new → (id : ℕ) → Moves id sent old.servers new.servers
-heard failures message moment nodes.Master old turn new sent is was (place, same, hears) id = as_it_was id sent old.servers new.servers (ap (λ (n : Nodes _). n.servers) same)
-heard failures message moment (nodes.Server a) old turn new sent is was at id =
+heard : {D : Type 0} (seen : D → List ℕ) (failures : D → ℕ) (message : Message) (moment : Moment) (to : NodeId) (old : Nodes D) (turn : Result Turn Refusal) (new : Nodes D) (sent : Sent)
+    → message.to ≡ to → IsSent message sent → HearsAt seen failures message moment to old turn new → (id : ℕ) → Moves id sent old.servers new.servers
+heard seen failures message moment nodes.Master old turn new sent is was (place, same, hears) id = as_it_was id sent old.servers new.servers (ap (λ (n : Nodes _). n.servers) same)
+heard seen failures message moment (nodes.Server a) old turn new sent is was at id =
     one a (λ s. ServerDoes (servers.handle s message moment) s) old turn new sent
     (λ s after done. by_step a sent s after (servers.handle s message moment) turn (Hears message moment) (is, was) refl done) at id
-heard failures message moment (nodes.Client client) old turn new sent is was (said, at, says) id =
+heard seen failures message moment (nodes.Client client) old turn new sent is was (said, at, says) id =
     as_it_was id sent old.servers new.servers (at_client client None (ClientHears message.body) old said new at)
 
-delivered : {D : Type 0} (failures : D → ℕ) (message : Message) (moment : Moment) (old : Nodes D) (turn : Result Turn Refusal) (new : Nodes D) (sent : Sent)
-    → IsSent message sent → Delivers failures message moment old turn new → (id : ℕ) → Moves id sent old.servers new.servers
+delivered : {D : Type 0} (seen : D → List ℕ) (failures : D → ℕ) (message : Message) (moment : Moment) (old : Nodes D) (turn : Result Turn Refusal) (new : Nodes D) (sent : Sent)
+    → IsSent message sent → Delivers seen failures message moment old turn new → (id : ℕ) → Moves id sent old.servers new.servers
 unfolding Delivers
-delivered failures message moment old turn new sent was hears id = heard failures message moment message.to old turn new sent refl was hears id
+delivered seen failures message moment old turn new sent was hears id = heard seen failures message moment message.to old turn new sent refl was hears id
 
 module _ {D : Type 0} (seen : D → List ℕ) (failures : D → ℕ) (armed : DiskId → ℕ → MasterPlace D → MasterPlace D) where
   came : (o : Option Message) (msg : MsgId) (moment : Moment) (old : History D) (by : NodeId) (outcome : Outcome) (new : Nodes D) → message_of old.sent msg ≡ o
@@ -140,7 +140,7 @@ module _ {D : Type 0} (seen : D → List ℕ) (failures : D → ℕ) (armed : Di
       → (id : ℕ) → Moves id old.sent old.nodes.servers new.servers
   came None msg moment old by outcome new is (refused, same) id = as_it_was id old.sent old.nodes.servers new.servers (ap (λ (n : Nodes D). n.servers) same)
   came (Some message) msg moment old by outcome new is comes id = elim comes [
-    | inl (to, turn, delivers, told) ↦ delivered failures message moment old.nodes turn new old.sent (msg, is) delivers id
+    | inl (to, turn, delivers, told) ↦ delivered seen failures message moment old.nodes turn new old.sent (msg, is) delivers id
     | inr (refused, same) ↦ as_it_was id old.sent old.nodes.servers new.servers (ap (λ (n : Nodes D). n.servers) same)
   ]
 

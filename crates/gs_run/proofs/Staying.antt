@@ -64,23 +64,23 @@ at_master place old new is = subst (λ n. SameNodes old n) (sym is) (record { co
 
 -- ---- a message that comes
 
-heard : {D : Type 0} (failures : D → ℕ) (message : Message) (moment : Moment) (to : NodeId) (old : Nodes D) (turn : Result Turn Refusal) (new : Nodes D)
-    → Hears failures message moment to old turn new → SameNodes old new
-heard failures message moment nodes.Master old turn new (place, is, hears) = at_master place old new is
-heard failures message moment (nodes.Server id) old turn new at = at_server id (λ s. ServerDoes (servers.handle s message moment) s) old turn new at
-heard failures message moment (nodes.Client id) old turn new (said, at, says) = at_client id None (ClientHears message.body) old said new at
+heard : {D : Type 0} (seen : D → List ℕ) (failures : D → ℕ) (message : Message) (moment : Moment) (to : NodeId) (old : Nodes D) (turn : Result Turn Refusal) (new : Nodes D)
+    → Hears seen failures message moment to old turn new → SameNodes old new
+heard seen failures message moment nodes.Master old turn new (place, is, hears) = at_master place old new is
+heard seen failures message moment (nodes.Server id) old turn new at = at_server id (λ s. ServerDoes (servers.handle s message moment) s) old turn new at
+heard seen failures message moment (nodes.Client id) old turn new (said, at, says) = at_client id None (ClientHears message.body) old said new at
 
-delivered : {D : Type 0} (failures : D → ℕ) (message : Message) (moment : Moment) (old : Nodes D) (turn : Result Turn Refusal) (new : Nodes D)
-    → Delivers failures message moment old turn new → SameNodes old new
+delivered : {D : Type 0} (seen : D → List ℕ) (failures : D → ℕ) (message : Message) (moment : Moment) (old : Nodes D) (turn : Result Turn Refusal) (new : Nodes D)
+    → Delivers seen failures message moment old turn new → SameNodes old new
 unfolding Delivers
-delivered failures message moment old turn new hears = heard failures message moment message.to old turn new hears
+delivered seen failures message moment old turn new hears = heard seen failures message moment message.to old turn new hears
 
 module _ {D : Type 0} (seen : D → List ℕ) (failures : D → ℕ) (armed : DiskId → ℕ → MasterPlace D → MasterPlace D) where
   came : (found : Option Message) (moment : Moment) (old : Nodes D) (by : NodeId) (outcome : Outcome) (new : Nodes D)
       → MatchOption found ((outcome ≡ Err refusals.Range) × (new ≡ old)) (λ message. ComesTo seen failures armed message moment old by outcome new) → SameNodes old new
   came None moment old by outcome new (refused, is) = same old new is
   came (Some message) moment old by outcome new comes = elim comes [
-    | inl (is, turn, delivers, told) ↦ delivered failures message moment old turn new delivers
+    | inl (is, turn, delivers, told) ↦ delivered seen failures message moment old turn new delivers
     | inr (refused, is) ↦ same old new is
   ]
 

@@ -112,7 +112,7 @@ module _ {D : Type 0} (seen : D → List ℕ) (failures : D → ℕ) (armed : Di
   -- a message comes to its receiver; or memory is wanting for its copy, and nothing happens
   abbrev pub ComesTo : Message → Moment → Nodes D → NodeId → Outcome → Nodes D → Type 0
   ComesTo message moment old by outcome new =
-      ((by ≡ message.to) × (turn : Result Turn Refusal) × Delivers failures message moment old turn new × (outcome ≡ told turn))
+      ((by ≡ message.to) × (turn : Result Turn Refusal) × Delivers seen failures message moment old turn new × (outcome ≡ told turn))
       ⊎ ((outcome ≡ Err refusals.Memory) × (new ≡ old))
 
   -- a message of which there is none comes to nobody
@@ -121,7 +121,7 @@ module _ {D : Type 0} (seen : D → List ℕ) (failures : D → ℕ) (armed : Di
       MatchOption (message_of old.sent id) ((outcome ≡ Err refusals.Range) × (new ≡ old.nodes)) (λ message. ComesTo message moment old.nodes by outcome new)
 
   abbrev pub Ticks : Moment → StoreNode → Nodes D → Outcome → Nodes D → Type 0
-  Ticks moment keepers.Master old outcome new = AtMaster (MasterTicks failures moment) old outcome new
+  Ticks moment keepers.Master old outcome new = AtMaster (MasterTicks seen failures moment) old outcome new
   Ticks moment (keepers.Server id) old outcome new = AtOne id (λ s. servers.tick s moment) old outcome new
 
   abbrev pub Restarts : StoreNode → Nodes D → Outcome → Nodes D → Type 0

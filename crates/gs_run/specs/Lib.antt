@@ -1,3 +1,4 @@
 pub mod Histories
+pub mod Lasting
 pub mod Runs
 pub mod Sent

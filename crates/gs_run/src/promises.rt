@@ -1,15 +1,22 @@
 //! What holds of every run of a store.
 
-ghost use Rattle.std.specs.Prelude.{◌≡◌, ℕ, List, Result, Some, slice_get};
+ghost use Rattle.std.specs.Prelude.{◌≡◌, ℕ, List, Ok, Result, Some, slice_get};
 ghost use Rattle.gs_base.specs.declared.refusal.Refusal.{Refusal};
 ghost use Rattle.gs_msg.specs.declared.event.Event.{Event};
 ghost use Rattle.gs_base.specs.declared.config.Config.{Config};
 ghost use Rattle.gs_msg.specs.declared.event.DiskId.{DiskId};
-ghost use Rattle.gs_run.specs.Histories.{History};
+ghost use Rattle.gs_journal.specs.Faults.{Faulty};
+ghost use Rattle.gs_journal.specs.Records.{fresh, standing};
+ghost use Rattle.gs_master.specs.Masters.{MasterOf};
+ghost use Rattle.gs_master.specs.declared.turn.Turn.{Turn};
+ghost use Rattle.gs_run.specs.Histories.{Begins, History, arms, failures_of, seen_of};
+ghost use Rattle.gs_run.specs.Lasting.{Lasts, OpensAgain, RunsSoundly, StandsFirm};
 ghost use Rattle.gs_run.specs.Runs.{GoesOn, HappensAll, IsReached, RunsTo, SameNodes, StaySent, Step, all_come};
 ghost use Rattle.gs_server.specs.Runs as at_server;
 ghost use Rattle.gs_server.specs.Servers.{Server};
+ghost use Rattle.gs_world.specs.Happenings.{Reopens};
 ghost use Rattle.gs_world.specs.declared.place.MasterPlace.{MasterPlace};
+ghost use Rattle.gs_world.specs.declared.place.MasterPlace.TheVariants.{Standing};
 
 use gs_block::promises::configurations_have_sizes;
 
@@ -37,3 +44,17 @@ pub fn each_server_is_reached<D>()
 {
     configurations_have_sizes();
 }
+
+/// As long as no disk of the master fails, the master stands firm, whatever happens, restarts and coming failures among it: its journal is as
+/// its disks are seen, and the records there can be read again and tell what is durable. Where memory was wanting for a restart its disks wait,
+/// and tell what stood. So it is of a new store, and behind each step from there. What the master hears names paths by the rules and numbers of
+/// 64 bits, as the types have it.
+pub fn a_master_stays_firm_while_no_disk_fails<D>()
+    ensures begun { (seen : D → List ℕ) (failures : D → ℕ) (armed : DiskId → ℕ → MasterPlace D → MasterPlace D) (config : Config) (clients : ℕ) (disks : D × D) (new : History D) → standing (seen disks.0) (seen disks.1) ≡ fresh → Begins seen failures armed config clients disks new → Lasts seen new.nodes.master }
+    ensures kept { (seen : D → List ℕ) (failures : D → ℕ) (steps : List Step) (old new : History (Faulty D)) → RunsSoundly (seen_of seen) (failures_of failures) arms steps old new → Lasts (seen_of seen) old.nodes.master → Lasts (seen_of seen) new.nodes.master }
+{}
+
+/// A restart of a master that stands firm opens what stood.
+pub fn a_restart_opens_what_stood<D>()
+    ensures { (seen : D → List ℕ) (failures : D → ℕ) (config : Config) (m : MasterOf D) (turn : Turn) (new : MasterPlace D) → StandsFirm seen m → Reopens seen failures config (Standing m) (Ok turn) new → OpensAgain seen m new }
+{}

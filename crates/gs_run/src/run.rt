@@ -74,7 +74,7 @@ impl<D: Disk + Drop> Run<D> {
     fn hand(&mut self, moment: Moment, message: Message) -> (NodeId, Result<Turn, Refusal>)
         ensures sent { self.new.sent ≡ self.old.sent }
         ensures to { result.0 ≡ message.to }
-        ensures comes { Delivers (failures_of D.failures) message moment (nodes_of self.old.world) result.1 (nodes_of self.new.world) }
+        ensures comes { Delivers (seen_of D.seen) (failures_of D.failures) message moment (nodes_of self.old.world) result.1 (nodes_of self.new.world) }
     {
         let to = receiver(&message);
         let done = self.world.deliver(message, moment);

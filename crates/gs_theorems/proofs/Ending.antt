@@ -85,17 +85,17 @@ module _ {D : Type 0} where
       → length sent.clients ≡ length old.clients → AtClient id (Err refusals.Range) does old (Ok out) new → HasList (nodes.Client id) sent
   asking_client sent id does old new out long at = found_client (client_in old.clients id) sent id does old new out long refl at
 
-  heard_posts : (failures : D → ℕ) (message : Message) (moment : Moment) (to : NodeId) (sent : Sent) (old : Nodes D) (turn : Result Turn Refusal) (new : Nodes D)
-      → length sent.servers ≡ length old.servers → Hears failures message moment to old turn new → CanPost sent to (told turn)
-  heard_posts failures message moment nodes.Master sent old turn new long hears = master_posts sent turn
-  heard_posts failures message moment (nodes.Server id) sent old turn new long at = server_posts sent id (λ s. ServerDoes (servers.handle s message moment) s) old turn new long at
-  heard_posts failures message moment (nodes.Client id) sent old (Ok turn) new long (said, at, says) = inr says.0
-  heard_posts failures message moment (nodes.Client id) sent old (Err refusal) new long (said, at, says) = tt
+  heard_posts : (seen : D → List ℕ) (failures : D → ℕ) (message : Message) (moment : Moment) (to : NodeId) (sent : Sent) (old : Nodes D) (turn : Result Turn Refusal) (new : Nodes D)
+      → length sent.servers ≡ length old.servers → Hears seen failures message moment to old turn new → CanPost sent to (told turn)
+  heard_posts seen failures message moment nodes.Master sent old turn new long hears = master_posts sent turn
+  heard_posts seen failures message moment (nodes.Server id) sent old turn new long at = server_posts sent id (λ s. ServerDoes (servers.handle s message moment) s) old turn new long at
+  heard_posts seen failures message moment (nodes.Client id) sent old (Ok turn) new long (said, at, says) = inr says.0
+  heard_posts seen failures message moment (nodes.Client id) sent old (Err refusal) new long (said, at, says) = tt
 
-  pub delivered_posts : (failures : D → ℕ) (message : Message) (moment : Moment) (sent : Sent) (old : Nodes D) (turn : Result Turn Refusal) (new : Nodes D)
-      → length sent.servers ≡ length old.servers → Delivers failures message moment old turn new → CanPost sent message.to (told turn)
+  pub delivered_posts : (seen : D → List ℕ) (failures : D → ℕ) (message : Message) (moment : Moment) (sent : Sent) (old : Nodes D) (turn : Result Turn Refusal) (new : Nodes D)
+      → length sent.servers ≡ length old.servers → Delivers seen failures message moment old turn new → CanPost sent message.to (told turn)
   unfolding Delivers
-  delivered_posts failures message moment sent old turn new long hears = heard_posts failures message moment message.to sent old turn new long hears
+  delivered_posts seen failures message moment sent old turn new long hears = heard_posts seen failures message moment message.to sent old turn new long hears
 
   -- a server that is found, whatever it does
   pub known_server : (sent : Sent) (id : ℕ) (old : Nodes D) (s : Server) → length sent.servers ≡ length old.servers → slice_get old.servers id ≡ Some s → HasList (nodes.Server id) sent

@@ -138,7 +138,7 @@ module _ {D : Type 0} (seen : D → List ℕ) (failures : D → ℕ) where
   -- ---- what is handed over, and what a server reports
 
   hands_over : (number : ℕ) (found : Option Message) (old : Way D) (result : Result (Unit {0}) Refusal) (new : Way D) → held_at number old.held ≡ found
-      → MatchOption found ((result ≡ Err refusals.Range) × (new ≡ old)) (λ message. HandsOver failures message old result new) → Leads seen failures old new
+      → MatchOption found ((result ≡ Err refusals.Range) × (new ≡ old)) (λ message. HandsOver seen failures message old result new) → Leads seen failures old new
   hands_over number None old result new is (refused, same) = nothing seen failures old new same
   hands_over number (Some message) old result new is over = elim over [
     | inl (refused, same) ↦ alike seen failures old new (alike_to old (shortened old) new (record { nodes = refl; queue = refl; held = refl }) same)
@@ -168,7 +168,7 @@ module _ {D : Type 0} (seen : D → List ℕ) (failures : D → ℕ) where
       (inl (known_server sent id old.nodes s covers.servers is)) covers (mid, (mid, sent_one, refl), as_it_is mid))
 
   beats_of : (id : ℕ) (found : Option Server) (old : Way D) (result : Result ℕ Refusal) (new : Way D) → slice_get old.nodes.servers id ≡ found
-      → MatchOption found ((result ≡ Err refusals.Range) × (new ≡ old)) (λ s. Beats failures (servers.beat s) old result new) → Leads seen failures old new
+      → MatchOption found ((result ≡ Err refusals.Range) × (new ≡ old)) (λ s. Beats seen failures (servers.beat s) old result new) → Leads seen failures old new
   beats_of id None old result new is (refused, same) = nothing seen failures old new same
   beats_of id (Some s) old result new is b = elim b [
     | inl (refused, same) ↦ alike seen failures old new (alike_to old (shortened old) new (record { nodes = refl; queue = refl; held = refl }) same)
@@ -179,7 +179,7 @@ module _ {D : Type 0} (seen : D → List ℕ) (failures : D → ℕ) where
 
   nodes_do : (request : Request) (old : Way D) (result : Result Answer Refusal) (new : Way D) → NodesDo seen failures request old result new → Leads seen failures old new
   nodes_do (lines.Beat id) old result new (drops, b, is) =
-      for_server (is_server id old) old new drops (BeatsOf failures id old drops new) (λ did. beats_of id (slice_get old.nodes.servers id) old drops new refl did) b
+      for_server (is_server id old) old new drops (BeatsOf seen failures id old drops new) (λ did. beats_of id (slice_get old.nodes.servers id) old drops new refl did) b
   nodes_do (lines.At moment) old result new (is, same) = alike seen failures old new (alike_to old (record old { moment = record { 0 = moment } }) new (record { nodes = refl; queue = refl; held = refl }) same)
   nodes_do (lines.Hold kind) old result new (is, same) = alike seen failures old new (alike_to old (record old { kind = kind }) new (record { nodes = refl; queue = refl; held = refl }) same)
   nodes_do (lines.Restart node) old result new (said, r, is) = restarts node old said new r
@@ -190,14 +190,14 @@ module _ {D : Type 0} (seen : D → List ℕ) (failures : D → ℕ) where
 
   -- ---- lines that ask something
 
-  asks : (asked : Req) (old : Client × Wire D) (reply : Reply) (new : Client × Wire D) → Asks (carried failures) old asked reply new → Leads seen failures (way_of old.1) (way_of new.1)
+  asks : (asked : Req) (old : Client × Wire D) (reply : Reply) (new : Client × Wire D) → Asks (carried seen failures) old asked reply new → Leads seen failures (way_of old.1) (way_of new.1)
   asks asked old reply new a = elim a [
     | inl (below, is, c) ↦ carries seen failures (next_request old.0) asked (way_of old.1) reply (way_of new.1) c
     | inr (last, is, same) ↦ nothing seen failures (way_of old.1) (way_of new.1) (ap (λ (s : Client × Wire D). way_of s.1) same)
   ]
 
   follows : {A : Type 0} (call : Call Req Reply A) (old : Client × Wire D) (result : Result A Refusal) (new : Client × Wire D)
-      → Follows (Asks (carried failures)) call old result new → Leads seen failures (way_of old.1) (way_of new.1)
+      → Follows (Asks (carried seen failures)) call old result new → Leads seen failures (way_of old.1) (way_of new.1)
   follows (Say said) old result new (is, same) = nothing seen failures (way_of old.1) (way_of new.1) (ap (λ (s : Client × Wire D). way_of s.1) same)
   follows (Ask asked more) old result new (reply, mid, carries_it, rest) =
       chain seen failures (way_of old.1) (way_of mid.1) (way_of new.1) (asks asked old reply mid carries_it) (follows (more reply) mid result new rest)
@@ -208,7 +208,7 @@ module _ {D : Type 0} (seen : D → List ℕ) (failures : D → ℕ) where
 
   comes_by : (o : Option (Call Req Reply Answer)) (request : Request) (old : Desk D) (result : Result Answer Refusal) (new : Desk D)
       → MatchOption o ((new.caller.client ≡ old.caller.client) × NodesDo seen failures request (way_of old.wire) result (way_of new.wire))
-      (λ call. Follows (Asks (carried failures)) call (old.caller.client, old.wire) result (new.caller.client, new.wire))
+      (λ call. Follows (Asks (carried seen failures)) call (old.caller.client, old.wire) result (new.caller.client, new.wire))
       → Leads seen failures (way_of old.wire) (way_of new.wire)
   comes_by None request old result new (is, did) = nodes_do request (way_of old.wire) result (way_of new.wire) did
   comes_by (Some call) request old result new f = follows call (old.caller.client, old.wire) result (new.caller.client, new.wire) f

@@ -60,14 +60,14 @@ module _ {D : Type 0} (seen : D → List ℕ) (failures : D → ℕ) where
   -- ---- deliveries
 
   -- a message that was sent comes
-  pub delivers_one : (message : Message) (old : Way D) (said : Result (Unit {0}) Refusal) (new : Way D) (sent : Sent) → IsDelivered failures message old said new → IsSent message sent → Covers sent old
+  pub delivers_one : (message : Message) (old : Way D) (said : Result (Unit {0}) Refusal) (new : Way D) (sent : Sent) → IsDelivered seen failures message old said new → IsSent message sent → Covers sent old
       → Steps seen failures old new sent
   delivers_one message old said new sent d (id, is) covers =
       event_leads seen failures (record { moment = old.moment; happening = happenings.Deliver id }) message.to (told d.turn) d.nodes old new sent
       (subst
       (λ (o : Option Message). MatchOption o ((told d.turn ≡ Err refusals.Range) × (d.nodes ≡ old.nodes)) (λ m. ComesTo seen failures unarmed m old.moment old.nodes message.to (told d.turn) d.nodes))
       (sym is) (inl (refl, d.turn, d.delivers, refl)))
-      (delivered_posts failures message old.moment sent old.nodes d.turn d.nodes covers.servers d.delivers) covers (ended d.turn (with_nodes d.nodes old) said new d.ends)
+      (delivered_posts seen failures message old.moment sent old.nodes d.turn d.nodes covers.servers d.delivers) covers (ended d.turn (with_nodes d.nodes old) said new d.ends)
 
   next_sent : (message : Message) (rest : List Message) (old : Way D) (sent : Sent) → old.queue ≡ message ∷ rest → Covers sent old → IsSent message sent × Covers sent (with_queue rest old)
   next_sent message rest old sent is covers =
@@ -75,8 +75,8 @@ module _ {D : Type 0} (seen : D → List ℕ) (failures : D → ℕ) where
       (all.0, record { queue = all.1; held = covers.held; servers = covers.servers; clients = covers.clients })
 
   delivers_next : (many : ℕ) (old new : Way D) (queue : List Message) → old.queue ≡ queue
-      → ((mid : Way D) → DeliversAll failures many mid new → Leads mid new)
-      → WithFirst queue (new ≡ old) (λ message rest. (said : Result (Unit {0}) Refusal) × (mid : Way D) × IsDelivered failures message (with_queue rest old) said mid × DeliversAll failures many mid new)
+      → ((mid : Way D) → DeliversAll seen failures many mid new → Leads mid new)
+      → WithFirst queue (new ≡ old) (λ message rest. (said : Result (Unit {0}) Refusal) × (mid : Way D) × IsDelivered seen failures message (with_queue rest old) said mid × DeliversAll seen failures many mid new)
       → Leads old new
   delivers_next many old new [] is rest same = nothing old new same
   delivers_next many old new (message ∷ queue) is rest (said, mid, d, others) = λ sent covers.
@@ -90,17 +90,17 @@ module _ {D : Type 0} (seen : D → List ℕ) (failures : D → ℕ) where
         covers = second.covers;
       }
 
-  delivers_all : (many : ℕ) (old new : Way D) → DeliversAll failures many old new → Leads old new
+  delivers_all : (many : ℕ) (old new : Way D) → DeliversAll seen failures many old new → Leads old new
   unfolding DeliversAll
   delivers_all zero old new same = nothing old new same
   delivers_all (suc many) old new d = delivers_next many old new old.queue refl (λ mid rest. delivers_all many mid new rest) d
 
-  pub delivers_whole : (old new : Way D) → DeliversWhole failures old new → Leads old new
+  pub delivers_whole : (old new : Way D) → DeliversWhole seen failures old new → Leads old new
   delivers_whole old new d = delivers_all last_count old new d
 
   -- ---- ticks
 
-  master_ticks : (old new : Way D) → MasterTicked failures old new → Leads old new
+  master_ticks : (old new : Way D) → MasterTicked seen failures old new → Leads old new
   master_ticks old new t sent covers =
       event_leads seen failures (record { moment = old.moment; happening = happenings.Tick keepers.Master }) nodes.Master (told t.turn) (with_master t.place old.nodes) old new sent
       (refl, (t.place, t.turn, t.ticks, refl, refl)) (master_posts sent t.turn) covers (ended t.turn (with_nodes (with_master t.place old.nodes) old) t.said new t.ends)
@@ -114,12 +114,12 @@ module _ {D : Type 0} (seen : D → List ℕ) (failures : D → ℕ) where
   servers_tick zero old new same = nothing old new same
   servers_tick (suc id) old new (mid, before, one) = chain old mid new (servers_tick id old mid before) (server_ticks id mid new one)
 
-  all_tick : (old new : Way D) → AllTick failures old new → Leads old new
+  all_tick : (old new : Way D) → AllTick seen failures old new → Leads old new
   all_tick old new (mid, first, others) = chain old mid new (master_ticks old mid first) (servers_tick (min (length old.nodes.servers) 16) mid new others)
 
   -- ---- a request
 
-  waited_if : (waits : Bool) (old new : Way D) → TicksIf failures waits old new → Leads old new
+  waited_if : (waits : Bool) (old new : Way D) → TicksIf seen failures waits old new → Leads old new
   waited_if false old new same = nothing old new same
   waited_if true old new (mid, ticks, delivers) = chain old mid new (all_tick old mid ticks) (delivers_whole mid new delivers)
 
@@ -138,7 +138,7 @@ module _ {D : Type 0} (seen : D → List ℕ) (failures : D → ℕ) where
   asked : (client : ClientId) (result : Result (Vec Message Global) Refusal) (old : Way D) (nodes : Nodes D) (reply : Reply) (new : Way D)
       → ((mid : Way D) (out : Vec Message Global) → result ≡ Ok out → SendsAll out.items (with_nodes nodes old) mid → Leads old mid)
       → ((refusal : Refusal) → result ≡ Err refusal → new ≡ shortened_by refusal (with_nodes nodes old) → Leads old new)
-      → Answers failures client result (with_nodes nodes old) reply new → Leads old new
+      → Answers seen failures client result (with_nodes nodes old) reply new → Leads old new
   asked client (Ok out) old nodes reply new sends refused a =
       chain old a.first new (sends a.first out refl a.sends)
       (chain a.first a.second new (delivers_whole a.first a.second a.delivers)
@@ -152,7 +152,7 @@ module _ {D : Type 0} (seen : D → List ℕ) (failures : D → ℕ) where
   abbrev asking : Moment → ReqId → Request → Event
   asking moment req request = record { moment = moment; happening = happenings.Ask req request }
 
-  pub carries : (req : ReqId) (request : Request) (old : Way D) (reply : Reply) (new : Way D) → Carries failures req request old reply new → Leads old new
+  pub carries : (req : ReqId) (request : Request) (old : Way D) (reply : Reply) (new : Way D) → Carries seen failures req request old reply new → Leads old new
   carries req request old reply new c =
       asked req.client c.asked old c.nodes reply new
       (λ mid out is all sent covers.

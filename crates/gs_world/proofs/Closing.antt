@@ -1,5 +1,5 @@
 -- A master whose disks aren't open.
-use Rattle.std.proofs.Common.{◌≡◌, ℕ, Some, Ok, refl}
+use Rattle.std.proofs.Common.{◌≡◌, ℕ, List, Some, Ok, refl}
 use Rattle.gs_base.specs.declared.numbers.Moment.{Moment}
 use Rattle.gs_base.specs.declared.refusal.Refusal.TheVariants as refusals
 use Rattle.gs_master.specs.Masters.{MasterOf}
@@ -11,8 +11,8 @@ use Rattle.gs_world.specs.declared.place.MasterPlace.{MasterPlace}
 use Rattle.gs_world.specs.declared.place.MasterPlace.TheVariants.{Standing, Closed, Away}
 
 -- a call is refused, and nothing changes
-pub hears_closed : {D : Type 0} (failures : D → ℕ) (message : Message) (moment : Moment) (place : MasterPlace D) (turn : Turn) → ((m : MasterOf D) → place ≡ Standing m → ⊥)
-    → turn.sent.items ≡ refusal_of_call (caller_of message.body) → turn.said ≡ Some refusals.Device → MasterHears failures message moment place (Ok turn) place
-hears_closed failures message moment (Standing m) turn stands sent said = absurd (stands m refl)
-hears_closed failures message moment (Closed first second) turn stands sent said = (refl, sent, said)
-hears_closed failures message moment Away turn stands sent said = (refl, sent, said)
+pub hears_closed : {D : Type 0} (seen : D → List ℕ) (failures : D → ℕ) (message : Message) (moment : Moment) (place : MasterPlace D) (turn : Turn) → ((m : MasterOf D) → place ≡ Standing m → ⊥)
+    → turn.sent.items ≡ refusal_of_call (caller_of message.body) → turn.said ≡ Some refusals.Device → MasterHears seen failures message moment place (Ok turn) place
+hears_closed seen failures message moment (Standing m) turn stands sent said = absurd (stands m refl)
+hears_closed seen failures message moment (Closed first second) turn stands sent said = (refl, sent, said)
+hears_closed seen failures message moment Away turn stands sent said = (refl, sent, said)

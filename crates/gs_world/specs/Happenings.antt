@@ -47,16 +47,16 @@ MeetsClosed sent old (Ok turn) new = (new ≡ old) × (turn.sent.items ≡ sent)
 MeetsClosed sent old (Err refusal) new = (new ≡ old) × (refusal ≡ refusals.Memory)
 
 -- the master handles a message, if it stands
-abbrev pub MasterHears : {D : Type 0} → (D → ℕ) → Message → Moment → MasterPlace D → Result Turn Refusal → MasterPlace D → Type 0
-MasterHears {D} failures message moment (Standing m) result new =
-    (after : MasterOf D) × (new ≡ Standing after) × Answers failures (caller_of message.body) (handle m.config m.state message moment) m result after
-MasterHears failures message moment (Closed first second) result new = MeetsClosed (refusal_of_call (caller_of message.body)) (Closed first second) result new
-MasterHears failures message moment Away result new = MeetsClosed (refusal_of_call (caller_of message.body)) Away result new
+abbrev pub MasterHears : {D : Type 0} → (D → List ℕ) → (D → ℕ) → Message → Moment → MasterPlace D → Result Turn Refusal → MasterPlace D → Type 0
+MasterHears {D} seen failures message moment (Standing m) result new =
+    (after : MasterOf D) × (new ≡ Standing after) × Answers seen failures (caller_of message.body) (handle m.config m.state message moment) m result after
+MasterHears seen failures message moment (Closed first second) result new = MeetsClosed (refusal_of_call (caller_of message.body)) (Closed first second) result new
+MasterHears seen failures message moment Away result new = MeetsClosed (refusal_of_call (caller_of message.body)) Away result new
 
-abbrev pub MasterTicks : {D : Type 0} → (D → ℕ) → Moment → MasterPlace D → Result Turn Refusal → MasterPlace D → Type 0
-MasterTicks {D} failures moment (Standing m) result new = (after : MasterOf D) × (new ≡ Standing after) × AnswersTick failures moment m result after
-MasterTicks failures moment (Closed first second) result new = MeetsClosed [] (Closed first second) result new
-MasterTicks failures moment Away result new = MeetsClosed [] Away result new
+abbrev pub MasterTicks : {D : Type 0} → (D → List ℕ) → (D → ℕ) → Moment → MasterPlace D → Result Turn Refusal → MasterPlace D → Type 0
+MasterTicks {D} seen failures moment (Standing m) result new = (after : MasterOf D) × (new ≡ Standing after) × AnswersTick seen failures moment m result after
+MasterTicks seen failures moment (Closed first second) result new = MeetsClosed [] (Closed first second) result new
+MasterTicks seen failures moment Away result new = MeetsClosed [] Away result new
 
 -- ---- a server
 
@@ -102,15 +102,15 @@ Says said (Err refusal) = ⊥
 
 -- ---- a message comes to its receiver
 
-abbrev pub Hears : {D : Type 0} → (D → ℕ) → Message → Moment → NodeId → Nodes D → Result Turn Refusal → Nodes D → Type 0
-Hears {D} failures message moment nodes.Master old result new =
-    (place : MasterPlace D) × (new ≡ with_master place old) × MasterHears failures message moment old.master result place
-Hears failures message moment (nodes.Server id) old result new = AtServer id (λ s. ServerDoes (servers.handle s message moment) s) old result new
-Hears failures message moment (nodes.Client id) old result new =
+abbrev pub Hears : {D : Type 0} → (D → List ℕ) → (D → ℕ) → Message → Moment → NodeId → Nodes D → Result Turn Refusal → Nodes D → Type 0
+Hears {D} seen failures message moment nodes.Master old result new =
+    (place : MasterPlace D) × (new ≡ with_master place old) × MasterHears seen failures message moment old.master result place
+Hears seen failures message moment (nodes.Server id) old result new = AtServer id (λ s. ServerDoes (servers.handle s message moment) s) old result new
+Hears seen failures message moment (nodes.Client id) old result new =
     (said : Option Refusal) × AtClient id None (ClientHears message.body) old said new × Says said result
 
-unfoldable pub Delivers : {D : Type 0} → (D → ℕ) → Message → Moment → Nodes D → Result Turn Refusal → Nodes D → Type 0
-Delivers failures message moment old result new = Hears failures message moment message.to old result new
+unfoldable pub Delivers : {D : Type 0} → (D → List ℕ) → (D → ℕ) → Message → Moment → Nodes D → Result Turn Refusal → Nodes D → Type 0
+Delivers seen failures message moment old result new = Hears seen failures message moment message.to old result new
 
 -- ---- a restart
 

@@ -31,7 +31,7 @@ impl<D: Disk + Drop> World<D> {
     ///
     /// A refusal changes nothing: `Memory` where memory is wanting; of the master `Full` and `BadLine` too.
     pub fn deliver(&mut self, message: Message, moment: Moment) -> Result<Turn, Refusal>
-        ensures { Delivers D.failures message moment (nodes_of self.old) result (nodes_of self.new) }
+        ensures { Delivers D.seen D.failures message moment (nodes_of self.old) result (nodes_of self.new) }
     {
         match receiver(&message) {
             NodeId::Master => self.master.hear(self.alloc, message, moment),

@@ -17,7 +17,7 @@ impl<D: Disk + Drop> World<D> {
     /// The master does what it does from time to time. A refusal changes nothing.
     pub fn tick_master(&mut self, moment: Moment) -> Result<Turn, Refusal>
         ensures others { nodes_of self.new ≡ with_master self.new.master (nodes_of self.old) }
-        ensures master { MasterTicks D.failures moment self.old.master result self.new.master }
+        ensures master { MasterTicks D.seen D.failures moment self.old.master result self.new.master }
     {
         self.master.tick(self.alloc, moment)
     }

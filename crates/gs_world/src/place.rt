@@ -42,7 +42,7 @@ impl<D: Disk> MasterPlace<D> {
         message: Message,
         moment: Moment,
     ) -> Result<Turn, Refusal>
-        ensures { MasterHears D.failures message moment self.old result self.new }
+        ensures { MasterHears D.seen D.failures message moment self.old result self.new }
     {
         match self {
             MasterPlace::Standing(master) => master.handle(message, moment),
@@ -58,7 +58,7 @@ impl<D: Disk> MasterPlace<D> {
 
     /// The master's clock ticks.
     pub(crate) fn tick(&mut self, alloc: Global, moment: Moment) -> Result<Turn, Refusal>
-        ensures { MasterTicks D.failures moment self.old result self.new }
+        ensures { MasterTicks D.seen D.failures moment self.old result self.new }
     {
         match self {
             MasterPlace::Standing(master) => master.tick(moment),

@@ -1,6 +1,8 @@
-use Rattle.std.proofs.Common.{◌∙◌, ap, false, refl, sym}
+use Rattle.std.proofs.Common.{◌∙◌, ap, false, refl, subst, sym}
 use Rattle.std.specs.Prelude.{fold}
 use Rattle.std.specs.FinMap as fin
+use Rattle.gs_journal.specs.declared.version.Version.TheVariants.{Two}
+use Rattle.gs_record.specs.Writable.{IsEntry}
 use Rattle.gs_state.specs.Durable.{Durable}
 use Rattle.gs_state.specs.Recorded.{durable_of}
 use Rattle.gs_state.specs.Tracked.{NowAndBefore}
@@ -20,6 +22,7 @@ returns-clause-renewed c =
       };
       after = renewed_gives c.args.self.now c.args.renewal (durable_of c.tidy.new.self) c.accept_new.new.self.now c.deref.result.now c.deref-2.result.now c.requires
           (c.tidy.ensures ∙ ap (λ (d : Durable). record d { chunks = fold fin.remove d.chunks c.deref.result.now }) c.let_all_go.ensures.value) c.deref.ensures.value m.now c.deref-2.ensures.value;
+      is_entry = subst (IsEntry Two) c.requires.entry c.requires.is_entry;
       sends = refl;
       says = refl;
     }

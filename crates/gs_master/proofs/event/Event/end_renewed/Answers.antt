@@ -1,6 +1,7 @@
 use Rattle.std.proofs.Common.{◌≡◌, ◌<◌, ◌∙◌, ◌++◌, ◌∷◌, [], ap, arith, inl, inr, length, length-append, map, refl, subst, sym}
 use Rattle.std.proofs.lemmas.List.{length-map}
-use Rattle.gs_journal.specs.Records.{Entry}
+use Rattle.gs_journal.specs.Journal.{IsOldOrNew, checkpointed}
+use Rattle.gs_journal.specs.Records.{Entry, standing}
 use Rattle.gs_record.specs.Plain.{Whole, plain}
 use Rattle.gs_state.specs.Durable.{Durable}
 use Rattle.gs_master.specs.Events.{HasComeFrom}
@@ -9,6 +10,7 @@ use Rattle.gs_state.specs.Plans.{log_of}
 use Rattle.gs_state.specs.Recorded.{durable_of}
 use Rattle.gs_master.specs.Renewing.{and_checkpoint}
 use Rattle.gs_state.specs.Whole.{checkpoint_of}
+use Rattle.gs_master.proofs.Appending.{seen_behind}
 use Rattle.gs_master.proofs.Leading.{ready}
 use Rattle.gs_master.proofs.Renewals.{Stood, breaks_last, cut_before, log_renewed, renews}
 use Rattle.gs_master.proofs.event.Event.end_renewed.Goals as goal
@@ -41,7 +43,7 @@ returns-then-many-len-clause-ended g c = λ before has.
         },
         λ log. inl (
           subst (λ (records : _). many < length records) c.deref.ensures.value below,
-          subst (λ records. Breaks d.failures old records many new) c.deref.ensures.value
+          subst (λ records. Breaks d.seen d.failures old records many new) c.deref.ensures.value
               (c.append_all-many.ensures.cut (subst (IsReadyFor old) (sym c.deref.ensures.value) (ready before (log_of c.args.first) e old has log)) below),
         ),
       ),
@@ -88,7 +90,9 @@ returns-in-Err-clause-ended g c = λ before has.
             let stood : Stood d.seen d.may_leave d.failures before (log_of c.args.first) e old mid c.args.renewal = record { has = has; log = log; gains = gains; renewal = c.requires.renewal; behind = c.requires.generation } in
             inr (
               sym (ap length has.written ∙ length-map (map plain e.entries.items) _ ∙ length-map e.entries.items plain),
-              breaks_last before (log_of c.args.first) e old mid c.args.renewal stood c.write_draft.new.self c.in-Err.field-0 c.in-Err.ensures.failed c.write_draft.ensures.either,
+              breaks_last before (log_of c.args.first) e old mid c.args.renewal stood c.write_draft.new.self c.in-Err.field-0 c.in-Err.ensures.failed c.write_draft.ensures.either
+                  (seen_behind d.seen d.may_leave d.moment d.left_since mid c.write_draft.new.self (λ a b. IsOldOrNew mid.text (checkpointed c.args.renewal.draft.body) (standing a b)) g.met.D.Disk.shows g.met.D.Disk.counts_now
+                  (c.write_draft.ensures.any_moment gains.is_open)),
             ),
       ),
     )

@@ -43,4 +43,4 @@ returns-clause-finishes g c = λ begun t rest at back steps.
     let ended = c.in_default-conclude.ensures.ended before (subst (λ l. HasComeFrom before (log_of l) c.args.self.now) (sym c.log.ensures) (came_from c.args.beginning begun c.args.self.now rest at back)) in
     finished d.seen d.may_leave d.failures c.args.caller t begun c.args.self.now rest turned back c.tell.result mid c.tell.new.self j k (record { sent = c.tell.ensures.told.0; said = c.tell.ensures.told.1; others = c.tell.ensures.others })
     c.conclude.ensures.still
-    (subst (λ l. AreWritten d.seen d.may_leave d.failures l c.args.self.now j mid k ⊎ ((place : ℕ) × AreCut d.failures before l c.args.caller place c.args.self.now j mid k)) same ended)
+    (subst (λ l. AreWritten d.seen d.may_leave d.failures l c.args.self.now j mid k ⊎ ((place : ℕ) × AreCut d.seen d.failures before l c.args.caller place c.args.self.now j mid k)) same ended)

@@ -29,4 +29,4 @@ returns-clause-finishes g c = λ begun steps rest at back turned.
     let before = durable_of begun.recorded in
     let ended = c.end_renewed.ensures.ended before (subst (λ l. HasComeFrom before (log_of l) c.args.self.now) (sym c.log.ensures) (came_from c.args.beginning begun c.args.self.now rest at back)) in
     finished_anew d.seen d.may_leave d.failures steps begun c.args.self.now rest turned back c.tell.result mid c.tell.new.self j k (record { sent = c.tell.ensures.told.0; said = c.tell.ensures.told.1; others = c.tell.ensures.others })
-    (subst (λ l. AreRenewed d.seen d.may_leave d.failures l c.args.self.now j mid k ⊎ ((place : ℕ) × AreCutAnew d.failures before l place c.args.self.now j mid k)) same ended)
+    (subst (λ l. AreRenewed d.seen d.may_leave d.failures l c.args.self.now j mid k ⊎ ((place : ℕ) × AreCutAnew d.seen d.failures before l place c.args.self.now j mid k)) same ended)

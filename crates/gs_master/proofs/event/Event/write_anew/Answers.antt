@@ -12,7 +12,7 @@ pub returns-in-Err : goal.returns-in-Err
 returns-in-Err g c = inl (
   refl,
   elim c.in-Err.ensures [
-    | inl memory ↦ inl memory
+    | inl memory ↦ inl memory.0
     | inr refusal ↦ inr (ap renewal_refusal (sym c.standing.ensures) ∙ refusal)
   ],
 )

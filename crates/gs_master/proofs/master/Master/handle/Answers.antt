@@ -31,5 +31,5 @@ returns g c =
     let k = c.finish.new.journal in
     let finishes = c.finish.ensures.finishes m.event t rest c.beginning-beginning.ensures c.take-done.ensures.back c.take-done.ensures.steps in
     let answered = answers d.seen d.may_leave d.failures m.config c.caller_of-caller.result t m.event m.journal c.self.invariant.1 (nothing_recorded m.config s c.args.message c.args.moment) e k c.finish.result finishes in
-    subst (λ v. Answers d.failures (caller_of c.args.message.body) (handle v.config v.state c.args.message c.args.moment) v c.finish.result (record { config = m.config; state = state_at e; journal = k })) c.self.view_is
-    (subst (λ caller. Answers d.failures caller t (record { config = m.config; state = s; journal = m.journal }) c.finish.result (record { config = m.config; state = state_at e; journal = k })) c.caller_of-caller.ensures answered)
+    subst (λ v. Answers d.seen d.failures (caller_of c.args.message.body) (handle v.config v.state c.args.message c.args.moment) v c.finish.result (record { config = m.config; state = state_at e; journal = k })) c.self.view_is
+    (subst (λ caller. Answers d.seen d.failures caller t (record { config = m.config; state = s; journal = m.journal }) c.finish.result (record { config = m.config; state = state_at e; journal = k })) c.caller_of-caller.ensures answered)

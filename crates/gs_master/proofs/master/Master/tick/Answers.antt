@@ -5,7 +5,7 @@ use Rattle.gs_base.specs.declared.refusal.Refusal.TheVariants as refusals
 use Rattle.gs_state.specs.Handling.{due}
 use Rattle.gs_master.specs.Finishing.{MakesDue}
 use Rattle.gs_master.specs.Masters.{IsHeld, MasterOf, WhyNot}
-use Rattle.gs_plan.specs.Renewable.{renewal_refusal}
+use Rattle.gs_plan.specs.Renewable.{refusal_beforehand, renewal_refusal}
 use Rattle.gs_master.specs.Ticking.{AnswersTick, lacking, pressed_all}
 use Rattle.gs_master.specs.Turns.{GoesBack, IsTurned, state_at}
 use Rattle.gs_master.specs.declared.event.Event.{Event}
@@ -21,7 +21,7 @@ returns-then-is_failed g c =
     let m = c.self.inside in
     let told = c.refused.result in
     let old : MasterOf g.row.D.Denot = record { config = m.config; state = state_at m.event; journal = m.journal } in
-    subst (λ v. AnswersTick d.failures c.args.moment v (Ok told) v) c.self.view_is (ticks_failed d.failures c.args.moment old (sym c.is_failed.ensures ∙ c.if-is_failed.true) told c.refused.ensures.sent c.refused.ensures.said)
+    subst (λ v. AnswersTick d.seen d.failures c.args.moment v (Ok told) v) c.self.view_is (ticks_failed d.seen d.failures c.args.moment old (sym c.is_failed.ensures ∙ c.if-is_failed.true) told c.refused.ensures.sent c.refused.ensures.said)
 
 pub invariant_of-self : goal.invariant_of-self
 invariant_of-self g c =
@@ -67,8 +67,8 @@ returns-in-Ok-Some g c =
     let is_due = subst (λ s. due s ≡ true) turned.after made.0 in
     let none = subst (λ s. renewal_refusal s ≡ None) turned.after made.1.0.unrefused in
     let new : MasterOf g.row.D.Denot = record { config = m.config; state = state_at e; journal = k } in
-    subst (λ v. AnswersTick d.failures c.args.moment v (Ok told) new) c.self.view_is
-    (ticks_anew d.failures c.args.moment (record { config = m.config; state = state_at m.event; journal = m.journal }) sound is_due none told new
+    subst (λ v. AnswersTick d.seen d.failures c.args.moment v (Ok told) new) c.self.view_is
+    (ticks_anew d.seen d.failures c.args.moment (record { config = m.config; state = state_at m.event; journal = m.journal }) sound is_due none told new
     (answers_anew d.seen d.may_leave d.failures m.config steps m.event m.journal c.self.invariant.1 sound e k told
     (c.finish_renewed.ensures.finishes m.event steps c.self.invariant.0 c.beginning-beginning.ensures c.tick.ensures.back turned)))
 
@@ -95,8 +95,8 @@ returns-in-Ok-None g c =
     let made = subst (λ r. MakesDue (state_at c.tick.new.self) m.journal r) (c.in-Ok-None.is ∙ ap (λ o. Ok o) c.in-Ok-None.field-0-is) c.due_renewal.ensures in
     let none = subst (λ s. (due s && is_none (renewal_refusal s)) ≡ false) turned.after made in
     let new : MasterOf g.row.D.Denot = record { config = m.config; state = state_at e; journal = k } in
-    subst (λ v. AnswersTick d.failures c.args.moment v c.finish.result new) c.self.view_is
-    (ticks_plain d.failures c.args.moment (record { config = m.config; state = state_at m.event; journal = m.journal }) sound none c.finish.result new
+    subst (λ v. AnswersTick d.seen d.failures c.args.moment v c.finish.result new) c.self.view_is
+    (ticks_plain d.seen d.failures c.args.moment (record { config = m.config; state = state_at m.event; journal = m.journal }) sound none c.finish.result new
     (answers d.seen d.may_leave d.failures m.config None steps m.event m.journal c.self.invariant.1 (λ failed. absurd (false≢true (sym sound ∙ failed))) e k c.finish.result
     (c.finish.ensures.finishes m.event steps c.self.invariant.0 c.beginning-beginning.ensures c.tick.ensures.back turned)))
 
@@ -139,9 +139,10 @@ returns-in-Err-due_renewal g c =
     let sound = sym c.is_failed.ensures ∙ c.if-is_failed.false in
     let back = subst (λ (x : Event). GoesBack m.event x) (sym c.lack.ensures) (goes_back (Some refusals.Memory) m.event e c.tick.ensures.back) in
     let turned = subst (λ (x : Event). IsTurned steps m.event x) (sym c.lack.ensures) (lacks all m.event e c.self.invariant.0.begun.said c.in_default.ensures.steps) in
-    let is_due = subst (λ s. due s ≡ true) c.in_default.ensures.steps.after c.in-Err-due_renewal.ensures in
+    let is_due = subst (λ s. due s ≡ true) c.in_default.ensures.steps.after c.in-Err-due_renewal.ensures.0 in
+    let none = subst (λ s. refusal_beforehand s ≡ None) c.in_default.ensures.steps.after c.in-Err-due_renewal.ensures.1 in
     let new : MasterOf g.row.D.Denot = record { config = m.config; state = state_at f.new.self; journal = f.new.journal } in
-    subst (λ v. AnswersTick d.failures c.args.moment v f.result new) c.self.view_is
-    (ticks_short d.failures c.args.moment (record { config = m.config; state = state_at m.event; journal = m.journal }) is_due f.result new
+    subst (λ v. AnswersTick d.seen d.failures c.args.moment v f.result new) c.self.view_is
+    (ticks_short d.seen d.failures c.args.moment (record { config = m.config; state = state_at m.event; journal = m.journal }) sound is_due none f.result new
     (answers d.seen d.may_leave d.failures m.config None steps m.event m.journal c.self.invariant.1 (λ failed. absurd (false≢true (sym sound ∙ failed))) f.new.self f.new.journal f.result
     (f.ensures.finishes m.event steps c.self.invariant.0 c.beginning-beginning.ensures back turned)))

@@ -5,4 +5,4 @@ use Rattle.gs_world.proofs.place.MasterPlace.tick.Goals as goal
 
 pub returns-in-Standing : goal.returns-in-Standing
 returns-in-Standing g c =
-    subst (λ place. MasterTicks g.D.Disk.failures c.args.moment place c.tick.result (Standing c.tick.new.self)) (sym c.in-Standing.is) (c.tick.new.self, refl, c.tick.ensures)
+    subst (λ place. MasterTicks g.D.Disk.seen g.D.Disk.failures c.args.moment place c.tick.result (Standing c.tick.new.self)) (sym c.in-Standing.is) (c.tick.new.self, refl, c.tick.ensures)
