@@ -1,3 +1,4 @@
+pub mod Losing
 pub mod Ongoing
 pub mod Posting
 pub mod Reaching
