@@ -1,5 +1,9 @@
 #!/usr/bin/env python3
-"""Measures parts of the store by themselves, by a small program over their crates. No test."""
+"""Measures parts of the store by themselves, by a small program over their crates. No test.
+
+    bench/parts.py [n] [names|journal|blocks|servers|master ..]
+
+It ends with status 1 where a bound is passed that stands beside what is printed."""
 
 import os
 import subprocess
@@ -9,6 +13,16 @@ import beside
 
 REPEATS = 3
 LEAST_SECONDS = 0.005
+# What has passed its bound, as it is printed.
+PASSED = []
+
+
+def judged(what, value, most=None, least=None):
+    """A value with its bound beside it, noted where it passes that."""
+    said = f"{value:.2f} (at most {most})" if most is not None else f"{value:.2f} (at least {least})"
+    if most is not None and value > most or least is not None and value < least:
+        PASSED.append(f"{what}: {said}")
+    return said
 
 
 def used(part, count):
@@ -93,43 +107,56 @@ def show_against(part, digests, n, most):
     start = seconds(part, 0)
     times = [seconds(part, m) - start for m in sizes]
     needs = seconds(digests, 4 * n) - seconds(digests, 0)
-    row(part, times, [f"{times[-1] / needs:.2f}", f"{most:.1f}"])
+    row(part, times, [judged(f"{part}, beside {digests}", times[-1] / needs, most)])
 
 
 def show_servers(n):
-    head([n, 2 * n, 4 * n], ["digests", "at most"])
+    head([n, 2 * n, 4 * n], ["digests"])
     for part, digests, most in SERVER:
         show_against(part, digests, n, most)
     few, many = 10, 10000
     ticks = [seconds("server-tick", m) - seconds("server-hold", m) for m in (few, many)]
-    print(f"100,000 ticks with one edit that waits, of {few} replicas and of {many:,}: {1000 * ticks[0]:,.1f} and {1000 * ticks[1]:,.1f} ms, {ticks[1] / ticks[0]:.2f} times (at most 2)", flush=True)
+    print(f"100,000 ticks with one edit that waits, of {few} replicas and of {many:,}: {1000 * ticks[0]:,.1f} and {1000 * ticks[1]:,.1f} ms, times {judged('ticks', ticks[1] / ticks[0], 2)}", flush=True)
     report = seconds("server-report", many) - seconds("server-hold", many)
     print(f"100 reports of {many:,} replicas: {1000 * report:,.1f} ms", flush=True)
     blocks = 1000
-    print(f"peak memory of {blocks:,} blocks stored in one chunk: {peak('server-store', blocks) / (blocks * BLOCK):.2f} times their bytes (at most 1.6)", flush=True)
+    print(f"peak memory of {blocks:,} blocks stored in one chunk, beside their bytes: {judged('peak memory', peak('server-store', blocks) / (blocks * BLOCK), 1.6)}", flush=True)
 
 
 def show_master(n):
     """What calls of the master cost beside the names alone, how that grows, and the memory of files and chunks."""
     show_differences(MASTER, n)
     calls, names = (seconds(part, 4 * n) - seconds(part, 0) for part in ("calls", "build"))
-    print(f"calls that make a file, a second: {4 * n / calls:,.0f}; of the names alone: {4 * n / names:,.0f}; ratio {names / calls:.2f} (least 0.5)", flush=True)
+    print(f"calls that make a file, a second: {4 * n / calls:,.0f}; of the names alone: {4 * n / names:,.0f}; ratio {judged('calls beside names', names / calls, least=0.5)}", flush=True)
     for part in SIZED:
         few, many = ((seconds(f"{part}-{size}", 4 * n) - seconds(f"{part}-{size}", 0)) / (4 * n) for size in ("few", "many"))
-        print(f"{part}: {1e6 * few:.2f} microseconds behind 100 files of one chunk, {1e6 * many:.2f} behind 100,000; ratio {many / few:.2f} (most 2)", flush=True)
+        print(f"{part}: {1e6 * few:.2f} microseconds behind 100 files of one chunk, {1e6 * many:.2f} behind 100,000; ratio {judged(part, many / few, 2)}", flush=True)
     file, both = ((peak(part, 4 * n) - peak(part, 2 * n)) / (2 * n) for part in ("calls", "files"))
     print(f"bytes in memory, with the journal's: {file:,.0f} for a file, {both - file:,.0f} for its chunk", flush=True)
 
 
+# What can be shown, each with what it is shown for, of n.
+SHOWN = {
+    "names": lambda n: show_differences(NAMES, n),
+    "journal": lambda n: show_journal(40 * n),
+    "blocks": lambda n: show_blocks(n // 50),
+    "servers": lambda n: show_servers(n // 50),
+    "master": show_master,
+}
+
+
 def main():
-    n = int(sys.argv[1]) if len(sys.argv) > 1 else 25000
+    words = sys.argv[1:]
+    n = int(words.pop(0)) if words and words[0].isdecimal() else 25000
+    if not set(words) <= set(SHOWN):
+        raise SystemExit(__doc__)
     beside.built()
-    show_differences(NAMES, n)
-    show_journal(40 * n)
-    show_blocks(n // 50)
-    show_servers(n // 50)
-    show_master(n)
+    for name in words or SHOWN:
+        SHOWN[name](n)
+    for line in PASSED:
+        print(f"passed its bound: {line}", flush=True)
+    return 1 if PASSED else 0
 
 
 if __name__ == "__main__":
-    main()
+    sys.exit(main())

@@ -1,4 +1,5 @@
 pub mod Lasting
+pub mod Losing
 pub mod Ongoing
 pub mod Posting
 pub mod Reaching

@@ -7,13 +7,20 @@ use Rattle.gs_msg.specs.declared.outbox.Post.{Post}
 use Rattle.gs_base.specs.declared.numbers.ClientId.{ClientId}
 use Rattle.gs_msg.specs.Posts.{without_message}
 use Rattle.gs_msg.specs.declared.node.NodeId.TheVariants as nodes
-use Rattle.gs_run.specs.Sent.{Appends, Forgets, ForgetsIn, IsPosted, IsPostedIn, Sent, all_posts}
+use Rattle.gs_run.specs.Sent.{Appends, Forgets, ForgetsIn, IsPosted, IsPostedIn, Line, Lines, Sent, all_posts, lost_all, with_line}
 
--- it is sent, or lost
-pub one_posted : {A E : Type 0} (r : Result A E) (moment : Moment) (message : Message) (old new : List Post) → OnOk r (new ≡ old ++ posted moment message ∷ []) → OnErr r (new ≡ old)
-    → (new ≡ old ++ posted moment message ∷ []) ⊎ (new ≡ old)
-one_posted (Ok x) moment message old new sent lost = inl sent
-one_posted (Err e) moment message old new sent lost = inr lost
+-- messages that are lost
+pub some_lost : (messages : List Message) (has_lost : Bool) → 0 < length messages → true ≡ lost_all messages has_lost
+some_lost [] has_lost some = absurd (omega (arith, some))
+some_lost (message ∷ messages) has_lost some = refl
+
+pub none_lost : (messages : List Message) (has_lost : Bool) → length messages ≡ 0 → has_lost ≡ lost_all messages has_lost
+none_lost [] has_lost none = refl
+none_lost (message ∷ messages) has_lost none = absurd (omega (arith, none))
+
+pub lost_still : (messages : List Message) → true ≡ lost_all messages true
+lost_still [] = refl
+lost_still (message ∷ messages) = refl
 
 -- one more that has sent nothing
 pushed : (outboxes : List Posted) (o : Posted) → all_posts (outboxes ++ o ∷ []) ≡ all_posts outboxes ++ o.posts ∷ []
@@ -49,16 +56,28 @@ posts_set [] i o = refl
 posts_set (p ∷ outboxes) zero o = refl
 posts_set (p ∷ outboxes) (suc i) o = ap (λ (l : List (List Post)). p.posts ∷ l) (posts_set outboxes i o)
 
-pub posted_there : (outboxes new : List Posted) (node : ℕ) (moment : Moment) (messages : List Message) (o after : Posted) → node < length outboxes → o ≡ slice_index_or outboxes node o
-    → Appends moment messages o.posts after.posts → new ≡ slice_set outboxes node after → IsPostedIn node moment messages (all_posts outboxes) (all_posts new)
-posted_there outboxes new node moment messages o after inside is appends same =
-    subst (λ (f : Option (List Post)). MatchOption f (all_posts new ≡ all_posts outboxes) (λ posts. (later : List Post) × Appends moment messages posts later × (all_posts new ≡ slice_set (all_posts outboxes) node later)))
-    (sym (posts_at outboxes node o inside is)) (after.posts, appends, ap all_posts same ∙ posts_set outboxes node after)
+abbrev lines : List (List Post) → Bool → Lines
+lines posts has_lost = (posts, has_lost)
 
-pub posted_nowhere : (outboxes new : List Posted) (node : ℕ) (moment : Moment) (messages : List Message) → length outboxes ≤ node → new ≡ outboxes → IsPostedIn node moment messages (all_posts outboxes) (all_posts new)
-posted_nowhere outboxes new node moment messages past same =
-    subst (λ (f : Option (List Post)). MatchOption f (all_posts new ≡ all_posts outboxes) (λ posts. (later : List Post) × Appends moment messages posts later × (all_posts new ≡ slice_set (all_posts outboxes) node later)))
-    (sym (posts_past outboxes node past)) (ap all_posts same)
+both : (xs ys : List (List Post)) (a b : Bool) → xs ≡ ys → a ≡ b → lines xs a ≡ lines ys b
+both xs ys a b same is = ap (λ (l : List (List Post)). lines l a) same ∙ ap (λ (lost : Bool). lines ys lost) is
+
+pub posted_there : (outboxes new : List Posted) (node : ℕ) (moment : Moment) (messages : List Message) (lost now : Bool) (o after : Posted) → node < length outboxes → o ≡ slice_index_or outboxes node o
+    → Appends moment messages (o.posts, lost) (after.posts, now) → new ≡ slice_set outboxes node after → IsPostedIn node moment messages (all_posts outboxes, lost) (all_posts new, now)
+posted_there outboxes new node moment messages lost now o after inside is appends same =
+    subst
+    (λ (f : Option (List Post)). MatchOption f (lines (all_posts new) now ≡ lines (all_posts outboxes) (lost_all messages lost))
+    (λ posts. (later : Line) × Appends moment messages (posts, lost) later × (lines (all_posts new) now ≡ lines (slice_set (all_posts outboxes) node later.0) later.1)))
+    (sym (posts_at outboxes node o inside is))
+    ((after.posts, now), appends, both (all_posts new) (slice_set (all_posts outboxes) node after.posts) now now (ap all_posts same ∙ posts_set outboxes node after) refl)
+
+pub posted_nowhere : (outboxes new : List Posted) (node : ℕ) (moment : Moment) (messages : List Message) (lost now : Bool) → length outboxes ≤ node → new ≡ outboxes → now ≡ lost_all messages lost
+    → IsPostedIn node moment messages (all_posts outboxes, lost) (all_posts new, now)
+posted_nowhere outboxes new node moment messages lost now past same is =
+    subst
+    (λ (f : Option (List Post)). MatchOption f (lines (all_posts new) now ≡ lines (all_posts outboxes) (lost_all messages lost))
+    (λ posts. (later : Line) × Appends moment messages (posts, lost) later × (lines (all_posts new) now ≡ lines (slice_set (all_posts outboxes) node later.0) later.1)))
+    (sym (posts_past outboxes node past)) (both (all_posts new) (all_posts outboxes) now (lost_all messages lost) (ap all_posts same) is)
 
 pub forgotten_there : (outboxes new : List Posted) (node place : ℕ) (o after : Posted) → node < length outboxes → o ≡ slice_index_or outboxes node o
     → after.posts ≡ without_message o.posts place → new ≡ slice_set outboxes node after → ForgetsIn node place (all_posts outboxes) (all_posts new)
@@ -73,40 +92,44 @@ forgotten_nowhere outboxes new node place past same =
 
 -- ---- of all nodes
 
-server_found : (o : Option (List Post)) (id : ℕ) (moment : Moment) (messages : List Message) (s : Sent) (new : List (List Post))
-    → MatchOption o (new ≡ s.servers) (λ posts. (after : List Post) × Appends moment messages posts after × (new ≡ slice_set s.servers id after))
-    → MatchOption o (record s { servers = new } ≡ s) (λ posts. (after : List Post) × Appends moment messages posts after × (record s { servers = new } ≡ record s { servers = slice_set s.servers id after }))
-server_found None id moment messages s new same = ap (λ (l : List (List Post)). record s { servers = l }) same
-server_found (Some posts) id moment messages s new (after, appends, same) = (after, appends, ap (λ (l : List (List Post)). record s { servers = l }) same)
+server_found : (o : Option (List Post)) (id : ℕ) (moment : Moment) (messages : List Message) (s : Sent) (new : Lines)
+    → MatchOption o (new ≡ lines s.servers (lost_all messages s.has_lost)) (λ posts. (after : Line) × Appends moment messages (posts, s.has_lost) after × (new ≡ lines (slice_set s.servers id after.0) after.1))
+    → MatchOption o (record s { servers = new.0; has_lost = new.1 } ≡ record s { has_lost = lost_all messages s.has_lost })
+    (λ posts. (after : Line) × Appends moment messages (posts, s.has_lost) after × (record s { servers = new.0; has_lost = new.1 } ≡ with_line (nodes.Server id) after s))
+server_found None id moment messages s new same = ap (λ (l : Lines). record s { servers = l.0; has_lost = l.1 }) same
+server_found (Some posts) id moment messages s new (after, appends, same) = (after, appends, ap (λ (l : Lines). record s { servers = l.0; has_lost = l.1 }) same)
 
-pub at_server : (id : ℕ) (moment : Moment) (messages : List Message) (s : Sent) (new : List (List Post)) → IsPostedIn id moment messages s.servers new
-    → IsPosted moment (nodes.Server id) messages s (record s { servers = new })
-at_server id moment messages s new posted = server_found (slice_get s.servers id) id moment messages s new posted
+pub at_server : (id : ℕ) (moment : Moment) (messages : List Message) (s : Sent) (new : List (List Post)) (lost : Bool) → IsPostedIn id moment messages (s.servers, s.has_lost) (new, lost)
+    → IsPosted moment (nodes.Server id) messages s (record s { servers = new; has_lost = lost })
+at_server id moment messages s new lost posted = server_found (slice_get s.servers id) id moment messages s (lines new lost) posted
 
 -- a client's list, where there is such a client
 abbrev numbered : Bool → Option (List Post) → Option (List Post)
 numbered nought found = if nought then None else found
 
-client_found : (o : Option (List Post)) (i : ℕ) (moment : Moment) (messages : List Message) (s : Sent) (new : List (List Post))
-    → MatchOption o (new ≡ s.clients) (λ posts. (after : List Post) × Appends moment messages posts after × (new ≡ slice_set s.clients i after))
-    → MatchOption o (record s { clients = new } ≡ s) (λ posts. (after : List Post) × Appends moment messages posts after × (record s { clients = new } ≡ record s { clients = slice_set s.clients i after }))
-client_found None i moment messages s new same = ap (λ (l : List (List Post)). record s { clients = l }) same
-client_found (Some posts) i moment messages s new (after, appends, same) = (after, appends, ap (λ (l : List (List Post)). record s { clients = l }) same)
+client_found : (o : Option (List Post)) (id : ClientId) (moment : Moment) (messages : List Message) (s : Sent) (new : Lines)
+    → MatchOption o (new ≡ lines s.clients (lost_all messages s.has_lost)) (λ posts. (after : Line) × Appends moment messages (posts, s.has_lost) after × (new ≡ lines (slice_set s.clients (id.0 - 1) after.0) after.1))
+    → MatchOption o (record s { clients = new.0; has_lost = new.1 } ≡ record s { has_lost = lost_all messages s.has_lost })
+    (λ posts. (after : Line) × Appends moment messages (posts, s.has_lost) after × (record s { clients = new.0; has_lost = new.1 } ≡ with_line (nodes.Client id) after s))
+client_found None id moment messages s new same = ap (λ (l : Lines). record s { clients = l.0; has_lost = l.1 }) same
+client_found (Some posts) id moment messages s new (after, appends, same) = (after, appends, ap (λ (l : Lines). record s { clients = l.0; has_lost = l.1 }) same)
 
-pub at_client : (id : ClientId) (moment : Moment) (messages : List Message) (s : Sent) (new : List (List Post)) → (id.0 == 0) ≡ false → IsPostedIn (id.0 - 1) moment messages s.clients new
-    → IsPosted moment (nodes.Client id) messages s (record s { clients = new })
-at_client id moment messages s new some posted =
+pub at_client : (id : ClientId) (moment : Moment) (messages : List Message) (s : Sent) (new : List (List Post)) (lost : Bool) → (id.0 == 0) ≡ false
+    → IsPostedIn (id.0 - 1) moment messages (s.clients, s.has_lost) (new, lost)
+    → IsPosted moment (nodes.Client id) messages s (record s { clients = new; has_lost = lost })
+at_client id moment messages s new lost some posted =
     subst
-    (λ (b : Bool). MatchOption (numbered b (slice_get s.clients (id.0 - 1))) (record s { clients = new } ≡ s)
-    (λ posts. (after : List Post) × Appends moment messages posts after × (record s { clients = new } ≡ record s { clients = slice_set s.clients (id.0 - 1) after })))
-    (sym some) (client_found (slice_get s.clients (id.0 - 1)) (id.0 - 1) moment messages s new posted)
+    (λ (b : Bool). MatchOption (numbered b (slice_get s.clients (id.0 - 1))) (record s { clients = new; has_lost = lost } ≡ record s { has_lost = lost_all messages s.has_lost })
+    (λ posts. (after : Line) × Appends moment messages (posts, s.has_lost) after × (record s { clients = new; has_lost = lost } ≡ with_line (nodes.Client id) after s)))
+    (sym some) (client_found (slice_get s.clients (id.0 - 1)) id moment messages s (lines new lost) posted)
 
-pub at_nobody : (id : ClientId) (moment : Moment) (messages : List Message) (s : Sent) → (id.0 == 0) ≡ true → IsPosted moment (nodes.Client id) messages s s
-at_nobody id moment messages s none =
+pub at_nobody : (id : ClientId) (moment : Moment) (messages : List Message) (s : Sent) (lost : Bool) → (id.0 == 0) ≡ true → lost ≡ lost_all messages s.has_lost
+    → IsPosted moment (nodes.Client id) messages s (record s { has_lost = lost })
+at_nobody id moment messages s lost none is =
     subst
-    (λ (b : Bool). MatchOption (numbered b (slice_get s.clients (id.0 - 1))) (s ≡ s)
-    (λ posts. (after : List Post) × Appends moment messages posts after × (s ≡ record s { clients = slice_set s.clients (id.0 - 1) after })))
-    (sym none) refl
+    (λ (b : Bool). MatchOption (numbered b (slice_get s.clients (id.0 - 1))) (record s { has_lost = lost } ≡ record s { has_lost = lost_all messages s.has_lost })
+    (λ posts. (after : Line) × Appends moment messages (posts, s.has_lost) after × (record s { has_lost = lost } ≡ with_line (nodes.Client id) after s)))
+    (sym none) (ap (λ (b : Bool). record s { has_lost = b }) is)
 
 -- ---- what is given up
 

@@ -12,7 +12,7 @@ use Rattle.gs_msg.specs.declared.outbox.Post.{Post}
 use Rattle.gs_world.specs.declared.place.MasterPlace.{MasterPlace}
 use Rattle.gs_run.specs.Histories.{Happens, History, Outcome, Tells}
 use Rattle.gs_run.specs.Runs.{Goes, RunsTo, StaySent, Step, Comes, Takes}
-use Rattle.gs_run.specs.Sent.{Appends, IsPosted, IsSent, Sent, message_in, message_of, posts_of, with_posts}
+use Rattle.gs_run.specs.Sent.{Appends, IsPosted, IsSent, Line, Sent, lost_all, message_in, message_of, posts_of, with_line}
 
 -- each message of the first list stands at its place in the second
 abbrev pub IsLonger : List Post → List Post → Type 0
@@ -23,11 +23,11 @@ behind [] more place message is = absurd cc
 behind (post ∷ posts) more zero message is = is
 behind (post ∷ posts) more (suc place) message is = behind posts more place message is
 
-appended : (moment : Moment) (messages : List Message) (old new : List Post) → Appends moment messages old new → IsLonger old new
-appended moment [] old new is place message stands = subst (λ posts. message_at posts place ≡ Some message) (sym is) stands
+pub appended : (moment : Moment) (messages : List Message) (old new : Line) → Appends moment messages old new → IsLonger old.0 new.0
+appended moment [] old new is place message stands = subst (λ (l : Line). message_at l.0 place ≡ Some message) (sym is) stands
 appended moment (one ∷ messages) old new (mid, first, rest) place message stands = appended moment messages mid new rest place message (elim first [
-  | inl is ↦ subst (λ posts. message_at posts place ≡ Some message) (sym is) (behind old (posted moment one ∷ []) place message stands)
-  | inr is ↦ subst (λ posts. message_at posts place ≡ Some message) (sym is) stands
+  | inl is ↦ subst (λ (l : Line). message_at l.0 place ≡ Some message) (sym is) (behind old.0 (posted moment one ∷ []) place message stands)
+  | inr is ↦ subst (λ (l : Line). message_at l.0 place ≡ Some message) (sym is) stands
 ])
 
 -- ---- one of several lists grows
@@ -54,31 +54,43 @@ grown_numbered : (nought : Bool) (xs : List (List Post)) (i : ℕ) (posts after 
 grown_numbered true xs i posts after is longer j place message stands = stands
 grown_numbered false xs i posts after is longer j place message stands = grown xs i posts after is longer j place message stands
 
-set_at : (by : NodeId) (posts after : List Post) (s : Sent) → posts_of s by ≡ Some posts → IsLonger posts after
+set_at : (by : NodeId) (posts : List Post) (after : Line) (s : Sent) → posts_of s by ≡ Some posts → IsLonger posts after.0
     → (sender : NodeId) (place : ℕ) (message : Message) → message_in (posts_of s sender) place ≡ Some message
-    → message_in (posts_of (with_posts by after s) sender) place ≡ Some message
+    → message_in (posts_of (with_line by after s) sender) place ≡ Some message
 set_at nodes.Master posts after s is longer nodes.Master place message stands = longer place message (subst (λ (o : Option (List Post)). message_in o place ≡ Some message) is stands)
 set_at nodes.Master posts after s is longer (nodes.Server id) place message stands = stands
 set_at nodes.Master posts after s is longer (nodes.Client id) place message stands = stands
 set_at (nodes.Server by) posts after s is longer nodes.Master place message stands = stands
-set_at (nodes.Server by) posts after s is longer (nodes.Server id) place message stands = grown s.servers by posts after is longer id place message stands
+set_at (nodes.Server by) posts after s is longer (nodes.Server id) place message stands = grown s.servers by posts after.0 is longer id place message stands
 set_at (nodes.Server by) posts after s is longer (nodes.Client id) place message stands = stands
 set_at (nodes.Client by) posts after s is longer nodes.Master place message stands = stands
 set_at (nodes.Client by) posts after s is longer (nodes.Server id) place message stands = stands
 set_at (nodes.Client by) posts after s is longer (nodes.Client id) place message stands =
-    grown_numbered (id.0 == 0) s.clients (by.0 - 1) posts after (a_number (by.0 == 0) (slice_get s.clients (by.0 - 1)) posts is) longer (id.0 - 1) place message stands
+    grown_numbered (id.0 == 0) s.clients (by.0 - 1) posts after.0 (a_number (by.0 == 0) (slice_get s.clients (by.0 - 1)) posts is) longer (id.0 - 1) place message stands
+
+-- whether a message was lost changes nothing of what was sent
+pub same_posts : (s : Sent) (has_lost : Bool) (by : NodeId) → posts_of (record s { has_lost = has_lost }) by ≡ posts_of s by
+same_posts s has_lost nodes.Master = refl
+same_posts s has_lost (nodes.Server id) = refl
+same_posts s has_lost (nodes.Client id) = refl
 
 -- ---- over a step, and over many
 
 still : (old new : Sent) → new ≡ old → StaySent old new
 still old new same id message stands = subst (λ s. message_of s id ≡ Some message) (sym same) stands
 
+lost_stay : (old new : Sent) (has_lost : Bool) → new ≡ record old { has_lost = has_lost } → StaySent old new
+lost_stay old new has_lost same id message stands =
+    subst (λ s. message_of s id ≡ Some message) (sym same)
+    (subst (λ (o : Option (List Post)). message_in o id.place ≡ Some message) (sym (same_posts old has_lost id.sender)) stands)
+
 posts_stay : (found : Option (List Post)) (moment : Moment) (by : NodeId) (messages : List Message) (old new : Sent) → posts_of old by ≡ found
-    → MatchOption found (new ≡ old) (λ posts. (after : List Post) × Appends moment messages posts after × (new ≡ with_posts by after old)) → StaySent old new
-posts_stay None moment by messages old new is posts = still old new posts
+    → MatchOption found (new ≡ record old { has_lost = lost_all messages old.has_lost }) (λ posts. (after : Line) × Appends moment messages (posts, old.has_lost) after × (new ≡ with_line by after old))
+    → StaySent old new
+posts_stay None moment by messages old new is posts = lost_stay old new (lost_all messages old.has_lost) posts
 posts_stay (Some posts) moment by messages old new is (after, appends, same) = λ id message stands.
     subst (λ s. message_of s id ≡ Some message) (sym same)
-    (set_at by posts after old is (appended moment messages posts after appends) id.sender id.place message stands)
+    (set_at by posts after old is (appended moment messages (posts, old.has_lost) after appends) id.sender id.place message stands)
 
 pub posting : (moment : Moment) (by : NodeId) (messages : List Message) (old new : Sent) → IsPosted moment by messages old new → StaySent old new
 posting moment by messages old new posts = posts_stay (posts_of old by) moment by messages old new refl posts

@@ -3,7 +3,7 @@ ghost use Rattle.std.specs.Prelude.{◌≡◌, ◌⊎◌, Ok, Err, IfOk, MatchOp
 ghost use Rattle.gs_base.specs.declared.refusal.Refusal.TheVariants as refusals;
 ghost use Rattle.gs_msg.specs.Posts.{message_at};
 ghost use Rattle.gs_msg.specs.declared.node.NodeId.TheVariants as nodes;
-ghost use Rattle.gs_run.specs.Sent.{Appends, Forgets, ForgetsIn, IsPosted, IsPostedIn, all_posts, message_of, none_sent, posts_of};
+ghost use Rattle.gs_run.specs.Sent.{Appends, Forgets, ForgetsIn, IsPosted, IsPostedIn, all_posts, lost_all, message_of, none_sent, posts_of};
 
 use gs_base::{ClientId, Moment, Refusal, ServerId};
 use gs_msg::{Message, NodeId, Outbox};
@@ -17,6 +17,7 @@ pub struct Posts {
     servers: Vec<Outbox>,
     /// Of the clients, which are numbered from 1 upwards.
     clients: Vec<Outbox>,
+    has_lost: bool,
 }
 
 impl Drop for Posts {
@@ -25,6 +26,7 @@ impl Drop for Posts {
             master: _,
             servers: _,
             clients: _,
+            has_lost: _,
         } = self;
     }
 }
@@ -36,7 +38,7 @@ impl Model for Posts {
 
     ghost coded = { coded_sent };
 
-    ghost view = { λ p. record { master = p.master.posts; servers = all_posts p.servers.items; clients = all_posts p.clients.items } };
+    ghost view = { λ p. record { master = p.master.posts; servers = all_posts p.servers.items; clients = all_posts p.clients.items; has_lost = p.has_lost } };
 }
 
 /// So many nodes that have sent nothing.
@@ -50,22 +52,41 @@ fn silent(alloc: Global, many: u64) -> Result<Vec<Outbox>, AllocError>
     Ok(outboxes)
 }
 
-/// Sends one message after the other. One for which memory is wanting is lost.
-fn post_all(outbox: &mut Outbox, moment: Moment, sent: Vec<Message>)
-    ensures { Appends moment sent.items outbox.old.posts outbox.new.posts }
+/// Sends one message after the other. One for which memory is wanting is lost. The answer is whether one ever was.
+fn post_all(outbox: &mut Outbox, has_lost: bool, moment: Moment, sent: Vec<Message>) -> bool
+    ensures { Appends moment sent.items (outbox.old.posts, has_lost) (outbox.new.posts, result) }
 {
+    let mut lost = has_lost;
     for message in sent {
-        let _posted = outbox.post(moment, message);
+        match outbox.post(moment, message) {
+            Ok(_) => {}
+            Err(_) => lost = true,
+        }
     }
+    lost
 }
 
-/// Sends messages from one of several nodes. Where there is no such node they are lost.
-fn post_in(outboxes: &mut Vec<Outbox>, node: usize, moment: Moment, sent: Vec<Message>)
-    ensures { IsPostedIn node moment sent.items (all_posts outboxes.old.items) (all_posts outboxes.new.items) }
+/// Messages are lost. The answer is whether one ever was.
+#[tactic(auto, using(crate::proofs::Posting::some_lost, crate::proofs::Posting::none_lost))]
+fn lose_all(has_lost: bool, sent: Vec<Message>) -> bool
+    ensures { result ≡ lost_all sent.items has_lost }
+{
+    has_lost || !sent.is_empty()
+}
+
+/// Sends messages from one of several nodes. Where there is no such node they are lost. The answer is whether one ever was.
+fn post_in(
+    outboxes: &mut Vec<Outbox>,
+    node: usize,
+    has_lost: bool,
+    moment: Moment,
+    sent: Vec<Message>,
+) -> bool
+    ensures { IsPostedIn node moment sent.items (all_posts outboxes.old.items, has_lost) (all_posts outboxes.new.items, result) }
 {
     match outboxes.get_mut(node) {
-        Some(outbox) => post_all(outbox, moment, sent),
-        None => drop(sent),
+        Some(outbox) => post_all(outbox, has_lost, moment, sent),
+        None => lose_all(has_lost, sent),
     }
 }
 
@@ -97,6 +118,7 @@ impl Posts {
             master: Outbox::new(alloc),
             servers: silent(alloc, servers)?,
             clients: silent(alloc, clients)?,
+            has_lost: false,
         })
     }
 
@@ -104,18 +126,32 @@ impl Posts {
     fn post_at_server(&mut self, moment: Moment, server: ServerId, sent: Vec<Message>)
         ensures { IsPosted moment (nodes.Server server) sent.items self.old self.new }
     {
-        post_in(&mut self.servers, server.number() as usize, moment, sent);
+        let lost = self.has_lost;
+        self.has_lost = post_in(
+            &mut self.servers,
+            server.number() as usize,
+            lost,
+            moment,
+            sent,
+        );
     }
 
     #[tactic(auto, using(crate::proofs::Posting::at_client, crate::proofs::Posting::at_nobody))]
     fn post_at_client(&mut self, moment: Moment, client: ClientId, sent: Vec<Message>)
         ensures { IsPosted moment (nodes.Client client) sent.items self.old self.new }
     {
+        let lost = self.has_lost;
         if client.0 == 0 {
-            drop(sent);
+            self.has_lost = lose_all(lost, sent);
             return;
         }
-        post_in(&mut self.clients, (client.0 - 1) as usize, moment, sent);
+        self.has_lost = post_in(
+            &mut self.clients,
+            (client.0 - 1) as usize,
+            lost,
+            moment,
+            sent,
+        );
     }
 
     /// A node sends messages. Those for which memory is wanting are lost.
@@ -123,10 +159,20 @@ impl Posts {
         ensures { IsPosted moment by sent.items self.old self.new }
     {
         match by {
-            NodeId::Master => post_all(&mut self.master, moment, sent),
+            NodeId::Master => {
+                let lost = self.has_lost;
+                self.has_lost = post_all(&mut self.master, lost, moment, sent);
+            }
             NodeId::Server(server) => self.post_at_server(moment, server, sent),
             NodeId::Client(client) => self.post_at_client(moment, client, sent),
         }
+    }
+
+    /// Whether memory was ever wanting for a message, which is lost then.
+    pub fn has_lost(&self) -> bool
+        ensures { result ≡ self.now.has_lost }
+    {
+        self.has_lost
     }
 
     /// What a node has sent, if there is such a node.

@@ -1,6 +1,10 @@
 //! What holds of every run of a store.
 
-ghost use Rattle.std.specs.Prelude.{◌≡◌, ℕ, List, Ok, Result, Some, slice_get};
+ghost use Rattle.std.specs.Prelude.{◌≡◌, ℕ, true, false, List, Ok, Result, Some, slice_get};
+ghost use Rattle.gs_base.specs.declared.numbers.Moment.{Moment};
+ghost use Rattle.gs_msg.specs.declared.message.Message.{Message};
+ghost use Rattle.gs_msg.specs.declared.node.NodeId.{NodeId};
+ghost use Rattle.gs_run.specs.Sent.{AllPosted, IsPosted, Sent};
 ghost use Rattle.gs_base.specs.declared.refusal.Refusal.{Refusal};
 ghost use Rattle.gs_msg.specs.declared.event.Event.{Event};
 ghost use Rattle.gs_base.specs.declared.config.Config.{Config};
@@ -24,6 +28,13 @@ use gs_block::promises::configurations_have_sizes;
 pub fn what_was_sent_stays<D>()
     ensures sent { (seen : D → List ℕ) (failures : D → ℕ) (armed : DiskId → ℕ → MasterPlace D → MasterPlace D) (steps : List Step) (old new : History D) → RunsTo seen failures armed steps old new → StaySent old.sent new.sent }
     ensures nodes { (seen : D → List ℕ) (failures : D → ℕ) (armed : DiskId → ℕ → MasterPlace D → MasterPlace D) (steps : List Step) (old new : History D) → RunsTo seen failures armed steps old new → SameNodes old.nodes new.nodes }
+{}
+
+/// Where no message was lost, all that a node has to send at an event stands behind what it has sent, in order. Once one was lost that
+/// stays told: so where nothing is lost behind a run, nothing was lost on the way.
+pub fn no_message_is_lost_unseen<D>()
+    ensures sent { (moment : Moment) (by : NodeId) (messages : List Message) (old new : Sent) → IsPosted moment by messages old new → new.has_lost ≡ false → AllPosted moment by messages old new }
+    ensures stays { (seen : D → List ℕ) (failures : D → ℕ) (armed : DiskId → ℕ → MasterPlace D → MasterPlace D) (steps : List Step) (old new : History D) → RunsTo seen failures armed steps old new → old.sent.has_lost ≡ true → new.sent.has_lost ≡ true }
 {}
 
 /// Events that happen one after the other, whatever each is met by, are steps: so the laws of all steps hold of what a run makes.

@@ -103,15 +103,16 @@ module _ {D : Type 0} where
 
 -- ---- an event
 
--- the same nodes, with the same under way
+-- the same nodes, with the same under way; it isn't forgotten that memory was wanting
 pub record Alike {D : Type 0} (old new : Way D) : Type 0 where
   pub nodes : new.nodes ≡ old.nodes
   pub queue : new.queue ≡ old.queue
   pub held : new.held ≡ old.held
+  pub short : old.is_short ≡ true → new.is_short ≡ true
 
 pub shortened_alike : {D : Type 0} (refusal : Refusal) (w : Way D) → Alike w (shortened_by refusal w)
-shortened_alike refusals.Memory w = record { nodes = refl; queue = refl; held = refl }
-shortened_alike refusal w = record { nodes = refl; queue = refl; held = refl }
+shortened_alike refusals.Memory w = record { nodes = refl; queue = refl; held = refl; short = λ short. refl }
+shortened_alike refusal w = record { nodes = refl; queue = refl; held = refl; short = λ short. short }
 
 pub alike_to : {D : Type 0} (old mid new : Way D) → Alike old mid → new ≡ mid → Alike old new
 alike_to old mid new a same = subst (λ w. Alike old w) (sym same) a
@@ -123,10 +124,11 @@ alike_covers {D} sent old new a c =
       held = subst (λ (l : List Message). AllSent sent l) (sym a.held) c.held;
       servers = c.servers ∙ sym (ap (λ (n : Nodes D). length n.servers) a.nodes);
       clients = c.clients ∙ sym (ap (λ (n : Nodes D). length n.clients) a.nodes);
+      short = λ lost. a.short (c.short lost);
     }
 
 pub as_it_is : {D : Type 0} (w : Way D) → Alike w w
-as_it_is w = record { nodes = refl; queue = refl; held = refl }
+as_it_is w = record { nodes = refl; queue = refl; held = refl; short = λ short. short }
 
 -- what an event sends is under way; of a refused one nothing is
 abbrev pub IsOver : {D : Type 0} → Outcome → Way D → Way D → Type 0
@@ -140,7 +142,8 @@ ended (Err refusal) old result new (same, is) = alike_to old (shortened_by refus
 module _ {D : Type 0} (seen : D → List ℕ) (failures : D → ℕ) where
   -- at the nodes that an event leaves as much is under way
   at_nodes : (sent : Sent) (w : Way D) (nodes : Nodes D) → SameNodes w.nodes nodes → Covers sent w → Covers sent (with_nodes nodes w)
-  at_nodes sent w nodes same c = record { queue = c.queue; held = c.held; servers = c.servers ∙ sym same.servers; clients = c.clients ∙ sym same.clients }
+  at_nodes sent w nodes same c =
+      record { queue = c.queue; held = c.held; servers = c.servers ∙ sym same.servers; clients = c.clients ∙ sym same.clients; short = c.short }
 
   one_step : (event : Event) (by : NodeId) (outcome : Outcome) (nodes : Nodes D) (said : Result (Unit {0}) Refusal) (old new : Way D) (sent after : Sent)
       → AtNode seen failures unarmed event.moment event.happening (history sent old) by outcome nodes

@@ -91,7 +91,7 @@ module _ {D : Type 0} (seen : D → List ℕ) (failures : D → ℕ) where
   -- nothing goes out of what befalls a server
   quietly : (done : Result (Unit {0}) Refusal) (nodes : Nodes D) (old new : Way D) → new ≡ with_nodes nodes old → IsOver (silent done) (with_nodes nodes old) new
   quietly (Ok done) nodes old new same = (with_nodes nodes old, refl, alike_to (with_nodes nodes old) (with_nodes nodes old) new (as_it_is (with_nodes nodes old)) same)
-  quietly (Err refusal) nodes old new same = alike_to (with_nodes nodes old) (with_nodes nodes old) new (record { nodes = refl; queue = refl; held = refl }) same
+  quietly (Err refusal) nodes old new same = alike_to (with_nodes nodes old) (with_nodes nodes old) new (record { nodes = refl; queue = refl; held = refl; short = λ short. short }) same
 
   befalls : (event : Event) (id : ℕ) (does : Server → Result (Unit {0}) Refusal → Server → Type 0) (old : Way D) (result : Result (Unit {0}) Refusal) (new : Way D)
       → ((sent : Sent) (there : Nodes D) → AtServer id does old.nodes result there → AtNode seen failures unarmed event.moment event.happening (history sent old) (nodes.Server id) (silent result) there)
@@ -141,7 +141,7 @@ module _ {D : Type 0} (seen : D → List ℕ) (failures : D → ℕ) where
       → MatchOption found ((result ≡ Err refusals.Range) × (new ≡ old)) (λ message. HandsOver seen failures message old result new) → Leads seen failures old new
   hands_over number None old result new is (refused, same) = nothing seen failures old new same
   hands_over number (Some message) old result new is over = elim over [
-    | inl (refused, same) ↦ alike seen failures old new (alike_to old (shortened old) new (record { nodes = refl; queue = refl; held = refl }) same)
+    | inl (refused, same) ↦ alike seen failures old new (alike_to old (shortened old) new (record { nodes = refl; queue = refl; held = refl; short = λ short. refl }) same)
     | inr (mid, d, rest) ↦
         chain seen failures old mid new
         (λ sent covers. delivers_one seen failures message old result mid sent d (held_numbered (number == 0) old.held (number - 1) message sent covers.held is) covers)
@@ -154,7 +154,7 @@ module _ {D : Type 0} (seen : D → List ℕ) (failures : D → ℕ) where
   -- the report is the one message that goes out
   reports : (id : ℕ) (s : Server) (old : Way D) (mid : Way D) → slice_get old.nodes.servers id ≡ Some s → Sends (servers.beat s) (record old { drops = 0 }) mid → Leads seen failures old mid
   reports id s old mid is sent_one =
-      chain seen failures old (record old { drops = 0 }) mid (alike seen failures old (record old { drops = 0 }) (record { nodes = refl; queue = refl; held = refl }))
+      chain seen failures old (record old { drops = 0 }) mid (alike seen failures old (record old { drops = 0 }) (record { nodes = refl; queue = refl; held = refl; short = λ short. short }))
       (λ sent covers.
       event_leads seen failures (record { moment = old.moment; happening = happenings.Beat id }) (nodes.Server id) (Ok (servers.beat s ∷ [], None)) old.nodes (record old { drops = 0 }) mid sent (
         refl,
@@ -171,7 +171,7 @@ module _ {D : Type 0} (seen : D → List ℕ) (failures : D → ℕ) where
       → MatchOption found ((result ≡ Err refusals.Range) × (new ≡ old)) (λ s. Beats seen failures (servers.beat s) old result new) → Leads seen failures old new
   beats_of id None old result new is (refused, same) = nothing seen failures old new same
   beats_of id (Some s) old result new is b = elim b [
-    | inl (refused, same) ↦ alike seen failures old new (alike_to old (shortened old) new (record { nodes = refl; queue = refl; held = refl }) same)
+    | inl (refused, same) ↦ alike seen failures old new (alike_to old (shortened old) new (record { nodes = refl; queue = refl; held = refl; short = λ short. refl }) same)
     | inr (mid, sent, rest, told) ↦ chain seen failures old mid new (reports id s old mid is sent) (delivers_whole seen failures mid new rest)
   ]
 
@@ -180,8 +180,8 @@ module _ {D : Type 0} (seen : D → List ℕ) (failures : D → ℕ) where
   nodes_do : (request : Request) (old : Way D) (result : Result Answer Refusal) (new : Way D) → NodesDo seen failures request old result new → Leads seen failures old new
   nodes_do (lines.Beat id) old result new (drops, b, is) =
       for_server (is_server id old) old new drops (BeatsOf seen failures id old drops new) (λ did. beats_of id (slice_get old.nodes.servers id) old drops new refl did) b
-  nodes_do (lines.At moment) old result new (is, same) = alike seen failures old new (alike_to old (record old { moment = record { 0 = moment } }) new (record { nodes = refl; queue = refl; held = refl }) same)
-  nodes_do (lines.Hold kind) old result new (is, same) = alike seen failures old new (alike_to old (record old { kind = kind }) new (record { nodes = refl; queue = refl; held = refl }) same)
+  nodes_do (lines.At moment) old result new (is, same) = alike seen failures old new (alike_to old (record old { moment = record { 0 = moment } }) new (record { nodes = refl; queue = refl; held = refl; short = λ short. short }) same)
+  nodes_do (lines.Hold kind) old result new (is, same) = alike seen failures old new (alike_to old (record old { kind = kind }) new (record { nodes = refl; queue = refl; held = refl; short = λ short. short }) same)
   nodes_do (lines.Restart node) old result new (said, r, is) = restarts node old said new r
   nodes_do (lines.Lose id handle) old result new (said, l, is) = loses id handle old said new l
   nodes_do (lines.Damage id handle block) old result new (said, d, is) = damages id handle block old said new d
@@ -270,7 +270,7 @@ module _ {D : Type 0} (seen : D → List ℕ) (failures : D → ℕ) where
     start_reaches desk s =
         let none : Sent = none_sent config.servers 1 in
         let first : Way D = begun (new_nodes config 1 s.place) in
-        let covers : Covers none first = record { queue = tt; held = tt; servers = many config.servers [] ∙ sym (silent_many config config.servers); clients = refl } in
+        let covers : Covers none first = record { queue = tt; held = tt; servers = many config.servers [] ∙ sym (silent_many config config.servers); clients = refl; short = λ lost. absurd cc } in
         let p = sends (record { 0 = 0 }) nodes.Master s.turn.sent.items none first s.mid (record { posts = []; is = refl }) covers s.sends in
         let steps = delivers_whole seen failures s.mid (way_of desk.wire) s.delivers p.after p.covers in
         record {

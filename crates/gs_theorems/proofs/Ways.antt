@@ -72,7 +72,7 @@ module _ {D : Type 0} (seen : D → List ℕ) (failures : D → ℕ) where
   next_sent : (message : Message) (rest : List Message) (old : Way D) (sent : Sent) → old.queue ≡ message ∷ rest → Covers sent old → IsSent message sent × Covers sent (with_queue rest old)
   next_sent message rest old sent is covers =
       let all : AllSent sent (message ∷ rest) = subst (λ (l : List Message). AllSent sent l) is covers.queue in
-      (all.0, record { queue = all.1; held = covers.held; servers = covers.servers; clients = covers.clients })
+      (all.0, record { queue = all.1; held = covers.held; servers = covers.servers; clients = covers.clients; short = covers.short })
 
   delivers_next : (many : ℕ) (old new : Way D) (queue : List Message) → old.queue ≡ queue
       → ((mid : Way D) → DeliversAll seen failures many mid new → Leads mid new)
@@ -132,7 +132,7 @@ module _ {D : Type 0} (seen : D → List ℕ) (failures : D → ℕ) where
         runs = (history sent new, subst (λ (w : Way D). Goes seen failures unarmed (Takes client) (history sent old) (history sent w)) (sym same) (found, takes, refl), refl);
         covers =
             subst (λ w. Covers sent w) (sym same)
-            (record { queue = covers.queue; held = covers.held; servers = covers.servers ∙ sym kept.servers; clients = covers.clients ∙ sym kept.clients });
+            (record { queue = covers.queue; held = covers.held; servers = covers.servers ∙ sym kept.servers; clients = covers.clients ∙ sym kept.clients; short = covers.short });
       }
 
   asked : (client : ClientId) (result : Result (Vec Message Global) Refusal) (old : Way D) (nodes : Nodes D) (reply : Reply) (new : Way D)

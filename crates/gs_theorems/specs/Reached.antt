@@ -1,5 +1,5 @@
 -- What the lines of a script make of a store is a run of events.
-use Rattle.std.specs.Prelude.{◌≡◌, ℕ, List, length}
+use Rattle.std.specs.Prelude.{◌≡◌, ℕ, true, List, length}
 use Rattle.std.specs.List.{AllByRecursion}
 use Rattle.gs_base.specs.declared.config.Config.{Config}
 use Rattle.gs_msg.specs.declared.event.DiskId.{DiskId}
@@ -19,12 +19,14 @@ unarmed disk call place = place
 abbrev pub AllSent : Sent → List Message → Type 0
 AllSent sent messages = AllByRecursion (λ message. IsSent message sent) messages
 
--- All that is under way or held back was sent by its node. There is a list for each node.
+-- All that is under way or held back was sent by its node. There is a list for each node. Where a message was lost, it is noted that
+-- memory was wanting.
 pub record Covers {D : Type 0} (sent : Sent) (w : Way D) : Type 0 where
   pub queue : AllSent sent w.queue
   pub held : AllSent sent w.held
   pub servers : length sent.servers ≡ length w.nodes.servers
   pub clients : length sent.clients ≡ length w.nodes.clients
+  pub short : sent.has_lost ≡ true → w.is_short ≡ true
 
 abbrev pub history : {D : Type 0} → Sent → Way D → History D
 history sent w = record { nodes = w.nodes; sent = sent }
