@@ -145,6 +145,7 @@ module _ {D : Type 0} where
         short = short;
       }
 
+  pub put_covers : (held : Bool) (message : Message) (w new : Way D) (sent : Sent) → new ≡ (if held then held_back message w else under_way message w) → IsSent message sent → Covers sent w → Covers sent new
   put_covers true message w new sent is one c =
       subst (λ x. Covers sent x) (sym is) (record { queue = c.queue; held = all_push sent w.held message c.held one; servers = c.servers; clients = c.clients; short = c.short })
   put_covers false message w new sent is one c =
