@@ -1,5 +1,5 @@
 -- That the master stands firm as long as no disk fails, and that a restart opens what stood.
-use Rattle.std.proofs.Common.{◌≡◌, ◌∙◌, ◌⊎◌, inl, inr, ◌+◌, ◌-◌, ◌<◌, ◌&&◌, ◌++◌, ℕ, Bool, true, false, not, List, [], ◌∷◌, map, drop, get_or, Option, Some, None, MatchOption, Result, Ok, Err, refl, ap, subst, sym, arith, slice_get, slice_set}
+use Rattle.std.proofs.Common.{◌≡◌, ◌∙◌, inl, inr, ◌+◌, ◌-◌, ◌<◌, ◌&&◌, ◌++◌, ℕ, Bool, true, false, not, List, [], ◌∷◌, map, drop, get_or, Option, Some, None, MatchOption, Result, Ok, Err, refl, ap, subst, sym, arith, slice_get, slice_set}
 use Rattle.std.specs.Prelude.{is_none, option_and_then, unwrap_or}
 use Rattle.std.specs.List.{AllByRecursion}
 use Rattle.std.proofs.lemmas.Bool.{false≢true}
@@ -14,9 +14,8 @@ use Rattle.gs_base.specs.Told.{IsNumber}
 use Rattle.gs_block.specs.Follows.{Does}
 use Rattle.gs_client.specs.Nodes.{Node, given_up}
 use Rattle.gs_journal.specs.Faults.{Faulty}
-use Rattle.gs_journal.specs.Journal.{State as Journal, failures_of_both}
+use Rattle.gs_journal.specs.Journal.{failures_of_both}
 use Rattle.gs_journal.specs.Records.{Entry as Record, Text, fresh as fresh_text, standing}
-use Rattle.gs_journal.specs.declared.journal.Unopened.{Unopened}
 use Rattle.gs_journal.specs.declared.version.Version.TheVariants.{Two}
 use Rattle.gs_laws.proofs.StandingAnswers.{pressed_good}
 use Rattle.gs_laws.proofs.StandingRuns.{events_fit, opens_firm, starts_firm}
@@ -28,7 +27,6 @@ use Rattle.gs_master.proofs.Renewed.{written_tick}
 use Rattle.gs_master.proofs.Reopened.{after_opening}
 use Rattle.gs_master.proofs.Turning.{replayed_behind}
 use Rattle.gs_master.specs.Finishing.{and_checkpoint}
-use Rattle.gs_master.specs.Journaled.{IsAsSeen}
 use Rattle.gs_master.specs.Masters.{Answers, IsAnswered, MasterOf}
 use Rattle.gs_master.specs.Recovering.{AreRecordsOf}
 use Rattle.gs_master.specs.Starting.{IsOpened, left_in}
@@ -52,15 +50,15 @@ use Rattle.gs_server.specs.Servers.{Server}
 use Rattle.gs_server.specs.Servers as servers
 use Rattle.gs_state.specs.Applied.{applied, records_behind, replayed}
 use Rattle.gs_state.specs.Durable.{Durable, start}
-use Rattle.gs_state.specs.Handling.{due, fresh, granted, handle, pressed, proposals, recover, restarted, tick}
+use Rattle.gs_state.specs.Handling.{due, handle, pressed, proposals, recover, restarted, tick}
 use Rattle.gs_state.specs.Outcomes.{caller_of}
 use Rattle.gs_state.specs.State.{Log, State, Turn, for_each, is_failed, unmoved}
 use Rattle.gs_state.specs.Whole.{checkpoint_of}
-use Rattle.gs_world.specs.Happenings.{AtClient, AtServer, ClientAsks, ClientHears, Delivers, Hears, MasterHears, MasterTicks, Opens, Reopens, ServerDoes, client_in, disks_of, limit}
+use Rattle.gs_world.specs.Happenings.{AtClient, AtServer, ClientAsks, ClientHears, Delivers, Hears, MasterHears, MasterTicks, Opens, Reopens, ServerDoes, client_in, limit}
 use Rattle.gs_world.specs.Nodes.{Nodes, with_clients, with_master, with_servers}
 use Rattle.gs_world.specs.declared.place.MasterPlace.{MasterPlace}
 use Rattle.gs_world.specs.declared.place.MasterPlace.TheVariants.{Standing, Closed, Away}
-use Rattle.gs_run.specs.Histories.{AtNode, Begins, ComesTo, Happens, History, Outcome, Restarts, Ticks, arms, fault_at, seen_of, failures_of}
+use Rattle.gs_run.specs.Histories.{AtNode, Begins, ComesTo, History, Outcome, Restarts, Ticks, arms, seen_of, failures_of}
 use Rattle.gs_run.specs.Lasting.{HearsNamed, IsToldIn, Lasts, OpensAgain, RunsSoundly, StandsFirm, StepNamed, TellsAMaster, failures_at}
 use Rattle.gs_run.specs.Runs.{Goes, Step, Comes, Takes}
 use Rattle.gs_run.specs.Sent.{message_of}

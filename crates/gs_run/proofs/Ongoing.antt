@@ -1,12 +1,12 @@
 -- Events one after the other.
 use Rattle.std.specs.Result.{is_ok}
-use Rattle.std.proofs.Common.{◌≡◌, ◌∙◌, ◌+◌, ◌++◌, ◌<◌, ◌≤◌, ℕ, suc, if◌then◌else◌, List, [], ◌∷◌, Result, Ok, Err, refl, subst, sym, ap, append_assoc, arith, length}
+use Rattle.std.proofs.Common.{◌≡◌, ◌∙◌, ◌+◌, ◌++◌, ◌≤◌, ℕ, suc, if◌then◌else◌, List, [], ◌∷◌, Result, Ok, Err, refl, sym, ap, append_assoc, arith, length}
 use Rattle.gs_base.specs.declared.refusal.Refusal.{Refusal}
 use Rattle.gs_msg.specs.declared.event.DiskId.{DiskId}
 use Rattle.gs_msg.specs.declared.event.Event.{Event}
 use Rattle.gs_world.specs.declared.place.MasterPlace.{MasterPlace}
 use Rattle.gs_run.specs.Histories.{Happens, History}
-use Rattle.gs_run.specs.Runs.{Comes, HappensAll, RunsTo, all_come}
+use Rattle.gs_run.specs.Runs.{HappensAll, RunsTo, all_come}
 
 -- there is room for what the events behind one say
 pub room_of_one : (all rest : List Event) (event : Event) (many room more space : ℕ) → all ≡ event ∷ rest → length all + many ≤ room → more ≤ many + 1 → room ≤ space → length rest + more ≤ space

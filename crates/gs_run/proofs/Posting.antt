@@ -1,5 +1,5 @@
 -- What a node sends, one after the other.
-use Rattle.std.proofs.Common.{◌≡◌, ◌∙◌, ◌⊎◌, ◌++◌, ◌+◌, ◌-◌, ◌<◌, ◌≤◌, ◌==◌, ℕ, zero, suc, Bool, true, false, if◌then◌else◌, List, [], ◌∷◌, Option, Some, None, MatchOption, Result, Ok, Err, OnOk, OnErr, refl, sym, ap, subst, inl, inr, arith, replicate, slice_get, slice_index_or, slice_set, length}
+use Rattle.std.proofs.Common.{◌≡◌, ◌∙◌, ◌++◌, ◌+◌, ◌-◌, ◌<◌, ◌≤◌, ◌==◌, ℕ, zero, suc, Bool, true, false, if◌then◌else◌, List, [], ◌∷◌, Option, Some, None, MatchOption, refl, sym, ap, subst, arith, replicate, slice_get, slice_index_or, slice_set, length}
 use Rattle.gs_base.specs.declared.numbers.Moment.{Moment}
 use Rattle.gs_msg.specs.Posts.{Posted, posted}
 use Rattle.gs_msg.specs.declared.message.Message.{Message}

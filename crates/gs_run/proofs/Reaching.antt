@@ -1,5 +1,5 @@
 -- Each server of a store that has begun new is one that has begun with nothing, behind events of its own.
-use Rattle.std.proofs.Common.{◌≡◌, ◌∙◌, ◌⊎◌, ◌++◌, ◌+◌, ◌≤◌, ℕ, zero, suc, true, List, [], ◌∷◌, Option, Some, None, refl, sym, ap, subst, inl, inr, option_map, slice_get}
+use Rattle.std.proofs.Common.{◌≡◌, ◌∙◌, ◌⊎◌, ◌++◌, ◌≤◌, ℕ, zero, suc, true, List, [], ◌∷◌, Option, Some, None, refl, sym, ap, inl, inr, option_map, slice_get}
 use Rattle.gs_base.specs.Configs.{is_config}
 use Rattle.gs_base.specs.declared.config.Config.{Config}
 use Rattle.gs_msg.specs.declared.event.DiskId.{DiskId}
@@ -10,7 +10,7 @@ use Rattle.gs_server.specs.Servers as servers
 use Rattle.gs_world.specs.Nodes.{Nodes, silent_servers}
 use Rattle.gs_world.specs.declared.place.MasterPlace.{MasterPlace}
 use Rattle.gs_run.specs.Histories.{History}
-use Rattle.gs_run.specs.Runs.{GoesOn, IsReached}
+use Rattle.gs_run.specs.Runs.{IsReached}
 use Rattle.gs_run.proofs.Serving.{run_goes}
 
 -- what stands in a list and one more is in the list, or this

@@ -1,16 +1,15 @@
 -- What was sent stays sent.
-use Rattle.std.proofs.Common.{◌≡◌, ◌∙◌, ◌⊎◌, ◌++◌, ◌-◌, ◌==◌, ℕ, zero, suc, Bool, true, false, List, [], ◌∷◌, if◌then◌else◌, Option, Some, None, MatchOption, Result, Ok, Err, refl, sym, ap, subst, inl, inr, slice_get, slice_set}
+use Rattle.std.proofs.Common.{◌≡◌, ◌++◌, ◌-◌, ◌==◌, ℕ, zero, suc, Bool, true, false, List, [], ◌∷◌, if◌then◌else◌, Option, Some, None, MatchOption, Result, Ok, Err, refl, sym, ap, subst, inl, inr, slice_get, slice_set}
 use Rattle.gs_base.specs.declared.numbers.Moment.{Moment}
 use Rattle.gs_base.specs.declared.refusal.Refusal.{Refusal}
 use Rattle.gs_msg.specs.Posts.{message_at, posted}
 use Rattle.gs_msg.specs.declared.event.DiskId.{DiskId}
 use Rattle.gs_msg.specs.declared.message.Message.{Message}
-use Rattle.gs_msg.specs.declared.message.MsgId.{MsgId}
 use Rattle.gs_msg.specs.declared.node.NodeId.{NodeId}
 use Rattle.gs_msg.specs.declared.node.NodeId.TheVariants as nodes
 use Rattle.gs_msg.specs.declared.outbox.Post.{Post}
 use Rattle.gs_world.specs.declared.place.MasterPlace.{MasterPlace}
-use Rattle.gs_run.specs.Histories.{Happens, History, Outcome, Tells}
+use Rattle.gs_run.specs.Histories.{History, Outcome, Tells}
 use Rattle.gs_run.specs.Runs.{Goes, RunsTo, StaySent, Step, Comes, Takes}
 use Rattle.gs_run.specs.Sent.{Appends, IsPosted, IsSent, Line, Sent, lost_all, message_in, message_of, posts_of, with_line}
 

@@ -1,5 +1,5 @@
 -- What happens to a server in a run of a store is events of its own.
-use Rattle.std.proofs.Common.{◌≡◌, ◌∙◌, ◌⊎◌, ◌++◌, ◌-◌, ◌==◌, ℕ, zero, suc, List, [], ◌∷◌, Option, Some, None, MatchOption, Result, Ok, Err, refl, sym, ap, subst, inl, inr, length, option_map, slice_get, slice_set}
+use Rattle.std.proofs.Common.{◌≡◌, ◌∙◌, ◌⊎◌, ◌++◌, ◌-◌, ℕ, zero, suc, List, [], ◌∷◌, Option, Some, None, MatchOption, Result, Ok, Err, refl, sym, ap, subst, inl, inr, option_map, slice_get, slice_set}
 use Rattle.std.specs.List.{AllByRecursion}
 use Rattle.gs_base.specs.declared.numbers.ClientId.{ClientId}
 use Rattle.gs_base.specs.declared.numbers.Moment.{Moment}
@@ -21,9 +21,9 @@ use Rattle.gs_server.specs.Runs.{Event, Hears, Ticks as TicksAt, Restarts as Res
 use Rattle.gs_server.specs.Servers.{Server, Step}
 use Rattle.gs_server.specs.Servers as servers
 use Rattle.gs_world.specs.Happenings.{AtClient, AtServer, ClientAsks, ClientHears, Delivers, Hears as HearsAt, ServerDoes, client_in}
-use Rattle.gs_world.specs.Nodes.{Nodes, with_clients, with_master, with_servers}
+use Rattle.gs_world.specs.Nodes.{Nodes, with_clients, with_servers}
 use Rattle.gs_world.specs.declared.place.MasterPlace.{MasterPlace}
-use Rattle.gs_run.specs.Histories.{AtNode, ComesTo, Happens, History, Outcome, Restarts, Ticks}
+use Rattle.gs_run.specs.Histories.{AtNode, ComesTo, History, Outcome, Restarts, Ticks}
 use Rattle.gs_run.specs.Runs as runs
 use Rattle.gs_run.specs.Runs.{Goes, GoesOn, RunsTo, StaySent, Comes, Takes, WasSent}
 use Rattle.gs_run.specs.Sent.{IsSent, Sent, message_of}

@@ -1,5 +1,5 @@
 -- There are as many nodes as before.
-use Rattle.std.proofs.Common.{◌≡◌, ◌∙◌, ◌⊎◌, ◌-◌, ◌==◌, ℕ, zero, suc, List, [], ◌∷◌, Option, Some, None, MatchOption, Result, Ok, Err, refl, sym, ap, subst, inl, inr, length, slice_get, slice_set}
+use Rattle.std.proofs.Common.{◌≡◌, ◌∙◌, ◌-◌, ℕ, zero, suc, List, [], ◌∷◌, Option, Some, None, MatchOption, Result, Ok, Err, refl, sym, ap, subst, inl, inr, length, slice_get, slice_set}
 use Rattle.gs_base.specs.declared.numbers.ClientId.{ClientId}
 use Rattle.gs_base.specs.declared.numbers.Moment.{Moment}
 use Rattle.gs_base.specs.declared.refusal.Refusal.{Refusal}
@@ -20,7 +20,7 @@ use Rattle.gs_server.specs.Servers as servers
 use Rattle.gs_world.specs.Happenings.{AtClient, AtServer, ClientAsks, ClientHears, Delivers, Hears, ServerDoes, client_in}
 use Rattle.gs_world.specs.Nodes.{Nodes, with_clients, with_master, with_servers}
 use Rattle.gs_world.specs.declared.place.MasterPlace.{MasterPlace}
-use Rattle.gs_run.specs.Histories.{AtNode, ComesTo, Happens, History, Outcome, Restarts, Ticks}
+use Rattle.gs_run.specs.Histories.{AtNode, ComesTo, History, Outcome, Restarts, Ticks}
 use Rattle.gs_run.specs.Runs.{Goes, RunsTo, SameNodes, Step, Comes, Takes}
 use Rattle.gs_run.specs.Sent.{message_of}
 

@@ -1,10 +1,10 @@
 -- What becomes of a store over many events.
-use Rattle.std.specs.Prelude.{◌≡◌, ◌⊎◌, ◌++◌, ◌<◌, ℕ, List, [], ◌∷◌, Option, Some, None, Result, IfSome, MatchOption, map, option_map, slice_get, length}
+use Rattle.std.specs.Prelude.{◌≡◌, ℕ, List, [], ◌∷◌, Option, Some, None, Result, map, option_map, slice_get, length}
 use Rattle.std.specs.List.{AllByRecursion}
 use Rattle.gs_base.specs.declared.config.Config.{Config}
 use Rattle.gs_base.specs.declared.numbers.ClientId.{ClientId}
 use Rattle.gs_base.specs.declared.refusal.Refusal.{Refusal}
-use Rattle.gs_client.specs.Nodes.{Node, given_up}
+use Rattle.gs_client.specs.Nodes.{given_up}
 use Rattle.gs_client.specs.declared.link.Reply.{Reply}
 use Rattle.gs_msg.specs.declared.event.DiskId.{DiskId}
 use Rattle.gs_msg.specs.declared.event.Event.{Event}
@@ -13,7 +13,6 @@ use Rattle.gs_msg.specs.declared.message.MsgId.{MsgId}
 use Rattle.gs_msg.specs.declared.node.NodeId.TheVariants as nodes
 use Rattle.gs_server.specs.Runs as at_server
 use Rattle.gs_server.specs.Runs.{behind_all}
-use Rattle.gs_server.specs.Servers.{Server}
 use Rattle.gs_world.specs.Happenings.{AtClient}
 use Rattle.gs_world.specs.Nodes.{Nodes}
 use Rattle.gs_world.specs.declared.place.MasterPlace.{MasterPlace}

@@ -17,9 +17,9 @@ use Rattle.gs_server.specs.Servers as servers
 use Rattle.gs_world.specs.Happenings.{AtClient, AtServer, Delivers, Hears, ServerDoes, client_in, met_by}
 use Rattle.gs_world.specs.Nodes.{Nodes, with_clients, with_servers}
 use Rattle.gs_desk.specs.Ways.{Ends, SendsAll, Way, shortened_by, with_nodes}
-use Rattle.gs_run.specs.Histories.{AtNode, Happens, History, Outcome, Tells, told}
-use Rattle.gs_run.specs.Runs.{Goes, RunsTo, SameNodes, Step, Comes}
-use Rattle.gs_run.specs.Sent.{Sent, posts_of}
+use Rattle.gs_run.specs.Histories.{AtNode, Outcome, Tells, told}
+use Rattle.gs_run.specs.Runs.{SameNodes, Comes}
+use Rattle.gs_run.specs.Sent.{Sent}
 use Rattle.gs_run.proofs.Sending.{numbered}
 use Rattle.gs_run.proofs.Staying.{at_node}
 use Rattle.gs_theorems.specs.Reached.{AllSent, Covers, Steps, history, unarmed}

@@ -1,14 +1,11 @@
 -- What the lines of a script do is steps of a store.
-use Rattle.std.proofs.Common.{◌≡◌, ◌∙◌, ◌⊎◌, ◌+◌, ◌-◌, ◌<◌, ◌==◌, ℕ, zero, suc, Bool, true, false, List, [], ◌∷◌, ◌++◌, if◌then◌else◌, Option, Some, None, MatchOption, Result, Ok, Err, replicate, refl, sym, ap, subst, inl, inr, length, nat_le, slice_get}
-use Rattle.std.specs.List.{AllByRecursion}
+use Rattle.std.proofs.Common.{◌≡◌, ◌∙◌, ◌⊎◌, ◌-◌, ◌==◌, ℕ, zero, suc, Bool, true, false, List, [], ◌∷◌, ◌++◌, if◌then◌else◌, Option, Some, None, MatchOption, Result, Ok, Err, replicate, refl, sym, ap, subst, inl, inr, length, nat_le, slice_get}
 use Rattle.gs_base.specs.declared.config.Config.{Config}
-use Rattle.gs_base.specs.declared.numbers.ReqId.{ReqId}
 use Rattle.gs_base.specs.declared.refusal.Refusal.{Refusal}
 use Rattle.gs_base.specs.declared.refusal.Refusal.TheVariants as refusals
 use Rattle.gs_block.specs.Follows.{Does}
 use Rattle.gs_calls.specs.Asked.{asked_by}
 use Rattle.gs_calls.specs.declared.answer.Answer.{Answer}
-use Rattle.gs_client.specs.Nodes.{Node}
 use Rattle.gs_client.specs.Sends.{Sends as Asks, next_request}
 use Rattle.gs_client.specs.declared.client.Client.{Client}
 use Rattle.gs_client.specs.declared.link.Reply.{Reply}
@@ -18,16 +15,13 @@ use Rattle.gs_lines.specs.Grammar.{Request, line_request}
 use Rattle.gs_lines.specs.Grammar as lines
 use Rattle.gs_lines.specs.declared.command.Restarted.{Restarted}
 use Rattle.gs_lines.specs.declared.command.Restarted.TheVariants as restarted
-use Rattle.gs_master.specs.declared.turn.Turn.{Turn}
 use Rattle.gs_msg.specs.declared.event.Event.{Event}
-use Rattle.gs_msg.specs.declared.event.Happening.{Happening}
 use Rattle.gs_msg.specs.declared.event.Happening.TheVariants as happenings
 use Rattle.gs_msg.specs.declared.event.Request.{Request as Req}
 use Rattle.gs_msg.specs.declared.message.Message.{Message}
 use Rattle.gs_msg.specs.declared.node.NodeId.{NodeId}
 use Rattle.gs_msg.specs.declared.node.NodeId.TheVariants as nodes
 use Rattle.gs_msg.specs.declared.node.StoreNode.TheVariants as keepers
-use Rattle.gs_msg.specs.declared.outbox.Post.{Post}
 use Rattle.gs_script.specs.Run as script
 use Rattle.gs_script.specs.Run.{lines_of}
 use Rattle.gs_server.specs.Servers as servers
@@ -36,17 +30,16 @@ use Rattle.gs_shell.specs.Serving.{Serves}
 use Rattle.gs_world.specs.Happenings.{AtServer}
 use Rattle.gs_world.specs.Nodes.{Nodes, new_nodes, silent_servers, with_master}
 use Rattle.gs_desk.specs.Answering.{AnswersText, IsText}
-use Rattle.gs_desk.specs.Lines.{AtOne, Beats, BeatsOf, Comes, Damages, Either, ForServer, HandsOver, HandsOverAt, IsDone, Loses, MasterRestarts, NodesDo, OfHandle, Restarts, carried, held_at, is_server}
+use Rattle.gs_desk.specs.Lines.{AtOne, Beats, BeatsOf, Comes, Damages, Either, HandsOver, Loses, MasterRestarts, NodesDo, OfHandle, Restarts, carried, held_at, is_server}
 use Rattle.gs_desk.specs.Starting.{Starts, begun}
-use Rattle.gs_desk.specs.Ways.{DeliversWhole, Ends, IsDelivered, Sends, SendsAll, Way, shortened, way_of, with_nodes}
+use Rattle.gs_desk.specs.Ways.{Sends, Way, shortened, way_of, with_nodes}
 use Rattle.gs_desk.specs.declared.desk.Desk.{Desk}
 use Rattle.gs_desk.specs.declared.wire.Wire.{Wire}
-use Rattle.gs_run.specs.Histories.{AtNode, Befalls, Begins, History, Outcome, silent, told}
-use Rattle.gs_run.specs.Runs.{IsReached, RunsTo, Step}
+use Rattle.gs_run.specs.Histories.{AtNode, Outcome, silent, told}
 use Rattle.gs_run.specs.Sent.{IsSent, Sent, none_sent}
-use Rattle.gs_theorems.specs.Reached.{AllSent, Covers, IsReachedDesk, Steps, history, unarmed}
-use Rattle.gs_theorems.proofs.Ending.{Alike, CanPost, IsOver, alike_to, as_it_is, ended, event_leads, known_server, master_posts}
-use Rattle.gs_theorems.proofs.Sending.{HasList, Posting, sends}
+use Rattle.gs_theorems.specs.Reached.{AllSent, Covers, IsReachedDesk, history, unarmed}
+use Rattle.gs_theorems.proofs.Ending.{CanPost, IsOver, alike_to, as_it_is, ended, event_leads, known_server, master_posts}
+use Rattle.gs_theorems.proofs.Sending.{sends}
 use Rattle.gs_theorems.proofs.Ways.{Leads, alike, carries, delivers_one, delivers_whole, joined, nothing, chain}
 
 first_sent : (m message : Message) (sent : Sent) → Some m ≡ Some message → IsSent m sent → IsSent message sent

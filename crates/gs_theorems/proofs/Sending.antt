@@ -1,8 +1,6 @@
 -- What is sent over a wire stands among what its node has sent.
-use Rattle.std.proofs.Common.{◌≡◌, ◌∙◌, ◌⊎◌, ◌++◌, ◌-◌, ◌==◌, ℕ, zero, suc, Bool, true, false, List, [], ◌∷◌, if◌then◌else◌, Option, Some, None, MatchOption, refl, sym, ap, subst, inl, inr, length, slice_get, slice_set}
+use Rattle.std.proofs.Common.{◌≡◌, ◌∙◌, ◌++◌, ◌-◌, ◌==◌, ℕ, zero, suc, Bool, true, false, List, [], ◌∷◌, if◌then◌else◌, Option, Some, None, MatchOption, refl, sym, ap, subst, inl, inr, length, slice_get, slice_set}
 use Rattle.std.specs.Prelude.{unwrap_or}
-use Rattle.std.specs.List.{AllByRecursion}
-use Rattle.gs_base.specs.declared.numbers.ClientId.{ClientId}
 use Rattle.gs_base.specs.declared.numbers.Moment.{Moment}
 use Rattle.gs_msg.specs.Bodies.{kind_of}
 use Rattle.gs_msg.specs.Posts.{message_at, posted}
@@ -10,9 +8,9 @@ use Rattle.gs_msg.specs.declared.message.Message.{Message}
 use Rattle.gs_msg.specs.declared.node.NodeId.{NodeId}
 use Rattle.gs_msg.specs.declared.node.NodeId.TheVariants as nodes
 use Rattle.gs_msg.specs.declared.outbox.Post.{Post}
-use Rattle.gs_desk.specs.Ways.{Puts, Sends, SendsAll, Way, counted, held_back, is_held, shortened, under_way}
+use Rattle.gs_desk.specs.Ways.{Puts, SendsAll, Way, counted, held_back, is_held, shortened, under_way}
 use Rattle.gs_run.specs.Runs.{StaySent}
-use Rattle.gs_run.specs.Sent.{Appends, IsPosted, IsSent, Line, Sent, lost_all, message_in, message_of, posts_of, with_line}
+use Rattle.gs_run.specs.Sent.{Appends, IsPosted, IsSent, Line, Sent, lost_all, message_in, posts_of, with_line}
 use Rattle.gs_run.proofs.Losing.{line, told_by}
 use Rattle.gs_run.proofs.Sending.{IsLonger, behind, numbered, sent_still}
 use Rattle.gs_theorems.specs.Reached.{AllSent, Covers}

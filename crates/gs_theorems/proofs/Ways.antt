@@ -1,5 +1,5 @@
 -- What becomes of what is under way is steps of a store.
-use Rattle.std.proofs.Common.{◌≡◌, ◌∙◌, ◌⊎◌, ◌++◌, ◌-◌, ◌==◌, ℕ, zero, suc, Bool, true, false, List, [], ◌∷◌, Option, Some, None, MatchOption, Result, Ok, Err, Vec, min, refl, sym, ap, subst, inl, inr, length}
+use Rattle.std.proofs.Common.{◌≡◌, ◌∙◌, ◌++◌, ℕ, zero, suc, Bool, true, false, List, [], ◌∷◌, Option, None, MatchOption, Result, Ok, Err, Vec, min, refl, sym, ap, subst, inl, length}
 use Rattle.std.specs.declared.alloc.Global.{Global}
 use Rattle.gs_base.specs.declared.numbers.ClientId.{ClientId}
 use Rattle.gs_base.specs.declared.numbers.Moment.{Moment}
@@ -8,26 +8,22 @@ use Rattle.gs_base.specs.declared.refusal.Refusal.{Refusal}
 use Rattle.gs_base.specs.declared.refusal.Refusal.TheVariants as refusals
 use Rattle.gs_client.specs.Nodes.{given_up}
 use Rattle.gs_client.specs.declared.link.Reply.{Reply}
-use Rattle.gs_master.specs.declared.turn.Turn.{Turn}
 use Rattle.gs_msg.specs.declared.event.Event.{Event}
-use Rattle.gs_msg.specs.declared.event.Happening.{Happening}
 use Rattle.gs_msg.specs.declared.event.Happening.TheVariants as happenings
 use Rattle.gs_msg.specs.declared.event.Request.{Request}
 use Rattle.gs_msg.specs.declared.message.Message.{Message}
-use Rattle.gs_msg.specs.declared.message.MsgId.{MsgId}
-use Rattle.gs_msg.specs.declared.node.NodeId.{NodeId}
 use Rattle.gs_msg.specs.declared.node.NodeId.TheVariants as nodes
 use Rattle.gs_msg.specs.declared.node.StoreNode.TheVariants as keepers
 use Rattle.gs_server.specs.Servers as servers
 use Rattle.gs_world.specs.Happenings.{AtClient, ClientAsks, ServerDoes}
 use Rattle.gs_world.specs.Nodes.{Nodes, with_master}
-use Rattle.gs_desk.specs.Ways.{AllTick, Answers, Carries, DeliversAll, DeliversWhole, Ends, Heard, IsAsked, IsDelivered, MasterTicked, SendsAll, ServerTicked, ServersTick, TicksIf, Waited, Way, WithFirst, last_count, shortened_by, with_nodes, with_queue}
+use Rattle.gs_desk.specs.Ways.{AllTick, Answers, Carries, DeliversAll, DeliversWhole, Heard, IsDelivered, MasterTicked, SendsAll, ServerTicked, ServersTick, TicksIf, Way, WithFirst, last_count, shortened_by, with_nodes, with_queue}
 use Rattle.gs_run.specs.Histories.{ComesTo, History, told}
-use Rattle.gs_run.specs.Runs.{Goes, RunsTo, Step, Comes, Takes}
-use Rattle.gs_run.specs.Sent.{IsSent, Sent, message_of}
+use Rattle.gs_run.specs.Runs.{Goes, RunsTo, Step, Takes}
+use Rattle.gs_run.specs.Sent.{IsSent, Sent}
 use Rattle.gs_run.proofs.Staying.{at_client}
 use Rattle.gs_theorems.specs.Reached.{AllSent, Covers, Steps, history, unarmed}
-use Rattle.gs_theorems.proofs.Ending.{Alike, CanPost, alike_covers, alike_to, as_it_is, asking_client, delivered_posts, ended, event_leads, master_posts, server_posts, shortened_alike}
+use Rattle.gs_theorems.proofs.Ending.{Alike, alike_covers, alike_to, as_it_is, asking_client, delivered_posts, ended, event_leads, master_posts, server_posts, shortened_alike}
 
 module _ {D : Type 0} (seen : D → List ℕ) (failures : D → ℕ) where
   -- steps lead from one way to another, whatever was sent before

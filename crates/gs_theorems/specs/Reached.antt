@@ -4,7 +4,6 @@ use Rattle.std.specs.List.{AllByRecursion}
 use Rattle.gs_base.specs.declared.config.Config.{Config}
 use Rattle.gs_msg.specs.declared.event.DiskId.{DiskId}
 use Rattle.gs_msg.specs.declared.message.Message.{Message}
-use Rattle.gs_world.specs.Nodes.{nodes_of}
 use Rattle.gs_world.specs.declared.place.MasterPlace.{MasterPlace}
 use Rattle.gs_desk.specs.Ways.{Way, way_of}
 use Rattle.gs_desk.specs.declared.desk.Desk.{Desk}

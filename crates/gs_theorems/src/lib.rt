@@ -1,8 +1,11 @@
 //! The theorems over every run of the whole store.
 #![tactic(auto)]
 
-ghost use Rattle.std.specs.Prelude.{◌≡◌, ℕ, List, Option, Some, slice_get};
+ghost use Rattle.std.specs.Prelude.{◌≡◌, ◌≤◌, ℕ, Err, List, Option, Some, slice_get};
+ghost use Rattle.gs_base.specs.Told.{IsNumber};
 ghost use Rattle.gs_base.specs.declared.config.Config.{Config};
+ghost use Rattle.gs_base.specs.declared.numbers.Moment.{Moment};
+ghost use Rattle.gs_base.specs.declared.refusal.Refusal.{Refusal};
 ghost use Rattle.gs_desk.specs.Answering.{AnswersText};
 ghost use Rattle.gs_desk.specs.Starting.{Starts};
 ghost use Rattle.gs_desk.specs.declared.desk.Desk.{Desk};
@@ -10,8 +13,18 @@ ghost use Rattle.gs_server.specs.Runs.{IsReached};
 ghost use Rattle.gs_server.specs.Servers.{Server};
 ghost use Rattle.gs_shell.specs.Serving.{Serves};
 ghost use Rattle.gs_desk.specs.Ways.{way_of};
+ghost use Rattle.gs_laws.specs.Standing.{IsNamedBody};
+ghost use Rattle.gs_master.specs.Masters.{MasterOf};
+ghost use Rattle.gs_master.specs.Ticking.{pressed_all};
+ghost use Rattle.gs_msg.specs.declared.message.Message.{Message};
+ghost use Rattle.gs_run.specs.Lasting.{StandsFirm};
 ghost use Rattle.gs_run.specs.Sent.{Sent};
+ghost use Rattle.gs_state.specs.Handling.{handle};
 ghost use Rattle.gs_theorems.specs.Reached.{Covers, IsReachedDesk, Steps};
+ghost use Rattle.gs_theorems.specs.Refusing.{RefusesAlone};
+ghost use Rattle.gs_world.specs.Happenings.{MasterHears, MasterTicks};
+ghost use Rattle.gs_world.specs.declared.place.MasterPlace.{MasterPlace};
+ghost use Rattle.gs_world.specs.declared.place.MasterPlace.TheVariants.{Standing};
 
 use gs_block::promises::configurations_have_sizes;
 
@@ -31,3 +44,10 @@ pub fn each_server_of_a_script_is_reached<D>()
 {
     configurations_have_sizes();
 }
+
+/// A master that stands firm, whose log is within its limit, refuses a message and a tick for want of memory alone, or as `BadLine` where a
+/// record of it can't be written: its records fit what they meet, and have room.
+pub fn a_firm_master_refuses_for_memory<D>()
+    ensures messages { (seen : D → List ℕ) (failures : D → ℕ) (message : Message) (moment : Moment) (m : MasterOf D) (e : Refusal) (new : MasterPlace D) → StandsFirm seen m → m.state.log.size ≤ m.state.log.limit → IsNamedBody message.body × IsNumber moment.0 → MasterHears seen failures message moment (Standing m) (Err e) new → RefusesAlone (handle m.config m.state message moment) e }
+    ensures ticks { (seen : D → List ℕ) (failures : D → ℕ) (moment : Moment) (m : MasterOf D) (e : Refusal) (new : MasterPlace D) → StandsFirm seen m → m.state.log.size ≤ m.state.log.limit → MasterTicks seen failures moment (Standing m) (Err e) new → RefusesAlone (pressed_all m.state moment) e }
+{}

@@ -1,5 +1,5 @@
 use Rattle.std.proofs.Common.{refl}
-use Rattle.gs_run.proofs.Posting.{posted_nowhere, posted_there}
+use Rattle.gs_run.proofs.Posting.{posted_there}
 use Rattle.gs_run.proofs.posts.post_in.Goals as goal
 
 pub returns-in-Some : goal.returns-in-Some

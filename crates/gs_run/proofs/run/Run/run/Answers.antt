@@ -1,6 +1,6 @@
-use Rattle.std.proofs.Common.{◌∙◌, ◌∷◌, [], append-nil, refl, subst, sym}
+use Rattle.std.proofs.Common.{◌∷◌, [], append-nil, refl, subst, sym}
 use Rattle.gs_msg.specs.declared.event.Event.{Event}
-use Rattle.std.specs.Prelude.{◌++◌, List, Result}
+use Rattle.std.specs.Prelude.{List, Result}
 use Rattle.gs_base.specs.declared.refusal.Refusal.{Refusal}
 use Rattle.gs_run.specs.Histories.{arms, failures_of, history_of, seen_of}
 use Rattle.gs_run.specs.Runs.{HappensAll}
