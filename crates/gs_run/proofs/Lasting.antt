@@ -59,7 +59,7 @@ use Rattle.gs_world.specs.Nodes.{Nodes, with_clients, with_master, with_servers}
 use Rattle.gs_world.specs.declared.place.MasterPlace.{MasterPlace}
 use Rattle.gs_world.specs.declared.place.MasterPlace.TheVariants.{Standing, Closed, Away}
 use Rattle.gs_run.specs.Histories.{AtNode, Begins, ComesTo, History, Outcome, Restarts, Ticks, arms, seen_of, failures_of}
-use Rattle.gs_run.specs.Lasting.{HearsNamed, IsToldIn, Lasts, OpensAgain, RunsSoundly, StandsFirm, StepNamed, TellsAMaster, failures_at}
+use Rattle.gs_run.specs.Lasting.{HearsNamed, IsToldIn, Lasts, OpensAs, RunsSoundly, StandsFirm, StepNamed, TellsAMaster, WaitsAs, failures_at}
 use Rattle.gs_run.specs.Runs.{Goes, Step, Comes, Takes}
 use Rattle.gs_run.specs.Sent.{message_of}
 
@@ -261,10 +261,25 @@ module _ {D : Type 0} (seen : D → List ℕ) (failures : D → ℕ) where
   reopens config (Closed first second) result new h opening same = opens config (first, second) result new h opening same
   reopens config Away result new h (still, refused) same = subst (Lasts seen) (sym still) h
 
-  -- a restart opens what stood
-  pub opens_again : (config : Config) (m : MasterOf D) (turn : Told) (new : MasterPlace D) → StandsFirm seen m → Reopens seen failures config (Standing m) (Ok turn) new → OpensAgain seen m new
-  opens_again config m turn new h (after, is, opening, said) =
-      let firm = opened config m.journal.first m.journal.second m.state.durable after turn.sent.items h.firm.stands.kept h.firm.stands.counters (told_there m h) opening in (after, is, firm.1, firm.0)
+  -- a restart opens what the disks tell
+  pub opens_told : (config : Config) (first second : D) (d : Durable) (turn : Told) (new : MasterPlace D) → IsKept d → AreCounters d → IsToldIn (standing (seen first) (seen second)) d →
+      Opens seen failures config (first, second) (Ok turn) new → OpensAs seen d new
+  opens_told config first second d turn new kept counters told (after, is, opening, said) =
+      let firm = opened config first second d after turn.sent.items kept counters told opening in (after, is, firm.1, firm.0)
+
+  pub opens_again : (config : Config) (m : MasterOf D) (turn : Told) (new : MasterPlace D) → StandsFirm seen m → Reopens seen failures config (Standing m) (Ok turn) new → OpensAs seen m.state.durable new
+  opens_again config m turn new h opening = opens_told config m.journal.first m.journal.second m.state.durable turn new h.firm.stands.kept h.firm.stands.counters (told_there m h) opening
+
+  -- where it isn't opened, they wait
+  waits_told : (config : Config) (first second : D) (d : Durable) (e : Refusal) (new : MasterPlace D) → IsToldIn (standing (seen first) (seen second)) d →
+      Opens seen failures config (first, second) (Err e) new → failures_at failures new ≡ failures first + failures second → WaitsAs seen d new
+  waits_told config first second d e new told (u, is, refusal, inl (device, more)) same =
+      absurd (never (failures first + failures second) (failures u.first + failures u.second) more (sym (ap (failures_at failures) is) ∙ same))
+  waits_told config first second d e new told (u, is, refusal, inr (text, why)) same = (u.first, u.second, is, subst (λ (t : Text). IsToldIn t d) (sym text) told)
+
+  pub waits_again : (config : Config) (m : MasterOf D) (e : Refusal) (new : MasterPlace D) → StandsFirm seen m → Reopens seen failures config (Standing m) (Err e) new →
+      failures_at failures new ≡ failures_at failures (Standing m) → WaitsAs seen m.state.durable new
+  waits_again config m e new h opening same = waits_told config m.journal.first m.journal.second m.state.durable e new (told_there m h) opening same
 
   -- ---- the other nodes
 
@@ -399,3 +414,11 @@ module _ {D : Type 0} (seen : D → List ℕ) where
 
   pub faulty_run_lasts : (failures : D → ℕ) (steps : List Step) (old new : History (Faulty D)) → RunsSoundly (seen_of seen) (failures_of failures) arms steps old new → Lasts (seen_of seen) old.nodes.master → Lasts (seen_of seen) new.nodes.master
   faulty_run_lasts failures steps old new runs h = run_lasts (seen_of seen) (failures_of failures) arms arming steps old new runs h
+
+-- ---- where no failure can be made to come
+
+module _ {D : Type 0} (seen : D → List ℕ) (failures : D → ℕ) (armed : DiskId → ℕ → MasterPlace D → MasterPlace D) where
+  pub unarmed_run_lasts : (steps : List Step) (old new : History D) → ((disk : DiskId) (call : ℕ) (place : MasterPlace D) → armed disk call place ≡ place) → RunsSoundly seen failures armed steps old new
+      → Lasts seen old.nodes.master → Lasts seen new.nodes.master
+  unarmed_run_lasts steps old new leaves runs h =
+      run_lasts seen failures armed (λ disk call place lasts. subst (Lasts seen) (sym (leaves disk call place)) lasts) steps old new runs h

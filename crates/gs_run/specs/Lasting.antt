@@ -58,11 +58,15 @@ module _ {D : Type 0} (seen : D → List ℕ) where
   abbrev pub Lasts : MasterPlace D → Type 0
   Lasts (Standing m) = StandsFirm m
   Lasts (Closed first second) = TellsAMaster (standing (seen first) (seen second))
-  Lasts Away = Unit {0}
+  Lasts Away = ⊥
 
-  -- another master is what this one was
-  abbrev pub OpensAgain : MasterOf D → MasterPlace D → Type 0
-  OpensAgain m new = (after : MasterOf D) × (new ≡ Standing after) × (after.state.durable ≡ m.state.durable) × StandsFirm after
+  -- a master stands firm on this
+  abbrev pub OpensAs : Durable → MasterPlace D → Type 0
+  OpensAs d new = (after : MasterOf D) × (new ≡ Standing after) × (after.state.durable ≡ d) × StandsFirm after
+
+  -- disks wait that tell this
+  abbrev pub WaitsAs : Durable → MasterPlace D → Type 0
+  WaitsAs d new = (first second : D) × (new ≡ Closed first second) × IsToldIn (standing (seen first) (seen second)) d
 
 -- ---- a run in which no disk fails
 
@@ -72,7 +76,7 @@ failures_at failures (Standing m) = failures_of_both failures m.journal
 failures_at failures (Closed first second) = failures first + failures second
 failures_at failures Away = 0
 
--- what the master hears names paths and numbers, as the types have it
+-- what the master hears names paths by the rules, and numbers of 64 bits
 abbrev pub HearsNamed : {D : Type 0} → Moment → Happening → History D → Type 0
 HearsNamed moment (happenings.Deliver id) old =
     (message : Message) → message_of old.sent id ≡ Some message → message.to ≡ ids.Master → IsNamedBody message.body × IsNumber moment.0

@@ -14,8 +14,8 @@ use Rattle.gs_msg.specs.contracts.outbox.Post as post_code
 abbrev posts_code : Coded (List Post)
 posts_code = coded_list post_code.the_row.coded
 
--- of the master, of the servers by their numbers, and of the clients, which are numbered from 1; and whether memory was ever wanting for
--- a message, which is lost then
+-- of the master, of the servers by their numbers, and of the clients, which are numbered from 1; and whether a message was ever lost,
+-- since memory was wanting for it or there is no such node
 pub record Sent : Type 0 where
   pub master : List Post
   pub servers : List (List Post)

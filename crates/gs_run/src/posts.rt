@@ -168,7 +168,7 @@ impl Posts {
         }
     }
 
-    /// Whether memory was ever wanting for a message, which is lost then.
+    /// Whether a message was ever lost, since memory was wanting for it or there is no such node.
     pub fn has_lost(&self) -> bool
         ensures { result ≡ self.now.has_lost }
     {
