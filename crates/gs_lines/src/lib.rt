@@ -6,8 +6,10 @@ mod error;
 mod forms;
 mod operands;
 
-ghost use Rattle.std.specs.Prelude.{◌≡◌, ◌==◌, IfOk, map};
+ghost use Rattle.std.specs.Prelude.{◌≡◌, ◌==◌, false, Err, IfOk, map};
 ghost use Rattle.std.specs.List.{slice_split, list_all};
+ghost use Rattle.std.specs.Str.{is_utf8};
+ghost use Rattle.gs_lines.specs.declared.error.LineError.TheVariants.{BadLine};
 ghost use Rattle.gs_lines.specs.Grammar.{Gives, is_word, words_request, line_request, request_of};
 
 pub use crate::command::{Command, Restarted, Upgrade, UpgradeStep};
@@ -46,9 +48,10 @@ fn words_of<'a>(alloc: Global, text: &'a str) -> Result<Vec<&'a str>, AllocError
 
 /// What a line asks for, given without its end. `BadLine` is every line that isn't of the grammar: one with other words or
 /// another number of them, a space too many, none at all, a number that is none or is past the greatest of 64 bits, bytes that
-/// aren't hex or none, or one that isn't UTF-8.
+/// aren't hex or none, or one that isn't UTF-8, which is told whatever memory there is.
 pub fn parse<'a>(alloc: Global, line: &'a [u8]) -> Result<Command<'a>, LineError>
-    ensures { Gives request_of result (line_request line.entry.now) }
+    ensures request { Gives request_of result (line_request line.entry.now) }
+    ensures text { is_utf8 line.entry.now ≡ false → result ≡ Err BadLine }
 {
     let Ok(text) = str::from_utf8(line) else {
         return Err(LineError::BadLine);

@@ -6,8 +6,9 @@ ghost use Rattle.gs_master.specs.Turns.{GoesBack, IsUnderWay, Steps, state_at};
 
 use crate::event::Event;
 use gs_base::{Handle, Moment, Refusal};
+use gs_guard::sealing::is_with_sealed;
 use gs_lease::View;
-use gs_plan::settling::{ask_plan, is_with_sealed, send_plan};
+use gs_plan::settling::{ask_plan, send_plan};
 use gs_state::asking::{Asking, Step};
 use gs_view::Answers;
 

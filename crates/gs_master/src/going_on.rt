@@ -8,11 +8,11 @@ ghost use Rattle.gs_state.specs.declared.pending.Waiting.TheVariants as waits;
 use crate::event::Event;
 use gs_base::{Handle, Refusal, ReqId, ServerId};
 use gs_edit::Edit;
+use gs_guard::rolling::may_begin;
 use gs_lease::View;
 use gs_msg::{Answer, Copied};
 use gs_path::Path;
 use gs_plan::settling::replace_plan;
-use gs_record::Phase;
 use gs_state::change::Change;
 use gs_state::pending::{Pending, Waiting};
 
@@ -45,7 +45,7 @@ impl Event {
         ensures steps { Steps (copied (state_at self.old) req path index old view.now) self.old result self.new }
         ensures back { GoesBack self.old self.new }
     {
-        if self.recorded.phase == Phase::Rolling {
+        if !may_begin(self.recorded.phase) {
             return self.end_by(req, Refusal::RollingBack);
         }
         let Some(new) = self.recorded.next_handle() else {
@@ -66,7 +66,7 @@ impl Event {
         ensures steps { Steps (leased_next req path index chunk (state_at self.old)) self.old result self.new }
         ensures back { GoesBack self.old self.new }
     {
-        if self.recorded.phase == Phase::Rolling {
+        if !may_begin(self.recorded.phase) {
             return self.end_by(req, Refusal::RollingBack);
         }
         if !self.recorded.has_versions(1) {

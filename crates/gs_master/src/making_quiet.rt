@@ -4,8 +4,8 @@ ghost use Rattle.gs_master.specs.Turns.{GoesBack, IsUnderWay, Steps, state_at};
 
 use crate::event::Event;
 use gs_base::{Handle, Refusal, ServerId};
+use gs_guard::rolling::{may_act_on_report, may_begin};
 use gs_msg::Reported;
-use gs_record::Phase;
 
 impl Event {
     /// Chunks are made quiet, if versions are left and the records have room.
@@ -50,7 +50,7 @@ impl Event {
         if epoch < self.recorded.epoch {
             return self.tell_epoch(server, epoch);
         }
-        if self.recorded.phase == Phase::Rolling || epoch != self.recorded.epoch {
+        if !may_act_on_report(self.recorded.phase, epoch, self.recorded.epoch) {
             return Ok(());
         }
         self.hear_report(server, replicas)
@@ -62,7 +62,7 @@ impl Event {
         ensures steps { Steps (damaged (state_at self.old) server chunk) self.old result self.new }
         ensures back { GoesBack self.old self.new }
     {
-        if self.recorded.phase == Phase::Rolling || !self.standing().is_lost_at(server, chunk) {
+        if !may_begin(self.recorded.phase) || !self.standing().is_lost_at(server, chunk) {
             return Ok(());
         }
         self.make_quiet(&[chunk])

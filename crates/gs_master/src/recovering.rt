@@ -12,9 +12,9 @@ ghost use Rattle.gs_master.specs.Turns.{IsUnderWay};
 
 use crate::event::Event;
 use gs_base::{Config, EpochEnd, Refusal};
+use gs_guard::telling::tell_all;
 use gs_journal::{Disk, Journal, Record, Version};
 use gs_msg::Message;
-use gs_plan::upgrading::tell_all;
 use gs_record::{Entry, Phase};
 use gs_state::log::Log;
 use gs_state::recorded::Recorded;

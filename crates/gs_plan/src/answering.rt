@@ -9,10 +9,10 @@ ghost use Rattle.gs_state.specs.State.{answer_changes, answered};
 ghost use Rattle.gs_state.specs.Upgrades.{accepted_plan};
 
 use crate::posting::reply_to;
-use crate::refused::kept_in_memory;
 use crate::standing::Standing;
 use gs_base::ReqId;
 use gs_edit::Edit;
+use gs_guard::keeping::kept_in_memory;
 use gs_msg::{Answer, Message};
 use gs_record::Entry;
 use gs_state::change::Change;

@@ -30,4 +30,3 @@ pub mod settling;
 pub mod standing;
 mod tidying;
 mod upgrade_calls;
-pub mod upgrading;

@@ -4,37 +4,17 @@ ghost use Rattle.gs_record.specs.Plain as entries;
 ghost use Rattle.gs_record.specs.Plain.{plain};
 ghost use Rattle.gs_state.specs.Plans.{log_of, plan_of};
 ghost use Rattle.gs_plan.specs.Planning.{state_of};
-ghost use Rattle.gs_state.specs.State.{fits, is_kept, keeps_refusal, kept_in_memory, refusal_plan, size_of};
+ghost use Rattle.gs_state.specs.State.{fits, keeps_refusal, kept_in_memory, refusal_plan, size_of};
 
 use crate::posting::reply_to;
 use crate::standing::Standing;
 use gs_base::{Refusal, ReqId};
-use gs_msg::Answer;
+use gs_guard::keeping::{is_kept, kept_in_memory};
 use gs_record::Entry;
 use gs_state::change::Change;
 use gs_state::log::Log;
 use gs_state::plan::Plan;
-use gs_state::reply::KeptReply;
 use std::alloc::{AllocError, Global};
-
-/// Whether a refusal is kept, beside being answered.
-fn is_kept(refusal: &Refusal) -> bool
-    ensures { result ≡ is_kept refusal.now }
-{
-    match refusal {
-        Refusal::Old | Refusal::Device | Refusal::Memory => false,
-        _ => true,
-    }
-}
-
-/// A reply that is the last to its client.
-pub fn kept_in_memory(req: ReqId, answered: Result<Answer, Refusal>) -> Change
-    ensures { result ≡ kept_in_memory req answered }
-{
-    let number = req.number;
-    let result = answered;
-    Change::Keep(req.client, KeptReply { number, result })
-}
 
 /// How many bytes the record of a refusal takes.
 fn said_size(alloc: Global, req: ReqId, refusal: &Refusal) -> Result<u64, AllocError>

@@ -8,8 +8,8 @@ ghost use Rattle.gs_plan.specs.Planning.{state_of};
 ghost use Rattle.gs_state.specs.Upgrades.{accepted_plan, tell_all};
 
 use crate::standing::Standing;
-use crate::upgrading::tell_all;
 use gs_base::{Config, EpochEnd, ReqId};
+use gs_guard::telling::tell_all;
 use gs_record::Entry;
 use gs_state::plan::Plan;
 use std::alloc::AllocError;

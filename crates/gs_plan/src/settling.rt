@@ -3,7 +3,7 @@ ghost use Rattle.std.specs.Prelude.{◌≡◌, IfOk};
 ghost use Rattle.std.specs.Option.{option_to_list};
 ghost use Rattle.gs_state.specs.Chunks.{is_holder, settling};
 ghost use Rattle.gs_state.specs.Durable.{prepared_view};
-ghost use Rattle.gs_state.specs.Hearing.{ask_plan, is_with_sealed, send_plan};
+ghost use Rattle.gs_state.specs.Hearing.{ask_plan, send_plan};
 ghost use Rattle.gs_state.specs.Plans.{plan_of};
 ghost use Rattle.gs_plan.specs.Planning.{state_of};
 ghost use Rattle.gs_state.specs.Settling.{grants, own_request, replace_plan, settle_plan};
@@ -15,8 +15,8 @@ use gs_edit::Edit;
 use gs_lease::{Grant, View};
 use gs_msg::{Chunk, Message};
 use gs_path::Path;
-use gs_record::{Entry, Phase};
-use gs_state::asking::{Asking, Prepared};
+use gs_record::Entry;
+use gs_state::asking::Asking;
 use gs_state::change::Change;
 use gs_state::plan::Plan;
 use std::alloc::{AllocError, Global};
@@ -63,19 +63,6 @@ pub fn send_plan(
     let mut plan = ask_plan(alloc, chunk, sent_for)?;
     plan.sent.push(about(chunk, said, source))?;
     Ok(plan)
-}
-
-/// Whether a copy carries its sealed image: an upgrade stands, and its source is a prepared member or a holder.
-pub fn is_with_sealed(phase: Phase, prepared: Option<Prepared>, source: ServerId) -> bool
-    ensures { result ≡ is_with_sealed phase prepared source }
-{
-    if phase != Phase::Upgrade {
-        return false;
-    }
-    let Some(Prepared { view, holders }) = prepared else {
-        return false;
-    };
-    view.members.contains(source) || holders.contains(source)
 }
 
 /// A copy takes a chunk's place in a file.

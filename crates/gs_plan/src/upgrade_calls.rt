@@ -10,9 +10,10 @@ ghost use Rattle.gs_state.specs.Upgrades.{accepted_plan, chunk_count, commit_tes
 ghost use Rattle.gs_state.specs.declared.change.Change.TheVariants as changes;
 
 use crate::standing::Standing;
-use crate::upgrading::tell_all;
 use gs_base::{Config, EpochEnd, Handle, Moment, Refusal, ReqId};
-use gs_record::{Entry, Phase};
+use gs_guard::preparing::refusal_of_prepare;
+use gs_guard::telling::tell_all;
+use gs_record::Entry;
 use gs_state::change::Change;
 use gs_state::plan::Plan;
 use std::alloc::AllocError;
@@ -23,19 +24,12 @@ impl<'a> Standing<'a> {
         ensures judged { result ≡ first_of (commit_tests (state_of self.entry.now).durable.phase (state_of self.entry.now).volatile.is_preparing unquiet.now (is_last_epoch (state_of self.entry.now).durable)) }
         ensures left { IfNone result ((state_of self.entry.now).durable.epoch < last_number) }
     {
-        if !self.memory.is_preparing() {
-            if self.recorded.phase != Phase::Ordinary {
-                return Some(Refusal::AlreadyUpgrading);
-            }
-            return Some(Refusal::NotUpgrading);
-        }
-        if let Some(chunk) = unquiet.first() {
-            return Some(Refusal::NotQuiet(*chunk));
-        }
-        if self.recorded.epoch == u64::MAX {
-            return Some(Refusal::Exhausted);
-        }
-        None
+        refusal_of_prepare(
+            self.recorded.phase,
+            self.memory.is_preparing(),
+            unquiet,
+            self.recorded.epoch,
+        )
     }
 
     /// An upgrade is prepared. There is an epoch more.

@@ -4,7 +4,7 @@ use Rattle.gs_msg.specs.declared.message.Message.{Message}
 use Rattle.gs_msg.specs.declared.node.NodeId.TheVariants as nodes
 use Rattle.gs_state.specs.State.{post}
 use Rattle.gs_state.proofs.Mapping.{counted_next, found_number}
-use Rattle.gs_plan.proofs.upgrading.tell_all.Goals as goal
+use Rattle.gs_guard.proofs.telling.tell_all.Goals as goal
 
 pub loop-number-preserved : goal.loop-number-preserved
 loop-number-preserved c =

@@ -3,8 +3,8 @@ use Rattle.gs_base.specs.Members.{is_member}
 use Rattle.gs_state.specs.Applied.{is_prepared_on}
 use Rattle.gs_state.specs.Upgrades.{restored_on}
 use Rattle.gs_state.proofs.Mapping.{found_number}
-use Rattle.gs_plan.proofs.Restored.{next_taken, all_taken, none_yet}
-use Rattle.gs_plan.proofs.rollback.restored_on.Goals as goal
+use Rattle.gs_guard.proofs.Restored.{next_taken, all_taken, none_yet}
+use Rattle.gs_guard.proofs.restoring.restored_on.Goals as goal
 
 pub loop-number-init : goal.loop-number-init
 loop-number-init c = c.none-servers.ensures ∙ none_yet (λ s. is_member c.args.told s && is_prepared_on c.in-Some.prepared s)

@@ -1,0 +1,9 @@
+//! The guards of the master: what has to hold before it does something, and what it may not leave out. Each is a function by itself.
+#![tactic(auto)]
+
+pub mod keeping;
+pub mod preparing;
+pub mod restoring;
+pub mod rolling;
+pub mod sealing;
+pub mod telling;
