@@ -65,3 +65,5 @@ pub mod Texted
 pub mod ToldAgain
 pub mod Undone
 pub mod Wanting
+pub mod Tellable
+pub mod Telling

@@ -1,0 +1,103 @@
+-- What is within its type of all that a master keeps: so each record of each turn can be written, and it is so of what is left.
+use Rattle.std.specs.Prelude.{◌≡◌, ◌≤◌, ◌<◌, ◌^◌, ◌∷◌, [], ℕ, true, List, length, Some, None, is_some, codes}
+use Rattle.std.specs.FinMap as fin
+use Rattle.std.specs.List.{AllByRecursion}
+use Rattle.gs_base.specs.Members.{is_member}
+use Rattle.gs_base.specs.Told.{IsNumber}
+use Rattle.gs_base.specs.declared.config.Config.{Config}
+use Rattle.gs_base.specs.declared.numbers.Moment.{Moment}
+use Rattle.gs_base.specs.declared.numbers.Stamp.{Stamp}
+use Rattle.gs_edit.specs.View.{NamesView}
+use Rattle.gs_msg.specs.declared.body.Body.{Body}
+use Rattle.gs_msg.specs.declared.body.Body.TheVariants as bodies
+use Rattle.gs_msg.specs.declared.message.Message.{Message}
+use Rattle.gs_record.specs.Writable.{IsPath, IsRequest}
+use Rattle.gs_state.specs.Durable.{Durable}
+use Rattle.gs_state.specs.Handling.{checkpoint, fresh, granted, handle, pressed, proposals, restarted}
+use Rattle.gs_state.specs.State.{State, Log, Turn, and_then, for_each}
+use Rattle.gs_state.specs.declared.pending.Pending.{Pending}
+use Rattle.gs_state.specs.declared.pending.Waiting.{Waiting}
+use Rattle.gs_state.specs.declared.pending.Waiting.TheVariants as waits
+use Rattle.gs_tree.specs.Entry.{File}
+use Rattle.gs_laws.specs.Promises.{IsWritten}
+use Rattle.gs_laws.specs.Standing.{IsFirm, IsNamedBody}
+
+-- ---- what is kept
+
+-- a place in a file as a record tells it
+abbrev pub IsIndex : ℕ → Type 0
+IsIndex index = index < 2 ^ 32
+
+-- each chunk's number has 64 bits: of those that are settled, and of those whose prepared view is kept
+pub record AreLow (d : Durable) : Type 0 where
+  pub settled : (chunk : ℕ) → is_some (fin.get d.chunks chunk) ≡ true → IsNumber chunk
+  pub prepared : (chunk : ℕ) → is_some (fin.get d.prepared chunk) ≡ true → IsNumber chunk
+
+-- the paths and the index of a call that waits, as the records of its edits tell them
+abbrev pub IsTakenWaiting : Waiting → Type 0
+IsTakenWaiting (waits.Extend path new) = IsPath path
+IsTakenWaiting (waits.Lease path index leased) = IsPath path × IsIndex index
+IsTakenWaiting (waits.Quiet path index quiet) = IsPath path × IsIndex index
+IsTakenWaiting (waits.Copy path index old new) = IsPath path × IsIndex index
+IsTakenWaiting (waits.Snapshot from to) = IsPath from × IsPath to
+IsTakenWaiting (waits.Replicate copied target) = Unit {0}
+
+-- and its request
+abbrev pub IsTaken : Pending → Type 0
+IsTaken p = IsRequest p.req × IsTakenWaiting p.waits
+
+-- Each chunk's number has 64 bits, also that of a chunk which is new; and each call that waits can be told.
+pub record IsWithin (s : State) : Type 0 where
+  pub low : AreLow s.durable
+  pub unplaced : (chunk : ℕ) → is_member s.volatile.unplaced chunk ≡ true → IsNumber chunk
+  pub calls : AllByRecursion IsTaken s.volatile.pending
+
+-- ---- what names are to be
+
+-- Each path at which something stands can be told, and a record can tell each place in a file.
+pub record AreTellable (names : NamesView) : Type 0 where
+  pub paths : (path : List (List ℕ)) → is_some (fin.get names.tree path) ≡ true → IsPath path
+  pub files : (path : List (List ℕ)) (chunks : List ℕ) → fin.get names.tree path ≡ Some (File chunks) → length chunks ≤ 2 ^ 32
+
+-- ---- what comes
+
+-- the request of a call, as its type has it
+abbrev pub IsHeardBody : Body → Type 0
+IsHeardBody (bodies.Call req call) = IsRequest req
+IsHeardBody said = Unit {0}
+
+-- ---- what is to hold
+
+-- each record can be written, and what is left is within its types
+pub record WritesWithin (t : Turn) : Type 0 where
+  pub written : IsWritten t
+  pub within : IsWithin t.after
+
+-- a master that is firm and within its types, on a journal of fewer bytes than a length of four bytes can say
+pub record IsSteady (s : State) : Type 0 where
+  pub firm : IsFirm s
+  pub within : IsWithin s
+  pub limit : s.log.limit < 2 ^ 32
+
+-- Each record of each message can be written, whoever sends it,
+abbrev pub MessagesWritten : Type 0
+MessagesWritten = (config : Config) (s : State) (message : Message) (moment : Moment) → IsNamedBody message.body → IsNumber moment.0 → IsHeardBody message.body → IsSteady s → AreTellable s.durable.names →
+    WritesWithin (handle config s message moment)
+
+-- so can each of each step of a tick,
+abbrev pub StepsWritten : Type 0
+StepsWritten = (s : State) (moment : Moment) (proposal : ℕ × Stamp) → IsSteady s → WritesWithin (pressed moment proposal s)
+
+-- and of all its steps together.
+abbrev pub AllStepsWritten : Type 0
+AllStepsWritten = (s : State) (moment : Moment) → IsSteady s → WritesWithin (and_then (for_each s (proposals s) (pressed moment)) granted)
+
+-- A new store is within its types, a checkpoint leaves it so, and a restart does.
+abbrev pub StartsWithin : Type 0
+StartsWithin = (log : Log) → IsWithin (fresh log)
+
+abbrev pub CheckpointsWithin : Type 0
+CheckpointsWithin = (s : State) → IsWithin s → IsWithin (checkpoint s).after
+
+abbrev pub RestartsWithin : Type 0
+RestartsWithin = (s : State) → IsWithin s → IsWithin (restarted s.durable s.log)
