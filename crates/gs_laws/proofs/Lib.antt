@@ -67,3 +67,5 @@ pub mod Undone
 pub mod Wanting
 pub mod Tellable
 pub mod Telling
+pub mod Fair
+pub mod TellingCalls

@@ -1,5 +1,5 @@
 -- What a record tells beside what follows of its fitting what it meets: so a record that fits can be written.
-use Rattle.std.proofs.Common.{◌≡◌, ◌∙◌, ◌≤◌, ◌<◌, ◌+◌, ◌^◌, ◌==◌, ◌&&◌, ◌||◌, ◌++◌, ℕ, Bool, true, false, not, cond, List, [], ◌∷◌, length, length-append, map, refl, sym, ap, subst, arith}
+use Rattle.std.proofs.Common.{◌≡◌, ◌∙◌, ◌≤◌, ◌<◌, ◌+◌, ◌^◌, ◌==◌, ◌&&◌, ◌||◌, ◌++◌, ℕ, Bool, true, false, not, cond, List, [], ◌∷◌, length, length-append, refl, sym, ap, subst, arith}
 use Rattle.std.specs.Prelude.{nat_lt, is_none, is_some, Option, Some, None, Result, Ok, Err, option_and_then, option_map, filter_map, flat_map, if◌then◌else◌, slice_get}
 use Rattle.std.specs.Cmp.{nat_cmp_total}
 use Rattle.std.specs.FinMap as fin
@@ -8,7 +8,6 @@ use Rattle.std.specs.Ordering.{eq_by_cmp, nat_cmp}
 use Rattle.std.proofs.lemmas.Bool.{false≢true, and_parts}
 use Rattle.std.proofs.lemmas.Bool.Decides.{nat_tests}
 use Rattle.std.proofs.lemmas.List.Sums.{sum_by-cons}
-use Rattle.gs_base.specs.Numbers.{last_number}
 use Rattle.gs_base.specs.Told.{IsNumber}
 use Rattle.gs_base.specs.declared.epoch.EpochEnd.TheVariants as ends
 use Rattle.gs_base.specs.declared.numbers.ReqId.{ReqId}
@@ -20,15 +19,14 @@ use Rattle.gs_edit.specs.declared.edit.Edit.TheVariants as edits
 use Rattle.gs_journal.specs.declared.version.Version.TheVariants.{Two}
 use Rattle.gs_record.specs.Encoding.{answered, body, list, members, number, request}
 use Rattle.gs_record.specs.Plain.{PlainEdit, Mkdirs, Create, Rename, Hide, Unhide, Remove, AddChunk, Cow, Snapshot, Forget, PlainEntry, Edited, Said, Propose, Settle, Prepare, Finalize, RollbackBegin, RollbackCommit, Whole, Holder}
-use Rattle.gs_record.specs.Writable.{AreFields, AreItems, AreServers, IsAnswered, IsEdit, IsEntry, IsHandle, IsPath, IsRequest, IsSettled, IsWritable}
+use Rattle.gs_record.specs.Writable.{AreFields, AreItems, IsAnswered, IsEdit, IsEntry, IsHandle, IsPath, IsRequest, IsWritable}
 use Rattle.gs_record.specs.declared.checkpoint.Phase.TheVariants.{Ordinary, Upgrade, Rolling}
 use Rattle.gs_record.specs.declared.entry.Answered.{Answered}
-use Rattle.gs_record.specs.declared.entry.SettledView.{SettledView}
 use Rattle.gs_refs.specs.Counts.{Counts, ascends, is_at_zero, taken_each, without_each}
 use Rattle.gs_state.specs.Applied.{after_edit, after_if, after_undoing, applied, are_answers, are_at_rest, chunk_of_edit, forgotten_by, held_by, is_fresh, is_fresh_if, is_next_epoch, is_whole_entry, may_be_settled, may_edit, may_propose, may_restore, names_well, number_of_edit, proposed, raised, replayed, restored_chunk, restored_view, rolled_back, view_for, view_in, with_edit, with_epoch, with_proposal, with_view, without_chunks, without_prepared}
-use Rattle.gs_state.specs.Durable.{Durable, Settled, after_number, if_before, is_given, is_listed, is_ordinary, is_rolling, is_upgrade, kept_before, prepared_of, prepared_view, start, upgrade_epoch, with_prepared}
+use Rattle.gs_state.specs.Durable.{Durable, Settled, after_number, is_given, is_listed, is_ordinary, is_rolling, is_upgrade, kept_before, prepared_of, prepared_view, start, upgrade_epoch, with_prepared}
 use Rattle.gs_state.specs.State.{size_of, size_of_all}
-use Rattle.gs_state.specs.Undoing.{all_undone, edited_names, named_plain}
+use Rattle.gs_state.specs.Undoing.{all_undone, edited_names}
 use Rattle.gs_state.specs.declared.asking.Prepared.{Prepared}
 use Rattle.gs_tree.specs.Edits.{chunks_in}
 use Rattle.gs_tree.specs.Find.{at}

@@ -1,32 +1,27 @@
 -- Turns whose records tell what they can, and what they leave of the calls that wait and of the new chunks; and how they follow one another.
-use Rattle.std.proofs.Common.{◌≡◌, ◌∙◌, ◌<◌, ◌^◌, ◌==◌, ◌&&◌, ◌||◌, ℕ, zero, suc, Bool, true, false, not, cond, List, [], ◌∷◌, ◌++◌, length, filter, refl, sym, ap, subst, arith}
-use Rattle.std.specs.Prelude.{flat_map, is_some, Option, Some, None, Result, Ok, Err, if◌then◌else◌, position, slice_set}
+use Rattle.std.proofs.Common.{◌≡◌, ◌∙◌, ◌==◌, ◌&&◌, ◌||◌, ℕ, zero, suc, Bool, true, false, not, cond, List, [], ◌∷◌, ◌++◌, filter, refl, sym, ap, subst, arith}
+use Rattle.std.specs.Prelude.{flat_map, Option, Some, None, Ok, Err, if◌then◌else◌, position, slice_set}
 use Rattle.std.specs.FinMap as fin
-use Rattle.std.specs.List.{list_all, list_any, AllByRecursion}
-use Rattle.std.specs.Str.{is_utf8}
-use Rattle.std.proofs.lemmas.Bool.{false≢true, and_parts}
+use Rattle.std.specs.List.{list_any, AllByRecursion}
+use Rattle.std.proofs.lemmas.Bool.{false≢true}
 use Rattle.std.proofs.lemmas.Bool.Decides.{nat_tests}
-use Rattle.std.proofs.lemmas.Str.{is_utf8-from_IsUtf8, IsUtf8-from_ascii, IsUtf8-nil}
-use Rattle.std.proofs.lemmas.Fmt.{IsAscii-decimal}
-use Rattle.gs_base.specs.MemberLaws.{eqb_itself}
+use Rattle.std.proofs.lemmas.Str.{is_utf8-from_IsUtf8, IsUtf8-nil}
 use Rattle.gs_base.specs.Members.{is_member}
 use Rattle.gs_base.specs.declared.numbers.ReqId.{ReqId}
 use Rattle.gs_base.specs.declared.refusal.Refusal.{Refusal}
-use Rattle.gs_base.specs.declared.refusal.Refusal.TheVariants as refusals
 use Rattle.gs_lease.specs.declared.view.Purpose.{Purpose}
 use Rattle.gs_msg.specs.declared.answer.Answer.{Answer}
-use Rattle.gs_record.specs.Plain.{PlainEntry, Edited, Said, Propose, Settle, Prepare, Finalize, RollbackBegin, RollbackCommit, Whole, Holder}
+use Rattle.gs_record.specs.Plain.{PlainEntry, Said, Propose}
 use Rattle.gs_record.specs.Writable.{IsRequest, IsText, IsWritable}
 use Rattle.gs_state.specs.Beginning.{begin_at, begun, all_begun}
 use Rattle.gs_state.specs.Replies.{is_later}
 use Rattle.gs_state.specs.Settling.{requests_of}
-use Rattle.gs_state.specs.State.{State, Plan, Turn, turned, unmoved, and_then, for_each, fits, if_room, refused, ended_by, all_ended_by, answer_changes, keeps_refusal, kept_in_memory, last_reply, refusal_plan, said_changes, said_records, end_changes}
-use Rattle.gs_state.specs.Volatile.{Volatile, all_changed, changed, is_call, let_go, let_go_of, waits_at, with_waiting, without_call, without_handle, without_pending}
+use Rattle.gs_state.specs.State.{State, Plan, Turn, turned, unmoved, and_then, for_each, fits, refused, ended_by, all_ended_by, answer_changes, keeps_refusal, kept_in_memory, last_reply, refusal_plan, said_changes, said_records, end_changes}
+use Rattle.gs_state.specs.Volatile.{Volatile, all_changed, changed, is_call, let_go, let_go_of, waits_at, without_call}
 use Rattle.gs_state.specs.declared.asking.Asking.{Asking}
 use Rattle.gs_state.specs.declared.change.Change.{Change}
 use Rattle.gs_state.specs.declared.change.Change.TheVariants as changes
 use Rattle.gs_state.specs.declared.pending.Pending.{Pending}
-use Rattle.gs_state.specs.declared.pending.Waiting.{Waiting}
 use Rattle.gs_laws.specs.Written.{IsTaken, IsTakenWaiting}
 use Rattle.gs_laws.proofs.Standing.{same_call}
 use Rattle.gs_laws.proofs.Tellable.{IsTellable}

@@ -1,5 +1,5 @@
 -- What is within its type of all that a master keeps: so each record of each turn can be written, and it is so of what is left.
-use Rattle.std.specs.Prelude.{◌≡◌, ◌≤◌, ◌<◌, ◌^◌, ◌∷◌, [], ℕ, true, List, length, Some, None, is_some, codes}
+use Rattle.std.specs.Prelude.{◌≡◌, ◌≤◌, ◌<◌, ◌^◌, ℕ, true, List, length, Some, is_some}
 use Rattle.std.specs.FinMap as fin
 use Rattle.std.specs.List.{AllByRecursion}
 use Rattle.gs_base.specs.Members.{is_member}
