@@ -69,3 +69,4 @@ pub mod Tellable
 pub mod Telling
 pub mod Fair
 pub mod TellingCalls
+pub mod TellingTurns

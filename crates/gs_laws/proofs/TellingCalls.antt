@@ -77,7 +77,7 @@ number_text n low = (let short = length-decimal-le 20 n (omega arith) (omega ari
 abbrev IsFine : Plan → Type 0
 IsFine plan = AllByRecursion IsTellable plan.records × AllByRecursion (IsToldChange plan.records) plan.changes
 
-new_fine : (chunk version : ℕ) (asking : Asking) → AllByRecursion (IsToldChange (Propose chunk version ∷ [])) (changes.Enter chunk ∷ changes.Ask chunk asking ∷ [])
+pub new_fine : (chunk version : ℕ) (asking : Asking) → AllByRecursion (IsToldChange (Propose chunk version ∷ [])) (changes.Enter chunk ∷ changes.Ask chunk asking ∷ [])
 new_fine chunk version asking = (or_left (chunk == chunk) (eqb_itself chunk), (tt, tt))
   where
     or_left : (b : Bool) → b ≡ true → (b || false) ≡ true
@@ -328,7 +328,7 @@ removed_told names moment tellable =
     (puts_all stands (map (λ r. r.0) (filter (λ r. is_removed moment (at rows) r.0) rows)) (rows_of stands (λ r. is_removed moment (at rows) r.0) rows
     (each_found path_cmp path_total paths_antisymmetric (λ r. stands r.0) rows (fin.entries_sorted names.tree) (λ path entry found. ap is_some (fin.get-entries names.tree path ∙ found)))))
 
-own_heard : IsRequest own_request
+pub own_heard : IsRequest own_request
 own_heard = (omega arith, omega arith)
 
 scan_told : (removed : List Path) (forgotten : List ℕ) → AllByRecursion IsPath removed → AllByRecursion IsTellable (map (Edited own_request) (scan_edits removed forgotten))
