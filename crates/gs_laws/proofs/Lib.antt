@@ -70,3 +70,4 @@ pub mod Telling
 pub mod Fair
 pub mod TellingCalls
 pub mod TellingTurns
+pub mod Writing

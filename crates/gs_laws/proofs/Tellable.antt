@@ -101,7 +101,7 @@ after_if_before : (next : ℕ) (number : Option ℕ) → is_fresh_if next number
 after_if_before next None fresh low = low
 after_if_before next (Some v) fresh low = before_low next v fresh low
 
-given_some : (next n : ℕ) → is_given next n ≡ true → 1 ≤ n
+pub given_some : (next n : ℕ) → is_given next n ≡ true → 1 ≤ n
 given_some next n given = grind (arith, nat_tests)
 
 fresh_some : (next n : ℕ) → is_fresh next n ≡ true → 1 ≤ n
@@ -241,7 +241,7 @@ viewed_given d chunk k some = each (upgrade_epoch d.phase d.epoch) (fin.get d.pr
     each (Some u) None ip (Some c) ic h = k.handles chunk (ap is_some ic)
     each (Some u) None ip None ic h = absurd (false≢true h)
 
-viewed_handle : (d : Durable) (chunk : ℕ) → IsKept d → AreLow d → is_some (prepared_view d chunk) ≡ true → IsHandle chunk
+pub viewed_handle : (d : Durable) (chunk : ℕ) → IsKept d → AreLow d → is_some (prepared_view d chunk) ≡ true → IsHandle chunk
 viewed_handle d chunk k low some = (given_some d.next_handle chunk (viewed_given d chunk k some), viewed_low d chunk low some)
 
 pub settled_handle : (d : Durable) (chunk : ℕ) → IsKept d → AreLow d → is_some (fin.get d.chunks chunk) ≡ true → IsHandle chunk

@@ -101,7 +101,7 @@ more_member (y ∷ xs) x c h = by_head (more_member xs x c) (y == c) h
     by_head rest true k = refl
     by_head rest false k = rest k
 
-fewer_member : (xs : List ℕ) (f : ℕ → Bool) (c : ℕ) → is_member (filter f xs) c ≡ true → is_member xs c ≡ true
+pub fewer_member : (xs : List ℕ) (f : ℕ → Bool) (c : ℕ) → is_member (filter f xs) c ≡ true → is_member xs c ≡ true
 fewer_member [] f c h = h
 fewer_member (x ∷ xs) f c h = by_test (fewer_member xs f c) (f x) h
   where

@@ -1,5 +1,5 @@
 -- What is within its type of all that a master keeps: so each record of each turn can be written, and it is so of what is left.
-use Rattle.std.specs.Prelude.{◌≡◌, ◌≤◌, ◌<◌, ◌^◌, ℕ, true, List, length, Some, is_some}
+use Rattle.std.specs.Prelude.{◌≡◌, ◌≤◌, ◌<◌, ◌^◌, ℕ, true, List, [], ◌∷◌, length, Some, is_some}
 use Rattle.std.specs.FinMap as fin
 use Rattle.std.specs.List.{AllByRecursion}
 use Rattle.gs_base.specs.Members.{is_member}
@@ -11,16 +11,18 @@ use Rattle.gs_edit.specs.View.{NamesView}
 use Rattle.gs_msg.specs.declared.body.Body.{Body}
 use Rattle.gs_msg.specs.declared.body.Body.TheVariants as bodies
 use Rattle.gs_msg.specs.declared.message.Message.{Message}
-use Rattle.gs_record.specs.Writable.{IsPath, IsRequest}
+use Rattle.gs_journal.specs.declared.version.Version.TheVariants.{Two}
+use Rattle.gs_record.specs.Plain.{PlainEntry, Whole}
+use Rattle.gs_record.specs.Writable.{IsEntry, IsPath, IsRequest}
 use Rattle.gs_state.specs.Durable.{Durable}
-use Rattle.gs_state.specs.Handling.{checkpoint, fresh, granted, handle, pressed, proposals, restarted}
+use Rattle.gs_state.specs.Handling.{fresh, granted, handle, pressed, proposals}
 use Rattle.gs_state.specs.State.{State, Log, Turn, and_then, for_each}
 use Rattle.gs_state.specs.declared.pending.Pending.{Pending}
 use Rattle.gs_state.specs.declared.pending.Waiting.{Waiting}
 use Rattle.gs_state.specs.declared.pending.Waiting.TheVariants as waits
 use Rattle.gs_tree.specs.Entry.{File}
 use Rattle.gs_laws.specs.Promises.{IsWritten}
-use Rattle.gs_laws.specs.Standing.{IsFirm, IsNamedBody}
+use Rattle.gs_laws.specs.Standing.{Event, Comes, IsFirm, IsNamed, run_of, turn_of}
 
 -- ---- what is kept
 
@@ -66,38 +68,58 @@ abbrev pub IsHeardBody : Body → Type 0
 IsHeardBody (bodies.Call req call) = IsRequest req
 IsHeardBody said = Unit {0}
 
+-- what comes names paths by the rules, and meets names that can be told
+abbrev pub IsHeardIn : State → Event → Type 0
+IsHeardIn s (Comes message moment) = IsHeardBody message.body × AreTellable s.durable.names
+IsHeardIn s event = Unit {0}
+
 -- ---- what is to hold
 
--- each record can be written, and what is left is within its types
-pub record WritesWithin (t : Turn) : Type 0 where
-  pub written : IsWritten t
-  pub within : IsWithin t.after
-
--- a master that is firm and within its types, on a journal of fewer bytes than a length of four bytes can say
+-- A master that is firm and within its types, on a journal that has no more bytes than its limit, which is one of 32 bits.
 pub record IsSteady (s : State) : Type 0 where
   pub firm : IsFirm s
   pub within : IsWithin s
+  pub room : s.log.size ≤ s.log.limit
   pub limit : s.log.limit < 2 ^ 32
+
+-- each record can be written, and the master is left so
+pub record WritesAll (t : Turn) : Type 0 where
+  pub written : IsWritten t
+  pub steady : IsSteady t.after
+
+-- A new store is so.
+abbrev pub StartsSteady : Type 0
+StartsSteady = (log : Log) → log.size ≤ log.limit → log.limit < 2 ^ 32 → IsSteady (fresh log)
 
 -- Each record of each message can be written, whoever sends it,
 abbrev pub MessagesWritten : Type 0
-MessagesWritten = (config : Config) (s : State) (message : Message) (moment : Moment) → IsNamedBody message.body → IsNumber moment.0 → IsHeardBody message.body → IsSteady s → AreTellable s.durable.names →
-    WritesWithin (handle config s message moment)
+MessagesWritten = (config : Config) (s : State) (message : Message) (moment : Moment) → IsNamed (Comes message moment) → IsHeardIn s (Comes message moment) → IsSteady s → WritesAll (handle config s message moment)
 
 -- so can each of each step of a tick,
 abbrev pub StepsWritten : Type 0
-StepsWritten = (s : State) (moment : Moment) (proposal : ℕ × Stamp) → IsSteady s → WritesWithin (pressed moment proposal s)
+StepsWritten = (s : State) (moment : Moment) (proposal : ℕ × Stamp) → IsSteady s → WritesAll (pressed moment proposal s)
 
 -- and of all its steps together.
 abbrev pub AllStepsWritten : Type 0
-AllStepsWritten = (s : State) (moment : Moment) → IsSteady s → WritesWithin (and_then (for_each s (proposals s) (pressed moment)) granted)
+AllStepsWritten = (s : State) (moment : Moment) → IsSteady s → WritesAll (and_then (for_each s (proposals s) (pressed moment)) granted)
 
--- A new store is within its types, a checkpoint leaves it so, and a restart does.
-abbrev pub StartsWithin : Type 0
-StartsWithin = (log : Log) → IsWithin (fresh log)
+-- of a checkpoint's record nothing is said
+abbrev pub IsEntryUnlessWhole : PlainEntry → Type 0
+IsEntryUnlessWhole (Whole c) = Unit {0}
+IsEntryUnlessWhole entry = IsEntry Two entry
 
-abbrev pub CheckpointsWithin : Type 0
-CheckpointsWithin = (s : State) → IsWithin s → IsWithin (checkpoint s).after
+pub record WritesMost (t : Turn) : Type 0 where
+  pub written : AllByRecursion IsEntryUnlessWhole t.records
+  pub steady : IsSteady t.after
 
-abbrev pub RestartsWithin : Type 0
-RestartsWithin = (s : State) → IsWithin s → IsWithin (restarted s.durable s.log)
+-- So it is of every event, but for the record of a checkpoint,
+abbrev pub EventsWritten : Type 0
+EventsWritten = (config : Config) (s : State) (event : Event) → IsNamed event → IsHeardIn s event → IsSteady s → WritesMost (turn_of config s event)
+
+-- and of every run.
+abbrev pub AreHeardIn : Config → State → List Event → Type 0
+AreHeardIn config s [] = Unit {0}
+AreHeardIn config s (event ∷ events) = IsHeardIn s event × AreHeardIn config (turn_of config s event).after events
+
+abbrev pub RunsWritten : Type 0
+RunsWritten = (config : Config) (s : State) (events : List Event) → AllByRecursion IsNamed events → AreHeardIn config s events → IsSteady s → WritesMost (run_of config s events)
