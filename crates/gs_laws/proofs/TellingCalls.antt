@@ -1,6 +1,6 @@
 -- The records of each call tell what they can, where its request, its paths and its place in a file can be told.
-use Rattle.std.proofs.Common.{◌≡◌, ◌∙◌, ◌<◌, ◌≤◌, ◌^◌, ◌==◌, ◌&&◌, ◌||◌, ◌+◌, ◌++◌, ℕ, zero, suc, Bool, true, false, not, cond, List, [], ◌∷◌, length, map, filter, refl, ap, sym, subst, arith}
-use Rattle.std.specs.Prelude.{min, nat_lt, nat_le, is_none, is_some, slice_get, Option, Some, None, Result, Ok, Err, if◌then◌else◌}
+use Rattle.std.proofs.Common.{◌≡◌, ◌∙◌, ◌<◌, ◌^◌, ◌==◌, ◌&&◌, ◌||◌, ◌+◌, ◌++◌, ℕ, Bool, true, false, not, cond, List, [], ◌∷◌, length, map, filter, refl, ap, sym, subst, arith}
+use Rattle.std.specs.Prelude.{min, nat_lt, nat_le, is_none, is_some, Option, Some, None, Result, Ok, Err, if◌then◌else◌}
 use Rattle.std.specs.Fmt.{decimal}
 use Rattle.std.specs.List.{list_all, list_any, AllByRecursion}
 use Rattle.std.specs.Cmp.{nat_cmp_total, tied_itself}
@@ -58,7 +58,7 @@ use Rattle.gs_state.specs.declared.pending.Pending.{Pending}
 use Rattle.gs_state.specs.declared.pending.Waiting.{Waiting}
 use Rattle.gs_state.specs.declared.pending.Waiting.TheVariants as waits
 use Rattle.gs_laws.specs.Standing.{IsNamedCall}
-use Rattle.gs_laws.specs.Written.{AreTellable, IsIndex, IsTaken, IsTakenWaiting}
+use Rattle.gs_laws.specs.Written.{ArePaths, IsIndex, IsMet, IsTaken, IsTakenWaiting}
 use Rattle.gs_laws.proofs.AcceptedUpgrades.{answers_told}
 use Rattle.gs_laws.proofs.Fair.{Fair, IsFairTest, IsFairly, fair_edited, fair_found, fair_listing, fair_location, fair_names, fair_status, first_fair}
 use Rattle.gs_laws.proofs.Retold.{each_found}
@@ -209,25 +209,7 @@ module _ (s : State) (req : ReqId) (heard : IsRequest req) where
   most_tells config None = answered_tells (answers.Copied None)
   most_tells config (Some chunk) = replicates_tells config chunk (chunk_at s chunk)
 
--- ---- places and paths
-
-low_place : (xs : List ℕ) (i c : ℕ) → slice_get xs i ≡ Some c → i < length xs
-low_place [] i c e = absurd (false≢true (ap is_some e))
-low_place (x ∷ xs) zero c e = omega arith
-low_place (x ∷ xs) (suc i) c e = let rest = low_place xs i c e in omega arith
-
--- a place at which a chunk stands can be told
-index_low : (names : NamesView) (path : Path) (index c : ℕ) → AreTellable names → found_chunk (fin.get names.tree path) index ≡ Ok c → IsIndex index
-index_low names path index c tellable e = by_entry (fin.get names.tree path) refl e
-  where
-    by_place : (chunks : List ℕ) → length chunks ≤ 2 ^ 32 → (o : Option ℕ) → slice_get chunks index ≡ o → found_chunk (Some (File chunks)) index ≡ Ok c → IsIndex index
-    by_place chunks few None is h = absurd (let k = rw is at h in cc)
-    by_place chunks few (Some chunk) is h = let low = low_place chunks index chunk is in omega arith
-
-    by_entry : (o : Option (Entry ℕ)) → fin.get names.tree path ≡ o → found_chunk o index ≡ Ok c → IsIndex index
-    by_entry None is h = absurd (let k = h in cc)
-    by_entry (Some Dir) is h = absurd (let k = h in cc)
-    by_entry (Some (File chunks)) is h = by_place chunks (tellable.files path chunks is) (slice_get chunks index) refl h
+-- ---- paths
 
 waiting_paths : (w : Waiting) → IsTakenWaiting w → AllByRecursion IsPath (paths_of w)
 waiting_paths (waits.Extend path new) t = (t, tt)
@@ -320,11 +302,11 @@ rows_of f g (r ∷ rows) all = let parts = and_parts (f r.0) (list_all (λ x. f 
     by_test true own rest = ap (λ b. b && list_all f (map (λ x. x.0) (filter g rows))) own ∙ rest
     by_test false own rest = rest
 
-removed_told : (names : NamesView) (moment : ℕ) → AreTellable names → AllByRecursion IsPath (removed_paths moment (fin.entries names.tree))
-removed_told names moment tellable =
+removed_told : (names : NamesView) (moment : ℕ) → ArePaths names → AllByRecursion IsPath (removed_paths moment (fin.entries names.tree))
+removed_told names moment paths =
     let rows = fin.entries names.tree in
     let stands : Path → Bool = λ p. is_some (fin.get names.tree p) in
-    keys_of IsPath stands (put_paths (map (λ r. r.0) (filter (λ r. is_removed moment (at rows) r.0) rows))) (λ p some. tellable.paths p some)
+    keys_of IsPath stands (put_paths (map (λ r. r.0) (filter (λ r. is_removed moment (at rows) r.0) rows))) (λ p some. paths p some)
     (puts_all stands (map (λ r. r.0) (filter (λ r. is_removed moment (at rows) r.0) rows)) (rows_of stands (λ r. is_removed moment (at rows) r.0) rows
     (each_found path_cmp path_total paths_antisymmetric (λ r. stands r.0) rows (fin.entries_sorted names.tree) (λ path entry found. ap is_some (fin.get-entries names.tree path ∙ found)))))
 
@@ -343,7 +325,6 @@ pub record CanTell (s : State) : Type 0 where
   pub calls : AllByRecursion IsTaken s.volatile.pending
   pub known : (chunk : ℕ) → has_entry s chunk ≡ true → IsHandle chunk
   pub before : (names : NamesView) (chunk : ℕ) → is_rolling s.durable.phase ≡ true → all_undone s.durable.inverses s.durable.names ≡ Some names → is_some (fin.get names.refs chunk) ≡ true → IsHandle chunk
-  pub names : AreTellable s.durable.names
 
 module _ (s : State) (req : ReqId) (heard : IsRequest req) (can : CanTell s) where
   scanned_tells : (removed : List Path) (forgotten : List ℕ) → AllByRecursion IsPath removed → Tells s (scanned s req removed forgotten)
@@ -437,53 +418,53 @@ module _ (s : State) (req : ReqId) (heard : IsRequest req) (can : CanTell s) whe
       test_tells s (is_rolling s.durable.phase) (commit_on s req (all_undone s.durable.inverses s.durable.names)) (refused s req refusals.NotUpgrading)
       (λ begun. commit_on_tells begun (all_undone s.durable.inverses s.durable.names) refl) (λ _. refused_now s req heard refusals.NotUpgrading (tt, bare))
 
-  called_tells : (config : Config) (moment : Moment) (call : Call) → IsNamedCall call → IsNumber moment.0 → Tells s (called config s req moment call)
-  called_tells config moment (calls.Mkdirs path) named low = edited_tells s req heard (Mkdirs path) answers.Nothing named
-  called_tells config moment (calls.Create path) named low = edited_tells s req heard (Create path) answers.Nothing named
-  called_tells config moment (calls.Rename from to) named low = edited_tells s req heard (Rename from to) answers.Nothing named
-  called_tells config moment (calls.Delete path recursive) named low = deleted_tells s req heard path recursive moment named low
-  called_tells config moment (calls.Undelete path) named low = edited_tells s req heard (Unhide path) (answers.Path (unhide_target path (old_name path))) named
-  called_tells config moment (calls.Snapshot from to) named low =
+  called_tells : (config : Config) (moment : Moment) (call : Call) → IsNamedCall call → IsMet s.durable.names call → IsNumber moment.0 → Tells s (called config s req moment call)
+  called_tells config moment (calls.Mkdirs path) named met low = edited_tells s req heard (Mkdirs path) answers.Nothing named
+  called_tells config moment (calls.Create path) named met low = edited_tells s req heard (Create path) answers.Nothing named
+  called_tells config moment (calls.Rename from to) named met low = edited_tells s req heard (Rename from to) answers.Nothing named
+  called_tells config moment (calls.Delete path recursive) named met low = deleted_tells s req heard path recursive moment named low
+  called_tells config moment (calls.Undelete path) named met low = edited_tells s req heard (Unhide path) (answers.Path (unhide_target path (old_name path))) named
+  called_tells config moment (calls.Snapshot from to) named met low =
       let rows = fin.entries s.durable.names.tree in snapshot_if_tells s req heard from to (edited (edits.Snapshot from to) rows) (fair_edited (edits.Snapshot from to) rows) named.0 named.1
-  called_tells config moment (calls.List path) named low =
+  called_tells config moment (calls.List path) named met low =
       looked_tells s req heard (listing (fin.entries s.durable.names.tree) path (fin.get s.durable.names.tree path)) (fair_listing (fin.entries s.durable.names.tree) path (fin.get s.durable.names.tree path))
-  called_tells config moment (calls.Status path) named low = looked_tells s req heard (status s.durable (fin.get s.durable.names.tree path)) (fair_status s.durable (fin.get s.durable.names.tree path))
-  called_tells config moment (calls.FindForReading path index) named low =
+  called_tells config moment (calls.Status path) named met low = looked_tells s req heard (status s.durable (fin.get s.durable.names.tree path)) (fair_status s.durable (fin.get s.durable.names.tree path))
+  called_tells config moment (calls.FindForReading path index) named met low =
       let found = found_chunk (fin.get s.durable.names.tree path) index in looked_tells s req heard (location s.durable found) (fair_location s.durable found (fair_found (fin.get s.durable.names.tree path) index))
-  called_tells config moment (calls.FindForWriting path index stamp) named low =
-      found_tells s req heard path index stamp moment (found_chunk (fin.get s.durable.names.tree path) index) (fair_found (fin.get s.durable.names.tree path) index) named (λ c is. index_low s.durable.names path index c can.names is)
-  called_tells config moment (calls.Extend path index) named low = extends_tells s req heard config path index (fin.get s.durable.names.tree path) named
-  called_tells config moment calls.Scan named low =
+  called_tells config moment (calls.FindForWriting path index stamp) named met low =
+      found_tells s req heard path index stamp moment (found_chunk (fin.get s.durable.names.tree path) index) (fair_found (fin.get s.durable.names.tree path) index) named met
+  called_tells config moment (calls.Extend path index) named met low = extends_tells s req heard config path index (fin.get s.durable.names.tree path) named
+  called_tells config moment calls.Scan named met low =
       let rows = fin.entries s.durable.names.tree in
-      scanned_tells (removed_paths moment.0 rows) (forgotten_chunks moment.0 rows (fin.entries s.durable.names.refs)) (removed_told s.durable.names moment.0 can.names)
-  called_tells config moment calls.Replicate named low = most_tells s req heard config (most_needed_of config.replicas (needs_of s))
-  called_tells config moment calls.Query named low = answered_tells s req heard (answers.Phase (told_phase s.volatile.is_preparing s.durable.phase) s.durable.epoch)
-  called_tells config moment calls.PrepareBegin named low = begin_tells
-  called_tells config moment calls.PrepareCommit named low = commit_tells config moment low
-  called_tells config moment calls.PrepareAbort named low = abort_tells
-  called_tells config moment calls.Finalize named low = finalize_tells config
-  called_tells config moment calls.RollbackBegin named low = rollback_tells config
-  called_tells config moment calls.RollbackCommit named low = rolled_tells
+      scanned_tells (removed_paths moment.0 rows) (forgotten_chunks moment.0 rows (fin.entries s.durable.names.refs)) (removed_told s.durable.names moment.0 met)
+  called_tells config moment calls.Replicate named met low = most_tells s req heard config (most_needed_of config.replicas (needs_of s))
+  called_tells config moment calls.Query named met low = answered_tells s req heard (answers.Phase (told_phase s.volatile.is_preparing s.durable.phase) s.durable.epoch)
+  called_tells config moment calls.PrepareBegin named met low = begin_tells
+  called_tells config moment calls.PrepareCommit named met low = commit_tells config moment low
+  called_tells config moment calls.PrepareAbort named met low = abort_tells
+  called_tells config moment calls.Finalize named met low = finalize_tells config
+  called_tells config moment calls.RollbackBegin named met low = rollback_tells config
+  called_tells config moment calls.RollbackCommit named met low = rolled_tells
 
   before_fair : (call : Call) → IsFairly (refused_before s req call)
   before_fair call = first_fair (ordered (is_failed s.fault) (is_rolling s.durable.phase) s.volatile.is_preparing (is_locked s req call) call) ((tt, bare), ((tt, bare), ((tt, bare), ((tt, bare), ((tt, bare), tt)))))
 
-  unless_called : (config : Config) (moment : Moment) (call : Call) (refusal : Option Refusal) → IsFairly refusal → IsNamedCall call → IsNumber moment.0 → Tells s (called_unless config s req moment call refusal)
-  unless_called config moment call None fair named low = called_tells config moment call named low
-  unless_called config moment call (Some refusal) fair named low = refused_now s req heard refusal fair
+  unless_called : (config : Config) (moment : Moment) (call : Call) (refusal : Option Refusal) → IsFairly refusal → IsNamedCall call → IsMet s.durable.names call → IsNumber moment.0 → Tells s (called_unless config s req moment call refusal)
+  unless_called config moment call None fair named met low = called_tells config moment call named met low
+  unless_called config moment call (Some refusal) fair named met low = refused_now s req heard refusal fair
 
   replied_tells : (result : Result Answer Refusal) → Tells s (replied_again s req result)
   replied_tells result = quiet_tells s (replied_again s req result) refl refl refl
 
-  taken_tells : (config : Config) (moment : Moment) (call : Call) (how : Numbered) → IsNamedCall call → IsNumber moment.0 → Tells s (taken_as config s req moment call how)
-  taken_tells config moment call New named low = unless_called config moment call (refused_before s req call) (before_fair call) named low
-  taken_tells config moment call (Again result) named low = replied_tells result
-  taken_tells config moment call Older named low = replied_tells (Err refusals.Old)
+  taken_tells : (config : Config) (moment : Moment) (call : Call) (how : Numbered) → IsNamedCall call → IsMet s.durable.names call → IsNumber moment.0 → Tells s (taken_as config s req moment call how)
+  taken_tells config moment call New named met low = unless_called config moment call (refused_before s req call) (before_fair call) named met low
+  taken_tells config moment call (Again result) named met low = replied_tells result
+  taken_tells config moment call Older named met low = replied_tells (Err refusals.Old)
 
-  pub call_tells : (config : Config) (moment : Moment) (call : Call) → IsNamedCall call → IsNumber moment.0 → Tells s (call_turn config s req moment call)
-  call_tells config moment call named low =
+  pub call_tells : (config : Config) (moment : Moment) (call : Call) → IsNamedCall call → IsMet s.durable.names call → IsNumber moment.0 → Tells s (call_turn config s req moment call)
+  call_tells config moment call named met low =
       let taken = taken_as config s req moment call (numbered (last_reply s req.client) req.number) in
       let device = replied_tells (Err refusals.Device) in
       either_tells s (is_unopened s.fault) (replied_again s req (Err refusals.Device)) (if is_pending s.volatile.pending req then waits_still s req else taken) device
       (either_tells s (is_pending s.volatile.pending req) (waits_still s req) taken (either_tells s (is_failed s.fault) (replied_again s req (Err refusals.Device)) (unmoved s) device (same_tells s))
-      (taken_tells config moment call (numbered (last_reply s req.client) req.number) named low))
+      (taken_tells config moment call (numbered (last_reply s req.client) req.number) named met low))

@@ -283,15 +283,15 @@ module _ (s : State) (tells : CanTell s) (can : CanAnswer s) where
   server_tells server moment (bodies.Behind epoch) named = behind_tells s can server epoch
   server_tells server moment said named = met_tells s can refusals.Stray
 
-  client_tells : (config : Config) (moment : Moment) (said : Body) → IsNamedBody said → IsHeardBody said → IsNumber moment.0 → Tells s (from_client config s moment said)
-  client_tells config moment (bodies.Call req call) named heard low = call_tells s req heard tells config moment call named low
+  client_tells : (config : Config) (moment : Moment) (said : Body) → IsNamedBody said → IsHeardBody s.durable.names said → IsNumber moment.0 → Tells s (from_client config s moment said)
+  client_tells config moment (bodies.Call req call) named heard low = call_tells s req heard.0 tells config moment call named heard.1 low
   client_tells config moment said named heard low = met_tells s can refusals.Stray
 
-  node_tells : (config : Config) (moment : Moment) (said : Body) (from : NodeId) → IsNamedBody said → IsHeardBody said → IsNumber moment.0 → Tells s (from_node config s moment said from)
+  node_tells : (config : Config) (moment : Moment) (said : Body) (from : NodeId) → IsNamedBody said → IsHeardBody s.durable.names said → IsNumber moment.0 → Tells s (from_node config s moment said from)
   node_tells config moment said nodes.Master named heard low = met_tells s can refusals.Stray
   node_tells config moment said (nodes.Server server) named heard low = either_tells s (is_failed s.fault) (met_by s refusals.Device) (server_turn s server moment said) (met_tells s can refusals.Device) (server_tells server moment said named)
   node_tells config moment said (nodes.Client client) named heard low = client_tells config moment said named heard low
 
-  pub message_tells : (config : Config) (message : Message) (moment : Moment) → IsNamedBody message.body → IsHeardBody message.body → IsNumber moment.0 → Tells s (handle config s message moment)
+  pub message_tells : (config : Config) (message : Message) (moment : Moment) → IsNamedBody message.body → IsHeardBody s.durable.names message.body → IsNumber moment.0 → Tells s (handle config s message moment)
   unfolding handle
   message_tells config message moment named heard low = node_tells config moment message.body message.from named heard low

@@ -24,7 +24,7 @@ use Rattle.gs_state.specs.State.{State, Turn, and_then, fits, first_of, for_each
 use Rattle.gs_laws.specs.Promises.{AllFit, IsWritten}
 use Rattle.gs_laws.specs.Rooms.{HasRoom}
 use Rattle.gs_laws.specs.Standing.{Event, Comes, Ticks, Renews, Restarts, IsFirm, IsNamed, run_of, turn_of}
-use Rattle.gs_laws.specs.Written.{AllStepsWritten, AreLow, AreTellable, EventsWritten, IsEntryUnlessWhole, IsHeardIn, IsSteady, IsWithin, MessagesWritten, RunsWritten, StartsSteady, StepsWritten, WritesAll}
+use Rattle.gs_laws.specs.Written.{AllStepsWritten, AreLow, EventsWritten, IsEntryUnlessWhole, IsHeardIn, IsSteady, IsWithin, MessagesWritten, RunsWritten, StartsSteady, StepsWritten, WritesAll}
 use Rattle.gs_laws.proofs.Rooms.{Roomy}
 use Rattle.gs_laws.proofs.RoomsOfTurns.{logs_stay_within, messages_have_room, pressed_roomy}
 use Rattle.gs_laws.proofs.StandingAnswers.{pressed_good}
@@ -49,12 +49,11 @@ entry_handle s y chunk known = by_listed (is_listed s.durable chunk) refl known
     by_listed true is h = listed_handle s.durable chunk y.firm.stands.kept y.within.low is
     by_listed false is h = (given_some s.durable.next_handle chunk (y.firm.stands.unplaced chunk h).0, y.within.unplaced chunk h)
 
-can_tell : (s : State) → IsSteady s → AreTellable s.durable.names → CanTell s
-can_tell s y names = record {
+can_tell : (s : State) → IsSteady s → CanTell s
+can_tell s y = record {
   calls = y.within.calls;
   known = entry_handle s y;
   before = λ back chunk begun undone some. viewed_handle s.durable chunk y.firm.stands.kept y.within.low (y.firm.stands.kept.restored back chunk undone (rolls s.durable.phase begun) some);
-  names = names;
 }
 
 can_answer : (s : State) → IsSteady s → CanAnswer s
@@ -128,7 +127,7 @@ messages_written config s message moment named heard y =
     let event = Comes message moment in
     let so = events_fit config s event named y.firm in
     let left = logs_stay_within config s event y.room in
-    let w = wrote s t y so.fits so.firm (messages_have_room config s message moment) (message_tells s (can_tell s y heard.1) (can_answer s y) config message moment named.0 heard.0 named.1) in
+    let w = wrote s t y so.fits so.firm (messages_have_room config s message moment) (message_tells s (can_tell s y) (can_answer s y) config message moment named.0 heard named.1) in
     record { written = w.written; steady = record { firm = so.firm; within = w.within; room = left.0; limit = subst (λ n. n < 2 ^ 32) (sym left.1) y.limit } }
 
 -- ---- ticks

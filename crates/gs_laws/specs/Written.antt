@@ -1,5 +1,5 @@
 -- What is within its type of all that a master keeps: so each record of each turn can be written, and it is so of what is left.
-use Rattle.std.specs.Prelude.{◌≡◌, ◌≤◌, ◌<◌, ◌^◌, ℕ, true, List, [], ◌∷◌, length, Some, is_some}
+use Rattle.std.specs.Prelude.{◌≡◌, ◌≤◌, ◌<◌, ◌^◌, ℕ, true, List, [], ◌∷◌, Ok, codes, is_some, refl}
 use Rattle.std.specs.FinMap as fin
 use Rattle.std.specs.List.{AllByRecursion}
 use Rattle.gs_base.specs.Members.{is_member}
@@ -10,17 +10,21 @@ use Rattle.gs_base.specs.declared.numbers.Stamp.{Stamp}
 use Rattle.gs_edit.specs.View.{NamesView}
 use Rattle.gs_msg.specs.declared.body.Body.{Body}
 use Rattle.gs_msg.specs.declared.body.Body.TheVariants as bodies
+use Rattle.gs_msg.specs.declared.call.Call.{Call}
+use Rattle.gs_msg.specs.declared.call.Call.TheVariants as calls
 use Rattle.gs_msg.specs.declared.message.Message.{Message}
 use Rattle.gs_journal.specs.declared.version.Version.TheVariants.{Two}
-use Rattle.gs_record.specs.Plain.{PlainEntry, Whole}
+use Rattle.gs_record.specs.Encoding.{new_store}
+use Rattle.gs_record.specs.Plain.{PlainEntry, Prepare, Whole}
 use Rattle.gs_record.specs.Writable.{IsEntry, IsPath, IsRequest}
+use Rattle.gs_path.specs.Path.{Path}
+use Rattle.gs_state.specs.Calls.{found_chunk}
 use Rattle.gs_state.specs.Durable.{Durable}
 use Rattle.gs_state.specs.Handling.{fresh, granted, handle, pressed, proposals}
 use Rattle.gs_state.specs.State.{State, Log, Turn, and_then, for_each}
 use Rattle.gs_state.specs.declared.pending.Pending.{Pending}
 use Rattle.gs_state.specs.declared.pending.Waiting.{Waiting}
 use Rattle.gs_state.specs.declared.pending.Waiting.TheVariants as waits
-use Rattle.gs_tree.specs.Entry.{File}
 use Rattle.gs_laws.specs.Promises.{IsWritten}
 use Rattle.gs_laws.specs.Standing.{Event, Comes, IsFirm, IsNamed, run_of, turn_of}
 
@@ -54,23 +58,25 @@ pub record IsWithin (s : State) : Type 0 where
   pub unplaced : (chunk : ℕ) → is_member s.volatile.unplaced chunk ≡ true → IsNumber chunk
   pub calls : AllByRecursion IsTaken s.volatile.pending
 
--- ---- what names are to be
-
--- Each path at which something stands can be told, and a record can tell each place in a file.
-pub record AreTellable (names : NamesView) : Type 0 where
-  pub paths : (path : List (List ℕ)) → is_some (fin.get names.tree path) ≡ true → IsPath path
-  pub files : (path : List (List ℕ)) (chunks : List ℕ) → fin.get names.tree path ≡ Some (File chunks) → length chunks ≤ 2 ^ 32
-
 -- ---- what comes
 
--- the request of a call, as its type has it
-abbrev pub IsHeardBody : Body → Type 0
-IsHeardBody (bodies.Call req call) = IsRequest req
-IsHeardBody said = Unit {0}
+-- each path at which something stands can be told
+abbrev pub ArePaths : NamesView → Type 0
+ArePaths names = (path : Path) → is_some (fin.get names.tree path) ≡ true → IsPath path
 
--- what comes names paths by the rules, and meets names that can be told
+-- What a call meets: a scan, paths that can be told; and where a chunk is found for writing, a record can tell its place.
+abbrev pub IsMet : NamesView → Call → Type 0
+IsMet names calls.Scan = ArePaths names
+IsMet names (calls.FindForWriting path index stamp) = (chunk : ℕ) → found_chunk (fin.get names.tree path) index ≡ Ok chunk → IsIndex index
+IsMet names call = Unit {0}
+
+-- and its request is one of its type
+abbrev pub IsHeardBody : NamesView → Body → Type 0
+IsHeardBody names (bodies.Call req call) = IsRequest req × IsMet names call
+IsHeardBody names said = Unit {0}
+
 abbrev pub IsHeardIn : State → Event → Type 0
-IsHeardIn s (Comes message moment) = IsHeardBody message.body × AreTellable s.durable.names
+IsHeardIn s (Comes message moment) = IsHeardBody s.durable.names message.body
 IsHeardIn s event = Unit {0}
 
 -- ---- what is to hold
@@ -123,3 +129,24 @@ AreHeardIn config s (event ∷ events) = IsHeardIn s event × AreHeardIn config 
 
 abbrev pub RunsWritten : Type 0
 RunsWritten = (config : Config) (s : State) (events : List Event) → AllByRecursion IsNamed events → AreHeardIn config s events → IsSteady s → WritesMost (run_of config s events)
+
+-- ---- examples
+
+abbrev f : Path
+f = codes "f" ∷ []
+
+-- of a call that waits for a copy there is nothing to tell
+a_replicate : IsTakenWaiting (waits.Replicate 7 1) ≡ Unit {0}
+a_replicate = refl
+
+a_copy_on_write : IsTakenWaiting (waits.Copy f 3 7 8) ≡ (IsPath f × IsIndex 3)
+a_copy_on_write = refl
+
+what_a_look_up_meets : (names : NamesView) → IsMet names (calls.Status f) ≡ Unit {0}
+what_a_look_up_meets names = refl
+
+no_word_of_a_checkpoint : IsEntryUnlessWhole (Whole new_store) ≡ Unit {0}
+no_word_of_a_checkpoint = refl
+
+what_is_said_of_a_prepare : IsEntryUnlessWhole (Prepare 1 0 0) ≡ IsEntry Two (Prepare 1 0 0)
+what_is_said_of_a_prepare = refl
