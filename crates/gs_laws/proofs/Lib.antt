@@ -71,3 +71,5 @@ pub mod Fair
 pub mod TellingCalls
 pub mod TellingTurns
 pub mod Writing
+pub mod EachNamed
+pub mod Spelling
