@@ -65,3 +65,11 @@ pub mod Texted
 pub mod ToldAgain
 pub mod Undone
 pub mod Wanting
+pub mod Tellable
+pub mod Telling
+pub mod Fair
+pub mod TellingCalls
+pub mod TellingTurns
+pub mod Writing
+pub mod EachNamed
+pub mod Spelling

@@ -1,5 +1,5 @@
 -- The number that each standing hidden name tells was given.
-use Rattle.std.proofs.Common.{◌≡◌, ◌∙◌, ◌<◌, ◌^◌, ◌==◌, ◌&&◌, ◌||◌, ◌++◌, ℕ, Bool, true, false, not, List, [], ◌∷◌, map, refl, sym, ap, subst, arith}
+use Rattle.std.proofs.Common.{◌≡◌, ◌∙◌, ◌<◌, ◌^◌, ◌==◌, ◌&&◌, ◌||◌, ℕ, Bool, true, false, not, List, [], ◌∷◌, refl, sym, ap, subst, arith}
 use Rattle.std.specs.Prelude.{nat_lt, is_none, is_some, Option, Some, None, Result, Ok, Err, option_and_then}
 use Rattle.std.specs.List.{list_all, AllByRecursion}
 use Rattle.std.specs.FinMap as fin
@@ -9,19 +9,10 @@ use Rattle.gs_base.specs.declared.epoch.EpochEnd.TheVariants as ends
 use Rattle.gs_base.specs.declared.numbers.ReqId.{ReqId}
 use Rattle.gs_base.specs.declared.refusal.Refusal.{Refusal}
 use Rattle.gs_path.specs.Element.{hidden_name, hidden_parts, is_hidden}
-use Rattle.gs_path.specs.Path.{Name, Path, path_cmp, path_total}
+use Rattle.gs_path.specs.Path.{Name, Path}
 use Rattle.gs_path.proofs.ElementLemmas.{hidden_parts-hidden_name}
-use Rattle.gs_refs.specs.Counts.{Counts, taken_each}
-use Rattle.gs_tree.specs.Edits.{add_chunk, beside, create, hidden_path, hide, mkdirs, old_name, remove, rename, set_chunk, snapshot, target_of, unhidden}
-use Rattle.gs_tree.specs.Find.{Rows, at, is_copied_too_deep, is_too_deep}
-use Rattle.gs_tree.specs.Plain.{Plain}
 use Rattle.gs_edit.specs.Names.{blank}
-use Rattle.gs_edit.specs.Plain.{unhide_target}
-use Rattle.gs_edit.specs.Table.{moved_path, paths_of, tabled}
-use Rattle.gs_edit.specs.View.{NamesView, names_of}
-use Rattle.gs_edit.specs.declared.edit.Edit.TheVariants as edits
-use Rattle.gs_edit.proofs.Applied.{same_tree}
-use Rattle.gs_edit.proofs.Covers.{covered-add, covered-create, covered-hide, covered-mkdirs, covered-remove, covered-rename, covered-set, covered-snapshot, covered-unhide}
+use Rattle.gs_edit.specs.View.{NamesView}
 use Rattle.gs_journal.specs.declared.version.Version.TheVariants.{Two}
 use Rattle.gs_record.specs.Plain.{PlainEdit, Mkdirs, Create, Rename, Hide, Unhide, Remove, AddChunk, Cow, Snapshot, Forget, PlainEntry, Edited, Said, Propose, Settle, Prepare, Finalize, RollbackBegin, RollbackCommit, Whole, Holder}
 use Rattle.gs_record.specs.Writable.{IsEntry}
@@ -29,15 +20,14 @@ use Rattle.gs_record.specs.declared.checkpoint.Phase.TheVariants.{Ordinary, Upgr
 use Rattle.gs_record.specs.declared.entry.Answered.{Answered}
 use Rattle.gs_state.specs.Applied.{after_edit, after_if, after_undoing, applied, are_answers, are_at_rest, chunk_of_edit, held_by, is_fresh, is_fresh_if, is_next_epoch, is_visible, is_visible_name, is_whole_entry, may_be_settled, may_edit, may_propose, names_well, number_of_edit, proposed, replayed, rolled_back, view_for, with_edit, with_epoch, with_view, without_prepared}
 use Rattle.gs_state.specs.Durable.{Durable, after_number, is_given, is_ordinary, is_rolling, is_upgrade, prepared_view, start, with_prepared}
-use Rattle.gs_state.specs.Undoing.{all_undone, edited_names, inverse_of, named_plain}
+use Rattle.gs_state.specs.Undoing.{all_undone, edited_names, inverse_of}
 use Rattle.gs_state.specs.Whole.{checkpoint_of}
 use Rattle.gs_laws.specs.Numbered.{AreNumbered, HasNumbers, IsOfNumbered, LeadsToNumbers, RecordsKeepNumbers, TellsNumbers, is_numbered}
 use Rattle.gs_laws.specs.Promises.{IsKept, goes_on_within}
 use Rattle.gs_laws.proofs.Beginnings.{fits_gives}
-use Rattle.gs_laws.proofs.Commanded.{EachName, add_gives, all_beside, all_hidden, all_target, create_gives, each_chunks, each_copied, each_dirs, each_gone, each_made, each_moved, hide_gives, mkdirs_gives, remove_gives, rename_gives, set_gives, snapshot_gives, unhide_gives}
+use Rattle.gs_laws.proofs.Commanded.{all_hidden}
 use Rattle.gs_laws.proofs.Counters.{keeps_given}
-use Rattle.gs_laws.proofs.EditsBack.{IsDone, admitted, done_of, with_parts}
-use Rattle.gs_laws.proofs.Grown.{Grown}
+use Rattle.gs_laws.proofs.EachNamed.{NamesSo, edited_each}
 use Rattle.gs_laws.proofs.KeptAll.{keeps_all, only_root, start_kept, tidied_kept}
 use Rattle.gs_laws.proofs.KeptEdits.{edit_told, may_edit_so, none_more}
 use Rattle.gs_laws.proofs.KeptRecords.{no_inverses}
@@ -45,9 +35,8 @@ use Rattle.gs_laws.proofs.LedBack.{kept_tree, leads_back}
 use Rattle.gs_laws.proofs.Spelled.{can_hide, element_of}
 use Rattle.gs_laws.proofs.StillNamed.{IsTold, all_by, can_hide_path, each_visible}
 use Rattle.gs_laws.proofs.ToldAgain.{tells_all}
-use Rattle.gs_laws.proofs.Undone.{was_named}
 
--- ---- what holds of each element that stands, behind an edit
+-- ---- what an edit names
 
 -- where it holds of each that isn't hidden
 module _ (f : Name → Bool) (seen : (x : Name) → not (is_hidden x) ≡ true → f x ≡ true) where
@@ -59,93 +48,17 @@ module _ (f : Name → Bool) (seen : (x : Name) → not (is_hidden x) ≡ true �
   HidesSo (Hide p moment number) = (x : Name) → can_hide x ≡ true → f (hidden_name moment number x) ≡ true
   HidesSo edit = Unit {0}
 
-  abbrev now : Rows ℕ → Counts → NamesView
-  now rows refs = names_of (fin.from_entries rows) refs
-
-  abbrev EachIn : NamesView → Type 0
-  EachIn names = EachName f (fin.get names.tree)
-
-  given : (command : Result (Plain ℕ) Refusal) (rows : Rows ℕ) (refs : Counts) (done : IsDone command rows) → EachName f done.plain → EachIn (now rows refs)
-  given command rows refs done each = subst (λ (m : Plain ℕ). EachName f m) (sym done.same) each
-
-  abbrev StillEach : PlainEdit → NamesView → Type 0
-  StillEach edit old = (new : Rows ℕ × Counts) → named_plain edit (fin.entries old.tree) old.refs ≡ Ok new → EachIn (now new.0 new.1)
-
-  still_unhide : (p : Path) (old : NamesView) → Grown (fin.get old.tree) → EachIn old → is_visible_name (old_name p) ≡ true → StillEach (Unhide p) old
-  still_unhide p old grown each visible new e =
-      let parts = admitted (edits.Unhide p) (fin.entries old.tree) old.refs new e in by_name (old_name p) refl visible parts.rows
-    where
-      by_name : (name : Option Name) → old_name p ≡ name → is_visible_name name ≡ true
-          → tabled (paths_of (fin.entries old.tree) ++ map (moved_path p (unhide_target p name)) (paths_of (fin.entries old.tree))) (unhidden (at (fin.entries old.tree)) p name) ≡ Ok new.0 → EachIn (now new.0 new.1)
-      by_name None is seen_name h = absurd (let k = h in cc)
-      by_name (Some name) is seen_name h =
-          let m = fin.get old.tree in
-          let done = done_of _ (λ m. unhidden m p (Some name)) old.tree new.0 (covered-unhide (fin.entries old.tree) p (Some name)) h in
-          let gives = unhide_gives m done.plain p name grown is done.is in
-          given (unhidden m p (Some name)) new.0 new.1 done (each_moved f m done.plain p (beside p name) each gives (all_beside f p name (each p gives.stands) (seen name seen_name)))
-
-  still_forget : (chunks : List ℕ) (old : NamesView) → EachIn old → StillEach (Forget chunks) old
-  still_forget chunks old each new e =
-      let parts = with_parts (Ok (fin.entries old.tree)) (taken_each old.refs chunks) new e in
-      let same : fin.entries old.tree ≡ new.0 = rows_are parts.0 in
-      let tree : fin.from_entries {R = path_cmp} new.0 ≡ old.tree = ap (λ (r : Rows ℕ). fin.from_entries r) (sym same) ∙ same_tree (fin.from_entries (fin.entries old.tree)) old.tree (λ q. fin.get-from_entries path_total (fin.entries old.tree) q ∙ sym (fin.get-entries old.tree q)) in
-      subst (λ t. EachName f (fin.get t)) (sym tree) each
-    where
-      rows_are : {a b : Rows ℕ} → ◌≡◌ {A = Result (Rows ℕ) Refusal} (Ok a) (Ok b) → a ≡ b
-      rows_are h = cc
-
-  still_each : (edit : PlainEdit) (old : NamesView) → Grown (fin.get old.tree) → EachIn old → IsTold edit → names_well edit ≡ true → HidesSo edit → StillEach edit old
-  still_each (Mkdirs p) old grown each told well hides new e =
-      let m = fin.get old.tree in
-      let parts = admitted (edits.Mkdirs p) (fin.entries old.tree) old.refs new e in
-      let done = done_of _ (λ m. mkdirs m p) old.tree new.0 (covered-mkdirs (fin.entries old.tree) p) parts.rows in
-      given (mkdirs m p) new.0 new.1 done (each_dirs f m done.plain p each (mkdirs_gives m done.plain p done.is) (all_seen p well))
-  still_each (Create p) old grown each told well hides new e =
-      let m = fin.get old.tree in
-      let parts = admitted (edits.Create p) (fin.entries old.tree) old.refs new e in
-      let done = done_of _ (λ m. create m p) old.tree new.0 (covered-create (fin.entries old.tree) p) parts.rows in
-      given (create m p) new.0 new.1 done (each_made f m done.plain p each (create_gives m done.plain p done.is) (all_seen p well))
-  still_each (Rename from to) old grown each told well hides new e =
-      let m = fin.get old.tree in
-      let deep = is_too_deep (fin.entries old.tree) from in
-      let parts = admitted (edits.Rename from to) (fin.entries old.tree) old.refs new e in
-      let done = done_of _ (λ m. rename deep m from to) old.tree new.0 (covered-rename (fin.entries old.tree) from to) parts.rows in
-      let gives = rename_gives deep m done.plain from to done.is in
-      given (rename deep m from to) new.0 new.1 done (each_moved f m done.plain from (target_of m from to) each gives (all_target f m from to each gives.stands (all_seen to (and_parts (is_visible from) (is_visible to) well).1)))
-  still_each (Hide p moment number) old grown each told well hides new e =
-      let m = fin.get old.tree in
-      let parts = admitted (edits.Hide p (record { 0 = moment }) number) (fin.entries old.tree) old.refs new e in
-      let done = done_of _ (λ m. hide m p moment number) old.tree new.0 (covered-hide (fin.entries old.tree) p moment number) parts.rows in
-      let gives = hide_gives m done.plain p moment number grown done.is in
-      given (hide m p moment number) new.0 new.1 done (each_moved f m done.plain p (hidden_path p moment number) each gives (all_hidden f can_hide p moment number (all_seen p well) (can_hide_path p told.0 well) hides))
-  still_each (Unhide p) old grown each told well hides new e = still_unhide p old grown each well new e
-  still_each (Remove p) old grown each told well hides new e =
-      let m = fin.get old.tree in
-      let parts = admitted (edits.Remove p) (fin.entries old.tree) old.refs new e in
-      let done = done_of _ (λ m. remove m p) old.tree new.0 (covered-remove (fin.entries old.tree) p) parts.rows in
-      given (remove m p) new.0 new.1 done (each_gone f m done.plain p each (remove_gives m done.plain p done.is))
-  still_each (AddChunk p chunk) old grown each told well hides new e =
-      let m = fin.get old.tree in
-      let parts = admitted (edits.AddChunk p chunk) (fin.entries old.tree) old.refs new e in
-      let done = done_of _ (λ m. add_chunk m p chunk) old.tree new.0 (covered-add (fin.entries old.tree) p chunk) parts.rows in
-      given (add_chunk m p chunk) new.0 new.1 done (each_chunks f m done.plain p each (add_gives m done.plain p chunk done.is))
-  still_each (Cow p index before chunk) old grown each told well hides new e =
-      let m = fin.get old.tree in
-      let parts = admitted (edits.Cow p index before chunk) (fin.entries old.tree) old.refs new e in
-      let done = done_of _ (λ m. set_chunk m p index chunk) old.tree new.0 (covered-set (fin.entries old.tree) p index chunk) parts.rows in
-      given (set_chunk m p index chunk) new.0 new.1 done (each_chunks f m done.plain p each (set_gives m done.plain p index chunk done.is))
-  still_each (Snapshot from to) old grown each told well hides new e =
-      let m = fin.get old.tree in
-      let rows = fin.entries old.tree in
-      let deep = is_copied_too_deep rows from in
-      let parts = admitted (edits.Snapshot from to) rows old.refs new e in
-      let done = done_of _ (λ m. snapshot deep m from to) old.tree new.0 (covered-snapshot rows from to) parts.rows in
-      given (snapshot deep m from to) new.0 new.1 done (each_copied f m done.plain from to each (snapshot_gives deep m done.plain from to done.is) (all_seen to (and_parts (is_visible from) (is_visible to) well).1))
-  still_each (Forget chunks) old grown each told well hides new e = still_forget chunks old each new e
-
-  edited_each : (edit : PlainEdit) (old new : NamesView) → Grown (fin.get old.tree) → EachIn old → IsTold edit → names_well edit ≡ true → HidesSo edit → edited_names edit old ≡ Ok new → EachIn new
-  edited_each edit old new grown each told well hides e =
-      let n = was_named edit old new e in subst EachIn n.is (still_each edit old grown each told well hides (n.rows, n.refs) n.made)
+  names_so : (edit : PlainEdit) → IsTold edit → names_well edit ≡ true → HidesSo edit → NamesSo f edit
+  names_so (Mkdirs p) told well hides = all_seen p well
+  names_so (Create p) told well hides = all_seen p well
+  names_so (Rename from to) told well hides = all_seen to (and_parts (is_visible from) (is_visible to) well).1
+  names_so (Hide p moment number) told well hides = all_hidden f can_hide p moment number (all_seen p well) (can_hide_path p told.0 well) hides
+  names_so (Unhide p) told well hides = λ name is. seen name (ap is_visible_name (sym is) ∙ well)
+  names_so (Remove p) told well hides = tt
+  names_so (AddChunk p chunk) told well hides = tt
+  names_so (Cow p index old new) told well hides = tt
+  names_so (Snapshot from to) told well hides = all_seen to (and_parts (is_visible from) (is_visible to) well).1
+  names_so (Forget chunks) told well hides = tt
 
 -- ---- numbers
 
@@ -207,8 +120,8 @@ edit_now : (d : Durable) (edit : PlainEdit) (names : NamesView) → IsKept d →
 edit_now d edit names k are told may named =
     let next = after_if d.next_hidden (number_of_edit edit) in
     let fresh = fresh_so d edit may in
-    edited_each (is_numbered next) (seen_numbered next) edit d.names names (kept_tree d.names k.names).grown (are_more d.next_hidden next d.names (λ n g. after_fresh d.next_hidden n (number_of_edit edit) fresh g) are) told
-    (may_edit_so d edit may).well (hides_so edit d.next_hidden fresh told) named
+    edited_each (is_numbered next) edit d.names names (kept_tree d.names k.names).grown (are_more d.next_hidden next d.names (λ n g. after_fresh d.next_hidden n (number_of_edit edit) fresh g) are)
+    (names_so (is_numbered next) (seen_numbered next) edit told (may_edit_so d edit may).well (hides_so edit d.next_hidden fresh told)) named
 
 names_is : {a b : NamesView} → ◌≡◌ {A = Option NamesView} (Some a) (Some b) → a ≡ b
 names_is h = cc

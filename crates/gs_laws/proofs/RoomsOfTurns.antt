@@ -241,7 +241,7 @@ module _ (told : Bool) where
   pressed_at_roomy chunk stamp moment None s = same_roomy told s
   pressed_at_roomy chunk stamp moment (Some c) s = pressed_if_roomy chunk stamp moment c c.asking s
 
-  pressed_roomy : (moment : Moment) (proposal : ℕ × Stamp) (s : State) → Roomy told s (pressed moment proposal s)
+  pub pressed_roomy : (moment : Moment) (proposal : ℕ × Stamp) (s : State) → Roomy told s (pressed moment proposal s)
   pressed_roomy moment proposal s = pressed_at_roomy proposal.0 proposal.1 moment (chunk_at s proposal.0) s
 
   granted_roomy : (s : State) → Roomy told s (granted s)

@@ -81,7 +81,7 @@ greatest_told (x ∷ xs) n all e = by_first x (greatest xs) refl all.0 (λ m k. 
     by_first (Some c) (Some m) is one rest k = subst IsNumber (number_is k) (let low = rest m is in let here : IsNumber c = one in omega arith)
 
 -- a view that is made of such answers can be told
-view_told : (c : Chunk) (asking : Asking) (by : Answers) (moment : Moment) (view : View) → AreCounts by → IsNumber asking.stamp.epoch → IsNumber asking.stamp.version → view_by c asking by moment ≡ Some view → IsToldView view
+pub view_told : (c : Chunk) (asking : Asking) (by : Answers) (moment : Moment) (view : View) → AreCounts by → IsNumber asking.stamp.epoch → IsNumber asking.stamp.version → view_by c asking by moment ≡ Some view → IsToldView view
 view_told c asking by moment view counts epoch version e = by_most (greatest by.counts) refl e
   where
     late : (n : ℕ) → min n last_number < 2 ^ 64

@@ -6,3 +6,4 @@ pub mod Reached
 pub mod Resting
 pub mod Rooms
 pub mod Standing
+pub mod Written

@@ -1,0 +1,152 @@
+-- What is within its type of all that a master keeps: so each record of each turn can be written, and it is so of what is left.
+use Rattle.std.specs.Prelude.{◌≡◌, ◌≤◌, ◌<◌, ◌^◌, ℕ, true, List, [], ◌∷◌, Ok, codes, is_some, refl}
+use Rattle.std.specs.FinMap as fin
+use Rattle.std.specs.List.{AllByRecursion}
+use Rattle.gs_base.specs.Members.{is_member}
+use Rattle.gs_base.specs.Told.{IsNumber}
+use Rattle.gs_base.specs.declared.config.Config.{Config}
+use Rattle.gs_base.specs.declared.numbers.Moment.{Moment}
+use Rattle.gs_base.specs.declared.numbers.Stamp.{Stamp}
+use Rattle.gs_edit.specs.View.{NamesView}
+use Rattle.gs_msg.specs.declared.body.Body.{Body}
+use Rattle.gs_msg.specs.declared.body.Body.TheVariants as bodies
+use Rattle.gs_msg.specs.declared.call.Call.{Call}
+use Rattle.gs_msg.specs.declared.call.Call.TheVariants as calls
+use Rattle.gs_msg.specs.declared.message.Message.{Message}
+use Rattle.gs_journal.specs.declared.version.Version.TheVariants.{Two}
+use Rattle.gs_record.specs.Encoding.{new_store}
+use Rattle.gs_record.specs.Plain.{PlainEntry, Prepare, Whole}
+use Rattle.gs_record.specs.Writable.{IsEntry, IsPath, IsRequest}
+use Rattle.gs_path.specs.Path.{Path}
+use Rattle.gs_state.specs.Calls.{found_chunk}
+use Rattle.gs_state.specs.Durable.{Durable}
+use Rattle.gs_state.specs.Handling.{fresh, granted, handle, pressed, proposals}
+use Rattle.gs_state.specs.State.{State, Log, Turn, and_then, for_each}
+use Rattle.gs_state.specs.declared.pending.Pending.{Pending}
+use Rattle.gs_state.specs.declared.pending.Waiting.{Waiting}
+use Rattle.gs_state.specs.declared.pending.Waiting.TheVariants as waits
+use Rattle.gs_laws.specs.Promises.{IsWritten}
+use Rattle.gs_laws.specs.Standing.{Event, Comes, IsFirm, IsNamed, run_of, turn_of}
+
+-- ---- what is kept
+
+-- a place in a file as a record tells it
+abbrev pub IsIndex : ℕ → Type 0
+IsIndex index = index < 2 ^ 32
+
+-- each chunk's number has 64 bits: of those that are settled, and of those whose prepared view is kept
+pub record AreLow (d : Durable) : Type 0 where
+  pub settled : (chunk : ℕ) → is_some (fin.get d.chunks chunk) ≡ true → IsNumber chunk
+  pub prepared : (chunk : ℕ) → is_some (fin.get d.prepared chunk) ≡ true → IsNumber chunk
+
+-- the paths and the index of a call that waits, as the records of its edits tell them
+abbrev pub IsTakenWaiting : Waiting → Type 0
+IsTakenWaiting (waits.Extend path new) = IsPath path
+IsTakenWaiting (waits.Lease path index leased) = IsPath path × IsIndex index
+IsTakenWaiting (waits.Quiet path index quiet) = IsPath path × IsIndex index
+IsTakenWaiting (waits.Copy path index old new) = IsPath path × IsIndex index
+IsTakenWaiting (waits.Snapshot from to) = IsPath from × IsPath to
+IsTakenWaiting (waits.Replicate copied target) = Unit {0}
+
+-- and its request
+abbrev pub IsTaken : Pending → Type 0
+IsTaken p = IsRequest p.req × IsTakenWaiting p.waits
+
+-- Each chunk's number has 64 bits, also that of a chunk which is new; and each call that waits can be told.
+pub record IsWithin (s : State) : Type 0 where
+  pub low : AreLow s.durable
+  pub unplaced : (chunk : ℕ) → is_member s.volatile.unplaced chunk ≡ true → IsNumber chunk
+  pub calls : AllByRecursion IsTaken s.volatile.pending
+
+-- ---- what comes
+
+-- each path at which something stands can be told
+abbrev pub ArePaths : NamesView → Type 0
+ArePaths names = (path : Path) → is_some (fin.get names.tree path) ≡ true → IsPath path
+
+-- What a call meets: a scan, paths that can be told; and where a chunk is found for writing, a record can tell its place.
+abbrev pub IsMet : NamesView → Call → Type 0
+IsMet names calls.Scan = ArePaths names
+IsMet names (calls.FindForWriting path index stamp) = (chunk : ℕ) → found_chunk (fin.get names.tree path) index ≡ Ok chunk → IsIndex index
+IsMet names call = Unit {0}
+
+-- and its request is one of its type
+abbrev pub IsHeardBody : NamesView → Body → Type 0
+IsHeardBody names (bodies.Call req call) = IsRequest req × IsMet names call
+IsHeardBody names said = Unit {0}
+
+abbrev pub IsHeardIn : State → Event → Type 0
+IsHeardIn s (Comes message moment) = IsHeardBody s.durable.names message.body
+IsHeardIn s event = Unit {0}
+
+-- ---- what is to hold
+
+-- A master that is firm and within its types, on a journal that has no more bytes than its limit, which is one of 32 bits.
+pub record IsSteady (s : State) : Type 0 where
+  pub firm : IsFirm s
+  pub within : IsWithin s
+  pub room : s.log.size ≤ s.log.limit
+  pub limit : s.log.limit < 2 ^ 32
+
+-- each record can be written, and the master is left so
+pub record WritesAll (t : Turn) : Type 0 where
+  pub written : IsWritten t
+  pub steady : IsSteady t.after
+
+-- A new store is so.
+abbrev pub StartsSteady : Type 0
+StartsSteady = (log : Log) → log.size ≤ log.limit → log.limit < 2 ^ 32 → IsSteady (fresh log)
+
+-- Each record of each message can be written, whoever sends it,
+abbrev pub MessagesWritten : Type 0
+MessagesWritten = (config : Config) (s : State) (message : Message) (moment : Moment) → IsNamed (Comes message moment) → IsHeardIn s (Comes message moment) → IsSteady s → WritesAll (handle config s message moment)
+
+-- so can each of each step of a tick,
+abbrev pub StepsWritten : Type 0
+StepsWritten = (s : State) (moment : Moment) (proposal : ℕ × Stamp) → IsSteady s → WritesAll (pressed moment proposal s)
+
+-- and of all its steps together.
+abbrev pub AllStepsWritten : Type 0
+AllStepsWritten = (s : State) (moment : Moment) → IsSteady s → WritesAll (and_then (for_each s (proposals s) (pressed moment)) granted)
+
+-- of a checkpoint's record nothing is said
+abbrev pub IsEntryUnlessWhole : PlainEntry → Type 0
+IsEntryUnlessWhole (Whole c) = Unit {0}
+IsEntryUnlessWhole entry = IsEntry Two entry
+
+pub record WritesMost (t : Turn) : Type 0 where
+  pub written : AllByRecursion IsEntryUnlessWhole t.records
+  pub steady : IsSteady t.after
+
+-- So it is of every event, but for the record of a checkpoint,
+abbrev pub EventsWritten : Type 0
+EventsWritten = (config : Config) (s : State) (event : Event) → IsNamed event → IsHeardIn s event → IsSteady s → WritesMost (turn_of config s event)
+
+-- and of every run.
+abbrev pub AreHeardIn : Config → State → List Event → Type 0
+AreHeardIn config s [] = Unit {0}
+AreHeardIn config s (event ∷ events) = IsHeardIn s event × AreHeardIn config (turn_of config s event).after events
+
+abbrev pub RunsWritten : Type 0
+RunsWritten = (config : Config) (s : State) (events : List Event) → AllByRecursion IsNamed events → AreHeardIn config s events → IsSteady s → WritesMost (run_of config s events)
+
+-- ---- examples
+
+abbrev f : Path
+f = codes "f" ∷ []
+
+-- of a call that waits for a copy there is nothing to tell
+a_replicate : IsTakenWaiting (waits.Replicate 7 1) ≡ Unit {0}
+a_replicate = refl
+
+a_copy_on_write : IsTakenWaiting (waits.Copy f 3 7 8) ≡ (IsPath f × IsIndex 3)
+a_copy_on_write = refl
+
+what_a_look_up_meets : (names : NamesView) → IsMet names (calls.Status f) ≡ Unit {0}
+what_a_look_up_meets names = refl
+
+no_word_of_a_checkpoint : IsEntryUnlessWhole (Whole new_store) ≡ Unit {0}
+no_word_of_a_checkpoint = refl
+
+what_is_said_of_a_prepare : IsEntryUnlessWhole (Prepare 1 0 0) ≡ IsEntry Two (Prepare 1 0 0)
+what_is_said_of_a_prepare = refl
