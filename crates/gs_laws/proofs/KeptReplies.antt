@@ -91,11 +91,11 @@ cut_none c (x ∷ xs) h =
     not_true true e = absurd (false≢true e)
     not_true false e = refl
 
-split_text : (x : Name) (p : Path) → is_without_slashes (x ∷ p) ≡ true → slice_split (λ b. b == 47) (x ++ behind_slashes p) ≡ x ∷ p
+pub split_text : (x : Name) (p : Path) → is_without_slashes (x ∷ p) ≡ true → slice_split (λ b. b == 47) (x ++ behind_slashes p) ≡ x ∷ p
 split_text x [] h = ap (slice_split (λ b. b == 47)) (append-nil x) ∙ cut_none 47 x (and_parts (is_plain x) (is_without_slashes []) h).0
 split_text x (y ∷ p) h = let parts = and_parts (is_plain x) (is_without_slashes (y ∷ p)) h in cut_at 47 x (y ++ behind_slashes p) parts.0 ∙ ap (λ q. x ∷ q) (split_text y p parts.1)
 
-judged_is : (p q : Path) → q ≡ p → is_short p ≡ true → list_all is_stored p ≡ true → judged is_stored q ≡ Ok p
+pub judged_is : (p q : Path) → q ≡ p → is_short p ≡ true → list_all is_stored p ≡ true → judged is_stored q ≡ Ok p
 judged_is p q is short stored = ap (judged is_stored) is ∙ ap (λ b. if b then Ok p else Err BadPath) (both_true (nat_le (length p) 64) (list_all is_stored p) short stored)
 
 pub path_told : (p : Path) → is_without_slashes p ≡ true → is_short p ≡ true → list_all is_stored p ≡ true → IsAnswer (Ok (answers.Path p))

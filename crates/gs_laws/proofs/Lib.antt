@@ -73,3 +73,4 @@ pub mod TellingTurns
 pub mod Writing
 pub mod EachNamed
 pub mod Spelling
+pub mod SpelledNames

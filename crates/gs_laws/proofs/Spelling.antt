@@ -31,7 +31,7 @@ ascii_utf8 (c ∷ bs) all =
     below : (b : ℕ) → nat_lt b 128 ≡ true → b < 128
     below b h = grind (arith, nat_tests)
 
-slash_utf8 : IsUtf8 (47 ∷ [])
+pub slash_utf8 : IsUtf8 (47 ∷ [])
 slash_utf8 = ascii_utf8 (47 ∷ []) refl
 
 -- what stands behind it

@@ -67,7 +67,7 @@ IsTellable (RollbackCommit epoch answers) = AllByRecursion IsFromServers answers
 IsTellable (Whole c) = ⊥
 IsTellable (Holder chunk server) = Unit {0}
 
-not_whole : (entry : PlainEntry) → IsTellable entry → is_whole_entry entry ≡ false
+pub not_whole : (entry : PlainEntry) → IsTellable entry → is_whole_entry entry ≡ false
 not_whole (Edited by edit) t = refl
 not_whole (Said to refusal) t = refl
 not_whole (Propose chunk version) t = refl

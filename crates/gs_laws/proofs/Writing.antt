@@ -27,12 +27,13 @@ use Rattle.gs_laws.specs.Standing.{Event, Comes, Ticks, Renews, Restarts, IsFirm
 use Rattle.gs_laws.specs.Written.{AllStepsWritten, AreLow, EventsWritten, IsEntryUnlessWhole, IsHeardIn, IsSteady, IsWithin, MessagesWritten, RunsWritten, StartsSteady, StepsWritten, WritesAll}
 use Rattle.gs_laws.proofs.Rooms.{Roomy}
 use Rattle.gs_laws.proofs.RoomsOfTurns.{logs_stay_within, messages_have_room, pressed_roomy}
+use Rattle.gs_laws.proofs.SpelledNames.{all_keep_spelled, start_spelled}
 use Rattle.gs_laws.proofs.StandingAnswers.{pressed_good}
 use Rattle.gs_laws.proofs.StandingRuns.{events_fit, starts_firm}
 use Rattle.gs_laws.proofs.StandingTurns.{Holds}
 use Rattle.gs_laws.proofs.Tellable.{all_written, given_some, listed_handle, viewed_handle}
 use Rattle.gs_laws.proofs.Telling.{Tells, all_both, fewer_member, is_for, proposes}
-use Rattle.gs_laws.proofs.TellingCalls.{CanTell}
+use Rattle.gs_laws.proofs.TellingCalls.{CanTell, removed_told}
 use Rattle.gs_laws.proofs.TellingTurns.{CanAnswer, message_tells, pressed_tells}
 
 -- ---- what is known of a steady master
@@ -54,6 +55,7 @@ can_tell s y = record {
   calls = y.within.calls;
   known = entry_handle s y;
   before = λ back chunk begun undone some. viewed_handle s.durable chunk y.firm.stands.kept y.within.low (y.firm.stands.kept.restored back chunk undone (rolls s.durable.phase begun) some);
+  removed = λ moment. removed_told s.durable.names moment y.firm.stands.kept.names y.within.spelled.now;
 }
 
 can_answer : (s : State) → IsSteady s → CanAnswer s
@@ -103,6 +105,7 @@ wrote s t y fit firm room tells = record {
   written = all.0;
   within = record {
     low = all.1;
+    spelled = all_keep_spelled t.records s.durable t.after.durable y.firm.stands.kept y.within.spelled tells.told all.0 fit;
     unplaced = λ c here. by_old c (is_member s.volatile.unplaced c) refl (tells.unplaced c here);
     calls = tells.calls y.within.calls;
   };
@@ -184,7 +187,7 @@ none_prepared q some = absurd (false≢true (sym (ap is_some (fin.get-empty nat_
 pub starts_steady : StartsSteady
 starts_steady log room limit = record {
   firm = starts_firm log;
-  within = record { low = record { settled = none_low; prepared = none_prepared }; unplaced = λ c here. absurd (false≢true here); calls = tt };
+  within = record { low = record { settled = none_low; prepared = none_prepared }; spelled = start_spelled; unplaced = λ c here. absurd (false≢true here); calls = tt };
   room = room;
   limit = limit;
 }
@@ -192,6 +195,7 @@ starts_steady log room limit = record {
 tidied_within : (s : State) → IsWithin s → IsWithin (written s).after
 tidied_within s w = record {
   low = record { settled = λ q some. w.low.settled q (still q (is_listed s.durable q) (sym (ap is_some (kept q)) ∙ some)); prepared = λ q some. w.low.prepared q some };
+  spelled = record { now = w.spelled.now; before = w.spelled.before };
   unplaced = λ c here. w.unplaced c (fewer_member s.volatile.unplaced (awaits_first s) c here);
   calls = w.calls;
 }
@@ -223,7 +227,7 @@ due_checks s w = by_test (due s)
     c = checkpoint_checks s w
 
     by_test : (b : Bool) → Checks (if b then record (checkpoint s) { said = None } else unmoved s)
-    by_test true = record { written = c.written; within = record { low = c.within.low; unplaced = λ q here. c.within.unplaced q here; calls = c.within.calls } }
+    by_test true = record { written = c.written; within = record { low = c.within.low; spelled = c.within.spelled; unplaced = λ q here. c.within.unplaced q here; calls = c.within.calls } }
     by_test false = record { written = tt; within = w }
 
 most_of : (entries : List PlainEntry) → AllByRecursion (IsEntry Two) entries → AllByRecursion IsEntryUnlessWhole entries
@@ -266,7 +270,7 @@ event_checks config s (Comes message moment) named heard y =
     let w = messages_written config s message moment named heard y in record { written = most_of (handle config s message moment).records w.written; within = w.steady.within }
 event_checks config s (Ticks moment) named heard y = tick_checks s moment y
 event_checks config s Renews named heard y = checkpoint_checks s y.within
-event_checks config s Restarts named heard y = record { written = tt; within = record { low = y.within.low; unplaced = λ c here. absurd (false≢true here); calls = tt } }
+event_checks config s Restarts named heard y = record { written = tt; within = record { low = y.within.low; spelled = y.within.spelled; unplaced = λ c here. absurd (false≢true here); calls = tt } }
 
 pub events_written : EventsWritten
 events_written config s event named heard y =

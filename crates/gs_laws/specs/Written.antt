@@ -1,7 +1,8 @@
 -- What is within its type of all that a master keeps: so each record of each turn can be written, and it is so of what is left.
-use Rattle.std.specs.Prelude.{◌≡◌, ◌≤◌, ◌<◌, ◌^◌, ℕ, true, List, [], ◌∷◌, Ok, codes, is_some, refl}
+use Rattle.std.specs.Prelude.{◌≡◌, ◌≤◌, ◌<◌, ◌^◌, ◌&&◌, ℕ, Bool, true, List, [], ◌∷◌, Some, Ok, codes, is_some, length, nat_le, refl}
 use Rattle.std.specs.FinMap as fin
-use Rattle.std.specs.List.{AllByRecursion}
+use Rattle.std.specs.List.{list_all, AllByRecursion}
+use Rattle.std.specs.Str.{is_utf8}
 use Rattle.gs_base.specs.Members.{is_member}
 use Rattle.gs_base.specs.Told.{IsNumber}
 use Rattle.gs_base.specs.declared.config.Config.{Config}
@@ -17,11 +18,13 @@ use Rattle.gs_journal.specs.declared.version.Version.TheVariants.{Two}
 use Rattle.gs_record.specs.Encoding.{new_store}
 use Rattle.gs_record.specs.Plain.{PlainEntry, Prepare, Whole}
 use Rattle.gs_record.specs.Writable.{IsEntry, IsPath, IsRequest}
-use Rattle.gs_path.specs.Path.{Path}
+use Rattle.gs_path.specs.Element.{is_stored}
+use Rattle.gs_path.specs.Path.{Name, Path}
 use Rattle.gs_state.specs.Calls.{found_chunk}
 use Rattle.gs_state.specs.Durable.{Durable}
 use Rattle.gs_state.specs.Handling.{fresh, granted, handle, pressed, proposals}
 use Rattle.gs_state.specs.State.{State, Log, Turn, and_then, for_each}
+use Rattle.gs_state.specs.Undoing.{all_undone}
 use Rattle.gs_state.specs.declared.pending.Pending.{Pending}
 use Rattle.gs_state.specs.declared.pending.Waiting.{Waiting}
 use Rattle.gs_state.specs.declared.pending.Waiting.TheVariants as waits
@@ -39,6 +42,18 @@ pub record AreLow (d : Durable) : Type 0 where
   pub settled : (chunk : ℕ) → is_some (fin.get d.chunks chunk) ≡ true → IsNumber chunk
   pub prepared : (chunk : ℕ) → is_some (fin.get d.prepared chunk) ≡ true → IsNumber chunk
 
+-- an element of a path as it stands: one that is stored, in UTF-8, and no longer than a hidden name is
+abbrev pub is_spelled : Name → Bool
+is_spelled name = is_stored name && (is_utf8 name && nat_le (length name) 251)
+
+abbrev pub AreSpelled : NamesView → Type 0
+AreSpelled names = (path : Path) → is_some (fin.get names.tree path) ≡ true → list_all is_spelled path ≡ true
+
+-- so is each now, and in the names to which a rollback leads back
+pub record HasSpelled (d : Durable) : Type 0 where
+  pub now : AreSpelled d.names
+  pub before : (names : NamesView) → all_undone d.inverses d.names ≡ Some names → AreSpelled names
+
 -- the paths and the index of a call that waits, as the records of its edits tell them
 abbrev pub IsTakenWaiting : Waiting → Type 0
 IsTakenWaiting (waits.Extend path new) = IsPath path
@@ -52,21 +67,17 @@ IsTakenWaiting (waits.Replicate copied target) = Unit {0}
 abbrev pub IsTaken : Pending → Type 0
 IsTaken p = IsRequest p.req × IsTakenWaiting p.waits
 
--- Each chunk's number has 64 bits, also that of a chunk which is new; and each call that waits can be told.
+-- Each chunk's number has 64 bits, also that of a chunk which is new; each element of a path is spelled; and each call that waits can be told.
 pub record IsWithin (s : State) : Type 0 where
   pub low : AreLow s.durable
+  pub spelled : HasSpelled s.durable
   pub unplaced : (chunk : ℕ) → is_member s.volatile.unplaced chunk ≡ true → IsNumber chunk
   pub calls : AllByRecursion IsTaken s.volatile.pending
 
 -- ---- what comes
 
--- each path at which something stands can be told
-abbrev pub ArePaths : NamesView → Type 0
-ArePaths names = (path : Path) → is_some (fin.get names.tree path) ≡ true → IsPath path
-
--- What a call meets: a scan, paths that can be told; and where a chunk is found for writing, a record can tell its place.
+-- where a chunk is found for writing, a record can tell its place in its file
 abbrev pub IsMet : NamesView → Call → Type 0
-IsMet names calls.Scan = ArePaths names
 IsMet names (calls.FindForWriting path index stamp) = (chunk : ℕ) → found_chunk (fin.get names.tree path) index ≡ Ok chunk → IsIndex index
 IsMet names call = Unit {0}
 

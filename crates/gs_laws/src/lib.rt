@@ -158,8 +158,8 @@ pub fn each_event_has_room()
 
 /// Each record of each message can be written, whoever sends it, and so can each of each step of a tick, and of all its steps together: where
 /// the master is firm and all that it keeps is within its types, and its journal's limit has 32 bits. And so it is of what is left, behind each
-/// event and each run from a new store. Of the record of a checkpoint nothing is said. What comes is within its types too; a scan is to meet
-/// paths that can be told, and a chunk that is found for writing stands at a place in its file that 32 bits can say.
+/// event and each run from a new store. Of the record of a checkpoint nothing is said. What comes is within its types too, and a chunk that is
+/// found for writing stands at a place in its file that 32 bits can say.
 pub fn each_record_but_a_checkpoint_can_be_written()
     ensures start { StartsSteady }
     ensures messages { MessagesWritten }
