@@ -74,3 +74,4 @@ pub mod Writing
 pub mod EachNamed
 pub mod Spelling
 pub mod SpelledNames
+pub mod WritingCheckpoints

@@ -253,14 +253,14 @@ listed_handle d chunk k low some = settled_handle d chunk k low (k.settled chunk
 -- ---- edits
 
 -- a list is no longer than what tells it
-no_longer : {A : Type 0} (item : A → List ℕ) → ((x : A) → 1 ≤ length (item x)) → (xs : List A) → length xs ≤ length (flat_map item xs)
+pub no_longer : {A : Type 0} (item : A → List ℕ) → ((x : A) → 1 ≤ length (item x)) → (xs : List A) → length xs ≤ length (flat_map item xs)
 no_longer item some [] = omega arith
 no_longer item some (x ∷ xs) = let a = some x in let b = no_longer item some xs in omega (arith, length-append (item x) (flat_map item xs))
 
 behind_longer : (xs ys : List ℕ) → length ys ≤ length (xs ++ ys)
 behind_longer xs ys = omega (arith, length-append xs ys)
 
-list_longer : {A : Type 0} (item : A → List ℕ) (xs : List A) → length (flat_map item xs) ≤ length (list item xs)
+pub list_longer : {A : Type 0} (item : A → List ℕ) (xs : List A) → length (flat_map item xs) ≤ length (list item xs)
 list_longer item xs = omega arith
 
 referred_listed : (v : Option ℕ) → has_reference v ≡ true → is_some v ≡ true

@@ -6,6 +6,7 @@ use Rattle.std.specs.Str.{is_utf8}
 use Rattle.gs_base.specs.Members.{is_member}
 use Rattle.gs_base.specs.Told.{IsNumber}
 use Rattle.gs_base.specs.declared.config.Config.{Config}
+use Rattle.gs_base.specs.declared.numbers.ClientId.{ClientId}
 use Rattle.gs_base.specs.declared.numbers.Moment.{Moment}
 use Rattle.gs_base.specs.declared.numbers.Stamp.{Stamp}
 use Rattle.gs_edit.specs.View.{NamesView}
@@ -17,17 +18,20 @@ use Rattle.gs_msg.specs.declared.message.Message.{Message}
 use Rattle.gs_journal.specs.declared.version.Version.TheVariants.{Two}
 use Rattle.gs_record.specs.Encoding.{new_store}
 use Rattle.gs_record.specs.Plain.{PlainEntry, Prepare, Whole}
-use Rattle.gs_record.specs.Writable.{IsEntry, IsPath, IsRequest}
+use Rattle.gs_record.specs.Writable.{AreServers, IsEntry, IsInverse, IsPath, IsReply, IsRequest}
 use Rattle.gs_path.specs.Element.{is_stored}
 use Rattle.gs_path.specs.Path.{Name, Path}
 use Rattle.gs_state.specs.Calls.{found_chunk}
 use Rattle.gs_state.specs.Durable.{Durable}
-use Rattle.gs_state.specs.Handling.{fresh, granted, handle, pressed, proposals}
+use Rattle.gs_state.specs.Handling.{checkpoint, fresh, granted, handle, pressed, proposals}
 use Rattle.gs_state.specs.State.{State, Log, Turn, and_then, for_each}
 use Rattle.gs_state.specs.Undoing.{all_undone}
+use Rattle.gs_state.specs.Whole.{reply_of}
+use Rattle.gs_state.specs.declared.asking.Prepared.{Prepared}
 use Rattle.gs_state.specs.declared.pending.Pending.{Pending}
 use Rattle.gs_state.specs.declared.pending.Waiting.{Waiting}
 use Rattle.gs_state.specs.declared.pending.Waiting.TheVariants as waits
+use Rattle.gs_state.specs.declared.reply.KeptReply.{KeptReply}
 use Rattle.gs_laws.specs.Promises.{IsWritten}
 use Rattle.gs_laws.specs.Standing.{Event, Comes, IsFirm, IsNamed, run_of, turn_of}
 
@@ -140,6 +144,18 @@ AreHeardIn config s (event ∷ events) = IsHeardIn s event × AreHeardIn config 
 
 abbrev pub RunsWritten : Type 0
 RunsWritten = (config : Config) (s : State) (events : List Event) → AllByRecursion IsNamed events → AreHeardIn config s events → IsSteady s → WritesMost (run_of config s events)
+
+-- ---- the record of a checkpoint
+
+-- What a checkpoint tells beside what stands: each reply, each inverse, and who holds each chunk whose prepared view is kept.
+pub record IsToldBack (d : Durable) : Type 0 where
+  pub replies : (client : ClientId) (reply : KeptReply) → fin.get d.replies client ≡ Some reply → IsReply (reply_of (client, reply))
+  pub inverses : AllByRecursion IsInverse d.inverses
+  pub holders : (chunk : ℕ) (prepared : Prepared) → fin.get d.prepared chunk ≡ Some prepared → AreServers prepared.holders
+
+-- Where those can be told, its record can be written, if it has room.
+abbrev pub CheckpointsWritten : Type 0
+CheckpointsWritten = (s : State) → IsSteady s → IsToldBack s.durable → IsWritten (checkpoint s)
 
 -- ---- examples
 
