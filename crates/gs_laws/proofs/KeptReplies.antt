@@ -137,7 +137,7 @@ same_bytes : (xs : List ℕ) → bytes_eq xs xs ≡ true
 same_bytes [] = refl
 same_bytes (x ∷ xs) = both_true (x == x) (bytes_eq xs xs) (grind (arith, nat_tests)) (same_bytes xs)
 
-bits_are : (members : List ℕ) → AreServers members → (bits_of members < 2 ^ 16) × (servers_where (has_bit (bits_of members)) ≡ members)
+pub bits_are : (members : List ℕ) → AreServers members → (bits_of members < 2 ^ 16) × (servers_where (has_bit (bits_of members)) ≡ members)
 bits_are members (bits, low, is) =
     let same : bits_of members ≡ bits = ap bits_of is ∙ bits_of-servers_where bits low in
     (subst (λ n. n < 2 ^ 16) (sym same) low, ap (λ b. servers_where (has_bit b)) same ∙ sym is)
@@ -148,11 +148,11 @@ term_is (Some t) h =
     let low = h.0 in
     let other : (t.primary == 255) ≡ false = grind (arith, nat_tests) in ap (λ b. if b then None else Some (record { primary = t.primary; end = record { 0 = t.end.0 } })) other
 
-primary_low : (term : Option Term) → IsTerm term → primary_of term < 2 ^ 64
+pub primary_low : (term : Option Term) → IsTerm term → primary_of term < 2 ^ 64
 primary_low None h = omega arith
 primary_low (Some t) h = let low = h.0 in omega arith
 
-end_low : (term : Option Term) → IsTerm term → end_of term < 2 ^ 64
+pub end_low : (term : Option Term) → IsTerm term → end_of term < 2 ^ 64
 end_low None h = omega arith
 end_low (Some t) h = h.1
 

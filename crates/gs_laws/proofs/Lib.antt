@@ -75,3 +75,4 @@ pub mod EachNamed
 pub mod Spelling
 pub mod SpelledNames
 pub mod WritingCheckpoints
+pub mod ToldReplies

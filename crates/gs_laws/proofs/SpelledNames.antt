@@ -41,10 +41,10 @@ use Rattle.gs_laws.proofs.Tellable.{IsTellable, not_whole}
 
 -- ---- what an edit names is spelled
 
-element_long : (x : Name) → is_element x ≡ true → length x ≤ 200
+pub element_long : (x : Name) → is_element x ≡ true → length x ≤ 200
 element_long x h = let more = (and_parts (nat_lt 0 (length x)) _ h).1 in leb-true (length x) 200 (and_parts (nat_le (length x) 200) _ more).0
 
-spell : (x : Name) → is_stored x ≡ true → is_utf8 x ≡ true → length x ≤ 251 → is_spelled x ≡ true
+pub spell : (x : Name) → is_stored x ≡ true → is_utf8 x ≡ true → length x ≤ 251 → is_spelled x ≡ true
 spell x stored utf8 few = both_true (is_stored x) (is_utf8 x && nat_le (length x) 251) stored (both_true (is_utf8 x) (nat_le (length x) 251) utf8 (le-leb (length x) 251 few))
 
 -- an element that can be hidden, in UTF-8
@@ -70,7 +70,7 @@ spell_hidden moment number x h k can =
     let both = and_parts (can_hide x) (is_utf8 x) can in
     spell (hidden_name moment number x) (stored_hidden moment number x h k both.0) (hidden_utf8 moment number x h k both.1) (hidden_long moment number x h k (element_long x (element_of x both.0)))
 
-names_spelled : (edit : PlainEdit) → IsEdit edit → names_well edit ≡ true → NamesSo is_spelled edit
+pub names_spelled : (edit : PlainEdit) → IsEdit edit → names_well edit ≡ true → NamesSo is_spelled edit
 names_spelled (Mkdirs p) t well = (seen_path p t well).0
 names_spelled (Create p) t well = (seen_path p t well).0
 names_spelled (Rename from to) t well = (seen_path to t.1 (and_parts (is_visible from) (is_visible to) well).1).0
@@ -120,7 +120,7 @@ undone_spelled d next epoch answers None h back e = absurd (false≢true (ap is_
 undone_spelled d next epoch answers (Some names) h back e =
     subst HasSpelled (fits_gives (is_rolling d.phase && ((epoch == d.epoch) && are_answers (prepared_view d) (fin.entries names.refs) answers)) (rolled_back d answers names) next e).1 (none_back (rolled_back d answers names) refl (h.before names back))
 
-keeps_spelled : (entry : PlainEntry) (d next : Durable) → is_whole_entry entry ≡ false → AreFields Two entry → IsKept d → HasSpelled d → applied d entry ≡ Some next → HasSpelled next
+pub keeps_spelled : (entry : PlainEntry) (d next : Durable) → is_whole_entry entry ≡ false → AreFields Two entry → IsKept d → HasSpelled d → applied d entry ≡ Some next → HasSpelled next
 unfolding applied
 keeps_spelled (Edited by edit) d next other f k h e = edit_spelled d next by edit f.1 k h e (edited_names edit d.names) refl e
 keeps_spelled (Said to refusal) d next other f k h e = same_spelled d _ next h (fits_gives true _ next e).1 refl refl
@@ -161,14 +161,14 @@ start_spelled = none_back start refl (λ q some. at_root q some)
 
 -- ---- a path of such elements can be told
 
-behind_utf8 : (p : Path) → list_all is_spelled p ≡ true → IsUtf8 (behind_slashes p)
+pub behind_utf8 : (p : Path) → list_all is_spelled p ≡ true → IsUtf8 (behind_slashes p)
 behind_utf8 [] all = IsUtf8-nil
 behind_utf8 (x ∷ p) all =
     let parts = and_parts (is_spelled x) (list_all is_spelled p) all in
     let own = (and_parts (is_utf8 x) (nat_le (length x) 251) (and_parts (is_stored x) (is_utf8 x && nat_le (length x) 251) parts.0).1).0 in
     IsUtf8-append (47 ∷ []) (x ++ behind_slashes p) slash_utf8 (IsUtf8-append x (behind_slashes p) (IsUtf8-from_is_utf8 x own) (behind_utf8 p parts.1))
 
-behind_long : (p : Path) → list_all is_spelled p ≡ true → length (behind_slashes p) ≤ 252 * length p
+pub behind_long : (p : Path) → list_all is_spelled p ≡ true → length (behind_slashes p) ≤ 252 * length p
 behind_long [] all = omega arith
 behind_long (x ∷ p) all =
     let parts = and_parts (is_spelled x) (list_all is_spelled p) all in

@@ -23,7 +23,7 @@ ascii_one c low zero = low
 ascii_one c low (suc i) = omega arith
 
 -- bytes of ASCII
-ascii_utf8 : (bs : List ℕ) → list_all (λ b. nat_lt b 128) bs ≡ true → IsUtf8 bs
+pub ascii_utf8 : (bs : List ℕ) → list_all (λ b. nat_lt b 128) bs ≡ true → IsUtf8 bs
 ascii_utf8 [] all = IsUtf8-nil
 ascii_utf8 (c ∷ bs) all =
     let parts = and_parts (nat_lt c 128) (list_all (λ b. nat_lt b 128) bs) all in IsUtf8-append (c ∷ []) bs (IsUtf8-from_ascii (c ∷ []) (ascii_one c (below c parts.0))) (ascii_utf8 bs parts.1)

@@ -24,7 +24,7 @@ use Rattle.gs_state.specs.State.{State, Turn, and_then, fits, first_of, for_each
 use Rattle.gs_laws.specs.Promises.{AllFit, IsWritten}
 use Rattle.gs_laws.specs.Rooms.{HasRoom}
 use Rattle.gs_laws.specs.Standing.{Event, Comes, Ticks, Renews, Restarts, IsFirm, IsNamed, run_of, turn_of}
-use Rattle.gs_laws.specs.Written.{AllStepsWritten, AreLow, EventsWritten, IsEntryUnlessWhole, IsHeardIn, IsSteady, IsWithin, MessagesWritten, RunsWritten, StartsSteady, StepsWritten, WritesAll}
+use Rattle.gs_laws.specs.Written.{AllStepsWritten, AreHolders, AreLow, AreReplies, EventsWritten, IsEntryUnlessWhole, IsHeardIn, IsSteady, IsWithin, MessagesWritten, RunsWritten, StartsSteady, StepsWritten, WritesAll}
 use Rattle.gs_laws.proofs.Rooms.{Roomy}
 use Rattle.gs_laws.proofs.RoomsOfTurns.{logs_stay_within, messages_have_room, pressed_roomy}
 use Rattle.gs_laws.proofs.SpelledNames.{all_keep_spelled, start_spelled}
@@ -34,6 +34,7 @@ use Rattle.gs_laws.proofs.StandingTurns.{Holds}
 use Rattle.gs_laws.proofs.Tellable.{all_written, given_some, listed_handle, viewed_handle}
 use Rattle.gs_laws.proofs.Telling.{Tells, all_both, fewer_member, is_for, proposes}
 use Rattle.gs_laws.proofs.TellingCalls.{CanTell, removed_told}
+use Rattle.gs_laws.proofs.ToldReplies.{all_keep_told, no_holders, no_replies}
 use Rattle.gs_laws.proofs.TellingTurns.{CanAnswer, message_tells, pressed_tells}
 
 -- ---- what is known of a steady master
@@ -106,6 +107,8 @@ wrote s t y fit firm room tells = record {
   within = record {
     low = all.1;
     spelled = all_keep_spelled t.records s.durable t.after.durable y.firm.stands.kept y.within.spelled tells.told all.0 fit;
+    replies = told.0;
+    holders = told.1;
     unplaced = λ c here. by_old c (is_member s.volatile.unplaced c) refl (tells.unplaced c here);
     calls = tells.calls y.within.calls;
   };
@@ -117,6 +120,9 @@ wrote s t y fit firm room tells = record {
 
     all : AllByRecursion (IsEntry Two) t.records × AreLow t.after.durable
     all = all_written t.records s.durable t.after.durable s.log.limit y.firm.stands.kept y.within.low firm.stands.counters tells.told (small room) y.limit fit
+
+    told : AreReplies t.after.durable × AreHolders t.after.durable
+    told = all_keep_told t.records s.durable t.after.durable y.firm.stands.kept y.within.spelled y.within.replies y.within.holders tells.told all.0 fit
 
     by_old : (c : ℕ) (b : Bool) → is_member s.volatile.unplaced c ≡ b → (b || proposes c t.records) ≡ true → IsNumber c
     by_old c true is h = y.within.unplaced c is
@@ -187,7 +193,7 @@ none_prepared q some = absurd (false≢true (sym (ap is_some (fin.get-empty nat_
 pub starts_steady : StartsSteady
 starts_steady log room limit = record {
   firm = starts_firm log;
-  within = record { low = record { settled = none_low; prepared = none_prepared }; spelled = start_spelled; unplaced = λ c here. absurd (false≢true here); calls = tt };
+  within = record { low = record { settled = none_low; prepared = none_prepared }; spelled = start_spelled; replies = no_replies; holders = no_holders; unplaced = λ c here. absurd (false≢true here); calls = tt };
   room = room;
   limit = limit;
 }
@@ -196,6 +202,8 @@ tidied_within : (s : State) → IsWithin s → IsWithin (written s).after
 tidied_within s w = record {
   low = record { settled = λ q some. w.low.settled q (still q (is_listed s.durable q) (sym (ap is_some (kept q)) ∙ some)); prepared = λ q some. w.low.prepared q some };
   spelled = record { now = w.spelled.now; before = w.spelled.before };
+  replies = w.replies;
+  holders = w.holders;
   unplaced = λ c here. w.unplaced c (fewer_member s.volatile.unplaced (awaits_first s) c here);
   calls = w.calls;
 }
@@ -227,7 +235,7 @@ due_checks s w = by_test (due s)
     c = checkpoint_checks s w
 
     by_test : (b : Bool) → Checks (if b then record (checkpoint s) { said = None } else unmoved s)
-    by_test true = record { written = c.written; within = record { low = c.within.low; spelled = c.within.spelled; unplaced = λ q here. c.within.unplaced q here; calls = c.within.calls } }
+    by_test true = record { written = c.written; within = record { low = c.within.low; spelled = c.within.spelled; replies = c.within.replies; holders = c.within.holders; unplaced = λ q here. c.within.unplaced q here; calls = c.within.calls } }
     by_test false = record { written = tt; within = w }
 
 most_of : (entries : List PlainEntry) → AllByRecursion (IsEntry Two) entries → AllByRecursion IsEntryUnlessWhole entries
@@ -270,7 +278,7 @@ event_checks config s (Comes message moment) named heard y =
     let w = messages_written config s message moment named heard y in record { written = most_of (handle config s message moment).records w.written; within = w.steady.within }
 event_checks config s (Ticks moment) named heard y = tick_checks s moment y
 event_checks config s Renews named heard y = checkpoint_checks s y.within
-event_checks config s Restarts named heard y = record { written = tt; within = record { low = y.within.low; spelled = y.within.spelled; unplaced = λ c here. absurd (false≢true here); calls = tt } }
+event_checks config s Restarts named heard y = record { written = tt; within = record { low = y.within.low; spelled = y.within.spelled; replies = y.within.replies; holders = y.within.holders; unplaced = λ c here. absurd (false≢true here); calls = tt } }
 
 pub events_written : EventsWritten
 events_written config s event named heard y =

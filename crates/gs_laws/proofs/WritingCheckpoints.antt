@@ -20,7 +20,7 @@ use Rattle.gs_path.specs.Path.{Path, path_cmp, path_total, text_cmp}
 use Rattle.gs_record.specs.Encoding.{body, epoch_end, inverse, list, node, number, path, phase, prepared_view, reference, reply, settled_entry, tree_entry}
 use Rattle.gs_record.specs.Order.{entry_before, is_in_order, is_less, prepared_before, reference_before, reply_before, rises, rises_from, settled_before}
 use Rattle.gs_record.specs.Plain.{PlainCheckpoint, PlainNode, Whole}
-use Rattle.gs_record.specs.Writable.{AreParts, IsEntry, IsHandle, IsNode, IsPath, IsPreparedView, IsReference, IsReply, IsSettledEntry, IsTreeEntry}
+use Rattle.gs_record.specs.Writable.{AreParts, IsEntry, IsHandle, IsInverse, IsNode, IsPath, IsPreparedView, IsReference, IsReply, IsSettledEntry, IsTreeEntry}
 use Rattle.gs_refs.specs.Counts.{last_count}
 use Rattle.gs_state.specs.Durable.{Durable, is_listed}
 use Rattle.gs_state.specs.Handling.{checkpoint, checkpoint_body, checkpoint_tests, written_unless}
@@ -38,7 +38,7 @@ use Rattle.gs_tree.specs.Find.{Rows}
 use Rattle.gs_tree.proofs.Depths.{paths_antisymmetric}
 use Rattle.gs_tree.proofs.Levels.{both_true}
 use Rattle.gs_laws.specs.Promises.{IsKept, IsWritten}
-use Rattle.gs_laws.specs.Written.{CheckpointsWritten, IsSteady, IsToldBack, is_spelled}
+use Rattle.gs_laws.specs.Written.{CheckpointsWritten, IsSteady, is_spelled}
 use Rattle.gs_laws.proofs.AcceptedForgets.{lower}
 use Rattle.gs_laws.proofs.AcceptedUpgrades.{first_test}
 use Rattle.gs_laws.proofs.LedBack.{kept_tree}
@@ -240,7 +240,7 @@ few_items item some xs low = let many = no_longer item some xs in let all = list
 
 -- ---- what stands is told
 
-module _ (s : State) (y : IsSteady s) (back : IsToldBack s.durable) where
+module _ (s : State) (y : IsSteady s) (back : AllByRecursion IsInverse s.durable.inverses) where
   abbrev now : Durable
   now = s.durable
 
@@ -271,11 +271,11 @@ module _ (s : State) (y : IsSteady s) (back : IsToldBack s.durable) where
 
   replies_told : AllByRecursion IsReply (map reply_of (fin.entries now.replies))
   replies_told = mapped IsReply reply_of (fin.entries now.replies)
-      (each_entry client_cmp client_total client_exact (λ k v. IsReply (reply_of (k, v))) (fin.entries now.replies) (fin.entries_sorted now.replies) (λ k v found. back.replies k v (fin.get-entries now.replies k ∙ found)))
+      (each_entry client_cmp client_total client_exact (λ k v. IsReply (reply_of (k, v))) (fin.entries now.replies) (fin.entries_sorted now.replies) (λ k v found. y.within.replies k v (fin.get-entries now.replies k ∙ found)))
 
   prepared_told : AllByRecursion (IsPreparedView Two) (map prepared_entry (fin.entries now.prepared))
   prepared_told = mapped (IsPreparedView Two) prepared_entry (fin.entries now.prepared) (each_entry nat_cmp nat_cmp_total fin.nat_cmp-IsAntisymmetric (λ k v. IsPreparedView Two (prepared_entry (k, v))) (fin.entries now.prepared) (fin.entries_sorted now.prepared)
-      (λ k v found. (let has = fin.get-entries now.prepared k ∙ found in let p = kept.prepared k v has in (((given_some now.next_handle k p.0, y.within.low.prepared k (ap is_some has)), p.1.told), back.holders k v has))))
+      (λ k v found. (let has = fin.get-entries now.prepared k ∙ found in let p = kept.prepared k v has in (((given_some now.next_handle k p.0, y.within.low.prepared k (ap is_some has)), p.1.told), y.within.holders k v has))))
 
   parts_told : AreShort (checkpoint_of now) → AreParts Two (checkpoint_of now)
   unfolding checkpoint_of
@@ -301,7 +301,7 @@ module _ (s : State) (y : IsSteady s) (back : IsToldBack s.durable) where
                       (few_items reply (λ r. omega arith) (map reply_of (fin.entries now.replies)) short.replies, replies_told),
                       (
                         (few_items (prepared_view Two) (λ v. omega arith) (map prepared_entry (fin.entries now.prepared)) short.prepared, prepared_told),
-                        (few_items inverse (λ i. omega arith) now.inverses short.inverses, back.inverses),
+                        (few_items inverse (λ i. omega arith) now.inverses short.inverses, back),
                       ),
                     ),
                   ),

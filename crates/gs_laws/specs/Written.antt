@@ -58,6 +58,14 @@ pub record HasSpelled (d : Durable) : Type 0 where
   pub now : AreSpelled d.names
   pub before : (names : NamesView) → all_undone d.inverses d.names ≡ Some names → AreSpelled names
 
+-- each reply, as a checkpoint tells it
+abbrev pub AreReplies : Durable → Type 0
+AreReplies d = (client : ClientId) (reply : KeptReply) → fin.get d.replies client ≡ Some reply → IsReply (reply_of (client, reply))
+
+-- and who holds each chunk whose prepared view is kept
+abbrev pub AreHolders : Durable → Type 0
+AreHolders d = (chunk : ℕ) (prepared : Prepared) → fin.get d.prepared chunk ≡ Some prepared → AreServers prepared.holders
+
 -- the paths and the index of a call that waits, as the records of its edits tell them
 abbrev pub IsTakenWaiting : Waiting → Type 0
 IsTakenWaiting (waits.Extend path new) = IsPath path
@@ -71,10 +79,13 @@ IsTakenWaiting (waits.Replicate copied target) = Unit {0}
 abbrev pub IsTaken : Pending → Type 0
 IsTaken p = IsRequest p.req × IsTakenWaiting p.waits
 
--- Each chunk's number has 64 bits, also that of a chunk which is new; each element of a path is spelled; and each call that waits can be told.
+-- Each chunk's number has 64 bits, also that of a chunk which is new; each element of a path is spelled; each reply, each holder and each call that
+-- waits can be told.
 pub record IsWithin (s : State) : Type 0 where
   pub low : AreLow s.durable
   pub spelled : HasSpelled s.durable
+  pub replies : AreReplies s.durable
+  pub holders : AreHolders s.durable
   pub unplaced : (chunk : ℕ) → is_member s.volatile.unplaced chunk ≡ true → IsNumber chunk
   pub calls : AllByRecursion IsTaken s.volatile.pending
 
@@ -147,15 +158,9 @@ RunsWritten = (config : Config) (s : State) (events : List Event) → AllByRecur
 
 -- ---- the record of a checkpoint
 
--- What a checkpoint tells beside what stands: each reply, each inverse, and who holds each chunk whose prepared view is kept.
-pub record IsToldBack (d : Durable) : Type 0 where
-  pub replies : (client : ClientId) (reply : KeptReply) → fin.get d.replies client ≡ Some reply → IsReply (reply_of (client, reply))
-  pub inverses : AllByRecursion IsInverse d.inverses
-  pub holders : (chunk : ℕ) (prepared : Prepared) → fin.get d.prepared chunk ≡ Some prepared → AreServers prepared.holders
-
--- Where those can be told, its record can be written, if it has room.
+-- It can be written where it has room, and each inverse can be told; where no upgrade stands there is none.
 abbrev pub CheckpointsWritten : Type 0
-CheckpointsWritten = (s : State) → IsSteady s → IsToldBack s.durable → IsWritten (checkpoint s)
+CheckpointsWritten = (s : State) → IsSteady s → AllByRecursion IsInverse s.durable.inverses → IsWritten (checkpoint s)
 
 -- ---- examples
 
