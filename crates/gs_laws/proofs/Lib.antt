@@ -76,3 +76,4 @@ pub mod Spelling
 pub mod SpelledNames
 pub mod WritingCheckpoints
 pub mod ToldReplies
+pub mod ToldInverses

@@ -443,7 +443,7 @@ rolled_low d next epoch answers (Some names) all e =
     subst AreLow (fits_gives (is_rolling d.phase && ((epoch == d.epoch) && are_answers (prepared_view d) (fin.entries names.refs) answers)) (rolled_back d answers names) next e).1
     (record { settled = λ q some. restored_low d answers q all (sym (ap is_some (fin.get-from_entries nat_cmp_total (filter_map (restored_chunk d) answers) q)) ∙ some); prepared = none_prepared })
 
-low_after : (entry : PlainEntry) (d next : Durable) → AreLow d → IsTellable entry → AreFields Two entry → applied d entry ≡ Some next → AreLow next
+pub low_after : (entry : PlainEntry) (d next : Durable) → AreLow d → IsTellable entry → AreFields Two entry → applied d entry ≡ Some next → AreLow next
 unfolding applied
 low_after (Edited by edit) d next low t f e = let m = made_of d next by edit e in let l = without_low (forgotten_by edit) d low in subst AreLow m.is (record { settled = λ q some. l.settled q some; prepared = λ q some. l.prepared q some })
 low_after (Said to refusal) d next low t f e = same_low d _ next (fits_gives true _ next e).1 refl refl low

@@ -79,7 +79,7 @@ hidden_text p moment number all short = text_of (hidden_path p moment number) al
     still (x ∷ q) h = ap (λ n. nat_le n 64) (hidden_long (x ∷ q) moment number (some_path x q)) ∙ h
 
 -- what is hidden stands where it is
-unhide_stands : (p : Path) (name : Name) (old new : NamesView) → Grown (fin.get old.tree) → old_name p ≡ Some name → edited_names (Unhide p) old ≡ Ok new → is_some (fin.get old.tree p) ≡ true
+pub unhide_stands : (p : Path) (name : Name) (old new : NamesView) → Grown (fin.get old.tree) → old_name p ≡ Some name → edited_names (Unhide p) old ≡ Ok new → is_some (fin.get old.tree p) ≡ true
 unhide_stands p name old new grown is e =
     let n = was_named (Unhide p) old new e in
     let parts = admitted (edits.Unhide p) (fin.entries old.tree) old.refs (n.rows, n.refs) n.made in by_name (old_name p) refl parts.rows n.rows

@@ -19,7 +19,7 @@ use Rattle.gs_journal.specs.declared.version.Version.TheVariants.{Two}
 use Rattle.gs_path.specs.Path.{Path, path_cmp, path_total, text_cmp}
 use Rattle.gs_record.specs.Encoding.{body, epoch_end, inverse, list, node, number, path, phase, prepared_view, reference, reply, settled_entry, tree_entry}
 use Rattle.gs_record.specs.Order.{entry_before, is_in_order, is_less, prepared_before, reference_before, reply_before, rises, rises_from, settled_before}
-use Rattle.gs_record.specs.Plain.{PlainCheckpoint, PlainNode, Whole}
+use Rattle.gs_record.specs.Plain.{PlainCheckpoint, PlainInverse, PlainNode, UndoAddChunk, UndoCow, UndoCreate, UndoForget, UndoHide, UndoMkdirs, UndoRemove, UndoRename, UndoSnapshot, UndoUnhide, Whole}
 use Rattle.gs_record.specs.Writable.{AreParts, IsEntry, IsHandle, IsInverse, IsNode, IsPath, IsPreparedView, IsReference, IsReply, IsSettledEntry, IsTreeEntry}
 use Rattle.gs_refs.specs.Counts.{last_count}
 use Rattle.gs_state.specs.Durable.{Durable, is_listed}
@@ -38,7 +38,7 @@ use Rattle.gs_tree.specs.Find.{Rows}
 use Rattle.gs_tree.proofs.Depths.{paths_antisymmetric}
 use Rattle.gs_tree.proofs.Levels.{both_true}
 use Rattle.gs_laws.specs.Promises.{IsKept, IsWritten}
-use Rattle.gs_laws.specs.Written.{CheckpointsWritten, IsSteady, is_spelled}
+use Rattle.gs_laws.specs.Written.{AreHandles, CheckpointsWritten, IsSteady, IsToldBack, is_spelled}
 use Rattle.gs_laws.proofs.AcceptedForgets.{lower}
 use Rattle.gs_laws.proofs.AcceptedUpgrades.{first_test}
 use Rattle.gs_laws.proofs.LedBack.{kept_tree}
@@ -141,16 +141,12 @@ module _ (P : Path → Type 0) (Q : Option (List ℕ) → Type 0) where
       each rest Equal = ((all.0.0, b), all.1)
       each rest Greater = (all.0, rest)
 
-  texts_both : (rows : Rows ℕ) → AllByRecursion (λ r. P r.0 × Q (chunks_of r.1)) rows → AllByRecursion IsBoth (by_text rows)
+  pub texts_both : (rows : Rows ℕ) → AllByRecursion (λ r. P r.0 × Q (chunks_of r.1)) rows → AllByRecursion IsBoth (by_text rows)
   texts_both [] all = tt
   texts_both (r ∷ rows) all = put_both r.0 (chunks_of r.1) (by_text rows) all.0.0 all.0.1 (texts_both rows all.1)
 
--- each chunk of an entry, as a handle
-abbrev AreHandles : Option (List ℕ) → Type 0
-AreHandles None = Unit {0}
-AreHandles (Some chunks) = AllByRecursion IsHandle chunks
-
-rows_told : (d : Durable) (rows : Rows ℕ) → ((chunk : ℕ) → is_placed d chunk ≡ true → IsHandle chunk) → list_all (λ r. list_all is_spelled r.0) rows ≡ true → list_all (λ r. is_short r.0) rows ≡ true → list_all (λ r. is_without_slashes r.0) rows ≡ true
+-- rows that stand are told
+pub rows_told : (d : Durable) (rows : Rows ℕ) → ((chunk : ℕ) → is_placed d chunk ≡ true → IsHandle chunk) → list_all (λ r. list_all is_spelled r.0) rows ≡ true → list_all (λ r. is_short r.0) rows ≡ true → list_all (λ r. is_without_slashes r.0) rows ≡ true
     → list_all (is_placed d) (all_chunks rows) ≡ true → AllByRecursion (λ r. IsPath r.0 × AreHandles (chunks_of r.1)) rows
 rows_told d [] handle spelled short plain placed = tt
 rows_told d (r ∷ rows) handle spelled short plain placed =
@@ -238,9 +234,32 @@ parts_short c low =
 few_items : {A : Type 0} (item : A → List ℕ) → ((x : A) → 1 ≤ length (item x)) → (xs : List A) → length (list item xs) < 2 ^ 32 → length xs < 2 ^ 32
 few_items item some xs low = let many = no_longer item some xs in let all = list_longer item xs in omega arith
 
+inverses_short : (most : ℕ) (is : List PlainInverse) → length (flat_map inverse is) < most → AllByRecursion (λ i. length (inverse i) < most) is
+inverses_short most [] low = tt
+inverses_short most (i ∷ is) low = let all = front_longer (inverse i) (flat_map inverse is) in let rest = behind_longer (inverse i) (flat_map inverse is) in (omega arith, inverses_short most is (omega arith))
+
+inverses_told : (is : List PlainInverse) → AllByRecursion IsToldBack is → AllByRecursion (λ i. length (inverse i) < 2 ^ 32) is → AllByRecursion IsInverse is
+inverses_told [] all short = tt
+inverses_told (i ∷ is) all short = (own i all.0 short.0, inverses_told is all.1 short.1)
+  where
+    paths_few : (ps : List Path) → length (list path ps) < 2 ^ 32 → length ps < 2 ^ 32
+    paths_few ps low = few_items path (λ p. omega arith) ps low
+
+    own : (x : PlainInverse) → IsToldBack x → length (inverse x) < 2 ^ 32 → IsInverse x
+    own (UndoMkdirs ps) t low = (paths_few ps (omega arith), t)
+    own (UndoCreate ps) t low = (paths_few ps (omega arith), t)
+    own (UndoRename a b) t low = t
+    own (UndoHide a b) t low = t
+    own (UndoUnhide a b) t low = t
+    own (UndoRemove es) t low = (few_items tree_entry (λ e. omega arith) es (omega arith), entries_told es t (nodes_short (2 ^ 32) es (let all = list_longer tree_entry es in omega arith)))
+    own (UndoAddChunk p) t low = t
+    own (UndoCow p index old) t low = t
+    own (UndoSnapshot p) t low = t
+    own (UndoForget chunks) t low = (few_items number (λ n. omega arith) chunks (omega arith), t)
+
 -- ---- what stands is told
 
-module _ (s : State) (y : IsSteady s) (back : AllByRecursion IsInverse s.durable.inverses) where
+module _ (s : State) (y : IsSteady s) where
   abbrev now : Durable
   now = s.durable
 
@@ -301,7 +320,7 @@ module _ (s : State) (y : IsSteady s) (back : AllByRecursion IsInverse s.durable
                       (few_items reply (λ r. omega arith) (map reply_of (fin.entries now.replies)) short.replies, replies_told),
                       (
                         (few_items (prepared_view Two) (λ v. omega arith) (map prepared_entry (fin.entries now.prepared)) short.prepared, prepared_told),
-                        (few_items inverse (λ i. omega arith) now.inverses short.inverses, back),
+                        (few_items inverse (λ i. omega arith) now.inverses short.inverses, inverses_told now.inverses y.within.back (inverses_short (2 ^ 32) now.inverses (back_low now.inverses short.inverses))),
                       ),
                     ),
                   ),
@@ -316,6 +335,9 @@ module _ (s : State) (y : IsSteady s) (back : AllByRecursion IsInverse s.durable
     where
       tree_low : (es : List PlainNode) → length (list tree_entry es) < 2 ^ 32 → length (flat_map tree_entry es) < 2 ^ 32
       tree_low es low = let all = list_longer tree_entry es in omega arith
+
+      back_low : (is : List PlainInverse) → length (list inverse is) < 2 ^ 32 → length (flat_map inverse is) < 2 ^ 32
+      back_low is low = let all = list_longer inverse is in omega arith
 
   in_order : is_in_order (checkpoint_of now) ≡ true
   unfolding checkpoint_of
@@ -349,4 +371,4 @@ module _ (s : State) (y : IsSteady s) (back : AllByRecursion IsInverse s.durable
 
 pub checkpoints_written : CheckpointsWritten
 unfolding checkpoint
-checkpoints_written s y back = tests_written s y back (first_of (checkpoint_tests (is_failed s.fault) s.volatile.is_preparing s.log (checkpoint_body s.durable))) refl
+checkpoints_written s y = tests_written s y (first_of (checkpoint_tests (is_failed s.fault) s.volatile.is_preparing s.log (checkpoint_body s.durable))) refl

@@ -156,11 +156,10 @@ pub fn each_event_has_room()
     ensures runs { RunsStayWithin }
 {}
 
-/// Each record of each message can be written, whoever sends it, and so can each of each step of a tick, and of all its steps together: where
-/// the master is firm and all that it keeps is within its types, and its journal's limit has 32 bits. And so it is of what is left, behind each
-/// event and each run from a new store. What comes is within its types too, and a chunk that is found for writing stands at a place in its file
-/// that 32 bits can say. The record of a checkpoint can be written where each inverse that it tells can be told; where no upgrade stands there is
-/// none.
+/// Each record of each message can be written, whoever sends it, and so can each of each step of a tick, and of all its steps together, and that
+/// of a checkpoint: where the master is firm and all that it keeps is within its types, and its journal's limit has 32 bits. So it is of what is
+/// left, behind each event and each run from a new store. What comes is within its types too, and a chunk that is found for writing stands at a
+/// place in its file that 32 bits can say.
 pub fn each_record_can_be_written()
     ensures start { StartsSteady }
     ensures messages { MessagesWritten }
