@@ -44,7 +44,7 @@ from_t : (b : Bool) → T b → b ≡ true
 from_t true h = refl
 from_t false h = absurd h
 
-lower : (x y : ℕ) → is_lt (nat_cmp x y) ≡ true → nat_lt x y ≡ true
+pub lower : (x y : ℕ) → is_lt (nat_cmp x y) ≡ true → nat_lt x y ≡ true
 lower x y h = grind (arith, nat_tests)
 
 module _ (test : ℕ × ℕ → Bool) where

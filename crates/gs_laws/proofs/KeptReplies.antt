@@ -91,11 +91,11 @@ cut_none c (x ∷ xs) h =
     not_true true e = absurd (false≢true e)
     not_true false e = refl
 
-split_text : (x : Name) (p : Path) → is_without_slashes (x ∷ p) ≡ true → slice_split (λ b. b == 47) (x ++ behind_slashes p) ≡ x ∷ p
+pub split_text : (x : Name) (p : Path) → is_without_slashes (x ∷ p) ≡ true → slice_split (λ b. b == 47) (x ++ behind_slashes p) ≡ x ∷ p
 split_text x [] h = ap (slice_split (λ b. b == 47)) (append-nil x) ∙ cut_none 47 x (and_parts (is_plain x) (is_without_slashes []) h).0
 split_text x (y ∷ p) h = let parts = and_parts (is_plain x) (is_without_slashes (y ∷ p)) h in cut_at 47 x (y ++ behind_slashes p) parts.0 ∙ ap (λ q. x ∷ q) (split_text y p parts.1)
 
-judged_is : (p q : Path) → q ≡ p → is_short p ≡ true → list_all is_stored p ≡ true → judged is_stored q ≡ Ok p
+pub judged_is : (p q : Path) → q ≡ p → is_short p ≡ true → list_all is_stored p ≡ true → judged is_stored q ≡ Ok p
 judged_is p q is short stored = ap (judged is_stored) is ∙ ap (λ b. if b then Ok p else Err BadPath) (both_true (nat_le (length p) 64) (list_all is_stored p) short stored)
 
 pub path_told : (p : Path) → is_without_slashes p ≡ true → is_short p ≡ true → list_all is_stored p ≡ true → IsAnswer (Ok (answers.Path p))
@@ -137,7 +137,7 @@ same_bytes : (xs : List ℕ) → bytes_eq xs xs ≡ true
 same_bytes [] = refl
 same_bytes (x ∷ xs) = both_true (x == x) (bytes_eq xs xs) (grind (arith, nat_tests)) (same_bytes xs)
 
-bits_are : (members : List ℕ) → AreServers members → (bits_of members < 2 ^ 16) × (servers_where (has_bit (bits_of members)) ≡ members)
+pub bits_are : (members : List ℕ) → AreServers members → (bits_of members < 2 ^ 16) × (servers_where (has_bit (bits_of members)) ≡ members)
 bits_are members (bits, low, is) =
     let same : bits_of members ≡ bits = ap bits_of is ∙ bits_of-servers_where bits low in
     (subst (λ n. n < 2 ^ 16) (sym same) low, ap (λ b. servers_where (has_bit b)) same ∙ sym is)
@@ -148,11 +148,11 @@ term_is (Some t) h =
     let low = h.0 in
     let other : (t.primary == 255) ≡ false = grind (arith, nat_tests) in ap (λ b. if b then None else Some (record { primary = t.primary; end = record { 0 = t.end.0 } })) other
 
-primary_low : (term : Option Term) → IsTerm term → primary_of term < 2 ^ 64
+pub primary_low : (term : Option Term) → IsTerm term → primary_of term < 2 ^ 64
 primary_low None h = omega arith
 primary_low (Some t) h = let low = h.0 in omega arith
 
-end_low : (term : Option Term) → IsTerm term → end_of term < 2 ^ 64
+pub end_low : (term : Option Term) → IsTerm term → end_of term < 2 ^ 64
 end_low None h = omega arith
 end_low (Some t) h = h.1
 

@@ -73,3 +73,7 @@ pub mod TellingTurns
 pub mod Writing
 pub mod EachNamed
 pub mod Spelling
+pub mod SpelledNames
+pub mod WritingCheckpoints
+pub mod ToldReplies
+pub mod ToldInverses

@@ -23,7 +23,7 @@ ascii_one c low zero = low
 ascii_one c low (suc i) = omega arith
 
 -- bytes of ASCII
-ascii_utf8 : (bs : List ℕ) → list_all (λ b. nat_lt b 128) bs ≡ true → IsUtf8 bs
+pub ascii_utf8 : (bs : List ℕ) → list_all (λ b. nat_lt b 128) bs ≡ true → IsUtf8 bs
 ascii_utf8 [] all = IsUtf8-nil
 ascii_utf8 (c ∷ bs) all =
     let parts = and_parts (nat_lt c 128) (list_all (λ b. nat_lt b 128) bs) all in IsUtf8-append (c ∷ []) bs (IsUtf8-from_ascii (c ∷ []) (ascii_one c (below c parts.0))) (ascii_utf8 bs parts.1)
@@ -31,7 +31,7 @@ ascii_utf8 (c ∷ bs) all =
     below : (b : ℕ) → nat_lt b 128 ≡ true → b < 128
     below b h = grind (arith, nat_tests)
 
-slash_utf8 : IsUtf8 (47 ∷ [])
+pub slash_utf8 : IsUtf8 (47 ∷ [])
 slash_utf8 = ascii_utf8 (47 ∷ []) refl
 
 -- what stands behind it

@@ -67,7 +67,7 @@ IsTellable (RollbackCommit epoch answers) = AllByRecursion IsFromServers answers
 IsTellable (Whole c) = ⊥
 IsTellable (Holder chunk server) = Unit {0}
 
-not_whole : (entry : PlainEntry) → IsTellable entry → is_whole_entry entry ≡ false
+pub not_whole : (entry : PlainEntry) → IsTellable entry → is_whole_entry entry ≡ false
 not_whole (Edited by edit) t = refl
 not_whole (Said to refusal) t = refl
 not_whole (Propose chunk version) t = refl
@@ -253,14 +253,14 @@ listed_handle d chunk k low some = settled_handle d chunk k low (k.settled chunk
 -- ---- edits
 
 -- a list is no longer than what tells it
-no_longer : {A : Type 0} (item : A → List ℕ) → ((x : A) → 1 ≤ length (item x)) → (xs : List A) → length xs ≤ length (flat_map item xs)
+pub no_longer : {A : Type 0} (item : A → List ℕ) → ((x : A) → 1 ≤ length (item x)) → (xs : List A) → length xs ≤ length (flat_map item xs)
 no_longer item some [] = omega arith
 no_longer item some (x ∷ xs) = let a = some x in let b = no_longer item some xs in omega (arith, length-append (item x) (flat_map item xs))
 
 behind_longer : (xs ys : List ℕ) → length ys ≤ length (xs ++ ys)
 behind_longer xs ys = omega (arith, length-append xs ys)
 
-list_longer : {A : Type 0} (item : A → List ℕ) (xs : List A) → length (flat_map item xs) ≤ length (list item xs)
+pub list_longer : {A : Type 0} (item : A → List ℕ) (xs : List A) → length (flat_map item xs) ≤ length (list item xs)
 list_longer item xs = omega arith
 
 referred_listed : (v : Option ℕ) → has_reference v ≡ true → is_some v ≡ true
@@ -443,7 +443,7 @@ rolled_low d next epoch answers (Some names) all e =
     subst AreLow (fits_gives (is_rolling d.phase && ((epoch == d.epoch) && are_answers (prepared_view d) (fin.entries names.refs) answers)) (rolled_back d answers names) next e).1
     (record { settled = λ q some. restored_low d answers q all (sym (ap is_some (fin.get-from_entries nat_cmp_total (filter_map (restored_chunk d) answers) q)) ∙ some); prepared = none_prepared })
 
-low_after : (entry : PlainEntry) (d next : Durable) → AreLow d → IsTellable entry → AreFields Two entry → applied d entry ≡ Some next → AreLow next
+pub low_after : (entry : PlainEntry) (d next : Durable) → AreLow d → IsTellable entry → AreFields Two entry → applied d entry ≡ Some next → AreLow next
 unfolding applied
 low_after (Edited by edit) d next low t f e = let m = made_of d next by edit e in let l = without_low (forgotten_by edit) d low in subst AreLow m.is (record { settled = λ q some. l.settled q some; prepared = λ q some. l.prepared q some })
 low_after (Said to refusal) d next low t f e = same_low d _ next (fits_gives true _ next e).1 refl refl low

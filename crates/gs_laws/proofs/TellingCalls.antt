@@ -58,7 +58,13 @@ use Rattle.gs_state.specs.declared.pending.Pending.{Pending}
 use Rattle.gs_state.specs.declared.pending.Waiting.{Waiting}
 use Rattle.gs_state.specs.declared.pending.Waiting.TheVariants as waits
 use Rattle.gs_laws.specs.Standing.{IsNamedCall}
-use Rattle.gs_laws.specs.Written.{ArePaths, IsIndex, IsMet, IsTaken, IsTakenWaiting}
+use Rattle.gs_laws.specs.Written.{AreSpelled, IsIndex, IsMet, IsTaken, IsTakenWaiting, is_spelled}
+use Rattle.gs_laws.specs.Promises.{AreKept}
+use Rattle.gs_laws.proofs.LedBack.{kept_tree}
+use Rattle.gs_laws.proofs.SpelledNames.{path_of}
+use Rattle.gs_tree.specs.Build.{is_short}
+use Rattle.gs_tree.proofs.Levels.{both_true}
+use Rattle.gs_edit.specs.Scan.{is_without_slashes}
 use Rattle.gs_laws.proofs.AcceptedUpgrades.{answers_told}
 use Rattle.gs_laws.proofs.Fair.{Fair, IsFairTest, IsFairly, fair_edited, fair_found, fair_listing, fair_location, fair_names, fair_status, first_fair}
 use Rattle.gs_laws.proofs.Retold.{each_found}
@@ -302,13 +308,25 @@ rows_of f g (r ∷ rows) all = let parts = and_parts (f r.0) (list_all (λ x. f 
     by_test true own rest = ap (λ b. b && list_all f (map (λ x. x.0) (filter g rows))) own ∙ rest
     by_test false own rest = rest
 
-removed_told : (names : NamesView) (moment : ℕ) → ArePaths names → AllByRecursion IsPath (removed_paths moment (fin.entries names.tree))
-removed_told names moment paths =
+-- what a scan removes can be told
+abbrev is_path : Path → Bool
+is_path p = list_all is_spelled p && (is_short p && is_without_slashes p)
+
+both_rows : (f g : Path → Bool) (rows : Rows ℕ) → list_all (λ r. f r.0) rows ≡ true → list_all (λ r. g r.0) rows ≡ true → list_all (λ r. f r.0 && g r.0) rows ≡ true
+both_rows f g [] a b = refl
+both_rows f g (r ∷ rows) a b =
+    let x = and_parts (f r.0) (list_all (λ q. f q.0) rows) a in
+    let y = and_parts (g r.0) (list_all (λ q. g q.0) rows) b in both_true (f r.0 && g r.0) (list_all (λ q. f q.0 && g q.0) rows) (both_true (f r.0) (g r.0) x.0 y.0) (both_rows f g rows x.1 y.1)
+
+pub removed_told : (names : NamesView) (moment : ℕ) → AreKept names → AreSpelled names → AllByRecursion IsPath (removed_paths moment (fin.entries names.tree))
+removed_told names moment kept spelled =
     let rows = fin.entries names.tree in
-    let stands : Path → Bool = λ p. is_some (fin.get names.tree p) in
-    keys_of IsPath stands (put_paths (map (λ r. r.0) (filter (λ r. is_removed moment (at rows) r.0) rows))) (λ p some. paths p some)
-    (puts_all stands (map (λ r. r.0) (filter (λ r. is_removed moment (at rows) r.0) rows)) (rows_of stands (λ r. is_removed moment (at rows) r.0) rows
-    (each_found path_cmp path_total paths_antisymmetric (λ r. stands r.0) rows (fin.entries_sorted names.tree) (λ path entry found. ap is_some (fin.get-entries names.tree path ∙ found)))))
+    let plain = kept_tree names kept in
+    let each = each_found path_cmp path_total paths_antisymmetric (λ r. list_all is_spelled r.0) rows (fin.entries_sorted names.tree) (λ path entry found. spelled path (ap is_some (fin.get-entries names.tree path ∙ found))) in
+    keys_of IsPath is_path (put_paths (map (λ r. r.0) (filter (λ r. is_removed moment (at rows) r.0) rows)))
+    (λ p h. let a = and_parts (list_all is_spelled p) (is_short p && is_without_slashes p) h in let b = and_parts (is_short p) (is_without_slashes p) a.1 in path_of p a.0 b.0 b.1)
+    (puts_all is_path (map (λ r. r.0) (filter (λ r. is_removed moment (at rows) r.0) rows)) (rows_of is_path (λ r. is_removed moment (at rows) r.0) rows
+    (both_rows (list_all is_spelled) (λ p. is_short p && is_without_slashes p) rows each (both_rows is_short is_without_slashes rows plain.short plain.plain))))
 
 pub own_heard : IsRequest own_request
 own_heard = (omega arith, omega arith)
@@ -325,6 +343,7 @@ pub record CanTell (s : State) : Type 0 where
   pub calls : AllByRecursion IsTaken s.volatile.pending
   pub known : (chunk : ℕ) → has_entry s chunk ≡ true → IsHandle chunk
   pub before : (names : NamesView) (chunk : ℕ) → is_rolling s.durable.phase ≡ true → all_undone s.durable.inverses s.durable.names ≡ Some names → is_some (fin.get names.refs chunk) ≡ true → IsHandle chunk
+  pub removed : (moment : ℕ) → AllByRecursion IsPath (removed_paths moment (fin.entries s.durable.names.tree))
 
 module _ (s : State) (req : ReqId) (heard : IsRequest req) (can : CanTell s) where
   scanned_tells : (removed : List Path) (forgotten : List ℕ) → AllByRecursion IsPath removed → Tells s (scanned s req removed forgotten)
@@ -436,7 +455,7 @@ module _ (s : State) (req : ReqId) (heard : IsRequest req) (can : CanTell s) whe
   called_tells config moment (calls.Extend path index) named met low = extends_tells s req heard config path index (fin.get s.durable.names.tree path) named
   called_tells config moment calls.Scan named met low =
       let rows = fin.entries s.durable.names.tree in
-      scanned_tells (removed_paths moment.0 rows) (forgotten_chunks moment.0 rows (fin.entries s.durable.names.refs)) (removed_told s.durable.names moment.0 met)
+      scanned_tells (removed_paths moment.0 rows) (forgotten_chunks moment.0 rows (fin.entries s.durable.names.refs)) (can.removed moment.0)
   called_tells config moment calls.Replicate named met low = most_tells s req heard config (most_needed_of config.replicas (needs_of s))
   called_tells config moment calls.Query named met low = answered_tells s req heard (answers.Phase (told_phase s.volatile.is_preparing s.durable.phase) s.durable.epoch)
   called_tells config moment calls.PrepareBegin named met low = begin_tells

@@ -186,7 +186,7 @@ replies_are (e ∷ es) all =
     ap (option_and_then (λ result. option_map (λ rest. (e.0, record { number = e.1.number; result = result }) ∷ rest) (told_replies (map reply_of es)))) all.0
     ∙ ap (option_map (λ rest. e ∷ rest)) (replies_are es all.1)
 
-clients_exact : (x y : ClientId) → client_cmp x y ≡ Equal → x ≡ y
+pub clients_exact : (x y : ClientId) → client_cmp x y ≡ Equal → x ≡ y
 clients_exact x y e = let same : x.0 ≡ y.0 = fin.nat_cmp-IsAntisymmetric x.0 y.0 e in λ i. record { 0 = same i }
 
 replies_told : (d : Durable) → IsKept d → told_replies (map reply_of (fin.entries d.replies)) ≡ Some (fin.entries d.replies)

@@ -24,15 +24,19 @@ use Rattle.gs_state.specs.State.{State, Turn, and_then, fits, first_of, for_each
 use Rattle.gs_laws.specs.Promises.{AllFit, IsWritten}
 use Rattle.gs_laws.specs.Rooms.{HasRoom}
 use Rattle.gs_laws.specs.Standing.{Event, Comes, Ticks, Renews, Restarts, IsFirm, IsNamed, run_of, turn_of}
-use Rattle.gs_laws.specs.Written.{AllStepsWritten, AreLow, EventsWritten, IsEntryUnlessWhole, IsHeardIn, IsSteady, IsWithin, MessagesWritten, RunsWritten, StartsSteady, StepsWritten, WritesAll}
+use Rattle.gs_laws.specs.Written.{AllStepsWritten, AreHolders, AreLow, AreReplies, EventsWritten, IsHeardIn, IsSteady, IsWithin, MessagesWritten, RunsWritten, StartsSteady, StepsWritten, WritesAll}
 use Rattle.gs_laws.proofs.Rooms.{Roomy}
 use Rattle.gs_laws.proofs.RoomsOfTurns.{logs_stay_within, messages_have_room, pressed_roomy}
+use Rattle.gs_laws.proofs.SpelledNames.{all_keep_spelled, start_spelled}
 use Rattle.gs_laws.proofs.StandingAnswers.{pressed_good}
 use Rattle.gs_laws.proofs.StandingRuns.{events_fit, starts_firm}
 use Rattle.gs_laws.proofs.StandingTurns.{Holds}
 use Rattle.gs_laws.proofs.Tellable.{all_written, given_some, listed_handle, viewed_handle}
 use Rattle.gs_laws.proofs.Telling.{Tells, all_both, fewer_member, is_for, proposes}
-use Rattle.gs_laws.proofs.TellingCalls.{CanTell}
+use Rattle.gs_laws.proofs.TellingCalls.{CanTell, removed_told}
+use Rattle.gs_laws.proofs.ToldInverses.{all_keep_back}
+use Rattle.gs_laws.proofs.WritingCheckpoints.{checkpoints_written}
+use Rattle.gs_laws.proofs.ToldReplies.{all_keep_told, no_holders, no_replies}
 use Rattle.gs_laws.proofs.TellingTurns.{CanAnswer, message_tells, pressed_tells}
 
 -- ---- what is known of a steady master
@@ -54,6 +58,7 @@ can_tell s y = record {
   calls = y.within.calls;
   known = entry_handle s y;
   before = λ back chunk begun undone some. viewed_handle s.durable chunk y.firm.stands.kept y.within.low (y.firm.stands.kept.restored back chunk undone (rolls s.durable.phase begun) some);
+  removed = λ moment. removed_told s.durable.names moment y.firm.stands.kept.names y.within.spelled.now;
 }
 
 can_answer : (s : State) → IsSteady s → CanAnswer s
@@ -103,6 +108,10 @@ wrote s t y fit firm room tells = record {
   written = all.0;
   within = record {
     low = all.1;
+    spelled = all_keep_spelled t.records s.durable t.after.durable y.firm.stands.kept y.within.spelled tells.told all.0 fit;
+    replies = told.0;
+    holders = told.1;
+    back = all_keep_back t.records s.durable t.after.durable y.firm.stands.kept y.within.spelled y.within.low y.within.back tells.told all.0 fit;
     unplaced = λ c here. by_old c (is_member s.volatile.unplaced c) refl (tells.unplaced c here);
     calls = tells.calls y.within.calls;
   };
@@ -114,6 +123,9 @@ wrote s t y fit firm room tells = record {
 
     all : AllByRecursion (IsEntry Two) t.records × AreLow t.after.durable
     all = all_written t.records s.durable t.after.durable s.log.limit y.firm.stands.kept y.within.low firm.stands.counters tells.told (small room) y.limit fit
+
+    told : AreReplies t.after.durable × AreHolders t.after.durable
+    told = all_keep_told t.records s.durable t.after.durable y.firm.stands.kept y.within.spelled y.within.replies y.within.holders tells.told all.0 fit
 
     by_old : (c : ℕ) (b : Bool) → is_member s.volatile.unplaced c ≡ b → (b || proposes c t.records) ≡ true → IsNumber c
     by_old c true is h = y.within.unplaced c is
@@ -184,7 +196,7 @@ none_prepared q some = absurd (false≢true (sym (ap is_some (fin.get-empty nat_
 pub starts_steady : StartsSteady
 starts_steady log room limit = record {
   firm = starts_firm log;
-  within = record { low = record { settled = none_low; prepared = none_prepared }; unplaced = λ c here. absurd (false≢true here); calls = tt };
+  within = record { low = record { settled = none_low; prepared = none_prepared }; spelled = start_spelled; replies = no_replies; holders = no_holders; back = tt; unplaced = λ c here. absurd (false≢true here); calls = tt };
   room = room;
   limit = limit;
 }
@@ -192,6 +204,10 @@ starts_steady log room limit = record {
 tidied_within : (s : State) → IsWithin s → IsWithin (written s).after
 tidied_within s w = record {
   low = record { settled = λ q some. w.low.settled q (still q (is_listed s.durable q) (sym (ap is_some (kept q)) ∙ some)); prepared = λ q some. w.low.prepared q some };
+  spelled = record { now = w.spelled.now; before = w.spelled.before };
+  replies = w.replies;
+  holders = w.holders;
+  back = w.back;
   unplaced = λ c here. w.unplaced c (fewer_member s.volatile.unplaced (awaits_first s) c here);
   calls = w.calls;
 }
@@ -203,44 +219,31 @@ tidied_within s w = record {
     still q true h = h
     still q false h = absurd (false≢true h)
 
--- a checkpoint's records, of which nothing is said, and what it leaves
+-- the records of an event, and what it keeps
 record Checks (t : Turn) : Type 0 where
-  written : AllByRecursion IsEntryUnlessWhole t.records
+  written : IsWritten t
   within : IsWithin t.after
 
-unless_checks : (s : State) (refusal : Option Refusal) → IsWithin s → Checks (written_unless s refusal)
-unless_checks s None w = record { written = (tt, tt); within = tidied_within s w }
-unless_checks s (Some refusal) w = record { written = tt; within = w }
+unless_within : (s : State) (refusal : Option Refusal) → IsWithin s → IsWithin (written_unless s refusal).after
+unless_within s None w = tidied_within s w
+unless_within s (Some refusal) w = w
 
-checkpoint_checks : (s : State) → IsWithin s → Checks (checkpoint s)
+checkpoint_within : (s : State) → IsWithin s → IsWithin (checkpoint s).after
 unfolding checkpoint
-checkpoint_checks s w = unless_checks s (first_of (checkpoint_tests (is_failed s.fault) s.volatile.is_preparing s.log (checkpoint_body s.durable))) w
+checkpoint_within s w = unless_within s (first_of (checkpoint_tests (is_failed s.fault) s.volatile.is_preparing s.log (checkpoint_body s.durable))) w
 
-due_checks : (s : State) → IsWithin s → Checks (written_if_due s)
-due_checks s w = by_test (due s)
+checkpoint_checks : (s : State) → IsSteady s → Checks (checkpoint s)
+checkpoint_checks s y = record { written = checkpoints_written s y; within = checkpoint_within s y.within }
+
+due_checks : (s : State) → IsSteady s → Checks (written_if_due s)
+due_checks s y = by_test (due s)
   where
     c : Checks (checkpoint s)
-    c = checkpoint_checks s w
+    c = checkpoint_checks s y
 
     by_test : (b : Bool) → Checks (if b then record (checkpoint s) { said = None } else unmoved s)
-    by_test true = record { written = c.written; within = record { low = c.within.low; unplaced = λ q here. c.within.unplaced q here; calls = c.within.calls } }
-    by_test false = record { written = tt; within = w }
-
-most_of : (entries : List PlainEntry) → AllByRecursion (IsEntry Two) entries → AllByRecursion IsEntryUnlessWhole entries
-most_of [] all = tt
-most_of (entry ∷ entries) all = (one entry all.0, most_of entries all.1)
-  where
-    one : (e : PlainEntry) → IsEntry Two e → IsEntryUnlessWhole e
-    one (Edited by edit) f = f
-    one (Said to refusal) f = f
-    one (Propose chunk version) f = f
-    one (Settle v) f = f
-    one (Prepare epoch moment chunks) f = f
-    one (Finalize epoch) f = f
-    one (RollbackBegin epoch) f = f
-    one (RollbackCommit epoch answers) f = f
-    one (Whole c) f = tt
-    one (Holder chunk server) f = f
+    by_test true = record { written = c.written; within = record { low = c.within.low; spelled = c.within.spelled; replies = c.within.replies; holders = c.within.holders; back = c.within.back; unplaced = λ q here. c.within.unplaced q here; calls = c.within.calls } }
+    by_test false = record { written = tt; within = y.within }
 
 tick_checks : (s : State) (moment : Moment) → IsSteady s → Checks (tick s moment)
 unfolding tick
@@ -253,20 +256,20 @@ tick_checks s moment y = by_test (is_failed s.fault)
     all = all_steps_written s moment y
 
     last : Checks (written_if_due steps.after)
-    last = due_checks steps.after all.steady.within
+    last = due_checks steps.after all.steady
 
     by_test : (b : Bool) → Checks (if b then met_by s refusals.Device else and_then steps written_if_due)
     by_test true = record { written = tt; within = y.within }
-    by_test false = record { written = all_both IsEntryUnlessWhole steps.records (written_if_due steps.after).records (most_of steps.records all.written) last.written; within = last.within }
+    by_test false = record { written = all_both (IsEntry Two) steps.records (written_if_due steps.after).records all.written last.written; within = last.within }
 
 -- ---- every event, and every run
 
 event_checks : (config : Config) (s : State) (event : Event) → IsNamed event → IsHeardIn s event → IsSteady s → Checks (turn_of config s event)
 event_checks config s (Comes message moment) named heard y =
-    let w = messages_written config s message moment named heard y in record { written = most_of (handle config s message moment).records w.written; within = w.steady.within }
+    let w = messages_written config s message moment named heard y in record { written = w.written; within = w.steady.within }
 event_checks config s (Ticks moment) named heard y = tick_checks s moment y
-event_checks config s Renews named heard y = checkpoint_checks s y.within
-event_checks config s Restarts named heard y = record { written = tt; within = record { low = y.within.low; unplaced = λ c here. absurd (false≢true here); calls = tt } }
+event_checks config s Renews named heard y = checkpoint_checks s y
+event_checks config s Restarts named heard y = record { written = tt; within = record { low = y.within.low; spelled = y.within.spelled; replies = y.within.replies; holders = y.within.holders; back = y.within.back; unplaced = λ c here. absurd (false≢true here); calls = tt } }
 
 pub events_written : EventsWritten
 events_written config s event named heard y =
@@ -280,4 +283,4 @@ runs_written config s (event ∷ events) named heard y =
     let one = events_written config s event named.0 heard.0 y in
     let now = (turn_of config s event).after in
     let rest = runs_written config now events named.1 heard.1 one.steady in
-    record { written = all_both IsEntryUnlessWhole (turn_of config s event).records (run_of config now events).records one.written rest.written; steady = rest.steady }
+    record { written = all_both (IsEntry Two) (turn_of config s event).records (run_of config now events).records one.written rest.written; steady = rest.steady }

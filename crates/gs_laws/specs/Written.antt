@@ -1,10 +1,12 @@
 -- What is within its type of all that a master keeps: so each record of each turn can be written, and it is so of what is left.
-use Rattle.std.specs.Prelude.{◌≡◌, ◌≤◌, ◌<◌, ◌^◌, ℕ, true, List, [], ◌∷◌, Ok, codes, is_some, refl}
+use Rattle.std.specs.Prelude.{◌≡◌, ◌≤◌, ◌<◌, ◌^◌, ◌&&◌, ℕ, Bool, true, List, [], ◌∷◌, Some, Ok, codes, is_some, length, nat_le, refl, Option, None}
 use Rattle.std.specs.FinMap as fin
-use Rattle.std.specs.List.{AllByRecursion}
+use Rattle.std.specs.List.{list_all, AllByRecursion}
+use Rattle.std.specs.Str.{is_utf8}
 use Rattle.gs_base.specs.Members.{is_member}
 use Rattle.gs_base.specs.Told.{IsNumber}
 use Rattle.gs_base.specs.declared.config.Config.{Config}
+use Rattle.gs_base.specs.declared.numbers.ClientId.{ClientId}
 use Rattle.gs_base.specs.declared.numbers.Moment.{Moment}
 use Rattle.gs_base.specs.declared.numbers.Stamp.{Stamp}
 use Rattle.gs_edit.specs.View.{NamesView}
@@ -13,18 +15,21 @@ use Rattle.gs_msg.specs.declared.body.Body.TheVariants as bodies
 use Rattle.gs_msg.specs.declared.call.Call.{Call}
 use Rattle.gs_msg.specs.declared.call.Call.TheVariants as calls
 use Rattle.gs_msg.specs.declared.message.Message.{Message}
-use Rattle.gs_journal.specs.declared.version.Version.TheVariants.{Two}
-use Rattle.gs_record.specs.Encoding.{new_store}
-use Rattle.gs_record.specs.Plain.{PlainEntry, Prepare, Whole}
-use Rattle.gs_record.specs.Writable.{IsEntry, IsPath, IsRequest}
-use Rattle.gs_path.specs.Path.{Path}
+use Rattle.gs_record.specs.Plain.{PlainInverse, PlainNode, UndoAddChunk, UndoCow, UndoCreate, UndoForget, UndoHide, UndoMkdirs, UndoRemove, UndoRename, UndoSnapshot, UndoUnhide}
+use Rattle.gs_record.specs.Writable.{AreServers, IsHandle, IsPath, IsReply, IsRequest}
+use Rattle.gs_path.specs.Element.{is_stored}
+use Rattle.gs_path.specs.Path.{Name, Path}
 use Rattle.gs_state.specs.Calls.{found_chunk}
 use Rattle.gs_state.specs.Durable.{Durable}
-use Rattle.gs_state.specs.Handling.{fresh, granted, handle, pressed, proposals}
+use Rattle.gs_state.specs.Handling.{checkpoint, fresh, granted, handle, pressed, proposals}
 use Rattle.gs_state.specs.State.{State, Log, Turn, and_then, for_each}
+use Rattle.gs_state.specs.Undoing.{all_undone}
+use Rattle.gs_state.specs.Whole.{reply_of}
+use Rattle.gs_state.specs.declared.asking.Prepared.{Prepared}
 use Rattle.gs_state.specs.declared.pending.Pending.{Pending}
 use Rattle.gs_state.specs.declared.pending.Waiting.{Waiting}
 use Rattle.gs_state.specs.declared.pending.Waiting.TheVariants as waits
+use Rattle.gs_state.specs.declared.reply.KeptReply.{KeptReply}
 use Rattle.gs_laws.specs.Promises.{IsWritten}
 use Rattle.gs_laws.specs.Standing.{Event, Comes, IsFirm, IsNamed, run_of, turn_of}
 
@@ -39,6 +44,44 @@ pub record AreLow (d : Durable) : Type 0 where
   pub settled : (chunk : ℕ) → is_some (fin.get d.chunks chunk) ≡ true → IsNumber chunk
   pub prepared : (chunk : ℕ) → is_some (fin.get d.prepared chunk) ≡ true → IsNumber chunk
 
+-- an element of a path as it stands: one that is stored, in UTF-8, and no longer than a hidden name is
+abbrev pub is_spelled : Name → Bool
+is_spelled name = is_stored name && (is_utf8 name && nat_le (length name) 251)
+
+abbrev pub AreSpelled : NamesView → Type 0
+AreSpelled names = (path : Path) → is_some (fin.get names.tree path) ≡ true → list_all is_spelled path ≡ true
+
+-- so is each now, and in the names to which a rollback leads back
+pub record HasSpelled (d : Durable) : Type 0 where
+  pub now : AreSpelled d.names
+  pub before : (names : NamesView) → all_undone d.inverses d.names ≡ Some names → AreSpelled names
+
+-- each reply, as a checkpoint tells it
+abbrev pub AreReplies : Durable → Type 0
+AreReplies d = (client : ClientId) (reply : KeptReply) → fin.get d.replies client ≡ Some reply → IsReply (reply_of (client, reply))
+
+-- and who holds each chunk whose prepared view is kept
+abbrev pub AreHolders : Durable → Type 0
+AreHolders d = (chunk : ℕ) (prepared : Prepared) → fin.get d.prepared chunk ≡ Some prepared → AreServers prepared.holders
+
+-- the chunks of a file, as handles; a directory has none
+abbrev pub AreHandles : Option (List ℕ) → Type 0
+AreHandles None = Unit {0}
+AreHandles (Some chunks) = AllByRecursion IsHandle chunks
+
+-- what takes an edit back can be told, but perhaps for the lengths of its lists
+abbrev pub IsToldBack : PlainInverse → Type 0
+IsToldBack (UndoMkdirs paths) = AllByRecursion IsPath paths
+IsToldBack (UndoCreate paths) = AllByRecursion IsPath paths
+IsToldBack (UndoRename now before) = IsPath now × IsPath before
+IsToldBack (UndoHide now before) = IsPath now × IsPath before
+IsToldBack (UndoUnhide now before) = IsPath now × IsPath before
+IsToldBack (UndoRemove nodes) = AllByRecursion (λ (n : PlainNode). IsPath n.0 × AreHandles n.1) nodes
+IsToldBack (UndoAddChunk path) = IsPath path
+IsToldBack (UndoCow path index old) = IsPath path × (IsIndex index × IsHandle old)
+IsToldBack (UndoSnapshot path) = IsPath path
+IsToldBack (UndoForget chunks) = AllByRecursion IsHandle chunks
+
 -- the paths and the index of a call that waits, as the records of its edits tell them
 abbrev pub IsTakenWaiting : Waiting → Type 0
 IsTakenWaiting (waits.Extend path new) = IsPath path
@@ -52,21 +95,21 @@ IsTakenWaiting (waits.Replicate copied target) = Unit {0}
 abbrev pub IsTaken : Pending → Type 0
 IsTaken p = IsRequest p.req × IsTakenWaiting p.waits
 
--- Each chunk's number has 64 bits, also that of a chunk which is new; and each call that waits can be told.
+-- Each chunk's number has 64 bits, also that of a chunk which is new; each element of a path is spelled; each reply, each holder, what takes each
+-- edit back and each call that waits can be told.
 pub record IsWithin (s : State) : Type 0 where
   pub low : AreLow s.durable
+  pub spelled : HasSpelled s.durable
+  pub replies : AreReplies s.durable
+  pub holders : AreHolders s.durable
+  pub back : AllByRecursion IsToldBack s.durable.inverses
   pub unplaced : (chunk : ℕ) → is_member s.volatile.unplaced chunk ≡ true → IsNumber chunk
   pub calls : AllByRecursion IsTaken s.volatile.pending
 
 -- ---- what comes
 
--- each path at which something stands can be told
-abbrev pub ArePaths : NamesView → Type 0
-ArePaths names = (path : Path) → is_some (fin.get names.tree path) ≡ true → IsPath path
-
--- What a call meets: a scan, paths that can be told; and where a chunk is found for writing, a record can tell its place.
+-- where a chunk is found for writing, a record can tell its place in its file
 abbrev pub IsMet : NamesView → Call → Type 0
-IsMet names calls.Scan = ArePaths names
 IsMet names (calls.FindForWriting path index stamp) = (chunk : ℕ) → found_chunk (fin.get names.tree path) index ≡ Ok chunk → IsIndex index
 IsMet names call = Unit {0}
 
@@ -109,18 +152,13 @@ StepsWritten = (s : State) (moment : Moment) (proposal : ℕ × Stamp) → IsSte
 abbrev pub AllStepsWritten : Type 0
 AllStepsWritten = (s : State) (moment : Moment) → IsSteady s → WritesAll (and_then (for_each s (proposals s) (pressed moment)) granted)
 
--- of a checkpoint's record nothing is said
-abbrev pub IsEntryUnlessWhole : PlainEntry → Type 0
-IsEntryUnlessWhole (Whole c) = Unit {0}
-IsEntryUnlessWhole entry = IsEntry Two entry
+-- So can the record of a checkpoint, if it has room.
+abbrev pub CheckpointsWritten : Type 0
+CheckpointsWritten = (s : State) → IsSteady s → IsWritten (checkpoint s)
 
-pub record WritesMost (t : Turn) : Type 0 where
-  pub written : AllByRecursion IsEntryUnlessWhole t.records
-  pub steady : IsSteady t.after
-
--- So it is of every event, but for the record of a checkpoint,
+-- So it is of every event,
 abbrev pub EventsWritten : Type 0
-EventsWritten = (config : Config) (s : State) (event : Event) → IsNamed event → IsHeardIn s event → IsSteady s → WritesMost (turn_of config s event)
+EventsWritten = (config : Config) (s : State) (event : Event) → IsNamed event → IsHeardIn s event → IsSteady s → WritesAll (turn_of config s event)
 
 -- and of every run.
 abbrev pub AreHeardIn : Config → State → List Event → Type 0
@@ -128,7 +166,7 @@ AreHeardIn config s [] = Unit {0}
 AreHeardIn config s (event ∷ events) = IsHeardIn s event × AreHeardIn config (turn_of config s event).after events
 
 abbrev pub RunsWritten : Type 0
-RunsWritten = (config : Config) (s : State) (events : List Event) → AllByRecursion IsNamed events → AreHeardIn config s events → IsSteady s → WritesMost (run_of config s events)
+RunsWritten = (config : Config) (s : State) (events : List Event) → AllByRecursion IsNamed events → AreHeardIn config s events → IsSteady s → WritesAll (run_of config s events)
 
 -- ---- examples
 
@@ -145,8 +183,5 @@ a_copy_on_write = refl
 what_a_look_up_meets : (names : NamesView) → IsMet names (calls.Status f) ≡ Unit {0}
 what_a_look_up_meets names = refl
 
-no_word_of_a_checkpoint : IsEntryUnlessWhole (Whole new_store) ≡ Unit {0}
-no_word_of_a_checkpoint = refl
-
-what_is_said_of_a_prepare : IsEntryUnlessWhole (Prepare 1 0 0) ≡ IsEntry Two (Prepare 1 0 0)
-what_is_said_of_a_prepare = refl
+no_inverse_of_chunks : IsToldBack (UndoForget []) ≡ Unit {0}
+no_inverse_of_chunks = refl

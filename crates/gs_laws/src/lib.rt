@@ -18,7 +18,7 @@ ghost use Rattle.gs_laws.specs.Reached.{DisksHold, OpensFirm, RecoversFirm, Roll
 ghost use Rattle.gs_laws.specs.Resting.{PreparesExactly, TakesPrepares};
 ghost use Rattle.gs_laws.specs.Rooms.{LogsStayWithin, MessagesCopyStill, MessagesHaveRoom, OthersLeave, RestartsForget, RunsStayWithin, StepsHaveRoom, TellsAdd, TellsOf, TellsSince, TicksCopyStill, TicksHaveRoom, TicksLeave};
 ghost use Rattle.gs_laws.specs.Standing.{EventsFit, FirmGoesOn, RunsFit, RunsRecover, StartsFirm};
-ghost use Rattle.gs_laws.specs.Written.{AllStepsWritten, EventsWritten, MessagesWritten, RunsWritten, StartsSteady, StepsWritten};
+ghost use Rattle.gs_laws.specs.Written.{AllStepsWritten, CheckpointsWritten, EventsWritten, MessagesWritten, RunsWritten, StartsSteady, StepsWritten};
 ghost use Rattle.gs_state.specs.Undoing.{EditsAsTold};
 
 /// While a rollback is begun and not done, no view is begun, and no replica is dropped, whatever message comes and at each
@@ -156,15 +156,16 @@ pub fn each_event_has_room()
     ensures runs { RunsStayWithin }
 {}
 
-/// Each record of each message can be written, whoever sends it, and so can each of each step of a tick, and of all its steps together: where
-/// the master is firm and all that it keeps is within its types, and its journal's limit has 32 bits. And so it is of what is left, behind each
-/// event and each run from a new store. Of the record of a checkpoint nothing is said. What comes is within its types too; a scan is to meet
-/// paths that can be told, and a chunk that is found for writing stands at a place in its file that 32 bits can say.
-pub fn each_record_but_a_checkpoint_can_be_written()
+/// Each record of each message can be written, whoever sends it, and so can each of each step of a tick, and of all its steps together, and that
+/// of a checkpoint: where the master is firm and all that it keeps is within its types, and its journal's limit has 32 bits. So it is of what is
+/// left, behind each event and each run from a new store. What comes is within its types too, and a chunk that is found for writing stands at a
+/// place in its file that 32 bits can say.
+pub fn each_record_can_be_written()
     ensures start { StartsSteady }
     ensures messages { MessagesWritten }
     ensures steps { StepsWritten }
     ensures ticks { AllStepsWritten }
+    ensures checkpoints { CheckpointsWritten }
     ensures events { EventsWritten }
     ensures runs { RunsWritten }
 {}
