@@ -6,13 +6,16 @@ use Rattle.std.proofs.lemmas.Bool.Decides.{nat_tests}
 use Rattle.gs_base.specs.Told.{IsNumber}
 use Rattle.gs_base.specs.declared.numbers.Moment.{Moment}
 use Rattle.gs_base.specs.declared.refusal.Refusal.{Refusal}
+use Rattle.gs_base.specs.declared.refusal.Refusal.TheVariants as refusals
 use Rattle.gs_laws.proofs.RoomsOfTurns.{messages_have_room, ticks_have_room}
 use Rattle.gs_laws.proofs.StandingAnswers.{pressed_good}
 use Rattle.gs_laws.proofs.StandingRuns.{events_fit}
 use Rattle.gs_laws.proofs.StandingTurns.{Good, Holds, same_good, then_good}
-use Rattle.gs_laws.specs.Promises.{AllFit}
+use Rattle.gs_laws.proofs.Writing.{all_steps_written, messages_written}
+use Rattle.gs_laws.specs.Promises.{AllFit, IsWritten}
 use Rattle.gs_laws.specs.Rooms.{HasRoom}
 use Rattle.gs_laws.specs.Standing.{Comes, IsFirm, IsNamedBody}
+use Rattle.gs_laws.specs.Written.{IsHeardBody, IsSteady}
 use Rattle.gs_master.specs.Masters.{MasterOf, WhyNot}
 use Rattle.gs_master.specs.Ticking.{pressed_all}
 use Rattle.gs_msg.specs.declared.message.Message.{Message}
@@ -57,3 +60,17 @@ module _ {D : Type 0} (seen : D → List ℕ) (failures : D → ℕ) (moment : M
   pub tick_refused : MasterTicks seen failures moment (Standing m) (Err e) new → RefusesAlone (pressed_all m.state moment) e
   tick_refused (after, is, (why, still)) =
       let t = pressed_all m.state moment in refused m.state t e (has_room m.state t within (ticks_have_room m.state moment)) (steps_fit m.state moment h.firm) why
+
+-- where each record can be written, memory is wanting
+for_memory : (t : Turn) (e : Refusal) → IsWritten t → RefusesAlone t e → e ≡ refusals.Memory
+for_memory t e written (inl memory) = memory
+for_memory t e written (inr (bad, unwritten)) = absurd (unwritten written)
+
+module _ {D : Type 0} (seen : D → List ℕ) (failures : D → ℕ) (moment : Moment) (m : MasterOf D) (e : Refusal) (new : MasterPlace D) (h : StandsFirm seen m) (steady : IsSteady m.state) where
+  pub message_refused_for_memory : (message : Message) → IsNamedBody message.body × IsNumber moment.0 → IsHeardBody m.state.durable.names message.body → MasterHears seen failures message moment (Standing m) (Err e) new → e ≡ refusals.Memory
+  message_refused_for_memory message named within heard =
+      for_memory (handle m.config m.state message moment) e (messages_written m.config m.state message moment named within steady).written
+      (message_refused seen failures moment m e new h steady.room message named heard)
+
+  pub tick_refused_for_memory : MasterTicks seen failures moment (Standing m) (Err e) new → e ≡ refusals.Memory
+  tick_refused_for_memory ticked = for_memory (pressed_all m.state moment) e (all_steps_written m.state moment steady).written (tick_refused seen failures moment m e new h steady.room ticked)

@@ -6,6 +6,7 @@ ghost use Rattle.gs_base.specs.Told.{IsNumber};
 ghost use Rattle.gs_base.specs.declared.config.Config.{Config};
 ghost use Rattle.gs_base.specs.declared.numbers.Moment.{Moment};
 ghost use Rattle.gs_base.specs.declared.refusal.Refusal.{Refusal};
+ghost use Rattle.gs_base.specs.declared.refusal.Refusal.TheVariants as refusals;
 ghost use Rattle.gs_desk.specs.Answering.{AnswersText};
 ghost use Rattle.gs_desk.specs.Starting.{Starts};
 ghost use Rattle.gs_desk.specs.declared.desk.Desk.{Desk};
@@ -14,6 +15,7 @@ ghost use Rattle.gs_server.specs.Servers.{Server};
 ghost use Rattle.gs_shell.specs.Serving.{Serves};
 ghost use Rattle.gs_desk.specs.Ways.{way_of};
 ghost use Rattle.gs_laws.specs.Standing.{IsNamedBody};
+ghost use Rattle.gs_laws.specs.Written.{IsHeardBody, IsSteady};
 ghost use Rattle.gs_master.specs.Masters.{MasterOf};
 ghost use Rattle.gs_master.specs.Ticking.{pressed_all};
 ghost use Rattle.gs_msg.specs.declared.message.Message.{Message};
@@ -50,4 +52,11 @@ pub fn each_server_of_a_script_is_reached<D>()
 pub fn a_firm_master_refuses_for_memory<D>()
     ensures messages { (seen : D → List ℕ) (failures : D → ℕ) (message : Message) (moment : Moment) (m : MasterOf D) (e : Refusal) (new : MasterPlace D) → StandsFirm seen m → m.state.log.size ≤ m.state.log.limit → IsNamedBody message.body × IsNumber moment.0 → MasterHears seen failures message moment (Standing m) (Err e) new → RefusesAlone (handle m.config m.state message moment) e }
     ensures ticks { (seen : D → List ℕ) (failures : D → ℕ) (moment : Moment) (m : MasterOf D) (e : Refusal) (new : MasterPlace D) → StandsFirm seen m → m.state.log.size ≤ m.state.log.limit → MasterTicks seen failures moment (Standing m) (Err e) new → RefusesAlone (pressed_all m.state moment) e }
+{}
+
+/// Where all that such a master keeps is within its types besides, it refuses what it hears and a tick for want of memory alone, since each
+/// record can be written. What it hears is within its types too: its request, and where a call meets names, those.
+pub fn a_steady_master_refuses_for_memory_alone<D>()
+    ensures messages { (seen : D → List ℕ) (failures : D → ℕ) (message : Message) (moment : Moment) (m : MasterOf D) (e : Refusal) (new : MasterPlace D) → StandsFirm seen m → IsSteady m.state → IsNamedBody message.body × IsNumber moment.0 → IsHeardBody m.state.durable.names message.body → MasterHears seen failures message moment (Standing m) (Err e) new → e ≡ refusals.Memory }
+    ensures ticks { (seen : D → List ℕ) (failures : D → ℕ) (moment : Moment) (m : MasterOf D) (e : Refusal) (new : MasterPlace D) → StandsFirm seen m → IsSteady m.state → MasterTicks seen failures moment (Standing m) (Err e) new → e ≡ refusals.Memory }
 {}
