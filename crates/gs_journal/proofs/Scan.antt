@@ -70,7 +70,7 @@ scan_goes_on version bytes is_first end rest found s is form =
     let part : take (end + k) bytes ≡ take end bytes ++ take k rest = take-add end k bytes ∙ ap (λ (l : List ℕ). take end bytes ++ take k l) (sym s.behind) in record {
       within = omega (arith, size, s.within);
       behind = is.rest ∙ ap (λ (l : List ℕ). drop k l) s.behind ∙ drop-drop k end bytes;
-      complete = subst IsComplete (sym part) (complete_more (take end bytes) (take k rest) (found.kind, found.body.now) s.complete is.goes_on);
+      complete = subst IsComplete (sym part) (complete_more (take end bytes) (take k rest) (found.kind, found.body.now) s.complete (length-take-le k rest is.within) is.goes_on);
       form = sym (and_true _ (are_of_form version false (records_behind 0 found.rest.now)) form) ∙ sym (ap (are_of_form version is_first) (first_found found rest is)) ∙ s.form;
     }
 

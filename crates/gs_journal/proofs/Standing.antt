@@ -5,7 +5,7 @@ use Rattle.std.proofs.lemmas.List.{get_or-take, drop-take}
 use Rattle.std.specs.Prelude.{◌&&◌, nat_le, if◌then◌else◌}
 use Rattle.byteorder.specs.Endian.{big_number}
 use Rattle.byteorder.specs.Numbers.{big_from-take}
-use Rattle.gs_journal.specs.Records.{Entry, fresh, text_of, header_length, has_mark, is_begun, version_of, generation_of, second_counts, standing}
+use Rattle.gs_journal.specs.Records.{Entry, fresh, text_of, header_length, has_mark, is_begun, version_of, generation_of, generation_standing, second_counts, standing}
 use Rattle.gs_journal.specs.inner.Rest.{Continues, IsUnmade}
 
 byte_of_front : (k n : ℕ) (bytes : List ℕ) → k < n → slice_index (take n bytes) k ≡ slice_index bytes k
@@ -83,6 +83,28 @@ standing_first a b counts begun =
 pub standing_none : (a b : List ℕ) → second_counts a b ≡ false → is_begun a ≡ false → standing a b ≡ fresh
 standing_none a b counts begun =
     ap (λ (x : Bool). if x then text_of b else (if is_begun a then text_of a else fresh)) counts ∙ ap (λ (x : Bool). if x then text_of a else fresh) begun
+
+-- the generation of the disk that counts
+generation_second : (a b : List ℕ) → second_counts a b ≡ true → generation_standing a b ≡ generation_of b
+generation_second a b counts = ap (λ (x : Bool). if x then generation_of b else (if is_begun a then generation_of a else 1)) counts
+
+generation_first : (a b : List ℕ) → second_counts a b ≡ false → is_begun a ≡ true → generation_standing a b ≡ generation_of a
+generation_first a b counts begun =
+    ap (λ (x : Bool). if x then generation_of b else (if is_begun a then generation_of a else 1)) counts ∙ ap (λ (x : Bool). if x then generation_of a else 1) begun
+
+pub generation_none : (a b : List ℕ) → second_counts a b ≡ false → is_begun a ≡ false → generation_standing a b ≡ 1
+generation_none a b counts begun =
+    ap (λ (x : Bool). if x then generation_of b else (if is_begun a then generation_of a else 1)) counts ∙ ap (λ (x : Bool). if x then generation_of a else 1) begun
+
+-- what the one of them that counts says
+pub text_counts : (a b : List ℕ) (is_second : Bool) → second_counts a b ≡ is_second → is_begun (if is_second then b else a) ≡ true → standing a b ≡ text_of (if is_second then b else a)
+text_counts a b true counts begun = standing_second a b counts
+text_counts a b false counts begun = standing_first a b counts begun
+
+pub generation_counts : (a b : List ℕ) (is_second : Bool) → second_counts a b ≡ is_second → is_begun (if is_second then b else a) ≡ true
+    → generation_standing a b ≡ generation_of (if is_second then b else a)
+generation_counts a b true counts begun = generation_second a b counts
+generation_counts a b false counts begun = generation_first a b counts begun
 
 second_begun : (a b : List ℕ) → second_counts a b ≡ true → is_begun b ≡ true
 second_begun a b counts = and_left _ _ counts

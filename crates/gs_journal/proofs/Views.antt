@@ -7,11 +7,13 @@ use Rattle.gs_base.specs.declared.refusal.Refusal.{Refusal}
 use Rattle.gs_base.specs.declared.refusal.Refusal.TheVariants.{Device, Full}
 use Rattle.gs_journal.specs.Disk.{LeavesPairs}
 use Rattle.gs_journal.specs.Records.{Entry, Text, frame, generation_of, second_counts, standing}
-use Rattle.gs_journal.specs.Journal.{State, Stands, record_size, append_refusal}
+use Rattle.gs_journal.specs.Journal.{State, Stands, record_size, append_refusal, text_size}
 use Rattle.gs_journal.specs.inner.Pair.{text, counting, IsSettled}
 use Rattle.gs_journal.specs.declared.pair.Pair.{Pair}
+use Rattle.gs_journal.proofs.Complete.{at_rest_size}
 use Rattle.gs_journal.proofs.Moments.{Stays}
 use Rattle.gs_journal.proofs.Pairs.{nothing_changed}
+use Rattle.gs_journal.proofs.Standing.{text_counts}
 
 module _ {D : Type 0} (seen : D → List ℕ) (may_leave : D → List ℕ → Type 0) where
   abbrev pub state_of : Pair D → ℕ → Bool → State D
@@ -30,6 +32,7 @@ module _ {D : Type 0} (seen : D → List ℕ) (may_leave : D → List ℕ → Ty
         text = refl;
         size = ap length same ∙ s.rest.length;
         generation = ap generation_of same ∙ sym s.generation;
+        whole = at_rest_size p.end (counting seen p) s.rest ∙ ap text_size (sym (text_counts (seen p.first) (seen p.second) p.is_second s.counts s.begun));
         lasts = lasts p s;
       }
 

@@ -1,5 +1,5 @@
 -- What a journal is, what its calls answer, and what a crash in one of them leaves.
-use Rattle.std.specs.Prelude.{◌≡◌, ◌⊎◌, ◌+◌, ◌-◌, ◌^◌, ◌<◌, ◌≤◌, ◌++◌, ◌==◌, ℕ, Bool, not, true, false, nat_le, if◌then◌else◌, Option, Some, None, List, [], ◌∷◌, length, refl}
+use Rattle.std.specs.Prelude.{◌≡◌, ◌⊎◌, ◌+◌, ◌-◌, ◌^◌, ◌<◌, ◌≤◌, ◌++◌, ◌==◌, ℕ, Bool, not, true, false, nat_le, if◌then◌else◌, Option, Some, None, List, [], ◌∷◌, length, sum_by, refl}
 use Rattle.gs_base.specs.declared.refusal.Refusal.{Refusal}
 use Rattle.gs_base.specs.declared.refusal.Refusal.TheVariants.{BadLine, Device, Exhausted, Full, Memory}
 use Rattle.gs_journal.specs.Records.{Entry, Text, header_length, generation_of, second_counts, standing}
@@ -21,20 +21,26 @@ pub record State (D : Type 0) : Type 0 where
 abbrev pub counting : List ℕ → List ℕ → List ℕ
 counting first second = if second_counts first second then second else first
 
--- What holds of a journal while no disk has failed: it is as its disks are, and each crash leaves what it says.
+-- how many bytes a record takes: a gate, four for the length of the body, the kind, and the body
+abbrev pub record_size : Entry → ℕ
+record_size r = 6 + length r.1
+
+-- how many the disk that counts has where this is said: a header, the records, and a closed gate
+abbrev pub text_size : Text → ℕ
+text_size t = header_length + sum_by record_size t.1 + 1
+
+-- What holds of a journal while no disk has failed: it is as its disks are, it has no more bytes than what it says takes, and each crash leaves
+-- what it says.
 pub record Stands {D : Type 0} (seen : D → List ℕ) (may_leave : D → List ℕ → Type 0) (j : State D) : Type 0 where
   pub is_open : j.is_failed ≡ false
   pub text : standing (seen j.first) (seen j.second) ≡ j.text
   pub size : length (counting (seen j.first) (seen j.second)) ≡ j.size
   pub generation : generation_of (counting (seen j.first) (seen j.second)) ≡ j.generation
+  pub whole : j.size ≡ text_size j.text
   pub lasts : (a b : List ℕ) → may_leave j.first a → may_leave j.second b → standing a b ≡ j.text
 
 abbrev pub failures_of_both : {D : Type 0} → (D → ℕ) → State D → ℕ
 failures_of_both failures j = failures j.first + failures j.second
-
--- how many bytes a record takes: a gate, four for the length of the body, the kind, and the body
-abbrev pub record_size : Entry → ℕ
-record_size r = 6 + length r.1
 
 -- how many a disk takes with one checkpoint: a header, the record, and a closed gate
 abbrev pub checkpoint_size : List ℕ → ℕ
@@ -157,3 +163,10 @@ WhyClosed text before now e =
 -- what two disks say that a crash might have left before
 abbrev pub MightHaveStood : (List ℕ → Type 0) → (List ℕ → Type 0) → Text → Type 0
 MightHaveStood first second text = (a : List ℕ) × (b : List ℕ) × first a × second b × (text ≡ standing a b)
+
+-- one record of 3 bytes behind the header
+a_text_of_one_record : text_size (Two, (6, 0 ∷ 0 ∷ 2 ∷ []) ∷ []) ≡ 23
+a_text_of_one_record = refl
+
+a_new_journal : text_size (Two, []) ≡ 14
+a_new_journal = refl

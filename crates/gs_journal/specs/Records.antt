@@ -91,6 +91,11 @@ abbrev pub standing : List ℕ → List ℕ → Text
 standing first second =
     if second_counts first second then text_of second else (if is_begun first then text_of first else fresh)
 
+-- the generation of the disk that counts; a new journal is of the first one
+abbrev pub generation_standing : List ℕ → List ℕ → ℕ
+generation_standing first second =
+    if second_counts first second then generation_of second else (if is_begun first then generation_of first else 1)
+
 -- a header as it is made
 abbrev pub mark : Version → List ℕ
 mark One = codes "GSJ1"
@@ -122,3 +127,9 @@ standing-closed = refl
 
 standing-none : standing [] (take 12 two_records) ≡ fresh
 standing-none = refl
+
+generation_standing-second : generation_standing (header Two 6 ++ 0 ∷ []) two_records ≡ 7
+generation_standing-second = refl
+
+generation_standing-none : generation_standing [] (take 12 two_records) ≡ 1
+generation_standing-none = refl

@@ -2,7 +2,7 @@
 ghost use Rattle.std.specs.Prelude.{◌≡◌, ◌≢◌, ◌⊎◌, ◌<◌, ◌≤◌, ◌^◌, ◌+◌, ◌-◌, true, false, not, length, if◌then◌else◌, Ok, Err, None, OnOk, IfOk, IfErr, IfSome, IsTrue};
 ghost use Rattle.gs_base.specs.declared.refusal.Refusal.TheVariants.{Device, Memory};
 ghost use Rattle.gs_journal.specs.Disk.{LeavesPairs};
-ghost use Rattle.gs_journal.specs.Records.{standing};
+ghost use Rattle.gs_journal.specs.Records.{generation_standing, standing};
 ghost use Rattle.gs_journal.specs.Forms.{is_text};
 ghost use Rattle.gs_journal.specs.Drafts.{draft_refusal};
 
@@ -90,6 +90,7 @@ impl<D: Disk> Journal<D> {
         ensures text { IfOk result (λ j. j.text ≡ standing (D.seen first) (D.seen second)) }
         ensures form { OnOk result (is_text (standing (D.seen first) (D.seen second)) ≡ true) }
         ensures limit { IfOk result (λ j. j.limit ≡ limit) }
+        ensures generation { IfOk result (λ j. j.generation ≡ generation_standing (D.seen first) (D.seen second)) }
         ensures quiet { IfOk result (λ j. failures_of_both D.failures j ≡ D.failures first + D.failures second) }
         ensures refused { IfErr result (λ u. WhyClosed (standing (D.seen first) (D.seen second))
             (D.failures first + D.failures second) (D.failures u.first + D.failures u.second) u.refusal) }

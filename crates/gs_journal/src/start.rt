@@ -2,7 +2,7 @@
 ghost use Rattle.std.specs.Prelude.{◌≡◌, ◌≢◌, ◌+◌, ◌++◌, ◌∷◌, ◌<◌, ◌^◌, [], true, false, IfOk, IfErr, OnOk, List, ℕ};
 ghost use Rattle.gs_base.specs.declared.refusal.Refusal.TheVariants.{Device, Memory};
 ghost use Rattle.gs_journal.specs.Disk.{Only, LeavesPairs};
-ghost use Rattle.gs_journal.specs.Records.{header, is_begun, second_counts, standing};
+ghost use Rattle.gs_journal.specs.Records.{generation_standing, header, is_begun, second_counts, standing};
 ghost use Rattle.gs_journal.specs.Forms.{is_text};
 ghost use Rattle.gs_journal.specs.Journal.{WhyClosed, MightHaveStood};
 ghost use Rattle.gs_journal.specs.inner.Places.{FindsPlace, IsFresh, IsReady, ReadRefuses, IsLikeFirst, IsLikeSecond};
@@ -113,6 +113,7 @@ pub(crate) fn put_right<D: Disk>(
     requires durable_first { Only (D.seen first.old) (D.may_leave first.old) }
     requires durable_second { Only (D.seen second.old) (D.may_leave second.old) }
     ensures ready { IfOk result (λ p. IsReady p (D.seen first.new) (D.seen second.new)) }
+    ensures generation { IfOk result (λ p. p.generation ≡ generation_standing (D.seen first.old) (D.seen second.old)) }
     ensures same { OnOk result (standing (D.seen first.new) (D.seen second.new) ≡ standing (D.seen first.old) (D.seen second.old)) }
     ensures durable_first { OnOk result (Only (D.seen first.new) (D.may_leave first.new)) }
     ensures durable_second { OnOk result (Only (D.seen second.new) (D.may_leave second.new)) }
@@ -136,6 +137,7 @@ pub(crate) fn put_right<D: Disk>(
 /// Opens two disks: finds the one that counts, and puts its end right, or makes the first where none counts.
 pub(crate) fn start<D: Disk>(alloc: Global, first: &mut D, second: &mut D) -> Result<Place, Refusal>
     ensures ready { IfOk result (λ p. IsReady p (D.seen first.new) (D.seen second.new)) }
+    ensures generation { IfOk result (λ p. p.generation ≡ generation_standing (D.seen first.old) (D.seen second.old)) }
     ensures same { OnOk result (standing (D.seen first.new) (D.seen second.new) ≡ standing (D.seen first.old) (D.seen second.old)) }
     ensures form { OnOk result (is_text (standing (D.seen first.old) (D.seen second.old)) ≡ true) }
     ensures durable_first { OnOk result (Only (D.seen first.new) (D.may_leave first.new)) }

@@ -44,10 +44,10 @@ module _ {D : Type 0} (seen : D → List ℕ) (may_leave : D → List ℕ → Ty
 
   pub first_held : Held j → Held first_armed
   first_held held = held_still (λ (f : Faulty D). seen f.disk) (λ (f : Faulty D). may_leave f.disk) j first_armed
-      (λ h. record { is_open = h.is_open; text = h.text; size = h.size; generation = h.generation; lasts = h.lasts }) refl refl
+      (λ h. record { is_open = h.is_open; text = h.text; size = h.size; generation = h.generation; whole = h.whole; lasts = h.lasts }) refl refl
       (λ l h. record { is_open = h.is_open; size = h.size; limit = h.limit; generation = h.generation }) s held
 
   pub second_held : Held j → Held second_armed
   second_held held = held_still (λ (f : Faulty D). seen f.disk) (λ (f : Faulty D). may_leave f.disk) j second_armed
-      (λ h. record { is_open = h.is_open; text = h.text; size = h.size; generation = h.generation; lasts = h.lasts }) refl refl
+      (λ h. record { is_open = h.is_open; text = h.text; size = h.size; generation = h.generation; whole = h.whole; lasts = h.lasts }) refl refl
       (λ l h. record { is_open = h.is_open; size = h.size; limit = h.limit; generation = h.generation }) s held

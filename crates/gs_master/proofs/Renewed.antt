@@ -143,7 +143,7 @@ module _ {D : Type 0} (seen : D → List ℕ) (may_leave : D → List ℕ → Ty
             is_entry = is.is_entry;
             text = gives.1;
             fault = ap (λ (s : State). s.fault) is.done.after ∙ is.fault;
-            as_seen = record { text = renewed.0.stands.text; size = renewed.0.stands.size; generation = renewed.0.stands.generation };
+            as_seen = record { text = renewed.0.stands.text; size = renewed.0.stands.size; generation = renewed.0.stands.generation; whole = renewed.0.stands.whole };
             known = renewed.1;
             quiet = renewed.0.quiet;
             config = refl;

@@ -86,8 +86,14 @@ pub left_of : {D : Type 0} (seen : D → List ℕ) (may_leave : D → List ℕ �
 left_of seen may_leave failures versions.One d j k is = (is.made.text, is.quiet)
 left_of seen may_leave failures versions.Two d j k is = (is.0.text, is.1.1)
 
+-- a journal of the second version keeps its generation
+pub generation_left : {D : Type 0} (seen : D → List ℕ) (may_leave : D → List ℕ → Type 0) (failures : D → ℕ) (v : Version) (d : Durable) (j k : Journal D) → IsLeft seen may_leave failures v d j k
+    → v ≡ versions.Two → k.generation ≡ j.generation
+generation_left seen may_leave failures versions.One d j k is two = absurd (cc two)
+generation_left seen may_leave failures versions.Two d j k is two = is.0.generation
+
 as_seen : {D : Type 0} (seen : D → List ℕ) (may_leave : D → List ℕ → Type 0) (k : Journal D) → Stands seen may_leave k → IsAsSeen seen k
-as_seen seen may_leave k stands = record { text = stands.text; size = stands.size; generation = stands.generation }
+as_seen seen may_leave k stands = record { text = stands.text; size = stands.size; generation = stands.generation; whole = stands.whole }
 
 -- and it is as its disks are seen
 pub seen_of : {D : Type 0} (seen : D → List ℕ) (may_leave : D → List ℕ → Type 0) (failures : D → ℕ) (v : Version) (d : Durable) (j k : Journal D) → IsLeft seen may_leave failures v d j k → IsAsSeen seen k

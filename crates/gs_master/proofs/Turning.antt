@@ -115,7 +115,7 @@ module _ {D : Type 0} (seen : D → List ℕ) (may_leave : D → List ℕ → Ty
   known_of s k held sound = by_fault s.fault held sound
     where
       by_fault : (f : Fault) → Holds seen may_leave s.durable s.log k f → is_failed f ≡ false → IsAsSeen seen k × IsLogOf s.log k
-      by_fault Sound (stands, (is, told)) sound = (record { text = stands.text; size = stands.size; generation = stands.generation }, is)
+      by_fault Sound (stands, (is, told)) sound = (record { text = stands.text; size = stands.size; generation = stands.generation; whole = stands.whole }, is)
       by_fault (Failed doubt) held sound = absurd (false≢true (sym sound))
       by_fault (Unopened doubt) held sound = absurd (false≢true (sym sound))
 

@@ -1,7 +1,7 @@
 -- What the records of an event become at the journal, and what is left of the event where a disk fails at one of them.
 use Rattle.std.specs.Prelude.{◌≡◌, ◌⊎◌, ◌+◌, ◌<◌, ◌≤◌, ◌++◌, ℕ, true, false, List, [], length, map, take, sum_by, Option, Some}
 use Rattle.gs_base.specs.declared.numbers.ReqId.{ReqId}
-use Rattle.gs_journal.specs.Journal.{State as Journal, Stands, counting, failures_of_both, record_size}
+use Rattle.gs_journal.specs.Journal.{State as Journal, Stands, counting, failures_of_both, record_size, text_size}
 use Rattle.gs_journal.specs.Records.{Entry, Text, generation_of, standing}
 use Rattle.gs_record.specs.Plain.{plain}
 use Rattle.gs_state.specs.Durable.{Durable}
@@ -17,11 +17,12 @@ use Rattle.gs_master.specs.declared.event.Event.{Event}
 abbrev pub text_seen : {D : Type 0} → (D → List ℕ) → Journal D → Text
 text_seen seen j = standing (seen j.first) (seen j.second)
 
--- a journal is as its disks are seen
+-- a journal is as its disks are seen, and has no more bytes than what it says takes
 pub record IsAsSeen {D : Type 0} (seen : D → List ℕ) (j : Journal D) : Type 0 where
   pub text : text_seen seen j ≡ j.text
   pub size : length (counting (seen j.first) (seen j.second)) ≡ j.size
   pub generation : generation_of (counting (seen j.first) (seen j.second)) ≡ j.generation
+  pub whole : j.size ≡ text_size j.text
 
 -- ---- several records at a journal
 

@@ -4,7 +4,7 @@ use Rattle.gs_base.specs.declared.config.Config.{Config}
 use Rattle.gs_base.specs.declared.refusal.Refusal.{Refusal}
 use Rattle.gs_base.specs.declared.refusal.Refusal.TheVariants as refusals
 use Rattle.gs_journal.specs.Forms.{is_text}
-use Rattle.gs_journal.specs.Records.{Text, standing}
+use Rattle.gs_journal.specs.Records.{Text, generation_standing, standing}
 use Rattle.gs_journal.specs.Journal.{checkpointed, failures_of_both}
 use Rattle.gs_journal.specs.declared.journal.Unopened.{Unopened}
 use Rattle.gs_journal.specs.declared.version.Version.{Version}
@@ -24,7 +24,7 @@ left_in versions.One text d = checkpointed (checkpoint_body d)
 left_in versions.Two text d = text
 
 -- The master is what the records tell, and sends what they say. Its journal is as its disks are seen, and the master knows its room: as many
--- bytes as it was told may be written to a disk. No disk has failed.
+-- bytes as it was told may be written to a disk. No disk has failed. A journal of the second version keeps its generation.
 pub record IsOpened {D : Type 0} (seen : D → List ℕ) (failures : D → ℕ) (given : Config) (first second : D) (text : Text) (bound : ℕ) (m : MasterOf D) (sent : List Message) : Type 0 where
   pub entries : List PlainEntry
   pub durable : Durable
@@ -39,6 +39,7 @@ pub record IsOpened {D : Type 0} (seen : D → List ℕ) (failures : D → ℕ) 
   pub left : m.journal.text ≡ left_in text.0 text durable
   pub journal : IsAsSeen seen m.journal
   pub known : IsLogOf m.state.log m.journal
+  pub generation : text.0 ≡ versions.Two → m.journal.generation ≡ generation_standing (seen first) (seen second)
   pub quiet : failures_of_both failures m.journal ≡ failures first + failures second
 
 -- A disk failed; or the disks say what they said, and that tells no master, or memory is wanting.

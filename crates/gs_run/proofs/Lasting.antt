@@ -396,7 +396,7 @@ module _ {D : Type 0} (seen : D → List ℕ) where
   arming disks.First call (Standing m) h = record {
     sound = h.sound;
     firm = h.firm;
-    as_seen = record { text = h.as_seen.text; size = h.as_seen.size; generation = h.as_seen.generation };
+    as_seen = record { text = h.as_seen.text; size = h.as_seen.size; generation = h.as_seen.generation; whole = h.as_seen.whole };
     known = record { is_open = h.known.is_open; size = h.known.size; limit = h.known.limit; generation = h.known.generation };
     told = h.told;
   }
@@ -405,7 +405,7 @@ module _ {D : Type 0} (seen : D → List ℕ) where
   arming disks.Second call (Standing m) h = record {
     sound = h.sound;
     firm = h.firm;
-    as_seen = record { text = h.as_seen.text; size = h.as_seen.size; generation = h.as_seen.generation };
+    as_seen = record { text = h.as_seen.text; size = h.as_seen.size; generation = h.as_seen.generation; whole = h.as_seen.whole };
     known = record { is_open = h.known.is_open; size = h.known.size; limit = h.known.limit; generation = h.known.generation };
     told = h.told;
   }

@@ -1,10 +1,12 @@
 -- When a journal's disks are at rest, and what the calls of a journal answer.
-use Rattle.std.specs.Prelude.{◌≡◌, ◌≢◌, ◌⊎◌, ◌+◌, ◌≤◌, ◌++◌, ℕ, false, List, [], ◌∷◌, length, take, get_or}
+use Rattle.std.specs.Prelude.{◌≡◌, ◌≢◌, ◌⊎◌, ◌+◌, ◌≤◌, ◌++◌, ℕ, false, List, [], ◌∷◌, length, take, get_or, sum_by}
 use Rattle.gs_journal.specs.Records.{Entry, header_length, is_begun, records_behind, records_of}
+use Rattle.gs_journal.specs.Journal.{record_size}
 
--- The bytes are a header and whole records: what stands behind them is read on from there.
+-- The bytes are a header and whole records, and nothing else: what stands behind them is read on from there.
 pub record IsComplete (front : List ℕ) : Type 0 where
   pub header : header_length ≤ length front
+  pub size : length front ≡ header_length + sum_by record_size (records_of front)
   pub goes_on : (rest : List ℕ) → records_of (front ++ rest) ≡ records_of front ++ records_behind 0 rest
 
 -- a header and whole records, and then one byte, which is a closed gate

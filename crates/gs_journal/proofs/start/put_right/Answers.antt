@@ -1,6 +1,7 @@
-use Rattle.std.proofs.Common.{inl, subst}
+use Rattle.std.proofs.Common.{inl, subst, sym, ◌∙◌}
 use Rattle.gs_journal.specs.inner.Places.{FindsPlace}
 use Rattle.gs_journal.proofs.Moments.{weaker}
+use Rattle.gs_journal.proofs.Standing.{generation_counts, generation_none}
 use Rattle.gs_journal.proofs.Opening.{untouched_first, untouched_second, first_place, second_place, made_ready, second_ready, first_ready, like_first, like_second}
 use Rattle.gs_journal.proofs.start.put_right.Goals as goal
 
@@ -129,3 +130,21 @@ repair-requires-2-clause-fits g c =
     let d = g.D.Disk in
     let found = subst (λ o. FindsPlace o (d.seen c.args.first.now) (d.seen c.args.second.now)) c.in-Some.is c.requires.place in
     (first_place c.in-Some.place (d.seen c.args.first.now) (d.seen c.args.second.now) c.if-place.false found.1).fits
+
+pub returns-in_default-clause-generation : goal.returns-in_default-clause-generation
+returns-in_default-clause-generation g c =
+    let d = g.D.Disk in
+    let found = subst (λ o. FindsPlace o (d.seen c.args.first.now) (d.seen c.args.second.now)) c.in_default.is c.requires.place in
+    c.in_ok-place.ensures.place.2 ∙ sym (generation_none (d.seen c.args.first.now) (d.seen c.args.second.now) found.0 found.1)
+
+pub returns-then-place-clause-generation : goal.returns-then-place-clause-generation
+returns-then-place-clause-generation g c =
+    let d = g.D.Disk in
+    let found = subst (λ o. FindsPlace o (d.seen c.args.first.now) (d.seen c.args.second.now)) c.in-Some.is c.requires.place in
+    found.1.generation ∙ sym (generation_counts (d.seen c.args.first.now) (d.seen c.args.second.now) c.in-Some.place.is_second found.0 found.1.begun)
+
+pub returns-clause-generation : goal.returns-clause-generation
+returns-clause-generation g c =
+    let d = g.D.Disk in
+    let found = subst (λ o. FindsPlace o (d.seen c.args.first.now) (d.seen c.args.second.now)) c.in-Some.is c.requires.place in
+    found.1.generation ∙ sym (generation_counts (d.seen c.args.first.now) (d.seen c.args.second.now) c.in-Some.place.is_second found.0 found.1.begun)

@@ -4,7 +4,7 @@ use Rattle.gs_journal.specs.Records.{Text}
 use Rattle.gs_state.specs.Handling.{recover}
 use Rattle.gs_master.specs.Recovering.{Tells, log_in}
 use Rattle.gs_master.specs.Starting.{left_in}
-use Rattle.gs_master.proofs.Reopened.{closed_why, left_of, opened_held, seen_of, untold_why}
+use Rattle.gs_master.proofs.Reopened.{closed_why, generation_left, left_of, opened_held, seen_of, untold_why}
 use Rattle.gs_master.proofs.master.Master.open.Goals as goal
 
 pub returns-in-Err-clause-refused : goal.returns-in-Err-clause-refused
@@ -50,6 +50,7 @@ returns-in-Ok-recover-clause-opened g c =
       limit = c.in-Ok.ensures.limit;
       journal = seen_of d.seen d.may_leave d.failures c.in-Ok.journal.text.0 recovered.durable c.in-Ok.journal k recovered.journal;
       known = recovered.log;
+      generation = λ two. generation_left d.seen d.may_leave d.failures c.in-Ok.journal.text.0 recovered.durable c.in-Ok.journal k recovered.journal ((λ i. (text i).0) ∙ two) ∙ c.in-Ok.ensures.generation;
       left = subst (λ (t : Text). k.text ≡ left_in t.0 t recovered.durable) text kept.0;
       quiet = kept.1 ∙ c.in-Ok.ensures.quiet;
     }
