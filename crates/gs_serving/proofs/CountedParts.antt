@@ -1,11 +1,10 @@
 -- What a message about a chunk comes to has counts that 64 bits hold.
-use Rattle.std.proofs.Common.{◌≡◌, ◌<◌, ◌≤◌, ◌^◌, ℕ, zero, suc, ◌+◌, Bool, true, false, cond, not, List, [], ◌∷◌, ◌++◌, map, length, max, replicate, slice_set, Option, Some, None, refl, subst, arith}
+use Rattle.std.proofs.Common.{◌≡◌, ◌<◌, ◌^◌, ℕ, zero, suc, ◌+◌, Bool, true, false, cond, not, List, [], ◌∷◌, ◌++◌, map, length, max, replicate, slice_set, Option, Some, None, refl, subst, arith}
 use Rattle.std.specs.Prelude.{Result, Ok, Err, IfOk, ◌==◌, nat_le, nat_lt, slice_index_or}
 use Rattle.std.specs.List.{AllByRecursion, filter, find, list_any}
 use Rattle.std.proofs.lemmas.Bool.Decides.{nat_tests}
 use Rattle.gs_base.specs.Told.{IsNumber}
 use Rattle.gs_base.specs.Stamps.{is_same}
-use Rattle.gs_base.specs.declared.numbers.Moment.{Moment}
 use Rattle.gs_base.specs.declared.numbers.ReqId.{ReqId}
 use Rattle.gs_base.specs.declared.numbers.Stamp.{Stamp}
 use Rattle.gs_base.specs.declared.refusal.Refusal.{Refusal}
@@ -34,10 +33,10 @@ use Rattle.gs_server.specs.Fetches as fetching
 use Rattle.gs_server.specs.Holding.{from_server, goes_on, is_held, supplies_to, takes, unless_leased, wants_bytes}
 use Rattle.gs_server.specs.Holding as holding
 use Rattle.gs_server.specs.Leases.{Lease, done_at_once, done_of, dones, forward_of, forwards, heard, hears, is_acknowledged, lacks, opens_edit, renews, settled, supplies, told_by, waits_for, with_bytes}
-use Rattle.gs_server.specs.Places.{Here, LeaseBecomes, LeaseChange, LeaseSpent, LeaseStays, Part, Place, SlotBecomes, SlotChange, SlotMarked, SlotStays, about, count_or_none, damaged_block, marked_by, of_promise, or_else, other_epoch, promising, refused, sending, tells_bad, unanswered}
+use Rattle.gs_server.specs.Places.{Here, LeaseBecomes, LeaseChange, LeaseSpent, LeaseStays, Part, Place, SlotBecomes, SlotChange, SlotMarked, SlotStays, about, count_or_none, damaged_block, marked_by, of_promise, or_else, other_epoch, refused, sending, tells_bad, unanswered}
 use Rattle.gs_server.specs.Promises as messages
 use Rattle.gs_server.specs.Servers.{about_chunk}
-use Rattle.gs_serving.specs.Counted.{IsCountedAbout, IsCountedImage, IsCountedLease, IsCountedLive, IsCountedMessage, IsCountedSlot}
+use Rattle.gs_serving.specs.Counted.{IsCountedAbout, IsCountedLease, IsCountedLive, IsCountedMessage, IsCountedSlot}
 use Rattle.gs_serving.specs.Editing.{numbered_edit}
 use Rattle.gs_serving.proofs.CountedSlots.{IsCountedCopy, advance_counts, apply_counts, copy_in_counts, copy_out_counts, create_counts, drop_counts, lease_counts, no_edits}
 use Rattle.gs_serving.proofs.Tests.{head_none, next_number, not_met}

@@ -1,5 +1,5 @@
 -- Each event leaves a server with counts that 64 bits hold, and so has what it sends.
-use Rattle.std.proofs.Common.{◌≡◌, ℕ, ◌+◌, Bool, true, false, cond, List, [], ◌∷◌, ◌++◌, Option, Some, None, refl, sym, ap, subst, ◌∙◌}
+use Rattle.std.proofs.Common.{◌≡◌, ℕ, ◌+◌, Bool, true, false, cond, List, [], ◌∷◌, Option, Some, None, refl, sym, ap, subst, ◌∙◌}
 use Rattle.std.specs.Prelude.{Result, Ok, Err, IfOk, T, ◌==◌, flat_map, option_map}
 use Rattle.std.specs.List.{AllByRecursion, filter}
 use Rattle.std.specs.Cmp.{eq_by_cmp_equiv, nat_cmp_total}
@@ -14,7 +14,6 @@ use Rattle.gs_base.specs.declared.numbers.Stamp.{Stamp}
 use Rattle.gs_base.specs.declared.refusal.Refusal.{Refusal}
 use Rattle.gs_msg.specs.declared.body.Body.{Body}
 use Rattle.gs_msg.specs.declared.body.Body.TheVariants as bodies
-use Rattle.gs_msg.specs.declared.chunk.Chunk.{Chunk}
 use Rattle.gs_msg.specs.declared.message.Message.{Message}
 use Rattle.gs_msg.specs.declared.node.NodeId.{NodeId}
 use Rattle.gs_store.specs.Moves as moves
@@ -30,7 +29,6 @@ use Rattle.gs_server.specs.Places.{Here, LeaseBecomes, LeaseChange, LeaseSpent, 
 use Rattle.gs_server.specs.Promises.{Copying}
 use Rattle.gs_server.specs.Promises as messages
 use Rattle.gs_server.specs.Servers.{Server, change_buffer, change_lease, change_slot, changed_by, copies, damage, handle, handle_body, here_of, in_store, leases_after, lose, new, place_of, reminds_all, request_in, restart, standing_leases, stands_at, store_of, tick, with_store}
-use Rattle.gs_server.specs.inner.Learning.{next_of}
 use Rattle.gs_server.specs.Runs.{Event, Hears, Restarts, Ticks, behind, behind_all, slot_in, unless_refused}
 use Rattle.gs_server.specs.Runs as runs
 use Rattle.gs_server.proofs.Happening.{step_if}
