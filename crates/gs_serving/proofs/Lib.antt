@@ -12,4 +12,4 @@ mod Making
 mod Accepting
 mod CountedSlots
 mod CountedParts
-mod CountedServers
+pub mod CountedServers
