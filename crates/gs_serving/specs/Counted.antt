@@ -27,15 +27,17 @@ IsCountedSeal (Some t) = IsNumber t.count
 abbrev pub IsCountedReplica : State → Type 0
 IsCountedReplica r = IsNumber r.held.count × IsCountedSeal r.sealed
 
+-- the replica that is live, if one is
 abbrev pub IsCountedLive : Option Live → Type 0
 IsCountedLive None = Unit {0}
 IsCountedLive (Some l) = IsCountedReplica l.replica
 
+-- the one in the trash, if one is
 abbrev pub IsCountedTrash : Option State → Type 0
 IsCountedTrash None = Unit {0}
 IsCountedTrash (Some r) = IsCountedReplica r
 
--- what is live of a chunk, and what is in the trash
+-- both, of a chunk
 abbrev pub IsCountedSlot : Slot → Type 0
 IsCountedSlot s = IsCountedLive s.live × IsCountedTrash s.trash
 
@@ -65,10 +67,12 @@ IsCountedAbout (chunks.Ack stamp count) = IsNumber count
 IsCountedAbout (chunks.CopyIn stamp image sealed) = IsNumber image.count × IsCountedImage sealed
 IsCountedAbout said = Unit {0}
 
+-- no other body carries a count
 abbrev pub IsCountedBody : Body → Type 0
 IsCountedBody (bodies.About handle said) = IsCountedAbout said
 IsCountedBody body = Unit {0}
 
+-- a message is counted where what it says is
 abbrev pub IsCountedMessage : Message → Type 0
 IsCountedMessage m = IsCountedBody m.body
 
