@@ -67,7 +67,7 @@ IsCountedAbout (chunks.Ack stamp count) = IsNumber count
 IsCountedAbout (chunks.CopyIn stamp image sealed) = IsNumber image.count × IsCountedImage sealed
 IsCountedAbout said = Unit {0}
 
--- no other body carries a count
+-- no other body carries a count that its receiver keeps
 abbrev pub IsCountedBody : Body → Type 0
 IsCountedBody (bodies.About handle said) = IsCountedAbout said
 IsCountedBody body = Unit {0}
