@@ -1,37 +1,14 @@
-//! Tests of the crates through their public calls. They stand here since a crate with tests is proved twice.
+//! Tests of what no contract says: outside examples of digests, a journal's bytes, and what whole scripts are answered. They speak to public
+//! calls alone, and stand here since a crate with tests is proved twice. The tests of what is proved stand beside the gate.
 #![tactic(auto)]
 
 #[cfg(test)]
 mod blocks;
 #[cfg(test)]
-mod clients;
-#[cfg(test)]
 mod journal;
-#[cfg(test)]
-mod locks;
-#[cfg(test)]
-mod messages;
-#[cfg(test)]
-mod names;
 #[cfg(test)]
 mod options;
 #[cfg(test)]
-mod paths;
-#[cfg(test)]
-mod records;
-#[cfg(test)]
-mod references;
-#[cfg(test)]
-mod replicas;
-#[cfg(test)]
-mod servers;
-#[cfg(test)]
 mod shell;
 #[cfg(test)]
-mod stores;
-#[cfg(test)]
-mod tables;
-#[cfg(test)]
 mod texts;
-#[cfg(test)]
-mod trees;

@@ -3,14 +3,6 @@
 use gs_base::Refusal;
 use std::alloc::Global;
 
-/// The refusal's line, or nothing.
-pub(crate) fn line(alloc: Global, answer: Result<(), Refusal>) -> Result<String, Refusal> {
-    match answer {
-        Ok(()) => Ok(String::new(alloc)),
-        Err(refusal) => Ok(refusal.line(alloc)?),
-    }
-}
-
 fn push_digits(alloc: Global, text: &mut String, byte: u8) -> Result<(), Refusal> {
     let digits = format!(in alloc; "{byte:02x}")?;
     Ok(text.push_str(digits.as_str())?)
