@@ -13,8 +13,8 @@ use gs_script::{RunFault, write_answer, write_line};
 use gs_world::MasterPlace;
 use std::alloc::{AllocError, Global};
 use std::io::{self, BufRead, BufReader, BufWriter, Write};
-use std::process::ExitCode;
 use std::mem;
+use std::process::ExitCode;
 
 /// A message as it is told, behind the number of its line.
 fn told_text(alloc: Global, number: u64, text: &str) -> Result<String, AllocError> {
