@@ -1,6 +1,6 @@
 #!/usr/bin/env python3
-"""Runs tests that stand beside the gate: of the master by itself, and of a whole store whose messages come again, whose disks fail or
-stop, or whose journal is cut. They are run unproved, by the kit's trial run, and the status is that run's."""
+"""Runs tests that stand beside the gate: of each part by its public calls, of the master by itself, and of a whole store whose messages
+come again, whose disks fail or stop, or whose journal is cut. They are run unproved, by the kit's trial run, and the status is that run's."""
 
 import subprocess
 import sys

@@ -1,5 +1,6 @@
-//! Tests of what no contract says: outside examples of digests, a journal's bytes, and what whole scripts are answered. They speak to public
-//! calls alone, and stand here since a crate with tests is proved twice. The tests of what is proved stand beside the gate.
+//! Tests that try more than one contract says: outside examples of digests, a journal's bytes, the words of the command line, and what whole
+//! scripts are answered. They speak to public calls alone, and stand here since a crate with tests is proved twice. The tests of each part
+//! stand beside the gate.
 #![tactic(auto)]
 
 #[cfg(test)]
