@@ -1,8 +1,13 @@
-//! The same program, whose stored run is one with words that are refused: its status is 2, and it writes nothing.
+//! What the programs do with words that are refused, by the same call: the stored run has such, its status is 2, and it writes nothing on
+//! standard output.
 #![tactic(auto)]
 
+use gs_command::configured;
 use std::process::ExitCode;
 
 fn main(rt: HostRuntime) -> ExitCode {
-    gs_program::run(&rt)
+    match configured(&rt, "chunkstore") {
+        Ok(_) => ExitCode::SUCCESS,
+        Err(status) => status,
+    }
 }

@@ -5,6 +5,7 @@
 mod disks;
 
 use gs_base::{Config, Refusal};
+use gs_command::configured;
 use gs_desk::Desk;
 use gs_journal::MemoryDisk;
 use gs_line::{Line, next_line};
@@ -13,25 +14,7 @@ use gs_world::MasterPlace;
 use std::alloc::{AllocError, Global};
 use std::io::{self, BufRead, BufReader, BufWriter, Write};
 use std::process::ExitCode;
-use std::rt::Env;
-use std::{env, mem};
-
-/// The words of the command line, of which the first is the program's own.
-fn words(rt: &(impl Env + AllocGlobal)) -> io::Result<Vec<String>> {
-    Ok(env::args(rt)?.collect(rt.alloc())?)
-}
-
-/// Says on standard error what is wrong with words that are refused.
-fn explain(rt: &(impl Eprint + AllocGlobal), words: &[String], refusal: &Refusal) {
-    let text = match refusal {
-        Refusal::Memory => None,
-        _ => gs_options::explanation(rt.alloc(), words).ok(),
-    };
-    let _ = match text {
-        Some(text) => eprint!(rt; "{text}"),
-        None => eprintln!(rt; "chunktrace: {refusal}"),
-    };
-}
+use std::mem;
 
 /// A message as it is told, behind the number of its line.
 fn told_text(alloc: Global, number: u64, text: &str) -> Result<String, AllocError> {
@@ -148,16 +131,9 @@ fn serve(rt: &(impl Input + Print + AllocGlobal), config: Config) -> Result<(), 
 /// The status is 0 at the end of the input, 1 where a read or a write fails or the run can't begin, and 2 where the words of
 /// the command line are refused.
 fn main(rt: HostRuntime) -> ExitCode {
-    let Ok(words) = words(&rt) else {
-        let _ = eprintln!(rt; "chunktrace: the arguments can't be read");
-        return ExitCode::from(2);
-    };
-    let config = match gs_options::options(rt.alloc(), &words) {
+    let config = match configured(&rt, "chunktrace") {
         Ok(config) => config,
-        Err(refusal) => {
-            explain(&rt, &words, &refusal);
-            return ExitCode::from(2);
-        }
+        Err(status) => return status,
     };
     match serve(&rt, config) {
         Ok(()) => ExitCode::SUCCESS,

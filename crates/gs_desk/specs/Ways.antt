@@ -92,9 +92,14 @@ SendsAll {D} (message ∷ messages) old new = (mid : Way D) × Sends message old
 
 -- ---- what an event comes to
 
+-- memory was wanting, if that is said
+abbrev pub noted : {D : Type 0} → Option Refusal → Way D → Way D
+noted None w = w
+noted (Some refusal) w = shortened_by refusal w
+
 -- what a node did is sent, and what it said is the answer; or nothing happened
 abbrev pub Ends : {D : Type 0} → Result Turn Refusal → Way D → Result (Unit {0}) Refusal → Way D → Type 0
-Ends (Ok turn) old result new = SendsAll turn.sent.items old new × (result ≡ met_by turn.said)
+Ends {D} (Ok turn) old result new = (mid : Way D) × SendsAll turn.sent.items old mid × (new ≡ noted turn.said mid) × (result ≡ met_by turn.said)
 Ends (Err refusal) old result new = (new ≡ shortened_by refusal old) × (result ≡ Err refusal)
 
 abbrev pub with_nodes : {D : Type 0} → Nodes D → Way D → Way D

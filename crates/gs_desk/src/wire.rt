@@ -3,7 +3,7 @@ ghost use Rattle.std.specs.Prelude.{◌≡◌, ◌<◌, ◌≤◌, OnOk, OnErr};
 ghost use Rattle.gs_client.specs.declared.link.Reply.{Reply};
 ghost use Rattle.gs_msg.specs.declared.event.Request.{Request};
 ghost use Rattle.gs_base.specs.declared.numbers.ReqId.{ReqId};
-ghost use Rattle.gs_desk.specs.Ways.{AllTick, Carries, DeliversWhole, Ends, Heard, IsAsked, IsDelivered, MasterTicked, Puts, Sends, SendsAll, ServerTicked, ServersTick, Waited, is_drop, shortened_by, way_of};
+ghost use Rattle.gs_desk.specs.Ways.{AllTick, Carries, DeliversWhole, Ends, Heard, IsAsked, IsDelivered, MasterTicked, Puts, Sends, SendsAll, ServerTicked, ServersTick, Waited, is_drop, noted, shortened_by, way_of};
 
 use gs_base::{ClientId, Moment, Refusal, ReqId, ServerId};
 use gs_client::{Link, Reply};
@@ -27,7 +27,7 @@ pub struct Wire<D: Disk> {
     pub held: Vec<Message>,
     /// How many drops were sent since that was counted from.
     pub drops: u64,
-    /// Whether memory was wanting for a message, or a node or the client refused something for want of memory.
+    /// Whether memory was wanting for a message, or a node or the client refused something for want of memory, or said that it was wanting.
     pub is_short: bool,
     /// The texts of what was sent since they were taken, where they are kept.
     pub trace: Option<Vec<String>>,
@@ -108,6 +108,15 @@ impl<D: Disk + Drop> Wire<D> {
         }
     }
 
+    /// Notes whether it is said that memory was wanting, as by a tick that leaves a checkpoint out.
+    fn note_said(&mut self, said: &Option<Refusal>)
+        ensures { way_of self.new ≡ noted said.now (way_of self.old) }
+    {
+        if let Some(refusal) = said {
+            self.note(refusal);
+        }
+    }
+
     /// What an event comes to: its messages are sent. The answer is what was said.
     pub(crate) fn end(&mut self, done: Result<Turn, Refusal>) -> Result<(), Refusal>
         ensures { Ends done (way_of self.old) result (way_of self.new) }
@@ -115,6 +124,7 @@ impl<D: Disk + Drop> Wire<D> {
         match done {
             Ok(turn) => {
                 self.send_all(turn.sent);
+                self.note_said(&turn.said);
                 match turn.said {
                     Some(refusal) => Err(refusal),
                     None => Ok(()),

@@ -7,3 +7,4 @@ pub mod restoring;
 pub mod rolling;
 pub mod sealing;
 pub mod telling;
+pub mod writing;

@@ -1,5 +1,5 @@
 // What is judged of a prepare.
-ghost use Rattle.std.specs.Prelude.{◌≡◌, ◌<◌, ◌==◌, IfNone};
+ghost use Rattle.std.specs.Prelude.{◌≡◌, ◌<◌, ◌==◌, [], IfNone};
 ghost use Rattle.gs_base.specs.Numbers.{last_number};
 ghost use Rattle.gs_state.specs.State.{first_of};
 ghost use Rattle.gs_state.specs.Upgrades.{commit_tests};
@@ -16,6 +16,7 @@ pub fn refusal_of_prepare(
 ) -> Option<Refusal>
     ensures judged { result ≡ first_of (commit_tests phase is_preparing unquiet.now (epoch == last_number)) }
     ensures left { IfNone result (epoch < last_number) }
+    ensures quiet { IfNone result (unquiet.now ≡ []) }
 {
     if !is_preparing {
         if phase != Phase::Ordinary {

@@ -14,6 +14,7 @@ use crate::event::Event;
 use gs_base::{Config, Handle, Members, Moment, Refusal, ReqId, Stamp};
 use gs_lease::{Purpose, View};
 use gs_msg::Answer;
+use gs_guard::writing::has_to_be_copied;
 use gs_path::Path;
 use gs_plan::beginning::{copy_plan, create_plan};
 use gs_state::known::Known;
@@ -143,7 +144,7 @@ impl Event {
             return self.refuse(req, Refusal::NoReplica);
         };
         let place = Place { path, index, chunk };
-        if self.recorded.is_shared(chunk) {
+        if has_to_be_copied(&self.recorded, chunk) {
             return self.copy_on_write(req, place, &known);
         }
         self.lease_place(req, place, refused, moment, &known)

@@ -6,7 +6,7 @@ ghost use Rattle.gs_record.specs.Plain as entries;
 ghost use Rattle.gs_state.specs.Plans.{plan_of};
 ghost use Rattle.gs_plan.specs.Planning.{state_of};
 ghost use Rattle.gs_state.specs.State.{first_of};
-ghost use Rattle.gs_state.specs.Upgrades.{accepted_plan, chunk_count, commit_tests, is_last_epoch, tell_all};
+ghost use Rattle.gs_state.specs.Upgrades.{accepted_plan, all_unquiet, chunk_count, commit_tests, is_last_epoch, tell_all};
 ghost use Rattle.gs_state.specs.declared.change.Change.TheVariants as changes;
 
 use crate::standing::Standing;
@@ -23,6 +23,7 @@ impl<'a> Standing<'a> {
     pub fn refusal_of_prepare(&self, unquiet: &[Handle]) -> Option<Refusal>
         ensures judged { result ≡ first_of (commit_tests (state_of self.entry.now).durable.phase (state_of self.entry.now).volatile.is_preparing unquiet.now (is_last_epoch (state_of self.entry.now).durable)) }
         ensures left { IfNone result ((state_of self.entry.now).durable.epoch < last_number) }
+        ensures quiet { IfNone result (unquiet.now ≡ []) }
     {
         refusal_of_prepare(
             self.recorded.phase,
@@ -32,14 +33,15 @@ impl<'a> Standing<'a> {
         )
     }
 
-    /// An upgrade is prepared. There is an epoch more.
+    /// An upgrade is prepared, of a master of which every chunk is quiet. There is an epoch more.
     pub fn prepare_plan(
         &self,
         config: &Config,
         req: ReqId,
         moment: Moment,
     ) -> Result<Plan, AllocError>
-        requires { (state_of self.now).durable.epoch < last_number }
+        requires left { (state_of self.now).durable.epoch < last_number }
+        requires quiet { all_unquiet (state_of self.now) ≡ [] }
         ensures { IfOk result (λ plan. plan_of plan ≡ accepted_plan (state_of self.entry.now) req (entries.Prepare ((state_of self.entry.now).durable.epoch + 1) moment.0 (chunk_count (state_of self.entry.now)) ∷ []) (changes.Prepare false ∷ []) (tell_all config.now ((state_of self.entry.now).durable.epoch + 1) ends.Prepare) ((state_of self.entry.now).durable.epoch + 1)) }
     {
         let alloc = self.recorded.alloc;

@@ -10,3 +10,6 @@ mod Sealing
 mod Repeating
 mod Making
 mod Accepting
+mod CountedSlots
+mod CountedParts
+pub mod CountedServers

@@ -4,3 +4,4 @@ pub mod Following
 pub mod Refusing
 pub mod Waiting
 pub mod Sealing
+pub mod Counted

@@ -1,19 +1,21 @@
 //! The laws of a chunkserver over all messages.
 #![tactic(auto)]
 
-ghost use Rattle.std.specs.Prelude.{◌≡◌, ◌<◌, ◌+◌, ℕ, cond, Bool, true, false, List, [], ◌∷◌, length, Contains, Option, Some, None, is_some, Ok};
+ghost use Rattle.std.specs.Prelude.{◌≡◌, ◌<◌, ◌+◌, ℕ, cond, Bool, true, false, List, [], ◌∷◌, length, Contains, Option, Some, None, is_some, Ok, IfOk};
+ghost use Rattle.std.specs.List.{AllByRecursion};
 ghost use Rattle.gs_base.specs.declared.numbers.Stamp.{Stamp};
 ghost use Rattle.gs_base.specs.declared.numbers.ReqId.{ReqId};
 ghost use Rattle.gs_base.specs.declared.numbers.Moment.{Moment};
 ghost use Rattle.gs_base.specs.declared.refusal.Refusal.{Refusal};
 ghost use Rattle.gs_base.specs.Stamps.{is_same, is_before};
+ghost use Rattle.gs_base.specs.Told.{IsNumber};
 ghost use Rattle.gs_replica.specs.declared.op.Done.{Done};
 ghost use Rattle.gs_replica.specs.Edits.{outcome_of};
 ghost use Rattle.gs_replica.specs.Held.{Held};
 ghost use Rattle.gs_replica.specs.Copies.{Image, SealedImage};
 ghost use Rattle.gs_replica.specs.Stands.{Edit, replica_of};
 ghost use Rattle.gs_msg.specs.declared.chunk.Chunk.{Chunk};
-ghost use Rattle.gs_msg.specs.declared.chunk.Chunk.TheVariants.{CopyIn, CopyOut, Create};
+ghost use Rattle.gs_msg.specs.declared.chunk.Chunk.TheVariants.{CopyIn, CopyOut, Create, Promised};
 ghost use Rattle.gs_msg.specs.declared.body.Body.TheVariants.{About};
 ghost use Rattle.gs_msg.specs.declared.message.Message.{Message};
 ghost use Rattle.gs_msg.specs.declared.op.Op.{Op};
@@ -32,8 +34,10 @@ ghost use Rattle.gs_server.specs.Holding.{ack, is_held};
 ghost use Rattle.gs_server.specs.Laws.{IsToldByAll, IsKnownToAll};
 ghost use Rattle.gs_server.specs.Edits.{edit, forward, done, numbered_op};
 ghost use Rattle.gs_server.specs.Servers.{Server, handle, handle_chunk, make_copy, about_chunk, here_of, place_of, request_in};
+ghost use Rattle.gs_server.specs.Servers as servers;
 ghost use Rattle.gs_server.specs.Runs.{Event, behind, behind_all, slot_in, BecomesBy, IsReached, KeepSeal, AllSpare, rolled_back};
 ghost use Rattle.gs_serving.specs.Calling.{call_by};
+ghost use Rattle.gs_serving.specs.Counted.{IsCountedServer, IsCountedBody, IsCountedMessage, GoesCounted, HearsCounted};
 ghost use Rattle.gs_serving.specs.Following.{IsToldBefore, AreToldBefore, remakes, NoneRemakes, edits_behind, edits_behind_all};
 ghost use Rattle.gs_serving.specs.Refusing.{LeavesBut};
 ghost use Rattle.gs_serving.specs.Waiting.{AreRising, AreCounted};
@@ -143,4 +147,19 @@ pub fn what_is_promised_again_leaves_what_stands()
 /// A drop that is accepted leaves neither a live replica nor a lease of the chunk.
 pub fn a_dropped_replica_leaves_no_lease()
     ensures { (h : Here) (p : Place) (epoch : ℕ) (promise : Stamp) → (drop_replica h p epoch promise).said ≡ None → ((after p (drop_replica h p epoch promise)).lease ≡ None) × ((after p (drop_replica h p epoch promise)).slot.live ≡ None) }
+{}
+
+/// Each server counts edits in 64 bits. Where all counts that a server keeps are numbers of 64 bits, and those that it hears, each event
+/// leaves it so, and those that it sends are: a primary refuses the edit behind the last count, a member applies the number that it is sent,
+/// a rollback gives the count that was sealed, and a copy that of its image. A new server counts nothing. So what it promises can be told.
+pub fn each_server_counts_in_64_bits()
+    ensures heard { (s : Server) (message : Message) (moment : Moment) → IsCountedServer s → IsCountedMessage message → GoesCounted (servers.handle s message moment) }
+    ensures ticked { (s : Server) (moment : Moment) → IsCountedServer s → GoesCounted (servers.tick s moment) }
+    ensures beats { (s : Server) → IsCountedMessage (servers.beat s) }
+    ensures restarted { (s : Server) → IsCountedServer s → IsCountedServer (servers.restart s) }
+    ensures lost { (handle : ℕ) (s : Server) → IsCountedServer s → IfOk (servers.lose handle s) IsCountedServer }
+    ensures damaged { (handle : ℕ) (block : ℕ) (s : Server) → IsCountedServer s → IfOk (servers.damage handle block s) IsCountedServer }
+    ensures run { (events : List Event) (s : Server) → AllByRecursion HearsCounted events → IsCountedServer s → IsCountedServer (behind_all events s) }
+    ensures new { (me : ℕ) (block : ℕ) (chunk : ℕ) → IsCountedServer (servers.new me block chunk) }
+    ensures told { (handle : ℕ) (stamp : Stamp) (count : ℕ) (carried : Bool) → IsCountedBody (About handle (Promised stamp count carried)) → IsNumber count }
 {}

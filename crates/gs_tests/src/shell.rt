@@ -28,9 +28,23 @@ fn output_of(alloc: Global, config: Config, script: &[u8]) -> Result<String, Fai
     Ok(String::from_utf8(output).ok().ok_or("the output")?)
 }
 
+/// A script, and what a run of it writes.
+type Row = (&'static [u8], &'static str);
+
+/// The first of some scripts that a new store answers otherwise, by its place, with what it writes; or nothing.
+fn fault_in(alloc: Global, replicas: u64, rows: &[Row]) -> Result<String, Fail> {
+    for (place, (script, wanted)) in rows.iter().enumerate() {
+        let output = output_of(alloc, store_of(replicas)?, script)?;
+        if output.as_str() != *wanted {
+            return Ok(format!(in alloc; "script {place}: {output}")?);
+        }
+    }
+    Ok(String::new(alloc))
+}
+
 #[test]
 fn paths_and_names(rt: HostRuntime) -> Result<(), Fail> {
-    let runs: [(&[u8], &str); 5] = [
+    let runs: [Row; 5] = [
         // No line at all.
         (b"", ""),
         // A directory that is there again, and a file at its place.
@@ -54,18 +68,13 @@ fn paths_and_names(rt: HostRuntime) -> Result<(), Fail> {
             "ok\nok\nok\nrefused 1 BadPath\nok\n",
         ),
     ];
-    for (script, output) in runs {
-        assert_eq!(rt;
-            output_of(rt.alloc(), store_of(3)?, script)?.as_str(),
-            output
-        );
-    }
+    assert_eq!(rt; fault_in(rt.alloc(), 3, &runs)?.as_str(), "");
     Ok(())
 }
 
 #[test]
 fn files(rt: HostRuntime) -> Result<(), Fail> {
-    let runs: [(&[u8], &str); 4] = [
+    let runs: [Row; 4] = [
         // A write behind the end, over two chunks: what lies before it is zeros.
         (
             b"create /f\nwrite /f 14 616263\nread /f 0 32\nstat /f\n",
@@ -88,18 +97,13 @@ fn files(rt: HostRuntime) -> Result<(), Fail> {
             "ok\nrefused 25 Range\nok file 0\nok\nok\nok 61\n",
         ),
     ];
-    for (script, output) in runs {
-        assert_eq!(rt;
-            output_of(rt.alloc(), store_of(3)?, script)?.as_str(),
-            output
-        );
-    }
+    assert_eq!(rt; fault_in(rt.alloc(), 3, &runs)?.as_str(), "");
     Ok(())
 }
 
 #[test]
 fn deletion_and_scan(rt: HostRuntime) -> Result<(), Fail> {
-    let runs: [(&[u8], &str); 5] = [
+    let runs: [Row; 5] = [
         // Deletions of nothing, of the root, and of a directory with a child.
         (
             b"rm /x\nrm /\nmkdir /a/b\nrm /a\nrm -r\nrm -r /a\n",
@@ -127,18 +131,13 @@ fn deletion_and_scan(rt: HostRuntime) -> Result<(), Fail> {
             "ok\nok\nok /.deleted.00000000000000000000.00000000000000000001.f\nok\nok 0 0\nok /f\nok\nok /.deleted.00000000000000000000.00000000000000000002.f\nok\nok 0 0\nok\nok 1 1\nok 1\nrefused 28 NoReplica\n",
         ),
     ];
-    for (script, output) in runs {
-        assert_eq!(rt;
-            output_of(rt.alloc(), store_of(3)?, script)?.as_str(),
-            output
-        );
-    }
+    assert_eq!(rt; fault_in(rt.alloc(), 3, &runs)?.as_str(), "");
     Ok(())
 }
 
 #[test]
 fn snapshots(rt: HostRuntime) -> Result<(), Fail> {
-    let runs: [(&[u8], &str); 2] = [
+    let runs: [Row; 2] = [
         // A copy shares its chunk until one of both is written to.
         (
             b"create /f\nwrite /f 0 6162\nsnapshot /f /g\nwrite /f 0 78\nwrite /g 0 79\nread /f 0 2\nread /g 0 2\nstat /f\nstat /g\n",
@@ -150,18 +149,13 @@ fn snapshots(rt: HostRuntime) -> Result<(), Fail> {
             "ok\nok\nok\nok 1\nok\nok\nok 7862\nok 7962\nok file 2 2/1/0,1,2\nok /.deleted.00000000000000000000.00000000000000000001.f\nok 2\nok file 2 1/2/0,1,2\nok 6162\n",
         ),
     ];
-    for (script, output) in runs {
-        assert_eq!(rt;
-            output_of(rt.alloc(), store_of(3)?, script)?.as_str(),
-            output
-        );
-    }
+    assert_eq!(rt; fault_in(rt.alloc(), 3, &runs)?.as_str(), "");
     Ok(())
 }
 
 #[test]
 fn upgrades(rt: HostRuntime) -> Result<(), Fail> {
-    let runs: [(&[u8], &str); 5] = [
+    let runs: [Row; 5] = [
         // The epochs of an upgrade that is rolled back.
         (
             b"rollingUpgrade query\nrollingUpgrade prepare\nrollingUpgrade rollback\nrollingUpgrade query\n",
@@ -189,18 +183,13 @@ fn upgrades(rt: HostRuntime) -> Result<(), Fail> {
             "refused 13 NotUpgrading\nrefused 13 NotUpgrading\nok 0\nrefused 14 AlreadyUpgrading\nrefused 11 Preparing\nok 1\nrefused 14 AlreadyUpgrading\nok 2\nrefused 13 NotUpgrading\n",
         ),
     ];
-    for (script, output) in runs {
-        assert_eq!(rt;
-            output_of(rt.alloc(), store_of(3)?, script)?.as_str(),
-            output
-        );
-    }
+    assert_eq!(rt; fault_in(rt.alloc(), 3, &runs)?.as_str(), "");
     Ok(())
 }
 
 #[test]
 fn copies(rt: HostRuntime) -> Result<(), Fail> {
-    let runs: [(&[u8], &str); 5] = [
+    let runs: [Row; 5] = [
         // A lost replica is missed when its server reports, and made again.
         (
             b"create /f\nwrite /f 0 6161\nlose 1 1\nbeat 1\nstat /f\nreplicate\nstat /f\nreplicate\nread /f 0 2\n",
@@ -227,18 +216,13 @@ fn copies(rt: HostRuntime) -> Result<(), Fail> {
             "ok\nok\nok 1\nok\nok\nok\nrefused 16 Unrestored 1\nok rolling 2\nrefused 12 RollingBack\n",
         ),
     ];
-    for (script, output) in runs {
-        assert_eq!(rt;
-            output_of(rt.alloc(), store_of(3)?, script)?.as_str(),
-            output
-        );
-    }
+    assert_eq!(rt; fault_in(rt.alloc(), 3, &runs)?.as_str(), "");
     Ok(())
 }
 
 #[test]
 fn two_replicas_on_three_servers(rt: HostRuntime) -> Result<(), Fail> {
-    let runs: [(&[u8], &str); 2] = [
+    let runs: [Row; 2] = [
         // Each chunk stands in both racks, and first on servers that have the fewest.
         (
             b"create /a\nwrite /a 0 61\ncreate /b\nwrite /b 0 62\ncreate /c\nwrite /c 0 63\nstat /a\nstat /b\nstat /c\n",
@@ -250,18 +234,13 @@ fn two_replicas_on_three_servers(rt: HostRuntime) -> Result<(), Fail> {
             "ok\nok\nok\nok\nok /.deleted.00000000000000000000.00000000000000000001.a\nok\nok 1 1\nok 1\nok\nok 0\nok 2 0\nok\nok 2\nok 62\nok file 1 2/1/0\n",
         ),
     ];
-    for (script, output) in runs {
-        assert_eq!(rt;
-            output_of(rt.alloc(), store_of(2)?, script)?.as_str(),
-            output
-        );
-    }
+    assert_eq!(rt; fault_in(rt.alloc(), 2, &runs)?.as_str(), "");
     Ok(())
 }
 
 #[test]
 fn lost_and_held_messages(rt: HostRuntime) -> Result<(), Fail> {
-    let runs: [(&[u8], &str); 5] = [
+    let runs: [Row; 5] = [
         // A forward that comes after a prepare is refused by its stamp. Its edit stands at the primary alone, and a rollback
         // keeps it.
         (
@@ -291,18 +270,13 @@ fn lost_and_held_messages(rt: HostRuntime) -> Result<(), Fail> {
             "ok\nok\nok\nok 1\nrefused 28 NoReplica\nok\nok\nok\nok 2\nok 61\nok file 1 1/1/0,1,2\n",
         ),
     ];
-    for (script, output) in runs {
-        assert_eq!(rt;
-            output_of(rt.alloc(), store_of(3)?, script)?.as_str(),
-            output
-        );
-    }
+    assert_eq!(rt; fault_in(rt.alloc(), 3, &runs)?.as_str(), "");
     Ok(())
 }
 
 #[test]
 fn restarts(rt: HostRuntime) -> Result<(), Fail> {
-    let runs: [(&[u8], &str); 2] = [
+    let runs: [Row; 2] = [
         // A server begins again, and goes on with the replica that it kept.
         (
             b"create /f\nwrite /f 0 61\nrestart 0\nwrite /f 1 62\nread /f 0 2\n",
@@ -314,18 +288,13 @@ fn restarts(rt: HostRuntime) -> Result<(), Fail> {
             "ok\nok\nok\nok\nok a/ f\nok 61\nok\nok 6162\n",
         ),
     ];
-    for (script, output) in runs {
-        assert_eq!(rt;
-            output_of(rt.alloc(), store_of(3)?, script)?.as_str(),
-            output
-        );
-    }
+    assert_eq!(rt; fault_in(rt.alloc(), 3, &runs)?.as_str(), "");
     Ok(())
 }
 
 #[test]
 fn bad_lines(rt: HostRuntime) -> Result<(), Fail> {
-    let runs: [(&[u8], &str); 10] = [
+    let runs: [Row; 10] = [
         // Lines that ask for nothing, and requests for what is not there or may not be.
         (
             b"frob\nmkdir\nwrite /f 0 6\nrm /x\nrm /\nread /x 0 1\nundelete /x\nmkdir /a/b\nrm /a\n",
@@ -356,12 +325,7 @@ fn bad_lines(rt: HostRuntime) -> Result<(), Fail> {
             "refused 34 BadLine\nrefused 34 BadLine\nrefused 34 BadLine\nrefused 1 BadPath\nok\nok\n",
         ),
     ];
-    for (script, output) in runs {
-        assert_eq!(rt;
-            output_of(rt.alloc(), store_of(3)?, script)?.as_str(),
-            output
-        );
-    }
+    assert_eq!(rt; fault_in(rt.alloc(), 3, &runs)?.as_str(), "");
     Ok(())
 }
 
