@@ -12,9 +12,9 @@ ghost use Rattle.gs_state.specs.Working.{begins, begins_new, copied_on_write, cr
 
 use crate::event::Event;
 use gs_base::{Config, Handle, Members, Moment, Refusal, ReqId, Stamp};
+use gs_guard::writing::has_to_be_copied;
 use gs_lease::{Purpose, View};
 use gs_msg::Answer;
-use gs_guard::writing::has_to_be_copied;
 use gs_path::Path;
 use gs_plan::beginning::{copy_plan, create_plan};
 use gs_state::known::Known;

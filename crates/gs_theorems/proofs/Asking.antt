@@ -390,3 +390,6 @@ request_well size (lines.Deliver number) spoken = tt
 
 pub line_well : (size : ℕ) (line : List ℕ) (request : Line) → line_request line ≡ Some request → WellIf (asked_by size request)
 line_well size line request is = request_well size request (line_spoken line request is)
+
+pub line_asks : (size : ℕ) (line : List ℕ) (request : Line) (call : Call Answer) → line_request line ≡ Some request → asked_by size request ≡ Some call → AllAsked MayBeAsked call
+line_asks size line request call is asks = subst WellIf asks (line_well size line request is)

@@ -1,6 +1,7 @@
+pub mod Asking
+pub mod Enduring
 pub mod Reached
 pub mod Refusing
-pub mod Asking
 pub mod Saying
 pub mod Steady
 pub mod Within
