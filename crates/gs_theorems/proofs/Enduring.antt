@@ -15,19 +15,20 @@ use Rattle.gs_master.specs.declared.turn.Turn.{Turn}
 use Rattle.gs_msg.specs.declared.event.Happening.{Happening}
 use Rattle.gs_msg.specs.declared.event.Happening.TheVariants as happenings
 use Rattle.gs_msg.specs.declared.message.Message.{Message}
+use Rattle.gs_msg.specs.declared.message.MsgId.{MsgId}
 use Rattle.gs_msg.specs.declared.node.NodeId.{NodeId}
 use Rattle.gs_msg.specs.declared.node.StoreNode.TheVariants as keepers
 use Rattle.gs_msg.specs.declared.node.NodeId.TheVariants as nodes
 use Rattle.gs_run.specs.Histories.{AtMaster, AtNode, ComesTo, History, Outcome, arms, failures_of, seen_of, told}
 use Rattle.gs_run.specs.Runs.{Goes, Step, Comes, Takes}
-use Rattle.gs_run.specs.Sent.{IsSent}
+use Rattle.gs_run.specs.Sent.{IsSent, Sent, message_of}
 use Rattle.gs_world.specs.Happenings.{Delivers, Hears, MasterHears, MasterTicks}
 use Rattle.gs_world.specs.Nodes.{Nodes}
 use Rattle.gs_world.specs.declared.place.MasterPlace.{MasterPlace}
 use Rattle.gs_world.specs.declared.place.MasterPlace.TheVariants.{Standing, Closed, Away}
 use Rattle.gs_theorems.specs.Enduring.{GoesForMemory, IsForMemory, RunsForMemory}
-use Rattle.gs_theorems.specs.Reached.{history, unarmed}
-use Rattle.gs_theorems.specs.Saying.{IsStepWithin, KeepsTypes, MayBeHeard, RunsQuietly}
+use Rattle.gs_theorems.specs.Reached.{AllSent, history, unarmed}
+use Rattle.gs_theorems.specs.Saying.{IsStepWithin, KeepsTypes, MayBeHeard, MayBeSaid, RunsQuietly}
 use Rattle.gs_theorems.specs.Steady.{LastsSteady}
 use Rattle.gs_theorems.specs.Within.{IsReachedWithin}
 use Rattle.gs_theorems.proofs.Keeping.{begins_keeping, run_keeps, runs_steadily, step_keeps, to_master}
@@ -135,6 +136,17 @@ module _ {D : Type 0} (seen : D → List ℕ) (failures : D → ℕ) where
   desk_keeps config disks desk r =
       run_keeps seen failures unarmed r.reached.steps r.reached.begun (history r.sent (way_of desk.wire)) r.reached.runs r.within
       (begins_keeping seen failures unarmed config 1 disks r.reached.begun one_client r.reached.begins)
+
+  all_may : (sent : Sent) (messages : List Message) → ((id : MsgId) (message : Message) → message_of sent id ≡ Some message → MayBeSaid message.to message.body) → AllSent sent messages
+      → AllByRecursion (λ (message : Message). MayBeSaid message.to message.body) messages
+  all_may sent [] may all = tt
+  all_may sent (message ∷ messages) may ((id, is), rest) = (may id message is, all_may sent messages may rest)
+
+  -- what is under way or held back was sent
+  pub desk_waits : (config : Config) (disks : D × D) (desk : Desk D) → IsReachedWithin seen failures config disks desk → AllByRecursion (λ (message : Message). MayBeSaid message.to message.body) desk.wire.queue.items
+      × AllByRecursion (λ (message : Message). MayBeSaid message.to message.body) desk.wire.held.items
+  desk_waits config disks desk r =
+      let keeps = desk_keeps config disks desk r in (all_may r.sent desk.wire.queue.items keeps.sent r.covers.queue, all_may r.sent desk.wire.held.items keeps.sent r.covers.held)
 
   pub desk_lasts : (config : Config) (disks : D × D) (desk : Desk D) (r : IsReachedWithin seen failures config disks desk) → standing (seen disks.0) (seen disks.1) ≡ fresh
       → RunsQuietly seen failures unarmed r.reached.steps r.reached.begun (history r.sent (way_of desk.wire)) → LastsSteady seen desk.wire.world.master

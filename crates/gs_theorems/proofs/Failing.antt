@@ -8,10 +8,11 @@ use Rattle.gs_base.specs.declared.refusal.Refusal.{Refusal}
 use Rattle.gs_base.specs.declared.refusal.Refusal.TheVariants as refusals
 use Rattle.gs_block.specs.Follows.{Does}
 use Rattle.gs_client.specs.Nodes.{Node, given_up}
+use Rattle.gs_desk.specs.Ways.{way_of}
+use Rattle.gs_desk.specs.declared.desk.Desk.{Desk}
 use Rattle.gs_journal.specs.Journal.{failures_of_both}
-use Rattle.gs_journal.specs.declared.journal.Unopened.{Unopened}
+use Rattle.gs_journal.specs.Records.{fresh, standing}
 use Rattle.gs_master.specs.Masters.{Answers, MasterOf}
-use Rattle.gs_master.specs.Starting.{WhyUnopened}
 use Rattle.gs_master.specs.Ticking.{AnswersAs, AnswersTick, lacking, pressed_all, writes_one}
 use Rattle.gs_master.specs.declared.turn.Turn.{Turn as Told}
 use Rattle.gs_msg.specs.declared.event.Happening.{Happening}
@@ -26,20 +27,20 @@ use Rattle.gs_server.specs.Servers as servers
 use Rattle.gs_state.specs.Handling.{handle, tick}
 use Rattle.gs_state.specs.Outcomes.{caller_of}
 use Rattle.gs_state.specs.State.{Turn}
-use Rattle.gs_world.specs.Happenings.{AtClient, AtServer, ClientAsks, ClientHears, Delivers, Hears, MasterHears, MasterTicks, Opens, Reopens, ServerDoes, client_in, limit}
+use Rattle.gs_world.specs.Happenings.{AtClient, AtServer, ClientAsks, ClientHears, Delivers, Hears, MasterHears, MasterTicks, Opens, Reopens, ServerDoes, client_in}
 use Rattle.gs_world.specs.Nodes.{Nodes, with_clients, with_master, with_servers}
 use Rattle.gs_world.specs.declared.place.MasterPlace.{MasterPlace}
 use Rattle.gs_world.specs.declared.place.MasterPlace.TheVariants.{Standing, Closed, Away}
-use Rattle.gs_run.specs.Histories.{AtNode, ComesTo, History, Outcome, Restarts, Ticks}
+use Rattle.gs_run.specs.Histories.{AtNode, Begins, ComesTo, History, Outcome, Restarts, Ticks}
 use Rattle.gs_run.specs.Lasting.{failures_at}
 use Rattle.gs_run.specs.Runs.{Goes, RunsTo, Step, Comes, Takes}
 use Rattle.gs_run.specs.Sent.{message_of}
-use Rattle.gs_theorems.specs.Reached.{unarmed}
+use Rattle.gs_theorems.specs.Failing.{ClosesLater}
+use Rattle.gs_theorems.specs.Reached.{history, unarmed}
 use Rattle.gs_theorems.specs.Saying.{RunsQuietly}
-
--- disks that aren't opened have failed no less often than before
-abbrev pub ClosesLater : {D : Type 0} → (D → List ℕ) → (D → ℕ) → Type 0
-ClosesLater {D} seen failures = (config : Config) (first second : D) (u : Unopened D) → WhyUnopened seen failures config limit first second u → failures first + failures second ≤ failures u.first + failures u.second
+use Rattle.gs_theorems.specs.Steady.{LastsSteady}
+use Rattle.gs_theorems.specs.Within.{IsReachedWithin}
+use Rattle.gs_theorems.proofs.Enduring.{desk_lasts}
 
 as_before : (a b : ℕ) → a ≡ b → b ≤ a
 as_before a b same = omega arith
@@ -178,3 +179,20 @@ module _ {D : Type 0} (seen : D → List ℕ) (failures : D → ℕ) (closes : C
   run_quiet (step ∷ steps) old new (mid, goes, rest) same =
       let quiet = both_ways (failures_at failures old.nodes.master) (failures_at failures mid.nodes.master) (failures_at failures new.nodes.master) (step_rises step old mid goes) (run_rises steps mid new rest) same in
       (mid, goes, quiet, run_quiet steps mid new rest (same ∙ sym quiet))
+
+  -- ---- a desk
+
+  begins_at : (config : Config) (clients : ℕ) (pair : D × D) (new : History D) → Begins seen failures unarmed config clients pair new → failures_at failures new.nodes.master ≡ failures pair.0 + failures pair.1
+  begins_at config clients pair new begun = ap (λ (n : Nodes D). failures_at failures n.master) begun.nodes ∙ opened_at begun.place begun.turn begun.opens
+    where
+      opened_at : (place : MasterPlace D) (turn : Told) → Opens seen failures config pair (Ok turn) place → failures_at failures place ≡ failures pair.0 + failures pair.1
+      opened_at place turn (after, is, opening, said) = ap (failures_at failures) is ∙ opening.quiet
+
+  pub desk_quiet : (config : Config) (disks : D × D) (desk : Desk D) (r : IsReachedWithin seen failures config disks desk) → failures_at failures desk.wire.world.master ≡ failures disks.0 + failures disks.1
+      → RunsQuietly seen failures unarmed r.reached.steps r.reached.begun (history r.sent (way_of desk.wire))
+  desk_quiet config disks desk r same =
+      run_quiet r.reached.steps r.reached.begun (history r.sent (way_of desk.wire)) r.reached.runs (same ∙ sym (begins_at config 1 disks r.reached.begun r.reached.begins))
+
+  pub desk_ends_steady : (config : Config) (disks : D × D) (desk : Desk D) → IsReachedWithin seen failures config disks desk → standing (seen disks.0) (seen disks.1) ≡ fresh
+      → failures_at failures desk.wire.world.master ≡ failures disks.0 + failures disks.1 → LastsSteady seen desk.wire.world.master
+  desk_ends_steady config disks desk r none same = desk_lasts seen failures config disks desk r none (desk_quiet config disks desk r same)

@@ -248,7 +248,7 @@ module _ {D : Type 0} (seen : D → List ℕ) (failures : D → ℕ) where
   opens config pair (Ok turn) new left (after, is, opening, said) same = subst (LastsSteady seen) (sym is) (opened config pair.0 pair.1 turn after left opening said)
   opens config pair (Err e) new left (u, is, refusal, inl (device, more)) same =
       absurd (never (failures pair.0 + failures pair.1) (failures u.first + failures u.second) more (sym (ap (failures_at failures) is) ∙ same))
-  opens config pair (Err e) new left (u, is, refusal, inr (text, why)) same = subst (LastsSteady seen) (sym is) (subst TellsSteady (sym text) left)
+  opens config pair (Err e) new left (u, is, refusal, inr why) same = subst (LastsSteady seen) (sym is) (subst TellsSteady (sym why.0) left)
 
   reopens : (config : Config) (old : MasterPlace D) (result : Result Told Refusal) (new : MasterPlace D) → LastsSteady seen old → Reopens seen failures config old result new → Same new old → LastsSteady seen new
   reopens config (Standing m) result new h opening same = opens config (m.journal.first, m.journal.second) result new (left_standing m h) opening same

@@ -1,5 +1,6 @@
 pub mod Asking
 pub mod Enduring
+pub mod Failing
 pub mod Reached
 pub mod Refusing
 pub mod Saying

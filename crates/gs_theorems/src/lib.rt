@@ -1,7 +1,7 @@
 //! The theorems over every run of the whole store.
 #![tactic(auto)]
 
-ghost use Rattle.std.specs.Prelude.{◌≡◌, ◌≤◌, ◌<◌, ◌^◌, ℕ, Err, List, Option, Some, slice_get};
+ghost use Rattle.std.specs.Prelude.{◌≡◌, ◌≤◌, ◌<◌, ◌+◌, ◌^◌, ℕ, Err, List, Option, Some, slice_get};
 ghost use Rattle.std.specs.List.{AllByRecursion};
 ghost use Rattle.gs_base.specs.Told.{IsNumber};
 ghost use Rattle.gs_base.specs.declared.config.Config.{Config};
@@ -31,15 +31,16 @@ ghost use Rattle.gs_msg.specs.declared.event.Request.{Request as Req};
 ghost use Rattle.gs_msg.specs.declared.message.Message.{Message};
 ghost use Rattle.gs_msg.specs.declared.node.NodeId.TheVariants as nodes;
 ghost use Rattle.gs_run.specs.Histories.{Begins, History, arms, failures_of, seen_of};
-ghost use Rattle.gs_run.specs.Lasting.{Lasts, StandsFirm};
+ghost use Rattle.gs_run.specs.Lasting.{Lasts, StandsFirm, failures_at};
 ghost use Rattle.gs_run.specs.Runs.{RunsTo, Step};
 ghost use Rattle.gs_run.specs.Sent.{IsSent, Sent};
 ghost use Rattle.gs_state.specs.Handling.{handle};
 ghost use Rattle.gs_theorems.specs.Asking.{AllAsked, MayBeAsked};
 ghost use Rattle.gs_theorems.specs.Enduring.{RunsForMemory};
+ghost use Rattle.gs_theorems.specs.Failing.{ClosesLater};
 ghost use Rattle.gs_theorems.specs.Reached.{Covers, IsReachedDesk, Steps, history, unarmed};
 ghost use Rattle.gs_theorems.specs.Refusing.{RefusesAlone};
-ghost use Rattle.gs_theorems.specs.Saying.{IsStepWithin, KeepsTypes, RunsQuietly};
+ghost use Rattle.gs_theorems.specs.Saying.{IsStepWithin, KeepsTypes, MayBeSaid, RunsQuietly};
 ghost use Rattle.gs_theorems.specs.Steady.{LastsSteady, RunsSteadily};
 ghost use Rattle.gs_theorems.specs.Within.{IsReachedWithin};
 ghost use Rattle.gs_world.specs.Happenings.{MasterHears, MasterTicks};
@@ -121,6 +122,14 @@ pub fn each_script_asks_within_its_types<D>()
     ensures line { (seen : D → List ℕ) (failures : D → ℕ) (config : Config) (disks : D × D) (old new : Desk D) (line text : List ℕ) → AnswersText seen failures old line text new → IsReachedWithin seen failures config disks old → IsReachedWithin seen failures config disks new }
     ensures script { (seen : D → List ℕ) (failures : D → ℕ) (config : Config) (disks : D × D) (input : List ℕ) (old new : Option (List ℕ)) (s : Serves seen failures config disks input old new) → IsReachedWithin seen failures config disks s.ended }
     ensures kept { (seen : D → List ℕ) (failures : D → ℕ) (config : Config) (disks : D × D) (desk : Desk D) (r : IsReachedWithin seen failures config disks desk) → KeepsTypes (history r.sent (way_of desk.wire)) }
+    ensures waiting { (seen : D → List ℕ) (failures : D → ℕ) (config : Config) (disks : D × D) (desk : Desk D) → IsReachedWithin seen failures config disks desk → AllByRecursion (λ message. MayBeSaid message.to message.body) desk.wire.queue.items × AllByRecursion (λ message. MayBeSaid message.to message.body) desk.wire.held.items }
     ensures steady { (seen : D → List ℕ) (failures : D → ℕ) (config : Config) (disks : D × D) (desk : Desk D) (r : IsReachedWithin seen failures config disks desk) → standing (seen disks.0) (seen disks.1) ≡ fresh → RunsQuietly seen failures unarmed r.reached.steps r.reached.begun (history r.sent (way_of desk.wire)) → LastsSteady seen desk.wire.world.master }
     ensures refused { (seen : D → List ℕ) (failures : D → ℕ) (config : Config) (disks : D × D) (desk : Desk D) (r : IsReachedWithin seen failures config disks desk) → standing (seen disks.0) (seen disks.1) ≡ fresh → (runs : RunsQuietly seen failures unarmed r.reached.steps r.reached.begun (history r.sent (way_of desk.wire))) → RunsForMemory seen failures unarmed r.reached.steps r.reached.begun (history r.sent (way_of desk.wire)) runs }
+{}
+
+/// Disks of the master's journal never fail less often than before, as long as an opening that is refused hands them back so. So a script over
+/// disks that said nothing leaves a steady master where they have failed no more often in the end than at the start: in no step one failed.
+pub fn a_script_whose_disks_have_not_failed_ends_steady<D>()
+    ensures quiet { (seen : D → List ℕ) (failures : D → ℕ) (steps : List Step) (old new : History D) → ClosesLater seen failures → RunsTo seen failures unarmed steps old new → failures_at failures new.nodes.master ≡ failures_at failures old.nodes.master → RunsQuietly seen failures unarmed steps old new }
+    ensures ended { (seen : D → List ℕ) (failures : D → ℕ) (config : Config) (disks : D × D) (desk : Desk D) → ClosesLater seen failures → IsReachedWithin seen failures config disks desk → standing (seen disks.0) (seen disks.1) ≡ fresh → failures_at failures desk.wire.world.master ≡ failures disks.0 + failures disks.1 → LastsSteady seen desk.wire.world.master }
 {}
