@@ -1,27 +1,23 @@
 -- That all which a line's dialogue may ask is named, and within its types.
-use Rattle.std.proofs.Common.{◌≡◌, ◌∙◌, ◌+◌, ◌-◌, ◌*◌, ◌/◌, ◌^◌, ◌<◌, ◌≤◌, ◌==◌, ◌||◌, ℕ, zero, suc, Bool, true, false, min, List, [], ◌∷◌, length, Option, Some, None, MatchOption, Result, Ok, Err, if◌then◌else◌, refl, sym, ap, subst, arith, nat_le, nat_lt}
+use Rattle.std.proofs.Common.{◌≡◌, ◌+◌, ◌-◌, ◌*◌, ◌/◌, ◌<◌, ◌≤◌, ◌==◌, ◌||◌, ℕ, zero, suc, Bool, true, false, List, [], ◌∷◌, length, Option, Some, None, MatchOption, Result, Ok, Err, if◌then◌else◌, refl, sym, subst, arith, nat_le, nat_lt}
 use Rattle.std.proofs.Math.Nat.{div-lt_iff_lt-mul, div-mul-le_self}
 use Rattle.std.proofs.lemmas.Nat.{le-div}
-use Rattle.std.proofs.lemmas.Bool.{false≢true}
 use Rattle.std.proofs.lemmas.Bool.Decides.{nat_tests}
-use Rattle.std.specs.Str.{is_utf8}
 use Rattle.gs_base.specs.declared.numbers.Stamp.{Stamp}
 use Rattle.gs_base.specs.declared.refusal.Refusal.{Refusal}
 use Rattle.gs_base.specs.declared.refusal.Refusal.TheVariants as refusals
 use Rattle.gs_calls.specs.Asked.{append_to, asked_by, digest_of, done, ends_so, given_bytes, given_digest, hidden, is_unquiet, on, on_two, path_in, plain, read_of, step_line, unless_quiet, upgrade_line, with_file, write_to}
 use Rattle.gs_calls.specs.declared.answer.Answer.{Answer}
 use Rattle.gs_calls.specs.declared.answer.Answer.TheVariants as answers
-use Rattle.gs_client.specs.Files.{open_call, opened_with}
-use Rattle.gs_client.specs.Looking.{anew_call, chunks_call, count_in, fetch_call, fetch_of, find_call, known_call, members_call, most_chunks, round_call}
+use Rattle.gs_client.specs.Files.{open_call}
+use Rattle.gs_client.specs.Looking.{anew_call, chunks_call, count_in, fetch_call, find_call, known_call, members_call, most_chunks, round_call}
 use Rattle.gs_client.specs.Opened.{File}
-use Rattle.gs_client.specs.Reading.{digest_call, end_call, length_call, piece_bytes, piece_call, piece_end, pieces_call, read_call, span, stat_call, stat_of, stored_call, within}
+use Rattle.gs_client.specs.Reading.{digest_call, end_call, length_call, piece_call, piece_end, pieces_call, read_call, span, stat_call, stat_of, stored_call, within}
 use Rattle.gs_client.specs.Replies.{bytes_in, chunks_in, digest_in, given, is_stale, length_in, status_in}
 use Rattle.gs_client.specs.Trees as trees
 use Rattle.gs_client.specs.Trees.{Call}
-use Rattle.gs_client.specs.Writing.{again_call, append_call, append_from, avoided, chunks_to, edit_call, extend_call, extends_call, is_out, landed, part_bytes, part_call, part_count, part_op, parts_call, send_call, write_call, write_part_call, writing_call, written}
-use Rattle.gs_client.specs.declared.link.Reply.{Reply}
+use Rattle.gs_client.specs.Writing.{again_call, append_call, append_from, avoided, chunks_to, edit_call, extend_call, extends_call, is_out, landed, part_bytes, part_call, part_count, part_op, parts_call, send_call, write_call, write_part_call, writing_call}
 use Rattle.gs_client.specs.declared.located.Located.{Located}
-use Rattle.gs_client.specs.declared.reading.Stat.{Stat}
 use Rattle.gs_dialogue.specs.Dialogues.{Ask, Dialogue, Grow, Say, both, onward, otherwise, upon}
 use Rattle.gs_laws.specs.Written.{IsIndex}
 use Rattle.gs_lease.specs.declared.view.Term.{Term}
@@ -34,11 +30,9 @@ use Rattle.gs_lines.specs.declared.command.UpgradeStep.TheVariants as steps
 use Rattle.gs_msg.specs.declared.answer.Status.{Status}
 use Rattle.gs_msg.specs.declared.answer.Status.TheVariants as statuses
 use Rattle.gs_msg.specs.declared.answer.ChunkStatus.{ChunkStatus}
-use Rattle.gs_msg.specs.declared.body.Given.{Given}
 use Rattle.gs_msg.specs.declared.call.Call.TheVariants as calls
 use Rattle.gs_msg.specs.declared.chunk.Asked.{Asked}
 use Rattle.gs_msg.specs.declared.chunk.Asked.TheVariants as asks
-use Rattle.gs_msg.specs.declared.event.Request.{Request}
 use Rattle.gs_msg.specs.declared.op.Op.{Op}
 use Rattle.gs_msg.specs.declared.op.Op.TheVariants as ops
 use Rattle.gs_path.specs.Path.{Path}
@@ -46,7 +40,7 @@ use Rattle.gs_path.specs.Rules.{parse, parse_hidden}
 use Rattle.gs_record.specs.Writable.{IsPath}
 use Rattle.gs_replica.specs.declared.op.Outcome.{Outcome}
 use Rattle.gs_replica.specs.declared.op.Outcome.TheVariants as outcomes
-use Rattle.gs_theorems.specs.Asking.{AllAsked, Asks, MayBeAsked, MayBeCalled}
+use Rattle.gs_theorems.specs.Asking.{AllAsked, Asks, MayBeAsked}
 use Rattle.gs_theorems.proofs.Words.{IsSpoken, line_spoken, stored_path, visible_path}
 
 -- ---- dialogues

@@ -1,5 +1,5 @@
 -- Where disks that aren't opened have failed no less often than before, no step lets the failures of the master's disks fall.
-use Rattle.std.proofs.Common.{◌≡◌, ◌∙◌, ◌+◌, ◌-◌, ◌<◌, ◌≤◌, ℕ, Bool, true, false, List, [], ◌∷◌, Option, Some, None, MatchOption, Result, Ok, Err, refl, ap, subst, sym, inl, inr, arith, slice_get, slice_set}
+use Rattle.std.proofs.Common.{◌≡◌, ◌∙◌, ◌+◌, ◌-◌, ◌<◌, ◌≤◌, ℕ, Bool, true, false, List, [], ◌∷◌, Option, Some, None, MatchOption, Result, Ok, Err, ap, subst, sym, inl, inr, arith, slice_get, slice_set}
 use Rattle.gs_base.specs.declared.config.Config.{Config}
 use Rattle.gs_base.specs.declared.numbers.ClientId.{ClientId}
 use Rattle.gs_base.specs.declared.numbers.Moment.{Moment}

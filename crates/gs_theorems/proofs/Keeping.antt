@@ -1,5 +1,5 @@
 -- That a store keeps to its types: all that is sent may be said to its receiver, and each server counts in 64 bits.
-use Rattle.std.proofs.Common.{◌≡◌, ◌∙◌, ◌⊎◌, ◌+◌, ◌-◌, ◌<◌, ◌≤◌, ◌^◌, ◌==◌, ◌++◌, ℕ, zero, suc, Bool, true, false, List, [], ◌∷◌, if◌then◌else◌, Option, Some, None, MatchOption, Result, Ok, Err, Vec, map, refl, sym, ap, subst, inl, inr, arith, nat_le, replicate, slice_get, slice_set}
+use Rattle.std.proofs.Common.{◌≡◌, ◌⊎◌, ◌+◌, ◌-◌, ◌<◌, ◌^◌, ◌==◌, ◌++◌, ℕ, zero, suc, Bool, true, false, List, [], ◌∷◌, if◌then◌else◌, Option, Some, None, MatchOption, Result, Ok, Err, Vec, refl, sym, subst, inl, inr, arith, nat_le, replicate, slice_get, slice_set}
 use Rattle.std.specs.Prelude.{IfOk}
 use Rattle.std.specs.List.{AllByRecursion}
 use Rattle.std.specs.declared.alloc.Global.{Global}
@@ -15,13 +15,11 @@ use Rattle.gs_client.specs.Nodes.{Asks, Node, answered, asks, given_up, hears, m
 use Rattle.gs_client.specs.Nodes.{silent as new_client}
 use Rattle.gs_client.specs.declared.link.Reply.{Reply}
 use Rattle.gs_client.specs.declared.link.Reply.TheVariants as replies
-use Rattle.gs_edit.specs.View.{NamesView}
 use Rattle.gs_journal.specs.Records.{standing}
 use Rattle.gs_journal.specs.declared.version.Version.{Version}
 use Rattle.gs_journal.specs.declared.version.Version.TheVariants as versions
 use Rattle.gs_laws.specs.Standing.{IsNamedAbout}
 use Rattle.gs_master.specs.Masters.{Answers, MasterOf}
-use Rattle.gs_master.specs.Starting.{IsOpened}
 use Rattle.gs_master.specs.Ticking.{AnswersAs, AnswersTick, lacking, pressed_all, writes_one}
 use Rattle.gs_master.specs.declared.turn.Turn.{Turn}
 use Rattle.gs_msg.specs.Posts.{message_at, posted}
@@ -51,17 +49,17 @@ use Rattle.gs_state.specs.Applied.{records_behind, replayed}
 use Rattle.gs_state.specs.Durable.{Durable, start}
 use Rattle.gs_state.specs.Handling.{anew, answered_or, handle, recover, recovered_from, reopened, restarted, tick, written_unless}
 use Rattle.gs_state.specs.Outcomes.{caller_of, unsure}
-use Rattle.gs_state.specs.State.{Log, State, Turn as Plan, and_then, first_of}
-use Rattle.gs_world.specs.Happenings.{AtClient, AtServer, ClientAsks, ClientHears, Delivers, Hears, MasterHears, MasterTicks, MeetsClosed, Opens, Reopens, Says, ServerDoes, client_in, met_by, refusal_of_call}
-use Rattle.gs_world.specs.Nodes.{Nodes, new_clients, new_nodes, silent_servers, with_clients, with_master, with_servers}
+use Rattle.gs_state.specs.State.{Log, State, Turn as Plan, and_then}
+use Rattle.gs_world.specs.Happenings.{AtClient, AtServer, ClientAsks, ClientHears, Delivers, Hears, MasterHears, MasterTicks, MeetsClosed, Opens, Reopens, ServerDoes, client_in, met_by, refusal_of_call}
+use Rattle.gs_world.specs.Nodes.{Nodes, new_clients, silent_servers, with_clients, with_master, with_servers}
 use Rattle.gs_world.specs.declared.place.MasterPlace.{MasterPlace}
 use Rattle.gs_world.specs.declared.place.MasterPlace.TheVariants.{Standing, Closed, Away}
 use Rattle.gs_run.proofs.Sending.{numbered, same_posts}
-use Rattle.gs_run.specs.Histories.{AtNode, Befalls, Begins, ComesTo, DeliversAt, History, Outcome, Restarts, Tells, Ticks, asked, silent, told}
+use Rattle.gs_run.specs.Histories.{AtNode, Befalls, Begins, ComesTo, History, Outcome, Restarts, Tells, Ticks, asked, silent, told}
 use Rattle.gs_run.specs.Lasting.{HearsNamed}
 use Rattle.gs_run.specs.Runs.{Goes, RunsTo, Step, Comes, Takes}
 use Rattle.gs_run.specs.Sent.{Appends, IsPosted, Line, Sent, lost_all, message_in, message_of, none_sent, posts_of, with_line}
-use Rattle.gs_theorems.specs.Asking.{MayBeAsked, MayBeCalled}
+use Rattle.gs_theorems.specs.Asking.{MayBeAsked}
 use Rattle.gs_theorems.specs.Saying.{IsAskedWithin, IsStepWithin, KeepsTypes, MayBeHeard, MayBeSaid, RunsQuietly}
 use Rattle.gs_theorems.specs.Steady.{HearsWithin, IsHeardAt, RunsSteadily, StepWithin}
 use Rattle.gs_theorems.proofs.MasterSays.{EachKind, message_said, reopened_said, steps_said, tick_said}

@@ -1,5 +1,5 @@
 -- What holds of each message that the master may make, by its kind, holds of all that it sends, whatever comes.
-use Rattle.std.proofs.Common.{◌≡◌, ◌==◌, ◌&&◌, ◌||◌, ◌+◌, ◌++◌, ℕ, Bool, true, false, not, List, [], ◌∷◌, length, map, filter, refl}
+use Rattle.std.proofs.Common.{◌==◌, ◌&&◌, ◌||◌, ◌+◌, ◌++◌, ℕ, Bool, true, false, not, List, [], ◌∷◌, length, map, filter}
 use Rattle.std.specs.Prelude.{flat_map, is_none, nat_le, nat_lt, slice_get, Option, Some, None, Result, Ok, Err, if◌then◌else◌}
 use Rattle.std.specs.List.{AllByRecursion, list_all, list_any}
 use Rattle.std.specs.FinMap as fin
@@ -45,7 +45,7 @@ use Rattle.gs_state.specs.Beginning.{all_begun, begin_at, begun, copy_plan, coun
 use Rattle.gs_state.specs.Calls.{accept_plan, answered_with, deleted, edit_if, edited_by, found_chunk, has_visible_child, is_shared, listing, location, looked_up, refused_before, status, told_phase}
 use Rattle.gs_state.specs.Chunks.{Chunk, chunk_at, heard_no, heard_yes, hears, is_leased, is_quiet, is_target, is_wanted, may_begin, members_of, settling, step_at_tick, step_of_no, step_of_yes, view_by, view_of}
 use Rattle.gs_state.specs.Durable.{Durable, is_rolling, prepared_view}
-use Rattle.gs_state.specs.Handling.{Numbered, New, Again, Older, about_turn, call_turn, called, called_unless, checkpoint, checkpoint_body, checkpoint_tests, due, from_client, from_node, granted, granted_at, granted_view, handle, numbered, pressed, pressed_at, pressed_if, proposals, reopened, replied_again, server_turn, taken_as, tick, told_again, waits_still, written_if_due, written_unless}
+use Rattle.gs_state.specs.Handling.{Numbered, New, Again, Older, about_turn, call_turn, called, called_unless, checkpoint, checkpoint_body, checkpoint_tests, due, from_client, from_node, granted, granted_at, granted_view, handle, numbered, pressed, pressed_at, pressed_if, proposals, replied_again, server_turn, taken_as, tick, told_again, waits_still, written_if_due, written_unless}
 use Rattle.gs_state.specs.Hearing.{ask_plan, drops, end_told, heard, is_leased_under, is_lost_at, is_stray, learned, lost, made_quiet, next_epoch, promised_at, promised_for, reported, reported_now, sends, stepped, unpromised_at, unpromised_for}
 use Rattle.gs_state.specs.Settling.{all_go_on, all_refused, concerned, copied, edit_plan, edit_turn, ended_by_edit, ended_with, goes_on, grant_of, if_room_for, is_quiet_at, leased_next, own_request, replace_plan, replaced_if, requests_of, settle_plan, settled_by, settled_if, settled_on, source_chunks}
 use Rattle.gs_state.specs.State.{Plan, State, Turn, about, all_ended_by, and_then, ended_by, first_of, fits, for_each, if_room, is_failed, is_unopened, last_reply, met_by, post, refused, reply_to, to_each, turned, unmoved}

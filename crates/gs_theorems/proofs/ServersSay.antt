@@ -1,5 +1,5 @@
 -- No server makes a call of the master.
-use Rattle.std.proofs.Common.{◌≡◌, ℕ, Bool, true, false, cond, List, [], ◌∷◌, ◌++◌, map, Option, Some, None, Result, Ok, Err, length}
+use Rattle.std.proofs.Common.{ℕ, Bool, true, false, cond, List, [], ◌∷◌, ◌++◌, map, Option, Some, None, Result, Ok, Err, length}
 use Rattle.std.specs.Prelude.{◌==◌, ◌+◌, flat_map, nat_le, nat_lt}
 use Rattle.std.specs.FinMap as fin
 use Rattle.std.specs.List.{AllByRecursion, filter, find, list_any}
@@ -36,7 +36,7 @@ use Rattle.gs_server.specs.Fetches as fetching
 use Rattle.gs_server.specs.Holding.{from_server, goes_on, is_held, supplies_to, takes, unless_leased, wants_bytes}
 use Rattle.gs_server.specs.Holding as holding
 use Rattle.gs_server.specs.Leases.{Lease, done_at_once, done_of, dones, forward_of, forwards, forwards_again, hears, is_acknowledged, is_over, lacks, reminds, reminds_of, renews, settled, supplies, tell, with_bytes}
-use Rattle.gs_server.specs.Places.{Here, Part, Place, about, damaged_block, or_else, other_epoch, refused, sending, tells_bad, unanswered}
+use Rattle.gs_server.specs.Places.{Here, Part, Place, damaged_block, or_else, other_epoch, sending, tells_bad, unanswered}
 use Rattle.gs_server.specs.Promises as messages
 use Rattle.gs_server.specs.Promises.{Copying}
 use Rattle.gs_server.specs.Servers.{Server, Step, about_chunk, handle_body, here_of, learned, leases_after, place_of, request_in, store_of, with_leases, with_store}

@@ -1,5 +1,5 @@
 -- That the master stays steady as long as no disk fails and what it hears is within its types.
-use Rattle.std.proofs.Common.{◌≡◌, ◌∙◌, inl, inr, ◌+◌, ◌-◌, ◌<◌, ◌≤◌, ◌^◌, ◌&&◌, ◌++◌, ℕ, Bool, true, false, not, List, [], ◌∷◌, map, Option, Some, None, MatchOption, Result, Ok, Err, refl, ap, subst, sym, arith, slice_get, slice_set}
+use Rattle.std.proofs.Common.{◌≡◌, ◌∙◌, inl, inr, ◌+◌, ◌-◌, ◌<◌, ◌≤◌, ◌^◌, ◌&&◌, ℕ, Bool, true, false, not, List, [], ◌∷◌, Option, Some, None, MatchOption, Result, Ok, Err, refl, ap, subst, sym, arith, slice_get, slice_set}
 use Rattle.std.specs.Prelude.{is_none}
 use Rattle.std.proofs.lemmas.Bool.{false≢true}
 use Rattle.gs_base.specs.declared.config.Config.{Config}
@@ -19,9 +19,8 @@ use Rattle.gs_laws.proofs.Rooms.{Adds, each_adds, quiet_adds, then_adds}
 use Rattle.gs_laws.proofs.RoomsOfTurns.{logs_stay_within, pressed_roomy}
 use Rattle.gs_laws.proofs.StandingRuns.{opens_firm}
 use Rattle.gs_laws.proofs.Writing.{all_steps_written, events_written, messages_written, starts_steady}
-use Rattle.gs_laws.specs.Promises.{IsKept}
-use Rattle.gs_laws.specs.Standing.{AreCounters, Comes as HearsAt, IsNamedBody, Ticks as TicksAt}
-use Rattle.gs_laws.specs.Written.{IsHeardBody, IsSteady, WritesAll}
+use Rattle.gs_laws.specs.Standing.{Comes as HearsAt, IsNamedBody, Ticks as TicksAt}
+use Rattle.gs_laws.specs.Written.{IsSteady, WritesAll}
 use Rattle.gs_master.proofs.Renewed.{plain_tick, written_tick}
 use Rattle.gs_master.proofs.Reopened.{after_opening}
 use Rattle.gs_master.specs.Finishing.{and_checkpoint}
@@ -29,7 +28,6 @@ use Rattle.gs_master.specs.Masters.{Answers, IsAnswered, MasterOf}
 use Rattle.gs_master.specs.Starting.{IsOpened, left_in}
 use Rattle.gs_master.specs.Ticking.{AnswersAs, AnswersTick, IsAnsweredAnew, is_written, lacking, pressed_all, writes_one}
 use Rattle.gs_master.specs.declared.turn.Turn.{Turn as Told}
-use Rattle.gs_msg.specs.declared.body.Body.{Body}
 use Rattle.gs_msg.specs.declared.event.DiskId.{DiskId}
 use Rattle.gs_msg.specs.declared.event.DiskId.TheVariants as disks
 use Rattle.gs_msg.specs.declared.event.Happening.{Happening}
@@ -43,7 +41,7 @@ use Rattle.gs_plan.specs.Renewable.{renewal_refusal}
 use Rattle.gs_server.specs.Servers.{Server}
 use Rattle.gs_server.specs.Servers as servers
 use Rattle.gs_state.specs.Applied.{records_behind}
-use Rattle.gs_state.specs.Durable.{Durable, start}
+use Rattle.gs_state.specs.Durable.{start}
 use Rattle.gs_state.specs.Handling.{due, granted, handle, pressed, proposals, recover, restarted, tick}
 use Rattle.gs_state.specs.Outcomes.{caller_of}
 use Rattle.gs_state.specs.State.{Log, State, Turn, for_each, is_failed}
@@ -53,7 +51,7 @@ use Rattle.gs_world.specs.declared.place.MasterPlace.{MasterPlace}
 use Rattle.gs_world.specs.declared.place.MasterPlace.TheVariants.{Standing, Closed, Away}
 use Rattle.gs_run.proofs.Lasting.{faulty_run_lasts, opens_told, unarmed_run_lasts}
 use Rattle.gs_run.specs.Histories.{AtNode, Begins, ComesTo, History, Outcome, Restarts, Ticks, arms, seen_of, failures_of}
-use Rattle.gs_run.specs.Lasting.{HearsNamed, IsToldIn, Lasts, OpensAs, RunsSoundly, StandsFirm, StepNamed, TellsAMaster, failures_at}
+use Rattle.gs_run.specs.Lasting.{HearsNamed, Lasts, OpensAs, RunsSoundly, StandsFirm, StepNamed, TellsAMaster, failures_at}
 use Rattle.gs_run.specs.Runs.{Goes, Step, Comes, Takes}
 use Rattle.gs_run.specs.Sent.{message_of}
 use Rattle.gs_theorems.specs.Steady.{HearsWithin, IsHeardAt, LastsSteady, RunsSteadily, StandsSteady, StepWithin, TellsSteady}

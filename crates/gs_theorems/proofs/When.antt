@@ -1,5 +1,5 @@
 -- What is asked for on one of two ways alone, and a run of a store whose steps are within their types on that way.
-use Rattle.std.proofs.Common.{◌≡◌, ◌++◌, ℕ, Bool, true, false, List, [], ◌∷◌, subst, sym}
+use Rattle.std.proofs.Common.{◌++◌, ℕ, Bool, true, false, List, [], ◌∷◌}
 use Rattle.std.specs.List.{AllByRecursion}
 use Rattle.gs_base.specs.Told.{IsNumber}
 use Rattle.gs_desk.specs.Ways.{Way}

@@ -1,5 +1,5 @@
 -- What the words of a line are: texts in UTF-8, so that the paths that are read from them can be told, and numbers of 64 bits.
-use Rattle.std.proofs.Common.{◌≡◌, ◌∙◌, ◌+◌, ◌-◌, ◌*◌, ◌^◌, ◌<◌, ◌≤◌, ◌==◌, ◌&&◌, ◌||◌, ◌++◌, ℕ, zero, suc, Bool, true, false, not, List, [], ◌∷◌, length, take, drop, refl, sym, ap, subst, arith, length-append, length-drop, length-take}
+use Rattle.std.proofs.Common.{◌≡◌, ◌∙◌, ◌+◌, ◌*◌, ◌^◌, ◌<◌, ◌≤◌, ◌==◌, ◌&&◌, ◌||◌, ◌++◌, ℕ, zero, suc, Bool, true, false, not, List, [], ◌∷◌, length, take, drop, refl, sym, ap, subst, arith, length-append, length-drop, length-take}
 use Rattle.std.specs.Prelude.{Option, Some, None, MatchOption, Result, Ok, Err, codes, is_some, bytes_eq, nat_le, nat_lt, if◌then◌else◌}
 use Rattle.std.specs.List.{join_with_byte, list_all, list_any, position_or_len, slice_split}
 use Rattle.std.specs.Str.{IsAscii, IsUtf8, all_ascii_digits, is_utf8}
@@ -9,7 +9,7 @@ use Rattle.std.proofs.Math.Seq.{drop-append-add, get_or-append_seam, take-append
 use Rattle.std.proofs.lemmas.Bool.{false≢true, and_parts, leb-true}
 use Rattle.std.proofs.lemmas.Bool.Decides.{nat_tests}
 use Rattle.std.proofs.lemmas.List.Splits.{join_with_byte-slice_split}
-use Rattle.std.proofs.lemmas.Str.{IsCharBoundary-after_ascii, IsCharBoundary-at_seam, IsUtf8-append, IsUtf8-drop, IsUtf8-from_ascii, IsUtf8-from_is_utf8, IsUtf8-nil, IsUtf8-take, is_utf8-from_IsUtf8}
+use Rattle.std.proofs.lemmas.Str.{IsCharBoundary-after_ascii, IsCharBoundary-at_seam, IsUtf8-append, IsUtf8-drop, IsUtf8-from_ascii, IsUtf8-from_is_utf8, IsUtf8-take, is_utf8-from_IsUtf8}
 use Rattle.gs_base.specs.Told.{IsNumber}
 use Rattle.gs_base.specs.declared.refusal.Refusal.{Refusal}
 use Rattle.gs_base.specs.declared.refusal.Refusal.TheVariants as refusals
@@ -21,7 +21,6 @@ use Rattle.gs_lines.specs.declared.command.Restarted.TheVariants.{Master, Server
 use Rattle.gs_lines.specs.declared.command.Upgrade.TheVariants.{Query, Prepare, Finalize, Rollback}
 use Rattle.gs_lines.specs.declared.command.UpgradeStep.TheVariants.{PrepareBegin, PrepareCommit, RollbackBegin, RollbackCommit}
 use Rattle.gs_msg.specs.Kinds.{named}
-use Rattle.gs_msg.specs.declared.kind.Kind.{Kind}
 use Rattle.gs_path.proofs.PathLemmas.{path_text-read_by}
 use Rattle.gs_path.specs.Element.{after_point, before_point, hidden_mark, hidden_parts, is_element, is_hidden, is_stored, parts_behind, parts_of}
 use Rattle.gs_path.specs.Element as elements
