@@ -1,4 +1,5 @@
 -- What a line may ask of a store.
+use Rattle.std.specs.Prelude.{◌≡◌, ℕ, refl}
 use Rattle.gs_dialogue.specs.Dialogues.{Ask, Dialogue, Grow, Say}
 use Rattle.gs_edit.specs.View.{NamesView}
 use Rattle.gs_laws.specs.Standing.{IsNamedCall}
@@ -29,3 +30,12 @@ pub record MayBeCalled (call : Call) : Type 0 where
 abbrev pub MayBeAsked : Request → Type 0
 MayBeAsked (requests.Call call) = MayBeCalled call
 MayBeAsked request = Unit {0}
+
+-- ---- examples
+
+nothing_is_asked : AllAsked {R = ℕ} {A = ℕ} MayBeAsked (Say 7)
+nothing_is_asked = tt
+
+-- whatever is answered
+the_same_is_asked_again : AllAsked (λ (asked : ℕ). asked ≡ 3) (Ask 3 (λ (reply : ℕ). Ask 3 (λ (again : ℕ). Say reply)))
+the_same_is_asked_again = (refl, λ reply. (refl, λ again. tt))

@@ -1,6 +1,7 @@
 -- What keeps to its types in a store: what is said, what servers count, and what is asked.
-use Rattle.std.specs.Prelude.{◌≡◌, ◌<◌, ◌^◌, ℕ, List, [], ◌∷◌, Some, slice_get}
+use Rattle.std.specs.Prelude.{◌≡◌, ◌<◌, ◌^◌, ℕ, List, [], ◌∷◌, Some, slice_get, refl}
 use Rattle.gs_base.specs.Told.{IsNumber}
+use Rattle.gs_base.specs.declared.numbers.ClientId.{ClientId}
 use Rattle.gs_client.specs.Nodes.{Node}
 use Rattle.gs_edit.specs.View.{NamesView}
 use Rattle.gs_laws.specs.Standing.{IsNamedBody}
@@ -59,3 +60,15 @@ module _ {D : Type 0} (seen : D → List ℕ) (failures : D → ℕ) (armed : Di
   RunsQuietly [] old new = new ≡ old
   RunsQuietly (step ∷ steps) old new =
       (mid : History D) × Goes seen failures armed step old mid × (failures_at failures mid.nodes.master ≡ failures_at failures old.nodes.master) × RunsQuietly steps mid new
+
+-- ---- examples
+
+-- what is said to a client is of no account, nor is what a client takes out
+a_client_may_be_told : (client : ClientId) (body : Body) → MayBeSaid (nodes.Client client) body
+a_client_may_be_told client body = tt
+
+a_reply_may_be_taken : (client : ClientId) → IsStepWithin (Takes client)
+a_reply_may_be_taken client = tt
+
+no_step_is_quiet : {D : Type 0} (seen : D → List ℕ) (failures : D → ℕ) (h : History D) → RunsQuietly seen failures (λ disk call place. place) [] h h
+no_step_is_quiet seen failures h = refl
