@@ -29,7 +29,7 @@ use Rattle.gs_world.specs.declared.place.MasterPlace.TheVariants.{Standing, Clos
 use Rattle.gs_theorems.specs.Enduring.{GoesForMemory, IsForMemory, RunsForMemory}
 use Rattle.gs_theorems.specs.Reached.{AllSent, history, unarmed}
 use Rattle.gs_theorems.specs.Saying.{IsStepWithin, KeepsTypes, MayBeHeard, MayBeSaid, RunsQuietly}
-use Rattle.gs_theorems.specs.Steady.{LastsSteady}
+use Rattle.gs_theorems.specs.Steady.{LastsSteady, RunsSteadily}
 use Rattle.gs_theorems.specs.Within.{IsReachedWithin}
 use Rattle.gs_theorems.proofs.Keeping.{begins_keeping, run_keeps, runs_steadily, step_keeps, to_master}
 use Rattle.gs_theorems.proofs.Refusing.{message_refused_for_memory, tick_refused_for_memory}
@@ -147,6 +147,12 @@ module _ {D : Type 0} (seen : D → List ℕ) (failures : D → ℕ) where
       × AllByRecursion (λ (message : Message). MayBeSaid message.to message.body) desk.wire.held.items
   desk_waits config disks desk r =
       let keeps = desk_keeps config disks desk r in (all_may r.sent desk.wire.queue.items keeps.sent r.covers.queue, all_may r.sent desk.wire.held.items keeps.sent r.covers.held)
+
+  pub desk_hears : (config : Config) (disks : D × D) (desk : Desk D) (r : IsReachedWithin seen failures config disks desk)
+      → RunsQuietly seen failures unarmed r.reached.steps r.reached.begun (history r.sent (way_of desk.wire)) → RunsSteadily seen failures unarmed r.reached.steps r.reached.begun (history r.sent (way_of desk.wire))
+  desk_hears config disks desk r quiet =
+      runs_steadily seen failures unarmed r.reached.steps r.reached.begun (history r.sent (way_of desk.wire)) quiet r.within
+      (begins_keeping seen failures unarmed config 1 disks r.reached.begun one_client r.reached.begins)
 
   pub desk_lasts : (config : Config) (disks : D × D) (desk : Desk D) (r : IsReachedWithin seen failures config disks desk) → standing (seen disks.0) (seen disks.1) ≡ fresh
       → RunsQuietly seen failures unarmed r.reached.steps r.reached.begun (history r.sent (way_of desk.wire)) → LastsSteady seen desk.wire.world.master

@@ -80,9 +80,9 @@ pub fn a_steady_master_refuses_for_memory_alone<D>()
     ensures ticks { (seen : D → List ℕ) (failures : D → ℕ) (moment : Moment) (m : MasterOf D) (e : Refusal) (new : MasterPlace D) → StandsFirm seen m → IsSteady m.state → MasterTicks seen failures moment (Standing m) (Err e) new → e ≡ refusals.Memory }
 {}
 
-/// A master stays steady as long as no disk of it fails and what it hears is within its types: its journal tells what it keeps, no record of it
-/// fails to fit or lacks room, and all that it keeps is within its types. Over disks that say nothing a store begins so. Each step leaves the
-/// master so, or, where memory was wanting for a restart, disks that tell such a master. What is steady is firm.
+/// A master stays steady as long as no disk of it fails and what it hears is within its types: it stands firm, all that it keeps is within its
+/// types, and its log is within its limit, so that each record of it can be written. Over disks that say nothing a store begins so. Each step
+/// leaves the master so, or, where memory was wanting for a restart, disks that tell such a master. What is steady is firm.
 pub fn a_master_stays_steady_while_no_disk_fails<D>()
     ensures begun { (seen : D → List ℕ) (failures : D → ℕ) (armed : DiskId → ℕ → MasterPlace D → MasterPlace D) (config : Config) (clients : ℕ) (disks : D × D) (new : History D) → standing (seen disks.0) (seen disks.1) ≡ fresh → Begins seen failures armed config clients disks new → LastsSteady seen new.nodes.master }
     ensures kept { (seen : D → List ℕ) (failures : D → ℕ) (steps : List Step) (old new : History (Faulty D)) → RunsSteadily (seen_of seen) (failures_of failures) arms steps old new → LastsSteady (seen_of seen) old.nodes.master → LastsSteady (seen_of seen) new.nodes.master }
@@ -123,6 +123,7 @@ pub fn each_script_asks_within_its_types<D>()
     ensures script { (seen : D → List ℕ) (failures : D → ℕ) (config : Config) (disks : D × D) (input : List ℕ) (old new : Option (List ℕ)) (s : Serves seen failures config disks input old new) → IsReachedWithin seen failures config disks s.ended }
     ensures kept { (seen : D → List ℕ) (failures : D → ℕ) (config : Config) (disks : D × D) (desk : Desk D) (r : IsReachedWithin seen failures config disks desk) → KeepsTypes (history r.sent (way_of desk.wire)) }
     ensures waiting { (seen : D → List ℕ) (failures : D → ℕ) (config : Config) (disks : D × D) (desk : Desk D) → IsReachedWithin seen failures config disks desk → AllByRecursion (λ message. MayBeSaid message.to message.body) desk.wire.queue.items × AllByRecursion (λ message. MayBeSaid message.to message.body) desk.wire.held.items }
+    ensures heard { (seen : D → List ℕ) (failures : D → ℕ) (config : Config) (disks : D × D) (desk : Desk D) (r : IsReachedWithin seen failures config disks desk) → RunsQuietly seen failures unarmed r.reached.steps r.reached.begun (history r.sent (way_of desk.wire)) → RunsSteadily seen failures unarmed r.reached.steps r.reached.begun (history r.sent (way_of desk.wire)) }
     ensures steady { (seen : D → List ℕ) (failures : D → ℕ) (config : Config) (disks : D × D) (desk : Desk D) (r : IsReachedWithin seen failures config disks desk) → standing (seen disks.0) (seen disks.1) ≡ fresh → RunsQuietly seen failures unarmed r.reached.steps r.reached.begun (history r.sent (way_of desk.wire)) → LastsSteady seen desk.wire.world.master }
     ensures refused { (seen : D → List ℕ) (failures : D → ℕ) (config : Config) (disks : D × D) (desk : Desk D) (r : IsReachedWithin seen failures config disks desk) → standing (seen disks.0) (seen disks.1) ≡ fresh → (runs : RunsQuietly seen failures unarmed r.reached.steps r.reached.begun (history r.sent (way_of desk.wire))) → RunsForMemory seen failures unarmed r.reached.steps r.reached.begun (history r.sent (way_of desk.wire)) runs }
 {}

@@ -1,4 +1,4 @@
-use Rattle.gs_theorems.proofs.Enduring.{desk_for_memory, desk_keeps, desk_lasts, desk_waits}
+use Rattle.gs_theorems.proofs.Enduring.{desk_for_memory, desk_hears, desk_keeps, desk_lasts, desk_waits}
 use Rattle.gs_theorems.proofs.Lines.{line_reaches, script_reaches, start_reaches}
 use Rattle.gs_theorems.proofs.each_script_asks_within_its_types.Goals as goal
 
@@ -16,6 +16,9 @@ returns-clause-kept g c seen failures config disks desk r = desk_keeps seen fail
 
 pub returns-clause-waiting : goal.returns-clause-waiting
 returns-clause-waiting g c seen failures config disks desk r = desk_waits seen failures config disks desk r
+
+pub returns-clause-heard : goal.returns-clause-heard
+returns-clause-heard g c seen failures config disks desk r quiet = desk_hears seen failures config disks desk r quiet
 
 pub returns-clause-steady : goal.returns-clause-steady
 returns-clause-steady g c seen failures config disks desk r none quiet = desk_lasts seen failures config disks desk r none quiet
