@@ -1,4 +1,5 @@
 mod Answered
 mod Delivering
 mod Doing
+mod Ended
 mod Stepping
