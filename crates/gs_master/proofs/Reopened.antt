@@ -110,16 +110,17 @@ module _ {D : Type 0} (seen : D → List ℕ) (failures : D → ℕ) (config : C
   pub closed_why : WhyClosed (standing (seen first) (seen second)) (failures first + failures second) (failures u.first + failures u.second) u.refusal →
       (u.refusal ≢ refusals.Device → (seen u.first ≡ seen first) × (seen u.second ≡ seen second)) → WhyUnopened seen failures config bound first second u
   closed_why (inl bad) unchanged =
-      let same = unchanged (λ device. absurd (cc (bad.0, device))) in inr ((λ i. standing (same.0 i) (same.1 i)), inl (bad.0, bad.1))
+      let same = unchanged (λ device. absurd (cc (bad.0, device))) in inr ((λ i. standing (same.0 i) (same.1 i)), bad.2, inl (bad.0, bad.1))
   closed_why (inr (inl device)) unchanged = inl device
   closed_why (inr (inr memory)) unchanged =
-      let same = unchanged (λ device. absurd (cc (memory.0, device))) in inr ((λ i. standing (same.0 i) (same.1 i)), inr (no_log bound, refl, inl memory.0))
+      let same = unchanged (λ device. absurd (cc (memory.0, device))) in inr ((λ i. standing (same.0 i) (same.1 i)), memory.1, inr (no_log bound, refl, inl memory.0))
 
   -- the journal was, and tells no master
   pub untold_why : (j k : Journal D) → j.limit ≡ bound → j.text ≡ standing (seen first) (seen second) → failures_of_both failures j ≡ failures first + failures second → u.first ≡ k.first → u.second ≡ k.second →
       standing (seen u.first) (seen u.second) ≡ k.text → WhyNotRecovered failures config j k u.refusal → WhyUnopened seen failures config bound first second u
   untold_why j k limit text quiet f s now (inl same) =
-      inr (now ∙ same.0.stays.text ∙ text, inr (log_in j, limit, subst (λ t. WhyNotTold config t (log_in j) u.refusal) text same.1))
+      let fails : failures u.first + failures u.second ≡ failures_of_both failures k = λ i. failures (f i) + failures (s i) in
+      inr (now ∙ same.0.stays.text ∙ text, fails ∙ same.0.quiet ∙ quiet, inr (log_in j, limit, subst (λ t. WhyNotTold config t (log_in j) u.refusal) text same.1))
   untold_why j k limit text quiet f s now (inr broken) =
       let fails : failures_of_both failures k ≡ failures u.first + failures u.second = λ i. failures (sym f i) + failures (sym s i) in
       inl (broken.0, subst (λ n. n < failures u.first + failures u.second) quiet (subst (λ n. failures_of_both failures j < n) fails broken.1.cause))

@@ -42,9 +42,10 @@ pub record IsOpened {D : Type 0} (seen : D → List ℕ) (failures : D → ℕ) 
   pub generation : text.0 ≡ versions.Two → m.journal.generation ≡ generation_standing (seen first) (seen second)
   pub quiet : failures_of_both failures m.journal ≡ failures first + failures second
 
--- A disk failed; or the disks say what they said, and that tells no master, or memory is wanting.
+-- A disk failed; or none did, the disks say what they said, and that tells no master, or memory is wanting.
 abbrev pub WhyUnopened : {D : Type 0} → (D → List ℕ) → (D → ℕ) → Config → ℕ → D → D → Unopened D → Type 0
 WhyUnopened seen failures config bound first second u =
     ((u.refusal ≡ refusals.Device) × (failures first + failures second < failures u.first + failures u.second))
     ⊎ ((standing (seen u.first) (seen u.second) ≡ standing (seen first) (seen second))
+    × (failures u.first + failures u.second ≡ failures first + failures second)
     × (((u.refusal ≡ refusals.BadLine) × (is_text (standing (seen first) (seen second)) ≡ false)) ⊎ ((log : Log) × (log.limit ≡ bound) × WhyNotTold config (standing (seen first) (seen second)) log u.refusal)))

@@ -254,7 +254,7 @@ module _ {D : Type 0} (seen : D → List ℕ) (failures : D → ℕ) where
       subst (Lasts seen) (sym is) (opened config pair.0 pair.1 left.durable after turn.sent.items left.kept left.counters left.told opening).0
   opens config pair (Err e) new left (u, is, refusal, inl (device, more)) same =
       absurd (never (failures pair.0 + failures pair.1) (failures u.first + failures u.second) more (sym (ap (failures_at failures) is) ∙ same))
-  opens config pair (Err e) new left (u, is, refusal, inr (text, why)) same = subst (Lasts seen) (sym is) (subst TellsAMaster (sym text) left)
+  opens config pair (Err e) new left (u, is, refusal, inr (text, quiet, why)) same = subst (Lasts seen) (sym is) (subst TellsAMaster (sym text) left)
 
   reopens : (config : Config) (old : MasterPlace D) (result : Result Told Refusal) (new : MasterPlace D) → Lasts seen old → Reopens seen failures config old result new → Same new old → Lasts seen new
   reopens config (Standing m) result new h opening same = opens config (m.journal.first, m.journal.second) result new (left_standing m h) opening same
@@ -275,7 +275,7 @@ module _ {D : Type 0} (seen : D → List ℕ) (failures : D → ℕ) where
       Opens seen failures config (first, second) (Err e) new → failures_at failures new ≡ failures first + failures second → WaitsAs seen d new
   waits_told config first second d e new told (u, is, refusal, inl (device, more)) same =
       absurd (never (failures first + failures second) (failures u.first + failures u.second) more (sym (ap (failures_at failures) is) ∙ same))
-  waits_told config first second d e new told (u, is, refusal, inr (text, why)) same = (u.first, u.second, is, subst (λ (t : Text). IsToldIn t d) (sym text) told)
+  waits_told config first second d e new told (u, is, refusal, inr (text, quiet, why)) same = (u.first, u.second, is, subst (λ (t : Text). IsToldIn t d) (sym text) told)
 
   pub waits_again : (config : Config) (m : MasterOf D) (e : Refusal) (new : MasterPlace D) → StandsFirm seen m → Reopens seen failures config (Standing m) (Err e) new →
       failures_at failures new ≡ failures_at failures (Standing m) → WaitsAs seen m.state.durable new

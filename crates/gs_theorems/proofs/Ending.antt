@@ -1,13 +1,17 @@
 -- An event at a node and what it sends over a wire are one event of a store.
 use Rattle.std.proofs.Common.{◌≡◌, ◌∙◌, ◌⊎◌, ◌-◌, ◌==◌, ℕ, zero, suc, Bool, true, false, List, [], ◌∷◌, if◌then◌else◌, Option, Some, None, MatchOption, Result, Ok, Err, Vec, refl, sym, ap, subst, inl, inr, length, slice_get, slice_set}
+use Rattle.std.specs.List.{AllByRecursion}
 use Rattle.std.specs.declared.alloc.Global.{Global}
+use Rattle.gs_base.specs.Told.{IsNumber}
 use Rattle.gs_base.specs.declared.numbers.ClientId.{ClientId}
 use Rattle.gs_base.specs.declared.numbers.Moment.{Moment}
 use Rattle.gs_base.specs.declared.refusal.Refusal.{Refusal}
 use Rattle.gs_base.specs.declared.refusal.Refusal.TheVariants as refusals
 use Rattle.gs_client.specs.Nodes.{Node}
 use Rattle.gs_master.specs.declared.turn.Turn.{Turn}
+use Rattle.gs_msg.specs.Bodies.{kind_of}
 use Rattle.gs_msg.specs.declared.event.Event.{Event}
+use Rattle.gs_msg.specs.declared.event.Happening.{Happening}
 use Rattle.gs_msg.specs.declared.message.Message.{Message}
 use Rattle.gs_msg.specs.declared.node.NodeId.{NodeId}
 use Rattle.gs_msg.specs.declared.node.NodeId.TheVariants as nodes
@@ -16,14 +20,16 @@ use Rattle.gs_server.specs.Servers.{Server}
 use Rattle.gs_server.specs.Servers as servers
 use Rattle.gs_world.specs.Happenings.{AtClient, AtServer, Delivers, Hears, ServerDoes, client_in, met_by}
 use Rattle.gs_world.specs.Nodes.{Nodes, with_clients, with_servers}
-use Rattle.gs_desk.specs.Ways.{Ends, SendsAll, Way, noted, shortened_by, with_nodes}
+use Rattle.gs_desk.specs.Ways.{Ends, SendsAll, Way, counted, held_back, is_held, noted, shortened_by, under_way, with_nodes}
 use Rattle.gs_run.specs.Histories.{AtNode, Outcome, Tells, told}
 use Rattle.gs_run.specs.Runs.{SameNodes, Comes}
 use Rattle.gs_run.specs.Sent.{Sent}
 use Rattle.gs_run.proofs.Sending.{numbered}
 use Rattle.gs_run.proofs.Staying.{at_node}
-use Rattle.gs_theorems.specs.Reached.{AllSent, Covers, Steps, history, unarmed}
+use Rattle.gs_theorems.specs.Reached.{AllSent, Covers, history, unarmed}
+use Rattle.gs_theorems.specs.Saying.{IsAskedWithin, IsStepWithin}
 use Rattle.gs_theorems.proofs.Sending.{HasList, Posting, sends, sends_none}
+use Rattle.gs_theorems.proofs.When.{StepsSo, When, when_both, when_then}
 
 -- ---- a node that does something has a list
 
@@ -106,20 +112,14 @@ module _ {D : Type 0} where
 -- the same nodes, with the same under way; it isn't forgotten that memory was wanting
 pub record Alike {D : Type 0} (old new : Way D) : Type 0 where
   pub nodes : new.nodes ≡ old.nodes
+  pub moment : new.moment ≡ old.moment
   pub queue : new.queue ≡ old.queue
   pub held : new.held ≡ old.held
   pub short : old.is_short ≡ true → new.is_short ≡ true
 
-pub as_it_is : {D : Type 0} (w : Way D) → Alike w w
-as_it_is w = record { nodes = refl; queue = refl; held = refl; short = λ short. short }
-
 pub shortened_alike : {D : Type 0} (refusal : Refusal) (w : Way D) → Alike w (shortened_by refusal w)
-shortened_alike refusals.Memory w = record { nodes = refl; queue = refl; held = refl; short = λ short. refl }
-shortened_alike refusal w = record { nodes = refl; queue = refl; held = refl; short = λ short. short }
-
-pub noted_alike : {D : Type 0} (said : Option Refusal) (w : Way D) → Alike w (noted said w)
-noted_alike None w = as_it_is w
-noted_alike (Some refusal) w = shortened_alike refusal w
+shortened_alike refusals.Memory w = record { nodes = refl; moment = refl; queue = refl; held = refl; short = λ short. refl }
+shortened_alike refusal w = record { nodes = refl; moment = refl; queue = refl; held = refl; short = λ short. short }
 
 pub alike_to : {D : Type 0} (old mid new : Way D) → Alike old mid → new ≡ mid → Alike old new
 alike_to old mid new a same = subst (λ w. Alike old w) (sym same) a
@@ -134,6 +134,13 @@ alike_covers {D} sent old new a c =
       short = λ lost. a.short (c.short lost);
     }
 
+pub as_it_is : {D : Type 0} (w : Way D) → Alike w w
+as_it_is w = record { nodes = refl; moment = refl; queue = refl; held = refl; short = λ short. short }
+
+pub noted_alike : {D : Type 0} (said : Option Refusal) (w : Way D) → Alike w (noted said w)
+noted_alike None w = as_it_is w
+noted_alike (Some refusal) w = shortened_alike refusal w
+
 -- what an event sends is under way; of a refused one nothing is
 abbrev pub IsOver : {D : Type 0} → Outcome → Way D → Way D → Type 0
 IsOver {D} (Ok (messages, said)) old new = (mid : Way D) × SendsAll messages old mid × Alike mid new
@@ -143,7 +150,23 @@ pub ended : {D : Type 0} (turn : Result Turn Refusal) (old : Way D) (result : Re
 ended (Ok turn) old result new (mid, all, same, is) = (mid, all, alike_to mid (noted turn.said mid) new (noted_alike turn.said mid) same)
 ended (Err refusal) old result new (same, is) = alike_to old (shortened_by refusal old) new (shortened_alike refusal old) same
 
-module _ {D : Type 0} (seen : D → List ℕ) (failures : D → ℕ) where
+-- what is sent leaves the moment
+put_moment : {D : Type 0} (held : Bool) (message : Message) (w new : Way D) → new ≡ (if held then held_back message w else under_way message w) → new.moment ≡ w.moment
+put_moment true message w new is = ap (λ (x : Way _). x.moment) is
+put_moment false message w new is = ap (λ (x : Way _). x.moment) is
+
+pub sent_moment : {D : Type 0} (messages : List Message) (w new : Way D) → SendsAll messages w new → new.moment ≡ w.moment
+sent_moment {D} [] w new same = ap (λ (x : Way D). x.moment) same
+sent_moment {D} (message ∷ messages) w new (mid, sends_it, rest) = sent_moment messages mid new rest ∙ elim sends_it [
+  | inl puts ↦ put_moment (is_held w.kind (kind_of message.body)) message (counted message w) mid puts
+  | inr lost ↦ ap (λ (x : Way D). x.moment) lost
+]
+
+over_moment : {D : Type 0} (outcome : Outcome) (w new : Way D) → IsOver outcome w new → new.moment ≡ w.moment
+over_moment (Ok (messages, said)) w new (mid, all, same) = same.moment ∙ sent_moment messages w mid all
+over_moment (Err refusal) w new same = same.moment
+
+module _ {D : Type 0} (seen : D → List ℕ) (failures : D → ℕ) (keeps : Bool) where
   -- at the nodes that an event leaves as much is under way
   at_nodes : (sent : Sent) (w : Way D) (nodes : Nodes D) → SameNodes w.nodes nodes → Covers sent w → Covers sent (with_nodes nodes w)
   at_nodes sent w nodes same c =
@@ -152,8 +175,9 @@ module _ {D : Type 0} (seen : D → List ℕ) (failures : D → ℕ) where
   one_step : (event : Event) (by : NodeId) (outcome : Outcome) (nodes : Nodes D) (said : Result (Unit {0}) Refusal) (old new : Way D) (sent after : Sent)
       → AtNode seen failures unarmed event.moment event.happening (history sent old) by outcome nodes
       → Tells seen failures unarmed event.moment by outcome sent said after → new.nodes ≡ nodes → Covers after new
-      → Steps seen failures old new sent
-  one_step event by outcome nodes said old new sent after at tells is covers =
+      → When keeps (IsStepWithin (Comes event)) → When keeps (IsNumber new.moment.0)
+      → StepsSo seen failures keeps old new sent
+  one_step event by outcome nodes said old new sent after at tells is covers within small =
       record {
         steps = Comes event ∷ [];
         after = after;
@@ -163,24 +187,41 @@ module _ {D : Type 0} (seen : D → List ℕ) (failures : D → ℕ) where
           refl,
         );
         covers = covers;
+        within = when_then keeps (IsStepWithin (Comes event)) (AllByRecursion IsStepWithin (Comes event ∷ [])) (λ one. (one, tt)) within;
+        moment = small;
       }
 
   posted : (event : Event) (by : NodeId) (messages : List Message) (said : Option Refusal) (nodes : Nodes D) (old mid new : Way D) (sent : Sent)
       → AtNode seen failures unarmed event.moment event.happening (history sent old) by (Ok (messages, said)) nodes → Alike mid new
-      → Posting event.moment by messages sent (with_nodes nodes old) mid → Steps seen failures old new sent
-  posted event by messages said nodes old mid new sent at same p =
-      one_step event by (Ok (messages, said)) nodes (met_by said) old new sent p.after at (p.posts, refl) (same.nodes ∙ p.nodes) (alike_covers p.after mid new same p.covers)
+      → Posting event.moment by messages sent (with_nodes nodes old) mid
+      → When keeps (IsStepWithin (Comes event)) → When keeps (IsNumber new.moment.0) → StepsSo seen failures keeps old new sent
+  posted event by messages said nodes old mid new sent at same p within small =
+      one_step event by (Ok (messages, said)) nodes (met_by said) old new sent p.after at (p.posts, refl) (same.nodes ∙ p.nodes) (alike_covers p.after mid new same p.covers) within small
 
   -- An event at its node, and what is sent of it, is a step.
-  pub event_leads : (event : Event) (by : NodeId) (outcome : Outcome) (nodes : Nodes D) (old new : Way D) (sent : Sent)
-      → AtNode seen failures unarmed event.moment event.happening (history sent old) by outcome nodes → CanPost sent by outcome → Covers sent old
-      → IsOver outcome (with_nodes nodes old) new → Steps seen failures old new sent
-  event_leads event by (Ok (messages, said)) nodes old new sent at can covers (mid, all, same) =
-      let c = at_nodes sent old nodes (at_node seen failures unarmed event.moment event.happening (history sent old) by (Ok (messages, said)) nodes at) covers in
-      elim can [
-        | inl has ↦ posted event by messages said nodes old mid new sent at same (sends event.moment by messages sent (with_nodes nodes old) mid has c all)
-        | inr none ↦ posted event by messages said nodes old mid new sent at same (sends_none event.moment by messages sent (with_nodes nodes old) mid none c all)
-      ]
-  event_leads event by (Err refusal) nodes old new sent at can covers a =
-      let c = at_nodes sent old nodes (at_node seen failures unarmed event.moment event.happening (history sent old) by (Err refusal) nodes at) covers in
-      one_step event by (Err refusal) nodes (Err refusal) old new sent sent at (refl, refl) a.nodes (alike_covers sent (with_nodes nodes old) new a c)
+  pub event_leads : (happening : Happening) (by : NodeId) (outcome : Outcome) (nodes : Nodes D) (old new : Way D) (sent : Sent)
+      → AtNode seen failures unarmed old.moment happening (history sent old) by outcome nodes → CanPost sent by outcome → Covers sent old
+      → When keeps (IsAskedWithin happening) → When keeps (IsNumber old.moment.0)
+      → IsOver outcome (with_nodes nodes old) new → StepsSo seen failures keeps old new sent
+  event_leads happening by outcome nodes old new sent at can covers asked small over = by_outcome outcome at can over
+    where
+      event : Event
+      event = record { moment = old.moment; happening = happening }
+
+      within : When keeps (IsStepWithin (Comes event))
+      within = when_both keeps (IsNumber old.moment.0) (IsAskedWithin happening) (IsStepWithin (Comes event)) (λ number may. (number, may)) small asked
+
+      small_then : new.moment ≡ old.moment → When keeps (IsNumber new.moment.0)
+      small_then same = subst (λ (m : Moment). When keeps (IsNumber m.0)) (sym same) small
+
+      by_outcome : (o : Outcome) → AtNode seen failures unarmed old.moment happening (history sent old) by o nodes → CanPost sent by o → IsOver o (with_nodes nodes old) new → StepsSo seen failures keeps old new sent
+      by_outcome (Ok (messages, said)) at can (mid, all, same) =
+          let c = at_nodes sent old nodes (at_node seen failures unarmed old.moment happening (history sent old) by (Ok (messages, said)) nodes at) covers in
+          let later = small_then (over_moment (Ok (messages, said)) (with_nodes nodes old) new (mid, all, same)) in
+          elim can [
+            | inl has ↦ posted event by messages said nodes old mid new sent at same (sends old.moment by messages sent (with_nodes nodes old) mid has c all) within later
+            | inr none ↦ posted event by messages said nodes old mid new sent at same (sends_none old.moment by messages sent (with_nodes nodes old) mid none c all) within later
+          ]
+      by_outcome (Err refusal) at can a =
+          let c = at_nodes sent old nodes (at_node seen failures unarmed old.moment happening (history sent old) by (Err refusal) nodes at) covers in
+          one_step event by (Err refusal) nodes (Err refusal) old new sent sent at (refl, refl) a.nodes (alike_covers sent (with_nodes nodes old) new a c) within (small_then a.moment)

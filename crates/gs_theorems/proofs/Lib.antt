@@ -1,5 +1,14 @@
+pub mod Asking
 pub mod Ending
+pub mod Enduring
+pub mod Failing
+pub mod Keeping
 pub mod Lines
+pub mod MasterSays
 pub mod Refusing
 pub mod Sending
+pub mod ServersSay
+pub mod Steady
 pub mod Ways
+pub mod When
+pub mod Words

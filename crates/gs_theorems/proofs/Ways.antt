@@ -1,6 +1,7 @@
 -- What becomes of what is under way is steps of a store.
 use Rattle.std.proofs.Common.{◌≡◌, ◌∙◌, ◌++◌, ℕ, zero, suc, Bool, true, false, List, [], ◌∷◌, Option, None, MatchOption, Result, Ok, Err, Vec, min, refl, sym, ap, subst, inl, length}
 use Rattle.std.specs.declared.alloc.Global.{Global}
+use Rattle.gs_base.specs.Told.{IsNumber}
 use Rattle.gs_base.specs.declared.numbers.ClientId.{ClientId}
 use Rattle.gs_base.specs.declared.numbers.Moment.{Moment}
 use Rattle.gs_base.specs.declared.numbers.ReqId.{ReqId}
@@ -8,7 +9,6 @@ use Rattle.gs_base.specs.declared.refusal.Refusal.{Refusal}
 use Rattle.gs_base.specs.declared.refusal.Refusal.TheVariants as refusals
 use Rattle.gs_client.specs.Nodes.{given_up}
 use Rattle.gs_client.specs.declared.link.Reply.{Reply}
-use Rattle.gs_msg.specs.declared.event.Event.{Event}
 use Rattle.gs_msg.specs.declared.event.Happening.TheVariants as happenings
 use Rattle.gs_msg.specs.declared.event.Request.{Request}
 use Rattle.gs_msg.specs.declared.message.Message.{Message}
@@ -22,48 +22,62 @@ use Rattle.gs_run.specs.Histories.{ComesTo, History, told}
 use Rattle.gs_run.specs.Runs.{Goes, RunsTo, Step, Takes}
 use Rattle.gs_run.specs.Sent.{IsSent, Sent}
 use Rattle.gs_run.proofs.Staying.{at_client}
-use Rattle.gs_theorems.specs.Reached.{AllSent, Covers, Steps, history, unarmed}
+use Rattle.gs_theorems.specs.Asking.{MayBeAsked}
+use Rattle.gs_theorems.specs.Reached.{AllSent, Covers, history, unarmed}
 use Rattle.gs_theorems.proofs.Ending.{Alike, alike_covers, alike_to, as_it_is, asking_client, delivered_posts, ended, event_leads, master_posts, server_posts, shortened_alike}
+use Rattle.gs_theorems.proofs.When.{StepsSo, When, joined_within, when}
 
-module _ {D : Type 0} (seen : D → List ℕ) (failures : D → ℕ) where
-  -- steps lead from one way to another, whatever was sent before
+module _ {D : Type 0} (seen : D → List ℕ) (failures : D → ℕ) (keeps : Bool) where
+  -- steps lead from one way to another, whatever was sent before; where the types are kept each is within them
   abbrev pub Leads : Way D → Way D → Type 0
-  Leads old new = (sent : Sent) → Covers sent old → Steps seen failures old new sent
+  Leads old new = (sent : Sent) → Covers sent old → When keeps (IsNumber old.moment.0) → StepsSo seen failures keeps old new sent
 
   pub joined : (xs ys : List Step) (old mid new : History D) → RunsTo seen failures unarmed xs old mid → RunsTo seen failures unarmed ys mid new → RunsTo seen failures unarmed (xs ++ ys) old new
   joined [] ys old mid new same second = subst (λ (h : History D). RunsTo seen failures unarmed ys h new) same second
   joined (x ∷ xs) ys old mid new (first, goes, rest) second = (first, goes, joined xs ys first mid new rest second)
 
   pub chain : (old mid new : Way D) → Leads old mid → Leads mid new → Leads old new
-  chain old mid new first second sent covers =
-      let a = first sent covers in
-      let b = second a.after a.covers in
+  chain old mid new first second sent covers small =
+      let a = first sent covers small in
+      let b = second a.after a.covers a.moment in
       record {
         steps = a.steps ++ b.steps;
         after = b.after;
         runs = joined a.steps b.steps (history sent old) (history a.after mid) (history b.after new) a.runs b.runs;
         covers = b.covers;
+        within = joined_within keeps a.steps b.steps a.within b.within;
+        moment = b.moment;
       }
 
+  abbrev Small : Way D → Type 0
+  Small w = When keeps (IsNumber w.moment.0)
+
   pub nothing : (old new : Way D) → new ≡ old → Leads old new
-  nothing old new same sent covers =
-      record { steps = []; after = sent; runs = ap (history sent) same; covers = subst (λ w. Covers sent w) (sym same) covers }
+  nothing old new same sent covers small =
+      record { steps = []; after = sent; runs = ap (history sent) same; covers = subst (λ w. Covers sent w) (sym same) covers; within = when keeps tt; moment = subst Small (sym same) small }
 
   pub alike : (old new : Way D) → Alike old new → Leads old new
-  alike old new same sent covers =
-      record { steps = []; after = sent; runs = ap (λ (n : Nodes D). record { nodes = n; sent = sent }) same.nodes; covers = alike_covers sent old new same covers }
+  alike old new same sent covers small =
+      record {
+        steps = [];
+        after = sent;
+        runs = ap (λ (n : Nodes D). record { nodes = n; sent = sent }) same.nodes;
+        covers = alike_covers sent old new same covers;
+        within = when keeps tt;
+        moment = subst (λ (m : Moment). When keeps (IsNumber m.0)) (sym same.moment) small;
+      }
 
   -- ---- deliveries
 
   -- a message that was sent comes
-  pub delivers_one : (message : Message) (old : Way D) (said : Result (Unit {0}) Refusal) (new : Way D) (sent : Sent) → IsDelivered seen failures message old said new → IsSent message sent → Covers sent old
-      → Steps seen failures old new sent
-  delivers_one message old said new sent d (id, is) covers =
-      event_leads seen failures (record { moment = old.moment; happening = happenings.Deliver id }) message.to (told d.turn) d.nodes old new sent
+  pub delivers_one : (message : Message) (old : Way D) (said : Result (Unit {0}) Refusal) (new : Way D) (sent : Sent) → IsDelivered seen failures message old said new → IsSent message sent → Covers sent old → Small old
+      → StepsSo seen failures keeps old new sent
+  delivers_one message old said new sent d (id, is) covers small =
+      event_leads seen failures keeps (happenings.Deliver id) message.to (told d.turn) d.nodes old new sent
       (subst
       (λ (o : Option Message). MatchOption o ((told d.turn ≡ Err refusals.Range) × (d.nodes ≡ old.nodes)) (λ m. ComesTo seen failures unarmed m old.moment old.nodes message.to (told d.turn) d.nodes))
       (sym is) (inl (refl, d.turn, d.delivers, refl)))
-      (delivered_posts seen failures message old.moment sent old.nodes d.turn d.nodes covers.servers d.delivers) covers (ended d.turn (with_nodes d.nodes old) said new d.ends)
+      (delivered_posts seen failures message old.moment sent old.nodes d.turn d.nodes covers.servers d.delivers) covers (when keeps tt) small (ended d.turn (with_nodes d.nodes old) said new d.ends)
 
   next_sent : (message : Message) (rest : List Message) (old : Way D) (sent : Sent) → old.queue ≡ message ∷ rest → Covers sent old → IsSent message sent × Covers sent (with_queue rest old)
   next_sent message rest old sent is covers =
@@ -75,15 +89,17 @@ module _ {D : Type 0} (seen : D → List ℕ) (failures : D → ℕ) where
       → WithFirst queue (new ≡ old) (λ message rest. (said : Result (Unit {0}) Refusal) × (mid : Way D) × IsDelivered seen failures message (with_queue rest old) said mid × DeliversAll seen failures many mid new)
       → Leads old new
   delivers_next many old new [] is rest same = nothing old new same
-  delivers_next many old new (message ∷ queue) is rest (said, mid, d, others) = λ sent covers.
+  delivers_next many old new (message ∷ queue) is rest (said, mid, d, others) = λ sent covers small.
       let (was, c) = next_sent message queue old sent is covers in
-      let first = delivers_one message (with_queue queue old) said mid sent d was c in
-      let second = rest mid others first.after first.covers in
+      let first = delivers_one message (with_queue queue old) said mid sent d was c small in
+      let second = rest mid others first.after first.covers first.moment in
       record {
         steps = first.steps ++ second.steps;
         after = second.after;
         runs = joined first.steps second.steps (history sent old) (history first.after mid) (history second.after new) first.runs second.runs;
         covers = second.covers;
+        within = joined_within keeps first.steps second.steps first.within second.within;
+        moment = second.moment;
       }
 
   delivers_all : (many : ℕ) (old new : Way D) → DeliversAll seen failures many old new → Leads old new
@@ -97,14 +113,14 @@ module _ {D : Type 0} (seen : D → List ℕ) (failures : D → ℕ) where
   -- ---- ticks
 
   master_ticks : (old new : Way D) → MasterTicked seen failures old new → Leads old new
-  master_ticks old new t sent covers =
-      event_leads seen failures (record { moment = old.moment; happening = happenings.Tick keepers.Master }) nodes.Master (told t.turn) (with_master t.place old.nodes) old new sent
-      (refl, (t.place, t.turn, t.ticks, refl, refl)) (master_posts sent t.turn) covers (ended t.turn (with_nodes (with_master t.place old.nodes) old) t.said new t.ends)
+  master_ticks old new t sent covers small =
+      event_leads seen failures keeps (happenings.Tick keepers.Master) nodes.Master (told t.turn) (with_master t.place old.nodes) old new sent
+      (refl, (t.place, t.turn, t.ticks, refl, refl)) (master_posts sent t.turn) covers (when keeps tt) small (ended t.turn (with_nodes (with_master t.place old.nodes) old) t.said new t.ends)
 
   server_ticks : (id : ℕ) (old new : Way D) → ServerTicked id old new → Leads old new
-  server_ticks id old new t sent covers =
-      event_leads seen failures (record { moment = old.moment; happening = happenings.Tick (keepers.Server id) }) (nodes.Server id) (told t.turn) t.nodes old new sent
-      (refl, (t.turn, t.ticks, refl)) (server_posts sent id (λ s. ServerDoes (servers.tick s old.moment) s) old.nodes t.turn t.nodes covers.servers t.ticks) covers (ended t.turn (with_nodes t.nodes old) t.said new t.ends)
+  server_ticks id old new t sent covers small =
+      event_leads seen failures keeps (happenings.Tick (keepers.Server id)) (nodes.Server id) (told t.turn) t.nodes old new sent
+      (refl, (t.turn, t.ticks, refl)) (server_posts sent id (λ s. ServerDoes (servers.tick s old.moment) s) old.nodes t.turn t.nodes covers.servers t.ticks) covers (when keeps tt) small (ended t.turn (with_nodes t.nodes old) t.said new t.ends)
 
   servers_tick : (many : ℕ) (old new : Way D) → ServersTick many old new → Leads old new
   servers_tick zero old new same = nothing old new same
@@ -120,7 +136,7 @@ module _ {D : Type 0} (seen : D → List ℕ) (failures : D → ℕ) where
   waited_if true old new (mid, ticks, delivers) = chain old mid new (all_tick old mid ticks) (delivers_whole mid new delivers)
 
   heard : (client : ClientId) (old : Way D) (reply : Reply) (new : Way D) → Heard client old reply new → Leads old new
-  heard client old reply new (nodes, found, takes, is, same) sent covers =
+  heard client old reply new (nodes, found, takes, is, same) sent covers small =
       let kept = at_client client None (λ n reply after. (reply ≡ n.reply) × (after ≡ given_up n)) old.nodes found nodes takes in
       record {
         steps = Takes client ∷ [];
@@ -129,6 +145,8 @@ module _ {D : Type 0} (seen : D → List ℕ) (failures : D → ℕ) where
         covers =
             subst (λ w. Covers sent w) (sym same)
             (record { queue = covers.queue; held = covers.held; servers = covers.servers ∙ sym kept.servers; clients = covers.clients ∙ sym kept.clients; short = covers.short });
+        within = when keeps {P = Unit {0} × Unit {0}} (tt, tt);
+        moment = subst Small (sym same) small;
       }
 
   asked : (client : ClientId) (result : Result (Vec Message Global) Refusal) (old : Way D) (nodes : Nodes D) (reply : Reply) (new : Way D)
@@ -145,19 +163,16 @@ module _ {D : Type 0} (seen : D → List ℕ) (failures : D → ℕ) where
   abbrev AtAsked : ReqId → Request → Nodes D → Result (Vec Message Global) Refusal → Nodes D → Type 0
   AtAsked req request old out new = AtClient req.client (Err refusals.Range) (ClientAsks req.number request) old out new
 
-  abbrev asking : Moment → ReqId → Request → Event
-  asking moment req request = record { moment = moment; happening = happenings.Ask req request }
-
-  pub carries : (req : ReqId) (request : Request) (old : Way D) (reply : Reply) (new : Way D) → Carries seen failures req request old reply new → Leads old new
-  carries req request old reply new c =
+  pub carries : (req : ReqId) (request : Request) (old : Way D) (reply : Reply) (new : Way D) → When keeps (IsNumber req.number × MayBeAsked request) → Carries seen failures req request old reply new → Leads old new
+  carries req request old reply new may c =
       asked req.client c.asked old c.nodes reply new
-      (λ mid out is all sent covers.
+      (λ mid out is all sent covers small.
       let at : AtAsked req request old.nodes (Ok out) c.nodes = subst (λ (r : Result (Vec Message Global) Refusal). AtAsked req request old.nodes r c.nodes) is c.asks in
-      event_leads seen failures (asking old.moment req request) (nodes.Client req.client) (Ok (out.items, None)) c.nodes old mid sent
-      (refl, (Ok out, at, refl)) (inl (asking_client sent req.client (ClientAsks req.number request) old.nodes c.nodes out covers.clients at)) covers (mid, all, as_it_is mid))
-      (λ refusal is same sent covers.
+      event_leads seen failures keeps (happenings.Ask req request) (nodes.Client req.client) (Ok (out.items, None)) c.nodes old mid sent
+      (refl, (Ok out, at, refl)) (inl (asking_client sent req.client (ClientAsks req.number request) old.nodes c.nodes out covers.clients at)) covers may small (mid, all, as_it_is mid))
+      (λ refusal is same sent covers small.
       let at : AtAsked req request old.nodes (Err refusal) c.nodes = subst (λ (r : Result (Vec Message Global) Refusal). AtAsked req request old.nodes r c.nodes) is c.asks in
-      event_leads seen failures (asking old.moment req request) (nodes.Client req.client) (Err refusal) c.nodes old new sent
-      (refl, (Err refusal, at, refl)) tt covers
+      event_leads seen failures keeps (happenings.Ask req request) (nodes.Client req.client) (Err refusal) c.nodes old new sent
+      (refl, (Err refusal, at, refl)) tt covers may small
       (alike_to (with_nodes c.nodes old) (shortened_by refusal (with_nodes c.nodes old)) new (shortened_alike refusal (with_nodes c.nodes old)) same))
       c.answers
