@@ -1,5 +1,5 @@
 -- Turns whose records have room, that leave who has told of a chunk, and whose snapshots copy what is still; and how they follow one another.
-use Rattle.std.proofs.Common.{◌≡◌, ◌⊎◌, inl, inr, ◌∙◌, ◌+◌, ◌&&◌, ℕ, Bool, true, false, not, List, [], ◌∷◌, ◌++◌, refl, ap, sym, subst, arith}
+use Rattle.std.proofs.Common.{◌≡◌, ◌⊎◌, inl, inr, ◌∙◌, ◌+◌, ◌&&◌, ℕ, suc, Bool, true, false, not, List, [], ◌∷◌, ◌++◌, length, refl, ap, sym, subst, arith, length-append}
 use Rattle.std.specs.Prelude.{flat_map, fold, nat_le, nat_lt, is_some, option_and_then, unwrap_or, Option, Some, None, Ok, Err, if◌then◌else◌}
 use Rattle.std.specs.FinMap as fin
 use Rattle.std.specs.List.{list_all}
@@ -25,7 +25,7 @@ use Rattle.gs_state.specs.Volatile.{Volatile, all_changed, changed, is_call, let
 use Rattle.gs_state.specs.declared.asking.Asking.{Asking}
 use Rattle.gs_state.specs.declared.change.Change.{Change}
 use Rattle.gs_state.specs.declared.change.Change.TheVariants as changes
-use Rattle.gs_laws.specs.Rooms.{AllCopyStill, CopiesStill, HasRoom}
+use Rattle.gs_laws.specs.Rooms.{AllCopyStill, CopiesStill, HasRoom, is_behind}
 use Rattle.gs_laws.proofs.Beginnings.{fits_gives}
 use Rattle.gs_laws.proofs.StandingTurns.{edited_phase}
 
@@ -57,6 +57,15 @@ all_stay : (entries : List PlainEntry) → list_all is_plain entries ≡ true �
 all_stay [] e = refl
 all_stay (entry ∷ entries) e =
     let both = and_parts (is_plain entry) (list_all is_plain entries) e in and_from (stays_rolling entry) (list_all stays_rolling entries) (plain_stays entry both.0) (all_stay entries both.1)
+
+stays_behind : (entry : PlainEntry) → stays_rolling entry ≡ true → is_behind entry ≡ true
+stays_behind (Whole c) e = absurd (false≢true e)
+stays_behind entry e = refl
+
+all_behind : (entries : List PlainEntry) → list_all stays_rolling entries ≡ true → list_all is_behind entries ≡ true
+all_behind [] e = refl
+all_behind (entry ∷ entries) e =
+    let both = and_parts (stays_rolling entry) (list_all stays_rolling entries) e in and_from (is_behind entry) (list_all is_behind entries) (stays_behind entry both.0) (all_behind entries both.1)
 
 all_still : (d : Durable) (entries : List PlainEntry) → list_all is_plain entries ≡ true → AllCopyStill d entries
 all_still d [] e = tt
@@ -102,6 +111,13 @@ records_size (entry ∷ entries) s = records_size entries (with_record s entry) 
   where
     more : (size one rest all : ℕ) → all ≡ one + rest → (size + one) + rest ≡ size + all
     more size one rest all e = omega arith
+
+records_count : (entries : List PlainEntry) (s : State) → (fold with_record s entries).log.records ≡ s.log.records + length entries
+records_count [] s = omega arith
+records_count (entry ∷ entries) s = records_count entries (with_record s entry) ∙ more s.log.records (length entries)
+  where
+    more : (many rest : ℕ) → (many + 1) + rest ≡ many + suc rest
+    more many rest = omega arith
 
 records_limit : (entries : List PlainEntry) (s : State) → (fold with_record s entries).log.limit ≡ s.log.limit
 records_limit [] s = refl
@@ -161,11 +177,13 @@ both_leave cs more a b = list_all-append leaves_told cs more ∙ and_from (list_
 
 -- ---- turns
 
--- What a turn leaves: the log with its records, within the same limit; what its records replay to, if they fit; its snapshots copy what is
+-- What a turn leaves: the log with its records, within the same limit, each of which it counts, and none is a checkpoint; what its records replay to, if they fit; its snapshots copy what is
 -- still; and where it is to, a rollback that goes on, and who has told.
 pub record Adds (told : Bool) (s : State) (t : Turn) : Type 0 where
   pub size : t.after.log.size ≡ s.log.size + size_of_all t.records
   pub limit : t.after.log.limit ≡ s.log.limit
+  pub count : t.after.log.records ≡ s.log.records + length t.records
+  pub behind : list_all is_behind t.records ≡ true
   pub after : (last : Durable) → replayed s.durable t.records ≡ Some last → last ≡ t.after.durable
   pub still : AllCopyStill s.durable t.records
   pub rolling : told ≡ true → is_rolling s.durable.phase ≡ true → is_rolling t.after.durable.phase ≡ true
@@ -207,6 +225,8 @@ module _ (told : Bool) where
     adds = record {
       size = plain_size s.log.size t.after.log.size (ap (λ (l : Log). l.size) log) ∙ ap (λ es. s.log.size + size_of_all es) (sym none);
       limit = ap (λ (l : Log). l.limit) log;
+      count = plain_size s.log.records t.after.log.records (ap (λ (l : Log). l.records) log) ∙ ap (λ (es : List PlainEntry). s.log.records + length es) (sym none);
+      behind = ap (list_all is_behind) none;
       after = λ last e. sym (durable_is (ap (replayed s.durable) (sym none) ∙ e)) ∙ sym durable;
       still = subst (AllCopyStill s.durable) (sym none) tt;
       rolling = λ c r. ap (λ (d : Durable). is_rolling d.phase) durable ∙ r;
@@ -221,6 +241,8 @@ module _ (told : Bool) where
   then_adds s t f a b = record {
     size = b.size ∙ then_size s.log.size (size_of_all t.records) (size_of_all (f t.after).records) t.after.log.size a.size ∙ ap (λ n. s.log.size + n) (sym (sum_by-append size_of t.records (f t.after).records));
     limit = b.limit ∙ a.limit;
+    count = b.count ∙ then_size s.log.records (length t.records) (length (f t.after).records) t.after.log.records a.count ∙ ap (λ n. s.log.records + n) (sym (length-append t.records (f t.after).records));
+    behind = list_all-append is_behind t.records (f t.after).records ∙ and_from (list_all is_behind t.records) (list_all is_behind (f t.after).records) a.behind b.behind;
     after = λ last e. (let parts = parts_replayed t.records (f t.after).records s.durable last e in b.after last (ap (λ d. replayed d (f t.after).records) (sym (a.after parts.0 parts.1.0)) ∙ parts.1.1));
     still = both_still t.records (f t.after).records s.durable a.still (λ mid is. subst (λ d. AllCopyStill d (f t.after).records) (sym (a.after mid is)) b.still);
     rolling = λ c r. b.rolling c (a.rolling c r);
@@ -269,6 +291,8 @@ module _ (told : Bool) where
   records_add s plan stays still leaves = record {
     size = records_size plan.records s;
     limit = records_limit plan.records s;
+    count = records_count plan.records s;
+    behind = all_behind plan.records stays;
     after = λ last e. records_after plan.records s last e;
     still = still;
     rolling = λ c r. records_roll plan.records s stays r;
@@ -334,10 +358,12 @@ module _ (told : Bool) where
   all_begun_adds many purpose call s = each_adds many (λ chunk next. begun next chunk purpose call) (λ chunk next. plan_adds next (begin_at next chunk purpose call) refl refl) s
 
 -- a plan of which more is left open
-pub free_adds : (s : State) (plan : Plan) → AllCopyStill s.durable plan.records → Adds false s (turned s plan)
-free_adds s plan still = record {
+pub free_adds : (s : State) (plan : Plan) → AllCopyStill s.durable plan.records → list_all is_behind plan.records ≡ true → Adds false s (turned s plan)
+free_adds s plan still behind = record {
   size = records_size plan.records s;
   limit = records_limit plan.records s;
+  count = records_count plan.records s;
+  behind = behind;
   after = λ last e. records_after plan.records s last e;
   still = still;
   rolling = λ c r. absurd (false≢true c);

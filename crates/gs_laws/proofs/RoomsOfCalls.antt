@@ -318,7 +318,7 @@ commit_if_leaves s req names (Some chunk) = inl (refused_roomy true req (refusal
 commit_if_leaves s req names None =
     let all = answers_for (prepared_view s.durable) (told_of s) (fin.entries names.refs) in
     let plan : Plan = accepted_plan s req (RollbackCommit s.durable.epoch all ∷ []) (changes.RolledBack ∷ []) [] s.durable.epoch in
-    if_fits_leaves s (turned s plan) (refused s req refusals.Full) (free_adds s plan (tt, λ next is. tt)) (all, refl) (nobody (is_later (last_reply s req.client) req.number)) (refused_roomy true req refusals.Full s)
+    if_fits_leaves s (turned s plan) (refused s req refusals.Full) (free_adds s plan (tt, λ next is. tt) refl) (all, refl) (nobody (is_later (last_reply s req.client) req.number)) (refused_roomy true req refusals.Full s)
   where
     nobody : (b : Bool) → (all_changed s.volatile (changes.RolledBack ∷ (if b then kept_in_memory req (Ok (answers.Epoch s.durable.epoch)) ∷ [] else []))).restored ≡ fin.empty
     nobody true = refl

@@ -35,7 +35,7 @@ use Rattle.gs_state.specs.Chunks.{Chunk, chunk_at, may_begin, hears, heard_yes, 
 use Rattle.gs_state.specs.Durable.{is_rolling, prepared_view}
 use Rattle.gs_state.specs.Handling.{call_turn, handle, about_turn, server_turn, from_client, from_node, pressed, pressed_at, pressed_if, proposals, granted, granted_at, written_unless, written_if_due, checkpoint, checkpoint_tests, checkpoint_body, due, tick}
 use Rattle.gs_state.specs.Hearing.{stepped, heard, ask_plan, send_plan, is_with_sealed, promised_for, promised_at, unpromised_for, unpromised_at, sends, next_epoch, behind, learned, drops, lost, is_lost_at, made_quiet, reported, reported_now, damaged, renewed, is_leased_under}
-use Rattle.gs_laws.specs.Rooms.{AllCopyStill, CommitsRollback, CopiesStill, HasRoom, LogsStayWithin, MessagesCopyStill, MessagesHaveRoom, NoneHasTold, OthersLeave, RestartsForget, RunsStayWithin, StepsHaveRoom, Tells, TellsAdd, TellsOf, TellsSince, TicksCopyStill, TicksHaveRoom, TicksLeave, restored_in}
+use Rattle.gs_laws.specs.Rooms.{AllCopyStill, CommitsRollback, CopiesStill, HasRoom, IsCounted, LogsStayWithin, MessagesCopyStill, MessagesCounted, MessagesHaveRoom, NoneHasTold, OthersLeave, RestartsForget, RunsStayWithin, StepsHaveRoom, Tells, TellsAdd, TellsOf, TellsSince, TicksCopyStill, TicksCounted, TicksHaveRoom, TicksLeave, restored_in}
 use Rattle.gs_laws.specs.Standing.{Comes, Ticks, Renews, Restarts, turn_of}
 use Rattle.gs_laws.proofs.Rooms.{Adds, Roomy, all_begun_adds, all_ended_roomy, answer_leaves, both_leave, both_still, each_roomy, either_roomy, ended_roomy, is_plain, leaves_told, plan_adds, plan_roomy, quiet_adds, records_add, same_roomy, test_roomy, then_roomy, tried_roomy}
 use Rattle.gs_laws.proofs.Kept.{is_tied}
@@ -322,14 +322,21 @@ record Left (s : State) (t : Turn) : Type 0 where
   size : t.after.log.size ≡ s.log.size + size_of_all t.records
   limit : t.after.log.limit ≡ s.log.limit
   still : AllCopyStill s.durable t.records
+  counted : IsCounted s t
 
 left_by : (told : Bool) (s : State) (t : Turn) → Adds told s t → Left s t
-left_by told s t a = record { size = a.size; limit = a.limit; still = a.still }
+left_by told s t a = record { size = a.size; limit = a.limit; still = a.still; counted = record { count = a.count; behind = a.behind } }
 
 left_of : (s : State) (message : Message) (t : Turn) → Came s message t → Left s t
 left_of s message t (Same r) = left_by true s t r.adds
 left_of s message t (Told server handles tells r now still) = left_by false s t r.adds
 left_of s message t (Done r commits none) = left_by false s t r.adds
+
+pub messages_counted : MessagesCounted
+messages_counted config s message moment = (left_of s message (handle config s message moment) (came config s message moment)).counted
+
+pub ticks_counted : TicksCounted
+ticks_counted s moment = (left_by true s _ (steps_roomy true s moment).adds).counted
 
 pub messages_have_room : MessagesHaveRoom
 messages_have_room config s message moment = room_of s message (handle config s message moment) (came config s message moment)

@@ -1,6 +1,7 @@
 -- What each event has room for, whom it counts as having told of a chunk, and what a snapshot copies.
-use Rattle.std.specs.Prelude.{◌≡◌, ◌⊎◌, ◌≤◌, ◌<◌, ◌==◌, ◌&&◌, ◌||◌, ℕ, true, false, List, [], ◌∷◌, fold, Some, None}
+use Rattle.std.specs.Prelude.{◌≡◌, ◌⊎◌, ◌≤◌, ◌<◌, ◌==◌, ◌&&◌, ◌||◌, ◌+◌, ℕ, Bool, true, false, not, List, [], ◌∷◌, fold, length, Some, None}
 use Rattle.std.specs.FinMap as fin
+use Rattle.std.specs.List.{list_all}
 use Rattle.std.specs.Ordering.{nat_cmp}
 use Rattle.gs_base.specs.Members.{is_member}
 use Rattle.gs_base.specs.declared.config.Config.{Config}
@@ -11,7 +12,7 @@ use Rattle.gs_msg.specs.declared.message.Message.{Message}
 use Rattle.gs_msg.specs.declared.node.NodeId.TheVariants as nodes
 use Rattle.gs_record.specs.Plain.{PlainEntry, Edited, RollbackCommit, Snapshot}
 use Rattle.gs_record.specs.declared.entry.Answered.{Answered}
-use Rattle.gs_state.specs.Applied.{applied}
+use Rattle.gs_state.specs.Applied.{applied, is_whole_entry}
 use Rattle.gs_state.specs.Durable.{Durable, Settled, is_rolling}
 use Rattle.gs_state.specs.Handling.{granted, handle, pressed, proposals, tick}
 use Rattle.gs_state.specs.State.{State, Turn, and_then, fits, for_each, is_failed}
@@ -47,6 +48,25 @@ LogsStayWithin = (config : Config) (s : State) (event : Event) → s.log.size �
 abbrev pub RunsStayWithin : Type 0
 RunsStayWithin = (config : Config) (events : List Event) (s : State) → s.log.size ≤ s.log.limit →
     let now = (run_of config s events).after.log in (now.size ≤ now.limit) × (now.limit ≡ s.log.limit)
+
+-- ---- what a log counts
+
+-- a record that isn't a checkpoint
+abbrev pub is_behind : PlainEntry → Bool
+is_behind entry = not (is_whole_entry entry)
+
+-- the log counts each record of a turn, and none is a checkpoint
+pub record IsCounted (s : State) (t : Turn) : Type 0 where
+  pub count : t.after.log.records ≡ s.log.records + length t.records
+  pub behind : list_all is_behind t.records ≡ true
+
+-- so it is of each message, whoever sends it,
+abbrev pub MessagesCounted : Type 0
+MessagesCounted = (config : Config) (s : State) (message : Message) (moment : Moment) → IsCounted s (handle config s message moment)
+
+-- and of all steps of a tick together
+abbrev pub TicksCounted : Type 0
+TicksCounted = (s : State) (moment : Moment) → IsCounted s (and_then (for_each s (proposals s) (pressed moment)) granted)
 
 -- ---- who has told of a chunk
 

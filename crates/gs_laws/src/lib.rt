@@ -16,7 +16,7 @@ ghost use Rattle.gs_laws.specs.Numbered.{EventsKeepNumbers, LeadsToNumbers, Reco
 ghost use Rattle.gs_laws.specs.Promises.{AllMessagesFit, AnswersExactly, BeginsWithAll, CallsFit, CallsKeep, CheckpointFits, CommitsExactly, IsToldAgain, KeepsAll, KeepsGiven, KeepsPrepared, LeadsBack, LeadsToKept, LockedElse, LockedExactly, MadeOfTheMost, MessagesFit, MessagesKeep, NothingAtTicks, NothingWhileRolling, PreparesByOneRecord, ProposesFresh, ProposesFreshAtTicks, RefusesInOrder, RefusedAtLocks, RefusedFits, RefusedLeavesAll, RollsBack, StartsWell, StepsAtTicksFit, TellsAll, TellsCounters};
 ghost use Rattle.gs_laws.specs.Reached.{DisksHold, OpensFirm, RecoversFirm, RollsBackThrough, RunsRecoverFromLast, SameFromLast};
 ghost use Rattle.gs_laws.specs.Resting.{PreparesExactly, TakesPrepares};
-ghost use Rattle.gs_laws.specs.Rooms.{LogsStayWithin, MessagesCopyStill, MessagesHaveRoom, OthersLeave, RestartsForget, RunsStayWithin, StepsHaveRoom, TellsAdd, TellsOf, TellsSince, TicksCopyStill, TicksHaveRoom, TicksLeave};
+ghost use Rattle.gs_laws.specs.Rooms.{LogsStayWithin, MessagesCopyStill, MessagesCounted, MessagesHaveRoom, OthersLeave, RestartsForget, RunsStayWithin, StepsHaveRoom, TellsAdd, TellsOf, TellsSince, TicksCopyStill, TicksCounted, TicksHaveRoom, TicksLeave};
 ghost use Rattle.gs_laws.specs.Standing.{EventsFit, FirmGoesOn, RunsFit, RunsRecover, StartsFirm};
 ghost use Rattle.gs_laws.specs.Written.{AllStepsWritten, CheckpointsWritten, EventsWritten, MessagesWritten, RunsWritten, StartsSteady, StepsWritten};
 ghost use Rattle.gs_state.specs.Undoing.{EditsAsTold};
@@ -154,6 +154,12 @@ pub fn each_event_has_room()
     ensures ticks { TicksHaveRoom }
     ensures within { LogsStayWithin }
     ensures runs { RunsStayWithin }
+{}
+
+/// A master's log counts each record of a message, whoever sends it, and of all steps of a tick, and none of these is a checkpoint.
+pub fn logs_count_their_records()
+    ensures messages { MessagesCounted }
+    ensures ticks { TicksCounted }
 {}
 
 /// Each record of each message can be written, whoever sends it, and so can each of each step of a tick, and of all its steps together, and that
