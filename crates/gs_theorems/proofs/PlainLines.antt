@@ -1,0 +1,317 @@
+-- What a line comes to, and a script, where memory isn't wanting and no disk fails.
+use Rattle.std.proofs.Common.{◌≡◌, ◌≢◌, ◌∙◌, ◌+◌, ◌-◌, ◌<◌, ◌≤◌, ◌⊎◌, ◌==◌, ℕ, zero, suc, Bool, true, false, List, [], ◌∷◌, if◌then◌else◌, Option, Some, None, MatchOption, Result, Ok, Err, refl, sym, ap, subst, inl, inr, arith, length, slice_get, slice_set}
+use Rattle.std.specs.Prelude.{min, nat_le, nat_lt}
+use Rattle.std.proofs.lemmas.Bool.Decides.{nat_tests}
+use Rattle.gs_base.specs.declared.numbers.ClientId.{ClientId}
+use Rattle.gs_base.specs.declared.refusal.Refusal.{Refusal}
+use Rattle.gs_base.specs.declared.refusal.Refusal.TheVariants as refusals
+use Rattle.gs_block.specs.Follows.{Does}
+use Rattle.gs_calls.specs.Asked.{answered, asked_by, done}
+use Rattle.gs_calls.specs.Texts.{answer_text}
+use Rattle.gs_calls.specs.declared.answer.Answer.{Answer}
+use Rattle.gs_calls.specs.declared.answer.Answer.TheVariants as answers
+use Rattle.gs_client.specs.Sends.{Sends as Asks, last_number, next_request}
+use Rattle.gs_client.specs.Trees.{Call}
+use Rattle.gs_client.specs.declared.client.Client.{Client}
+use Rattle.gs_client.specs.declared.link.Reply.{Reply}
+use Rattle.gs_client.specs.declared.link.Reply.TheVariants as replies
+use Rattle.gs_desk.specs.Answering.{AnswersText, IsText}
+use Rattle.gs_desk.specs.Lines.{AtOne, Beats, BeatsAt, BeatsOf, Comes, Either, ForServer, HandsOver, HandsOverAt, IsDone, MasterRestarts, NodesDo, OfHandle, Restarts, carried, held_at, is_server}
+use Rattle.gs_desk.specs.Ways.{DeliversWhole, IsDelivered, Way, last_count, shortened, way_of, with_nodes}
+use Rattle.gs_desk.specs.declared.desk.Desk.{Desk}
+use Rattle.gs_desk.specs.declared.wire.Wire.{Wire}
+use Rattle.gs_dialogue.specs.Dialogues.{Ask, Follows, Grow, Say, run}
+use Rattle.gs_line.specs.Line.{content, longest_line}
+use Rattle.gs_lines.specs.Grammar.{Request, line_request}
+use Rattle.gs_lines.specs.Grammar as lines
+use Rattle.gs_lines.specs.declared.command.Restarted.{Restarted}
+use Rattle.gs_lines.specs.declared.command.Restarted.TheVariants as restarted
+use Rattle.gs_master.specs.Masters.{MasterOf}
+use Rattle.gs_msg.specs.declared.event.Request.{Request as Asked}
+use Rattle.gs_msg.specs.declared.message.Message.{Message}
+use Rattle.gs_run.specs.Lasting.{failures_at}
+use Rattle.gs_script.specs.Run.{AnswersIfShort, AnswersLine, bad_line_text, memory_text}
+use Rattle.gs_server.specs.Servers.{Server}
+use Rattle.gs_server.specs.Servers as servers
+use Rattle.gs_world.specs.Happenings.{AtServer}
+use Rattle.gs_world.specs.Nodes.{Nodes, with_servers}
+use Rattle.gs_theorems.specs.Enduring.{AllAsked, Endures, IsCalm, IsPlain, IsTaken, Stands, plain_of}
+use Rattle.gs_theorems.specs.Plain.{Met, Plain, PlainDesk}
+use Rattle.gs_theorems.specs.Plain as plain
+use Rattle.gs_theorems.proofs.PlainEvents.{Comes as Becomes, node_ends, plain_same, server_leaves}
+use Rattle.gs_theorems.proofs.PlainNotes.{KeepsAt, delivered_noted, delivers_noted, not_before, run_keeps, serves_keeps}
+use Rattle.gs_theorems.proofs.PlainSends.{send_plain, send_stays, was_enough}
+use Rattle.gs_theorems.proofs.PlainWays.{Gives, Leads, carries, delivers_one, delivers_whole, nothing, only, chain}
+
+below_not : (n m : ℕ) → n < m → (n == m) ≡ false
+below_not n m low = grind (arith, nat_tests)
+
+is_it : (n m : ℕ) → n ≡ m → (n == m) ≡ true
+is_it n m same = grind (arith, nat_tests)
+
+one_above : (n m : ℕ) → n < m → n + 1 ≤ m
+one_above n m low = omega arith
+
+between : (a b c : ℕ) → a ≤ b → b ≤ c → c ≡ a → b ≡ a
+between a b c low high same = omega arith
+
+joined : (a b c : ℕ) → a ≤ b → b ≤ c → a ≤ c
+joined a b c low high = omega arith
+
+itself : (n : ℕ) → n ≤ n
+itself n = omega arith
+
+-- what befalls a server
+befallen : {B : Type 0} (r : Result Server Refusal) (said : Result (Unit {0}) Refusal) (s after : Server) → Does r said s after → (said ≡ plain.met r) × (after ≡ plain.left r s)
+befallen (Ok a) (Ok done) s after is = (refl, is)
+befallen (Err e) (Err f) s after (same, still) = (ap (λ (x : Refusal). Err x) same, still)
+befallen (Ok a) (Err f) s after none = absurd none
+befallen (Err e) (Ok done) s after none = absurd none
+
+module _ {D : Type 0} (seen : D → List ℕ) (failures : D → ℕ) (me : ClientId) (MayAsk : Asked → Type 0) (Good : Way D → Type 0) (e : Endures seen failures me MayAsk Good) where
+  abbrev GivesHere : {R : Type 0} → Type 0 → Way D → R → Way D → (Plain → R × Plain) → Type 0
+  GivesHere G old r new f = Gives seen failures me MayAsk Good e G old r new f
+
+  abbrev LeadsHere : Way D → Way D → (Plain → Plain) → Type 0
+  LeadsHere old new f = Leads seen failures me MayAsk Good e old new f
+
+  -- ---- a client's calls
+
+  abbrev Held : Type 0
+  Held = Client × Wire D
+
+  pub record Arrives {R : Type 0} (new : Held) (r : R) (q : R × PlainDesk) : Type 0 where
+    pub result : r ≡ q.0
+    pub client : new.0 ≡ q.1.0
+    pub plain : IsPlain (way_of new.1) q.1.1
+    pub good : Good (way_of new.1)
+
+  -- the same at a desk
+  pub record GivesAt {R : Type 0} (old : Held) (r : R) (new : Held) (f : PlainDesk → R × PlainDesk) : Type 0 where
+    pub short : (way_of old.1).is_short ≡ true → (way_of new.1).is_short ≡ true
+    pub rises : failures_at failures (way_of old.1).nodes.master ≤ failures_at failures (way_of new.1).nodes.master
+    pub same : IsCalm failures (way_of old.1) (way_of new.1) → (m : MasterOf D) → Stands (way_of old.1) m → Good (way_of old.1)
+        → (f (old.0, plain_of m.state (way_of old.1))).1.1.is_due ≡ false → Arrives new r (f (old.0, plain_of m.state (way_of old.1)))
+
+  nothing_at : {R : Type 0} (old new : Held) (r s : R) → r ≡ s → new ≡ old → GivesAt old r new (λ w. (s, w))
+  nothing_at {R} old new r s is same = record {
+    short = λ short. ap (λ (h : Held). (way_of h.1).is_short) same ∙ short;
+    rises = subst (λ (h : Held). failures_at failures (way_of old.1).nodes.master ≤ failures_at failures (way_of h.1).nodes.master) (sym same) (itself (failures_at failures (way_of old.1).nodes.master));
+    same = λ calm m stands good undue. record {
+      result = is;
+      client = ap (λ (h : Held). h.0) same;
+      plain = plain_same seen failures (way_of old.1) (way_of new.1) m stands (ap (λ (h : Held). way_of h.1) same);
+      good = subst (λ (h : Held). Good (way_of h.1)) (sym same) good;
+    };
+  }
+
+  desk_path : {R : Type 0} (r : R) (c : Client) (p : Plain) (q : R × PlainDesk) → r ≡ q.0 → c ≡ q.1.0 → q.1.1 ≡ p → ◌≡◌ {A = R × PlainDesk} (r, (c, p)) q
+  desk_path r c p q first second third = λ i. (first i, (second i, sym third i))
+
+  module _ {R S : Type 0} (old mid new : Held) (r : R) (s : S) (f : PlainDesk → R × PlainDesk) (g : R → PlainDesk → S × PlainDesk)
+      (keeps : (x : R) (w : PlainDesk) → w.1.is_due ≡ true → (g x w).1.1.is_due ≡ true) (first : GivesAt old r mid f) (second : GivesAt mid s new (g r)) where
+    abbrev both : PlainDesk → S × PlainDesk
+    both w = g (f w).0 (f w).1
+
+    both_same : IsCalm failures (way_of old.1) (way_of new.1) → (m : MasterOf D) → Stands (way_of old.1) m → Good (way_of old.1)
+        → (both (old.0, plain_of m.state (way_of old.1))).1.1.is_due ≡ false → Arrives new s (both (old.0, plain_of m.state (way_of old.1)))
+    both_same calm m stands good undue =
+        let w = (old.0, plain_of m.state (way_of old.1)) in
+        let q = f w in
+        let one = first.same (record { enough = was_enough (way_of mid.1) (way_of new.1) second.short calm.enough; sound = quiet }) m stands good (not_before q.1.1.is_due (g q.0 q.1).1.1.is_due (keeps q.0 q.1) undue) in
+        let there = one.plain in
+        let path = desk_path r mid.0 (plain_of there.master.state (way_of mid.1)) q one.result one.client there.plain in
+        let two = second.same (record { enough = calm.enough; sound = calm.sound ∙ sym quiet }) there.master there.stands one.good (subst (λ (x : R × PlainDesk). (g x.0 x.1).1.1.is_due ≡ false) (sym path) undue) in
+        subst (λ (x : R × PlainDesk). Arrives new s (g x.0 x.1)) path two
+        where
+          quiet : failures_at failures (way_of mid.1).nodes.master ≡ failures_at failures (way_of old.1).nodes.master
+          quiet = between (failures_at failures (way_of old.1).nodes.master) (failures_at failures (way_of mid.1).nodes.master) (failures_at failures (way_of new.1).nodes.master) first.rises second.rises calm.sound
+
+    then_at : GivesAt old s new both
+    then_at = record {
+      short = λ short. second.short (first.short short);
+      rises = joined (failures_at failures (way_of old.1).nodes.master) (failures_at failures (way_of mid.1).nodes.master) (failures_at failures (way_of new.1).nodes.master) first.rises second.rises;
+      same = both_same;
+    }
+
+  -- one request
+  served : (old new : Held) (request : Asked) (reply : Reply) → old.0.last.client ≡ me → MayAsk request → Asks (carried seen failures) old request reply new
+      → GivesAt old reply new (λ w. plain.serves w request)
+  served old new request reply mine may (inl (low, next, c)) =
+      let g = carries seen failures me MayAsk Good e (next_request old.0) request (way_of old.1) reply (way_of new.1) mine (one_above old.0.last.number last_number low) may c in
+      let other = below_not old.0.last.number last_number low in
+      record {
+        short = g.short;
+        rises = g.rises;
+        same = λ calm m stands good undue.
+            let p = plain_of m.state (way_of old.1) in
+            let refused : Reply × PlainDesk = (replies.Refused refusals.Exhausted, (old.0, p)) in
+            let goes = plain.going_on old.0 (plain.carries (next_request old.0) request p) in
+            let done = g.same calm m stands good (subst (λ (c : Bool). (if c then refused else goes).1.1.is_due ≡ false) other undue) in
+            subst (λ (c : Bool). Arrives new reply (if c then refused else goes)) (sym other) (record { result = done.0.result; client = next; plain = done.0.plain; good = done.1 });
+      }
+  served old new request reply mine may (inr (last, is, same)) =
+      let still = nothing_at old new reply (replies.Refused refusals.Exhausted) is same in
+      let it = is_it old.0.last.number last_number last in
+      record {
+        short = still.short;
+        rises = still.rises;
+        same = λ calm m stands good undue.
+            let p = plain_of m.state (way_of old.1) in
+            let refused : Reply × PlainDesk = (replies.Refused refusals.Exhausted, (old.0, p)) in
+            let goes = plain.going_on old.0 (plain.carries (next_request old.0) request p) in
+            subst (λ (c : Bool). Arrives new reply (if c then refused else goes)) (sym it)
+            (still.same calm m stands good (subst (λ (c : Bool). (if c then refused else goes).1.1.is_due ≡ false) it undue));
+      }
+
+  still_mine : (old new : Held) (request : Asked) (reply : Reply) → old.0.last.client ≡ me → Asks (carried seen failures) old request reply new → new.0.last.client ≡ me
+  still_mine old new request reply mine (inl (low, next, c)) = ap (λ (c : Client). c.last.client) next ∙ mine
+  still_mine old new request reply mine (inr (last, is, same)) = ap (λ (h : Held). h.0.last.client) same ∙ mine
+
+  -- a whole call, for which memory isn't wanting
+  called : {A : Type 0} (call : Call A) (old new : Held) (result : Result A Refusal) → old.0.last.client ≡ me → AllAsked MayAsk call → (result ≡ Err refusals.Memory → ⊥)
+      → Follows (Asks (carried seen failures)) call old result new → GivesAt old result new (run plain.serves call)
+  called (Say said) old new result mine may enough (is, same) = nothing_at old new result said is same
+  called (Ask request more) old new result mine (may, others) enough (reply, mid, sends, rest) =
+      then_at old mid new reply result (λ w. plain.serves w request) (λ answer. run plain.serves (more answer)) (λ answer w noted. run_keeps (more answer) w noted)
+      (served old mid request reply mine may sends)
+      (called (more reply) mid new result (still_mine old mid request reply mine sends) (others reply) enough rest)
+  called (Grow rest) old new result mine may enough (inl more) = called rest old new result mine may enough more
+  called (Grow rest) old new result mine may enough (inr (memory, same)) = absurd (enough memory)
+
+  -- ---- nodes and messages
+
+  -- of a line it is enough that it isn't forgotten that memory was wanting
+  pub record GivesLine {R : Type 0} (old : Way D) (r : R) (new : Way D) (f : Plain → R × Plain) : Type 0 where
+    pub short : old.is_short ≡ true → new.is_short ≡ true
+    pub same : IsCalm failures old new → (m : MasterOf D) → Stands old m → Good old → (f (plain_of m.state old)).1.is_due ≡ false → Becomes new r (f (plain_of m.state old)) × Good new
+
+  line_of : {R : Type 0} (old : Way D) (r : R) (new : Way D) (f : Plain → R × Plain) → GivesHere (Good old) old r new f → GivesLine old r new f
+  line_of old r new f g = record { short = g.short; same = g.same }
+
+  still_said : {R : Type 0} (old new : Way D) (r s : R) → r ≡ s → new ≡ old → GivesLine old r new (λ p. (s, p))
+  still_said old new r s is same = record {
+    short = λ short. ap (λ (w : Way D). w.is_short) same ∙ short;
+    same = λ calm m stands good undue. (record { result = is; plain = plain_same seen failures old new m stands same }, subst Good (sym same) good);
+  }
+
+  -- a test that chooses
+  chosen : {R : Type 0} (c : Bool) (old : Way D) (r s : R) (new : Way D) (f : Plain → R × Plain) → (P : Type 0) → (P → GivesLine old r new f) → Either c P ((r ≡ s) × (new ≡ old))
+      → GivesLine old r new (λ p. if c then f p else (s, p))
+  chosen true old r s new f P does h = does h
+  chosen false old r s new f P does h = still_said old new r s h.0 h.1
+
+  abbrev enough_for : {R : Type 0} → Way D → R → (Plain → R × Plain) → (Plain → R × Plain) → Type 0
+  enough_for old r f g = (m : MasterOf D) → f (plain_of m.state old) ≡ g (plain_of m.state old)
+
+  for_server : {A : Type 0} (number : ℕ) (does : Result A Refusal → Way D → Type 0) (old : Way D) (result : Result A Refusal) (new : Way D) (f : Plain → Result A Refusal × Plain)
+      → (does result new → GivesLine old result new f) → ForServer number does old result new → GivesLine old result new (plain.for_server number f)
+  for_server number does old result new f each h =
+      let g = chosen (is_server number old) old result (Err refusals.Range) new f (does result new) each h in
+      record { short = g.short; same = λ calm m stands good undue. g.same calm m stands good undue }
+
+  of_handle : (handle : ℕ) (does : Result (Unit {0}) Refusal → Way D → Type 0) (old : Way D) (result : Result (Unit {0}) Refusal) (new : Way D) (f : Plain → Met)
+      → (does result new → GivesLine old result new f) → OfHandle handle does old result new → GivesLine old result new (plain.of_handle handle f)
+  of_handle handle does old result new f each h = handled (handle == 0) old result new f (does result new) each h
+    where
+      handled : (c : Bool) (old : Way D) (result : Result (Unit {0}) Refusal) (new : Way D) (f : Plain → Met) (P : Type 0) → (P → GivesLine old result new f)
+          → Either c ((result ≡ Err refusals.NoReplica) × (new ≡ old)) P → GivesLine old result new (λ p. if c then (Err refusals.NoReplica, p) else f p)
+      handled true old result new f P each h = still_said old new result (Err refusals.NoReplica) h.0 h.1
+      handled false old result new f P each h = each h
+
+  befalls_comes : (o : Option Server) (id : ℕ) (does : Server → Result (Unit {0}) Refusal → Server → Type 0) (what : Server → Result Server Refusal) (nodes : Nodes D) (m : MasterOf D) (old : Way D)
+      (result : Result (Unit {0}) Refusal) (new : Way D) → ((s : Server) (said : Result (Unit {0}) Refusal) (after : Server) → does s said after → (said ≡ plain.met (what s)) × (after ≡ plain.left (what s) s)) → Stands old m
+      → MatchOption o ((nodes ≡ old.nodes) × (result ≡ Err refusals.Range)) (λ s. (after : Server) × (nodes ≡ with_servers (slice_set old.nodes.servers id after) old.nodes) × does s result after)
+      → new ≡ with_nodes nodes old → new.is_short ≡ false → Becomes new result (plain.befalls_found o id what (plain_of m.state old))
+  befalls_comes None id does what nodes m old result new each stands (same, range) is enough =
+      record { result = range; plain = plain_same seen failures old new m stands (is ∙ ap (λ (n : Nodes D). with_nodes n old) same) }
+  befalls_comes (Some s) id does what nodes m old result new each stands (after, at, did) is enough =
+      let done = each s result after did in
+      record {
+        result = done.0;
+        plain =
+            subst (λ (x : Server). IsPlain new (plain.with_server id x (plain_of m.state old))) done.1
+            (node_ends seen failures [] (with_servers (slice_set old.nodes.servers id after) old.nodes) m old new stands refl refl (is ∙ ap (λ (n : Nodes D). with_nodes n old) at) enough);
+      }
+
+  at_one : (id : ℕ) (does : Server → Result (Unit {0}) Refusal → Server → Type 0) (what : Server → Result Server Refusal) (old : Way D) (result : Result (Unit {0}) Refusal) (new : Way D)
+      → ((s : Server) (said : Result (Unit {0}) Refusal) (after : Server) → does s said after → (said ≡ plain.met (what s)) × (after ≡ plain.left (what s) s))
+      → ((nodes : Nodes D) → Good old → AtServer id does old.nodes result nodes → Good (with_nodes nodes old)) → AtOne id does old result new → GivesLine old result new (plain.befalls id what)
+  at_one id does what old result new each goes (nodes, at, is) = record {
+    short = λ short. ap (λ (w : Way D). w.is_short) is ∙ short;
+    same = λ calm m stands good undue. (
+      befalls_comes (slice_get old.nodes.servers id) id does what nodes m old result new each stands at is calm.enough,
+      subst Good (sym is) (goes nodes good at),
+    );
+  }
+
+  -- a message that was held back
+  passing : {R : Type 0} (r : R) (old new : Way D) (f : Plain → Plain) → LeadsHere old new f → GivesHere (Good old) old r new (λ p. (r, f p))
+  passing r old new f g = record {
+    short = g.short;
+    rises = g.rises;
+    same = λ calm m stands good undue. let done = g.same calm m stands good undue in (record { result = refl; plain = done.0.plain }, done.1);
+  }
+
+  hands_over : (o : Option Message) (number : ℕ) (old : Way D) (result : Result (Unit {0}) Refusal) (new : Way D) → held_at number old.held ≡ o
+      → MatchOption o ((result ≡ Err refusals.Range) × (new ≡ old)) (λ message. HandsOver seen failures message old result new) → GivesLine old result new (plain.handed_over o)
+  hands_over None number old result new found (range, same) = still_said old new result (Err refusals.Range) range same
+  hands_over (Some message) number old result new found (inl (memory, short)) = record {
+    short = λ _. ap (λ (w : Way D). w.is_short) short;
+    same = λ calm m stands good undue. absurd (false≢true (sym calm.enough ∙ ap (λ (w : Way D). w.is_short) short));
+  }
+  hands_over (Some message) number old result new found (inr (mid, d, rest)) =
+      line_of old result new (plain.handed_over (Some message))
+      (chain seen failures me MayAsk Good e (Good old) old mid new result result (plain.delivered message) (λ x p. (x, plain.delivers_whole p)) (λ x p noted. delivers_noted last_count p ∙ noted)
+      (delivers_one seen failures me MayAsk Good e message old old result mid (inr (number, found, refl)) d)
+      (passing result mid new plain.delivers_whole (delivers_whole seen failures me MayAsk Good e mid new rest)))
+
+  -- a report
+  beats_of : (o : Option Server) (number : ℕ) (old : Way D) (result : Result ℕ Refusal) (new : Way D) → slice_get old.nodes.servers number ≡ o
+      → MatchOption o ((result ≡ Err refusals.Range) × (new ≡ old)) (λ s. Beats seen failures (servers.beat s) old result new) → GivesLine old result new (plain.beats_found o)
+  beats_of None number old result new found (range, same) = still_said old new result (Err refusals.Range) range same
+  beats_of (Some s) number old result new found (inl (memory, short)) = record {
+    short = λ _. ap (λ (w : Way D). w.is_short) short;
+    same = λ calm m stands good undue. absurd (false≢true (sym calm.enough ∙ ap (λ (w : Way D). w.is_short) short));
+  }
+  beats_of (Some s) number old result new found (inr (mid, sends, rest, is)) =
+      let none = record old { drops = 0 } in
+      let sent = send_stays (servers.beat s) none mid sends in
+      let first : GivesHere (Good old) none tt mid (only (plain.sends (servers.beat s))) = record {
+        short = sent.short;
+        rises = subst (λ (n : Nodes D). failures_at failures none.nodes.master ≤ failures_at failures n.master) (sym sent.nodes) (itself (failures_at failures none.nodes.master));
+        same = λ calm m stands good undue. (
+          record {
+            result = refl;
+            plain = record {
+              master = m;
+              stands = record { place = ap (λ (n : Nodes D). n.master) sent.nodes ∙ stands.place; config = stands.config ∙ sym (ap (λ (n : Nodes D). n.config) sent.nodes) };
+              plain = sym (send_plain m.state (servers.beat s) none mid sends calm.enough);
+            };
+          },
+          e.beats number s old mid good found sends (record { enough = calm.enough; sound = calm.sound }),
+        );
+      } in
+      let all = chain seen failures me MayAsk Good e (Good old) none mid new tt tt (only (plain.sends (servers.beat s))) (λ _. only plain.delivers_whole) (λ x p noted. delivers_noted last_count p ∙ noted)
+      first (delivers_whole seen failures me MayAsk Good e mid new rest) in
+      record {
+        short = all.short;
+        same = λ calm m stands good undue.
+            let done = all.same (record { enough = calm.enough; sound = calm.sound }) m (record { place = stands.place; config = stands.config }) good undue in
+            (record { result = is ∙ ap (λ (p : Plain). Ok p.drops) (sym done.0.plain.plain); plain = done.0.plain }, done.1);
+      }
+
+  in_answer : {A : Type 0} (answer : A → Answer) (old : Way D) (said : Result A Refusal) (result : Result Answer Refusal) (new : Way D) (f : Plain → Result A Refusal × Plain)
+      → result ≡ answered answer said → GivesLine old said new f → GivesLine old result new (λ p. plain.answered_by answer (f p))
+  in_answer answer old said result new f is g = record {
+    short = g.short;
+    same = λ calm m stands good undue.
+        let done = g.same calm m stands good undue in (record { result = is ∙ ap (answered answer) done.0.result; plain = done.0.plain }, done.1);
+  }
+
+  changed : (old new now : Way D) (answer : Result Answer Refusal) (f : Plain → Plain) → new ≡ now → (old.is_short ≡ true → now.is_short ≡ true)
+      → ((m : MasterOf D) → Stands old m → Good old → IsPlain now (f (plain_of m.state old)) × Good now) → (result : Result Answer Refusal) → result ≡ answer → GivesLine old result new (λ p. (answer, f p))
+  changed old new now answer f same short each result is = record {
+    short = λ h. ap (λ (w : Way D). w.is_short) same ∙ short h;
+    same = λ calm m stands good undue. let done = each m stands good in (record { result = is; plain = subst (λ w. IsPlain w (f (plain_of m.state old))) (sym same) done.0 }, subst Good (sym same) done.1);
+  }

@@ -1,0 +1,91 @@
+-- What is sent where memory isn't wanting, and that neither that nor the nodes are forgotten.
+use Rattle.std.proofs.Common.{◌≡◌, ◌∙◌, ◌+◌, ◌⊎◌, ℕ, Bool, true, false, List, [], ◌∷◌, ◌++◌, if◌then◌else◌, Option, Some, None, Result, Ok, Err, refl, sym, ap, inl, inr}
+use Rattle.std.specs.Prelude.{min}
+use Rattle.std.proofs.lemmas.Bool.{false≢true}
+use Rattle.gs_base.specs.declared.refusal.Refusal.{Refusal}
+use Rattle.gs_base.specs.declared.refusal.Refusal.TheVariants as refusals
+use Rattle.gs_desk.specs.Ways.{Ends, Puts, Sends, SendsAll, Way, counted, held_back, is_held, shortened, shortened_by, under_way}
+use Rattle.gs_master.specs.declared.turn.Turn.{Turn as Told}
+use Rattle.gs_msg.specs.Bodies.{kind_of}
+use Rattle.gs_msg.specs.declared.message.Message.{Message}
+use Rattle.gs_state.specs.State.{State}
+use Rattle.gs_world.specs.Happenings.{met_by}
+use Rattle.gs_world.specs.Nodes.{Nodes}
+use Rattle.gs_theorems.specs.Enduring.{plain_of}
+use Rattle.gs_theorems.specs.Plain as plain
+use Rattle.gs_theorems.proofs.PlainNotes.{not_before}
+
+-- the nodes of a way are as they were, and it isn't forgotten that memory was wanting
+pub record StaysAt {D : Type 0} (old new : Way D) : Type 0 where
+  pub nodes : new.nodes ≡ old.nodes
+  pub short : old.is_short ≡ true → new.is_short ≡ true
+
+pub stays : {D : Type 0} (w : Way D) → StaysAt w w
+stays w = record { nodes = refl; short = λ short. short }
+
+stays_then : {D : Type 0} (old mid new : Way D) → StaysAt old mid → StaysAt mid new → StaysAt old new
+stays_then old mid new first second = record { nodes = second.nodes ∙ first.nodes; short = λ short. second.short (first.short short) }
+
+pub same_stays : {D : Type 0} (old mid new : Way D) → StaysAt old mid → new ≡ mid → StaysAt old new
+same_stays {D} old mid new s same =
+    record { nodes = ap (λ (w : Way D). w.nodes) same ∙ s.nodes; short = λ short. ap (λ (w : Way D). w.is_short) same ∙ s.short short }
+
+-- ---- one message
+
+module _ {D : Type 0} where
+  either_stays : (c : Bool) (old a b : Way D) → StaysAt old a → StaysAt old b → StaysAt old (if c then a else b)
+  either_stays true old a b first second = first
+  either_stays false old a b first second = second
+
+  plain_if : (s : State) (c : Bool) (a b : Way D) → plain_of s (if c then a else b) ≡ (if c then plain_of s a else plain_of s b)
+  plain_if s true a b = refl
+  plain_if s false a b = refl
+
+  lost : (old new : Way D) → new ≡ shortened old → new.is_short ≡ false → ⊥
+  lost old new same enough = false≢true (sym enough ∙ ap (λ (w : Way D). w.is_short) same)
+
+  pub send_stays : (message : Message) (old new : Way D) → Sends message old new → StaysAt old new
+  send_stays message old new (inl puts) =
+      let w = counted message old in
+      same_stays old (if is_held w.kind (kind_of message.body) then held_back message w else under_way message w) new
+      (either_stays (is_held w.kind (kind_of message.body)) old (held_back message w) (under_way message w) (record { nodes = refl; short = λ short. short }) (record { nodes = refl; short = λ short. short })) puts
+  send_stays message old new (inr short) = same_stays old (shortened (counted message old)) new (record { nodes = refl; short = λ _. refl }) short
+
+  pub send_plain : (s : State) (message : Message) (old new : Way D) → Sends message old new → new.is_short ≡ false → plain_of s new ≡ plain.sends message (plain_of s old)
+  send_plain s message old new (inl puts) enough =
+      let w = counted message old in ap (plain_of s) puts ∙ plain_if s (is_held w.kind (kind_of message.body)) (held_back message w) (under_way message w)
+  send_plain s message old new (inr short) enough = absurd (lost (counted message old) new short enough)
+
+  -- ---- one after the other
+
+  pub all_stays : (messages : List Message) (old new : Way D) → SendsAll messages old new → StaysAt old new
+  all_stays [] old new same = same_stays old old new (stays old) same
+  all_stays (message ∷ messages) old new (mid, first, others) = stays_then old mid new (send_stays message old mid first) (all_stays messages mid new others)
+
+  pub was_enough : (old new : Way D) → (old.is_short ≡ true → new.is_short ≡ true) → new.is_short ≡ false → old.is_short ≡ false
+  was_enough old new short enough = not_before old.is_short new.is_short short enough
+
+  pub all_plain : (s : State) (messages : List Message) (old new : Way D) → SendsAll messages old new → new.is_short ≡ false → plain_of s new ≡ plain.sends_all messages (plain_of s old)
+  all_plain s [] old new same enough = ap (plain_of s) same
+  all_plain s (message ∷ messages) old new (mid, first, others) enough =
+      all_plain s messages mid new others enough
+      ∙ ap (plain.sends_all messages) (send_plain s message old mid first (was_enough mid new (all_stays messages mid new others).short enough))
+
+  -- ---- an event's end
+
+  pub shortened_stays : (refusal : Refusal) (old : Way D) → StaysAt old (shortened_by refusal old)
+  shortened_stays refusals.Memory old = record { nodes = refl; short = λ _. refl }
+  shortened_stays refusal old = record { nodes = refl; short = λ short. short }
+
+  pub end_stays : (turn : Result Told Refusal) (old : Way D) (result : Result (Unit {0}) Refusal) (new : Way D) → Ends turn old result new → StaysAt old new
+  end_stays (Ok turn) old result new (all, is) = all_stays turn.sent.items old new all
+  end_stays (Err refusal) old result new (same, is) = same_stays old (shortened_by refusal old) new (shortened_stays refusal old) same
+
+  -- an event for which memory was wanting leaves a way that is short of it
+  pub wanting : (refusal : Refusal) (old new : Way D) → refusal ≡ refusals.Memory → new ≡ shortened_by refusal old → new.is_short ≡ false → ⊥
+  wanting refusal old new memory same enough = lost old new (same ∙ ap (λ (r : Refusal). shortened_by r old) memory) enough
+
+  -- without a want of memory nothing happened
+  pub unshortened : (refusal : Refusal) (old new : Way D) → new ≡ shortened_by refusal old → new.is_short ≡ false → new ≡ old
+  unshortened refusals.Memory old new same enough = absurd (lost old new same enough)
+  unshortened refusal old new same enough = same
