@@ -1,6 +1,7 @@
 -- What a line comes to, and a script, where memory isn't wanting and no disk fails.
 use Rattle.std.proofs.Common.{◌≡◌, ◌≢◌, ◌∙◌, ◌+◌, ◌-◌, ◌<◌, ◌≤◌, ◌⊎◌, ◌==◌, ℕ, zero, suc, Bool, true, false, List, [], ◌∷◌, if◌then◌else◌, Option, Some, None, MatchOption, Result, Ok, Err, refl, sym, ap, subst, inl, inr, arith, length, slice_get, slice_set}
 use Rattle.std.specs.Prelude.{min, nat_le, nat_lt}
+use Rattle.std.proofs.lemmas.Bool.{false≢true}
 use Rattle.std.proofs.lemmas.Bool.Decides.{nat_tests}
 use Rattle.gs_base.specs.declared.numbers.ClientId.{ClientId}
 use Rattle.gs_base.specs.declared.refusal.Refusal.{Refusal}
@@ -17,7 +18,7 @@ use Rattle.gs_client.specs.declared.link.Reply.{Reply}
 use Rattle.gs_client.specs.declared.link.Reply.TheVariants as replies
 use Rattle.gs_desk.specs.Answering.{AnswersText, IsText}
 use Rattle.gs_desk.specs.Lines.{AtOne, Beats, BeatsAt, BeatsOf, Comes, Either, ForServer, HandsOver, HandsOverAt, IsDone, MasterRestarts, NodesDo, OfHandle, Restarts, carried, held_at, is_server}
-use Rattle.gs_desk.specs.Ways.{DeliversWhole, IsDelivered, Way, last_count, shortened, way_of, with_nodes}
+use Rattle.gs_desk.specs.Ways.{DeliversWhole, Ends, IsDelivered, Way, last_count, shortened, way_of, with_nodes}
 use Rattle.gs_desk.specs.declared.desk.Desk.{Desk}
 use Rattle.gs_desk.specs.declared.wire.Wire.{Wire}
 use Rattle.gs_dialogue.specs.Dialogues.{Ask, Follows, Grow, Say, run}
@@ -27,21 +28,25 @@ use Rattle.gs_lines.specs.Grammar as lines
 use Rattle.gs_lines.specs.declared.command.Restarted.{Restarted}
 use Rattle.gs_lines.specs.declared.command.Restarted.TheVariants as restarted
 use Rattle.gs_master.specs.Masters.{MasterOf}
+use Rattle.gs_master.specs.declared.turn.Turn.{Turn as Told}
 use Rattle.gs_msg.specs.declared.event.Request.{Request as Asked}
 use Rattle.gs_msg.specs.declared.message.Message.{Message}
 use Rattle.gs_run.specs.Lasting.{failures_at}
 use Rattle.gs_script.specs.Run.{AnswersIfShort, AnswersLine, bad_line_text, memory_text}
 use Rattle.gs_server.specs.Servers.{Server}
 use Rattle.gs_server.specs.Servers as servers
-use Rattle.gs_world.specs.Happenings.{AtServer}
-use Rattle.gs_world.specs.Nodes.{Nodes, with_servers}
-use Rattle.gs_theorems.specs.Enduring.{AllAsked, Endures, IsCalm, IsPlain, IsTaken, Stands, plain_of}
+use Rattle.gs_state.specs.Handling.{reopened}
+use Rattle.gs_world.specs.Happenings.{AtServer, Reopens}
+use Rattle.gs_world.specs.Nodes.{Nodes, with_master, with_servers}
+use Rattle.gs_world.specs.declared.place.MasterPlace.TheVariants.{Standing}
+use Rattle.gs_theorems.specs.Enduring.{AllAsked, Endures, EnduresRestarts, IsCalm, IsPlain, IsTaken, Stands, plain_of}
 use Rattle.gs_theorems.specs.Plain.{Met, Plain, PlainDesk}
 use Rattle.gs_theorems.specs.Plain as plain
-use Rattle.gs_theorems.proofs.PlainEvents.{Comes as Becomes, node_ends, plain_same, server_leaves}
+use Rattle.gs_theorems.proofs.PlainEvents.{Comes as Becomes, master_ends, node_ends, plain_same, server_leaves}
 use Rattle.gs_theorems.proofs.PlainNotes.{KeepsAt, delivered_noted, delivers_noted, not_before, run_keeps, serves_keeps}
-use Rattle.gs_theorems.proofs.PlainSends.{send_plain, send_stays, was_enough}
-use Rattle.gs_theorems.proofs.PlainWays.{Gives, Leads, carries, delivers_one, delivers_whole, nothing, only, chain}
+use Rattle.gs_theorems.proofs.PlainReopens.{reopened_cases}
+use Rattle.gs_theorems.proofs.PlainSends.{end_stays, send_plain, send_stays, wanting, was_enough}
+use Rattle.gs_theorems.proofs.PlainWays.{Gives, Leads, carries, chain, delivers_one, delivers_whole, nothing, only, onward}
 
 below_not : (n m : ℕ) → n < m → (n == m) ≡ false
 below_not n m low = grind (arith, nat_tests)
@@ -62,11 +67,19 @@ itself : (n : ℕ) → n ≤ n
 itself n = omega arith
 
 -- what befalls a server
-befallen : {B : Type 0} (r : Result Server Refusal) (said : Result (Unit {0}) Refusal) (s after : Server) → Does r said s after → (said ≡ plain.met r) × (after ≡ plain.left r s)
-befallen (Ok a) (Ok done) s after is = (refl, is)
+befallen : (r : Result Server Refusal) (said : Result (Unit {0}) Refusal) (s after : Server) → Does r said s after → (said ≡ plain.met r) × (after ≡ plain.left r s)
+befallen (Ok a) (Ok u) s after is = (refl, is)
 befallen (Err e) (Err f) s after (same, still) = (ap (λ (x : Refusal). Err x) same, still)
 befallen (Ok a) (Err f) s after none = absurd none
-befallen (Err e) (Ok done) s after none = absurd none
+befallen (Err e) (Ok u) s after none = absurd none
+
+too_many : (m place mid new old : ℕ) → m < place → mid ≡ place → mid ≤ new → new ≡ old → old ≡ m → ⊥
+too_many m place mid new old more here high sound was = omega arith
+
+-- a turn that is refused for want of memory leaves a way that is short of it
+short_end : {D : Type 0} (turn : Result Told Refusal) (old : Way D) (said : Result (Unit {0}) Refusal) (new : Way D) → turn ≡ Err refusals.Memory → Ends turn old said new → new.is_short ≡ false → ⊥
+short_end turn old said new memory ends enough =
+    let gone = subst (λ (t : Result Told Refusal). Ends t old said new) memory ends in wanting refusals.Memory old new refl gone.0 enough
 
 module _ {D : Type 0} (seen : D → List ℕ) (failures : D → ℕ) (me : ClientId) (MayAsk : Asked → Type 0) (Good : Way D → Type 0) (e : Endures seen failures me MayAsk Good) where
   abbrev GivesHere : {R : Type 0} → Type 0 → Way D → R → Way D → (Plain → R × Plain) → Type 0
@@ -116,8 +129,7 @@ module _ {D : Type 0} (seen : D → List ℕ) (failures : D → ℕ) (me : Clien
     both_same : IsCalm failures (way_of old.1) (way_of new.1) → (m : MasterOf D) → Stands (way_of old.1) m → Good (way_of old.1)
         → (both (old.0, plain_of m.state (way_of old.1))).1.1.is_due ≡ false → Arrives new s (both (old.0, plain_of m.state (way_of old.1)))
     both_same calm m stands good undue =
-        let w = (old.0, plain_of m.state (way_of old.1)) in
-        let q = f w in
+        let q = f (old.0, plain_of m.state (way_of old.1)) in
         let one = first.same (record { enough = was_enough (way_of mid.1) (way_of new.1) second.short calm.enough; sound = quiet }) m stands good (not_before q.1.1.is_due (g q.0 q.1).1.1.is_due (keeps q.0 q.1) undue) in
         let there = one.plain in
         let path = desk_path r mid.0 (plain_of there.master.state (way_of mid.1)) q one.result one.client there.plain in
@@ -315,3 +327,133 @@ module _ {D : Type 0} (seen : D → List ℕ) (failures : D → ℕ) (me : Clien
     short = λ h. ap (λ (w : Way D). w.is_short) same ∙ short h;
     same = λ calm m stands good undue. let done = each m stands good in (record { result = is; plain = subst (λ w. IsPlain w (f (plain_of m.state old))) (sym same) done.0 }, subst Good (sym same) done.1);
   }
+
+  master_restarts : EnduresRestarts seen failures Good → (old : Way D) (said : Result (Unit {0}) Refusal) (new : Way D) → MasterRestarts seen failures old said new
+      → GivesLine old said new (plain.restarts_node restarted.Master)
+  master_restarts restarts old said new r =
+      let kept = end_stays r.turn (with_nodes (with_master r.place old.nodes) old) said r.mid r.ends in
+      let rest = delivers_whole seen failures me MayAsk Good e r.mid new r.delivers in
+      record {
+        short = λ short. rest.short (kept.short short);
+        same = λ calm m stands good undue.
+            let there : Reopens seen failures old.nodes.config (Standing m) r.turn r.place = subst (λ at. Reopens seen failures old.nodes.config at r.turn r.place) stands.place r.opens in
+            let enough = was_enough r.mid new rest.short calm.enough in
+            let here : failures_at failures r.mid.nodes.master ≡ failures_at failures r.place = ap (λ (n : Nodes D). failures_at failures n.master) kept.nodes in
+            let was : failures_at failures old.nodes.master ≡ failures_at failures (Standing m) = ap (failures_at failures) stands.place in
+            elim (reopened_cases seen failures old m r.turn r.place stands (e.good old m stands good) (restarts.written old m stands good) there) [
+              | inl more ↦ absurd (too_many (failures_at failures (Standing m)) (failures_at failures r.place) (failures_at failures r.mid.nodes.master) (failures_at failures new.nodes.master) (failures_at failures old.nodes.master)
+                more here rest.rises calm.sound was)
+              | inr (inl memory) ↦ absurd (short_end r.turn (with_nodes (with_master r.place old.nodes) old) said r.mid memory r.ends enough)
+              | inr (inr (turn, same)) ↦
+                let quiet : failures_at failures r.mid.nodes.master ≡ failures_at failures old.nodes.master = here ∙ same ∙ sym was in
+                let t = reopened old.nodes.config (plain.begun_again m.state) in
+                onward seen failures me MayAsk Good e r.mid new said said (plain.at_master t (plain_of m.state old)) (λ x p. (x, plain.delivers_whole p))
+                (master_ends seen failures t m r.turn r.place old said r.mid stands turn r.ends enough)
+                (restarts.restarts r.place r.turn old said r.mid good r.opens r.ends (record { enough = enough; sound = quiet }))
+                (passing said r.mid new plain.delivers_whole rest) (record { enough = calm.enough; sound = calm.sound ∙ sym quiet }) undue
+            ];
+      }
+
+  nodes_do : (line : List ℕ) (request : Request) → line_request line ≡ Some request → (request ≡ lines.Restart restarted.Master → EnduresRestarts seen failures Good)
+      → (old : Way D) (result : Result Answer Refusal) (new : Way D) → NodesDo seen failures request old result new → GivesLine old result new (plain.nodes_do request)
+  nodes_do line (lines.Beat number) asked restarts old result new (drops, beats, is) =
+      in_answer answers.Number old drops result new (plain.beats number) is
+      (for_server number (BeatsOf seen failures number old) old drops new (λ p. plain.beats_found (slice_get p.servers number) p)
+      (λ h. let g = beats_of (slice_get old.nodes.servers number) number old drops new refl h in record { short = g.short; same = λ calm m stands good undue. g.same calm m stands good undue }) beats)
+  nodes_do line (lines.At moment) asked restarts old result new (is, same) =
+      changed old new (record old { moment = record { 0 = moment } }) (Ok answers.Done) (λ p. record p { moment = record { 0 = moment } }) same (λ short. short)
+      (λ m stands good. (record { master = m; stands = record { place = stands.place; config = stands.config }; plain = refl }, e.comes_at line moment old good asked)) result is
+  nodes_do line (lines.Hold kind) asked restarts old result new (is, same) =
+      changed old new (record old { kind = kind }) (Ok answers.Done) (λ p. record p { kind = kind }) same (λ short. short)
+      (λ m stands good. (record { master = m; stands = record { place = stands.place; config = stands.config }; plain = refl }, e.holds kind old good)) result is
+  nodes_do line (lines.Restart restarted.Master) asked restarts old result new (said, does, is) =
+      in_answer done old said result new (plain.restarts_node restarted.Master) is (master_restarts (restarts refl) old said new does)
+  nodes_do line (lines.Restart (restarted.Server number)) asked restarts old result new (said, does, is) =
+      in_answer done old said result new (plain.restarts_node (restarted.Server number)) is
+      (for_server number (AtOne number (λ s result after. (result ≡ Ok tt) × (after ≡ servers.restart s)) old) old said new (plain.befalls number (λ s. Ok (servers.restart s)))
+      (λ h. at_one number (λ s result after. (result ≡ Ok tt) × (after ≡ servers.restart s)) (λ s. Ok (servers.restart s)) old said new (λ s said after did. did)
+      (λ nodes good at. e.server_restarts number old said nodes good at) h) does)
+  nodes_do line (lines.Lose server handle) asked restarts old result new (said, does, is) =
+      in_answer done old said result new (plain.for_server server (plain.of_handle handle (plain.befalls server (servers.lose handle)))) is
+      (for_server server (OfHandle handle (AtOne server (λ s result after. Does (servers.lose handle s) result s after) old) old) old said new (plain.of_handle handle (plain.befalls server (servers.lose handle)))
+      (λ h. of_handle handle (AtOne server (λ s result after. Does (servers.lose handle s) result s after) old) old said new (plain.befalls server (servers.lose handle))
+      (λ h. at_one server (λ s result after. Does (servers.lose handle s) result s after) (servers.lose handle) old said new (λ s said after did. befallen (servers.lose handle s) said s after did)
+      (λ nodes good at. e.loses server handle old said nodes good at) h) h) does)
+  nodes_do line (lines.Damage server handle block) asked restarts old result new (said, does, is) =
+      in_answer done old said result new (plain.for_server server (plain.of_handle handle (plain.befalls server (servers.damage handle block)))) is
+      (for_server server (OfHandle handle (AtOne server (λ s result after. Does (servers.damage handle block s) result s after) old) old) old said new (plain.of_handle handle (plain.befalls server (servers.damage handle block)))
+      (λ h. of_handle handle (AtOne server (λ s result after. Does (servers.damage handle block s) result s after) old) old said new (plain.befalls server (servers.damage handle block))
+      (λ h. at_one server (λ s result after. Does (servers.damage handle block s) result s after) (servers.damage handle block) old said new (λ s said after did. befallen (servers.damage handle block s) said s after did)
+      (λ nodes good at. e.damages server handle block old said nodes good at) h) h) does)
+  nodes_do line (lines.Deliver number) asked restarts old result new (said, does, is) =
+      in_answer done old said result new (λ p. plain.handed_over (held_at number p.held) p) is
+      (let g = hands_over (held_at number old.held) number old said new refl does in record { short = g.short; same = λ calm m stands good undue. g.same calm m stands good undue })
+  nodes_do line request asked restarts old result new does = absurd does
+
+  -- ---- a line
+
+  -- what a line comes to at a desk
+  pub record GivesDesk {R : Type 0} (old : Held) (r : R) (new : Held) (f : PlainDesk → R × PlainDesk) : Type 0 where
+    pub short : (way_of old.1).is_short ≡ true → (way_of new.1).is_short ≡ true
+    pub same : IsCalm failures (way_of old.1) (way_of new.1) → (m : MasterOf D) → Stands (way_of old.1) m → Good (way_of old.1)
+        → (f (old.0, plain_of m.state (way_of old.1))).1.1.is_due ≡ false → Arrives new r (f (old.0, plain_of m.state (way_of old.1)))
+
+  desk_of : {R : Type 0} (old : Held) (r : R) (new : Held) (f : PlainDesk → R × PlainDesk) → GivesAt old r new f → GivesDesk old r new f
+  desk_of old r new f g = record { short = g.short; same = g.same }
+
+  at_nodes : {R : Type 0} (old : Held) (r : R) (new : Held) (f : Plain → R × Plain) → new.0 ≡ old.0 → GivesLine (way_of old.1) r (way_of new.1) f → GivesDesk old r new (λ w. plain.at_desk w.0 (f w.1))
+  at_nodes old r new f client g = record {
+    short = g.short;
+    same = λ calm m stands good undue. let done = g.same calm m stands good undue in record { result = done.0.result; client = client; plain = done.0.plain; good = done.1 };
+  }
+
+  module _ (line : List ℕ) (restarts : line_request line ≡ Some (lines.Restart restarted.Master) → EnduresRestarts seen failures Good) where
+    comes_as : (o : Option (Call Answer)) (request : Request) (old : Held) (result : Result Answer Refusal) (new : Held) → line_request line ≡ Some request → old.0.last.client ≡ me → asked_by old.0.chunk request ≡ o
+        → (result ≡ Err refusals.Memory → ⊥)
+        → MatchOption o ((new.0 ≡ old.0) × NodesDo seen failures request (way_of old.1) result (way_of new.1)) (λ call. Follows (Asks (carried seen failures)) call old result new)
+        → GivesDesk old result new (plain.comes_as o request)
+    comes_as None request old result new asked mine is enough (client, does) =
+        at_nodes old result new (plain.nodes_do request) client
+        (nodes_do line request asked (λ same. restarts (asked ∙ ap (λ (r : Request). Some r) same)) (way_of old.1) result (way_of new.1) does)
+    comes_as (Some call) request old result new asked mine is enough follows =
+        desk_of old result new (run plain.serves call) (called call old new result mine (e.calls old.0.chunk line request call asked is) enough follows)
+
+    abbrev held_of : Desk D → Held
+    held_of desk = (desk.caller.client, desk.wire)
+
+    comes : (request : Request) (old : Desk D) (result : Result Answer Refusal) (new : Desk D) → line_request line ≡ Some request → old.caller.client.last.client ≡ me → (result ≡ Err refusals.Memory → ⊥)
+        → Comes seen failures request old result new → GivesDesk (held_of old) result (held_of new) (plain.comes request)
+    unfolding Comes
+    comes request old result new asked mine enough h =
+        let g = comes_as (asked_by old.caller.client.chunk request) request (held_of old) result (held_of new) asked mine refl enough h in
+        record { short = g.short; same = λ calm m stands good undue. g.same calm m stands good undue }
+
+    in_text : (answer : Result Answer Refusal) (text : List ℕ) (old new : Held) (f : PlainDesk → Result Answer Refusal × PlainDesk) → text ≡ answer_text answer → GivesDesk old answer new f → GivesDesk old text new (λ w. plain.in_text (f w))
+    in_text answer text old new f is g = record {
+      short = g.short;
+      same = λ calm m stands good undue.
+          let done = g.same calm m stands good undue in record { result = is ∙ ap answer_text done.result; client = done.client; plain = done.plain; good = done.good };
+    }
+
+    same_desk : {R : Type 0} (old new : Desk D) (r s : R) → r ≡ s → new ≡ old → GivesDesk (held_of old) r (held_of new) (λ w. (s, w))
+    same_desk old new r s is same = desk_of (held_of old) r (held_of new) (λ w. (s, w)) (nothing_at (held_of old) (held_of new) r s is (ap held_of same))
+
+    the_text : (answer : Result Answer Refusal) (text : List ℕ) → text ≢ memory_text → IsText answer text → text ≡ answer_text answer
+    the_text answer text enough (inl is) = is
+    the_text answer text enough (inr memory) = absurd (enough memory)
+
+    answers_as : (o : Option Request) (old : Desk D) (text : List ℕ) (new : Desk D) → line_request line ≡ o → old.caller.client.last.client ≡ me → text ≢ memory_text
+        → MatchOption o (IsText (Err refusals.BadLine) text × (new ≡ old)) (λ request. (answer : Result Answer Refusal) × Comes seen failures request old answer new × IsText answer text)
+        → GivesDesk (held_of old) text (held_of new) (plain.answers_as o)
+    answers_as None old text new asked mine enough (said, same) =
+        same_desk old new text (answer_text (Err refusals.BadLine)) (the_text (Err refusals.BadLine) text enough said) same
+    answers_as (Some request) old text new asked mine enough (answer, h, said) =
+        let is = the_text answer text enough said in
+        in_text answer text (held_of old) (held_of new) (plain.comes request) is
+        (comes request old answer new asked mine (λ memory. enough (is ∙ ap answer_text memory)) h)
+
+    text_answers : (old : Desk D) (text : List ℕ) (new : Desk D) → old.caller.client.last.client ≡ me → text ≢ memory_text → AnswersText seen failures old line text new
+        → GivesDesk (held_of old) text (held_of new) (plain.answers_as (line_request line))
+    unfolding AnswersText
+    text_answers old text new mine enough (inl (memory, same)) = absurd (enough memory)
+    text_answers old text new mine enough (inr h) = answers_as (line_request line) old text new refl mine enough h

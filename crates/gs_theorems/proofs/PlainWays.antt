@@ -46,6 +46,10 @@ joined a b c low high = omega arith
 itself : (n : ℕ) → n ≤ n
 itself n = omega arith
 
+-- nothing comes back
+abbrev pub only : (Plain → Plain) → Plain → Unit {0} × Plain
+only f p = (tt, f p)
+
 abbrev refusal_of : Result (Vec Message Global) Refusal → Refusal
 refusal_of (Ok sent) = refusals.Range
 refusal_of (Err refusal) = refusal
@@ -70,12 +74,17 @@ module _ {D : Type 0} (seen : D → List ℕ) (failures : D → ℕ) (me : Clien
     pub rises : failures_at failures old.nodes.master ≤ failures_at failures new.nodes.master
     pub same : IsCalm failures old new → (m : MasterOf D) → Stands old m → G → (f (plain_of m.state old)).1.is_due ≡ false → Comes new r (f (plain_of m.state old)) × Good new
 
-  -- nothing comes back
-  abbrev pub only : (Plain → Plain) → Plain → Unit {0} × Plain
-  only f p = (tt, f p)
-
   abbrev pub Leads : Way D → Way D → (Plain → Plain) → Type 0
   Leads old new f = Gives (Good old) old tt new (only f)
+
+  -- from where something led on goes what leads on from there
+  pub onward : {R S : Type 0} (mid new : Way D) (r : R) (s : S) (q : R × Plain) (g : R → Plain → S × Plain) → Comes mid r q → Good mid → Gives (Good mid) mid s new (g r) → IsCalm failures mid new
+      → (g q.0 q.1).1.is_due ≡ false → Comes new s (g q.0 q.1) × Good new
+  onward {R} {S} mid new r s q g one good second calm undue =
+      let there = one.plain in
+      let path : ◌≡◌ {A = R × Plain} (r, plain_of there.master.state mid) q = paired r q.0 (plain_of there.master.state mid) q.1 one.result there.plain in
+      let two = second.same calm there.master there.stands good (subst (λ (x : R × Plain). (g x.0 x.1).1.is_due ≡ false) (sym path) undue) in
+      (subst (λ (x : R × Plain). Comes new s (g x.0 x.1)) path two.0, two.1)
 
   module _ {R S : Type 0} (G : Type 0) (old mid new : Way D) (r : R) (s : S) (f : Plain → R × Plain) (g : R → Plain → S × Plain)
       (keeps : (x : R) (p : Plain) → p.is_due ≡ true → (g x p).1.is_due ≡ true) (first : Gives G old r mid f) (second : Gives (Good mid) mid s new (g r)) where
@@ -84,13 +93,9 @@ module _ {D : Type 0} (seen : D → List ℕ) (failures : D → ℕ) (me : Clien
 
     both_same : IsCalm failures old new → (m : MasterOf D) → Stands old m → G → (both (plain_of m.state old)).1.is_due ≡ false → Comes new s (both (plain_of m.state old)) × Good new
     both_same calm m stands good undue =
-        let p = plain_of m.state old in
-        let q = f p in
+        let q = f (plain_of m.state old) in
         let one = first.same (record { enough = was_enough mid new second.short calm.enough; sound = quiet }) m stands good (not_before q.1.is_due (g q.0 q.1).1.is_due (keeps q.0 q.1) undue) in
-        let there = one.0.plain in
-        let e : (r, plain_of there.master.state mid) ≡ q = paired r q.0 (plain_of there.master.state mid) q.1 one.0.result there.plain in
-        let two = second.same (record { enough = calm.enough; sound = calm.sound ∙ sym quiet }) there.master there.stands one.1 (subst (λ (x : R × Plain). (g x.0 x.1).1.is_due ≡ false) (sym e) undue) in
-        (subst (λ (x : R × Plain). Comes new s (g x.0 x.1)) e two.0, two.1)
+        onward mid new r s q g one.0 one.1 second (record { enough = calm.enough; sound = calm.sound ∙ sym quiet }) undue
         where
           quiet : failures_at failures mid.nodes.master ≡ failures_at failures old.nodes.master
           quiet = between (failures_at failures old.nodes.master) (failures_at failures mid.nodes.master) (failures_at failures new.nodes.master) first.rises second.rises calm.sound

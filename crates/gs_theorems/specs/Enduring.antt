@@ -15,7 +15,9 @@ use Rattle.gs_client.specs.Trees.{Call}
 use Rattle.gs_client.specs.declared.link.Reply.{Reply}
 use Rattle.gs_dialogue.specs.Dialogues.{Ask, Dialogue, Grow, Say}
 use Rattle.gs_desk.specs.Lines.{held_at}
-use Rattle.gs_desk.specs.Ways.{Ends, Heard, IsDelivered, MasterTicked, Sends, SendsAll, ServerTicked, Way, shortened_by, with_nodes, with_queue}
+use Rattle.gs_desk.specs.Ways.{Ends, Heard, IsDelivered, MasterTicked, Sends, SendsAll, ServerTicked, Way, shortened_by, way_of, with_nodes, with_queue}
+use Rattle.gs_desk.specs.Answering.{AnswersText}
+use Rattle.gs_desk.specs.declared.desk.Desk.{Desk}
 use Rattle.gs_journal.specs.Forms.{is_text}
 use Rattle.gs_journal.specs.Records.{generation_standing}
 use Rattle.gs_journal.specs.declared.version.Version.TheVariants.{Two}
@@ -23,6 +25,8 @@ use Rattle.gs_laws.specs.Standing.{IsNamedBody}
 use Rattle.gs_laws.specs.Written.{IsHeardBody, IsSteady}
 use Rattle.gs_lines.specs.Grammar.{Request, line_request}
 use Rattle.gs_lines.specs.Grammar as lines
+use Rattle.gs_line.specs.Line.{content}
+use Rattle.gs_lines.specs.declared.command.Restarted.TheVariants as restarted
 use Rattle.gs_master.specs.Masters.{MasterOf}
 use Rattle.gs_master.specs.declared.turn.Turn.{Turn as Told}
 use Rattle.gs_msg.specs.declared.event.Request.{Request as Asked}
@@ -32,6 +36,7 @@ use Rattle.gs_msg.specs.declared.node.NodeId.TheVariants as ids
 use Rattle.gs_record.specs.Encoding.{encoded}
 use Rattle.gs_record.specs.Plain.{PlainEntry}
 use Rattle.gs_run.specs.Lasting.{StandsFirm, failures_at}
+use Rattle.gs_script.specs.Run.{Runs}
 use Rattle.gs_server.specs.Servers.{Server}
 use Rattle.gs_server.specs.Servers as servers
 use Rattle.gs_state.specs.Applied.{records_behind}
@@ -40,7 +45,7 @@ use Rattle.gs_world.specs.Happenings.{AtClient, AtServer, ClientAsks, Reopens}
 use Rattle.gs_world.specs.Nodes.{Nodes, with_master}
 use Rattle.gs_world.specs.declared.place.MasterPlace.{MasterPlace}
 use Rattle.gs_world.specs.declared.place.MasterPlace.TheVariants.{Standing}
-use Rattle.gs_theorems.specs.Plain.{Plain}
+use Rattle.gs_theorems.specs.Plain.{Plain, PlainDesk}
 
 -- ---- what is seen of a way
 
@@ -135,3 +140,22 @@ pub record EnduresRestarts {D : Type 0} (seen : D → List ℕ) (failures : D �
   pub written : (w : Way D) (m : MasterOf D) → Stands w m → Good w → IsAsWritten seen m
   pub restarts : (place : MasterPlace D) (turn : Result Told Refusal) (old : Way D) (said : Result (Unit {0}) Refusal) (new : Way D) → Good old
       → Reopens seen failures old.nodes.config old.nodes.master turn place → Ends turn (with_nodes (with_master place old.nodes) old) said new → IsCalm failures old new → Good new
+
+-- ---- what comes of it
+
+-- a desk where the client and the store without its disks are these
+pub record Reaches {D : Type 0} (Good : Way D → Type 0) (desk : Desk D) (w : PlainDesk) : Type 0 where
+  pub client : desk.caller.client ≡ w.0
+  pub plain : IsPlain (way_of desk.wire) w.1
+  pub good : Good (way_of desk.wire)
+
+-- a line restarts the master
+abbrev pub RestartsMaster : List ℕ → Type 0
+RestartsMaster whole = line_request (content whole) ≡ Some (lines.Restart restarted.Master)
+
+-- of lines that are answered so one after the other, no disk of the master fails at one
+abbrev pub AreSound : {D : Type 0} (seen : D → List ℕ) (failures : D → ℕ) (old : Desk D) (lines texts : List (List ℕ)) (new : Desk D) → Runs (AnswersText seen failures) old lines texts new → Type 0
+AreSound seen failures old [] texts new runs = Unit {0}
+AreSound seen failures old (line ∷ lines) [] new runs = Unit {0}
+AreSound seen failures old (line ∷ lines) (text ∷ texts) new (mid, answers, rest) =
+    (failures_at failures (way_of mid.wire).nodes.master ≡ failures_at failures (way_of old.wire).nodes.master) × AreSound seen failures mid lines texts new rest
