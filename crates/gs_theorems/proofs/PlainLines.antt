@@ -90,7 +90,7 @@ module _ {D : Type 0} (seen : D → List ℕ) (failures : D → ℕ) (me : Clien
 
   -- ---- a client's calls
 
-  abbrev Held : Type 0
+  abbrev pub Held : Type 0
   Held = Client × Wire D
 
   pub record Arrives {R : Type 0} (new : Held) (r : R) (q : R × PlainDesk) : Type 0 where
@@ -118,7 +118,7 @@ module _ {D : Type 0} (seen : D → List ℕ) (failures : D → ℕ) (me : Clien
     };
   }
 
-  desk_path : {R : Type 0} (r : R) (c : Client) (p : Plain) (q : R × PlainDesk) → r ≡ q.0 → c ≡ q.1.0 → q.1.1 ≡ p → ◌≡◌ {A = R × PlainDesk} (r, (c, p)) q
+  pub desk_path : {R : Type 0} (r : R) (c : Client) (p : Plain) (q : R × PlainDesk) → r ≡ q.0 → c ≡ q.1.0 → q.1.1 ≡ p → ◌≡◌ {A = R × PlainDesk} (r, (c, p)) q
   desk_path r c p q first second third = λ i. (first i, (second i, sym third i))
 
   module _ {R S : Type 0} (old mid new : Held) (r : R) (s : S) (f : PlainDesk → R × PlainDesk) (g : R → PlainDesk → S × PlainDesk)
@@ -176,7 +176,7 @@ module _ {D : Type 0} (seen : D → List ℕ) (failures : D → ℕ) (me : Clien
             (still.same calm m stands good (subst (λ (c : Bool). (if c then refused else goes).1.1.is_due ≡ false) it undue));
       }
 
-  still_mine : (old new : Held) (request : Asked) (reply : Reply) → old.0.last.client ≡ me → Asks (carried seen failures) old request reply new → new.0.last.client ≡ me
+  pub still_mine : (old new : Held) (request : Asked) (reply : Reply) → old.0.last.client ≡ me → Asks (carried seen failures) old request reply new → new.0.last.client ≡ me
   still_mine old new request reply mine (inl (low, next, c)) = ap (λ (c : Client). c.last.client) next ∙ mine
   still_mine old new request reply mine (inr (last, is, same)) = ap (λ (h : Held). h.0.last.client) same ∙ mine
 
@@ -435,7 +435,7 @@ module _ {D : Type 0} (seen : D → List ℕ) (failures : D → ℕ) (me : Clien
           let done = g.same calm m stands good undue in record { result = is ∙ ap answer_text done.result; client = done.client; plain = done.plain; good = done.good };
     }
 
-    same_desk : {R : Type 0} (old new : Desk D) (r s : R) → r ≡ s → new ≡ old → GivesDesk (held_of old) r (held_of new) (λ w. (s, w))
+    pub same_desk : {R : Type 0} (old new : Desk D) (r s : R) → r ≡ s → new ≡ old → GivesDesk (held_of old) r (held_of new) (λ w. (s, w))
     same_desk old new r s is same = desk_of (held_of old) r (held_of new) (λ w. (s, w)) (nothing_at (held_of old) (held_of new) r s is (ap held_of same))
 
     the_text : (answer : Result Answer Refusal) (text : List ℕ) → text ≢ memory_text → IsText answer text → text ≡ answer_text answer
@@ -452,7 +452,7 @@ module _ {D : Type 0} (seen : D → List ℕ) (failures : D → ℕ) (me : Clien
         in_text answer text (held_of old) (held_of new) (plain.comes request) is
         (comes request old answer new asked mine (λ memory. enough (is ∙ ap answer_text memory)) h)
 
-    text_answers : (old : Desk D) (text : List ℕ) (new : Desk D) → old.caller.client.last.client ≡ me → text ≢ memory_text → AnswersText seen failures old line text new
+    pub text_answers : (old : Desk D) (text : List ℕ) (new : Desk D) → old.caller.client.last.client ≡ me → text ≢ memory_text → AnswersText seen failures old line text new
         → GivesDesk (held_of old) text (held_of new) (plain.answers_as (line_request line))
     unfolding AnswersText
     text_answers old text new mine enough (inl (memory, same)) = absurd (enough memory)

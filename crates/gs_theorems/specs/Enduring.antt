@@ -1,8 +1,10 @@
 -- How a store without disks is that of a way, and what is taken of the ways of a script: that their masters are steady, and what they hear is
 -- within its types.
-use Rattle.std.specs.Prelude.{◌≡◌, ◌⊎◌, ◌≤◌, ℕ, true, false, List, [], ◌∷◌, map, Option, Some, None, Result, Ok, Err, Vec, slice_get, slice_set}
+use Rattle.std.specs.Prelude.{◌≡◌, ◌≢◌, ◌⊎◌, ◌≤◌, ℕ, true, false, List, [], ◌∷◌, map, Option, Some, None, Result, Ok, Err, Vec, slice_get, slice_set}
+use Rattle.std.specs.List.{AllByRecursion}
 use Rattle.std.specs.declared.alloc.Global.{Global}
 use Rattle.gs_base.specs.Told.{IsNumber}
+use Rattle.gs_base.specs.declared.config.Config.{Config}
 use Rattle.gs_base.specs.declared.numbers.ClientId.{ClientId}
 use Rattle.gs_base.specs.declared.numbers.ReqId.{ReqId}
 use Rattle.gs_base.specs.declared.refusal.Refusal.{Refusal}
@@ -36,9 +38,10 @@ use Rattle.gs_msg.specs.declared.node.NodeId.TheVariants as ids
 use Rattle.gs_record.specs.Encoding.{encoded}
 use Rattle.gs_record.specs.Plain.{PlainEntry}
 use Rattle.gs_run.specs.Lasting.{StandsFirm, failures_at}
-use Rattle.gs_script.specs.Run.{Runs}
+use Rattle.gs_script.specs.Run.{Runs, lines_of, memory_text}
 use Rattle.gs_server.specs.Servers.{Server}
 use Rattle.gs_server.specs.Servers as servers
+use Rattle.gs_shell.specs.Serving.{Serves}
 use Rattle.gs_state.specs.Applied.{records_behind}
 use Rattle.gs_state.specs.State.{State}
 use Rattle.gs_world.specs.Happenings.{AtClient, AtServer, ClientAsks, Reopens}
@@ -159,3 +162,15 @@ AreSound seen failures old [] texts new runs = Unit {0}
 AreSound seen failures old (line ∷ lines) [] new runs = Unit {0}
 AreSound seen failures old (line ∷ lines) (text ∷ texts) new (mid, answers, rest) =
     (failures_at failures (way_of mid.wire).nodes.master ≡ failures_at failures (way_of old.wire).nodes.master) × AreSound seen failures mid lines texts new rest
+
+-- A whole script over disks that say nothing, whose ways are good and stay so: memory was never wanting, no disk failed at a line, and no line restarts
+-- the master where that isn't taken into account.
+pub record RunsWell {D : Type 0} (seen : D → List ℕ) (failures : D → ℕ) (config : Config) (disks : D × D) (MayAsk : Asked → Type 0) (Good : Way D → Type 0) (input : List ℕ) (old new : Option (List ℕ))
+    (s : Serves seen failures config disks input old new) : Type 0 where
+  pub endures : Endures seen failures (record { 0 = 1 }) MayAsk Good
+  pub begun : Good (way_of s.begun.wire)
+  pub empty : (seen disks.0 ≡ []) × (seen disks.1 ≡ [])
+  pub enough : (way_of s.ended.wire).is_short ≡ false
+  pub answered : AllByRecursion (λ text. text ≢ memory_text) s.writes.texts
+  pub sound : AreSound seen failures s.begun (lines_of input) s.writes.texts s.ended s.writes.runs
+  pub restarts : AllByRecursion (λ line. ¬ RestartsMaster line) (lines_of input) ⊎ EnduresRestarts seen failures Good
