@@ -31,7 +31,8 @@ use Rattle.gs_world.specs.Happenings.{AtClient, AtServer, ClientHears, Hears, Ma
 use Rattle.gs_world.specs.Nodes.{Nodes, with_clients, with_master, with_servers}
 use Rattle.gs_world.specs.declared.place.MasterPlace.{MasterPlace}
 use Rattle.gs_world.specs.declared.place.MasterPlace.TheVariants.{Standing, Closed, Away}
-use Rattle.gs_theorems.specs.Enduring.{IsGood, IsPlain, Stands, plain_of}
+use Rattle.gs_theorems.specs.Meeting.{IsPlain, Stands, plain_of}
+use Rattle.gs_theorems.proofs.PlainEnduring.{IsGood}
 use Rattle.gs_theorems.specs.Plain.{Met, Plain}
 use Rattle.gs_theorems.specs.Plain as plain
 use Rattle.gs_theorems.proofs.PlainSends.{StaysAt, all_plain, all_stays, end_stays, wanting}

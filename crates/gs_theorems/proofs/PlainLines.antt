@@ -39,7 +39,8 @@ use Rattle.gs_state.specs.Handling.{reopened}
 use Rattle.gs_world.specs.Happenings.{AtServer, Reopens}
 use Rattle.gs_world.specs.Nodes.{Nodes, with_master, with_servers}
 use Rattle.gs_world.specs.declared.place.MasterPlace.TheVariants.{Standing}
-use Rattle.gs_theorems.specs.Enduring.{AllAsked, Endures, EnduresRestarts, IsCalm, IsPlain, IsTaken, Stands, plain_of}
+use Rattle.gs_theorems.specs.Meeting.{IsCalm, IsPlain, Stands, plain_of}
+use Rattle.gs_theorems.proofs.PlainEnduring.{IsOurs, AllAsked, Endures, EnduresRestarts, IsTaken}
 use Rattle.gs_theorems.specs.Plain.{Met, Plain, PlainDesk}
 use Rattle.gs_theorems.specs.Plain as plain
 use Rattle.gs_theorems.proofs.PlainEvents.{Comes as Becomes, master_ends, node_ends, plain_same, server_leaves}
@@ -81,12 +82,12 @@ short_end : {D : Type 0} (turn : Result Told Refusal) (old : Way D) (said : Resu
 short_end turn old said new memory ends enough =
     let gone = subst (λ (t : Result Told Refusal). Ends t old said new) memory ends in wanting refusals.Memory old new refl gone.0 enough
 
-module _ {D : Type 0} (seen : D → List ℕ) (failures : D → ℕ) (me : ClientId) (MayAsk : Asked → Type 0) (Good : Way D → Type 0) (e : Endures seen failures me MayAsk Good) where
+module _ {D : Type 0} (seen : D → List ℕ) (failures : D → ℕ) (me : ClientId) (size : ℕ) (MayAsk : Asked → Type 0) (Good : Way D → Type 0) (e : Endures seen failures me size MayAsk Good) where
   abbrev GivesHere : {R : Type 0} → Type 0 → Way D → R → Way D → (Plain → R × Plain) → Type 0
-  GivesHere G old r new f = Gives seen failures me MayAsk Good e G old r new f
+  GivesHere G old r new f = Gives seen failures me size MayAsk Good e G old r new f
 
   abbrev LeadsHere : Way D → Way D → (Plain → Plain) → Type 0
-  LeadsHere old new f = Leads seen failures me MayAsk Good e old new f
+  LeadsHere old new f = Leads seen failures me size MayAsk Good e old new f
 
   -- ---- a client's calls
 
@@ -147,10 +148,10 @@ module _ {D : Type 0} (seen : D → List ℕ) (failures : D → ℕ) (me : Clien
     }
 
   -- one request
-  served : (old new : Held) (request : Asked) (reply : Reply) → old.0.last.client ≡ me → MayAsk request → Asks (carried seen failures) old request reply new
+  served : (old new : Held) (request : Asked) (reply : Reply) → IsOurs me size old.0 → MayAsk request → Asks (carried seen failures) old request reply new
       → GivesAt old reply new (λ w. plain.serves w request)
   served old new request reply mine may (inl (low, next, c)) =
-      let g = carries seen failures me MayAsk Good e (next_request old.0) request (way_of old.1) reply (way_of new.1) mine (one_above old.0.last.number last_number low) may c in
+      let g = carries seen failures me size MayAsk Good e (next_request old.0) request (way_of old.1) reply (way_of new.1) mine.0 (one_above old.0.last.number last_number low) may c in
       let other = below_not old.0.last.number last_number low in
       record {
         short = g.short;
@@ -176,12 +177,12 @@ module _ {D : Type 0} (seen : D → List ℕ) (failures : D → ℕ) (me : Clien
             (still.same calm m stands good (subst (λ (c : Bool). (if c then refused else goes).1.1.is_due ≡ false) it undue));
       }
 
-  pub still_mine : (old new : Held) (request : Asked) (reply : Reply) → old.0.last.client ≡ me → Asks (carried seen failures) old request reply new → new.0.last.client ≡ me
-  still_mine old new request reply mine (inl (low, next, c)) = ap (λ (c : Client). c.last.client) next ∙ mine
-  still_mine old new request reply mine (inr (last, is, same)) = ap (λ (h : Held). h.0.last.client) same ∙ mine
+  pub still_mine : (old new : Held) (request : Asked) (reply : Reply) → IsOurs me size old.0 → Asks (carried seen failures) old request reply new → IsOurs me size new.0
+  still_mine old new request reply mine (inl (low, next, c)) = (ap (λ (c : Client). c.last.client) next ∙ mine.0, ap (λ (c : Client). c.chunk) next ∙ mine.1)
+  still_mine old new request reply mine (inr (last, is, same)) = (ap (λ (h : Held). h.0.last.client) same ∙ mine.0, ap (λ (h : Held). h.0.chunk) same ∙ mine.1)
 
   -- a whole call, for which memory isn't wanting
-  called : {A : Type 0} (call : Call A) (old new : Held) (result : Result A Refusal) → old.0.last.client ≡ me → AllAsked MayAsk call → (result ≡ Err refusals.Memory → ⊥)
+  called : {A : Type 0} (call : Call A) (old new : Held) (result : Result A Refusal) → IsOurs me size old.0 → AllAsked MayAsk call → (result ≡ Err refusals.Memory → ⊥)
       → Follows (Asks (carried seen failures)) call old result new → GivesAt old result new (run plain.serves call)
   called (Say said) old new result mine may enough (is, same) = nothing_at old new result said is same
   called (Ask request more) old new result mine (may, others) enough (reply, mid, sends, rest) =
@@ -274,9 +275,9 @@ module _ {D : Type 0} (seen : D → List ℕ) (failures : D → ℕ) (me : Clien
   }
   hands_over (Some message) number old result new found (inr (mid, d, rest)) =
       line_of old result new (plain.handed_over (Some message))
-      (chain seen failures me MayAsk Good e (Good old) old mid new result result (plain.delivered message) (λ x p. (x, plain.delivers_whole p)) (λ x p noted. delivers_noted last_count p ∙ noted)
-      (delivers_one seen failures me MayAsk Good e message old old result mid (inr (number, found, refl)) d)
-      (passing result mid new plain.delivers_whole (delivers_whole seen failures me MayAsk Good e mid new rest)))
+      (chain seen failures me size MayAsk Good e (Good old) old mid new result result (plain.delivered message) (λ x p. (x, plain.delivers_whole p)) (λ x p noted. delivers_noted last_count p ∙ noted)
+      (delivers_one seen failures me size MayAsk Good e message old old result mid (inr (number, found, refl)) d)
+      (passing result mid new plain.delivers_whole (delivers_whole seen failures me size MayAsk Good e mid new rest)))
 
   -- a report
   beats_of : (o : Option Server) (number : ℕ) (old : Way D) (result : Result ℕ Refusal) (new : Way D) → slice_get old.nodes.servers number ≡ o
@@ -304,8 +305,8 @@ module _ {D : Type 0} (seen : D → List ℕ) (failures : D → ℕ) (me : Clien
           e.beats number s old mid good found sends (record { enough = calm.enough; sound = calm.sound }),
         );
       } in
-      let all = chain seen failures me MayAsk Good e (Good old) none mid new tt tt (only (plain.sends (servers.beat s))) (λ _. only plain.delivers_whole) (λ x p noted. delivers_noted last_count p ∙ noted)
-      first (delivers_whole seen failures me MayAsk Good e mid new rest) in
+      let all = chain seen failures me size MayAsk Good e (Good old) none mid new tt tt (only (plain.sends (servers.beat s))) (λ _. only plain.delivers_whole) (λ x p noted. delivers_noted last_count p ∙ noted)
+      first (delivers_whole seen failures me size MayAsk Good e mid new rest) in
       record {
         short = all.short;
         same = λ calm m stands good undue.
@@ -332,7 +333,7 @@ module _ {D : Type 0} (seen : D → List ℕ) (failures : D → ℕ) (me : Clien
       → GivesLine old said new (plain.restarts_node restarted.Master)
   master_restarts restarts old said new r =
       let kept = end_stays r.turn (with_nodes (with_master r.place old.nodes) old) said r.mid r.ends in
-      let rest = delivers_whole seen failures me MayAsk Good e r.mid new r.delivers in
+      let rest = delivers_whole seen failures me size MayAsk Good e r.mid new r.delivers in
       record {
         short = λ short. rest.short (kept.short short);
         same = λ calm m stands good undue.
@@ -347,7 +348,7 @@ module _ {D : Type 0} (seen : D → List ℕ) (failures : D → ℕ) (me : Clien
               | inr (inr (turn, same)) ↦
                 let quiet : failures_at failures r.mid.nodes.master ≡ failures_at failures old.nodes.master = here ∙ same ∙ sym was in
                 let t = reopened old.nodes.config (plain.begun_again m.state) in
-                onward seen failures me MayAsk Good e r.mid new said said (plain.at_master t (plain_of m.state old)) (λ x p. (x, plain.delivers_whole p))
+                onward seen failures me size MayAsk Good e r.mid new said said (plain.at_master t (plain_of m.state old)) (λ x p. (x, plain.delivers_whole p))
                 (master_ends seen failures t m r.turn r.place old said r.mid stands turn r.ends enough)
                 (restarts.restarts r.place r.turn old said r.mid good r.opens r.ends (record { enough = enough; sound = quiet }))
                 (passing said r.mid new plain.delivers_whole rest) (record { enough = calm.enough; sound = calm.sound ∙ sym quiet }) undue
@@ -408,7 +409,7 @@ module _ {D : Type 0} (seen : D → List ℕ) (failures : D → ℕ) (me : Clien
   }
 
   module _ (line : List ℕ) (restarts : line_request line ≡ Some (lines.Restart restarted.Master) → EnduresRestarts seen failures Good) where
-    comes_as : (o : Option (Call Answer)) (request : Request) (old : Held) (result : Result Answer Refusal) (new : Held) → line_request line ≡ Some request → old.0.last.client ≡ me → asked_by old.0.chunk request ≡ o
+    comes_as : (o : Option (Call Answer)) (request : Request) (old : Held) (result : Result Answer Refusal) (new : Held) → line_request line ≡ Some request → IsOurs me size old.0 → asked_by old.0.chunk request ≡ o
         → (result ≡ Err refusals.Memory → ⊥)
         → MatchOption o ((new.0 ≡ old.0) × NodesDo seen failures request (way_of old.1) result (way_of new.1)) (λ call. Follows (Asks (carried seen failures)) call old result new)
         → GivesDesk old result new (plain.comes_as o request)
@@ -416,12 +417,12 @@ module _ {D : Type 0} (seen : D → List ℕ) (failures : D → ℕ) (me : Clien
         at_nodes old result new (plain.nodes_do request) client
         (nodes_do line request asked (λ same. restarts (asked ∙ ap (λ (r : Request). Some r) same)) (way_of old.1) result (way_of new.1) does)
     comes_as (Some call) request old result new asked mine is enough follows =
-        desk_of old result new (run plain.serves call) (called call old new result mine (e.calls old.0.chunk line request call asked is) enough follows)
+        desk_of old result new (run plain.serves call) (called call old new result mine (e.calls line request call asked (ap (λ (n : ℕ). asked_by n request) (sym mine.1) ∙ is)) enough follows)
 
     abbrev held_of : Desk D → Held
     held_of desk = (desk.caller.client, desk.wire)
 
-    comes : (request : Request) (old : Desk D) (result : Result Answer Refusal) (new : Desk D) → line_request line ≡ Some request → old.caller.client.last.client ≡ me → (result ≡ Err refusals.Memory → ⊥)
+    comes : (request : Request) (old : Desk D) (result : Result Answer Refusal) (new : Desk D) → line_request line ≡ Some request → IsOurs me size old.caller.client → (result ≡ Err refusals.Memory → ⊥)
         → Comes seen failures request old result new → GivesDesk (held_of old) result (held_of new) (plain.comes request)
     unfolding Comes
     comes request old result new asked mine enough h =
@@ -442,7 +443,7 @@ module _ {D : Type 0} (seen : D → List ℕ) (failures : D → ℕ) (me : Clien
     the_text answer text enough (inl is) = is
     the_text answer text enough (inr memory) = absurd (enough memory)
 
-    answers_as : (o : Option Request) (old : Desk D) (text : List ℕ) (new : Desk D) → line_request line ≡ o → old.caller.client.last.client ≡ me → text ≢ memory_text
+    answers_as : (o : Option Request) (old : Desk D) (text : List ℕ) (new : Desk D) → line_request line ≡ o → IsOurs me size old.caller.client → text ≢ memory_text
         → MatchOption o (IsText (Err refusals.BadLine) text × (new ≡ old)) (λ request. (answer : Result Answer Refusal) × Comes seen failures request old answer new × IsText answer text)
         → GivesDesk (held_of old) text (held_of new) (plain.answers_as o)
     answers_as None old text new asked mine enough (said, same) =
@@ -452,7 +453,7 @@ module _ {D : Type 0} (seen : D → List ℕ) (failures : D → ℕ) (me : Clien
         in_text answer text (held_of old) (held_of new) (plain.comes request) is
         (comes request old answer new asked mine (λ memory. enough (is ∙ ap answer_text memory)) h)
 
-    pub text_answers : (old : Desk D) (text : List ℕ) (new : Desk D) → old.caller.client.last.client ≡ me → text ≢ memory_text → AnswersText seen failures old line text new
+    pub text_answers : (old : Desk D) (text : List ℕ) (new : Desk D) → IsOurs me size old.caller.client → text ≢ memory_text → AnswersText seen failures old line text new
         → GivesDesk (held_of old) text (held_of new) (plain.answers_as (line_request line))
     unfolding AnswersText
     text_answers old text new mine enough (inl (memory, same)) = absurd (enough memory)

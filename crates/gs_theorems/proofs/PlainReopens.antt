@@ -33,7 +33,8 @@ use Rattle.gs_state.specs.State.{Log, State, Turn}
 use Rattle.gs_world.specs.Happenings.{Opens, Reopens, limit}
 use Rattle.gs_world.specs.declared.place.MasterPlace.{MasterPlace}
 use Rattle.gs_world.specs.declared.place.MasterPlace.TheVariants.{Standing, Closed, Away}
-use Rattle.gs_theorems.specs.Enduring.{IsAsWritten, IsGood, Stands}
+use Rattle.gs_theorems.specs.Meeting.{IsAsWritten, Stands}
+use Rattle.gs_theorems.proofs.PlainEnduring.{IsGood}
 use Rattle.gs_theorems.specs.Plain.{begun_again}
 use Rattle.gs_theorems.proofs.PlainEvents.{Same, TurnIs}
 

@@ -11,7 +11,7 @@ use Rattle.gs_msg.specs.declared.message.Message.{Message}
 use Rattle.gs_state.specs.State.{State}
 use Rattle.gs_world.specs.Happenings.{met_by}
 use Rattle.gs_world.specs.Nodes.{Nodes}
-use Rattle.gs_theorems.specs.Enduring.{plain_of}
+use Rattle.gs_theorems.specs.Meeting.{plain_of}
 use Rattle.gs_theorems.specs.Plain as plain
 use Rattle.gs_theorems.proofs.PlainNotes.{not_before}
 

@@ -11,13 +11,10 @@ use Rattle.gs_journal.specs.declared.version.Version.TheVariants.{Two}
 use Rattle.gs_laws.proofs.StandingRuns.{starts_firm}
 use Rattle.gs_master.specs.Masters.{MasterOf}
 use Rattle.gs_master.specs.declared.turn.Turn.{Turn as Told}
-use Rattle.gs_msg.specs.declared.event.Request.{Request as Asked}
 use Rattle.gs_msg.specs.declared.message.Message.{Message}
 use Rattle.gs_record.specs.Encoding.{encoded}
 use Rattle.gs_record.specs.Plain.{PlainEntry}
 use Rattle.gs_run.specs.Lasting.{IsToldIn, failures_at}
-use Rattle.gs_script.specs.Run.{lines_of}
-use Rattle.gs_shell.specs.Serving.{Serves}
 use Rattle.gs_state.specs.Applied.{records_behind}
 use Rattle.gs_state.specs.Durable.{start}
 use Rattle.gs_state.specs.Handling.{reopened, restarted, told_again}
@@ -26,11 +23,10 @@ use Rattle.gs_world.specs.Happenings.{Opens}
 use Rattle.gs_world.specs.Nodes.{new_nodes}
 use Rattle.gs_world.specs.declared.place.MasterPlace.{MasterPlace}
 use Rattle.gs_world.specs.declared.place.MasterPlace.TheVariants.{Standing}
-use Rattle.gs_theorems.specs.Enduring.{IsPlain, Reaches, RunsWell, Stands, plain_of}
+use Rattle.gs_theorems.specs.Meeting.{IsPlain, Stands, plain_of}
 use Rattle.gs_theorems.specs.Plain.{Plain, delivers}
 use Rattle.gs_theorems.specs.Plain as plain
 use Rattle.gs_theorems.proofs.PlainReopens.{opened_sends, opened_state}
-use Rattle.gs_theorems.proofs.PlainScripts.{all_lines}
 
 -- a text of no records is that of no entries
 no_entries : (entries : List PlainEntry) → ◌≡◌ {A = Text} (Two, []) (Two, map (encoded Two) entries) → records_behind entries ≡ 0
@@ -83,7 +79,7 @@ module _ {D : Type 0} (seen : D → List ℕ) (failures : D → ℕ) where
       }
 
   -- a new store without its disks
-  starts_plain : (config : Config) (disks : D × D) (desk : Desk D) → seen disks.0 ≡ [] → seen disks.1 ≡ [] → Starts seen failures config disks desk
+  pub starts_plain : (config : Config) (disks : D × D) (desk : Desk D) → seen disks.0 ≡ [] → seen disks.1 ≡ [] → Starts seen failures config disks desk
       → (desk.caller.client ≡ (plain.begins config).0) × IsPlain (way_of desk.wire) (plain.begins config).1
   starts_plain config disks desk first second s =
       let n = new_master config disks s.place s.turn first second s.opens in
@@ -97,11 +93,3 @@ module _ {D : Type 0} (seen : D → List ℕ) (failures : D → ℕ) where
       } in
       let same = none_plain last_count (record (plain.new_plain config) { master = restarted start plain.new_log }) refl in
       (s.client, subst (λ (x : Way D). IsPlain x (plain.begins config).1) (sym still) (subst (λ (p : Plain). IsPlain w p) (sym same) there))
-
-  pub script_answered : (config : Config) (disks : D × D) (MayAsk : Asked → Type 0) (Good : Way D → Type 0) (input : List ℕ) (old new : Option (List ℕ)) (s : Serves seen failures config disks input old new)
-      → RunsWell seen failures config disks MayAsk Good input old new s → (plain.runs config input).1.1.is_due ≡ false
-      → (s.writes.texts ≡ plain.answers_of config input) × Reaches Good s.ended (plain.runs config input).1
-  script_answered config disks MayAsk Good input old new s r undue =
-      let begins = starts_plain config disks s.begun r.empty.0 r.empty.1 s.starts in
-      (all_lines seen failures (record { 0 = 1 }) MayAsk Good r.endures (lines_of input) s.writes.texts s.begun s.ended s.writes.runs (ap (λ c. c.last.client) s.starts.client) r.answered r.restarts r.sound).same
-      r.enough (plain.begins config) (record { client = begins.0; plain = begins.1; good = r.begun }) undue

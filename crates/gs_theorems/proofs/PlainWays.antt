@@ -27,7 +27,8 @@ use Rattle.gs_world.specs.Happenings.{AtClient, ClientAsks, Delivers, Hears, Mas
 use Rattle.gs_world.specs.Nodes.{Nodes, with_clients, with_master}
 use Rattle.gs_world.specs.declared.place.MasterPlace.{MasterPlace}
 use Rattle.gs_world.specs.declared.place.MasterPlace.TheVariants.{Standing}
-use Rattle.gs_theorems.specs.Enduring.{Endures, GoesOut, IsCalm, IsGood, IsPlain, IsTaken, Stands, plain_of}
+use Rattle.gs_theorems.specs.Meeting.{IsCalm, IsPlain, Stands, plain_of}
+use Rattle.gs_theorems.proofs.PlainEnduring.{Endures, GoesOut, IsGood, IsTaken}
 use Rattle.gs_theorems.specs.Plain.{Plain, delivers}
 use Rattle.gs_theorems.specs.Plain as plain
 use Rattle.gs_theorems.proofs.PlainEvents.{Comes, client_leaves, heard_comes, heard_rise, master_ends, node_ends, plain_same, server_does, server_leaves, ticked_turn, ticks_rise}
@@ -66,7 +67,7 @@ waiting_is : (o : Option Node) (waits : Bool) → MatchOption o (waits ≡ false
 waiting_is None waits is = is
 waiting_is (Some n) waits is = is
 
-module _ {D : Type 0} (seen : D → List ℕ) (failures : D → ℕ) (me : ClientId) (MayAsk : Asked → Type 0) (Good : Way D → Type 0) (e : Endures seen failures me MayAsk Good) where
+module _ {D : Type 0} (seen : D → List ℕ) (failures : D → ℕ) (me : ClientId) (size : ℕ) (MayAsk : Asked → Type 0) (Good : Way D → Type 0) (e : Endures seen failures me size MayAsk Good) where
   -- From a way to another, of which this holds, leads what the function says, where memory isn't wanting and no disk fails. It isn't forgotten
   -- that memory was wanting, and failures never fall.
   pub record Gives {R : Type 0} (G : Type 0) (old : Way D) (r : R) (new : Way D) (f : Plain → R × Plain) : Type 0 where
