@@ -15,20 +15,21 @@ use Rattle.gs_theorems.specs.Meeting.{plain_of}
 use Rattle.gs_theorems.specs.Plain as plain
 use Rattle.gs_theorems.proofs.PlainNotes.{not_before}
 
--- the nodes of a way are as they were, and it isn't forgotten that memory was wanting
+-- the nodes and the moment of a way are as they were, and it isn't forgotten that memory was wanting
 pub record StaysAt {D : Type 0} (old new : Way D) : Type 0 where
   pub nodes : new.nodes ≡ old.nodes
+  pub moment : new.moment ≡ old.moment
   pub short : old.is_short ≡ true → new.is_short ≡ true
 
 pub stays : {D : Type 0} (w : Way D) → StaysAt w w
-stays w = record { nodes = refl; short = λ short. short }
+stays w = record { nodes = refl; moment = refl; short = λ short. short }
 
 stays_then : {D : Type 0} (old mid new : Way D) → StaysAt old mid → StaysAt mid new → StaysAt old new
-stays_then old mid new first second = record { nodes = second.nodes ∙ first.nodes; short = λ short. second.short (first.short short) }
+stays_then old mid new first second = record { nodes = second.nodes ∙ first.nodes; moment = second.moment ∙ first.moment; short = λ short. second.short (first.short short) }
 
 pub same_stays : {D : Type 0} (old mid new : Way D) → StaysAt old mid → new ≡ mid → StaysAt old new
 same_stays {D} old mid new s same =
-    record { nodes = ap (λ (w : Way D). w.nodes) same ∙ s.nodes; short = λ short. ap (λ (w : Way D). w.is_short) same ∙ s.short short }
+    record { nodes = ap (λ (w : Way D). w.nodes) same ∙ s.nodes; moment = ap (λ (w : Way D). w.moment) same ∙ s.moment; short = λ short. ap (λ (w : Way D). w.is_short) same ∙ s.short short }
 
 -- ---- one message
 
@@ -48,8 +49,8 @@ module _ {D : Type 0} where
   send_stays message old new (inl puts) =
       let w = counted message old in
       same_stays old (if is_held w.kind (kind_of message.body) then held_back message w else under_way message w) new
-      (either_stays (is_held w.kind (kind_of message.body)) old (held_back message w) (under_way message w) (record { nodes = refl; short = λ short. short }) (record { nodes = refl; short = λ short. short })) puts
-  send_stays message old new (inr short) = same_stays old (shortened (counted message old)) new (record { nodes = refl; short = λ _. refl }) short
+      (either_stays (is_held w.kind (kind_of message.body)) old (held_back message w) (under_way message w) (record { nodes = refl; moment = refl; short = λ short. short }) (record { nodes = refl; moment = refl; short = λ short. short })) puts
+  send_stays message old new (inr short) = same_stays old (shortened (counted message old)) new (record { nodes = refl; moment = refl; short = λ _. refl }) short
 
   pub send_plain : (s : State) (message : Message) (old new : Way D) → Sends message old new → new.is_short ≡ false → plain_of s new ≡ plain.sends message (plain_of s old)
   send_plain s message old new (inl puts) enough =
@@ -74,8 +75,8 @@ module _ {D : Type 0} where
   -- ---- an event's end
 
   pub shortened_stays : (refusal : Refusal) (old : Way D) → StaysAt old (shortened_by refusal old)
-  shortened_stays refusals.Memory old = record { nodes = refl; short = λ _. refl }
-  shortened_stays refusal old = record { nodes = refl; short = λ short. short }
+  shortened_stays refusals.Memory old = record { nodes = refl; moment = refl; short = λ _. refl }
+  shortened_stays refusal old = record { nodes = refl; moment = refl; short = λ short. short }
 
   pub end_stays : (turn : Result Told Refusal) (old : Way D) (result : Result (Unit {0}) Refusal) (new : Way D) → Ends turn old result new → StaysAt old new
   end_stays (Ok turn) old result new (all, is) = all_stays turn.sent.items old new all

@@ -78,9 +78,13 @@ module _ {D : Type 0} (seen : D → List ℕ) (failures : D → ℕ) where
         sends = opened_sends seen failures config disks.0 disks.1 start plain.new_log after turn told counted size refl generation firm.stands.kept firm.stands.counters opening said;
       }
 
-  -- a new store without its disks
-  pub starts_plain : (config : Config) (disks : D × D) (desk : Desk D) → seen disks.0 ≡ [] → seen disks.1 ≡ [] → Starts seen failures config disks desk
-      → (desk.caller.client ≡ (plain.begins config).0) × IsPlain (way_of desk.wire) (plain.begins config).1
+  -- a new store: what it is without its disks, and that nothing is under way
+  pub record IsBegunSo (config : Config) (disks : D × D) (desk : Desk D) (s : Starts seen failures config disks desk) : Type 0 where
+    pub plain : IsPlain (way_of desk.wire) (plain.begins config).1
+    pub still : way_of desk.wire ≡ begun (new_nodes config 1 s.place)
+    pub sends : s.turn.sent.items ≡ []
+
+  pub starts_plain : (config : Config) (disks : D × D) (desk : Desk D) → seen disks.0 ≡ [] → seen disks.1 ≡ [] → (s : Starts seen failures config disks desk) → IsBegunSo config disks desk s
   starts_plain config disks desk first second s =
       let n = new_master config disks s.place s.turn first second s.opens in
       let w = begun (new_nodes config 1 s.place) in
@@ -92,4 +96,4 @@ module _ {D : Type 0} (seen : D → List ℕ) (failures : D → ℕ) where
         plain = λ i. plain_of (sym n.state i) w;
       } in
       let same = none_plain last_count (record (plain.new_plain config) { master = restarted start plain.new_log }) refl in
-      (s.client, subst (λ (x : Way D). IsPlain x (plain.begins config).1) (sym still) (subst (λ (p : Plain). IsPlain w p) (sym same) there))
+      record { plain = subst (λ (x : Way D). IsPlain x (plain.begins config).1) (sym still) (subst (λ (p : Plain). IsPlain w p) (sym same) there); still = still; sends = n.sends }
