@@ -15,12 +15,12 @@ use Rattle.gs_script.specs.Run.{AnswersLine, lines_of, memory_text}
 use Rattle.gs_shell.specs.Serving.{Serves}
 use Rattle.gs_server.specs.Servers as servers
 use Rattle.gs_world.specs.Nodes.{Nodes, new_nodes, silent_servers}
-use Rattle.gs_theorems.specs.Meeting.{AllSteady, AllWritten, IsAskedByLine, IsCalm, IsMet, IsMetWay, IsPlain, Reaches, RestartsMaster, RunsWell}
+use Rattle.gs_theorems.specs.Meeting.{AllSteady, AllWritten, IsAskedByLine, IsCalm, IsClientOf, IsMet, IsMetWay, IsPlain, Reaches, RestartsMaster, RunsWell}
 use Rattle.gs_theorems.specs.Plain.{PlainDesk, answers_line, answers_of, begins, runs}
 use Rattle.gs_theorems.specs.Reached.{Covers, history, unarmed}
-use Rattle.gs_theorems.proofs.PlainEnduring.{EnduresRestarts, IsOurs, Lands}
+use Rattle.gs_theorems.proofs.PlainEnduring.{EnduresRestarts, Lands}
 use Rattle.gs_theorems.proofs.PlainMeeting.{met_endures, met_restarts}
-use Rattle.gs_theorems.proofs.PlainScripts.{all_lines, line_answered}
+use Rattle.gs_theorems.proofs.PlainScripts.{all_lines, line_answered, lines_mine, whole_mine}
 use Rattle.gs_theorems.proofs.PlainStarts.{IsBegunSo, starts_plain}
 
 -- a new store has a list for each of its nodes
@@ -40,19 +40,19 @@ module _ {D : Type 0} (seen : D → List ℕ) (failures : D → ℕ) (config : C
   abbrev Met : Way D → Type 0
   Met w = IsMetWay seen failures config disks w
 
-  reached : (desk : Desk D) (w : PlainDesk) → Lands Met desk w → Reaches seen failures config disks desk w
-  reached desk w l = record { client = l.client; plain = l.plain; met = l.good }
+  reached : (desk : Desk D) (w : PlainDesk) → IsClientOf config desk.caller.client → Lands Met desk w → Reaches seen failures config disks desk w
+  reached desk w ours l = record { client = l.client; ours = ours; plain = l.plain; met = l.good }
 
   landed : (desk : Desk D) (w : PlainDesk) → Reaches seen failures config disks desk w → Lands Met desk w
   landed desk w r = record { client = r.client; plain = r.plain; good = r.met }
 
   pub line_runs : (old new : Desk D) (whole text : List ℕ) (w : PlainDesk) → AllSteady seen failures config disks → AnswersLine (AnswersText seen failures) old whole text new → text ≢ memory_text
-      → IsCalm failures (way_of old.wire) (way_of new.wire) → IsOurs (record { 0 = 1 }) config.chunk old.caller.client → (RestartsMaster whole → AllWritten seen failures config disks)
+      → IsCalm failures (way_of old.wire) (way_of new.wire) → (RestartsMaster whole → AllWritten seen failures config disks)
       → Reaches seen failures config disks old w → (answers_line whole w).1.1.is_due ≡ false → (text ≡ (answers_line whole w).0) × Reaches seen failures config disks new (answers_line whole w).1
-  line_runs old new whole text w steady answers enough calm ours restarts at undue =
-      let done = line_answered seen failures (record { 0 = 1 }) config.chunk (IsAskedByLine config.chunk) Met (met_endures seen failures config disks steady) old new whole text w answers enough calm ours
+  line_runs old new whole text w steady answers enough calm restarts at undue =
+      let done = line_answered seen failures (record { 0 = 1 }) config.chunk (IsAskedByLine config.chunk) Met (met_endures seen failures config disks steady) old new whole text w answers enough calm at.ours
       (λ restarting. met_restarts seen failures config disks (restarts restarting)) (landed old w at) undue in
-      (done.0, reached new (answers_line whole w).1 done.1)
+      (done.0, reached new (answers_line whole w).1 (whole_mine seen failures (record { 0 = 1 }) config.chunk (IsAskedByLine config.chunk) Met (met_endures seen failures config disks steady) whole old text new at.ours answers) done.1)
 
   -- a desk that has begun is met
   begun_met : (desk : Desk D) (s : Starts seen failures config disks desk) → IsBegunSo seen failures config disks desk s → Met (way_of desk.wire)
@@ -81,7 +81,9 @@ module _ {D : Type 0} (seen : D → List ℕ) (failures : D → ℕ) (config : C
       → (s.writes.texts ≡ answers_of config input) × Reaches seen failures config disks s.ended (runs config input).1
   script_runs input old new s r undue =
       let b = starts_plain seen failures config disks s.begun r.empty.0 r.empty.1 s.starts in
-      let all = all_lines seen failures (record { 0 = 1 }) config.chunk (IsAskedByLine config.chunk) Met (met_endures seen failures config disks r.steady) (lines_of input) s.writes.texts s.begun s.ended s.writes.runs
-      (ap (λ c. c.last.client) s.starts.client, ap (λ c. c.chunk) s.starts.client) r.answered (may_restart (lines_of input) r.restarts) r.sound in
+      let ours : IsClientOf config s.begun.caller.client = (ap (λ c. c.last.client) s.starts.client, ap (λ c. c.chunk) s.starts.client) in
+      let endures = met_endures seen failures config disks r.steady in
+      let all = all_lines seen failures (record { 0 = 1 }) config.chunk (IsAskedByLine config.chunk) Met endures (lines_of input) s.writes.texts s.begun s.ended s.writes.runs
+      ours r.answered (may_restart (lines_of input) r.restarts) r.sound in
       let done = all.same r.enough (begins config) (record { client = s.starts.client; plain = b.plain; good = begun_met s.begun s.starts b }) undue in
-      (done.0, reached s.ended (runs config input).1 done.1)
+      (done.0, reached s.ended (runs config input).1 (lines_mine seen failures (record { 0 = 1 }) config.chunk (IsAskedByLine config.chunk) Met endures (lines_of input) s.writes.texts s.begun s.ended s.writes.runs ours) done.1)

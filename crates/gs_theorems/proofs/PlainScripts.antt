@@ -72,9 +72,15 @@ module _ {D : Type 0} (seen : D → List ℕ) (failures : D → ℕ) (me : Clien
   short_mine true line old text new mine h = text_mine line old text new mine h
   short_mine false line old text new mine (is, same) = same_mine old new mine same
 
-  whole_mine : (whole : List ℕ) (old : Desk D) (text : List ℕ) (new : Desk D) → IsOurs me size old.caller.client → AnswersLine (AnswersText seen failures) old whole text new → IsOurs me size new.caller.client
+  pub whole_mine : (whole : List ℕ) (old : Desk D) (text : List ℕ) (new : Desk D) → IsOurs me size old.caller.client → AnswersLine (AnswersText seen failures) old whole text new → IsOurs me size new.caller.client
   whole_mine whole old text new mine (inl (memory, same)) = same_mine old new mine same
   whole_mine whole old text new mine (inr h) = short_mine (nat_le (length (content whole)) longest_line) (content whole) old text new mine h
+
+  pub lines_mine : (all texts : List (List ℕ)) (old new : Desk D) → Runs (AnswersText seen failures) old all texts new → IsOurs me size old.caller.client → IsOurs me size new.caller.client
+  lines_mine [] [] old new same mine = same_mine old new mine same
+  lines_mine [] (text ∷ texts) old new none mine = absurd none
+  lines_mine (line ∷ others) [] old new none mine = absurd none
+  lines_mine (line ∷ others) (text ∷ texts) old new (mid, h, rest) mine = lines_mine others texts mid new rest (whole_mine line old text mid mine h)
 
   -- ---- a line with its end
 

@@ -9,6 +9,7 @@ use Rattle.gs_calls.specs.Asked.{asked_by}
 use Rattle.gs_calls.specs.declared.answer.Answer.{Answer}
 use Rattle.gs_client.specs.Sends.{last_number}
 use Rattle.gs_client.specs.Trees.{Call}
+use Rattle.gs_client.specs.declared.client.Client.{Client}
 use Rattle.gs_desk.specs.Answering.{AnswersText}
 use Rattle.gs_desk.specs.Ways.{Way, way_of}
 use Rattle.gs_desk.specs.declared.desk.Desk.{Desk}
@@ -82,6 +83,10 @@ pub record IsAsWritten {D : Type 0} (seen : D → List ℕ) (m : MasterOf D) : T
   pub counted : (entries : List PlainEntry) → m.journal.text ≡ (Two, map (encoded Two) entries) → records_behind entries ≡ m.state.log.records
   pub form : is_text m.journal.text ≡ true
   pub generation : generation_standing (seen m.journal.first) (seen m.journal.second) ≡ m.journal.generation
+
+-- the one client of a script's store
+abbrev pub IsClientOf : Config → Client → Type 0
+IsClientOf config client = (client.last.client ≡ record { 0 = 1 }) × (client.chunk ≡ config.chunk)
 
 -- a line restarts the master
 abbrev pub RestartsMaster : List ℕ → Type 0
@@ -157,9 +162,10 @@ module _ {D : Type 0} (seen : D → List ℕ) (failures : D → ℕ) (config : C
     pub met : IsMet (history sent w)
     pub moment : IsNumber w.moment.0
 
-  -- a desk that is met; its client and the store without its disks are these
+  -- a desk that is met, of client 1; its client and the store without its disks are these
   pub record Reaches (desk : Desk D) (w : PlainDesk) : Type 0 where
     pub client : desk.caller.client ≡ w.0
+    pub ours : IsClientOf config desk.caller.client
     pub plain : IsPlain (way_of desk.wire) w.1
     pub met : IsMetWay (way_of desk.wire)
 
