@@ -16,7 +16,7 @@ use Rattle.gs_server.specs.Servers.{Server}
 use Rattle.gs_server.specs.Servers as servers
 use Rattle.gs_world.specs.Happenings.{AtClient, AtServer, Delivers, Hears, ServerDoes, client_in, met_by}
 use Rattle.gs_world.specs.Nodes.{Nodes, with_clients, with_servers}
-use Rattle.gs_desk.specs.Ways.{Ends, SendsAll, Way, shortened_by, with_nodes}
+use Rattle.gs_desk.specs.Ways.{Ends, SendsAll, Way, noted, shortened_by, with_nodes}
 use Rattle.gs_run.specs.Histories.{AtNode, Outcome, Tells, told}
 use Rattle.gs_run.specs.Runs.{SameNodes, Comes}
 use Rattle.gs_run.specs.Sent.{Sent}
@@ -110,9 +110,16 @@ pub record Alike {D : Type 0} (old new : Way D) : Type 0 where
   pub held : new.held ≡ old.held
   pub short : old.is_short ≡ true → new.is_short ≡ true
 
+pub as_it_is : {D : Type 0} (w : Way D) → Alike w w
+as_it_is w = record { nodes = refl; queue = refl; held = refl; short = λ short. short }
+
 pub shortened_alike : {D : Type 0} (refusal : Refusal) (w : Way D) → Alike w (shortened_by refusal w)
 shortened_alike refusals.Memory w = record { nodes = refl; queue = refl; held = refl; short = λ short. refl }
 shortened_alike refusal w = record { nodes = refl; queue = refl; held = refl; short = λ short. short }
+
+pub noted_alike : {D : Type 0} (said : Option Refusal) (w : Way D) → Alike w (noted said w)
+noted_alike None w = as_it_is w
+noted_alike (Some refusal) w = shortened_alike refusal w
 
 pub alike_to : {D : Type 0} (old mid new : Way D) → Alike old mid → new ≡ mid → Alike old new
 alike_to old mid new a same = subst (λ w. Alike old w) (sym same) a
@@ -127,16 +134,13 @@ alike_covers {D} sent old new a c =
       short = λ lost. a.short (c.short lost);
     }
 
-pub as_it_is : {D : Type 0} (w : Way D) → Alike w w
-as_it_is w = record { nodes = refl; queue = refl; held = refl; short = λ short. short }
-
 -- what an event sends is under way; of a refused one nothing is
 abbrev pub IsOver : {D : Type 0} → Outcome → Way D → Way D → Type 0
 IsOver {D} (Ok (messages, said)) old new = (mid : Way D) × SendsAll messages old mid × Alike mid new
 IsOver (Err refusal) old new = Alike old new
 
 pub ended : {D : Type 0} (turn : Result Turn Refusal) (old : Way D) (result : Result (Unit {0}) Refusal) (new : Way D) → Ends turn old result new → IsOver (told turn) old new
-ended (Ok turn) old result new (all, is) = (new, all, as_it_is new)
+ended (Ok turn) old result new (mid, all, same, is) = (mid, all, alike_to mid (noted turn.said mid) new (noted_alike turn.said mid) same)
 ended (Err refusal) old result new (same, is) = alike_to old (shortened_by refusal old) new (shortened_alike refusal old) same
 
 module _ {D : Type 0} (seen : D → List ℕ) (failures : D → ℕ) where

@@ -33,8 +33,8 @@ use Rattle.gs_server.specs.Servers as servers
 use Rattle.gs_world.specs.Happenings.{AtClient, AtServer, ClientAsks, Reopens}
 use Rattle.gs_world.specs.Nodes.{Nodes, with_master}
 use Rattle.gs_world.specs.declared.place.MasterPlace.{MasterPlace}
-use Rattle.gs_theorems.specs.Meeting.{IsAsWritten, IsCalm, IsPlain, Stands}
-use Rattle.gs_theorems.specs.Plain.{PlainDesk}
+use Rattle.gs_theorems.specs.Meeting.{HasMaster, IsAsWritten, IsCalm, IsPlain, Stands}
+use Rattle.gs_theorems.specs.Plain.{Plain, PlainDesk}
 
 -- a message that is under way first, and the way without it; or one that is held back
 abbrev pub IsTaken : {D : Type 0} → Message → Way D → Way D → Type 0
@@ -65,19 +65,19 @@ pub record Endures {D : Type 0} (seen : D → List ℕ) (failures : D → ℕ) (
   pub hears : (message : Message) (old before : Way D) (m : MasterOf D) → Stands old m → Good old → IsTaken message old before → message.to ≡ ids.Master
       → IsNamedBody message.body × IsHeardBody m.state.durable.names message.body
   pub delivers : (message : Message) (old before : Way D) (said : Result (Unit {0}) Refusal) (new : Way D) → Good old → IsTaken message old before
-      → IsDelivered seen failures message before said new → IsCalm failures before new → Good new
-  pub master_ticks : (old new : Way D) → Good old → MasterTicked seen failures old new → IsCalm failures old new → Good new
-  pub server_ticks : (id : ℕ) (old new : Way D) → Good old → ServerTicked id old new → IsCalm failures old new → Good new
+      → IsDelivered seen failures message before said new → IsCalm failures before new → HasMaster new.nodes → Good new
+  pub master_ticks : (old new : Way D) → Good old → MasterTicked seen failures old new → IsCalm failures old new → HasMaster new.nodes → Good new
+  pub server_ticks : (id : ℕ) (old new : Way D) → Good old → ServerTicked id old new → IsCalm failures old new → HasMaster new.nodes → Good new
   pub asks : (req : ReqId) (request : Asked) (out : Result (Vec Message Global) Refusal) (nodes : Nodes D) (old new : Way D) → Good old → req.client ≡ me → req.number ≤ last_number → MayAsk request
-      → AtClient req.client (Err refusals.Range) (ClientAsks req.number request) old.nodes out nodes → GoesOut out (with_nodes nodes old) new → IsCalm failures old new → Good new
-  pub takes : (client : ClientId) (old : Way D) (reply : Reply) (new : Way D) → Good old → Heard client old reply new → Good new
-  pub beats : (id : ℕ) (s : Server) (old new : Way D) → Good old → slice_get old.nodes.servers id ≡ Some s → Sends (servers.beat s) (record old { drops = 0 }) new → IsCalm failures old new → Good new
+      → AtClient req.client (Err refusals.Range) (ClientAsks req.number request) old.nodes out nodes → GoesOut out (with_nodes nodes old) new → IsCalm failures old new → HasMaster new.nodes → Good new
+  pub takes : (client : ClientId) (old : Way D) (reply : Reply) (new : Way D) → Good old → Heard client old reply new → HasMaster new.nodes → Good new
+  pub beats : (id : ℕ) (s : Server) (old new : Way D) → Good old → slice_get old.nodes.servers id ≡ Some s → Sends (servers.beat s) (record old { drops = 0 }) new → IsCalm failures old new → HasMaster new.nodes → Good new
   pub server_restarts : (id : ℕ) (old : Way D) (said : Result (Unit {0}) Refusal) (nodes : Nodes D) → Good old
-      → AtServer id (λ s done after. (done ≡ Ok tt) × (after ≡ servers.restart s)) old.nodes said nodes → Good (with_nodes nodes old)
+      → AtServer id (λ s done after. (done ≡ Ok tt) × (after ≡ servers.restart s)) old.nodes said nodes → HasMaster nodes → Good (with_nodes nodes old)
   pub loses : (id handle : ℕ) (old : Way D) (said : Result (Unit {0}) Refusal) (nodes : Nodes D) → Good old
-      → AtServer id (λ s done after. Does (servers.lose handle s) done s after) old.nodes said nodes → Good (with_nodes nodes old)
+      → AtServer id (λ s done after. Does (servers.lose handle s) done s after) old.nodes said nodes → HasMaster nodes → Good (with_nodes nodes old)
   pub damages : (id handle block : ℕ) (old : Way D) (said : Result (Unit {0}) Refusal) (nodes : Nodes D) → Good old
-      → AtServer id (λ s done after. Does (servers.damage handle block s) done s after) old.nodes said nodes → Good (with_nodes nodes old)
+      → AtServer id (λ s done after. Does (servers.damage handle block s) done s after) old.nodes said nodes → HasMaster nodes → Good (with_nodes nodes old)
   pub holds : (kind : Option Kind) (old : Way D) → Good old → Good (record old { kind = kind })
   pub calls : (line : List ℕ) (request : Request) (call : Call Answer) → line_request line ≡ Some request → asked_by size request ≡ Some call → AllAsked MayAsk call
   pub comes_at : (line : List ℕ) (moment : ℕ) (old : Way D) → Good old → line_request line ≡ Some (lines.At moment) → Good (record old { moment = record { 0 = moment } })
@@ -86,7 +86,7 @@ pub record Endures {D : Type 0} (seen : D → List ℕ) (failures : D → ℕ) (
 pub record EnduresRestarts {D : Type 0} (seen : D → List ℕ) (failures : D → ℕ) (Good : Way D → Type 0) : Type 0 where
   pub written : (w : Way D) (m : MasterOf D) → Stands w m → Good w → IsAsWritten seen m
   pub restarts : (place : MasterPlace D) (turn : Result Told Refusal) (old : Way D) (said : Result (Unit {0}) Refusal) (new : Way D) → Good old
-      → Reopens seen failures old.nodes.config old.nodes.master turn place → Ends turn (with_nodes (with_master place old.nodes) old) said new → IsCalm failures old new → Good new
+      → Reopens seen failures old.nodes.config old.nodes.master turn place → Ends turn (with_nodes (with_master place old.nodes) old) said new → IsCalm failures old new → HasMaster new.nodes → Good new
 
 -- the client of a store with chunks of this size
 abbrev pub IsOurs : ClientId → ℕ → Client → Type 0
@@ -97,3 +97,7 @@ pub record Lands {D : Type 0} (Good : Way D → Type 0) (desk : Desk D) (w : Pla
   pub client : desk.caller.client ≡ w.0
   pub plain : IsPlain (way_of desk.wire) w.1
   pub good : Good (way_of desk.wire)
+
+-- a master stands in a store without its disks
+pub has : {D : Type 0} (w : Way D) (p : Plain) → IsPlain w p → HasMaster w.nodes
+has w p is = (is.master, is.stands.place)

@@ -39,8 +39,8 @@ use Rattle.gs_state.specs.Handling.{reopened}
 use Rattle.gs_world.specs.Happenings.{AtServer, Reopens}
 use Rattle.gs_world.specs.Nodes.{Nodes, with_master, with_servers}
 use Rattle.gs_world.specs.declared.place.MasterPlace.TheVariants.{Standing}
-use Rattle.gs_theorems.specs.Meeting.{IsCalm, IsPlain, Stands, plain_of}
-use Rattle.gs_theorems.proofs.PlainEnduring.{IsOurs, AllAsked, Endures, EnduresRestarts, IsTaken}
+use Rattle.gs_theorems.specs.Meeting.{HasMaster, IsCalm, IsPlain, Stands, plain_of}
+use Rattle.gs_theorems.proofs.PlainEnduring.{IsOurs, AllAsked, Endures, EnduresRestarts, IsTaken, has}
 use Rattle.gs_theorems.specs.Plain.{Met, Plain, PlainDesk}
 use Rattle.gs_theorems.specs.Plain as plain
 use Rattle.gs_theorems.proofs.PlainEvents.{Comes as Becomes, master_ends, node_ends, plain_same, server_leaves}
@@ -249,12 +249,12 @@ module _ {D : Type 0} (seen : D → List ℕ) (failures : D → ℕ) (me : Clien
 
   at_one : (id : ℕ) (does : Server → Result (Unit {0}) Refusal → Server → Type 0) (what : Server → Result Server Refusal) (old : Way D) (result : Result (Unit {0}) Refusal) (new : Way D)
       → ((s : Server) (said : Result (Unit {0}) Refusal) (after : Server) → does s said after → (said ≡ plain.met (what s)) × (after ≡ plain.left (what s) s))
-      → ((nodes : Nodes D) → Good old → AtServer id does old.nodes result nodes → Good (with_nodes nodes old)) → AtOne id does old result new → GivesLine old result new (plain.befalls id what)
+      → ((nodes : Nodes D) → Good old → AtServer id does old.nodes result nodes → HasMaster nodes → Good (with_nodes nodes old)) → AtOne id does old result new → GivesLine old result new (plain.befalls id what)
   at_one id does what old result new each goes (nodes, at, is) = record {
     short = λ short. ap (λ (w : Way D). w.is_short) is ∙ short;
     same = λ calm m stands good undue. (
       befalls_comes (slice_get old.nodes.servers id) id does what nodes m old result new each stands at is calm.enough,
-      subst Good (sym is) (goes nodes good at),
+      subst Good (sym is) (goes nodes good at (m, server_leaves seen failures id does old.nodes result nodes at ∙ stands.place)),
     );
   }
 
@@ -302,7 +302,7 @@ module _ {D : Type 0} (seen : D → List ℕ) (failures : D → ℕ) (me : Clien
               plain = sym (send_plain m.state (servers.beat s) none mid sends calm.enough);
             };
           },
-          e.beats number s old mid good found sends (record { enough = calm.enough; sound = calm.sound }),
+          e.beats number s old mid good found sends (record { enough = calm.enough; sound = calm.sound }) (m, ap (λ (n : Nodes D). n.master) sent.nodes ∙ stands.place),
         );
       } in
       let all = chain seen failures me size MayAsk Good e (Good old) none mid new tt tt (only (plain.sends (servers.beat s))) (λ _. only plain.delivers_whole) (λ x p noted. delivers_noted last_count p ∙ noted)
@@ -348,9 +348,9 @@ module _ {D : Type 0} (seen : D → List ℕ) (failures : D → ℕ) (me : Clien
               | inr (inr (turn, same)) ↦
                 let quiet : failures_at failures r.mid.nodes.master ≡ failures_at failures old.nodes.master = here ∙ same ∙ sym was in
                 let t = reopened old.nodes.config (plain.begun_again m.state) in
-                onward seen failures me size MayAsk Good e r.mid new said said (plain.at_master t (plain_of m.state old)) (λ x p. (x, plain.delivers_whole p))
-                (master_ends seen failures t m r.turn r.place old said r.mid stands turn r.ends enough)
-                (restarts.restarts r.place r.turn old said r.mid good r.opens r.ends (record { enough = enough; sound = quiet }))
+                let done = master_ends seen failures t m r.turn r.place old said r.mid stands turn r.ends enough in
+                onward seen failures me size MayAsk Good e r.mid new said said (plain.at_master t (plain_of m.state old)) (λ x p. (x, plain.delivers_whole p)) done
+                (restarts.restarts r.place r.turn old said r.mid good r.opens r.ends (record { enough = enough; sound = quiet }) (has r.mid (plain.at_master t (plain_of m.state old)).1 done.plain))
                 (passing said r.mid new plain.delivers_whole rest) (record { enough = calm.enough; sound = calm.sound ∙ sym quiet }) undue
             ];
       }
@@ -373,19 +373,19 @@ module _ {D : Type 0} (seen : D → List ℕ) (failures : D → ℕ) (me : Clien
       in_answer done old said result new (plain.restarts_node (restarted.Server number)) is
       (for_server number (AtOne number (λ s result after. (result ≡ Ok tt) × (after ≡ servers.restart s)) old) old said new (plain.befalls number (λ s. Ok (servers.restart s)))
       (λ h. at_one number (λ s result after. (result ≡ Ok tt) × (after ≡ servers.restart s)) (λ s. Ok (servers.restart s)) old said new (λ s said after did. did)
-      (λ nodes good at. e.server_restarts number old said nodes good at) h) does)
+      (λ nodes good at has. e.server_restarts number old said nodes good at has) h) does)
   nodes_do line (lines.Lose server handle) asked restarts old result new (said, does, is) =
       in_answer done old said result new (plain.for_server server (plain.of_handle handle (plain.befalls server (servers.lose handle)))) is
       (for_server server (OfHandle handle (AtOne server (λ s result after. Does (servers.lose handle s) result s after) old) old) old said new (plain.of_handle handle (plain.befalls server (servers.lose handle)))
       (λ h. of_handle handle (AtOne server (λ s result after. Does (servers.lose handle s) result s after) old) old said new (plain.befalls server (servers.lose handle))
       (λ h. at_one server (λ s result after. Does (servers.lose handle s) result s after) (servers.lose handle) old said new (λ s said after did. befallen (servers.lose handle s) said s after did)
-      (λ nodes good at. e.loses server handle old said nodes good at) h) h) does)
+      (λ nodes good at has. e.loses server handle old said nodes good at has) h) h) does)
   nodes_do line (lines.Damage server handle block) asked restarts old result new (said, does, is) =
       in_answer done old said result new (plain.for_server server (plain.of_handle handle (plain.befalls server (servers.damage handle block)))) is
       (for_server server (OfHandle handle (AtOne server (λ s result after. Does (servers.damage handle block s) result s after) old) old) old said new (plain.of_handle handle (plain.befalls server (servers.damage handle block)))
       (λ h. of_handle handle (AtOne server (λ s result after. Does (servers.damage handle block s) result s after) old) old said new (plain.befalls server (servers.damage handle block))
       (λ h. at_one server (λ s result after. Does (servers.damage handle block s) result s after) (servers.damage handle block) old said new (λ s said after did. befallen (servers.damage handle block s) said s after did)
-      (λ nodes good at. e.damages server handle block old said nodes good at) h) h) does)
+      (λ nodes good at has. e.damages server handle block old said nodes good at has) h) h) does)
   nodes_do line (lines.Deliver number) asked restarts old result new (said, does, is) =
       in_answer done old said result new (λ p. plain.handed_over (held_at number p.held) p) is
       (let g = hands_over (held_at number old.held) number old said new refl does in record { short = g.short; same = λ calm m stands good undue. g.same calm m stands good undue })

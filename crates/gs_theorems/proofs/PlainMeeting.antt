@@ -40,7 +40,7 @@ use Rattle.gs_server.specs.Servers as servers
 use Rattle.gs_world.specs.Happenings.{AtClient, AtServer, ClientAsks, Reopens, ServerDoes, met_by}
 use Rattle.gs_world.specs.Nodes.{Nodes, with_master}
 use Rattle.gs_world.specs.declared.place.MasterPlace.{MasterPlace}
-use Rattle.gs_theorems.specs.Meeting.{AllSteady, AllWritten, IsAskedByLine, IsAskedSo, IsAsWritten, IsCalm, IsMet, IsMetWay, IsOfScript, Occurs, RunsSo, Stands}
+use Rattle.gs_theorems.specs.Meeting.{AllSteady, AllWritten, HasMaster, IsAskedByLine, IsAskedSo, IsAsWritten, IsCalm, IsMet, IsMetWay, IsOfScript, Occurs, RunsSo, Stands}
 use Rattle.gs_theorems.specs.Reached.{AllSent, Covers, history, unarmed}
 use Rattle.gs_theorems.proofs.Ending.{Alike, CanPost, IsOver, alike_covers, alike_to, as_it_is, asking_client, delivered_posts, ended, known_server, master_posts, server_posts, shortened_alike}
 use Rattle.gs_theorems.proofs.PlainEnduring.{AllAsked, Endures, EnduresRestarts, GoesOut, IsGood, IsTaken}
@@ -130,30 +130,30 @@ module _ {D : Type 0} (seen : D → List ℕ) (failures : D → ℕ) where
   module _ (config : Config) (disks : D × D) where
     so_joined : (xs ys : List Step) (old mid new : History D) → RunsSo seen failures config disks xs old mid → RunsSo seen failures config disks ys mid new → RunsSo seen failures config disks (xs ++ ys) old new
     so_joined [] ys old mid new same second = subst (λ (h : History D). RunsSo seen failures config disks ys h new) same second
-    so_joined (x ∷ xs) ys old mid new (first, goes, so, quiet, rest) second = (first, goes, so, quiet, so_joined xs ys first mid new rest second)
+    so_joined (x ∷ xs) ys old mid new (first, goes, so, quiet, stands, rest) second = (first, goes, so, quiet, stands, so_joined xs ys first mid new rest second)
 
     abbrev Met : Way D → Type 0
     Met w = IsMetWay seen failures config disks w
 
     -- by one step more
     met_on : (step : Step) (old new : Way D) (after : Sent) (w : Met old) → Goes seen failures unarmed step (history w.sent old) (history after new) → IsOfScript config step → Covers after new
-        → failures_at failures new.nodes.master ≡ failures_at failures old.nodes.master → IsNumber new.moment.0 → Met new
-    met_on step old new after w goes so covers quiet moment = record {
+        → failures_at failures new.nodes.master ≡ failures_at failures old.nodes.master → IsNumber new.moment.0 → HasMaster new.nodes → Met new
+    met_on step old new after w goes so covers quiet moment stands = record {
       sent = after;
       covers = covers;
       met = record {
         begun = w.met.begun;
         steps = w.met.steps ++ step ∷ [];
         begins = w.met.begins;
-        runs = so_joined w.met.steps (step ∷ []) w.met.begun (history w.sent old) (history after new) w.met.runs (history after new, goes, so, quiet, refl);
+        runs = so_joined w.met.steps (step ∷ []) w.met.begun (history w.sent old) (history after new) w.met.runs (history after new, goes, so, quiet, stands, refl);
       };
       moment = moment;
     }
 
     event_on : (event : Event) (old new : Way D) (w : Met old) → Going event w.sent old new → event.moment ≡ old.moment → new.moment ≡ old.moment → IsAskedSo config event.happening
-        → failures_at failures new.nodes.master ≡ failures_at failures old.nodes.master → Met new
-    event_on event old new w g at same so quiet =
-        met_on (Comes event) old new g.after w g.goes (subst (λ (m : Moment). IsNumber m.0) (sym at) w.moment, so) g.covers quiet (subst (λ (m : Moment). IsNumber m.0) (sym same) w.moment)
+        → failures_at failures new.nodes.master ≡ failures_at failures old.nodes.master → HasMaster new.nodes → Met new
+    event_on event old new w g at same so quiet stands =
+        met_on (Comes event) old new g.after w g.goes (subst (λ (m : Moment). IsNumber m.0) (sym at) w.moment, so) g.covers quiet (subst (λ (m : Moment). IsNumber m.0) (sym same) w.moment) stands
 
     -- the same but for what isn't told of a store
     alike_on : (old new : Way D) (w : Met old) → Alike old new → IsNumber new.moment.0 → Met new
@@ -183,8 +183,8 @@ module _ {D : Type 0} (seen : D → List ℕ) (failures : D → ℕ) where
     taken_met message old before w (inr (number, is, same)) =
         subst (λ b. Before message b) (sym same) (record { met = w; was = held_numbered (number == 0) old.held (number - 1) message w.sent w.covers.held is })
 
-    delivers_on : (message : Message) (before : Way D) (said : Result (Unit {0}) Refusal) (new : Way D) → Before message before → IsDelivered seen failures message before said new → IsCalm failures before new → Met new
-    delivers_on message before said new b d calm =
+    delivers_on : (message : Message) (before : Way D) (said : Result (Unit {0}) Refusal) (new : Way D) → Before message before → IsDelivered seen failures message before said new → IsCalm failures before new → HasMaster new.nodes → Met new
+    delivers_on message before said new b d calm stands =
         let (id, is) = b.was in
         let sent = b.met.sent in
         event_on (record { moment = before.moment; happening = happenings.Deliver id }) before new b.met
@@ -193,56 +193,56 @@ module _ {D : Type 0} (seen : D → List ℕ) (failures : D → ℕ) where
         (λ (o : Option Message). MatchOption o ((told d.turn ≡ Err refusals.Range) × (d.nodes ≡ before.nodes)) (λ m. ComesTo seen failures unarmed m before.moment before.nodes message.to (told d.turn) d.nodes))
         (sym is) (inl (refl, d.turn, d.delivers, refl)))
         (delivered_posts seen failures message before.moment sent before.nodes d.turn d.nodes b.met.covers.servers d.delivers) b.met.covers (ended d.turn (with_nodes d.nodes before) said new d.ends))
-        refl (end_stays d.turn (with_nodes d.nodes before) said new d.ends).moment tt calm.sound
+        refl (end_stays d.turn (with_nodes d.nodes before) said new d.ends).moment tt calm.sound stands
 
-    master_ticks_on : (old new : Way D) → Met old → MasterTicked seen failures old new → IsCalm failures old new → Met new
-    master_ticks_on old new w t calm =
+    master_ticks_on : (old new : Way D) → Met old → MasterTicked seen failures old new → IsCalm failures old new → HasMaster new.nodes → Met new
+    master_ticks_on old new w t calm stands =
         event_on (record { moment = old.moment; happening = happenings.Tick keepers.Master }) old new w
         (event_goes (record { moment = old.moment; happening = happenings.Tick keepers.Master }) nodes.Master (told t.turn) (with_master t.place old.nodes) old new w.sent
         (refl, (t.place, t.turn, t.ticks, refl, refl)) (master_posts w.sent t.turn) w.covers (ended t.turn (with_nodes (with_master t.place old.nodes) old) t.said new t.ends))
-        refl (end_stays t.turn (with_nodes (with_master t.place old.nodes) old) t.said new t.ends).moment tt calm.sound
+        refl (end_stays t.turn (with_nodes (with_master t.place old.nodes) old) t.said new t.ends).moment tt calm.sound stands
 
-    server_ticks_on : (id : ℕ) (old new : Way D) → Met old → ServerTicked id old new → IsCalm failures old new → Met new
-    server_ticks_on id old new w t calm =
+    server_ticks_on : (id : ℕ) (old new : Way D) → Met old → ServerTicked id old new → IsCalm failures old new → HasMaster new.nodes → Met new
+    server_ticks_on id old new w t calm stands =
         event_on (record { moment = old.moment; happening = happenings.Tick (keepers.Server id) }) old new w
         (event_goes (record { moment = old.moment; happening = happenings.Tick (keepers.Server id) }) (nodes.Server id) (told t.turn) t.nodes old new w.sent
         (refl, (t.turn, t.ticks, refl)) (server_posts w.sent id (λ s. ServerDoes (servers.tick s old.moment) s) old.nodes t.turn t.nodes w.covers.servers t.ticks) w.covers
         (ended t.turn (with_nodes t.nodes old) t.said new t.ends))
-        refl (end_stays t.turn (with_nodes t.nodes old) t.said new t.ends).moment tt calm.sound
+        refl (end_stays t.turn (with_nodes t.nodes old) t.said new t.ends).moment tt calm.sound stands
 
     restarts_on : (place : MasterPlace D) (turn : Result Told Refusal) (old : Way D) (said : Result (Unit {0}) Refusal) (new : Way D) → Met old
-        → Reopens seen failures old.nodes.config old.nodes.master turn place → Ends turn (with_nodes (with_master place old.nodes) old) said new → IsCalm failures old new → Met new
-    restarts_on place turn old said new w opens ends calm =
+        → Reopens seen failures old.nodes.config old.nodes.master turn place → Ends turn (with_nodes (with_master place old.nodes) old) said new → IsCalm failures old new → HasMaster new.nodes → Met new
+    restarts_on place turn old said new w opens ends calm stands =
         event_on (record { moment = old.moment; happening = happenings.Restart keepers.Master }) old new w
         (event_goes (record { moment = old.moment; happening = happenings.Restart keepers.Master }) nodes.Master (told turn) (with_master place old.nodes) old new w.sent
         (refl, (place, turn, opens, refl, refl)) (master_posts w.sent turn) w.covers (ended turn (with_nodes (with_master place old.nodes) old) said new ends))
-        refl (end_stays turn (with_nodes (with_master place old.nodes) old) said new ends).moment tt calm.sound
+        refl (end_stays turn (with_nodes (with_master place old.nodes) old) said new ends).moment tt calm.sound stands
 
     asks_on : (req : ReqId) (request : Asked) (out : Result (Vec Message Global) Refusal) (there : Nodes D) (old new : Way D) → Met old → req.client ≡ record { 0 = 1 } → req.number ≤ last_number
-        → IsAskedByLine config.chunk request → AtClient req.client (Err refusals.Range) (ClientAsks req.number request) old.nodes out there → GoesOut out (with_nodes there old) new → IsCalm failures old new → Met new
-    asks_on req request (Ok out) there old new w mine low may at all calm =
+        → IsAskedByLine config.chunk request → AtClient req.client (Err refusals.Range) (ClientAsks req.number request) old.nodes out there → GoesOut out (with_nodes there old) new → IsCalm failures old new → HasMaster new.nodes → Met new
+    asks_on req request (Ok out) there old new w mine low may at all calm stands =
         event_on (record { moment = old.moment; happening = happenings.Ask req request }) old new w
         (event_goes (record { moment = old.moment; happening = happenings.Ask req request }) (nodes.Client req.client) (Ok (out.items, None)) there old new w.sent
         (refl, (Ok out, at, refl)) (inl (asking_client w.sent req.client (ClientAsks req.number request) old.nodes there out w.covers.clients at)) w.covers (new, all, as_it_is new))
-        refl (all_stays out.items (with_nodes there old) new all).moment (mine, low, may) calm.sound
-    asks_on req request (Err refusal) there old new w mine low may at gone calm =
+        refl (all_stays out.items (with_nodes there old) new all).moment (mine, low, may) calm.sound stands
+    asks_on req request (Err refusal) there old new w mine low may at gone calm stands =
         event_on (record { moment = old.moment; happening = happenings.Ask req request }) old new w
         (event_goes (record { moment = old.moment; happening = happenings.Ask req request }) (nodes.Client req.client) (Err refusal) there old new w.sent
         (refl, (Err refusal, at, refl)) tt w.covers (alike_to (with_nodes there old) (shortened_by refusal (with_nodes there old)) new (shortened_alike refusal (with_nodes there old)) gone))
-        refl (same_stays (with_nodes there old) (shortened_by refusal (with_nodes there old)) new (shortened_stays refusal (with_nodes there old)) gone).moment (mine, low, may) calm.sound
+        refl (same_stays (with_nodes there old) (shortened_by refusal (with_nodes there old)) new (shortened_stays refusal (with_nodes there old)) gone).moment (mine, low, may) calm.sound stands
 
-    takes_on : (client : ClientId) (old : Way D) (reply : Reply) (new : Way D) → Met old → Heard client old reply new → Met new
-    takes_on client old reply new w (there, found, takes, is, same) =
+    takes_on : (client : ClientId) (old : Way D) (reply : Reply) (new : Way D) → Met old → Heard client old reply new → HasMaster new.nodes → Met new
+    takes_on client old reply new w (there, found, takes, is, same) stands =
         let kept = at_client client None (λ n reply after. (reply ≡ n.reply) × (after ≡ given_up n)) old.nodes found there takes in
         let left = client_leaves seen failures client None (λ n reply after. (reply ≡ n.reply) × (after ≡ given_up n)) old.nodes found there takes in
         subst (λ x. Met x) (sym same)
-        (met_on (Takes client) old (with_nodes there old) w.sent w (found, takes, refl) tt (covers_there w.sent old there kept w.covers) (ap (failures_at failures) left.0) w.moment)
+        (met_on (Takes client) old (with_nodes there old) w.sent w (found, takes, refl) tt (covers_there w.sent old there kept w.covers) (ap (failures_at failures) left.0) w.moment (subst (λ (x : Way D). HasMaster x.nodes) same stands))
 
     abbrev IsOutcome : Server → Outcome → Type 0
     IsOutcome s outcome = ◌≡◌ {A = Outcome} (Ok (servers.beat s ∷ [], None)) outcome
 
-    beats_on : (id : ℕ) (s : Server) (old new : Way D) → Met old → slice_get old.nodes.servers id ≡ Some s → Sends (servers.beat s) (record old { drops = 0 }) new → IsCalm failures old new → Met new
-    beats_on id s old new w is sent_one calm =
+    beats_on : (id : ℕ) (s : Server) (old new : Way D) → Met old → slice_get old.nodes.servers id ≡ Some s → Sends (servers.beat s) (record old { drops = 0 }) new → IsCalm failures old new → HasMaster new.nodes → Met new
+    beats_on id s old new w is sent_one calm stands =
         let none = record old { drops = 0 } in
         let here : Met none = alike_on old none w (record { nodes = refl; queue = refl; held = refl; short = λ short. short }) w.moment in
         event_on (record { moment = old.moment; happening = happenings.Beat id }) none new here
@@ -256,15 +256,15 @@ module _ {D : Type 0} (seen : D → List ℕ) (failures : D → ℕ) where
           ),
         )
         (inl (known_server here.sent id old.nodes s here.covers.servers is)) here.covers (new, (new, sent_one, refl), as_it_is new))
-        refl (send_stays (servers.beat s) none new sent_one).moment tt calm.sound
+        refl (send_stays (servers.beat s) none new sent_one).moment tt calm.sound stands
 
     befalls_on : (event : Event) (id : ℕ) (does : Server → Result (Unit {0}) Refusal → Server → Type 0) (old : Way D) (result : Result (Unit {0}) Refusal) (there : Nodes D) (w : Met old)
         → AtServer id does old.nodes result there → AtNode seen failures unarmed event.moment event.happening (history w.sent old) (nodes.Server id) (silent result) there
-        → event.moment ≡ old.moment → IsAskedSo config event.happening → Met (with_nodes there old)
-    befalls_on event id does old result there w did at same so =
+        → event.moment ≡ old.moment → IsAskedSo config event.happening → HasMaster there → Met (with_nodes there old)
+    befalls_on event id does old result there w did at same so stands =
         event_on event old (with_nodes there old) w
         (event_goes event (nodes.Server id) (silent result) there old (with_nodes there old) w.sent at (quiet_posts w.sent (nodes.Server id) result) w.covers (quietly result there old))
-        same refl so (ap (failures_at failures) (server_leaves seen failures id does old.nodes result there did))
+        same refl so (ap (failures_at failures) (server_leaves seen failures id does old.nodes result there did)) stands
 
     -- ---- all of it
 
@@ -279,18 +279,18 @@ module _ {D : Type 0} (seen : D → List ℕ) (failures : D → ℕ) where
           let b = taken_met message old before w taken in
           let there : Stands before m = taken_stands message old before m taken stands in
           (steady (history b.met.sent before) m b.met.met there.place).hears message b.was to;
-      delivers = λ message old before said new w taken d calm. delivers_on message before said new (taken_met message old before w taken) d calm;
+      delivers = λ message old before said new w taken d calm stands. delivers_on message before said new (taken_met message old before w taken) d calm stands;
       master_ticks = master_ticks_on;
       server_ticks = server_ticks_on;
       asks = asks_on;
       takes = takes_on;
       beats = beats_on;
-      server_restarts = λ id old said there w at.
-          befalls_on (record { moment = old.moment; happening = happenings.Restart (keepers.Server id) }) id (λ s done after. (done ≡ Ok tt) × (after ≡ servers.restart s)) old said there w at (refl, (said, at, refl)) refl tt;
-      loses = λ id handle old said there w at.
-          befalls_on (record { moment = old.moment; happening = happenings.Lose id handle }) id (λ s done after. Does (servers.lose handle s) done s after) old said there w at (refl, (said, at, refl)) refl tt;
-      damages = λ id handle block old said there w at.
-          befalls_on (record { moment = old.moment; happening = happenings.Damage id handle block }) id (λ s done after. Does (servers.damage handle block s) done s after) old said there w at (refl, (said, at, refl)) refl tt;
+      server_restarts = λ id old said there w at stands.
+          befalls_on (record { moment = old.moment; happening = happenings.Restart (keepers.Server id) }) id (λ s done after. (done ≡ Ok tt) × (after ≡ servers.restart s)) old said there w at (refl, (said, at, refl)) refl tt stands;
+      loses = λ id handle old said there w at stands.
+          befalls_on (record { moment = old.moment; happening = happenings.Lose id handle }) id (λ s done after. Does (servers.lose handle s) done s after) old said there w at (refl, (said, at, refl)) refl tt stands;
+      damages = λ id handle block old said there w at stands.
+          befalls_on (record { moment = old.moment; happening = happenings.Damage id handle block }) id (λ s done after. Does (servers.damage handle block s) done s after) old said there w at (refl, (said, at, refl)) refl tt stands;
       holds = λ kind old w. alike_on old (record old { kind = kind }) w (record { nodes = refl; queue = refl; held = refl; short = λ short. short }) w.moment;
       calls = asks_so;
       comes_at = λ line moment old w reads.

@@ -87,7 +87,7 @@ durable_at Away = start
 module _ {D : Type 0} (seen : D → List ℕ) (failures : D → ℕ) where
   -- the master is what the records tell, and knows its journal's room
   module _ (config : Config) (first second : D) (d : Durable) (log : Log) (m : MasterOf D) (turn : Told) (told : IsToldIn (standing (seen first) (seen second)) d)
-      (counted : (entries : List PlainEntry) → standing (seen first) (seen second) ≡ (Two, map (encoded Two) entries) → records_behind entries ≡ log.records)
+      (counted : (entries : List PlainEntry) → AllByRecursion (IsEntry Two) entries → standing (seen first) (seen second) ≡ (Two, map (encoded Two) entries) → records_behind entries ≡ log.records)
       (size : text_size (standing (seen first) (seen second)) ≡ log.size) (bound : log.limit ≡ limit) (generation : generation_standing (seen first) (seen second) ≡ log.generation)
       (kept : IsKept d) (counters : AreCounters d)
       (is : IsOpened seen failures config first second (standing (seen first) (seen second)) limit m turn.sent.items) (said : turn.said ≡ None) where
@@ -113,7 +113,7 @@ module _ {D : Type 0} (seen : D → List ℕ) (failures : D → ℕ) where
 
     log_is : there ≡ log
     log_is = λ i. record {
-      records = counted is.entries (told.records ∙ (λ j. (Two, records.written j))) i;
+      records = counted is.entries records.are_entries (told.records ∙ (λ j. (Two, records.written j))) i;
       size = (ap (λ (s : State). s.log.size) (sym state) ∙ is.known.size ∙ is.journal.whole ∙ ap text_size text ∙ size) i;
       limit = (is.limit ∙ sym bound) i;
       generation = (ap (λ (s : State). s.log.generation) (sym state) ∙ is.known.generation ∙ is.generation (ap (λ (t : Text). t.0) told.records) ∙ generation) i;
@@ -134,8 +134,8 @@ module _ {D : Type 0} (seen : D → List ℕ) (failures : D → ℕ) where
       let firm = good.firm in
       let told = subst (λ (t : Text). IsToldIn t m.state.durable) (sym firm.as_seen.text) firm.told in
       let log = record (m.state.log) { limit = limit } in
-      let counted : (entries : List PlainEntry) → standing (seen m.journal.first) (seen m.journal.second) ≡ (Two, map (encoded Two) entries) → records_behind entries ≡ log.records =
-      λ entries same. written.counted entries (sym firm.as_seen.text ∙ same) in
+      let counted : (entries : List PlainEntry) → AllByRecursion (IsEntry Two) entries → standing (seen m.journal.first) (seen m.journal.second) ≡ (Two, map (encoded Two) entries) → records_behind entries ≡ log.records =
+      λ entries are same. written.counted entries are (sym firm.as_seen.text ∙ same) in
       let size : text_size (standing (seen m.journal.first) (seen m.journal.second)) ≡ log.size = ap text_size firm.as_seen.text ∙ sym firm.as_seen.whole ∙ sym firm.known.size in
       let generation : generation_standing (seen m.journal.first) (seen m.journal.second) ≡ log.generation = written.generation ∙ sym firm.known.generation in
       let state = opened_state w.nodes.config m.journal.first m.journal.second m.state.durable log after turn told counted size refl generation firm.firm.stands.kept firm.firm.stands.counters opening said in

@@ -1,5 +1,6 @@
 -- A new store, and a whole script.
 use Rattle.std.proofs.Common.{◌≡◌, ◌≢◌, ◌∙◌, ◌⊎◌, ℕ, zero, suc, Bool, true, false, List, [], ◌∷◌, map, Option, Some, None, Result, Ok, Err, refl, sym, ap, subst, inl, inr}
+use Rattle.std.specs.List.{AllByRecursion}
 use Rattle.gs_base.specs.declared.config.Config.{Config}
 use Rattle.gs_base.specs.declared.refusal.Refusal.{Refusal}
 use Rattle.gs_desk.specs.Starting.{Starts, begun, new_client}
@@ -14,6 +15,7 @@ use Rattle.gs_master.specs.declared.turn.Turn.{Turn as Told}
 use Rattle.gs_msg.specs.declared.message.Message.{Message}
 use Rattle.gs_record.specs.Encoding.{encoded}
 use Rattle.gs_record.specs.Plain.{PlainEntry}
+use Rattle.gs_record.specs.Writable.{IsEntry}
 use Rattle.gs_run.specs.Lasting.{IsToldIn, failures_at}
 use Rattle.gs_state.specs.Applied.{records_behind}
 use Rattle.gs_state.specs.Durable.{start}
@@ -66,7 +68,7 @@ module _ {D : Type 0} (seen : D → List ℕ) (failures : D → ℕ) where
   new_master config disks place turn first second (after, is, opening, said) =
       let blank : standing (seen disks.0) (seen disks.1) ≡ (Two, []) = λ i. standing (first i) (second i) in
       let told : IsToldIn (standing (seen disks.0) (seen disks.1)) start = record { entries = []; records = blank; are_entries = tt; replays = refl } in
-      let counted : (entries : List PlainEntry) → standing (seen disks.0) (seen disks.1) ≡ (Two, map (encoded Two) entries) → records_behind entries ≡ plain.new_log.records = λ entries same. no_entries entries (sym blank ∙ same) in
+      let counted : (entries : List PlainEntry) → AllByRecursion (IsEntry Two) entries → standing (seen disks.0) (seen disks.1) ≡ (Two, map (encoded Two) entries) → records_behind entries ≡ plain.new_log.records = λ entries are same. no_entries entries (sym blank ∙ same) in
       let size : text_size (standing (seen disks.0) (seen disks.1)) ≡ plain.new_log.size = ap text_size blank in
       let generation : generation_standing (seen disks.0) (seen disks.1) ≡ plain.new_log.generation = λ i. generation_standing (first i) (second i) in
       let firm = starts_firm plain.new_log in

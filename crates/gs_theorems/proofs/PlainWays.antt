@@ -28,7 +28,7 @@ use Rattle.gs_world.specs.Nodes.{Nodes, with_clients, with_master}
 use Rattle.gs_world.specs.declared.place.MasterPlace.{MasterPlace}
 use Rattle.gs_world.specs.declared.place.MasterPlace.TheVariants.{Standing}
 use Rattle.gs_theorems.specs.Meeting.{IsCalm, IsPlain, Stands, plain_of}
-use Rattle.gs_theorems.proofs.PlainEnduring.{Endures, GoesOut, IsGood, IsTaken}
+use Rattle.gs_theorems.proofs.PlainEnduring.{Endures, GoesOut, IsGood, IsTaken, has}
 use Rattle.gs_theorems.specs.Plain.{Plain, delivers}
 use Rattle.gs_theorems.specs.Plain as plain
 use Rattle.gs_theorems.proofs.PlainEvents.{Comes, client_leaves, heard_comes, heard_rise, master_ends, node_ends, plain_same, server_does, server_leaves, ticked_turn, ticks_rise}
@@ -150,11 +150,10 @@ module _ {D : Type 0} (seen : D → List ℕ) (failures : D → ℕ) (me : Clien
       record {
         short = kept.short;
         rises = stays_quiet before new d.nodes kept.nodes (heard_rise seen failures message before.moment message.to before.nodes d.turn d.nodes hears);
-        same = λ calm m stands good undue. (
-          heard_comes seen failures message.to message d.turn d.nodes m before said new stands (good_before message old before m taken stands good)
-          (λ to. e.hears message old before m (was_taken message old before m taken stands) good taken to) hears d.ends calm.enough calm.sound,
-          e.delivers message old before said new good taken d calm,
-        );
+        same = λ calm m stands good undue.
+            let done = heard_comes seen failures message.to message d.turn d.nodes m before said new stands (good_before message old before m taken stands good)
+            (λ to. e.hears message old before m (was_taken message old before m taken stands) good taken to) hears d.ends calm.enough calm.sound in
+            (done, e.delivers message old before said new good taken d calm (has new (plain.delivered message (plain_of m.state before)).1 done.plain));
       }
 
   delivers_next : (many : ℕ) (old new : Way D) (queue : List Message) → old.queue ≡ queue
@@ -203,10 +202,9 @@ module _ {D : Type 0} (seen : D → List ℕ) (failures : D → ℕ) (me : Clien
       record {
         short = kept.short;
         rises = stays_quiet old new (with_master t.place old.nodes) kept.nodes (ticks_rise seen failures old.moment old.nodes.master t.turn t.place t.ticks);
-        same = λ calm m stands good undue. (
-          master_comes old new t calm m stands (e.good old m stands good) (sym (ticked_note (plain_of m.state old)) ∙ undue),
-          e.master_ticks old new good t calm,
-        );
+        same = λ calm m stands good undue.
+            let done = master_comes old new t calm m stands (e.good old m stands good) (sym (ticked_note (plain_of m.state old)) ∙ undue) in
+            (done, e.master_ticks old new good t calm (has new (plain.master_ticks (plain_of m.state old)) done.plain));
       }
 
   pub server_ticks : (id : ℕ) (old new : Way D) → ServerTicked id old new → Leads old new (plain.server_ticks id)
@@ -216,13 +214,9 @@ module _ {D : Type 0} (seen : D → List ℕ) (failures : D → ℕ) (me : Clien
         short = kept.short;
         rises = stays_quiet old new t.nodes kept.nodes
             (subst (λ at. failures_at failures old.nodes.master ≤ failures_at failures at) (sym (server_leaves seen failures id (λ s. ServerDoes (servers.tick s old.moment) s) old.nodes t.turn t.nodes t.ticks)) (itself (failures_at failures old.nodes.master)));
-        same = λ calm m stands good undue. (
-          record {
-            result = refl;
-            plain = (server_does seen failures (slice_get old.nodes.servers id) id (λ s. servers.tick s old.moment) t.turn t.nodes m old t.said new stands t.ticks t.ends calm.enough).plain;
-          },
-          e.server_ticks id old new good t calm,
-        );
+        same = λ calm m stands good undue.
+            let done = (server_does seen failures (slice_get old.nodes.servers id) id (λ s. servers.tick s old.moment) t.turn t.nodes m old t.said new stands t.ticks t.ends calm.enough).plain in
+            (record { result = refl; plain = done }, e.server_ticks id old new good t calm (has new (plain.server_ticks id (plain_of m.state old)) done));
       }
 
   -- one after the other, where nothing comes back
@@ -272,10 +266,9 @@ module _ {D : Type 0} (seen : D → List ℕ) (failures : D → ℕ) (me : Clien
     rises = stays_quiet old new nodes (ap (λ (w : Way D). w.nodes) there)
         (subst (λ at. failures_at failures old.nodes.master ≤ failures_at failures at)
         (sym (client_leaves seen failures client None (λ n found after. (found ≡ n.reply) × (after ≡ given_up n)) old.nodes found nodes takes).0) (itself (failures_at failures old.nodes.master)));
-    same = λ calm m stands good undue. (
-      taken_comes (client_in old.nodes.clients client) client nodes found m old reply new stands takes is there calm.enough,
-      e.takes client old reply new good (nodes, found, takes, is, there),
-    );
+    same = λ calm m stands good undue.
+        let done = taken_comes (client_in old.nodes.clients client) client nodes found m old reply new stands takes is there calm.enough in
+        (done, e.takes client old reply new good (nodes, found, takes, is, there) (has new (plain.heard client (plain_of m.state old)).1 done.plain));
   }
 
   -- what goes out, behind what a client has done
@@ -296,10 +289,12 @@ module _ {D : Type 0} (seen : D → List ℕ) (failures : D → ℕ) (me : Clien
           record {
             short = kept.short;
             rises = stays_quiet (with_nodes nodes old) a.first nodes kept.nodes (itself (failures_at failures nodes.master));
-            same = λ calm m stands good undue. (
-              record { result = refl; plain = node_ends seen failures sent.items nodes m (with_nodes nodes old) a.first stands refl refl a.sends calm.enough },
-              e.asks req request (Ok sent) nodes old a.first good mine low may at a.sends (record { enough = calm.enough; sound = calm.sound ∙ ap (failures_at failures) left.0 }),
-            );
+            same = λ calm m stands good undue.
+                let done = node_ends seen failures sent.items nodes m (with_nodes nodes old) a.first stands refl refl a.sends calm.enough in (
+                  record { result = refl; plain = done },
+                  e.asks req request (Ok sent) nodes old a.first good mine low may at a.sends (record { enough = calm.enough; sound = calm.sound ∙ ap (failures_at failures) left.0 })
+                  (has a.first (plain.sends_all sent.items (plain_of m.state (with_nodes nodes old))) done),
+                );
           }
 
   asking_comes : (o : Option Node) (req : ReqId) (request : Asked) (sent : Vec Message Global) (nodes : Nodes D) (m : MasterOf D) (old : Way D) (P : Reply × Plain → Type 0)
@@ -361,10 +356,9 @@ module _ {D : Type 0} (seen : D → List ℕ) (failures : D → ℕ) (me : Clien
       record {
         short = kept.short;
         rises = stays_quiet old new nodes kept.nodes (subst (λ place. failures_at failures old.nodes.master ≤ failures_at failures place) (sym left.0) (itself (failures_at failures old.nodes.master)));
-        same = λ calm m stands good undue. (
-          refused_comes (client_in old.nodes.clients req.client) req request f nodes m old reply new stands at is gone calm.enough,
-          e.asks req request (Err f) nodes old new good mine low may at gone calm,
-        );
+        same = λ calm m stands good undue.
+            let done = refused_comes (client_in old.nodes.clients req.client) req request f nodes m old reply new stands at is gone calm.enough in
+            (done, e.asks req request (Err f) nodes old new good mine low may at gone calm (has new (plain.carries req request (plain_of m.state old)).1 done.plain));
       }
 
   pub carries : (req : ReqId) (request : Asked) (old : Way D) (reply : Reply) (new : Way D) → req.client ≡ me → req.number ≤ last_number → MayAsk request → Carries seen failures req request old reply new

@@ -31,6 +31,7 @@ use Rattle.gs_msg.specs.declared.message.Message.{Message}
 use Rattle.gs_msg.specs.declared.node.NodeId.TheVariants as ids
 use Rattle.gs_record.specs.Encoding.{encoded}
 use Rattle.gs_record.specs.Plain.{PlainEntry}
+use Rattle.gs_record.specs.Writable.{IsEntry}
 use Rattle.gs_run.specs.Histories.{Begins, History}
 use Rattle.gs_run.specs.Lasting.{StandsFirm, failures_at}
 use Rattle.gs_run.specs.Runs.{Goes, Step, Comes, Takes}
@@ -39,6 +40,7 @@ use Rattle.gs_script.specs.Run.{Runs, lines_of, memory_text}
 use Rattle.gs_shell.specs.Serving.{Serves}
 use Rattle.gs_state.specs.Applied.{records_behind}
 use Rattle.gs_state.specs.State.{State}
+use Rattle.gs_world.specs.Nodes.{Nodes}
 use Rattle.gs_world.specs.declared.place.MasterPlace.{MasterPlace}
 use Rattle.gs_world.specs.declared.place.MasterPlace.TheVariants.{Standing}
 use Rattle.gs_theorems.specs.Plain.{Plain, PlainDesk}
@@ -66,6 +68,10 @@ pub record Stands {D : Type 0} (w : Way D) (m : MasterOf D) : Type 0 where
   pub place : w.nodes.master ≡ Standing m
   pub config : m.config ≡ w.nodes.config
 
+-- some master stands there
+abbrev pub HasMaster : {D : Type 0} → Nodes D → Type 0
+HasMaster {D} nodes = (m : MasterOf D) × (nodes.master ≡ Standing m)
+
 -- a master stands, and this is the store without its disks
 pub record IsPlain {D : Type 0} (w : Way D) (p : Plain) : Type 0 where
   pub master : MasterOf D
@@ -80,7 +86,7 @@ pub record IsCalm {D : Type 0} (failures : D → ℕ) (old new : Way D) : Type 0
 -- What a restart of a master goes by: its log counts the records behind its last checkpoint, its journal is of its form, and of the generation that
 -- its disks tell.
 pub record IsAsWritten {D : Type 0} (seen : D → List ℕ) (m : MasterOf D) : Type 0 where
-  pub counted : (entries : List PlainEntry) → m.journal.text ≡ (Two, map (encoded Two) entries) → records_behind entries ≡ m.state.log.records
+  pub counted : (entries : List PlainEntry) → AllByRecursion (IsEntry Two) entries → m.journal.text ≡ (Two, map (encoded Two) entries) → records_behind entries ≡ m.state.log.records
   pub form : is_text m.journal.text ≡ true
   pub generation : generation_standing (seen m.journal.first) (seen m.journal.second) ≡ m.journal.generation
 
@@ -127,11 +133,11 @@ IsOfScript config (Comes event) = IsNumber event.moment.0 × IsAskedSo config ev
 IsOfScript config (Takes client) = Unit {0}
 
 module _ {D : Type 0} (seen : D → List ℕ) (failures : D → ℕ) (config : Config) (disks : D × D) where
-  -- such steps one after the other, in none of which a disk of the master fails
+  -- such steps one after the other, in none of which a disk of the master fails, and behind each of which it stands
   abbrev pub RunsSo : List Step → History D → History D → Type 0
   RunsSo [] old new = new ≡ old
   RunsSo (step ∷ steps) old new =
-      (mid : History D) × Goes seen failures unarmed step old mid × IsOfScript config step × (failures_at failures mid.nodes.master ≡ failures_at failures old.nodes.master) × RunsSo steps mid new
+      (mid : History D) × Goes seen failures unarmed step old mid × IsOfScript config step × (failures_at failures mid.nodes.master ≡ failures_at failures old.nodes.master) × HasMaster mid.nodes × RunsSo steps mid new
 
   -- a new store with one client, behind such steps
   pub record IsMet (now : History D) : Type 0 where
