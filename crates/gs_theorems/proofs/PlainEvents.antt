@@ -1,6 +1,5 @@
 -- What an event at a node comes to where memory isn't wanting and no disk fails.
 use Rattle.std.proofs.Common.{◌≡◌, ◌∙◌, ◌+◌, ◌-◌, ◌<◌, ◌≤◌, ◌⊎◌, ◌==◌, ◌||◌, ℕ, zero, suc, Bool, true, false, List, [], ◌∷◌, if◌then◌else◌, Option, Some, None, MatchOption, Result, Ok, Err, Vec, refl, sym, ap, subst, inl, inr, arith, slice_get, slice_set}
-use Rattle.std.proofs.lemmas.Bool.{false≢true}
 use Rattle.gs_base.specs.Told.{IsNumber}
 use Rattle.gs_base.specs.declared.config.Config.{Config}
 use Rattle.gs_base.specs.declared.numbers.ClientId.{ClientId}
@@ -24,7 +23,7 @@ use Rattle.gs_msg.specs.declared.node.NodeId.TheVariants as ids
 use Rattle.gs_run.specs.Lasting.{failures_at}
 use Rattle.gs_server.specs.Servers.{Server, Step}
 use Rattle.gs_server.specs.Servers as servers
-use Rattle.gs_state.specs.Handling.{due, handle, tick}
+use Rattle.gs_state.specs.Handling.{handle, tick}
 use Rattle.gs_state.specs.Outcomes.{IsDone, caller_of}
 use Rattle.gs_state.specs.State.{State, Turn}
 use Rattle.gs_world.specs.Happenings.{AtClient, AtServer, ClientHears, Hears, MasterHears, MasterTicks, Says, ServerDoes, client_in, met_by}
@@ -35,7 +34,7 @@ use Rattle.gs_theorems.specs.Meeting.{IsPlain, Stands, plain_of}
 use Rattle.gs_theorems.proofs.PlainEnduring.{IsGood}
 use Rattle.gs_theorems.specs.Plain.{Met, Plain}
 use Rattle.gs_theorems.specs.Plain as plain
-use Rattle.gs_theorems.proofs.PlainSends.{StaysAt, all_plain, all_stays, end_stays, wanting}
+use Rattle.gs_theorems.proofs.PlainSends.{SaysEnough, all_plain, all_stays, end_sends, end_stays, wanting}
 use Rattle.gs_theorems.proofs.Refusing.{message_refused_for_memory, tick_refused_for_memory}
 
 -- what came of an event, and the store without its disks, are these
@@ -141,12 +140,14 @@ module _ {D : Type 0} (seen : D → List ℕ) (failures : D → ℕ) where
   whole_turn false t steps m after told place is (inr (at, cut)) same =
       absurd (never (failures_of_both failures m.journal) (failures_of_both failures after.journal) cut.cause (same_journal m after place is same))
 
-  pub ticked_turn : (moment : Moment) (w : Way D) (m : MasterOf D) (turn : Result Told Refusal) (place : MasterPlace D) → IsGood seen w m → due (pressed_all m.state moment).after ≡ false
+  pub ticked_turn : (moment : Moment) (w : Way D) (m : MasterOf D) (turn : Result Told Refusal) (place : MasterPlace D) → IsGood seen w m → SaysEnough turn
       → MasterTicks seen failures moment (Standing m) turn place → Same place (Standing m) → TurnIs (tick m.state moment) m.config turn place
-  ticked_turn moment w m (Ok told) place good undue (after, is, inl whole) same =
+  ticked_turn moment w m (Ok told) place good says (after, is, inl whole) same =
       let steps = pressed_all m.state moment in whole_turn (writes_one m.state steps) (tick m.state moment) steps m after told place is whole same
-  ticked_turn moment w m (Ok told) place good undue (after, is, inr (sound, is_due, none, done)) same = absurd (false≢true (sym undue ∙ is_due))
-  ticked_turn moment w m (Err e) place good undue ticks same = tick_refused_for_memory seen failures moment m e place good.firm good.steady ticks
+  ticked_turn moment w m (Ok told) place good says (after, is, inr (sound, is_due, none, inl done)) same = absurd (says done.done.says)
+  ticked_turn moment w m (Ok told) place good says (after, is, inr (sound, is_due, none, inr (at, cut))) same =
+      absurd (never (failures_of_both failures m.journal) (failures_of_both failures after.journal) cut.cause (same_journal m after place is same))
+  ticked_turn moment w m (Err e) place good says ticks same = tick_refused_for_memory seen failures moment m e place good.firm good.steady ticks
 
   -- ---- what is left of a way
 
@@ -156,8 +157,9 @@ module _ {D : Type 0} (seen : D → List ℕ) (failures : D → ℕ) where
   -- what the master sends goes out
   pub master_ends : (t : Turn) (m : MasterOf D) (turn : Result Told Refusal) (place : MasterPlace D) (old : Way D) (result : Result (Unit {0}) Refusal) (new : Way D) → Stands old m → TurnIs t m.config turn place
       → Ends turn (with_nodes (with_master place old.nodes) old) result new → new.is_short ≡ false → Comes new result (plain.at_master t (plain_of m.state old))
-  master_ends t m (Ok told) place old result new stands (after, is, done, config) (all, says) enough =
+  master_ends t m (Ok told) place old result new stands (after, is, done, config) ends enough =
       let mid = with_nodes (with_master place old.nodes) old in
+      let (all, says) = end_sends told mid result new ends enough in
       let nodes = (all_stays told.sent.items mid new all).nodes in
       record {
         result = says ∙ ap met_by done.says;
@@ -197,7 +199,7 @@ module _ {D : Type 0} (seen : D → List ℕ) (failures : D → ℕ) where
       record { result = gone.1; plain = plain_same old new m stands gone.0 }
   server_does (Some s) id step (Ok told) nodes m old result new stands (after, is, (same, sent, said)) ends enough =
       let there = with_servers (slice_set old.nodes.servers id after) old.nodes in
-      let out : Ends (Ok told) (with_nodes there old) result new = subst (λ n. Ends (Ok told) (with_nodes n old) result new) is ends in
+      let out = end_sends told (with_nodes there old) result new (subst (λ n. Ends (Ok told) (with_nodes n old) result new) is ends) enough in
       let left : IsPlain new (plain.sends_all told.sent.items (plain_of m.state (with_nodes there old))) = node_ends told.sent.items there m old new stands refl refl out.0 enough in
       record {
         result = out.1 ∙ ap met_by said;
@@ -211,10 +213,12 @@ module _ {D : Type 0} (seen : D → List ℕ) (failures : D → ℕ) where
       → MatchOption o ((nodes ≡ old.nodes) × (said ≡ None)) (λ n. (after : Node) × (nodes ≡ with_clients (slice_set old.nodes.clients (id.0 - 1) after) old.nodes) × ClientHears body n said after)
       → Says said turn → Ends turn (with_nodes nodes old) result new → new.is_short ≡ false → Comes new result (plain.hears_as o id body (plain_of m.state old))
   client_hears o id body said (Err refusal) nodes m old result new stands at says ends enough = absurd says
-  client_hears None id body said (Ok told) nodes m old result new stands (same, none) (nothing, is) (all, met) enough =
+  client_hears None id body said (Ok told) nodes m old result new stands (same, none) (nothing, is) ends enough =
+      let (all, met) = end_sends told (with_nodes nodes old) result new ends enough in
       let gone : SendsAll [] (with_nodes old.nodes old) new = subst (λ (p : List Message × Nodes D). SendsAll p.0 (with_nodes p.1 old) new) (λ i. (nothing i, same i)) all in
       record { result = met ∙ ap met_by (is ∙ none); plain = plain_same old new m stands gone }
-  client_hears (Some n) id body said (Ok told) nodes m old result new stands (after, at, does) (nothing, is) (all, met) enough =
+  client_hears (Some n) id body said (Ok told) nodes m old result new stands (after, at, does) (nothing, is) ends enough =
+      let (all, met) = end_sends told (with_nodes nodes old) result new ends enough in
       let there = with_clients (slice_set old.nodes.clients (id.0 - 1) after) old.nodes in
       let out : SendsAll [] (with_nodes there old) new = subst (λ (p : List Message × Nodes D). SendsAll p.0 (with_nodes p.1 old) new) (λ i. (nothing i, at i)) all in
       let heard = client_does (hears body n) said n after does in

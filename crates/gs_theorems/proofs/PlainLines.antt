@@ -44,7 +44,6 @@ use Rattle.gs_theorems.proofs.PlainEnduring.{IsOurs, AllAsked, Endures, EnduresR
 use Rattle.gs_theorems.specs.Plain.{Met, Plain, PlainDesk}
 use Rattle.gs_theorems.specs.Plain as plain
 use Rattle.gs_theorems.proofs.PlainEvents.{Comes as Becomes, master_ends, node_ends, plain_same, server_leaves}
-use Rattle.gs_theorems.proofs.PlainNotes.{KeepsAt, delivered_noted, delivers_noted, not_before, run_keeps, serves_keeps}
 use Rattle.gs_theorems.proofs.PlainReopens.{reopened_cases}
 use Rattle.gs_theorems.proofs.PlainSends.{end_stays, send_plain, send_stays, wanting, was_enough}
 use Rattle.gs_theorems.proofs.PlainWays.{Gives, Leads, carries, chain, delivers_one, delivers_whole, nothing, only, onward}
@@ -105,13 +104,13 @@ module _ {D : Type 0} (seen : D → List ℕ) (failures : D → ℕ) (me : Clien
     pub short : (way_of old.1).is_short ≡ true → (way_of new.1).is_short ≡ true
     pub rises : failures_at failures (way_of old.1).nodes.master ≤ failures_at failures (way_of new.1).nodes.master
     pub same : IsCalm failures (way_of old.1) (way_of new.1) → (m : MasterOf D) → Stands (way_of old.1) m → Good (way_of old.1)
-        → (f (old.0, plain_of m.state (way_of old.1))).1.1.is_due ≡ false → Arrives new r (f (old.0, plain_of m.state (way_of old.1)))
+        → Arrives new r (f (old.0, plain_of m.state (way_of old.1)))
 
   nothing_at : {R : Type 0} (old new : Held) (r s : R) → r ≡ s → new ≡ old → GivesAt old r new (λ w. (s, w))
   nothing_at {R} old new r s is same = record {
     short = λ short. ap (λ (h : Held). (way_of h.1).is_short) same ∙ short;
     rises = subst (λ (h : Held). failures_at failures (way_of old.1).nodes.master ≤ failures_at failures (way_of h.1).nodes.master) (sym same) (itself (failures_at failures (way_of old.1).nodes.master));
-    same = λ calm m stands good undue. record {
+    same = λ calm m stands good. record {
       result = is;
       client = ap (λ (h : Held). h.0) same;
       plain = plain_same seen failures (way_of old.1) (way_of new.1) m stands (ap (λ (h : Held). way_of h.1) same);
@@ -123,18 +122,18 @@ module _ {D : Type 0} (seen : D → List ℕ) (failures : D → ℕ) (me : Clien
   desk_path r c p q first second third = λ i. (first i, (second i, sym third i))
 
   module _ {R S : Type 0} (old mid new : Held) (r : R) (s : S) (f : PlainDesk → R × PlainDesk) (g : R → PlainDesk → S × PlainDesk)
-      (keeps : (x : R) (w : PlainDesk) → w.1.is_due ≡ true → (g x w).1.1.is_due ≡ true) (first : GivesAt old r mid f) (second : GivesAt mid s new (g r)) where
+      (first : GivesAt old r mid f) (second : GivesAt mid s new (g r)) where
     abbrev both : PlainDesk → S × PlainDesk
     both w = g (f w).0 (f w).1
 
     both_same : IsCalm failures (way_of old.1) (way_of new.1) → (m : MasterOf D) → Stands (way_of old.1) m → Good (way_of old.1)
-        → (both (old.0, plain_of m.state (way_of old.1))).1.1.is_due ≡ false → Arrives new s (both (old.0, plain_of m.state (way_of old.1)))
-    both_same calm m stands good undue =
+        → Arrives new s (both (old.0, plain_of m.state (way_of old.1)))
+    both_same calm m stands good =
         let q = f (old.0, plain_of m.state (way_of old.1)) in
-        let one = first.same (record { enough = was_enough (way_of mid.1) (way_of new.1) second.short calm.enough; sound = quiet }) m stands good (not_before q.1.1.is_due (g q.0 q.1).1.1.is_due (keeps q.0 q.1) undue) in
+        let one = first.same (record { enough = was_enough (way_of mid.1) (way_of new.1) second.short calm.enough; sound = quiet }) m stands good in
         let there = one.plain in
         let path = desk_path r mid.0 (plain_of there.master.state (way_of mid.1)) q one.result one.client there.plain in
-        let two = second.same (record { enough = calm.enough; sound = calm.sound ∙ sym quiet }) there.master there.stands one.good (subst (λ (x : R × PlainDesk). (g x.0 x.1).1.1.is_due ≡ false) (sym path) undue) in
+        let two = second.same (record { enough = calm.enough; sound = calm.sound ∙ sym quiet }) there.master there.stands one.good in
         subst (λ (x : R × PlainDesk). Arrives new s (g x.0 x.1)) path two
         where
           quiet : failures_at failures (way_of mid.1).nodes.master ≡ failures_at failures (way_of old.1).nodes.master
@@ -156,11 +155,11 @@ module _ {D : Type 0} (seen : D → List ℕ) (failures : D → ℕ) (me : Clien
       record {
         short = g.short;
         rises = g.rises;
-        same = λ calm m stands good undue.
+        same = λ calm m stands good.
             let p = plain_of m.state (way_of old.1) in
             let refused : Reply × PlainDesk = (replies.Refused refusals.Exhausted, (old.0, p)) in
             let goes = plain.going_on old.0 (plain.carries (next_request old.0) request p) in
-            let done = g.same calm m stands good (subst (λ (c : Bool). (if c then refused else goes).1.1.is_due ≡ false) other undue) in
+            let done = g.same calm m stands good in
             subst (λ (c : Bool). Arrives new reply (if c then refused else goes)) (sym other) (record { result = done.0.result; client = next; plain = done.0.plain; good = done.1 });
       }
   served old new request reply mine may (inr (last, is, same)) =
@@ -169,12 +168,12 @@ module _ {D : Type 0} (seen : D → List ℕ) (failures : D → ℕ) (me : Clien
       record {
         short = still.short;
         rises = still.rises;
-        same = λ calm m stands good undue.
+        same = λ calm m stands good.
             let p = plain_of m.state (way_of old.1) in
             let refused : Reply × PlainDesk = (replies.Refused refusals.Exhausted, (old.0, p)) in
             let goes = plain.going_on old.0 (plain.carries (next_request old.0) request p) in
             subst (λ (c : Bool). Arrives new reply (if c then refused else goes)) (sym it)
-            (still.same calm m stands good (subst (λ (c : Bool). (if c then refused else goes).1.1.is_due ≡ false) it undue));
+            (still.same calm m stands good);
       }
 
   pub still_mine : (old new : Held) (request : Asked) (reply : Reply) → IsOurs me size old.0 → Asks (carried seen failures) old request reply new → IsOurs me size new.0
@@ -186,7 +185,7 @@ module _ {D : Type 0} (seen : D → List ℕ) (failures : D → ℕ) (me : Clien
       → Follows (Asks (carried seen failures)) call old result new → GivesAt old result new (run plain.serves call)
   called (Say said) old new result mine may enough (is, same) = nothing_at old new result said is same
   called (Ask request more) old new result mine (may, others) enough (reply, mid, sends, rest) =
-      then_at old mid new reply result (λ w. plain.serves w request) (λ answer. run plain.serves (more answer)) (λ answer w noted. run_keeps (more answer) w noted)
+      then_at old mid new reply result (λ w. plain.serves w request) (λ answer. run plain.serves (more answer))
       (served old mid request reply mine may sends)
       (called (more reply) mid new result (still_mine old mid request reply mine sends) (others reply) enough rest)
   called (Grow rest) old new result mine may enough (inl more) = called rest old new result mine may enough more
@@ -197,7 +196,7 @@ module _ {D : Type 0} (seen : D → List ℕ) (failures : D → ℕ) (me : Clien
   -- of a line it is enough that it isn't forgotten that memory was wanting
   pub record GivesLine {R : Type 0} (old : Way D) (r : R) (new : Way D) (f : Plain → R × Plain) : Type 0 where
     pub short : old.is_short ≡ true → new.is_short ≡ true
-    pub same : IsCalm failures old new → (m : MasterOf D) → Stands old m → Good old → (f (plain_of m.state old)).1.is_due ≡ false → Becomes new r (f (plain_of m.state old)) × Good new
+    pub same : IsCalm failures old new → (m : MasterOf D) → Stands old m → Good old → Becomes new r (f (plain_of m.state old)) × Good new
 
   line_of : {R : Type 0} (old : Way D) (r : R) (new : Way D) (f : Plain → R × Plain) → GivesHere (Good old) old r new f → GivesLine old r new f
   line_of old r new f g = record { short = g.short; same = g.same }
@@ -205,7 +204,7 @@ module _ {D : Type 0} (seen : D → List ℕ) (failures : D → ℕ) (me : Clien
   still_said : {R : Type 0} (old new : Way D) (r s : R) → r ≡ s → new ≡ old → GivesLine old r new (λ p. (s, p))
   still_said old new r s is same = record {
     short = λ short. ap (λ (w : Way D). w.is_short) same ∙ short;
-    same = λ calm m stands good undue. (record { result = is; plain = plain_same seen failures old new m stands same }, subst Good (sym same) good);
+    same = λ calm m stands good. (record { result = is; plain = plain_same seen failures old new m stands same }, subst Good (sym same) good);
   }
 
   -- a test that chooses
@@ -221,7 +220,7 @@ module _ {D : Type 0} (seen : D → List ℕ) (failures : D → ℕ) (me : Clien
       → (does result new → GivesLine old result new f) → ForServer number does old result new → GivesLine old result new (plain.for_server number f)
   for_server number does old result new f each h =
       let g = chosen (is_server number old) old result (Err refusals.Range) new f (does result new) each h in
-      record { short = g.short; same = λ calm m stands good undue. g.same calm m stands good undue }
+      record { short = g.short; same = λ calm m stands good. g.same calm m stands good }
 
   of_handle : (handle : ℕ) (does : Result (Unit {0}) Refusal → Way D → Type 0) (old : Way D) (result : Result (Unit {0}) Refusal) (new : Way D) (f : Plain → Met)
       → (does result new → GivesLine old result new f) → OfHandle handle does old result new → GivesLine old result new (plain.of_handle handle f)
@@ -252,7 +251,7 @@ module _ {D : Type 0} (seen : D → List ℕ) (failures : D → ℕ) (me : Clien
       → ((nodes : Nodes D) → Good old → AtServer id does old.nodes result nodes → HasMaster nodes → Good (with_nodes nodes old)) → AtOne id does old result new → GivesLine old result new (plain.befalls id what)
   at_one id does what old result new each goes (nodes, at, is) = record {
     short = λ short. ap (λ (w : Way D). w.is_short) is ∙ short;
-    same = λ calm m stands good undue. (
+    same = λ calm m stands good. (
       befalls_comes (slice_get old.nodes.servers id) id does what nodes m old result new each stands at is calm.enough,
       subst Good (sym is) (goes nodes good at (m, server_leaves seen failures id does old.nodes result nodes at ∙ stands.place)),
     );
@@ -263,7 +262,7 @@ module _ {D : Type 0} (seen : D → List ℕ) (failures : D → ℕ) (me : Clien
   passing r old new f g = record {
     short = g.short;
     rises = g.rises;
-    same = λ calm m stands good undue. let done = g.same calm m stands good undue in (record { result = refl; plain = done.0.plain }, done.1);
+    same = λ calm m stands good. let done = g.same calm m stands good in (record { result = refl; plain = done.0.plain }, done.1);
   }
 
   hands_over : (o : Option Message) (number : ℕ) (old : Way D) (result : Result (Unit {0}) Refusal) (new : Way D) → held_at number old.held ≡ o
@@ -271,11 +270,11 @@ module _ {D : Type 0} (seen : D → List ℕ) (failures : D → ℕ) (me : Clien
   hands_over None number old result new found (range, same) = still_said old new result (Err refusals.Range) range same
   hands_over (Some message) number old result new found (inl (memory, short)) = record {
     short = λ _. ap (λ (w : Way D). w.is_short) short;
-    same = λ calm m stands good undue. absurd (false≢true (sym calm.enough ∙ ap (λ (w : Way D). w.is_short) short));
+    same = λ calm m stands good. absurd (false≢true (sym calm.enough ∙ ap (λ (w : Way D). w.is_short) short));
   }
   hands_over (Some message) number old result new found (inr (mid, d, rest)) =
       line_of old result new (plain.handed_over (Some message))
-      (chain seen failures me size MayAsk Good e (Good old) old mid new result result (plain.delivered message) (λ x p. (x, plain.delivers_whole p)) (λ x p noted. delivers_noted last_count p ∙ noted)
+      (chain seen failures me size MayAsk Good e (Good old) old mid new result result (plain.delivered message) (λ x p. (x, plain.delivers_whole p))
       (delivers_one seen failures me size MayAsk Good e message old old result mid (inr (number, found, refl)) d)
       (passing result mid new plain.delivers_whole (delivers_whole seen failures me size MayAsk Good e mid new rest)))
 
@@ -285,7 +284,7 @@ module _ {D : Type 0} (seen : D → List ℕ) (failures : D → ℕ) (me : Clien
   beats_of None number old result new found (range, same) = still_said old new result (Err refusals.Range) range same
   beats_of (Some s) number old result new found (inl (memory, short)) = record {
     short = λ _. ap (λ (w : Way D). w.is_short) short;
-    same = λ calm m stands good undue. absurd (false≢true (sym calm.enough ∙ ap (λ (w : Way D). w.is_short) short));
+    same = λ calm m stands good. absurd (false≢true (sym calm.enough ∙ ap (λ (w : Way D). w.is_short) short));
   }
   beats_of (Some s) number old result new found (inr (mid, sends, rest, is)) =
       let none = record old { drops = 0 } in
@@ -293,7 +292,7 @@ module _ {D : Type 0} (seen : D → List ℕ) (failures : D → ℕ) (me : Clien
       let first : GivesHere (Good old) none tt mid (only (plain.sends (servers.beat s))) = record {
         short = sent.short;
         rises = subst (λ (n : Nodes D). failures_at failures none.nodes.master ≤ failures_at failures n.master) (sym sent.nodes) (itself (failures_at failures none.nodes.master));
-        same = λ calm m stands good undue. (
+        same = λ calm m stands good. (
           record {
             result = refl;
             plain = record {
@@ -305,12 +304,12 @@ module _ {D : Type 0} (seen : D → List ℕ) (failures : D → ℕ) (me : Clien
           e.beats number s old mid good found sends (record { enough = calm.enough; sound = calm.sound }) (m, ap (λ (n : Nodes D). n.master) sent.nodes ∙ stands.place),
         );
       } in
-      let all = chain seen failures me size MayAsk Good e (Good old) none mid new tt tt (only (plain.sends (servers.beat s))) (λ _. only plain.delivers_whole) (λ x p noted. delivers_noted last_count p ∙ noted)
+      let all = chain seen failures me size MayAsk Good e (Good old) none mid new tt tt (only (plain.sends (servers.beat s))) (λ _. only plain.delivers_whole)
       first (delivers_whole seen failures me size MayAsk Good e mid new rest) in
       record {
         short = all.short;
-        same = λ calm m stands good undue.
-            let done = all.same (record { enough = calm.enough; sound = calm.sound }) m (record { place = stands.place; config = stands.config }) good undue in
+        same = λ calm m stands good.
+            let done = all.same (record { enough = calm.enough; sound = calm.sound }) m (record { place = stands.place; config = stands.config }) good in
             (record { result = is ∙ ap (λ (p : Plain). Ok p.drops) (sym done.0.plain.plain); plain = done.0.plain }, done.1);
       }
 
@@ -318,15 +317,15 @@ module _ {D : Type 0} (seen : D → List ℕ) (failures : D → ℕ) (me : Clien
       → result ≡ answered answer said → GivesLine old said new f → GivesLine old result new (λ p. plain.answered_by answer (f p))
   in_answer answer old said result new f is g = record {
     short = g.short;
-    same = λ calm m stands good undue.
-        let done = g.same calm m stands good undue in (record { result = is ∙ ap (answered answer) done.0.result; plain = done.0.plain }, done.1);
+    same = λ calm m stands good.
+        let done = g.same calm m stands good in (record { result = is ∙ ap (answered answer) done.0.result; plain = done.0.plain }, done.1);
   }
 
   changed : (old new now : Way D) (answer : Result Answer Refusal) (f : Plain → Plain) → new ≡ now → (old.is_short ≡ true → now.is_short ≡ true)
       → ((m : MasterOf D) → Stands old m → Good old → IsPlain now (f (plain_of m.state old)) × Good now) → (result : Result Answer Refusal) → result ≡ answer → GivesLine old result new (λ p. (answer, f p))
   changed old new now answer f same short each result is = record {
     short = λ h. ap (λ (w : Way D). w.is_short) same ∙ short h;
-    same = λ calm m stands good undue. let done = each m stands good in (record { result = is; plain = subst (λ w. IsPlain w (f (plain_of m.state old))) (sym same) done.0 }, subst Good (sym same) done.1);
+    same = λ calm m stands good. let done = each m stands good in (record { result = is; plain = subst (λ w. IsPlain w (f (plain_of m.state old))) (sym same) done.0 }, subst Good (sym same) done.1);
   }
 
   master_restarts : EnduresRestarts seen failures Good → (old : Way D) (said : Result (Unit {0}) Refusal) (new : Way D) → MasterRestarts seen failures old said new
@@ -336,7 +335,7 @@ module _ {D : Type 0} (seen : D → List ℕ) (failures : D → ℕ) (me : Clien
       let rest = delivers_whole seen failures me size MayAsk Good e r.mid new r.delivers in
       record {
         short = λ short. rest.short (kept.short short);
-        same = λ calm m stands good undue.
+        same = λ calm m stands good.
             let there : Reopens seen failures old.nodes.config (Standing m) r.turn r.place = subst (λ at. Reopens seen failures old.nodes.config at r.turn r.place) stands.place r.opens in
             let enough = was_enough r.mid new rest.short calm.enough in
             let here : failures_at failures r.mid.nodes.master ≡ failures_at failures r.place = ap (λ (n : Nodes D). failures_at failures n.master) kept.nodes in
@@ -351,7 +350,7 @@ module _ {D : Type 0} (seen : D → List ℕ) (failures : D → ℕ) (me : Clien
                 let done = master_ends seen failures t m r.turn r.place old said r.mid stands turn r.ends enough in
                 onward seen failures me size MayAsk Good e r.mid new said said (plain.at_master t (plain_of m.state old)) (λ x p. (x, plain.delivers_whole p)) done
                 (restarts.restarts r.place r.turn old said r.mid good r.opens r.ends (record { enough = enough; sound = quiet }) (has r.mid (plain.at_master t (plain_of m.state old)).1 done.plain))
-                (passing said r.mid new plain.delivers_whole rest) (record { enough = calm.enough; sound = calm.sound ∙ sym quiet }) undue
+                (passing said r.mid new plain.delivers_whole rest) (record { enough = calm.enough; sound = calm.sound ∙ sym quiet })
             ];
       }
 
@@ -360,7 +359,7 @@ module _ {D : Type 0} (seen : D → List ℕ) (failures : D → ℕ) (me : Clien
   nodes_do line (lines.Beat number) asked restarts old result new (drops, beats, is) =
       in_answer answers.Number old drops result new (plain.beats number) is
       (for_server number (BeatsOf seen failures number old) old drops new (λ p. plain.beats_found (slice_get p.servers number) p)
-      (λ h. let g = beats_of (slice_get old.nodes.servers number) number old drops new refl h in record { short = g.short; same = λ calm m stands good undue. g.same calm m stands good undue }) beats)
+      (λ h. let g = beats_of (slice_get old.nodes.servers number) number old drops new refl h in record { short = g.short; same = λ calm m stands good. g.same calm m stands good }) beats)
   nodes_do line (lines.At moment) asked restarts old result new (is, same) =
       changed old new (record old { moment = record { 0 = moment } }) (Ok answers.Done) (λ p. record p { moment = record { 0 = moment } }) same (λ short. short)
       (λ m stands good. (record { master = m; stands = record { place = stands.place; config = stands.config }; plain = refl }, e.comes_at line moment old good asked)) result is
@@ -388,7 +387,7 @@ module _ {D : Type 0} (seen : D → List ℕ) (failures : D → ℕ) (me : Clien
       (λ nodes good at has. e.damages server handle block old said nodes good at has) h) h) does)
   nodes_do line (lines.Deliver number) asked restarts old result new (said, does, is) =
       in_answer done old said result new (λ p. plain.handed_over (held_at number p.held) p) is
-      (let g = hands_over (held_at number old.held) number old said new refl does in record { short = g.short; same = λ calm m stands good undue. g.same calm m stands good undue })
+      (let g = hands_over (held_at number old.held) number old said new refl does in record { short = g.short; same = λ calm m stands good. g.same calm m stands good })
   nodes_do line request asked restarts old result new does = absurd does
 
   -- ---- a line
@@ -397,7 +396,7 @@ module _ {D : Type 0} (seen : D → List ℕ) (failures : D → ℕ) (me : Clien
   pub record GivesDesk {R : Type 0} (old : Held) (r : R) (new : Held) (f : PlainDesk → R × PlainDesk) : Type 0 where
     pub short : (way_of old.1).is_short ≡ true → (way_of new.1).is_short ≡ true
     pub same : IsCalm failures (way_of old.1) (way_of new.1) → (m : MasterOf D) → Stands (way_of old.1) m → Good (way_of old.1)
-        → (f (old.0, plain_of m.state (way_of old.1))).1.1.is_due ≡ false → Arrives new r (f (old.0, plain_of m.state (way_of old.1)))
+        → Arrives new r (f (old.0, plain_of m.state (way_of old.1)))
 
   desk_of : {R : Type 0} (old : Held) (r : R) (new : Held) (f : PlainDesk → R × PlainDesk) → GivesAt old r new f → GivesDesk old r new f
   desk_of old r new f g = record { short = g.short; same = g.same }
@@ -405,7 +404,7 @@ module _ {D : Type 0} (seen : D → List ℕ) (failures : D → ℕ) (me : Clien
   at_nodes : {R : Type 0} (old : Held) (r : R) (new : Held) (f : Plain → R × Plain) → new.0 ≡ old.0 → GivesLine (way_of old.1) r (way_of new.1) f → GivesDesk old r new (λ w. plain.at_desk w.0 (f w.1))
   at_nodes old r new f client g = record {
     short = g.short;
-    same = λ calm m stands good undue. let done = g.same calm m stands good undue in record { result = done.0.result; client = client; plain = done.0.plain; good = done.1 };
+    same = λ calm m stands good. let done = g.same calm m stands good in record { result = done.0.result; client = client; plain = done.0.plain; good = done.1 };
   }
 
   module _ (line : List ℕ) (restarts : line_request line ≡ Some (lines.Restart restarted.Master) → EnduresRestarts seen failures Good) where
@@ -427,13 +426,13 @@ module _ {D : Type 0} (seen : D → List ℕ) (failures : D → ℕ) (me : Clien
     unfolding Comes
     comes request old result new asked mine enough h =
         let g = comes_as (asked_by old.caller.client.chunk request) request (held_of old) result (held_of new) asked mine refl enough h in
-        record { short = g.short; same = λ calm m stands good undue. g.same calm m stands good undue }
+        record { short = g.short; same = λ calm m stands good. g.same calm m stands good }
 
     in_text : (answer : Result Answer Refusal) (text : List ℕ) (old new : Held) (f : PlainDesk → Result Answer Refusal × PlainDesk) → text ≡ answer_text answer → GivesDesk old answer new f → GivesDesk old text new (λ w. plain.in_text (f w))
     in_text answer text old new f is g = record {
       short = g.short;
-      same = λ calm m stands good undue.
-          let done = g.same calm m stands good undue in record { result = is ∙ ap answer_text done.result; client = done.client; plain = done.plain; good = done.good };
+      same = λ calm m stands good.
+          let done = g.same calm m stands good in record { result = is ∙ ap answer_text done.result; client = done.client; plain = done.plain; good = done.good };
     }
 
     pub same_desk : {R : Type 0} (old new : Desk D) (r s : R) → r ≡ s → new ≡ old → GivesDesk (held_of old) r (held_of new) (λ w. (s, w))

@@ -48,10 +48,10 @@ module _ {D : Type 0} (seen : D → List ℕ) (failures : D → ℕ) (config : C
 
   pub line_runs : (old new : Desk D) (whole text : List ℕ) (w : PlainDesk) → AllSteady seen failures config disks → AnswersLine (AnswersText seen failures) old whole text new → text ≢ memory_text
       → IsCalm failures (way_of old.wire) (way_of new.wire) → (RestartsMaster whole → AllWritten seen failures config disks)
-      → Reaches seen failures config disks old w → (answers_line whole w).1.1.is_due ≡ false → (text ≡ (answers_line whole w).0) × Reaches seen failures config disks new (answers_line whole w).1
-  line_runs old new whole text w steady answers enough calm restarts at undue =
+      → Reaches seen failures config disks old w → (text ≡ (answers_line whole w).0) × Reaches seen failures config disks new (answers_line whole w).1
+  line_runs old new whole text w steady answers enough calm restarts at =
       let done = line_answered seen failures (record { 0 = 1 }) config.chunk (IsAskedByLine config.chunk) Met (met_endures seen failures config disks steady) old new whole text w answers enough calm at.ours
-      (λ restarting. met_restarts seen failures config disks (restarts restarting)) (landed old w at) undue in
+      (λ restarting. met_restarts seen failures config disks (restarts restarting)) (landed old w at) in
       (done.0, reached new (answers_line whole w).1 (whole_mine seen failures (record { 0 = 1 }) config.chunk (IsAskedByLine config.chunk) Met (met_endures seen failures config disks steady) whole old text new at.ours answers) done.1)
 
   -- a desk that has begun is met
@@ -77,13 +77,13 @@ module _ {D : Type 0} (seen : D → List ℕ) (failures : D → ℕ) (config : C
   may_restart lines (inl none) = inl none
   may_restart lines (inr written) = inr (met_restarts seen failures config disks written)
 
-  pub script_runs : (input : List ℕ) (old new : Option (List ℕ)) (s : Serves seen failures config disks input old new) → RunsWell seen failures config disks input old new s → (runs config input).1.1.is_due ≡ false
+  pub script_runs : (input : List ℕ) (old new : Option (List ℕ)) (s : Serves seen failures config disks input old new) → RunsWell seen failures config disks input old new s
       → (s.writes.texts ≡ answers_of config input) × Reaches seen failures config disks s.ended (runs config input).1
-  script_runs input old new s r undue =
+  script_runs input old new s r =
       let b = starts_plain seen failures config disks s.begun r.empty.0 r.empty.1 s.starts in
       let ours : IsClientOf config s.begun.caller.client = (ap (λ c. c.last.client) s.starts.client, ap (λ c. c.chunk) s.starts.client) in
       let endures = met_endures seen failures config disks r.steady in
       let all = all_lines seen failures (record { 0 = 1 }) config.chunk (IsAskedByLine config.chunk) Met endures (lines_of input) s.writes.texts s.begun s.ended s.writes.runs
       ours r.answered (may_restart (lines_of input) r.restarts) r.sound in
-      let done = all.same r.enough (begins config) (record { client = s.starts.client; plain = b.plain; good = begun_met s.begun s.starts b }) undue in
+      let done = all.same r.enough (begins config) (record { client = s.starts.client; plain = b.plain; good = begun_met s.begun s.starts b }) in
       (done.0, reached s.ended (runs config input).1 (lines_mine seen failures (record { 0 = 1 }) config.chunk (IsAskedByLine config.chunk) Met endures (lines_of input) s.writes.texts s.begun s.ended s.writes.runs ours) done.1)

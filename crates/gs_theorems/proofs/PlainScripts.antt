@@ -30,7 +30,6 @@ use Rattle.gs_theorems.proofs.PlainEnduring.{IsOurs, Lands, Endures, EnduresRest
 use Rattle.gs_theorems.specs.Plain.{Plain, PlainDesk}
 use Rattle.gs_theorems.specs.Plain as plain
 use Rattle.gs_theorems.proofs.PlainLines.{GivesDesk, same_desk, still_mine, text_answers}
-use Rattle.gs_theorems.proofs.PlainNotes.{lines_keep, not_before}
 use Rattle.gs_theorems.proofs.PlainSends.{was_enough}
 
 module _ {D : Type 0} (seen : D → List ℕ) (failures : D → ℕ) (me : ClientId) (size : ℕ) (MayAsk : Asked → Type 0) (Good : Way D → Type 0) (e : Endures seen failures me size MayAsk Good) where
@@ -101,12 +100,11 @@ module _ {D : Type 0} (seen : D → List ℕ) (failures : D → ℕ) (me : Clien
   -- a desk that answers a line
   pub line_answered : (old new : Desk D) (whole text : List ℕ) (w : PlainDesk) → AnswersLine (AnswersText seen failures) old whole text new → text ≢ memory_text
       → IsCalm failures (way_of old.wire) (way_of new.wire) → IsOurs me size old.caller.client → (RestartsMaster whole → EnduresRestarts seen failures Good) → Lands Good old w
-      → (plain.answers_line whole w).1.1.is_due ≡ false → (text ≡ (plain.answers_line whole w).0) × Lands Good new (plain.answers_line whole w).1
-  line_answered old new whole text w h enough calm mine restarts at undue =
+      → (text ≡ (plain.answers_line whole w).0) × Lands Good new (plain.answers_line whole w).1
+  line_answered old new whole text w h enough calm mine restarts at =
       let there = at.plain in
       let path : ◌≡◌ {A = PlainDesk} (old.caller.client, plain_of there.master.state (way_of old.wire)) w = λ i. (at.client i, sym there.plain i) in
-      let done = (whole_line whole old text new mine enough restarts h).same calm there.master there.stands at.good
-      (subst (λ (x : PlainDesk). (plain.answers_line whole x).1.1.is_due ≡ false) (sym path) undue) in
+      let done = (whole_line whole old text new mine enough restarts h).same calm there.master there.stands at.good in
       subst (λ (x : PlainDesk). (text ≡ (plain.answers_line whole x).0) × Lands Good new (plain.answers_line whole x).1) path
       (done.result, record { client = done.client; plain = done.plain; good = done.good })
 
@@ -115,7 +113,7 @@ module _ {D : Type 0} (seen : D → List ℕ) (failures : D → ℕ) (me : Clien
   -- of lines that are answered, whether memory was wanting isn't forgotten, and where it wasn't their answers are what the function says
   pub record GivesAll (all : List (List ℕ)) (old : Desk D) (texts : List (List ℕ)) (new : Desk D) : Type 0 where
     pub short : (way_of old.wire).is_short ≡ true → (way_of new.wire).is_short ≡ true
-    pub same : (way_of new.wire).is_short ≡ false → (w : PlainDesk) → Lands Good old w → (plain.answers_all all w).1.1.is_due ≡ false
+    pub same : (way_of new.wire).is_short ≡ false → (w : PlainDesk) → Lands Good old w
         → (texts ≡ (plain.answers_all all w).0) × Lands Good new (plain.answers_all all w).1
 
   abbrev MayRestart : List (List ℕ) → Type 0
@@ -133,7 +131,7 @@ module _ {D : Type 0} (seen : D → List ℕ) (failures : D → ℕ) (me : Clien
       → AllByRecursion (λ text. text ≢ memory_text) texts → MayRestart all → AreSound seen failures old all texts new runs → GivesAll all old texts new
   all_lines [] [] old new same mine enough restarts sound = record {
     short = λ short. ap (λ (d : Desk D). (way_of d.wire).is_short) same ∙ short;
-    same = λ whole w at undue. (refl, subst (λ d. Lands Good d w) (sym same) at);
+    same = λ whole w at. (refl, subst (λ d. Lands Good d w) (sym same) at);
   }
   all_lines [] (text ∷ texts) old new none mine enough restarts sound = absurd none
   all_lines (line ∷ others) [] old new none mine enough restarts sound = absurd none
@@ -142,10 +140,9 @@ module _ {D : Type 0} (seen : D → List ℕ) (failures : D → ℕ) (me : Clien
       let more = all_lines others texts mid new rest (whole_mine line old text mid mine h) enough.1 (other_restarts line others restarts) sound.1 in
       record {
         short = λ short. more.short (one.short short);
-        same = λ whole w at undue.
+        same = λ whole w at.
             let q = plain.answers_line line w in
-            let first = line_answered old mid line text w h enough.0 (record { enough = was_enough (way_of mid.wire) (way_of new.wire) more.short whole; sound = sound.0 }) mine (first_restarts line others restarts) at
-            (not_before q.1.1.is_due (plain.answers_all others q.1).1.1.is_due (lines_keep others q.1) undue) in
-            let last = more.same whole q.1 first.1 undue in
+            let first = line_answered old mid line text w h enough.0 (record { enough = was_enough (way_of mid.wire) (way_of new.wire) more.short whole; sound = sound.0 }) mine (first_restarts line others restarts) at in
+            let last = more.same whole q.1 first.1 in
             (λ i. first.0 i ∷ last.0 i, last.1);
       }

@@ -1,10 +1,10 @@
 -- What is sent where memory isn't wanting, and that neither that nor the nodes are forgotten.
-use Rattle.std.proofs.Common.{◌≡◌, ◌∙◌, ◌+◌, ◌⊎◌, ℕ, Bool, true, false, List, [], ◌∷◌, ◌++◌, if◌then◌else◌, Option, Some, None, Result, Ok, Err, refl, sym, ap, inl, inr}
+use Rattle.std.proofs.Common.{◌≡◌, ◌∙◌, ◌+◌, ◌⊎◌, ℕ, Bool, true, false, List, [], ◌∷◌, ◌++◌, if◌then◌else◌, Option, Some, None, Result, Ok, Err, refl, sym, ap, subst, inl, inr}
 use Rattle.std.specs.Prelude.{min}
 use Rattle.std.proofs.lemmas.Bool.{false≢true}
 use Rattle.gs_base.specs.declared.refusal.Refusal.{Refusal}
 use Rattle.gs_base.specs.declared.refusal.Refusal.TheVariants as refusals
-use Rattle.gs_desk.specs.Ways.{Ends, Puts, Sends, SendsAll, Way, counted, held_back, is_held, shortened, shortened_by, under_way}
+use Rattle.gs_desk.specs.Ways.{Ends, Puts, Sends, SendsAll, Way, counted, held_back, is_held, noted, shortened, shortened_by, under_way}
 use Rattle.gs_master.specs.declared.turn.Turn.{Turn as Told}
 use Rattle.gs_msg.specs.Bodies.{kind_of}
 use Rattle.gs_msg.specs.declared.message.Message.{Message}
@@ -13,7 +13,11 @@ use Rattle.gs_world.specs.Happenings.{met_by}
 use Rattle.gs_world.specs.Nodes.{Nodes}
 use Rattle.gs_theorems.specs.Meeting.{plain_of}
 use Rattle.gs_theorems.specs.Plain as plain
-use Rattle.gs_theorems.proofs.PlainNotes.{not_before}
+
+-- what is so in the end only if it was before
+pub not_before : (before after : Bool) → (before ≡ true → after ≡ true) → after ≡ false → before ≡ false
+not_before false after keeps none = refl
+not_before true after keeps none = sym (keeps refl) ∙ none
 
 -- the nodes and the moment of a way are as they were, and it isn't forgotten that memory was wanting
 pub record StaysAt {D : Type 0} (old new : Way D) : Type 0 where
@@ -30,6 +34,11 @@ stays_then old mid new first second = record { nodes = second.nodes ∙ first.no
 pub same_stays : {D : Type 0} (old mid new : Way D) → StaysAt old mid → new ≡ mid → StaysAt old new
 same_stays {D} old mid new s same =
     record { nodes = ap (λ (w : Way D). w.nodes) same ∙ s.nodes; moment = ap (λ (w : Way D). w.moment) same ∙ s.moment; short = λ short. ap (λ (w : Way D). w.is_short) same ∙ s.short short }
+
+-- a turn that doesn't say that memory was wanting
+abbrev pub SaysEnough : Result Told Refusal → Type 0
+SaysEnough (Ok turn) = turn.said ≡ Some refusals.Memory → ⊥
+SaysEnough (Err refusal) = Unit {0}
 
 -- ---- one message
 
@@ -78,8 +87,13 @@ module _ {D : Type 0} where
   shortened_stays refusals.Memory old = record { nodes = refl; moment = refl; short = λ _. refl }
   shortened_stays refusal old = record { nodes = refl; moment = refl; short = λ short. short }
 
+  noted_stays : (said : Option Refusal) (old : Way D) → StaysAt old (noted said old)
+  noted_stays None old = stays old
+  noted_stays (Some refusal) old = shortened_stays refusal old
+
   pub end_stays : (turn : Result Told Refusal) (old : Way D) (result : Result (Unit {0}) Refusal) (new : Way D) → Ends turn old result new → StaysAt old new
-  end_stays (Ok turn) old result new (all, is) = all_stays turn.sent.items old new all
+  end_stays (Ok turn) old result new (mid, all, note, is) =
+      same_stays old (noted turn.said mid) new (stays_then old mid (noted turn.said mid) (all_stays turn.sent.items old mid all) (noted_stays turn.said mid)) note
   end_stays (Err refusal) old result new (same, is) = same_stays old (shortened_by refusal old) new (shortened_stays refusal old) same
 
   -- an event for which memory was wanting leaves a way that is short of it
@@ -90,3 +104,15 @@ module _ {D : Type 0} where
   pub unshortened : (refusal : Refusal) (old new : Way D) → new ≡ shortened_by refusal old → new.is_short ≡ false → new ≡ old
   unshortened refusals.Memory old new same enough = absurd (lost old new same enough)
   unshortened refusal old new same enough = same
+
+  unnoted : (said : Option Refusal) (old new : Way D) → new ≡ noted said old → new.is_short ≡ false → new ≡ old
+  unnoted None old new same enough = same
+  unnoted (Some refusal) old new same enough = unshortened refusal old new same enough
+
+  -- so what was sent is all that became of a turn
+  pub end_sends : (turn : Told) (old : Way D) (result : Result (Unit {0}) Refusal) (new : Way D) → Ends (Ok turn) old result new → new.is_short ≡ false → SendsAll turn.sent.items old new × (result ≡ met_by turn.said)
+  end_sends turn old result new (mid, all, note, is) enough = (subst (λ w. SendsAll turn.sent.items old w) (sym (unnoted turn.said mid new note enough)) all, is)
+
+  pub end_enough : (turn : Result Told Refusal) (old : Way D) (result : Result (Unit {0}) Refusal) (new : Way D) → Ends turn old result new → new.is_short ≡ false → SaysEnough turn
+  end_enough (Ok turn) old result new (mid, all, note, is) enough = λ memory. lost mid new (note ∙ ap (λ (said : Option Refusal). noted said mid) memory) enough
+  end_enough (Err refusal) old result new ends enough = tt

@@ -48,7 +48,7 @@ use Rattle.gs_theorems.specs.Reached.{Covers, history, unarmed}
 
 -- ---- what is seen of a way
 
--- a way without its disks, where the master's state is this, and no tick had a checkpoint to write
+-- a way without its disks, where the master's state is this
 abbrev pub plain_of : {D : Type 0} → State → Way D → Plain
 plain_of s w = record {
   config = w.nodes.config;
@@ -60,7 +60,6 @@ plain_of s w = record {
   kind = w.kind;
   held = w.held;
   drops = w.drops;
-  is_due = false;
 }
 
 -- this master stands there

@@ -1,6 +1,6 @@
 -- A store without disks, where memory is never wanting: what it answers is a function of what it is asked. Each function here says what the
 -- relation of the same name leaves open where memory is wanting or a disk fails.
-use Rattle.std.specs.Prelude.{◌≡◌, ◌+◌, ◌-◌, ◌||◌, ◌==◌, ℕ, zero, suc, Bool, true, false, min, nat_le, nat_lt, List, [], ◌∷◌, ◌++◌, length, if◌then◌else◌, Option, Some, None, is_some, unwrap_or, Result, Ok, Err, slice_get, slice_set}
+use Rattle.std.specs.Prelude.{◌≡◌, ◌+◌, ◌-◌, ◌==◌, ℕ, zero, suc, Bool, true, false, min, nat_le, nat_lt, List, [], ◌∷◌, ◌++◌, length, if◌then◌else◌, Option, Some, None, is_some, unwrap_or, Result, Ok, Err, slice_get, slice_set}
 use Rattle.gs_base.specs.declared.config.Config.{Config}
 use Rattle.gs_base.specs.declared.numbers.ClientId.{ClientId}
 use Rattle.gs_base.specs.declared.numbers.Moment.{Moment}
@@ -28,7 +28,6 @@ use Rattle.gs_lines.specs.Grammar.{Request, line_request}
 use Rattle.gs_lines.specs.Grammar as lines
 use Rattle.gs_lines.specs.declared.command.Restarted.{Restarted}
 use Rattle.gs_lines.specs.declared.command.Restarted.TheVariants as restarts
-use Rattle.gs_master.specs.Ticking.{pressed_all}
 use Rattle.gs_msg.specs.Bodies.{kind_of}
 use Rattle.gs_msg.specs.declared.body.Body.{Body}
 use Rattle.gs_msg.specs.declared.event.Request.{Request as Asked}
@@ -40,14 +39,13 @@ use Rattle.gs_script.specs.Run.{bad_line_text, lines_of}
 use Rattle.gs_server.specs.Servers.{Server, Step}
 use Rattle.gs_server.specs.Servers as servers
 use Rattle.gs_state.specs.Durable.{Durable, start}
-use Rattle.gs_state.specs.Handling.{due, handle, reopened, restarted, tick}
+use Rattle.gs_state.specs.Handling.{handle, reopened, restarted, tick}
 use Rattle.gs_state.specs.State.{Log, State, Turn}
 use Rattle.gs_world.specs.Happenings.{client_in, limit, met_by}
 use Rattle.gs_world.specs.Nodes.{new_clients, new_servers}
 
 -- The master's state, the servers by their numbers, the clients, numbered from 1; when all happens; what is under way, in the order sent; the kind of
--- which messages are held back, and those that were; how many drops were sent since that was counted from. And whether a tick ever had a
--- checkpoint to write, for which memory may be wanting.
+-- which messages are held back, and those that were; and how many drops were sent since that was counted from.
 pub record Plain : Type 0 where
   pub config : Config
   pub master : State
@@ -58,7 +56,6 @@ pub record Plain : Type 0 where
   pub kind : Option Kind
   pub held : List Message
   pub drops : ℕ
-  pub is_due : Bool
 
 -- ---- what is sent
 
@@ -146,11 +143,8 @@ delivers_whole p = delivers last_count p
 
 -- ---- ticks
 
-abbrev pub due_noted : Plain → Plain
-due_noted p = record p { is_due = p.is_due || due (pressed_all p.master p.moment).after }
-
 abbrev pub master_ticks : Plain → Plain
-master_ticks p = (at_master (tick p.master p.moment) (due_noted p)).1
+master_ticks p = (at_master (tick p.master p.moment) p).1
 
 abbrev pub server_ticks : ℕ → Plain → Plain
 server_ticks id p = (at_server id (λ s. servers.tick s p.moment) p).1
@@ -320,7 +314,6 @@ new_plain config = record {
   kind = None;
   held = [];
   drops = 0;
-  is_due = false;
 }
 
 abbrev pub begins : Config → PlainDesk
