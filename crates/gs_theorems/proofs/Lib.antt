@@ -3,3 +3,15 @@ pub mod Lines
 pub mod Refusing
 pub mod Sending
 pub mod Ways
+pub mod PlainEnduring
+pub mod PlainEvents
+pub mod PlainLines
+pub mod PlainMeeting
+pub mod PlainMoments
+pub mod PlainReopens
+pub mod PlainRuns
+pub mod PlainScripts
+pub mod PlainSends
+pub mod PlainStarts
+pub mod PlainWays
+pub mod PlainWritten

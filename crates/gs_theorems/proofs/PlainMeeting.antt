@@ -128,7 +128,7 @@ module _ {D : Type 0} (seen : D → List ℕ) (failures : D → ℕ) where
   -- ---- ways that are met
 
   module _ (config : Config) (disks : D × D) where
-    so_joined : (xs ys : List Step) (old mid new : History D) → RunsSo seen failures config disks xs old mid → RunsSo seen failures config disks ys mid new → RunsSo seen failures config disks (xs ++ ys) old new
+    pub so_joined : (xs ys : List Step) (old mid new : History D) → RunsSo seen failures config disks xs old mid → RunsSo seen failures config disks ys mid new → RunsSo seen failures config disks (xs ++ ys) old new
     so_joined [] ys old mid new same second = subst (λ (h : History D). RunsSo seen failures config disks ys h new) same second
     so_joined (x ∷ xs) ys old mid new (first, goes, so, quiet, stands, rest) second = (first, goes, so, quiet, stands, so_joined xs ys first mid new rest second)
 

@@ -47,7 +47,7 @@ rest_same : (x y : Record) (xs ys : List Record) → x ∷ xs ≡ y ∷ ys → x
 rest_same x y xs ys same = ap (λ (l : List Record). drop 1 l) same
 
 -- records that can be read again are those of these entries alone
-same_entries : (xs ys : List PlainEntry) → AllByRecursion (IsEntry Two) xs → AllByRecursion (IsEntry Two) ys → map (encoded Two) xs ≡ map (encoded Two) ys → xs ≡ ys
+pub same_entries : (xs ys : List PlainEntry) → AllByRecursion (IsEntry Two) xs → AllByRecursion (IsEntry Two) ys → map (encoded Two) xs ≡ map (encoded Two) ys → xs ≡ ys
 same_entries [] [] p q same = refl
 same_entries [] (y ∷ ys) p q same = absurd (cc)
 same_entries (x ∷ xs) [] p q same = absurd (cc)

@@ -11,6 +11,7 @@ use Rattle.gs_journal.specs.Records.{Text, generation_standing, standing}
 use Rattle.gs_journal.specs.declared.version.Version.TheVariants.{Two}
 use Rattle.gs_laws.proofs.StandingRuns.{starts_firm}
 use Rattle.gs_master.specs.Masters.{MasterOf}
+use Rattle.gs_master.specs.Starting.{left_in}
 use Rattle.gs_master.specs.declared.turn.Turn.{Turn as Told}
 use Rattle.gs_msg.specs.declared.message.Message.{Message}
 use Rattle.gs_record.specs.Encoding.{encoded}
@@ -57,14 +58,16 @@ module _ {D : Type 0} (seen : D → List ℕ) (failures : D → ℕ) where
   none_delivered (suc many) old new none d = nothing_delivered many old.queue old new none d
 
   -- the master of a new store
-  record IsNewMaster (config : Config) (place : MasterPlace D) (turn : Told) : Type 0 where
-    master : MasterOf D
-    stands : place ≡ Standing master
-    configured : master.config ≡ config
-    state : master.state ≡ restarted start plain.new_log
-    sends : turn.sent.items ≡ []
+  pub record IsNewMaster (config : Config) (place : MasterPlace D) (turn : Told) : Type 0 where
+    pub master : MasterOf D
+    pub stands : place ≡ Standing master
+    pub configured : master.config ≡ config
+    pub state : master.state ≡ restarted start plain.new_log
+    pub sends : turn.sent.items ≡ []
+    pub text : master.journal.text ≡ (Two, [])
+    pub generation : master.journal.generation ≡ 1
 
-  new_master : (config : Config) (disks : D × D) (place : MasterPlace D) (turn : Told) → seen disks.0 ≡ [] → seen disks.1 ≡ [] → Opens seen failures config disks (Ok turn) place → IsNewMaster config place turn
+  pub new_master : (config : Config) (disks : D × D) (place : MasterPlace D) (turn : Told) → seen disks.0 ≡ [] → seen disks.1 ≡ [] → Opens seen failures config disks (Ok turn) place → IsNewMaster config place turn
   new_master config disks place turn first second (after, is, opening, said) =
       let blank : standing (seen disks.0) (seen disks.1) ≡ (Two, []) = λ i. standing (first i) (second i) in
       let told : IsToldIn (standing (seen disks.0) (seen disks.1)) start = record { entries = []; records = blank; are_entries = tt; replays = refl } in
@@ -76,6 +79,8 @@ module _ {D : Type 0} (seen : D → List ℕ) (failures : D → ℕ) where
         master = after;
         stands = is;
         configured = opening.config;
+        text = opening.left ∙ ap (λ (x : Text). left_in x.0 x opening.durable) blank;
+        generation = opening.generation (ap (λ (x : Text). x.0) blank) ∙ generation;
         state = opened_state seen failures config disks.0 disks.1 start plain.new_log after turn told counted size refl generation firm.stands.kept firm.stands.counters opening said;
         sends = opened_sends seen failures config disks.0 disks.1 start plain.new_log after turn told counted size refl generation firm.stands.kept firm.stands.counters opening said;
       }

@@ -1,2 +1,4 @@
+pub mod Meeting
+pub mod Plain
 pub mod Reached
 pub mod Refusing

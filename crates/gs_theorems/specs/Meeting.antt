@@ -1,10 +1,11 @@
 -- What a script meets: a store without its disks as it is seen of a way, the ways that are met, and what is taken of them: that their masters are
 -- steady, and what they hear is within its types.
-use Rattle.std.specs.Prelude.{◌≡◌, ◌≢◌, ◌⊎◌, ◌≤◌, ℕ, true, false, List, [], ◌∷◌, map, Option, Some, None}
-use Rattle.std.specs.List.{AllByRecursion}
+use Rattle.std.specs.Prelude.{◌≡◌, ◌≢◌, ◌⊎◌, ◌≤◌, ◌+◌, ℕ, Bool, true, false, not, length, List, [], ◌∷◌, map, Option, Some, None}
+use Rattle.std.specs.List.{AllByRecursion, list_all}
 use Rattle.gs_base.specs.Told.{IsNumber}
 use Rattle.gs_base.specs.declared.config.Config.{Config}
 use Rattle.gs_base.specs.declared.numbers.ClientId.{ClientId}
+use Rattle.gs_base.specs.declared.numbers.Moment.{Moment}
 use Rattle.gs_calls.specs.Asked.{asked_by}
 use Rattle.gs_calls.specs.declared.answer.Answer.{Answer}
 use Rattle.gs_client.specs.Sends.{last_number}
@@ -24,6 +25,7 @@ use Rattle.gs_lines.specs.Grammar.{Request, line_request}
 use Rattle.gs_lines.specs.Grammar as lines
 use Rattle.gs_lines.specs.declared.command.Restarted.TheVariants as restarted
 use Rattle.gs_master.specs.Masters.{MasterOf}
+use Rattle.gs_master.specs.Ticking.{pressed_all}
 use Rattle.gs_msg.specs.declared.event.Happening.{Happening}
 use Rattle.gs_msg.specs.declared.event.Happening.TheVariants as happenings
 use Rattle.gs_msg.specs.declared.event.Request.{Request as Asked}
@@ -38,8 +40,9 @@ use Rattle.gs_run.specs.Runs.{Goes, Step, Comes, Takes}
 use Rattle.gs_run.specs.Sent.{IsSent, Sent}
 use Rattle.gs_script.specs.Run.{Runs, lines_of, memory_text}
 use Rattle.gs_shell.specs.Serving.{Serves}
-use Rattle.gs_state.specs.Applied.{records_behind}
-use Rattle.gs_state.specs.State.{State}
+use Rattle.gs_state.specs.Applied.{is_whole_entry, records_behind}
+use Rattle.gs_state.specs.Handling.{handle}
+use Rattle.gs_state.specs.State.{State, Turn}
 use Rattle.gs_world.specs.Nodes.{Nodes}
 use Rattle.gs_world.specs.declared.place.MasterPlace.{MasterPlace}
 use Rattle.gs_world.specs.declared.place.MasterPlace.TheVariants.{Standing}
@@ -81,6 +84,20 @@ pub record IsPlain {D : Type 0} (w : Way D) (p : Plain) : Type 0 where
 pub record IsCalm {D : Type 0} (failures : D → ℕ) (old new : Way D) : Type 0 where
   pub enough : new.is_short ≡ false
   pub sound : failures_at failures new.nodes.master ≡ failures_at failures old.nodes.master
+
+-- a record that isn't a checkpoint
+abbrev pub is_behind : PlainEntry → Bool
+is_behind entry = not (is_whole_entry entry)
+
+-- the log counts each record of a turn, and none is a checkpoint
+pub record IsCounted (s : State) (t : Turn) : Type 0 where
+  pub count : t.after.log.records ≡ s.log.records + length t.records
+  pub behind : list_all is_behind t.records ≡ true
+
+-- so it is of each message, and of all steps of a tick
+pub record LogsCount : Type 0 where
+  pub messages : (config : Config) (s : State) (message : Message) (moment : Moment) → IsCounted s (handle config s message moment)
+  pub ticks : (s : State) (moment : Moment) → IsCounted s (pressed_all s moment)
 
 -- What a restart of a master goes by: its log counts the records behind its last checkpoint, its journal is of its form, and of the generation that
 -- its disks tell.

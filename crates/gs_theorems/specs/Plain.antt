@@ -1,6 +1,7 @@
 -- A store without disks, where memory is never wanting: what it answers is a function of what it is asked. Each function here says what the
 -- relation of the same name leaves open where memory is wanting or a disk fails.
-use Rattle.std.specs.Prelude.{◌≡◌, ◌+◌, ◌-◌, ◌==◌, ℕ, zero, suc, Bool, true, false, min, nat_le, nat_lt, List, [], ◌∷◌, ◌++◌, length, if◌then◌else◌, Option, Some, None, is_some, unwrap_or, Result, Ok, Err, slice_get, slice_set}
+use Rattle.std.specs.Prelude.{◌≡◌, ◌+◌, ◌-◌, ◌==◌, ℕ, zero, suc, Bool, true, false, min, nat_le, nat_lt, List, [], ◌∷◌, ◌++◌, length, if◌then◌else◌, Option, Some, None, is_some, unwrap_or, Result, Ok, Err, slice_get, slice_set, codes, refl}
+use Rattle.std.specs.Fmt.{digits}
 use Rattle.gs_base.specs.declared.config.Config.{Config}
 use Rattle.gs_base.specs.declared.numbers.ClientId.{ClientId}
 use Rattle.gs_base.specs.declared.numbers.Moment.{Moment}
@@ -325,3 +326,31 @@ runs config input = answers_all (lines_of input) (begins config)
 
 abbrev pub answers_of : Config → List ℕ → List (List ℕ)
 answers_of config input = (runs config input).0
+
+-- ---- Worked: what a new store of four servers answers to a line
+
+abbrev four : Config
+four = record { servers = 4; racks = 2; replicas = 3; block = 4; chunk = 16; valid = refl }
+
+abbrev said : Request → List ℕ
+said request = (answers_as (Some request) (begins four)).0
+
+a_moment : said (lines.At 5) ≡ codes "ok"
+unfolding delivers
+a_moment = refl
+
+no_path : said (lines.Mkdir (codes "a")) ≡ codes "refused 1 BadPath"
+unfolding delivers digits
+no_path = refl
+
+none_is_held : said (lines.Deliver 1) ≡ codes "refused 25 Range"
+unfolding delivers digits
+none_is_held = refl
+
+the_master_begins_again : said (lines.Restart restarts.Master) ≡ codes "ok"
+unfolding delivers
+the_master_begins_again = refl
+
+no_chunk_has_the_handle_0 : said (lines.Lose 0 0) ≡ codes "refused 28 NoReplica"
+unfolding delivers digits
+no_chunk_has_the_handle_0 = refl
