@@ -1,5 +1,5 @@
 -- That the ways which a script meets are met by steps of a store, where memory isn't wanting and no disk fails.
-use Rattle.std.proofs.Common.{◌≡◌, ◌∙◌, ◌+◌, ◌-◌, ◌<◌, ◌≤◌, ◌⊎◌, ◌==◌, ◌++◌, ℕ, zero, suc, Bool, true, false, List, [], ◌∷◌, if◌then◌else◌, Option, Some, None, MatchOption, Result, Ok, Err, Vec, refl, sym, ap, subst, inl, inr, arith, slice_get}
+use Rattle.std.proofs.Common.{◌≡◌, ◌∙◌, ◌+◌, ◌-◌, ◌<◌, ◌≤◌, ◌⊎◌, ◌==◌, ◌++◌, ℕ, zero, suc, Bool, true, false, List, [], ◌∷◌, if◌then◌else◌, Option, Some, None, MatchOption, Result, Ok, Err, Vec, refl, sym, ap, subst, inl, inr, arith, length, slice_get}
 use Rattle.std.specs.declared.alloc.Global.{Global}
 use Rattle.gs_base.specs.Told.{IsNumber}
 use Rattle.gs_base.specs.declared.config.Config.{Config}
@@ -156,11 +156,17 @@ module _ {D : Type 0} (seen : D → List ℕ) (failures : D → ℕ) where
         met_on (Comes event) old new g.after w g.goes (subst (λ (m : Moment). IsNumber m.0) (sym at) w.moment, so) g.covers quiet (subst (λ (m : Moment). IsNumber m.0) (sym same) w.moment) stands
 
     -- the same but for what isn't told of a store
-    alike_on : (old new : Way D) (w : Met old) → Alike old new → IsNumber new.moment.0 → Met new
-    alike_on old new w same moment = record {
+    untold : (old : Way D) (w : Met old) (new : Way D) → new.nodes ≡ old.nodes → new.queue ≡ old.queue → new.held ≡ old.held → new.is_short ≡ old.is_short → IsNumber new.moment.0 → Met new
+    untold old w new there queue held short moment = record {
       sent = w.sent;
-      covers = alike_covers w.sent old new same w.covers;
-      met = subst (λ (n : Nodes D). IsMet seen failures config disks (record { nodes = n; sent = w.sent })) (sym same.nodes) w.met;
+      covers = record {
+        queue = subst (λ (l : List Message). AllSent w.sent l) (sym queue) w.covers.queue;
+        held = subst (λ (l : List Message). AllSent w.sent l) (sym held) w.covers.held;
+        servers = w.covers.servers ∙ sym (ap (λ (n : Nodes D). length n.servers) there);
+        clients = w.covers.clients ∙ sym (ap (λ (n : Nodes D). length n.clients) there);
+        short = λ lost. short ∙ w.covers.short lost;
+      };
+      met = subst (λ (n : Nodes D). IsMet seen failures config disks (record { nodes = n; sent = w.sent })) (sym there) w.met;
       moment = moment;
     }
 
@@ -244,7 +250,7 @@ module _ {D : Type 0} (seen : D → List ℕ) (failures : D → ℕ) where
     beats_on : (id : ℕ) (s : Server) (old new : Way D) → Met old → slice_get old.nodes.servers id ≡ Some s → Sends (servers.beat s) (record old { drops = 0 }) new → IsCalm failures old new → HasMaster new.nodes → Met new
     beats_on id s old new w is sent_one calm stands =
         let none = record old { drops = 0 } in
-        let here : Met none = alike_on old none w (record { nodes = refl; queue = refl; held = refl; short = λ short. short }) w.moment in
+        let here : Met none = untold old w none refl refl refl refl w.moment in
         event_on (record { moment = old.moment; happening = happenings.Beat id }) none new here
         (event_goes (record { moment = old.moment; happening = happenings.Beat id }) (nodes.Server id) (Ok (servers.beat s ∷ [], None)) old.nodes none new here.sent (
           refl,
@@ -291,10 +297,10 @@ module _ {D : Type 0} (seen : D → List ℕ) (failures : D → ℕ) where
           befalls_on (record { moment = old.moment; happening = happenings.Lose id handle }) id (λ s done after. Does (servers.lose handle s) done s after) old said there w at (refl, (said, at, refl)) refl tt stands;
       damages = λ id handle block old said there w at stands.
           befalls_on (record { moment = old.moment; happening = happenings.Damage id handle block }) id (λ s done after. Does (servers.damage handle block s) done s after) old said there w at (refl, (said, at, refl)) refl tt stands;
-      holds = λ kind old w. alike_on old (record old { kind = kind }) w (record { nodes = refl; queue = refl; held = refl; short = λ short. short }) w.moment;
+      holds = λ kind old w. untold old w (record old { kind = kind }) refl refl refl refl w.moment;
       calls = asks_so;
       comes_at = λ line moment old w reads.
-          alike_on old (record old { moment = record { 0 = moment } }) w (record { nodes = refl; queue = refl; held = refl; short = λ short. short }) (moment_is_number line moment reads);
+          untold old w (record old { moment = record { 0 = moment } }) refl refl refl refl (moment_is_number line moment reads);
     }
 
     pub met_restarts : AllWritten seen failures config disks → EnduresRestarts seen failures Met
