@@ -135,9 +135,9 @@ module _ {D : Type 0} (seen : D → List ℕ) (failures : D → ℕ) (me : Clien
         let path = desk_path r mid.0 (plain_of there.master.state (way_of mid.1)) q one.result one.client there.plain in
         let two = second.same (record { enough = calm.enough; sound = calm.sound ∙ sym quiet }) there.master there.stands one.good in
         subst (λ (x : R × PlainDesk). Arrives new s (g x.0 x.1)) path two
-        where
-          quiet : failures_at failures (way_of mid.1).nodes.master ≡ failures_at failures (way_of old.1).nodes.master
-          quiet = between (failures_at failures (way_of old.1).nodes.master) (failures_at failures (way_of mid.1).nodes.master) (failures_at failures (way_of new.1).nodes.master) first.rises second.rises calm.sound
+      where
+        quiet : failures_at failures (way_of mid.1).nodes.master ≡ failures_at failures (way_of old.1).nodes.master
+        quiet = between (failures_at failures (way_of old.1).nodes.master) (failures_at failures (way_of mid.1).nodes.master) (failures_at failures (way_of new.1).nodes.master) first.rises second.rises calm.sound
 
     then_at : GivesAt old s new both
     then_at = record {
@@ -342,15 +342,15 @@ module _ {D : Type 0} (seen : D → List ℕ) (failures : D → ℕ) (me : Clien
             let was : failures_at failures old.nodes.master ≡ failures_at failures (Standing m) = ap (failures_at failures) stands.place in
             elim (reopened_cases seen failures old m r.turn r.place stands (e.good old m stands good) (restarts.written old m stands good) there) [
               | inl more ↦ absurd (too_many (failures_at failures (Standing m)) (failures_at failures r.place) (failures_at failures r.mid.nodes.master) (failures_at failures new.nodes.master) (failures_at failures old.nodes.master)
-                more here rest.rises calm.sound was)
+                  more here rest.rises calm.sound was)
               | inr (inl memory) ↦ absurd (short_end r.turn (with_nodes (with_master r.place old.nodes) old) said r.mid memory r.ends enough)
               | inr (inr (turn, same)) ↦
-                let quiet : failures_at failures r.mid.nodes.master ≡ failures_at failures old.nodes.master = here ∙ same ∙ sym was in
-                let t = reopened old.nodes.config (plain.begun_again m.state) in
-                let done = master_ends seen failures t m r.turn r.place old said r.mid stands turn r.ends enough in
-                onward seen failures me size MayAsk Good e r.mid new said said (plain.at_master t (plain_of m.state old)) (λ x p. (x, plain.delivers_whole p)) done
-                (restarts.restarts r.place r.turn old said r.mid good r.opens r.ends (record { enough = enough; sound = quiet }) (has r.mid (plain.at_master t (plain_of m.state old)).1 done.plain))
-                (passing said r.mid new plain.delivers_whole rest) (record { enough = calm.enough; sound = calm.sound ∙ sym quiet })
+                  let quiet : failures_at failures r.mid.nodes.master ≡ failures_at failures old.nodes.master = here ∙ same ∙ sym was in
+                  let t = reopened old.nodes.config (plain.begun_again m.state) in
+                  let done = master_ends seen failures t m r.turn r.place old said r.mid stands turn r.ends enough in
+                  onward seen failures me size MayAsk Good e r.mid new said said (plain.at_master t (plain_of m.state old)) (λ x p. (x, plain.delivers_whole p)) done
+                  (restarts.restarts r.place r.turn old said r.mid good r.opens r.ends (record { enough = enough; sound = quiet }) (has r.mid (plain.at_master t (plain_of m.state old)).1 done.plain))
+                  (passing said r.mid new plain.delivers_whole rest) (record { enough = calm.enough; sound = calm.sound ∙ sym quiet })
             ];
       }
 

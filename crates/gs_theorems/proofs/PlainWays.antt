@@ -94,9 +94,9 @@ module _ {D : Type 0} (seen : D → List ℕ) (failures : D → ℕ) (me : Clien
         let q = f (plain_of m.state old) in
         let one = first.same (record { enough = was_enough mid new second.short calm.enough; sound = quiet }) m stands good in
         onward mid new r s q g one.0 one.1 second (record { enough = calm.enough; sound = calm.sound ∙ sym quiet })
-        where
-          quiet : failures_at failures mid.nodes.master ≡ failures_at failures old.nodes.master
-          quiet = between (failures_at failures old.nodes.master) (failures_at failures mid.nodes.master) (failures_at failures new.nodes.master) first.rises second.rises calm.sound
+      where
+        quiet : failures_at failures mid.nodes.master ≡ failures_at failures old.nodes.master
+        quiet = between (failures_at failures old.nodes.master) (failures_at failures mid.nodes.master) (failures_at failures new.nodes.master) first.rises second.rises calm.sound
 
     pub chain : Gives G old s new both
     chain = record {
@@ -292,7 +292,7 @@ module _ {D : Type 0} (seen : D → List ℕ) (failures : D → ℕ) (me : Clien
                 let done = node_ends seen failures sent.items nodes m (with_nodes nodes old) a.first stands refl refl a.sends calm.enough in (
                   record { result = refl; plain = done },
                   e.asks req request (Ok sent) nodes old a.first good mine low may at a.sends (record { enough = calm.enough; sound = calm.sound ∙ ap (failures_at failures) left.0 })
-                  (has a.first (plain.sends_all sent.items (plain_of m.state (with_nodes nodes old))) done),
+                      (has a.first (plain.sends_all sent.items (plain_of m.state (with_nodes nodes old))) done),
                 );
           }
 
@@ -316,12 +316,12 @@ module _ {D : Type 0} (seen : D → List ℕ) (failures : D → ℕ) (me : Clien
   refused_comes (Some n) req request f nodes m old reply new stands (after, at, does) is gone enough = elim (refused_as (asks req.number request n) f n after does) [
     | inl memory ↦ absurd (wanting f (with_nodes nodes old) new memory gone enough)
     | inr (same, left) ↦ subst (λ (r : Result (Node × List Message) Refusal). Comes new reply (plain.carried_if r n req.client (plain_of m.state old))) (sym same) (record {
-        result = is;
-        plain =
-            subst (λ (x : Node). IsPlain new (plain.with_client req.client x (plain_of m.state old))) left
-            (node_ends seen failures [] (with_clients (slice_set old.nodes.clients (req.client.0 - 1) after) old.nodes) m old new stands refl refl
-            (unshortened f (with_nodes nodes old) new gone enough ∙ ap (λ (n : Nodes D). with_nodes n old) at) enough);
-      })
+      result = is;
+      plain =
+          subst (λ (x : Node). IsPlain new (plain.with_client req.client x (plain_of m.state old))) left
+          (node_ends seen failures [] (with_clients (slice_set old.nodes.clients (req.client.0 - 1) after) old.nodes) m old new stands refl refl
+          (unshortened f (with_nodes nodes old) new gone enough ∙ ap (λ (n : Nodes D). with_nodes n old) at) enough);
+    })
   ]
 
   carried_as : (out : Result (Vec Message Global) Refusal) (req : ReqId) (request : Asked) (nodes : Nodes D) (old : Way D) (reply : Reply) (new : Way D) → req.client ≡ me → req.number ≤ last_number → MayAsk request
