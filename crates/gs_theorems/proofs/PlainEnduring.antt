@@ -27,7 +27,7 @@ use Rattle.gs_msg.specs.declared.event.Request.{Request as Asked}
 use Rattle.gs_msg.specs.declared.kind.Kind.{Kind}
 use Rattle.gs_msg.specs.declared.message.Message.{Message}
 use Rattle.gs_msg.specs.declared.node.NodeId.TheVariants as ids
-use Rattle.gs_run.specs.Lasting.{StandsFirm, failures_at}
+use Rattle.gs_run.specs.Lasting.{StandsFirm}
 use Rattle.gs_server.specs.Servers.{Server}
 use Rattle.gs_server.specs.Servers as servers
 use Rattle.gs_world.specs.Happenings.{AtClient, AtServer, ClientAsks, Reopens}

@@ -1,5 +1,5 @@
 -- What an event at a node comes to where memory isn't wanting and no disk fails.
-use Rattle.std.proofs.Common.{◌≡◌, ◌∙◌, ◌+◌, ◌-◌, ◌<◌, ◌≤◌, ◌⊎◌, ◌==◌, ◌||◌, ℕ, zero, suc, Bool, true, false, List, [], ◌∷◌, if◌then◌else◌, Option, Some, None, MatchOption, Result, Ok, Err, Vec, refl, sym, ap, subst, inl, inr, arith, slice_get, slice_set}
+use Rattle.std.proofs.Common.{◌≡◌, ◌∙◌, ◌-◌, ◌<◌, ◌≤◌, ℕ, Bool, true, false, List, [], Option, Some, None, MatchOption, Result, Ok, Err, refl, sym, ap, subst, inl, inr, arith, slice_get, slice_set}
 use Rattle.gs_base.specs.Told.{IsNumber}
 use Rattle.gs_base.specs.declared.config.Config.{Config}
 use Rattle.gs_base.specs.declared.numbers.ClientId.{ClientId}
@@ -9,7 +9,7 @@ use Rattle.gs_base.specs.declared.refusal.Refusal.{Refusal}
 use Rattle.gs_base.specs.declared.refusal.Refusal.TheVariants as refusals
 use Rattle.gs_block.specs.Follows.{Does}
 use Rattle.gs_client.specs.Nodes.{Node, hears}
-use Rattle.gs_desk.specs.Ways.{Ends, SendsAll, Way, shortened_by, with_nodes}
+use Rattle.gs_desk.specs.Ways.{Ends, SendsAll, Way, with_nodes}
 use Rattle.gs_journal.specs.Journal.{failures_of_both}
 use Rattle.gs_laws.specs.Standing.{IsNamedBody}
 use Rattle.gs_laws.specs.Written.{IsHeardBody}
@@ -25,7 +25,7 @@ use Rattle.gs_server.specs.Servers.{Server, Step}
 use Rattle.gs_server.specs.Servers as servers
 use Rattle.gs_state.specs.Handling.{handle, tick}
 use Rattle.gs_state.specs.Outcomes.{IsDone, caller_of}
-use Rattle.gs_state.specs.State.{State, Turn}
+use Rattle.gs_state.specs.State.{Turn}
 use Rattle.gs_world.specs.Happenings.{AtClient, AtServer, ClientHears, Hears, MasterHears, MasterTicks, Says, ServerDoes, client_in, met_by}
 use Rattle.gs_world.specs.Nodes.{Nodes, with_clients, with_master, with_servers}
 use Rattle.gs_world.specs.declared.place.MasterPlace.{MasterPlace}

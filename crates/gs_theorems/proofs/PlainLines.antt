@@ -1,6 +1,5 @@
 -- What a line comes to, and a script, where memory isn't wanting and no disk fails.
-use Rattle.std.proofs.Common.{◌≡◌, ◌≢◌, ◌∙◌, ◌+◌, ◌-◌, ◌<◌, ◌≤◌, ◌⊎◌, ◌==◌, ℕ, zero, suc, Bool, true, false, List, [], ◌∷◌, if◌then◌else◌, Option, Some, None, MatchOption, Result, Ok, Err, refl, sym, ap, subst, inl, inr, arith, length, slice_get, slice_set}
-use Rattle.std.specs.Prelude.{min, nat_le, nat_lt}
+use Rattle.std.proofs.Common.{◌≡◌, ◌≢◌, ◌∙◌, ◌+◌, ◌<◌, ◌≤◌, ◌==◌, ℕ, Bool, true, false, List, [], if◌then◌else◌, Option, Some, None, MatchOption, Result, Ok, Err, refl, sym, ap, subst, inl, inr, arith, slice_get, slice_set}
 use Rattle.std.proofs.lemmas.Bool.{false≢true}
 use Rattle.std.proofs.lemmas.Bool.Decides.{nat_tests}
 use Rattle.gs_base.specs.declared.numbers.ClientId.{ClientId}
@@ -17,22 +16,20 @@ use Rattle.gs_client.specs.declared.client.Client.{Client}
 use Rattle.gs_client.specs.declared.link.Reply.{Reply}
 use Rattle.gs_client.specs.declared.link.Reply.TheVariants as replies
 use Rattle.gs_desk.specs.Answering.{AnswersText, IsText}
-use Rattle.gs_desk.specs.Lines.{AtOne, Beats, BeatsAt, BeatsOf, Comes, Either, ForServer, HandsOver, HandsOverAt, IsDone, MasterRestarts, NodesDo, OfHandle, Restarts, carried, held_at, is_server}
-use Rattle.gs_desk.specs.Ways.{DeliversWhole, Ends, IsDelivered, Way, last_count, shortened, way_of, with_nodes}
+use Rattle.gs_desk.specs.Lines.{AtOne, Beats, BeatsOf, Comes, Either, ForServer, HandsOver, MasterRestarts, NodesDo, OfHandle, carried, held_at, is_server}
+use Rattle.gs_desk.specs.Ways.{Ends, Way, way_of, with_nodes}
 use Rattle.gs_desk.specs.declared.desk.Desk.{Desk}
 use Rattle.gs_desk.specs.declared.wire.Wire.{Wire}
 use Rattle.gs_dialogue.specs.Dialogues.{Ask, Follows, Grow, Say, run}
-use Rattle.gs_line.specs.Line.{content, longest_line}
 use Rattle.gs_lines.specs.Grammar.{Request, line_request}
 use Rattle.gs_lines.specs.Grammar as lines
-use Rattle.gs_lines.specs.declared.command.Restarted.{Restarted}
 use Rattle.gs_lines.specs.declared.command.Restarted.TheVariants as restarted
 use Rattle.gs_master.specs.Masters.{MasterOf}
 use Rattle.gs_master.specs.declared.turn.Turn.{Turn as Told}
 use Rattle.gs_msg.specs.declared.event.Request.{Request as Asked}
 use Rattle.gs_msg.specs.declared.message.Message.{Message}
 use Rattle.gs_run.specs.Lasting.{failures_at}
-use Rattle.gs_script.specs.Run.{AnswersIfShort, AnswersLine, bad_line_text, memory_text}
+use Rattle.gs_script.specs.Run.{memory_text}
 use Rattle.gs_server.specs.Servers.{Server}
 use Rattle.gs_server.specs.Servers as servers
 use Rattle.gs_state.specs.Handling.{reopened}
@@ -40,13 +37,13 @@ use Rattle.gs_world.specs.Happenings.{AtServer, Reopens}
 use Rattle.gs_world.specs.Nodes.{Nodes, with_master, with_servers}
 use Rattle.gs_world.specs.declared.place.MasterPlace.TheVariants.{Standing}
 use Rattle.gs_theorems.specs.Meeting.{HasMaster, IsCalm, IsPlain, Stands, plain_of}
-use Rattle.gs_theorems.proofs.PlainEnduring.{IsOurs, AllAsked, Endures, EnduresRestarts, IsTaken, has}
+use Rattle.gs_theorems.proofs.PlainEnduring.{IsOurs, AllAsked, Endures, EnduresRestarts, has}
 use Rattle.gs_theorems.specs.Plain.{Met, Plain, PlainDesk}
 use Rattle.gs_theorems.specs.Plain as plain
 use Rattle.gs_theorems.proofs.PlainEvents.{Comes as Becomes, master_ends, node_ends, plain_same, server_leaves}
 use Rattle.gs_theorems.proofs.PlainReopens.{reopened_cases}
 use Rattle.gs_theorems.proofs.PlainSends.{end_stays, send_plain, send_stays, wanting, was_enough}
-use Rattle.gs_theorems.proofs.PlainWays.{Gives, Leads, carries, chain, delivers_one, delivers_whole, nothing, only, onward}
+use Rattle.gs_theorems.proofs.PlainWays.{Gives, Leads, carries, chain, delivers_one, delivers_whole, only, onward}
 
 below_not : (n m : ℕ) → n < m → (n == m) ≡ false
 below_not n m low = grind (arith, nat_tests)

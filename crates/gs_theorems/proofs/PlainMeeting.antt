@@ -1,5 +1,5 @@
 -- That the ways which a script meets are met by steps of a store, where memory isn't wanting and no disk fails.
-use Rattle.std.proofs.Common.{◌≡◌, ◌∙◌, ◌+◌, ◌-◌, ◌<◌, ◌≤◌, ◌⊎◌, ◌==◌, ◌++◌, ℕ, zero, suc, Bool, true, false, List, [], ◌∷◌, if◌then◌else◌, Option, Some, None, MatchOption, Result, Ok, Err, Vec, refl, sym, ap, subst, inl, inr, arith, length, slice_get}
+use Rattle.std.proofs.Common.{◌≡◌, ◌∙◌, ◌-◌, ◌≤◌, ◌⊎◌, ◌==◌, ◌++◌, ℕ, zero, suc, Bool, true, false, List, [], ◌∷◌, if◌then◌else◌, Option, Some, None, MatchOption, Result, Ok, Err, Vec, refl, sym, ap, subst, inl, inr, length, slice_get}
 use Rattle.std.specs.declared.alloc.Global.{Global}
 use Rattle.gs_base.specs.Told.{IsNumber}
 use Rattle.gs_base.specs.declared.config.Config.{Config}
@@ -15,17 +15,14 @@ use Rattle.gs_client.specs.Nodes.{given_up}
 use Rattle.gs_client.specs.Sends.{last_number}
 use Rattle.gs_client.specs.Trees.{Call}
 use Rattle.gs_client.specs.declared.link.Reply.{Reply}
-use Rattle.gs_desk.specs.Lines.{held_at}
-use Rattle.gs_desk.specs.Ways.{Ends, Heard, IsDelivered, MasterTicked, Sends, SendsAll, ServerTicked, Way, shortened_by, with_nodes, with_queue}
+use Rattle.gs_desk.specs.Ways.{Ends, Heard, IsDelivered, MasterTicked, Sends, ServerTicked, Way, shortened_by, with_nodes}
 use Rattle.gs_dialogue.specs.Dialogues.{Ask, Dialogue, Grow, Say}
 use Rattle.gs_lines.specs.Grammar.{Request, line_request}
-use Rattle.gs_lines.specs.Grammar as lines
 use Rattle.gs_master.specs.Masters.{MasterOf}
 use Rattle.gs_master.specs.declared.turn.Turn.{Turn as Told}
 use Rattle.gs_msg.specs.declared.event.Event.{Event}
 use Rattle.gs_msg.specs.declared.event.Happening.TheVariants as happenings
 use Rattle.gs_msg.specs.declared.event.Request.{Request as Asked}
-use Rattle.gs_msg.specs.declared.kind.Kind.{Kind}
 use Rattle.gs_msg.specs.declared.message.Message.{Message}
 use Rattle.gs_msg.specs.declared.node.NodeId.{NodeId}
 use Rattle.gs_msg.specs.declared.node.NodeId.TheVariants as nodes
@@ -40,13 +37,13 @@ use Rattle.gs_server.specs.Servers as servers
 use Rattle.gs_world.specs.Happenings.{AtClient, AtServer, ClientAsks, Reopens, ServerDoes, met_by}
 use Rattle.gs_world.specs.Nodes.{Nodes, with_master}
 use Rattle.gs_world.specs.declared.place.MasterPlace.{MasterPlace}
-use Rattle.gs_theorems.specs.Meeting.{AllSteady, AllWritten, HasMaster, IsAskedByLine, IsAskedSo, IsAsWritten, IsCalm, IsMet, IsMetWay, IsOfScript, Occurs, RunsSo, Stands}
+use Rattle.gs_theorems.specs.Meeting.{AllSteady, AllWritten, HasMaster, IsAskedByLine, IsAskedSo, IsCalm, IsMet, IsMetWay, IsOfScript, Occurs, RunsSo, Stands}
 use Rattle.gs_theorems.specs.Reached.{AllSent, Covers, history, unarmed}
 use Rattle.gs_theorems.proofs.Ending.{Alike, CanPost, IsOver, alike_covers, alike_to, as_it_is, asking_client, delivered_posts, ended, known_server, master_posts, server_posts, shortened_alike}
-use Rattle.gs_theorems.proofs.PlainEnduring.{AllAsked, Endures, EnduresRestarts, GoesOut, IsGood, IsTaken}
+use Rattle.gs_theorems.proofs.PlainEnduring.{AllAsked, Endures, EnduresRestarts, GoesOut, IsTaken}
 use Rattle.gs_theorems.proofs.PlainEvents.{client_leaves, server_leaves}
 use Rattle.gs_theorems.proofs.PlainMoments.{moment_is_number}
-use Rattle.gs_theorems.proofs.PlainSends.{StaysAt, all_stays, end_stays, same_stays, send_stays, shortened_stays}
+use Rattle.gs_theorems.proofs.PlainSends.{all_stays, end_stays, same_stays, send_stays, shortened_stays}
 use Rattle.gs_theorems.proofs.Sending.{Posting, sends, sends_none}
 
 -- ---- messages that were sent

@@ -1,5 +1,5 @@
 -- What a restart of a steady master opens where memory isn't wanting and no disk fails.
-use Rattle.std.proofs.Common.{◌≡◌, ◌∙◌, ◌+◌, ◌<◌, ◌⊎◌, ℕ, Bool, true, false, List, [], ◌∷◌, drop, get_or, map, Option, Some, None, Result, Ok, Err, refl, sym, ap, subst, inl, inr}
+use Rattle.std.proofs.Common.{◌≡◌, ◌∙◌, ◌<◌, ◌⊎◌, ℕ, true, List, [], ◌∷◌, drop, get_or, map, Some, None, Result, Ok, Err, refl, sym, ap, subst, inl, inr}
 use Rattle.std.specs.Prelude.{is_ok, unwrap_or}
 use Rattle.std.specs.Result.{result_ok}
 use Rattle.std.specs.List.{AllByRecursion}
@@ -30,7 +30,7 @@ use Rattle.gs_state.specs.Applied.{records_behind, replayed}
 use Rattle.gs_state.specs.Durable.{Durable, start}
 use Rattle.gs_state.specs.Handling.{recover, recovered_from, reopened, restarted, told_again}
 use Rattle.gs_state.specs.State.{Log, State, Turn}
-use Rattle.gs_world.specs.Happenings.{Opens, Reopens, limit}
+use Rattle.gs_world.specs.Happenings.{Reopens, limit}
 use Rattle.gs_world.specs.declared.place.MasterPlace.{MasterPlace}
 use Rattle.gs_world.specs.declared.place.MasterPlace.TheVariants.{Standing, Closed, Away}
 use Rattle.gs_theorems.specs.Meeting.{IsAsWritten, Stands}

@@ -1,23 +1,21 @@
 -- What a script answers is a function of its input.
-use Rattle.std.proofs.Common.{◌≡◌, ◌≢◌, ◌∙◌, ◌⊎◌, ◌++◌, ℕ, zero, suc, false, List, [], ◌∷◌, Option, Ok, refl, sym, ap, subst, inl, inr, length, replicate, arith}
+use Rattle.std.proofs.Common.{◌≡◌, ◌≢◌, ◌∙◌, ◌⊎◌, ◌++◌, ℕ, zero, suc, false, List, [], ◌∷◌, Option, refl, sym, ap, subst, inl, inr, length, replicate, arith}
 use Rattle.std.specs.List.{AllByRecursion}
 use Rattle.gs_base.specs.declared.config.Config.{Config}
-use Rattle.gs_base.specs.declared.numbers.Moment.{Moment}
 use Rattle.gs_desk.specs.Answering.{AnswersText}
 use Rattle.gs_desk.specs.Starting.{Starts, begun}
 use Rattle.gs_desk.specs.Ways.{Way, way_of}
 use Rattle.gs_desk.specs.declared.desk.Desk.{Desk}
 use Rattle.gs_msg.specs.declared.message.Message.{Message}
 use Rattle.gs_msg.specs.declared.node.NodeId.TheVariants as nodes
-use Rattle.gs_run.specs.Histories.{Begins}
 use Rattle.gs_run.specs.Sent.{IsPosted, Sent, none_sent}
 use Rattle.gs_script.specs.Run.{AnswersLine, lines_of, memory_text}
 use Rattle.gs_shell.specs.Serving.{Serves}
 use Rattle.gs_server.specs.Servers as servers
-use Rattle.gs_world.specs.Nodes.{Nodes, new_nodes, silent_servers}
-use Rattle.gs_theorems.specs.Meeting.{AllSteady, AllWritten, IsAskedByLine, IsCalm, IsClientOf, IsMet, IsMetWay, IsPlain, Reaches, RestartsMaster, RunsWell}
+use Rattle.gs_world.specs.Nodes.{new_nodes, silent_servers}
+use Rattle.gs_theorems.specs.Meeting.{AllSteady, AllWritten, IsAskedByLine, IsCalm, IsClientOf, IsMetWay, Reaches, RestartsMaster, RunsWell}
 use Rattle.gs_theorems.specs.Plain.{PlainDesk, answers_line, answers_of, begins, runs}
-use Rattle.gs_theorems.specs.Reached.{Covers, history, unarmed}
+use Rattle.gs_theorems.specs.Reached.{Covers, history}
 use Rattle.gs_theorems.proofs.PlainEnduring.{EnduresRestarts, Lands}
 use Rattle.gs_theorems.proofs.PlainMeeting.{met_endures, met_restarts}
 use Rattle.gs_theorems.proofs.PlainScripts.{all_lines, line_answered, lines_mine, whole_mine}

@@ -1,8 +1,7 @@
 -- The lines of a script, one after the other, and a new store.
-use Rattle.std.proofs.Common.{◌≡◌, ◌≢◌, ◌∙◌, ◌+◌, ◌⊎◌, ℕ, zero, suc, Bool, true, false, List, [], ◌∷◌, if◌then◌else◌, map, Option, Some, None, MatchOption, Result, Ok, Err, refl, sym, ap, subst, inl, inr, length}
+use Rattle.std.proofs.Common.{◌≡◌, ◌≢◌, ◌∙◌, ◌⊎◌, ℕ, Bool, true, false, List, [], ◌∷◌, if◌then◌else◌, Option, Some, None, MatchOption, Result, Err, refl, sym, ap, subst, inl, inr, length}
 use Rattle.std.specs.List.{AllByRecursion}
 use Rattle.std.specs.Prelude.{nat_le}
-use Rattle.gs_base.specs.declared.config.Config.{Config}
 use Rattle.gs_base.specs.declared.numbers.ClientId.{ClientId}
 use Rattle.gs_base.specs.declared.refusal.Refusal.{Refusal}
 use Rattle.gs_base.specs.declared.refusal.Refusal.TheVariants as refusals
@@ -21,11 +20,9 @@ use Rattle.gs_line.specs.Line.{content, longest_line}
 use Rattle.gs_lines.specs.Grammar.{Request, line_request}
 use Rattle.gs_lines.specs.Grammar as lines
 use Rattle.gs_lines.specs.declared.command.Restarted.TheVariants as restarted
-use Rattle.gs_master.specs.Masters.{MasterOf}
 use Rattle.gs_msg.specs.declared.event.Request.{Request as Asked}
-use Rattle.gs_run.specs.Lasting.{failures_at}
 use Rattle.gs_script.specs.Run.{AnswersIfShort, AnswersLine, Runs, bad_line_text, memory_text}
-use Rattle.gs_theorems.specs.Meeting.{AreSound, IsCalm, IsPlain, RestartsMaster, Stands, plain_of}
+use Rattle.gs_theorems.specs.Meeting.{AreSound, IsCalm, RestartsMaster, plain_of}
 use Rattle.gs_theorems.proofs.PlainEnduring.{IsOurs, Lands, Endures, EnduresRestarts}
 use Rattle.gs_theorems.specs.Plain.{Plain, PlainDesk}
 use Rattle.gs_theorems.specs.Plain as plain

@@ -1,16 +1,14 @@
 -- What is sent where memory isn't wanting, and that neither that nor the nodes are forgotten.
-use Rattle.std.proofs.Common.{◌≡◌, ◌∙◌, ◌+◌, ◌⊎◌, ℕ, Bool, true, false, List, [], ◌∷◌, ◌++◌, if◌then◌else◌, Option, Some, None, Result, Ok, Err, refl, sym, ap, subst, inl, inr}
-use Rattle.std.specs.Prelude.{min}
+use Rattle.std.proofs.Common.{◌≡◌, ◌∙◌, Bool, true, false, List, [], ◌∷◌, if◌then◌else◌, Option, Some, None, Result, Ok, Err, refl, sym, ap, subst, inl, inr}
 use Rattle.std.proofs.lemmas.Bool.{false≢true}
 use Rattle.gs_base.specs.declared.refusal.Refusal.{Refusal}
 use Rattle.gs_base.specs.declared.refusal.Refusal.TheVariants as refusals
-use Rattle.gs_desk.specs.Ways.{Ends, Puts, Sends, SendsAll, Way, counted, held_back, is_held, noted, shortened, shortened_by, under_way}
+use Rattle.gs_desk.specs.Ways.{Ends, Sends, SendsAll, Way, counted, held_back, is_held, noted, shortened, shortened_by, under_way}
 use Rattle.gs_master.specs.declared.turn.Turn.{Turn as Told}
 use Rattle.gs_msg.specs.Bodies.{kind_of}
 use Rattle.gs_msg.specs.declared.message.Message.{Message}
 use Rattle.gs_state.specs.State.{State}
 use Rattle.gs_world.specs.Happenings.{met_by}
-use Rattle.gs_world.specs.Nodes.{Nodes}
 use Rattle.gs_theorems.specs.Meeting.{plain_of}
 use Rattle.gs_theorems.specs.Plain as plain
 

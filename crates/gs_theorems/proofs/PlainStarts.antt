@@ -1,9 +1,9 @@
 -- A new store, and a whole script.
-use Rattle.std.proofs.Common.{◌≡◌, ◌≢◌, ◌∙◌, ◌⊎◌, ℕ, zero, suc, Bool, true, false, List, [], ◌∷◌, map, Option, Some, None, Result, Ok, Err, refl, sym, ap, subst, inl, inr}
+use Rattle.std.proofs.Common.{◌≡◌, ◌∙◌, ℕ, zero, suc, List, [], ◌∷◌, map, Result, Ok, refl, sym, ap, subst}
 use Rattle.std.specs.List.{AllByRecursion}
 use Rattle.gs_base.specs.declared.config.Config.{Config}
 use Rattle.gs_base.specs.declared.refusal.Refusal.{Refusal}
-use Rattle.gs_desk.specs.Starting.{Starts, begun, new_client}
+use Rattle.gs_desk.specs.Starting.{Starts, begun}
 use Rattle.gs_desk.specs.Ways.{DeliversAll, SendsAll, Way, WithFirst, IsDelivered, last_count, way_of, with_queue}
 use Rattle.gs_desk.specs.declared.desk.Desk.{Desk}
 use Rattle.gs_journal.specs.Journal.{text_size}
@@ -17,16 +17,15 @@ use Rattle.gs_msg.specs.declared.message.Message.{Message}
 use Rattle.gs_record.specs.Encoding.{encoded}
 use Rattle.gs_record.specs.Plain.{PlainEntry}
 use Rattle.gs_record.specs.Writable.{IsEntry}
-use Rattle.gs_run.specs.Lasting.{IsToldIn, failures_at}
+use Rattle.gs_run.specs.Lasting.{IsToldIn}
 use Rattle.gs_state.specs.Applied.{records_behind}
 use Rattle.gs_state.specs.Durable.{start}
-use Rattle.gs_state.specs.Handling.{reopened, restarted, told_again}
-use Rattle.gs_state.specs.State.{State}
+use Rattle.gs_state.specs.Handling.{restarted}
 use Rattle.gs_world.specs.Happenings.{Opens}
 use Rattle.gs_world.specs.Nodes.{new_nodes}
 use Rattle.gs_world.specs.declared.place.MasterPlace.{MasterPlace}
 use Rattle.gs_world.specs.declared.place.MasterPlace.TheVariants.{Standing}
-use Rattle.gs_theorems.specs.Meeting.{IsPlain, Stands, plain_of}
+use Rattle.gs_theorems.specs.Meeting.{IsPlain, plain_of}
 use Rattle.gs_theorems.specs.Plain.{Plain, delivers}
 use Rattle.gs_theorems.specs.Plain as plain
 use Rattle.gs_theorems.proofs.PlainReopens.{opened_sends, opened_state}

@@ -1,8 +1,7 @@
 -- What becomes of a store where memory isn't wanting and no disk fails is what the functions say: deliveries, ticks and requests.
-use Rattle.std.proofs.Common.{◌≡◌, ◌∙◌, ◌+◌, ◌-◌, ◌<◌, ◌≤◌, ◌⊎◌, ◌==◌, ◌||◌, ℕ, zero, suc, Bool, true, false, List, [], ◌∷◌, if◌then◌else◌, Option, Some, None, MatchOption, Result, Ok, Err, Vec, refl, sym, ap, subst, inl, inr, arith, length, slice_get, slice_set}
+use Rattle.std.proofs.Common.{◌≡◌, ◌∙◌, ◌-◌, ◌≤◌, ◌⊎◌, ℕ, zero, suc, Bool, true, false, List, [], ◌∷◌, Option, Some, None, MatchOption, Result, Ok, Err, Vec, refl, sym, ap, subst, inl, inr, arith, length, slice_get, slice_set}
 use Rattle.std.specs.Prelude.{is_some, min, unwrap_or}
 use Rattle.std.specs.declared.alloc.Global.{Global}
-use Rattle.std.proofs.lemmas.Bool.{false≢true}
 use Rattle.gs_base.specs.Told.{IsNumber}
 use Rattle.gs_base.specs.declared.numbers.ClientId.{ClientId}
 use Rattle.gs_base.specs.declared.numbers.ReqId.{ReqId}
@@ -12,26 +11,24 @@ use Rattle.gs_client.specs.Nodes.{Asks, Node, asks, given_up}
 use Rattle.gs_client.specs.Sends.{last_number}
 use Rattle.gs_client.specs.declared.link.Reply.{Reply}
 use Rattle.gs_client.specs.declared.link.Reply.TheVariants as replies
-use Rattle.gs_desk.specs.Ways.{AllTick, Answers, Carries, DeliversAll, DeliversWhole, Ends, Heard, IsAsked, IsDelivered, MasterTicked, SendsAll, ServerTicked, ServersTick, TicksIf, Waited, Waits, Way, WithFirst, last_count, shortened_by, with_nodes, with_queue}
+use Rattle.gs_desk.specs.Ways.{AllTick, Answers, Carries, DeliversAll, DeliversWhole, Heard, IsAsked, IsDelivered, MasterTicked, ServerTicked, ServersTick, TicksIf, Waited, Way, WithFirst, last_count, shortened_by, with_nodes, with_queue}
 use Rattle.gs_master.specs.Masters.{MasterOf}
 use Rattle.gs_master.specs.declared.turn.Turn.{Turn as Told}
 use Rattle.gs_msg.specs.declared.event.Request.{Request as Asked}
 use Rattle.gs_msg.specs.declared.message.Message.{Message}
-use Rattle.gs_msg.specs.declared.node.NodeId.TheVariants as ids
 use Rattle.gs_run.specs.Lasting.{failures_at}
 use Rattle.gs_server.specs.Servers.{Server}
 use Rattle.gs_server.specs.Servers as servers
 use Rattle.gs_state.specs.Handling.{tick}
 use Rattle.gs_world.specs.Happenings.{AtClient, ClientAsks, Delivers, Hears, MasterTicks, ServerDoes, client_in}
 use Rattle.gs_world.specs.Nodes.{Nodes, with_clients, with_master}
-use Rattle.gs_world.specs.declared.place.MasterPlace.{MasterPlace}
 use Rattle.gs_world.specs.declared.place.MasterPlace.TheVariants.{Standing}
 use Rattle.gs_theorems.specs.Meeting.{IsCalm, IsPlain, Stands, plain_of}
-use Rattle.gs_theorems.proofs.PlainEnduring.{Endures, GoesOut, IsGood, IsTaken, has}
+use Rattle.gs_theorems.proofs.PlainEnduring.{Endures, IsGood, IsTaken, has}
 use Rattle.gs_theorems.specs.Plain.{Plain, delivers}
 use Rattle.gs_theorems.specs.Plain as plain
 use Rattle.gs_theorems.proofs.PlainEvents.{Comes, client_leaves, heard_comes, heard_rise, master_ends, node_ends, plain_same, server_does, server_leaves, ticked_turn, ticks_rise}
-use Rattle.gs_theorems.proofs.PlainSends.{end_enough, StaysAt, all_stays, end_stays, same_stays, shortened_stays, unshortened, wanting, was_enough}
+use Rattle.gs_theorems.proofs.PlainSends.{end_enough, all_stays, end_stays, same_stays, shortened_stays, unshortened, wanting, was_enough}
 
 paired : {A B : Type 0} (a c : A) (b d : B) → a ≡ c → d ≡ b → ◌≡◌ {A = A × B} (a, b) (c, d)
 paired a c b d first second = λ i. (first i, sym second i)

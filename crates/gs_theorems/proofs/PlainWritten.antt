@@ -1,10 +1,9 @@
 -- A master that a script meets has its log and its journal as it has written them.
-use Rattle.std.proofs.Common.{◌≡◌, ◌∙◌, ◌+◌, ◌-◌, ◌<◌, ◌⊎◌, ◌&&◌, ◌||◌, ◌++◌, ◌==◌, ℕ, zero, suc, Bool, true, false, not, List, [], ◌∷◌, if◌then◌else◌, length, map, Option, Some, None, MatchOption, Result, Ok, Err, Vec, refl, sym, ap, subst, inl, inr, arith, slice_get, slice_set}
+use Rattle.std.proofs.Common.{◌≡◌, ◌∙◌, ◌+◌, ◌<◌, ◌&&◌, ◌||◌, ◌++◌, ◌==◌, ℕ, suc, Bool, true, false, not, List, [], ◌∷◌, if◌then◌else◌, length, map, Option, Some, None, MatchOption, Result, Ok, Err, refl, sym, ap, subst, inl, inr, arith}
 use Rattle.std.specs.Prelude.{is_none}
 use Rattle.std.specs.List.{AllByRecursion, list_all}
 use Rattle.std.proofs.lemmas.Bool.{false≢true, and_from, and_parts}
 use Rattle.std.proofs.lemmas.List.{map-append}
-use Rattle.gs_base.specs.Told.{IsNumber}
 use Rattle.gs_base.specs.declared.config.Config.{Config}
 use Rattle.gs_base.specs.declared.numbers.Moment.{Moment}
 use Rattle.gs_base.specs.declared.numbers.ReqId.{ReqId}
@@ -17,14 +16,12 @@ use Rattle.gs_journal.specs.Journal.{counting, failures_of_both, text_size}
 use Rattle.gs_journal.specs.Records.{Entry as Record, Text, fresh, generation_of, generation_standing, is_begun, second_counts, standing, text_of}
 use Rattle.gs_journal.specs.declared.version.Version.{Version}
 use Rattle.gs_journal.specs.declared.version.Version.TheVariants.{Two}
-use Rattle.gs_laws.specs.Standing.{IsNamedBody}
 use Rattle.gs_master.proofs.Composing.{all_joined}
 use Rattle.gs_master.proofs.Renewed.{plain_tick, written_tick}
-use Rattle.gs_master.specs.Finishing.{and_checkpoint}
 use Rattle.gs_master.specs.Journaled.{IsAsSeen}
 use Rattle.gs_master.specs.Masters.{Answers, IsAnswered, MasterOf}
 use Rattle.gs_master.specs.Starting.{left_in}
-use Rattle.gs_master.specs.Ticking.{AnswersAs, AnswersTick, IsAnsweredAnew, is_written, lacking, pressed_all, writes_one}
+use Rattle.gs_master.specs.Ticking.{AnswersAs, IsAnsweredAnew, is_written, lacking, pressed_all, writes_one}
 use Rattle.gs_master.specs.declared.turn.Turn.{Turn as Told}
 use Rattle.gs_msg.specs.declared.event.Happening.{Happening}
 use Rattle.gs_msg.specs.declared.event.Happening.TheVariants as happenings
@@ -36,23 +33,23 @@ use Rattle.gs_msg.specs.declared.node.StoreNode.TheVariants as keepers
 use Rattle.gs_plan.specs.Renewable.{renewal_refusal}
 use Rattle.gs_record.proofs.Form.{of_form}
 use Rattle.gs_record.specs.Encoding.{encoded, kind}
-use Rattle.gs_record.specs.Plain.{PlainCheckpoint, PlainEntry, Edited, Finalize, Holder, Prepare, Propose, RollbackBegin, RollbackCommit, Said, Settle, Whole}
+use Rattle.gs_record.specs.Plain.{PlainEntry, Edited, Finalize, Holder, Prepare, Propose, RollbackBegin, RollbackCommit, Said, Settle, Whole}
 use Rattle.gs_record.specs.Writable.{IsEntry}
 use Rattle.gs_run.specs.Histories.{AtNode, ComesTo, History, Outcome, Restarts, Ticks}
 use Rattle.gs_run.specs.Lasting.{IsToldIn, StandsFirm, failures_at}
 use Rattle.gs_run.specs.Runs.{Goes, Step, Comes, Takes}
-use Rattle.gs_run.specs.Sent.{IsSent, message_of}
+use Rattle.gs_run.specs.Sent.{message_of}
 use Rattle.gs_server.specs.Servers as servers
 use Rattle.gs_state.specs.Applied.{counted_behind, is_whole_entry, records_behind}
-use Rattle.gs_state.specs.Handling.{checkpoint_body, due, handle, reopened, tick, written}
-use Rattle.gs_state.specs.Outcomes.{IsDone, caller_of}
+use Rattle.gs_state.specs.Handling.{due, handle, tick}
+use Rattle.gs_state.specs.Outcomes.{caller_of}
 use Rattle.gs_state.specs.State.{State, Turn, is_failed}
 use Rattle.gs_state.specs.Whole.{checkpoint_of}
-use Rattle.gs_world.specs.Happenings.{AtClient, AtServer, ClientAsks, ClientHears, Delivers, Hears, MasterHears, MasterTicks, Opens, Reopens, ServerDoes, limit}
+use Rattle.gs_world.specs.Happenings.{ClientAsks, ClientHears, Delivers, Hears, MasterHears, MasterTicks, Reopens, ServerDoes, limit}
 use Rattle.gs_world.specs.Nodes.{Nodes, with_master}
 use Rattle.gs_world.specs.declared.place.MasterPlace.{MasterPlace}
 use Rattle.gs_world.specs.declared.place.MasterPlace.TheVariants.{Standing, Closed, Away}
-use Rattle.gs_theorems.specs.Meeting.{AllSteady, AllWritten, HasMaster, IsAsWritten, IsMet, IsMetSteady, IsOfScript, IsCounted, LogsCount, RunsSo, is_behind}
+use Rattle.gs_theorems.specs.Meeting.{AllSteady, AllWritten, HasMaster, IsAsWritten, IsMet, IsOfScript, IsCounted, LogsCount, RunsSo, is_behind}
 use Rattle.gs_theorems.specs.Reached.{unarmed}
 use Rattle.gs_theorems.proofs.PlainEvents.{client_leaves, server_leaves}
 use Rattle.gs_theorems.proofs.PlainMeeting.{so_joined}

@@ -1,10 +1,9 @@
 -- What a script meets: a store without its disks as it is seen of a way, the ways that are met, and what is taken of them: that their masters are
 -- steady, and what they hear is within its types.
-use Rattle.std.specs.Prelude.{◌≡◌, ◌≢◌, ◌⊎◌, ◌≤◌, ◌+◌, ℕ, Bool, true, false, not, length, List, [], ◌∷◌, map, Option, Some, None}
+use Rattle.std.specs.Prelude.{◌≡◌, ◌≢◌, ◌⊎◌, ◌≤◌, ◌+◌, ℕ, Bool, true, false, not, length, List, [], ◌∷◌, map, Option, Some}
 use Rattle.std.specs.List.{AllByRecursion, list_all}
 use Rattle.gs_base.specs.Told.{IsNumber}
 use Rattle.gs_base.specs.declared.config.Config.{Config}
-use Rattle.gs_base.specs.declared.numbers.ClientId.{ClientId}
 use Rattle.gs_base.specs.declared.numbers.Moment.{Moment}
 use Rattle.gs_calls.specs.Asked.{asked_by}
 use Rattle.gs_calls.specs.declared.answer.Answer.{Answer}
@@ -44,7 +43,6 @@ use Rattle.gs_state.specs.Applied.{is_whole_entry, records_behind}
 use Rattle.gs_state.specs.Handling.{handle}
 use Rattle.gs_state.specs.State.{State, Turn}
 use Rattle.gs_world.specs.Nodes.{Nodes}
-use Rattle.gs_world.specs.declared.place.MasterPlace.{MasterPlace}
 use Rattle.gs_world.specs.declared.place.MasterPlace.TheVariants.{Standing}
 use Rattle.gs_theorems.specs.Plain.{Plain, PlainDesk}
 use Rattle.gs_theorems.specs.Reached.{Covers, history, unarmed}

@@ -39,7 +39,7 @@ use Rattle.gs_msg.specs.declared.node.NodeId.TheVariants as nodes
 use Rattle.gs_script.specs.Run.{bad_line_text, lines_of}
 use Rattle.gs_server.specs.Servers.{Server, Step}
 use Rattle.gs_server.specs.Servers as servers
-use Rattle.gs_state.specs.Durable.{Durable, start}
+use Rattle.gs_state.specs.Durable.{start}
 use Rattle.gs_state.specs.Handling.{handle, reopened, restarted, tick}
 use Rattle.gs_state.specs.State.{Log, State, Turn}
 use Rattle.gs_world.specs.Happenings.{client_in, limit, met_by}
