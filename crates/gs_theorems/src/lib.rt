@@ -48,6 +48,10 @@ ghost use Rattle.gs_world.specs.declared.place.MasterPlace.TheVariants.{Standing
 
 use gs_block::promises::configurations_have_sizes;
 
+mod scripts;
+
+pub use scripts::a_script_answers_its_input;
+
 /// A desk that begins is at a store that has begun over the same disks, and each line leads on by steps of that store: events of its nodes,
 /// and answers that its client takes. All that is under way was sent by a node, and so is all that the nodes hear. What a script leaves that
 /// is read and answered to its end is a store behind such steps.
