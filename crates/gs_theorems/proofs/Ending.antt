@@ -117,16 +117,9 @@ pub record Alike {D : Type 0} (old new : Way D) : Type 0 where
   pub held : new.held ≡ old.held
   pub short : old.is_short ≡ true → new.is_short ≡ true
 
-pub as_it_is : {D : Type 0} (w : Way D) → Alike w w
-as_it_is w = record { nodes = refl; queue = refl; held = refl; short = λ short. short }
-
 pub shortened_alike : {D : Type 0} (refusal : Refusal) (w : Way D) → Alike w (shortened_by refusal w)
 shortened_alike refusals.Memory w = record { nodes = refl; moment = refl; queue = refl; held = refl; short = λ short. refl }
 shortened_alike refusal w = record { nodes = refl; moment = refl; queue = refl; held = refl; short = λ short. short }
-
-pub noted_alike : {D : Type 0} (said : Option Refusal) (w : Way D) → Alike w (noted said w)
-noted_alike None w = as_it_is w
-noted_alike (Some refusal) w = shortened_alike refusal w
 
 pub alike_to : {D : Type 0} (old mid new : Way D) → Alike old mid → new ≡ mid → Alike old new
 alike_to old mid new a same = subst (λ w. Alike old w) (sym same) a

@@ -174,7 +174,7 @@ module _ {D : Type 0} (seen : D → List ℕ) (failures : D → ℕ) where
   step_rises (Comes event) old new (said, h) = at_node event.moment event.happening old h.by h.outcome new.nodes h.at
   step_rises (Takes client) old new (found, takes, is) = stays old.nodes new.nodes (at_client client None (λ n reply after. (reply ≡ n.reply) × (after ≡ given_up n)) old.nodes found new.nodes takes)
 
-  run_rises : (steps : List Step) (old new : History D) → RunsTo seen failures unarmed steps old new → Rises old.nodes.master new.nodes.master
+  pub run_rises : (steps : List Step) (old new : History D) → RunsTo seen failures unarmed steps old new → Rises old.nodes.master new.nodes.master
   run_rises [] old new same = stays_so old.nodes.master new.nodes.master (ap (λ (h : History D). h.nodes.master) same)
   run_rises (step ∷ steps) old new (mid, goes, rest) =
       one_after (failures_at failures old.nodes.master) (failures_at failures mid.nodes.master) (failures_at failures new.nodes.master) (step_rises step old mid goes) (run_rises steps mid new rest)
@@ -188,7 +188,7 @@ module _ {D : Type 0} (seen : D → List ℕ) (failures : D → ℕ) where
 
   -- ---- a desk
 
-  begins_at : (config : Config) (clients : ℕ) (pair : D × D) (new : History D) → Begins seen failures unarmed config clients pair new → failures_at failures new.nodes.master ≡ failures pair.0 + failures pair.1
+  pub begins_at : (config : Config) (clients : ℕ) (pair : D × D) (new : History D) → Begins seen failures unarmed config clients pair new → failures_at failures new.nodes.master ≡ failures pair.0 + failures pair.1
   begins_at config clients pair new begun = ap (λ (n : Nodes D). failures_at failures n.master) begun.nodes ∙ opened_at begun.place begun.turn begun.opens
     where
       opened_at : (place : MasterPlace D) (turn : Told) → Opens seen failures config pair (Ok turn) place → failures_at failures place ≡ failures pair.0 + failures pair.1

@@ -13,12 +13,12 @@ use Rattle.gs_script.specs.Run.{AnswersLine, lines_of, memory_text}
 use Rattle.gs_shell.specs.Serving.{Serves}
 use Rattle.gs_server.specs.Servers as servers
 use Rattle.gs_world.specs.Nodes.{new_nodes, silent_servers}
-use Rattle.gs_theorems.specs.Meeting.{AllSteady, AllWritten, IsAskedByLine, IsCalm, IsClientOf, IsMetWay, Reaches, RestartsMaster, RunsWell}
+use Rattle.gs_theorems.specs.Meeting.{AllSteady, AllWritten, IsAskedByLine, IsCalm, IsClientOf, IsMetWay, Reaches, RestartsMaster}
 use Rattle.gs_theorems.specs.Plain.{PlainDesk, answers_line, answers_of, begins, runs}
 use Rattle.gs_theorems.specs.Reached.{Covers, history}
 use Rattle.gs_theorems.proofs.PlainEnduring.{EnduresRestarts, Lands}
 use Rattle.gs_theorems.proofs.PlainMeeting.{met_endures, met_restarts}
-use Rattle.gs_theorems.proofs.PlainScripts.{all_lines, line_answered, lines_mine, whole_mine}
+use Rattle.gs_theorems.proofs.PlainScripts.{AreSound, all_lines, line_answered, lines_mine, whole_mine}
 use Rattle.gs_theorems.proofs.PlainStarts.{IsBegunSo, starts_plain}
 
 -- a new store has a list for each of its nodes
@@ -70,18 +70,14 @@ module _ {D : Type 0} (seen : D → List ℕ) (failures : D → ℕ) (config : C
         moment = omega arith;
       })
 
-  may_restart : (lines : List (List ℕ)) → AllByRecursion (λ line. ¬ RestartsMaster line) lines ⊎ AllWritten seen failures config disks
-      → AllByRecursion (λ line. ¬ RestartsMaster line) lines ⊎ EnduresRestarts seen failures Met
-  may_restart lines (inl none) = inl none
-  may_restart lines (inr written) = inr (met_restarts seen failures config disks written)
-
-  pub script_runs : (input : List ℕ) (old new : Option (List ℕ)) (s : Serves seen failures config disks input old new) → RunsWell seen failures config disks input old new s
-      → (s.writes.texts ≡ answers_of config input) × Reaches seen failures config disks s.ended (runs config input).1
-  script_runs input old new s r =
-      let b = starts_plain seen failures config disks s.begun r.empty.0 r.empty.1 s.starts in
+  pub script_runs : (input : List ℕ) (old new : Option (List ℕ)) (s : Serves seen failures config disks input old new) → seen disks.0 ≡ [] → seen disks.1 ≡ [] → AllSteady seen failures config disks
+      → AllWritten seen failures config disks → (way_of s.ended.wire).is_short ≡ false → AllByRecursion (λ text. text ≢ memory_text) s.writes.texts
+      → AreSound seen failures s.begun (lines_of input) s.writes.texts s.ended s.writes.runs → (s.writes.texts ≡ answers_of config input) × Reaches seen failures config disks s.ended (runs config input).1
+  script_runs input old new s first second steady written enough answered sound =
+      let b = starts_plain seen failures config disks s.begun first second s.starts in
       let ours : IsClientOf config s.begun.caller.client = (ap (λ c. c.last.client) s.starts.client, ap (λ c. c.chunk) s.starts.client) in
-      let endures = met_endures seen failures config disks r.steady in
+      let endures = met_endures seen failures config disks steady in
       let all = all_lines seen failures (record { 0 = 1 }) config.chunk (IsAskedByLine config.chunk) Met endures (lines_of input) s.writes.texts s.begun s.ended s.writes.runs
-      ours r.answered (may_restart (lines_of input) r.restarts) r.sound in
-      let done = all.same r.enough (begins config) (record { client = s.starts.client; plain = b.plain; good = begun_met s.begun s.starts b }) in
+      ours answered (inr (met_restarts seen failures config disks written)) sound in
+      let done = all.same enough (begins config) (record { client = s.starts.client; plain = b.plain; good = begun_met s.begun s.starts b }) in
       (done.0, reached s.ended (runs config input).1 (lines_mine seen failures (record { 0 = 1 }) config.chunk (IsAskedByLine config.chunk) Met endures (lines_of input) s.writes.texts s.begun s.ended s.writes.runs ours) done.1)

@@ -21,13 +21,21 @@ use Rattle.gs_lines.specs.Grammar.{Request, line_request}
 use Rattle.gs_lines.specs.Grammar as lines
 use Rattle.gs_lines.specs.declared.command.Restarted.TheVariants as restarted
 use Rattle.gs_msg.specs.declared.event.Request.{Request as Asked}
+use Rattle.gs_run.specs.Lasting.{failures_at}
 use Rattle.gs_script.specs.Run.{AnswersIfShort, AnswersLine, Runs, bad_line_text, memory_text}
-use Rattle.gs_theorems.specs.Meeting.{AreSound, IsCalm, RestartsMaster, plain_of}
+use Rattle.gs_theorems.specs.Meeting.{IsCalm, RestartsMaster, plain_of}
 use Rattle.gs_theorems.proofs.PlainEnduring.{IsOurs, Lands, Endures, EnduresRestarts}
 use Rattle.gs_theorems.specs.Plain.{Plain, PlainDesk}
 use Rattle.gs_theorems.specs.Plain as plain
 use Rattle.gs_theorems.proofs.PlainLines.{GivesDesk, same_desk, still_mine, text_answers}
 use Rattle.gs_theorems.proofs.PlainSends.{was_enough}
+
+-- of lines that are answered so one after the other, no disk of the master fails at one
+abbrev pub AreSound : {D : Type 0} (seen : D → List ℕ) (failures : D → ℕ) (old : Desk D) (lines texts : List (List ℕ)) (new : Desk D) → Runs (AnswersText seen failures) old lines texts new → Type 0
+AreSound seen failures old [] texts new runs = Unit {0}
+AreSound seen failures old (line ∷ lines) [] new runs = Unit {0}
+AreSound seen failures old (line ∷ lines) (text ∷ texts) new (mid, answers, rest) =
+    (failures_at failures (way_of mid.wire).nodes.master ≡ failures_at failures (way_of old.wire).nodes.master) × AreSound seen failures mid lines texts new rest
 
 module _ {D : Type 0} (seen : D → List ℕ) (failures : D → ℕ) (me : ClientId) (size : ℕ) (MayAsk : Asked → Type 0) (Good : Way D → Type 0) (e : Endures seen failures me size MayAsk Good) where
   -- ---- the client stays the same one

@@ -49,7 +49,8 @@ use Rattle.gs_world.specs.Happenings.{ClientAsks, ClientHears, Delivers, Hears, 
 use Rattle.gs_world.specs.Nodes.{Nodes, with_master}
 use Rattle.gs_world.specs.declared.place.MasterPlace.{MasterPlace}
 use Rattle.gs_world.specs.declared.place.MasterPlace.TheVariants.{Standing, Closed, Away}
-use Rattle.gs_theorems.specs.Meeting.{AllSteady, AllWritten, HasMaster, IsAsWritten, IsMet, IsOfScript, IsCounted, LogsCount, RunsSo, is_behind}
+use Rattle.gs_laws.specs.Rooms.{IsCounted, MessagesCounted, is_behind}
+use Rattle.gs_theorems.specs.Meeting.{AllSteady, AllWritten, HasMaster, IsAsWritten, IsMet, IsOfScript, RunsSo}
 use Rattle.gs_theorems.specs.Reached.{unarmed}
 use Rattle.gs_theorems.proofs.PlainEvents.{client_leaves, server_leaves}
 use Rattle.gs_theorems.proofs.PlainMeeting.{so_joined}
@@ -57,6 +58,11 @@ use Rattle.gs_theorems.proofs.PlainReopens.{opened_state, same_entries}
 use Rattle.gs_theorems.proofs.PlainStarts.{new_master}
 
 -- ---- records
+
+-- a master's log counts each record of a message and of a tick's steps
+pub record LogsCount : Type 0 where
+  pub messages : MessagesCounted
+  pub ticks : (s : State) (moment : Moment) → IsCounted s (pressed_all s moment)
 
 -- a checkpoint may be the first record alone
 may_stand : (first : Bool) (entry : PlainEntry) → is_behind entry ≡ true → (first || not (kind entry == 9)) ≡ true

@@ -1,5 +1,7 @@
 pub mod Asking
 pub mod Enduring
+pub mod Meeting
+pub mod Plain
 pub mod Reached
 pub mod Refusing
 pub mod Saying

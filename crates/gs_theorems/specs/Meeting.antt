@@ -83,20 +83,6 @@ pub record IsCalm {D : Type 0} (failures : D → ℕ) (old new : Way D) : Type 0
   pub enough : new.is_short ≡ false
   pub sound : failures_at failures new.nodes.master ≡ failures_at failures old.nodes.master
 
--- a record that isn't a checkpoint
-abbrev pub is_behind : PlainEntry → Bool
-is_behind entry = not (is_whole_entry entry)
-
--- the log counts each record of a turn, and none is a checkpoint
-pub record IsCounted (s : State) (t : Turn) : Type 0 where
-  pub count : t.after.log.records ≡ s.log.records + length t.records
-  pub behind : list_all is_behind t.records ≡ true
-
--- so it is of each message, and of all steps of a tick
-pub record LogsCount : Type 0 where
-  pub messages : (config : Config) (s : State) (message : Message) (moment : Moment) → IsCounted s (handle config s message moment)
-  pub ticks : (s : State) (moment : Moment) → IsCounted s (pressed_all s moment)
-
 -- What a restart of a master goes by: its log counts the records behind its last checkpoint, its journal is of its form, and of the generation that
 -- its disks tell.
 pub record IsAsWritten {D : Type 0} (seen : D → List ℕ) (m : MasterOf D) : Type 0 where
@@ -111,13 +97,6 @@ IsClientOf config client = (client.last.client ≡ record { 0 = 1 }) × (client.
 -- a line restarts the master
 abbrev pub RestartsMaster : List ℕ → Type 0
 RestartsMaster whole = line_request (content whole) ≡ Some (lines.Restart restarted.Master)
-
--- of lines that are answered so one after the other, no disk of the master fails at one
-abbrev pub AreSound : {D : Type 0} (seen : D → List ℕ) (failures : D → ℕ) (old : Desk D) (lines texts : List (List ℕ)) (new : Desk D) → Runs (AnswersText seen failures) old lines texts new → Type 0
-AreSound seen failures old [] texts new runs = Unit {0}
-AreSound seen failures old (line ∷ lines) [] new runs = Unit {0}
-AreSound seen failures old (line ∷ lines) (text ∷ texts) new (mid, answers, rest) =
-    (failures_at failures (way_of mid.wire).nodes.master ≡ failures_at failures (way_of old.wire).nodes.master) × AreSound seen failures mid lines texts new rest
 
 -- ---- what a script makes happen
 
@@ -189,12 +168,9 @@ module _ {D : Type 0} (seen : D → List ℕ) (failures : D → ℕ) (config : C
     pub plain : IsPlain (way_of desk.wire) w.1
     pub met : IsMetWay (way_of desk.wire)
 
-  -- A whole script over disks that say nothing: memory was never wanting, no disk failed at a line, and no line restarts the master, or each
-  -- master that is met is as it is written.
+  -- A whole script over disks that said nothing: memory was never wanting, and in the end no disk has failed more often than at the start.
   pub record RunsWell (input : List ℕ) (old new : Option (List ℕ)) (s : Serves seen failures config disks input old new) : Type 0 where
     pub empty : (seen disks.0 ≡ []) × (seen disks.1 ≡ [])
-    pub steady : AllSteady
     pub enough : (way_of s.ended.wire).is_short ≡ false
     pub answered : AllByRecursion (λ text. text ≢ memory_text) s.writes.texts
-    pub sound : AreSound seen failures s.begun (lines_of input) s.writes.texts s.ended s.writes.runs
-    pub restarts : AllByRecursion (λ line. ¬ RestartsMaster line) (lines_of input) ⊎ AllWritten
+    pub sound : failures_at failures s.ended.wire.world.master ≡ failures disks.0 + failures disks.1

@@ -7,19 +7,15 @@ ghost use Rattle.gs_desk.specs.Ways.{way_of};
 ghost use Rattle.gs_desk.specs.declared.desk.Desk.{Desk};
 ghost use Rattle.gs_script.specs.Run.{AnswersLine, memory_text};
 ghost use Rattle.gs_shell.specs.Serving.{Serves};
-ghost use Rattle.gs_theorems.specs.Meeting.{AllSteady, AllWritten, IsCalm, LogsCount, Reaches, RestartsMaster, RunsWell};
+ghost use Rattle.gs_theorems.specs.Meeting.{IsCalm, Reaches, RunsWell};
 ghost use Rattle.gs_theorems.specs.Plain.{PlainDesk, answers_line, answers_of, runs};
 
-/// Where memory isn't wanting and no disk of the master fails, what a line is answered, and what is left, is what a function gives that knows no
-/// disks: of the line, the client, and what stood without the disks. So the texts that a script over disks that say nothing writes are a function of
-/// the configuration and the input, and two runs of one input write the same, over whatever disks.
-///
-/// It has premises. Each master that a script meets is steady, and what is sent to it is named and within its types (`AllSteady`). Where a line
-/// restarts the master, its log and its journal are as it has written them (`AllWritten`), which is so over disks that said nothing, as a log
-/// counts the records of each turn (`LogsCount`).
+/// Over disks that said nothing, and where memory isn't wanting and no disk of the master fails, what a line is answered, and what is left, is what a
+/// function gives that knows no disks: of the line, the client, and what stood without the disks. So the texts that a script writes are a function of
+/// the configuration and the input, where memory was never wanting and the disks have failed no more often in the end than at the start. Two such runs
+/// of one input write the same, over whatever disks.
 pub fn a_script_answers_its_input<D>()
-    ensures line { (seen : D → List ℕ) (failures : D → ℕ) (config : Config) (disks : D × D) (old new : Desk D) (whole text : List ℕ) (w : PlainDesk) → AllSteady seen failures config disks → AnswersLine (AnswersText seen failures) old whole text new → text ≢ memory_text → IsCalm failures (way_of old.wire) (way_of new.wire) → (RestartsMaster whole → AllWritten seen failures config disks) → Reaches seen failures config disks old w → (text ≡ (answers_line whole w).0) × Reaches seen failures config disks new (answers_line whole w).1 }
+    ensures line { (seen : D → List ℕ) (failures : D → ℕ) (config : Config) (disks : D × D) (old new : Desk D) (whole text : List ℕ) (w : PlainDesk) → seen disks.0 ≡ [] → seen disks.1 ≡ [] → AnswersLine (AnswersText seen failures) old whole text new → text ≢ memory_text → IsCalm failures (way_of old.wire) (way_of new.wire) → Reaches seen failures config disks old w → (text ≡ (answers_line whole w).0) × Reaches seen failures config disks new (answers_line whole w).1 }
     ensures script { (seen : D → List ℕ) (failures : D → ℕ) (config : Config) (disks : D × D) (input : List ℕ) (old new : Option (List ℕ)) (s : Serves seen failures config disks input old new) → RunsWell seen failures config disks input old new s → (s.writes.texts ≡ answers_of config input) × Reaches seen failures config disks s.ended (runs config input).1 }
     ensures twice { (seen : D → List ℕ) (failures : D → ℕ) (config : Config) (disks others : D × D) (input : List ℕ) (old new before after : Option (List ℕ)) (s : Serves seen failures config disks input old new) (t : Serves seen failures config others input before after) → RunsWell seen failures config disks input old new s → RunsWell seen failures config others input before after t → s.writes.texts ≡ t.writes.texts }
-    ensures written { (seen : D → List ℕ) (failures : D → ℕ) (config : Config) (disks : D × D) → LogsCount → AllSteady seen failures config disks → seen disks.0 ≡ [] → seen disks.1 ≡ [] → AllWritten seen failures config disks }
 {}

@@ -1,18 +1,16 @@
 use Rattle.std.proofs.Common.{◌∙◌, sym}
-use Rattle.gs_theorems.proofs.PlainRuns.{line_runs, script_runs}
-use Rattle.gs_theorems.proofs.PlainWritten.{all_written}
+use Rattle.gs_theorems.proofs.PlainAnswers.{line_is_answered, script_is_answered}
 use Rattle.gs_theorems.proofs.scripts.a_script_answers_its_input.Goals as goal
 
 pub returns-clause-line : goal.returns-clause-line
-returns-clause-line g c seen failures config disks old new whole text w steady answers enough calm restarts at =
-    line_runs seen failures config disks old new whole text w steady answers enough calm restarts at
+returns-clause-line g c seen failures config disks old new whole text w first second answers enough calm at =
+    line_is_answered seen failures config disks first second old new whole text w answers enough calm at
 
 pub returns-clause-script : goal.returns-clause-script
-returns-clause-script g c seen failures config disks input old new s well = script_runs seen failures config disks input old new s well
+returns-clause-script g c seen failures config disks input old new s well =
+    script_is_answered seen failures config disks well.empty.0 well.empty.1 input old new s well
 
 pub returns-clause-twice : goal.returns-clause-twice
-returns-clause-twice g c seen failures config disks others input old new before after s t first second =
-    (script_runs seen failures config disks input old new s first).0 ∙ sym (script_runs seen failures config others input before after t second).0
-
-pub returns-clause-written : goal.returns-clause-written
-returns-clause-written g c seen failures config disks counts steady first second = all_written seen failures counts config disks steady first second
+returns-clause-twice g c seen failures config disks others input old new before after s t one other =
+    (script_is_answered seen failures config disks one.empty.0 one.empty.1 input old new s one).0
+    ∙ sym (script_is_answered seen failures config others other.empty.0 other.empty.1 input before after t other).0
