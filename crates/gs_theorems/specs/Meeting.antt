@@ -149,6 +149,7 @@ module _ {D : Type 0} (seen : D → List ℕ) (failures : D → ℕ) (config : C
   abbrev pub AllSteady : Type 0
   AllSteady = (now : History D) (m : MasterOf D) → IsMet now → now.nodes.master ≡ Standing m → IsMetSteady now m
 
+  -- every master that is met is as it is written
   abbrev pub AllWritten : Type 0
   AllWritten = (now : History D) (m : MasterOf D) → IsMet now → now.nodes.master ≡ Standing m → IsAsWritten seen m
 
