@@ -1,10 +1,9 @@
 -- What a script over disks that said nothing answers is a function of its input.
-use Rattle.std.proofs.Common.{◌≡◌, ◌≢◌, ◌∙◌, ◌⊎◌, ◌≤◌, ℕ, Bool, true, false, List, [], ◌∷◌, Option, ap, arith, inl, inr, length, subst, sym}
+use Rattle.std.proofs.Common.{◌≡◌, ◌≢◌, ◌∙◌, ◌≤◌, ℕ, Bool, true, false, List, [], ◌∷◌, Option, ap, arith, inl, inr, length, subst, sym}
 use Rattle.std.specs.Prelude.{nat_le}
-use Rattle.std.specs.List.{AllByRecursion}
 use Rattle.gs_base.specs.declared.config.Config.{Config}
 use Rattle.gs_desk.specs.Answering.{AnswersText}
-use Rattle.gs_desk.specs.Ways.{Way, way_of}
+use Rattle.gs_desk.specs.Ways.{way_of}
 use Rattle.gs_desk.specs.declared.desk.Desk.{Desk}
 use Rattle.gs_journal.specs.Records.{fresh, standing}
 use Rattle.gs_line.specs.Line.{content, longest_line}

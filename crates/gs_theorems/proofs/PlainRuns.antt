@@ -1,5 +1,5 @@
 -- What a script answers is a function of its input.
-use Rattle.std.proofs.Common.{◌≡◌, ◌≢◌, ◌∙◌, ◌⊎◌, ◌++◌, ℕ, zero, suc, false, List, [], ◌∷◌, Option, refl, sym, ap, subst, inl, inr, length, replicate, arith}
+use Rattle.std.proofs.Common.{◌≡◌, ◌≢◌, ◌∙◌, ◌++◌, ℕ, zero, suc, false, List, [], ◌∷◌, Option, refl, sym, ap, subst, inr, length, replicate, arith}
 use Rattle.std.specs.List.{AllByRecursion}
 use Rattle.gs_base.specs.declared.config.Config.{Config}
 use Rattle.gs_desk.specs.Answering.{AnswersText}
@@ -16,7 +16,7 @@ use Rattle.gs_world.specs.Nodes.{new_nodes, silent_servers}
 use Rattle.gs_theorems.specs.Meeting.{AllSteady, AllWritten, IsAskedByLine, IsCalm, IsClientOf, IsMetWay, Reaches, RestartsMaster}
 use Rattle.gs_theorems.specs.Plain.{PlainDesk, answers_line, answers_of, begins, runs}
 use Rattle.gs_theorems.specs.Reached.{Covers, history}
-use Rattle.gs_theorems.proofs.PlainEnduring.{EnduresRestarts, Lands}
+use Rattle.gs_theorems.proofs.PlainEnduring.{Lands}
 use Rattle.gs_theorems.proofs.PlainMeeting.{met_endures, met_restarts}
 use Rattle.gs_theorems.proofs.PlainScripts.{AreSound, all_lines, line_answered, lines_mine, whole_mine}
 use Rattle.gs_theorems.proofs.PlainStarts.{IsBegunSo, starts_plain}

@@ -1,19 +1,14 @@
 -- Each store that a script over disks that say nothing meets is steady: its steps ask within the types of the store, and no disk fails at one.
-use Rattle.std.proofs.Common.{◌≡◌, ◌≤◌, ◌<◌, ◌⊎◌, inl, inr, ℕ, List, [], ◌∷◌, Option, Some, arith, refl, subst, sym}
+use Rattle.std.proofs.Common.{◌≡◌, inl, inr, ℕ, List, [], ◌∷◌, arith, refl, subst, sym}
 use Rattle.std.specs.List.{AllByRecursion}
 use Rattle.gs_base.specs.declared.config.Config.{Config}
 use Rattle.gs_dialogue.specs.Dialogues.{Ask, Dialogue, Grow, Say}
 use Rattle.gs_journal.specs.Records.{fresh, standing}
 use Rattle.gs_master.specs.Masters.{MasterOf}
-use Rattle.gs_msg.specs.declared.event.DiskId.{DiskId}
 use Rattle.gs_msg.specs.declared.event.Happening.{Happening}
 use Rattle.gs_msg.specs.declared.event.Happening.TheVariants as happenings
-use Rattle.gs_msg.specs.declared.message.Message.{Message}
-use Rattle.gs_msg.specs.declared.node.NodeId.TheVariants as nodes
 use Rattle.gs_run.specs.Histories.{History}
 use Rattle.gs_run.specs.Runs.{RunsTo, Step, Comes, Takes}
-use Rattle.gs_run.specs.Sent.{IsSent}
-use Rattle.gs_world.specs.declared.place.MasterPlace.{MasterPlace}
 use Rattle.gs_world.specs.declared.place.MasterPlace.TheVariants.{Standing}
 use Rattle.gs_theorems.specs.Asking.{Asks, MayBeAsked}
 use Rattle.gs_theorems.specs.Meeting.{AllSteady, IsAskedSo, IsMet, IsMetSteady, IsOfScript, Occurs, RunsSo}

@@ -1,16 +1,14 @@
 -- What a script meets: a store without its disks as it is seen of a way, the ways that are met, and what is taken of them: that their masters are
 -- steady, and what they hear is within its types.
-use Rattle.std.specs.Prelude.{◌≡◌, ◌≢◌, ◌⊎◌, ◌≤◌, ◌+◌, ℕ, Bool, true, false, not, length, List, [], ◌∷◌, map, Option, Some}
-use Rattle.std.specs.List.{AllByRecursion, list_all}
+use Rattle.std.specs.Prelude.{◌≡◌, ◌≢◌, ◌⊎◌, ◌≤◌, ◌+◌, ℕ, true, false, List, [], ◌∷◌, map, Option, Some}
+use Rattle.std.specs.List.{AllByRecursion}
 use Rattle.gs_base.specs.Told.{IsNumber}
 use Rattle.gs_base.specs.declared.config.Config.{Config}
-use Rattle.gs_base.specs.declared.numbers.Moment.{Moment}
 use Rattle.gs_calls.specs.Asked.{asked_by}
 use Rattle.gs_calls.specs.declared.answer.Answer.{Answer}
 use Rattle.gs_client.specs.Sends.{last_number}
 use Rattle.gs_client.specs.Trees.{Call}
 use Rattle.gs_client.specs.declared.client.Client.{Client}
-use Rattle.gs_desk.specs.Answering.{AnswersText}
 use Rattle.gs_desk.specs.Ways.{Way, way_of}
 use Rattle.gs_desk.specs.declared.desk.Desk.{Desk}
 use Rattle.gs_dialogue.specs.Dialogues.{Ask, Dialogue, Grow, Say}
@@ -24,7 +22,6 @@ use Rattle.gs_lines.specs.Grammar.{Request, line_request}
 use Rattle.gs_lines.specs.Grammar as lines
 use Rattle.gs_lines.specs.declared.command.Restarted.TheVariants as restarted
 use Rattle.gs_master.specs.Masters.{MasterOf}
-use Rattle.gs_master.specs.Ticking.{pressed_all}
 use Rattle.gs_msg.specs.declared.event.Happening.{Happening}
 use Rattle.gs_msg.specs.declared.event.Happening.TheVariants as happenings
 use Rattle.gs_msg.specs.declared.event.Request.{Request as Asked}
@@ -37,11 +34,10 @@ use Rattle.gs_run.specs.Histories.{Begins, History}
 use Rattle.gs_run.specs.Lasting.{StandsFirm, failures_at}
 use Rattle.gs_run.specs.Runs.{Goes, Step, Comes, Takes}
 use Rattle.gs_run.specs.Sent.{IsSent, Sent}
-use Rattle.gs_script.specs.Run.{Runs, lines_of, memory_text}
+use Rattle.gs_script.specs.Run.{memory_text}
 use Rattle.gs_shell.specs.Serving.{Serves}
-use Rattle.gs_state.specs.Applied.{is_whole_entry, records_behind}
-use Rattle.gs_state.specs.Handling.{handle}
-use Rattle.gs_state.specs.State.{State, Turn}
+use Rattle.gs_state.specs.Applied.{records_behind}
+use Rattle.gs_state.specs.State.{State}
 use Rattle.gs_world.specs.Nodes.{Nodes}
 use Rattle.gs_world.specs.declared.place.MasterPlace.TheVariants.{Standing}
 use Rattle.gs_theorems.specs.Plain.{Plain, PlainDesk}
