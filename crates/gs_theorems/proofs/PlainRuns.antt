@@ -70,6 +70,11 @@ module _ {D : Type 0} (seen : D → List ℕ) (failures : D → ℕ) (config : C
         moment = omega arith;
       })
 
+  pub begun_reaches : (desk : Desk D) → seen disks.0 ≡ [] → seen disks.1 ≡ [] → Starts seen failures config disks desk → Reaches seen failures config disks desk (begins config)
+  begun_reaches desk first second s =
+      let b = starts_plain seen failures config disks desk first second s in
+      reached desk (begins config) (ap (λ c. c.last.client) s.client, ap (λ c. c.chunk) s.client) (record { client = s.client; plain = b.plain; good = begun_met desk s b })
+
   pub script_runs : (input : List ℕ) (old new : Option (List ℕ)) (s : Serves seen failures config disks input old new) → seen disks.0 ≡ [] → seen disks.1 ≡ [] → AllSteady seen failures config disks
       → AllWritten seen failures config disks → (way_of s.ended.wire).is_short ≡ false → AllByRecursion (λ text. text ≢ memory_text) s.writes.texts
       → AreSound seen failures s.begun (lines_of input) s.writes.texts s.ended s.writes.runs → (s.writes.texts ≡ answers_of config input) × Reaches seen failures config disks s.ended (runs config input).1

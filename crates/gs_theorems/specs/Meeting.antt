@@ -74,7 +74,7 @@ pub record IsPlain {D : Type 0} (w : Way D) (p : Plain) : Type 0 where
   pub stands : Stands w master
   pub plain : p ≡ plain_of master.state w
 
--- memory was never wanting, and no disk of the master has failed on the way
+-- the desk has noted no want of memory, and no disk of the master has failed on the way
 pub record IsCalm {D : Type 0} (failures : D → ℕ) (old new : Way D) : Type 0 where
   pub enough : new.is_short ≡ false
   pub sound : failures_at failures new.nodes.master ≡ failures_at failures old.nodes.master
@@ -165,7 +165,8 @@ module _ {D : Type 0} (seen : D → List ℕ) (failures : D → ℕ) (config : C
     pub plain : IsPlain (way_of desk.wire) w.1
     pub met : IsMetWay (way_of desk.wire)
 
-  -- A whole script over disks that said nothing: memory was never wanting, and in the end no disk has failed more often than at the start.
+  -- A whole script over empty disks: the desk has noted no want of memory, no line is answered by one, and in the end no disk has failed more often
+  -- than at the start.
   pub record RunsWell (input : List ℕ) (old new : Option (List ℕ)) (s : Serves seen failures config disks input old new) : Type 0 where
     pub empty : (seen disks.0 ≡ []) × (seen disks.1 ≡ [])
     pub enough : (way_of s.ended.wire).is_short ≡ false

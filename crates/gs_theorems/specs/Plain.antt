@@ -1,5 +1,6 @@
--- A store without disks, where memory is never wanting: what it answers is a function of what it is asked. Each function here says what the
--- relation of the same name leaves open where memory is wanting or a disk fails.
+-- A store without disks, where memory is never wanting: what it answers is a function of what it is asked. Each function gives what the relation for
+-- the same thing allows where memory isn't wanting and no disk fails: those of gs_desk (Ways, Lines, Starting, Answering) and of gs_script (Run). Of the
+-- journal it knows only its room, and how many records it counts.
 use Rattle.std.specs.Prelude.{◌≡◌, ◌+◌, ◌-◌, ◌==◌, ℕ, zero, suc, Bool, true, false, min, nat_le, nat_lt, List, [], ◌∷◌, ◌++◌, length, if◌then◌else◌, Option, Some, None, is_some, unwrap_or, Result, Ok, Err, slice_get, slice_set, codes, refl}
 use Rattle.std.specs.Fmt.{digits}
 use Rattle.gs_base.specs.declared.config.Config.{Config}

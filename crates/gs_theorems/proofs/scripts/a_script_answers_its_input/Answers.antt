@@ -1,6 +1,10 @@
 use Rattle.std.proofs.Common.{◌∙◌, sym}
 use Rattle.gs_theorems.proofs.PlainAnswers.{line_is_answered, script_is_answered}
+use Rattle.gs_theorems.proofs.PlainRuns.{begun_reaches}
 use Rattle.gs_theorems.proofs.scripts.a_script_answers_its_input.Goals as goal
+
+pub returns-clause-begins : goal.returns-clause-begins
+returns-clause-begins g c seen failures config disks desk first second starts = begun_reaches seen failures config disks desk first second starts
 
 pub returns-clause-line : goal.returns-clause-line
 returns-clause-line g c seen failures config disks old new whole text w first second answers enough calm at =
