@@ -1,13 +1,12 @@
 -- Where disks that aren't opened have failed no less often than before, no step lets the failures of the master's disks fall.
-use Rattle.std.proofs.Common.{◌≡◌, ◌∙◌, ◌+◌, ◌-◌, ◌<◌, ◌≤◌, ℕ, Bool, true, false, List, [], ◌∷◌, Option, Some, None, MatchOption, Result, Ok, Err, ap, subst, sym, inl, inr, arith, slice_get, slice_set}
+use Rattle.std.proofs.Common.{◌≡◌, ◌∙◌, ◌+◌, ◌<◌, ◌≤◌, ℕ, Bool, true, false, List, [], ◌∷◌, Option, Some, None, MatchOption, Result, Ok, Err, ap, subst, sym, inl, inr, arith}
 use Rattle.gs_base.specs.declared.config.Config.{Config}
-use Rattle.gs_base.specs.declared.numbers.ClientId.{ClientId}
 use Rattle.gs_base.specs.declared.numbers.Moment.{Moment}
 use Rattle.gs_base.specs.declared.numbers.ReqId.{ReqId}
 use Rattle.gs_base.specs.declared.refusal.Refusal.{Refusal}
 use Rattle.gs_base.specs.declared.refusal.Refusal.TheVariants as refusals
 use Rattle.gs_block.specs.Follows.{Does}
-use Rattle.gs_client.specs.Nodes.{Node, given_up}
+use Rattle.gs_client.specs.Nodes.{given_up}
 use Rattle.gs_desk.specs.Ways.{way_of}
 use Rattle.gs_desk.specs.declared.desk.Desk.{Desk}
 use Rattle.gs_journal.specs.Journal.{failures_of_both}
@@ -29,14 +28,15 @@ use Rattle.gs_server.specs.Servers as servers
 use Rattle.gs_state.specs.Handling.{handle, tick}
 use Rattle.gs_state.specs.Outcomes.{caller_of}
 use Rattle.gs_state.specs.State.{Turn}
-use Rattle.gs_world.specs.Happenings.{AtClient, AtServer, ClientAsks, ClientHears, Delivers, Hears, MasterHears, MasterTicks, Opens, Reopens, ServerDoes, client_in, limit}
-use Rattle.gs_world.specs.Nodes.{Nodes, with_clients, with_master, with_servers}
+use Rattle.gs_world.specs.Happenings.{ClientAsks, ClientHears, Delivers, Hears, MasterHears, MasterTicks, Opens, Reopens, ServerDoes, limit}
+use Rattle.gs_world.specs.Nodes.{Nodes, with_master}
 use Rattle.gs_world.specs.declared.place.MasterPlace.{MasterPlace}
 use Rattle.gs_world.specs.declared.place.MasterPlace.TheVariants.{Standing, Closed, Away}
 use Rattle.gs_run.specs.Histories.{AtNode, Begins, ComesTo, History, Outcome, Restarts, Ticks}
 use Rattle.gs_run.specs.Lasting.{failures_at}
 use Rattle.gs_run.specs.Runs.{Goes, RunsTo, Step, Comes, Takes}
 use Rattle.gs_run.specs.Sent.{message_of}
+use Rattle.gs_theorems.proofs.Apart.{at_client, at_server}
 use Rattle.gs_theorems.specs.Reached.{history, unarmed}
 use Rattle.gs_theorems.specs.Saying.{RunsQuietly}
 use Rattle.gs_theorems.specs.Steady.{LastsSteady}
@@ -108,24 +108,6 @@ module _ {D : Type 0} (seen : D → List ℕ) (failures : D → ℕ) where
   reopens config (Standing m) result new opening = opens config (m.journal.first, m.journal.second) result new opening
   reopens config (Closed first second) result new opening = opens config (first, second) result new opening
   reopens config Away result new (same, refused) = stays_so Away new same
-
-  -- ---- the other nodes
-
-  server_leaves : {A : Type 0} (found : Option Server) (id : ℕ) (does : Server → Result A Refusal → Server → Type 0) (old : Nodes D) (result : Result A Refusal) (new : Nodes D)
-      → MatchOption found ((new ≡ old) × (result ≡ Err refusals.Range)) (λ s. (after : Server) × (new ≡ with_servers (slice_set old.servers id after) old) × does s result after) → new.master ≡ old.master
-  server_leaves None id does old result new (is, refused) = ap (λ (n : Nodes D). n.master) is
-  server_leaves (Some s) id does old result new (after, is, done) = ap (λ (n : Nodes D). n.master) is
-
-  at_server : {A : Type 0} (id : ℕ) (does : Server → Result A Refusal → Server → Type 0) (old : Nodes D) (result : Result A Refusal) (new : Nodes D) → AtServer id does old result new → new.master ≡ old.master
-  at_server id does old result new at = server_leaves (slice_get old.servers id) id does old result new at
-
-  client_leaves : {A : Type 0} (found : Option Node) (id : ClientId) (none : A) (does : Node → A → Node → Type 0) (old : Nodes D) (result : A) (new : Nodes D)
-      → MatchOption found ((new ≡ old) × (result ≡ none)) (λ n. (after : Node) × (new ≡ with_clients (slice_set old.clients (id.0 - 1) after) old) × does n result after) → new.master ≡ old.master
-  client_leaves None id none does old result new (is, refused) = ap (λ (n : Nodes D). n.master) is
-  client_leaves (Some n) id none does old result new (after, is, done) = ap (λ (n : Nodes D). n.master) is
-
-  at_client : {A : Type 0} (id : ClientId) (none : A) (does : Node → A → Node → Type 0) (old : Nodes D) (result : A) (new : Nodes D) → AtClient id none does old result new → new.master ≡ old.master
-  at_client id none does old result new at = client_leaves (client_in old.clients id) id none does old result new at
 
   -- ---- an event
 

@@ -1,3 +1,4 @@
+pub mod Apart
 pub mod Asking
 pub mod Ending
 pub mod Enduring
@@ -10,7 +11,6 @@ pub mod PlainEnduring
 pub mod PlainEvents
 pub mod PlainLines
 pub mod PlainMeeting
-pub mod PlainMoments
 pub mod PlainReopens
 pub mod PlainRuns
 pub mod PlainScripts

@@ -58,17 +58,17 @@ held_sent [] place message sent all is = absurd cc
 held_sent (m ∷ messages) zero message sent (one, rest) is = first_sent m message sent is one
 held_sent (m ∷ messages) (suc place) message sent (one, rest) is = held_sent messages place message sent rest is
 
-held_numbered : (nought : Bool) (messages : List Message) (place : ℕ) (message : Message) (sent : Sent) → AllSent sent messages
+pub held_numbered : (nought : Bool) (messages : List Message) (place : ℕ) (message : Message) (sent : Sent) → AllSent sent messages
     → (if nought then None else slice_get messages place) ≡ Some message → IsSent message sent
 held_numbered true messages place message sent all is = absurd cc
 held_numbered false messages place message sent all is = held_sent messages place message sent all is
 
-quiet_posts : (sent : Sent) (by : NodeId) (done : Result (Unit {0}) Refusal) → CanPost sent by (silent done)
+pub quiet_posts : (sent : Sent) (by : NodeId) (done : Result (Unit {0}) Refusal) → CanPost sent by (silent done)
 quiet_posts sent by (Ok done) = inr refl
 quiet_posts sent by (Err refusal) = tt
 
 -- a new store has a list for each of its nodes
-many : {A : Type 0} (n : ℕ) (x : A) → length (replicate n x) ≡ n
+pub many : {A : Type 0} (n : ℕ) (x : A) → length (replicate n x) ≡ n
 many zero x = refl
 many (suc n) x = ap suc (many n x)
 
@@ -76,7 +76,7 @@ one_longer : {A : Type 0} (xs : List A) (x : A) → length (xs ++ x ∷ []) ≡ 
 one_longer [] x = refl
 one_longer (y ∷ xs) x = ap suc (one_longer xs x)
 
-silent_many : (config : Config) (n : ℕ) → length (silent_servers config n) ≡ n
+pub silent_many : (config : Config) (n : ℕ) → length (silent_servers config n) ≡ n
 silent_many config zero = refl
 silent_many config (suc n) = one_longer (silent_servers config n) (servers.new n config.block config.chunk) ∙ ap suc (silent_many config n)
 

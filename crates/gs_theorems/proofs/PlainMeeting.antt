@@ -1,5 +1,5 @@
 -- That the ways which a script meets are met by steps of a store, where memory isn't wanting and no disk fails.
-use Rattle.std.proofs.Common.{◌≡◌, ◌∙◌, ◌-◌, ◌≤◌, ◌⊎◌, ◌==◌, ◌++◌, ℕ, zero, suc, Bool, true, false, List, [], ◌∷◌, if◌then◌else◌, Option, Some, None, MatchOption, Result, Ok, Err, Vec, refl, sym, ap, subst, inl, inr, length, slice_get}
+use Rattle.std.proofs.Common.{◌≡◌, ◌∙◌, ◌-◌, ◌≤◌, ◌⊎◌, ◌==◌, ◌++◌, ℕ, List, [], ◌∷◌, Option, Some, None, MatchOption, Result, Ok, Err, Vec, refl, sym, ap, subst, inl, inr, length, slice_get}
 use Rattle.std.specs.declared.alloc.Global.{Global}
 use Rattle.gs_base.specs.Told.{IsNumber}
 use Rattle.gs_base.specs.declared.config.Config.{Config}
@@ -17,7 +17,7 @@ use Rattle.gs_client.specs.Trees.{Call}
 use Rattle.gs_client.specs.declared.link.Reply.{Reply}
 use Rattle.gs_desk.specs.Ways.{Ends, Heard, IsDelivered, MasterTicked, Sends, ServerTicked, Way, shortened_by, with_nodes}
 use Rattle.gs_dialogue.specs.Dialogues.{Ask, Dialogue, Grow, Say}
-use Rattle.gs_lines.specs.Grammar.{Request, line_request}
+use Rattle.gs_lines.specs.Grammar.{At, Request, line_request}
 use Rattle.gs_master.specs.Masters.{MasterOf}
 use Rattle.gs_master.specs.declared.turn.Turn.{Turn as Told}
 use Rattle.gs_msg.specs.declared.event.Event.{Event}
@@ -42,28 +42,12 @@ use Rattle.gs_theorems.specs.Reached.{AllSent, Covers, history, unarmed}
 use Rattle.gs_theorems.proofs.Ending.{Alike, CanPost, IsOver, alike_covers, alike_to, as_it_is, asking_client, delivered_posts, ended, known_server, master_posts, server_posts, shortened_alike}
 use Rattle.gs_theorems.proofs.PlainEnduring.{AllAsked, Endures, EnduresRestarts, GoesOut, IsTaken}
 use Rattle.gs_theorems.proofs.PlainEvents.{client_leaves, server_leaves}
-use Rattle.gs_theorems.proofs.PlainMoments.{moment_is_number}
+use Rattle.gs_theorems.proofs.Lines.{held_numbered, quiet_posts}
+use Rattle.gs_theorems.proofs.Words.{line_spoken}
 use Rattle.gs_theorems.proofs.PlainSends.{all_stays, end_stays, same_stays, send_stays, shortened_stays}
 use Rattle.gs_theorems.proofs.Sending.{Posting, sends, sends_none}
 
 -- ---- messages that were sent
-
-first_sent : (m message : Message) (sent : Sent) → Some m ≡ Some message → IsSent m sent → IsSent message sent
-first_sent m message sent is one = let same : m ≡ message = cc in subst (λ (x : Message). IsSent x sent) same one
-
-held_sent : (messages : List Message) (place : ℕ) (message : Message) (sent : Sent) → AllSent sent messages → slice_get messages place ≡ Some message → IsSent message sent
-held_sent [] place message sent all is = absurd cc
-held_sent (m ∷ messages) zero message sent (one, rest) is = first_sent m message sent is one
-held_sent (m ∷ messages) (suc place) message sent (one, rest) is = held_sent messages place message sent rest is
-
-held_numbered : (nought : Bool) (messages : List Message) (place : ℕ) (message : Message) (sent : Sent) → AllSent sent messages
-    → (if nought then None else slice_get messages place) ≡ Some message → IsSent message sent
-held_numbered true messages place message sent all is = absurd cc
-held_numbered false messages place message sent all is = held_sent messages place message sent all is
-
-quiet_posts : (sent : Sent) (by : NodeId) (done : Result (Unit {0}) Refusal) → CanPost sent by (silent done)
-quiet_posts sent by (Ok done) = inr refl
-quiet_posts sent by (Err refusal) = tt
 
 taken_stands : {D : Type 0} (message : Message) (old before : Way D) (m : MasterOf D) → IsTaken message old before → Stands old m → Stands before m
 taken_stands message old before m (inl (rest, is, same)) stands = subst (λ w. Stands w m) (sym same) (record { place = stands.place; config = stands.config })
@@ -297,7 +281,7 @@ module _ {D : Type 0} (seen : D → List ℕ) (failures : D → ℕ) where
       holds = λ kind old w. untold old w (record old { kind = kind }) refl refl refl refl w.moment;
       calls = asks_so;
       comes_at = λ line moment old w reads.
-          untold old w (record old { moment = record { 0 = moment } }) refl refl refl refl (moment_is_number line moment reads);
+          untold old w (record old { moment = record { 0 = moment } }) refl refl refl refl (line_spoken line (At moment) reads);
     }
 
     pub met_restarts : AllWritten seen failures config disks → EnduresRestarts seen failures Met

@@ -1,5 +1,5 @@
 -- What a script answers is a function of its input.
-use Rattle.std.proofs.Common.{◌≡◌, ◌≢◌, ◌∙◌, ◌++◌, ℕ, zero, suc, false, List, [], ◌∷◌, Option, refl, sym, ap, subst, inr, length, replicate, arith}
+use Rattle.std.proofs.Common.{◌≡◌, ◌≢◌, ◌∙◌, ℕ, false, List, [], Option, refl, sym, ap, subst, inr, arith}
 use Rattle.std.specs.List.{AllByRecursion}
 use Rattle.gs_base.specs.declared.config.Config.{Config}
 use Rattle.gs_desk.specs.Answering.{AnswersText}
@@ -11,28 +11,15 @@ use Rattle.gs_msg.specs.declared.node.NodeId.TheVariants as nodes
 use Rattle.gs_run.specs.Sent.{IsPosted, Sent, none_sent}
 use Rattle.gs_script.specs.Run.{AnswersLine, lines_of, memory_text}
 use Rattle.gs_shell.specs.Serving.{Serves}
-use Rattle.gs_server.specs.Servers as servers
-use Rattle.gs_world.specs.Nodes.{new_nodes, silent_servers}
+use Rattle.gs_world.specs.Nodes.{new_nodes}
 use Rattle.gs_theorems.specs.Meeting.{AllSteady, AllWritten, IsAskedByLine, IsCalm, IsClientOf, IsMetWay, Reaches, RestartsMaster}
 use Rattle.gs_theorems.specs.Plain.{PlainDesk, answers_line, answers_of, begins, runs}
 use Rattle.gs_theorems.specs.Reached.{Covers, history}
+use Rattle.gs_theorems.proofs.Lines.{many, silent_many}
 use Rattle.gs_theorems.proofs.PlainEnduring.{Lands}
 use Rattle.gs_theorems.proofs.PlainMeeting.{met_endures, met_restarts}
 use Rattle.gs_theorems.proofs.PlainScripts.{AreSound, all_lines, line_answered, lines_mine, whole_mine}
 use Rattle.gs_theorems.proofs.PlainStarts.{IsBegunSo, starts_plain}
-
--- a new store has a list for each of its nodes
-many : {A : Type 0} (n : ℕ) (x : A) → length (replicate n x) ≡ n
-many zero x = refl
-many (suc n) x = ap suc (many n x)
-
-one_longer : {A : Type 0} (xs : List A) (x : A) → length (xs ++ x ∷ []) ≡ suc (length xs)
-one_longer [] x = refl
-one_longer (y ∷ xs) x = ap suc (one_longer xs x)
-
-silent_many : (config : Config) (n : ℕ) → length (silent_servers config n) ≡ n
-silent_many config zero = refl
-silent_many config (suc n) = one_longer (silent_servers config n) (servers.new n config.block config.chunk) ∙ ap suc (silent_many config n)
 
 module _ {D : Type 0} (seen : D → List ℕ) (failures : D → ℕ) (config : Config) (disks : D × D) where
   abbrev Met : Way D → Type 0

@@ -1,16 +1,15 @@
 -- That the master stays steady as long as no disk fails and what it hears is within its types.
-use Rattle.std.proofs.Common.{◌≡◌, ◌∙◌, inl, inr, ◌+◌, ◌-◌, ◌<◌, ◌≤◌, ◌^◌, ◌&&◌, ℕ, Bool, true, false, not, List, [], ◌∷◌, Option, Some, None, MatchOption, Result, Ok, Err, refl, ap, subst, sym, arith, slice_get, slice_set}
+use Rattle.std.proofs.Common.{◌≡◌, ◌∙◌, inl, inr, ◌+◌, ◌<◌, ◌≤◌, ◌^◌, ◌&&◌, ℕ, Bool, true, false, not, List, [], ◌∷◌, Option, Some, None, MatchOption, Result, Ok, Err, refl, ap, subst, sym, arith}
 use Rattle.std.specs.Prelude.{is_none}
 use Rattle.std.proofs.lemmas.Bool.{false≢true}
 use Rattle.gs_base.specs.declared.config.Config.{Config}
-use Rattle.gs_base.specs.declared.numbers.ClientId.{ClientId}
 use Rattle.gs_base.specs.declared.numbers.Moment.{Moment}
 use Rattle.gs_base.specs.declared.numbers.ReqId.{ReqId}
 use Rattle.gs_base.specs.declared.refusal.Refusal.{Refusal}
 use Rattle.gs_base.specs.declared.refusal.Refusal.TheVariants as refusals
 use Rattle.gs_base.specs.Told.{IsNumber}
 use Rattle.gs_block.specs.Follows.{Does}
-use Rattle.gs_client.specs.Nodes.{Node, given_up}
+use Rattle.gs_client.specs.Nodes.{given_up}
 use Rattle.gs_journal.specs.Faults.{Faulty}
 use Rattle.gs_journal.specs.Journal.{failures_of_both, text_size}
 use Rattle.gs_journal.specs.Records.{Text, fresh as fresh_text, standing}
@@ -45,8 +44,8 @@ use Rattle.gs_state.specs.Durable.{start}
 use Rattle.gs_state.specs.Handling.{due, granted, handle, pressed, proposals, recover, restarted, tick}
 use Rattle.gs_state.specs.Outcomes.{caller_of}
 use Rattle.gs_state.specs.State.{Log, State, Turn, for_each, is_failed}
-use Rattle.gs_world.specs.Happenings.{AtClient, AtServer, ClientAsks, ClientHears, Delivers, Hears, MasterHears, MasterTicks, Opens, Reopens, ServerDoes, client_in, limit}
-use Rattle.gs_world.specs.Nodes.{Nodes, with_clients, with_master, with_servers}
+use Rattle.gs_world.specs.Happenings.{ClientAsks, ClientHears, Delivers, Hears, MasterHears, MasterTicks, Opens, Reopens, ServerDoes, limit}
+use Rattle.gs_world.specs.Nodes.{Nodes, with_master}
 use Rattle.gs_world.specs.declared.place.MasterPlace.{MasterPlace}
 use Rattle.gs_world.specs.declared.place.MasterPlace.TheVariants.{Standing, Closed, Away}
 use Rattle.gs_run.proofs.Lasting.{faulty_run_lasts, opens_told, unarmed_run_lasts}
@@ -54,6 +53,7 @@ use Rattle.gs_run.specs.Histories.{AtNode, Begins, ComesTo, History, Outcome, Re
 use Rattle.gs_run.specs.Lasting.{HearsNamed, Lasts, OpensAs, RunsSoundly, StandsFirm, StepNamed, TellsAMaster, failures_at}
 use Rattle.gs_run.specs.Runs.{Goes, Step, Comes, Takes}
 use Rattle.gs_run.specs.Sent.{message_of}
+use Rattle.gs_theorems.proofs.Apart.{at_client, at_server}
 use Rattle.gs_theorems.specs.Steady.{HearsWithin, IsHeardAt, LastsSteady, RunsSteadily, StandsSteady, StepWithin, TellsSteady}
 
 -- ---- numbers
@@ -260,24 +260,6 @@ module _ {D : Type 0} (seen : D → List ℕ) (failures : D → ℕ) where
     where
       opened_there : (place : MasterPlace D) (turn : Told) → Opens seen failures config pair (Ok turn) place → LastsSteady seen place
       opened_there place turn (after, is, opening, said) = subst (LastsSteady seen) (sym is) (opened config pair.0 pair.1 turn after (subst TellsSteady (sym none) start_tells) opening said)
-
-  -- ---- the other nodes
-
-  server_leaves : {A : Type 0} (found : Option Server) (id : ℕ) (does : Server → Result A Refusal → Server → Type 0) (old : Nodes D) (result : Result A Refusal) (new : Nodes D)
-      → MatchOption found ((new ≡ old) × (result ≡ Err refusals.Range)) (λ s. (after : Server) × (new ≡ with_servers (slice_set old.servers id after) old) × does s result after) → new.master ≡ old.master
-  server_leaves None id does old result new (is, refused) = ap (λ (n : Nodes D). n.master) is
-  server_leaves (Some s) id does old result new (after, is, done) = ap (λ (n : Nodes D). n.master) is
-
-  at_server : {A : Type 0} (id : ℕ) (does : Server → Result A Refusal → Server → Type 0) (old : Nodes D) (result : Result A Refusal) (new : Nodes D) → AtServer id does old result new → new.master ≡ old.master
-  at_server id does old result new at = server_leaves (slice_get old.servers id) id does old result new at
-
-  client_leaves : {A : Type 0} (found : Option Node) (id : ClientId) (none : A) (does : Node → A → Node → Type 0) (old : Nodes D) (result : A) (new : Nodes D)
-      → MatchOption found ((new ≡ old) × (result ≡ none)) (λ n. (after : Node) × (new ≡ with_clients (slice_set old.clients (id.0 - 1) after) old) × does n result after) → new.master ≡ old.master
-  client_leaves None id none does old result new (is, refused) = ap (λ (n : Nodes D). n.master) is
-  client_leaves (Some n) id none does old result new (after, is, done) = ap (λ (n : Nodes D). n.master) is
-
-  at_client : {A : Type 0} (id : ClientId) (none : A) (does : Node → A → Node → Type 0) (old : Nodes D) (result : A) (new : Nodes D) → AtClient id none does old result new → new.master ≡ old.master
-  at_client id none does old result new at = client_leaves (client_in old.clients id) id none does old result new at
 
   -- ---- an event
 
