@@ -3,8 +3,10 @@
 
 pub mod keeping;
 pub mod preparing;
+pub mod reading;
 pub mod restoring;
 pub mod rolling;
+pub mod room;
 pub mod sealing;
 pub mod telling;
 pub mod writing;

@@ -1,10 +1,13 @@
-// Which copies carry their sealed image.
+// Which copies carry their sealed image, and who holds one since.
 ghost use Rattle.std.specs.Prelude.{◌≡◌};
+ghost use Rattle.std.specs.List.{list_any};
+ghost use Rattle.gs_state.specs.Chunks.{is_holder, is_target};
 ghost use Rattle.gs_state.specs.Hearing.{is_with_sealed};
 
-use gs_base::ServerId;
+use gs_base::{Members, ServerId};
+use gs_lease::View;
 use gs_record::Phase;
-use gs_state::asking::Prepared;
+use gs_state::asking::{Asking, Prepared};
 
 /// Whether a copy carries its sealed image: an upgrade stands, and its source is a prepared member or a holder.
 pub fn is_with_sealed(phase: Phase, prepared: Option<Prepared>, source: ServerId) -> bool
@@ -17,4 +20,31 @@ pub fn is_with_sealed(phase: Phase, prepared: Option<Prepared>, source: ServerId
         return false;
     };
     view.members.contains(source) || holders.contains(source)
+}
+
+/// Whether the target of a copy is one of these.
+fn has_target(asking: &Asking, members: Members) -> bool
+    ensures { result ≡ list_any (is_target asking.now) members }
+{
+    let mut left = members;
+    while let Some(server) = left.pop_first() {
+        if asking.is_target(server) {
+            return true;
+        }
+    }
+    false
+}
+
+/// Whether the target of a copy is told as a holder where this view is settled: an upgrade stands in which the chunk is prepared, the
+/// copy carried its sealed image, and its target is a member.
+pub fn is_holder(
+    asking: &Asking,
+    phase: Phase,
+    prepared: Option<Prepared>,
+    carried: bool,
+    view: &View,
+) -> bool
+    ensures { result ≡ is_holder phase prepared carried asking.now view.now }
+{
+    carried && phase == Phase::Upgrade && prepared.is_some() && has_target(asking, view.members)
 }

@@ -205,7 +205,9 @@ fn term_of(purpose: Purpose, members: Members, moment: Moment) -> Option<Term>
     })
 }
 
-fn is_any_asked(asked: Members, members: Members) -> bool
+/// Whether one of these members was asked for the view. None settles but then, so the target of a copy, which isn't asked, settles none
+/// alone.
+pub fn is_any_asked(asked: Members, members: Members) -> bool
     ensures { result ≡ is_any_asked asked members }
 {
     let mut left = members;

@@ -10,7 +10,7 @@ mod view;
 
 pub use gs_table::Table;
 pub use held::{Grant, Held, Spent};
-pub use lease::{Lease, Leased, Moving, Quiet, Settled, restore};
+pub use lease::{Lease, Leased, Moving, Quiet, Settled, is_any_asked, restore};
 pub use quiet::AllQuiet;
 pub use told::Told;
 pub use view::{Proposed, Purpose, QuietView, Term, View};

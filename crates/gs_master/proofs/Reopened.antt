@@ -20,7 +20,8 @@ use Rattle.gs_state.specs.Handling.{answered_or, checkpoint_body, checkpoint_tes
 use Rattle.gs_master.specs.Journaled.{IsAsSeen, IsLogOf}
 use Rattle.gs_master.specs.Masters.{Holds, IsHeld, IsTold}
 use Rattle.gs_state.specs.Plans.{log_of}
-use Rattle.gs_master.specs.Recovering.{AreRecordsOf, IsLeft, IsRecovered, Tells, WhyNotRecovered, WhyNotTold, log_behind_last, log_in}
+use Rattle.gs_guard.specs.Reading.{AreRecordsOf}
+use Rattle.gs_master.specs.Recovering.{IsLeft, IsRecovered, Tells, WhyNotRecovered, WhyNotTold, log_behind_last, log_in}
 use Rattle.gs_master.specs.Starting.{WhyUnopened, left_in}
 use Rattle.gs_state.specs.State.{Log, Sound, State, Turn, and_then, first_of}
 use Rattle.gs_master.specs.Turns.{state_at}

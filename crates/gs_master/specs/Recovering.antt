@@ -6,7 +6,8 @@ use Rattle.gs_base.specs.declared.config.Config.{Config}
 use Rattle.gs_base.specs.declared.refusal.Refusal.{Refusal}
 use Rattle.gs_base.specs.declared.refusal.Refusal.TheVariants as refusals
 use Rattle.gs_journal.specs.Journal.{State as Journal, Stands, Stays, checkpointed, failures_of_both}
-use Rattle.gs_journal.specs.Records.{Entry as Record, Text, fresh}
+use Rattle.gs_guard.specs.Reading.{AreRecordsOf}
+use Rattle.gs_journal.specs.Records.{Text, fresh}
 use Rattle.gs_journal.specs.declared.version.Version.{Version}
 use Rattle.gs_journal.specs.declared.version.Version.TheVariants as versions
 use Rattle.gs_record.specs.Encoding.{encoded}
@@ -27,16 +28,6 @@ use Rattle.gs_master.specs.Turns.{IsUnderWay, state_at}
 use Rattle.gs_master.specs.declared.event.Event.{Event}
 
 -- ---- entries
-
--- the records are those of these entries, written in this version
-pub record AreRecordsOf (version : Version) (records : List Record) (entries : List PlainEntry) : Type 0 where
-  pub written : records ≡ map (encoded version) entries
-  pub are_entries : AllByRecursion (IsEntry version) entries
-
--- BadLine where they are those of no entries, memory aside
-abbrev pub Reads : Version → List Record → Result (Vec Entry) Refusal → Type 0
-Reads version records (Ok entries) = AreRecordsOf version records (map plain entries.items)
-Reads version records (Err e) = (e ≡ refusals.Memory) ⊎ ((e ≡ refusals.BadLine) × ((entries : List PlainEntry) → ¬ AreRecordsOf version records entries))
 
 -- what the records of a text come to
 pub record Tells (text : Text) (entries : List PlainEntry) (d : Durable) : Type 0 where

@@ -12,6 +12,7 @@ ghost use Rattle.gs_state.specs.Volatile.{all_changed};
 
 use crate::event::Event;
 use gs_base::Refusal;
+use gs_guard::room::has_room;
 use gs_msg::Message;
 use gs_plan::standing::Standing;
 use gs_record::Entry;
@@ -37,7 +38,7 @@ impl Event {
         requires { list_any is_whole_entry (map plain records.now) ≡ false }
         ensures { IfOk result (λ has_room. has_room ≡ fits (log_of self.now.log) (map plain records.now)) }
     {
-        self.log.fits(self.alloc, records)
+        has_room(self.log, self.alloc, records)
     }
 
     /// Enters records, one after the other.

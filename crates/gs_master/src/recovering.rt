@@ -6,35 +6,22 @@ ghost use Rattle.gs_state.specs.Handling.{told_again};
 ghost use Rattle.gs_master.specs.Journaled.{IsLogOf};
 ghost use Rattle.gs_state.specs.Plans.{log_of};
 ghost use Rattle.gs_state.specs.Recorded.{durable_of};
-ghost use Rattle.gs_master.specs.Recovering.{AreRecordsOf, Reads, Recovers, Rests, Updates, WritesAnew, log_behind_last};
+ghost use Rattle.gs_guard.specs.Reading.{AreRecordsOf};
+ghost use Rattle.gs_master.specs.Recovering.{Recovers, Rests, Updates, WritesAnew, log_behind_last};
 ghost use Rattle.gs_master.specs.StartingOver.{IsBegun};
 ghost use Rattle.gs_master.specs.Turns.{IsUnderWay};
 
 use crate::event::Event;
 use gs_base::{Config, EpochEnd, Refusal};
+use gs_guard::reading::read_entries;
 use gs_guard::telling::tell_all;
-use gs_journal::{Disk, Journal, Record, Version};
+use gs_journal::{Disk, Journal, Version};
 use gs_msg::Message;
 use gs_record::{Entry, Phase};
 use gs_state::log::Log;
 use gs_state::recorded::Recorded;
 use gs_state::replaying::records_behind;
 use std::alloc::{AllocError, Global};
-
-/// The entries whose records these are, in a journal of this version. `BadLine` where one is the record of none.
-fn read_entries(alloc: Global, version: Version, records: &[Record]) -> Result<Vec<Entry>, Refusal>
-    ensures { Reads version records.now result }
-{
-    let mut entries = Vec::new(alloc);
-    for record in records {
-        let entry = match Entry::decode(alloc, version, record) {
-            Ok(entry) => entry,
-            Err(refusal) => return Err(refusal),
-        };
-        entries.push(entry)?;
-    }
-    Ok(entries)
-}
 
 /// The room of a journal with these entries. `None` only where no number of 64 bits tells it.
 fn counted_log<D: Disk>(journal: &Journal<D>, entries: &[Entry]) -> Option<Log>

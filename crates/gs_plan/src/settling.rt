@@ -1,7 +1,7 @@
 // Views that are settled, and what is asked on the way.
 ghost use Rattle.std.specs.Prelude.{◌≡◌, IfOk};
 ghost use Rattle.std.specs.Option.{option_to_list};
-ghost use Rattle.gs_state.specs.Chunks.{is_holder, settling};
+ghost use Rattle.gs_state.specs.Chunks.{settling};
 ghost use Rattle.gs_state.specs.Durable.{prepared_view};
 ghost use Rattle.gs_state.specs.Hearing.{ask_plan, send_plan};
 ghost use Rattle.gs_state.specs.Plans.{plan_of};
@@ -12,6 +12,7 @@ use crate::posting::about;
 use crate::standing::Standing;
 use gs_base::{ClientId, Handle, ReqId, ServerId};
 use gs_edit::Edit;
+use gs_guard::sealing::is_holder;
 use gs_lease::{Grant, View};
 use gs_msg::{Chunk, Message};
 use gs_path::Path;
@@ -122,7 +123,7 @@ impl<'a> Standing<'a> {
     {
         let alloc = self.recorded.alloc;
         let prepared = self.recorded.prepared_view(chunk);
-        let holds = asking.is_holder(self.recorded.phase, prepared, carried, view);
+        let holds = is_holder(asking, self.recorded.phase, prepared, carried, view);
         Ok(Plan {
             records: asking.settling(alloc, holds, chunk, view)?,
             changes: vec![in alloc; Change::Settled(chunk)]?,

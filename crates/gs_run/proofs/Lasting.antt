@@ -28,7 +28,7 @@ use Rattle.gs_master.proofs.Reopened.{after_opening}
 use Rattle.gs_master.proofs.Turning.{replayed_behind}
 use Rattle.gs_master.specs.Finishing.{and_checkpoint}
 use Rattle.gs_master.specs.Masters.{Answers, IsAnswered, MasterOf}
-use Rattle.gs_master.specs.Recovering.{AreRecordsOf}
+use Rattle.gs_guard.specs.Reading.{AreRecordsOf}
 use Rattle.gs_master.specs.Starting.{IsOpened, left_in}
 use Rattle.gs_master.specs.Ticking.{AnswersAs, AnswersTick, IsAnsweredAnew, is_written, lacking, pressed_all, writes_one}
 use Rattle.gs_master.specs.declared.turn.Turn.{Turn as Told}

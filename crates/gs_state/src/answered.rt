@@ -1,11 +1,11 @@
 // What follows of the answers to a proposal.
 ghost use Rattle.std.specs.Prelude.{◌≡◌};
 ghost use Rattle.gs_lease.specs.Transitions.{end_of, term_of};
-ghost use Rattle.gs_state.specs.Chunks.{Chunk, may_settle, view_by};
+ghost use Rattle.gs_state.specs.Chunks.{Chunk, view_by};
 
 use crate::asking::Asking;
 use gs_base::{Members, Moment};
-use gs_lease::{Purpose, Term, View};
+use gs_lease::{Purpose, Term, View, is_any_asked};
 use gs_view::Answers;
 
 /// A term of 60 ends there.
@@ -28,19 +28,6 @@ impl Asking {
         Some(Term { primary, end })
     }
 
-    /// Whether one of these was asked.
-    fn may_settle(&self, members: Members) -> bool
-        ensures { result ≡ may_settle self.now.asked members }
-    {
-        let mut left = members;
-        while let Some(member) = left.pop_first() {
-            if self.asked.contains(member) {
-                return true;
-            }
-        }
-        false
-    }
-
     /// The view on those that answered the most edits, where one of them was asked.
     pub fn view_by(&self, answers: &Answers, moment: Moment) -> Option<View>
         ensures { (c : Chunk) → result ≡ view_by c self.now answers.now moment }
@@ -48,7 +35,7 @@ impl Asking {
         let Ok((members, count)) = answers.counts.choose() else {
             return None;
         };
-        if !self.may_settle(members) {
+        if !is_any_asked(self.asked, members) {
             return None;
         }
         Some(View {

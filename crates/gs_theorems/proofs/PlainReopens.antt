@@ -17,7 +17,7 @@ use Rattle.gs_laws.specs.Promises.{IsKept}
 use Rattle.gs_laws.specs.Standing.{AreCounters}
 use Rattle.gs_master.proofs.Reopened.{after_opening}
 use Rattle.gs_master.specs.Masters.{MasterOf}
-use Rattle.gs_master.specs.Recovering.{AreRecordsOf}
+use Rattle.gs_guard.specs.Reading.{AreRecordsOf}
 use Rattle.gs_master.specs.Starting.{IsOpened, left_in}
 use Rattle.gs_master.specs.declared.turn.Turn.{Turn as Told}
 use Rattle.gs_record.proofs.Whole.{one_entry}

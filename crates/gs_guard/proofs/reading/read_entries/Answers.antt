@@ -1,8 +1,8 @@
 use Rattle.std.proofs.Common.{◌≡◌, ◌+◌, inl, inr, drop, map}
 use Rattle.gs_record.specs.Plain.{plain}
 use Rattle.gs_state.proofs.Behind.{next_item}
-use Rattle.gs_master.proofs.Recoveries.{unreadable}
-use Rattle.gs_master.proofs.recovering.read_entries.Goals as goal
+use Rattle.gs_guard.proofs.Reading.{unreadable}
+use Rattle.gs_guard.proofs.reading.read_entries.Goals as goal
 
 pub returns-in-Err : goal.returns-in-Err
 returns-in-Err c =
