@@ -1,7 +1,7 @@
 use Rattle.std.proofs.Common.{◌≡◌, ◌+◌, inl, inr, drop, map}
 use Rattle.gs_record.specs.Plain.{plain}
 use Rattle.gs_state.proofs.Behind.{next_item}
-use Rattle.gs_guard.proofs.Reading.{unreadable}
+use Rattle.gs_guard.proofs.ReadSoFar.{unreadable}
 use Rattle.gs_guard.proofs.reading.read_entries.Goals as goal
 
 pub returns-in-Err : goal.returns-in-Err

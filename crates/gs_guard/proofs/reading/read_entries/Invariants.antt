@@ -1,6 +1,6 @@
 use Rattle.std.proofs.Common.{drop, map}
 use Rattle.gs_record.specs.Plain.{plain}
-use Rattle.gs_guard.proofs.Reading.{ReadSoFar}
+use Rattle.gs_guard.proofs.ReadSoFar.{ReadSoFar}
 use Rattle.gs_guard.proofs.reading.read_entries.Given as goal
 
 abbrev pub invariant-loop-record : goal.invariant-loop-record
