@@ -4,10 +4,14 @@
     bench/hostile.py [--program PATH] [PART ..]
 
 runs parts of the built gs_bench, once for each growth, by a small library of C that is loaded before it and lets one call of malloc or
-realloc fail. It ends with status 1 where a run ends badly, hangs, or says that something was wrong. See bench/README.md for the parts."""
+realloc fail. It ends with status 1 where a run ends badly, hangs, or says that something was wrong. See bench/README.md for the parts.
+
+The part prepare is another: how many growths an upgrade makes that is begun behind 10, 100 and 1,000 files, and whether it is accepted
+behind 1,000 where the growth behind the 200th is refused."""
 
 import argparse
 import os
+import re
 import subprocess
 import sys
 import tempfile
@@ -15,12 +19,19 @@ import tempfile
 import beside
 
 PARTS = ["script", "replica", "records", "serving", "removed", "copied"]
+PREPARE = "prepare"
+FILES = (10, 100, 1000)
+# The most growths that a prepare may make, however many files there are.
+MOST = 200
+# What the part says where memory was wanting for its upgrade.
+LACKED = "upgrades not begun"
 SECONDS = 20
-# At the end it says whether the growth was reached.
+# At the end it says whether the growth was reached, and how many there were.
 LIBRARY = """
 #define _GNU_SOURCE
 #include <dlfcn.h>
 #include <errno.h>
+#include <stdio.h>
 #include <stdlib.h>
 #include <unistd.h>
 static long calls, refused = -1;
@@ -41,7 +52,9 @@ void *realloc(void *old, size_t size) {
     return next(old, size);
 }
 __attribute__((destructor)) static void tell(void) {
-    if (calls < refused && write(2, "not reached\\n", 12) < 0) _exit(99);
+    char text[64];
+    int length = snprintf(text, sizeof text, "%sgrowths %ld\\n", calls < refused ? "not reached\\n" : "", calls);
+    if (write(2, text, length) < 0) _exit(99);
 }
 """
 
@@ -54,11 +67,11 @@ def library(folder):
     return made
 
 
-def run(program, made, part, growth):
+def run(program, made, part, growth, count=1):
     """The status of a run, or none where it hangs, and what it says."""
     settings = {"LD_PRELOAD": made, "REFUSED": str(growth)}
     try:
-        done = subprocess.run([program, part, "1"], env=settings, stdout=subprocess.DEVNULL, stderr=subprocess.PIPE, timeout=SECONDS)
+        done = subprocess.run([program, part, str(count)], env=settings, stdout=subprocess.DEVNULL, stderr=subprocess.PIPE, timeout=SECONDS)
     except subprocess.TimeoutExpired:
         return None, ""
     return done.returncode, done.stderr.decode("utf-8", "replace")
@@ -77,16 +90,39 @@ def wrong_runs(program, made, part):
         growth += 1
 
 
+def growths_of(program, made, part, count):
+    """How many growths a run makes of which none is refused."""
+    status, said = run(program, made, part, 0, count)
+    found = re.search(r"^growths (\d+)$", said, re.MULTILINE)
+    if status != 0 or not found:
+        sys.exit(f"{part} of {count} ended with {status}: {said}")
+    return int(found.group(1))
+
+
+def is_prepare_well(program, made):
+    """Whether an upgrade is begun with so few growths, as many behind few files as behind many, and so also where the next is refused."""
+    before = {count: growths_of(program, made, "files", count) for count in FILES}
+    many = {count: growths_of(program, made, PREPARE, count) - before[count] for count in FILES}
+    print(f"{PREPARE}: growths behind so many files: {many}", flush=True)
+    status, said = run(program, made, PREPARE, before[FILES[-1]] + MOST + 1, FILES[-1])
+    is_accepted = status == 0 and "not reached" in said and LACKED not in said
+    print(f"{PREPARE}: {FILES[-1]} files, growth {MOST + 1} of the prepare refused: {'accepted' if is_accepted else f'{status} {said}'}", flush=True)
+    return is_accepted and len(set(many.values())) == 1
+
+
 def main():
     parser = argparse.ArgumentParser()
     parser.add_argument("--program", help="the built gs_bench, which else is built")
-    parser.add_argument("parts", nargs="*", default=PARTS)
+    parser.add_argument("parts", nargs="*", default=[*PARTS, PREPARE])
     asked = parser.parse_args()
     program = asked.program or beside.built()
     any_wrong = False
     with tempfile.TemporaryDirectory() as folder:
         made = library(folder)
         for part in asked.parts:
+            if part == PREPARE:
+                any_wrong = not is_prepare_well(program, made) or any_wrong
+                continue
             growths, wrong = wrong_runs(program, made, part)
             print(f"{part}: {growths} growths refused in turn, wrong at {wrong or 'none'}", flush=True)
             any_wrong = any_wrong or bool(wrong)
