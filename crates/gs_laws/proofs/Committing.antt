@@ -1,5 +1,5 @@
 -- When a rollback can be committed.
-use Rattle.std.proofs.Common.{T, ◌≡◌, ◌⊎◌, inl, inr, ◌∙◌, ◌<◌, ◌&&◌, ◌==◌, ℕ, Bool, true, false, not, cond, List, [], ◌∷◌, map, filter, refl, sym, ap, subst, arith}
+use Rattle.std.proofs.Common.{T, ◌≡◌, ◌⊎◌, inl, inr, ◌∙◌, ◌<◌, ◌&&◌, ◌||◌, ◌==◌, ℕ, Bool, true, false, not, cond, List, [], ◌∷◌, map, filter, refl, sym, ap, subst, arith}
 use Rattle.std.specs.Prelude.{Ok, Option, Some, None, is_some, nat_lt, get_or, unwrap_or, if◌then◌else◌}
 use Rattle.std.proofs.lemmas.Cmp.{ranked}
 use Rattle.std.specs.Cmp.{Equal-is, nat_cmp_total, tied_itself}
@@ -17,10 +17,16 @@ use Rattle.gs_base.specs.declared.numbers.ReqId.{ReqId}
 use Rattle.gs_base.specs.declared.refusal.Refusal.{Refusal}
 use Rattle.gs_base.specs.declared.refusal.Refusal.TheVariants as refusals
 use Rattle.gs_edit.specs.View.{NamesView}
+use Rattle.gs_lock.specs.Locks.{stands_in_the_way}
+use Rattle.gs_lock.specs.Operations.{same_op}
+use Rattle.gs_lock.specs.declared.lock.Lock.{Lock}
 use Rattle.gs_tree.proofs.Levels.{both_true}
 use Rattle.gs_state.specs.Applied.{is_prepared_on}
 use Rattle.gs_state.specs.Durable.{is_rolling, prepared_view}
-use Rattle.gs_state.specs.State.{State, Turn, fits, kept_in_memory, last_reply, refused}
+use Rattle.gs_msg.specs.declared.call.Call.TheVariants as calls
+use Rattle.gs_state.specs.Calls.{ordered}
+use Rattle.gs_state.specs.Handling.{called_unless}
+use Rattle.gs_state.specs.State.{State, Turn, first_of, fits, is_failed, kept_in_memory, last_reply, refused}
 use Rattle.gs_state.specs.Replies.{is_later}
 use Rattle.gs_state.specs.Volatile.{all_changed}
 use Rattle.gs_state.specs.declared.change.Change.TheVariants as changes
@@ -28,7 +34,7 @@ use Rattle.gs_msg.specs.declared.answer.Answer.TheVariants as answers
 use Rattle.gs_state.specs.Undoing.{all_undone}
 use Rattle.gs_state.specs.Upgrades.{answers_for, commit_if, commit_on, first_in, lacks_answer, needs_answer, restored_on, rollback_commit, told_of, unrestored}
 use Rattle.gs_state.specs.declared.asking.Prepared.{Prepared}
-use Rattle.gs_laws.specs.Promises.{AnswersExactly, CanCommit, CommitsExactly, CommitsInOrder, HasTold, IsFirstUnrestored, IsRestored, RefusesInOrder, commit_record, members_for}
+use Rattle.gs_laws.specs.Promises.{AnswersExactly, CanCommit, CommitsExactly, CommitsInOrder, HasTold, IsFirstUnrestored, IsRestored, IsTakenUnlessFailed, RefusesInOrder, commit_record, members_for}
 use Rattle.gs_laws.proofs.Kept.{is_tied}
 use Rattle.gs_laws.proofs.Retold.{below_found, each_found}
 
@@ -487,3 +493,28 @@ refuses_in_order s req = in_order s req (rollback_commit s req) (came s req)
 
 pub commits_exactly : CommitsExactly
 commits_exactly s req = (of_phase s req (is_rolling s.durable.phase) refl, committed s req)
+
+-- ---- what comes before
+
+-- it names no path
+no_lock : (req : ReqId) (locks : List Lock) → stands_in_the_way locks req [] [] ≡ false
+no_lock req [] = refl
+no_lock req (lock ∷ locks) = ap (λ b. b || stands_in_the_way locks req [] []) (free (not (same_op req lock.op)) lock.writes) ∙ no_lock req locks
+  where
+    free : (other writes : Bool) → (other && cond writes (false || false) false) ≡ false
+    free true true = refl
+    free true false = refl
+    free false writes = refl
+
+pub taken_unless_failed : IsTakenUnlessFailed
+taken_unless_failed config s req moment =
+    ap (λ locked. called_unless config s req moment calls.RollbackCommit (first_of (ordered (is_failed s.fault) (is_rolling s.durable.phase) s.volatile.is_preparing locked calls.RollbackCommit))) (no_lock req s.volatile.locks)
+    ∙ where_these (is_failed s.fault) (is_rolling s.durable.phase) s.volatile.is_preparing
+  where
+    where_these : (failed rolling preparing : Bool) →
+        called_unless config s req moment calls.RollbackCommit (first_of (ordered failed rolling preparing false calls.RollbackCommit)) ≡ (if failed then refused s req refusals.Device else rollback_commit s req)
+    where_these true rolling preparing = refl
+    where_these false true true = refl
+    where_these false true false = refl
+    where_these false false true = refl
+    where_these false false false = refl

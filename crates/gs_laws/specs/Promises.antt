@@ -421,6 +421,12 @@ pub record CommitsInOrder (s : State) (t : Turn) : Type 0 where
 abbrev pub RefusesInOrder : Type 0
 RefusesInOrder = (s : State) (req : ReqId) → CommitsInOrder s (rollback_commit s req)
 
+-- of what may stand before a call, a disk that has failed alone stands before it: no lock, no upgrade that is prepared, and not that a
+-- rollback was begun
+abbrev pub IsTakenUnlessFailed : Type 0
+IsTakenUnlessFailed = (config : Config) (s : State) (req : ReqId) (moment : Moment) →
+    new_call config s req moment calls.RollbackCommit ≡ (if is_failed s.fault then refused s req refusals.Device else rollback_commit s req)
+
 -- a version that is proposed is above all before it
 abbrev pub ProposesFresh : Type 0
 ProposesFresh = (config : Config) (s : State) (message : Message) (moment : Moment) (chunk version : ℕ) →

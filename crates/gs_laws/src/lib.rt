@@ -13,7 +13,7 @@ ghost use Rattle.gs_state.specs.Recorded.{SayAlone};
 ghost use Rattle.gs_laws.specs.Copying.{CopiesAtRest, StepsCopyAtRest};
 ghost use Rattle.gs_laws.specs.Counting.{CountsKnown, CountsViews, NewOrOut};
 ghost use Rattle.gs_laws.specs.Numbered.{EventsKeepNumbers, LeadsToNumbers, RecordsKeepNumbers, RunsKeepNumbers, TellsNumbers};
-ghost use Rattle.gs_laws.specs.Promises.{AllMessagesFit, AnswersExactly, BeginsWithAll, CallsFit, CallsKeep, CheckpointFits, CommitsExactly, IsToldAgain, KeepsAll, KeepsGiven, KeepsPrepared, LeadsBack, LeadsToKept, LockedElse, LockedExactly, MadeOfTheMost, MessagesFit, MessagesKeep, NothingAtTicks, NothingWhileRolling, PreparesByOneRecord, ProposesFresh, ProposesFreshAtTicks, RefusesInOrder, RefusedAtLocks, RefusedFits, RefusedLeavesAll, RollsBack, StartsWell, StepsAtTicksFit, TellsAll, TellsCounters};
+ghost use Rattle.gs_laws.specs.Promises.{AllMessagesFit, AnswersExactly, BeginsWithAll, CallsFit, CallsKeep, CheckpointFits, CommitsExactly, IsToldAgain, KeepsAll, KeepsGiven, KeepsPrepared, LeadsBack, LeadsToKept, LockedElse, LockedExactly, MadeOfTheMost, MessagesFit, MessagesKeep, NothingAtTicks, NothingWhileRolling, PreparesByOneRecord, ProposesFresh, ProposesFreshAtTicks, RefusesInOrder, RefusedAtLocks, RefusedFits, RefusedLeavesAll, RollsBack, StartsWell, StepsAtTicksFit, TellsAll, TellsCounters, IsTakenUnlessFailed};
 ghost use Rattle.gs_laws.specs.Reached.{DisksHold, OpensFirm, RecoversFirm, RollsBackThrough, RunsRecoverFromLast, SameFromLast};
 ghost use Rattle.gs_laws.specs.Resting.{PreparesExactly, TakesPrepares};
 ghost use Rattle.gs_laws.specs.Rooms.{LogsStayWithin, MessagesCopyStill, MessagesCounted, MessagesHaveRoom, OthersLeave, RestartsForget, RunsStayWithin, StepsHaveRoom, TellsAdd, TellsOf, TellsSince, TicksCopyStill, TicksCounted, TicksHaveRoom, TicksLeave};
@@ -279,11 +279,13 @@ pub fn a_rollback_leads_back_through_checkpoints()
 /// was told of by a server that had it then: a member of its prepared view, or one that was sent it since with its sealed image; and where
 /// its record has room. Else it is refused, and which refusal comes is said of each: that no rollback was begun, that its edits can't be
 /// taken back, the lowest chunk that lacks such a server, or that there is no room, in this order. The record of the commit tells of each
-/// chunk that was listed at the prepare exactly those servers; and behind it nothing is asked for any chunk.
+/// chunk that was listed at the prepare exactly those servers; and behind it nothing is asked for any chunk. A call of that is judged so
+/// whatever else stands at the master, but for a disk that has failed.
 pub fn a_rollback_is_committed_exactly_where_all_is_restored()
     ensures can { CommitsExactly }
     ensures order { RefusesInOrder }
     ensures answers { AnswersExactly }
+    ensures taken { IsTakenUnlessFailed }
 {}
 
 /// The checkpoint of what stands tells it, but for chunks that stand in no file and never did. So it is of what records lead to
