@@ -1,8 +1,44 @@
-//! The program: see `gs_program`.
+//! The program: the shell of a store, over standard input and standard output.
 #![tactic(auto)]
 
+use gs_base::{Config, Refusal};
+use gs_command::configured;
+use gs_journal::MemoryDisk;
+use gs_shell::RunFault;
+use std::alloc::Global;
+use std::io::{self, BufReader, BufWriter};
 use std::process::ExitCode;
 
+/// A disk in memory with nothing on it.
+fn empty_disk(alloc: Global) -> MemoryDisk {
+    MemoryDisk::new(Vec::new(alloc))
+}
+
+/// Answers standard input on standard output, by a new store whose journal is kept in memory.
+fn serve(rt: &(impl Input + Print + AllocGlobal), config: Config) -> Result<(), RunFault> {
+    let alloc = rt.alloc();
+    let Ok(mut reader) = BufReader::new(alloc, rt.reader()) else {
+        return Err(RunFault::Refused(Refusal::Memory));
+    };
+    let Ok(mut writer) = BufWriter::new(alloc, io::writer(rt)) else {
+        return Err(RunFault::Refused(Refusal::Memory));
+    };
+    let disks = (empty_disk(alloc), empty_disk(alloc));
+    gs_shell::run(alloc, config, disks, &mut reader, &mut writer)
+}
+
+/// The status is 0 at the end of the input, 1 where a read or a write fails or the run can't begin, and 2 where the words of
+/// the command line are refused. Then nothing is read, and nothing stands on standard output.
 fn main(rt: HostRuntime) -> ExitCode {
-    gs_program::run(&rt)
+    let config = match configured(&rt, "chunkstore") {
+        Ok(config) => config,
+        Err(status) => return status,
+    };
+    match serve(&rt, config) {
+        Ok(()) => ExitCode::SUCCESS,
+        Err(fault) => {
+            let _ = eprintln!(rt; "chunkstore: {fault}");
+            ExitCode::FAILURE
+        }
+    }
 }

@@ -6,6 +6,8 @@
 #[cfg(test)]
 mod blocks;
 #[cfg(test)]
+mod example;
+#[cfg(test)]
 mod journal;
 #[cfg(test)]
 mod options;

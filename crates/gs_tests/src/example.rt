@@ -1,26 +1,14 @@
-//! A store as a library: an upgrade is prepared, what is done in it goes wrong, and it is rolled back.
-#![tactic(auto)]
-
+// A store as a library: an upgrade is prepared, what is done in it goes wrong, and it is rolled back.
 use gs_base::{Config, Refusal};
 use gs_client::Client;
 use gs_desk::{Desk, Wire};
 use gs_journal::MemoryDisk;
 use gs_path::Path;
 use std::alloc::Global;
-use std::io;
-use thiserror::Error;
+use std::test::Fail;
 
 /// What carries a client's requests to the nodes of the store.
 type Link = Wire<MemoryDisk>;
-
-/// Why the example ends early.
-#[derive(Debug, Drop, Error)]
-enum Fault {
-    #[error("{0}")]
-    Refused(#[from] Refusal),
-    #[error("{0}")]
-    Output(#[from] io::Error),
-}
 
 /// A disk in memory with nothing on it.
 fn empty_disk(alloc: Global) -> MemoryDisk {
@@ -79,42 +67,61 @@ fn roll_back(client: &mut Client, link: &mut Link) -> Result<u64, Refusal> {
     client.rollback_commit(link)
 }
 
-/// Prints the names in a directory, and the first 100 bytes of a file in it.
-fn show(rt: &impl Print, client: &mut Client, link: &mut Link) -> Result<(), Fault> {
+/// Tells the names in a directory, and the first 100 bytes of a file in it.
+fn show(client: &mut Client, link: &mut Link, told: &mut Vec<String>) -> Result<(), Refusal> {
     let alloc = link.alloc;
     let names = client.list(link, Path::parse(alloc, "/trips")?)?;
     for child in names.as_slice() {
-        println!(rt; "/trips has {}", child.name.as_str())?;
+        told.push(format!(in alloc; "/trips has {}", child.name.as_str())?)?;
     }
     let mut file = client.open_read(alloc, link, Path::parse(alloc, "/trips/alps")?)?;
     let bytes = file.read(alloc, client, link, 0, 100)?;
     let text = str::from_utf8(bytes.as_slice()).unwrap_or("no text");
-    println!(rt; "/trips/alps says: {text}")?;
+    told.push(format!(in alloc; "/trips/alps says: {text}")?)?;
     Ok(())
 }
 
-fn tour(rt: &impl Print, client: &mut Client, link: &mut Link) -> Result<(), Fault> {
+/// What is in the store before an upgrade, in it, and behind its rollback.
+fn tour(client: &mut Client, link: &mut Link) -> Result<Vec<String>, Refusal> {
     let alloc = link.alloc;
+    let mut told = Vec::new(alloc);
     client.mkdirs(link, Path::parse(alloc, "/trips")?)?;
     client.create(link, Path::parse(alloc, "/trips/alps")?)?;
     write(client, link, "/trips/alps", "Hut booked.")?;
     let place = append(client, link, "/trips/alps", " Train too.")?;
-    println!(rt; "the record stands at byte {place}")?;
-    show(rt, client, link)?;
+    told.push(format!(in alloc; "the record stands at byte {place}")?)?;
+    show(client, link, &mut told)?;
 
     let epoch = prepare(client, link)?;
-    println!(rt; "epoch {epoch}: an upgrade")?;
+    told.push(format!(in alloc; "epoch {epoch}: an upgrade")?)?;
     write(client, link, "/trips/alps", "Hut closed.")?;
-    show(rt, client, link)?;
+    show(client, link, &mut told)?;
     let hidden = delete(client, link, "/trips")?;
-    println!(rt; "/trips is deleted, and hidden as {hidden}")?;
+    told.push(format!(in alloc; "/trips is deleted, and hidden as {hidden}")?)?;
 
     let epoch = roll_back(client, link)?;
-    println!(rt; "epoch {epoch}: rolled back")?;
-    show(rt, client, link)
+    told.push(format!(in alloc; "epoch {epoch}: rolled back")?)?;
+    show(client, link, &mut told)?;
+    Ok(told)
 }
 
-fn main(rt: HostRuntime) -> Result<(), Fault> {
+#[test]
+fn what_stood_at_the_prepare_comes_back(rt: HostRuntime) -> Result<(), Fail> {
     let mut store = new_store(rt.alloc())?;
-    tour(&rt, &mut store.caller.client, &mut store.wire)
+    let told = tour(&mut store.caller.client, &mut store.wire)?;
+    let told = told.join(rt.alloc(), "\n")?;
+    assert_eq!(rt;
+        told.as_str(),
+        "the record stands at byte 11
+/trips has alps
+/trips/alps says: Hut booked. Train too.
+epoch 1: an upgrade
+/trips has alps
+/trips/alps says: Hut closed. Train too.
+/trips is deleted, and hidden as /.deleted.00000000000000000000.00000000000000000001.trips
+epoch 2: rolled back
+/trips has alps
+/trips/alps says: Hut booked. Train too."
+    );
+    Ok(())
 }
