@@ -24,16 +24,17 @@ use Rattle.gs_store.specs.Serving.{length_in, edited_in, done_in}
 use Rattle.gs_store.specs.Serving as serving
 use Rattle.gs_store.specs.Stores.{put_slot}
 use Rattle.gs_store.specs.Whole.{LiveUnder}
+use Rattle.gs_primary.specs.Numbering.{outcome_at}
 use Rattle.gs_server.specs.declared.applying.Numbered.{Numbered}
-use Rattle.gs_server.specs.declared.lease.Open.{Open}
+use Rattle.gs_primary.specs.declared.lease.Open.{Open}
 use Rattle.gs_server.specs.declared.turn.Turn.{Turn}
-use Rattle.gs_server.specs.Leases.{Lease}
+use Rattle.gs_primary.specs.Leases.{Lease}
 use Rattle.gs_server.specs.Places.{Part, Place, Here}
 use Rattle.gs_server.specs.Edits.{bytes_of, applied_bytes, has_bytes, opened, last_count, refused_edit, numbers, numbers_if, numbers_as}
 use Rattle.gs_server.specs.Servers.{Server, Step, Steps, step_of, here_of, place_of, store_of}
 use Rattle.gs_server.specs.inner.Answering.{kept_by}
 use Rattle.gs_server.specs.inner.Applying.{leaving}
-use Rattle.gs_server.specs.inner.Numbering.{outcome_at, opened_at, opened_by, numbered_with, numbered_by, or_exhausted, refused_at_last}
+use Rattle.gs_server.specs.inner.Numbering.{opened_at, opened_by, numbered_with, numbered_by, or_exhausted, refused_at_last}
 use Rattle.gs_server.proofs.Made.{inside}
 
 -- as the definition has it, but for the test of the last count

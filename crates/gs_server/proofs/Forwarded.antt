@@ -1,13 +1,14 @@
 -- A forward, and what a member makes of it.
-use Rattle.std.proofs.Common.{◌≡◌, ℕ, Bool, false, cond, List, [], ◌∷◌, Option, Some, None, refl, sym, ap, subst, ◌∙◌, inl, inr, arith}
+use Rattle.std.proofs.Common.{◌≡◌, ℕ, Bool, true, false, not, cond, List, [], ◌∷◌, Option, Some, None, refl, sym, ap, subst, ◌∙◌, inl, inr, arith}
 use Rattle.std.specs.Prelude.{Result, Ok, Err, ◌+◌, ◌<◌, ◌≤◌, nat_le, nat_lt}
 use Rattle.std.proofs.lemmas.Bool.Decides.{nat_tests}
 use Rattle.gs_base.specs.declared.numbers.Moment.{Moment}
 use Rattle.gs_base.specs.declared.numbers.Stamp.{Stamp}
 use Rattle.gs_base.specs.declared.numbers.ReqId.{ReqId}
+use Rattle.gs_base.specs.Stamps.{is_same}
 use Rattle.gs_base.specs.declared.refusal.Refusal.{Refusal}
 use Rattle.gs_base.specs.declared.refusal.Refusal.TheVariants as refusals
-use Rattle.gs_block.specs.Follows.{Follows, Judges}
+use Rattle.gs_block.specs.Follows.{Follows}
 use Rattle.gs_msg.specs.declared.node.NodeId.{NodeId}
 use Rattle.gs_msg.specs.declared.op.Op.{Op}
 use Rattle.gs_msg.specs.declared.body.Body.TheVariants as bodies
@@ -18,13 +19,14 @@ use Rattle.gs_store.specs.Buffers.{pushed}
 use Rattle.gs_store.specs.Serving as serving
 use Rattle.gs_store.specs.Stores.{Store, put_slot}
 use Rattle.gs_server.specs.declared.turn.Turn.{Turn}
-use Rattle.gs_server.specs.Leases.{tell}
+use Rattle.gs_primary.specs.Forwarding.{count_under}
+use Rattle.gs_primary.specs.Leases.{tell}
 use Rattle.gs_server.specs.Places.{Part, or_else, count_or_none}
 use Rattle.gs_server.specs.Edits.{has_bytes, bytes_of, forward, acknowledges, declines, takes_if, takes_next, takes, unless_there, bytes_or_none}
 use Rattle.gs_server.specs.Servers.{Server, Step, Steps, step_of, here_of, place_of, store_of, with_store}
 use Rattle.gs_server.specs.inner.Answering.{declined_by}
 use Rattle.gs_server.specs.inner.Applying.{leaving, applied_with, taken_by}
-use Rattle.gs_server.proofs.Made.{wants_memory, judged_none, judged_some}
+use Rattle.gs_server.proofs.Made.{wants_memory}
 
 -- the edit is applied, or it isn't
 pub taken_ok : (handle : ℕ) (from : NodeId) (stamp : Stamp) (number : ℕ) (m : Result Store Refusal) (old : Server) (new : Store) (after : Server) (turn : Turn) →
@@ -65,12 +67,30 @@ next_step : (handle : ℕ) (from : NodeId) (stamp : Stamp) (number : ℕ) (req :
 next_step handle from stamp number req op moment old count None = declines_step handle from stamp req moment old refusals.NoData
 next_step handle from stamp number req op moment old count (Some bytes) = takes_step handle from stamp number req op moment old (serving.apply stamp number req (in_replica op) bytes (place_of handle old).slot)
 
+-- what a forward finds is what its slot says
+abbrev pub Agrees : Option Refusal → ℕ → Result ℕ Refusal → Type 0
+Agrees o count (Ok n) = (o ≡ None) × (n ≡ count)
+Agrees o count (Err e) = o ≡ Some e
+
+agrees_when : (same : Bool) (promise : Stamp) (count : ℕ) → Agrees (first_of (None ∷ when (not same) (refusals.Stamp promise) ∷ [])) count (cond same (Ok count) (Err (refusals.Stamp promise)))
+agrees_when true promise count = (refl, refl)
+agrees_when false promise count = refl
+
+agrees : (stamp promise : Stamp) (live : Option Live) → Agrees (first_of (unless_live live ∷ when (not (is_same stamp promise)) (refusals.Stamp promise) ∷ [])) (count_or_none (count_of live)) (count_under stamp promise (count_of live))
+agrees stamp promise None = refl
+agrees stamp promise (Some l) = agrees_when (is_same stamp promise) promise l.replica.held.count
+
+pub found_so : (stamp : Stamp) (s : Slot) (promise : Stamp) (count : Option ℕ) (r : Result ℕ Refusal) → promise ≡ s.promise → count ≡ count_of s.live → count_under stamp promise count ≡ r →
+    Agrees (check_grant stamp s) (count_or_none (count_of s.live)) r
+found_so stamp s promise count r promised counted is =
+    subst (Agrees (check_grant stamp s) (count_or_none (count_of s.live))) (sym (ap (λ n. count_under stamp s.promise n) counted) ∙ sym (ap (λ p. count_under stamp p count) promised) ∙ is) (agrees stamp s.promise s.live)
+
 -- a forward is refused by the slot
 pub forward_refused : (handle : ℕ) (from : NodeId) (stamp : Stamp) (req : ReqId) (moment : Moment) (old : Server) (o : Option Refusal) (f : Refusal) (part : Part) (result : Result Turn Refusal) (after : Server) →
-    Judges {B = Unit {0}} o (Err f) → Steps (declined_by handle from stamp f old) result old after →
+    o ≡ Some f → Steps (declined_by handle from stamp f old) result old after →
     Steps (step_of handle (Some req) (or_else o (declines (here_of old moment handle (Some req)) (place_of handle old) from stamp) part) old) result old after
 forward_refused handle from stamp req moment old o f part result after judged steps =
-    subst (λ x. Steps (step_of handle (Some req) (or_else x (declines (here_of old moment handle (Some req)) (place_of handle old) from stamp) part) old) result old after) (sym (judged_some o f judged)) steps
+    subst (λ x. Steps (step_of handle (Some req) (or_else x (declines (here_of old moment handle (Some req)) (place_of handle old) from stamp) part) old) result old after) (sym judged) steps
 
 -- it is of the next edit
 abbrev is_there : Option Refusal → Type 0
@@ -94,12 +114,11 @@ takes_of_live handle from stamp number req op moment old bytes (Some l) u count 
     (subst (λ g. Steps (next_of handle from stamp number req op moment old g count bytes) result old after) (sym (not_past_next number count next)) steps))
 
 pub forward_next : (handle : ℕ) (from : NodeId) (stamp : Stamp) (number : ℕ) (req : ReqId) (op : Op) (carried : Option (List ℕ)) (moment : Moment) (old : Server) (count : ℕ) (result : Result Turn Refusal) (after : Server) →
-    Judges {B = Unit {0}} (check_grant stamp (place_of handle old).slot) (Ok tt) → count ≡ count_or_none (count_of (place_of handle old).slot.live) → count < number → number ≤ count + 1 →
+    check_grant stamp (place_of handle old).slot ≡ None → count ≡ count_or_none (count_of (place_of handle old).slot.live) → count < number → number ≤ count + 1 →
     Steps (taken_by handle from stamp number (applied_with handle stamp number req op (store_of old) (bytes_of op carried (pushed req old.dropped.buffer))) old) result old after →
     Steps (step_of handle (Some req) (forward (here_of old moment handle (Some req)) (place_of handle old) from stamp number req op carried) old) result old after
 forward_next handle from stamp number req op carried moment old count result after judged same above next steps =
     let bytes : Option (List ℕ) = bytes_of op carried (pushed req old.dropped.buffer) in
-    let none : check_grant stamp (place_of handle old).slot ≡ None = judged_none (check_grant stamp (place_of handle old).slot) judged in
-    subst (λ x. Steps (step_of handle (Some req) (or_else x (declines (here_of old moment handle (Some req)) (place_of handle old) from stamp) (takes (here_of old moment handle (Some req)) (place_of handle old) from stamp number req op bytes (place_of handle old).slot.live)) old) result old after) (sym none)
-    (takes_of_live handle from stamp number req op moment old bytes (place_of handle old).slot.live (unless_promised stamp (place_of handle old).slot) count result after none same above next
+    subst (λ x. Steps (step_of handle (Some req) (or_else x (declines (here_of old moment handle (Some req)) (place_of handle old) from stamp) (takes (here_of old moment handle (Some req)) (place_of handle old) from stamp number req op bytes (place_of handle old).slot.live)) old) result old after) (sym judged)
+    (takes_of_live handle from stamp number req op moment old bytes (place_of handle old).slot.live (unless_promised stamp (place_of handle old).slot) count result after judged same above next
     (subst (λ step. Steps step result old after) (next_step handle from stamp number req op moment old count bytes) steps))

@@ -34,7 +34,7 @@ use Rattle.gs_store.specs.Calls as calls
 use Rattle.gs_store.proofs.Laws.{Holds, of_cond}
 use Rattle.gs_store.proofs.Standing.{of_live, of_trash, same_ok}
 use Rattle.gs_store.proofs.StoreLaws.{own_slot, other_slot, not_ok}
-use Rattle.gs_server.specs.Leases.{Lease, tell}
+use Rattle.gs_primary.specs.Leases.{Lease, tell}
 use Rattle.gs_server.specs.Lifts.{gone_on}
 use Rattle.gs_server.specs.Places.{Place, Here, Part, SlotChange, SlotStays, SlotBecomes, SlotMarked, LeaseChange, LeaseStays, LeaseBecomes, LeaseSpent, after, slot_after, lease_after, marked_by, damaged_block, other_epoch, promising}
 use Rattle.gs_server.specs.Promises as messages

@@ -16,11 +16,12 @@ use Rattle.gs_msg.specs.declared.node.NodeId.{NodeId}
 use Rattle.gs_msg.specs.Ops.{in_replica}
 use Rattle.gs_store.specs.Slots.{Live, Slot, first_of, when, unless, unless_live, unless_promised, check_grant, take_lease, is_taken, taking}
 use Rattle.gs_store.specs.Serving.{done_in, apply}
+use Rattle.gs_primary.specs.Numbering.{numbered_op, is_passed}
 use Rattle.gs_server.specs.declared.turn.KeptRefusal.{KeptRefusal}
-use Rattle.gs_server.specs.Leases.{Lease, renews, settled, hears, dones}
+use Rattle.gs_primary.specs.Leases.{Lease, renews, settled, hears, dones}
 use Rattle.gs_server.specs.Places.{Place, Here, Part, SlotChange, SlotStays, SlotBecomes, SlotMarked, marked_by, damaged_block, or_else, other_epoch, unanswered, sending, after, count_or_none}
 use Rattle.gs_server.specs.Holding.{grant, is_held, takes, goes_on, supplies_to, from_server, unless_leased}
-use Rattle.gs_server.specs.Edits.{edit, new_edit, unless_numbered, numbers_or_passes, unless_holding, unless_over, unless_there, is_too_long, bytes_of, bytes_or_none, refused_edit, refused_once, repeated, is_known_of_all, unless_kept, unless_done, forward, declines}
+use Rattle.gs_server.specs.Edits.{edit, new_edit, unless_numbered, numbers_or_passes, unless_holding, unless_over, unless_there, bytes_of, bytes_or_none, refused_edit, refused_once, repeated, is_known_of_all, unless_kept, unless_done, forward, declines}
 use Rattle.gs_server.specs.Edits as edits
 use Rattle.gs_server.specs.Promises as promising
 use Rattle.gs_server.specs.Holding as holding
@@ -29,7 +30,7 @@ use Rattle.gs_store.specs.Moves as moves
 use Rattle.gs_replica.specs.declared.op.Outcome.TheVariants.{Padded}
 use Rattle.gs_server.specs.Fetches as fetching
 use Rattle.gs_server.specs.Servers.{about_chunk}
-use Rattle.gs_server.specs.declared.lease.Open.{Open}
+use Rattle.gs_primary.specs.declared.lease.Open.{Open}
 use Rattle.gs_replica.specs.Copies.{Image, SealedImage}
 use Rattle.gs_msg.specs.declared.node.NodeId.TheVariants as nodes
 use Rattle.gs_msg.specs.declared.message.Message.{Message}
@@ -271,8 +272,8 @@ leaves_passes : (h : Here) (p : Place) (req : ReqId) (op : Op) (bytes : List ℕ
 leaves_passes h p req op bytes None l = leaves_edit_refused h p req refusals.NoReplica
 leaves_passes h p req op bytes (Some live) None = leaves_edit_refused h p req refusals.NotPrimary
 leaves_passes h p req op bytes (Some live) (Some l) =
-    let edit : Open = edits.opened req (edits.numbered_op h.chunk (length live.replica.held.chunk.bytes) op) bytes live in
-    leaves_either (Some req) (edits.is_passed h.chunk (length live.replica.held.chunk.bytes) op) (sending (edits.done h req (Ok Padded) ∷ [])) (edits.numbers_as h p live l edit) (tt, tt)
+    let edit : Open = edits.opened req (numbered_op h.chunk (length live.replica.held.chunk.bytes) op) bytes live in
+    leaves_either (Some req) (is_passed h.chunk (length live.replica.held.chunk.bytes) op) (sending (edits.done h req (Ok Padded) ∷ [])) (edits.numbers_as h p live l edit) (tt, tt)
     (leaves_numbers_if h p l live.replica.held.count edit (apply l.grant.stamp (live.replica.held.count + 1) edit.req (in_replica edit.op) edit.bytes p.slot))
 
 leaves_kept : (h : Here) (req : ReqId) (kept : Option KeptRefusal) (part : Part) → LeavesIfRefused (Some req) part → LeavesIfRefused (Some req) (unless_kept h req kept part)

@@ -1,5 +1,3 @@
-mod Lists
-mod Opening
 mod Applied
 mod Forwarded
 mod Edited

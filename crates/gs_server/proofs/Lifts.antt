@@ -12,7 +12,7 @@ use Rattle.gs_msg.specs.declared.node.NodeId.TheVariants as nodes
 use Rattle.gs_msg.specs.declared.body.Body.TheVariants as bodies
 use Rattle.gs_store.proofs.StoreLaws.{slot_goes}
 use Rattle.gs_store.specs.Stores as stores
-use Rattle.gs_server.specs.Leases.{Lease, tell}
+use Rattle.gs_primary.specs.Leases.{Lease, tell}
 use Rattle.gs_server.specs.Lifts.{ticked, restarted, lease_at, gone_on, with_lease}
 use Rattle.gs_server.specs.Servers.{Server, Step, place_of, store_of, tick, restart, learn, learned, leases_after}
 use Rattle.gs_server.specs.inner.Learning.{next_of}

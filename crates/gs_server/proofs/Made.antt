@@ -20,7 +20,7 @@ use Rattle.gs_msg.specs.declared.node.NodeId.TheVariants as nodes
 use Rattle.gs_msg.specs.declared.body.Body.TheVariants as bodies
 use Rattle.gs_msg.specs.declared.chunk.Chunk.TheVariants as chunks
 use Rattle.gs_lease.specs.declared.held.Grant.{Grant}
-use Rattle.gs_server.specs.Leases.{tell, granted}
+use Rattle.gs_primary.specs.Leases.{tell, granted}
 use Rattle.gs_server.specs.Holding.{takes}
 use Rattle.gs_msg.specs.declared.body.Given.{Given}
 use Rattle.gs_server.specs.Fetches.{refuses, gives, giving}

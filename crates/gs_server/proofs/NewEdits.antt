@@ -15,11 +15,12 @@ use Rattle.gs_msg.specs.Ops.{in_replica}
 use Rattle.gs_replica.specs.Edits.{outcome_of}
 use Rattle.gs_store.specs.Slots.{Live, first_of, when, unless_live}
 use Rattle.gs_store.specs.Serving.{length_in, done_in}
+use Rattle.gs_primary.specs.Numbering.{is_too_long, numbered_op, is_passed}
 use Rattle.gs_server.specs.declared.numbering.NewEdit.{NewEdit}
 use Rattle.gs_server.specs.declared.turn.Turn.{Turn}
-use Rattle.gs_server.specs.Leases.{Lease}
+use Rattle.gs_primary.specs.Leases.{Lease}
 use Rattle.gs_server.specs.Places.{Part, Place, Here, or_else, sending}
-use Rattle.gs_server.specs.Edits.{bytes_of, bytes_or_none, applied_bytes, has_bytes, opened, done, refused_edit, numbers_as, numbers_or_passes, new_edit, unless_numbered, unless_holding, unless_over, unless_there, is_too_long, numbered_op, is_passed}
+use Rattle.gs_server.specs.Edits.{bytes_of, bytes_or_none, applied_bytes, has_bytes, opened, done, refused_edit, numbers_as, numbers_or_passes, new_edit, unless_numbered, unless_holding, unless_over, unless_there}
 use Rattle.gs_server.specs.Servers.{Server, Steps, step_of, here_of, place_of}
 use Rattle.gs_server.specs.inner.Answering.{kept_by, repeated_by}
 use Rattle.gs_server.specs.inner.Numbering.{IsReady}

@@ -10,10 +10,10 @@ use Rattle.gs_store.specs.Buffers.{pushed}
 use Rattle.gs_store.specs.Serving.{length_in}
 use Rattle.gs_store.specs.Stores.{Store, slot_of}
 use Rattle.gs_server.specs.declared.applying.Numbered.{Numbered}
-use Rattle.gs_server.specs.declared.lease.Open.{Open}
+use Rattle.gs_primary.specs.declared.lease.Open.{Open}
 use Rattle.gs_server.specs.declared.turn.Turn.{Turn}
 use Rattle.gs_server.specs.Edits.{bytes_of, bytes_or_none}
-use Rattle.gs_server.specs.Leases.{Lease, forwards, done_at_once, opens_edit}
+use Rattle.gs_primary.specs.Leases.{Lease, forwards, done_at_once, opens_edit}
 use Rattle.gs_server.specs.Servers.{Server, Steps, store_of, with_store, with_leases}
 use Rattle.gs_server.specs.inner.Answering.{kept_by}
 use Rattle.gs_server.specs.inner.Applying.{applied_with}

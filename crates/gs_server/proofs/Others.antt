@@ -18,7 +18,7 @@ use Rattle.gs_store.proofs.StoreLaws.{other_slot}
 use Rattle.gs_store.proofs.Places.{same_key}
 use Rattle.gs_server.specs.declared.turn.KeptRefusal.{KeptRefusal}
 use Rattle.gs_server.specs.Laws.{LeavesTheRest, LeavesAllBut, is_of_client, is_asked_by}
-use Rattle.gs_server.specs.Leases.{Lease}
+use Rattle.gs_primary.specs.Leases.{Lease}
 use Rattle.gs_server.specs.Places.{Part, SlotChange, SlotStays, SlotBecomes, SlotMarked, LeaseChange, LeaseStays, LeaseBecomes, LeaseSpent}
 use Rattle.gs_server.specs.Servers.{Server, client_cmp, place_of, store_of, change_slot, change_lease, change_buffer, keep_refusal, changed_by, with_store, copies}
 use Rattle.gs_server.specs.Promises.{Copying}

@@ -38,7 +38,7 @@ use Rattle.gs_store.proofs.Running.{Goes, goes, keeps, never_below}
 use Rattle.gs_store.proofs.Running.{IsSpent, taken_spent, run_spent, spent_refused}
 use Rattle.gs_store.proofs.Named.{named_is}
 use Rattle.gs_server.specs.Laws as laws
-use Rattle.gs_server.specs.Leases.{Lease}
+use Rattle.gs_primary.specs.Leases.{Lease}
 use Rattle.gs_server.specs.Places.{Place}
 use Rattle.gs_server.specs.Promises as messages
 use Rattle.gs_server.specs.Promises.{Copying}

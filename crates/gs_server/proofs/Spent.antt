@@ -7,7 +7,7 @@ use Rattle.std.specs.Ordering.{nat_cmp, eq_by_cmp}
 use Rattle.std.specs.Cmp.{nat_cmp_total}
 use Rattle.gs_base.specs.declared.numbers.Moment.{Moment}
 use Rattle.gs_store.proofs.Keys.{passes, any_key}
-use Rattle.gs_server.specs.Leases.{Lease, is_over}
+use Rattle.gs_primary.specs.Leases.{Lease, is_over}
 use Rattle.gs_server.specs.Servers.{standing_leases, stands_at}
 use Rattle.gs_server.specs.inner.Spending.{over_of, without}
 

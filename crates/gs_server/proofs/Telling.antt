@@ -19,12 +19,13 @@ use Rattle.gs_msg.specs.Ops.{in_replica}
 use Rattle.gs_msg.specs.declared.message.Message.{Message}
 use Rattle.gs_store.specs.Slots.{Live, Slot}
 use Rattle.gs_store.specs.Serving.{done_in, apply}
+use Rattle.gs_primary.specs.Numbering.{numbered_op, is_passed}
 use Rattle.gs_server.specs.declared.turn.KeptRefusal.{KeptRefusal}
-use Rattle.gs_server.specs.declared.lease.Open.{Open}
-use Rattle.gs_server.specs.Leases.{Lease, told_by, lacks, hears, waits, waits_for, opens_edit, is_acknowledged, done_of, dones, done_at_once, forward_of, forwards, settled}
+use Rattle.gs_primary.specs.declared.lease.Open.{Open}
+use Rattle.gs_primary.specs.Leases.{Lease, told_by, lacks, hears, waits, waits_for, opens_edit, is_acknowledged, done_of, dones, done_at_once, forward_of, forwards, settled}
 use Rattle.gs_server.specs.Places.{Place, Here, Part, SlotChange, SlotStays, SlotBecomes, SlotMarked, LeaseChange, LeaseStays, LeaseBecomes, LeaseSpent, marked_by, damaged_block, or_else, sending, unanswered, after}
 use Rattle.gs_server.specs.Holding.{unless_leased, goes_on, ack}
-use Rattle.gs_server.specs.Edits.{edit, new_edit, unless_numbered, numbers, numbers_if, numbers_as, numbers_or_passes, opened, numbered_op, is_passed, bytes_of, bytes_or_none, last_count, done, refused_edit, refused_once, repeated, is_known_of_all, unless_kept, unless_done}
+use Rattle.gs_server.specs.Edits.{edit, new_edit, unless_numbered, numbers, numbers_if, numbers_as, numbers_or_passes, opened, bytes_of, bytes_or_none, last_count, done, refused_edit, refused_once, repeated, is_known_of_all, unless_kept, unless_done}
 use Rattle.gs_server.specs.Laws.{is_yes, IsToldByAll, IsToldUnder, IsDoneUnder, IsKnownToAll, IsHeldFor, padding}
 use Rattle.gs_server.proofs.Made.{inside}
 use Rattle.gs_server.proofs.Counted.{same_stamp, both_first, both_second}

@@ -30,9 +30,10 @@ use Rattle.gs_store.specs.Calls.{Call, Creates, Advances, CopiesIn, TakesCopy, D
 use Rattle.gs_store.proofs.Laws.{Holds, of_ok, of_unless}
 use Rattle.gs_store.proofs.Standing.{of_live}
 use Rattle.gs_store.proofs.Running.{is_granted, first_none}
+use Rattle.gs_primary.specs.Numbering.{numbered_op, is_passed}
 use Rattle.gs_server.specs.declared.turn.KeptRefusal.{KeptRefusal}
-use Rattle.gs_server.specs.declared.lease.Open.{Open}
-use Rattle.gs_server.specs.Leases.{Lease, granted, renews, settled, hears, dones, is_acknowledged, waits_for, opens_edit}
+use Rattle.gs_primary.specs.declared.lease.Open.{Open}
+use Rattle.gs_primary.specs.Leases.{Lease, granted, renews, settled, hears, dones, is_acknowledged, waits_for, opens_edit}
 use Rattle.gs_server.specs.Places.{Place, Here, Part, LeaseStays, LeaseSpent, after, lease_after, of_promise, slot_after, marked_by, damaged_block, or_else, other_epoch, unanswered, sending}
 use Rattle.gs_server.specs.Promises as promising
 use Rattle.gs_server.specs.Holding.{takes, goes_on, supplies_to, from_server, unless_leased, is_held}
@@ -265,8 +266,8 @@ numbering h chunk s req op bytes None lease = edit_refused h chunk (record { slo
 numbering h chunk s req op bytes (Some live) None = edit_refused h chunk (record { slot = s; lease = None }) req refusals.NotPrimary
 numbering h chunk s req op bytes (Some live) (Some l) =
     let p : Place = record { slot = s; lease = Some l } in
-    let edit : Open = edits.opened req (edits.numbered_op h.chunk (length live.replica.held.chunk.bytes) op) bytes live in
-    either_does h chunk p (edits.is_passed h.chunk (length live.replica.held.chunk.bytes) op) (sending (edits.done h req (Ok Padded) ∷ [])) (edits.numbers_as h p live l edit) (nothing h chunk p)
+    let edit : Open = edits.opened req (numbered_op h.chunk (length live.replica.held.chunk.bytes) op) bytes live in
+    either_does h chunk p (is_passed h.chunk (length live.replica.held.chunk.bytes) op) (sending (edits.done h req (Ok Padded) ∷ [])) (edits.numbers_as h p live l edit) (nothing h chunk p)
     (numbering_if h chunk s l live.replica.held.count edit (apply l.grant.stamp (live.replica.held.count + 1) edit.req (in_replica edit.op) edit.bytes s) refl)
 
 kept_does : (h : Here) (chunk : Chunk) (p : Place) (req : ReqId) (kept : Option KeptRefusal) (part : Part) → Does h chunk p part → Does h chunk p (unless_kept h req kept part)

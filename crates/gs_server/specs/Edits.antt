@@ -1,5 +1,5 @@
 -- Edits: what a primary numbers, and what a member applies.
-use Rattle.std.specs.Prelude.{◌≡◌, ℕ, ◌+◌, ◌-◌, ◌/◌, ◌^◌, ◌==◌, ◌&&◌, ◌||◌, not, nat_le, nat_lt, cond, Bool, true, false, List, [], ◌∷◌, ◌++◌, length, Option, Some, None, Result, Ok, Err, refl}
+use Rattle.std.specs.Prelude.{◌≡◌, ℕ, ◌+◌, ◌-◌, ◌^◌, ◌==◌, ◌&&◌, ◌||◌, not, nat_le, nat_lt, cond, Bool, true, false, List, [], ◌∷◌, ◌++◌, length, Option, Some, None, Result, Ok, Err, refl}
 use Rattle.gs_base.specs.declared.numbers.Moment.{Moment}
 use Rattle.gs_base.specs.declared.numbers.Stamp.{Stamp}
 use Rattle.gs_base.specs.declared.numbers.ReqId.{ReqId}
@@ -20,9 +20,10 @@ use Rattle.gs_msg.specs.declared.body.Body.TheVariants as bodies
 use Rattle.gs_msg.specs.declared.chunk.Chunk.TheVariants as chunks
 use Rattle.gs_store.specs.Slots.{Live, Slot, first_of, when, unless_live, unless_promised, standing, dropped, empty_replica, sealed_replica}
 use Rattle.gs_store.specs.Serving.{apply, done_in}
-use Rattle.gs_server.specs.declared.lease.Open.{Open}
+use Rattle.gs_primary.specs.declared.lease.Open.{Open}
 use Rattle.gs_server.specs.declared.turn.KeptRefusal.{KeptRefusal}
-use Rattle.gs_server.specs.Leases.{Lease, tell, is_over, waits, opens_edit, done_at_once, forwards, granted, stamp_of, moment_of, request_of}
+use Rattle.gs_primary.specs.Leases.{Lease, tell, is_over, waits, opens_edit, done_at_once, forwards, granted, stamp_of, moment_of, request_of}
+use Rattle.gs_primary.specs.Numbering.{is_too_long, numbered_op, is_passed}
 use Rattle.gs_server.specs.Places.{Place, Here, SlotStays, SlotBecomes, LeaseStays, LeaseBecomes, Part, about, sending, refused, or_else, damaged_block, marked_by, tells_bad}
 use Rattle.gs_server.specs.Promises.{here, unleased}
 use Rattle.gs_server.specs.Holding.{quiet, numbering, grant_of}
@@ -55,24 +56,6 @@ abbrev pub has_bytes : Op → Bool
 has_bytes (Write offset many) = true
 has_bytes (Append many) = true
 has_bytes Pad = false
-
--- a record has at most a quarter of a chunk
-abbrev pub is_too_long : ℕ → Op → Bool
-is_too_long chunk (Write offset many) = false
-is_too_long chunk (Append many) = nat_lt (chunk / 4) many
-is_too_long chunk Pad = false
-
--- an append that doesn't fit is numbered as a pad
-abbrev pub numbered_op : ℕ → ℕ → Op → Op
-numbered_op chunk stored (Write offset many) = Write offset many
-numbered_op chunk stored (Append many) = cond (nat_lt chunk (stored + many)) Pad (Append many)
-numbered_op chunk stored Pad = Pad
-
--- and on a full chunk there is nothing to pad
-abbrev pub is_passed : ℕ → ℕ → Op → Bool
-is_passed chunk stored (Write offset many) = false
-is_passed chunk stored (Append many) = (stored == chunk) && nat_lt chunk (stored + many)
-is_passed chunk stored Pad = false
 
 abbrev pub applied_bytes : Op → List ℕ → List ℕ
 applied_bytes op bytes = cond (has_bytes op) bytes []
@@ -271,12 +254,6 @@ without_bytes = refl
 bytes_of_another_length : new_edit pushed_here led asked (stamp_of 2 1) (Append 3) ≡ refused_edit here led asked refusals.NoData
 bytes_of_another_length = refl
 
-longer_than_a_quarter : is_too_long 16 (Append 5) ≡ true
-longer_than_a_quarter = refl
-
-as_long_as_a_quarter : is_too_long 16 (Append 4) ≡ false
-as_long_as_a_quarter = refl
-
 at_the_last_count : (s : Slot) → numbers_if pushed_here led (granted (grant_of 2 1)) last_count an_append (Ok s) ≡ refused_edit pushed_here led asked refusals.Exhausted
 at_the_last_count s = refl
 
@@ -284,18 +261,6 @@ at_the_last_count s = refl
 a_damaged_block : (numbers_if pushed_here led (granted (grant_of 2 1)) last_count an_append (Err (refusals.Damaged 3))).sent ≡
     done pushed_here asked (Err (refusals.Damaged 3)) ∷ about pushed_here nodes.Master (chunks.Bad (stamp_of 2 1)) ∷ []
 a_damaged_block = refl
-
-that_fits : numbered_op 16 14 (Append 2) ≡ Append 2
-that_fits = refl
-
-that_does_not_fit : numbered_op 16 14 (Append 3) ≡ Pad
-that_does_not_fit = refl
-
-on_a_full_chunk : is_passed 16 16 (Append 1) ≡ true
-on_a_full_chunk = refl
-
-a_pad_on_a_full_chunk_is_an_edit : is_passed 16 16 Pad ≡ false
-a_pad_on_a_full_chunk_is_an_edit = refl
 
 a_pad_wants_no_bytes : bytes_of Pad None None ≡ Some []
 a_pad_wants_no_bytes = refl

@@ -10,7 +10,7 @@ use Rattle.gs_msg.specs.declared.node.NodeId.{NodeId}
 use Rattle.gs_msg.specs.declared.node.NodeId.TheVariants as nodes
 use Rattle.gs_msg.specs.declared.message.Message.{Message}
 use Rattle.gs_store.specs.Slots.{Slot, first_of, when, check_grant, take_lease, taking, standing, empty_replica}
-use Rattle.gs_server.specs.Leases.{Lease, granted, hears, settled, dones, supplies, renews, stamp_of, moment_of, waiting, two_bytes, done_of, forward_of}
+use Rattle.gs_primary.specs.Leases.{Lease, granted, hears, settled, dones, supplies, renews, stamp_of, moment_of, waiting, two_bytes, done_of, forward_of}
 use Rattle.gs_server.specs.Places.{Place, Here, SlotStays, SlotBecomes, LeaseBecomes, Part, after, changing, sending, unanswered, or_else, other_epoch}
 use Rattle.gs_server.specs.Promises.{here, unleased}
 

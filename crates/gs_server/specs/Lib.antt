@@ -1,4 +1,3 @@
-pub mod Leases
 pub mod Places
 pub mod Promises
 pub mod Holding

@@ -4,7 +4,7 @@ use Rattle.gs_base.specs.declared.numbers.Moment.{Moment}
 use Rattle.gs_base.specs.declared.epoch.EpochEnd.{EpochEnd}
 use Rattle.gs_base.specs.declared.epoch.EpochEnd.TheVariants.{Prepare, Finalize, Rollback}
 use Rattle.gs_store.specs.Stores as stores
-use Rattle.gs_server.specs.Leases.{Lease, moment_of}
+use Rattle.gs_primary.specs.Leases.{Lease, moment_of}
 use Rattle.gs_server.specs.Places.{Place}
 use Rattle.gs_server.specs.Holding.{numbering}
 use Rattle.gs_server.specs.Servers.{stands_at}

@@ -13,7 +13,7 @@ use Rattle.gs_msg.specs.declared.chunk.Chunk.TheVariants as chunks
 use Rattle.gs_msg.specs.declared.body.Body.TheVariants as bodies
 use Rattle.gs_store.specs.Slots.{Slot, when, mark_bad, nothing}
 use Rattle.gs_server.specs.declared.turn.KeptRefusal.{KeptRefusal}
-use Rattle.gs_server.specs.Leases.{Lease, tell}
+use Rattle.gs_primary.specs.Leases.{Lease, tell}
 
 -- the slot, which is kept for good, and the lease that is held
 pub record Place : Type 0 where

@@ -29,7 +29,7 @@ use Rattle.gs_msg.specs.declared.chunk.Chunk.TheVariants as chunks
 use Rattle.gs_server.specs.declared.turn.KeptRefusal.{KeptRefusal}
 use Rattle.gs_server.specs.declared.turn.Turn.{Turn}
 use Rattle.gs_server.specs.contracts.turn.KeptRefusal as kept_refusals
-use Rattle.gs_server.specs.Leases.{Lease, coded_lease, tell, reminds, is_over}
+use Rattle.gs_primary.specs.Leases.{Lease, coded_lease, tell, reminds, is_over}
 use Rattle.gs_server.specs.Places.{Place, Here, Part, SlotChange, SlotStays, SlotBecomes, SlotMarked, LeaseChange, LeaseStays, LeaseBecomes, LeaseSpent, unanswered}
 use Rattle.gs_server.specs.Promises as promises
 use Rattle.gs_server.specs.Promises.{Copying}

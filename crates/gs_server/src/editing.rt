@@ -5,19 +5,19 @@ ghost use Rattle.gs_msg.specs.declared.body.Body.TheVariants.{Done};
 ghost use Rattle.gs_msg.specs.declared.node.NodeId.TheVariants.{Client};
 ghost use Rattle.gs_store.specs.Serving.{done_in};
 ghost use Rattle.gs_store.specs.Stores.{slot_of};
-ghost use Rattle.gs_server.specs.Leases.{tell};
+ghost use Rattle.gs_primary.specs.Leases.{tell};
 ghost use Rattle.gs_server.specs.Edits.{is_known_of_all};
 ghost use Rattle.gs_server.specs.Edits as edits;
 ghost use Rattle.gs_server.specs.Servers.{Steps, step_of, here_of, place_of, store_of};
 ghost use Rattle.gs_server.specs.inner.Again.{again, again_as_refused, StepsAgain};
 ghost use Rattle.gs_server.specs.inner.Answering.{refused_once_by, kept_by, repeated_by};
 
-use crate::lease::tell;
 use crate::numbering::NewEdit;
 use crate::server::Server;
 use crate::turn::{KeptRefusal, Turn};
 use gs_base::{Handle, Moment, Refusal, ReqId, Stamp};
 use gs_msg::{Body, Message, NodeId, Op};
+use gs_primary::{Recency, tell};
 use gs_replica::Outcome;
 
 impl Server {
@@ -102,13 +102,11 @@ impl Server {
         ensures { StepsAgain (again_as_refused req self.now (fin.get self.now.kept.refused req.client)) result self.now }
     {
         let kept = self.refused.get(req.client)?;
-        if req.number < kept.number {
-            return Some(self.refuse_once(req, &Refusal::Old));
+        match Recency::of(req.number, kept.number) {
+            Recency::New => None,
+            Recency::Repeated => Some(self.refuse_once(req, &kept.refusal)),
+            Recency::Old => Some(self.refuse_once(req, &Refusal::Old)),
         }
-        if req.number == kept.number {
-            return Some(self.refuse_once(req, &kept.refusal));
-        }
-        None
     }
 
     /// What is answered to an edit that was heard before. It is `None` of a new one.
@@ -118,13 +116,11 @@ impl Server {
         let Some(last) = self.store.done(handle, req.client) else {
             return self.answer_refused(req);
         };
-        if req.number == last.number {
-            return Some(self.repeat(handle, req, last.outcome));
+        match Recency::of(req.number, last.number) {
+            Recency::New => self.answer_refused(req),
+            Recency::Repeated => Some(self.repeat(handle, req, last.outcome)),
+            Recency::Old => Some(self.refuse_once(req, &Refusal::Old)),
         }
-        if req.number < last.number {
-            return Some(self.refuse_once(req, &Refusal::Old));
-        }
-        self.answer_refused(req)
     }
 
     /// An edit that a client asks for. One that was heard before is answered again, and a new one is numbered.

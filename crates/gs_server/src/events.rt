@@ -3,11 +3,11 @@ ghost use Rattle.gs_block.specs.Follows.{Does};
 ghost use Rattle.gs_server.specs.Servers.{Steps, push, lose, damage, restart, beat, reported};
 ghost use Rattle.gs_store.specs.Stores.{report};
 
-use crate::lease::tell;
 use crate::server::Server;
 use crate::turn::Turn;
 use gs_base::{Handle, Refusal, ReqId};
 use gs_msg::{Body, Bytes, Items, Message, NodeId, Reported};
+use gs_primary::tell;
 use gs_store::Store;
 use gs_table::Table;
 use std::alloc::{AllocError, Global};

@@ -4,15 +4,15 @@ ghost use Rattle.gs_block.specs.Follows.{Makes};
 ghost use Rattle.gs_store.specs.Stores.{slot_of};
 ghost use Rattle.gs_msg.specs.declared.body.Body.TheVariants.{Bytes as Told};
 ghost use Rattle.gs_msg.specs.declared.node.NodeId.TheVariants.{Client};
-ghost use Rattle.gs_server.specs.Leases.{tell};
+ghost use Rattle.gs_primary.specs.Leases.{tell};
 ghost use Rattle.gs_server.specs.Fetches.{fetch, given, refuses};
 ghost use Rattle.gs_server.specs.Servers.{Steps, step_of, here_of, place_of, store_of};
 
-use crate::lease::tell;
 use crate::server::Server;
 use crate::turn::Turn;
 use gs_base::{Handle, Moment, Refusal, ReqId, Stamp};
 use gs_msg::{Asked, Body, Bytes, Given, Message, NodeId};
+use gs_primary::tell;
 
 impl Server {
     fn answer_fetch(&self, req: ReqId, found: Result<Given, Refusal>) -> Message

@@ -1,11 +1,8 @@
 ghost use Rattle.std.specs.Prelude.{◌≡◌, Some, Err};
 ghost use Rattle.gs_base.specs.declared.refusal.Refusal.TheVariants.{Memory};
-ghost use Rattle.gs_msg.specs.declared.body.Body.TheVariants.{About};
-ghost use Rattle.gs_msg.specs.declared.chunk.Chunk.TheVariants.{Ack};
 ghost use Rattle.gs_store.specs.Buffers.{pushed};
 ghost use Rattle.gs_store.specs.Slots.{count_of};
 ghost use Rattle.gs_store.specs.Stores.{slot_of};
-ghost use Rattle.gs_server.specs.Leases.{tell};
 ghost use Rattle.gs_server.specs.Places.{count_or_none};
 ghost use Rattle.gs_server.specs.Edits.{bytes_of, forward};
 ghost use Rattle.gs_server.specs.Servers.{Steps, step_of, here_of, place_of, store_of};
@@ -17,7 +14,8 @@ use crate::sending::Sending;
 use crate::server::Server;
 use crate::turn::Turn;
 use gs_base::{Handle, Moment, Refusal, Stamp};
-use gs_msg::{Bytes, Chunk, Message, NodeId};
+use gs_msg::{Bytes, Chunk, NodeId};
+use gs_primary::{acknowledgement, count_under};
 
 impl Server {
     /// How many edits the live replica has applied, and 0 where none is live.
@@ -25,12 +23,6 @@ impl Server {
         ensures { result ≡ count_or_none (count_of (slot_of handle (store_of self.now)).live) }
     {
         self.store.count(handle).unwrap_or(0)
-    }
-
-    fn acknowledgement(&self, handle: Handle, to: NodeId, stamp: Stamp, count: u64) -> Message
-        ensures { result ≡ tell self.now.me to (About handle (Ack stamp count)) }
-    {
-        self.about(handle, to, Chunk::Ack { stamp, count })
     }
 
     /// Says that an edit isn't taken. Want of memory is handed on.
@@ -70,7 +62,7 @@ impl Server {
         let mut sent = Sending::with_room(self.alloc, 1)?;
         match apply(&mut self.store, handle, edit, carried) {
             Ok(()) => {
-                sent.put(self.acknowledgement(handle, from, edit.stamp, edit.number));
+                sent.put(acknowledgement(self.id, handle, from, edit.stamp, edit.number));
                 Ok(Turn {
                     sent: sent.into_messages(),
                     said: None,
@@ -91,13 +83,14 @@ impl Server {
     ) -> Result<Turn, Refusal>
         ensures { Steps (step_of handle (Some edit.req) (forward (here_of self.old moment handle (Some edit.req)) (place_of handle self.old) from edit.stamp edit.number edit.req edit.op carried) self.old) result self.old self.new }
     {
-        if let Err(refusal) = self.store.check_grant(handle, edit.stamp) {
-            return self.decline(handle, from, edit.stamp, refusal);
-        }
-        let count = self.count(handle);
+        let promise = self.store.promised(handle);
+        let count = match count_under(edit.stamp, promise, self.store.count(handle)) {
+            Ok(count) => count,
+            Err(refusal) => return self.decline(handle, from, edit.stamp, refusal),
+        };
         if edit.number <= count {
             let mut sent = Vec::new(self.alloc);
-            sent.push(self.acknowledgement(handle, from, edit.stamp, count))?;
+            sent.push(acknowledgement(self.id, handle, from, edit.stamp, count))?;
             return Ok(Turn { sent, said: None });
         }
         if count + 1 < edit.number {

@@ -5,12 +5,12 @@ ghost use Rattle.gs_store.specs.Stores.{slot_of};
 ghost use Rattle.gs_server.specs.Servers.{Steps, step_of, here_of, place_of, store_of};
 ghost use Rattle.gs_server.specs.Holding.{grant, renewed, ack, nack, is_held, unless_leased, wants_bytes};
 
-use crate::lease::Lease;
 use crate::leases::{renew, settle};
 use crate::server::Server;
 use crate::turn::Turn;
 use gs_base::{Handle, Moment, Refusal, ServerId, Stamp};
 use gs_lease::Grant;
+use gs_primary::Lease;
 
 impl Server {
     fn is_held(&self, handle: Handle, stamp: Stamp) -> bool

@@ -4,12 +4,12 @@ ghost use Rattle.gs_store.specs.Stores.{Performs, named};
 ghost use Rattle.gs_server.specs.Servers.{Steps, learn, named_at, store_of};
 ghost use Rattle.gs_server.specs.inner.Learning.{gone_on};
 
-use crate::lease::tell;
 use crate::sending::Sending;
 use crate::server::Server;
 use crate::turn::Turn;
 use gs_base::{EpochEnd, Handle, Refusal};
 use gs_msg::{Body, Items, NodeId};
+use gs_primary::tell;
 use gs_table::Table;
 
 impl Server {

@@ -4,11 +4,11 @@ ghost use Rattle.std.specs.FinMap as fin;
 ghost use Rattle.std.specs.Ordering.{nat_cmp};
 ghost use Rattle.gs_table.specs.Slots.{live, HasRoom};
 ghost use Rattle.gs_base.specs.declared.refusal.Refusal.TheVariants.{Memory};
-ghost use Rattle.gs_server.specs.Leases.{Lease, settled, with_told, renews};
+ghost use Rattle.gs_primary.specs.Leases.{Lease, settled, with_told, renews};
 ghost use Rattle.gs_server.specs.inner.Spending.{over_of, without};
 
-use crate::lease::{Lease, RoomyLease, ToldCounts};
 use gs_base::{Handle, Moment, Refusal};
+use gs_primary::{Lease, RoomyLease, ToldCounts};
 use gs_table::Table;
 use std::alloc::{AllocError, Global};
 

@@ -10,7 +10,6 @@ mod forwarding;
 mod handling;
 mod holding;
 mod learning;
-mod lease;
 mod leases;
 mod making;
 mod numbering;
@@ -21,6 +20,5 @@ mod server;
 mod ticking;
 mod turn;
 
-pub use lease::{Lease, Open};
 pub use server::Server;
 pub use turn::{KeptRefusal, Turn};

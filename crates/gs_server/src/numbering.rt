@@ -9,19 +9,19 @@ ghost use Rattle.gs_store.specs.Slots.{Live};
 ghost use Rattle.gs_store.specs.Serving.{done_in, length_in};
 ghost use Rattle.gs_store.specs.Stores.{slot_of};
 ghost use Rattle.gs_store.specs.Whole.{LiveUnder};
-ghost use Rattle.gs_server.specs.Leases.{Lease};
-ghost use Rattle.gs_server.specs.Edits.{bytes_of, new_edit, unless_numbered, is_too_long, numbered_op, is_passed, opened, numbers_as};
+ghost use Rattle.gs_primary.specs.Leases.{Lease};
+ghost use Rattle.gs_server.specs.Edits.{bytes_of, new_edit, unless_numbered, opened, numbers_as};
 ghost use Rattle.gs_server.specs.Servers.{Steps, step_of, here_of, place_of, store_of};
 ghost use Rattle.gs_server.specs.inner.Answering.{repeated_by};
-ghost use Rattle.gs_server.specs.inner.Numbering.{outcome_at, told_of, numbered_by, refused_at_last, IsReady};
+ghost use Rattle.gs_server.specs.inner.Numbering.{told_of, numbered_by, refused_at_last, IsReady};
 
 use crate::applying::{Numbered, apply_buffered};
-use crate::lease::Open;
 use crate::leases::take_roomy;
 use crate::server::Server;
 use crate::turn::Turn;
 use gs_base::{Handle, Moment, Refusal, ReqId, Stamp};
 use gs_msg::{Bytes, Message, Op};
+use gs_primary::{Open, is_passed, is_too_long, numbered_op, outcome_at};
 use gs_replica::Outcome;
 use std::alloc::AllocError;
 
@@ -214,56 +214,5 @@ impl Server {
         }
         let op = numbered_op(chunk, stored, edit.op);
         self.number_next(handle, NewEdit { op, ..edit })
-    }
-}
-
-/// What an edit answers where so many bytes are stored.
-fn outcome_at(stored: u64, op: Op) -> Outcome
-    ensures { result ≡ outcome_at stored op }
-{
-    match op {
-        Op::Write { .. } => Outcome::Written,
-        Op::Append { .. } => Outcome::Appended(stored),
-        Op::Pad => Outcome::Padded,
-    }
-}
-
-/// Whether so many bytes more fit into a chunk of this size.
-fn fits(chunk: u64, stored: u64, many: u64) -> bool
-    ensures { result ≡ not (nat_lt chunk (stored + many)) }
-{
-    match stored.checked_add(many) {
-        Some(end) => end <= chunk,
-        None => false,
-    }
-}
-
-/// Whether a record is longer than a quarter of a chunk.
-fn is_too_long(chunk: u64, op: Op) -> bool
-    ensures { result ≡ is_too_long chunk op }
-{
-    match op {
-        Op::Append { length } => length > chunk / 4,
-        Op::Write { .. } | Op::Pad => false,
-    }
-}
-
-/// The edit that is numbered: a pad where an append doesn't fit.
-fn numbered_op(chunk: u64, stored: u64, op: Op) -> Op
-    ensures { result ≡ numbered_op chunk stored op }
-{
-    match op {
-        Op::Append { length } if !fits(chunk, stored, length) => Op::Pad,
-        op => op,
-    }
-}
-
-/// Whether nothing is numbered, since the chunk is full.
-fn is_passed(chunk: u64, stored: u64, op: Op) -> bool
-    ensures { result ≡ is_passed chunk stored op }
-{
-    match op {
-        Op::Append { length } => stored == chunk && !fits(chunk, stored, length),
-        Op::Write { .. } | Op::Pad => false,
     }
 }

@@ -19,7 +19,7 @@ ghost use Rattle.gs_msg.specs.declared.chunk.Chunk.{Chunk};
 ghost use Rattle.gs_store.specs.Slots.{Live, Slot};
 ghost use Rattle.gs_store.specs.Serving.{apply, done_in};
 ghost use Rattle.gs_store.specs.Stores as stores;
-ghost use Rattle.gs_server.specs.Leases.{Lease, hears, forwards, done_at_once};
+ghost use Rattle.gs_primary.specs.Leases.{Lease, hears, forwards, done_at_once};
 ghost use Rattle.gs_server.specs.Places.{Place, Here, Part, SlotBecomes, LeaseBecomes, after};
 ghost use Rattle.gs_server.specs.Edits.{edit, forward};
 ghost use Rattle.gs_server.specs.Holding.{grant, ack};

@@ -1,17 +1,17 @@
 ghost use Rattle.std.specs.Prelude.{◌≡◌, ◌≤◌, [], None, IfOk};
 ghost use Rattle.gs_server.specs.Places.{damaged_block, marked_by};
 ghost use Rattle.gs_server.specs.Servers.{new, Steps, store_of, with_store, change_slot};
-ghost use Rattle.gs_server.specs.Leases.{tell};
+ghost use Rattle.gs_primary.specs.Leases.{tell};
 ghost use Rattle.gs_server.specs.inner.Answering.{refused_by, promised_by};
 ghost use Rattle.gs_msg.specs.declared.body.Body.TheVariants.{About};
 
-use crate::lease::{Lease, tell};
 use crate::leases::spend;
 use crate::sending::Sending;
 use crate::turn::{KeptRefusal, Turn};
 use gs_base::{ClientId, Config, Handle, Refusal, ServerId, Stamp};
 use gs_block::Sizes;
 use gs_msg::{Body, Chunk, Message, NodeId};
+use gs_primary::{Lease, tell};
 use gs_store::Store;
 use gs_table::Table;
 use std::alloc::{AllocError, Global};

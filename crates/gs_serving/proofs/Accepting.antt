@@ -15,10 +15,11 @@ use Rattle.gs_msg.specs.declared.node.NodeId.{NodeId}
 use Rattle.gs_store.specs.Slots.{Live, Slot, first_of, when, unless_live, unless_promised}
 use Rattle.gs_store.specs.Serving.{apply, done_in}
 use Rattle.gs_server.specs.declared.turn.KeptRefusal.{KeptRefusal}
-use Rattle.gs_server.specs.declared.lease.Open.{Open}
-use Rattle.gs_server.specs.Leases.{Lease}
+use Rattle.gs_primary.specs.declared.lease.Open.{Open}
+use Rattle.gs_primary.specs.Leases.{Lease}
+use Rattle.gs_primary.specs.Numbering.{is_too_long}
 use Rattle.gs_server.specs.Places.{Place, Here, Part, SlotBecomes, or_else, sending}
-use Rattle.gs_server.specs.Edits.{edit, new_edit, numbers_or_passes, numbers_as, numbers_if, numbers, forward, takes, takes_next, takes_if, unless_there, unless_holding, unless_over, unless_numbered, bytes_of, bytes_or_none, declines, acknowledges, refused_edit, refused_once, repeated, unless_kept, unless_done, is_too_long, done}
+use Rattle.gs_server.specs.Edits.{edit, new_edit, numbers_or_passes, numbers_as, numbers_if, numbers, forward, takes, takes_next, takes_if, unless_there, unless_holding, unless_over, unless_numbered, bytes_of, bytes_or_none, declines, acknowledges, refused_edit, refused_once, repeated, unless_kept, unless_done, done}
 use Rattle.gs_serving.specs.Editing.{MayBeTaken, MayBeNumbered, IsAboveDone, IsAboveKept, numbered_edit}
 
 above_count : (number count : ℕ) → number ≡ count + 1 → nat_le number count ≡ false

@@ -35,14 +35,15 @@ use Rattle.gs_store.specs.Stores as stores
 use Rattle.gs_store.specs.Calls.{Call, Creates, Advances, CopiesIn, TakesCopy, Drops, TakesLease, Loses, Damages, Applies, called}
 use Rattle.gs_store.proofs.StoreLaws.{own_slot, other_slot, slot_goes}
 use Rattle.gs_server.specs.declared.turn.KeptRefusal.{KeptRefusal}
-use Rattle.gs_server.specs.declared.lease.Open.{Open}
-use Rattle.gs_server.specs.Leases.{Lease, renews, settled, hears, dones}
+use Rattle.gs_primary.specs.declared.lease.Open.{Open}
+use Rattle.gs_primary.specs.Leases.{Lease, renews, settled, hears, dones}
+use Rattle.gs_primary.specs.Numbering.{is_too_long, is_passed}
 use Rattle.gs_server.specs.Places.{Place, Here, Part, SlotChange, SlotStays, SlotBecomes, SlotMarked, slot_after, marked_by, damaged_block, LeaseStays, or_else, other_epoch, unanswered, sending, changing, promising}
 use Rattle.gs_server.specs.Promises as messages
 use Rattle.gs_server.specs.Promises.{Copying}
 use Rattle.gs_server.specs.Holding.{takes, goes_on, supplies_to, from_server, unless_leased, is_held}
 use Rattle.gs_server.specs.Holding as holding
-use Rattle.gs_server.specs.Edits.{refused_edit, refused_once, repeated, is_known_of_all, unless_kept, unless_done, unless_numbered, unless_holding, unless_over, unless_there, is_too_long, numbers_or_passes, bytes_of, bytes_or_none, declines}
+use Rattle.gs_server.specs.Edits.{refused_edit, refused_once, repeated, is_known_of_all, unless_kept, unless_done, unless_numbered, unless_holding, unless_over, unless_there, numbers_or_passes, bytes_of, bytes_or_none, declines}
 use Rattle.gs_server.specs.Edits as edits
 use Rattle.gs_server.specs.Fetches as fetching
 use Rattle.gs_server.specs.Servers.{Server, place_of, here_of, store_of, change_slot, change_buffer, changed_by, in_store, copies, request_in, about_chunk, handle_body}
@@ -141,7 +142,7 @@ numbered_calls h p req stamp op (Some live) (Some l) holding =
     let same : stamp ≡ l.grant.stamp = same_stamp stamp l.grant.stamp (first_same (is_same stamp l.grant.stamp) (is_same l.grant.stamp p.slot.promise) (not_met _ (refusals.Stamp p.slot.promise) holding)) in
     let c : Stamp → Call = λ given. Applies given (count + 1) req (in_replica edit.op) edit.bytes in
     subst (λ given. Calls h p.slot (Some (c given)) (numbers_or_passes h p req op (bytes_or_none (bytes_of op None h.pushed)) (Some live) (Some l))) (sym same)
-    (either_calls h p.slot (Some (c l.grant.stamp)) (edits.is_passed h.chunk (length live.replica.held.chunk.bytes) op) (sending (edits.done h req (Ok Padded) ∷ [])) (edits.numbers_as h p live l edit) refl
+    (either_calls h p.slot (Some (c l.grant.stamp)) (is_passed h.chunk (length live.replica.held.chunk.bytes) op) (sending (edits.done h req (Ok Padded) ∷ [])) (edits.numbers_as h p live l edit) refl
     (numbers_call h p (c l.grant.stamp) l count edit (apply l.grant.stamp (count + 1) req (in_replica edit.op) edit.bytes p.slot) refl))
 
 forwarded_calls : (h : Here) (p : Place) (from : NodeId) (stamp : Stamp) (number : ℕ) (req : ReqId) (op : Op) (bytes : Option (List ℕ)) (live : Option Live)

@@ -25,14 +25,15 @@ use Rattle.gs_store.specs.Moves as moves
 use Rattle.gs_store.specs.Serving.{apply, done_in}
 use Rattle.gs_store.specs.Slots.{Live, Slot, check_grant, count_of, first_of, take_lease, unless_live, unless_promised, when}
 use Rattle.gs_store.specs.Slots as slots
-use Rattle.gs_server.specs.declared.lease.Open.{Open}
+use Rattle.gs_primary.specs.declared.lease.Open.{Open}
 use Rattle.gs_server.specs.declared.turn.KeptRefusal.{KeptRefusal}
 use Rattle.gs_server.specs.Edits.{bytes_of, bytes_or_none, declines, edit, is_known_of_all, new_edit, numbers_or_passes, refused_edit, refused_once, repeated, unless_done, unless_kept, unless_next, unless_numbered, unless_there}
 use Rattle.gs_server.specs.Edits as edits
 use Rattle.gs_server.specs.Fetches as fetching
 use Rattle.gs_server.specs.Holding.{from_server, goes_on, is_held, supplies_to, takes, unless_leased, wants_bytes}
 use Rattle.gs_server.specs.Holding as holding
-use Rattle.gs_server.specs.Leases.{Lease, done_at_once, done_of, dones, forward_of, forwards, heard, hears, is_acknowledged, lacks, opens_edit, renews, settled, supplies, told_by, waits_for, with_bytes}
+use Rattle.gs_primary.specs.Leases.{Lease, done_at_once, done_of, dones, forward_of, forwards, heard, hears, is_acknowledged, lacks, opens_edit, renews, settled, supplies, told_by, waits_for, with_bytes}
+use Rattle.gs_primary.specs.Numbering.{is_passed}
 use Rattle.gs_server.specs.Places.{Here, LeaseBecomes, LeaseChange, LeaseSpent, LeaseStays, Part, Place, SlotBecomes, SlotChange, SlotMarked, SlotStays, about, count_or_none, damaged_block, marked_by, of_promise, or_else, other_epoch, refused, sending, tells_bad, unanswered}
 use Rattle.gs_server.specs.Promises as messages
 use Rattle.gs_server.specs.Servers.{about_chunk}
@@ -279,7 +280,7 @@ module _ (h : Here) (p : Place) (slot : IsCountedSlot p.slot) (lease : IsCounted
       let e : Open = numbered_edit h req op bytes live in
       let count : ℕ = live.replica.held.count in
       let number : IsNumber count = (subst IsCountedLive lives slot.0).0 in
-      either_part (edits.is_passed h.chunk (length live.replica.held.chunk.bytes) op) (sending (edits.done h req (Ok Padded) ∷ [])) (edits.numbers_as h p live l e) (sending_part (edits.done h req (Ok Padded) ∷ []) (tt, tt))
+      either_part (is_passed h.chunk (length live.replica.held.chunk.bytes) op) (sending (edits.done h req (Ok Padded) ∷ [])) (edits.numbers_as h p live l e) (sending_part (edits.done h req (Ok Padded) ∷ []) (tt, tt))
       (numbers_if_part l count e (apply l.grant.stamp (count + 1) req (in_replica e.op) e.bytes p.slot) counted number
       (λ next. apply_counts l.grant.stamp (count + 1) req (in_replica e.op) e.bytes p.slot live lives next slot))
 

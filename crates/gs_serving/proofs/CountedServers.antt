@@ -23,8 +23,8 @@ use Rattle.gs_store.specs.Stores.{Store, or_nothing, put_slot, set_slot, slot_of
 use Rattle.gs_store.proofs.Keys.{first, not_tied, second}
 use Rattle.gs_store.proofs.Places.{same_key}
 use Rattle.gs_store.proofs.StoreLaws.{slot_goes}
-use Rattle.gs_server.specs.declared.lease.Open.{Open}
-use Rattle.gs_server.specs.Leases.{Lease, forwards_again, is_over, lacks, reminds, reminds_of}
+use Rattle.gs_primary.specs.declared.lease.Open.{Open}
+use Rattle.gs_primary.specs.Leases.{Lease, forwards_again, is_over, lacks, reminds, reminds_of}
 use Rattle.gs_server.specs.Places.{Here, LeaseBecomes, LeaseChange, LeaseSpent, LeaseStays, Part, Place, SlotBecomes, SlotChange, SlotMarked, SlotStays, damaged_block, other_epoch}
 use Rattle.gs_server.specs.Promises.{Copying}
 use Rattle.gs_server.specs.Promises as messages

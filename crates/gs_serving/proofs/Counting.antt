@@ -24,7 +24,7 @@ use Rattle.gs_store.specs.Calls.{Call, Creates, Advances, CopiesIn, TakesCopy, D
 use Rattle.gs_store.proofs.Laws.{Holds, not_before_itself, of_ok, of_cond, of_unless, of_again, of_raised}
 use Rattle.gs_store.proofs.Standing.{of_live, of_trash, same_ok}
 use Rattle.gs_store.proofs.Copying.{of_copied, trash_leaves}
-use Rattle.gs_server.specs.declared.lease.Open.{Open}
+use Rattle.gs_primary.specs.declared.lease.Open.{Open}
 use Rattle.gs_server.specs.Runs.{BecomesBy}
 use Rattle.gs_serving.specs.Waiting.{AreCounted}
 

@@ -14,10 +14,11 @@ use Rattle.gs_msg.specs.declared.node.NodeId.{NodeId}
 use Rattle.gs_store.specs.Slots.{Live, Slot, first_of, when, unless_live, unless_promised}
 use Rattle.gs_store.specs.Serving.{apply, done_in}
 use Rattle.gs_server.specs.declared.turn.KeptRefusal.{KeptRefusal}
-use Rattle.gs_server.specs.declared.lease.Open.{Open}
-use Rattle.gs_server.specs.Leases.{Lease}
+use Rattle.gs_primary.specs.declared.lease.Open.{Open}
+use Rattle.gs_primary.specs.Leases.{Lease}
+use Rattle.gs_primary.specs.Numbering.{is_too_long, is_passed}
 use Rattle.gs_server.specs.Places.{Place, Here, Part, SlotChange, SlotStays, SlotBecomes, SlotMarked, marked_by, damaged_block, or_else, sending}
-use Rattle.gs_server.specs.Edits.{edit, new_edit, numbers_or_passes, numbers_as, numbers_if, numbers, forward, takes, takes_next, takes_if, unless_next, unless_there, unless_holding, unless_over, unless_numbered, bytes_of, bytes_or_none, declines, acknowledges, refused_edit, refused_once, repeated, unless_kept, unless_done, is_known_of_all, last_count, is_passed, done, is_too_long}
+use Rattle.gs_server.specs.Edits.{edit, new_edit, numbers_or_passes, numbers_as, numbers_if, numbers, forward, takes, takes_next, takes_if, unless_next, unless_there, unless_holding, unless_over, unless_numbered, bytes_of, bytes_or_none, declines, acknowledges, refused_edit, refused_once, repeated, unless_kept, unless_done, is_known_of_all, last_count, done}
 use Rattle.gs_serving.specs.Editing.{IsTakenBy, IsNumberedBy, numbered_edit}
 use Rattle.gs_serving.proofs.Tests.{head_none, tail_none, not_met, never, first_same, next_number}
 

@@ -17,7 +17,7 @@ use Rattle.gs_store.specs.Slots.{Slot, first_of, when, unless_live, unless_promi
 use Rattle.gs_store.specs.Slots as slots
 use Rattle.gs_store.specs.Moves as moves
 use Rattle.gs_store.proofs.Laws.{Holds, of_ok, of_unless, of_raised}
-use Rattle.gs_server.specs.Leases.{Lease}
+use Rattle.gs_primary.specs.Leases.{Lease}
 use Rattle.gs_server.specs.Places.{Place, Here, Part, LeaseStays, LeaseSpent, after, lease_after, of_promise, or_else, other_epoch, unanswered}
 use Rattle.gs_server.specs.Promises as messages
 use Rattle.gs_server.specs.Servers.{Server, place_of, here_of, handle_chunk}

@@ -17,11 +17,12 @@ use Rattle.gs_msg.specs.Ops.{in_replica}
 use Rattle.gs_msg.specs.declared.message.Message.{Message}
 use Rattle.gs_store.specs.Slots.{Live, Slot, when}
 use Rattle.gs_store.specs.Serving.{done_in}
-use Rattle.gs_server.specs.declared.lease.Open.{Open}
-use Rattle.gs_server.specs.Leases.{Lease, told_by, heard, lacks, hears, waits, is_acknowledged, done_of, dones, done_at_once, forwards, settled}
+use Rattle.gs_primary.specs.declared.lease.Open.{Open}
+use Rattle.gs_primary.specs.Leases.{Lease, told_by, heard, lacks, hears, waits, is_acknowledged, done_of, dones, done_at_once, forwards, settled}
+use Rattle.gs_primary.specs.Numbering.{numbered_op}
 use Rattle.gs_server.specs.Places.{Place, Here, Part, SlotBecomes, after, or_else, sending, unanswered}
 use Rattle.gs_server.specs.Holding.{unless_leased, goes_on, is_held, ack}
-use Rattle.gs_server.specs.Edits.{edit, new_edit, numbered_op, done, refused_once, repeated, is_known_of_all, unless_kept, unless_done}
+use Rattle.gs_server.specs.Edits.{edit, new_edit, done, refused_once, repeated, is_known_of_all, unless_kept, unless_done}
 use Rattle.gs_server.specs.Laws.{IsToldByAll, IsKnownToAll}
 use Rattle.gs_serving.specs.Editing.{IsNumberedBy, numbered_edit}
 use Rattle.gs_serving.proofs.Tests.{never_true}

@@ -41,8 +41,9 @@ use Rattle.gs_store.specs.Stores.{put_slot, with_slot}
 use Rattle.gs_store.specs.Calls.{Call, Loses, Damages}
 use Rattle.gs_store.proofs.Places.{same_key}
 use Rattle.gs_server.specs.declared.turn.KeptRefusal.{KeptRefusal}
-use Rattle.gs_server.specs.declared.lease.Open.{Open}
-use Rattle.gs_server.specs.Leases.{Lease, renews, settled, hears, heard, dones, is_acknowledged, waits_for, opens_edit}
+use Rattle.gs_primary.specs.declared.lease.Open.{Open}
+use Rattle.gs_primary.specs.Leases.{Lease, renews, settled, hears, heard, dones, is_acknowledged, waits_for, opens_edit}
+use Rattle.gs_primary.specs.Numbering.{is_passed}
 use Rattle.gs_server.specs.Places.{Place, Here, Part, SlotChange, SlotStays, SlotBecomes, SlotMarked, LeaseChange, LeaseStays, LeaseBecomes, LeaseSpent, slot_after, lease_after, marked_by, damaged_block, of_promise, or_else, other_epoch, unanswered, sending, promising}
 use Rattle.gs_server.specs.Promises as messages
 use Rattle.gs_server.specs.Promises.{Copying}
@@ -313,7 +314,7 @@ module _ (h : Here) (p : Place) where
   numbered_lease req op bytes (Some live) None lives held = tt
   numbered_lease req op bytes (Some live) (Some l) lives held =
       let e : Open = numbered_edit h req op bytes live in
-      either_leases (edits.is_passed h.chunk (length live.replica.held.chunk.bytes) op) (sending (edits.done h req (Ok Padded) ∷ [])) (edits.numbers_as h p live l e) tt
+      either_leases (is_passed h.chunk (length live.replica.held.chunk.bytes) op) (sending (edits.done h req (Ok Padded) ∷ [])) (edits.numbers_as h p live l e) tt
       (numbers_lease live l e (apply l.grant.stamp (live.replica.held.count + 1) req (in_replica e.op) e.bytes p.slot) lives held refl)
 
   chunk_leases : (from : NodeId) (chunk : Chunk) → Leases p (about_chunk h p from chunk)

@@ -21,7 +21,7 @@ use Rattle.gs_store.specs.Slots.{Live, Slot}
 use Rattle.gs_store.specs.Slots as slots
 use Rattle.gs_store.specs.Moves.{copied_from}
 use Rattle.gs_store.specs.Calls.{Call, Creates, Advances, CopiesIn, TakesCopy, Drops, TakesLease, Loses, Damages, MarksBad, Applies, Seals, Unseals, RollsBack}
-use Rattle.gs_server.specs.Leases.{stamp_of, moment_of, request_of}
+use Rattle.gs_primary.specs.Leases.{stamp_of, moment_of, request_of}
 use Rattle.gs_server.specs.Places.{Place, Here, SlotChange, SlotStays, SlotBecomes, SlotMarked}
 use Rattle.gs_server.specs.Promises as promises
 use Rattle.gs_server.specs.Promises.{Copying}

@@ -11,8 +11,8 @@ use Rattle.gs_msg.specs.declared.chunk.Chunk.{Chunk}
 use Rattle.gs_msg.specs.declared.chunk.Chunk.TheVariants as chunks
 use Rattle.gs_msg.specs.declared.message.Message.{Message}
 use Rattle.gs_store.specs.Slots.{Live, Slot, nothing}
-use Rattle.gs_server.specs.declared.lease.Open.{Open}
-use Rattle.gs_server.specs.Leases.{Lease}
+use Rattle.gs_primary.specs.declared.lease.Open.{Open}
+use Rattle.gs_primary.specs.Leases.{Lease}
 use Rattle.gs_server.specs.Servers.{Server, Step, place_of}
 use Rattle.gs_server.specs.Runs.{Event, Hears, slot_in}
 

@@ -14,11 +14,12 @@ use Rattle.gs_msg.specs.declared.chunk.Chunk.TheVariants as chunks
 use Rattle.gs_store.specs.Slots.{Live, Slot, sound, empty_replica}
 use Rattle.gs_store.specs.Serving.{apply, done_in}
 use Rattle.gs_server.specs.declared.turn.KeptRefusal.{KeptRefusal}
-use Rattle.gs_server.specs.declared.lease.Open.{Open}
-use Rattle.gs_server.specs.Leases.{Lease, granted, is_over, stamp_of, request_of, forwards, done_at_once, opens_edit}
+use Rattle.gs_primary.specs.declared.lease.Open.{Open}
+use Rattle.gs_primary.specs.Leases.{Lease, granted, is_over, stamp_of, request_of, forwards, done_at_once, opens_edit}
+use Rattle.gs_primary.specs.Numbering.{is_too_long, numbered_op, is_passed}
 use Rattle.gs_server.specs.Places.{Place, Here, Part, LeaseStays, LeaseBecomes, about}
 use Rattle.gs_server.specs.Holding.{grant_of, quiet}
-use Rattle.gs_server.specs.Edits.{bytes_of, opened, numbered_op, is_too_long, is_passed, last_count, pushed_here, led}
+use Rattle.gs_server.specs.Edits.{bytes_of, opened, last_count, pushed_here, led}
 
 -- A member takes an edit as the next one of its live replica, with the bytes that came with it or that were pushed for it. It tells the
 -- sender alone, and leaves its lease.

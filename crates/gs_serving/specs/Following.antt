@@ -11,7 +11,7 @@ use Rattle.gs_msg.specs.declared.chunk.Chunk.TheVariants as chunks
 use Rattle.gs_store.specs.Slots.{Slot, nothing, standing, empty_replica}
 use Rattle.gs_store.specs.Standing.{IsToldIn}
 use Rattle.gs_store.specs.Calls.{Call, Creates, CopiesIn, TakesCopy, Applies, RollsBack}
-use Rattle.gs_server.specs.Leases.{stamp_of, moment_of, request_of}
+use Rattle.gs_primary.specs.Leases.{stamp_of, moment_of, request_of}
 use Rattle.gs_server.specs.Holding.{quiet}
 use Rattle.gs_server.specs.Edits.{pushed_here}
 use Rattle.gs_server.specs.Servers.{Server, new}

@@ -7,7 +7,7 @@ use Rattle.gs_msg.specs.declared.node.NodeId.TheVariants as nodes
 use Rattle.gs_msg.specs.declared.body.Body.{Body}
 use Rattle.gs_msg.specs.declared.body.Body.TheVariants as bodies
 use Rattle.gs_server.specs.declared.turn.KeptRefusal.{KeptRefusal}
-use Rattle.gs_server.specs.Leases.{moment_of}
+use Rattle.gs_primary.specs.Leases.{moment_of}
 use Rattle.gs_server.specs.Places.{SlotChange}
 use Rattle.gs_server.specs.Laws.{IsKept, KeepsReply, edit_in}
 use Rattle.gs_server.specs.Servers.{Server, new, store_of, with_store, with_refused, change_slot, keep_refusal, handle_body}

@@ -1,8 +1,8 @@
 -- The edits that wait under a lease.
 use Rattle.std.specs.Prelude.{◌≡◌, ◌<◌, ◌≤◌, ℕ, List, [], ◌∷◌, map, refl}
 use Rattle.std.specs.List.{All, AllPairs}
-use Rattle.gs_server.specs.declared.lease.Open.{Open}
-use Rattle.gs_server.specs.Leases.{waiting, waits_for, two_bytes}
+use Rattle.gs_primary.specs.declared.lease.Open.{Open}
+use Rattle.gs_primary.specs.Leases.{waiting, waits_for, two_bytes}
 
 -- each number is below those of all edits behind it
 abbrev pub AreRising : List (ℕ × Open) → Type 0

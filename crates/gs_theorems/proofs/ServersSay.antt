@@ -28,14 +28,15 @@ use Rattle.gs_store.specs.Serving.{apply, done_in}
 use Rattle.gs_store.specs.Slots.{Live, Slot, check_grant, first_of, take_lease, unless_live, unless_promised}
 use Rattle.gs_store.specs.Slots as slots
 use Rattle.gs_store.specs.Stores as stores
-use Rattle.gs_server.specs.declared.lease.Open.{Open}
+use Rattle.gs_primary.specs.declared.lease.Open.{Open}
 use Rattle.gs_server.specs.declared.turn.KeptRefusal.{KeptRefusal}
-use Rattle.gs_server.specs.Edits.{acknowledges, bytes_of, bytes_or_none, declines, edit, is_known_of_all, is_passed, new_edit, numbered_op, numbers, numbers_as, numbers_if, numbers_or_passes, opened, refused_edit, refused_once, repeated, takes_if, takes_next, unless_done, unless_kept, unless_next, unless_numbered}
+use Rattle.gs_server.specs.Edits.{acknowledges, bytes_of, bytes_or_none, declines, edit, is_known_of_all, new_edit, numbers, numbers_as, numbers_if, numbers_or_passes, opened, refused_edit, refused_once, repeated, takes_if, takes_next, unless_done, unless_kept, unless_next, unless_numbered}
 use Rattle.gs_server.specs.Edits as edits
 use Rattle.gs_server.specs.Fetches as fetching
 use Rattle.gs_server.specs.Holding.{from_server, goes_on, is_held, supplies_to, takes, unless_leased, wants_bytes}
 use Rattle.gs_server.specs.Holding as holding
-use Rattle.gs_server.specs.Leases.{Lease, done_at_once, done_of, dones, forward_of, forwards, forwards_again, hears, is_acknowledged, is_over, lacks, reminds, reminds_of, renews, settled, supplies, tell, with_bytes}
+use Rattle.gs_primary.specs.Leases.{Lease, done_at_once, done_of, dones, forward_of, forwards, forwards_again, hears, is_acknowledged, is_over, lacks, reminds, reminds_of, renews, settled, supplies, tell, with_bytes}
+use Rattle.gs_primary.specs.Numbering.{numbered_op, is_passed}
 use Rattle.gs_server.specs.Places.{Here, Part, Place, damaged_block, or_else, other_epoch, sending, tells_bad, unanswered}
 use Rattle.gs_server.specs.Promises as messages
 use Rattle.gs_server.specs.Promises.{Copying}

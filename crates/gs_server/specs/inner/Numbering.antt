@@ -6,30 +6,22 @@ use Rattle.gs_base.specs.Stamps.{is_same}
 use Rattle.gs_base.specs.declared.refusal.Refusal.{Refusal}
 use Rattle.gs_base.specs.declared.refusal.Refusal.TheVariants as refusals
 use Rattle.gs_replica.specs.Edits.{is_old}
-use Rattle.gs_replica.specs.declared.op.Outcome.{Outcome}
-use Rattle.gs_replica.specs.declared.op.Outcome.TheVariants.{Written, Appended, Padded}
 use Rattle.gs_msg.specs.declared.op.Op.{Op}
-use Rattle.gs_msg.specs.declared.op.Op.TheVariants.{Write, Append, Pad}
 use Rattle.gs_msg.specs.declared.message.Message.{Message}
 use Rattle.gs_store.specs.Buffers.{pushed}
 use Rattle.gs_msg.specs.Ops.{in_replica}
 use Rattle.gs_store.specs.Slots.{Live}
 use Rattle.gs_store.specs.Serving.{edited_in, done_in, length_in}
 use Rattle.gs_store.specs.Stores.{Store, slot_of}
-use Rattle.gs_server.specs.declared.lease.Open.{Open}
+use Rattle.gs_primary.specs.declared.lease.Open.{Open}
 use Rattle.gs_server.specs.declared.applying.Numbered.{Numbered}
 use Rattle.gs_server.specs.declared.numbering.NewEdit.{NewEdit}
 use Rattle.gs_server.specs.Edits.{bytes_of, bytes_or_none}
-use Rattle.gs_server.specs.Leases.{Lease, forwards, done_at_once, opens_edit}
+use Rattle.gs_primary.specs.Leases.{Lease, forwards, done_at_once, opens_edit}
+use Rattle.gs_primary.specs.Numbering.{outcome_at}
 use Rattle.gs_server.specs.Servers.{Server, Step, store_of, with_store, with_leases}
 use Rattle.gs_server.specs.inner.Answering.{kept_by}
 use Rattle.gs_server.specs.inner.Applying.{applied_with}
-
--- what an edit answers where so many bytes are stored
-abbrev pub outcome_at : ℕ → Op → Outcome
-outcome_at stored (Write offset many) = Written
-outcome_at stored (Append many) = Appended stored
-outcome_at stored Pad = Padded
 
 abbrev pub opened_at : ReqId → Op → List ℕ → ℕ → Open
 opened_at req op bytes stored = record { req = req; op = op; bytes = bytes; outcome = outcome_at stored op }

@@ -4,7 +4,7 @@ use Rattle.std.specs.List.{filter}
 use Rattle.std.specs.FinMap as fin
 use Rattle.std.specs.Ordering.{nat_cmp}
 use Rattle.gs_base.specs.declared.numbers.Moment.{Moment}
-use Rattle.gs_server.specs.Leases.{Lease, is_over}
+use Rattle.gs_primary.specs.Leases.{Lease, is_over}
 
 -- whose they are, ascending
 abbrev pub over_of : Moment → List (ℕ × Lease) → List ℕ

@@ -1,8 +1,9 @@
 use Rattle.std.proofs.Common.{◌≡◌, ℕ, List, Some, false, sym, ap, subst, ◌∙◌}
 use Rattle.gs_msg.specs.declared.op.Op.{Op}
 use Rattle.gs_store.specs.Slots.{Live}
-use Rattle.gs_server.specs.Edits.{opened, numbers_as, numbered_op, is_passed}
-use Rattle.gs_server.specs.Leases.{Lease}
+use Rattle.gs_primary.specs.Numbering.{numbered_op, is_passed}
+use Rattle.gs_server.specs.Edits.{opened, numbers_as}
+use Rattle.gs_primary.specs.Leases.{Lease}
 use Rattle.gs_server.specs.Servers.{Server, Steps, step_of, here_of, place_of}
 use Rattle.gs_server.specs.inner.Numbering.{IsReady}
 use Rattle.gs_server.proofs.NewEdits.{new_numbered}

@@ -6,11 +6,12 @@ use Rattle.gs_table.specs.Slots.{live}
 use Rattle.gs_replica.specs.declared.op.Outcome.{Outcome}
 use Rattle.gs_store.specs.Serving.{length_in}
 use Rattle.gs_store.specs.Stores.{slot_of}
+use Rattle.gs_primary.specs.Numbering.{outcome_at}
 use Rattle.gs_server.specs.declared.applying.Numbered.{Numbered}
-use Rattle.gs_server.specs.declared.lease.Open.{Open}
+use Rattle.gs_primary.specs.declared.lease.Open.{Open}
 use Rattle.gs_server.specs.Servers.{Server, Steps, store_of, with_leases, with_store}
-use Rattle.gs_server.specs.Leases.{Lease, opens_edit}
-use Rattle.gs_server.specs.inner.Numbering.{outcome_at, told_of, numbered_by}
+use Rattle.gs_primary.specs.Leases.{Lease, opens_edit}
+use Rattle.gs_server.specs.inner.Numbering.{told_of, numbered_by}
 use Rattle.gs_server.proofs.Made.{inside}
 use Rattle.gs_server.proofs.Numbered.{numbered_ok, numbered_err}
 use Rattle.gs_server.proofs.Putting.{put_back, put_other}

@@ -1,6 +1,6 @@
 use Rattle.std.proofs.Common.{◌≡◌, Some, subst}
 use Rattle.std.specs.FinMap as fin
-use Rattle.gs_server.specs.Leases.{Lease}
+use Rattle.gs_primary.specs.Leases.{Lease}
 use Rattle.gs_server.specs.Servers.{Server}
 use Rattle.gs_server.specs.inner.Numbering.{told_of}
 use Rattle.gs_server.proofs.Numbered.{told_in_turn}

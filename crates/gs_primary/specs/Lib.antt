@@ -1,0 +1,4 @@
+pub mod Forwarding
+pub mod Leases
+pub mod Numbering
+pub mod Recencies
