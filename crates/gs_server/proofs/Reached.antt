@@ -25,7 +25,8 @@ use Rattle.gs_store.specs.Slots.{Live, Slot, nothing, take_lease, is_taken, taki
 use Rattle.gs_store.specs.Slots as slots
 use Rattle.gs_store.specs.Serving.{apply_to}
 use Rattle.gs_store.specs.Moves.{copied_in}
-use Rattle.gs_store.specs.Learning.{later, start_of, rolled_to}
+use Rattle.gs_sealed.specs.Rollback.{later}
+use Rattle.gs_store.specs.Learning.{start_of, rolled_to}
 use Rattle.gs_store.specs.Stores.{Store, or_nothing, slot_of, set_slot, put_slot, learn}
 use Rattle.gs_store.specs.Stores as stores
 use Rattle.gs_store.specs.StoreCalls.{names}

@@ -21,10 +21,12 @@ use Rattle.gs_replica.specs.Seals.{Sealed, State, damage_seal, lowest_damaged, o
 use Rattle.gs_replica.specs.Seals as replicas
 use Rattle.gs_replica.specs.declared.op.Done.{Done}
 use Rattle.gs_replica.specs.declared.op.Op.{Op}
-use Rattle.gs_store.specs.Learning.{later, rolled_to, sealed_live, start_of, unsealed_live}
+use Rattle.gs_sealed.specs.Rollback.{later}
+use Rattle.gs_store.specs.Learning.{rolled_to, sealed_live, start_of, unsealed_live}
 use Rattle.gs_store.specs.Moves.{carried_in, copied_from, copied_in, copy_in, copy_out, in_trash, live_in, make_copy, replicas_of, sound_image, source, take_copy, unless_lost}
 use Rattle.gs_store.specs.Serving.{apply, apply_to}
-use Rattle.gs_store.specs.Slots.{Live, Slot, again, advance, check_grant, create, damage, damage_of, drop_replica, first_of, if_bad, is_taken, live_under, lose, lost, mark_bad, marked_live, removed, replaced, risen, seal_in, seal_of, sealed_of, take_lease, taking, trash_behind, trash_of, trashed_seal, unless, unless_live, unless_promised, when, with_live, with_trash}
+use Rattle.gs_sealed.specs.Trash.{trash_of}
+use Rattle.gs_store.specs.Slots.{Live, Slot, again, advance, check_grant, create, damage, damage_of, drop_replica, first_of, if_bad, is_taken, live_under, lose, lost, mark_bad, marked_live, removed, replaced, risen, seal_in, seal_of, sealed_of, take_lease, taking, trash_behind, trashed_seal, unless, unless_live, unless_promised, when, with_live, with_trash}
 use Rattle.gs_store.specs.Stores.{gone_on}
 use Rattle.gs_serving.specs.Counted.{IsCountedSeal, IsCountedReplica, IsCountedLive, IsCountedTrash, IsCountedSlot, IsCountedImage}
 

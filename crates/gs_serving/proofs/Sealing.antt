@@ -14,7 +14,8 @@ use Rattle.gs_msg.specs.declared.body.Body.TheVariants as bodies
 use Rattle.gs_msg.specs.declared.chunk.Chunk.TheVariants as chunks
 use Rattle.gs_store.specs.Slots.{Slot, sealed_of}
 use Rattle.gs_store.specs.Moves.{sound_image, unless_lost, copy_in}
-use Rattle.gs_store.specs.Learning.{later, start_of, rolled_to}
+use Rattle.gs_sealed.specs.Rollback.{later}
+use Rattle.gs_store.specs.Learning.{start_of, rolled_to}
 use Rattle.gs_store.specs.Standing.{StandsIn, StoodIn, LiveUndamaged}
 use Rattle.gs_store.specs.Calls.{TakesLease}
 use Rattle.gs_store.proofs.Laws.{of_ok}

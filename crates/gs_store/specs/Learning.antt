@@ -1,11 +1,12 @@
 -- What a slot becomes where its server learns of an epoch.
-use Rattle.std.specs.Prelude.{◌≡◌, ℕ, ◌&&◌, cond, Bool, true, false, Option, Some, None, Result, Ok, Err, refl}
+use Rattle.std.specs.Prelude.{◌≡◌, ℕ, ◌&&◌, Bool, true, false, Option, Some, None, Result, Ok, Err, refl}
 use Rattle.gs_base.specs.declared.numbers.Stamp.{Stamp}
-use Rattle.gs_base.specs.Stamps.{is_before, is_same}
+use Rattle.gs_base.specs.Stamps.{is_same}
 use Rattle.gs_base.specs.declared.refusal.Refusal.{Refusal}
 use Rattle.gs_block.specs.Stored.{count_of, are_digests}
 use Rattle.gs_replica.specs.Held.{Held}
 use Rattle.gs_replica.specs.Seals.{State, seal, unseal, roll_back_to}
+use Rattle.gs_sealed.specs.Rollback.{later}
 use Rattle.gs_store.specs.Slots.{Live, Slot, sound, lost, nothing, standing, dropped, empty_replica, sealed_replica, stamp_of, sealed_of}
 
 -- at a prepare what is live is sealed, and nothing else
@@ -28,15 +29,12 @@ unsealed_live (Some l) = Some (record { replica = unseal l.replica; bad = l.bad 
 abbrev pub finalized : Slot → Slot
 finalized s = record { promise = s.promise; carried = s.carried; live = unsealed_live s.live; trash = None; taken = s.taken }
 
--- the promise of what a rollback makes live, which is never less than the one before
+-- the stamp with which an epoch starts
 abbrev pub start_of : ℕ → Stamp
 start_of epoch = record { epoch = epoch; version = 0 }
 
-abbrev pub later : Stamp → Stamp → Stamp
-later a b = cond (is_before a b) b a
-
 -- At a rollback what was sealed is live again and is not bad, where each block of it has its sealed digest; every other replica
--- goes.
+-- goes. The promise is never less than the one before.
 abbrev pub rolled_to : Stamp → Result State Refusal → Slot → Slot
 rolled_to promise (Ok r) s = record { promise = promise; carried = false; live = Some (sound r); trash = None; taken = s.taken }
 rolled_to promise (Err e) s = lost s

@@ -10,6 +10,7 @@ use Rattle.gs_replica.specs.Held.{Held}
 use Rattle.gs_replica.specs.Edits.{fresh}
 use Rattle.gs_replica.specs.Seals.{Sealed, State, coded_state}
 use Rattle.gs_replica.specs.Seals as replicas
+use Rattle.gs_sealed.specs.Trash.{trash_of}
 
 -- a live replica, and the block that marks it as bad
 pub record Live : Type 0 where
@@ -73,11 +74,6 @@ if_bad (Some l) = bad_block l.bad
 
 abbrev pub unless_promised : Stamp → Slot → Option Refusal
 unless_promised stamp s = when (not (is_same stamp s.promise)) (refusals.Stamp s.promise)
-
--- A replica that goes leaves its sealed image in the trash, in place of what stood there; one without leaves the trash as it is.
-abbrev pub trash_of : Option Sealed → State → Option State → Option State
-trash_of None r trash = trash
-trash_of (Some t) r trash = Some r
 
 abbrev pub trash_behind : Option Live → Option State → Option State
 trash_behind None trash = trash

@@ -1,9 +1,10 @@
 ghost use Rattle.std.specs.Prelude.{◌≡◌, ℕ, IfOk, is_some};
-ghost use Rattle.gs_store.specs.Learning.{prepared, held_in, finalized, later, rolled_back, is_named};
+ghost use Rattle.gs_store.specs.Learning.{prepared, held_in, finalized, start_of, rolled_back, is_named};
 
 use crate::slot::{LiveReplica, Slot};
 use gs_base::Stamp;
-use gs_replica::{PreparedSeal, Replica};
+use gs_replica::PreparedSeal;
+use gs_sealed::{is_restored, restore};
 use std::alloc::AllocError;
 use std::marker::Model;
 
@@ -23,6 +24,13 @@ impl Model for PreparedSlot {
     ghost coded = { coded_option coded_held };
 
     ghost view = { λ p. p.seal };
+}
+
+/// The stamp with which an epoch starts.
+fn first_stamp(epoch: u64) -> Stamp
+    ensures { result ≡ start_of epoch }
+{
+    Stamp { epoch, version: 0 }
 }
 
 impl Slot {
@@ -70,33 +78,21 @@ impl Slot {
         let Some(sealed) = self.take_sealed() else {
             return false;
         };
-        let promise = self.promise_from(Stamp { epoch, version: 0 });
-        let Ok(replica) = sealed.roll_back(promise) else {
+        let Ok(replica) = restore(sealed, self.promise, first_stamp(epoch)) else {
             return false;
         };
-        self.promise = promise;
+        self.promise = replica.promised();
         self.carried = false;
         self.live = Some(LiveReplica { replica, bad: None });
         true
-    }
-
-    /// The later of the promise and a stamp.
-    fn promise_from(&self, start: Stamp) -> Stamp
-        ensures { result ≡ later self.now.promise start }
-    {
-        if self.promise.is_before(start) {
-            return start;
-        }
-        self.promise
     }
 
     /// Whether the live replica stands under the first stamp of an epoch, each block with its digest.
     pub fn is_named(&self, epoch: u64) -> bool
         ensures { result ≡ is_named epoch self.now }
     {
-        let start = Stamp { epoch, version: 0 };
         match &self.live {
-            Some(live) => self.promise == start && live.replica.is_intact(),
+            Some(live) => is_restored(&live.replica, first_stamp(epoch)),
             None => false,
         }
     }

@@ -10,6 +10,7 @@ use crate::slot::Slot;
 use gs_base::{Refusal, Stamp};
 use gs_block::{Refused, Sizes};
 use gs_replica::{Image, Replica, SealedImage};
+use gs_sealed::trash_with;
 use std::alloc::Global;
 use std::marker::Model;
 
@@ -109,9 +110,7 @@ impl Slot {
         let carried = given.sealed.is_some();
         let (replica, trash) = replicas_of(alloc, sizes, stamp, given.image, given.sealed)?;
         self.replace(stamp, carried, replica);
-        if trash.is_some() {
-            self.trash = trash;
-        }
+        self.trash = trash_with(trash, self.trash.take());
         Ok(())
     }
 

@@ -8,6 +8,7 @@ ghost use Rattle.gs_store.specs.Whole.{IsWholeSlot};
 use gs_base::{Refusal, Stamp};
 use gs_block::Sizes;
 use gs_replica::Replica;
+use gs_sealed::trash_behind;
 use std::alloc::Global;
 use std::marker::Model;
 
@@ -166,9 +167,7 @@ impl Slot {
         ensures { self.new ≡ removed self.old }
     {
         if let Some(live) = self.live.take() {
-            if live.replica.is_sealed() {
-                self.trash = Some(live.replica);
-            }
+            self.trash = trash_behind(live.replica, self.trash.take());
         }
     }
 

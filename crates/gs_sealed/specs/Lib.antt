@@ -1,0 +1,2 @@
+pub mod Rollback
+pub mod Trash
