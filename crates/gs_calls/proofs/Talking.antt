@@ -7,7 +7,7 @@ use Rattle.gs_client.specs.Edits.{Edits}
 use Rattle.gs_client.specs.Files.{open_call, with_location}
 use Rattle.gs_client.specs.Opened.{File}
 use Rattle.gs_client.specs.Sends.{Sends}
-use Rattle.gs_client.specs.declared.located.Located.{Located}
+use Rattle.gs_part.specs.declared.located.Located.{Located}
 use Rattle.gs_client.specs.Trees.{Call}
 use Rattle.gs_client.specs.declared.client.Client.{Client}
 use Rattle.gs_client.specs.declared.link.Reply.{Reply}

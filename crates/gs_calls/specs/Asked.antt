@@ -8,7 +8,7 @@ use Rattle.gs_client.specs.Reading.{digest_call, read_call, stat_call}
 use Rattle.gs_client.specs.Trees as trees
 use Rattle.gs_client.specs.Trees.{Call}
 use Rattle.gs_client.specs.Writing.{append_call, write_call}
-use Rattle.gs_client.specs.declared.located.Located.{Located}
+use Rattle.gs_part.specs.declared.located.Located.{Located}
 use Rattle.gs_dialogue.specs.Dialogues.{Grow, Say, both, upon}
 use Rattle.gs_lines.specs.Grammar.{Request}
 use Rattle.gs_lines.specs.Grammar as lines

@@ -16,13 +16,14 @@ use Rattle.gs_msg.specs.declared.event.Request.{Request}
 use Rattle.gs_msg.specs.declared.event.Request.TheVariants as requests
 use Rattle.gs_client.specs.declared.client.Client.{Client}
 use Rattle.gs_client.specs.declared.link.Reply.{Reply}
-use Rattle.gs_client.specs.declared.located.Located.{Located}
+use Rattle.gs_part.specs.declared.located.Located.{Located}
 use Rattle.gs_client.specs.Sends.{Sends}
 use Rattle.gs_client.specs.Edits.{Edits, counted, with_edit}
 use Rattle.gs_client.specs.Replies.{changed, looked, status_in, chunks_in, located_in, edited}
 use Rattle.gs_client.specs.Trees.{Call, and_then, look}
 use Rattle.gs_client.specs.Looking.{count_in, known_call}
-use Rattle.gs_client.specs.Writing.{send_call, edit_call, again_call, write_part_call, extend_call, extends_call, part_bytes, part_op, parts_call}
+use Rattle.gs_part.specs.Writing.{part_bytes}
+use Rattle.gs_client.specs.Writing.{send_call, edit_call, again_call, write_part_call, extend_call, extends_call, part_op, parts_call}
 
 -- a call that makes no edit
 abbrev pub Quiet : {A : Type 0} → Dialogue Request Reply A → Type 0

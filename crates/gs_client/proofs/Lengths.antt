@@ -11,7 +11,7 @@ use Rattle.gs_msg.specs.declared.body.Given.{Given}
 use Rattle.gs_msg.specs.declared.chunk.Asked.TheVariants as asks
 use Rattle.gs_msg.specs.declared.event.Request.{Request}
 use Rattle.gs_client.specs.declared.link.Reply.{Reply}
-use Rattle.gs_client.specs.declared.located.Located.{Located}
+use Rattle.gs_part.specs.declared.located.Located.{Located}
 use Rattle.gs_client.specs.Replies.{length_in}
 use Rattle.gs_client.specs.Trees.{and_then}
 use Rattle.gs_client.specs.Looking.{fetch_call}

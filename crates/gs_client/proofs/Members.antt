@@ -8,10 +8,11 @@ use Rattle.gs_msg.specs.declared.body.Given.{Given}
 use Rattle.gs_msg.specs.declared.chunk.Asked.{Asked}
 use Rattle.gs_msg.specs.declared.event.Request.{Request}
 use Rattle.gs_client.specs.declared.link.Reply.{Reply}
-use Rattle.gs_client.specs.declared.located.Located.{Located}
+use Rattle.gs_part.specs.declared.located.Located.{Located}
 use Rattle.gs_client.specs.Replies.{given}
 use Rattle.gs_client.specs.Trees.{Call}
-use Rattle.gs_client.specs.Looking.{fetch_of, members_call, round_call, anew_call, fetch_call}
+use Rattle.gs_part.specs.Fetching.{fetch_of}
+use Rattle.gs_client.specs.Looking.{members_call, round_call, anew_call, fetch_call}
 
 module _ {S : Type 0} (carries : S → Request → Reply → S → Type 0) (l : Located) (asked : Asked) (whole : Call Given) (old now new : S) where
   -- one member answered

@@ -9,9 +9,10 @@ use Rattle.gs_dialogue.proofs.Talks.{follows_both, follows_none, leads_next, lea
 use Rattle.gs_msg.specs.declared.chunk.Asked.TheVariants as asks
 use Rattle.gs_msg.specs.declared.event.Request.{Request}
 use Rattle.gs_client.specs.declared.link.Reply.{Reply}
-use Rattle.gs_client.specs.declared.located.Located.{Located}
+use Rattle.gs_part.specs.declared.located.Located.{Located}
 use Rattle.gs_client.specs.Trees.{Call}
-use Rattle.gs_client.specs.Reading.{stored_call, piece_bytes, piece_call, piece_end, pieces_call, span}
+use Rattle.gs_part.specs.Reading.{piece_end, span}
+use Rattle.gs_client.specs.Reading.{stored_call, piece_bytes, piece_call, pieces_call}
 
 below_end : (size end : ℕ) → 1 ≤ size → end ≤ 4096 * size → (end - 1) / size < 4096
 below_end size end some few =

@@ -10,9 +10,10 @@ use Rattle.gs_dialogue.proofs.Talks.{leads_next, leads_stop}
 use Rattle.gs_msg.specs.declared.op.Op.TheVariants as ops
 use Rattle.gs_msg.specs.declared.event.Request.{Request}
 use Rattle.gs_client.specs.declared.link.Reply.{Reply}
-use Rattle.gs_client.specs.declared.located.Located.{Located}
+use Rattle.gs_part.specs.declared.located.Located.{Located}
 use Rattle.gs_client.specs.Trees.{Call}
-use Rattle.gs_client.specs.Writing.{part_call, extend_call, placed, landed, append_from}
+use Rattle.gs_part.specs.Writing.{placed}
+use Rattle.gs_client.specs.Writing.{part_call, extend_call, landed, append_from}
 
 -- what is left where the chunk was filled up
 abbrev pub onward_from : ℕ → Path → List ℕ → ℕ → ℕ → Call ℕ

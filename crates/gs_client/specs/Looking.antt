@@ -6,17 +6,13 @@ use Rattle.gs_path.specs.Path.{Path}
 use Rattle.gs_dialogue.specs.Dialogues.{Say, Ask, Grow, upon, both, otherwise}
 use Rattle.gs_msg.specs.declared.call.Call.TheVariants as calls
 use Rattle.gs_msg.specs.declared.chunk.Asked.{Asked}
-use Rattle.gs_msg.specs.declared.event.Request.{Request}
-use Rattle.gs_msg.specs.declared.event.Request.TheVariants as requests
 use Rattle.gs_msg.specs.declared.answer.ChunkStatus.{ChunkStatus}
 use Rattle.gs_msg.specs.declared.body.Given.{Given}
-use Rattle.gs_client.specs.declared.located.Located.{Located}
+use Rattle.gs_part.specs.declared.located.Located.{Located}
+use Rattle.gs_part.specs.Fetching.{fetch_of}
+use Rattle.gs_part.specs.Writing.{most_chunks}
 use Rattle.gs_client.specs.Replies.{status_in, chunks_in, located_in, given}
 use Rattle.gs_client.specs.Trees.{Call, look}
-
--- the most chunks of a file
-abbrev pub most_chunks : ℕ
-most_chunks = 4096
 
 abbrev pub count_in : List ChunkStatus → Result ℕ Refusal
 count_in chunks = if nat_le (length chunks) most_chunks then Ok (length chunks) else Err refusals.Stray
@@ -32,9 +28,6 @@ known_call path None = chunks_call path
 
 abbrev pub find_call : Path → ℕ → Call Located
 find_call path index = Grow (look (calls.FindForReading path index) (located_in index))
-
-abbrev pub fetch_of : Located → Asked → ℕ → Request
-fetch_of l asked server = requests.Fetch server l.handle l.view.stamp l.epoch asked
 
 -- members one after another until one answers, else the last refusal
 abbrev pub members_call : Located → Asked → List ℕ → Refusal → Call Given

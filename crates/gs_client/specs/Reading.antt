@@ -1,5 +1,5 @@
 -- What is read of a file. All its chunks but the last are full: behind what a member stores of one stand zeros.
-use Rattle.std.specs.Prelude.{◌+◌, ◌-◌, ◌*◌, ◌/◌, ◌%◌, ◌++◌, ◌==◌, ℕ, zero, suc, min, List, [], if◌then◌else◌, Option, Some, None, Result, Ok, Err, nat_le, nat_lt, length, replicate}
+use Rattle.std.specs.Prelude.{◌+◌, ◌-◌, ◌*◌, ◌/◌, ◌%◌, ◌++◌, ◌==◌, ℕ, zero, suc, min, List, [], if◌then◌else◌, Option, Some, None, Result, Ok, Err, nat_le, nat_lt}
 use Rattle.gs_base.specs.declared.refusal.Refusal.{Refusal}
 use Rattle.gs_base.specs.declared.refusal.Refusal.TheVariants as refusals
 use Rattle.gs_path.specs.Path.{Path}
@@ -9,7 +9,8 @@ use Rattle.gs_msg.specs.declared.chunk.Asked.{Asked}
 use Rattle.gs_msg.specs.declared.chunk.Asked.TheVariants as asks
 use Rattle.gs_msg.specs.declared.answer.Status.{Status}
 use Rattle.gs_msg.specs.declared.answer.Status.TheVariants as statuses
-use Rattle.gs_client.specs.declared.located.Located.{Located}
+use Rattle.gs_part.specs.declared.located.Located.{Located}
+use Rattle.gs_part.specs.Reading.{filled, piece_end, span}
 use Rattle.gs_client.specs.declared.reading.Stat.{Stat}
 use Rattle.gs_client.specs.declared.reading.Stat.TheVariants as stats
 use Rattle.gs_client.specs.Replies.{status_in, bytes_in, length_in, digest_in}
@@ -35,9 +36,6 @@ end_call size path known chunks offset many =
     else both (length_call size path known chunks) (λ l.
     if nat_lt l.0 offset then Say (Err refusals.Range) else Say (Ok (min (offset + many) l.0, l.1)))
 
-abbrev pub filled : ℕ → List ℕ → List ℕ
-filled many bytes = bytes ++ replicate (many - length bytes) 0
-
 -- the bytes that a member gives of a chunk
 abbrev pub stored_call : Path → Option Located → ℕ → Asked → Call (List ℕ × Located)
 stored_call path known index asked =
@@ -52,20 +50,12 @@ abbrev pub piece_call : Path → Option Located → ℕ → ℕ → ℕ → ℕ 
 piece_call path known chunks index start many =
     both (stored_call path known index (asks.Bytes start many)) (λ s. Say (Ok (piece_bytes chunks index many s.0, s.1)))
 
--- where a read that ends so leaves the chunk of this index
-abbrev pub piece_end : ℕ → ℕ → ℕ → ℕ
-piece_end size end index = min size (end - index * size)
-
 -- so many pieces, from this chunk on
 abbrev pub pieces_call : ℕ → Path → ℕ → ℕ → Option Located → ℕ → ℕ → ℕ → List ℕ → Call (List ℕ × Option Located)
 pieces_call size path chunks end known index start zero read = Say (Ok (read, known))
 pieces_call size path chunks end known index start (suc count) read =
     both (piece_call path known chunks index start (piece_end size end index - start)) (λ p.
     Grow (pieces_call size path chunks end (Some p.1) (index + 1) 0 count (read ++ p.0)))
-
--- how many chunks lie between two places of a file
-abbrev pub span : ℕ → ℕ → ℕ → ℕ
-span size offset end = if nat_lt offset end then (end - 1) / size + 1 - offset / size else 0
 
 -- what is read, and the location that is remembered then
 abbrev pub read_call : ℕ → Path → Option ℕ → Option Located → ℕ → ℕ → Call (List ℕ × Option Located)

@@ -1,5 +1,5 @@
 -- What is written to a file: chunks that are missing are added first, then each chunk gets its part, as an edit of its own.
-use Rattle.std.specs.Prelude.{◌+◌, ◌-◌, ◌*◌, ◌/◌, ◌%◌, ◌++◌, ◌==◌, ◌||◌, ℕ, zero, suc, min, List, [], Bool, if◌then◌else◌, Option, Some, None, Result, Ok, Err, nat_lt, length, slice_range}
+use Rattle.std.specs.Prelude.{◌+◌, ◌-◌, ◌/◌, ◌++◌, ◌==◌, ℕ, zero, suc, List, [], if◌then◌else◌, Option, Some, None, Result, Ok, Err, length}
 use Rattle.gs_base.specs.declared.refusal.Refusal.{Refusal}
 use Rattle.gs_base.specs.declared.refusal.Refusal.TheVariants as refusals
 use Rattle.gs_base.specs.declared.numbers.Stamp.{Stamp}
@@ -12,10 +12,11 @@ use Rattle.gs_msg.specs.declared.call.Call.TheVariants as calls
 use Rattle.gs_msg.specs.declared.op.Op.{Op}
 use Rattle.gs_msg.specs.declared.op.Op.TheVariants as ops
 use Rattle.gs_msg.specs.declared.event.Request.TheVariants as requests
-use Rattle.gs_client.specs.declared.located.Located.{Located}
+use Rattle.gs_part.specs.declared.located.Located.{Located}
+use Rattle.gs_part.specs.Writing.{most_chunks, part_start, part_bytes, chunks_to, is_out, part_count, placed}
 use Rattle.gs_client.specs.Replies.{located_in, edited, is_stale, is_location_good}
 use Rattle.gs_client.specs.Trees.{Call, change, look}
-use Rattle.gs_client.specs.Looking.{most_chunks, known_call}
+use Rattle.gs_client.specs.Looking.{known_call}
 
 -- where a chunk can be written, under a stamp that isn't the refused one
 abbrev pub writing_call : Path → ℕ → Option Stamp → Call Located
@@ -59,15 +60,6 @@ abbrev pub extends_call : Path → ℕ → ℕ → Call (Unit {0})
 extends_call path index zero = Say (Ok tt)
 extends_call path index (suc count) = both (extend_call path index) (λ l. extends_call path (index + 1) count)
 
--- where part `i` of a write begins in its chunk, and its bytes
-abbrev pub part_start : ℕ → ℕ → ℕ → ℕ
-part_start size offset i = if i == 0 then offset % size else 0
-
-abbrev pub part_bytes : ℕ → ℕ → List ℕ → ℕ → List ℕ
-part_bytes size offset bytes i =
-    let to = min ((i + 1) * size - offset % size) (length bytes) in
-    slice_range bytes (min (i * size - offset % size) to) to
-
 abbrev pub part_op : ℕ → ℕ → List ℕ → ℕ → Op
 part_op size offset bytes i = ops.Write (part_start size offset i) (length (part_bytes size offset bytes i))
 
@@ -77,18 +69,6 @@ parts_call size path offset bytes i zero = Say (Ok tt)
 parts_call size path offset bytes i (suc count) =
     both (write_part_call path (offset / size + i) (part_op size offset bytes i) (part_bytes size offset bytes i)) (λ done.
     parts_call size path offset bytes (i + 1) count)
-
--- how many chunks a file has that ends where a write ends
-abbrev pub chunks_to : ℕ → ℕ → List ℕ → ℕ
-chunks_to size offset bytes = (offset + length bytes - 1) / size + 1
-
--- a write of no bytes, or past the last chunk that a file may have
-abbrev pub is_out : ℕ → ℕ → List ℕ → Bool
-is_out size offset bytes = (length bytes == 0) || nat_lt (most_chunks * size) (offset + length bytes)
-
--- how many parts a write has
-abbrev pub part_count : ℕ → ℕ → List ℕ → ℕ
-part_count size offset bytes = chunks_to size offset bytes - offset / size
 
 -- the bytes of so many parts, from the first on
 abbrev pub first_parts : ℕ → ℕ → List ℕ → ℕ → List ℕ
@@ -101,10 +81,6 @@ write_call size path opened offset bytes =
     if is_out size offset bytes then Say (Err refusals.Range)
     else both (extends_call path chunks (chunks_to size offset bytes - chunks)) (λ _.
     parts_call size path offset bytes 0 (part_count size offset bytes)))
-
--- where in its file a record stands
-abbrev pub placed : ℕ → ℕ → ℕ → Result ℕ Refusal
-placed size index offset = if nat_lt offset size then Ok (index * size + offset) else Err refusals.Stray
 
 -- A record stands at a place of its chunk, or the chunk was filled up and the record goes on.
 abbrev pub landed : ℕ → ℕ → Call ℕ → Outcome → Call ℕ

@@ -7,6 +7,7 @@ use crate::link::{Link, Reply};
 use crate::replies;
 use gs_base::{ClientId, Config, Refusal, ReqId};
 use gs_msg::{Call, Copied, Names, Phase, Request, Status};
+use gs_part::numbering::take_next;
 use gs_path::Path;
 use std::marker::Model;
 
@@ -69,11 +70,8 @@ impl Client {
     pub(crate) fn ask<L: Link>(&mut self, link: &mut L, request: Request) -> Reply
         ensures { Sends L.Carries (self.old, link.old) request result (self.new, link.new) }
     {
-        match self.last.next() {
-            Ok(req) => {
-                self.last = req;
-                link.request(req, request)
-            }
+        match take_next(&mut self.last) {
+            Ok(req) => link.request(req, request),
             Err(_) => Reply::Refused(Refusal::Exhausted),
         }
     }

@@ -9,12 +9,12 @@ ghost use Rattle.gs_client.specs.Files.{open_call, used, Remembers, with_locatio
 
 use crate::client::Client;
 use crate::link::Link;
-use crate::located::Located;
 use crate::reading::{Opened, Range};
-use crate::writing::{Record, Write};
+use crate::writing::Record;
 use gs_base::Refusal;
 use gs_block::Digest;
 use gs_msg::Bytes;
+use gs_part::{Located, Write};
 use gs_path::Path;
 use std::alloc::Global;
 use std::marker::Model;

@@ -4,7 +4,6 @@
 mod client;
 mod file;
 mod link;
-mod located;
 mod looking;
 mod node;
 pub mod promises;
@@ -15,7 +14,6 @@ mod writing;
 pub use client::Client;
 pub use file::{OpenFile, Reading, Writing};
 pub use link::{Link, Reply};
-pub use located::Located;
 pub use node::ClientNode;
 pub use promises::Serve;
 pub use reading::Stat;

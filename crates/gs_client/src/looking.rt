@@ -6,19 +6,17 @@ ghost use Rattle.gs_dialogue.specs.Dialogues.{Follows, Grow};
 ghost use Rattle.gs_client.specs.Sends.{Sends};
 ghost use Rattle.gs_client.specs.Replies.{status_in, chunks_in};
 ghost use Rattle.gs_client.specs.Trees.{look, and_then};
-ghost use Rattle.gs_client.specs.Looking.{count_in, chunks_call, known_call, find_call, fetch_of, members_call, round_call, anew_call, fetch_call};
+ghost use Rattle.gs_client.specs.Looking.{count_in, chunks_call, known_call, find_call, members_call, round_call, anew_call, fetch_call};
 
 use crate::client::Client;
 use crate::link::Link;
-use crate::located::Located;
 use crate::replies;
-use gs_base::{Refusal, ServerId};
+use gs_base::Refusal;
 use gs_msg::{Asked, Call, ChunkStatus, Given, Request, Status};
+use gs_part::Located;
+use gs_part::writing::MOST_CHUNKS;
 use gs_path::Path;
 use std::alloc::Global;
-
-/// The most chunks of a file.
-pub(crate) const MOST_CHUNKS: u64 = 4096;
 
 /// What is asked of a chunk of a file.
 #[derive(Clone, Copy)]
@@ -26,21 +24,6 @@ pub(crate) struct Wanted<'p> {
     pub(crate) path: &'p Path,
     pub(crate) index: u64,
     pub(crate) asked: Asked,
-}
-
-impl Located {
-    /// What asks a member for this.
-    fn fetch(&self, server: ServerId, asked: Asked) -> Request
-        ensures { result ≡ fetch_of self.now asked server }
-    {
-        Request::Fetch {
-            to: server,
-            handle: self.handle,
-            stamp: self.view.stamp,
-            epoch: self.epoch,
-            asked,
-        }
-    }
 }
 
 /// How many chunks a file has.

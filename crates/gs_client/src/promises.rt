@@ -8,7 +8,8 @@ ghost use Rattle.gs_client.specs.Sends.{Sends};
 ghost use Rattle.gs_client.specs.Serves.{served, served_edits};
 ghost use Rattle.gs_client.specs.Edits.{Edits};
 ghost use Rattle.gs_client.specs.Trees.{Call as AnyCall};
-ghost use Rattle.gs_client.specs.Writing.{part_start, part_bytes, part_count, first_parts, is_out};
+ghost use Rattle.gs_part.specs.Writing.{part_start, part_bytes, part_count, is_out};
+ghost use Rattle.gs_client.specs.Writing.{first_parts};
 
 use crate::link::Link;
 

@@ -1,21 +1,23 @@
 //! What is read of a file.
-ghost use Rattle.std.specs.Prelude.{◌≡◌, ◌≤◌, ◌<◌, ◌+◌, ◌*◌, ◌/◌, ◌%◌, ◌++◌, [], IfOk, IfSome, OnOk, if◌then◌else◌, Option, None};
+ghost use Rattle.std.specs.Prelude.{◌≡◌, ◌≤◌, ◌*◌, ◌/◌, ◌%◌, [], IfOk, IfSome};
 ghost use Rattle.gs_dialogue.specs.Dialogues.{Follows};
 ghost use Rattle.gs_client.specs.Sends.{Sends};
 ghost use Rattle.gs_client.specs.Trees.{and_then};
 ghost use Rattle.gs_client.specs.Replies.{length_in};
-ghost use Rattle.gs_client.specs.Reading.{within, length_call, end_call, stored_call, filled, piece_bytes, piece_end, pieces_call, span, read_call, digest_call, stat_of, stat_call};
+ghost use Rattle.gs_part.specs.Reading.{span};
+ghost use Rattle.gs_client.specs.Reading.{within, length_call, end_call, stored_call, piece_bytes, pieces_call, read_call, digest_call, stat_of, stat_call};
 
 use crate::client::Client;
 use crate::link::Link;
-use crate::located::Located;
 use crate::looking::{self, Wanted};
 use crate::replies;
 use gs_base::Refusal;
 use gs_block::Digest;
 use gs_msg::{Asked, Bytes, ChunkStatus, Given, Items, Status};
+use gs_part::Located;
+use gs_part::reading::{add_piece, bytes_of, piece_end, span};
 use gs_path::Path;
-use std::alloc::{AllocError, Global};
+use std::alloc::Global;
 
 /// What stands at a path.
 #[derive(Debug, Drop)]
@@ -55,16 +57,6 @@ pub(crate) struct Range {
     pub(crate) many: u64,
 }
 
-/// How many bytes so many chunks have.
-fn bytes_of(chunks: u64, size: u64) -> u64
-    requires few { chunks ≤ 4096 }
-    requires bounded { size ≤ 67108864 }
-    ensures is { result ≡ chunks * size }
-    ensures few { result ≤ 274877906944 }
-{
-    chunks * size
-}
-
 /// How many bytes a chunk stores.
 fn length_within(size: u64, given: Given) -> Result<u64, Refusal>
     ensures is { result ≡ and_then (within size) (length_in given) }
@@ -75,60 +67,6 @@ fn length_within(size: u64, given: Given) -> Result<u64, Refusal>
         return Ok(many);
     }
     Err(Refusal::Stray)
-}
-
-/// How many chunks lie between two places of a file.
-fn span(size: u64, offset: u64, end: u64) -> u64
-    requires { 1 ≤ size }
-    ensures { result ≡ span size offset end }
-{
-    if offset < end {
-        return (end - 1) / size + 1 - offset / size;
-    }
-    0
-}
-
-/// Adds bytes to those that were read. The first ones aren't copied.
-fn add_bytes(read: &mut Vec<u8>, bytes: Bytes) -> Result<(), AllocError>
-    ensures { OnOk result (read.new.items ≡ read.old.items ++ bytes) }
-{
-    if read.is_empty() {
-        *read = bytes.into_vec();
-        return Ok(());
-    }
-    read.extend_from_slice(bytes.as_slice())
-}
-
-/// Adds what was read of a chunk, with zeros behind it up to so many bytes.
-fn add_filled(read: &mut Vec<u8>, bytes: Bytes, many: usize) -> Result<(), AllocError>
-    requires { many ≤ 67108864 }
-    ensures { OnOk result (read.new.items ≡ read.old.items ++ filled many bytes) }
-{
-    let missing = many.saturating_sub(bytes.as_slice().len());
-    add_bytes(read, bytes)?;
-    let held = read.len();
-    read.resize(held + missing, 0)
-}
-
-/// Adds what was read of a chunk. Behind what a chunk stores that isn't the last one stand zeros.
-fn add_piece(read: &mut Vec<u8>, bytes: Bytes, many: u64, is_last: bool) -> Result<(), AllocError>
-    requires { many ≤ 67108864 }
-    ensures { OnOk result (read.new.items ≡ read.old.items ++ (if is_last then bytes else filled many bytes)) }
-{
-    if is_last {
-        return add_bytes(read, bytes);
-    }
-    add_filled(read, bytes, many as usize)
-}
-
-/// Where a read that ends so leaves the chunk of this index.
-fn piece_end(size: u64, end: u64, index: u64) -> u64
-    requires few { index ≤ 4096 }
-    requires bounded { size ≤ 67108864 }
-    ensures is { result ≡ piece_end size end index }
-    ensures within { result ≤ size }
-{
-    size.min(end.saturating_sub(bytes_of(index, size)))
 }
 
 impl Client {

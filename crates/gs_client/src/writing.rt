@@ -7,11 +7,11 @@ ghost use Rattle.gs_client.specs.Writing as calls;
 
 use crate::client::Client;
 use crate::link::Link;
-use crate::located::Located;
-use crate::looking::MOST_CHUNKS;
 use crate::replies;
 use gs_base::{Refusal, Stamp};
 use gs_msg::{Bytes, Call, Op, Request};
+use gs_part::writing::{MOST_CHUNKS, chunks_to, is_out, part_bytes, part_count, part_start, place};
+use gs_part::{Located, Write};
 use gs_path::Path;
 use gs_replica::Outcome;
 use std::alloc::Global;
@@ -23,17 +23,6 @@ struct Edit<'e> {
     index: u64,
     op: Op,
     bytes: &'e [u8],
-}
-
-/// Bytes for a place of a file of chunks of this size.
-#[derive(Clone, Copy)]
-pub(crate) struct Write<'w> {
-    pub(crate) size: u64,
-    pub(crate) path: &'w Path,
-    pub(crate) offset: u64,
-    pub(crate) bytes: &'w [u8],
-    pub(crate) ghost some: { 1 ≤ size },
-    pub(crate) ghost bounded: { size ≤ 67108864 },
 }
 
 /// A record for the end of a file of chunks of this size.
@@ -63,59 +52,6 @@ fn avoided(refusal: &Refusal, stamp: Stamp) -> Option<Stamp>
         return None;
     }
     Some(stamp)
-}
-
-/// Whether a write has no bytes, or goes too far.
-fn is_out(write: &Write<'_>) -> bool
-    ensures { result ≡ calls.is_out write.now.size write.now.offset write.now.bytes.now }
-{
-    let length = write.bytes.len() as u64;
-    let most = MOST_CHUNKS * write.size;
-    length == 0 || write.offset > most || length > most - write.offset
-}
-
-/// How many chunks a file has that ends where a write ends.
-fn chunks_to(write: &Write<'_>) -> u64
-    requires { calls.is_out write.now.size write.now.offset write.now.bytes.now ≡ false }
-    ensures is { result ≡ calls.chunks_to write.now.size write.now.offset write.now.bytes.now }
-    ensures few { result ≤ 4096 }
-    ensures past { write.now.offset / write.now.size ≤ result }
-    ensures near { write.now.offset ≤ 274877906944 }
-{
-    (write.offset + write.bytes.len() as u64 - 1) / write.size + 1
-}
-
-/// Where a part of a write begins in its chunk.
-fn part_start(write: &Write<'_>, i: u64) -> u64
-    ensures { result ≡ calls.part_start write.now.size write.now.offset i }
-{
-    if i == 0 {
-        return write.offset % write.size;
-    }
-    0
-}
-
-/// The bytes of a part.
-fn part_bytes<'w>(write: &Write<'w>, i: u64) -> &'w [u8]
-    requires { i ≤ 4096 }
-    ensures { result.now ≡ calls.part_bytes write.now.size write.now.offset write.now.bytes.now i }
-{
-    let skip = write.offset % write.size;
-    let to = ((i + 1) * write.size - skip).min(write.bytes.len() as u64);
-    let from = (i * write.size).saturating_sub(skip).min(to);
-    &write.bytes[from as usize..to as usize]
-}
-
-/// Where in its file a record stands.
-fn place(size: u64, index: u64, offset: u64) -> Result<u64, Refusal>
-    requires bounded { size ≤ 67108864 }
-    requires few { index ≤ 4096 }
-    ensures { result ≡ calls.placed size index offset }
-{
-    if offset < size {
-        return Ok(index * size + offset);
-    }
-    Err(Refusal::Stray)
 }
 
 impl Client {
@@ -298,7 +234,7 @@ impl Client {
         }
         let to = chunks_to(write);
         self.extends(alloc, link, write.path, chunks, to.saturating_sub(chunks))?;
-        self.parts(alloc, link, edits, write, to - write.offset / write.size)
+        self.parts(alloc, link, edits, write, part_count(write))
     }
 
     /// Puts a record into a chunk, or, where that is filled up, into one behind it, as far as a file may go.

@@ -10,14 +10,17 @@ use Rattle.gs_calls.specs.Asked.{append_to, asked_by, digest_of, done, ends_so, 
 use Rattle.gs_calls.specs.declared.answer.Answer.{Answer}
 use Rattle.gs_calls.specs.declared.answer.Answer.TheVariants as answers
 use Rattle.gs_client.specs.Files.{open_call}
-use Rattle.gs_client.specs.Looking.{anew_call, chunks_call, count_in, fetch_call, find_call, known_call, members_call, most_chunks, round_call}
+use Rattle.gs_part.specs.Writing.{most_chunks}
+use Rattle.gs_client.specs.Looking.{anew_call, chunks_call, count_in, fetch_call, find_call, known_call, members_call, round_call}
 use Rattle.gs_client.specs.Opened.{File}
-use Rattle.gs_client.specs.Reading.{digest_call, end_call, length_call, piece_call, piece_end, pieces_call, read_call, span, stat_call, stat_of, stored_call, within}
+use Rattle.gs_part.specs.Reading.{piece_end, span}
+use Rattle.gs_client.specs.Reading.{digest_call, end_call, length_call, piece_call, pieces_call, read_call, stat_call, stat_of, stored_call, within}
 use Rattle.gs_client.specs.Replies.{bytes_in, chunks_in, digest_in, given, is_stale, length_in, status_in}
 use Rattle.gs_client.specs.Trees as trees
 use Rattle.gs_client.specs.Trees.{Call}
-use Rattle.gs_client.specs.Writing.{again_call, append_call, append_from, avoided, chunks_to, edit_call, extend_call, extends_call, is_out, landed, part_bytes, part_call, part_count, part_op, parts_call, send_call, write_call, write_part_call, writing_call}
-use Rattle.gs_client.specs.declared.located.Located.{Located}
+use Rattle.gs_part.specs.Writing.{chunks_to, is_out, part_bytes, part_count}
+use Rattle.gs_client.specs.Writing.{again_call, append_call, append_from, avoided, edit_call, extend_call, extends_call, landed, part_call, part_op, parts_call, send_call, write_call, write_part_call, writing_call}
+use Rattle.gs_part.specs.declared.located.Located.{Located}
 use Rattle.gs_dialogue.specs.Dialogues.{Ask, Dialogue, Grow, Say, both, onward, otherwise, upon}
 use Rattle.gs_laws.specs.Written.{IsIndex}
 use Rattle.gs_lease.specs.declared.view.Term.{Term}

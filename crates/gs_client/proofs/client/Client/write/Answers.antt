@@ -3,7 +3,8 @@ use Rattle.gs_dialogue.proofs.Talks.{follows_both, follows_none, follows_then, f
 use Rattle.gs_base.specs.declared.refusal.Refusal.TheVariants.{Range}
 use Rattle.gs_client.specs.Edits.{Edits}
 use Rattle.gs_client.specs.Looking.{known_call}
-use Rattle.gs_client.specs.Writing.{extends_call, chunks_to, is_out}
+use Rattle.gs_part.specs.Writing.{chunks_to, is_out}
+use Rattle.gs_client.specs.Writing.{extends_call}
 use Rattle.gs_client.proofs.Counts.{as_edits, quiet_known, quiet_extends}
 use Rattle.gs_client.proofs.client.Client.write.Goals as goal
 
@@ -36,7 +37,7 @@ pub returns : goal.returns
 returns g c =
     let w = c.args.write.now in
     let extended = rw (c.saturating_sub.ensures, c.chunks_to-to.ensures.is) at c.in_ok-extends.ensures in
-    let written = rw c.chunks_to-to.ensures.is at c.parts.ensures in
+    let written = rw c.part_count.ensures.is at c.parts.ensures in
     follows_both (Edits g.L.Link.Carries) (known_call w.path.now c.args.opened) _ _ _ _ _ _
     (as_edits g.L.Link.Carries (known_call w.path.now c.args.opened) (quiet_known w.path.now c.args.opened) _ _ c.args.edits.now _ _ _ c.in_ok-chunks.ensures.is)
     (follows_else (Edits g.L.Link.Carries) (is_out w.size w.offset w.bytes.now) _ _ _ _ _ (sym c.if-is_out.ensures)

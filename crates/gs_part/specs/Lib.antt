@@ -1,0 +1,4 @@
+pub mod Fetching
+pub mod Numbering
+pub mod Reading
+pub mod Writing

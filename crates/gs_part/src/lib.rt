@@ -1,0 +1,10 @@
+//! The parts of a client's calls: under which number and to which member a request goes, and which bytes of a file it is of.
+#![tactic(auto)]
+
+mod located;
+pub mod numbering;
+pub mod reading;
+pub mod writing;
+
+pub use located::Located;
+pub use writing::Write;
