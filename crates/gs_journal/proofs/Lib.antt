@@ -5,12 +5,10 @@ mod Drafting
 mod Faults
 mod Frames
 mod Making
-mod Moments
 mod Opening
 mod Pairs
 mod Scan
 mod Settled
 mod Standing
-mod Steps
 mod Times
 mod Views

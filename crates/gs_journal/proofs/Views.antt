@@ -1,17 +1,17 @@
 -- What contracts see of a journal, by its disks.
-use Rattle.std.proofs.Common.{◌≡◌, ℕ, ◌+◌, ◌-◌, ◌≤◌, Bool, false, refl, Option, Some, None, Result, Ok, List, [], ◌∷◌, ◌++◌, length, sym, ◌∙◌, ap, subst, arith, length-append}
+use Rattle.std.proofs.Common.{◌≡◌, ℕ, ◌+◌, ◌-◌, ◌≤◌, Bool, true, false, refl, Option, Some, None, Result, Ok, List, [], ◌∷◌, ◌++◌, length, sym, ◌∙◌, ap, subst, arith, length-append}
 use Rattle.std.specs.Prelude.{if◌then◌else◌, nat_le, IfSome, OnOk}
 use Rattle.std.proofs.lemmas.Bool.{cond-true}
 use Rattle.std.proofs.lemmas.Bool.Decides.{nat_tests}
 use Rattle.gs_base.specs.declared.refusal.Refusal.{Refusal}
 use Rattle.gs_base.specs.declared.refusal.Refusal.TheVariants.{Device, Full}
-use Rattle.gs_journal.specs.Disk.{LeavesPairs}
+use Rattle.gs_disk.specs.Disk.{LeavesPairs}
 use Rattle.gs_journal.specs.Records.{Entry, Text, frame, generation_of, second_counts, standing}
 use Rattle.gs_journal.specs.Journal.{State, Stands, record_size, append_refusal, text_size}
 use Rattle.gs_journal.specs.inner.Pair.{text, counting, IsSettled}
 use Rattle.gs_journal.specs.declared.pair.Pair.{Pair}
 use Rattle.gs_journal.proofs.Complete.{at_rest_size}
-use Rattle.gs_journal.proofs.Moments.{Stays}
+use Rattle.gs_disk.proofs.Moments.{Stays}
 use Rattle.gs_journal.proofs.Pairs.{nothing_changed}
 use Rattle.gs_journal.proofs.Standing.{text_counts}
 
@@ -65,8 +65,8 @@ module _ {D : Type 0} (j : State D) (r : Entry) where
   pub unjudged : (P : Refusal → Type 0) → append_refusal j r ≡ None → IfSome (append_refusal j r) P
   unjudged P none = subst (λ (o : Option Refusal). IfSome o P) (sym none) tt
 
-  pub room_fits : (room : ℕ) (bytes : List ℕ) → bytes ≡ frame r ++ 0 ∷ [] → room ≡ j.limit - j.size → length bytes ≤ room → j.size + record_size r ≤ j.limit
-  room_fits room bytes is left within = omega (arith, ap length is, length-append (frame r) (0 ∷ []), left, within)
+  pub room_fits : (room : ℕ) (bytes : List ℕ) → bytes ≡ frame r ++ 0 ∷ [] → room ≡ j.limit - j.size → nat_le (length bytes) room ≡ true → j.size + record_size r ≤ j.limit
+  room_fits room bytes is left fits = let within : length bytes ≤ room = grind (arith, fits, nat_tests) in omega (arith, ap length is, length-append (frame r) (0 ∷ []), left, within)
 
 -- what holds of a result that is known
 pub on_ok : {T E : Type 0} (P : Type 0) (r : Result T E) (x : T) → r ≡ Ok x → OnOk r P → P

@@ -2,7 +2,7 @@
 use Rattle.std.specs.Prelude.{◌≡◌, ◌⊎◌, ◌<◌, ◌-◌, ◌==◌, ℕ, zero, suc, Bool, true, false, Option, Some, None, List, length, take, Result, IsErrOf, MatchOption}
 use Rattle.gs_base.specs.declared.refusal.Refusal.{Refusal}
 use Rattle.gs_base.specs.declared.refusal.Refusal.TheVariants.{Device}
-use Rattle.gs_journal.specs.Disk.{HasCause, Holds}
+use Rattle.gs_disk.specs.Disk.{HasCause, Holds}
 use Rattle.gs_journal.specs.declared.fault.Fault.{Fault}
 use Rattle.gs_journal.specs.declared.fault.Fault.TheVariants.{Never, Fail, Stop, Tear}
 

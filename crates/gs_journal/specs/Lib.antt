@@ -1,5 +1,4 @@
 pub mod Bodies
-pub mod Disk
 pub mod Drafts
 pub mod Faults
 pub mod Forms

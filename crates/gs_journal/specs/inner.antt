@@ -8,4 +8,3 @@ pub mod Pair
 pub mod Past
 pub mod Places
 pub mod Rest
-pub mod Stage

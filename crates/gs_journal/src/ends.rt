@@ -1,15 +1,15 @@
 // What is done to the end of a disk, and to a disk that is made anew.
 ghost use Rattle.std.specs.Prelude.{◌≡◌, ◌≢◌, ◌<◌, ◌^◌, ◌+◌, ◌++◌, true, [], ◌∷◌, length, get_or, OnOk};
-ghost use Rattle.gs_journal.specs.Disk.{Only, HasCause};
-ghost use Rattle.gs_journal.specs.inner.Stage.{LeavesOnly};
+ghost use Rattle.gs_disk.specs.Disk.{Only, HasCause};
+ghost use Rattle.gs_disk.specs.Stage.{LeavesOnly};
 ghost use Rattle.gs_journal.specs.Records.{frame, records_of};
 ghost use Rattle.gs_journal.specs.inner.Rest.{IsAtRest, Continues, IsBeforeOrAfter, IsMaking};
 ghost use Rattle.gs_journal.specs.inner.Frames.{IsEnd};
 
-use crate::disk::Disk;
 use crate::record::Record;
-use crate::stage::{close_at, keep_front, open_behind};
 use gs_base::Refusal;
+use gs_disk::Disk;
+use gs_disk::stage::{close_at, keep_front, open_behind, write_anew};
 
 /// Writes a record behind those of a disk at rest.
 pub(crate) fn append_to<D: Disk>(disk: &mut D, end: usize, entry: &Record) -> Result<(), Refusal>
@@ -54,7 +54,5 @@ pub(crate) fn make<D: Disk>(disk: &mut D, text: &[u8]) -> Result<(), Refusal>
     ensures any_moment { LeavesOnly D.moment D.left_since disk.old disk.new (IsMaking text.now (D.seen disk.old)) }
     ensures cause { HasCause (D.failures disk.old) (D.failures disk.new) result }
 {
-    close_at(disk, 0)?;
-    open_behind(disk, 0, text)?;
-    Ok(())
+    write_anew(disk, text)
 }

@@ -1,12 +1,12 @@
 // A disk of which calls fail.
 ghost use Rattle.std.specs.Prelude.{◌≡◌, ◌≤◌, ◌+◌, ℕ, List, length, take, drop, true, IfOk, OnOk};
-ghost use Rattle.gs_journal.specs.Disk.{Only, Follows, Torn, Cut, Holds, Elapses, HasCause};
+ghost use Rattle.gs_disk.specs.Disk.{Only, Follows, Torn, Cut, Holds, Elapses, HasCause};
 ghost use Rattle.gs_journal.specs.Faults.{fails, Counts, Tears};
 
-use crate::disk::Disk;
 use crate::fault::Fault;
 use crate::history::History;
 use gs_base::Refusal;
+use gs_disk::Disk;
 use std::marker::Model;
 
 /// A disk over another, of which the calls fail that its fault names. All other calls are those of the disk below.

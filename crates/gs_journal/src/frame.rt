@@ -10,6 +10,7 @@ use crate::record::Record;
 use crate::version::Version;
 use byteorder::{BigEndian, ByteOrder};
 use gs_base::Refusal;
+use gs_disk::is_open;
 use std::alloc::Global;
 
 /// How many bytes a header has: a gate, a mark of four, and a generation of eight.
@@ -28,16 +29,6 @@ pub(crate) struct Found<'a> {
     pub(crate) kind: u8,
     pub(crate) body: &'a [u8],
     pub(crate) rest: &'a [u8],
-}
-
-/// The gate before a header or a record that stands.
-const OPEN: u8 = 1;
-
-/// Whether a gate is open. Any other byte is a closed one.
-pub(crate) fn is_open(gate: u8) -> bool
-    ensures { result ≡ (gate == 1) }
-{
-    gate == OPEN
 }
 
 /// The header of a disk that may count.

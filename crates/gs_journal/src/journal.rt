@@ -1,12 +1,11 @@
 // A journal on two disks, of which one counts.
 ghost use Rattle.std.specs.Prelude.{◌≡◌, ◌≢◌, ◌⊎◌, ◌<◌, ◌≤◌, ◌^◌, ◌+◌, ◌-◌, true, false, not, length, if◌then◌else◌, Ok, Err, None, OnOk, IfOk, IfErr, IfSome, IsTrue};
 ghost use Rattle.gs_base.specs.declared.refusal.Refusal.TheVariants.{Device, Memory};
-ghost use Rattle.gs_journal.specs.Disk.{LeavesPairs};
+ghost use Rattle.gs_disk.specs.Disk.{LeavesPairs};
 ghost use Rattle.gs_journal.specs.Records.{generation_standing, standing};
 ghost use Rattle.gs_journal.specs.Forms.{is_text};
 ghost use Rattle.gs_journal.specs.Drafts.{draft_refusal};
 
-use crate::disk::Disk;
 use crate::draft::Draft;
 use crate::fault::Fault;
 use crate::faulty::FaultyDisk;
@@ -15,6 +14,7 @@ use crate::record::Record;
 use crate::start::start;
 use crate::version::Version;
 use gs_base::Refusal;
+use gs_disk::{Disk, fits, has_failed};
 use std::alloc::Global;
 use std::marker::Model;
 
@@ -242,11 +242,11 @@ impl<D: Disk> Journal<D> {
         if self.is_failed {
             return Err(Refusal::Device);
         }
-        if entry.bytes().len() > self.room() as usize {
+        if !fits(entry.bytes().len(), self.room()) {
             return Err(Refusal::Full);
         }
         let added = self.disks.put(entry);
-        self.is_failed = added.is_err();
+        self.is_failed = has_failed(&added);
         added?;
         Ok(())
     }
@@ -299,7 +299,7 @@ impl<D: Disk> Journal<D> {
             return Err(Refusal::Full);
         }
         let made = self.disks.make_other(draft.entry(), draft.bytes());
-        self.is_failed = made.is_err();
+        self.is_failed = has_failed(&made);
         made?;
         Ok(())
     }

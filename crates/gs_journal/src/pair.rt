@@ -1,18 +1,18 @@
 // Two disks, of which one counts.
 ghost use Rattle.std.specs.Prelude.{◌≡◌, ◌<◌, ◌≤◌, ◌^◌, ◌+◌, ◌++◌, [], ◌∷◌, OnOk, IfOk};
-ghost use Rattle.gs_journal.specs.Disk.{HasCause, LeavesPairs};
+ghost use Rattle.gs_disk.specs.Disk.{HasCause, LeavesPairs};
 ghost use Rattle.gs_journal.specs.Records.{frame, header, header_length, standing};
 ghost use Rattle.gs_journal.specs.Journal.{record_size, with_record, IsWithOrWithout, IsOldOrNew};
 ghost use Rattle.gs_journal.specs.inner.Places.{ReadRefuses};
 ghost use Rattle.gs_journal.specs.declared.version.Version.TheVariants.{Two};
 
-use crate::disk::Disk;
 use crate::ends::{append_to, make};
 use crate::frame::{HEADER, records_in};
 use crate::record::Record;
 use crate::start::read_all;
 use crate::version::Version;
 use gs_base::Refusal;
+use gs_disk::Disk;
 use std::alloc::Global;
 
 /// Two disks, which of them counts, what its header says, and where its records end.

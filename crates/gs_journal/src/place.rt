@@ -4,9 +4,10 @@ ghost use Rattle.gs_base.specs.declared.refusal.Refusal.TheVariants.{BadLine};
 ghost use Rattle.gs_journal.specs.Records.{is_begun, version_of, generation_of, standing, text_of};
 ghost use Rattle.gs_journal.specs.Forms.{is_text};
 
-use crate::frame::{Header, end_of_records, header_of, is_open};
+use crate::frame::{Header, end_of_records, header_of};
 use crate::version::Version;
 use gs_base::Refusal;
+use gs_disk::is_open;
 
 /// Which disk counts, what its header says, where its records end, and whether a closed gate stands there.
 #[derive(Clone, Copy)]

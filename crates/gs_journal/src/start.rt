@@ -1,22 +1,22 @@
 // How two disks are opened.
 ghost use Rattle.std.specs.Prelude.{◌≡◌, ◌≢◌, ◌+◌, ◌++◌, ◌∷◌, ◌<◌, ◌^◌, [], true, false, IfOk, IfErr, OnOk, List, ℕ};
 ghost use Rattle.gs_base.specs.declared.refusal.Refusal.TheVariants.{Device, Memory};
-ghost use Rattle.gs_journal.specs.Disk.{Only, LeavesPairs};
+ghost use Rattle.gs_disk.specs.Disk.{Only, LeavesPairs};
 ghost use Rattle.gs_journal.specs.Records.{generation_standing, header, is_begun, second_counts, standing};
 ghost use Rattle.gs_journal.specs.Forms.{is_text};
 ghost use Rattle.gs_journal.specs.Journal.{WhyClosed, MightHaveStood};
 ghost use Rattle.gs_journal.specs.inner.Places.{FindsPlace, IsFresh, IsReady, ReadRefuses, IsLikeFirst, IsLikeSecond};
-ghost use Rattle.gs_journal.specs.inner.Stage.{LeavesOnly};
+ghost use Rattle.gs_disk.specs.Stage.{LeavesOnly};
 ghost use Rattle.gs_journal.specs.declared.version.Version.TheVariants.{Two};
 
-use crate::disk::Disk;
 use crate::ends::{make, repair};
 use crate::frame::HEADER;
 use crate::place::Place;
-use crate::stage::settle;
 use crate::version::Version;
 use byteorder::{BigEndian, ByteOrder};
 use gs_base::Refusal;
+use gs_disk::Disk;
+use gs_disk::stage::settle_both;
 use std::alloc::Global;
 
 /// What is written behind the header gate of a new disk: the mark, the generation, a gate, and the bytes behind it.
@@ -71,8 +71,7 @@ pub(crate) fn survey<D: Disk>(
     ensures refused { IfErr result (WhyClosed (standing (D.seen first.old) (D.seen second.old))
         (D.failures first.old + D.failures second.old) (D.failures first.new + D.failures second.new)) }
 {
-    settle(first)?;
-    settle(second)?;
+    settle_both(first, second)?;
     let first_bytes = read_all(alloc, first)?;
     let second_bytes = read_all(alloc, second)?;
     let place = Place::of(&first_bytes, &second_bytes)?;

@@ -5,7 +5,7 @@ use Rattle.std.proofs.lemmas.Bool.Decides.{nat_tests}
 use Rattle.std.proofs.lemmas.List.Sums.{sum_by-append, sum_by_more_le}
 use Rattle.gs_base.specs.declared.refusal.Refusal.{Refusal}
 use Rattle.gs_base.specs.declared.refusal.Refusal.TheVariants.{Device, Full}
-use Rattle.gs_journal.specs.Disk.{LeavesPairs}
+use Rattle.gs_disk.specs.Disk.{LeavesPairs}
 use Rattle.gs_journal.specs.Journal.{State as Journal, Adds, Closes, IsWithOrWithout, Stands, append_refusal, failures_of_both, record_size}
 use Rattle.gs_journal.specs.Records.{Entry, Text}
 use Rattle.gs_master.specs.Journaled.{Breaks, Gains, IsReadyFor, StandUpTo, text_seen}

@@ -1,19 +1,8 @@
-use Rattle.std.proofs.Common.{inl, List, ℕ, subst}
-use Rattle.gs_journal.specs.inner.Stage.{IsOpening}
-use Rattle.gs_journal.proofs.Moments.{weaker, both}
+use Rattle.std.proofs.Common.{inl, ⊎_elim}
+use Rattle.gs_disk.proofs.Moments.{weaker}
 use Rattle.gs_journal.proofs.Making.{while_closing, while_opening}
 use Rattle.gs_journal.proofs.ends.make.Goals as goal
 
-pub returns-in_err-close_at-clause-any_moment : goal.returns-in_err-close_at-clause-any_moment
-returns-in_err-close_at-clause-any_moment g c =
-    weaker g.D.Disk.moment g.D.Disk.left_since _ _ _ _ c.close_at.ensures.any_moment (λ x left. inl (while_closing _ x left))
-
-pub returns-in_err-open_behind-clause-any_moment : goal.returns-in_err-open_behind-clause-any_moment
-returns-in_err-open_behind-clause-any_moment g c =
-    both g.D.Disk.moment g.D.Disk.left_since _ _ _ _ _ _ c.close_at.ensures.any_moment c.open_behind.ensures.any_moment (λ x left. inl (while_closing _ x left))
-    (λ x left. while_opening _ _ x (subst (λ (f : List ℕ). IsOpening 0 c.args.text.now f x) c.in_ok-close_at.ensures.seen left))
-
 pub returns-clause-any_moment : goal.returns-clause-any_moment
 returns-clause-any_moment g c =
-    both g.D.Disk.moment g.D.Disk.left_since _ _ _ _ _ _ c.close_at.ensures.any_moment c.open_behind.ensures.any_moment (λ x left. inl (while_closing _ x left))
-    (λ x left. while_opening _ _ x (subst (λ (f : List ℕ). IsOpening 0 c.args.text.now f x) c.in_ok-close_at.ensures.seen left))
+    weaker g.D.Disk.moment g.D.Disk.left_since _ _ _ _ c.write_anew.ensures.any_moment (λ x left. ⊎_elim (λ closing. inl (while_closing _ x closing)) (while_opening _ _ x) left)

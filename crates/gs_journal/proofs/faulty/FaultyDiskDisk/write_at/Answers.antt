@@ -1,8 +1,8 @@
 use Rattle.std.proofs.Common.{◌≡◌, ◌≤◌, ℕ, List, sym, ap, subst, arith, length, length-take}
-use Rattle.gs_journal.specs.Disk.{Follows, Torn}
+use Rattle.gs_disk.specs.Disk.{Follows, Torn}
 use Rattle.gs_journal.specs.Faults.{Faulty}
 use Rattle.gs_journal.specs.declared.faulty.FaultyDisk.TheInside.{Inside}
-use Rattle.gs_journal.proofs.Steps.{torn_same, torn_wider}
+use Rattle.gs_disk.proofs.Steps.{torn_same, torn_wider}
 use Rattle.gs_journal.proofs.faulty.FaultyDiskDisk.write_at.Goals.{in-Tear+in-Err+in-Pending-1, in-Tear+in-Err+in-BadPath-1, in-Tear+in-Ok-1, in_default}
 use Rattle.gs_journal.proofs.faulty.FaultyDiskDisk.write_at.Goals as goal
 

@@ -1,6 +1,6 @@
 // A disk as a journal sees it: what a read gives, and what a crash may leave.
 ghost use Rattle.std.specs.Prelude.{◌≡◌, ◌≤◌, ◌+◌, List, ℕ, length, take, drop, IfOk, OnOk};
-ghost use Rattle.gs_journal.specs.Disk.{Only, Follows, Torn, Cut, Holds, Elapses, HasCause};
+ghost use Rattle.gs_disk.specs.Disk.{Only, Follows, Torn, Cut, Holds, Elapses, HasCause};
 
 use gs_base::Refusal;
 

@@ -1,7 +1,7 @@
 -- What one step may leave of known bytes.
 use Rattle.std.proofs.Common.{◌≡◌, ◌≤◌, ◌+◌, ◌-◌, ℕ, zero, suc, List, [], ◌∷◌, ◌++◌, length, take, drop, refl, sym, ◌∙◌, ap, subst, arith, length-take}
 use Rattle.std.proofs.lemmas.List.{append-nil, take_all, drop_all, drop-drop}
-use Rattle.gs_journal.specs.Disk.{Torn, Cut, Holds, Only, Follows}
+use Rattle.gs_disk.specs.Disk.{Torn, Cut, Holds, Only, Follows}
 
 pub take_length : (n : ℕ) (xs : List ℕ) → take (length (take n xs)) xs ≡ take n xs
 take_length zero xs = refl

@@ -1,8 +1,8 @@
 use Rattle.std.proofs.Common.{length}
-use Rattle.gs_journal.specs.Disk.{Torn}
-use Rattle.gs_journal.proofs.Moments.{stepped, stepped_through}
-use Rattle.gs_journal.proofs.Steps.{torn_same}
-use Rattle.gs_journal.proofs.stage.write_through.Goals as goal
+use Rattle.gs_disk.specs.Disk.{Torn}
+use Rattle.gs_disk.proofs.Moments.{stepped, stepped_through}
+use Rattle.gs_disk.proofs.Steps.{torn_same}
+use Rattle.gs_disk.proofs.stage.write_through.Goals as goal
 
 pub returns-in_err-write_at-clause-any_moment : goal.returns-in_err-write_at-clause-any_moment
 returns-in_err-write_at-clause-any_moment g c =

@@ -1,7 +1,7 @@
-use Rattle.gs_journal.specs.Disk.{Cut}
-use Rattle.gs_journal.proofs.Moments.{stepped, stepped_through}
-use Rattle.gs_journal.proofs.Steps.{cut_same}
-use Rattle.gs_journal.proofs.stage.keep_front.Goals as goal
+use Rattle.gs_disk.specs.Disk.{Cut}
+use Rattle.gs_disk.proofs.Moments.{stepped, stepped_through}
+use Rattle.gs_disk.proofs.Steps.{cut_same}
+use Rattle.gs_disk.proofs.stage.keep_front.Goals as goal
 
 pub returns-in_err-cut-clause-any_moment : goal.returns-in_err-cut-clause-any_moment
 returns-in_err-cut-clause-any_moment g c =

@@ -1,8 +1,8 @@
 -- How a run of device calls goes on.
 use Rattle.std.proofs.Common.{inl, inr, ⊎_elim, ℕ, List, sym, subst, arith}
-use Rattle.gs_journal.proofs.Steps.{from_known}
-use Rattle.gs_journal.specs.Disk.{Elapses, Only, Follows}
-use Rattle.gs_journal.specs.inner.Stage.{LeavesOnly}
+use Rattle.gs_disk.proofs.Steps.{from_known}
+use Rattle.gs_disk.specs.Disk.{Elapses, Only, Follows}
+use Rattle.gs_disk.specs.Stage.{LeavesOnly}
 
 module _ {D : Type 0} (moment : D → ℕ) (left_since : D → ℕ → List ℕ → Type 0) where
   -- before the first call

@@ -1,8 +1,8 @@
 use Rattle.std.proofs.Common.{inl, inr, List, ℕ, subst}
-use Rattle.gs_journal.specs.Disk.{Torn}
-use Rattle.gs_journal.proofs.Moments.{weaker, both}
-use Rattle.gs_journal.proofs.Steps.{put_behind}
-use Rattle.gs_journal.proofs.stage.open_behind.Goals as goal
+use Rattle.gs_disk.specs.Disk.{Torn}
+use Rattle.gs_disk.proofs.Moments.{weaker, both}
+use Rattle.gs_disk.proofs.Steps.{put_behind}
+use Rattle.gs_disk.proofs.stage.open_behind.Goals as goal
 
 pub returns-in_err-write_through-clause-any_moment : goal.returns-in_err-write_through-clause-any_moment
 returns-in_err-write_through-clause-any_moment g c =

@@ -1,7 +1,7 @@
 use Rattle.std.proofs.Common.{inl, inr, List, ℕ, subst}
-use Rattle.gs_journal.specs.Disk.{Torn}
-use Rattle.gs_journal.proofs.Moments.{weaker, both}
-use Rattle.gs_journal.proofs.stage.close_at.Goals as goal
+use Rattle.gs_disk.specs.Disk.{Torn}
+use Rattle.gs_disk.proofs.Moments.{weaker, both}
+use Rattle.gs_disk.proofs.stage.close_at.Goals as goal
 
 pub returns-in_err-keep_front-clause-any_moment : goal.returns-in_err-keep_front-clause-any_moment
 returns-in_err-keep_front-clause-any_moment g c =
