@@ -6,8 +6,9 @@
 runs parts of the built gs_bench, once for each growth, by a small library of C that is loaded before it and lets one call of malloc or
 realloc fail. It ends with status 1 where a run ends badly, hangs, or says that something was wrong. See bench/README.md for the parts.
 
-The part prepare is another: how many growths an upgrade makes that is begun behind 10, 100 and 1,000 files, and whether it is accepted
-behind 1,000 where the growth behind the 200th is refused."""
+The part prepare is another. It counts the growths of an upgrade that is begun behind 10, 100 and 1,000 files, which have to be as many
+and 200 at most, so that to refuse a later one refuses nothing of it; and refuses each of them in turn behind 10 files, at which the
+upgrade is begun or memory was wanting for it, and nothing else."""
 
 import argparse
 import os
@@ -21,7 +22,7 @@ import beside
 PARTS = ["script", "replica", "records", "serving", "removed", "copied"]
 PREPARE = "prepare"
 FILES = (10, 100, 1000)
-# The most growths that a prepare may make, however many files there are.
+# The most growths that an upgrade may make that is begun, however many files there are.
 MOST = 200
 # What the part says where memory was wanting for its upgrade.
 LACKED = "upgrades not begun"
@@ -100,14 +101,19 @@ def growths_of(program, made, part, count):
 
 
 def is_prepare_well(program, made):
-    """Whether an upgrade is begun with so few growths, as many behind few files as behind many, and so also where the next is refused."""
+    """Whether an upgrade is begun with as many growths behind few files as behind many, and each of them may be refused."""
     before = {count: growths_of(program, made, "files", count) for count in FILES}
     many = {count: growths_of(program, made, PREPARE, count) - before[count] for count in FILES}
-    print(f"{PREPARE}: growths behind so many files: {many}", flush=True)
-    status, said = run(program, made, PREPARE, before[FILES[-1]] + MOST + 1, FILES[-1])
-    is_accepted = status == 0 and "not reached" in said and LACKED not in said
-    print(f"{PREPARE}: {FILES[-1]} files, growth {MOST + 1} of the prepare refused: {'accepted' if is_accepted else f'{status} {said}'}", flush=True)
-    return is_accepted and len(set(many.values())) == 1
+    print(f"{PREPARE}: growths of an upgrade behind so many files: {many}", flush=True)
+    few = FILES[0]
+    wrong, lacked = [], 0
+    for growth in range(1, many[few] + 1):
+        status, said = run(program, made, PREPARE, before[few] + growth, few)
+        lacked += LACKED in said
+        if status != 0 or "not reached" in said:
+            wrong.append(growth)
+    print(f"{PREPARE}: behind {few} files each growth refused in turn, {lacked} times not begun, wrong at {wrong or 'none'}", flush=True)
+    return not wrong and len(set(many.values())) == 1 and 0 < many[few] <= MOST
 
 
 def main():

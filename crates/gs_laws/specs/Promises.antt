@@ -421,8 +421,7 @@ pub record CommitsInOrder (s : State) (t : Turn) : Type 0 where
 abbrev pub RefusesInOrder : Type 0
 RefusesInOrder = (s : State) (req : ReqId) → CommitsInOrder s (rollback_commit s req)
 
--- of what may stand before a call, a disk that has failed alone stands before it: no lock, no upgrade that is prepared, and not that a
--- rollback was begun
+-- of what may stand before a new call, a disk that has failed alone stands before this one: no lock and no upgrade that is prepared
 abbrev pub IsTakenUnlessFailed : Type 0
 IsTakenUnlessFailed = (config : Config) (s : State) (req : ReqId) (moment : Moment) →
     new_call config s req moment calls.RollbackCommit ≡ (if is_failed s.fault then refused s req refusals.Device else rollback_commit s req)

@@ -279,8 +279,8 @@ pub fn a_rollback_leads_back_through_checkpoints()
 /// was told of by a server that had it then: a member of its prepared view, or one that was sent it since with its sealed image; and where
 /// its record has room. Else it is refused, and which refusal comes is said of each: that no rollback was begun, that its edits can't be
 /// taken back, the lowest chunk that lacks such a server, or that there is no room, in this order. The record of the commit tells of each
-/// chunk that was listed at the prepare exactly those servers; and behind it nothing is asked for any chunk. A call of that is judged so
-/// whatever else stands at the master, but for a disk that has failed.
+/// chunk that was listed at the prepare exactly those servers; and behind it nothing is asked for any chunk. A new call of that is judged
+/// so whatever locks stand and whatever is prepared, but for a disk that has failed.
 pub fn a_rollback_is_committed_exactly_where_all_is_restored()
     ensures can { CommitsExactly }
     ensures order { RefusesInOrder }
