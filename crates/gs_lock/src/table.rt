@@ -1,4 +1,4 @@
-ghost use Rattle.std.specs.Prelude.{◌≡◌, ◌∷◌, [], ◌++◌, ◌-◌, ◌<◌, ◌≤◌, OnOk, OnErr, IfOk, length, map, take};
+ghost use Rattle.std.specs.Prelude.{◌≡◌, ◌↔◌, ◌∷◌, [], IsTrue, ◌++◌, ◌-◌, ◌<◌, ◌≤◌, OnOk, OnErr, IfOk, length, map, take};
 ghost use Rattle.gs_lock.specs.Operations.{same_op};
 ghost use Rattle.std.specs.List.{list_any};
 ghost use Rattle.gs_path.specs.Path.{begins};
@@ -105,6 +105,13 @@ impl LockTable {
                 i += 1;
             }
         }
+    }
+
+    /// Whether no operation holds a lock.
+    pub fn is_empty(&self) -> bool
+        ensures { IsTrue result ↔ (self.now ≡ []) }
+    {
+        self.locks.is_empty()
     }
 
     /// Whether an operation holds a lock. It takes no memory.

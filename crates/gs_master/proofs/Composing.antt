@@ -157,7 +157,7 @@ leads_to_refusal whole t rest old mid e leads why = leads.on (Err e) mid (why_no
 
 -- ---- a turn without records
 
-said_as_before : (said : Option Refusal) → said ≡ first_said said None
+pub said_as_before : (said : Option Refusal) → said ≡ first_said said None
 said_as_before None = refl
 said_as_before (Some e) = refl
 

@@ -15,7 +15,7 @@ use Rattle.std.specs.Ordering.{nat_cmp}
 use Rattle.gs_table.specs.Slots.{live}
 use Rattle.gs_state.specs.Applied.{applied}
 use Rattle.gs_state.specs.Durable.{Durable}
-use Rattle.gs_master.specs.Events.{HasComeFrom, IsEntered, KeepsBack, log_behind}
+use Rattle.gs_master.specs.Events.{HasComeFrom, IsEntered, IsMade, KeepsBack, log_behind}
 use Rattle.gs_state.specs.TakingBack.{Leads, StillTakeBack, TakeBack, TakesBack, TakesOneMore, all_leases_before}
 use Rattle.gs_master.specs.Journaled.{Gains, IsLogOf, IsReadyFor}
 use Rattle.gs_state.specs.Outcomes.{cut}
@@ -80,53 +80,65 @@ from_entered old new entry is one before first has =
       room = inr (ap (fits first) is.entries ∙ fits_more first es entry (ap (λ l. fits l (entry ∷ [])) (sym has.log) ∙ is.room));
     }
 
--- room is made for a record, it is applied, and it is kept
-pub record Enter (old grown mid new : Event) (told : Told) (bytes : Record) : Type 0 where
-  pub first : grown ≡ record old { undos = grown.undos; entries = grown.entries; written = grown.written }
-  pub undos : grown.undos.items ≡ old.undos.items
-  pub entries : grown.entries.items ≡ old.entries.items
-  pub written : grown.written.items ≡ old.written.items
-  pub second : mid ≡ record grown { recorded = mid.recorded; undos = mid.undos }
-  pub applied : applied (durable_of grown.recorded) (plain told) ≡ Some (durable_of mid.recorded)
-  pub one : TakesOneMore grown.undos.items (durable_of grown.recorded) mid.undos.items (durable_of mid.recorded)
+-- a record is applied, and it is kept
+pub record Enter (old mid new : Event) (told : Told) (bytes : Record) : Type 0 where
+  pub made : IsMade (plain told) bytes old mid
+  pub second : mid ≡ record old { recorded = mid.recorded; undos = mid.undos; entries = mid.entries; written = mid.written }
+  pub entries : mid.entries.items ≡ old.entries.items
+  pub written : mid.written.items ≡ old.written.items
   pub third : new ≡ record mid { log = new.log; entries = new.entries; written = new.written }
   pub more : new.entries.items ≡ mid.entries.items ++ told ∷ []
   pub behind : new.written.items ≡ mid.written.items ++ bytes ∷ []
   pub log : log_of new.log ≡ log_behind (log_of mid.log) (plain told)
-  pub encoded : bytes ≡ encoded Two (plain told)
-  pub is_entry : IsEntry Two (plain told)
-  pub room : fits (log_of old.log) (plain told ∷ []) ≡ true
 
-is_entered : (old grown mid new : Event) (told : Told) (bytes : Record) → Enter old grown mid new told bytes → IsEntered (plain told) old new
-is_entered old grown mid new told bytes h =
-    let entries = h.more ∙ ap (λ xs. xs ++ told ∷ []) (ap (λ (e : Event). e.entries.items) h.second ∙ h.entries) in
-    let written = h.behind ∙ ap (λ xs. xs ++ bytes ∷ []) (ap (λ (e : Event). e.written.items) h.second ∙ h.written) in record {
-      applied = ap (λ (e : Event). applied (durable_of e.recorded) (plain told)) (sym h.first) ∙ h.applied ∙ ap (λ (e : Event). Some (durable_of e.recorded)) (sym h.third);
+pub is_entered : (old mid new : Event) (told : Told) (bytes : Record) → Enter old mid new told bytes → IsEntered (plain told) old new
+is_entered old mid new told bytes h =
+    let entries = h.more ∙ ap (λ xs. xs ++ told ∷ []) h.entries in
+    let written = h.behind ∙ ap (λ xs. xs ++ bytes ∷ []) h.written in record {
+      applied = h.made.applied.applied ∙ ap (λ (e : Event). Some (durable_of e.recorded)) (sym h.third);
       entries = ap (map plain) entries ∙ map-append plain old.entries.items (told ∷ []);
-      written = written ∙ ap (λ r. old.written.items ++ r ∷ []) h.encoded;
-      is_entry = h.is_entry;
-      log = h.log ∙ ap (λ (e : Event). log_behind (log_of e.log) (plain told)) (h.second ∙ ap (λ (e : Event). record e { recorded = mid.recorded; undos = mid.undos }) h.first);
-      room = h.room;
+      written = written ∙ ap (λ r. old.written.items ++ r ∷ []) h.made.encoded;
+      is_entry = h.made.is_entry;
+      log = h.log ∙ ap (λ (e : Event). log_behind (log_of e.log) (plain told)) h.second;
+      room = h.made.room;
     }
 
-pub entered_keeps : (old grown mid new : Event) (told : Told) (bytes : Record) → Enter old grown mid new told bytes →
-    StillTakeBack grown.undos.items (durable_of grown.recorded) mid.undos.items (durable_of mid.recorded) →
-    all_leases_before mid.undos.items (live nat_cmp mid.recorded.leases) ≡ all_leases_before grown.undos.items (live nat_cmp grown.recorded.leases) → KeepsBack old new
-entered_keeps old grown mid new told bytes h still leases =
-    let stood = ap (λ (e : Event). e.recorded) h.first in
+pub entered_keeps : (old mid new : Event) (told : Told) (bytes : Record) → Enter old mid new told bytes →
+    StillTakeBack old.undos.items (durable_of old.recorded) mid.undos.items (durable_of mid.recorded) →
+    all_leases_before mid.undos.items (live nat_cmp mid.recorded.leases) ≡ all_leases_before old.undos.items (live nat_cmp old.recorded.leases) → KeepsBack old new
+entered_keeps old mid new told bytes h still leases =
+    let one = h.made.applied.one in
     let now = ap (λ (e : Event). e.recorded) h.third in
     let last = ap (λ (e : Event). e.undos.items) h.third in record {
       back = λ before back.
-          subst (λ us. TakeBack us before (durable_of new.recorded)) (sym last) (subst (λ r. TakeBack mid.undos.items before (durable_of r)) (sym now)
-          (still before (subst (λ us. TakeBack us before (durable_of grown.recorded)) (sym h.undos) (subst (λ r. TakeBack old.undos.items before (durable_of r)) (sym stood) back))));
-      leases = (λ i. all_leases_before (last i) (live nat_cmp (now i).leases)) ∙ leases ∙ (λ i. all_leases_before (h.undos i) (live nat_cmp (stood i).leases));
-      memory = ap (λ (e : Event). e.memory.before) h.third ∙ ap (λ (e : Event). e.memory.before) h.second ∙ ap (λ (e : Event). e.memory.before) h.first;
-      from = from_entered old new (plain told) (is_entered old grown mid new told bytes h) (record {
-        last = h.one.last;
-        behind = last ∙ h.one.behind ∙ ap (λ us. us ++ h.one.last ∷ []) h.undos;
-        takes = subst (λ r. TakesBack h.one.last (durable_of r) (durable_of new.recorded)) stood (subst (λ r. TakesBack h.one.last (durable_of grown.recorded) (durable_of r)) (sym now) h.one.takes);
+          subst (λ us. TakeBack us before (durable_of new.recorded)) (sym last) (subst (λ r. TakeBack mid.undos.items before (durable_of r)) (sym now) (still before back));
+      leases = (λ i. all_leases_before (last i) (live nat_cmp (now i).leases)) ∙ leases;
+      memory = ap (λ (e : Event). e.memory.before) h.third ∙ ap (λ (e : Event). e.memory.before) h.second;
+      from = from_entered old new (plain told) (is_entered old mid new told bytes h) (record {
+        last = one.last;
+        behind = last ∙ one.behind;
+        takes = subst (λ r. TakesBack one.last (durable_of old.recorded) (durable_of r)) (sym now) one.takes;
       });
     }
+
+-- what isn't applied leaves what it has come from
+pub unmade_keeps : (old mid : Event) → mid ≡ record old { recorded = mid.recorded; undos = mid.undos; entries = mid.entries; written = mid.written } → mid.undos.items ≡ old.undos.items →
+    durable_of mid.recorded ≡ durable_of old.recorded → mid.entries.items ≡ old.entries.items → mid.written.items ≡ old.written.items →
+    StillTakeBack old.undos.items (durable_of old.recorded) mid.undos.items (durable_of mid.recorded) →
+    all_leases_before mid.undos.items (live nat_cmp mid.recorded.leases) ≡ all_leases_before old.undos.items (live nat_cmp old.recorded.leases) → KeepsBack old mid
+unmade_keeps old mid second undos durable entries written still leases = record {
+  back = still;
+  leases = leases;
+  memory = ap (λ (e : Event). e.memory.before) second;
+  from = λ before first has. record {
+    leads = subst (λ es. Leads (map plain es) mid.undos.items before (durable_of mid.recorded)) (sym entries)
+        (subst (λ us. Leads (map plain old.entries.items) us before (durable_of mid.recorded)) (sym undos)
+        (subst (λ d. Leads (map plain old.entries.items) old.undos.items before d) (sym durable) has.leads));
+    written = written ∙ has.written ∙ ap (λ es. map (encoded Two) (map plain es)) (sym entries);
+    log = ap (λ (e : Event). log_of e.log) second ∙ has.log ∙ ap (λ es. fold log_behind first (map plain es)) (sym entries);
+    room = subst (λ es. (es ≡ []) ⊎ (fits first (map plain es) ≡ true)) (sym entries) has.room;
+  };
+}
 
 -- ---- an event that is cut
 

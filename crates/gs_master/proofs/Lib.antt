@@ -12,6 +12,8 @@ pub mod Idle
 pub mod Lacking
 pub mod Leading
 pub mod Lengthened
+pub mod Making
+pub mod Noting
 pub mod Proposals
 pub mod Recoveries
 pub mod Renewals

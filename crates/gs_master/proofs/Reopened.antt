@@ -7,7 +7,7 @@ use Rattle.gs_base.specs.declared.config.Config.{Config}
 use Rattle.gs_base.specs.declared.refusal.Refusal.{Refusal}
 use Rattle.gs_base.specs.declared.refusal.Refusal.TheVariants as refusals
 use Rattle.gs_journal.specs.Journal.{State as Journal, Stands, WhyClosed, failures_of_both}
-use Rattle.gs_journal.specs.Records.{standing}
+use Rattle.gs_journal.specs.Records.{generation_standing, standing}
 use Rattle.gs_journal.specs.declared.journal.Unopened.{Unopened}
 use Rattle.gs_journal.specs.declared.version.Version.{Version}
 use Rattle.gs_journal.specs.declared.version.Version.TheVariants as versions
@@ -103,8 +103,8 @@ seen_of seen may_leave failures versions.Two d j k is = as_seen seen may_leave k
 
 -- ---- what isn't opened
 
-abbrev no_log : ℕ → Log
-no_log bound = record { records = 0; size = 0; limit = bound; generation = 0 }
+abbrev no_log : ℕ → ℕ → Log
+no_log bound generation = record { records = 0; size = 0; limit = bound; generation = generation }
 
 module _ {D : Type 0} (seen : D → List ℕ) (failures : D → ℕ) (config : Config) (bound : ℕ) (first second : D) (u : Unopened D) where
   -- the journal wasn't
@@ -114,14 +114,14 @@ module _ {D : Type 0} (seen : D → List ℕ) (failures : D → ℕ) (config : C
       let same = unchanged (λ device. absurd (cc (bad.0, device))) in inr ((λ i. standing (same.0 i) (same.1 i)), bad.2, inl (bad.0, bad.1))
   closed_why (inr (inl device)) unchanged = inl device
   closed_why (inr (inr memory)) unchanged =
-      let same = unchanged (λ device. absurd (cc (memory.0, device))) in inr ((λ i. standing (same.0 i) (same.1 i)), memory.1, inr (no_log bound, refl, inl memory.0))
+      let same = unchanged (λ device. absurd (cc (memory.0, device))) in inr ((λ i. standing (same.0 i) (same.1 i)), memory.1, inr (no_log bound (generation_standing (seen first) (seen second)), refl, refl, inl memory.0))
 
   -- the journal was, and tells no master
-  pub untold_why : (j k : Journal D) → j.limit ≡ bound → j.text ≡ standing (seen first) (seen second) → failures_of_both failures j ≡ failures first + failures second → u.first ≡ k.first → u.second ≡ k.second →
+  pub untold_why : (j k : Journal D) → j.limit ≡ bound → j.generation ≡ generation_standing (seen first) (seen second) → j.text ≡ standing (seen first) (seen second) → failures_of_both failures j ≡ failures first + failures second → u.first ≡ k.first → u.second ≡ k.second →
       standing (seen u.first) (seen u.second) ≡ k.text → WhyNotRecovered failures config j k u.refusal → WhyUnopened seen failures config bound first second u
-  untold_why j k limit text quiet f s now (inl same) =
+  untold_why j k limit generation text quiet f s now (inl same) =
       let fails : failures u.first + failures u.second ≡ failures_of_both failures k = λ i. failures (f i) + failures (s i) in
-      inr (now ∙ same.0.stays.text ∙ text, fails ∙ same.0.quiet ∙ quiet, inr (log_in j, limit, subst (λ t. WhyNotTold config t (log_in j) u.refusal) text same.1))
-  untold_why j k limit text quiet f s now (inr broken) =
+      inr (now ∙ same.0.stays.text ∙ text, fails ∙ same.0.quiet ∙ quiet, inr (log_in j, limit, generation, subst (λ t. WhyNotTold config t (log_in j) u.refusal) text same.1))
+  untold_why j k limit generation text quiet f s now (inr broken) =
       let fails : failures_of_both failures k ≡ failures u.first + failures u.second = λ i. failures (sym f i) + failures (sym s i) in
       inl (broken.0, subst (λ n. n < failures u.first + failures u.second) quiet (subst (λ n. failures_of_both failures j < n) fails broken.1.cause))

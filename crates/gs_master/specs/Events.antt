@@ -1,12 +1,14 @@
 -- What a step of an event makes of the master that has it under way, and what takes all of it back.
-use Rattle.std.specs.Prelude.{◌≡◌, ◌⊎◌, ◌<◌, ◌+◌, ◌++◌, ◌∷◌, [], true, false, Some, None, Result, Ok, Err, fold, map, refl, vec_len, vec_capacity}
+use Rattle.std.specs.Prelude.{◌≡◌, ◌⊎◌, ◌<◌, ◌+◌, ◌++◌, ◌∷◌, [], true, false, Option, Some, None, Result, Ok, Err, fold, map, refl, vec_len, vec_capacity}
 use Rattle.std.specs.Ordering.{nat_cmp}
+use Rattle.gs_base.specs.declared.numbers.ReqId.{ReqId}
 use Rattle.gs_base.specs.declared.refusal.Refusal.{Refusal}
 use Rattle.gs_base.specs.declared.refusal.Refusal.TheVariants as refusals
+use Rattle.gs_edit.specs.declared.edit.Edit.{Edit}
 use Rattle.gs_journal.specs.Records.{Entry as Record}
 use Rattle.gs_journal.specs.declared.version.Version.TheVariants.{Two}
 use Rattle.gs_record.specs.Encoding.{encoded}
-use Rattle.gs_record.specs.Plain.{PlainEntry, Prepare, plain}
+use Rattle.gs_record.specs.Plain.{PlainEntry, Edited, Prepare, plain, plain_edit}
 use Rattle.gs_record.specs.Writable.{IsEntry}
 use Rattle.gs_table.specs.Slots.{live}
 use Rattle.gs_state.specs.Applied.{applied}
@@ -65,6 +67,29 @@ IsAppliedOrNot entry old (Ok _) new = IsApplied entry old new
 IsAppliedOrNot entry old (Err refusal) new =
     ((refusal ≡ refusals.Memory) ⊎ ((refusal ≡ refusals.BadLine) × (applied (durable_of old.recorded) entry ≡ None)))
     × ((new.undos.items ≡ old.undos.items) × (durable_of new.recorded ≡ durable_of old.recorded))
+
+-- a record is applied, and these are the bytes that are to be written of it; or it isn't, and all stands as it did
+pub record IsMade (entry : PlainEntry) (bytes : Record) (old new : Event) : Type 0 where
+  pub applied : IsApplied entry old new
+  pub encoded : bytes ≡ encoded Two entry
+  pub is_entry : IsEntry Two entry
+  pub room : fits (log_of old.log) (entry ∷ []) ≡ true
+
+abbrev pub Makes : PlainEntry → Event → Result Record Refusal → Event → Type 0
+Makes entry old (Ok bytes) new = IsMade entry bytes old new
+Makes entry old (Err e) new = WhyNot entry old e × ((new.undos.items ≡ old.undos.items) × (durable_of new.recorded ≡ durable_of old.recorded))
+
+-- nothing of it was done
+pub record IsAsBefore (old new : Event) : Type 0 where
+  pub durable : durable_of new.recorded ≡ durable_of old.recorded
+  pub entries : new.entries.items ≡ old.entries.items
+  pub log : new.log ≡ old.log
+
+-- an edit is entered, or it is handed back and nothing was done, or memory is wanting
+abbrev pub EntersEdit : ReqId → Edit → Event → Result (Option Edit) Refusal → Event → Type 0
+EntersEdit by edit old (Ok None) new = IsEntered (Edited by (plain_edit edit)) old new
+EntersEdit by edit old (Ok (Some back)) new = (back ≡ edit) × IsAsBefore old new
+EntersEdit by edit old (Err e) new = e ≡ refusals.Memory
 
 -- What an event has come from: its records lead from there to what stands now, they are to be written in their order, and the
 -- journal has room for them.

@@ -48,4 +48,4 @@ WhyUnopened seen failures config bound first second u =
     ((u.refusal ≡ refusals.Device) × (failures first + failures second < failures u.first + failures u.second))
     ⊎ ((standing (seen u.first) (seen u.second) ≡ standing (seen first) (seen second))
     × (failures u.first + failures u.second ≡ failures first + failures second)
-    × (((u.refusal ≡ refusals.BadLine) × (is_text (standing (seen first) (seen second)) ≡ false)) ⊎ ((log : Log) × (log.limit ≡ bound) × WhyNotTold config (standing (seen first) (seen second)) log u.refusal)))
+    × (((u.refusal ≡ refusals.BadLine) × (is_text (standing (seen first) (seen second)) ≡ false)) ⊎ ((log : Log) × (log.limit ≡ bound) × (log.generation ≡ generation_standing (seen first) (seen second)) × WhyNotTold config (standing (seen first) (seen second)) log u.refusal)))

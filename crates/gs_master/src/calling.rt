@@ -19,6 +19,7 @@ use gs_edit::Edit;
 use gs_msg::Answer;
 use gs_path::Path;
 use gs_plan::answering::accept_plan;
+use gs_plan::posting::reply_to;
 use gs_state::hiding::{hidden_path, old_path};
 use gs_state::plan::Plan;
 
@@ -69,8 +70,8 @@ impl Event {
         }
     }
 
-    /// An edit of the names is made, and its call answered. Where the edit is refused the call is.
-    pub fn edit_by(&mut self, req: ReqId, edit: Edit, answer: Answer) -> Result<(), Refusal>
+    /// The same of an edit that is judged before it is made.
+    fn judge_edit(&mut self, req: ReqId, edit: Edit, answer: Answer) -> Result<(), Refusal>
         requires { IsUnderWay self.old }
         ensures steps { Steps (edited_by (state_at self.old) req (plain_edit edit) answer) self.old result self.new }
         ensures back { GoesBack self.old self.new }
@@ -80,6 +81,22 @@ impl Event {
         }
         let plan = accept_plan(self.alloc, req, edit, answer)?;
         self.carry_out_or_refuse(req, plan)
+    }
+
+    /// An edit of the names is made, and its call answered. Where the edit is refused the call is. That an edit is judged and
+    /// then made costs the names twice, so it is judged where it can't be made at once.
+    pub fn edit_by(&mut self, req: ReqId, edit: Edit, answer: Answer) -> Result<(), Refusal>
+        requires { IsUnderWay self.old }
+        ensures steps { Steps (edited_by (state_at self.old) req (plain_edit edit) answer) self.old result self.new }
+        ensures back { GoesBack self.old self.new }
+    {
+        match self.enter_edit(req, edit)? {
+            None => {
+                self.send_one(reply_to(req, Ok(answer)))?;
+                Ok(())
+            }
+            Some(edit) => self.judge_edit(req, edit, answer),
+        }
     }
 
     /// What stands at a path gets a hidden name.

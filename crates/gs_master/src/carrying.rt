@@ -1,5 +1,5 @@
 // The plans of an event are carried out, one after the other.
-ghost use Rattle.std.specs.Prelude.{◌≡◌, ◌++◌, false, map, OnOk, IfErr, IfOk};
+ghost use Rattle.std.specs.Prelude.{◌≡◌, ◌++◌, ◌∷◌, [], false, map, OnOk, IfErr, IfOk};
 ghost use Rattle.std.specs.List.{list_any};
 ghost use Rattle.gs_record.specs.Plain.{plain};
 ghost use Rattle.gs_state.specs.Applied.{is_whole_entry};
@@ -77,6 +77,16 @@ impl Event {
     {
         let mut messages = messages;
         self.sent.append(&mut messages)?;
+        Ok(())
+    }
+
+    /// Keeps a message to be sent behind the others.
+    pub fn send_one(&mut self, message: Message) -> Result<(), AllocError>
+        ensures sent { OnOk result (self.new.sent.items ≡ self.old.sent.items ++ message ∷ []) }
+        ensures stays { IfErr result (λ _. self.new.sent.items ≡ self.old.sent.items) }
+        ensures others { self.new ≡ record self.old { sent = self.new.sent } }
+    {
+        self.sent.push(message)?;
         Ok(())
     }
 

@@ -1,20 +1,25 @@
 // An event at the master, step by step.
-ghost use Rattle.std.specs.Prelude.{◌≡◌, ◌<◌, ◌≤◌, ◌++◌, ◌∷◌, [], true, false, OnOk, vec_len, vec_capacity};
+ghost use Rattle.std.specs.Prelude.{◌≡◌, ◌<◌, ◌≤◌, ◌++◌, ◌∷◌, [], Some, true, false, OnOk, vec_len, vec_capacity};
 ghost use Rattle.std.specs.Ordering.{nat_cmp};
+ghost use Rattle.gs_base.specs.declared.numbers.ReqId.{ReqId};
+ghost use Rattle.gs_edit.specs.declared.edit.Edit.{Edit};
 ghost use Rattle.gs_journal.specs.Journal.{record_size};
 ghost use Rattle.gs_journal.specs.declared.version.Version.TheVariants.{Two};
 ghost use Rattle.gs_record.specs.Encoding.{encoded};
 ghost use Rattle.gs_record.specs.Plain.{plain};
 ghost use Rattle.gs_table.specs.Slots.{live};
-ghost use Rattle.gs_master.specs.Events.{Enters, HasPlaces, IsAppliedOrNot, IsEncoded, KeepsBack, log_behind};
+ghost use Rattle.gs_master.specs.Events.{Enters, EntersEdit, HasPlaces, IsAppliedOrNot, IsEncoded, KeepsBack, Makes, log_behind};
+ghost use Rattle.gs_master.specs.Turns.{IsUnderWay};
 ghost use Rattle.gs_state.specs.Plans.{log_of};
 ghost use Rattle.gs_state.specs.Recorded.{durable_of};
 ghost use Rattle.gs_state.specs.State.{fits};
 ghost use Rattle.gs_state.specs.TakingBack.{RoomForAll, StillTakeBack, all_leases_before, comes_alone};
 
-use gs_base::Refusal;
+use gs_base::{Refusal, ReqId};
+use gs_edit::Edit;
 use gs_journal::Record;
 use gs_msg::Message;
+use gs_path::Path;
 use gs_record::Entry;
 use gs_state::fault::Fault;
 use gs_state::log::Log;
@@ -36,6 +41,8 @@ pub(crate) struct Event {
     pub(crate) written: Vec<Record>,
     pub(crate) sent: Vec<Message>,
     pub(crate) said: Option<Refusal>,
+    /// A file for which a snapshot waited when its source was looked at last. It is asked first whether it does so still.
+    pub(crate) held_up: Option<Path>,
 }
 
 impl Drop for Event {
@@ -51,6 +58,7 @@ impl Drop for Event {
             written: _,
             sent: _,
             said: _,
+            held_up: _,
         } = self;
     }
 }
@@ -60,6 +68,16 @@ pub(crate) fn size_of(encoded: &Record) -> u64
     ensures { result ≡ record_size encoded.now }
 {
     encoded.body().len() as u64 + 6
+}
+
+/// The edit that a record tells, if it tells one.
+fn edit_of(entry: Entry) -> Option<Edit>
+    ensures { (by : ReqId) (edit : Edit) → entry ≡ Entry.Edit by edit → result ≡ Some edit }
+{
+    match entry {
+        Entry::Edit { by: _, edit } => Some(edit),
+        _ => None,
+    }
 }
 
 impl Event {
@@ -121,6 +139,25 @@ impl Event {
         Ok(encoded)
     }
 
+    /// Makes room for a record, applies it, and answers it as it is to be written. `Full` where the journal has no room for it,
+    /// `BadLine` where it doesn't fit or can't be written. A refusal may leave room that was made, and changes nothing else.
+    fn make(&mut self, entry: &Entry) -> Result<Record, Refusal>
+        requires alone { comes_alone (plain entry.now) ≡ false }
+        requires room { RoomForAll self.old.recorded self.old.undos.items }
+        ensures made { Makes (plain entry.now) self.old result self.new }
+        ensures back { StillTakeBack self.old.undos.items (durable_of self.old.recorded) self.new.undos.items (durable_of self.new.recorded) }
+        ensures leases { all_leases_before self.new.undos.items (live nat_cmp self.new.recorded.leases) ≡ all_leases_before self.old.undos.items (live nat_cmp self.old.recorded.leases) }
+        ensures room { RoomForAll self.new.recorded self.new.undos.items }
+        ensures lists { (self.new.entries.items ≡ self.old.entries.items) × (self.new.written.items ≡ self.old.written.items) }
+        ensures places { OnOk result ((vec_len self.new.entries < vec_capacity self.new.entries) × (vec_len self.new.written < vec_capacity self.new.written)) }
+        ensures others { self.new ≡ record self.old { recorded = self.new.recorded; undos = self.new.undos; entries = self.new.entries; written = self.new.written } }
+    {
+        let bytes = self.encoded(entry)?;
+        self.grow()?;
+        self.apply(entry)?;
+        Ok(bytes)
+    }
+
     /// Applies a record that may come with others, and keeps it to be written. `Full` where the journal has no room for it,
     /// `BadLine` where it doesn't fit or can't be written. A refusal may leave room that was made.
     pub fn enter(&mut self, entry: Entry) -> Result<(), Refusal>
@@ -133,10 +170,27 @@ impl Event {
         ensures counted { self.new.log.records ≤ self.new.log.size }
         ensures others { (self.new.memory ≡ self.old.memory) × (self.new.sent ≡ self.old.sent) × (self.new.said ≡ self.old.said) × (self.new.fault ≡ self.old.fault) }
     {
-        let encoded = self.encoded(&entry)?;
-        self.grow()?;
-        self.apply(&entry)?;
-        self.keep(entry, encoded);
+        let bytes = self.make(&entry)?;
+        self.keep(entry, bytes);
         Ok(())
+    }
+
+    /// The same of an edit, which is handed back where it wasn't entered. Want of memory alone is a refusal.
+    pub fn enter_edit(&mut self, by: ReqId, edit: Edit) -> Result<Option<Edit>, Refusal>
+        requires ready { IsUnderWay self.old }
+        ensures entered { EntersEdit by edit self.old result self.new }
+        ensures back { KeepsBack self.old self.new }
+        ensures room { RoomForAll self.new.recorded self.new.undos.items }
+        ensures counted { self.new.log.records ≤ self.new.log.size }
+        ensures others { (self.new.memory ≡ self.old.memory) × (self.new.sent ≡ self.old.sent) × (self.new.said ≡ self.old.said) × (self.new.fault ≡ self.old.fault) }
+    {
+        let entry = Entry::Edit { by, edit };
+        let bytes = match self.make(&entry) {
+            Ok(bytes) => bytes,
+            Err(Refusal::Memory) => return Err(Refusal::Memory),
+            Err(_) => return Ok(edit_of(entry)),
+        };
+        self.keep(entry, bytes);
+        Ok(None)
     }
 }

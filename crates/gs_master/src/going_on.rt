@@ -1,7 +1,8 @@
 // How a call that waited goes on once a chunk is settled.
-ghost use Rattle.std.specs.Prelude.{Some, Ok};
+ghost use Rattle.std.specs.Prelude.{◌≡◌, Some, Ok, IfOk, true, false, not};
+ghost use Rattle.std.specs.List.{list_all};
 ghost use Rattle.gs_edit.specs.View.{NamesView};
-ghost use Rattle.gs_state.specs.Settling.{all_go_on, copied, copied_tree, extended, goes_on, leased_next, replaced, replaced_if, replicated};
+ghost use Rattle.gs_state.specs.Settling.{all_go_on, copied, copied_tree, extended, goes_on, is_quiet_at, leased_next, replaced, replaced_if, replicated, source_chunks};
 ghost use Rattle.gs_master.specs.Turns.{GoesBack, IsUnderWay, Steps, state_at};
 ghost use Rattle.gs_state.specs.declared.pending.Waiting.TheVariants as waits;
 
@@ -15,6 +16,7 @@ use gs_path::Path;
 use gs_plan::settling::replace_plan;
 use gs_state::change::Change;
 use gs_state::pending::{Pending, Waiting};
+use std::alloc::AllocError;
 
 impl Event {
     /// The chunk of an extend gets its place.
@@ -118,13 +120,39 @@ impl Event {
         self.put_in_place(req, path, index, old, new)
     }
 
+    /// Whether the file that was noted last holds up the snapshot of a source still.
+    fn is_held_up(&self, from: &Path) -> bool
+        ensures { result ≡ true → list_all (is_quiet_at (state_at self.now)) (source_chunks (state_at self.now) from.now) ≡ false }
+    {
+        match &self.held_up {
+            Some(file) => self.standing().holds_up(from, file),
+            None => false,
+        }
+    }
+
+    /// Whether a chunk of a snapshot's source isn't quiet. A file that has one is noted, so that the source isn't gone through
+    /// for each chunk that becomes quiet.
+    fn waits_for_source(&mut self, from: &Path) -> Result<bool, AllocError>
+        ensures waits { IfOk result (λ waits. not waits ≡ list_all (is_quiet_at (state_at self.old)) (source_chunks (state_at self.old) from.now)) }
+        ensures stays { self.new ≡ record self.old { held_up = self.new.held_up } }
+    {
+        if self.is_held_up(from) {
+            return Ok(true);
+        }
+        if self.standing().is_source_quiet(from)? {
+            return Ok(false);
+        }
+        self.held_up = self.standing().held_up_by(from)?;
+        Ok(true)
+    }
+
     /// A snapshot is made once every visible chunk of its source is quiet.
     fn copy_tree(&mut self, req: ReqId, from: Path, to: Path) -> Result<(), Refusal>
         requires { IsUnderWay self.old }
         ensures steps { Steps (copied_tree (state_at self.old) req from to) self.old result self.new }
         ensures back { GoesBack self.old self.new }
     {
-        if !self.standing().is_source_quiet(&from)? {
+        if self.waits_for_source(&from)? {
             return Ok(());
         }
         let before = Vec::new(self.alloc);

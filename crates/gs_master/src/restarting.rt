@@ -29,6 +29,7 @@ impl Event {
             written: Vec::new(alloc),
             sent: Vec::new(alloc),
             said: None,
+            held_up: None,
         })
     }
 }

@@ -1,5 +1,6 @@
 mod Counting
 pub mod Granting
+mod HeldUp
 pub mod Renewals
 pub mod Targets
 pub mod Waits

@@ -1,2 +1,3 @@
+pub mod Holding
 pub mod Planning
 pub mod Renewable

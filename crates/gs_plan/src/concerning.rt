@@ -38,7 +38,7 @@ impl<'a> Standing<'a> {
     }
 
     /// Whether each of these chunks is quiet.
-    fn are_quiet(&self, chunks: &[Handle]) -> bool
+    pub(crate) fn are_quiet(&self, chunks: &[Handle]) -> bool
         ensures { result ≡ list_all (is_quiet_at (state_of self.entry.now)) chunks.now }
     {
         for chunk in chunks {

@@ -99,6 +99,9 @@ impl<'a> Standing<'a> {
     pub fn is_locked(&self, req: ReqId, call: &Call) -> Result<bool, AllocError>
         ensures { IfOk result (λ locked. locked ≡ is_locked (state_of self.entry.now) req call.now) }
     {
+        if self.memory.locks.is_empty() {
+            return Ok(false);
+        }
         let writes = self.recorded.writes_of_call(call)?;
         let borrowed = borrowed(self.recorded.alloc, &writes)?;
         Ok(self.is_in_the_way(req, call, &borrowed))

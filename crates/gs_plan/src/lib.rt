@@ -10,6 +10,7 @@ mod copying_tree;
 mod ending;
 mod going_on;
 mod hearing;
+mod holding;
 pub mod judging;
 mod known;
 mod letting_go;

@@ -1,8 +1,39 @@
-use Rattle.std.proofs.Common.{subst, sym}
+use Rattle.std.proofs.Common.{◌≡◌, ◌≤◌, ◌∙◌, ◌++◌, ◌∷◌, [], Ok, ap, append-nil, subst, sym}
 use Rattle.gs_record.specs.Plain.{plain_edit}
-use Rattle.gs_master.specs.Turns.{ComesWithOthers}
-use Rattle.gs_master.proofs.Accepting.{accept_together}
+use Rattle.gs_master.specs.Events.{EntersEdit, KeepsBack}
+use Rattle.gs_master.specs.Turns.{GoesBack}
+use Rattle.gs_master.specs.declared.event.Event.{Event}
+use Rattle.gs_state.specs.TakingBack.{RoomForAll}
+use Rattle.gs_master.proofs.Entered.{goes_back_on, goes_back_sent, stepped_back}
+use Rattle.gs_master.proofs.Making.{StaysBeside, entered_steps, judged_steps}
 use Rattle.gs_master.proofs.event.Event.edit_by.Goals as goal
 
-pub carry_out_or_refuse-requires-clause-together : goal.carry_out_or_refuse-requires-clause-together
-carry_out_or_refuse-requires-clause-together c = subst ComesWithOthers (sym c.in_ok-plan.ensures) (accept_together c.args.req (plain_edit c.args.edit) c.args.answer)
+beside : (old mid : Event) → (mid.memory ≡ old.memory) × (mid.sent ≡ old.sent) × (mid.said ≡ old.said) × (mid.fault ≡ old.fault) → StaysBeside old mid
+beside old mid others = record { memory = others.0; sent = others.1; said = others.2; fault = others.3 }
+
+here : (old mid : Event) → KeepsBack old mid → RoomForAll mid.recorded mid.undos.items → mid.log.records ≤ mid.log.size
+    → (mid.memory ≡ old.memory) × (mid.sent ≡ old.sent) × (mid.said ≡ old.said) × (mid.fault ≡ old.fault) → GoesBack old mid
+here old mid back room counted others = stepped_back old mid back room counted others.3 others.1
+
+pub returns-in_err-send_one-in-None-clause-back : goal.returns-in_err-send_one-in-None-clause-back
+returns-in_err-send_one-in-None-clause-back c =
+    let done = c.enter_edit.ensures in
+    goes_back_sent c.args.self.now c.enter_edit.new.self c.send_one.new.self (here c.args.self.now c.enter_edit.new.self done.back done.room done.counted done.others) c.send_one.ensures.others []
+    (c.in_err-send_one-in-None.ensures.stays ∙ sym (append-nil _))
+
+pub returns-in_ok-send_one-in-None-clause-steps : goal.returns-in_ok-send_one-in-None-clause-steps
+returns-in_ok-send_one-in-None-clause-steps c =
+    entered_steps c.args.self.now c.enter_edit.new.self c.send_one.new.self c.args.req (plain_edit c.args.edit) c.args.answer
+    (subst (λ back. EntersEdit c.args.req c.args.edit c.args.self.now (Ok back) c.enter_edit.new.self) c.in-None.is c.in_ok-enter_edit.ensures.entered) (beside c.args.self.now c.enter_edit.new.self c.enter_edit.ensures.others)
+    c.send_one.ensures.others (c.in_ok-send_one-in-None.ensures.sent ∙ ap (λ message. c.enter_edit.new.self.sent.items ++ message ∷ []) c.reply_to.ensures)
+
+pub returns-in_ok-send_one-in-None-clause-back : goal.returns-in_ok-send_one-in-None-clause-back
+returns-in_ok-send_one-in-None-clause-back c =
+    let done = c.enter_edit.ensures in
+    goes_back_sent c.args.self.now c.enter_edit.new.self c.send_one.new.self (here c.args.self.now c.enter_edit.new.self done.back done.room done.counted done.others) c.send_one.ensures.others _
+    c.in_ok-send_one-in-None.ensures.sent
+
+pub returns-in-Some-clause-back : goal.returns-in-Some-clause-back
+returns-in-Some-clause-back c =
+    let done = c.enter_edit.ensures in
+    goes_back_on c.args.self.now c.enter_edit.new.self c.judge_edit.new.self (here c.args.self.now c.enter_edit.new.self done.back done.room done.counted done.others) c.judge_edit.ensures.back

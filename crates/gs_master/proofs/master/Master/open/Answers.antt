@@ -60,4 +60,4 @@ returns-in-Err-recover-clause-refused g c =
     let d = g.D.Disk in
     untold_why d.seen d.failures c.args.config c.args.limit c.args.first c.args.second
     (record { refusal = c.in-Err-recover.refusal; first = c.into_disks-first.result.0; second = c.into_disks-first.result.1 }) c.in-Ok.journal c.recover.new.journal
-    c.in-Ok.ensures.limit c.in-Ok.ensures.text c.in-Ok.ensures.quiet c.into_disks-first.ensures.disks.0 c.into_disks-first.ensures.disks.1 c.into_disks-first.ensures.text c.in-Err-recover.ensures
+    c.in-Ok.ensures.limit c.in-Ok.ensures.generation c.in-Ok.ensures.text c.in-Ok.ensures.quiet c.into_disks-first.ensures.disks.0 c.into_disks-first.ensures.disks.1 c.into_disks-first.ensures.text c.in-Err-recover.ensures
