@@ -9,11 +9,9 @@ use Rattle.gs_journal.specs.Records.{Entry as Record}
 use Rattle.gs_journal.specs.declared.version.Version.TheVariants.{Two}
 use Rattle.gs_record.specs.Encoding.{encoded}
 use Rattle.gs_record.specs.Plain.{PlainEntry, plain}
-use Rattle.gs_record.specs.Writable.{IsEntry}
 use Rattle.gs_record.specs.declared.entry.Entry.{Entry as Told}
 use Rattle.std.specs.Ordering.{nat_cmp}
 use Rattle.gs_table.specs.Slots.{live}
-use Rattle.gs_state.specs.Applied.{applied}
 use Rattle.gs_state.specs.Durable.{Durable}
 use Rattle.gs_master.specs.Events.{HasComeFrom, IsEntered, IsMade, KeepsBack, log_behind}
 use Rattle.gs_state.specs.TakingBack.{Leads, StillTakeBack, TakeBack, TakesBack, TakesOneMore, all_leases_before}

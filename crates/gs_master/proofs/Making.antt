@@ -1,6 +1,6 @@
 -- An edit that is made at once: the turn is that of an edit that is judged before.
-use Rattle.std.proofs.Common.{◌≡◌, ◌⊎◌, inl, inr, ◌∙◌, ◌++◌, ◌∷◌, [], true, false, map, refl, ap, subst, sym}
-use Rattle.std.specs.Prelude.{Option, Some, None, Result, Ok, Err, fold, is_some, if◌then◌else◌}
+use Rattle.std.proofs.Common.{◌≡◌, inl, inr, ◌∙◌, ◌++◌, ◌∷◌, [], true, false, map, refl, ap, subst, sym}
+use Rattle.std.specs.Prelude.{Some, Result, Ok, Err, fold, is_some, if◌then◌else◌}
 use Rattle.std.proofs.lemmas.Bool.{false≢true}
 use Rattle.gs_base.specs.declared.numbers.ReqId.{ReqId}
 use Rattle.gs_base.specs.declared.refusal.Refusal.{Refusal}

@@ -1,6 +1,6 @@
 -- That a master which is opened is what its journal tells.
-use Rattle.std.proofs.Common.{◌≡◌, ◌≢◌, ◌⊎◌, inl, inr, ◌∙◌, ◌+◌, ◌<◌, ◌≤◌, ℕ, true, false, List, [], map, refl, ap, subst, sym}
-use Rattle.std.specs.Prelude.{Option, Some, None, is_some, Result, Ok, Err, unwrap_or}
+use Rattle.std.proofs.Common.{◌≡◌, ◌≢◌, inl, inr, ◌∙◌, ◌+◌, ◌<◌, ℕ, false, List, [], refl, ap, subst, sym}
+use Rattle.std.specs.Prelude.{Option, Some, None, Result, Ok, unwrap_or}
 use Rattle.std.specs.Result.{is_ok, result_ok}
 use Rattle.std.proofs.lemmas.Bool.{false≢true}
 use Rattle.gs_base.specs.declared.config.Config.{Config}
@@ -11,19 +11,16 @@ use Rattle.gs_journal.specs.Records.{generation_standing, standing}
 use Rattle.gs_journal.specs.declared.journal.Unopened.{Unopened}
 use Rattle.gs_journal.specs.declared.version.Version.{Version}
 use Rattle.gs_journal.specs.declared.version.Version.TheVariants as versions
-use Rattle.gs_record.specs.Encoding.{encoded}
 use Rattle.gs_record.specs.Plain.{PlainEntry}
 use Rattle.gs_state.specs.Applied.{records_behind, replayed}
 use Rattle.gs_state.specs.Durable.{Durable, start}
-use Rattle.gs_master.specs.Finishing.{IsAtRest}
-use Rattle.gs_state.specs.Handling.{answered_or, checkpoint_body, checkpoint_tests, recover, recovered_from, restarted, reopened, tidied, written, written_unless}
+use Rattle.gs_state.specs.Handling.{answered_or, checkpoint_body, checkpoint_tests, recover, recovered_from, restarted, reopened, written, written_unless}
 use Rattle.gs_master.specs.Journaled.{IsAsSeen, IsLogOf}
-use Rattle.gs_master.specs.Masters.{Holds, IsHeld, IsTold}
-use Rattle.gs_state.specs.Plans.{log_of}
+use Rattle.gs_master.specs.Masters.{Holds, IsHeld}
 use Rattle.gs_guard.specs.Reading.{AreRecordsOf}
-use Rattle.gs_master.specs.Recovering.{IsLeft, IsRecovered, Tells, WhyNotRecovered, WhyNotTold, log_behind_last, log_in}
+use Rattle.gs_master.specs.Recovering.{IsLeft, IsRecovered, WhyNotRecovered, WhyNotTold, log_behind_last, log_in}
 use Rattle.gs_master.specs.Starting.{WhyUnopened, left_in}
-use Rattle.gs_state.specs.State.{Log, Sound, State, Turn, and_then, first_of}
+use Rattle.gs_state.specs.State.{Log, State, Turn, and_then, first_of}
 use Rattle.gs_master.specs.Turns.{state_at}
 use Rattle.gs_master.specs.declared.event.Event.{Event}
 use Rattle.gs_master.proofs.Renewed.{tells_alone}

@@ -85,10 +85,14 @@ pub record IsAsBefore (old new : Event) : Type 0 where
   pub entries : new.entries.items ≡ old.entries.items
   pub log : new.log ≡ old.log
 
--- an edit is entered, or it is handed back and nothing was done, or memory is wanting
+-- there is no room for it, or it is unfit
+abbrev pub CantEnter : PlainEntry → Event → Type 0
+CantEnter entry old = (fits (log_of old.log) (entry ∷ []) ≡ false) ⊎ IsUnfit entry old
+
+-- an edit is entered; or it can't be, and then it is handed back and nothing was done; or memory is wanting
 abbrev pub EntersEdit : ReqId → Edit → Event → Result (Option Edit) Refusal → Event → Type 0
 EntersEdit by edit old (Ok None) new = IsEntered (Edited by (plain_edit edit)) old new
-EntersEdit by edit old (Ok (Some back)) new = (back ≡ edit) × IsAsBefore old new
+EntersEdit by edit old (Ok (Some back)) new = (back ≡ edit) × CantEnter (Edited by (plain_edit edit)) old × IsAsBefore old new
 EntersEdit by edit old (Err e) new = e ≡ refusals.Memory
 
 -- What an event has come from: its records lead from there to what stands now, they are to be written in their order, and the

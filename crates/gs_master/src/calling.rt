@@ -70,7 +70,7 @@ impl Event {
         }
     }
 
-    /// The same of an edit that is judged before it is made.
+    /// An edit is judged, and made where neither the names nor the journal refuse it. Else its call is refused.
     fn judge_edit(&mut self, req: ReqId, edit: Edit, answer: Answer) -> Result<(), Refusal>
         requires { IsUnderWay self.old }
         ensures steps { Steps (edited_by (state_at self.old) req (plain_edit edit) answer) self.old result self.new }
@@ -83,8 +83,8 @@ impl Event {
         self.carry_out_or_refuse(req, plan)
     }
 
-    /// An edit of the names is made, and its call answered. Where the edit is refused the call is. That an edit is judged and
-    /// then made costs the names twice, so it is judged where it can't be made at once.
+    /// An edit of the names is made, and its call answered. Where the edit is refused the call is. To judge an edit and then make
+    /// it costs the names three times, since what was made to judge it is taken back; so it is judged where it can't be made.
     pub fn edit_by(&mut self, req: ReqId, edit: Edit, answer: Answer) -> Result<(), Refusal>
         requires { IsUnderWay self.old }
         ensures steps { Steps (edited_by (state_at self.old) req (plain_edit edit) answer) self.old result self.new }

@@ -1,5 +1,5 @@
 // An event at the master, step by step.
-ghost use Rattle.std.specs.Prelude.{◌≡◌, ◌<◌, ◌≤◌, ◌++◌, ◌∷◌, [], Some, true, false, OnOk, vec_len, vec_capacity};
+ghost use Rattle.std.specs.Prelude.{◌≡◌, ◌≢◌, ◌<◌, ◌≤◌, ◌++◌, ◌∷◌, [], Some, Ok, Err, true, false, OnOk, vec_len, vec_capacity};
 ghost use Rattle.std.specs.Ordering.{nat_cmp};
 ghost use Rattle.gs_base.specs.declared.numbers.ReqId.{ReqId};
 ghost use Rattle.gs_edit.specs.declared.edit.Edit.{Edit};
@@ -41,8 +41,8 @@ pub(crate) struct Event {
     pub(crate) written: Vec<Record>,
     pub(crate) sent: Vec<Message>,
     pub(crate) said: Option<Refusal>,
-    /// A file for which a snapshot waited when its source was looked at last. It is asked first whether it does so still.
-    pub(crate) held_up: Option<Path>,
+    /// The file that was last found to hold a snapshot up. It may do so no more.
+    pub(crate) held_up_by: Option<Path>,
 }
 
 impl Drop for Event {
@@ -58,7 +58,7 @@ impl Drop for Event {
             written: _,
             sent: _,
             said: _,
-            held_up: _,
+            held_up_by: _,
         } = self;
     }
 }
@@ -70,13 +70,17 @@ pub(crate) fn size_of(encoded: &Record) -> u64
     encoded.body().len() as u64 + 6
 }
 
-/// The edit that a record tells, if it tells one.
-fn edit_of(entry: Entry) -> Option<Edit>
-    ensures { (by : ReqId) (edit : Edit) → entry ≡ Entry.Edit by edit → result ≡ Some edit }
+/// The edit of a record that wasn't entered, unless it was want of memory that stood against it.
+fn handed_back(entry: Entry, why: Refusal) -> Result<Option<Edit>, Refusal>
+    ensures memory { why ≡ Refusal.Memory → result ≡ Err Refusal.Memory }
+    ensures edit { (by : ReqId) (edit : Edit) → why ≢ Refusal.Memory → entry ≡ Entry.Edit by edit → result ≡ Ok (Some edit) }
 {
+    if let Refusal::Memory = why {
+        return Err(Refusal::Memory);
+    }
     match entry {
-        Entry::Edit { by: _, edit } => Some(edit),
-        _ => None,
+        Entry::Edit { by: _, edit } => Ok(Some(edit)),
+        _ => Ok(None),
     }
 }
 
@@ -140,7 +144,8 @@ impl Event {
     }
 
     /// Makes room for a record, applies it, and answers it as it is to be written. `Full` where the journal has no room for it,
-    /// `BadLine` where it doesn't fit or can't be written. A refusal may leave room that was made, and changes nothing else.
+    /// `BadLine` where it doesn't fit or can't be written. A refusal may leave room that was made, and a copy of the names that
+    /// stands by, and changes nothing else.
     fn make(&mut self, entry: &Entry) -> Result<Record, Refusal>
         requires alone { comes_alone (plain entry.now) ≡ false }
         requires room { RoomForAll self.old.recorded self.old.undos.items }
@@ -175,7 +180,8 @@ impl Event {
         Ok(())
     }
 
-    /// The same of an edit, which is handed back where it wasn't entered. Want of memory alone is a refusal.
+    /// The same of an edit. Where the journal has no room for it, or it doesn't fit or can't be written, it is handed back and
+    /// nothing was done. Want of memory alone is a refusal.
     pub fn enter_edit(&mut self, by: ReqId, edit: Edit) -> Result<Option<Edit>, Refusal>
         requires ready { IsUnderWay self.old }
         ensures entered { EntersEdit by edit self.old result self.new }
@@ -187,8 +193,7 @@ impl Event {
         let entry = Entry::Edit { by, edit };
         let bytes = match self.make(&entry) {
             Ok(bytes) => bytes,
-            Err(Refusal::Memory) => return Err(Refusal::Memory),
-            Err(_) => return Ok(edit_of(entry)),
+            Err(why) => return handed_back(entry, why),
         };
         self.keep(entry, bytes);
         Ok(None)

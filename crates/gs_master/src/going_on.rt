@@ -124,17 +124,17 @@ impl Event {
     fn is_held_up(&self, from: &Path) -> bool
         ensures { result ≡ true → list_all (is_quiet_at (state_at self.now)) (source_chunks (state_at self.now) from.now) ≡ false }
     {
-        match &self.held_up {
+        match &self.held_up_by {
             Some(file) => self.standing().holds_up(from, file),
             None => false,
         }
     }
 
     /// Whether a chunk of a snapshot's source isn't quiet. A file that has one is noted, so that the source isn't gone through
-    /// for each chunk that becomes quiet.
+    /// for each chunk that becomes quiet; where memory is wanting for that, none is.
     fn waits_for_source(&mut self, from: &Path) -> Result<bool, AllocError>
         ensures waits { IfOk result (λ waits. not waits ≡ list_all (is_quiet_at (state_at self.old)) (source_chunks (state_at self.old) from.now)) }
-        ensures stays { self.new ≡ record self.old { held_up = self.new.held_up } }
+        ensures stays { self.new ≡ record self.old { held_up_by = self.new.held_up_by } }
     {
         if self.is_held_up(from) {
             return Ok(true);
@@ -142,7 +142,7 @@ impl Event {
         if self.standing().is_source_quiet(from)? {
             return Ok(false);
         }
-        self.held_up = self.standing().held_up_by(from)?;
+        self.held_up_by = self.standing().held_up_by(from).unwrap_or(None);
         Ok(true)
     }
 

@@ -29,7 +29,7 @@ impl Event {
             written: Vec::new(alloc),
             sent: Vec::new(alloc),
             said: None,
-            held_up: None,
+            held_up_by: None,
         })
     }
 }

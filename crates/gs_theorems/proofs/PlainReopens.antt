@@ -145,12 +145,12 @@ module _ {D : Type 0} (seen : D → List ℕ) (failures : D → ℕ) where
       inl (subst (λ (n : ℕ). failures_at failures (Standing m) < n) (sym (ap (failures_at failures) is)) more)
   reopened_cases w m (Err e) place stands good written (u, is, refused, inr (says, quiet, inl (bad, not_text))) =
       absurd (false≢true (sym not_text ∙ ap is_text good.firm.as_seen.text ∙ written.form))
-  reopened_cases w m (Err e) place stands good written (u, is, refused, inr (says, quiet, inr (log, bound, inl memory))) =
+  reopened_cases w m (Err e) place stands good written (u, is, refused, inr (says, quiet, inr (log, bound, kept, inl memory))) =
       inr (inl (ap (λ (r : Refusal). Err r) (refused ∙ memory)))
-  reopened_cases w m (Err e) place stands good written (u, is, refused, inr (says, quiet, inr (log, bound, inr (inl (bad, none))))) =
+  reopened_cases w m (Err e) place stands good written (u, is, refused, inr (says, quiet, inr (log, bound, kept, inr (inl (bad, none))))) =
       let told = subst (λ (t : Text). IsToldIn t m.state.durable) (sym good.firm.as_seen.text) good.firm.told in
       absurd (none told.entries (subst (λ (t : Text). AreRecordsOf t.0 t.1 told.entries) (sym told.records) (record { written = refl; are_entries = told.are_entries })))
-  reopened_cases w m (Err e) place stands good written (u, is, refused, inr (says, quiet, inr (log, bound, inr (inr (entries, are, refuses))))) =
+  reopened_cases w m (Err e) place stands good written (u, is, refused, inr (says, quiet, inr (log, bound, kept, inr (inr (entries, are, refuses))))) =
       let told = subst (λ (t : Text). IsToldIn t m.state.durable) (sym good.firm.as_seen.text) good.firm.told in
       let here = subst (λ (t : Text). AreRecordsOf t.0 t.1 entries) told.records are in
       let same = same_entries told.entries entries told.are_entries here.are_entries here.written in

@@ -5,7 +5,7 @@ use Rattle.gs_master.specs.Turns.{GoesBack}
 use Rattle.gs_master.specs.declared.event.Event.{Event}
 use Rattle.gs_state.specs.TakingBack.{RoomForAll}
 use Rattle.gs_master.proofs.Entered.{goes_back_on, goes_back_sent, stepped_back}
-use Rattle.gs_master.proofs.Making.{StaysBeside, entered_steps, judged_steps}
+use Rattle.gs_master.proofs.Making.{StaysBeside, entered_steps}
 use Rattle.gs_master.proofs.event.Event.edit_by.Goals as goal
 
 beside : (old mid : Event) → (mid.memory ≡ old.memory) × (mid.sent ≡ old.sent) × (mid.said ≡ old.said) × (mid.fault ≡ old.fault) → StaysBeside old mid
