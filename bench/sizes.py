@@ -1,12 +1,14 @@
 #!/usr/bin/env python3
 """Runs the built program at sizes a hundred times those of its tests and more, and looks at how it ends.
 
-    bench/sizes.py [PART OF 1 TO 100]
+    bench/sizes.py [PART OF 1 TO 100] [--program PATH] [--only WORD]
 
 prints for each size the lines, the seconds and the greatest memory in use, and ends with status 1 where a run ends by a
 signal or with another status than 0, answers fewer or more lines than it was given, refuses more or fewer than it should, or answers something else
-than is expected at the end. A number makes each size that many hundredths of its own."""
+than is expected at the end; or where memory grows with a size of which it isn't to: it takes more than 1.1 times that of a tenth of the size, and
+1 MB. A number makes each size that many hundredths of its own; a word leaves those without it in their names out."""
 
+import argparse
 import itertools
 import os
 import subprocess
@@ -24,18 +26,25 @@ LONG_LINE = 50_000_000
 LEAST_LONG_LINE = 2_500_000
 SHOWN = 60
 MEASURE = "--measure"
+# Where memory isn't to grow with a size: it may take so many times that of a tenth of it, and so many bytes more.
+MOST_GROWTH = 1.1
+MOST_MORE = 1_000_000
+# How often it is looked at how much memory a run takes, which tells nothing of a shorter run than this.
+LOOK_SECONDS = 0.005
+LEAST_SECONDS = 0.1
 
 
 class Size:
-    """A script of lines, each answered by one line, what stands at the end of the answers, how many are refusals, and the options
-    of the run."""
+    """A script of lines, each answered by one line, what stands at the end of the answers, how many are refusals, the options
+    of the run, and whether its memory is to be that of a tenth of it."""
 
-    def __init__(self, name, lines, last, refusals=0, options=()):
+    def __init__(self, name, lines, last, refusals=0, options=(), is_level=False):
         self.name = name
         self.lines = lines
         self.last = last
         self.refusals = refusals
         self.options = list(options)
+        self.is_level = is_level
 
 
 def names(prefix, n):
@@ -163,7 +172,7 @@ def upgrades(n):
 def requests(n):
     """Requests of one client, after which nothing of them is kept."""
     lines = itertools.chain(["create /f", "write /f 0 61"], itertools.repeat("read /f 0 1", n))
-    return Size("reads", lines, ["ok 61"], options=SMALL)
+    return Size("reads", lines, ["ok 61"], options=SMALL, is_level=True)
 
 
 def held_messages(n):
@@ -198,58 +207,99 @@ def write_script(lines, target):
     return count
 
 
-def measure():
-    """Runs the program on this process's input and output, and tells on standard error how it ended, its seconds and its
-    greatest memory. A process of its own, since a program's memory is counted from that of the process that starts it."""
+def seen_of(pid):
+    """The greatest memory until now of a process that runs, in bytes, where the system tells it, or 0."""
+    try:
+        with open(f"/proc/{pid}/status") as told:
+            return next((int(line.split()[1]) * 1024 for line in told if line.startswith("VmHWM:")), 0)
+    except OSError:
+        return 0
+
+
+def measure(words):
+    """Runs a program on this process's input and output, and tells on standard error how it ended, its seconds and its
+    greatest memory. A process of its own, since a program's memory is counted from that of the process that starts it. Where it
+    takes no more than that, what was last seen of its own is told, unless it ran too short."""
     begin = time.perf_counter()
-    child = subprocess.Popen([PROGRAM, *sys.argv[2:]])
-    _, status, usage = os.wait4(child.pid, 0)
+    child = subprocess.Popen(words)
+    seen, pid = 0, 0
+    while not pid:
+        seen = seen_of(child.pid) or seen
+        time.sleep(LOOK_SECONDS)
+        pid, status, usage = os.wait4(child.pid, os.WNOHANG)
     child.returncode = os.waitstatus_to_exitcode(status)
-    print(child.returncode, time.perf_counter() - begin, usage.ru_maxrss * 1024, file=sys.stderr)
+    seconds = time.perf_counter() - begin
+    counted = usage.ru_maxrss * 1024
+    is_seen = seen and seconds >= LEAST_SECONDS and counted <= seen_of(os.getpid())
+    print(child.returncode, seconds, seen if is_seen else counted, file=sys.stderr)
 
 
-def run(options, source, target):
-    """The status of a run (below 0: the signal that ended it), its seconds and its greatest memory in bytes."""
-    ran = subprocess.run([sys.executable, __file__, MEASURE, *options], stdin=source, stdout=target, stderr=subprocess.PIPE, text=True, check=True)
-    status, seconds, memory = ran.stderr.split()[-3:]
-    return int(status), float(seconds), int(memory)
+class Run:
+    """The lines of a size, how their run ended (below 0: by that signal), its seconds, its greatest memory in bytes and its answers."""
+
+    def __init__(self, program, size):
+        with tempfile.TemporaryFile() as source, tempfile.TemporaryFile() as target:
+            self.count = write_script(size.lines, source)
+            words = [sys.executable, __file__, MEASURE, program, *size.options]
+            ran = subprocess.run(words, stdin=source, stdout=target, stderr=subprocess.PIPE, text=True, check=True)
+            status, seconds, memory = ran.stderr.split()[-3:]
+            self.status, self.seconds, self.memory = int(status), float(seconds), int(memory)
+            target.seek(0)
+            self.answers = target.read().decode(errors="replace").splitlines()
 
 
-def judge(count, status, answers, size):
+def judge(run, size):
     """What is wrong with a run, if anything."""
-    if status != 0:
-        return f"status {status}"
-    if len(answers) != count:
-        return f"{len(answers):,} answers to {count:,} lines"
-    refusals = sum(answer.startswith("refused") for answer in answers)
+    if run.status != 0:
+        return f"status {run.status}"
+    if len(run.answers) != run.count:
+        return f"{len(run.answers):,} answers to {run.count:,} lines"
+    refusals = sum(answer.startswith("refused") for answer in run.answers)
     if refusals != size.refusals:
         return f"{refusals:,} refusals"
-    for answer, wanted in zip(answers[len(answers) - len(size.last):], size.last):
+    for answer, wanted in zip(run.answers[len(run.answers) - len(size.last):], size.last):
         if answer != wanted:
             return f"answered {answer[:SHOWN]!r} and not {wanted[:SHOWN]!r}"
     return None
 
 
-def try_size(make, n):
+def judge_memory(run, tenth):
+    """What is wrong with the memory of a run beside that of a tenth of its size, if anything."""
+    if run.memory > MOST_GROWTH * tenth.memory + MOST_MORE:
+        return f"a tenth takes {tenth.memory / 1e6:.1f} MB"
+    return None
+
+
+def try_size(program, make, n):
     """Runs one size, prints its row, and tells whether all was well."""
     size = make(n)
-    with tempfile.TemporaryFile() as source, tempfile.TemporaryFile() as target:
-        count = write_script(size.lines, source)
-        status, seconds, memory = run(size.options, source, target)
-        target.seek(0)
-        answers = target.read().decode(errors="replace").splitlines()
-    wrong = judge(count, status, answers, size)
-    print(f"{n:>12,} {size.name:<40} {count:>10,} {seconds:>9.2f} {memory / 1e6:>9.1f}  {wrong or 'well'}", flush=True)
+    run = Run(program, size)
+    wrong = judge(run, size)
+    if size.is_level and wrong is None:
+        size_below = make(n // 10)
+        tenth = Run(program, size_below)
+        wrong = judge(tenth, size_below) or judge_memory(run, tenth)
+    print(f"{n:>12,} {size.name:<40} {run.count:>10,} {run.seconds:>9.2f} {run.memory / 1e6:>9.1f}  {wrong or 'well'}", flush=True)
     return wrong is None
+
+
+def parsed():
+    parser = argparse.ArgumentParser()
+    parser.add_argument("part", nargs="?", type=int, default=100, help="how many hundredths of its own each size has")
+    parser.add_argument("--program", help="the built program, which else is built")
+    parser.add_argument("--only", default="", help="sizes with this in their names")
+    return parser.parse_args()
 
 
 def main():
     if sys.argv[1:2] == [MEASURE]:
-        return measure()
-    part = int(sys.argv[1]) if len(sys.argv) > 1 else 100
-    subprocess.run([SHELL, "--build"], check=True)
+        return measure(sys.argv[2:])
+    options = parsed()
+    if not options.program:
+        subprocess.run([SHELL, "--build"], check=True)
+        options.program = PROGRAM
     print(f"{'n':>12} {'':<40} {'lines':>10} {'seconds':>9} {'MB':>9}", flush=True)
-    well = [try_size(make, n * part // 100) for make, n in SIZES]
+    well = [try_size(options.program, make, n * options.part // 100) for make, n in SIZES if options.only in make(1).name]
     return 0 if all(well) else 1
 
 
