@@ -1,2 +1,4 @@
 pub mod ElementLemmas
+pub mod Front
 pub mod PathLemmas
+pub mod Readable

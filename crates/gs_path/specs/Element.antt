@@ -1,7 +1,7 @@
 -- The rules of one element of a path, and the names of what was deleted.
 use Rattle.std.specs.Prelude.{◌≡◌, ◌-◌, ◌^◌, ◌++◌, ◌&&◌, ◌==◌, ℕ, List, Bool, true, false, not, Option, Some, None, is_some, codes, decimal, bytes_eq, length, drop, replicate, nat_eq, nat_le, nat_lt, if◌then◌else◌, refl}
 use Rattle.std.specs.Fmt.{digits}
-use Rattle.std.specs.List.{list_all, starts_with, before_first, after_first}
+use Rattle.std.specs.List.{list_all, list_any, starts_with, before_first, after_first}
 use Rattle.std.specs.Str.{all_ascii_digits}
 use Rattle.std.specs.Str.Parse.{digits_value}
 use Rattle.gs_path.specs.Path.{Name}
@@ -62,6 +62,10 @@ hidden_parts name = if is_hidden name then parts_behind (drop (length hidden_mar
 -- an element as it can stand in a tree: one of the hidden form, or one that doesn't begin as those do
 abbrev pub is_stored : Name → Bool
 is_stored name = if is_hidden name then is_some (hidden_parts name) else is_element name
+
+-- the same without a slash, which no such element has: so much is seen at once
+abbrev pub is_whole : Name → Bool
+is_whole name = is_stored name && not (list_any (λ b. b == 47) name)
 
 longest : is_element (replicate 200 97) ≡ true
 longest = refl

@@ -1,6 +1,6 @@
 -- What the steps of the readers and the writers come to.
 use Rattle.gs_record.specs.Plain.{Refused}
-use Rattle.std.proofs.Common.{◌≢◌, ◌≡◌, ℕ, ◌^◌, ◌<◌, Bool, true, false, true≢false, not, List, [], ◌∷◌, ◌++◌, Option, Some, None, Result, Ok, Err, refl, sym, ap, subst, ◌∙◌, append_assoc}
+use Rattle.std.proofs.Common.{◌≢◌, ◌≡◌, ℕ, ◌^◌, ◌<◌, Bool, true, false, true≢false, List, [], ◌∷◌, ◌++◌, Option, Some, None, Result, Ok, Err, refl, sym, ap, subst, ◌∙◌, append_assoc}
 use Rattle.std.specs.Bool.{IsTrue}
 use Rattle.std.specs.Int.{w16}
 use Rattle.std.specs.Str.{IsUtf8, is_utf8}
@@ -9,16 +9,11 @@ use Rattle.gs_base.specs.Members.{servers_where, has_bit, bits_of}
 use Rattle.gs_base.specs.MemberLaws.{bits_of-servers_where, eqb_other}
 use Rattle.gs_base.specs.Told.{Told, IsRefusal, detail_text}
 use Rattle.gs_base.specs.declared.refusal.Refusal.{Refusal}
-use Rattle.std.specs.Cmp.{eq_by_cmp_equiv}
-use Rattle.std.specs.Cmp.Lexicographic.{pointwise_decides, bytes_decides, lists_ties, texts_ties, slice_cmp}
-use Rattle.std.specs.Ordering.{nat_cmp, eq_by_cmp}
 use Rattle.gs_base.specs.Refusals.{number_of}
-use Rattle.gs_path.specs.Path.{Path, path_cmp, path_total, path_text}
-use Rattle.gs_path.specs.Rules.{parse_hidden}
 use Rattle.gs_record.proofs.Laws.{some_is}
 use Rattle.gs_record.proofs.Told.{told_is, told_back}
 use Rattle.gs_record.specs.Encoding.{text, refusal}
-use Rattle.gs_record.specs.Writable.{AreServers, IsText, IsPath, IsWritable}
+use Rattle.gs_record.specs.Writable.{AreServers, IsText, IsWritable}
 use Rattle.gs_record.specs.declared.fault.Fault.{Fault}
 use Rattle.gs_record.specs.declared.fault.Fault.TheVariants as faults
 use Rattle.gs_record.specs.inner.Reading.{◌>>=◌, byte_at, number_at, bytes_at, text_at, refusal_at, outcome_at}
@@ -59,31 +54,6 @@ are_servers servers is = ap (λ b. servers_where (has_bit b)) (ap bits_of is.2 �
 
 pub servers_are : (servers : List ℕ) (bits : ℕ) → bits ≡ bits_of servers → bits < 2 ^ 16 → servers_where (has_bit (bits_of servers)) ≡ servers → AreServers servers
 servers_are servers bits same small e = (bits_of servers, rw (← same) small, sym e)
-
--- paths that are compared as one are one
-pub one_path : (p q : Path) → eq_by_cmp path_cmp p q ≡ true → p ≡ q
-one_path p q e = (pointwise_decides bytes_decides p q).0 (lists_ties (slice_cmp nat_cmp) texts_ties p q ∙ e)
-
-pub same_path : (p : Path) → eq_by_cmp path_cmp p p ≡ true
-same_path p = (eq_by_cmp_equiv path_total).refl p
-
--- a path that was read is the one that is
-ok_is : (r : Result Path Refusal) (q p : Path) → r ≡ Ok q → r ≡ Ok p → q ≡ p
-ok_is r q p e f = cc
-
--- another path is read from the text
-pub not_path : (p q : Path) (text : List ℕ) (r : Bool) → text ≡ path_text p → parse_hidden text ≡ Ok q → r ≡ not (eq_by_cmp path_cmp q p) → r ≡ true → ¬ IsPath p
-not_path p q t r same read is ne h =
-    let one : q ≡ p = ok_is (parse_hidden t) q p read (ap parse_hidden same ∙ h.1) in
-    true≢false (sym ne ∙ is ∙ ap not (ap (λ x. eq_by_cmp path_cmp x p) one ∙ same_path p))
-
-pub is_path : (p q : Path) (text : List ℕ) (r : Bool) → text ≡ path_text p → parse_hidden text ≡ Ok q → r ≡ not (eq_by_cmp path_cmp q p) → r ≡ false → parse_hidden (path_text p) ≡ Ok p
-is_path p q t r same read is ne =
-    ap parse_hidden (sym same) ∙ read ∙ ap Ok (one_path q p (not_false (eq_by_cmp path_cmp q p) (sym is ∙ ne)))
-  where
-    not_false : (b : Bool) → not b ≡ false → b ≡ true
-    not_false true e = refl
-    not_false false e = absurd cc
 
 -- a refusal is told of by its number and its detail, or it can't be written
 pub untold : (r : Refusal) (number : ℕ) (detail : List ℕ) → number ≡ number_of r → detail ≡ detail_text r → Told number detail None → ¬ IsWritable r

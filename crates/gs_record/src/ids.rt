@@ -208,15 +208,10 @@ impl Field for Path {
     }
 
     fn put(&self, alloc: Global, out: &mut Vec<u8>) -> Result<(), Fault> {
-        let text = self.text(alloc)?;
-        let again = match Path::parse_hidden(alloc, &text) {
-            Ok(path) => path,
-            Err(Refusal::Memory) => return Err(Fault::Memory),
-            Err(_) => return Err(Fault::Form),
-        };
-        if again != *self {
+        if !self.is_readable() {
             return Err(Fault::Form);
         }
+        let text = self.text(alloc)?;
         put_text(out, &text)
     }
 }

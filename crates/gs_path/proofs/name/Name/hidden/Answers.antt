@@ -5,7 +5,7 @@ use Rattle.gs_path.proofs.name.Name.hidden.Goals as goal
 
 pub returns-clause-name : goal.returns-clause-name
 returns-clause-name c =
-    rw (c.in_ok-format.ensures.ok, c.laid_out.ensures, c.laid_out-2.ensures, styled-twenty_digits c.args.moment.0, styled-twenty_digits c.args.number, c.as_str-old.ensures)
+    rw (c.in_ok-write.ensures.bytes, c.in_ok-text.ensures.bytes, c.laid_out.ensures, c.laid_out-2.ensures, styled-twenty_digits c.args.moment.0, styled-twenty_digits c.args.number, c.as_str-old.ensures)
 
 pub returns-clause-parts : goal.returns-clause-parts
 returns-clause-parts c h =
