@@ -109,7 +109,17 @@ impl<K: Key + Drop, V: Drop> Table<K, V> {
         ensures put { live K.cmp self.new ≡ fin.insert (live K.cmp self.old) key value }
         ensures keeps { KeepsRoom K.cmp self.old self.new }
     {
-        self.write(key, Some(value)).unwrap();
+        self.replace(key, value);
+    }
+
+    /// Puts a value at a key that has room, and answers what stood there. It takes no memory.
+    pub fn replace(&mut self, key: K, value: V) -> Option<V>
+        requires { HasRoom K.cmp self.old key }
+        ensures value { result ≡ fin.get (live K.cmp self.old) key }
+        ensures put { live K.cmp self.new ≡ fin.insert (live K.cmp self.old) key value }
+        ensures keeps { KeepsRoom K.cmp self.old self.new }
+    {
+        self.write(key, Some(value)).unwrap()
     }
 
     /// Takes out what stands at a key, and leaves its room. It takes no memory.

@@ -19,7 +19,9 @@ use Rattle.gs_tree.specs.Listing.{IsListingOf, pairs_of}
 use Rattle.gs_tree.specs.declared.node.Listed.{Listed}
 use Rattle.gs_tree.specs.Inverses.{TakesBack}
 use Rattle.gs_tree.specs.Follows.{Follows}
+use Rattle.gs_tree.specs.inner.Steps.{Relocates}
 use Rattle.gs_tree.specs.declared.inverse.TreeInverse.TheVariants.{Moved}
+use Rattle.std.proofs.lemmas.Bool.{false≢true}
 use Rattle.gs_tree.proofs.Rows.{names_equiv}
 use Rattle.gs_tree.proofs.Splice.{one_name}
 use Rattle.gs_tree.proofs.Laws.{begins_append, with_at-append, free_at, moved-moved, not_above}
@@ -212,13 +214,15 @@ aside_is {m = m} {p = p} {name = name} h =
     ap (λ b. cond b (Err NotFound) (cond (is_some (m (beside p name))) (Err Exists) (Ok (moved p (beside p name) m)))) (some_is (m p) h.stands)
     ∙ ap (λ t. cond (is_some (m t)) (Err Exists) (Ok (moved p t m))) (sym h.aim)
 
-pub aside_apart : {m : Plain ℕ} {p target par : Path} {x name : Name} → Aside m p target par x name → IsFree m target → begins p target ≡ false
-aside_apart {m = m} {p = p} {target = target} {par = par} {x = x} {name = name} h free =
-    elim (same_name x name) as (λ b. same_name x name ≡ b → begins p target ≡ false) [
-      | true ↦ λ b. let same : p ≡ target = h.split ∙ ap (λ n. par ++ n ∷ []) (one_name x name b) ∙ sym (aside_target h) in
-          let gone : is_some (m p) ≡ false = ap (λ q. is_some (m q)) (same ∙ sym (append-nil target)) ∙ ap is_some (free []) in absurd (let s = h.stands in cc)
-      | false ↦ λ b. ap (λ q. begins q target) h.split ∙ ap (begins (par ++ x ∷ [])) (aside_target h) ∙ beside_begins par x name ∙ b
-    ] refl
+-- another name
+pub aside_apart : {m : Plain ℕ} {p target par : Path} {x name : Name} → Aside m p target par x name → same_name x name ≡ false → begins p target ≡ false
+aside_apart {target = target} {par = par} {x = x} {name = name} h other = ap (λ q. begins q target) h.split ∙ ap (begins (par ++ x ∷ [])) (aside_target h) ∙ beside_begins par x name ∙ other
+
+-- the same name
+pub aside_same : {m : Plain ℕ} {p par : Path} {x name : Name} → Aside m p (beside p name) par x name → same_name x name ≡ true → renamed_beside m p name ≡ Err Exists
+aside_same {m = m} {p = p} {par = par} {x = x} {name = name} h same =
+    let one : p ≡ beside p name = h.split ∙ ap (λ n. par ++ n ∷ []) (one_name x name same) ∙ sym (aside_target h) in
+    aside_is h ∙ ap (λ b. cond b (Err Exists) (Ok (moved p (beside p name) m))) (ap (λ q. is_some (m q)) (sym one) ∙ h.stands)
 
 pub aside_dir : {m : Plain ℕ} {p target par : Path} {x name : Name} → Aside m p target par x name → m par ≡ Some Dir
 aside_dir {m = m} {p = p} {par = par} {x = x} h = ap m (sym (parent-append par x) ∙ ap parent (sym h.split)) ∙ dir_above m p (aside_some h) h.above
@@ -263,3 +267,13 @@ pub file_listing : (v : Option (Entry ℕ)) (m : Plain ℕ) (p : Path) (listed :
 file_listing None m p listed some dir h = absurd (cc)
 file_listing (Some entry.Dir) m p listed some dir h = absurd (cc)
 file_listing (Some (entry.File chunks)) m p listed some dir h = h
+
+-- a move that found its place free
+pub relocated : (m n : Plain ℕ) (from to : Path) (b : Bool) → b ≡ true → Relocates m from to (Ok b) n → IsFree m to × ((q : Path) → n q ≡ moved from to m q)
+relocated m n from to true is h = h
+relocated m n from to false is h = absurd (false≢true is)
+
+-- one that didn't
+pub taken : (m n : Plain ℕ) (from to : Path) (b : Bool) → b ≡ false → Relocates m from to (Ok b) n → (is_some (m to) ≡ true) × ((q : Path) → n q ≡ m q)
+taken m n from to true is h = absurd (false≢true (sym is))
+taken m n from to false is h = h

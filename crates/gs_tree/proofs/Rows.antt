@@ -1,5 +1,5 @@
 -- What rows have at a path, child by child.
-use Rattle.std.proofs.Common.{ℕ, ◌≢◌, ◌<◌, take, drop, length, get_or, arith, ◌-◌, ◌≤◌, ◌≡◌, true, false, cond, List, [], ◌∷◌, ◌++◌, refl, sym, ap, ◌∙◌, subst}
+use Rattle.std.proofs.Common.{ℕ, append-nil, is_some, ◌≢◌, ◌<◌, take, drop, length, get_or, arith, ◌-◌, ◌≤◌, ◌≡◌, true, false, cond, List, [], ◌∷◌, ◌++◌, refl, sym, ap, ◌∙◌, subst}
 use Rattle.std.specs.Prelude.{Option, Some, None}
 use Rattle.std.specs.declared.cmp.Ordering.TheVariants.{Less, Equal, Greater}
 use Rattle.std.specs.Option.{option_or}
@@ -114,6 +114,13 @@ pub part_below : {m : Rows ℕ} {children : BTreeMap Name (Rows ℕ)} {path : Pa
 part_below {path = path} g child None is h = λ q. at-below g q ∙ ap (λ v. at_child v (rest_of path ++ q)) (sym is) ∙ h q
 part_below {path = path} g child (Some rows) is h = λ q. at-below g q ∙ ap (λ v. at_child v (rest_of path ++ q)) (sym is) ∙ h q
 
+-- the same of a name behind the path
+pub part_on : {m : Rows ℕ} {children : BTreeMap Name (Rows ℕ)} {path : Path} {x : Name} → GoesTo m children path x → (name : Name) (child : Rows ℕ) (part : Option (Rows ℕ)) → Some child ≡ lookup (is_at (name_cmp x)) children.entries
+    → IsPartAt (at child) (rest_of path ++ name ∷ []) part → IsPartAt (at m) (path ++ name ∷ []) part
+part_on {m = m} {children = children} {path = path} {x = x} g name child part is h =
+    let on : GoesTo m children (x ∷ (rest_of path ++ name ∷ [])) x = record { rows = g.rows; ordered = g.ordered; parts = ap (λ p. x ∷ p) (sym (rest-cons x (rest_of path ++ name ∷ []))) } in
+    subst (λ (p : Path). IsPartAt (at m) p part) (ap (λ p. p ++ name ∷ []) (sym g.parts)) (part_below on child part is (subst (λ (p : Path). IsPartAt (at child) p part) (sym (rest-cons x (rest_of path ++ name ∷ []))) h))
+
 -- directories above a place in a child are directories above it here
 pub dirs_above : {m : Rows ℕ} {children : BTreeMap Name (Rows ℕ)} {path : Path} {x : Name} → GoesTo m children path x → (child : Rows ℕ) → Some child ≡ lookup (is_at (name_cmp x)) children.entries → DirsAbove (at child) (rest_of path) → DirsAbove (at m) path
 dirs_above {m = m} {children = children} {path = path} {x = x} g child is h =
@@ -125,6 +132,21 @@ dirs_above {m = m} {children = children} {path = path} {x = x} g child is h =
 pub part_here : {m : Rows ℕ} {children : BTreeMap Name (Rows ℕ)} {path : Path} {x : Name} → GoesTo m children path x → rest_of path ≡ [] → (part : Option (Rows ℕ)) → part ≡ lookup (is_at (name_cmp x)) children.entries → IsPartAt (at m) path part
 part_here g end None is = part_none g is
 part_here {children = children} {x = x} g end (Some rows) is = λ q. at-below g q ∙ ap (λ t. at_child (lookup (is_at (name_cmp x)) children.entries) (t ++ q)) end ∙ ap (λ v. at_child v q) (sym is)
+
+-- a name in a directory itself
+pub part_of_name : {m : Rows ℕ} {k : Kind} {children : BTreeMap Name (Rows ℕ)} (name : Name) → rows_of k ≡ m → IsLevel k → k ≡ kinds.Dir children → (part : Option (Rows ℕ)) → part ≡ lookup (is_at (name_cmp name)) children.entries → IsPartAt (at m) (name ∷ []) part
+part_of_name {m = m} {k = k} {children = children} name view level is part found =
+    part_here {children = children} (record { rows = sym view ∙ ap rows_of is; ordered = subst IsLevel is level; parts = ap (λ p. name ∷ p) (sym (rest-cons name [])) }) (rest-cons name []) part found
+
+-- something stands at the top of what stands
+pub stands_top : (k : Kind) → is_some (at (rows_of k) []) ≡ true
+stands_top (kinds.File chunks) = refl
+stands_top (kinds.Dir children) = refl
+
+-- where a part that stands has something at its top, there is a part exactly where something stands
+pub found_part : (m : Plain ℕ) (p : Path) (part : Option (Rows ℕ)) → IsPartAt m p part → ((rows : Rows ℕ) → part ≡ Some rows → is_some (at rows []) ≡ true) → is_some part ≡ is_some (m p)
+found_part m p None h r = sym (ap is_some (ap m (sym (append-nil p)) ∙ h []))
+found_part m p (Some rows) h r = sym (ap is_some (ap m (sym (append-nil p)) ∙ h []) ∙ r rows refl)
 
 -- a file has nothing below it
 pub part_of_file : (m : Rows ℕ) (k : Kind) (path : Path) → rows_of k ≡ m → ((c : BTreeMap Name (Rows ℕ)) → k ≢ kinds.Dir c) → path ≢ [] → IsPartAt (at m) path None

@@ -1,7 +1,8 @@
 //! Directories and files that are made.
-ghost use Rattle.std.specs.Prelude.{◌≡◌, IfOk};
+ghost use Rattle.std.specs.Prelude.{◌≡◌, true, is_some, IfOk};
 ghost use Rattle.gs_tree.specs.Find.{at};
-ghost use Rattle.gs_tree.specs.Edits.{mkdirs, create, made};
+ghost use Rattle.gs_tree.specs.Edits.{mkdirs, create};
+ghost use Rattle.gs_tree.specs.inner.Steps.{MakesLeaf};
 ghost use Rattle.gs_tree.specs.inner.Sort.{entry_of_leaf};
 ghost use Rattle.gs_tree.specs.Inverses.{TakesBack, LeavesChunks, IsMade};
 ghost use Rattle.gs_tree.specs.Follows.{Follows};
@@ -12,18 +13,22 @@ use gs_base::Refusal;
 use gs_path::Path;
 use std::alloc::Global;
 
-/// Makes a leaf where nothing stands.
-fn make(root: &mut Node, alloc: Global, path: &Path, leaf: Leaf) -> Result<TreeInverse, Refusal>
-    requires { at root.old path.now ≡ None }
-    ensures edit { Follows (made (at root.old) path.now (entry_of_leaf leaf)) result (at root.old) (at root.new) }
-    ensures undo { IfOk result (λ i. TakesBack i (at root.old) (at root.new)) }
-    ensures inverse { IfOk result (λ i. LeavesChunks i) }
-    ensures kind { IfOk result (λ i. IsMade i) }
+/// Makes a leaf where nothing stands. Answers what takes that back, or nothing where something stands there.
+fn make(
+    root: &mut Node,
+    alloc: Global,
+    path: &Path,
+    leaf: Leaf,
+) -> Result<Option<TreeInverse>, Refusal>
+    ensures { MakesLeaf (at root.old) path.now (entry_of_leaf leaf) result (at root.new) }
 {
     let copy = path.copy(alloc)?;
     let made = root.sow(alloc, path.elements(), leaf)?;
+    if made == 0 {
+        return Ok(None);
+    }
     let above = path.elements().len() - made;
-    Ok(TreeInverse::Made(copy, above))
+    Ok(Some(TreeInverse::Made(copy, above)))
 }
 
 /// Makes a directory with each directory above it that is missing.
@@ -33,13 +38,30 @@ pub(crate) fn mkdirs_in(root: &mut Node, alloc: Global, path: &Path) -> Result<T
     ensures inverse { IfOk result (λ i. LeavesChunks i) }
     ensures kind { IfOk result (λ i. IsMade i) }
 {
+    let made = match make(root, alloc, path, Leaf::Dir) {
+        Ok(made) => made,
+        Err(refusal) => return Err(refusal),
+    };
+    match made {
+        Some(inverse) => Ok(inverse),
+        None => found(root, alloc, path),
+    }
+}
+
+/// What comes of making a directory where something stands: a directory is accepted.
+fn found(root: &Node, alloc: Global, path: &Path) -> Result<TreeInverse, Refusal>
+    requires { is_some (at root.now path.now) ≡ true }
+    ensures edit { Follows (mkdirs (at root.now) path.now) result (at root.now) (at root.now) }
+    ensures undo { IfOk result (λ i. TakesBack i (at root.now) (at root.now)) }
+    ensures inverse { IfOk result (λ i. LeavesChunks i) }
+    ensures kind { IfOk result (λ i. IsMade i) }
+{
     match root.sort_at(path.elements()) {
-        Sort::File => Err(Refusal::Exists),
         Sort::Dir => {
             let above = path.elements().len();
             Ok(TreeInverse::Made(path.copy(alloc)?, above))
         }
-        Sort::Missing => make(root, alloc, path, Leaf::Dir),
+        Sort::File | Sort::Missing => Err(Refusal::Exists),
     }
 }
 
@@ -50,8 +72,9 @@ pub(crate) fn create_in(root: &mut Node, alloc: Global, path: &Path) -> Result<T
     ensures inverse { IfOk result (λ i. LeavesChunks i) }
     ensures kind { IfOk result (λ i. IsMade i) }
 {
-    match root.sort_at(path.elements()) {
-        Sort::File | Sort::Dir => Err(Refusal::Exists),
-        Sort::Missing => make(root, alloc, path, Leaf::File),
+    match make(root, alloc, path, Leaf::File) {
+        Ok(Some(inverse)) => Ok(inverse),
+        Ok(None) => Err(Refusal::Exists),
+        Err(refusal) => Err(refusal),
     }
 }

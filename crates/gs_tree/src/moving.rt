@@ -4,7 +4,8 @@ ghost use Rattle.gs_tree.specs.Find.{at, IsBelow, DirsAbove, IsDepthTest};
 ghost use Rattle.gs_tree.specs.Plain.{part_at};
 ghost use Rattle.gs_tree.specs.Edits.{rename, hide, unhide, beside, renamed_beside, old_name, move_to, target_of};
 ghost use Rattle.gs_tree.specs.Inverses.{TakesBack, LeavesChunks, IsMoved};
-ghost use Rattle.gs_tree.specs.Follows.{Follows};
+ghost use Rattle.gs_tree.specs.Follows.{Follows, Moves};
+ghost use Rattle.gs_tree.specs.inner.Sort.{IsFoundAt};
 ghost use Rattle.gs_tree.specs.inner.Steps.{TestsPlace};
 
 use crate::inverse::TreeInverse;
@@ -18,13 +19,21 @@ use std::alloc::{AllocError, Global};
 pub(crate) fn test_place(root: &Node, from: &Path, target: &Path) -> Result<(), Refusal>
     ensures { TestsPlace (at root.now) from.now target.now result }
 {
+    test_found(root, from, target, root.sort_at(target.elements()))
+}
+
+/// The same, where it is known what stands at the place.
+fn test_found(root: &Node, from: &Path, target: &Path, found: Sort) -> Result<(), Refusal>
+    requires { IsFoundAt (at root.now) target.now found }
+    ensures { TestsPlace (at root.now) from.now target.now result }
+{
     if *target == *from {
         return Err(Refusal::Exists);
     }
     if target.starts_with(from) {
         return Err(Refusal::IntoItself);
     }
-    match root.sort_at(target.elements()) {
+    match found {
         Sort::Missing => {}
         Sort::Dir | Sort::File => return Err(Refusal::Exists),
     }
@@ -48,53 +57,93 @@ fn fits_under(root: &Node, from: &[Name], depth: usize) -> bool
     }
 }
 
+/// Where a move leads, and what stands there.
+struct Target {
+    path: Path,
+    found: Sort,
+}
+
 /// Moves what stands at a path to a target, after the tests on the target.
 fn move_to_target(
     root: &mut Node,
     alloc: Global,
     from: &Path,
-    target: Path,
+    target: Target,
 ) -> Result<TreeInverse, Refusal>
     requires root { from.now ≢ [] }
     requires stands { is_some (at root.old from.now) ≡ true }
     requires above { DirsAbove (at root.old) from.now }
-    ensures edit { (deep : Bool) → IsDepthTest deep (at root.old) from.now target → Follows (move_to deep (at root.old) from.now target) result (at root.old) (at root.new) }
+    requires found { IsFoundAt (at root.old) target.path target.found }
+    ensures edit { (deep : Bool) → IsDepthTest deep (at root.old) from.now target.path → Follows (move_to deep (at root.old) from.now target.path) result (at root.old) (at root.new) }
     ensures undo { IfOk result (λ i. TakesBack i (at root.old) (at root.new)) }
     ensures inverse { IfOk result (λ i. LeavesChunks i) }
     ensures kind { IfOk result (λ i. IsMoved i) }
 {
-    match test_place(root, from, &target) {
+    let Target { path: to, found } = target;
+    match test_found(root, from, &to, found) {
         Ok(()) => {}
         Err(refusal) => return Err(refusal),
     }
-    let Some((name, parent)) = target.elements().split_last() else {
+    let Some((name, parent)) = to.elements().split_last() else {
         return Err(Refusal::NotFound);
     };
-    if !fits_under(root, from.elements(), target.elements().len()) {
+    if !fits_under(root, from.elements(), to.elements().len()) {
         return Err(Refusal::BadPath);
     }
     let source = from.copy(alloc)?;
     let name = name.copy(alloc)?;
-    root.relocate(alloc, from.elements(), parent, name, target.elements())?;
-    Ok(TreeInverse::Moved(source, target))
+    if !root.relocate(alloc, from.elements(), parent, name, to.elements())? {
+        return Err(Refusal::Exists);
+    }
+    Ok(TreeInverse::Moved(source, to))
+}
+
+/// A tree in which what stands at a path is moved to another, in the place of what stands there.
+pub(crate) fn with_moved(
+    mut root: Node,
+    alloc: Global,
+    from: &Path,
+    to: &Path,
+) -> Result<Node, Refusal>
+    ensures { Moves from.now to.now (at root) result (λ n. at n) }
+{
+    if from.elements().is_empty() {
+        return Err(Refusal::BadLine);
+    }
+    let Some(node) = root.prune(from.elements()) else {
+        return Err(Refusal::BadLine);
+    };
+    let Some((name, parent)) = to.elements().split_last() else {
+        return Err(Refusal::BadLine);
+    };
+    match root.sort_at(parent) {
+        Sort::Dir => {}
+        Sort::Missing | Sort::File => return Err(Refusal::BadLine),
+    }
+    let name = name.copy(alloc)?;
+    root.graft(parent, name, node)?;
+    Ok(root)
 }
 
 /// Where a rename leads: the target, or the source's name under the target if that is a directory.
-fn target_path(root: &Node, alloc: Global, from: &Path, to: &Path) -> Result<Path, Refusal>
+fn target_of(root: &Node, alloc: Global, from: &Path, to: &Path) -> Result<Target, Refusal>
     requires { from.now ≢ [] }
-    ensures ok { IfOk result (λ p. p ≡ target_of (at root.now) from.now to.now) }
+    ensures path { IfOk result (λ t. t.path ≡ target_of (at root.now) from.now to.now) }
+    ensures found { IfOk result (λ t. IsFoundAt (at root.now) t.path t.found) }
     ensures err { IfErr result (λ e. e ≡ Refusal.Memory) }
 {
-    let mut target = to.copy(alloc)?;
-    match root.sort_at(to.elements()) {
+    let mut path = to.copy(alloc)?;
+    let found = root.sort_at(to.elements());
+    match found {
         Sort::Dir => {}
-        Sort::Missing | Sort::File => return Ok(target),
+        Sort::Missing | Sort::File => return Ok(Target { path, found }),
     }
-    if let Some((name, _)) = from.elements().split_last() {
-        target.push(name.copy(alloc)?)?;
-        return Ok(target);
-    }
-    Ok(target)
+    let Some((name, _)) = from.elements().split_last() else {
+        return Ok(Target { path, found });
+    };
+    path.push(name.copy(alloc)?)?;
+    let found = root.sort_at(path.elements());
+    Ok(Target { path, found })
 }
 
 pub(crate) fn rename_in(
@@ -115,7 +164,7 @@ pub(crate) fn rename_in(
         Sort::Missing => return Err(Refusal::NotFound),
         Sort::Dir | Sort::File => {}
     }
-    match target_path(root, alloc, from, to) {
+    match target_of(root, alloc, from, to) {
         Ok(target) => move_to_target(root, alloc, from, target),
         Err(refusal) => Err(refusal),
     }
@@ -134,20 +183,21 @@ fn rename_beside(
     ensures inverse { IfOk result (λ i. LeavesChunks i) }
     ensures kind { IfOk result (λ i. IsMoved i) }
 {
-    let Some((_, parent)) = path.elements().split_last() else {
+    let Some((old, parent)) = path.elements().split_last() else {
         return Err(Refusal::NotFound);
     };
     match root.sort_at(path.elements()) {
         Sort::Missing => return Err(Refusal::NotFound),
         Sort::Dir | Sort::File => {}
     }
-    let target = with_name(alloc, path, &name)?;
-    match root.sort_at(target.elements()) {
-        Sort::Missing => {}
-        Sort::Dir | Sort::File => return Err(Refusal::Exists),
+    if *old == name {
+        return Err(Refusal::Exists);
     }
+    let target = with_name(alloc, path, &name)?;
     let source = path.copy(alloc)?;
-    root.relocate(alloc, path.elements(), parent, name, target.elements())?;
+    if !root.relocate(alloc, path.elements(), parent, name, target.elements())? {
+        return Err(Refusal::Exists);
+    }
     Ok(TreeInverse::Moved(source, target))
 }
 

@@ -10,7 +10,7 @@ ghost use Rattle.gs_tree.specs.Edits.{moved, is_dir, is_file, chunks_in, with_ch
 ghost use Rattle.gs_tree.specs.Plain.{kept};
 ghost use Rattle.gs_tree.specs.inner.Sort.{sort_of, entry_of_leaf};
 ghost use Rattle.gs_tree.specs.Inverses.{row_of, IsBlankRow};
-ghost use Rattle.gs_tree.specs.inner.Steps.{Sown};
+ghost use Rattle.gs_tree.specs.inner.Steps.{Relocates, Sown};
 ghost use Rattle.gs_tree.specs.Listing.{IsListing, HasVisible};
 ghost use Rattle.std.specs.FinMap.{is_sorted};
 ghost use Rattle.gs_path.specs.Path.{path_cmp};
@@ -177,27 +177,29 @@ impl Node {
         }
     }
 
-    /// Puts a node under a directory, in the place of what stands there.
+    /// Puts a node under a directory, in the place of what stands there, and answers that.
     pub(crate) fn graft(
         &mut self,
         parent: &[Name],
         name: Name,
         node: Node,
-    ) -> Result<(), AllocError>
+    ) -> Result<Option<Node>, AllocError>
         requires { at self.old parent.now ≡ Some Dir }
-        ensures { (q : AnyPath) → at self.new q ≡ (if is_ok result then with_at (parent.now ++ name ∷ []) (at node) (at self.old) q else at self.old q) }
+        ensures now { (q : AnyPath) → at self.new q ≡ (if is_ok result then with_at (parent.now ++ name ∷ []) (at node) (at self.old) q else at self.old q) }
+        ensures stood { IfOk result (λ stood. IsPartAt (at self.old) (parent.now ++ name ∷ []) stood) }
+        ensures found { IfOk result (λ stood. is_some stood ≡ is_some (at self.old (parent.now ++ name ∷ []))) }
     {
         let Kind::Dir(children) = &mut self.kind else {
-            return Ok(());
+            return Ok(None);
         };
         let [first, rest @ ..] = parent else {
             let reach = node.reach().saturating_add(1);
-            children.insert(name, node)?;
+            let stood = children.insert(name, node)?;
             self.reach = self.reach.max(reach);
-            return Ok(());
+            return Ok(stood);
         };
         let Some(child) = children.get_mut(first) else {
-            return Ok(());
+            return Ok(None);
         };
         let grafted = child.graft(rest, name, node);
         let reach = child.reach().saturating_add(1);
@@ -279,7 +281,7 @@ impl Node {
         }
     }
 
-    /// Moves what stands at a path to a free place under a directory.
+    /// Moves what stands at a path to a place under a directory, if nothing stands there. Answers whether it was free.
     pub(crate) fn relocate(
         &mut self,
         alloc: Global,
@@ -287,43 +289,45 @@ impl Node {
         parent: &[Name],
         name: Name,
         to: &[Name],
-    ) -> Result<(), AllocError>
+    ) -> Result<bool, AllocError>
         requires target { to.now ≡ parent.now ++ name ∷ [] }
         requires dir { at self.old parent.now ≡ Some Dir }
         requires stands { is_some (at self.old from.now) ≡ true }
         requires root { from.now ≢ [] }
         requires apart { begins from.now to.now ≡ false }
-        requires free { IsFree (at self.old) to.now }
-        ensures { (q : AnyPath) → at self.new q ≡ (if is_ok result then moved from.now to.now (at self.old) q else at self.old q) }
+        ensures { Relocates (at self.old) from.now to.now result (at self.new) }
     {
-        self.graft(parent, name, Node::new(alloc, Leaf::Dir))?;
+        let stood = self.graft(parent, name, Node::new(alloc, Leaf::Dir))?;
+        if let Some(stood) = stood {
+            self.put(to, stood);
+            return Ok(false);
+        }
         let Some(node) = self.prune(from) else {
-            return Ok(());
+            return Ok(true);
         };
         self.put(to, node);
-        Ok(())
+        Ok(true)
     }
 
-    /// Puts a leaf where nothing stands, and makes each directory above it that is missing. Answers how many paths were
-    /// made.
+    /// Puts a leaf at a path where nothing stands there, and makes each directory above it that is missing. Answers how
+    /// many paths were made.
     pub(crate) fn sow(&mut self, alloc: Global, path: &[Name], leaf: Leaf) -> Result<usize, Refusal>
-        requires nothing { at self.old path.now ≡ None }
         ensures { Sown (at self.old) path.now (entry_of_leaf leaf) result (at self.new) }
     {
         let Kind::Dir(children) = &mut self.kind else {
+            if path.is_empty() {
+                return Ok(0);
+            }
             return Err(Refusal::NotADirectory);
         };
         let [first, rest @ ..] = path else {
             return Ok(0);
         };
         if let Some(child) = children.get_mut(first) {
-            return match child.sow(alloc, rest, leaf) {
-                Ok(made) => {
-                    self.reach = self.reach.max(reach_of(path));
-                    Ok(made)
-                }
-                Err(refusal) => Err(refusal),
-            };
+            let made = child.sow(alloc, rest, leaf);
+            let reach = child.reach().saturating_add(1);
+            self.reach = self.reach.max(reach);
+            return made;
         }
         let name = first.copy(alloc)?;
         let below = row(alloc, rest, leaf)?;

@@ -6,7 +6,7 @@ ghost use Rattle.gs_tree.specs.Plain.{Same, part_at, rooted};
 ghost use Rattle.gs_tree.specs.Entry.{Dir};
 ghost use Rattle.gs_tree.specs.Edits.{mkdirs, create, rename, hide, unhide, remove, add_chunk, set_chunk, snapshot};
 ghost use Rattle.gs_tree.specs.Inverses.{TakesBack, LeavesChunks, IsMade, IsMoved, IsChanged, IsRemoved, takes_memory, removed_chunks};
-ghost use Rattle.gs_tree.specs.Follows.{Follows, Undoes};
+ghost use Rattle.gs_tree.specs.Follows.{Follows, Moves, Undoes};
 ghost use Rattle.gs_tree.specs.Listing.{HasVisible, Lists, StandsAs};
 ghost use Rattle.gs_tree.specs.Chunks.{chunks_under, rows_under, visible_chunks_under};
 ghost use Rattle.std.specs.List.{list_all};
@@ -19,7 +19,7 @@ use crate::file_chunks::{add_chunk_in, set_chunk_in};
 use crate::inverse::TreeInverse;
 use crate::listing::list_in;
 use crate::making::{create_in, mkdirs_in};
-use crate::moving::{hide_in, rename_in, unhide_in};
+use crate::moving::{hide_in, rename_in, unhide_in, with_moved};
 use crate::node::{Leaf, Listed, Node};
 use crate::removing::remove_in;
 use crate::snapshots::snapshot_in;
@@ -114,6 +114,20 @@ impl Tree {
         ensures kind { IfOk result (λ i. IsMoved i) }
     {
         rename_in(&mut self.root, self.alloc, from, to)
+    }
+
+    /// The tree in which what stands at a path is moved to another, as a rename moves it, in the place of what stands
+    /// there. It makes a move again that was made on an equal tree, and tests nothing that that has tested. BadLine where
+    /// nothing stands at the path or no directory above the other, or where one of them is the root. Where it is refused
+    /// the tree is gone.
+    pub fn with_moved(self, from: &Path, to: &Path) -> Result<Tree, Refusal>
+        ensures { Moves from.now to.now (fin_map.get self) result (λ t. fin_map.get t) }
+    {
+        let Tree { alloc, root } = self;
+        match with_moved(root, alloc, from, to) {
+            Ok(root) => Ok(Tree { alloc, root }),
+            Err(refusal) => Err(refusal),
+        }
     }
 
     /// Moves what stands at a path to its hidden name (GFS, section 4.4), with all under it.

@@ -54,10 +54,6 @@ pub(crate) fn move_back(
     if from.starts_with(to) {
         return Err(Refusal::BadLine);
     }
-    match root.sort_at(from.elements()) {
-        Sort::Missing => {}
-        Sort::Dir | Sort::File => return Err(Refusal::BadLine),
-    }
     let Some((name, parent)) = from.elements().split_last() else {
         return Err(Refusal::BadLine);
     };
@@ -66,7 +62,9 @@ pub(crate) fn move_back(
         Sort::Missing | Sort::File => return Err(Refusal::BadLine),
     }
     let name = name.copy(alloc)?;
-    root.relocate(alloc, to.elements(), parent, name, from.elements())?;
+    if !root.relocate(alloc, to.elements(), parent, name, from.elements())? {
+        return Err(Refusal::BadLine);
+    }
     Ok(())
 }
 

@@ -1,12 +1,15 @@
 -- What the steps of the edits say of one another's work: making an entry, testing a place, putting a chunk.
-use Rattle.std.specs.Prelude.{◌≡◌, ◌⊎◌, ◌<◌, ◌+◌, Result, Ok, Err, Some, ℕ, Bool, true, false, cond, is_none, length, nat_lt, slice_get, slice_set, []}
+use Rattle.std.specs.Prelude.{◌≡◌, ◌⊎◌, ◌<◌, ◌+◌, Result, Ok, Err, Option, Some, None, ℕ, zero, suc, Bool, true, false, cond, is_none, is_some, length, nat_lt, slice_get, slice_set, []}
+use Rattle.std.specs.declared.alloc.AllocError.{AllocError}
 use Rattle.gs_base.specs.declared.refusal.Refusal.{Refusal}
 use Rattle.gs_base.specs.declared.refusal.Refusal.TheVariants.{Memory, NotADirectory, BadPath, Range}
 use Rattle.gs_path.specs.Path.{Path, begins}
 use Rattle.gs_tree.specs.Entry.{Entry, Dir}
 use Rattle.gs_tree.specs.Plain.{Plain, Same, IsFree}
-use Rattle.gs_tree.specs.Inverses.{first_made}
-use Rattle.gs_tree.specs.Edits.{with_entry, with_dirs, with_chunks, chunks_in, file_above, stood, placed, parent}
+use Rattle.gs_tree.specs.Inverses.{first_made, TakesBack, IsMade, LeavesChunks}
+use Rattle.gs_tree.specs.Follows.{Follows}
+use Rattle.gs_tree.specs.declared.inverse.TreeInverse.{TreeInverse}
+use Rattle.gs_tree.specs.Edits.{with_entry, with_dirs, with_chunks, chunks_in, file_above, stood, made, placed, moved, parent}
 
 -- an entry was made where nothing stood, with the directories above it that were missing: so many paths in all
 pub record IsSown {A : Type 0} (m : Plain A) (path : Path) (e : Entry A) (made : ℕ) (left : Plain A) : Type 0 where
@@ -17,10 +20,17 @@ pub record IsSown {A : Type 0} (m : Plain A) (path : Path) (e : Entry A) (made :
   pub free : IsFree m (first_made path (stood m path))
   pub root : is_none (m []) ≡ false
 
--- what making an entry answers and leaves, where nothing stands at the path
+-- what making an entry answers and leaves: no path is made where something stands already
 abbrev pub Sown : {A : Type 0} → Plain A → Path → Entry A → Result ℕ Refusal → Plain A → Type 0
-Sown m path e (Ok made) left = IsSown m path e made left
-Sown m path e (Err f) left = (((f ≡ NotADirectory) × (file_above m path ≡ true)) ⊎ (f ≡ Memory)) × Same left m
+Sown m path e (Ok zero) left = (is_some (m path) ≡ true) × Same left m
+Sown m path e (Ok (suc made)) left = (m path ≡ None) × IsSown m path e (suc made) left
+Sown m path e (Err f) left = (((f ≡ NotADirectory) × (file_above m path ≡ true) × (m path ≡ None)) ⊎ (f ≡ Memory)) × Same left m
+
+-- something is made where nothing stands, and taken back by what is answered; where something stands that is told
+abbrev pub MakesLeaf : Plain ℕ → Path → Entry ℕ → Result (Option TreeInverse) Refusal → Plain ℕ → Type 0
+MakesLeaf m path e (Ok (Some i)) left = (m path ≡ None) × Follows (made m path e) (Ok i) m left × TakesBack i m left × IsMade i × LeavesChunks i
+MakesLeaf m path e (Ok None) left = (is_some (m path) ≡ true) × Same left m
+MakesLeaf m path e (Err f) left = ((f ≡ Memory) ⊎ ((f ≡ NotADirectory) × (file_above m path ≡ true) × (m path ≡ None))) × Same left m
 
 -- a place is free under a directory and not under the source: what is put there has only to be short enough
 pub record IsPlace (m : Plain ℕ) (from to : Path) : Type 0 where
@@ -33,6 +43,12 @@ pub record IsPlace (m : Plain ℕ) (from to : Path) : Type 0 where
 abbrev pub TestsPlace : Plain ℕ → Path → Path → Result (Unit {0}) Refusal → Type 0
 TestsPlace m from to (Ok _) = IsPlace m from to
 TestsPlace m from to (Err e) = (deep : Bool) (new : Plain ℕ) → placed deep m from to new ≡ Err e
+
+-- something is moved to a place under a directory where that is free, which is the answer
+abbrev pub Relocates : Plain ℕ → Path → Path → Result Bool AllocError → Plain ℕ → Type 0
+Relocates old from to (Ok true) new = IsFree old to × Same new (moved from to old)
+Relocates old from to (Ok false) new = (is_some (old to) ≡ true) × Same new old
+Relocates old from to (Err f) new = Same new old
 
 -- a chunk is put in the place of another, which is the answer
 abbrev pub SwapsChunk : Path → ℕ → ℕ → Plain ℕ → Result ℕ Refusal → Plain ℕ → Type 0

@@ -55,7 +55,7 @@ returns c =
           free = ap (at root) (sym (append-nil path)) ∙ free [];
           dir = ap (at root) (ap parent split ∙ parent-append par name) ∙ dir_is (at root par) c.in-Dir-sort_at.ensures.sort;
         },
-        λ q. c.in_ok-graft.ensures q ∙ ap (λ n. with_at (par ++ n ∷ []) (at c.in_ok-node.node) (at root) q) c.in_ok-name.ensures
+        λ q. c.in_ok-graft.ensures.now q ∙ ap (λ n. with_at (par ++ n ∷ []) (at c.in_ok-node.node) (at root) q) c.in_ok-name.ensures
             ∙ ap (λ n. with_at (par ++ name ∷ []) (at n) (at root) q) c.in_ok-node.ensures ∙ ap (λ p. with_at p (at (([], kind_of_entry c.args.entry.now) ∷ [])) (at root) q) (sym split)
             ∙ grafted_free (at root) path (kind_of_entry c.args.entry.now) free q,
       ),

@@ -34,7 +34,7 @@ returns-in-Ok c =
     let some = stands_is (at c.args.root.now c.args.from.now) stands in record {
       edit = λ deep test.
           let is = rename-is deep (at c.args.root.now) c.args.from.now c.args.to.now (not_empty c.args.from.now c.elements.result.now c.is_empty.result c.elements.ensures c.is_empty.ensures c.if-is_empty.false) some in
-          let step = subst (λ (t : Path). Follows (move_to deep (at c.args.root.now) c.args.from.now t) c.move_to_target.result (at c.args.root.now) (at c.move_to_target.new.root)) c.in-Ok.ensures.ok (c.move_to_target.ensures.edit deep (subst (λ (t : Path). IsDepthTest deep (at c.args.root.now) c.args.from.now t) (sym c.in-Ok.ensures.ok) test)) in
+          let step = subst (λ (t : Path). Follows (move_to deep (at c.args.root.now) c.args.from.now t) c.move_to_target.result (at c.args.root.now) (at c.move_to_target.new.root)) c.in-Ok.ensures.path (c.move_to_target.ensures.edit deep (subst (λ (t : Path). IsDepthTest deep (at c.args.root.now) c.args.from.now t) (sym c.in-Ok.ensures.path) test)) in
           subst (λ (r : Result (Plain ℕ) Refusal). Follows r c.move_to_target.result (at c.args.root.now) (at c.move_to_target.new.root)) (sym is) step;
       undo = c.move_to_target.ensures.undo;
       inverse = c.move_to_target.ensures.inverse;

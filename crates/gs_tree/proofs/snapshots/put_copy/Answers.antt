@@ -17,6 +17,6 @@ graft-requires c =
 pub returns-clause-undo : goal.returns-clause-undo
 returns-clause-undo c =
     let split = sym c.elements.ensures ∙ c.in-Some.ensures.cases.0 in
-    let now = λ (q : Path). c.in_ok-graft.ensures q ∙ ap (λ n. with_at (c.in-Some.parent.now ++ n ∷ []) (at c.args.copy) (at c.args.root.now) q) c.in_ok-name.ensures ∙ ap (λ p. with_at p (at c.args.copy) (at c.args.root.now) q) (sym split) in
+    let now = λ (q : Path). c.in_ok-graft.ensures.now q ∙ ap (λ n. with_at (c.in-Some.parent.now ++ n ∷ []) (at c.args.copy) (at c.args.root.now) q) c.in_ok-name.ensures ∙ ap (λ p. with_at p (at c.args.copy) (at c.args.root.now) q) (sym split) in
     subst (λ (s : Path). TakesBack (Copied s) (at c.args.root.now) (at c.graft.new.self)) (sym c.in_ok-target.ensures)
     (takes_copied (at c.args.root.now) (at c.graft.new.self) (at c.args.copy) c.args.to.now (λ z. append_some c.in-Some.parent.now c.in-Some.name.now (sym split ∙ z)) c.requires.free c.requires.stands now)

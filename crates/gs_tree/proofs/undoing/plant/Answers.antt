@@ -33,6 +33,6 @@ returns c =
     let split = sym c.elements-2.ensures ∙ c.in-Some.ensures.cases.0 in
     let parent_is : parent c.args.path.now ≡ c.in-Some.parent.now = ap parent split ∙ parent-append c.in-Some.parent.now c.in-Some.name.now in (
       (λ r. ap (λ p. at c.args.root.now (p ++ r)) (sym c.elements.ensures) ∙ c.in-Missing.ensures.free refl r, ap (at c.args.root.now) parent_is ∙ dir_is (at c.args.root.now c.in-Some.parent.now) c.in-Dir-sort_at.ensures.sort),
-      λ q. c.in_ok-graft.ensures q ∙ ap (λ n. with_at (c.in-Some.parent.now ++ n ∷ []) (at c.in_ok-copy.copy) (at c.args.root.now) q) c.in_ok-name.ensures
+      λ q. c.in_ok-graft.ensures.now q ∙ ap (λ n. with_at (c.in-Some.parent.now ++ n ∷ []) (at c.in_ok-copy.copy) (at c.args.root.now) q) c.in_ok-name.ensures
           ∙ ap (λ p. with_at p (at c.in_ok-copy.copy) (at c.args.root.now) q) (sym split) ∙ with_part c.args.path.now (at c.in_ok-copy.copy) (at c.args.node.now) (at c.args.root.now) c.in_ok-copy.ensures.same q,
     )
