@@ -1,12 +1,13 @@
 -- What takes an edit of the names back.
 use Rattle.std.specs.Prelude.{◌≡◌, ◌⊎◌, ◌+◌, ◌-◌, ◌==◌, ◌&&◌, not, if◌then◌else◌, ℕ, Bool, true, false, List, Option, Some, None, Result, Ok, Err, is_some, slice_get, length, nat_lt}
 use Rattle.std.specs.FinMap as fin
-use Rattle.gs_path.specs.Path.{path_cmp}
+use Rattle.gs_path.specs.Path.{Path, path_cmp}
 use Rattle.gs_base.specs.declared.refusal.Refusal.{Refusal}
 use Rattle.gs_base.specs.declared.refusal.Refusal.TheVariants.{Memory, BadLine}
 use Rattle.gs_refs.specs.Counts.{Counts, count_or_zero, IsCountOf, last_count, put_each, raised_each, lowered_each}
 use Rattle.gs_tree.specs.Plain.{Plain, Same}
-use Rattle.gs_tree.specs.Edits.{chunks_in}
+use Rattle.gs_tree.specs.Edits.{chunks_in, moved}
+use Rattle.gs_tree.specs.Follows.{CanMove}
 use Rattle.gs_tree.specs.Entry.{Entry}
 use Rattle.gs_tree.specs.Chunks.{all_chunks, chunks_under, part_chunks}
 use Rattle.gs_tree.specs.Inverses as tree
@@ -85,6 +86,11 @@ pub record NamesTakenBack (i : Inverse) (old new : NamesView) : Type 0 where
 abbrev pub Undoes : Inverse → NamesView → Result (Unit {0}) Refusal → NamesView → Type 0
 Undoes i old (Ok _) new = FitsTree i old × Same (fin.get new.tree) (tree_after i old) × (counts_after i old ≡ Some new.refs)
 Undoes i old (Err f) new = ((f ≡ Memory) ⊎ ((f ≡ BadLine) × (FitsTree i old → is_some (counts_after i old) ≡ true → ⊥))) × (new ≡ old)
+
+-- what stands at a path is moved exactly where it can be, memory aside, and each count stays
+abbrev pub MovesNames : Path → Path → NamesView → Result NamesView Refusal → Type 0
+MovesNames from to old (Ok new) = CanMove from to (fin.get old.tree) × Same (fin.get new.tree) (moved from to (fin.get old.tree)) × (new.refs ≡ old.refs)
+MovesNames from to old (Err f) = (f ≡ Memory) ⊎ ((f ≡ BadLine) × (CanMove from to (fin.get old.tree) → ⊥))
 
 abbrev pub TakesOneBack : TreeInverse → NamesView → Result (Unit {0}) Refusal → NamesView → Type 0
 TakesOneBack i old result new = Undoes (inverses.Tree i) old result new

@@ -3,7 +3,7 @@ ghost use Rattle.gs_edit.specs.Edits.{holds_chunk, has_reference};
 ghost use Rattle.std.specs.FinMap as fin_map;
 ghost use Rattle.gs_tree.specs.Edits.{chunks_in};
 ghost use Rattle.gs_edit.specs.Edits.{Applies, AppliesRows, KeepsRefs};
-ghost use Rattle.gs_edit.specs.Names.{NamesTakenBack, Undoes, TakesOneBack, last_chunk, returned, is_one, has_room, kept_of, GivesNames, takes_memory, wants_memory};
+ghost use Rattle.gs_edit.specs.Names.{NamesTakenBack, Undoes, TakesOneBack, MovesNames, last_chunk, returned, is_one, has_room, kept_of, GivesNames, takes_memory, wants_memory};
 ghost use Rattle.gs_edit.specs.View.{names_of};
 ghost use Rattle.gs_edit.specs.Listed.{kind_of, is_of_kind};
 ghost use Rattle.gs_edit.specs.declared.listed.EditKind.TheVariants as kinds;
@@ -468,6 +468,18 @@ impl Names {
                 undo_in(&mut self.tree, &mut self.refs, self.alloc, inverse)
             },
             Inverse::Remember(chunks) => self.refs.put_back_each(self.alloc, chunks),
+        }
+    }
+
+    /// The names with what stands at a path moved to another (`Tree::with_moved`): a move that was made on equal names is
+    /// made again. The counts stay as they are.
+    pub fn with_moved(self, from: &Path, to: &Path) -> Result<Names, Refusal>
+        ensures { MovesNames from.now to.now self result }
+    {
+        let Names { alloc, tree, refs } = self;
+        match tree.with_moved(from, to) {
+            Ok(tree) => Ok(Names { alloc, tree, refs }),
+            Err(refusal) => Err(refusal),
         }
     }
 

@@ -16,6 +16,9 @@ use gs_base::Refusal;
 use gs_journal::Record;
 use std::alloc::Global;
 
+/// Room for the body of a record with two short paths, so that few bodies grow while they are written.
+const BODY_BYTES: usize = 96;
+
 impl Entry {
     /// The record of the entry, for a journal of version 2. `BadLine` where the entry can't be written: a path isn't one
     /// that is read from its text, an index or a number of items has no four bytes, a detail or the whole has too many
@@ -104,7 +107,7 @@ fn put_fields(entry: &Entry, alloc: Global, out: &mut Vec<u8>) -> Result<(), Fau
 fn body_of(entry: &Entry, alloc: Global) -> Result<Vec<u8>, Fault>
     ensures { Makes (IsEntry Two (plain entry.now)) (body Two (plain entry.now)) result }
 {
-    let mut out = Vec::new(alloc);
+    let mut out = Vec::with_capacity(alloc, BODY_BYTES)?;
     put_fields(entry, alloc, &mut out)?;
     if out.len() > 4294967295 {
         return Err(Fault::Form);

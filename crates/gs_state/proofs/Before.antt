@@ -71,16 +71,6 @@ module _ {K V : Type 0} {R : K → K → Ordering} (o : IsTotalOrder R) (same : 
   pub nothing_undone : (m : fin.FinMap R V) (k : K) → set_live k (fin.get m k) m ≡ m
   nothing_undone m k = set_back m m k (λ q apart. refl)
 
-  twice : (b : Bool) (x y z : Option V) → cond b x (cond b y z) ≡ cond b x z
-  twice true x y z = refl
-  twice false x y z = refl
-
-  -- what is taken out first makes no difference
-  pub put_after_take : (m n p : fin.FinMap R V) (k : K) (v : V) → n ≡ fin.remove m k → p ≡ fin.insert n k v → p ≡ fin.insert m k v
-  put_after_take m n p k v taken put = put ∙ ap (λ x. fin.insert x k v) taken ∙ fin.same_map o same _ _ (λ q.
-      fin.get-insert o (fin.remove m k) k v q ∙ ap (cond (eq_by_cmp R q k) (Some v)) (fin.get-remove o m k q)
-      ∙ twice (eq_by_cmp R q k) (Some v) None (fin.get m q) ∙ sym (fin.get-insert o m k v q))
-
   -- what an exchange answers is put back
   pub exchanged : (m n : fin.FinMap R V) (k : K) (v : V) (before : Option V) → before ≡ fin.get m k → n ≡ fin.insert m k v → m ≡ set_live k before n
   exchanged m n k v before is put = sym (ap (λ w. set_live k w n) is ∙ ap (set_live k (fin.get m k)) put ∙ put_undone m k v)

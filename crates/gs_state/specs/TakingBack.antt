@@ -63,7 +63,7 @@ with_proposed_before chunk (Some lease) chunks = with_settled_before chunk (Some
 -- the names: what was made of them is undone without memory, or they were kept
 abbrev pub AreNamesBefore : NamesBefore → NamesView → NamesView → Type 0
 AreNamesBefore (Undone inverse) before after = NamesTakenBack inverse before after × (takes_memory inverse ≡ false)
-AreNamesBefore (Kept stood) before after = (before ≡ stood.names) × IsLedBy stood.edit stood.names after
+AreNamesBefore (Kept stood) before after = (before ≡ stood.names) × IsLedBy stood.following stood.names after
 
 -- an edit that can be taken back without memory is made in place, and any other on a copy
 abbrev pub is_made_in_place : PlainEdit → Bool

@@ -13,11 +13,11 @@ ghost use Rattle.gs_state.specs.TakingBack.{AreNamesBefore, is_made_in_place, is
 ghost use Rattle.gs_state.specs.Trying.{refusal_of};
 ghost use Rattle.gs_state.specs.Undoing.{edited_names};
 
-use crate::undo::{NamesBefore, StoodNames};
+use crate::undo::{Following, NamesBefore, StoodNames};
 use gs_base::{Moment, Refusal};
 use gs_edit::{Edit, Inverse, Names, Scan};
 use gs_refs::Refs;
-use gs_tree::Tree;
+use gs_tree::{Tree, TreeInverse};
 use std::alloc::{AllocError, Global};
 use std::marker::Model;
 use std::mem;
@@ -38,23 +38,39 @@ fn is_made_in_place(edit: &Edit) -> bool
     }
 }
 
-/// An edit that was made on a copy, in memory of its own. Of chunks that are forgotten there is none.
-fn copied(alloc: Global, edit: &Edit) -> Result<Option<Edit>, AllocError>
+/// An edit that was made on a copy and isn't a move, in memory of its own. Of chunks that are forgotten there is none.
+fn copied(alloc: Global, edit: &Edit) -> Result<Following, AllocError>
     ensures { IfOk result (λ copy. (before after : NamesView) → edited_names (plain_edit edit.now) before ≡ Ok after → IsLedBy copy before after) }
 {
     let copy = match edit {
-        Edit::Rename(from, to) => Edit::Rename(from.copy(alloc)?, to.copy(alloc)?),
-        Edit::Hide(path, moment, number) => Edit::Hide(path.copy(alloc)?, *moment, *number),
-        Edit::Unhide(path) => Edit::Unhide(path.copy(alloc)?),
         Edit::Remove(path) => Edit::Remove(path.copy(alloc)?),
         Edit::Snapshot(from, to) => Edit::Snapshot(from.copy(alloc)?, to.copy(alloc)?),
         Edit::Mkdirs(_)
         | Edit::Create(_)
+        | Edit::Rename(_, _)
+        | Edit::Hide(_, _, _)
+        | Edit::Unhide(_)
         | Edit::AddChunk(_, _)
         | Edit::Cow(_, _, _, _)
-        | Edit::Forget(_) => return Ok(None),
+        | Edit::Forget(_) => return Ok(Following::Never),
     };
-    Ok(Some(copy))
+    Ok(Following::Edit(copy))
+}
+
+/// How names follow an edit: by its copy, or, where that is a move, by the move alone.
+fn following(copy: Following, inverse: Inverse) -> Following
+    ensures { (before after : NamesView) → IsLedBy copy before after → NamesTakenBack inverse before after → IsLedBy result before after }
+{
+    let Following::Never = copy else {
+        return copy;
+    };
+    let Inverse::Tree(inverse) = inverse else {
+        return Following::Never;
+    };
+    let TreeInverse::Moved(from, to) = inverse else {
+        return Following::Never;
+    };
+    Following::Move(from, to)
 }
 
 /// The same edit on what stands by. Where memory is wanting nothing stands by any more.
@@ -65,6 +81,20 @@ fn followed(spare: Option<Names>, edit: &Edit) -> Option<Names>
     match made(&mut spare, edit) {
         Ok(()) => Some(spare),
         Err(_) => None,
+    }
+}
+
+/// Names on which an edit is made that was made on equal ones. Where memory is wanting for it none come back.
+fn led(names: Names, following: &Following) -> Option<Names>
+    ensures { (after : NamesView) → IsLedBy following.now names after → StandsBy result after }
+{
+    match following {
+        Following::Never => None,
+        Following::Edit(edit) => followed(Some(names), edit),
+        Following::Move(from, to) => match names.with_moved(from, to) {
+            Ok(names) => Some(names),
+            Err(_) => None,
+        },
     }
 }
 
@@ -240,15 +270,15 @@ impl HeldNames {
     }
 
     /// Names to which an edit has led take the place of those that stood. Nothing stands by then.
-    fn exchange(&mut self, names: Names, edit: Option<Edit>) -> NamesBefore
+    fn exchange(&mut self, names: Names, following: Following) -> NamesBefore
         ensures now { self.new ≡ names }
-        ensures back { IsLedBy edit self.old names → AreNamesBefore result self.old names }
+        ensures back { IsLedBy following self.old names → AreNamesBefore result self.old names }
         ensures place { is_undone result ≡ false }
     {
         self.spare = None;
         NamesBefore::Kept(StoodNames {
             names: mem::replace(&mut self.names, names),
-            edit,
+            following,
         })
     }
 
@@ -260,8 +290,8 @@ impl HeldNames {
     {
         let copy = copied(self.alloc, edit)?;
         let mut spare = self.take_spare()?;
-        match made(&mut spare, edit) {
-            Ok(()) => Ok(self.exchange(spare, copy)),
+        match spare.apply(edit) {
+            Ok(inverse) => Ok(self.exchange(spare, following(copy, inverse))),
             Err(refusal) => {
                 self.spare = Some(spare);
                 Err(refusal)
@@ -303,11 +333,8 @@ impl HeldNames {
         let NamesBefore::Kept(stood) = before else {
             return;
         };
-        let StoodNames { names, edit } = stood;
-        let Some(edit) = edit else {
-            return;
-        };
-        self.spare = followed(Some(names), &edit);
+        let StoodNames { names, following } = stood;
+        self.spare = led(names, &following);
     }
 
     /// Why the names refuse an edit, if they do. They stay as they are.

@@ -10,6 +10,7 @@ use gs_base::{ClientId, Handle};
 use gs_edit::{Edit, Inverse, ListedInverse, Names};
 use gs_lease::Lease;
 use gs_lease_table::LeaseTable;
+use gs_path::Path;
 use gs_record::Phase;
 use gs_table::{Key, Table};
 
@@ -37,11 +38,22 @@ pub struct ChunkBefore {
     pub prepared: Option<Prepared>,
 }
 
-/// Names as they stood, and the edit that was made since, where they can follow it.
+/// How names follow an edit that was made on equal ones.
+#[derive(Drop)]
+pub enum Following {
+    /// They don't.
+    Never,
+    /// The edit is made on them.
+    Edit(Edit),
+    /// What stands at the first path is moved to the second.
+    Move(Path, Path),
+}
+
+/// Names as they stood, and how they follow the edit that was made since.
 #[derive(Drop)]
 pub struct StoodNames {
     pub names: Names,
-    pub edit: Option<Edit>,
+    pub following: Following,
 }
 
 /// How the names of before are come by.
@@ -111,7 +123,5 @@ pub fn exchange<K: Key + Drop, V: Drop>(table: &mut Table<K, V>, key: K, value: 
     ensures put { live K.cmp table.new ≡ fin.insert (live K.cmp table.old) key value }
     ensures keeps { KeepsRoom K.cmp table.old table.new }
 {
-    let before = table.take(key);
-    table.put(key, value);
-    before
+    table.replace(key, value)
 }

@@ -1,6 +1,7 @@
-use Rattle.gs_state.proofs.Holding.{stood_before}
+use Rattle.gs_state.proofs.Holding.{copy_led, stood_before}
 use Rattle.gs_state.proofs.held_names.HeldNames.enter_on_copy.Goals as goal
 
 pub returns-in-Ok-clause-back : goal.returns-in-Ok-clause-back
-returns-in-Ok-clause-back c = stood_before c.exchange.result c.in_ok-copy.copy c.args.edit.now c.args.self.now c.take_spare.new.self c.in_ok-spare.spare c.made.new.names c.exchange.new.self
-    c.in_ok-copy.ensures c.in_ok-spare.ensures.spare c.take_spare.ensures.stays c.in-Ok.ensures c.exchange.ensures.back c.exchange.ensures.now
+returns-in-Ok-clause-back c =
+    let led = copy_led c.following.result c.in_ok-copy.copy c.in-Ok.inverse c.args.edit.now c.args.self.now c.in_ok-spare.spare c.apply.new.self c.in_ok-copy.ensures c.following.ensures c.in_ok-spare.ensures.spare c.in-Ok.ensures.edit c.in-Ok.ensures.undo in
+    stood_before c.exchange.result c.following.result c.args.self.now c.take_spare.new.self c.apply.new.self c.exchange.new.self led c.take_spare.ensures.stays c.exchange.ensures.back c.exchange.ensures.now
