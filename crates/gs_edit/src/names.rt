@@ -472,7 +472,8 @@ impl Names {
     }
 
     /// The names with what stands at a path moved to another (`Tree::with_moved`): a move that was made on equal names is
-    /// made again. The counts stay as they are.
+    /// made again. The counts stay as they are, so nothing may stand at the other path that has chunks. BadLine as there;
+    /// where it is refused the names are gone.
     pub fn with_moved(self, from: &Path, to: &Path) -> Result<Names, Refusal>
         ensures { MovesNames from.now to.now self result }
     {

@@ -174,8 +174,9 @@ fn undo(names: &mut Names, inverse: &Inverse)
 
 /// The names, and perhaps a copy of them that stands by. They are seen as the names alone.
 ///
-/// The first edit that can't be taken back in place copies the names. From then on each edit is made on both, so a further
-/// one costs its path and not the names. Where memory is wanting for the copy it goes, and a later edit copies the names again.
+/// The first edit that can't be taken back in place copies the names. From then on each edit is made on both, a move the
+/// second time without its tests, so a further one costs its path and not the names. Where memory is wanting for the copy
+/// it goes, and a later edit copies the names again.
 pub struct HeldNames {
     alloc: Global,
     names: Names,

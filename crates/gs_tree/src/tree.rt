@@ -116,10 +116,10 @@ impl Tree {
         rename_in(&mut self.root, self.alloc, from, to)
     }
 
-    /// The tree in which what stands at a path is moved to another, as a rename moves it, in the place of what stands
-    /// there. It makes a move again that was made on an equal tree, and tests nothing that that has tested. BadLine where
-    /// nothing stands at the path or no directory above the other, or where one of them is the root. Where it is refused
-    /// the tree is gone.
+    /// The tree in which what stands at a path is moved to another, in the place of what stands there. It is for a move
+    /// that was made on an equal tree, and tests nothing that that has tested. BadLine where nothing stands at the path,
+    /// where no directory is above the other that isn't moved itself, or where one of them is the root. Where it is
+    /// refused the tree is gone.
     pub fn with_moved(self, from: &Path, to: &Path) -> Result<Tree, Refusal>
         ensures { Moves from.now to.now (fin_map.get self) result (λ t. fin_map.get t) }
     {
