@@ -63,7 +63,7 @@ hidden_parts name = if is_hidden name then parts_behind (drop (length hidden_mar
 abbrev pub is_stored : Name → Bool
 is_stored name = if is_hidden name then is_some (hidden_parts name) else is_element name
 
--- the same without a slash, which no such element has: so much is seen at once
+-- stored, and without a slash; a stored element never has one, and it is tested so that no proof of that is needed
 abbrev pub is_whole : Name → Bool
 is_whole name = is_stored name && not (list_any (λ b. b == 47) name)
 

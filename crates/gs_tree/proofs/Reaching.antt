@@ -137,26 +137,10 @@ node_row children p e n ordered rooted is long = record { level = ordered; roote
       ] refl h
     ] refl some
 
--- a node in which nothing has changed
-pub node_same : {m : Rows ℕ} {old new : BTreeMap Name (Rows ℕ)} {x : Name} {w : Option (Rows ℕ)} (k : Kind) (n : ℕ) → Updates m old new x w → rows_of k ≡ m → IsNode n k → k ≡ kinds.Dir old → ((child : Rows ℕ) → w ≡ Some child → is_some (at child []) ≡ true) → ((q : Path) → at (rows_of (kinds.Dir new)) q ≡ at m q) → IsNode n (kinds.Dir new)
-node_same {m = m} {new = new} {w = w} k n u view node dir stands is = record {
-  level = u.ordered;
-  rooted = rooted_updated w u (subst IsRooted dir node.rooted) stands;
-  reaches = reaches_less (at m) (at (rows_of (kinds.Dir new))) n (λ q some. ap is_some (sym (is q)) ∙ some) (reaches_seen k n view node.reaches);
-}
-
--- what is made in a row, or in a node, stands at its root
+-- what is made in a row stands at its root
 pub row_stands : (below : Rows ℕ) (p : Path) (e : Entry ℕ) → ((q : Path) → at below q ≡ row_of p e q) → is_some (at below []) ≡ true
 row_stands below [] e is = ap is_some (is [])
 row_stands below (x ∷ p) e is = ap is_some (is [])
-
-pub leafed_stands : (child : Rows ℕ) (p : Path) (e : Entry ℕ) (f : Plain ℕ) → is_some (f []) ≡ true → ((q : Path) → at child q ≡ leafed p e f q) → is_some (at child []) ≡ true
-leafed_stands child [] e f some is = ap is_some (is [])
-leafed_stands child (x ∷ p) e f some is = ap is_some (is []) ∙ made (f []) some
-  where
-    made : (v : Option (Entry ℕ)) → is_some v ≡ true → is_some (cond (is_none v) (Some Dir) v) ≡ true
-    made None h = refl
-    made (Some a) h = refl
 
 -- a node of one child
 pub rooted_one : (old new : BTreeMap Name (Rows ℕ)) (x : Name) (below : Rows ℕ) → old.entries ≡ [] → ((n : Name) → lookup (is_at (name_cmp n)) new.entries ≡ cond (same_name x n) (Some below) (lookup (is_at (name_cmp n)) old.entries)) → is_some (at below []) ≡ true → IsRooted (kinds.Dir new)

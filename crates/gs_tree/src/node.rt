@@ -6,7 +6,7 @@ ghost use Rattle.gs_path.specs.Path.{Path as AnyPath, begins, same_name, name_cm
 ghost use Rattle.gs_tree.specs.Entry.{Dir, File, chunks_of};
 ghost use Rattle.gs_tree.specs.Plain.{with_at, without, IsFree, Same};
 ghost use Rattle.gs_tree.specs.Find.{at, IsPartAt, DirsAbove, IsBelow};
-ghost use Rattle.gs_tree.specs.Edits.{moved, is_dir, is_file, chunks_in, with_chunks, visible};
+ghost use Rattle.gs_tree.specs.Edits.{is_dir, is_file, chunks_in, with_chunks, visible};
 ghost use Rattle.gs_tree.specs.Plain.{kept};
 ghost use Rattle.gs_tree.specs.inner.Sort.{sort_of, entry_of_leaf};
 ghost use Rattle.gs_tree.specs.Inverses.{row_of, IsBlankRow};
