@@ -1,5 +1,5 @@
 -- How records are read off a disk's bytes.
-use Rattle.std.proofs.Common.{◌≡◌, ◌≢◌, ℕ, zero, suc, ◌+◌, ◌^◌, ◌<◌, ◌≤◌, ⊎_elim, true, List, [], ◌∷◌, ◌++◌, length, take, drop, slice_index, refl, sym, ◌∙◌, ap, arith, length-append, length-take, length-drop, take-append-drop}
+use Rattle.std.proofs.Common.{◌≡◌, ◌≢◌, ℕ, zero, suc, ◌+◌, ◌-◌, ◌^◌, ◌<◌, ◌≤◌, ⊎_elim, true, List, [], ◌∷◌, ◌++◌, length, take, drop, slice_index, refl, sym, ◌∙◌, ap, arith, length-append, length-take, length-drop, take-append-drop, subst}
 use Rattle.std.proofs.lemmas.Bool.{cases_eq, cases_lt, cond-true}
 use Rattle.std.proofs.lemmas.Bool.Decides.{nat_tests}
 use Rattle.std.proofs.lemmas.List.{take_at, drop_at, take_all, length-take-le, drop-append-le, get_or_append_left}
@@ -58,6 +58,33 @@ frame_is r fits =
     let size : length (frame r) ≡ 5 + body_length (frame r) = omega (arith, four, says, length-append (big_bytes 4 (length r.1)) (r.0 ∷ r.1)) in
     let body : take (body_length (frame r)) r.1 ≡ r.1 = take_all (body_length (frame r)) r.1 (omega (arith, says)) in
     (record { size = size }, λ i. (r.0, body i))
+
+-- a head in the place of five bytes
+put_head : (put old slice head : List ℕ) (kind n : ℕ) → put ≡ head ++ drop (length head) slice → slice ≡ old → head ≡ big_bytes 4 (n - 5) ++ kind ∷ [] → n ≡ length old
+    → put ≡ frame (kind, drop 5 old)
+put_head put old slice head kind n is same says size =
+    is
+    ∙ ap (λ (z : List ℕ). z ++ drop (length z) slice) says
+    ∙ ap (λ (z : List ℕ). big_bytes 4 (n - 5) ++ kind ∷ drop 5 z) same
+    ∙ ap (λ (k : ℕ). big_bytes 4 k ++ kind ∷ drop 5 old) (ap (λ (k : ℕ). k - 5) size ∙ sym (length-drop 5 old))
+
+-- and a closed gate behind it
+pub headed : (made put old slice head : List ℕ) (kind n len : ℕ) → made ≡ take len (put ++ drop (length put) old) ++ 0 ∷ [] → put ≡ head ++ drop (length head) slice → slice ≡ old
+    → head ≡ big_bytes 4 (n - 5) ++ kind ∷ [] → n ≡ length old → len ≡ length old → 5 ≤ length old → made ≡ frame (kind, drop 5 old) ++ 0 ∷ []
+headed made put old slice head kind n len pushed is same says size whole long =
+    let at : put ≡ frame (kind, drop 5 old) = put_head put old slice head kind n is same says size in
+    let four : length (big_bytes 4 (length (drop 5 old))) ≡ 4 = length-bytes_high_first 4 (length (drop 5 old)) in
+    let all : length put ≡ len =
+    omega (arith, ap length at, four, length-append (big_bytes 4 (length (drop 5 old))) (kind ∷ drop 5 old), length-drop 5 old, whole, long) in
+    pushed ∙ ap (λ (z : List ℕ). z ++ 0 ∷ []) (take_at put (drop (length put) old) len all ∙ at)
+
+-- a body behind a head, once its length, its kind and a closed gate are put
+pub framed : (bytes old : List ℕ) (kind : ℕ) → length (drop 5 old) < 2 ^ 32 → bytes ≡ frame (kind, drop 5 old) ++ 0 ∷ []
+    → (entry_of bytes ≡ (kind, drop 5 old)) × ((bytes ≡ frame (entry_of bytes) ++ 0 ∷ []) × (length (entry_of bytes).1 < 2 ^ 32))
+framed bytes old kind fits is =
+    let whole = frame_is (kind, drop 5 old) fits in
+    let entry : entry_of bytes ≡ (kind, drop 5 old) = ap entry_of is ∙ same_entry (frame (kind, drop 5 old)) (0 ∷ []) whole.0 ∙ whole.1 in
+    (entry, (is ∙ ap (λ r. frame r ++ 0 ∷ []) (sym entry), subst (λ (r : Entry). length r.1 < 2 ^ 32) (sym entry) fits))
 
 -- the front of what is whole
 pub whole_front : (bytes : List ℕ) → 5 + body_length bytes ≤ length bytes → IsFrame (take (5 + body_length bytes) bytes) × (entry_of (take (5 + body_length bytes) bytes) ≡ entry_of bytes)

@@ -24,5 +24,5 @@ pub use form::is_of_form;
 pub use gs_disk::Disk;
 pub use journal::{Journal, Unopened};
 pub use memory::MemoryDisk;
-pub use record::Record;
+pub use record::{HEAD_BYTES, Record};
 pub use version::Version;

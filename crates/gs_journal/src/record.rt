@@ -1,11 +1,14 @@
 // A record.
-ghost use Rattle.std.specs.Prelude.{◌≡◌, ◌<◌, ◌^◌, ◌+◌, length, IfOk, IfErr};
+ghost use Rattle.std.specs.Prelude.{◌≡◌, ◌<◌, ◌≤◌, ◌^◌, ◌+◌, ◌++◌, length, drop, IfOk, IfErr};
 ghost use Rattle.gs_base.specs.declared.refusal.Refusal.TheVariants.{Memory};
 
 use byteorder::{BigEndian, ByteOrder};
 use gs_base::Refusal;
 use std::alloc::Global;
 use std::marker::Model;
+
+/// How many bytes of a record's frame stand before its body: four of its length, and its kind.
+pub const HEAD_BYTES: usize = 5;
 
 /// A record: a kind and a body of fewer than 4,294,967,296 bytes. It holds the bytes that `append` writes.
 #[derive(Debug)]
@@ -30,6 +33,14 @@ impl Model for Record {
     ghost invariant = { λ r. (r.bytes.items ≡ frame (entry_of r.bytes.items) ++ 0 ∷ []) × (length (entry_of r.bytes.items).1 < 2 ^ 32) };
 }
 
+/// Puts bytes in the place of as many at the front.
+fn put_front(bytes: &mut [u8], front: &[u8])
+    requires { length front.now ≤ length bytes.old }
+    ensures { bytes.new ≡ front.now ++ drop (length front.now) bytes.old }
+{
+    bytes[..front.len()].copy_from_slice(front);
+}
+
 impl Record {
     ghost use Rattle.gs_journal.specs.Records.{frame};
     ghost use Rattle.std.specs.Prelude.{◌++◌, [], ◌∷◌, take, drop, slice_index};
@@ -45,6 +56,22 @@ impl Record {
         let mut bytes = Vec::with_capacity(alloc, body.len() + 6)?;
         bytes.extend_from_slice(&head)?;
         bytes.extend_from_slice(body)?;
+        bytes.push(0)?;
+        Ok(Record { bytes })
+    }
+
+    /// A record of this kind whose body stands in `bytes` behind `HEAD_BYTES` bytes. These hold whatever they do, and its
+    /// length and kind are put in their place, so that a body which is written behind them isn't copied. It refuses `Memory`
+    /// alone.
+    pub fn behind_head(kind: u8, mut bytes: Vec<u8>) -> Result<Record, Refusal>
+        requires head { 5 ≤ length bytes.items }
+        requires size { length (drop 5 bytes.items) < 2 ^ 32 }
+        ensures made { IfOk result (λ r. r ≡ (kind, drop 5 bytes.items)) }
+        ensures refused { IfErr result (λ e. e ≡ Memory) }
+    {
+        let mut head = [0, 0, 0, 0, kind];
+        BigEndian::write_u32(&mut head, (bytes.len() - HEAD_BYTES) as u32);
+        put_front(&mut bytes, &head);
         bytes.push(0)?;
         Ok(Record { bytes })
     }

@@ -1,9 +1,9 @@
 -- Which paths are read from their own texts.
-use Rattle.std.proofs.Common.{◌≡◌, ℕ, ◌&&◌, ◌||◌, ◌++◌, ◌∷◌, [], Bool, true, false, cond, not, List, length, eqb, nat_le, Ok, Err, refl, sym, ap, ◌∙◌, subst, append-nil}
+use Rattle.std.proofs.Common.{◌≡◌, ℕ, ◌&&◌, ◌||◌, ◌++◌, ◌∷◌, [], Bool, true, false, bytes_eq, codes, cond, is_some, nat_lt, not, List, length, eqb, nat_le, Ok, Err, refl, sym, ap, ◌∙◌, subst, append-nil}
 use Rattle.std.proofs.lemmas.Bool.{and_parts, false≢true}
 use Rattle.std.specs.List.{slice_split, onto_first, list_all, list_any}
 use Rattle.gs_base.specs.declared.refusal.Refusal.TheVariants.{BadPath}
-use Rattle.gs_path.specs.Element.{is_stored, is_whole}
+use Rattle.gs_path.specs.Element.{hidden_parts, is_element, is_hidden, is_plain_byte, is_stored, is_whole}
 use Rattle.gs_path.specs.Path.{Name, Path, behind_slashes, path_text}
 use Rattle.gs_path.specs.Rules.{elements_of, judged, parse_hidden}
 
@@ -73,6 +73,40 @@ whole_parts (x ∷ p) all =
     let one = and_parts (is_stored x) (is_uncut x) here.0 in
     let rest = whole_parts p here.1 in
     (both (is_stored x) (list_all is_stored p) one.0 rest.0, both (is_uncut x) (list_all is_uncut p) one.1 rest.1)
+
+-- an element holds no slash
+plain_is_none : (b : ℕ) → is_plain_byte b ≡ true → slash b ≡ false
+plain_is_none b is =
+    let rest = and_parts (nat_le 32 b) (not (slash b) && not (eqb b 58)) is in
+    not_true (slash b) (and_parts (not (slash b)) (not (eqb b 58)) rest.1).0
+
+no_slash : (x : Name) → list_all is_plain_byte x ≡ true → list_any slash x ≡ false
+no_slash [] all = refl
+no_slash (b ∷ x) all =
+    let parts = and_parts (is_plain_byte b) (list_all is_plain_byte x) all in
+    ap (λ y. y || list_any slash x) (plain_is_none b parts.0) ∙ no_slash x parts.1
+
+all_plain : (a b c d e : Bool) → (a && (b && (c && (d && e)))) ≡ true → e ≡ true
+all_plain a b c d e is =
+    let one = and_parts a (b && (c && (d && e))) is in
+    let two = and_parts b (c && (d && e)) one.1 in
+    let three = and_parts c (d && e) two.1 in
+    (and_parts d e three.1).1
+
+element_is_uncut : (x : Name) → is_element x ≡ true → is_uncut x ≡ true
+element_is_uncut x is =
+    let dot = not (bytes_eq x (codes ".")) in
+    let dots = not (bytes_eq x (codes "..")) in
+    ap not (no_slash x (all_plain (nat_lt 0 (length x)) (nat_le (length x) 200) dot dots (list_all is_plain_byte x) is))
+
+by_element : (x : Name) (b : Bool) → is_element x ≡ b → (b && is_uncut x) ≡ b
+by_element x true is = element_is_uncut x is
+by_element x false is = refl
+
+-- so an element that isn't hidden is whole where it is an element
+pub visible_whole : (x : Name) → is_hidden x ≡ false → is_whole x ≡ is_element x
+visible_whole x visible =
+    ap (λ b. cond b (is_some (hidden_parts x)) (is_element x) && is_uncut x) visible ∙ by_element x (is_element x) refl
 
 -- ---- both ways
 
