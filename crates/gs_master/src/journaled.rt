@@ -18,6 +18,7 @@ use gs_plan::posting::reply_to;
 use gs_state::fault::Fault;
 use gs_state::log::Log;
 use std::alloc::{AllocError, Global};
+use std::mem;
 
 /// Appends records to a journal, in order, until a disk fails. It answers how many were appended.
 pub(crate) fn append_all<D: Disk>(journal: &mut Journal<D>, records: &[Record]) -> usize
@@ -59,6 +60,29 @@ fn unsure(alloc: Global, caller: Option<ReqId>) -> Result<Vec<Message>, AllocErr
     }
 }
 
+/// Memory of its own for what is told where a disk fails, unless what is to be sent has room for that in its place.
+fn spare_for(alloc: Global, sent: &Vec<Message>, caller: Option<ReqId>) -> Result<Vec<Message>, AllocError>
+{
+    if sent.capacity() > 0 {
+        return Ok(Vec::new(alloc));
+    }
+    unsure(alloc, caller)
+}
+
+/// What is told where a disk fails, in the place of what was to be sent, or in memory of its own.
+fn told_unsure(sent: Vec<Message>, spare: Vec<Message>, caller: Option<ReqId>) -> Vec<Message>
+{
+    let mut sent = sent;
+    if sent.capacity() == 0 {
+        return spare;
+    }
+    sent.clear();
+    if let Some(req) = caller {
+        sent.push_reserved(reply_to(req, Err(Refusal::Unsure)));
+    }
+    sent
+}
+
 /// Who has called, if a message is a call.
 pub(crate) fn caller_of(said: &Body) -> Option<ReqId>
     ensures { result ≡ caller_of said.now }
@@ -98,7 +122,7 @@ impl Event {
         place: usize,
         first: Log,
         caller: Option<ReqId>,
-        sent: Vec<Message>,
+        spare: Vec<Message>,
     )
         requires room { RoomForAll self.old.recorded self.old.undos.items }
         requires within { place < length self.old.entries.items }
@@ -116,7 +140,8 @@ impl Event {
         self.fault = Fault::Failed(Some(doubt));
         self.entries.clear();
         self.written.clear();
-        self.sent = sent;
+        let sent = mem::replace(&mut self.sent, Vec::new(self.alloc));
+        self.sent = told_unsure(sent, spare, caller);
         self.said = Some(cut_refusal(caller));
     }
 
@@ -139,10 +164,10 @@ impl Event {
         ensures counted { self.old.log.records ≤ self.old.log.size → OnOk result (self.new.log.records ≤ self.new.log.size) }
         ensures still { self.old.written.items ≡ [] → journal.new ≡ journal.old }
     {
-        let sent = unsure(self.alloc, caller)?;
+        let spare = spare_for(self.alloc, &self.sent, caller)?;
         let many = append_all(journal, &self.written);
         if many < self.written.len() {
-            self.cut(many, first, caller, sent);
+            self.cut(many, first, caller, spare);
         } else {
             self.accept();
         }

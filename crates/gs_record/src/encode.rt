@@ -13,11 +13,11 @@ use crate::field::Field;
 use crate::lists::put_answered;
 use crate::state::put_checkpoint;
 use gs_base::Refusal;
-use gs_journal::Record;
+use gs_journal::{HEAD_BYTES, Record};
 use std::alloc::Global;
 
-/// Room for the body of a record with two short paths, so that few bodies grow while they are written.
-const BODY_BYTES: usize = 96;
+/// Room for a record with two short paths, so that few records grow while they are written.
+const RECORD_BYTES: usize = 96;
 
 impl Entry {
     /// The record of the entry, for a journal of version 2. `BadLine` where the entry can't be written: a path isn't one
@@ -27,8 +27,7 @@ impl Entry {
         ensures written { IfOk result (λ r. IsEntry Two (plain self.now) × (r ≡ encoded Two (plain self.now))) }
         ensures refused { IfErr result (λ e. (e ≡ Memory) ⊎ ((e ≡ BadLine) × ¬ IsEntry Two (plain self.now))) }
     {
-        let body = body_of(self, alloc)?;
-        Record::new(alloc, kind_of(self), &body)
+        Record::behind_head(kind_of(self), headed_body(self, alloc)?)
     }
 }
 
@@ -103,13 +102,14 @@ fn put_fields(entry: &Entry, alloc: Global, out: &mut Vec<u8>) -> Result<(), Fau
     }
 }
 
-/// The body of the record.
-fn body_of(entry: &Entry, alloc: Global) -> Result<Vec<u8>, Fault>
-    ensures { Makes (IsEntry Two (plain entry.now)) (body Two (plain entry.now)) result }
+/// The body of the record, behind room for the head of its frame.
+fn headed_body(entry: &Entry, alloc: Global) -> Result<Vec<u8>, Fault>
+    ensures { Makes (IsEntry Two (plain entry.now)) (replicate 5 0 ++ body Two (plain entry.now)) result }
 {
-    let mut out = Vec::with_capacity(alloc, BODY_BYTES)?;
+    let mut out = Vec::with_capacity(alloc, RECORD_BYTES)?;
+    out.extend_from_slice(&[0; HEAD_BYTES])?;
     put_fields(entry, alloc, &mut out)?;
-    if out.len() > 4294967295 {
+    if out.len() - HEAD_BYTES > 4294967295 {
         return Err(Fault::Form);
     }
     Ok(out)

@@ -207,12 +207,14 @@ impl Field for Path {
         }
     }
 
-    fn put(&self, alloc: Global, out: &mut Vec<u8>) -> Result<(), Fault> {
-        if !self.is_readable() {
+    fn put(&self, _alloc: Global, out: &mut Vec<u8>) -> Result<(), Fault> {
+        let len = self.text_len();
+        if len > 65535 || !self.is_readable() {
             return Err(Fault::Form);
         }
-        let text = self.text(alloc)?;
-        put_text(out, &text)
+        out.extend_from_slice(&(len as u16).to_be_bytes())?;
+        self.put_text(out)?;
+        Ok(())
     }
 }
 
