@@ -9,7 +9,7 @@ use gs_command::configured;
 use gs_desk::Desk;
 use gs_journal::MemoryDisk;
 use gs_line::{Line, next_line};
-use gs_script::{RunFault, write_answer, write_line};
+use gs_script::{RunFault, flush, write_answer, write_line};
 use gs_world::MasterPlace;
 use std::alloc::{AllocError, Global};
 use std::io::{self, BufRead, BufReader, BufWriter, Write};
@@ -36,7 +36,7 @@ fn write_trace<W: Write>(
     Ok(())
 }
 
-/// Answers the next line, with its messages behind it. Says whether there was one.
+/// Answers the next line, with its messages behind it, and flushes both. Says whether there was one.
 fn turn<R: BufRead, W: Write>(
     alloc: Global,
     desk: &mut Desk<MemoryDisk>,
@@ -44,15 +44,16 @@ fn turn<R: BufRead, W: Write>(
     reader: &mut R,
     writer: &mut W,
 ) -> Result<bool, RunFault> {
-    match next_line(alloc, reader) {
-        Err(_) => Err(RunFault::Read),
-        Ok(Line::End) => Ok(false),
-        Ok(line) => {
-            write_answer(alloc, desk, writer, &line)?;
-            write_trace(alloc, desk, number, writer)?;
-            Ok(true)
-        }
+    let Ok(next) = next_line(alloc, reader) else {
+        return Err(RunFault::Read);
+    };
+    if matches!(next.line, Line::End) {
+        return Ok(false);
     }
+    write_answer(alloc, desk, writer, &next.line)?;
+    write_trace(alloc, desk, number, writer)?;
+    flush(writer)?;
+    Ok(true)
 }
 
 /// Answers each line of the reader, with its messages behind it.
@@ -102,7 +103,8 @@ fn run<R: BufRead, W: Write>(
 ) -> Result<(), RunFault> {
     answer_all(alloc, desk, reader, writer)?;
     let master = mem::replace(&mut desk.wire.world.master, MasterPlace::Away);
-    tell_disks(alloc, master, writer)
+    tell_disks(alloc, master, writer)?;
+    flush(writer)
 }
 
 /// A disk in memory with nothing on it.

@@ -1,5 +1,6 @@
 -- What a line is, as far as it is read and whole.
-use Rattle.std.specs.Prelude.{◌≡◌, ◌≢◌, ◌+◌, ◌<◌, ◌≤◌, ◌++◌, ◌∷◌, ℕ, Bool, true, Option, OnSome, All, List, [], length, codes, if◌then◌else◌, refl}
+use Rattle.std.specs.Prelude.{◌≡◌, ◌≢◌, ◌+◌, ◌<◌, ◌≤◌, ◌++◌, ◌∷◌, ◌==◌, ℕ, Bool, true, false, Option, OnSome, All, List, [], length, codes, if◌then◌else◌, refl}
+use Rattle.std.specs.List.{list_any}
 use Rattle.std.specs.Io.{StopsAt, IsEmptyOrEndsWith}
 use Rattle.std.specs.Io.BufRead.{ends_with_byte, strip_last}
 use Rattle.std.specs.Io.KnownBytes.{Consumes, IsAtEnd}
@@ -30,6 +31,16 @@ content-return = refl
 
 content-empty : content (10 ∷ []) ≡ []
 content-empty = refl
+
+-- a line ends within some bytes
+abbrev pub HasLineEnd : List ℕ → Type 0
+HasLineEnd xs = list_any (λ x. x == 10) xs ≡ true
+
+line-end-within : HasLineEnd (codes "ls /" ++ 10 ∷ codes "ls")
+line-end-within = refl
+
+no-line-end-within : list_any (λ x. x == 10) (codes "ls /" ++ 13 ∷ []) ≡ false
+no-line-end-within = refl
 
 -- what stands next, of the bytes up to and with the line's end
 abbrev pub IsLine : List ℕ → Line → Type 0

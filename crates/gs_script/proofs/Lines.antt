@@ -1,5 +1,5 @@
 -- The lines of an input, one after another.
-use Rattle.std.proofs.Common.{◌≡◌, ◌≢◌, ◌<◌, ◌≤◌, take, take_all, ◌++◌, ◌∷◌, [], ℕ, List, Bool, true, false, cond, eqb, length, Option, Some, IfSome, refl, sym, ap, subst, ◌∙◌, arith, append_assoc, append-nil}
+use Rattle.std.proofs.Common.{◌≡◌, ◌≢◌, ◌<◌, take_all, ◌++◌, ◌∷◌, [], ℕ, List, Bool, true, false, cond, eqb, length, Option, Some, IfSome, refl, sym, ap, subst, ◌∙◌, arith, append_assoc, append-nil}
 use Rattle.std.proofs.lemmas.Grind.{flat_map-append}
 use Rattle.std.proofs.lemmas.List.Elements.{All-nil}
 use Rattle.std.specs.Io.KnownBytes.{Appends, Keeps}
@@ -26,14 +26,9 @@ lines_of-step (x ∷ y ∷ ys) some = at (eqb x 10) (ap (onto x) (lines_of-step 
 unlines-push : (texts : List (List ℕ)) (text : List ℕ) → unlines (texts ++ text ∷ []) ≡ unlines texts ++ (text ++ 10 ∷ [])
 unlines-push texts text = flat_map-append (λ (t : List ℕ). t ++ 10 ∷ []) texts (text ∷ []) ∙ ap (λ l. unlines texts ++ l) (append-nil (text ++ 10 ∷ []))
 
--- two writes that left nothing out
-pub begins-whole : (a b c d : Option (List ℕ)) (xs ys : List ℕ) (m n : ℕ) → length xs ≤ m → length ys ≤ n
-    → Appends a b (take m xs) → Appends b c (take n ys) → Keeps c d → AppendsBeginning a d (xs ++ ys)
-begins-whole a b c d xs ys m n all all' p q kept = (
-  length (xs ++ ys),
-  subst (Appends a d) (ap (λ l. l ++ take n ys) (take_all m xs all) ∙ ap (λ l. xs ++ l) (take_all n ys all') ∙ sym (take_all (length (xs ++ ys)) (xs ++ ys) (omega arith)))
-      (Appends-kept a c d _ (Appends-trans a b c _ _ p q) kept),
-)
+-- all of some bytes is a beginning of them
+pub begins-whole : (a b c : Option (List ℕ)) (xs : List ℕ) → Appends a b xs → Keeps b c → AppendsBeginning a c xs
+begins-whole a b c xs whole kept = (length xs, subst (Appends a c) (sym (take_all (length xs) xs (omega arith))) (Appends-kept a b c xs whole kept))
 
 pub stays-here : (left : Option (List ℕ)) → StaysInLine left left
 stays-here left = ([], Consumes-nil left, All-nil (λ x. x ≢ 10))

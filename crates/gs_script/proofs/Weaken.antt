@@ -5,6 +5,10 @@ pub on_ok : {T E : Type 0} (r : Result T E) (P Q : Type 0) → (P → Q) → OnO
 on_ok (Ok x) P Q f h = f h
 on_ok (Err e) P Q f h = tt
 
+pub given_ok : {T E : Type 0} (r : Result T E) (P : Type 0) → P → OnOk r P
+given_ok (Ok x) P p = p
+given_ok (Err e) P p = tt
+
 pub on_err : {T E : Type 0} (r : Result T E) (P : Type 0) → P → OnErr r P
 on_err (Ok x) P p = tt
 on_err (Err e) P p = p

@@ -2,12 +2,12 @@
 #![tactic(auto)]
 
 ghost use Rattle.std.specs.Prelude.{◌≡◌, ◌≢◌, ◌≤◌, ◌++◌, ◌∷◌, List, ℕ, [], length, take, IfOk, OnOk, IfErr, OnErr, IfSome, string_bytes};
-ghost use Rattle.std.specs.Io.KnownBytes.{Appends};
+ghost use Rattle.std.specs.Io.KnownBytes.{Appends, Keeps};
 ghost use Rattle.gs_line.specs.Line.{IsLine};
 ghost use Rattle.gs_script.specs.Run.{AnswersLine, AppendsBeginning, Turns, TurnFails, Writes, RunFails, memory_text};
 
 use gs_base::Refusal;
-use gs_line::Line;
+use gs_line::{Line, Next};
 use std::alloc::{AllocError, Global};
 use std::io::{BufRead, ErrorKind, Write};
 use thiserror::Error;
@@ -81,7 +81,7 @@ fn write_out<W: Write>(writer: &mut W, bytes: &[u8]) -> usize
     written
 }
 
-/// Writes a text as a line, which is flushed.
+/// Writes a text as a line. The writer isn't flushed.
 pub fn write_line<W: Write>(writer: &mut W, text: &str) -> Result<(), RunFault>
     ensures ok { OnOk result (Appends (W.contents writer.old) (W.contents writer.new) (text.now ++ 10 ∷ [])) }
     ensures err { OnErr result (AppendsBeginning (W.contents writer.old) (W.contents writer.new) (text.now ++ 10 ∷ [])) }
@@ -90,10 +90,18 @@ pub fn write_line<W: Write>(writer: &mut W, text: &str) -> Result<(), RunFault>
     if write_out(writer, text.as_bytes()) < text.len() || write_out(writer, b"\n") < 1 {
         return Err(RunFault::Write);
     }
+    Ok(())
+}
+
+/// Flushes what is written.
+pub fn flush<W: Write>(writer: &mut W) -> Result<(), RunFault>
+    ensures contents { Keeps (W.contents writer.old) (W.contents writer.new) }
+    ensures fault { IfErr result (λ e. e ≡ RunFault.Write) }
+{
     writer.flush().map_err(|_| RunFault::Write)
 }
 
-/// Writes the answer to what stands next in the input, which isn't its end.
+/// Writes the answer to what stands next in the input, which isn't its end. The writer isn't flushed.
 pub fn write_answer<M: Answering, W: Write>(
     alloc: Global,
     machine: &mut M,
@@ -113,6 +121,28 @@ pub fn write_answer<M: Answering, W: Write>(
     }
 }
 
+/// Writes the answer to what stands next in the input, which isn't its end, and flushes it unless the line behind that is
+/// at hand.
+fn reply<M: Answering, W: Write>(
+    alloc: Global,
+    machine: &mut M,
+    writer: &mut W,
+    next: &Next,
+) -> Result<(), RunFault>
+    requires { next.now.line ≢ Line.End }
+    ensures ok { OnOk result ((whole : List ℕ) → IsLine whole next.now.line → (text : List ℕ) × AnswersLine M.Answers machine.old whole text machine.new
+        × Appends (W.contents writer.old) (W.contents writer.new) (text ++ 10 ∷ [])) }
+    ensures err { OnErr result ((whole : List ℕ) → IsLine whole next.now.line → (text : List ℕ) × AnswersLine M.Answers machine.old whole text machine.new
+        × AppendsBeginning (W.contents writer.old) (W.contents writer.new) (text ++ 10 ∷ [])) }
+    ensures fault { IfErr result (λ e. e ≡ RunFault.Write) }
+{
+    write_answer(alloc, machine, writer, &next.line)?;
+    if next.is_next_at_hand {
+        return Ok(());
+    }
+    flush(writer)
+}
+
 /// Answers the next line. Says whether there was one.
 fn turn<M: Answering, R: BufRead, W: Write>(
     alloc: Global,
@@ -125,24 +155,29 @@ fn turn<M: Answering, R: BufRead, W: Write>(
     ensures err { IfErr result (λ e.
         TurnFails M.Answers e (R.remaining reader.old) (R.remaining reader.new) (W.contents writer.old) (W.contents writer.new) machine.old machine.new) }
 {
-    match gs_line::next_line(alloc, reader) {
-        Err(_) => Err(RunFault::Read),
-        Ok(Line::End) => Ok(false),
-        Ok(line) => {
-            write_answer(alloc, machine, writer, &line)?;
-            Ok(true)
-        }
+    let Ok(next) = gs_line::next_line(alloc, reader) else {
+        return Err(RunFault::Read);
+    };
+    if matches!(next.line, Line::End) {
+        return Ok(false);
     }
+    reply(alloc, machine, writer, &next)?;
+    Ok(true)
 }
 
-/// Answers each line of the reader by one line to the writer, which is flushed behind each answer. A line ends at `\n`,
-/// and a `\r` right before that belongs to its end. One that is longer than a line may be is refused as `BadLine`.
+/// Answers each line of the reader by one line to the writer. A line ends at `\n`, and a `\r` right before that belongs to
+/// its end. One that is longer than a line may be is refused as `BadLine`.
+///
+/// Behind an answer the writer is flushed unless the reader already holds the whole of the next line, with its `\n`. So all
+/// that is answered is flushed before the run may have to wait for input, and at the end of the input; where many lines come
+/// at once, their answers leave together.
 ///
 /// Where memory is lacking, the answer is `refused 33 Memory`, and the run goes on. A read or a write that fails ends it:
 /// the fault is `Read` or `Write`, and never `Refused`. Of the line that a failed read stands in, nothing is answered. A
-/// write fails that gives an error other than an interruption, or takes nothing: what stands written is the answers to the
-/// lines before, and then a beginning of the answer to the line that was read last, which the machine has answered. After
-/// 18,446,744,073,709,551,615 lines the fault is `Read`.
+/// write fails that gives an error other than an interruption, or takes nothing, and so does a flush that gives an error: what
+/// stands written is the answers to the lines before, and then a beginning of the answer to the line that was read last, which
+/// the machine has answered. What the writer holds in a buffer of its own counts as written. After 18,446,744,073,709,551,615
+/// lines the fault is `Read`.
 pub fn run<M: Answering, R: BufRead, W: Write>(
     alloc: Global,
     machine: &mut M,

@@ -12,7 +12,8 @@ use std::alloc::Global;
 use std::io::{BufRead, Write};
 
 /// Begins a store over the two disks of its master's journal, with the servers and sizes of the configuration, and answers each
-/// line of the reader by one line to the writer, which is flushed behind each answer. New disks are those of a new store.
+/// line of the reader by one line to the writer, which is flushed as [`gs_script::run`] says: at the latest before the run may
+/// have to wait for input, and at its end. New disks are those of a new store.
 ///
 /// Where memory is lacking, the answer is `refused 33 Memory`, and the run goes on; something of what the line asks may be done
 /// then. Where the disks can't be opened or memory is lacking for the nodes, the fault is `Refused`, and nothing is read or

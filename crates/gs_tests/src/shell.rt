@@ -2,7 +2,7 @@ use gs_base::{Config, Refusal};
 use gs_journal::MemoryDisk;
 use gs_shell::RunFault;
 use std::alloc::{AllocError, Global};
-use std::io::{self, BufRead, ErrorKind, Read, Write};
+use std::io::{self, BufRead, BufReader, ErrorKind, Read, Write};
 use std::test::Fail;
 
 /// Three servers in two racks, each chunk on so many of them, and chunks of 16 bytes in blocks of 4.
@@ -465,9 +465,9 @@ fn a_line_fails_as_its_read(rt: HostRuntime) -> Result<(), Fail> {
         most: 1,
         calls: 0,
     };
-    let line = gs_line::next_line(rt.alloc(), &mut input);
+    let next = gs_line::next_line(rt.alloc(), &mut input);
     assert!(rt;
-        matches!(line, Err(e) if e.kind() == ErrorKind::BrokenPipe),
+        matches!(next, Err(e) if e.kind() == ErrorKind::BrokenPipe),
         "the kind"
     );
     Ok(())
@@ -507,5 +507,57 @@ fn stops_where_a_write_fails(rt: HostRuntime) -> Result<(), Fail> {
     let result = gs_shell::run(rt.alloc(), store_of(3)?, disks, &mut input, &mut output);
     assert!(rt; matches!(result, Err(RunFault::Write)), "the fault");
     assert_eq!(rt; output.written.as_slice(), b"ok\nok".as_slice());
+    Ok(())
+}
+
+/// A writer that marks by a bar where it is flushed.
+#[derive(Drop)]
+struct Marked {
+    written: Vec<u8>,
+}
+
+impl Write for Marked {
+    fn write(&mut self, buf: &[u8]) -> io::Result<usize> {
+        self.written.extend_from_slice(buf)?;
+        Ok(buf.len())
+    }
+
+    fn flush(&mut self) -> io::Result<()> {
+        self.written.extend_from_slice(b"|")?;
+        Ok(())
+    }
+}
+
+// The answers to lines that came together are flushed together. The last line, which lacks its end, is not at hand.
+#[test]
+fn flushes_where_no_line_is_at_hand(rt: HostRuntime) -> Result<(), Fail> {
+    let mut input = BufReader::new(rt.alloc(), b"ls /\nls /\nls /\nls /".as_slice())?;
+    let mut output = Marked {
+        written: Vec::new(rt.alloc()),
+    };
+    let disks = new_disks(rt.alloc());
+    let result = gs_shell::run(rt.alloc(), store_of(3)?, disks, &mut input, &mut output);
+    assert!(rt; result.is_ok(), "the run");
+    assert_eq!(rt; output.written.as_slice(), b"ok\nok\nok\n|ok\n|".as_slice());
+    Ok(())
+}
+
+// Each answer is flushed where lines come one by one, and where more than one line comes, but not the next one's end.
+#[test]
+fn flushes_before_a_read(rt: HostRuntime) -> Result<(), Fail> {
+    for most in [1, 5, 9] {
+        let mut input = Weak {
+            rest: b"ls /\nls /\nls /\n",
+            most,
+            calls: 0,
+        };
+        let mut output = Marked {
+            written: Vec::new(rt.alloc()),
+        };
+        let disks = new_disks(rt.alloc());
+        let result = gs_shell::run(rt.alloc(), store_of(3)?, disks, &mut input, &mut output);
+        assert!(rt; matches!(result, Err(RunFault::Read)), "the fault");
+        assert_eq!(rt; output.written.as_slice(), b"ok\n|ok\n|ok\n|".as_slice());
+    }
     Ok(())
 }
