@@ -90,12 +90,16 @@ impl Event {
         ensures steps { Steps (edited_by (state_at self.old) req (plain_edit edit) answer) self.old result self.new }
         ensures back { GoesBack self.old self.new }
     {
-        match self.enter_edit(req, edit)? {
-            None => {
+        match self.enter_edit(req, edit) {
+            Ok(None) => {
                 self.send_one(reply_to(req, Ok(answer)))?;
                 Ok(())
             }
-            Some(edit) => self.judge_edit(req, edit, answer),
+            Ok(Some(edit)) => self.judge_edit(req, edit, answer),
+            Err(refusal) => {
+                drop(answer);
+                Err(refusal)
+            }
         }
     }
 

@@ -1,5 +1,5 @@
 // The end of an event: its records are written to the journal, or as many of them as stand before a disk's failure.
-ghost use Rattle.std.specs.Prelude.{◌≡◌, ◌⊎◌, ◌≤◌, ◌<◌, ◌+◌, ℕ, [], List, Some, IfErr, IfOk, OnOk, length, sum_by};
+ghost use Rattle.std.specs.Prelude.{◌≡◌, ◌⊎◌, ◌≤◌, ◌<◌, ◌+◌, ℕ, [], List, Some, IfErr, IfOk, OnOk, length, sum_by, vec_capacity};
 ghost use Rattle.gs_journal.specs.Journal.{record_size};
 ghost use Rattle.gs_state.specs.Durable.{Durable};
 ghost use Rattle.gs_master.specs.Events.{HasComeFrom};
@@ -60,8 +60,13 @@ fn unsure(alloc: Global, caller: Option<ReqId>) -> Result<Vec<Message>, AllocErr
     }
 }
 
-/// Memory of its own for what is told where a disk fails, unless what is to be sent has room for that in its place.
-fn spare_for(alloc: Global, sent: &Vec<Message>, caller: Option<ReqId>) -> Result<Vec<Message>, AllocError>
+/// What is told where a disk fails, in memory of its own, unless it finds room in the place of what is to be sent.
+fn spare_for(
+    alloc: Global,
+    sent: &Vec<Message>,
+    caller: Option<ReqId>,
+) -> Result<Vec<Message>, AllocError>
+    ensures { IfOk result (λ spare. vec_capacity sent.now ≡ 0 → spare.items ≡ unsure caller) }
 {
     if sent.capacity() > 0 {
         return Ok(Vec::new(alloc));
@@ -69,10 +74,15 @@ fn spare_for(alloc: Global, sent: &Vec<Message>, caller: Option<ReqId>) -> Resul
     unsure(alloc, caller)
 }
 
-/// What is told where a disk fails, in the place of what was to be sent, or in memory of its own.
-fn told_unsure(sent: Vec<Message>, spare: Vec<Message>, caller: Option<ReqId>) -> Vec<Message>
+/// The same, in the place of what was to be sent, or in the memory that was made for it.
+fn told_unsure(
+    mut sent: Vec<Message>,
+    spare: Vec<Message>,
+    caller: Option<ReqId>,
+) -> Vec<Message>
+    requires { vec_capacity sent ≡ 0 → spare.items ≡ unsure caller }
+    ensures { result.items ≡ unsure caller }
 {
-    let mut sent = sent;
     if sent.capacity() == 0 {
         return spare;
     }
@@ -128,7 +138,7 @@ impl Event {
         requires within { place < length self.old.entries.items }
         requires from { (before : Durable) × HasComeFrom before (log_of first) self.old }
         requires counted { first.records ≤ first.size }
-        requires sent { sent.items ≡ unsure caller }
+        requires spare { vec_capacity self.old.sent ≡ 0 → spare.items ≡ unsure caller }
         ensures cut { (before : Durable) → HasComeFrom before (log_of first) self.old → IsCutAt before (log_of first) caller place self.old self.new }
         ensures counted { self.new.log.records ≤ self.new.log.size }
     {

@@ -17,7 +17,10 @@ impl Event {
     {
         match said {
             Body::Call { req, call } => self.take_call(config, req, moment, call),
-            _ => self.meet_by(Refusal::Stray),
+            stray => {
+                drop(stray);
+                self.meet_by(Refusal::Stray)
+            }
         }
     }
 
@@ -31,8 +34,15 @@ impl Event {
     {
         let Message { from, to: _, body } = message;
         match from {
-            NodeId::Master => self.meet_by(Refusal::Stray),
-            NodeId::Server(server) => self.serve(server, moment, &body),
+            NodeId::Master => {
+                drop(body);
+                self.meet_by(Refusal::Stray)
+            }
+            NodeId::Server(server) => {
+                let served = self.serve(server, moment, &body);
+                drop(body);
+                served
+            }
             NodeId::Client(_) => self.hear_client(config, moment, body),
         }
     }

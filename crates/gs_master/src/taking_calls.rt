@@ -93,9 +93,16 @@ impl Event {
         ensures steps { Steps (new_call config.now (state_at self.old) req moment call) self.old result self.new }
         ensures back { GoesBack self.old self.new }
     {
-        match self.standing().refused_before(req, &call)? {
-            Some(refusal) => self.refuse(req, refusal),
-            None => self.call(config, req, moment, call),
+        match self.standing().refused_before(req, &call) {
+            Ok(None) => self.call(config, req, moment, call),
+            Ok(Some(refusal)) => {
+                drop(call);
+                self.refuse(req, refusal)
+            }
+            Err(error) => {
+                drop(call);
+                Err(error.into())
+            }
         }
     }
 
@@ -137,17 +144,25 @@ impl Event {
         ensures back { GoesBack self.old self.new }
     {
         if self.fault.is_unopened() {
+            drop(call);
             return self.reply(req, Err(Refusal::Device));
         }
         let standing = self.standing();
         if standing.memory.is_pending(req) {
+            drop(call);
             return self.wait_still(req);
         }
-        let told = match standing.numbered(req) {
-            Numbered::New => return self.new_call(config, req, moment, call),
-            Numbered::Again(told) => copied(self.alloc, told)?,
-            Numbered::Older => Err(Refusal::Old),
-        };
-        self.reply(req, told)
+        match standing.numbered(req) {
+            Numbered::New => self.new_call(config, req, moment, call),
+            Numbered::Again(told) => {
+                let told = copied(self.alloc, told);
+                drop(call);
+                self.reply(req, told?)
+            }
+            Numbered::Older => {
+                drop(call);
+                self.reply(req, Err(Refusal::Old))
+            }
+        }
     }
 }

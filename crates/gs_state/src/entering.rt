@@ -168,11 +168,13 @@ impl Recorded {
         ensures leases { IfErr result (λ _. self.new.leases ≡ self.old.leases) }
         ensures keeps { IfErr result (λ _. KeepsRooms self.old self.new) }
     {
-        if let Entry::Edit { by, edit } = entry {
-            return self.enter_edit(*by, edit, inverse);
-        }
+        let mut inverse = inverse;
+        let entered = match entry {
+            Entry::Edit { by, edit } => self.enter_edit(*by, edit, &mut inverse),
+            _ => self.enter_unlike_edit(entry),
+        };
         drop(inverse);
-        self.enter_unlike_edit(entry)
+        entered
     }
 
     /// A record that is no edit is applied for which there is room.

@@ -118,12 +118,12 @@ impl Recorded {
         &mut self,
         by: ReqId,
         edit: &Edit,
-        inverse: Option<ListedInverse>,
+        inverse: &mut Option<ListedInverse>,
     ) -> Result<Undo, Refusal>
         requires replies { HasRoom client_cmp self.old.replies by.client }
         requires inverses { vec_len self.old.inverses < vec_capacity self.old.inverses }
         requires prepared { RoomForEach self.old.phase self.old.prepared (forgotten_by (plain_edit edit.now)) }
-        requires back { IsToldBack (durable_of self.old) (plain_edit edit.now) inverse }
+        requires back { IsToldBack (durable_of self.old) (plain_edit edit.now) inverse.old }
         ensures applied { Enters (entries.Edited by (plain_edit edit.now)) result (durable_of self.old) (durable_of self.new) }
         ensures back { IfOk result (λ undo. IsUndo self.old self.new undo) }
         ensures leases { IfErr result (λ _. self.new.leases ≡ self.old.leases) }
@@ -138,12 +138,15 @@ impl Recorded {
         let mut forgotten = Vec::with_capacity(self.alloc, chunks.len())?;
         let names = match enter_names(&mut self.names, edit) {
             Ok(before) => before,
-            Err(refusal) => return Err(unfit(refusal)),
+            Err(refusal) => {
+                drop(answer);
+                return Err(unfit(refusal));
+            }
         };
         self.enter_forgotten_each(chunks, &mut forgotten);
         self.next_hidden = next_behind(next_hidden, edit);
         let reply = enter_answer(&mut self.replies, by, answer);
-        let keeps_inverse = enter_inverse(&mut self.inverses, inverse);
+        let keeps_inverse = enter_inverse(&mut self.inverses, inverse.take());
         Ok(Undo::Edit(EditBefore {
             names,
             forgotten,

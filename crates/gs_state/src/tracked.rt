@@ -407,6 +407,9 @@ impl Tracked {
         ensures { self.new ≡ record { now = self.old.now; before = self.old.now; keeps_calls = false } }
     {
         self.calls = None;
+        if self.touched.is_empty() {
+            return;
+        }
         let touched = mem::replace(&mut self.touched, Vec::new(self.memory.alloc));
         release_all(&mut self.memory, touched);
     }

@@ -21,7 +21,7 @@ returns-clause-applied c =
     let left = durable_of c.enter_forgotten_each.new.self in
     let answered : Durable = record left { next_hidden = c.next_behind-self.result; replies = live client_cmp c.enter_answer-reply.new.replies } in
     edited_gives (durable_of c.args.self.now) left answered (record answered { inverses = map plain_inverse c.enter_inverse-keeps_inverse.new.inverses.items })
-    c.args.by c.args.edit.now c.enter_names.new.names c.next_behind-self.result c.in_ok-answer.answer c.args.inverse
+    c.args.by c.args.edit.now c.enter_names.new.names c.next_behind-self.result c.in_ok-answer.answer c.args.inverse.now
     (search rules) (names_after c.args.edit.now c.args.self.now.names c.enter_names.new.names c.in-Ok.ensures.edit)
     c.next_behind-self.ensures (search rules) c.requires.back (search rules)
     (λ i. record left { next_hidden = c.next_behind-self.result; replies = c.enter_answer-reply.ensures.value i })
