@@ -12,7 +12,7 @@ use Rattle.gs_tree.specs.Entry as entry
 use Rattle.gs_tree.specs.declared.node.Sort.{Sort}
 use Rattle.gs_tree.specs.declared.node.Sort.TheVariants as sorts
 use Rattle.gs_tree.specs.inner.Sort.{sort_of}
-use Rattle.gs_tree.specs.Plain.{Plain, after, without, part_at, IsFree}
+use Rattle.gs_tree.specs.Plain.{Plain, after, with_at, without, part_at, IsFree}
 use Rattle.gs_tree.specs.Find.{Rows, at, DirsAbove, IsBelow, IsDepthTest}
 use Rattle.gs_tree.specs.Edits.{rename, move_to, placed, moved, hide, unhide, unhidden, renamed_beside, beside, old_name, snapshot, copied, parent, last, target_of, same_path, is_file, is_dir}
 use Rattle.gs_tree.specs.Listing.{IsListingOf, pairs_of}
@@ -24,7 +24,7 @@ use Rattle.gs_tree.specs.declared.inverse.TreeInverse.TheVariants.{Moved}
 use Rattle.std.proofs.lemmas.Bool.{false≢true}
 use Rattle.gs_tree.proofs.Rows.{names_equiv}
 use Rattle.gs_tree.proofs.Splice.{one_name}
-use Rattle.gs_tree.proofs.Laws.{begins_append, with_at-append, free_at, moved-moved, not_above}
+use Rattle.gs_tree.proofs.Laws.{begins_append, with_at-append, free_at, moved-moved, not_above, restored, there, elsewhere}
 use Rattle.gs_tree.proofs.Reaching.{begins-length}
 
 -- what a tree's map has is what its rows have
@@ -196,36 +196,40 @@ pub parent_is : (p par : Path) → parent_of p ≡ Some par → par ≡ parent p
 parent_is [] par e = absurd (cc)
 parent_is (x ∷ p) par e = let k : take (length p) (x ∷ p) ≡ par = cc in sym (parent_taken x p ∙ k)
 
--- what stands at p, whose parent is par, moves to a name beside it
-pub record Aside (m : Plain ℕ) (p target par : Path) (x name : Name) : Type 0 where
-  pub split : p ≡ par ++ x ∷ []
-  pub aim : target ≡ beside p name
-  pub stands : is_some (m p) ≡ true
-  pub above : DirsAbove m p
+-- what stands at p takes another name in its directory
+pub beside_is : (m : Plain ℕ) (p : Path) (name : Name) → is_some (m p) ≡ true → renamed_beside m p name ≡ cond (is_some (m (beside p name))) (Err Exists) (Ok (moved p (beside p name) m))
+beside_is m p name stands = ap (λ b. cond b (Err NotFound) (cond (is_some (m (beside p name))) (Err Exists) (Ok (moved p (beside p name) m)))) (some_is (m p) stands)
 
-pub aside_some : {m : Plain ℕ} {p target par : Path} {x name : Name} → Aside m p target par x name → p ≢ []
-aside_some {par = par} {x = x} h z = append_some par x (sym h.split ∙ z)
-
-pub aside_target : {m : Plain ℕ} {p target par : Path} {x name : Name} → Aside m p target par x name → target ≡ par ++ name ∷ []
-aside_target {par = par} {x = x} {name = name} h = h.aim ∙ ap (λ q. parent q ++ name ∷ []) h.split ∙ ap (λ q. q ++ name ∷ []) (parent-append par x)
-
-pub aside_is : {m : Plain ℕ} {p target par : Path} {x name : Name} → Aside m p target par x name → renamed_beside m p name ≡ cond (is_some (m target)) (Err Exists) (Ok (moved p target m))
-aside_is {m = m} {p = p} {name = name} h =
-    ap (λ b. cond b (Err NotFound) (cond (is_some (m (beside p name))) (Err Exists) (Ok (moved p (beside p name) m)))) (some_is (m p) h.stands)
-    ∙ ap (λ t. cond (is_some (m t)) (Err Exists) (Ok (moved p t m))) (sym h.aim)
+pub beside_taken : (m : Plain ℕ) (p : Path) (name : Name) → is_some (m p) ≡ true → beside p name ≡ p → renamed_beside m p name ≡ Err Exists
+beside_taken m p name stands e = beside_is m p name stands ∙ ap (λ b. cond b (Err Exists) (Ok (moved p (beside p name) m))) (ap (λ q. is_some (m q)) e ∙ stands)
 
 -- another name
-pub aside_apart : {m : Plain ℕ} {p target par : Path} {x name : Name} → Aside m p target par x name → same_name x name ≡ false → begins p target ≡ false
-aside_apart {target = target} {par = par} {x = x} {name = name} h other = ap (λ q. begins q target) h.split ∙ ap (begins (par ++ x ∷ [])) (aside_target h) ∙ beside_begins par x name ∙ other
+pub beside_apart : (p par : Path) (x name : Name) → p ≡ par ++ x ∷ [] → same_name x name ≡ false → begins p (beside p name) ≡ false
+beside_apart p par x name split other =
+    ap (λ q. begins q (beside q name)) split ∙ ap (λ q. begins (par ++ x ∷ []) (q ++ name ∷ [])) (parent-append par x) ∙ beside_begins par x name ∙ other
 
 -- the same name
-pub aside_same : {m : Plain ℕ} {p par : Path} {x name : Name} → Aside m p (beside p name) par x name → same_name x name ≡ true → renamed_beside m p name ≡ Err Exists
-aside_same {m = m} {p = p} {par = par} {x = x} {name = name} h same =
-    let one : p ≡ beside p name = h.split ∙ ap (λ n. par ++ n ∷ []) (one_name x name same) ∙ sym (aside_target h) in
-    aside_is h ∙ ap (λ b. cond b (Err Exists) (Ok (moved p (beside p name) m))) (ap (λ q. is_some (m q)) (sym one) ∙ h.stands)
+pub beside_same : (p par : Path) (x name : Name) → p ≡ par ++ x ∷ [] → same_name x name ≡ true → beside p name ≡ p
+beside_same p par x name split same =
+    ap (λ q. parent q ++ name ∷ []) split ∙ ap (λ q. q ++ name ∷ []) (parent-append par x) ∙ ap (λ n. par ++ n ∷ []) (sym (one_name x name same)) ∙ sym split
 
-pub aside_dir : {m : Plain ℕ} {p target par : Path} {x name : Name} → Aside m p target par x name → m par ≡ Some Dir
-aside_dir {m = m} {p = p} {par = par} {x = x} h = ap m (sym (parent-append par x) ∙ ap parent (sym h.split)) ∙ dir_above m p (aside_some h) h.above
+-- a node was taken from p, where something else stands in its place now
+pub record Lifted (m node one : Plain ℕ) (p : Path) : Type 0 where
+  pub back : with_at p node one ≡ m
+  pub holds : is_some (one p) ≡ true
+  pub stands : is_some (m p) ≡ true
+  pub above : DirsAbove m p
+  pub others : (q r : Path) → begins p (q ++ r) ≡ false → one q ≡ m q
+
+pub lifted : (m node one : Plain ℕ) (new : Rows ℕ) (p p' : Path) → p' ≡ p → new ≡ ([], Dir) ∷ [] → true ≡ is_some (m p') → DirsAbove m p' → ((q : Path) → m (p' ++ q) ≡ node q) → ((q : Path) → one q ≡ with_at p' (at new) m q) → Lifted m node one p
+lifted m node one new p p' e is some above part now =
+    subst (Lifted m node one) e (record {
+      back = restored m p' (at new) node one now part;
+      holds = ap is_some (there m (at new) one p' now ∙ ap (λ r. at r []) is);
+      stands = sym some;
+      above = above;
+      others = λ q r apart. elsewhere m (at new) one p' q r now apart;
+    })
 
 -- to hide is to rename beside
 pub hide-beside : (m : Plain ℕ) (p par : Path) (x : Name) (moment number : ℕ) → p ≡ par ++ x ∷ [] → hide m p moment number ≡ renamed_beside m p (hidden_name moment number x)

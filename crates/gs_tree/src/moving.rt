@@ -1,15 +1,16 @@
 //! What is moved: renamed, hidden, and taken out of hiding.
-ghost use Rattle.std.specs.Prelude.{◌≡◌, ◌≢◌, ◌-◌, [], Bool, true, is_some, IfOk, IfErr, MatchBool};
+ghost use Rattle.std.specs.Prelude.{◌≡◌, ◌≢◌, ◌⊎◌, ◌-◌, [], Bool, true, false, ℕ, Result, is_some, IfOk, OnOk, IfErr, MatchBool};
+ghost use Rattle.gs_path.specs.Path.{begins};
 ghost use Rattle.gs_tree.specs.Find.{at, IsBelow, DirsAbove, IsDepthTest};
-ghost use Rattle.gs_tree.specs.Plain.{part_at};
+ghost use Rattle.gs_tree.specs.Plain.{Plain, part_at, with_at};
 ghost use Rattle.gs_tree.specs.Edits.{rename, hide, unhide, beside, renamed_beside, old_name, move_to, target_of};
 ghost use Rattle.gs_tree.specs.Inverses.{TakesBack, LeavesChunks, IsMoved};
 ghost use Rattle.gs_tree.specs.Follows.{Follows, Moves};
 ghost use Rattle.gs_tree.specs.inner.Sort.{IsFoundAt};
-ghost use Rattle.gs_tree.specs.inner.Steps.{TestsPlace};
+ghost use Rattle.gs_tree.specs.inner.Steps.{TestsPlace, IsAim, Aims};
 
 use crate::inverse::TreeInverse;
-use crate::node::{Node, Sort};
+use crate::node::{Leaf, Node, Sort};
 use crate::tree::TOO_MANY_ELEMENTS;
 use gs_base::{Moment, Refusal};
 use gs_path::{Name, Path};
@@ -170,6 +171,53 @@ pub(crate) fn rename_in(
     }
 }
 
+/// A move that goes through where nothing stands at its target: its two paths, and the target's last element.
+struct Aim {
+    source: Path,
+    target: Path,
+    name: Name,
+}
+
+/// Ends a move of a node that was replaced at a path: it goes to its target, or back if it isn't to move or nothing can be
+/// put there.
+fn settle(
+    root: &mut Node,
+    path: &Path,
+    node: Node,
+    aim: Result<Aim, Refusal>,
+) -> Result<TreeInverse, Refusal>
+    requires root { path.now ≢ [] }
+    requires stands { is_some (at root.old path.now) ≡ true }
+    requires node { is_some (at node []) ≡ true }
+    requires above { DirsAbove (with_at path.now (at node) (at root.old)) path.now }
+    requires aim { IfOk aim (λ a. IsAim (with_at path.now (at node) (at root.old)) path.now a.source a.target a.name) }
+    ensures edit { (wanted : Result (Plain ℕ) Refusal) → Aims (with_at path.now (at node) (at root.old)) path.now wanted aim (λ a. a.target) → Follows wanted result (with_at path.now (at node) (at root.old)) (at root.new) }
+    ensures undo { IfOk result (λ i. TakesBack i (with_at path.now (at node) (at root.old)) (at root.new)) }
+    ensures inverse { IfOk result (λ i. LeavesChunks i) }
+    ensures kind { IfOk result (λ i. IsMoved i) }
+{
+    let from = path.elements();
+    let Aim {
+        source,
+        target,
+        name,
+    } = match aim {
+        Ok(aim) => aim,
+        Err(refusal) => {
+            root.put(from, node);
+            return Err(refusal);
+        }
+    };
+    let to = target.elements();
+    let Some((_, parent)) = to.split_last() else {
+        return Err(Refusal::NotFound);
+    };
+    if !root.land(from, parent, name, to, node)? {
+        return Err(Refusal::Exists);
+    }
+    Ok(TreeInverse::Moved(source, target))
+}
+
 /// Moves what stands at a path to another name beside it.
 fn rename_beside(
     root: &mut Node,
@@ -183,32 +231,46 @@ fn rename_beside(
     ensures inverse { IfOk result (λ i. LeavesChunks i) }
     ensures kind { IfOk result (λ i. IsMoved i) }
 {
-    let Some((old, parent)) = path.elements().split_last() else {
+    let Some(node) = root.replace(path.elements(), Node::new(alloc, Leaf::Dir)) else {
         return Err(Refusal::NotFound);
     };
-    match root.sort_at(path.elements()) {
-        Sort::Missing => return Err(Refusal::NotFound),
-        Sort::Dir | Sort::File => {}
-    }
+    let aim = aim_beside(alloc, path, name);
+    settle(root, path, node, aim)
+}
+
+/// A move to another name beside a path.
+fn aim_beside(alloc: Global, path: &Path, name: Name) -> Result<Aim, Refusal>
+    requires { path.now ≢ [] }
+    ensures source { IfOk result (λ a. a.source ≡ path.now) }
+    ensures target { IfOk result (λ a. a.target ≡ beside path.now name) }
+    ensures name { IfOk result (λ a. a.name ≡ name) }
+    ensures other { OnOk result (begins path.now (beside path.now name) ≡ false) }
+    ensures err { IfErr result (λ e. (e ≡ Refusal.Memory) ⊎ ((e ≡ Refusal.Exists) × (beside path.now name ≡ path.now))) }
+{
+    let Some((old, _)) = path.elements().split_last() else {
+        return Err(Refusal::NotFound);
+    };
     if *old == name {
         return Err(Refusal::Exists);
     }
     let target = with_name(alloc, path, &name)?;
     let source = path.copy(alloc)?;
-    if !root.relocate(alloc, path.elements(), parent, name, target.elements())? {
-        return Err(Refusal::Exists);
-    }
-    Ok(TreeInverse::Moved(source, target))
+    Ok(Aim {
+        source,
+        target,
+        name,
+    })
 }
 
 /// The path with another last element.
 fn with_name(alloc: Global, path: &Path, name: &Name) -> Result<Path, AllocError>
     ensures { IfOk result (λ target. target ≡ beside path.now name.now) }
 {
-    match path.parent(alloc)? {
-        Some(parent) => parent.join(alloc, name),
-        None => Path::root(alloc).join(alloc, name),
-    }
+    let Some(mut target) = path.parent(alloc)? else {
+        return Path::root(alloc).join(alloc, name);
+    };
+    target.push(name.copy(alloc)?)?;
+    Ok(target)
 }
 
 /// Moves what stands at a path to a hidden name beside it.

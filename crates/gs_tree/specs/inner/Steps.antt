@@ -1,9 +1,9 @@
 -- What the steps of the edits say of one another's work: making an entry, testing a place, putting a chunk.
-use Rattle.std.specs.Prelude.{◌≡◌, ◌⊎◌, ◌<◌, ◌+◌, Result, Ok, Err, Option, Some, None, ℕ, zero, suc, Bool, true, false, cond, is_none, is_some, length, nat_lt, slice_get, slice_set, []}
+use Rattle.std.specs.Prelude.{◌≡◌, ◌⊎◌, ◌<◌, ◌+◌, Result, Ok, Err, Option, Some, None, ℕ, zero, suc, Bool, true, false, cond, is_none, is_some, length, nat_lt, slice_get, slice_set, [], ◌∷◌, ◌++◌}
 use Rattle.std.specs.declared.alloc.AllocError.{AllocError}
 use Rattle.gs_base.specs.declared.refusal.Refusal.{Refusal}
-use Rattle.gs_base.specs.declared.refusal.Refusal.TheVariants.{Memory, NotADirectory, BadPath, Range}
-use Rattle.gs_path.specs.Path.{Path, begins}
+use Rattle.gs_base.specs.declared.refusal.Refusal.TheVariants.{Memory, Exists, NotADirectory, BadPath, Range}
+use Rattle.gs_path.specs.Path.{Name, Path, begins}
 use Rattle.gs_tree.specs.Entry.{Entry, Dir}
 use Rattle.gs_tree.specs.Plain.{Plain, Same, IsFree}
 use Rattle.gs_tree.specs.Inverses.{first_made, TakesBack, IsMade, LeavesChunks}
@@ -49,6 +49,18 @@ abbrev pub Relocates : Plain ℕ → Path → Path → Result Bool AllocError �
 Relocates old from to (Ok true) new = IsFree old to × Same new (moved from to old)
 Relocates old from to (Ok false) new = (is_some (old to) ≡ true) × Same new old
 Relocates old from to (Err f) new = Same new old
+
+-- a move that goes through where its target is free
+pub record IsAim (m : Plain ℕ) (from source to : Path) (name : Name) : Type 0 where
+  pub same : source ≡ from
+  pub ends : to ≡ parent to ++ name ∷ []
+  pub apart : begins from to ≡ false
+  pub dir : m (parent to) ≡ Some Dir
+
+-- what is to be done is such a move, or is refused
+abbrev pub Aims : {T : Type 0} → Plain ℕ → Path → Result (Plain ℕ) Refusal → Result T Refusal → (T → Path) → Type 0
+Aims m from wanted (Ok aim) target = wanted ≡ cond (is_some (m (target aim))) (Err Exists) (Ok (moved from (target aim) m))
+Aims m from wanted (Err e) target = (e ≡ Memory) ⊎ (wanted ≡ Err e)
 
 -- a chunk is put in the place of another, which is the answer
 abbrev pub SwapsChunk : Path → ℕ → ℕ → Plain ℕ → Result ℕ Refusal → Plain ℕ → Type 0
