@@ -1,7 +1,7 @@
 -- Which answer a move has once the tests on its target are made, and what takes it back.
 use Rattle.std.specs.FinMap.{get, from_entries, get-from_entries}
 use Rattle.std.proofs.Common.{length, ℕ, ◌≢◌, ◌≡◌, inl, inr, ◌<◌, ◌+◌, ◌-◌, Bool, true, false, cond, ◌&&◌, [], ◌∷◌, ◌++◌, refl, sym, ap, ◌∙◌, subst, arith, append-nil, length-append, ◌≤◌, List, map}
-use Rattle.std.specs.Prelude.{Option, Some, None, Result, Ok, Err, is_some, is_none, ◌==◌, take}
+use Rattle.std.specs.Prelude.{Option, Some, None, Result, Ok, Err, is_some, is_none, ◌==◌, take, MatchBool}
 use Rattle.gs_base.specs.declared.refusal.Refusal.{Refusal}
 use Rattle.gs_base.specs.declared.refusal.Refusal.TheVariants.{NotFound, NotADirectory, Exists, IntoItself, BadPath, Memory}
 use Rattle.gs_path.specs.Path.{Name, Path, path_cmp, path_total, begins, same_name, parent_of}
@@ -19,7 +19,7 @@ use Rattle.gs_tree.specs.Listing.{IsListingOf, pairs_of}
 use Rattle.gs_tree.specs.declared.node.Listed.{Listed}
 use Rattle.gs_tree.specs.Inverses.{TakesBack}
 use Rattle.gs_tree.specs.Follows.{Follows}
-use Rattle.gs_tree.specs.inner.Steps.{Relocates}
+use Rattle.gs_tree.specs.inner.Steps.{Relocates, TestsPlace, TestsParent, TestsTarget, IsElsewhere, IsKnown}
 use Rattle.gs_tree.specs.declared.inverse.TreeInverse.TheVariants.{Moved}
 use Rattle.std.proofs.lemmas.Bool.{false≢true}
 use Rattle.gs_tree.proofs.Rows.{names_equiv}
@@ -114,8 +114,67 @@ taken_answer deep m from to new e1 e2 e3 =
     rest1 : Result (Plain ℕ) Refusal
     rest1 = cond (begins from to) (Err IntoItself) rest2
 
+-- the same where what stands at the parent was seen in another tree
+pub told : (deep : Bool) (one m : Plain ℕ) (from to par : Path) (x : Name) (s : Sort) (new : Plain ℕ) → to ≡ par ++ x ∷ [] → s ≡ sort_of (one par) → one (parent to) ≡ m (parent to) → same_path to from ≡ false → begins from to ≡ false → m to ≡ None → placed deep m from to new ≡ by_parent deep s new
+told deep one m from to par x s new split is same e1 e2 e3 =
+    let up : parent to ≡ par = ap parent split ∙ parent-append par x in
+    answer deep m from to par x s new e1 e2 (ap sort_of (sym e3)) split (is ∙ ap sort_of (ap one (sym up) ∙ same ∙ ap m up))
+
+-- a target under a directory has to be free, and short enough
+pub open_answer : (deep : Bool) (m : Plain ℕ) (from to : Path) (new : Plain ℕ) → same_path to from ≡ false → begins from to ≡ false → m (parent to) ≡ Some Dir → placed deep m from to new ≡ cond (is_some (m to)) (Err Exists) (cond deep (Err BadPath) (Ok new))
+open_answer deep m from to new e1 e2 dir =
+    ap (λ b. cond b (Err Exists) rest1) e1 ∙ ap (λ b. cond b (Err IntoItself) (rest2 (m (parent to)))) e2 ∙ ap rest2 dir
+  where
+    rest2 : Option (Entry ℕ) → Result (Plain ℕ) Refusal
+    rest2 v = cond (is_some (m to)) (Err Exists) (cond (is_none v) (Err NotFound) (cond (is_file v) (Err NotADirectory) (cond deep (Err BadPath) (Ok new))))
+
+    rest1 : Result (Plain ℕ) Refusal
+    rest1 = cond (begins from to) (Err IntoItself) (rest2 (m (parent to)))
+
+pub parent_last : (p : Path) → parent p ++ last p ≡ p
+parent_last [] = refl
+parent_last (x ∷ []) = refl
+parent_last (x ∷ y ∷ p) = ap (λ r. x ∷ r) (parent_last (y ∷ p))
+
+pub above_apart : (from to : Path) → begins from to ≡ false → begins from (parent to ++ last to) ≡ false
+above_apart from to apart = ap (begins from) (parent_last to) ∙ apart
+
+-- the test of the parent is the last one of a free target
+pub parent_target : (r : Result (Unit {0}) Refusal) (m one : Plain ℕ) (from to : Path) → IsElsewhere from m one → same_path to from ≡ false → begins from to ≡ false → m to ≡ None → TestsParent one to r → TestsTarget m from to r
+parent_target (Ok u) m one from to same e1 e2 none h =
+    let dir = sym (same (parent to) (last to) (above_apart from to e2)) ∙ h in record { apart = e2; dir = dir; answer = λ deep new. open_answer deep m from to new e1 e2 dir }
+parent_target (Err e) m one from to same e1 e2 none h = λ deep new. h deep from m new (same (parent to) (last to) (above_apart from to e2)) e1 e2 none
+
+pub parent_place : (r : Result (Unit {0}) Refusal) (m : Plain ℕ) (from to : Path) → same_path to from ≡ false → begins from to ≡ false → IsFree m to → TestsParent m to r → TestsPlace m from to r
+parent_place (Ok u) m from to e1 e2 free h =
+    let none : m to ≡ None = ap m (sym (append-nil to)) ∙ free [] in record {
+      apart = e2;
+      free = free;
+      dir = h;
+      answer = λ deep new. open_answer deep m from to new e1 e2 h ∙ ap (λ v. cond (is_some v) (Err Exists) (cond deep (Err BadPath) (Ok new))) none;
+    }
+parent_place (Err e) m from to e1 e2 free h = λ deep new. h deep from m new refl e1 e2 (ap m (sym (append-nil to)) ∙ free [])
+
 pub into_dir : (m : Plain ℕ) (from to par : Path) (x : Name) → sorts.Dir ≡ sort_of (m to) → from ≡ par ++ x ∷ [] → to ++ x ∷ [] ≡ target_of m from to
 into_dir m from to par x e split = sym (ap (λ b. cond b (to ++ last from) to) (ap is_dir (dir_is (m to) e)) ∙ ap (λ l. to ++ l) (ap last split ∙ last-append par x))
+
+parent_into : (to from : Path) → from ≢ [] → parent (to ++ last from) ≡ to
+parent_into to [] ne = absurd (ne refl)
+parent_into to (x ∷ []) ne = parent-append to x
+parent_into to (x ∷ y ∷ p) ne = parent_into to (y ∷ p) (λ e. cc)
+
+file_is : (v : Option (Entry ℕ)) → sorts.File ≡ sort_of v → is_dir v ≡ false
+file_is None e = absurd (cc)
+file_is (Some entry.Dir) e = absurd (cc)
+file_is (Some (entry.File handles)) e = refl
+
+-- what is known of a rename's target by what was found where it leads
+pub known_of : (m : Plain ℕ) (from to : Path) (found : Sort) → from ≢ [] → found ≡ sort_of (m to) → IsKnown m (target_of m from to) found
+known_of m from to sorts.Missing ne e = let none = none_is (m to) e in ap m (ap (λ v. cond (is_dir v) (to ++ last from) to) none) ∙ none
+known_of m from to sorts.File ne e =
+    ap (λ p. is_some (m p)) (ap (λ b. cond b (to ++ last from) to) (file_is (m to) e)) ∙ stands_is (m to) (λ z. let k : sorts.File ≡ sorts.Missing = e ∙ sym z in cc)
+known_of m from to sorts.Dir ne e =
+    let dir = dir_is (m to) e in ap m (ap (λ v. parent (cond (is_dir v) (to ++ last from) to)) dir ∙ parent_into to from ne) ∙ dir
 
 pub rename-is : (deep : Bool) (m : Plain ℕ) (from to : Path) → (from ≢ []) → is_some (m from) ≡ true → rename (λ _. deep) m from to ≡ move_to deep m from (target_of m from to)
 rename-is deep m [] to h g = absurd (h refl)
@@ -179,6 +238,12 @@ within to q k = omega (arith, k)
 pub deep_true : (deep : Bool) (m : Plain ℕ) (from to : Path) → IsDepthTest deep m from to → (IsBelow (65 - length to) (part_at from m) → ⊥) → deep ≡ true
 deep_true true m from to h never = refl
 deep_true false m from to h never = absurd (never (λ q some. within to q (λ l. h (q, (some, l)))))
+
+-- a test of a node's depth is one of what stands at the source
+pub depth_of : (b : Bool) (limit n : ℕ) (m node : Plain ℕ) (from : Path) → limit ≡ 65 - n → ((q : Path) → m (from ++ q) ≡ node q) → MatchBool b (IsBelow limit node) (IsBelow limit node → ⊥) → MatchBool b (IsBelow (65 - n) (part_at from m)) (IsBelow (65 - n) (part_at from m) → ⊥)
+depth_of b limit n m node from e part h =
+    let is : node ≡ part_at from m = λ i q. sym (part q) i in
+    subst (λ l. MatchBool b (IsBelow l (part_at from m)) (IsBelow l (part_at from m) → ⊥)) e (subst (λ (k : Plain ℕ). MatchBool b (IsBelow limit k) (IsBelow limit k → ⊥)) is h)
 
 at_least : (a b : List ℕ) → length b ≤ length (a ++ b)
 at_least a b = omega (arith, length-append a b)
