@@ -1,9 +1,9 @@
 -- Which answer a move has once the tests on its target are made, and what takes it back.
 use Rattle.std.specs.FinMap.{get, from_entries, get-from_entries}
-use Rattle.std.proofs.Common.{length, ℕ, ◌≢◌, ◌≡◌, inl, inr, ◌<◌, ◌+◌, ◌-◌, Bool, true, false, cond, ◌&&◌, [], ◌∷◌, ◌++◌, refl, sym, ap, ◌∙◌, subst, arith, append-nil, length-append, ◌≤◌, List, map}
+use Rattle.std.proofs.Common.{length, ℕ, ◌≢◌, ◌≡◌, inl, ◌<◌, ◌+◌, ◌-◌, Bool, true, false, cond, ◌&&◌, [], ◌∷◌, ◌++◌, refl, sym, ap, ◌∙◌, subst, arith, append-nil, length-append, ◌≤◌, List, map}
 use Rattle.std.specs.Prelude.{Option, Some, None, Result, Ok, Err, is_some, is_none, ◌==◌, take, MatchBool}
 use Rattle.gs_base.specs.declared.refusal.Refusal.{Refusal}
-use Rattle.gs_base.specs.declared.refusal.Refusal.TheVariants.{NotFound, NotADirectory, Exists, IntoItself, BadPath, Memory}
+use Rattle.gs_base.specs.declared.refusal.Refusal.TheVariants.{NotFound, NotADirectory, Exists, IntoItself, BadPath}
 use Rattle.gs_path.specs.Path.{Name, Path, path_cmp, path_total, begins, same_name, parent_of}
 use Rattle.gs_path.specs.Element.{hidden_name, hidden_parts}
 use Rattle.std.specs.Option.{option_map}
@@ -100,19 +100,6 @@ placed-is deep m from to new e1 e2 e3 =
 pub answer : (deep : Bool) (m : Plain ℕ) (from to par : Path) (x : Name) (s : Sort) (new : Plain ℕ) → same_path to from ≡ false → begins from to ≡ false → sorts.Missing ≡ sort_of (m to) → to ≡ par ++ x ∷ [] → s ≡ sort_of (m par) → placed deep m from to new ≡ by_parent deep s new
 answer deep m from to par x s new e1 e2 e3 split is =
     placed-is deep m from to new e1 e2 (nothing (m to) e3) ∙ ap (λ v. by_parent deep v new) (ap (λ p. sort_of (m p)) (ap parent split ∙ parent-append par x) ∙ sym is)
-
-pub taken_answer : (deep : Bool) (m : Plain ℕ) (from to : Path) (new : Plain ℕ) → same_path to from ≡ false → begins from to ≡ false → is_some (m to) ≡ true → placed deep m from to new ≡ Err Exists
-taken_answer deep m from to new e1 e2 e3 =
-    ap (λ b. cond b (Err Exists) rest1) e1 ∙ ap (λ b. cond b (Err IntoItself) rest2) e2 ∙ ap (λ b. cond b (Err Exists) rest3) e3
-  where
-    rest3 : Result (Plain ℕ) Refusal
-    rest3 = cond (is_none (m (parent to))) (Err NotFound) (cond (is_file (m (parent to))) (Err NotADirectory) (cond deep (Err BadPath) (Ok new)))
-
-    rest2 : Result (Plain ℕ) Refusal
-    rest2 = cond (is_some (m to)) (Err Exists) rest3
-
-    rest1 : Result (Plain ℕ) Refusal
-    rest1 = cond (begins from to) (Err IntoItself) rest2
 
 -- the same where what stands at the parent was seen in another tree
 pub told : (deep : Bool) (one m : Plain ℕ) (from to par : Path) (x : Name) (s : Sort) (new : Plain ℕ) → to ≡ par ++ x ∷ [] → s ≡ sort_of (one par) → one (parent to) ≡ m (parent to) → same_path to from ≡ false → begins from to ≡ false → m to ≡ None → placed deep m from to new ≡ by_parent deep s new
@@ -310,10 +297,6 @@ old_name-append (y ∷ z ∷ p) x = old_name-append (z ∷ p) x
 
 pub unhide-is : (m : Plain ℕ) (p : Path) (name : Option Name) → name ≡ old_name p → unhide m p ≡ unhidden m p name
 unhide-is m p name e = ap (unhidden m p) (sym e)
-
-pub follows_memory : (I : Type 0) (r : Result (Plain ℕ) Refusal) (f : Refusal) (old : Plain ℕ) → f ≡ Memory → Follows {I = I} r (Err f) old old
-follows_memory I (Ok m) f old e = (e, λ q. refl)
-follows_memory I (Err g) f old e = (inr e, λ q. refl)
 
 -- a refusal that the plain tree gives
 pub refused : (I : Type 0) {r : Result (Plain ℕ) Refusal} (f : Refusal) (old : Plain ℕ) → r ≡ Err f → Follows {I = I} r (Err f) old old
