@@ -34,13 +34,13 @@ pub(crate) fn test_place(root: &Node, from: &Path, target: &Path) -> Result<(), 
 fn test_apart(from: &Path, target: &Path) -> Result<(), Refusal>
     ensures { TestsApart from.now target.now result }
 {
-    if *target == *from {
+    let Some(below) = target.below(from) else {
+        return Ok(());
+    };
+    if below.is_empty() {
         return Err(Refusal::Exists);
     }
-    if target.starts_with(from) {
-        return Err(Refusal::IntoItself);
-    }
-    Ok(())
+    Err(Refusal::IntoItself)
 }
 
 /// Whether a free target is under a directory.
