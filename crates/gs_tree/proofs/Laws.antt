@@ -1,5 +1,5 @@
 -- Laws of the edits: what the steps of a move come to, and that each edit is taken back.
-use Rattle.std.proofs.Common.{ℕ, ◌≡◌, true, false, cond, ◌&&◌, [], ◌∷◌, ◌++◌, refl, append-nil, sym, ap, ◌∙◌}
+use Rattle.std.proofs.Common.{ℕ, Bool, ◌≡◌, true, false, cond, ◌&&◌, [], ◌∷◌, ◌++◌, refl, append-nil, sym, ap, ◌∙◌}
 use Rattle.std.specs.Prelude.{Option, None, is_some}
 use Rattle.gs_path.specs.Path.{Path, same_name, begins}
 use Rattle.gs_tree.specs.Entry.{Entry}
@@ -51,27 +51,57 @@ not_above m from to free some apart r = elim (begins to (from ++ r)) as (λ b. b
   | false ↦ λ b. refl
 ] refl
 
--- what stands at `from` when a free place is filled
-pub stays : (m : Plain ℕ) (from to : Path) (part one : Plain ℕ) → IsFree m to → is_some (m from) ≡ true → begins from to ≡ false → ((q : Path) → one q ≡ with_at to part m q) → (r : Path) → one (from ++ r) ≡ m (from ++ r)
-stays m from to part one free some apart h1 r = h1 (from ++ r) ∙ ap (λ s. cond s (part (after to (from ++ r))) (m (from ++ r))) (not_above m from to free some apart r)
+-- nor does anything at or under it stand under what stands elsewhere
+pub not_under : (m : Plain ℕ) (from to : Path) → IsFree m to → is_some (m from) ≡ true → begins from to ≡ false → (r : Path) → begins from (to ++ r) ≡ false
+not_under m from to free some apart r = elim (begins from (to ++ r)) as (λ b. begins from (to ++ r) ≡ b → b ≡ false) [
+  | true ↦ λ b. let n : begins to from ≡ false = ap (begins to) (sym (append-nil from)) ∙ not_above m from to free some apart [] in let k : begins from to ≡ true = begins_either from to r b n in cc
+  | false ↦ λ b. refl
+] refl
 
--- to put a node at `to`, take out `from`, and put that in the node's place, is the move
-pub moved_by_steps : (m : Plain ℕ) (from to : Path) (part one two three : Plain ℕ) (node : Plain ℕ) → IsFree m to → is_some (m from) ≡ true → begins from to ≡ false
-    → ((q : Path) → one q ≡ with_at to part m q) → ((q : Path) → one (from ++ q) ≡ node q) → ((q : Path) → two q ≡ without from one q) → ((q : Path) → three q ≡ with_at to node two q)
-    → (q : Path) → three q ≡ moved from to m q
-moved_by_steps m from to part one two three node free some apart h1 hn h2 h3 q =
-    h3 q ∙ elim (begins to q) as (λ b. begins to q ≡ b → cond b (node (after to q)) (two q) ≡ cond b (part_at from m (after to q)) (without from m q)) [
-      | true ↦ λ b. sym (hn (after to q)) ∙ stays m from to part one free some apart h1 (after to q)
-      | false ↦ λ b. h2 q ∙ ap (cond (begins from q) None) (h1 q ∙ ap (λ s. cond s (part (after to q)) (m q)) b)
+pub begins_more : (f p r : Path) → begins f p ≡ true → begins f (p ++ r) ≡ true
+begins_more [] p r h = refl
+begins_more (x ∷ f) [] r h = cc
+begins_more (x ∷ f) (y ∷ p) r h = elim (same_name x y) as (λ b. (b && begins f p) ≡ true → (b && begins f (p ++ r)) ≡ true) [ true ↦ λ k. begins_more f p r k | false ↦ λ k. cc ] h
+
+-- what stands elsewhere when something is put at t
+pub elsewhere : (m part one : Plain ℕ) (t p r : Path) → ((q : Path) → one q ≡ with_at t part m q) → begins t (p ++ r) ≡ false → one p ≡ m p
+elsewhere m part one t p r h apart =
+    h p ∙ elim (begins t p) as (λ b. begins t p ≡ b → cond b (part (after t p)) (m p) ≡ m p) [
+      | true ↦ λ b. let k : begins t (p ++ r) ≡ true = begins_more t p r b in absurd (cc)
+      | false ↦ λ b. refl
     ] refl
 
--- the place that was filled is not among what was taken out
-pub placed : (m : Plain ℕ) (from to : Path) (part one two : Plain ℕ) → begins from to ≡ false → ((q : Path) → one q ≡ with_at to part m q) → ((q : Path) → two q ≡ without from one q) → two to ≡ part []
-placed m from to part one two apart h1 h2 =
-    h2 to ∙ ap (λ s. cond s None (one to)) apart ∙ h1 to
-    ∙ ap (λ p. with_at to part m p) (sym (append-nil to)) ∙ with_at-append to part m []
+pub there : (m part one : Plain ℕ) (t : Path) → ((q : Path) → one q ≡ with_at t part m q) → one t ≡ part []
+there m part one t h = h t ∙ ap (with_at t part m) (sym (append-nil t)) ∙ with_at-append t part m []
 
-pub gone : (m : Plain ℕ) (from to : Path) (part one : Plain ℕ) → IsFree m to → is_some (m from) ≡ true → begins from to ≡ false → ((q : Path) → one q ≡ with_at to part m q) → ((q : Path) → one (from ++ q) ≡ None) → ⊥
-gone m from to part one free some apart h1 none =
-    let n : m (from ++ []) ≡ None = sym (stays m from to part one free some apart h1 []) ∙ none [] in
-    let k : false ≡ true = ap (λ (v : Option (Entry ℕ)). is_some v) (sym n) ∙ ap (λ p. is_some (m p)) (append-nil from) ∙ some in cc
+-- what stood is put back in the place of what was put there
+pub put_back : (m : Plain ℕ) (t : Path) (part node one two : Plain ℕ) → ((q : Path) → one q ≡ with_at t part m q) → ((q : Path) → m (t ++ q) ≡ node q) → ((q : Path) → two q ≡ with_at t node one q) → (q : Path) → two q ≡ m q
+put_back m t part node one two h1 hn h2 q =
+    h2 q ∙ elim (begins t q) as (λ b. begins t q ≡ b → cond b (node (after t q)) (one q) ≡ m q) [
+      | true ↦ λ b. sym (hn (after t q)) ∙ ap m (sym (begins_parts t q b))
+      | false ↦ λ b. h1 q ∙ ap (λ s. cond s (part (after t q)) (m q)) b
+    ] refl
+
+pub restored : (m : Plain ℕ) (t : Path) (part node one : Plain ℕ) → ((q : Path) → one q ≡ with_at t part m q) → ((q : Path) → m (t ++ q) ≡ node q) → with_at t node one ≡ m
+restored m t part node one h1 hn = λ i q. put_back m t part node one (with_at t node one) h1 hn (λ p. refl) q i
+
+pub with_same : (m one part node two : Plain ℕ) (t : Path) → ((q : Path) → part q ≡ node q) → ((q : Path) → one q ≡ m q) → ((q : Path) → two q ≡ with_at t part one q) → (q : Path) → two q ≡ with_at t node m q
+with_same m one part node two t parts wholes h q =
+    h q ∙ elim (begins t q) as (λ b. cond b (part (after t q)) (one q) ≡ cond b (node (after t q)) (m q)) [ true ↦ parts (after t q) | false ↦ wholes q ]
+
+hidden_twice : (b : Bool) (u v : Option (Entry ℕ)) → cond b None v ≡ cond b None (cond b u v)
+hidden_twice true u v = refl
+hidden_twice false u v = refl
+
+-- to put at a free place what is to stand at `from`, and to take out what stands there, is the move
+pub landed : (m node two three : Plain ℕ) (from to : Path) → IsFree m to → is_some (m from) ≡ true → begins from to ≡ false → ((q : Path) → two q ≡ with_at to node m q) → ((q : Path) → three q ≡ without from two q)
+    → IsFree (with_at from node m) to × ((q : Path) → three q ≡ moved from to (with_at from node m) q)
+landed m node two three from to free some apart h2 h3 = (λ r. ap (λ b. cond b (node (after from (to ++ r))) (m (to ++ r))) (not_under m from to free some apart r) ∙ free r, same)
+  where
+    same : (q : Path) → three q ≡ moved from to (with_at from node m) q
+    same q =
+        h3 q ∙ elim (begins to q) as (λ b. begins to q ≡ b → cond (begins from q) None (two q) ≡ cond b (with_at from node m (from ++ after to q)) (without from (with_at from node m) q)) [
+          | true ↦ λ b. ap (λ s. cond s None (two q)) (ap (begins from) (begins_parts to q b) ∙ not_under m from to free some apart (after to q))
+              ∙ h2 q ∙ ap (λ s. cond s (node (after to q)) (m q)) b ∙ sym (with_at-append from node m (after to q))
+          | false ↦ λ b. ap (cond (begins from q) None) (h2 q ∙ ap (λ s. cond s (node (after to q)) (m q)) b) ∙ hidden_twice (begins from q) (node (after from q)) (m q)
+        ] refl

@@ -1,9 +1,9 @@
 -- Which answer a move has once the tests on its target are made, and what takes it back.
 use Rattle.std.specs.FinMap.{get, from_entries, get-from_entries}
-use Rattle.std.proofs.Common.{length, ℕ, ◌≢◌, ◌≡◌, inl, inr, ◌<◌, ◌+◌, ◌-◌, Bool, true, false, cond, ◌&&◌, [], ◌∷◌, ◌++◌, refl, sym, ap, ◌∙◌, subst, arith, append-nil, length-append, ◌≤◌, List, map}
-use Rattle.std.specs.Prelude.{Option, Some, None, Result, Ok, Err, is_some, is_none, ◌==◌, take}
+use Rattle.std.proofs.Common.{length, ℕ, ◌≢◌, ◌≡◌, inl, ◌<◌, ◌+◌, ◌-◌, Bool, true, false, cond, ◌&&◌, [], ◌∷◌, ◌++◌, refl, sym, ap, ◌∙◌, subst, arith, append-nil, length-append, ◌≤◌, List, map}
+use Rattle.std.specs.Prelude.{Option, Some, None, Result, Ok, Err, is_some, is_none, ◌==◌, take, MatchBool}
 use Rattle.gs_base.specs.declared.refusal.Refusal.{Refusal}
-use Rattle.gs_base.specs.declared.refusal.Refusal.TheVariants.{NotFound, NotADirectory, Exists, IntoItself, BadPath, Memory}
+use Rattle.gs_base.specs.declared.refusal.Refusal.TheVariants.{NotFound, NotADirectory, Exists, IntoItself, BadPath}
 use Rattle.gs_path.specs.Path.{Name, Path, path_cmp, path_total, begins, same_name, parent_of}
 use Rattle.gs_path.specs.Element.{hidden_name, hidden_parts}
 use Rattle.std.specs.Option.{option_map}
@@ -12,19 +12,19 @@ use Rattle.gs_tree.specs.Entry as entry
 use Rattle.gs_tree.specs.declared.node.Sort.{Sort}
 use Rattle.gs_tree.specs.declared.node.Sort.TheVariants as sorts
 use Rattle.gs_tree.specs.inner.Sort.{sort_of}
-use Rattle.gs_tree.specs.Plain.{Plain, after, without, part_at, IsFree}
+use Rattle.gs_tree.specs.Plain.{Plain, after, with_at, without, part_at, IsFree}
 use Rattle.gs_tree.specs.Find.{Rows, at, DirsAbove, IsBelow, IsDepthTest}
 use Rattle.gs_tree.specs.Edits.{rename, move_to, placed, moved, hide, unhide, unhidden, renamed_beside, beside, old_name, snapshot, copied, parent, last, target_of, same_path, is_file, is_dir}
 use Rattle.gs_tree.specs.Listing.{IsListingOf, pairs_of}
 use Rattle.gs_tree.specs.declared.node.Listed.{Listed}
 use Rattle.gs_tree.specs.Inverses.{TakesBack}
 use Rattle.gs_tree.specs.Follows.{Follows}
-use Rattle.gs_tree.specs.inner.Steps.{Relocates}
+use Rattle.gs_tree.specs.inner.Steps.{Relocates, TestsPlace, TestsParent, TestsTarget, IsElsewhere, IsKnown}
 use Rattle.gs_tree.specs.declared.inverse.TreeInverse.TheVariants.{Moved}
 use Rattle.std.proofs.lemmas.Bool.{false≢true}
 use Rattle.gs_tree.proofs.Rows.{names_equiv}
 use Rattle.gs_tree.proofs.Splice.{one_name}
-use Rattle.gs_tree.proofs.Laws.{begins_append, with_at-append, free_at, moved-moved, not_above}
+use Rattle.gs_tree.proofs.Laws.{begins_append, with_at-append, free_at, moved-moved, not_above, restored, there, elsewhere}
 use Rattle.gs_tree.proofs.Reaching.{begins-length}
 
 -- what a tree's map has is what its rows have
@@ -101,21 +101,67 @@ pub answer : (deep : Bool) (m : Plain ℕ) (from to par : Path) (x : Name) (s : 
 answer deep m from to par x s new e1 e2 e3 split is =
     placed-is deep m from to new e1 e2 (nothing (m to) e3) ∙ ap (λ v. by_parent deep v new) (ap (λ p. sort_of (m p)) (ap parent split ∙ parent-append par x) ∙ sym is)
 
-pub taken_answer : (deep : Bool) (m : Plain ℕ) (from to : Path) (new : Plain ℕ) → same_path to from ≡ false → begins from to ≡ false → is_some (m to) ≡ true → placed deep m from to new ≡ Err Exists
-taken_answer deep m from to new e1 e2 e3 =
-    ap (λ b. cond b (Err Exists) rest1) e1 ∙ ap (λ b. cond b (Err IntoItself) rest2) e2 ∙ ap (λ b. cond b (Err Exists) rest3) e3
-  where
-    rest3 : Result (Plain ℕ) Refusal
-    rest3 = cond (is_none (m (parent to))) (Err NotFound) (cond (is_file (m (parent to))) (Err NotADirectory) (cond deep (Err BadPath) (Ok new)))
+-- the same where what stands at the parent was seen in another tree
+pub told : (deep : Bool) (one m : Plain ℕ) (from to par : Path) (x : Name) (s : Sort) (new : Plain ℕ) → to ≡ par ++ x ∷ [] → s ≡ sort_of (one par) → one (parent to) ≡ m (parent to) → same_path to from ≡ false → begins from to ≡ false → m to ≡ None → placed deep m from to new ≡ by_parent deep s new
+told deep one m from to par x s new split is same e1 e2 e3 =
+    let up : parent to ≡ par = ap parent split ∙ parent-append par x in
+    answer deep m from to par x s new e1 e2 (ap sort_of (sym e3)) split (is ∙ ap sort_of (ap one (sym up) ∙ same ∙ ap m up))
 
-    rest2 : Result (Plain ℕ) Refusal
-    rest2 = cond (is_some (m to)) (Err Exists) rest3
+-- a target under a directory has to be free, and short enough
+pub open_answer : (deep : Bool) (m : Plain ℕ) (from to : Path) (new : Plain ℕ) → same_path to from ≡ false → begins from to ≡ false → m (parent to) ≡ Some Dir → placed deep m from to new ≡ cond (is_some (m to)) (Err Exists) (cond deep (Err BadPath) (Ok new))
+open_answer deep m from to new e1 e2 dir =
+    ap (λ b. cond b (Err Exists) rest1) e1 ∙ ap (λ b. cond b (Err IntoItself) (rest2 (m (parent to)))) e2 ∙ ap rest2 dir
+  where
+    rest2 : Option (Entry ℕ) → Result (Plain ℕ) Refusal
+    rest2 v = cond (is_some (m to)) (Err Exists) (cond (is_none v) (Err NotFound) (cond (is_file v) (Err NotADirectory) (cond deep (Err BadPath) (Ok new))))
 
     rest1 : Result (Plain ℕ) Refusal
-    rest1 = cond (begins from to) (Err IntoItself) rest2
+    rest1 = cond (begins from to) (Err IntoItself) (rest2 (m (parent to)))
+
+pub parent_last : (p : Path) → parent p ++ last p ≡ p
+parent_last [] = refl
+parent_last (x ∷ []) = refl
+parent_last (x ∷ y ∷ p) = ap (λ r. x ∷ r) (parent_last (y ∷ p))
+
+pub above_apart : (from to : Path) → begins from to ≡ false → begins from (parent to ++ last to) ≡ false
+above_apart from to apart = ap (begins from) (parent_last to) ∙ apart
+
+-- the test of the parent is the last one of a free target
+pub parent_target : (r : Result (Unit {0}) Refusal) (m one : Plain ℕ) (from to : Path) → IsElsewhere from m one → same_path to from ≡ false → begins from to ≡ false → m to ≡ None → TestsParent one to r → TestsTarget m from to r
+parent_target (Ok u) m one from to same e1 e2 none h =
+    let dir = sym (same (parent to) (last to) (above_apart from to e2)) ∙ h in record { apart = e2; dir = dir; answer = λ deep new. open_answer deep m from to new e1 e2 dir }
+parent_target (Err e) m one from to same e1 e2 none h = λ deep new. h deep from m new (same (parent to) (last to) (above_apart from to e2)) e1 e2 none
+
+pub parent_place : (r : Result (Unit {0}) Refusal) (m : Plain ℕ) (from to : Path) → same_path to from ≡ false → begins from to ≡ false → IsFree m to → TestsParent m to r → TestsPlace m from to r
+parent_place (Ok u) m from to e1 e2 free h =
+    let none : m to ≡ None = ap m (sym (append-nil to)) ∙ free [] in record {
+      apart = e2;
+      free = free;
+      dir = h;
+      answer = λ deep new. open_answer deep m from to new e1 e2 h ∙ ap (λ v. cond (is_some v) (Err Exists) (cond deep (Err BadPath) (Ok new))) none;
+    }
+parent_place (Err e) m from to e1 e2 free h = λ deep new. h deep from m new refl e1 e2 (ap m (sym (append-nil to)) ∙ free [])
 
 pub into_dir : (m : Plain ℕ) (from to par : Path) (x : Name) → sorts.Dir ≡ sort_of (m to) → from ≡ par ++ x ∷ [] → to ++ x ∷ [] ≡ target_of m from to
 into_dir m from to par x e split = sym (ap (λ b. cond b (to ++ last from) to) (ap is_dir (dir_is (m to) e)) ∙ ap (λ l. to ++ l) (ap last split ∙ last-append par x))
+
+parent_into : (to from : Path) → from ≢ [] → parent (to ++ last from) ≡ to
+parent_into to [] ne = absurd (ne refl)
+parent_into to (x ∷ []) ne = parent-append to x
+parent_into to (x ∷ y ∷ p) ne = parent_into to (y ∷ p) (λ e. cc)
+
+file_is : (v : Option (Entry ℕ)) → sorts.File ≡ sort_of v → is_dir v ≡ false
+file_is None e = absurd (cc)
+file_is (Some entry.Dir) e = absurd (cc)
+file_is (Some (entry.File handles)) e = refl
+
+-- what is known of a rename's target by what was found where it leads
+pub known_of : (m : Plain ℕ) (from to : Path) (found : Sort) → from ≢ [] → found ≡ sort_of (m to) → IsKnown m (target_of m from to) found
+known_of m from to sorts.Missing ne e = let none = none_is (m to) e in ap m (ap (λ v. cond (is_dir v) (to ++ last from) to) none) ∙ none
+known_of m from to sorts.File ne e =
+    ap (λ p. is_some (m p)) (ap (λ b. cond b (to ++ last from) to) (file_is (m to) e)) ∙ stands_is (m to) (λ z. let k : sorts.File ≡ sorts.Missing = e ∙ sym z in cc)
+known_of m from to sorts.Dir ne e =
+    let dir = dir_is (m to) e in ap m (ap (λ v. parent (cond (is_dir v) (to ++ last from) to)) dir ∙ parent_into to from ne) ∙ dir
 
 pub rename-is : (deep : Bool) (m : Plain ℕ) (from to : Path) → (from ≢ []) → is_some (m from) ≡ true → rename (λ _. deep) m from to ≡ move_to deep m from (target_of m from to)
 rename-is deep m [] to h g = absurd (h refl)
@@ -180,6 +226,12 @@ pub deep_true : (deep : Bool) (m : Plain ℕ) (from to : Path) → IsDepthTest d
 deep_true true m from to h never = refl
 deep_true false m from to h never = absurd (never (λ q some. within to q (λ l. h (q, (some, l)))))
 
+-- a test of a node's depth is one of what stands at the source
+pub depth_of : (b : Bool) (limit n : ℕ) (m node : Plain ℕ) (from : Path) → limit ≡ 65 - n → ((q : Path) → m (from ++ q) ≡ node q) → MatchBool b (IsBelow limit node) (IsBelow limit node → ⊥) → MatchBool b (IsBelow (65 - n) (part_at from m)) (IsBelow (65 - n) (part_at from m) → ⊥)
+depth_of b limit n m node from e part h =
+    let is : node ≡ part_at from m = λ i q. sym (part q) i in
+    subst (λ l. MatchBool b (IsBelow l (part_at from m)) (IsBelow l (part_at from m) → ⊥)) e (subst (λ (k : Plain ℕ). MatchBool b (IsBelow limit k) (IsBelow limit k → ⊥)) is h)
+
 at_least : (a b : List ℕ) → length b ≤ length (a ++ b)
 at_least a b = omega (arith, length-append a b)
 
@@ -196,36 +248,40 @@ pub parent_is : (p par : Path) → parent_of p ≡ Some par → par ≡ parent p
 parent_is [] par e = absurd (cc)
 parent_is (x ∷ p) par e = let k : take (length p) (x ∷ p) ≡ par = cc in sym (parent_taken x p ∙ k)
 
--- what stands at p, whose parent is par, moves to a name beside it
-pub record Aside (m : Plain ℕ) (p target par : Path) (x name : Name) : Type 0 where
-  pub split : p ≡ par ++ x ∷ []
-  pub aim : target ≡ beside p name
-  pub stands : is_some (m p) ≡ true
-  pub above : DirsAbove m p
+-- what stands at p takes another name in its directory
+pub beside_is : (m : Plain ℕ) (p : Path) (name : Name) → is_some (m p) ≡ true → renamed_beside m p name ≡ cond (is_some (m (beside p name))) (Err Exists) (Ok (moved p (beside p name) m))
+beside_is m p name stands = ap (λ b. cond b (Err NotFound) (cond (is_some (m (beside p name))) (Err Exists) (Ok (moved p (beside p name) m)))) (some_is (m p) stands)
 
-pub aside_some : {m : Plain ℕ} {p target par : Path} {x name : Name} → Aside m p target par x name → p ≢ []
-aside_some {par = par} {x = x} h z = append_some par x (sym h.split ∙ z)
-
-pub aside_target : {m : Plain ℕ} {p target par : Path} {x name : Name} → Aside m p target par x name → target ≡ par ++ name ∷ []
-aside_target {par = par} {x = x} {name = name} h = h.aim ∙ ap (λ q. parent q ++ name ∷ []) h.split ∙ ap (λ q. q ++ name ∷ []) (parent-append par x)
-
-pub aside_is : {m : Plain ℕ} {p target par : Path} {x name : Name} → Aside m p target par x name → renamed_beside m p name ≡ cond (is_some (m target)) (Err Exists) (Ok (moved p target m))
-aside_is {m = m} {p = p} {name = name} h =
-    ap (λ b. cond b (Err NotFound) (cond (is_some (m (beside p name))) (Err Exists) (Ok (moved p (beside p name) m)))) (some_is (m p) h.stands)
-    ∙ ap (λ t. cond (is_some (m t)) (Err Exists) (Ok (moved p t m))) (sym h.aim)
+pub beside_taken : (m : Plain ℕ) (p : Path) (name : Name) → is_some (m p) ≡ true → beside p name ≡ p → renamed_beside m p name ≡ Err Exists
+beside_taken m p name stands e = beside_is m p name stands ∙ ap (λ b. cond b (Err Exists) (Ok (moved p (beside p name) m))) (ap (λ q. is_some (m q)) e ∙ stands)
 
 -- another name
-pub aside_apart : {m : Plain ℕ} {p target par : Path} {x name : Name} → Aside m p target par x name → same_name x name ≡ false → begins p target ≡ false
-aside_apart {target = target} {par = par} {x = x} {name = name} h other = ap (λ q. begins q target) h.split ∙ ap (begins (par ++ x ∷ [])) (aside_target h) ∙ beside_begins par x name ∙ other
+pub beside_apart : (p par : Path) (x name : Name) → p ≡ par ++ x ∷ [] → same_name x name ≡ false → begins p (beside p name) ≡ false
+beside_apart p par x name split other =
+    ap (λ q. begins q (beside q name)) split ∙ ap (λ q. begins (par ++ x ∷ []) (q ++ name ∷ [])) (parent-append par x) ∙ beside_begins par x name ∙ other
 
 -- the same name
-pub aside_same : {m : Plain ℕ} {p par : Path} {x name : Name} → Aside m p (beside p name) par x name → same_name x name ≡ true → renamed_beside m p name ≡ Err Exists
-aside_same {m = m} {p = p} {par = par} {x = x} {name = name} h same =
-    let one : p ≡ beside p name = h.split ∙ ap (λ n. par ++ n ∷ []) (one_name x name same) ∙ sym (aside_target h) in
-    aside_is h ∙ ap (λ b. cond b (Err Exists) (Ok (moved p (beside p name) m))) (ap (λ q. is_some (m q)) (sym one) ∙ h.stands)
+pub beside_same : (p par : Path) (x name : Name) → p ≡ par ++ x ∷ [] → same_name x name ≡ true → beside p name ≡ p
+beside_same p par x name split same =
+    ap (λ q. parent q ++ name ∷ []) split ∙ ap (λ q. q ++ name ∷ []) (parent-append par x) ∙ ap (λ n. par ++ n ∷ []) (sym (one_name x name same)) ∙ sym split
 
-pub aside_dir : {m : Plain ℕ} {p target par : Path} {x name : Name} → Aside m p target par x name → m par ≡ Some Dir
-aside_dir {m = m} {p = p} {par = par} {x = x} h = ap m (sym (parent-append par x) ∙ ap parent (sym h.split)) ∙ dir_above m p (aside_some h) h.above
+-- a node was taken from p, where something else stands in its place now
+pub record Lifted (m node one : Plain ℕ) (p : Path) : Type 0 where
+  pub back : with_at p node one ≡ m
+  pub holds : is_some (one p) ≡ true
+  pub stands : is_some (m p) ≡ true
+  pub above : DirsAbove m p
+  pub others : (q r : Path) → begins p (q ++ r) ≡ false → one q ≡ m q
+
+pub lifted : (m node one : Plain ℕ) (new : Rows ℕ) (p p' : Path) → p' ≡ p → new ≡ ([], Dir) ∷ [] → true ≡ is_some (m p') → DirsAbove m p' → ((q : Path) → m (p' ++ q) ≡ node q) → ((q : Path) → one q ≡ with_at p' (at new) m q) → Lifted m node one p
+lifted m node one new p p' e is some above part now =
+    subst (Lifted m node one) e (record {
+      back = restored m p' (at new) node one now part;
+      holds = ap is_some (there m (at new) one p' now ∙ ap (λ r. at r []) is);
+      stands = sym some;
+      above = above;
+      others = λ q r apart. elsewhere m (at new) one p' q r now apart;
+    })
 
 -- to hide is to rename beside
 pub hide-beside : (m : Plain ℕ) (p par : Path) (x : Name) (moment number : ℕ) → p ≡ par ++ x ∷ [] → hide m p moment number ≡ renamed_beside m p (hidden_name moment number x)
@@ -241,10 +297,6 @@ old_name-append (y ∷ z ∷ p) x = old_name-append (z ∷ p) x
 
 pub unhide-is : (m : Plain ℕ) (p : Path) (name : Option Name) → name ≡ old_name p → unhide m p ≡ unhidden m p name
 unhide-is m p name e = ap (unhidden m p) (sym e)
-
-pub follows_memory : (I : Type 0) (r : Result (Plain ℕ) Refusal) (f : Refusal) (old : Plain ℕ) → f ≡ Memory → Follows {I = I} r (Err f) old old
-follows_memory I (Ok m) f old e = (e, λ q. refl)
-follows_memory I (Err g) f old e = (inr e, λ q. refl)
 
 -- a refusal that the plain tree gives
 pub refused : (I : Type 0) {r : Result (Plain ℕ) Refusal} (f : Refusal) (old : Plain ℕ) → r ≡ Err f → Follows {I = I} r (Err f) old old

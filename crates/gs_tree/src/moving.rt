@@ -1,15 +1,16 @@
 //! What is moved: renamed, hidden, and taken out of hiding.
-ghost use Rattle.std.specs.Prelude.{◌≡◌, ◌≢◌, ◌-◌, [], Bool, true, is_some, IfOk, IfErr, MatchBool};
+ghost use Rattle.std.specs.Prelude.{◌≡◌, ◌≢◌, ◌⊎◌, ◌-◌, [], Bool, true, false, ℕ, Result, is_some, IfOk, OnOk, IfErr, MatchBool};
+ghost use Rattle.gs_path.specs.Path.{begins};
 ghost use Rattle.gs_tree.specs.Find.{at, IsBelow, DirsAbove, IsDepthTest};
-ghost use Rattle.gs_tree.specs.Plain.{part_at};
+ghost use Rattle.gs_tree.specs.Plain.{Plain, part_at, with_at};
 ghost use Rattle.gs_tree.specs.Edits.{rename, hide, unhide, beside, renamed_beside, old_name, move_to, target_of};
 ghost use Rattle.gs_tree.specs.Inverses.{TakesBack, LeavesChunks, IsMoved};
 ghost use Rattle.gs_tree.specs.Follows.{Follows, Moves};
-ghost use Rattle.gs_tree.specs.inner.Sort.{IsFoundAt};
-ghost use Rattle.gs_tree.specs.inner.Steps.{TestsPlace};
+ghost use Rattle.gs_tree.specs.inner.Sort.{sort_of};
+ghost use Rattle.gs_tree.specs.inner.Steps.{TestsPlace, TestsApart, TestsParent, TestsTarget, IsElsewhere, IsKnown, IsAim, Aims};
 
 use crate::inverse::TreeInverse;
-use crate::node::{Node, Sort};
+use crate::node::{Leaf, Node, Sort};
 use crate::tree::TOO_MANY_ELEMENTS;
 use gs_base::{Moment, Refusal};
 use gs_path::{Name, Path};
@@ -19,24 +20,33 @@ use std::alloc::{AllocError, Global};
 pub(crate) fn test_place(root: &Node, from: &Path, target: &Path) -> Result<(), Refusal>
     ensures { TestsPlace (at root.now) from.now target.now result }
 {
-    test_found(root, from, target, root.sort_at(target.elements()))
+    match test_apart(from, target) {
+        Ok(()) => {}
+        Err(refusal) => return Err(refusal),
+    }
+    match root.sort_at(target.elements()) {
+        Sort::Missing => test_parent(root, target),
+        Sort::Dir | Sort::File => Err(Refusal::Exists),
+    }
 }
 
-/// The same, where it is known what stands at the place.
-fn test_found(root: &Node, from: &Path, target: &Path, found: Sort) -> Result<(), Refusal>
-    requires { IsFoundAt (at root.now) target.now found }
-    ensures { TestsPlace (at root.now) from.now target.now result }
+/// Whether a target is neither the source nor under it.
+fn test_apart(from: &Path, target: &Path) -> Result<(), Refusal>
+    ensures { TestsApart from.now target.now result }
 {
-    if *target == *from {
+    let Some(below) = target.below(from) else {
+        return Ok(());
+    };
+    if below.is_empty() {
         return Err(Refusal::Exists);
     }
-    if target.starts_with(from) {
-        return Err(Refusal::IntoItself);
-    }
-    match found {
-        Sort::Missing => {}
-        Sort::Dir | Sort::File => return Err(Refusal::Exists),
-    }
+    Err(Refusal::IntoItself)
+}
+
+/// Whether a free target is under a directory.
+fn test_parent(root: &Node, target: &Path) -> Result<(), Refusal>
+    ensures { TestsParent (at root.now) target.now result }
+{
     let Some((_, parent)) = target.elements().split_last() else {
         return Err(Refusal::NotFound);
     };
@@ -47,55 +57,20 @@ fn test_found(root: &Node, from: &Path, target: &Path, found: Sort) -> Result<()
     }
 }
 
-/// Whether all at and under a path would still have few enough elements under a path of `depth` elements.
-fn fits_under(root: &Node, from: &[Name], depth: usize) -> bool
-    ensures { MatchBool result (IsBelow (65 - depth) (part_at from.now (at root.now))) (IsBelow (65 - depth) (part_at from.now (at root.now)) → ⊥) }
+/// The tests on a move's target but for the length of the paths there, and for what stands there if it is under a
+/// directory that was found where the move was to lead. Nothing under the source is looked up.
+fn test_target(root: &Node, from: &Path, target: &Path, found: Sort) -> Result<(), Refusal>
+    ensures { (m : Plain ℕ) → IsElsewhere from.now m (at root.now) → IsKnown m target.now found → TestsTarget m from.now target.now result }
 {
-    match root.find(from) {
-        Some(node) => node.is_below(TOO_MANY_ELEMENTS.saturating_sub(depth)),
-        None => true,
-    }
-}
-
-/// Where a move leads, and what stands there.
-struct Target {
-    path: Path,
-    found: Sort,
-}
-
-/// Moves what stands at a path to a target, after the tests on the target.
-fn move_to_target(
-    root: &mut Node,
-    alloc: Global,
-    from: &Path,
-    target: Target,
-) -> Result<TreeInverse, Refusal>
-    requires root { from.now ≢ [] }
-    requires stands { is_some (at root.old from.now) ≡ true }
-    requires above { DirsAbove (at root.old) from.now }
-    requires found { IsFoundAt (at root.old) target.path target.found }
-    ensures edit { (deep : Bool) → IsDepthTest deep (at root.old) from.now target.path → Follows (move_to deep (at root.old) from.now target.path) result (at root.old) (at root.new) }
-    ensures undo { IfOk result (λ i. TakesBack i (at root.old) (at root.new)) }
-    ensures inverse { IfOk result (λ i. LeavesChunks i) }
-    ensures kind { IfOk result (λ i. IsMoved i) }
-{
-    let Target { path: to, found } = target;
-    match test_found(root, from, &to, found) {
+    match test_apart(from, target) {
         Ok(()) => {}
         Err(refusal) => return Err(refusal),
     }
-    let Some((name, parent)) = to.elements().split_last() else {
-        return Err(Refusal::NotFound);
-    };
-    if !fits_under(root, from.elements(), to.elements().len()) {
-        return Err(Refusal::BadPath);
+    match found {
+        Sort::Missing => test_parent(root, target),
+        Sort::File => Err(Refusal::Exists),
+        Sort::Dir => Ok(()),
     }
-    let source = from.copy(alloc)?;
-    let name = name.copy(alloc)?;
-    if !root.relocate(alloc, from.elements(), parent, name, to.elements())? {
-        return Err(Refusal::Exists);
-    }
-    Ok(TreeInverse::Moved(source, to))
 }
 
 /// A tree in which what stands at a path is moved to another, in the place of what stands there.
@@ -125,25 +100,103 @@ pub(crate) fn with_moved(
     Ok(root)
 }
 
-/// Where a rename leads: the target, or the source's name under the target if that is a directory.
-fn target_of(root: &Node, alloc: Global, from: &Path, to: &Path) -> Result<Target, Refusal>
-    requires { from.now ≢ [] }
-    ensures path { IfOk result (λ t. t.path ≡ target_of (at root.now) from.now to.now) }
-    ensures found { IfOk result (λ t. IsFoundAt (at root.now) t.path t.found) }
-    ensures err { IfErr result (λ e. e ≡ Refusal.Memory) }
+/// A move that goes through where nothing stands at its target: its two paths, and the target's last element.
+struct Aim {
+    source: Path,
+    target: Path,
+    name: Name,
+}
+
+/// Ends a move of a node that was replaced at a path: it goes to its target, or back if it isn't to move or nothing can be
+/// put there.
+fn settle(
+    root: &mut Node,
+    path: &Path,
+    node: Node,
+    aim: Result<Aim, Refusal>,
+) -> Result<TreeInverse, Refusal>
+    requires root { path.now ≢ [] }
+    requires stands { is_some (at root.old path.now) ≡ true }
+    requires node { is_some (at node []) ≡ true }
+    requires above { DirsAbove (with_at path.now (at node) (at root.old)) path.now }
+    requires aim { IfOk aim (λ a. IsAim (with_at path.now (at node) (at root.old)) path.now a.source a.target a.name) }
+    ensures edit { (wanted : Result (Plain ℕ) Refusal) → Aims (with_at path.now (at node) (at root.old)) path.now wanted aim (λ a. a.target) → Follows wanted result (with_at path.now (at node) (at root.old)) (at root.new) }
+    ensures undo { IfOk result (λ i. TakesBack i (with_at path.now (at node) (at root.old)) (at root.new)) }
+    ensures inverse { IfOk result (λ i. LeavesChunks i) }
+    ensures kind { IfOk result (λ i. IsMoved i) }
 {
-    let mut path = to.copy(alloc)?;
-    let found = root.sort_at(to.elements());
+    let from = path.elements();
+    let Aim {
+        source,
+        target,
+        name,
+    } = match aim {
+        Ok(aim) => aim,
+        Err(refusal) => {
+            root.put(from, node);
+            return Err(refusal);
+        }
+    };
+    let to = target.elements();
+    let Some((_, parent)) = to.split_last() else {
+        return Err(Refusal::NotFound);
+    };
+    if !root.land(from, parent, name, to, node)? {
+        return Err(Refusal::Exists);
+    }
+    Ok(TreeInverse::Moved(source, target))
+}
+
+/// Where a rename leads: to what was found, or to the source's name under it if that is a directory.
+fn target_of(alloc: Global, from: &Path, to: &Path, found: Sort) -> Result<Path, AllocError>
+    requires { from.now ≢ [] }
+    ensures { (m : Plain ℕ) → found ≡ sort_of (m to.now) → IfOk result (λ t. t ≡ target_of m from.now to.now) }
+{
     match found {
         Sort::Dir => {}
-        Sort::Missing | Sort::File => return Ok(Target { path, found }),
+        Sort::Missing | Sort::File => return to.copy(alloc),
     }
     let Some((name, _)) = from.elements().split_last() else {
-        return Ok(Target { path, found });
+        return to.copy(alloc);
     };
-    path.push(name.copy(alloc)?)?;
-    let found = root.sort_at(path.elements());
-    Ok(Target { path, found })
+    to.join(alloc, name)
+}
+
+/// A rename of a node that was replaced at a path, where it is known what was found at the other.
+fn aim_at(
+    root: &Node,
+    alloc: Global,
+    from: &Path,
+    node: &Node,
+    to: &Path,
+    found: Sort,
+) -> Result<Aim, Refusal>
+    requires root { from.now ≢ [] }
+    requires found { found ≡ sort_of (with_at from.now (at node.now) (at root.now) to.now) }
+    ensures aim { IfOk result (λ a. IsAim (with_at from.now (at node.now) (at root.now)) from.now a.source a.target a.name) }
+    ensures edit { (deep : Bool) → IsDepthTest deep (with_at from.now (at node.now) (at root.now)) from.now (target_of (with_at from.now (at node.now) (at root.now)) from.now to.now) → Aims (with_at from.now (at node.now) (at root.now)) from.now (move_to deep (with_at from.now (at node.now) (at root.now)) from.now (target_of (with_at from.now (at node.now) (at root.now)) from.now to.now)) result (λ a. a.target) }
+{
+    let target = target_of(alloc, from, to, found)?;
+    match test_target(root, from, &target, found) {
+        Ok(()) => {}
+        Err(refusal) => return Err(refusal),
+    }
+    let Some((name, _)) = target.elements().split_last() else {
+        return Err(Refusal::Exists);
+    };
+    if !node.is_below(TOO_MANY_ELEMENTS.saturating_sub(target.elements().len())) {
+        match root.sort_at(target.elements()) {
+            Sort::Missing => return Err(Refusal::BadPath),
+            Sort::Dir | Sort::File => return Err(Refusal::Exists),
+        }
+    }
+    let source = from.copy(alloc)?;
+    let name = name.copy(alloc)?;
+    Ok(Aim {
+        source,
+        target,
+        name,
+    })
 }
 
 pub(crate) fn rename_in(
@@ -160,14 +213,12 @@ pub(crate) fn rename_in(
     if from.elements().is_empty() {
         return Err(Refusal::IsRoot);
     }
-    match root.sort_at(from.elements()) {
-        Sort::Missing => return Err(Refusal::NotFound),
-        Sort::Dir | Sort::File => {}
-    }
-    match target_of(root, alloc, from, to) {
-        Ok(target) => move_to_target(root, alloc, from, target),
-        Err(refusal) => Err(refusal),
-    }
+    let found = root.sort_at(to.elements());
+    let Some(node) = root.replace(from.elements(), Node::new(alloc, Leaf::Dir)) else {
+        return Err(Refusal::NotFound);
+    };
+    let aim = aim_at(root, alloc, from, &node, to, found);
+    settle(root, from, node, aim)
 }
 
 /// Moves what stands at a path to another name beside it.
@@ -183,32 +234,46 @@ fn rename_beside(
     ensures inverse { IfOk result (λ i. LeavesChunks i) }
     ensures kind { IfOk result (λ i. IsMoved i) }
 {
-    let Some((old, parent)) = path.elements().split_last() else {
+    let Some(node) = root.replace(path.elements(), Node::new(alloc, Leaf::Dir)) else {
         return Err(Refusal::NotFound);
     };
-    match root.sort_at(path.elements()) {
-        Sort::Missing => return Err(Refusal::NotFound),
-        Sort::Dir | Sort::File => {}
-    }
+    let aim = aim_beside(alloc, path, name);
+    settle(root, path, node, aim)
+}
+
+/// A move to another name beside a path.
+fn aim_beside(alloc: Global, path: &Path, name: Name) -> Result<Aim, Refusal>
+    requires { path.now ≢ [] }
+    ensures source { IfOk result (λ a. a.source ≡ path.now) }
+    ensures target { IfOk result (λ a. a.target ≡ beside path.now name) }
+    ensures name { IfOk result (λ a. a.name ≡ name) }
+    ensures other { OnOk result (begins path.now (beside path.now name) ≡ false) }
+    ensures err { IfErr result (λ e. (e ≡ Refusal.Memory) ⊎ ((e ≡ Refusal.Exists) × (beside path.now name ≡ path.now))) }
+{
+    let Some((old, _)) = path.elements().split_last() else {
+        return Err(Refusal::NotFound);
+    };
     if *old == name {
         return Err(Refusal::Exists);
     }
     let target = with_name(alloc, path, &name)?;
     let source = path.copy(alloc)?;
-    if !root.relocate(alloc, path.elements(), parent, name, target.elements())? {
-        return Err(Refusal::Exists);
-    }
-    Ok(TreeInverse::Moved(source, target))
+    Ok(Aim {
+        source,
+        target,
+        name,
+    })
 }
 
 /// The path with another last element.
 fn with_name(alloc: Global, path: &Path, name: &Name) -> Result<Path, AllocError>
     ensures { IfOk result (λ target. target ≡ beside path.now name.now) }
 {
-    match path.parent(alloc)? {
-        Some(parent) => parent.join(alloc, name),
-        None => Path::root(alloc).join(alloc, name),
-    }
+    let Some(mut target) = path.parent(alloc)? else {
+        return Path::root(alloc).join(alloc, name);
+    };
+    target.push(name.copy(alloc)?)?;
+    Ok(target)
 }
 
 /// Moves what stands at a path to a hidden name beside it.

@@ -1,4 +1,4 @@
-ghost use Rattle.std.specs.Prelude.{◌≡◌, ◌≢◌, ◌<◌, ◌≤◌, [], false, true, is_some, ◌∷◌, ◌++◌, option_copied, is_ok, if◌then◌else◌, IfOk, OnOk, MatchBool, length, not, option_and_then};
+ghost use Rattle.std.specs.Prelude.{◌≡◌, ◌≢◌, ◌<◌, ◌≤◌, [], false, true, is_some, ◌∷◌, ◌++◌, option_copied, is_ok, if◌then◌else◌, IfOk, OnOk, IfErr, MatchBool, length, not, option_and_then};
 ghost use Rattle.std.specs.List.{list_all, list_any};
 ghost use Rattle.std.specs.BTreeMap.{keys, Updates, IsOrdered};
 ghost use Rattle.gs_path.specs.Element.{is_hidden};
@@ -21,7 +21,7 @@ ghost use Rattle.gs_tree.specs.Lists.{top_path};
 use crate::entry::TreeEntry;
 use gs_base::{Handle, Refusal};
 use gs_path::{Name, Path};
-use std::alloc::{AllocError, Global};
+use std::alloc::{AllocError, AllocFailed, Global};
 use std::collections::BTreeMap;
 use std::marker::Model;
 use std::mem;
@@ -177,24 +177,32 @@ impl Node {
         }
     }
 
-    /// Puts a node under a directory, in the place of what stands there, and answers that.
+    /// Puts a node under a directory, in the place of what stands there, and answers that, or the node where memory is
+    /// wanting.
     pub(crate) fn graft(
         &mut self,
         parent: &[Name],
         name: Name,
         node: Node,
-    ) -> Result<Option<Node>, AllocError>
+    ) -> Result<Option<Node>, AllocFailed<Node>>
         requires { at self.old parent.now ≡ Some Dir }
         ensures now { (q : AnyPath) → at self.new q ≡ (if is_ok result then with_at (parent.now ++ name ∷ []) (at node) (at self.old) q else at self.old q) }
         ensures stood { IfOk result (λ stood. IsPartAt (at self.old) (parent.now ++ name ∷ []) stood) }
         ensures found { IfOk result (λ stood. is_some stood ≡ is_some (at self.old (parent.now ++ name ∷ []))) }
+        ensures returned { IfErr result (λ failed. failed.value ≡ node) }
     {
         let Kind::Dir(children) = &mut self.kind else {
             return Ok(None);
         };
         let [first, rest @ ..] = parent else {
             let reach = node.reach().saturating_add(1);
-            let stood = children.insert(name, node)?;
+            let stood = match children.insert(name, node) {
+                Ok(stood) => stood,
+                Err(failed) => {
+                    let (_, node) = failed.value;
+                    return Err(AllocFailed { value: node });
+                }
+            };
             self.reach = self.reach.max(reach);
             return Ok(stood);
         };
@@ -228,24 +236,35 @@ impl Node {
         child.prune(rest)
     }
 
+    /// Puts a node in the place of what stands at a path and answers that, which takes no memory. Nothing changes where
+    /// nothing stands there.
+    pub(crate) fn replace(&mut self, path: &[Name], node: Node) -> Option<Node>
+        ensures part { IsPartAt (at self.old) path.now result }
+        ensures found { is_some result ≡ is_some (at self.old path.now) }
+        ensures above { is_some result ≡ true → DirsAbove (at self.old) path.now }
+        ensures now { (q : AnyPath) → at self.new q ≡ (if is_some result then with_at path.now (at node) (at self.old) q else at self.old q) }
+    {
+        let [first, rest @ ..] = path else {
+            return Some(mem::replace(self, node));
+        };
+        let Kind::Dir(children) = &mut self.kind else {
+            return None;
+        };
+        let Some(child) = children.get_mut(first) else {
+            return None;
+        };
+        let had = child.replace(rest, node);
+        let reach = child.reach().saturating_add(1);
+        self.reach = self.reach.max(reach);
+        had
+    }
+
     /// Puts a node in the place of what stands at a path, which takes no memory.
     pub(crate) fn put(&mut self, path: &[Name], node: Node)
         requires { at self.old path.now ≢ None }
         ensures { (q : AnyPath) → at self.new q ≡ with_at path.now (at node) (at self.old) q }
     {
-        let [first, rest @ ..] = path else {
-            *self = node;
-            return;
-        };
-        let Kind::Dir(children) = &mut self.kind else {
-            return;
-        };
-        let Some(child) = children.get_mut(first) else {
-            return;
-        };
-        child.put(rest, node);
-        let reach = child.reach().saturating_add(1);
-        self.reach = self.reach.max(reach);
+        let _ = self.replace(path, node);
     }
 
     /// Gives a file other chunks and answers those that it had, which takes no memory.
@@ -297,16 +316,45 @@ impl Node {
         requires apart { begins from.now to.now ≡ false }
         ensures { Relocates (at self.old) from.now to.now result (at self.new) }
     {
-        let stood = self.graft(parent, name, Node::new(alloc, Leaf::Dir))?;
-        if let Some(stood) = stood {
-            self.put(to, stood);
-            return Ok(false);
-        }
-        let Some(node) = self.prune(from) else {
+        let Some(node) = self.replace(from, Node::new(alloc, Leaf::Dir)) else {
             return Ok(true);
         };
-        self.put(to, node);
-        Ok(true)
+        self.land(from, parent, name, to, node)
+    }
+
+    /// Ends the move of a node that was replaced at a path: puts it at a place under a directory, if nothing stands there,
+    /// and takes out what replaced it. Otherwise it goes back. Answers whether the place was free.
+    pub(crate) fn land(
+        &mut self,
+        from: &[Name],
+        parent: &[Name],
+        name: Name,
+        to: &[Name],
+        node: Node,
+    ) -> Result<bool, AllocError>
+        requires target { to.now ≡ parent.now ++ name ∷ [] }
+        requires dir { at self.old parent.now ≡ Some Dir }
+        requires stands { is_some (at self.old from.now) ≡ true }
+        requires node { is_some (at node []) ≡ true }
+        requires root { from.now ≢ [] }
+        requires apart { begins from.now to.now ≡ false }
+        ensures { Relocates (with_at from.now (at node) (at self.old)) from.now to.now result (at self.new) }
+    {
+        let stood = match self.graft(parent, name, node) {
+            Ok(stood) => stood,
+            Err(failed) => {
+                self.put(from, failed.value);
+                return Err(AllocError);
+            }
+        };
+        let Some(stood) = stood else {
+            let _ = self.prune(from);
+            return Ok(true);
+        };
+        if let Some(node) = self.replace(to, stood) {
+            self.put(from, node);
+        }
+        Ok(false)
     }
 
     /// Puts a leaf at a path where nothing stands there, and makes each directory above it that is missing. Answers how

@@ -1,15 +1,17 @@
 -- What the steps of the edits say of one another's work: making an entry, testing a place, putting a chunk.
-use Rattle.std.specs.Prelude.{◌≡◌, ◌⊎◌, ◌<◌, ◌+◌, Result, Ok, Err, Option, Some, None, ℕ, zero, suc, Bool, true, false, cond, is_none, is_some, length, nat_lt, slice_get, slice_set, []}
+use Rattle.std.specs.Prelude.{◌≡◌, ◌⊎◌, ◌<◌, ◌+◌, Result, Ok, Err, Option, Some, None, ℕ, zero, suc, Bool, true, false, cond, is_none, is_some, length, nat_lt, slice_get, slice_set, [], ◌∷◌, ◌++◌}
 use Rattle.std.specs.declared.alloc.AllocError.{AllocError}
 use Rattle.gs_base.specs.declared.refusal.Refusal.{Refusal}
-use Rattle.gs_base.specs.declared.refusal.Refusal.TheVariants.{Memory, NotADirectory, BadPath, Range}
-use Rattle.gs_path.specs.Path.{Path, begins}
+use Rattle.gs_base.specs.declared.refusal.Refusal.TheVariants.{Memory, Exists, NotADirectory, BadPath, Range}
+use Rattle.gs_path.specs.Path.{Name, Path, begins}
 use Rattle.gs_tree.specs.Entry.{Entry, Dir}
 use Rattle.gs_tree.specs.Plain.{Plain, Same, IsFree}
 use Rattle.gs_tree.specs.Inverses.{first_made, TakesBack, IsMade, LeavesChunks}
 use Rattle.gs_tree.specs.Follows.{Follows}
 use Rattle.gs_tree.specs.declared.inverse.TreeInverse.{TreeInverse}
-use Rattle.gs_tree.specs.Edits.{with_entry, with_dirs, with_chunks, chunks_in, file_above, stood, made, placed, moved, parent}
+use Rattle.gs_tree.specs.declared.node.Sort.{Sort}
+use Rattle.gs_tree.specs.declared.node.Sort.TheVariants as sorts
+use Rattle.gs_tree.specs.Edits.{with_entry, with_dirs, with_chunks, chunks_in, file_above, stood, made, placed, moved, parent, same_path}
 
 -- an entry was made where nothing stood, with the directories above it that were missing: so many paths in all
 pub record IsSown {A : Type 0} (m : Plain A) (path : Path) (e : Entry A) (made : ℕ) (left : Plain A) : Type 0 where
@@ -44,11 +46,54 @@ abbrev pub TestsPlace : Plain ℕ → Path → Path → Result (Unit {0}) Refusa
 TestsPlace m from to (Ok _) = IsPlace m from to
 TestsPlace m from to (Err e) = (deep : Bool) (new : Plain ℕ) → placed deep m from to new ≡ Err e
 
+-- a target is neither the source nor under it
+abbrev pub TestsApart : Path → Path → Result (Unit {0}) Refusal → Type 0
+TestsApart from to (Ok _) = (same_path to from ≡ false) × (begins from to ≡ false)
+TestsApart from to (Err e) = (deep : Bool) (m new : Plain ℕ) → placed deep m from to new ≡ Err e
+
+-- a target is under a directory, or what isn't there refuses it in each tree that has the same there and nothing at the target
+abbrev pub TestsParent : Plain ℕ → Path → Result (Unit {0}) Refusal → Type 0
+TestsParent one to (Ok _) = one (parent to) ≡ Some Dir
+TestsParent one to (Err e) = (deep : Bool) (from : Path) (m new : Plain ℕ) → one (parent to) ≡ m (parent to) → same_path to from ≡ false → begins from to ≡ false → m to ≡ None → placed deep m from to new ≡ Err e
+
+-- the same stands at each path that isn't at or under another
+abbrev pub IsElsewhere : Path → Plain ℕ → Plain ℕ → Type 0
+IsElsewhere from m one = (q r : Path) → begins from (q ++ r) ≡ false → one q ≡ m q
+
+-- what is known of a target: that nothing stands there or something does, or that it is under a directory
+abbrev pub IsKnown : Plain ℕ → Path → Sort → Type 0
+IsKnown m to sorts.Missing = m to ≡ None
+IsKnown m to sorts.File = is_some (m to) ≡ true
+IsKnown m to sorts.Dir = m (parent to) ≡ Some Dir
+
+-- a target is under a directory and not under the source: it has only to be free, and what is put there short enough
+pub record IsTarget (m : Plain ℕ) (from to : Path) : Type 0 where
+  pub apart : begins from to ≡ false
+  pub dir : m (parent to) ≡ Some Dir
+  pub answer : (deep : Bool) (new : Plain ℕ) → placed deep m from to new ≡ cond (is_some (m to)) (Err Exists) (cond deep (Err BadPath) (Ok new))
+
+-- the tests on such a target
+abbrev pub TestsTarget : Plain ℕ → Path → Path → Result (Unit {0}) Refusal → Type 0
+TestsTarget m from to (Ok _) = IsTarget m from to
+TestsTarget m from to (Err e) = (deep : Bool) (new : Plain ℕ) → placed deep m from to new ≡ Err e
+
 -- something is moved to a place under a directory where that is free, which is the answer
 abbrev pub Relocates : Plain ℕ → Path → Path → Result Bool AllocError → Plain ℕ → Type 0
 Relocates old from to (Ok true) new = IsFree old to × Same new (moved from to old)
 Relocates old from to (Ok false) new = (is_some (old to) ≡ true) × Same new old
 Relocates old from to (Err f) new = Same new old
+
+-- a move that goes through where its target is free
+pub record IsAim (m : Plain ℕ) (from source to : Path) (name : Name) : Type 0 where
+  pub same : source ≡ from
+  pub ends : to ≡ parent to ++ name ∷ []
+  pub apart : begins from to ≡ false
+  pub dir : m (parent to) ≡ Some Dir
+
+-- what is to be done is such a move, or is refused
+abbrev pub Aims : {T : Type 0} → Plain ℕ → Path → Result (Plain ℕ) Refusal → Result T Refusal → (T → Path) → Type 0
+Aims m from wanted (Ok aim) target = wanted ≡ cond (is_some (m (target aim))) (Err Exists) (Ok (moved from (target aim) m))
+Aims m from wanted (Err e) target = (e ≡ Memory) ⊎ (wanted ≡ Err e)
 
 -- a chunk is put in the place of another, which is the answer
 abbrev pub SwapsChunk : Path → ℕ → ℕ → Plain ℕ → Result ℕ Refusal → Plain ℕ → Type 0

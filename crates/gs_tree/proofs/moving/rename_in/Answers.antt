@@ -1,42 +1,62 @@
-use Rattle.std.proofs.Common.{◌≡◌, ap, sym, ◌∙◌, subst, inl, inr, refl, ℕ}
-use Rattle.std.specs.Prelude.{Err, Result}
+use Rattle.std.proofs.Common.{◌≡◌, ◌++◌, [], ap, sym, ◌∙◌, subst, inl, refl, ℕ, append-nil}
+use Rattle.std.specs.Prelude.{Err, Result, IfOk, None}
 use Rattle.gs_base.specs.declared.refusal.Refusal.{Refusal}
 use Rattle.gs_base.specs.declared.refusal.Refusal.TheVariants.{NotFound}
-use Rattle.gs_path.specs.Path.{Path}
 use Rattle.gs_tree.specs.declared.inverse.TreeInverse.{TreeInverse}
-use Rattle.gs_tree.specs.declared.node.Sort.TheVariants as sorts
 use Rattle.gs_tree.specs.inner.Sort.{sort_of}
-use Rattle.gs_tree.specs.Plain.{Plain}
-use Rattle.gs_tree.specs.Find.{at, IsDepthTest}
-use Rattle.gs_tree.specs.Edits.{move_to, rename}
+use Rattle.gs_tree.specs.Plain.{Plain, with_at}
+use Rattle.gs_tree.specs.Find.{at, IsDepthTest, DirsAbove}
+use Rattle.gs_tree.specs.Edits.{move_to, target_of}
+use Rattle.gs_tree.specs.Inverses.{TakesBack}
 use Rattle.gs_tree.specs.Follows.{Follows}
-use Rattle.gs_tree.proofs.Moves.{follows_memory, rename-is, missing-is, not_empty, stands_is, none_is}
+use Rattle.gs_tree.proofs.Moves.{lifted, rename-is, missing-is, not_empty}
 use Rattle.gs_tree.proofs.moving.rename_in.Goals as goal
 
-pub returns-in-Missing-clause-edit : goal.returns-in-Missing-clause-edit
-returns-in-Missing-clause-edit c deep test =
-    let none = none_is (at c.args.root.now c.args.from.now) (c.in-Missing.ensures.sort ∙ ap (λ p. sort_of (at c.args.root.now p)) c.elements-2.ensures) in
-    let is = missing-is deep (at c.args.root.now) c.args.from.now c.args.to.now (not_empty c.args.from.now c.elements.result.now c.is_empty.result c.elements.ensures c.is_empty.ensures c.if-is_empty.false) none in
-    subst (λ (r : Result (Plain ℕ) Refusal). Follows {I = TreeInverse} r (Err NotFound) (at c.args.root.now) (at c.args.root.now)) (sym is) (inl refl, λ q. refl)
+pub returns-in_default-clause-edit : goal.returns-in_default-clause-edit
+returns-in_default-clause-edit c deep test =
+    let m = at c.args.root.now in
+    let from = c.args.from.now in
+    let none : m from ≡ None = ap m (sym (ap (λ p. p ++ []) c.elements-3.ensures ∙ append-nil from)) ∙ c.in_default.ensures.part [] in
+    let is = missing-is deep m from c.args.to.now (not_empty from c.elements.result.now c.is_empty.result c.elements.ensures c.is_empty.ensures c.if-is_empty.false) none in
+    subst (λ (r : Result (Plain ℕ) Refusal). Follows {I = TreeInverse} r (Err NotFound) m (at c.replace.new.self)) (sym is) (inl refl, c.in_default.ensures.now)
 
-pub returns-in-Err : goal.returns-in-Err
-returns-in-Err c = record {
-  edit = λ deep test. follows_memory TreeInverse (rename (λ _. deep) (at c.args.root.now) c.args.from.now c.args.to.now) c.in-Err.refusal (at c.args.root.now) c.in-Err.ensures.err;
-  undo = tt;
-  inverse = tt;
-  kind = tt;
-}
+pub aim_at-aim-requires-clause-found : goal.aim_at-aim-requires-clause-found
+aim_at-aim-requires-clause-found c =
+    let m = at c.args.root.now in
+    let from = c.args.from.now in
+    let l = lifted m (at c.in-Some.node) (at c.replace.new.self) c.new.result from c.elements-3.result.now c.elements-3.ensures c.new.ensures c.in-Some.ensures.found (c.in-Some.ensures.above refl) c.in-Some.ensures.part c.in-Some.ensures.now in
+    c.sort_at-found.ensures.sort ∙ ap (λ p. sort_of (m p)) c.elements-2.ensures ∙ ap (λ (k : Plain ℕ). sort_of (k c.args.to.now)) (sym l.back)
 
-pub returns-in-Ok : goal.returns-in-Ok
-returns-in-Ok c =
-    let stands : sorts.Missing ≡ sort_of (at c.args.root.now c.args.from.now) → ⊥ =
-    λ e. let m = c.sort_at.ensures.sort ∙ ap (λ p. sort_of (at c.args.root.now p)) c.elements-2.ensures ∙ sym e in elim c.in-Dir.is [ inl d ↦ cc (d, m) | inr f ↦ cc (f, m) ] in
-    let some = stands_is (at c.args.root.now c.args.from.now) stands in record {
-      edit = λ deep test.
-          let is = rename-is deep (at c.args.root.now) c.args.from.now c.args.to.now (not_empty c.args.from.now c.elements.result.now c.is_empty.result c.elements.ensures c.is_empty.ensures c.if-is_empty.false) some in
-          let step = subst (λ (t : Path). Follows (move_to deep (at c.args.root.now) c.args.from.now t) c.move_to_target.result (at c.args.root.now) (at c.move_to_target.new.root)) c.in-Ok.ensures.path (c.move_to_target.ensures.edit deep (subst (λ (t : Path). IsDepthTest deep (at c.args.root.now) c.args.from.now t) (sym c.in-Ok.ensures.path) test)) in
-          subst (λ (r : Result (Plain ℕ) Refusal). Follows r c.move_to_target.result (at c.args.root.now) (at c.move_to_target.new.root)) (sym is) step;
-      undo = c.move_to_target.ensures.undo;
-      inverse = c.move_to_target.ensures.inverse;
-      kind = c.move_to_target.ensures.kind;
-    }
+pub settle-requires-clause-stands : goal.settle-requires-clause-stands
+settle-requires-clause-stands c =
+    let m = at c.args.root.now in
+    let from = c.args.from.now in
+    let l = lifted m (at c.in-Some.node) (at c.replace.new.self) c.new.result from c.elements-3.result.now c.elements-3.ensures c.new.ensures c.in-Some.ensures.found (c.in-Some.ensures.above refl) c.in-Some.ensures.part c.in-Some.ensures.now in
+    l.holds
+
+pub settle-requires-clause-above : goal.settle-requires-clause-above
+settle-requires-clause-above c =
+    let m = at c.args.root.now in
+    let from = c.args.from.now in
+    let l = lifted m (at c.in-Some.node) (at c.replace.new.self) c.new.result from c.elements-3.result.now c.elements-3.ensures c.new.ensures c.in-Some.ensures.found (c.in-Some.ensures.above refl) c.in-Some.ensures.part c.in-Some.ensures.now in
+    subst (λ (k : Plain ℕ). DirsAbove k from) (sym l.back) l.above
+
+pub returns-clause-edit : goal.returns-clause-edit
+returns-clause-edit c deep test =
+    let m = at c.args.root.now in
+    let from = c.args.from.now in
+    let l = lifted m (at c.in-Some.node) (at c.replace.new.self) c.new.result from c.elements-3.result.now c.elements-3.ensures c.new.ensures c.in-Some.ensures.found (c.in-Some.ensures.above refl) c.in-Some.ensures.part c.in-Some.ensures.now in
+    let to = c.args.to.now in
+    let now = with_at from (at c.in-Some.node) (at c.replace.new.self) in
+    let tested = subst (λ (k : Plain ℕ). IsDepthTest deep k from (target_of k from to)) (sym l.back) test in
+    let step = c.settle.ensures.edit (move_to deep now from (target_of now from to)) (c.aim_at-aim.ensures.edit deep tested) in
+    let is = rename-is deep m from to (not_empty from c.elements.result.now c.is_empty.result c.elements.ensures c.is_empty.ensures c.if-is_empty.false) l.stands in
+    subst (λ (r : Result (Plain ℕ) Refusal). Follows r c.settle.result m (at c.settle.new.root)) (sym is)
+    (subst (λ (k : Plain ℕ). Follows (move_to deep k from (target_of k from to)) c.settle.result k (at c.settle.new.root)) l.back step)
+
+pub returns-clause-undo : goal.returns-clause-undo
+returns-clause-undo c =
+    let m = at c.args.root.now in
+    let from = c.args.from.now in
+    let l = lifted m (at c.in-Some.node) (at c.replace.new.self) c.new.result from c.elements-3.result.now c.elements-3.ensures c.new.ensures c.in-Some.ensures.found (c.in-Some.ensures.above refl) c.in-Some.ensures.part c.in-Some.ensures.now in
+    subst (λ (k : Plain ℕ). IfOk c.settle.result (λ i. TakesBack i k (at c.settle.new.root))) l.back c.settle.ensures.undo

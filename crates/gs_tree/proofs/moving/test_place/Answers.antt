@@ -1,8 +1,11 @@
-use Rattle.std.proofs.Common.{◌++◌, ap, sym, ◌∙◌}
-use Rattle.gs_tree.specs.inner.Sort.{sort_of}
+use Rattle.std.proofs.Common.{◌++◌, ap, sym}
+use Rattle.std.proofs.Common.{◌∙◌}
 use Rattle.gs_tree.specs.Find.{at}
+use Rattle.gs_tree.specs.Plain.{IsFree}
+use Rattle.gs_tree.proofs.Moves.{parent_place}
 use Rattle.gs_tree.proofs.moving.test_place.Goals as goal
 
-pub test_found-requires : goal.test_found-requires
-test_found-requires c =
-    (c.sort_at.ensures.sort ∙ ap (λ p. sort_of (at c.args.root.now p)) c.elements.ensures, λ e r. ap (λ p. at c.args.root.now (p ++ r)) (sym c.elements.ensures) ∙ c.sort_at.ensures.free e r)
+pub returns-in-Missing : goal.returns-in-Missing
+returns-in-Missing c =
+    let free : IsFree (at c.args.root.now) c.args.target.now = λ r. ap (λ p. at c.args.root.now (p ++ r)) (sym c.elements.ensures) ∙ c.sort_at.ensures.free c.in-Missing.is r in
+    parent_place c.test_parent.result (at c.args.root.now) c.args.from.now c.args.target.now c.in-Ok.ensures.0 c.in-Ok.ensures.1 free c.test_parent.ensures

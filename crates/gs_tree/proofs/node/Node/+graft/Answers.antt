@@ -17,20 +17,20 @@ if_stood (Err e) f h = h
 
 pub returns-in_default-parent-clause-now : goal.returns-in_default-parent-clause-now
 returns-in_default-parent-clause-now t c q =
-    let u = updated c.insert.new.self (Some c.args.node) c.self.view_is c.self.invariant.level c.in-Dir.is c.in_ok-stood.ensures.ordered c.in_ok-stood.ensures.updates.0 in
+    let u = updated c.insert.new.self (Some c.args.node) c.self.view_is c.self.invariant.level c.in-Dir.is c.in-Ok.ensures.ordered c.in-Ok.ensures.updates.0 in
     at-updated u q
     ∙ splice-here c.args.name (Some c.args.node) (at c.args.self.now) q
     ∙ ap (λ (p : Path). with_at (p ++ c.args.name ∷ []) (at c.args.node) (at c.args.self.now) q) (sym (empty_path c.args.parent.now c.in_default-parent.len_below))
 
 pub returns-in_default-parent-clause-stood : goal.returns-in_default-parent-clause-stood
 returns-in_default-parent-clause-stood t c =
-    subst (λ (p : Path). IsPartAt (at c.args.self.now) (p ++ c.args.name ∷ []) c.in_ok-stood.stood) (sym (empty_path c.args.parent.now c.in_default-parent.len_below))
-    (part_of_name c.args.name c.self.view_is c.self.invariant.level c.in-Dir.is c.in_ok-stood.stood c.in_ok-stood.ensures.old)
+    subst (λ (p : Path). IsPartAt (at c.args.self.now) (p ++ c.args.name ∷ []) c.in-Ok.stood) (sym (empty_path c.args.parent.now c.in_default-parent.len_below))
+    (part_of_name c.args.name c.self.view_is c.self.invariant.level c.in-Dir.is c.in-Ok.stood c.in-Ok.ensures.old)
 
 pub returns-in_default-parent-clause-found : goal.returns-in_default-parent-clause-found
 returns-in_default-parent-clause-found t c =
     let rooted = subst IsRooted c.in-Dir.is c.self.invariant.rooted c.args.name in
-    found_part (at c.args.self.now) (c.args.parent.now ++ c.args.name ∷ []) c.in_ok-stood.stood (returns-in_default-parent-clause-stood t c) (λ rows is. rooted rows (sym c.in_ok-stood.ensures.old ∙ is))
+    found_part (at c.args.self.now) (c.args.parent.now ++ c.args.name ∷ []) c.in-Ok.stood (returns-in_default-parent-clause-stood t c) (λ rows is. rooted rows (sym c.in-Ok.ensures.old ∙ is))
 
 pub returns-clause-found : goal.returns-clause-found
 returns-clause-found t c =
@@ -65,7 +65,7 @@ returns-clause-now t c q =
 
 pub invariant_of-self-in_default-parent : goal.invariant_of-self-in_default-parent
 invariant_of-self-in_default-parent t c =
-    let u = updated c.insert.new.self (Some c.args.node) c.self.view_is c.self.invariant.level c.in-Dir.is c.in_ok-stood.ensures.ordered c.in_ok-stood.ensures.updates.0 in
+    let u = updated c.insert.new.self (Some c.args.node) c.self.view_is c.self.invariant.level c.in-Dir.is c.in-Ok.ensures.ordered c.in-Ok.ensures.updates.0 in
     node_spliced c.self.inside.kind c.self.inside.reach c.saturating_add-reach.result c.reach.result c.max-self-inside.result u c.self.view_is c.self.invariant c.in-Dir.is c.reach.ensures.bound c.reach.ensures.stands c.saturating_add-reach.ensures c.max-self-inside.ensures
 
 pub invariant_of-self-2 : goal.invariant_of-self-2
