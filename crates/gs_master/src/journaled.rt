@@ -75,11 +75,7 @@ fn spare_for(
 }
 
 /// The same, in the place of what was to be sent, or in the memory that was made for it.
-fn told_unsure(
-    mut sent: Vec<Message>,
-    spare: Vec<Message>,
-    caller: Option<ReqId>,
-) -> Vec<Message>
+fn told_unsure(mut sent: Vec<Message>, spare: Vec<Message>, caller: Option<ReqId>) -> Vec<Message>
     requires { vec_capacity sent ≡ 0 → spare.items ≡ unsure caller }
     ensures { result.items ≡ unsure caller }
 {

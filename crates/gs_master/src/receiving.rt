@@ -1,5 +1,7 @@
 // Messages as they come.
+ghost use Rattle.gs_base.specs.declared.refusal.Refusal.TheVariants as refusals;
 ghost use Rattle.gs_state.specs.Handling.{from_client, handle};
+ghost use Rattle.gs_state.specs.State.{met_by};
 ghost use Rattle.gs_master.specs.StartingOver.{IsBegun};
 ghost use Rattle.gs_master.specs.Turns.{GoesBack, IsUnderWay, Steps, state_at};
 
@@ -8,6 +10,16 @@ use gs_base::{Config, Moment, Refusal};
 use gs_msg::{Body, Message, NodeId};
 
 impl Event {
+    /// A message that isn't for the master.
+    fn meet_stray(&mut self, stray: Body) -> Result<(), Refusal>
+        requires { IsUnderWay self.old }
+        ensures steps { Steps (met_by (state_at self.old) refusals.Stray) self.old result self.new }
+        ensures back { GoesBack self.old self.new }
+    {
+        drop(stray);
+        self.meet_by(Refusal::Stray)
+    }
+
     /// What a client says. Its calls are taken, and all else is a stray.
     fn hear_client(&mut self, config: &Config, moment: Moment, said: Body) -> Result<(), Refusal>
         requires ready { IsUnderWay self.old }
@@ -17,10 +29,7 @@ impl Event {
     {
         match said {
             Body::Call { req, call } => self.take_call(config, req, moment, call),
-            stray => {
-                drop(stray);
-                self.meet_by(Refusal::Stray)
-            }
+            stray => self.meet_stray(stray),
         }
     }
 
@@ -34,10 +43,7 @@ impl Event {
     {
         let Message { from, to: _, body } = message;
         match from {
-            NodeId::Master => {
-                drop(body);
-                self.meet_by(Refusal::Stray)
-            }
+            NodeId::Master => self.meet_stray(body),
             NodeId::Server(server) => {
                 let served = self.serve(server, moment, &body);
                 drop(body);

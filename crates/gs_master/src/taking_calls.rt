@@ -118,6 +118,21 @@ impl Event {
         self.carry_out(plan)
     }
 
+    /// The same for a call, which isn't taken.
+    fn reply_to_call(
+        &mut self,
+        req: ReqId,
+        call: Call,
+        told: Result<Answer, Refusal>,
+    ) -> Result<(), Refusal>
+        requires { IsUnderWay self.old }
+        ensures steps { Steps (replied_again (state_at self.old) req told) self.old result self.new }
+        ensures back { GoesBack self.old self.new }
+    {
+        drop(call);
+        self.reply(req, told)
+    }
+
     /// A call that waits gets no answer before it ends, but where the disk has failed.
     fn wait_still(&mut self, req: ReqId) -> Result<(), Refusal>
         requires { IsUnderWay self.old }
@@ -144,8 +159,7 @@ impl Event {
         ensures back { GoesBack self.old self.new }
     {
         if self.fault.is_unopened() {
-            drop(call);
-            return self.reply(req, Err(Refusal::Device));
+            return self.reply_to_call(req, call, Err(Refusal::Device));
         }
         let standing = self.standing();
         if standing.memory.is_pending(req) {
@@ -154,15 +168,14 @@ impl Event {
         }
         match standing.numbered(req) {
             Numbered::New => self.new_call(config, req, moment, call),
-            Numbered::Again(told) => {
-                let told = copied(self.alloc, told);
-                drop(call);
-                self.reply(req, told?)
-            }
-            Numbered::Older => {
-                drop(call);
-                self.reply(req, Err(Refusal::Old))
-            }
+            Numbered::Again(told) => match copied(self.alloc, told) {
+                Ok(told) => self.reply_to_call(req, call, told),
+                Err(error) => {
+                    drop(call);
+                    Err(error.into())
+                }
+            },
+            Numbered::Older => self.reply_to_call(req, call, Err(Refusal::Old)),
         }
     }
 }
