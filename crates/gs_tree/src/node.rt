@@ -300,28 +300,6 @@ impl Node {
         }
     }
 
-    /// Moves what stands at a path to a place under a directory, if nothing stands there. Answers whether it was free.
-    pub(crate) fn relocate(
-        &mut self,
-        alloc: Global,
-        from: &[Name],
-        parent: &[Name],
-        name: Name,
-        to: &[Name],
-    ) -> Result<bool, AllocError>
-        requires target { to.now ≡ parent.now ++ name ∷ [] }
-        requires dir { at self.old parent.now ≡ Some Dir }
-        requires stands { is_some (at self.old from.now) ≡ true }
-        requires root { from.now ≢ [] }
-        requires apart { begins from.now to.now ≡ false }
-        ensures { Relocates (at self.old) from.now to.now result (at self.new) }
-    {
-        let Some(node) = self.replace(from, Node::new(alloc, Leaf::Dir)) else {
-            return Ok(true);
-        };
-        self.land(from, parent, name, to, node)
-    }
-
     /// Ends the move of a node that was replaced at a path: puts it at a place under a directory, if nothing stands there,
     /// and takes out what replaced it. Otherwise it goes back. Answers whether the place was free.
     pub(crate) fn land(

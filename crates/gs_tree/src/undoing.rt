@@ -7,7 +7,7 @@ ghost use Rattle.gs_tree.specs.Follows.{Undoes};
 
 use crate::file_chunks::swap_chunk;
 use crate::inverse::TreeInverse;
-use crate::node::{Node, Sort};
+use crate::node::{Leaf, Node, Sort};
 use gs_base::{Handle, Refusal};
 use gs_path::{Name, Path};
 use std::alloc::Global;
@@ -47,10 +47,6 @@ pub(crate) fn move_back(
 ) -> Result<(), Refusal>
     ensures { Undoes (TreeInverse.Moved from.now to.now) (at root.old) result (at root.new) }
 {
-    match root.sort_at(to.elements()) {
-        Sort::Missing => return Err(Refusal::BadLine),
-        Sort::Dir | Sort::File => {}
-    }
     if from.starts_with(to) {
         return Err(Refusal::BadLine);
     }
@@ -61,11 +57,18 @@ pub(crate) fn move_back(
         Sort::Dir => {}
         Sort::Missing | Sort::File => return Err(Refusal::BadLine),
     }
-    let name = name.copy(alloc)?;
-    if !root.relocate(alloc, to.elements(), parent, name, from.elements())? {
+    let Some(node) = root.replace(to.elements(), Node::new(alloc, Leaf::Dir)) else {
         return Err(Refusal::BadLine);
+    };
+    let Ok(name) = name.copy(alloc) else {
+        root.put(to.elements(), node);
+        return Err(Refusal::Memory);
+    };
+    match root.land(to.elements(), parent, name, from.elements(), node) {
+        Ok(true) => Ok(()),
+        Ok(false) => Err(Refusal::BadLine),
+        Err(_) => Err(Refusal::Memory),
     }
-    Ok(())
 }
 
 /// Puts what was removed back, if its place is free under a directory.
