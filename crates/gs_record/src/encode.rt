@@ -1,5 +1,5 @@
 // Entries as records.
-ghost use Rattle.std.specs.Prelude.{◌≡◌, ◌⊎◌, ◌<◌, ◌^◌, [], length, IfOk, IfErr};
+ghost use Rattle.std.specs.Prelude.{◌≡◌, ◌⊎◌, ◌<◌, ◌^◌, ◌∷◌, [], length, IfOk, IfErr};
 ghost use Rattle.gs_base.specs.declared.refusal.Refusal.TheVariants.{Memory, BadLine};
 ghost use Rattle.gs_journal.specs.declared.version.Version.TheVariants.{Two};
 ghost use Rattle.gs_record.specs.Encoding.{kind, body, encoded};
@@ -104,7 +104,7 @@ fn put_fields(entry: &Entry, alloc: Global, out: &mut Vec<u8>) -> Result<(), Fau
 
 /// The body of the record, behind room for the head of its frame.
 fn headed_body(entry: &Entry, alloc: Global) -> Result<Vec<u8>, Fault>
-    ensures { Makes (IsEntry Two (plain entry.now)) (replicate 5 0 ++ body Two (plain entry.now)) result }
+    ensures { Makes (IsEntry Two (plain entry.now)) (0 ∷ 0 ∷ 0 ∷ 0 ∷ 0 ∷ body Two (plain entry.now)) result }
 {
     let mut out = Vec::with_capacity(alloc, RECORD_BYTES)?;
     out.extend_from_slice(&[0; HEAD_BYTES])?;
