@@ -1,4 +1,4 @@
-ghost use Rattle.std.specs.Prelude.{◌≡◌, ◌++◌, OnOk, IfOk};
+ghost use Rattle.std.specs.Prelude.{◌≡◌, ◌++◌, ◌∷◌, [], OnOk, IfOk};
 ghost use Rattle.gs_block.specs.Follows.{Does};
 ghost use Rattle.gs_client.specs.Nodes.{silent, asks, Asks, hears, given_up, tell, with_bytes, pushes, messages_of, takes};
 
@@ -154,11 +154,8 @@ fn tell(req: ReqId, to: NodeId, body: Body) -> Message
 fn messages_of(alloc: Global, req: ReqId, request: Request) -> Result<Vec<Message>, AllocError>
     ensures { IfOk result (λ sent. sent.items ≡ messages_of req request) }
 {
-    let mut sent = Vec::new(alloc);
     match request {
-        Request::Call(call) => {
-            sent.push(tell(req, NodeId::Master, Body::Call { req, call }))?;
-        }
+        Request::Call(call) => alone(alloc, tell(req, NodeId::Master, Body::Call { req, call })),
         Request::Write {
             handle,
             members,
@@ -167,10 +164,12 @@ fn messages_of(alloc: Global, req: ReqId, request: Request) -> Result<Vec<Messag
             op,
             bytes,
         } => {
+            let mut sent = Vec::new(alloc);
             let to = members_with_bytes(members, op);
             push_to_each(alloc, &mut sent, req, to, bytes)?;
             let edit = Chunk::Edit { req, stamp, op };
             sent.push(tell(req, NodeId::Server(primary), Body::About(handle, edit)))?;
+            Ok(sent)
         }
         Request::Fetch {
             to,
@@ -185,9 +184,20 @@ fn messages_of(alloc: Global, req: ReqId, request: Request) -> Result<Vec<Messag
                 epoch,
                 asked,
             };
-            sent.push(tell(req, NodeId::Server(to), Body::About(handle, fetch)))?;
+            alone(
+                alloc,
+                tell(req, NodeId::Server(to), Body::About(handle, fetch)),
+            )
         }
     }
+}
+
+/// A message that goes out by itself.
+fn alone(alloc: Global, message: Message) -> Result<Vec<Message>, AllocError>
+    ensures { IfOk result (λ sent. sent.items ≡ message ∷ []) }
+{
+    let mut sent = Vec::new(alloc);
+    sent.push(message)?;
     Ok(sent)
 }
 

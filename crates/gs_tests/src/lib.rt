@@ -1,6 +1,5 @@
-//! Tests that try more than one contract says: outside examples of digests, a journal's bytes, the words of the command line, and what whole
-//! scripts are answered. They speak to public calls alone, and stand here since a crate with tests is proved twice. The tests of each part
-//! stand beside the gate.
+//! Tests that try more than one contract says: outside examples of digests, a journal's bytes, and what whole scripts are answered. They
+//! speak to public calls alone, and stand here since a crate with tests is proved twice. The tests of each part stand beside the gate.
 #![tactic(auto)]
 
 #[cfg(test)]
@@ -9,8 +8,6 @@ mod blocks;
 mod example;
 #[cfg(test)]
 mod journal;
-#[cfg(test)]
-mod options;
 #[cfg(test)]
 mod shell;
 #[cfg(test)]

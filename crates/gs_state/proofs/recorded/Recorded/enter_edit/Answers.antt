@@ -2,7 +2,7 @@ use Rattle.std.proofs.Common.{◌∙◌, ap, inr, map, refl, rules, subst, sym}
 use Rattle.gs_record.specs.Plain.{plain_edit, plain_inverse}
 use Rattle.gs_table.specs.Slots.{live}
 use Rattle.gs_state.specs.Durable.{Durable}
-use Rattle.gs_state.specs.Recorded.{KeepsRooms, durable_of}
+use Rattle.gs_state.specs.Recorded.{KeepsRooms, durable_of, inverses_and}
 use Rattle.gs_state.specs.Replies.{client_cmp}
 use Rattle.gs_state.specs.TakingBack.{AreItemsBefore, AreNamesBefore}
 use Rattle.gs_state.specs.declared.recorded.Recorded.{Recorded}
@@ -25,7 +25,7 @@ returns-clause-applied c =
     (search rules) (names_after c.args.edit.now c.args.self.now.names c.enter_names.new.names c.in-Ok.ensures.edit)
     c.next_behind-self.ensures (search rules) c.requires.back (search rules)
     (λ i. record left { next_hidden = c.next_behind-self.result; replies = c.enter_answer-reply.ensures.value i })
-    (λ i. record answered { inverses = c.enter_inverse-keeps_inverse.ensures.value i })
+    (λ i. record answered { inverses = (c.enter_inverse-keeps_inverse.ensures.value ∙ ap (inverses_and left.inverses) c.take.ensures.value) i })
 
 pub returns-clause-back : goal.returns-clause-back
 returns-clause-back c =
