@@ -31,6 +31,6 @@ returns-clause-cut c = λ before has.
           (ap (λ (m : NowAndBefore). m.now) back)
           (ap log_of c.log_behind-self.ensures.behind ∙ log_cut (log_of c.args.first) _ es c.args.place (c.deref.ensures.value ∙ has.written))
           (ap Failed (sym (slice_get-map plain e.entries.items c.args.place ∙ ap (option_map plain) (slice_get_read e.entries.items (length e.entries.items) c.args.place c.swap_remove-doubt.result refl c.requires.within c.swap_remove-doubt.ensures.value))));
-      sends = c.requires.sent;
+      sends = c.told_unsure.ensures;
       says = ap Some c.cut_refusal.ensures;
     }

@@ -15,25 +15,25 @@ here : (old mid : Event) → KeepsBack old mid → RoomForAll mid.recorded mid.u
     → (mid.memory ≡ old.memory) × (mid.sent ≡ old.sent) × (mid.said ≡ old.said) × (mid.fault ≡ old.fault) → GoesBack old mid
 here old mid back room counted others = stepped_back old mid back room counted others.3 others.1
 
-pub returns-in_err-send_one-in-None-clause-back : goal.returns-in_err-send_one-in-None-clause-back
-returns-in_err-send_one-in-None-clause-back c =
+pub returns-in_err-send_one-in-Ok-None-clause-back : goal.returns-in_err-send_one-in-Ok-None-clause-back
+returns-in_err-send_one-in-Ok-None-clause-back c =
     let done = c.enter_edit.ensures in
     goes_back_sent c.args.self.now c.enter_edit.new.self c.send_one.new.self (here c.args.self.now c.enter_edit.new.self done.back done.room done.counted done.others) c.send_one.ensures.others []
-    (c.in_err-send_one-in-None.ensures.stays ∙ sym (append-nil _))
+    (c.in_err-send_one-in-Ok-None.ensures.stays ∙ sym (append-nil _))
 
-pub returns-in_ok-send_one-in-None-clause-steps : goal.returns-in_ok-send_one-in-None-clause-steps
-returns-in_ok-send_one-in-None-clause-steps c =
+pub returns-in_ok-send_one-in-Ok-None-clause-steps : goal.returns-in_ok-send_one-in-Ok-None-clause-steps
+returns-in_ok-send_one-in-Ok-None-clause-steps c =
     entered_steps c.args.self.now c.enter_edit.new.self c.send_one.new.self c.args.req (plain_edit c.args.edit) c.args.answer
-    (subst (λ back. EntersEdit c.args.req c.args.edit c.args.self.now (Ok back) c.enter_edit.new.self) c.in-None.is c.in_ok-enter_edit.ensures.entered) (beside c.args.self.now c.enter_edit.new.self c.enter_edit.ensures.others)
-    c.send_one.ensures.others (c.in_ok-send_one-in-None.ensures.sent ∙ ap (λ message. c.enter_edit.new.self.sent.items ++ message ∷ []) c.reply_to.ensures)
+    (subst (λ back. EntersEdit c.args.req c.args.edit c.args.self.now (Ok back) c.enter_edit.new.self) c.in-Ok-None.field-0-is c.in-Ok-None.ensures.entered) (beside c.args.self.now c.enter_edit.new.self c.enter_edit.ensures.others)
+    c.send_one.ensures.others (c.in_ok-send_one-in-Ok-None.ensures.sent ∙ ap (λ message. c.enter_edit.new.self.sent.items ++ message ∷ []) c.reply_to.ensures)
 
-pub returns-in_ok-send_one-in-None-clause-back : goal.returns-in_ok-send_one-in-None-clause-back
-returns-in_ok-send_one-in-None-clause-back c =
+pub returns-in_ok-send_one-in-Ok-None-clause-back : goal.returns-in_ok-send_one-in-Ok-None-clause-back
+returns-in_ok-send_one-in-Ok-None-clause-back c =
     let done = c.enter_edit.ensures in
     goes_back_sent c.args.self.now c.enter_edit.new.self c.send_one.new.self (here c.args.self.now c.enter_edit.new.self done.back done.room done.counted done.others) c.send_one.ensures.others _
-    c.in_ok-send_one-in-None.ensures.sent
+    c.in_ok-send_one-in-Ok-None.ensures.sent
 
-pub returns-in-Some-clause-back : goal.returns-in-Some-clause-back
-returns-in-Some-clause-back c =
+pub returns-in-Ok-Some-clause-back : goal.returns-in-Ok-Some-clause-back
+returns-in-Ok-Some-clause-back c =
     let done = c.enter_edit.ensures in
     goes_back_on c.args.self.now c.enter_edit.new.self c.judge_edit.new.self (here c.args.self.now c.enter_edit.new.self done.back done.room done.counted done.others) c.judge_edit.ensures.back

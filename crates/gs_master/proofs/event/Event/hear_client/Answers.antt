@@ -11,11 +11,11 @@ use Rattle.gs_state.specs.State.{State, met_by}
 use Rattle.gs_master.specs.Turns.{Steps, state_at}
 use Rattle.gs_master.proofs.event.Event.hear_client.Goals as goal
 
-pub returns : goal.returns
-returns c = record {
-  steps = subst (λ t. Steps t c.args.self.now c.meet_by.result c.meet_by.new.self)
-      (sym (stray c.args.config.now (state_at c.args.self.now) c.args.moment c.args.said (λ req call is. c.in_default.not-Call req call is))) c.meet_by.ensures.steps;
-  back = c.meet_by.ensures.back;
+pub returns-in_default : goal.returns-in_default
+returns-in_default c = record {
+  steps = subst (λ t. Steps t c.args.self.now c.meet_stray.result c.meet_stray.new.self)
+      (sym (stray c.args.config.now (state_at c.args.self.now) c.args.moment c.args.said (λ req call is. c.in_default.not-Call req call is))) c.meet_stray.ensures.steps;
+  back = c.meet_stray.ensures.back;
 }
   where
     stray : (config : Config) (s : State) (moment : Moment) (said : Body) → ((req : ReqId) (call : Call) → said ≢ bodies.Call req call) → from_client config s moment said ≡ met_by s refusals.Stray

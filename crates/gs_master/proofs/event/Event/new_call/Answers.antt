@@ -5,10 +5,10 @@ use Rattle.gs_state.specs.Handling.{called_unless}
 use Rattle.gs_master.specs.Turns.{Steps, state_at}
 use Rattle.gs_master.proofs.event.Event.new_call.Goals as goal
 
-pub returns-in-Some-clause-steps : goal.returns-in-Some-clause-steps
-returns-in-Some-clause-steps c =
+pub returns-in-Ok-Some-clause-steps : goal.returns-in-Ok-Some-clause-steps
+returns-in-Ok-Some-clause-steps c =
     let s = state_at c.args.self.now in
     let req = c.args.req in
     let call = c.args.call in
-    let is : Some c.in-Some.refusal ≡ refused_before s req call = sym c.in-Some.is ∙ c.in_ok-refusal.ensures ∙ ap (λ t. refused_before t req call) c.standing.ensures in
+    let is : Some c.in-Ok-Some.refusal ≡ refused_before s req call = sym c.in-Ok-Some.field-0-is ∙ c.in-Ok-Some.ensures ∙ ap (λ t. refused_before t req call) c.standing.ensures in
     subst (λ o. Steps (called_unless c.args.config.now s req c.args.moment call o) c.args.self.now c.refuse.result c.refuse.new.self) is c.refuse.ensures.steps
