@@ -12,7 +12,7 @@ use Rattle.gs_tree.specs.Entry.{Entry, Dir, File}
 use Rattle.gs_tree.specs.Find.{Rows, at, IsBelow}
 use Rattle.gs_tree.specs.Rows.{under, joined, rows_of}
 use Rattle.gs_tree.specs.Inverses.{row_of, IsBlank, IsBlankRow}
-use Rattle.gs_tree.specs.Listing.{HasVisible}
+use Rattle.gs_tree.specs.Listing.{HasVisible, HasVisibleBut, is_visible_but}
 use Rattle.gs_tree.specs.declared.node.Kind.{Kind}
 use Rattle.gs_tree.specs.declared.node.Kind.TheVariants as kinds
 use Rattle.gs_tree.proofs.Rows.{names_equiv, at-append, at-under, at-joined, at-joined_root, at_child}
@@ -200,6 +200,39 @@ pub visible : (es : List (Name × Rows ℕ)) (b : Bool) → IsStrictlySortedBy n
 visible es true sorted rooted e = let (k, (seen, some)) = visible_key es (sym e) in (k, (seen, child_stands es k sorted rooted some))
 visible es false sorted rooted e = λ (k, (seen, some)).
     let none : at (joined es) (k ∷ []) ≡ None = at-joined k [] es sorted ∙ ap (λ v. at_child v []) (no_visible_key es k (sym e) seen) in
+    let n : is_some (at (joined es) (k ∷ [])) ≡ false = ap is_some none in cc
+
+-- a key of which something is so, and that there is none
+any_key : (f : Name → Bool) (es : List (Name × Rows ℕ)) → list_any f (keys_of es) ≡ true → (k : Name) × ((f k ≡ true) × (is_some (lookup (is_at (name_cmp k)) es) ≡ true))
+any_key f [] any = absurd (cc)
+any_key f (e ∷ es) any =
+    elim (f e.0) as (λ b. f e.0 ≡ b → (b || list_any f (keys_of es)) ≡ true → (k : Name) × ((f k ≡ true) × (is_some (cond (same_name k e.0) (Some e.1) (lookup (is_at (name_cmp k)) es)) ≡ true))) [
+      | true ↦ λ b rest. (e.0, (b, ap (λ d. is_some (cond d (Some e.1) (lookup (is_at (name_cmp e.0)) es))) (names_equiv.refl e.0)))
+      | false ↦ λ b rest. let (k, (so, some)) = any_key f es rest in (k, (so, kept (same_name k e.0) (Some e.1) (lookup (is_at (name_cmp k)) es) refl some))
+    ] refl any
+  where
+    kept : (b : Bool) (v w : Option (Rows ℕ)) → is_some v ≡ true → is_some w ≡ true → is_some (cond b v w) ≡ true
+    kept true v w h g = h
+    kept false v w h g = g
+
+no_key : (f : Name → Bool) (es : List (Name × Rows ℕ)) (k : Name) → list_any f (keys_of es) ≡ false → f k ≡ true → lookup (is_at (name_cmp k)) es ≡ None
+no_key f [] k any so = refl
+no_key f (e ∷ es) k any so =
+    elim (same_name k e.0) as (λ b. same_name k e.0 ≡ b → cond b (Some e.1) (lookup (is_at (name_cmp k)) es) ≡ None) [
+      | true ↦ λ b. let here : f e.0 ≡ true = ap f (sym (one_name k e.0 b)) ∙ so in
+          let out : (f e.0 || list_any f (keys_of es)) ≡ true = ap (λ d. d || list_any f (keys_of es)) here in absurd (cc)
+      | false ↦ λ b. no_key f es k (rest (f e.0) (list_any f (keys_of es)) any) so
+    ] refl
+  where
+    rest : (a c : Bool) → (a || c) ≡ false → c ≡ false
+    rest true c h = absurd (cc)
+    rest false c h = h
+
+pub visible_but : (es : List (Name × Rows ℕ)) (this : Name) (b : Bool) → IsStrictlySortedBy name_cmp (keys_of es) → ((n : Name) (child : Rows ℕ) → lookup (is_at (name_cmp n)) es ≡ Some child → is_some (at child []) ≡ true) → b ≡ list_any (is_visible_but this) (keys_of es)
+    → MatchBool b (HasVisibleBut this (at (([], Dir) ∷ joined es))) (HasVisibleBut this (at (([], Dir) ∷ joined es)) → ⊥)
+visible_but es this true sorted rooted e = let (k, (seen, some)) = any_key (is_visible_but this) es (sym e) in (k, (seen, child_stands es k sorted rooted some))
+visible_but es this false sorted rooted e = λ (k, (seen, some)).
+    let none : at (joined es) (k ∷ []) ≡ None = at-joined k [] es sorted ∙ ap (λ v. at_child v []) (no_key (is_visible_but this) es k (sym e) seen) in
     let n : is_some (at (joined es) (k ∷ [])) ≡ false = ap is_some none in cc
 
 root_some : (k : Kind) → is_some (at (rows_of k) []) ≡ true

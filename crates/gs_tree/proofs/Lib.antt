@@ -16,6 +16,7 @@ pub mod Under
 pub mod Levels
 pub mod Fronts
 pub mod Parts
+pub mod Places
 pub mod Orders
 pub mod Entering
 pub mod Root

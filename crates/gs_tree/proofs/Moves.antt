@@ -12,14 +12,14 @@ use Rattle.gs_tree.specs.Entry as entry
 use Rattle.gs_tree.specs.declared.node.Sort.{Sort}
 use Rattle.gs_tree.specs.declared.node.Sort.TheVariants as sorts
 use Rattle.gs_tree.specs.inner.Sort.{sort_of}
-use Rattle.gs_tree.specs.Plain.{Plain, after, with_at, without, part_at, IsFree}
+use Rattle.gs_tree.specs.Plain.{Plain, after, rooted, with_at, without, part_at, IsFree}
 use Rattle.gs_tree.specs.Find.{Rows, at, DirsAbove, IsBelow, IsDepthTest}
 use Rattle.gs_tree.specs.Edits.{rename, move_to, placed, moved, hide, unhide, unhidden, renamed_beside, beside, old_name, snapshot, copied, parent, last, target_of, same_path, is_file, is_dir}
 use Rattle.gs_tree.specs.Listing.{IsListingOf, pairs_of}
 use Rattle.gs_tree.specs.declared.node.Listed.{Listed}
 use Rattle.gs_tree.specs.Inverses.{TakesBack}
 use Rattle.gs_tree.specs.Follows.{Follows}
-use Rattle.gs_tree.specs.inner.Steps.{Relocates, TestsPlace, TestsParent, TestsTarget, IsElsewhere, IsKnown}
+use Rattle.gs_tree.specs.inner.Steps.{Lands, Relocates, TestsPlace, TestsParent, TestsTarget, IsElsewhere, IsKnown}
 use Rattle.gs_tree.specs.declared.inverse.TreeInverse.TheVariants.{Moved}
 use Rattle.std.proofs.lemmas.Bool.{false≢true}
 use Rattle.gs_tree.proofs.Rows.{names_equiv}
@@ -265,10 +265,15 @@ pub beside_same : (p par : Path) (x name : Name) → p ≡ par ++ x ∷ [] → s
 beside_same p par x name split same =
     ap (λ q. parent q ++ name ∷ []) split ∙ ap (λ q. q ++ name ∷ []) (parent-append par x) ∙ ap (λ n. par ++ n ∷ []) (sym (one_name x name same)) ∙ sym split
 
--- a node was taken from p, where something else stands in its place now
+root_alone : (q : Path) → at {A = ℕ} (([], Dir) ∷ []) q ≡ rooted q
+root_alone [] = refl
+root_alone (x ∷ q) = refl
+
+-- a node was taken from p, where an empty directory stands in its place now
 pub record Lifted (m node one : Plain ℕ) (p : Path) : Type 0 where
   pub back : with_at p node one ≡ m
   pub holds : is_some (one p) ≡ true
+  pub place : (q : Path) → one (p ++ q) ≡ rooted q
   pub stands : is_some (m p) ≡ true
   pub above : DirsAbove m p
   pub others : (q r : Path) → begins p (q ++ r) ≡ false → one q ≡ m q
@@ -278,6 +283,7 @@ lifted m node one new p p' e is some above part now =
     subst (Lifted m node one) e (record {
       back = restored m p' (at new) node one now part;
       holds = ap is_some (there m (at new) one p' now ∙ ap (λ r. at r []) is);
+      place = λ q. now (p' ++ q) ∙ with_at-append p' (at new) m q ∙ ap (λ r. at r q) is ∙ root_alone q;
       stands = sym some;
       above = above;
       others = λ q r apart. elsewhere m (at new) one p' q r now apart;
@@ -329,3 +335,13 @@ relocated m n from to false is h = absurd (false≢true is)
 pub taken : (m n : Plain ℕ) (from to : Path) (b : Bool) → b ≡ false → Relocates m from to (Ok b) n → (is_some (m to) ≡ true) × ((q : Path) → n q ≡ m q)
 taken m n from to true is h = absurd (false≢true (sym is))
 taken m n from to false is h = h
+
+-- a node that was put at its place
+pub put_there : (m node n : Plain ℕ) (from to : Path) (b : Bool) → b ≡ true → Lands m node from to (Ok b) n → IsFree m to × ((q : Path) → n q ≡ with_at to node m q)
+put_there m node n from to true is h = h
+put_there m node n from to false is h = absurd (false≢true is)
+
+-- a node that went back
+pub put_back_there : (m node n : Plain ℕ) (from to : Path) (b : Bool) → b ≡ false → Lands m node from to (Ok b) n → (is_some (m to) ≡ true) × ((q : Path) → n q ≡ with_at from node m q)
+put_back_there m node n from to true is h = absurd (false≢true (sym is))
+put_back_there m node n from to false is h = h

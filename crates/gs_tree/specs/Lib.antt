@@ -1,4 +1,5 @@
 pub mod Entry
+pub mod Places
 pub mod Plain
 pub mod Mapped
 pub mod Find

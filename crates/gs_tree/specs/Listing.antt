@@ -1,8 +1,8 @@
 -- What is listed of a directory.
-use Rattle.std.specs.Prelude.{◌≡◌, ◌⊎◌, ℕ, Result, Ok, Err, Bool, true, false, List, [], ◌∷◌, map, Option, Some, None, IsTrue, is_some, if◌then◌else◌}
+use Rattle.std.specs.Prelude.{◌≡◌, ◌⊎◌, ℕ, Result, Ok, Err, Bool, true, false, List, [], ◌∷◌, map, Option, Some, None, IsTrue, is_some, not, ◌&&◌, if◌then◌else◌}
 use Rattle.std.specs.Option.{option_map}
 use Rattle.std.specs.FinMap.{find, is_sorted}
-use Rattle.gs_path.specs.Path.{Name, Path, name_cmp}
+use Rattle.gs_path.specs.Path.{Name, Path, name_cmp, same_name}
 use Rattle.gs_path.specs.Element.{is_hidden}
 use Rattle.gs_tree.specs.Entry.{Entry, Dir, File}
 use Rattle.gs_tree.specs.Plain.{Plain, part_at}
@@ -34,6 +34,14 @@ pub record IsListing {A : Type 0} (m : Plain A) (listed : List Listed) : Type 0 
 -- some child is visible
 abbrev pub HasVisible : {A : Type 0} → Plain A → Type 0
 HasVisible m = (name : Name) × ((is_hidden name ≡ false) × (is_some (m (name ∷ [])) ≡ true))
+
+-- a name that is visible and isn't this one
+abbrev pub is_visible_but : Name → Name → Bool
+is_visible_but this name = not (same_name name this) && not (is_hidden name)
+
+-- something visible stands below the root under another name than this
+abbrev pub HasVisibleBut : {A : Type 0} → Name → Plain A → Type 0
+HasVisibleBut this m = (name : Name) × ((is_visible_but this name ≡ true) × (is_some (m (name ∷ [])) ≡ true))
 
 -- what a look-up of a path lists: the visible children of a directory, a file's own name
 abbrev pub IsListingOf : {A : Type 0} → Option (Entry A) → Plain A → Path → List Listed → Type 0

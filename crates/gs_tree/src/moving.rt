@@ -1,8 +1,9 @@
 //! What is moved: renamed, hidden, and taken out of hiding.
 ghost use Rattle.std.specs.Prelude.{◌≡◌, ◌≢◌, ◌⊎◌, ◌-◌, [], Bool, true, false, ℕ, Result, is_some, IfOk, OnOk, IfErr, MatchBool};
 ghost use Rattle.gs_path.specs.Path.{begins};
-ghost use Rattle.gs_tree.specs.Find.{at, IsBelow, DirsAbove, IsDepthTest};
-ghost use Rattle.gs_tree.specs.Plain.{Plain, part_at, with_at};
+ghost use Rattle.gs_tree.specs.Find.{at, DirsAbove, IsDepthTest};
+ghost use Rattle.gs_tree.specs.Places.{KeepsPlace, given_up, returned, without_place};
+ghost use Rattle.gs_tree.specs.Plain.{Plain, Same, part_at, rooted, with_at};
 ghost use Rattle.gs_tree.specs.Edits.{rename, hide, unhide, beside, renamed_beside, old_name, move_to, target_of};
 ghost use Rattle.gs_tree.specs.Inverses.{TakesBack, LeavesChunks, IsMoved};
 ghost use Rattle.gs_tree.specs.Follows.{Follows, Moves};
@@ -107,8 +108,8 @@ struct Aim {
     name: Name,
 }
 
-/// Ends a move of a node that was replaced at a path: it goes to its target, or back if it isn't to move or nothing can be
-/// put there.
+/// Makes a move of a node that was replaced at a path by an empty directory: it goes to its target, and the directory keeps
+/// its place; or it goes back if it isn't to move or nothing can be put there.
 fn settle(
     root: &mut Node,
     path: &Path,
@@ -116,12 +117,13 @@ fn settle(
     aim: Result<Aim, Refusal>,
 ) -> Result<TreeInverse, Refusal>
     requires root { path.now ≢ [] }
-    requires stands { is_some (at root.old path.now) ≡ true }
+    requires place { Same (part_at path.now (at root.old)) rooted }
     requires node { is_some (at node []) ≡ true }
     requires above { DirsAbove (with_at path.now (at node) (at root.old)) path.now }
     requires aim { IfOk aim (λ a. IsAim (with_at path.now (at node) (at root.old)) path.now a.source a.target a.name) }
-    ensures edit { (wanted : Result (Plain ℕ) Refusal) → Aims (with_at path.now (at node) (at root.old)) path.now wanted aim (λ a. a.target) → Follows wanted result (with_at path.now (at node) (at root.old)) (at root.new) }
-    ensures undo { IfOk result (λ i. TakesBack i (with_at path.now (at node) (at root.old)) (at root.new)) }
+    ensures edit { (wanted : Result (Plain ℕ) Refusal) → Aims (with_at path.now (at node) (at root.old)) path.now wanted aim (λ a. a.target) → Follows wanted result (with_at path.now (at node) (at root.old)) (given_up result (at root.new)) }
+    ensures undo { IfOk result (λ i. TakesBack i (with_at path.now (at node) (at root.old)) (given_up result (at root.new))) }
+    ensures place { IfOk result (λ i. KeepsPlace i (at root.new)) }
     ensures inverse { IfOk result (λ i. LeavesChunks i) }
     ensures kind { IfOk result (λ i. IsMoved i) }
 {
@@ -199,14 +201,16 @@ fn aim_at(
     })
 }
 
+/// Moves what stands at a path. An empty directory keeps its place.
 pub(crate) fn rename_in(
     root: &mut Node,
     alloc: Global,
     from: &Path,
     to: &Path,
 ) -> Result<TreeInverse, Refusal>
-    ensures edit { (deep : Bool) → IsDepthTest deep (at root.old) from.now (target_of (at root.old) from.now to.now) → Follows (rename (λ _. deep) (at root.old) from.now to.now) result (at root.old) (at root.new) }
-    ensures undo { IfOk result (λ i. TakesBack i (at root.old) (at root.new)) }
+    ensures edit { (deep : Bool) → IsDepthTest deep (at root.old) from.now (target_of (at root.old) from.now to.now) → Follows (rename (λ _. deep) (at root.old) from.now to.now) result (at root.old) (given_up result (at root.new)) }
+    ensures undo { IfOk result (λ i. TakesBack i (at root.old) (given_up result (at root.new))) }
+    ensures place { IfOk result (λ i. KeepsPlace i (at root.new)) }
     ensures inverse { IfOk result (λ i. LeavesChunks i) }
     ensures kind { IfOk result (λ i. IsMoved i) }
 {
@@ -221,7 +225,7 @@ pub(crate) fn rename_in(
     settle(root, from, node, aim)
 }
 
-/// Moves what stands at a path to another name beside it.
+/// Moves what stands at a path to another name beside it. An empty directory keeps its place.
 fn rename_beside(
     root: &mut Node,
     alloc: Global,
@@ -229,8 +233,9 @@ fn rename_beside(
     name: Name,
 ) -> Result<TreeInverse, Refusal>
     requires { path.now ≢ [] }
-    ensures edit { Follows (renamed_beside (at root.old) path.now name) result (at root.old) (at root.new) }
-    ensures undo { IfOk result (λ i. TakesBack i (at root.old) (at root.new)) }
+    ensures edit { Follows (renamed_beside (at root.old) path.now name) result (at root.old) (given_up result (at root.new)) }
+    ensures undo { IfOk result (λ i. TakesBack i (at root.old) (given_up result (at root.new))) }
+    ensures place { IfOk result (λ i. KeepsPlace i (at root.new)) }
     ensures inverse { IfOk result (λ i. LeavesChunks i) }
     ensures kind { IfOk result (λ i. IsMoved i) }
 {
@@ -276,7 +281,7 @@ fn with_name(alloc: Global, path: &Path, name: &Name) -> Result<Path, AllocError
     Ok(target)
 }
 
-/// Moves what stands at a path to a hidden name beside it.
+/// Moves what stands at a path to a hidden name beside it. An empty directory keeps its place.
 pub(crate) fn hide_in(
     root: &mut Node,
     alloc: Global,
@@ -284,8 +289,9 @@ pub(crate) fn hide_in(
     moment: Moment,
     number: u64,
 ) -> Result<TreeInverse, Refusal>
-    ensures edit { Follows (hide (at root.old) path.now moment.0 number) result (at root.old) (at root.new) }
-    ensures undo { IfOk result (λ i. TakesBack i (at root.old) (at root.new)) }
+    ensures edit { Follows (hide (at root.old) path.now moment.0 number) result (at root.old) (given_up result (at root.new)) }
+    ensures undo { IfOk result (λ i. TakesBack i (at root.old) (given_up result (at root.new))) }
+    ensures place { IfOk result (λ i. KeepsPlace i (at root.new)) }
     ensures inverse { IfOk result (λ i. LeavesChunks i) }
     ensures kind { IfOk result (λ i. IsMoved i) }
 {
@@ -296,10 +302,11 @@ pub(crate) fn hide_in(
     rename_beside(root, alloc, path, hidden)
 }
 
-/// Moves what is hidden at a path back to its old name.
+/// Moves what is hidden at a path back to its old name. An empty directory keeps its place.
 pub(crate) fn unhide_in(root: &mut Node, alloc: Global, path: &Path) -> Result<TreeInverse, Refusal>
-    ensures edit { Follows (unhide (at root.old) path.now) result (at root.old) (at root.new) }
-    ensures undo { IfOk result (λ i. TakesBack i (at root.old) (at root.new)) }
+    ensures edit { Follows (unhide (at root.old) path.now) result (at root.old) (given_up result (at root.new)) }
+    ensures undo { IfOk result (λ i. TakesBack i (at root.old) (given_up result (at root.new))) }
+    ensures place { IfOk result (λ i. KeepsPlace i (at root.new)) }
     ensures inverse { IfOk result (λ i. LeavesChunks i) }
     ensures kind { IfOk result (λ i. IsMoved i) }
 {
@@ -307,6 +314,51 @@ pub(crate) fn unhide_in(root: &mut Node, alloc: Global, path: &Path) -> Result<T
         Some(name) => rename_beside(root, alloc, path, name),
         None => Err(Refusal::NotHidden),
     }
+}
+
+/// The place from which something was moved is given up.
+pub(crate) fn give_up(
+    root: &mut Node,
+    made: Result<TreeInverse, Refusal>,
+) -> Result<TreeInverse, Refusal>
+    requires { IfOk made (λ i. KeepsPlace i (at root.old)) }
+    ensures made { result ≡ made }
+    ensures now { Same (at root.new) (given_up made (at root.old)) }
+{
+    let inverse = made?;
+    if let TreeInverse::Moved(from, _) = &inverse {
+        give_up_place(root, from);
+    }
+    Ok(inverse)
+}
+
+/// What stands at a path, with all under it, is taken out. The root stays.
+pub(crate) fn give_up_place(root: &mut Node, path: &Path)
+    ensures { Same (at root.new) (without_place path.now (at root.old)) }
+{
+    if path.is_root() {
+        return;
+    }
+    let _ = root.prune(path.elements());
+}
+
+/// What was moved goes back to the place that was kept, which takes no memory. Nothing changes where nothing stands at one of
+/// the paths, or one begins with the other.
+pub(crate) fn return_to(root: &mut Node, alloc: Global, from: &Path, to: &Path)
+    ensures { Same (at root.new) (returned from.now to.now (at root.old)) }
+{
+    if from.starts_with(to) || to.starts_with(from) {
+        return;
+    }
+    match root.sort_at(from.elements()) {
+        Sort::Missing => return,
+        Sort::Dir | Sort::File => {}
+    }
+    let Some(node) = root.replace(to.elements(), Node::new(alloc, Leaf::Dir)) else {
+        return;
+    };
+    root.put(from.elements(), node);
+    let _ = root.prune(to.elements());
 }
 
 /// The old name of what is hidden at a path.

@@ -10,8 +10,8 @@ ghost use Rattle.gs_tree.specs.Edits.{is_dir, is_file, chunks_in, with_chunks, v
 ghost use Rattle.gs_tree.specs.Plain.{kept};
 ghost use Rattle.gs_tree.specs.inner.Sort.{sort_of, entry_of_leaf};
 ghost use Rattle.gs_tree.specs.Inverses.{row_of, IsBlankRow};
-ghost use Rattle.gs_tree.specs.inner.Steps.{Relocates, Sown};
-ghost use Rattle.gs_tree.specs.Listing.{IsListing, HasVisible};
+ghost use Rattle.gs_tree.specs.inner.Steps.{Lands, Relocates, Sown};
+ghost use Rattle.gs_tree.specs.Listing.{IsListing, HasVisible, HasVisibleBut, is_visible_but};
 ghost use Rattle.std.specs.FinMap.{is_sorted};
 ghost use Rattle.gs_path.specs.Path.{path_cmp};
 ghost use Rattle.gs_tree.specs.Chunks.{all_chunks, part_chunks, visible_under, kept_rows};
@@ -300,9 +300,41 @@ impl Node {
         }
     }
 
-    /// Ends the move of a node that was replaced at a path: puts it at a place under a directory, if nothing stands there,
-    /// and takes out what replaced it. Otherwise it goes back. Answers whether the place was free.
+    /// Puts a node that was replaced at a path at a place under a directory, if nothing stands there. Otherwise it goes
+    /// back. Answers whether the place was free.
     pub(crate) fn land(
+        &mut self,
+        from: &[Name],
+        parent: &[Name],
+        name: Name,
+        to: &[Name],
+        node: Node,
+    ) -> Result<bool, AllocError>
+        requires target { to.now ≡ parent.now ++ name ∷ [] }
+        requires dir { at self.old parent.now ≡ Some Dir }
+        requires stands { is_some (at self.old from.now) ≡ true }
+        requires node { is_some (at node []) ≡ true }
+        requires apart { begins from.now to.now ≡ false }
+        ensures { Lands (at self.old) (at node) from.now to.now result (at self.new) }
+    {
+        let stood = match self.graft(parent, name, node) {
+            Ok(stood) => stood,
+            Err(failed) => {
+                self.put(from, failed.value);
+                return Err(AllocError);
+            }
+        };
+        let Some(stood) = stood else {
+            return Ok(true);
+        };
+        if let Some(node) = self.replace(to, stood) {
+            self.put(from, node);
+        }
+        Ok(false)
+    }
+
+    /// The same, which then takes out what replaced the node, if it was put there.
+    pub(crate) fn relocate(
         &mut self,
         from: &[Name],
         parent: &[Name],
@@ -318,21 +350,11 @@ impl Node {
         requires apart { begins from.now to.now ≡ false }
         ensures { Relocates (with_at from.now (at node) (at self.old)) from.now to.now result (at self.new) }
     {
-        let stood = match self.graft(parent, name, node) {
-            Ok(stood) => stood,
-            Err(failed) => {
-                self.put(from, failed.value);
-                return Err(AllocError);
-            }
-        };
-        let Some(stood) = stood else {
-            let _ = self.prune(from);
-            return Ok(true);
-        };
-        if let Some(node) = self.replace(to, stood) {
-            self.put(from, node);
+        if !self.land(from, parent, name, to, node)? {
+            return Ok(false);
         }
-        Ok(false)
+        let _ = self.prune(from);
+        Ok(true)
     }
 
     /// Puts a leaf at a path where nothing stands there, and makes each directory above it that is missing. Answers how
@@ -418,6 +440,16 @@ impl Node {
             }
         }
         Ok(listed)
+    }
+
+    /// Whether a directory has a visible child of another name.
+    pub(crate) fn has_visible_but(&self, name: &Name) -> bool
+        ensures { MatchBool result (HasVisibleBut name.now (at self.now)) (HasVisibleBut name.now (at self.now) → ⊥) }
+    {
+        match &self.kind {
+            Kind::File(_) => false,
+            Kind::Dir(children) => any_visible_but(children, name),
+        }
     }
 
     /// Whether a directory has a visible child.
@@ -580,6 +612,13 @@ fn any_visible(children: &BTreeMap<Name, Node>) -> bool
     ensures { result ≡ list_any (λ k. not (is_hidden k)) (keys children.now) }
 {
     children.keys().any(|key| !key.is_hidden())
+}
+
+/// Whether some child of another name is visible.
+fn any_visible_but(children: &BTreeMap<Name, Node>, name: &Name) -> bool
+    ensures { result ≡ list_any (is_visible_but name.now) (keys children.now) }
+{
+    children.keys().any(|key| key != name && !key.is_hidden())
 }
 
 /// Directories in a row, one for each name but the last, and a leaf at its end.

@@ -2,12 +2,13 @@ ghost use Rattle.std.specs.Prelude.{◌≡◌, [], false, IfOk, IfErr, MatchBool
 ghost use Rattle.std.specs.FinMap as fin_map;
 ghost use Rattle.gs_path.specs.Path.{begins, text_cmp};
 ghost use Rattle.gs_tree.specs.Find.{at, is_too_deep, is_copied_too_deep};
+ghost use Rattle.gs_tree.specs.Places.{KeepsPlace, given_up, returned, without_place};
 ghost use Rattle.gs_tree.specs.Plain.{Same, part_at, rooted};
 ghost use Rattle.gs_tree.specs.Entry.{Dir};
 ghost use Rattle.gs_tree.specs.Edits.{mkdirs, create, rename, hide, unhide, remove, add_chunk, set_chunk, snapshot};
 ghost use Rattle.gs_tree.specs.Inverses.{TakesBack, LeavesChunks, IsMade, IsMoved, IsChanged, IsRemoved, takes_memory, removed_chunks};
 ghost use Rattle.gs_tree.specs.Follows.{Follows, Moves, Undoes};
-ghost use Rattle.gs_tree.specs.Listing.{HasVisible, Lists, StandsAs};
+ghost use Rattle.gs_tree.specs.Listing.{HasVisible, HasVisibleBut, Lists, StandsAs};
 ghost use Rattle.gs_tree.specs.Chunks.{chunks_under, rows_under, visible_chunks_under};
 ghost use Rattle.std.specs.List.{list_all};
 ghost use Rattle.std.specs.List.Sorted.{IsPermutation, IsSortedByKey};
@@ -19,14 +20,14 @@ use crate::file_chunks::{add_chunk_in, set_chunk_in};
 use crate::inverse::TreeInverse;
 use crate::listing::list_in;
 use crate::making::{create_in, mkdirs_in};
-use crate::moving::{hide_in, rename_in, unhide_in, with_moved};
+use crate::moving::{give_up, give_up_place, hide_in, rename_in, return_to, unhide_in, with_moved};
 use crate::node::{Leaf, Listed, Node};
 use crate::removing::remove_in;
 use crate::snapshots::snapshot_in;
 use crate::texts::by_text;
 use crate::undoing::{drop_chunk, drop_copy, move_back, plant, reset_chunk, unmake};
 use gs_base::{Handle, Moment, Refusal};
-use gs_path::Path;
+use gs_path::{Name, Path};
 use std::alloc::{AllocError, Global};
 use std::marker::Model;
 
@@ -113,6 +114,19 @@ impl Tree {
         ensures inverse { IfOk result (λ i. LeavesChunks i) }
         ensures kind { IfOk result (λ i. IsMoved i) }
     {
+        let made = rename_in(&mut self.root, self.alloc, from, to);
+        give_up(&mut self.root, made)
+    }
+
+    /// The same, but where it is made an empty directory keeps the source's place, until `give_up_place` takes it out or
+    /// `return_to_place` takes the move back. Neither takes memory.
+    pub fn rename_keeping_place(&mut self, from: &Path, to: &Path) -> Result<TreeInverse, Refusal>
+        ensures edit { Follows (rename (is_too_deep (fin_map.entries self.old) from.now) (fin_map.get self.old) from.now to.now) result (fin_map.get self.old) (given_up result (fin_map.get self.new)) }
+        ensures undo { IfOk result (λ i. TakesBack i (fin_map.get self.old) (given_up result (fin_map.get self.new))) }
+        ensures place { IfOk result (λ i. KeepsPlace i (fin_map.get self.new)) }
+        ensures inverse { IfOk result (λ i. LeavesChunks i) }
+        ensures kind { IfOk result (λ i. IsMoved i) }
+    {
         rename_in(&mut self.root, self.alloc, from, to)
     }
 
@@ -137,6 +151,23 @@ impl Tree {
         ensures inverse { IfOk result (λ i. LeavesChunks i) }
         ensures kind { IfOk result (λ i. IsMoved i) }
     {
+        let made = hide_in(&mut self.root, self.alloc, path, moment, number);
+        give_up(&mut self.root, made)
+    }
+
+    /// The same, with an empty directory in its place (see `rename_keeping_place`).
+    pub fn hide_keeping_place(
+        &mut self,
+        path: &Path,
+        moment: Moment,
+        number: u64,
+    ) -> Result<TreeInverse, Refusal>
+        ensures edit { Follows (hide (fin_map.get self.old) path.now moment.0 number) result (fin_map.get self.old) (given_up result (fin_map.get self.new)) }
+        ensures undo { IfOk result (λ i. TakesBack i (fin_map.get self.old) (given_up result (fin_map.get self.new))) }
+        ensures place { IfOk result (λ i. KeepsPlace i (fin_map.get self.new)) }
+        ensures inverse { IfOk result (λ i. LeavesChunks i) }
+        ensures kind { IfOk result (λ i. IsMoved i) }
+    {
         hide_in(&mut self.root, self.alloc, path, moment, number)
     }
 
@@ -148,7 +179,34 @@ impl Tree {
         ensures inverse { IfOk result (λ i. LeavesChunks i) }
         ensures kind { IfOk result (λ i. IsMoved i) }
     {
+        let made = unhide_in(&mut self.root, self.alloc, path);
+        give_up(&mut self.root, made)
+    }
+
+    /// The same, with an empty directory in its place (see `rename_keeping_place`).
+    pub fn unhide_keeping_place(&mut self, path: &Path) -> Result<TreeInverse, Refusal>
+        ensures edit { Follows (unhide (fin_map.get self.old) path.now) result (fin_map.get self.old) (given_up result (fin_map.get self.new)) }
+        ensures undo { IfOk result (λ i. TakesBack i (fin_map.get self.old) (given_up result (fin_map.get self.new))) }
+        ensures place { IfOk result (λ i. KeepsPlace i (fin_map.get self.new)) }
+        ensures inverse { IfOk result (λ i. LeavesChunks i) }
+        ensures kind { IfOk result (λ i. IsMoved i) }
+    {
         unhide_in(&mut self.root, self.alloc, path)
+    }
+
+    /// Takes out what keeps the place of a move, with all under it, which takes no memory. The root stays.
+    pub fn give_up_place(&mut self, path: &Path)
+        ensures { Same (fin_map.get self.new) (without_place path.now (fin_map.get self.old)) }
+    {
+        give_up_place(&mut self.root, path);
+    }
+
+    /// Takes a move back whose place is kept, which takes no memory. Nothing changes where nothing stands at one of the
+    /// paths, or one begins with the other.
+    pub fn return_to_place(&mut self, from: &Path, to: &Path)
+        ensures { Same (fin_map.get self.new) (returned from.now to.now (fin_map.get self.old)) }
+    {
+        return_to(&mut self.root, self.alloc, from, to);
     }
 
     /// Takes out what was hidden (GFS, section 4.4), with all under it. It costs the depth of the path; the inverse keeps
@@ -241,6 +299,16 @@ impl Tree {
     {
         match self.root.find(path.elements()) {
             Some(node) => node.has_visible(),
+            None => false,
+        }
+    }
+
+    /// The same of a child of another name.
+    pub fn has_visible_but(&self, path: &Path, name: &Name) -> bool
+        ensures { MatchBool result (HasVisibleBut name.now (part_at path.now (fin_map.get self.now))) (HasVisibleBut name.now (part_at path.now (fin_map.get self.now)) → ⊥) }
+    {
+        match self.root.find(path.elements()) {
+            Some(node) => node.has_visible_but(name),
             None => false,
         }
     }

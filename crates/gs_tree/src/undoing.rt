@@ -64,7 +64,7 @@ pub(crate) fn move_back(
         root.put(to.elements(), node);
         return Err(Refusal::Memory);
     };
-    match root.land(to.elements(), parent, name, from.elements(), node) {
+    match root.relocate(to.elements(), parent, name, from.elements(), node) {
         Ok(true) => Ok(()),
         Ok(false) => Err(Refusal::BadLine),
         Err(_) => Err(Refusal::Memory),

@@ -5,7 +5,7 @@ use Rattle.gs_base.specs.declared.refusal.Refusal.{Refusal}
 use Rattle.gs_base.specs.declared.refusal.Refusal.TheVariants.{Memory, Exists, NotADirectory, BadPath, Range}
 use Rattle.gs_path.specs.Path.{Name, Path, begins}
 use Rattle.gs_tree.specs.Entry.{Entry, Dir}
-use Rattle.gs_tree.specs.Plain.{Plain, Same, IsFree}
+use Rattle.gs_tree.specs.Plain.{Plain, Same, IsFree, with_at}
 use Rattle.gs_tree.specs.Inverses.{first_made, TakesBack, IsMade, LeavesChunks}
 use Rattle.gs_tree.specs.Follows.{Follows}
 use Rattle.gs_tree.specs.declared.inverse.TreeInverse.{TreeInverse}
@@ -76,6 +76,12 @@ pub record IsTarget (m : Plain ℕ) (from to : Path) : Type 0 where
 abbrev pub TestsTarget : Plain ℕ → Path → Path → Result (Unit {0}) Refusal → Type 0
 TestsTarget m from to (Ok _) = IsTarget m from to
 TestsTarget m from to (Err e) = (deep : Bool) (new : Plain ℕ) → placed deep m from to new ≡ Err e
+
+-- a node that was replaced is put at a place under a directory where that is free, which is the answer, and goes back where it isn't
+abbrev pub Lands : Plain ℕ → Plain ℕ → Path → Path → Result Bool AllocError → Plain ℕ → Type 0
+Lands one node from to (Ok true) new = IsFree one to × Same new (with_at to node one)
+Lands one node from to (Ok false) new = (is_some (one to) ≡ true) × Same new (with_at from node one)
+Lands one node from to (Err f) new = Same new (with_at from node one)
 
 -- something is moved to a place under a directory where that is free, which is the answer
 abbrev pub Relocates : Plain ℕ → Path → Path → Result Bool AllocError → Plain ℕ → Type 0

@@ -4,6 +4,7 @@ use Rattle.gs_base.specs.declared.refusal.Refusal.{Refusal}
 use Rattle.gs_base.specs.declared.refusal.Refusal.TheVariants.{Exists, Memory}
 use Rattle.gs_path.specs.Path.{Path, Name, begins}
 use Rattle.gs_tree.specs.Plain.{Plain, with_at}
+use Rattle.gs_tree.specs.Places.{given_up}
 use Rattle.gs_tree.specs.Find.{at, DirsAbove}
 use Rattle.gs_tree.specs.Edits.{moved, beside, renamed_beside, parent}
 use Rattle.gs_tree.specs.Inverses.{TakesBack}
@@ -27,9 +28,9 @@ aims : {T : Type 0} (m : Plain ℕ) (p : Path) (name : Name) (r : Result T Refus
 aims m p name (Ok a) target stands h err = beside_is m p name stands ∙ ap (λ t. cond (is_some (m t)) (Err Exists) (Ok (moved p t m))) (sym h)
 aims m p name (Err e) target stands h err = elim err [ inl memory ↦ inl memory | inr same ↦ inr (beside_taken m p name stands same.1 ∙ ap (λ f. Err f) (sym same.0)) ]
 
-pub settle-requires-clause-stands : goal.settle-requires-clause-stands
-settle-requires-clause-stands c =
-    (lifted (at c.args.root.now) (at c.in-Some.node) (at c.replace.new.self) c.new.result c.args.path.now c.elements.result.now c.elements.ensures c.new.ensures c.in-Some.ensures.found (c.in-Some.ensures.above refl) c.in-Some.ensures.part c.in-Some.ensures.now).holds
+pub settle-requires-clause-place : goal.settle-requires-clause-place
+settle-requires-clause-place c =
+    (lifted (at c.args.root.now) (at c.in-Some.node) (at c.replace.new.self) c.new.result c.args.path.now c.elements.result.now c.elements.ensures c.new.ensures c.in-Some.ensures.found (c.in-Some.ensures.above refl) c.in-Some.ensures.part c.in-Some.ensures.now).place
 
 pub settle-requires-clause-above : goal.settle-requires-clause-above
 settle-requires-clause-above c =
@@ -47,10 +48,10 @@ pub returns-clause-edit : goal.returns-clause-edit
 returns-clause-edit c =
     let l = lifted (at c.args.root.now) (at c.in-Some.node) (at c.replace.new.self) c.new.result c.args.path.now c.elements.result.now c.elements.ensures c.new.ensures c.in-Some.ensures.found (c.in-Some.ensures.above refl) c.in-Some.ensures.part c.in-Some.ensures.now in
     let wants = aims (at c.args.root.now) c.args.path.now c.args.name c.aim_beside-aim.result (λ a. a.target) l.stands c.aim_beside-aim.ensures.target c.aim_beside-aim.ensures.err in
-    subst (λ (m : Plain ℕ). Follows (renamed_beside (at c.args.root.now) c.args.path.now c.args.name) c.settle.result m (at c.settle.new.root)) l.back
+    subst (λ (m : Plain ℕ). Follows (renamed_beside (at c.args.root.now) c.args.path.now c.args.name) c.settle.result m (given_up c.settle.result (at c.settle.new.root))) l.back
     (c.settle.ensures.edit (renamed_beside (at c.args.root.now) c.args.path.now c.args.name) (subst (λ (m : Plain ℕ). Aims m c.args.path.now (renamed_beside (at c.args.root.now) c.args.path.now c.args.name) c.aim_beside-aim.result (λ a. a.target)) (sym l.back) wants))
 
 pub returns-clause-undo : goal.returns-clause-undo
 returns-clause-undo c =
     let l = lifted (at c.args.root.now) (at c.in-Some.node) (at c.replace.new.self) c.new.result c.args.path.now c.elements.result.now c.elements.ensures c.new.ensures c.in-Some.ensures.found (c.in-Some.ensures.above refl) c.in-Some.ensures.part c.in-Some.ensures.now in
-    subst (λ (m : Plain ℕ). IfOk c.settle.result (λ i. TakesBack i m (at c.settle.new.root))) l.back c.settle.ensures.undo
+    subst (λ (m : Plain ℕ). IfOk c.settle.result (λ i. TakesBack i m (given_up c.settle.result (at c.settle.new.root)))) l.back c.settle.ensures.undo

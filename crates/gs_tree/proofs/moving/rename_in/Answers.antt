@@ -5,6 +5,7 @@ use Rattle.gs_base.specs.declared.refusal.Refusal.TheVariants.{NotFound}
 use Rattle.gs_tree.specs.declared.inverse.TreeInverse.{TreeInverse}
 use Rattle.gs_tree.specs.inner.Sort.{sort_of}
 use Rattle.gs_tree.specs.Plain.{Plain, with_at}
+use Rattle.gs_tree.specs.Places.{given_up}
 use Rattle.gs_tree.specs.Find.{at, IsDepthTest, DirsAbove}
 use Rattle.gs_tree.specs.Edits.{move_to, target_of}
 use Rattle.gs_tree.specs.Inverses.{TakesBack}
@@ -27,12 +28,12 @@ aim_at-aim-requires-clause-found c =
     let l = lifted m (at c.in-Some.node) (at c.replace.new.self) c.new.result from c.elements-3.result.now c.elements-3.ensures c.new.ensures c.in-Some.ensures.found (c.in-Some.ensures.above refl) c.in-Some.ensures.part c.in-Some.ensures.now in
     c.sort_at-found.ensures.sort ∙ ap (λ p. sort_of (m p)) c.elements-2.ensures ∙ ap (λ (k : Plain ℕ). sort_of (k c.args.to.now)) (sym l.back)
 
-pub settle-requires-clause-stands : goal.settle-requires-clause-stands
-settle-requires-clause-stands c =
+pub settle-requires-clause-place : goal.settle-requires-clause-place
+settle-requires-clause-place c =
     let m = at c.args.root.now in
     let from = c.args.from.now in
     let l = lifted m (at c.in-Some.node) (at c.replace.new.self) c.new.result from c.elements-3.result.now c.elements-3.ensures c.new.ensures c.in-Some.ensures.found (c.in-Some.ensures.above refl) c.in-Some.ensures.part c.in-Some.ensures.now in
-    l.holds
+    l.place
 
 pub settle-requires-clause-above : goal.settle-requires-clause-above
 settle-requires-clause-above c =
@@ -51,12 +52,12 @@ returns-clause-edit c deep test =
     let tested = subst (λ (k : Plain ℕ). IsDepthTest deep k from (target_of k from to)) (sym l.back) test in
     let step = c.settle.ensures.edit (move_to deep now from (target_of now from to)) (c.aim_at-aim.ensures.edit deep tested) in
     let is = rename-is deep m from to (not_empty from c.elements.result.now c.is_empty.result c.elements.ensures c.is_empty.ensures c.if-is_empty.false) l.stands in
-    subst (λ (r : Result (Plain ℕ) Refusal). Follows r c.settle.result m (at c.settle.new.root)) (sym is)
-    (subst (λ (k : Plain ℕ). Follows (move_to deep k from (target_of k from to)) c.settle.result k (at c.settle.new.root)) l.back step)
+    subst (λ (r : Result (Plain ℕ) Refusal). Follows r c.settle.result m (given_up c.settle.result (at c.settle.new.root))) (sym is)
+    (subst (λ (k : Plain ℕ). Follows (move_to deep k from (target_of k from to)) c.settle.result k (given_up c.settle.result (at c.settle.new.root))) l.back step)
 
 pub returns-clause-undo : goal.returns-clause-undo
 returns-clause-undo c =
     let m = at c.args.root.now in
     let from = c.args.from.now in
     let l = lifted m (at c.in-Some.node) (at c.replace.new.self) c.new.result from c.elements-3.result.now c.elements-3.ensures c.new.ensures c.in-Some.ensures.found (c.in-Some.ensures.above refl) c.in-Some.ensures.part c.in-Some.ensures.now in
-    subst (λ (k : Plain ℕ). IfOk c.settle.result (λ i. TakesBack i k (at c.settle.new.root))) l.back c.settle.ensures.undo
+    subst (λ (k : Plain ℕ). IfOk c.settle.result (λ i. TakesBack i k (given_up c.settle.result (at c.settle.new.root)))) l.back c.settle.ensures.undo

@@ -52,8 +52,8 @@ returns-in_default-copy c =
     let l = lifted m (at c.in-Some-replace.node) one c.new.result to c.elements-2.result.now c.elements-2.ensures c.new.ensures c.in-Some-replace.ensures.found (c.in-Some-replace.ensures.above refl) c.in-Some-replace.ensures.part c.in-Some-replace.ensures.now in
     (inl refl, λ q. c.put.ensures q ∙ ap (λ p. with_at p (at c.in-Some-replace.node) one q) c.elements-in_default-copy.ensures ∙ ap (λ (k : Plain ℕ). k q) l.back)
 
-pub land-requires-clause-dir : goal.land-requires-clause-dir
-land-requires-clause-dir c =
+pub relocate-requires-clause-dir : goal.relocate-requires-clause-dir
+relocate-requires-clause-dir c =
     let m = at c.args.root.now in
     let one = at c.replace.new.self in
     let to = c.args.to.now in
@@ -61,8 +61,8 @@ land-requires-clause-dir c =
     let split = sym c.elements.ensures ∙ c.in-Some.ensures.cases.0 in
     l.others c.in-Some.parent.now (c.in-Some.name.now ∷ []) (ap (begins to) (sym split) ∙ sym c.starts_with.ensures ∙ c.if-starts_with.false) ∙ dir_is (m c.in-Some.parent.now) c.in-Dir.ensures.sort
 
-pub land-requires-clause-stands : goal.land-requires-clause-stands
-land-requires-clause-stands c =
+pub relocate-requires-clause-stands : goal.relocate-requires-clause-stands
+relocate-requires-clause-stands c =
     let m = at c.args.root.now in
     let one = at c.replace.new.self in
     let to = c.args.to.now in
@@ -80,10 +80,10 @@ returns-in-Ok-true c =
     let one = at c.replace.new.self in
     let to = c.args.to.now in
     let l = lifted m (at c.in-Some-replace.node) one c.new.result to c.elements-2.result.now c.elements-2.ensures c.new.ensures c.in-Some-replace.ensures.found (c.in-Some-replace.ensures.above refl) c.in-Some-replace.ensures.part c.in-Some-replace.ensures.now in
-    let got = landing m (at c.in-Some-replace.node) one (at c.land.new.self) to c.args.from.now c.elements-3.result.now c.elements-4.result.now c.land.result c.elements-3.ensures c.elements-4.ensures l.back c.land.ensures in
+    let got = landing m (at c.in-Some-replace.node) one (at c.relocate.new.self) to c.args.from.now c.elements-3.result.now c.elements-4.result.now c.relocate.result c.elements-3.ensures c.elements-4.ensures l.back c.relocate.ensures in
     let split = sym c.elements.ensures ∙ c.in-Some.ensures.cases.0 in
     let parent_is : parent c.args.from.now ≡ c.in-Some.parent.now = ap parent split ∙ parent-append c.in-Some.parent.now c.in-Some.name.now in
-    let moves = relocated m (at c.land.new.self) to c.args.from.now c.in-Ok-true.field-0 c.in-Ok-true.field-0-test (rw c.in-Ok-true.is at got) in
+    let moves = relocated m (at c.relocate.new.self) to c.args.from.now c.in-Ok-true.field-0 c.in-Ok-true.field-0-test (rw c.in-Ok-true.is at got) in
     ((l.stands, sym c.starts_with.ensures ∙ c.if-starts_with.false, moves.0, ap m parent_is ∙ dir_is (m c.in-Some.parent.now) c.in-Dir.ensures.sort), moves.1)
 
 pub returns-in-Ok-false : goal.returns-in-Ok-false
@@ -92,8 +92,8 @@ returns-in-Ok-false c =
     let one = at c.replace.new.self in
     let to = c.args.to.now in
     let l = lifted m (at c.in-Some-replace.node) one c.new.result to c.elements-2.result.now c.elements-2.ensures c.new.ensures c.in-Some-replace.ensures.found (c.in-Some-replace.ensures.above refl) c.in-Some-replace.ensures.part c.in-Some-replace.ensures.now in
-    let got = landing m (at c.in-Some-replace.node) one (at c.land.new.self) to c.args.from.now c.elements-3.result.now c.elements-4.result.now c.land.result c.elements-3.ensures c.elements-4.ensures l.back c.land.ensures in
-    let stays = taken m (at c.land.new.self) to c.args.from.now c.in-Ok-false.field-0 c.in-Ok-false.field-0-test (rw c.in-Ok-false.is at got) in (
+    let got = landing m (at c.in-Some-replace.node) one (at c.relocate.new.self) to c.args.from.now c.elements-3.result.now c.elements-4.result.now c.relocate.result c.elements-3.ensures c.elements-4.ensures l.back c.relocate.ensures in
+    let stays = taken m (at c.relocate.new.self) to c.args.from.now c.in-Ok-false.field-0 c.in-Ok-false.field-0-test (rw c.in-Ok-false.is at got) in (
       inr (
         refl,
         λ fits. let gone : is_some (m c.args.from.now) ≡ false = ap (λ p. is_some (m p)) (sym (append-nil c.args.from.now)) ∙ ap is_some (fits.2 []) in let there = stays.0 in cc,
@@ -107,5 +107,5 @@ returns-in-Err c =
     let one = at c.replace.new.self in
     let to = c.args.to.now in
     let l = lifted m (at c.in-Some-replace.node) one c.new.result to c.elements-2.result.now c.elements-2.ensures c.new.ensures c.in-Some-replace.ensures.found (c.in-Some-replace.ensures.above refl) c.in-Some-replace.ensures.part c.in-Some-replace.ensures.now in
-    let got = landing m (at c.in-Some-replace.node) one (at c.land.new.self) to c.args.from.now c.elements-3.result.now c.elements-4.result.now c.land.result c.elements-3.ensures c.elements-4.ensures l.back c.land.ensures in
+    let got = landing m (at c.in-Some-replace.node) one (at c.relocate.new.self) to c.args.from.now c.elements-3.result.now c.elements-4.result.now c.relocate.result c.elements-3.ensures c.elements-4.ensures l.back c.relocate.ensures in
     (inl refl, rw c.in-Err.is at got)

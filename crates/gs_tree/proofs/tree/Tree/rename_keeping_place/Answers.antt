@@ -1,0 +1,48 @@
+use Rattle.std.proofs.Common.{◌≡◌, ap, sym, ◌∙◌, subst, ℕ}
+use Rattle.std.specs.Prelude.{IfOk}
+use Rattle.std.specs.FinMap.{get, entries}
+use Rattle.gs_tree.specs.Places.{KeepsPlace, given_up}
+use Rattle.gs_tree.specs.Find.{at, is_too_deep, IsDepthTest}
+use Rattle.gs_tree.specs.Plain.{Plain}
+use Rattle.gs_tree.specs.Edits.{rename, target_of}
+use Rattle.gs_tree.specs.Follows.{Follows}
+use Rattle.gs_tree.specs.Inverses.{TakesBack}
+use Rattle.gs_tree.proofs.Moves.{seen}
+use Rattle.gs_tree.proofs.Places.{root_given_up}
+use Rattle.gs_tree.proofs.Depths.{map_test}
+use Rattle.gs_tree.proofs.Root.{root_follows, rename-root}
+use Rattle.gs_tree.proofs.Depths.{rows_test}
+use Rattle.gs_tree.proofs.tree.Tree.rename_keeping_place.Goals as goal
+
+pub returns-clause-edit : goal.returns-clause-edit
+returns-clause-edit c =
+    let old : at c.self.inside.root ≡ get c.args.self.now = sym (seen c.self.inside.root) ∙ ap get c.self.view_is in
+    let from = c.args.from.now in
+    let to = c.args.to.now in
+    let m = get c.args.self.now in
+    let deep = is_too_deep (entries c.args.self.now) from (target_of m from to) in
+    let test : IsDepthTest deep (at c.self.inside.root) from (target_of (at c.self.inside.root) from to) =
+    subst (λ (k : Plain ℕ). IsDepthTest deep k from (target_of k from to)) (sym old) (map_test c.args.self.now from (target_of m from to)) in
+    let mid = at c.rename_in.new.root in
+    let step = subst (λ (k : Plain ℕ). Follows (rename (λ _. deep) k from to) c.rename_in.result k (given_up c.rename_in.result mid)) old (c.rename_in.ensures.edit deep test) in
+    subst (λ (n : Plain ℕ). Follows (rename (λ _. deep) m from to) c.rename_in.result m (given_up c.rename_in.result n)) (sym (seen c.rename_in.new.root)) step
+
+pub returns-clause-undo : goal.returns-clause-undo
+returns-clause-undo c =
+    let old : at c.self.inside.root ≡ get c.args.self.now = sym (seen c.self.inside.root) ∙ ap get c.self.view_is in
+    let mid = at c.rename_in.new.root in
+    let step = subst (λ (m : Plain ℕ). IfOk c.rename_in.result (λ i. TakesBack i m (given_up c.rename_in.result mid))) old c.rename_in.ensures.undo in
+    subst (λ (n : Plain ℕ). IfOk c.rename_in.result (λ i. TakesBack i (get c.args.self.now) (given_up c.rename_in.result n))) (sym (seen c.rename_in.new.root)) step
+
+pub returns-clause-place : goal.returns-clause-place
+returns-clause-place c = subst (λ (n : Plain ℕ). IfOk c.rename_in.result (λ i. KeepsPlace i n)) (sym (seen c.rename_in.new.root)) c.rename_in.ensures.place
+
+pub invariant_of-self : goal.invariant_of-self
+invariant_of-self c =
+    let rows = c.self.inside.root in
+    let from = c.args.from.now in
+    let to = c.args.to.now in
+    let target = target_of (at rows) from to in
+    let deep = is_too_deep rows from target in
+    let step = c.rename_in.ensures.edit deep (rows_test rows from target) in
+    root_given_up c.rename_in.result (at c.rename_in.new.root) (root_follows _ c.rename_in.result (at rows) (given_up c.rename_in.result (at c.rename_in.new.root)) (rename-root (λ _. deep) (at rows) from to c.self.invariant) step c.self.invariant)
