@@ -1,6 +1,6 @@
 -- An edit of the tree and of the counts, as the names see it.
-use Rattle.std.proofs.Common.{◌≡◌, ℕ, ◌-◌, inl, inr, ◌&&◌, Bool, true, false, not, cond, List, [], ◌∷◌, ◌++◌, length, set, nat_lt, refl, sym, ap, ◌∙◌, arith}
-use Rattle.std.specs.Prelude.{Option, Some, None, Result, Ok, Err, is_none, slice_get}
+use Rattle.std.proofs.Common.{◌≡◌, ℕ, ◌-◌, inl, inr, ◌&&◌, Bool, true, false, not, cond, List, [], ◌∷◌, ◌++◌, length, set, nat_lt, refl, sym, ap, ◌∙◌, subst, arith}
+use Rattle.std.specs.Prelude.{Option, Some, None, Result, Ok, Err, IfOk, is_none, slice_get}
 use Rattle.std.proofs.lemmas.Bool.{ltb-true}
 use Rattle.std.proofs.lemmas.List.{get_or_push, length_push, length-set, get_or-set_same}
 use Rattle.std.proofs.lemmas.Option.{slice_get_read}
@@ -15,13 +15,15 @@ use Rattle.gs_tree.specs.Plain.{Plain, Same}
 use Rattle.gs_tree.specs.Find.{Rows}
 use Rattle.gs_tree.specs.Edits.{add_chunk, set_chunk, with_chunks, chunks_in, is_dir}
 use Rattle.gs_tree.specs.Follows as tree
-use Rattle.gs_tree.specs.Inverses.{LeavesChunks}
+use Rattle.gs_tree.specs.Inverses.{LeavesChunks, IsMoved, TakesBack}
+use Rattle.gs_tree.specs.Places.{given_up}
 use Rattle.gs_tree.specs.declared.inverse.TreeInverse.{TreeInverse}
 use Rattle.gs_tree.specs.declared.inverse.TreeInverse.TheVariants.{Made, Moved, Removed, Added, Changed, Copied}
 use Rattle.gs_tree.proofs.Chunks.{chunks_now}
 use Rattle.gs_edit.specs.View.{NamesView, names_of}
 use Rattle.gs_edit.specs.Edits.{Applies, AppliesRows, KeepsRefs, edited, renamed, admits, counted, handed_over, holds_chunk, has_reference, with_counts}
-use Rattle.gs_edit.specs.Names.{Undoes, last_chunk, kept_of}
+use Rattle.gs_edit.specs.Names.{NamesTakenBack, Undoes, last_chunk, kept_of}
+use Rattle.gs_edit.specs.Places.{IsClosed, is_move}
 use Rattle.gs_edit.specs.declared.edit.Edit.{Edit}
 use Rattle.gs_edit.specs.declared.edit.Edit.TheVariants as edits
 use Rattle.gs_edit.proofs.Covers.{applies-add, applies-set}
@@ -152,3 +154,37 @@ rows_applied edit keeps (Err e) old new (inl same, left) = (inl (each (edited ed
     each (Ok rows) k = absurd (cc)
     each (Err f) k = let m : f ≡ e = cc in ap Err m
 rows_applied edit keeps (Err e) old new (inr memory, left) = (inr memory, ap (λ v. entries v.tree) left)
+
+-- an edit that moves something leaves the counts
+move_keeps : (edit : Edit) → is_move edit ≡ true → KeepsRefs edit
+move_keeps (edits.Mkdirs p) is = absurd (cc)
+move_keeps (edits.Create p) is = absurd (cc)
+move_keeps (edits.Rename from to) is = λ rows refs. refl
+move_keeps (edits.Hide p moment number) is = λ rows refs. refl
+move_keeps (edits.Unhide p) is = λ rows refs. refl
+move_keeps (edits.Remove p) is = absurd (cc)
+move_keeps (edits.AddChunk p chunk) is = absurd (cc)
+move_keeps (edits.Cow p index old new) is = absurd (cc)
+move_keeps (edits.Snapshot from to) is = absurd (cc)
+move_keeps (edits.Forget chunks) is = absurd (cc)
+
+pub moved_applies : (edit : Edit) → is_move edit ≡ true → (r : Result TreeInverse Refusal) (t u : FinMap path_cmp (Entry ℕ)) (m : Counts) → AppliesRows edit (entries t) r (entries u) → Applies edit (names_of t m) r (names_of u m)
+moved_applies edit is (Ok i) t u m h = move_keeps edit is (entries t) m ∙ ap (λ rows. with_counts rows (Ok m)) h
+moved_applies edit is (Err e) t u m (inl same, left) = (inl (move_keeps edit is (entries t) m ∙ ap (λ rows. with_counts rows (Ok m)) same), same_names u t m m (tree_of_rows u t left) refl)
+moved_applies edit is (Err e) t u m (inr memory, left) = (inr memory, same_names u t m m (tree_of_rows u t left) refl)
+
+-- a move is taken back as the tree's
+pub moved_back : (i : TreeInverse) (t u : FinMap path_cmp (Entry ℕ)) (m : Counts) → IsMoved i → TakesBack i (get t) (get u) → NamesTakenBack (inverses.Tree i) (names_of t m) (names_of u m)
+moved_back (Made path above) t u m is h = absurd is
+moved_back (Moved from to) t u m is h = record { fits = h.fits; tree = h.back; refs = refl }
+moved_back (Removed path node) t u m is h = absurd is
+moved_back (Added path) t u m is h = absurd is
+moved_back (Changed path index chunk) t u m is h = absurd is
+moved_back (Copied path) t u m is h = absurd is
+
+pub each_moved_back : (made : Result TreeInverse Refusal) (t n : FinMap path_cmp (Entry ℕ)) (m : Counts) → IfOk made (λ i. IsMoved i) → IfOk made (λ i. TakesBack i (get t) (given_up made (get n)))
+    → IfOk made (λ i. (after : NamesView) → IsClosed made (names_of n m) after → NamesTakenBack (inverses.Tree i) (names_of t m) after)
+each_moved_back (Err e) t n m is h = tt
+each_moved_back (Ok i) t n m is h = λ after closed.
+    subst (λ (c : Counts). NamesTakenBack (inverses.Tree i) (names_of t m) (names_of after.tree c)) (sym closed.1)
+    (moved_back i t after.tree m is (subst (λ (p : Plain ℕ). TakesBack i (get t) p) (λ j q. sym (closed.0 q) j) h))

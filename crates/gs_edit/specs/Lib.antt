@@ -4,6 +4,7 @@ pub mod Plain
 pub mod Mapped
 pub mod Edits
 pub mod Names
+pub mod Places
 pub mod Machine
 pub mod Scan
 pub mod Listed

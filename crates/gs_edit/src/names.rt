@@ -1,13 +1,20 @@
-ghost use Rattle.std.specs.Prelude.{◌≡◌, ◌&&◌, ℕ, Vec, true, false, not, ◌==◌, IfOk, IfErr, is_none, slice_get};
+ghost use Rattle.std.specs.Prelude.{◌≡◌, ◌&&◌, ℕ, Vec, Err, true, false, not, ◌==◌, IfOk, IfErr, is_none, slice_get};
 ghost use Rattle.gs_edit.specs.Edits.{holds_chunk, has_reference};
 ghost use Rattle.std.specs.FinMap as fin_map;
 ghost use Rattle.gs_tree.specs.Edits.{chunks_in};
 ghost use Rattle.gs_edit.specs.Edits.{Applies, AppliesRows, KeepsRefs};
-ghost use Rattle.gs_edit.specs.Names.{NamesTakenBack, Undoes, TakesOneBack, MovesNames, last_chunk, returned, is_one, has_room, kept_of, GivesNames, takes_memory, wants_memory};
+ghost use Rattle.gs_edit.specs.Names.{NamesTakenBack, Undoes, TakesOneBack, MovesNames, last_chunk, returned as counts_returned, is_one, has_room, kept_of, GivesNames, takes_memory, wants_memory};
 ghost use Rattle.gs_edit.specs.View.{names_of};
 ghost use Rattle.gs_edit.specs.Listed.{kind_of, is_of_kind};
 ghost use Rattle.gs_edit.specs.declared.listed.EditKind.TheVariants as kinds;
 ghost use Rattle.gs_edit.specs.Scan.{Scans};
+ghost use Rattle.gs_edit.specs.Places.{IsClosed, is_move};
+ghost use Rattle.gs_tree.specs.Inverses.{IsMoved, TakesBack};
+ghost use Rattle.gs_tree.specs.Places.{KeepsPlace, given_up, returned, without_place};
+ghost use Rattle.gs_tree.specs.Plain.{Same};
+ghost use Rattle.gs_tree.specs.Entry.{Entry};
+ghost use Rattle.gs_path.specs.Path.{path_cmp};
+ghost use Rattle.gs_edit.specs.View.{NamesView};
 
 use crate::edit::{Edit, Inverse};
 use crate::scan::{Scan, what_goes};
@@ -50,6 +57,28 @@ fn apply_in(
         Edit::Cow(path, index, old, new) => change_chunk(tree, refs, path, *index, *old, *new),
         Edit::Snapshot(from, to) => snapshot(tree, refs, alloc, from, to),
         Edit::Forget(chunks) => forget(tree, refs, alloc, chunks),
+    }
+}
+
+/// Makes a move, and keeps its place.
+fn move_in(tree: &mut Tree, edit: &Edit) -> Result<TreeInverse, Refusal>
+    ensures edit { is_move edit.now ≡ true → (after : fin_map.FinMap path_cmp (Entry ℕ)) → Same (fin_map.get after) (given_up result (fin_map.get tree.new)) → AppliesRows edit.now (fin_map.entries tree.old) result (fin_map.entries after) }
+    ensures undo { IfOk result (λ i. TakesBack i (fin_map.get tree.old) (given_up result (fin_map.get tree.new))) }
+    ensures place { IfOk result (λ i. KeepsPlace i (fin_map.get tree.new)) }
+    ensures kind { IfOk result (λ i. IsMoved i) }
+    ensures other { is_move edit.now ≡ false → (result ≡ Err Refusal.BadLine) × (tree.new ≡ tree.old) }
+{
+    match edit {
+        Edit::Rename(from, to) => tree.rename_keeping_place(from, to),
+        Edit::Hide(path, moment, number) => tree.hide_keeping_place(path, *moment, *number),
+        Edit::Unhide(path) => tree.unhide_keeping_place(path),
+        Edit::Mkdirs(_)
+        | Edit::Create(_)
+        | Edit::Remove(_)
+        | Edit::AddChunk(_, _)
+        | Edit::Cow(_, _, _, _)
+        | Edit::Snapshot(_, _)
+        | Edit::Forget(_) => Err(Refusal::BadLine),
     }
 }
 
@@ -367,7 +396,7 @@ fn may_return(refs: &Refs, chunk: Handle, old: Handle) -> bool
 /// Gives the one reference of a chunk to another, and lists the first no more.
 fn give_back(refs: &mut Refs, chunk: Handle, old: Handle)
     requires { (is_one (fin_map.get refs.old chunk) && (not (chunk == old) && has_room (fin_map.get refs.old old))) ≡ true }
-    ensures { refs.new ≡ returned refs.old chunk old }
+    ensures { refs.new ≡ counts_returned refs.old chunk old }
 {
     let _ = refs.unlist(chunk);
     let _ = refs.raise(old);
@@ -469,6 +498,36 @@ impl Names {
             },
             Inverse::Remember(chunks) => self.refs.put_back_each(self.alloc, chunks),
         }
+    }
+
+    /// Makes a move as `apply` does, but an empty directory keeps the source's place, until `give_up_place` takes it out or
+    /// `return_to_place` takes the move back. Neither takes memory. BadLine for an edit that moves nothing.
+    pub fn move_keeping_place(&mut self, edit: &Edit) -> Result<TreeInverse, Refusal>
+        ensures edit { is_move edit.now ≡ true → (after : NamesView) → IsClosed result self.new after → Applies edit.now self.old result after }
+        ensures undo { IfOk result (λ i. (after : NamesView) → IsClosed result self.new after → NamesTakenBack (Inverse.Tree i) self.old after) }
+        ensures place { IfOk result (λ i. KeepsPlace i (fin_map.get self.new.tree)) }
+        ensures kind { IfOk result (λ i. IsMoved i) }
+        ensures other { is_move edit.now ≡ false → (result ≡ Err Refusal.BadLine) × (self.new ≡ self.old) }
+    {
+        move_in(&mut self.tree, edit)
+    }
+
+    /// Takes out what keeps the place of a move, with all under it. The root stays. It is for an empty directory: the counts
+    /// stay as they are.
+    pub fn give_up_place(&mut self, path: &Path)
+        ensures tree { Same (fin_map.get self.new.tree) (without_place path.now (fin_map.get self.old.tree)) }
+        ensures refs { self.new.refs ≡ self.old.refs }
+    {
+        self.tree.give_up_place(path);
+    }
+
+    /// Takes a move back whose place is kept. Nothing changes where nothing stands at one of the paths, or one begins with the
+    /// other. It is for a place that an empty directory keeps: the counts stay as they are.
+    pub fn return_to_place(&mut self, from: &Path, to: &Path)
+        ensures tree { Same (fin_map.get self.new.tree) (returned from.now to.now (fin_map.get self.old.tree)) }
+        ensures refs { self.new.refs ≡ self.old.refs }
+    {
+        self.tree.return_to_place(from, to);
     }
 
     /// The names with what stands at a path moved to another (`Tree::with_moved`): a move that was made on equal names is

@@ -1,0 +1,27 @@
+-- A move whose place is kept by an empty directory, until it stands or is taken back.
+use Rattle.std.specs.Prelude.{◌≡◌, Bool, true, false, Result}
+use Rattle.std.specs.FinMap as fin
+use Rattle.gs_base.specs.declared.refusal.Refusal.{Refusal}
+use Rattle.gs_tree.specs.Plain.{Same}
+use Rattle.gs_tree.specs.Places.{given_up}
+use Rattle.gs_tree.specs.declared.inverse.TreeInverse.{TreeInverse}
+use Rattle.gs_edit.specs.View.{NamesView}
+use Rattle.gs_edit.specs.declared.edit.Edit.{Edit}
+use Rattle.gs_edit.specs.declared.edit.Edit.TheVariants as edits
+
+-- an edit that moves something
+abbrev pub is_move : Edit → Bool
+is_move (edits.Mkdirs p) = false
+is_move (edits.Create p) = false
+is_move (edits.Rename from to) = true
+is_move (edits.Hide p moment number) = true
+is_move (edits.Unhide p) = true
+is_move (edits.Remove p) = false
+is_move (edits.AddChunk p chunk) = false
+is_move (edits.Cow p index old new) = false
+is_move (edits.Snapshot from to) = false
+is_move (edits.Forget chunks) = false
+
+-- names that are those of a move, once the place that it kept is given up
+abbrev pub IsClosed : Result TreeInverse Refusal → NamesView → NamesView → Type 0
+IsClosed made now after = Same (fin.get after.tree) (given_up made (fin.get now.tree)) × (after.refs ≡ now.refs)
