@@ -33,7 +33,6 @@ impl<'a> Standing<'a> {
     {
         self.recorded
             .names
-            .tree()
             .visible_chunks_under(self.recorded.alloc, from)
     }
 

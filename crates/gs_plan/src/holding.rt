@@ -43,7 +43,7 @@ impl<'a> Standing<'a> {
     fn is_file_quiet(&self, file: &Path) -> bool
         ensures { result ≡ list_all (is_quiet_at (state_of self.entry.now)) (chunks_in (fin.get (state_of self.entry.now).durable.names.tree file.now)) }
     {
-        match self.recorded.names.tree().status(file) {
+        match self.recorded.names.status(file) {
             Ok(Status::File(chunks)) => self.are_quiet(chunks),
             _ => true,
         }
@@ -64,7 +64,7 @@ impl<'a> Standing<'a> {
         ensures { IfOk result (λ found. IfSome found (λ file. holds_up (state_of self.entry.now) from.now file ≡ true)) }
     {
         let alloc = self.recorded.alloc;
-        let entries = self.recorded.names.tree().entries_under(alloc, from)?;
+        let entries = self.recorded.names.entries_under(alloc, from)?;
         let mut found: Option<&Path> = None;
         let mut newest = 0;
         for entry in &entries {

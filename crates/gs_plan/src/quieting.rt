@@ -21,11 +21,7 @@ impl<'a> Standing<'a> {
         ensures { IfOk result (λ chunks. chunks.items ≡ unquiet (state_of self.entry.now) from.now) }
     {
         let alloc = self.recorded.alloc;
-        let chunks = self
-            .recorded
-            .names
-            .tree()
-            .visible_chunks_under(alloc, from)?;
+        let chunks = self.recorded.names.visible_chunks_under(alloc, from)?;
         let unquiet = self.unquiet_of(&chunks)?;
         ascending(alloc, &unquiet)
     }

@@ -38,7 +38,7 @@ follows edit held spare new before after is stands made edited =
     same = subst (λ o. StandsBy o before) is stands
 
 -- what two trees and counts agree on is equal
-same_names : (one two : NamesView) → ((q : Path) → fin.get one.tree q ≡ fin.get two.tree q) → one.refs ≡ two.refs → one ≡ two
+pub same_names : (one two : NamesView) → ((q : Path) → fin.get one.tree q ≡ fin.get two.tree q) → one.refs ≡ two.refs → one ≡ two
 same_names one two rows refs = λ i. names_of (tree i) (refs i)
   where
     tree : one.tree ≡ two.tree

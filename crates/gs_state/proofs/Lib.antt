@@ -8,6 +8,7 @@ pub mod Digits
 pub mod Edits
 pub mod Fronts
 pub mod Holding
+pub mod Keeping
 pub mod Led
 pub mod Listed
 pub mod Lowered

@@ -45,7 +45,7 @@ rests (Some settled) = is_at_rest settled
 
 abbrev pub durable_of : Recorded → Durable
 durable_of r = record {
-  names = r.names;
+  names = r.names.names;
   chunks = chunks_of (live nat_cmp r.leases);
   next_handle = r.next_handle;
   next_version = r.next_version;
@@ -118,6 +118,7 @@ pub record KeepsRooms (old new : Recorded) : Type 0 where
   pub leases : KeepsRoom nat_cmp old.leases new.leases
   pub replies : KeepsRoom client_cmp old.replies new.replies
   pub prepared : KeepsRoom nat_cmp old.prepared new.prepared
+  pub place : new.names.place ≡ old.names.place
 
 -- ---- a rollback
 

@@ -8,6 +8,9 @@ use Rattle.gs_base.specs.declared.refusal.Refusal.{Refusal}
 use Rattle.gs_base.specs.declared.refusal.Refusal.TheVariants as refusals
 use Rattle.gs_edit.specs.Names.{NamesTakenBack, takes_memory}
 use Rattle.gs_edit.specs.View.{NamesView}
+use Rattle.gs_edit.specs.declared.edit.Inverse.TheVariants.{Tree}
+use Rattle.gs_path.specs.Path.{Path}
+use Rattle.gs_tree.specs.declared.inverse.TreeInverse.TheVariants.{Moved}
 use Rattle.gs_edit.specs.declared.listed.ListedInverse.{ListedInverse}
 use Rattle.gs_lease.specs.declared.lease.Lease.{Lease}
 use Rattle.gs_record.specs.Encoding.{new_store}
@@ -16,7 +19,7 @@ use Rattle.gs_record.specs.declared.checkpoint.Phase.TheVariants.{Rolling, Upgra
 use Rattle.gs_table.specs.Slots.{live, set_live, HasRoom}
 use Rattle.gs_state.specs.Applied.{applied}
 use Rattle.gs_state.specs.Durable.{Durable, Settled}
-use Rattle.gs_state.specs.Held.{IsLedBy}
+use Rattle.gs_state.specs.Held.{IsLedBy, IsPlace, StandsBy, without_kept}
 use Rattle.gs_state.specs.Recorded.{IsToldBack, KeepsRooms, chunks_of, durable_of, settled_by}
 use Rattle.gs_state.specs.Replies.{client_cmp}
 use Rattle.gs_state.specs.declared.recorded.Recorded.{Recorded}
@@ -26,8 +29,10 @@ use Rattle.gs_state.specs.declared.undo.EditBefore.{EditBefore}
 use Rattle.gs_state.specs.declared.undo.EpochBefore.{EpochBefore}
 use Rattle.gs_state.specs.declared.undo.KeptBefore.{KeptBefore}
 use Rattle.gs_state.specs.declared.undo.NamesBefore.{NamesBefore}
-use Rattle.gs_state.specs.declared.undo.NamesBefore.TheVariants.{Undone, Kept}
+use Rattle.gs_state.specs.declared.undo.NamesBefore.TheVariants.{Undone, Moved as MovedTo, Kept}
+use Rattle.gs_state.specs.declared.undo.MovedNames.{MovedNames}
 use Rattle.gs_state.specs.declared.undo.ReplyBefore.{ReplyBefore}
+use Rattle.gs_state.specs.declared.undo.StoodNames.{StoodNames}
 use Rattle.gs_state.specs.declared.undo.RollbackBefore.{RollbackBefore}
 use Rattle.gs_state.specs.declared.undo.Undo.{Undo}
 use Rattle.gs_state.specs.declared.undo.Undo.TheVariants as undos
@@ -60,12 +65,29 @@ abbrev pub with_proposed_before : ℕ → Option Lease → fin.FinMap nat_cmp Se
 with_proposed_before chunk None chunks = chunks
 with_proposed_before chunk (Some lease) chunks = with_settled_before chunk (Some lease) chunks
 
--- the names: what was made of them is undone without memory, or they were kept
+-- the names: what was made of them is undone without memory, what was moved goes back, or they were kept
 abbrev pub AreNamesBefore : NamesBefore → NamesView → NamesView → Type 0
 AreNamesBefore (Undone inverse) before after = NamesTakenBack inverse before after × (takes_memory inverse ≡ false)
-AreNamesBefore (Kept stood) before after = (before ≡ stood.names) × IsLedBy stood.following stood.names after
+AreNamesBefore (MovedTo m) before after = NamesTakenBack (Tree (Moved m.from m.to)) before after × StandsBy m.spare before
+AreNamesBefore (Kept stood) before after = (before ≡ without_kept stood.place stood.names) × IsLedBy stood.following (without_kept stood.place stood.names) after × IsPlace stood.place stood.names
 
--- an edit that can be taken back without memory is made in place, and any other on a copy
+-- the path that was kept before an edit: where something is undone or goes back, none was
+abbrev pub place_before : NamesBefore → Option Path
+place_before (Undone inverse) = None
+place_before (MovedTo m) = None
+place_before (Kept stood) = stood.place
+
+-- what has to be kept so that an edit can be taken back
+abbrev pub HasPlaceBack : Option Path → NamesBefore → Type 0
+HasPlaceBack place (Undone inverse) = place ≡ None
+HasPlaceBack place (MovedTo m) = place ≡ Some m.from
+HasPlaceBack place (Kept stood) = IsPlace stood.place stood.names
+
+-- the paths that are kept before and after an edit
+abbrev pub IsPlaceBefore : NamesBefore → Option Path → Option Path → Type 0
+IsPlaceBefore before old new = (old ≡ place_before before) × HasPlaceBack new before
+
+-- an edit that its inverse takes back without memory
 abbrev pub is_made_in_place : PlainEdit → Bool
 is_made_in_place (Mkdirs p) = true
 is_made_in_place (Create p) = true
@@ -78,9 +100,24 @@ is_made_in_place (Cow p index old new) = true
 is_made_in_place (Snapshot from to) = false
 is_made_in_place (Forget chunks) = false
 
-abbrev pub is_undone : NamesBefore → Bool
-is_undone (Undone inverse) = true
-is_undone (Kept stood) = false
+-- an edit that neither that nor a kept place takes back without memory
+abbrev pub wants_copy : PlainEdit → Bool
+wants_copy (Mkdirs p) = false
+wants_copy (Create p) = false
+wants_copy (Rename from to) = false
+wants_copy (Hide p moment number) = false
+wants_copy (Unhide p) = false
+wants_copy (Remove p) = true
+wants_copy (AddChunk p chunk) = false
+wants_copy (Cow p index old new) = false
+wants_copy (Snapshot from to) = true
+wants_copy (Forget chunks) = true
+
+-- whether the names of before are kept whole
+abbrev pub is_kept : NamesBefore → Bool
+is_kept (Undone inverse) = false
+is_kept (MovedTo m) = false
+is_kept (Kept stood) = true
 
 -- all but the last, where one was put behind them
 abbrev pub AreItemsBefore : {X : Type 0} → Bool → List X → List X → Type 0
@@ -116,7 +153,7 @@ TakesBack (undos.Edit e) before after = IsEditBefore e before after
 TakesBack (undos.Epoch e) before after =
     AreItemsBefore true before.ends after.ends × (before ≡ record (with_kept_before e.kept after) { epoch = e.epoch; phase = e.phase; ends = before.ends })
 TakesBack (undos.RollbackCommit b) before after =
-    before ≡ record (with_kept_before b.kept after) { names = b.names; chunks = chunks_of (live nat_cmp b.leases); phase = Rolling }
+    before ≡ record (with_kept_before b.kept after) { names = b.names.names; chunks = chunks_of (live nat_cmp b.leases); phase = Rolling }
 
 -- several records, the last first
 abbrev pub TakeBack : List Undo → Durable → Durable → Type 0
@@ -167,16 +204,16 @@ abbrev pub RoomForChunks : Recorded → List ChunkBefore → Type 0
 RoomForChunks r [] = Unit {0}
 RoomForChunks r (before ∷ more) = RoomForChunk r before × RoomForChunks r more
 
--- a table that a record has given up is put back with the room that it had
+-- a table that a record has given up is put back with the room that it had, and so is a path that was kept
 abbrev pub rooms_before : Undo → Recorded → Recorded
 rooms_before (undos.Said reply) r = r
 rooms_before (undos.Propose p) r = r
 rooms_before (undos.Settle chunk) r = r
 rooms_before (undos.Holder chunk prepared) r = r
 rooms_before (undos.RollbackBegin epoch) r = r
-rooms_before (undos.Edit e) r = r
+rooms_before (undos.Edit e) r = record r { names = record r.names { place = place_before e.names } }
 rooms_before (undos.Epoch e) r = record r { prepared = e.kept.prepared }
-rooms_before (undos.RollbackCommit b) r = record r { leases = b.leases; prepared = b.kept.prepared }
+rooms_before (undos.RollbackCommit b) r = record r { names = b.names; leases = b.leases; prepared = b.kept.prepared }
 
 -- several records, the last first
 abbrev pub all_rooms_before : List Undo → Recorded → Recorded
@@ -190,7 +227,7 @@ RoomBack r (undos.Propose p) = RoomAt nat_cmp r.leases p.chunk p.lease
 RoomBack r (undos.Settle chunk) = RoomForChunk r chunk
 RoomBack r (undos.Holder chunk prepared) = RoomAt nat_cmp r.prepared chunk prepared
 RoomBack r (undos.RollbackBegin epoch) = Unit {0}
-RoomBack r (undos.Edit e) = RoomForReply r.replies e.reply × RoomForChunks r e.forgotten.items
+RoomBack r (undos.Edit e) = RoomForReply r.replies e.reply × RoomForChunks r e.forgotten.items × HasPlaceBack r.names.place e.names
 RoomBack r (undos.Epoch e) = Unit {0}
 RoomBack r (undos.RollbackCommit b) = Unit {0}
 
@@ -253,6 +290,16 @@ a_client_without_a_reply replies client = refl
 
 what_stood_nowhere_needs_no_room : RoomAt {V = ℕ} nat_cmp [] 3 None
 what_stood_nowhere_needs_no_room = tt
+
+-- a directory is made behind a move, so on a copy: once that is taken back, the place of the move is kept again
+the_place_is_kept_again : (from : Path) (e : EditBefore) (stood : StoodNames) (r : Recorded) → (rooms_before (undos.Edit (record e { names = Kept (record stood { place = Some from }) })) r).names.place ≡ Some from
+the_place_is_kept_again from e stood r = refl
+
+what_goes_back_needs_its_place : (m : MovedNames) → HasPlaceBack (Some m.from) (MovedTo m) ≡ (Some m.from ≡ Some m.from)
+what_goes_back_needs_its_place m = refl
+
+a_move_wants_no_copy : (from to : Path) → wants_copy (Rename from to) ≡ false
+a_move_wants_no_copy from to = refl
 
 a_checkpoint_comes_alone : comes_alone (Whole new_store) ≡ true
 a_checkpoint_comes_alone = refl

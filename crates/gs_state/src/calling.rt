@@ -14,14 +14,14 @@ impl Recorded {
     pub fn stands(&self, path: &Path) -> bool
         ensures { result ≡ is_some (fin.get (durable_of self.now).names.tree path.now) }
     {
-        self.names.tree().status(path).is_ok()
+        self.names.status(path).is_ok()
     }
 
     /// Whether a directory has a child whose name isn't hidden.
     pub fn has_visible_child(&self, path: &Path) -> bool
         ensures { result ≡ has_visible_child (fin.entries (durable_of self.now).names.tree) path.now }
     {
-        self.names.tree().has_visible(path)
+        self.names.has_visible(path)
     }
 
     /// Where the chunk at a place of a file is.

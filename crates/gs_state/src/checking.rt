@@ -7,12 +7,12 @@ ghost use Rattle.gs_record.specs.declared.checkpoint.SettledEntry.{SettledEntry 
 ghost use Rattle.gs_state.specs.Durable.{has_its_primary, upgrade_epoch};
 ghost use Rattle.gs_state.specs.Whole.{alternate, are_ends, are_hidden_once, are_prepared, has_upgrade, is_hidden_twice, is_phase_behind, is_prepared_before, is_view_given};
 
+use crate::held_names::HeldNames;
 use crate::recorded::is_given;
 use gs_base::{EpochEnd, Handle};
 use gs_lease::View;
 use gs_path::{Name, Path};
 use gs_record::{Checkpoint, Phase, PreparedView};
-use gs_tree::Tree;
 use std::alloc::{AllocError, Global};
 
 /// Whether an upgrade is begun in each ordinary epoch, and ended in each other one. The first is ordinary.
@@ -161,11 +161,11 @@ fn has_hidden_twice(alloc: Global, path: &Path) -> Result<bool, AllocError>
     Ok(false)
 }
 
-/// Whether nothing in a tree is hidden twice.
-pub fn are_hidden_once(alloc: Global, tree: &Tree) -> Result<bool, AllocError>
-    ensures { IfOk result (λ once. once ≡ are_hidden_once (fin.entries tree.now)) }
+/// Whether nothing in the tree of names is hidden twice.
+pub fn are_hidden_once(alloc: Global, names: &HeldNames) -> Result<bool, AllocError>
+    ensures { IfOk result (λ once. once ≡ are_hidden_once (fin.entries names.now.names.tree)) }
 {
-    let entries = tree.entries(alloc)?;
+    let entries = names.entries(alloc)?;
     for entry in &entries {
         if has_hidden_twice(alloc, entry.path())? {
             return Ok(false);

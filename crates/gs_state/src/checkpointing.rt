@@ -143,7 +143,7 @@ impl Recorded {
         ensures { IfOk result (λ checkpoint. plain_checkpoint checkpoint ≡ checkpoint_of (durable_of self.now)) }
     {
         let alloc = self.alloc;
-        let entries = self.names.tree().entries(alloc)?;
+        let entries = self.names.entries(alloc)?;
         Ok(Checkpoint {
             next_handle: self.next_handle,
             next_version: self.next_version,

@@ -11,7 +11,7 @@ ghost use Rattle.gs_table.specs.Slots.{HasRoom, KeepsRoom, live, set_live};
 ghost use Rattle.gs_state.specs.Applied.{forgotten_by, with_answer, without_chunks};
 ghost use Rattle.gs_state.specs.Recorded.{IsToldBack, KeepsRooms, RoomForEach, RoomToKeep, durable_of, inverses_and};
 ghost use Rattle.gs_state.specs.Replies.{client_cmp};
-ghost use Rattle.gs_state.specs.TakingBack.{AreItemsBefore, AreNamesBefore, Enters, IsUndo, RoomForChunk, RoomForChunks, RoomForReply, is_made_in_place, is_undone, with_chunk_before, with_chunks_before, with_leases_before, with_reply_before};
+ghost use Rattle.gs_state.specs.TakingBack.{AreItemsBefore, AreNamesBefore, Enters, IsPlaceBefore, IsUndo, RoomForChunk, RoomForChunks, RoomForReply, with_chunk_before, with_chunks_before, with_leases_before, with_reply_before};
 
 use crate::editing::{answer_to, forgotten_by, next_behind, unfit};
 use crate::entering::enter_reply;
@@ -26,8 +26,10 @@ use gs_table::Table;
 
 /// Makes an edit: in place where it can be taken back without memory, and else on a copy.
 fn enter_names(names: &mut HeldNames, edit: &Edit) -> Result<NamesBefore, Refusal>
-    ensures edit { Applies edit.now names.old result names.new }
-    ensures back { IfOk result (λ before. AreNamesBefore before names.old names.new) }
+    ensures edit { Applies edit.now names.old.names result names.new.names }
+    ensures back { IfOk result (λ before. AreNamesBefore before names.old.names names.new.names) }
+    ensures place { IfOk result (λ before. IsPlaceBefore before names.old.place names.new.place) }
+    ensures refused { IfErr result (λ _. names.new ≡ names.old) }
 {
     names.enter(edit)
 }
@@ -127,7 +129,7 @@ impl Recorded {
         ensures applied { Enters (entries.Edited by (plain_edit edit.now)) result (durable_of self.old) (durable_of self.new) }
         ensures back { IfOk result (λ undo. IsUndo self.old self.new undo) }
         ensures leases { IfErr result (λ _. self.new.leases ≡ self.old.leases) }
-        ensures keeps { KeepsRooms self.old self.new }
+        ensures keeps { IfErr result (λ _. KeepsRooms self.old self.new) }
     {
         if !self.may_edit(edit)? {
             return Err(Refusal::BadLine);

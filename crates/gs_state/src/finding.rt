@@ -56,7 +56,7 @@ impl Recorded {
     pub fn status(&self, path: &Path) -> Result<Result<Answer, Refusal>, AllocError>
         ensures { IfOk result (λ told. told ≡ status (durable_of self.now) (fin.get (durable_of self.now).names.tree path.now)) }
     {
-        let status = match self.names.tree().status(path) {
+        let status = match self.names.status(path) {
             Ok(Found::Dir) => Status::Directory,
             Ok(Found::File(chunks)) => Status::File(Items::new(self.chunk_statuses(chunks)?)),
             Err(refusal) => return Ok(Err(refusal)),
@@ -68,7 +68,7 @@ impl Recorded {
     pub fn found_chunk(&self, path: &Path, index: u64) -> Result<Handle, Refusal>
         ensures { result ≡ found_chunk (fin.get (durable_of self.now).names.tree path.now) index }
     {
-        let Found::File(chunks) = self.names.tree().status(path)? else {
+        let Found::File(chunks) = self.names.status(path)? else {
             return Err(Refusal::IsADirectory);
         };
         match chunks.get(index as usize) {

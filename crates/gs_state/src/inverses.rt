@@ -8,24 +8,25 @@ ghost use Rattle.gs_tree.specs.Lists.{made_paths};
 ghost use Rattle.gs_state.specs.Recorded.{IsToldBack, durable_of};
 ghost use Rattle.gs_state.specs.Undoing.{inverse_of};
 
+use crate::held_names::HeldNames;
 use crate::recorded::Recorded;
 use crate::reverting::{renamed_back, taken_back};
 use crate::texts::by_text;
 use gs_edit::{Edit, ListedInverse};
 use gs_path::Path;
 use gs_record::Phase;
-use gs_tree::{Tree, made_paths};
+use gs_tree::made_paths;
 use std::alloc::{AllocError, Global};
 
 /// Of how many elements the longest front of a path is at which something stands.
-fn stood(alloc: Global, tree: &Tree, path: &Path) -> Result<usize, AllocError>
-    ensures { IfOk result (λ above. above ≡ stood (fin.get tree.now) path.now) }
+fn stood(alloc: Global, names: &HeldNames, path: &Path) -> Result<usize, AllocError>
+    ensures { IfOk result (λ above. above ≡ stood (fin.get names.now.names.tree) path.now) }
 {
     let elements = path.elements();
     let mut front = Path::root(alloc);
     for (above, name) in elements.iter().enumerate() {
         front.push(name.copy(alloc)?)?;
-        if tree.status(&front).is_err() {
+        if names.status(&front).is_err() {
             return Ok(above);
         }
     }
@@ -33,18 +34,18 @@ fn stood(alloc: Global, tree: &Tree, path: &Path) -> Result<usize, AllocError>
 }
 
 /// The paths that are made down to a path: those at which nothing stands.
-fn missing_paths(alloc: Global, tree: &Tree, path: &Path) -> Result<Vec<Path>, AllocError>
-    ensures { IfOk result (λ paths. paths.items ≡ made_paths path.now (stood (at (fin.entries tree.now)) path.now)) }
+fn missing_paths(alloc: Global, names: &HeldNames, path: &Path) -> Result<Vec<Path>, AllocError>
+    ensures { IfOk result (λ paths. paths.items ≡ made_paths path.now (stood (at (fin.entries names.now.names.tree)) path.now)) }
 {
-    let above = stood(alloc, tree, path)?;
+    let above = stood(alloc, names, path)?;
     made_paths(alloc, path, above)
 }
 
 /// What takes a removal back: all that stands at the path and below it.
-fn removed_back(alloc: Global, tree: &Tree, path: &Path) -> Result<ListedInverse, AllocError>
-    ensures { IfOk result (λ inverse. plain_inverse inverse ≡ inverse_of (Remove path.now) (fin.entries tree.now)) }
+fn removed_back(alloc: Global, names: &HeldNames, path: &Path) -> Result<ListedInverse, AllocError>
+    ensures { IfOk result (λ inverse. plain_inverse inverse ≡ inverse_of (Remove path.now) (fin.entries names.now.names.tree)) }
 {
-    let entries = tree.entries_under(alloc, path)?;
+    let entries = names.entries_under(alloc, path)?;
     Ok(ListedInverse::Remove(by_text(alloc, entries)?))
 }
 
@@ -54,12 +55,12 @@ impl Recorded {
         ensures { IfOk result (λ inverse. option_map plain_inverse inverse ≡ Some (inverse_of (plain_edit edit.now) (fin.entries (durable_of self.now).names.tree))) }
     {
         let alloc = self.alloc;
-        let tree = self.names.tree();
+        let names = &self.names;
         let inverse = match edit {
-            Edit::Mkdirs(path) => ListedInverse::Mkdirs(missing_paths(alloc, tree, path)?),
-            Edit::Create(path) => ListedInverse::Create(missing_paths(alloc, tree, path)?),
-            Edit::Rename(from, to) => renamed_back(alloc, tree, from, to)?,
-            Edit::Remove(path) => removed_back(alloc, tree, path)?,
+            Edit::Mkdirs(path) => ListedInverse::Mkdirs(missing_paths(alloc, names, path)?),
+            Edit::Create(path) => ListedInverse::Create(missing_paths(alloc, names, path)?),
+            Edit::Rename(from, to) => renamed_back(alloc, names, from, to)?,
+            Edit::Remove(path) => removed_back(alloc, names, path)?,
             Edit::Hide(_, _, _)
             | Edit::Unhide(_)
             | Edit::AddChunk(_, _)

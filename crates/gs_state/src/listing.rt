@@ -32,7 +32,7 @@ impl Recorded {
     pub fn listing(&self, path: &Path) -> Result<Result<Answer, Refusal>, AllocError>
         ensures { IfOk result (λ told. told ≡ listing (fin.entries (durable_of self.now).names.tree) path.now (fin.get (durable_of self.now).names.tree path.now)) }
     {
-        let listed = match self.names.tree().list(path) {
+        let listed = match self.names.list(path) {
             Ok(listed) => listed,
             Err(Refusal::Memory) => return Err(AllocError),
             Err(refusal) => return Ok(Err(refusal)),

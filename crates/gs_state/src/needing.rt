@@ -19,7 +19,7 @@ impl Recorded {
         ensures { IfOk result (λ visible. AreVisible (fin.entries (durable_of self.now).names.tree) (live nat_cmp visible)) }
     {
         let root = Path::root(self.alloc);
-        let chunks = self.names.tree().visible_chunks_under(self.alloc, &root)?;
+        let chunks = self.names.visible_chunks_under(self.alloc, &root)?;
         chunk_set(self.alloc, &chunks)
     }
 }

@@ -12,6 +12,7 @@ ghost use Rattle.gs_state.specs.Whole.{are_all_prepared, are_settled, can_go_bac
 
 use crate::asking::Prepared;
 use crate::checking::are_hidden_once;
+use crate::held_names::HeldNames;
 use crate::recorded::Recorded;
 use gs_base::{Handle, Refusal};
 use gs_lease::{Lease, Told, restore};
@@ -121,14 +122,14 @@ impl Recorded {
         ensures { IfOk result (λ can. can ≡ can_go_back (durable_of self.now) (all_undone (durable_of self.now).inverses (durable_of self.now).names)) }
     {
         let before = match self.names_back() {
-            Ok(before) => before,
+            Ok(before) => HeldNames::new(self.alloc, before),
             Err(Refusal::Memory) => return Err(AllocError),
             Err(_) => return Ok(false),
         };
-        if !are_hidden_once(self.alloc, self.names.tree())? {
+        if !are_hidden_once(self.alloc, &self.names)? {
             return Ok(false);
         }
-        if !are_hidden_once(self.alloc, before.tree())? {
+        if !are_hidden_once(self.alloc, &before)? {
             return Ok(false);
         }
         if self.phase == Phase::Ordinary {

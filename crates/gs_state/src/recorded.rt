@@ -104,6 +104,7 @@ impl Recorded {
         ensures leases { self.new.leases ≡ self.old.leases }
         ensures replies { self.new.replies ≡ self.old.replies }
         ensures prepared { self.new.prepared ≡ self.old.prepared }
+        ensures names { self.new.names ≡ self.old.names }
     {
         let _pushed = self.ends.push(end);
         self.epoch += 1;
@@ -167,6 +168,7 @@ impl Recorded {
         ensures replies { self.new.replies ≡ self.old.replies }
         ensures inverses { self.new.inverses ≡ self.old.inverses }
         ensures room { KeepsRoom nat_cmp self.old.prepared self.new.prepared }
+        ensures names { self.new.names ≡ self.old.names }
     {
         if let Some(prepared) = self.prepared_view(chunk) {
             self.prepared.put(

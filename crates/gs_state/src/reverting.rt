@@ -6,11 +6,12 @@ ghost use Rattle.std.specs.FinMap as fin;
 ghost use Rattle.gs_tree.specs.Edits.{target_of};
 ghost use Rattle.gs_state.specs.Undoing.{inverse_of};
 
+use crate::held_names::HeldNames;
 use crate::hiding::{hidden_path, old_path};
 use gs_base::Moment;
 use gs_edit::{Edit, ListedInverse};
 use gs_path::Path;
-use gs_tree::{Status, Tree};
+use gs_tree::Status;
 use std::alloc::{AllocError, Global};
 
 /// What takes a deletion back.
@@ -35,11 +36,16 @@ fn unhidden_back(alloc: Global, path: &Path) -> Result<ListedInverse, AllocError
 }
 
 /// Where a rename puts what it moves: into the directory that stands at the target, or else at the target.
-pub fn target_of(alloc: Global, tree: &Tree, from: &Path, to: &Path) -> Result<Path, AllocError>
-    ensures { IfOk result (λ target. target ≡ target_of (fin.get tree.now) from.now to.now) }
+pub fn target_of(
+    alloc: Global,
+    names: &HeldNames,
+    from: &Path,
+    to: &Path,
+) -> Result<Path, AllocError>
+    ensures { IfOk result (λ target. target ≡ target_of (fin.get names.now.names.tree) from.now to.now) }
 {
     let mut target = to.copy(alloc)?;
-    let Ok(Status::Dir) = tree.status(to) else {
+    let Ok(Status::Dir) = names.status(to) else {
         return Ok(target);
     };
     let Some((name, _)) = from.elements().split_last() else {
@@ -52,13 +58,13 @@ pub fn target_of(alloc: Global, tree: &Tree, from: &Path, to: &Path) -> Result<P
 /// What takes a rename back that these names allow.
 pub fn renamed_back(
     alloc: Global,
-    tree: &Tree,
+    names: &HeldNames,
     from: &Path,
     to: &Path,
 ) -> Result<ListedInverse, AllocError>
-    ensures { IfOk result (λ inverse. plain_inverse inverse ≡ inverse_of (Rename from.now to.now) (fin.entries tree.now)) }
+    ensures { IfOk result (λ inverse. plain_inverse inverse ≡ inverse_of (Rename from.now to.now) (fin.entries names.now.names.tree)) }
 {
-    let target = target_of(alloc, tree, from, to)?;
+    let target = target_of(alloc, names, from, to)?;
     Ok(ListedInverse::Rename(target, from.copy(alloc)?))
 }
 

@@ -1,5 +1,5 @@
 // The records of an event, entered one after the other and taken back together.
-ghost use Rattle.std.specs.Prelude.{◌≡◌, ◌<◌, ◌≤◌, List, [], take, true, false, IfErr, OnOk, vec_len, vec_capacity};
+ghost use Rattle.std.specs.Prelude.{◌≡◌, ◌<◌, ◌≤◌, List, [], None, take, true, false, IfErr, OnOk, vec_len, vec_capacity};
 ghost use Rattle.std.specs.Ordering.{nat_cmp};
 ghost use Rattle.gs_record.specs.Plain.{PlainEntry, plain};
 ghost use Rattle.gs_table.specs.Slots.{live};
@@ -97,7 +97,8 @@ impl Recorded {
         drop(before);
     }
 
-    /// The same of the last record. Names that were kept as they stood before its edit follow it, and stand by for a later one.
+    /// The same of the last record. Names that were kept as they stood before its edit follow it, and stand by for a later one;
+    /// so do those that stood by before a move.
     fn let_last_go(&mut self, undo: Undo)
         requires { (before : Durable) × TakesBack undo before (durable_of self.old) }
         ensures value { durable_of self.new ≡ durable_of self.old }
@@ -122,12 +123,14 @@ impl Recorded {
         self.names.follow(names);
     }
 
-    /// All records of an event stand, which are those that lead to what stands now. They are taken back no more.
+    /// All records of an event stand, which are those that lead to what stands now. They are taken back no more, and no
+    /// place is kept.
     pub fn let_all_stand(&mut self, undos: &mut Vec<Undo>)
         requires { (entries : List PlainEntry) × ((before : Durable) × Leads entries undos.old.items before (durable_of self.old)) }
         ensures none { undos.new.items ≡ [] }
         ensures value { durable_of self.new ≡ durable_of self.old }
         ensures leases { live nat_cmp self.new.leases ≡ live nat_cmp self.old.leases }
+        ensures place { self.new.names.place ≡ None }
     {
         if let Some(undo) = undos.pop() {
             self.let_last_go(undo);
@@ -135,14 +138,16 @@ impl Recorded {
         self.let_all_go(undos);
     }
 
-    /// All records of an event stand, and are taken back no more.
+    /// All records of an event stand, and are taken back no more. No place is kept then.
     pub fn let_all_go(&mut self, undos: &mut Vec<Undo>)
         ensures none { undos.new.items ≡ [] }
         ensures value { durable_of self.new ≡ durable_of self.old }
         ensures leases { live nat_cmp self.new.leases ≡ live nat_cmp self.old.leases }
+        ensures place { self.new.names.place ≡ None }
     {
         while let Some(undo) = undos.pop() {
             self.let_go(undo);
         }
+        self.names.give_up_place();
     }
 }

@@ -7,7 +7,7 @@ ghost use Rattle.gs_table.specs.Slots.{KeepsRoom, live, set_live};
 ghost use Rattle.gs_state.specs.Durable.{Durable};
 ghost use Rattle.gs_state.specs.Recorded.{KeepsRooms, durable_of};
 ghost use Rattle.gs_state.specs.Replies.{client_cmp};
-ghost use Rattle.gs_state.specs.TakingBack.{AreItemsBefore, AreNamesBefore, IsEditBefore, RoomAt, RoomBack, RoomForChunk, RoomForChunks, RoomForReply, TakesBack, leases_before, rooms_before, with_chunk_before, with_chunks_before, with_leases_before, with_moved_before, with_proposed_before, with_reply_before};
+ghost use Rattle.gs_state.specs.TakingBack.{AreItemsBefore, AreNamesBefore, HasPlaceBack, IsEditBefore, RoomAt, RoomBack, RoomForChunk, RoomForChunks, RoomForReply, TakesBack, leases_before, place_before, rooms_before, with_chunk_before, with_chunks_before, with_leases_before, with_moved_before, with_proposed_before, with_reply_before};
 
 use crate::held_names::HeldNames;
 use crate::recorded::Recorded;
@@ -75,7 +75,9 @@ fn put_moved_back(leases: &mut LeaseTable, chunk: Handle, before: Option<Lease>)
 
 /// The names stand again as they stood.
 fn put_names_back(names: &mut HeldNames, before: NamesBefore)
-    ensures { (stood : NamesView) → AreNamesBefore before stood names.old → names.new ≡ stood }
+    requires { HasPlaceBack names.old.place before }
+    ensures names { (stood : NamesView) → AreNamesBefore before stood names.old.names → names.new.names ≡ stood }
+    ensures place { names.new.place ≡ place_before before }
 {
     names.put_back(before);
 }
@@ -187,9 +189,10 @@ impl Recorded {
     fn take_edit_back(&mut self, edit: EditBefore)
         requires replies { RoomForReply self.old.replies edit.reply }
         requires chunks { RoomForChunks self.old edit.forgotten.items }
+        requires place { HasPlaceBack self.old.names.place edit.names }
         ensures value { (before : Durable) → IsEditBefore edit before (durable_of self.old) → durable_of self.new ≡ before }
         ensures leases { live nat_cmp self.new.leases ≡ with_leases_before edit.forgotten.items (live nat_cmp self.old.leases) }
-        ensures keeps { KeepsRooms self.old self.new }
+        ensures keeps { KeepsRooms (rooms_before (Undo.Edit edit) self.old) self.new }
     {
         let EditBefore {
             names,

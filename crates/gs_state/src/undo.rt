@@ -53,7 +53,17 @@ pub enum Following {
 #[derive(Drop)]
 pub struct StoodNames {
     pub names: Names,
+    /// The path that was kept in them.
+    pub place: Option<Path>,
     pub following: Following,
+}
+
+/// A move whose place is kept, and the names that stood by as they stood before it.
+#[derive(Drop)]
+pub struct MovedNames {
+    pub from: Path,
+    pub to: Path,
+    pub spare: Option<Names>,
 }
 
 /// How the names of before are come by.
@@ -61,6 +71,8 @@ pub struct StoodNames {
 pub enum NamesBefore {
     /// What was made of them is undone. That takes no memory.
     Undone(Inverse),
+    /// What was moved goes back to its place. That takes no memory.
+    Moved(MovedNames),
     /// They were kept.
     Kept(StoodNames),
 }

@@ -34,7 +34,7 @@ impl Recorded {
     pub fn length_at(&self, path: &Path) -> Result<u64, Refusal>
         ensures { result ≡ length_at (fin.get (durable_of self.now).names.tree path.now) }
     {
-        match self.names.tree().status(path) {
+        match self.names.status(path) {
             Ok(Status::File(chunks)) => Ok(chunks.len() as u64),
             Ok(Status::Dir) => Err(Refusal::IsADirectory),
             Err(refusal) => Err(refusal),

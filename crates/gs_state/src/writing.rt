@@ -22,7 +22,7 @@ impl Recorded {
     {
         let mut count = 0;
         for path in paths {
-            if self.names.tree().status(path).is_err() {
+            if self.names.status(path).is_err() {
                 return count;
             }
             count += 1;
@@ -42,7 +42,7 @@ impl Recorded {
     fn is_shared_at(&self, path: &Path, index: u64) -> bool
         ensures { result ≡ is_shared_in (durable_of self.now).names (slice_get (chunks_at (durable_of self.now).names path.now) index) }
     {
-        match self.names.tree().status(path) {
+        match self.names.status(path) {
             Ok(Status::File(chunks)) => match chunks.get(index as usize) {
                 Some(chunk) => self.is_shared(*chunk),
                 None => false,
@@ -55,7 +55,7 @@ impl Recorded {
     fn is_end_of(&self, path: &Path, index: u64) -> bool
         ensures { result ≡ (index == length (chunks_at (durable_of self.now).names path.now)) }
     {
-        match self.names.tree().status(path) {
+        match self.names.status(path) {
             Ok(Status::File(chunks)) => index == chunks.len() as u64,
             _ => index == 0,
         }
@@ -74,7 +74,7 @@ impl Recorded {
     fn moved(&self, from: &Path, to: &Path) -> Result<Vec<Path>, AllocError>
         ensures { IfOk result (λ paths. paths.items ≡ from.now ∷ target_of (fin.get (durable_of self.now).names.tree) from.now to.now ∷ []) }
     {
-        let target = target_of(self.alloc, self.names.tree(), from, to)?;
+        let target = target_of(self.alloc, &self.names, from, to)?;
         both(self.alloc, from.copy(self.alloc)?, target)
     }
 

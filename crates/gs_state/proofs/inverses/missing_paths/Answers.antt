@@ -8,4 +8,4 @@ use Rattle.gs_state.proofs.inverses.missing_paths.Goals as goal
 pub returns : goal.returns
 returns c =
     subst (λ above. IfOk c.made_paths.result (λ paths. paths.items ≡ made_paths c.args.path.now above))
-    (c.in_ok-above.ensures ∙ ap (λ m. stood m c.args.path.now) (seen c.args.tree.now)) c.made_paths.ensures
+    (c.in_ok-above.ensures ∙ ap (λ m. stood m c.args.path.now) (seen c.args.names.now.names.tree)) c.made_paths.ensures

@@ -35,5 +35,5 @@ stands_at entry (Ok (status.File chunks)) is fine = ap is_none is
 stands_at entry (Err e) is fine = absurd (false≢true (sym fine))
 
 pub loop-above-preserved : goal.loop-above-preserved
-loop-above-preserved c = one_more (fin.get c.args.tree.now) c.loop-above.front c.push.new.self c.elements-elements.result.now c.loop-above.above c.index-elements-above.result c.loop-above-test.true c.index-elements-above.is
-    (c.in_ok-push.ensures.ok ∙ ap (λ n. c.loop-above.front ++ n ∷ []) c.in_ok-copy.ensures) (stands_at (fin.get c.args.tree.now c.push.new.self) c.status.result c.status.ensures (sym c.is_err.ensures.value ∙ c.if-is_err.false)) c.loop-above.invariant.0 c.loop-above.invariant.1
+loop-above-preserved c = one_more (fin.get c.args.names.now.names.tree) c.loop-above.front c.push.new.self c.elements-elements.result.now c.loop-above.above c.index-elements-above.result c.loop-above-test.true c.index-elements-above.is
+    (c.in_ok-push.ensures.ok ∙ ap (λ n. c.loop-above.front ++ n ∷ []) c.in_ok-copy.ensures) (stands_at (fin.get c.args.names.now.names.tree c.push.new.self) c.status.result c.status.ensures (sym c.is_err.ensures.value ∙ c.if-is_err.false)) c.loop-above.invariant.0 c.loop-above.invariant.1

@@ -5,4 +5,4 @@ use Rattle.gs_state.proofs.inverses.stood.Given as goal
 
 abbrev pub invariant-loop-above : goal.invariant-loop-above
 invariant-loop-above l =
-    (l.front ≡ take l.above l.elements) × (l.above + stood (λ q. fin.get l.tree (l.front ++ q)) (drop l.above l.elements) ≡ stood (fin.get l.tree) l.elements)
+    (l.front ≡ take l.above l.elements) × (l.above + stood (λ q. fin.get l.names.names.tree (l.front ++ q)) (drop l.above l.elements) ≡ stood (fin.get l.names.names.tree) l.elements)

@@ -2,6 +2,7 @@ use Rattle.std.proofs.Common.{ap, ◌∙◌, map}
 use Rattle.std.specs.Ordering.{nat_cmp}
 use Rattle.gs_record.specs.Plain.{plain_checkpoint, plain_inverse}
 use Rattle.gs_table.specs.Slots.{live}
+use Rattle.gs_state.specs.Held.{HeldView}
 use Rattle.gs_state.specs.Checkpoints.{told_prepared}
 use Rattle.gs_state.specs.Recorded.{chunks_of}
 use Rattle.gs_state.specs.Replies.{client_cmp}
@@ -10,9 +11,9 @@ use Rattle.gs_state.proofs.opening.gathered.Goals as goal
 
 pub returns : goal.returns
 returns c =
-    made_is (plain_checkpoint c.args.checkpoint.now) (live client_cmp c.args.replies) c.new.result (chunks_of (live nat_cmp c.args.leases)) c.in_ok-ends.ends.items (map plain_inverse c.in_ok-inverses.inverses.items) (live nat_cmp c.in_ok-prepared.prepared)
+    made_is (plain_checkpoint c.args.checkpoint.now) (live client_cmp c.args.replies) c.new.result.names (chunks_of (live nat_cmp c.args.leases)) c.in_ok-ends.ends.items (map plain_inverse c.in_ok-inverses.inverses.items) (live nat_cmp c.in_ok-prepared.prepared)
     (record {
-      the_names = c.new.ensures ∙ c.requires.names;
+      the_names = ap (λ (v : HeldView). v.names) c.new.ensures ∙ c.requires.names;
       the_chunks = c.requires.leases;
       the_ends = c.in_ok-ends.ensures.items ∙ c.deref.ensures.value;
       the_inverses = c.in_ok-inverses.ensures ∙ ap (map plain_inverse) c.deref-2.ensures.value;

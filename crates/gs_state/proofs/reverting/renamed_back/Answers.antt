@@ -5,4 +5,4 @@ use Rattle.gs_state.proofs.Deleted.{seen}
 use Rattle.gs_state.proofs.reverting.renamed_back.Goals as goal
 
 pub returns : goal.returns
-returns c = λ i. UndoRename ((c.in_ok-target.ensures ∙ ap (λ m. target_of m c.args.from.now c.args.to.now) (seen c.args.tree.now)) i) (c.in_ok-copy.ensures i)
+returns c = λ i. UndoRename ((c.in_ok-target.ensures ∙ ap (λ m. target_of m c.args.from.now c.args.to.now) (seen c.args.names.now.names.tree)) i) (c.in_ok-copy.ensures i)

@@ -1,6 +1,4 @@
 use Rattle.std.proofs.Common.{not, filter, ap, ◌∙◌}
-use Rattle.std.specs.FinMap as fin
-use Rattle.gs_tree.specs.Chunks.{visible_chunks_under}
 use Rattle.gs_plan.specs.Planning.{state_of}
 use Rattle.gs_state.specs.Settling.{is_quiet_at, source_chunks}
 use Rattle.gs_state.specs.Working.{ascending}
@@ -14,6 +12,6 @@ returns c =
     (λ chunks is.
     is
     ∙ ap ascending (c.deref-2.ensures.value ∙ c.in_ok-unquiet.ensures
-    ∙ ap (filter (λ chunk. not (is_quiet_at (state_of c.args.self.now) chunk))) (c.deref.ensures.value ∙ c.in_ok-chunks.ensures ∙ ap (λ m. visible_chunks_under c.args.from.now (fin.entries m)) c.tree.ensures))
+    ∙ ap (filter (λ chunk. not (is_quiet_at (state_of c.args.self.now) chunk))) (c.deref.ensures.value ∙ c.in_ok-chunks.ensures))
     ∙ ascending_where (λ chunk. not (is_quiet_at (state_of c.args.self.now) chunk)) (source_chunks (state_of c.args.self.now) c.args.from.now))
     c.ascending.result c.ascending.ensures

@@ -2,6 +2,7 @@ use Rattle.std.proofs.Common.{ap, map, sym, ◌∙◌}
 use Rattle.std.specs.Ordering.{nat_cmp}
 use Rattle.gs_record.specs.Plain.{plain_inverse}
 use Rattle.gs_table.specs.Slots.{live}
+use Rattle.gs_state.specs.Held.{HeldView}
 use Rattle.gs_state.specs.Recorded.{durable_of}
 use Rattle.gs_state.proofs.Before.{epoch_back, same_rooms}
 use Rattle.gs_state.proofs.recorded.Recorded.enter_epoch.Goals as goal
@@ -13,5 +14,5 @@ returns-clause-back c =
           (ap (λ v. map plain_inverse v.items) c.exchange_kept-kept.ensures.inverses) (ap (live nat_cmp) c.exchange_kept-kept.ensures.prepared);
       leases = ap (live nat_cmp) (sym c.end_epoch.ensures.leases);
       room = tt;
-      keeps = record { leases = same_rooms _ _ c.end_epoch.ensures.leases; replies = same_rooms _ _ c.end_epoch.ensures.replies; prepared = same_rooms _ _ (c.exchange_kept-kept.ensures.prepared ∙ c.end_epoch.ensures.prepared) };
+      keeps = record { leases = same_rooms _ _ c.end_epoch.ensures.leases; replies = same_rooms _ _ c.end_epoch.ensures.replies; prepared = same_rooms _ _ (c.exchange_kept-kept.ensures.prepared ∙ c.end_epoch.ensures.prepared); place = ap (λ (v : HeldView). v.place) c.end_epoch.ensures.names };
     }

@@ -3,6 +3,7 @@ use Rattle.std.specs.Cmp.{nat_cmp_total}
 use Rattle.std.specs.FinMap as fin
 use Rattle.std.specs.Ordering.{nat_cmp}
 use Rattle.gs_table.specs.Slots.{live}
+use Rattle.gs_state.specs.Held.{HeldView}
 use Rattle.gs_state.specs.Recorded.{chunks_of, durable_of}
 use Rattle.gs_state.proofs.Recording.{chunks_remove, with_others}
 use Rattle.gs_state.proofs.Before.{chunk_undone, room_at_stays, room_where_stood, same_replies_room, same_room, taken_out}
@@ -35,4 +36,5 @@ returns-clause-keeps c = record {
   leases = same_room _ _ _ c.keep_prepared.ensures.leases c.take-lease.ensures.keeps;
   replies = same_replies_room _ _ c.keep_prepared.ensures.replies;
   prepared = c.keep_prepared.ensures.room;
+  place = ap (λ (v : HeldView). v.place) c.keep_prepared.ensures.names;
 }

@@ -3,6 +3,7 @@ use Rattle.std.specs.Cmp.{nat_cmp_total}
 use Rattle.std.specs.FinMap as fin
 use Rattle.std.specs.Ordering.{nat_cmp}
 use Rattle.gs_table.specs.Slots.{live, HasRoom}
+use Rattle.gs_state.specs.Held.{HeldView}
 use Rattle.gs_state.specs.Recorded.{durable_of}
 use Rattle.gs_state.proofs.Recording.{settled_gives}
 use Rattle.gs_state.proofs.Before.{chunk_undone, exchanged, room_at, room_at_stays, room_where_stood, same_replies_room, same_room}
@@ -27,6 +28,7 @@ returns-clause-back c =
         leases = same_room _ _ _ c.keep_prepared.ensures.leases c.exchange-lease.ensures.keeps;
         replies = same_replies_room _ _ c.keep_prepared.ensures.replies;
         prepared = c.keep_prepared.ensures.room;
+        place = ap (λ (v : HeldView). v.place) c.keep_prepared.ensures.names;
       };
     }
 
@@ -35,4 +37,5 @@ returns-clause-keeps c = record {
   leases = same_room _ _ _ c.keep_prepared.ensures.leases c.exchange-lease.ensures.keeps;
   replies = same_replies_room _ _ c.keep_prepared.ensures.replies;
   prepared = c.keep_prepared.ensures.room;
+  place = ap (λ (v : HeldView). v.place) c.keep_prepared.ensures.names;
 }

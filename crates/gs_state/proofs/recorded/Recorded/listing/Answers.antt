@@ -9,5 +9,4 @@ use Rattle.gs_state.proofs.recorded.Recorded.listing.Goals as goal
 pub returns : goal.returns
 returns c =
     ap (λ l. Ok (answers.Names l)) c.new.ensures
-    ∙ listed_as c.tree.result.now c.args.path.now c.in-Ok.listed.items c.in_ok-names.names.items c.in-Ok.ensures c.in_ok-names.ensures
-    ∙ ap (λ m. listing (fin.entries m) c.args.path.now (fin.get m c.args.path.now)) c.tree.ensures
+    ∙ listed_as c.args.self.now.names.names.tree c.args.path.now c.in-Ok.listed.items c.in_ok-names.names.items c.in-Ok.ensures c.in_ok-names.ensures

@@ -10,5 +10,5 @@ pub returns : goal.returns
 returns c =
     if_ok_weaker _ _
     (λ set is. are_visible (fin.entries (durable_of c.args.self.now).names.tree) _ _
-    (c.deref.ensures.value ∙ c.in_ok-chunks.ensures ∙ ap (λ p. visible_chunks_under p (fin.entries c.tree.result.now)) c.root-root.ensures ∙ ap (λ m. visible_chunks_under [] (fin.entries m)) c.tree.ensures) is)
+    (c.deref.ensures.value ∙ c.in_ok-chunks.ensures ∙ ap (λ p. visible_chunks_under p (fin.entries c.args.self.now.names.names.tree)) c.root-root.ensures) is)
     c.chunk_set.result c.chunk_set.ensures
