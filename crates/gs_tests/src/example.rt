@@ -67,13 +67,19 @@ fn roll_back(client: &mut Client, link: &mut Link) -> Result<u64, Refusal> {
     client.rollback_commit(link)
 }
 
-/// Tells the names in a directory, and the first 100 bytes of a file in it.
-fn show(client: &mut Client, link: &mut Link, told: &mut Vec<String>) -> Result<(), Refusal> {
+/// Tells the names in a directory.
+fn show_names(client: &mut Client, link: &mut Link, told: &mut Vec<String>) -> Result<(), Refusal> {
     let alloc = link.alloc;
     let names = client.list(link, Path::parse(alloc, "/trips")?)?;
     for child in names.as_slice() {
         told.push(format!(in alloc; "/trips has {}", child.name.as_str())?)?;
     }
+    Ok(())
+}
+
+/// Tells the first 100 bytes of a file.
+fn show_text(client: &mut Client, link: &mut Link, told: &mut Vec<String>) -> Result<(), Refusal> {
+    let alloc = link.alloc;
     let mut file = client.open_read(alloc, link, Path::parse(alloc, "/trips/alps")?)?;
     let bytes = file.read(alloc, client, link, 0, 100)?;
     let text = str::from_utf8(bytes.as_slice()).unwrap_or("no text");
@@ -81,37 +87,56 @@ fn show(client: &mut Client, link: &mut Link, told: &mut Vec<String>) -> Result<
     Ok(())
 }
 
-/// What is in the store before an upgrade, in it, and behind its rollback.
-fn tour(client: &mut Client, link: &mut Link) -> Result<Vec<String>, Refusal> {
+/// Tells the names in the directory, and what the file in it says.
+fn show(client: &mut Client, link: &mut Link, told: &mut Vec<String>) -> Result<(), Refusal> {
+    show_names(client, link, told)?;
+    show_text(client, link, told)
+}
+
+/// What is in the store before an upgrade.
+fn begin(client: &mut Client, link: &mut Link, told: &mut Vec<String>) -> Result<(), Refusal> {
     let alloc = link.alloc;
-    let mut told = Vec::new(alloc);
     client.mkdirs(link, Path::parse(alloc, "/trips")?)?;
     client.create(link, Path::parse(alloc, "/trips/alps")?)?;
     write(client, link, "/trips/alps", "Hut booked.")?;
     let place = append(client, link, "/trips/alps", " Train too.")?;
     told.push(format!(in alloc; "the record stands at byte {place}")?)?;
-    show(client, link, &mut told)?;
+    show(client, link, told)
+}
 
+/// What goes wrong in the upgrade.
+fn upgrade(client: &mut Client, link: &mut Link, told: &mut Vec<String>) -> Result<(), Refusal> {
+    let alloc = link.alloc;
     let epoch = prepare(client, link)?;
     told.push(format!(in alloc; "epoch {epoch}: an upgrade")?)?;
     write(client, link, "/trips/alps", "Hut closed.")?;
-    show(client, link, &mut told)?;
+    show(client, link, told)?;
     let hidden = delete(client, link, "/trips")?;
     told.push(format!(in alloc; "/trips is deleted, and hidden as {hidden}")?)?;
+    Ok(())
+}
 
+/// What is in the store before an upgrade, in it, and behind its rollback.
+fn tour(client: &mut Client, link: &mut Link, told: &mut Vec<String>) -> Result<(), Refusal> {
+    begin(client, link, told)?;
+    upgrade(client, link, told)?;
     let epoch = roll_back(client, link)?;
-    told.push(format!(in alloc; "epoch {epoch}: rolled back")?)?;
-    show(client, link, &mut told)?;
-    Ok(told)
+    told.push(format!(in link.alloc; "epoch {epoch}: rolled back")?)?;
+    show(client, link, told)
+}
+
+/// What a tour of a new store tells, a line each.
+fn tale(alloc: Global) -> Result<String, Refusal> {
+    let mut told = Vec::new(alloc);
+    let mut store = new_store(alloc)?;
+    tour(&mut store.caller.client, &mut store.wire, &mut told)?;
+    Ok(told.join(alloc, "\n")?)
 }
 
 #[test]
 fn what_stood_at_the_prepare_comes_back(rt: HostRuntime) -> Result<(), Fail> {
-    let mut store = new_store(rt.alloc())?;
-    let told = tour(&mut store.caller.client, &mut store.wire)?;
-    let told = told.join(rt.alloc(), "\n")?;
     assert_eq!(rt;
-        told.as_str(),
+        tale(rt.alloc())?.as_str(),
         "the record stands at byte 11
 /trips has alps
 /trips/alps says: Hut booked. Train too.

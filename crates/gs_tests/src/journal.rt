@@ -83,8 +83,8 @@ fn records_are_written_as_laid_down(rt: HostRuntime) -> Result<(), Fail> {
     let second = MemoryDisk::new(Vec::new(alloc));
     let edited = edit(alloc, first, second)?;
     assert_eq!(rt; edited.rooms, (1_000 - 13 - 23 - 1, 1_000 - 13 - 67 - 1));
-    assert_eq!(rt; edited.first.bytes(), APPENDED.as_slice());
-    assert_eq!(rt; edited.second.bytes(), CHECKPOINTED.as_slice());
+    let written = (edited.first.bytes(), edited.second.bytes());
+    assert_eq!(rt; written, (APPENDED.as_slice(), CHECKPOINTED.as_slice()));
     Ok(())
 }
 
@@ -115,21 +115,15 @@ fn added_to(alloc: Global, bytes: &[u8]) -> Result<usize, Refusal> {
     }
 }
 
-#[test]
-fn whole_records_are_read_at_every_length(rt: HostRuntime) -> Result<(), Fail> {
-    for length in 0..=THREE.len() {
-        let whole = if length < 13 { 0 } else { (length - 13) / 14 };
-        assert_eq!(rt; count_in(rt.alloc(), &THREE[..length])?, whole);
-        assert_eq!(rt; added_to(rt.alloc(), &THREE[..length])?, whole + 1);
-    }
-    Ok(())
-}
-
-// How many records there are after an append and a checkpoint of three records, where the disks stop after so many calls
-// each, with whether the append and the checkpoint were made.
-fn stopped(alloc: Global, on_first: u64, on_second: u64) -> Result<(usize, bool, bool), Refusal> {
-    let first = FaultyDisk::new(MemoryDisk::new(THREE.to_vec(alloc)?), Fault::Stop(on_first));
-    let second = FaultyDisk::new(MemoryDisk::new(Vec::new(alloc)), Fault::Stop(on_second));
+// How many records there are after an append and a checkpoint of three records, where the disks have these faults, with whether
+// the append and the checkpoint were made.
+fn broken(
+    alloc: Global,
+    on_first: Fault,
+    on_second: Fault,
+) -> Result<(usize, bool, bool), Refusal> {
+    let first = FaultyDisk::new(MemoryDisk::new(THREE.to_vec(alloc)?), on_first);
+    let second = FaultyDisk::new(MemoryDisk::new(Vec::new(alloc)), on_second);
     let Edited {
         added,
         made,
@@ -141,53 +135,36 @@ fn stopped(alloc: Global, on_first: u64, on_second: u64) -> Result<(usize, bool,
     Ok((found, added, made))
 }
 
-#[test]
-fn a_stop_leaves_the_old_records_or_the_new(rt: HostRuntime) -> Result<(), Fail> {
-    let alloc = rt.alloc();
-    for calls in 0..40 {
-        let on_first = if calls < 20 { calls } else { 100 };
-        let on_second = if calls < 20 { 100 } else { calls - 20 };
-        let (found, added, made) = stopped(alloc, on_first, on_second)?;
-        assert!(rt; found == 1 || (!made && (found == 4 || (!added && found == 3))));
-    }
-    Ok(())
+// Whether the old records or the new are left, where each disk stops after so many calls.
+fn stopped(alloc: Global, on_first: u64, on_second: u64) -> Result<bool, Refusal> {
+    let faults = (Fault::Stop(on_first), Fault::Stop(on_second));
+    let (found, added, made) = broken(alloc, faults.0, faults.1)?;
+    Ok(found == 1 || (!made && (found == 4 || (!added && found == 3))))
 }
 
-// The same where a write of a disk leaves bytes of its own, with how many records there may be.
-fn torn(
-    alloc: Global,
-    on_first: u64,
-    on_second: u64,
-    torn: [u8; 40],
-) -> Result<(usize, usize), Refusal> {
-    let three = MemoryDisk::new(THREE.to_vec(alloc)?);
-    let first = FaultyDisk::new(three, Fault::Tear(on_first, torn.to_vec(alloc)?));
-    let none = MemoryDisk::new(Vec::new(alloc));
-    let second = FaultyDisk::new(none, Fault::Tear(on_second, torn.to_vec(alloc)?));
-    let Edited {
-        added,
-        made,
-        first,
-        second,
-        ..
-    } = edit(alloc, first, second)?;
+// The same where a write of a disk leaves bytes of its own.
+fn torn(alloc: Global, on_first: u64, on_second: u64, byte: u8) -> Result<bool, Refusal> {
+    let bytes = [byte; 40];
+    let on_first = Fault::Tear(on_first, bytes.to_vec(alloc)?);
+    let on_second = Fault::Tear(on_second, bytes.to_vec(alloc)?);
+    let (found, added, made) = broken(alloc, on_first, on_second)?;
     let least = match (made, added) {
         (true, _) => 1,
         (false, true) => 4,
         (false, false) => 3,
     };
-    Ok((count(alloc, first.into_disk(), second.into_disk())?, least))
+    Ok(found == least || (found, least) == (1, 4) || (found, least) == (4, 3))
 }
 
 #[test]
-fn a_torn_write_leaves_the_old_records_or_the_new(rt: HostRuntime) -> Result<(), Fail> {
+fn a_stop_or_a_torn_write_leaves_the_old_records_or_the_new(rt: HostRuntime) -> Result<(), Fail> {
     let alloc = rt.alloc();
     for calls in 0..20 {
+        assert!(rt; stopped(alloc, calls, 100)?);
+        assert!(rt; stopped(alloc, 100, calls)?);
         for byte in [0, 1, 255] {
-            let (found, least) = torn(alloc, calls, 100, [byte; 40])?;
-            assert!(rt; found == least || (found, least) == (1, 4) || (found, least) == (4, 3));
-            let (found, least) = torn(alloc, 100, calls, [byte; 40])?;
-            assert!(rt; found == least || (found, least) == (1, 4) || (found, least) == (4, 3));
+            assert!(rt; torn(alloc, calls, 100, byte)?);
+            assert!(rt; torn(alloc, 100, calls, byte)?);
         }
     }
     Ok(())
@@ -224,12 +201,24 @@ fn count_behind(alloc: Global, offset: usize, bytes: &[u8]) -> Result<usize, Ref
 }
 
 #[test]
-fn torn_bytes_are_no_record(rt: HostRuntime) -> Result<(), Fail> {
+fn whole_records_are_read_and_torn_bytes_are_none(rt: HostRuntime) -> Result<(), Fail> {
+    let alloc = rt.alloc();
+    for length in 0..=THREE.len() {
+        let whole = if length < 13 { 0 } else { (length - 13) / 14 };
+        let bytes = &THREE[..length];
+        assert_eq!(rt;
+            (count_in(alloc, bytes)?, added_to(alloc, bytes)?),
+            (whole, whole + 1)
+        );
+    }
     for byte in 0..=255u8 {
         let want = if byte == 1 { 4 } else { 3 };
         let gate = [byte, 0, 0, 0, 8, 7, 0, 0, 0, 0, 0, 0, 0, 8, 0];
-        assert_eq!(rt; count_behind(rt.alloc(), 56, &[byte; 14])?, 3);
-        assert_eq!(rt; count_behind(rt.alloc(), 55, &gate)?, want);
+        let found = (
+            count_behind(alloc, 56, &[byte; 14])?,
+            count_behind(alloc, 55, &gate)?,
+        );
+        assert_eq!(rt; found, (3, want));
     }
     Ok(())
 }

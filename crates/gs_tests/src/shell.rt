@@ -2,8 +2,100 @@ use gs_base::{Config, Refusal};
 use gs_journal::MemoryDisk;
 use gs_shell::RunFault;
 use std::alloc::{AllocError, Global};
-use std::io::{self, BufRead, BufReader, ErrorKind, Read, Write};
+use std::io::{self, BufRead, ErrorKind, Read, Write};
 use std::test::Fail;
+
+/// A reader that gives so many bytes at a time. A weak one is interrupted in between, and fails behind the last.
+#[derive(Drop)]
+struct Input<'a> {
+    rest: &'a [u8],
+    most: usize,
+    is_weak: bool,
+    calls: u64,
+}
+
+impl<'a> Input<'a> {
+    fn whole(script: &'a [u8]) -> Input<'a> {
+        Input {
+            rest: script,
+            most: usize::MAX,
+            is_weak: false,
+            calls: 0,
+        }
+    }
+
+    fn weak(script: &'a [u8], most: usize) -> Input<'a> {
+        Input {
+            rest: script,
+            most,
+            is_weak: true,
+            calls: 0,
+        }
+    }
+}
+
+impl Read for Input<'_> {
+    fn read(&mut self, _buf: &mut [u8]) -> io::Result<usize> {
+        Err(io::Error::from(ErrorKind::Other))
+    }
+}
+
+impl BufRead for Input<'_> {
+    fn fill_buf(&mut self) -> io::Result<&[u8]> {
+        self.calls = self.calls.wrapping_add(1);
+        if self.is_weak && self.calls % 2 == 0 {
+            return Err(io::Error::from(ErrorKind::Interrupted));
+        }
+        if self.is_weak && self.rest.is_empty() {
+            return Err(io::Error::from(ErrorKind::BrokenPipe));
+        }
+        if self.most < self.rest.len() {
+            return Ok(&self.rest[..self.most]);
+        }
+        Ok(self.rest)
+    }
+
+    fn consume(&mut self, amount: usize) {
+        self.rest = &self.rest[amount.min(self.rest.len())..];
+    }
+}
+
+/// A writer that takes some bytes more, and then fails. It may mark by a bar where it is flushed.
+#[derive(Drop)]
+struct Output {
+    written: Vec<u8>,
+    room: usize,
+    marks_flushes: bool,
+}
+
+impl Output {
+    fn new(alloc: Global, room: usize, marks_flushes: bool) -> Output {
+        Output {
+            written: Vec::new(alloc),
+            room,
+            marks_flushes,
+        }
+    }
+}
+
+impl Write for Output {
+    fn write(&mut self, buf: &[u8]) -> io::Result<usize> {
+        let taken = buf.len().min(self.room);
+        if taken < buf.len() && taken == 0 {
+            return Err(io::Error::from(ErrorKind::StorageFull));
+        }
+        self.written.extend_from_slice(&buf[..taken])?;
+        self.room -= taken;
+        Ok(taken)
+    }
+
+    fn flush(&mut self) -> io::Result<()> {
+        if self.marks_flushes {
+            self.written.extend_from_slice(b"|")?;
+        }
+        Ok(())
+    }
+}
 
 /// Three servers in two racks, each chunk on so many of them, and chunks of 16 bytes in blocks of 4.
 fn store_of(replicas: u64) -> Result<Config, Refusal> {
@@ -18,23 +110,44 @@ fn new_disks(alloc: Global) -> (MemoryDisk, MemoryDisk) {
     )
 }
 
-/// What a run of a new store writes for a script.
-fn output_of(alloc: Global, config: Config, script: &[u8]) -> Result<String, Fail> {
-    let mut input = script;
-    let mut output = Vec::new(alloc);
-    gs_shell::run(alloc, config, new_disks(alloc), &mut input, &mut output)
+/// How a run ended, as its output is followed by it: nothing where it went to the end of its input.
+fn ending(ended: &Result<(), RunFault>) -> &'static str {
+    match ended {
+        Ok(()) => "",
+        Err(RunFault::Read) => "[Read]",
+        Err(RunFault::Write) => "[Write]",
+        Err(RunFault::Refused(_)) => "[Refused]",
+    }
+}
+
+/// What a run of a new store writes, and how it ended.
+fn told(
+    alloc: Global,
+    replicas: u64,
+    mut input: Input,
+    mut output: Output,
+) -> Result<String, Refusal> {
+    let config = store_of(replicas)?;
+    let ended = gs_shell::run(alloc, config, new_disks(alloc), &mut input, &mut output);
+    output.written.extend_from_slice(ending(&ended).as_bytes())?;
+    String::from_utf8(output.written)
         .ok()
-        .ok_or("the run")?;
-    Ok(String::from_utf8(output).ok().ok_or("the output")?)
+        .ok_or(Refusal::BadLine)
+}
+
+/// What a run of a new store writes for a script.
+fn output_of(alloc: Global, replicas: u64, script: &[u8]) -> Result<String, Refusal> {
+    let output = Output::new(alloc, usize::MAX, false);
+    told(alloc, replicas, Input::whole(script), output)
 }
 
 /// A script, and what a run of it writes.
-type Row = (&'static [u8], &'static str);
+type Row<'a> = (&'a [u8], &'a str);
 
 /// The first of some scripts that a new store answers otherwise, by its place, with what it writes; or nothing.
-fn fault_in(alloc: Global, replicas: u64, rows: &[Row]) -> Result<String, Fail> {
+fn fault_in(alloc: Global, replicas: u64, rows: &[Row]) -> Result<String, Refusal> {
     for (place, (script, wanted)) in rows.iter().enumerate() {
-        let output = output_of(alloc, store_of(replicas)?, script)?;
+        let output = output_of(alloc, replicas, script)?;
         if output.as_str() != *wanted {
             return Ok(format!(in alloc; "script {place}: {output}")?);
         }
@@ -42,294 +155,308 @@ fn fault_in(alloc: Global, replicas: u64, rows: &[Row]) -> Result<String, Fail> 
     Ok(String::new(alloc))
 }
 
+/// Paths and names.
+const PATHS_AND_NAMES: [Row<'static>; 5] = [
+    // No line at all.
+    (b"", ""),
+    // A directory that is there again, and a file at its place.
+    (
+        b"mkdir /a/b\nmkdir /a/b\ncreate /a\n",
+        "ok\nok\nrefused 4 Exists\n",
+    ),
+    // Moves into itself, and into a directory.
+    (
+        b"mkdir /a/b\nmv /a /a/b/c\nmkdir /d\ncreate /f\nmv /f /d\nls /d\nls /\n",
+        "ok\nrefused 8 IntoItself\nok\nok\nok\nok f\nok a/ d/\n",
+    ),
+    // Two elements that are none, one of 200 bytes, one of 201, and a hidden name.
+    (
+        b"mkdir /.\nmkdir /x:y\nmkdir /aaaaaaaaaaaaaaaaaaaaaaaaaaaaaaaaaaaaaaaaaaaaaaaaaaaaaaaaaaaaaaaaaaaaaaaaaaaaaaaaaaaaaaaaaaaaaaaaaaaaaaaaaaaaaaaaaaaaaaaaaaaaaaaaaaaaaaaaaaaaaaaaaaaaaaaaaaaaaaaaaaaaaaaaaaaaaaaaaaaaaaaaaaaaaaaaaaaaaaaa\nmkdir /aaaaaaaaaaaaaaaaaaaaaaaaaaaaaaaaaaaaaaaaaaaaaaaaaaaaaaaaaaaaaaaaaaaaaaaaaaaaaaaaaaaaaaaaaaaaaaaaaaaaaaaaaaaaaaaaaaaaaaaaaaaaaaaaaaaaaaaaaaaaaaaaaaaaaaaaaaaaaaaaaaaaaaaaaaaaaaaaaaaaaaaaaaaaaaaaaaaaaaaaa\nmkdir /.deleted.x\n",
+        "refused 1 BadPath\nrefused 1 BadPath\nok\nrefused 1 BadPath\nrefused 2 HiddenName\n",
+    ),
+    // Moves that end in 64 elements, and in 65.
+    (
+        b"mkdir /x/y\nmkdir /d/d/d/d/d/d/d/d/d/d/d/d/d/d/d/d/d/d/d/d/d/d/d/d/d/d/d/d/d/d/d/d/d/d/d/d/d/d/d/d/d/d/d/d/d/d/d/d/d/d/d/d/d/d/d/d/d/d/d/d/d/d\nmkdir /e/d/d/d/d/d/d/d/d/d/d/d/d/d/d/d/d/d/d/d/d/d/d/d/d/d/d/d/d/d/d/d/d/d/d/d/d/d/d/d/d/d/d/d/d/d/d/d/d/d/d/d/d/d/d/d/d/d/d/d/d/d/d\nmv /x /e/d/d/d/d/d/d/d/d/d/d/d/d/d/d/d/d/d/d/d/d/d/d/d/d/d/d/d/d/d/d/d/d/d/d/d/d/d/d/d/d/d/d/d/d/d/d/d/d/d/d/d/d/d/d/d/d/d/d/d/d/d/d\nmv /x /d/d/d/d/d/d/d/d/d/d/d/d/d/d/d/d/d/d/d/d/d/d/d/d/d/d/d/d/d/d/d/d/d/d/d/d/d/d/d/d/d/d/d/d/d/d/d/d/d/d/d/d/d/d/d/d/d/d/d/d/d/d\n",
+        "ok\nok\nok\nrefused 1 BadPath\nok\n",
+    ),
+];
+
+/// Files, their bytes and digests.
+const FILES: [Row<'static>; 4] = [
+    // A write behind the end, over two chunks: what lies before it is zeros.
+    (
+        b"create /f\nwrite /f 14 616263\nread /f 0 32\nstat /f\n",
+        "ok\nok\nok 0000000000000000000000000000616263\nok file 17 1/1/0,1,2 2/1/0,1,2\n",
+    ),
+    // A record of more than a quarter of a chunk is refused. One that no longer fits goes to the next chunk, and zeros
+    // fill the one before.
+    (
+        b"create /f\nappend /f 61626364\nappend /f 6162636465\nwrite /f 4 616161616161616161\nappend /f 7a7a7a7a\nread /f 12 8\nstat /f\n",
+        "ok\nok 0\nrefused 26 TooLong\nok\nok 16\nok 610000007a7a7a7a\nok file 20 1/1/0,1,2 2/1/0,1,2\n",
+    ),
+    // The digest of a block is that of its bytes, and there is none of a block behind the last.
+    (
+        b"create /f\nwrite /f 0 616263\ndigest /f 0 0\ndigest /f 0 1\n",
+        "ok\nok\nok ba7816bf8f01cfea414140de5dae2223b00361a396177a9cb410ff61f20015ad\nrefused 25 Range\n",
+    ),
+    // A write past 4,096 chunks is refused and changes nothing, and the file takes later ones.
+    (
+        b"create /f\nwrite /f 65536 61\nstat /f\nat 60\nwrite /f 0 61\nread /f 0 4\n",
+        "ok\nrefused 25 Range\nok file 0\nok\nok\nok 61\n",
+    ),
+];
+
+/// What is deleted, comes back and is removed.
+const DELETION_AND_SCAN: [Row<'static>; 5] = [
+    // Deletions of nothing, of the root, and of a directory with a child.
+    (
+        b"rm /x\nrm /\nmkdir /a/b\nrm /a\nrm -r\nrm -r /a\n",
+        "ok false\nrefused 9 IsRoot\nok\nrefused 7 NotEmpty\nrefused 1 BadPath\nok /.deleted.00000000000000000000.00000000000000000001.a\n",
+    ),
+    // Hidden children are listed by their own path alone, and hinder no deletion.
+    (
+        b"mkdir /a/b\nrm /a/b\nls /a\nls /a/.deleted.00000000000000000000.00000000000000000001.b\nrm /a\n",
+        "ok\nok /a/.deleted.00000000000000000000.00000000000000000001.b\nok\nok\nok /.deleted.00000000000000000000.00000000000000000002.a\n",
+    ),
+    // A directory is deleted with its hidden child, and is listed by its hidden path from then on.
+    (
+        b"mkdir /d\ncreate /d/f\nrm /d/f\nrm /d\nls /\nls /.deleted.00000000000000000000.00000000000000000002.d\n",
+        "ok\nok\nok /d/.deleted.00000000000000000000.00000000000000000001.f\nok /.deleted.00000000000000000000.00000000000000000002.d\nok\nok\n",
+    ),
+    // A child beside a hidden one hinders the deletion.
+    (
+        b"mkdir /d\ncreate /d/f\nrm /d/f\ncreate /d/g\nrm /d\nls /\nls /.deleted.00000000000000000000.00000000000000000002.d\n",
+        "ok\nok\nok /d/.deleted.00000000000000000000.00000000000000000001.f\nok\nrefused 7 NotEmpty\nok d/\nrefused 3 NotFound\n",
+    ),
+    // What was deleted comes back while it is hidden. A scan removes it once more than 259,200 seconds have gone, and then
+    // a server drops its replica.
+    (
+        b"create /f\nwrite /f 0 61\nrm /f\nat 259199\nscan\nundelete /.deleted.00000000000000000000.00000000000000000001.f\nat 0\nrm /f\nat 259200\nscan\nat 259201\nscan\nbeat 0\nlose 0 1\n",
+        "ok\nok\nok /.deleted.00000000000000000000.00000000000000000001.f\nok\nok 0 0\nok /f\nok\nok /.deleted.00000000000000000000.00000000000000000002.f\nok\nok 0 0\nok\nok 1 1\nok 1\nrefused 28 NoReplica\n",
+    ),
+];
+
+/// Copies that share their chunks.
+const SNAPSHOTS: [Row<'static>; 2] = [
+    // A copy shares its chunk until one of both is written to.
+    (
+        b"create /f\nwrite /f 0 6162\nsnapshot /f /g\nwrite /f 0 78\nwrite /g 0 79\nread /f 0 2\nread /g 0 2\nstat /f\nstat /g\n",
+        "ok\nok\nok\nok\nok\nok 7862\nok 7962\nok file 2 2/1/0,1,2\nok file 2 1/1/0,1,2\n",
+    ),
+    // Both are written to within an upgrade. A rollback gives back the chunk that they shared, and what was deleted.
+    (
+        b"create /f\nwrite /f 0 6162\nsnapshot /f /g\nrollingUpgrade prepare\nwrite /f 0 78\nwrite /g 0 79\nread /f 0 2\nread /g 0 2\nstat /f\nrm /f\nrollingUpgrade rollback\nstat /f\nread /g 0 2\n",
+        "ok\nok\nok\nok 1\nok\nok\nok 7862\nok 7962\nok file 2 2/1/0,1,2\nok /.deleted.00000000000000000000.00000000000000000001.f\nok 2\nok file 2 1/2/0,1,2\nok 6162\n",
+    ),
+];
+
+/// Upgrades that are kept or rolled back.
+const UPGRADES: [Row<'static>; 5] = [
+    // The epochs of an upgrade that is rolled back.
+    (
+        b"rollingUpgrade query\nrollingUpgrade prepare\nrollingUpgrade rollback\nrollingUpgrade query\n",
+        "ok ordinary 0\nok 1\nok 2\nok ordinary 2\n",
+    ),
+    // A rollback brings back what was moved and deleted.
+    (
+        b"mkdir /a/b\ncreate /a/f\nrollingUpgrade prepare\nmv /a /c\nrm -r /c\nls /\nrollingUpgrade rollback\nls /a\n",
+        "ok\nok\nok 1\nok\nok /.deleted.00000000000000000000.00000000000000000001.c\nok\nok 2\nok b/ f\n",
+    ),
+    // A finalize forgets what a rollback would bring back.
+    (
+        b"rollingUpgrade prepare\nmkdir /a\nrollingUpgrade query\nrollingUpgrade finalize\nrollingUpgrade rollback\nls /\n",
+        "ok 1\nok\nok upgrade 1\nok 2\nrefused 13 NotUpgrading\nok a/\n",
+    ),
+    // A file is written to, moved, deleted, and removed by a scan, and servers drop its replicas. A rollback brings it back
+    // with its bytes.
+    (
+        b"create /f\nwrite /f 0 61626364\nmkdir /d\nrollingUpgrade prepare\nwrite /f 0 7a\nappend /f 7979\nmv /f /d\nrm -r /d\nat 300000\nscan\nbeat 0\nbeat 1\nls /\nrollingUpgrade rollback\nls /\nread /f 0 9\nls /d\n",
+        "ok\nok\nok\nok 1\nok\nok 4\nok\nok /.deleted.00000000000000000000.00000000000000000001.d\nok\nok 1 1\nok 1\nok 1\nok\nok 2\nok d/ f\nok 61626364\nok\n",
+    ),
+    // The halves of a prepare, in their order and out of it.
+    (
+        b"rollback-commit\nprepare-commit\nprepare-begin\nprepare-begin\nmkdir /a\nprepare-commit\nprepare-commit\nrollingUpgrade finalize\nrollback-begin\n",
+        "refused 13 NotUpgrading\nrefused 13 NotUpgrading\nok 0\nrefused 14 AlreadyUpgrading\nrefused 11 Preparing\nok 1\nrefused 14 AlreadyUpgrading\nok 2\nrefused 13 NotUpgrading\n",
+    ),
+];
+
+/// Replicas that are lost, damaged and copied.
+const COPIES: [Row<'static>; 5] = [
+    // A lost replica is missed when its server reports, and made again.
+    (
+        b"create /f\nwrite /f 0 6161\nlose 1 1\nbeat 1\nstat /f\nreplicate\nstat /f\nreplicate\nread /f 0 2\n",
+        "ok\nok\nok\nok 0\nok file 2 1/1/0,2\nok 1 1\nok file 2 1/1/0,1,2\nok none\nok 6161\n",
+    ),
+    // A damaged block is read from the next server. Its replica is left out, dropped and made again.
+    (
+        b"create /f\nwrite /f 0 61626364\ndamage 0 1 0\nread /f 0 4\nstat /f\nbeat 0\nreplicate\nstat /f\n",
+        "ok\nok\nok\nok 61626364\nok file 4 1/1/1,2\nok 1\nok 1 0\nok file 4 1/1/0,1,2\n",
+    ),
+    // A rollback leaves out a replica that was damaged.
+    (
+        b"create /f\nwrite /f 0 61626364\nrollingUpgrade prepare\ndamage 0 1 0\nread /f 0 4\nrollingUpgrade rollback\nstat /f\n",
+        "ok\nok\nok 1\nok\nok 61626364\nok 2\nok file 4 1/1/1,2\n",
+    ),
+    // A rollback takes the one server that still has the chunk as it was sealed.
+    (
+        b"create /f\nwrite /f 0 61\nrollingUpgrade prepare\nlose 0 1\nlose 1 1\nrollingUpgrade rollback\nstat /f\n",
+        "ok\nok\nok 1\nok\nok\nok 2\nok file 1 1/1/2\n",
+    ),
+    // Where none has it, the rollback stays begun, and changes are refused.
+    (
+        b"create /f\nwrite /f 0 61\nrollingUpgrade prepare\nlose 0 1\nlose 1 1\nlose 2 1\nrollingUpgrade rollback\nrollingUpgrade query\nmkdir /x\n",
+        "ok\nok\nok 1\nok\nok\nok\nrefused 16 Unrestored 1\nok rolling 2\nrefused 12 RollingBack\n",
+    ),
+];
+
+/// Chunks that stand on two of three servers.
+const TWO_REPLICAS_ON_THREE_SERVERS: [Row<'static>; 2] = [
+    // Each chunk stands in both racks, and first on servers that have the fewest.
+    (
+        b"create /a\nwrite /a 0 61\ncreate /b\nwrite /b 0 62\ncreate /c\nwrite /c 0 63\nstat /a\nstat /b\nstat /c\n",
+        "ok\nok\nok\nok\nok\nok\nok file 1 1/1/0,1\nok file 1 2/1/1,2\nok file 1 3/1/0,1\n",
+    ),
+    // A copy that is made within an upgrade carries what was sealed: a rollback gives that back from the copy alone.
+    (
+        b"create /a\nwrite /a 0 61\ncreate /f\nwrite /f 0 62\nrm /a\nat 259201\nscan\nrollingUpgrade prepare\nlose 2 2\nbeat 2\nreplicate\nlose 1 2\nrollingUpgrade rollback\nread /f 0 1\nstat /f\n",
+        "ok\nok\nok\nok\nok /.deleted.00000000000000000000.00000000000000000001.a\nok\nok 1 1\nok 1\nok\nok 0\nok 2 0\nok\nok 2\nok 62\nok file 1 2/1/0\n",
+    ),
+];
+
+/// Messages that come late, twice or not at all.
+const LOST_AND_HELD_MESSAGES: [Row<'static>; 5] = [
+    // A forward that comes after a prepare is refused by its stamp. Its edit stands at the primary alone, and a rollback
+    // keeps it.
+    (
+        b"create /f\nwrite /f 0 61\nhold on forward\nwrite /f 1 62\nhold off\nrollingUpgrade prepare\ndeliver 1\nrollingUpgrade rollback\nread /f 0 2\nstat /f\n",
+        "ok\nok\nok\nrefused 29 Unsure\nok\nok 1\nrefused 22 Stamp 0.3\nok 2\nok 6162\nok file 2 1/1/0\n",
+    ),
+    // An edit that is handed over twice is done once.
+    (
+        b"create /f\nappend /f 6162\nhold on edit\nappend /f 6364\nhold off\ndeliver 1\ndeliver 1\nread /f 0 16\n",
+        "ok\nok 0\nok\nrefused 29 Unsure\nok\nok\nok\nok 61626364\n",
+    ),
+    // Servers that missed an edit of an upgrade are left out once the lease is over. One of them drops its replica and gets
+    // a copy, and a rollback gives all three what was sealed.
+    (
+        b"create /f\nwrite /f 0 6161\nrollingUpgrade prepare\nhold on forward\nwrite /f 0 62\nhold off\nat 60\nwrite /f 1 63\nbeat 1\nreplicate\nwrite /f 0 64\nread /f 0 2\nrollingUpgrade rollback\nread /f 0 2\nstat /f\n",
+        "ok\nok\nok 1\nok\nrefused 29 Unsure\nok\nok\nok\nok 1\nok 1 1\nok\nok 6463\nok 2\nok 6161\nok file 2 1/1/0,1,2\n",
+    ),
+    // A grant comes when a rollback is begun and the master has begun again: it is refused by its epoch, and the commit ends
+    // the rollback.
+    (
+        b"create /f\nwrite /f 0 61\nrollingUpgrade prepare\nhold on grant\nwrite /f 0 62\nhold off\nrollback-begin\nrestart master\ndeliver 2\nrollback-commit\nread /f 0 1\nrollingUpgrade rollback\n",
+        "ok\nok\nok 1\nok\nrefused 20 NotPrimary\nok\nok 2\nok\nrefused 18 Epoch 2\nok 2\nok 61\nrefused 13 NotUpgrading\n",
+    ),
+    // Nothing is written where no server has heard of the upgrade, and it is once they hear of it.
+    (
+        b"create /f\nwrite /f 0 61\nhold on epoch\nrollingUpgrade prepare\nwrite /f 0 62\nhold off\ndeliver 1\nwrite /f 0 62\nrollingUpgrade rollback\nread /f 0 1\nstat /f\n",
+        "ok\nok\nok\nok 1\nrefused 28 NoReplica\nok\nok\nok\nok 2\nok 61\nok file 1 1/1/0,1,2\n",
+    ),
+];
+
+/// Nodes that begin again.
+const RESTARTS: [Row<'static>; 2] = [
+    // A server begins again, and goes on with the replica that it kept.
+    (
+        b"create /f\nwrite /f 0 61\nrestart 0\nwrite /f 1 62\nread /f 0 2\n",
+        "ok\nok\nok\nok\nok 6162\n",
+    ),
+    // The master begins again, and goes on with the names and chunks that its journal tells.
+    (
+        b"mkdir /a\ncreate /f\nwrite /f 0 61\nrestart master\nls /\nread /f 0 1\nwrite /f 1 62\nread /f 0 2\n",
+        "ok\nok\nok\nok\nok a/ f\nok 61\nok\nok 6162\n",
+    ),
+];
+
+/// Lines that are no requests, and the ends of lines.
+const BAD_LINES: [Row<'static>; 10] = [
+    // Lines that ask for nothing, and requests for what is not there or may not be.
+    (
+        b"frob\nmkdir\nwrite /f 0 6\nrm /x\nrm /\nread /x 0 1\nundelete /x\nmkdir /a/b\nrm /a\n",
+        "refused 34 BadLine\nrefused 34 BadLine\nrefused 34 BadLine\nok false\nrefused 9 IsRoot\nrefused 3 NotFound\nrefused 38 NotHidden\nok\nrefused 7 NotEmpty\n",
+    ),
+    // An empty line.
+    (b"\n", "refused 34 BadLine\n"),
+    // Two spaces in a row.
+    (b"mkdir  /a\n", "refused 34 BadLine\n"),
+    // A number above 18,446,744,073,709,551,615.
+    (
+        b"write /f 18446744073709551616 61\n",
+        "refused 34 BadLine\n",
+    ),
+    // A letter that is no hexadecimal digit.
+    (b"write /f 0 6g\n", "refused 34 BadLine\n"),
+    // No kind of messages.
+    (b"hold on nothing\n", "refused 34 BadLine\n"),
+    // A line that is not UTF-8.
+    (b"mkdir /a\xff\n", "refused 34 BadLine\n"),
+    // A line that ends in a carriage return and a line feed.
+    (b"mkdir /a\r\n", "ok\n"),
+    // A last line that has no end.
+    (b"mkdir /a\nls /", "ok\nok a/\n"),
+    // Bad lines before good ones, and a carriage return that belongs to no end.
+    (
+        b"\nls  /\nls /\xff\nls /\r\r\nls /\r\nls /",
+        "refused 34 BadLine\nrefused 34 BadLine\nrefused 34 BadLine\nrefused 1 BadPath\nok\nok\n",
+    ),
+];
+
 #[test]
-fn paths_and_names(rt: HostRuntime) -> Result<(), Fail> {
-    let runs: [Row; 5] = [
-        // No line at all.
-        (b"", ""),
-        // A directory that is there again, and a file at its place.
-        (
-            b"mkdir /a/b\nmkdir /a/b\ncreate /a\n",
-            "ok\nok\nrefused 4 Exists\n",
-        ),
-        // Moves into itself, and into a directory.
-        (
-            b"mkdir /a/b\nmv /a /a/b/c\nmkdir /d\ncreate /f\nmv /f /d\nls /d\nls /\n",
-            "ok\nrefused 8 IntoItself\nok\nok\nok\nok f\nok a/ d/\n",
-        ),
-        // Two elements that are none, one of 200 bytes, one of 201, and a hidden name.
-        (
-            b"mkdir /.\nmkdir /x:y\nmkdir /aaaaaaaaaaaaaaaaaaaaaaaaaaaaaaaaaaaaaaaaaaaaaaaaaaaaaaaaaaaaaaaaaaaaaaaaaaaaaaaaaaaaaaaaaaaaaaaaaaaaaaaaaaaaaaaaaaaaaaaaaaaaaaaaaaaaaaaaaaaaaaaaaaaaaaaaaaaaaaaaaaaaaaaaaaaaaaaaaaaaaaaaaaaaaaaaaaaaaaaa\nmkdir /aaaaaaaaaaaaaaaaaaaaaaaaaaaaaaaaaaaaaaaaaaaaaaaaaaaaaaaaaaaaaaaaaaaaaaaaaaaaaaaaaaaaaaaaaaaaaaaaaaaaaaaaaaaaaaaaaaaaaaaaaaaaaaaaaaaaaaaaaaaaaaaaaaaaaaaaaaaaaaaaaaaaaaaaaaaaaaaaaaaaaaaaaaaaaaaaaaaaaaaaa\nmkdir /.deleted.x\n",
-            "refused 1 BadPath\nrefused 1 BadPath\nok\nrefused 1 BadPath\nrefused 2 HiddenName\n",
-        ),
-        // Moves that end in 64 elements, and in 65.
-        (
-            b"mkdir /x/y\nmkdir /d/d/d/d/d/d/d/d/d/d/d/d/d/d/d/d/d/d/d/d/d/d/d/d/d/d/d/d/d/d/d/d/d/d/d/d/d/d/d/d/d/d/d/d/d/d/d/d/d/d/d/d/d/d/d/d/d/d/d/d/d/d\nmkdir /e/d/d/d/d/d/d/d/d/d/d/d/d/d/d/d/d/d/d/d/d/d/d/d/d/d/d/d/d/d/d/d/d/d/d/d/d/d/d/d/d/d/d/d/d/d/d/d/d/d/d/d/d/d/d/d/d/d/d/d/d/d/d\nmv /x /e/d/d/d/d/d/d/d/d/d/d/d/d/d/d/d/d/d/d/d/d/d/d/d/d/d/d/d/d/d/d/d/d/d/d/d/d/d/d/d/d/d/d/d/d/d/d/d/d/d/d/d/d/d/d/d/d/d/d/d/d/d/d\nmv /x /d/d/d/d/d/d/d/d/d/d/d/d/d/d/d/d/d/d/d/d/d/d/d/d/d/d/d/d/d/d/d/d/d/d/d/d/d/d/d/d/d/d/d/d/d/d/d/d/d/d/d/d/d/d/d/d/d/d/d/d/d/d\n",
-            "ok\nok\nok\nrefused 1 BadPath\nok\n",
-        ),
-    ];
-    assert_eq!(rt; fault_in(rt.alloc(), 3, &runs)?.as_str(), "");
+fn scripts_are_answered(rt: HostRuntime) -> Result<(), Fail> {
+    for (name, replicas, rows) in [
+        ("paths and names", 3, PATHS_AND_NAMES.as_slice()),
+        ("files", 3, FILES.as_slice()),
+        ("deletion and scan", 3, DELETION_AND_SCAN.as_slice()),
+        ("snapshots", 3, SNAPSHOTS.as_slice()),
+        ("upgrades", 3, UPGRADES.as_slice()),
+        ("copies", 3, COPIES.as_slice()),
+        ("two of three", 2, TWO_REPLICAS_ON_THREE_SERVERS.as_slice()),
+        ("lost and held", 3, LOST_AND_HELD_MESSAGES.as_slice()),
+        ("restarts", 3, RESTARTS.as_slice()),
+        ("bad lines", 3, BAD_LINES.as_slice()),
+    ] {
+        assert_eq!(rt;
+            fault_in(rt.alloc(), replicas, rows)?.as_str(),
+            "",
+            "{name}"
+        );
+    }
     Ok(())
 }
 
-#[test]
-fn files(rt: HostRuntime) -> Result<(), Fail> {
-    let runs: [Row; 4] = [
-        // A write behind the end, over two chunks: what lies before it is zeros.
-        (
-            b"create /f\nwrite /f 14 616263\nread /f 0 32\nstat /f\n",
-            "ok\nok\nok 0000000000000000000000000000616263\nok file 17 1/1/0,1,2 2/1/0,1,2\n",
-        ),
-        // A record of more than a quarter of a chunk is refused. One that no longer fits goes to the next chunk, and zeros
-        // fill the one before.
-        (
-            b"create /f\nappend /f 61626364\nappend /f 6162636465\nwrite /f 4 616161616161616161\nappend /f 7a7a7a7a\nread /f 12 8\nstat /f\n",
-            "ok\nok 0\nrefused 26 TooLong\nok\nok 16\nok 610000007a7a7a7a\nok file 20 1/1/0,1,2 2/1/0,1,2\n",
-        ),
-        // The digest of a block is that of its bytes, and there is none of a block behind the last.
-        (
-            b"create /f\nwrite /f 0 616263\ndigest /f 0 0\ndigest /f 0 1\n",
-            "ok\nok\nok ba7816bf8f01cfea414140de5dae2223b00361a396177a9cb410ff61f20015ad\nrefused 25 Range\n",
-        ),
-        // A write past 4,096 chunks is refused and changes nothing, and the file takes later ones.
-        (
-            b"create /f\nwrite /f 65536 61\nstat /f\nat 60\nwrite /f 0 61\nread /f 0 4\n",
-            "ok\nrefused 25 Range\nok file 0\nok\nok\nok 61\n",
-        ),
-    ];
-    assert_eq!(rt; fault_in(rt.alloc(), 3, &runs)?.as_str(), "");
-    Ok(())
-}
+/// A line of so many bytes that begins as given and goes on with one byte, what stands behind it, and what a run of that writes.
+type LongRow = (&'static [u8], u8, usize, &'static [u8], &'static str);
 
-#[test]
-fn deletion_and_scan(rt: HostRuntime) -> Result<(), Fail> {
-    let runs: [Row; 5] = [
-        // Deletions of nothing, of the root, and of a directory with a child.
-        (
-            b"rm /x\nrm /\nmkdir /a/b\nrm /a\nrm -r\nrm -r /a\n",
-            "ok false\nrefused 9 IsRoot\nok\nrefused 7 NotEmpty\nrefused 1 BadPath\nok /.deleted.00000000000000000000.00000000000000000001.a\n",
-        ),
-        // Hidden children are listed by their own path alone, and hinder no deletion.
-        (
-            b"mkdir /a/b\nrm /a/b\nls /a\nls /a/.deleted.00000000000000000000.00000000000000000001.b\nrm /a\n",
-            "ok\nok /a/.deleted.00000000000000000000.00000000000000000001.b\nok\nok\nok /.deleted.00000000000000000000.00000000000000000002.a\n",
-        ),
-        // A directory is deleted with its hidden child, and is listed by its hidden path from then on.
-        (
-            b"mkdir /d\ncreate /d/f\nrm /d/f\nrm /d\nls /\nls /.deleted.00000000000000000000.00000000000000000002.d\n",
-            "ok\nok\nok /d/.deleted.00000000000000000000.00000000000000000001.f\nok /.deleted.00000000000000000000.00000000000000000002.d\nok\nok\n",
-        ),
-        // A child beside a hidden one hinders the deletion.
-        (
-            b"mkdir /d\ncreate /d/f\nrm /d/f\ncreate /d/g\nrm /d\nls /\nls /.deleted.00000000000000000000.00000000000000000002.d\n",
-            "ok\nok\nok /d/.deleted.00000000000000000000.00000000000000000001.f\nok\nrefused 7 NotEmpty\nok d/\nrefused 3 NotFound\n",
-        ),
-        // What was deleted comes back while it is hidden. A scan removes it once more than 259,200 seconds have gone, and then
-        // a server drops its replica.
-        (
-            b"create /f\nwrite /f 0 61\nrm /f\nat 259199\nscan\nundelete /.deleted.00000000000000000000.00000000000000000001.f\nat 0\nrm /f\nat 259200\nscan\nat 259201\nscan\nbeat 0\nlose 0 1\n",
-            "ok\nok\nok /.deleted.00000000000000000000.00000000000000000001.f\nok\nok 0 0\nok /f\nok\nok /.deleted.00000000000000000000.00000000000000000002.f\nok\nok 0 0\nok\nok 1 1\nok 1\nrefused 28 NoReplica\n",
-        ),
-    ];
-    assert_eq!(rt; fault_in(rt.alloc(), 3, &runs)?.as_str(), "");
-    Ok(())
-}
+const LONG_LINES: [LongRow; 4] = [
+    // One byte more than a line may have.
+    (b"m", b'm', 1_048_577, b"\n", "refused 34 BadLine\n"),
+    // The line behind such a one is answered.
+    (
+        b"mkdir /",
+        b'a',
+        1_048_577,
+        b"\nls /\n",
+        "refused 34 BadLine\nok\n",
+    ),
+    // As many bytes as a line may have.
+    (
+        b"mkdir /",
+        b'a',
+        1_048_576,
+        b"\nls /\n",
+        "refused 1 BadPath\nok\n",
+    ),
+    // A carriage return at the end of such a line is not counted.
+    (
+        b"ls ",
+        b'/',
+        1_048_576,
+        b"\r\nls /\n",
+        "refused 1 BadPath\nok\n",
+    ),
+];
 
-#[test]
-fn snapshots(rt: HostRuntime) -> Result<(), Fail> {
-    let runs: [Row; 2] = [
-        // A copy shares its chunk until one of both is written to.
-        (
-            b"create /f\nwrite /f 0 6162\nsnapshot /f /g\nwrite /f 0 78\nwrite /g 0 79\nread /f 0 2\nread /g 0 2\nstat /f\nstat /g\n",
-            "ok\nok\nok\nok\nok\nok 7862\nok 7962\nok file 2 2/1/0,1,2\nok file 2 1/1/0,1,2\n",
-        ),
-        // Both are written to within an upgrade. A rollback gives back the chunk that they shared, and what was deleted.
-        (
-            b"create /f\nwrite /f 0 6162\nsnapshot /f /g\nrollingUpgrade prepare\nwrite /f 0 78\nwrite /g 0 79\nread /f 0 2\nread /g 0 2\nstat /f\nrm /f\nrollingUpgrade rollback\nstat /f\nread /g 0 2\n",
-            "ok\nok\nok\nok 1\nok\nok\nok 7862\nok 7962\nok file 2 2/1/0,1,2\nok /.deleted.00000000000000000000.00000000000000000001.f\nok 2\nok file 2 1/2/0,1,2\nok 6162\n",
-        ),
-    ];
-    assert_eq!(rt; fault_in(rt.alloc(), 3, &runs)?.as_str(), "");
-    Ok(())
-}
-
-#[test]
-fn upgrades(rt: HostRuntime) -> Result<(), Fail> {
-    let runs: [Row; 5] = [
-        // The epochs of an upgrade that is rolled back.
-        (
-            b"rollingUpgrade query\nrollingUpgrade prepare\nrollingUpgrade rollback\nrollingUpgrade query\n",
-            "ok ordinary 0\nok 1\nok 2\nok ordinary 2\n",
-        ),
-        // A rollback brings back what was moved and deleted.
-        (
-            b"mkdir /a/b\ncreate /a/f\nrollingUpgrade prepare\nmv /a /c\nrm -r /c\nls /\nrollingUpgrade rollback\nls /a\n",
-            "ok\nok\nok 1\nok\nok /.deleted.00000000000000000000.00000000000000000001.c\nok\nok 2\nok b/ f\n",
-        ),
-        // A finalize forgets what a rollback would bring back.
-        (
-            b"rollingUpgrade prepare\nmkdir /a\nrollingUpgrade query\nrollingUpgrade finalize\nrollingUpgrade rollback\nls /\n",
-            "ok 1\nok\nok upgrade 1\nok 2\nrefused 13 NotUpgrading\nok a/\n",
-        ),
-        // A file is written to, moved, deleted, and removed by a scan, and servers drop its replicas. A rollback brings it back
-        // with its bytes.
-        (
-            b"create /f\nwrite /f 0 61626364\nmkdir /d\nrollingUpgrade prepare\nwrite /f 0 7a\nappend /f 7979\nmv /f /d\nrm -r /d\nat 300000\nscan\nbeat 0\nbeat 1\nls /\nrollingUpgrade rollback\nls /\nread /f 0 9\nls /d\n",
-            "ok\nok\nok\nok 1\nok\nok 4\nok\nok /.deleted.00000000000000000000.00000000000000000001.d\nok\nok 1 1\nok 1\nok 1\nok\nok 2\nok d/ f\nok 61626364\nok\n",
-        ),
-        // The halves of a prepare, in their order and out of it.
-        (
-            b"rollback-commit\nprepare-commit\nprepare-begin\nprepare-begin\nmkdir /a\nprepare-commit\nprepare-commit\nrollingUpgrade finalize\nrollback-begin\n",
-            "refused 13 NotUpgrading\nrefused 13 NotUpgrading\nok 0\nrefused 14 AlreadyUpgrading\nrefused 11 Preparing\nok 1\nrefused 14 AlreadyUpgrading\nok 2\nrefused 13 NotUpgrading\n",
-        ),
-    ];
-    assert_eq!(rt; fault_in(rt.alloc(), 3, &runs)?.as_str(), "");
-    Ok(())
-}
-
-#[test]
-fn copies(rt: HostRuntime) -> Result<(), Fail> {
-    let runs: [Row; 5] = [
-        // A lost replica is missed when its server reports, and made again.
-        (
-            b"create /f\nwrite /f 0 6161\nlose 1 1\nbeat 1\nstat /f\nreplicate\nstat /f\nreplicate\nread /f 0 2\n",
-            "ok\nok\nok\nok 0\nok file 2 1/1/0,2\nok 1 1\nok file 2 1/1/0,1,2\nok none\nok 6161\n",
-        ),
-        // A damaged block is read from the next server. Its replica is left out, dropped and made again.
-        (
-            b"create /f\nwrite /f 0 61626364\ndamage 0 1 0\nread /f 0 4\nstat /f\nbeat 0\nreplicate\nstat /f\n",
-            "ok\nok\nok\nok 61626364\nok file 4 1/1/1,2\nok 1\nok 1 0\nok file 4 1/1/0,1,2\n",
-        ),
-        // A rollback leaves out a replica that was damaged.
-        (
-            b"create /f\nwrite /f 0 61626364\nrollingUpgrade prepare\ndamage 0 1 0\nread /f 0 4\nrollingUpgrade rollback\nstat /f\n",
-            "ok\nok\nok 1\nok\nok 61626364\nok 2\nok file 4 1/1/1,2\n",
-        ),
-        // A rollback takes the one server that still has the chunk as it was sealed.
-        (
-            b"create /f\nwrite /f 0 61\nrollingUpgrade prepare\nlose 0 1\nlose 1 1\nrollingUpgrade rollback\nstat /f\n",
-            "ok\nok\nok 1\nok\nok\nok 2\nok file 1 1/1/2\n",
-        ),
-        // Where none has it, the rollback stays begun, and changes are refused.
-        (
-            b"create /f\nwrite /f 0 61\nrollingUpgrade prepare\nlose 0 1\nlose 1 1\nlose 2 1\nrollingUpgrade rollback\nrollingUpgrade query\nmkdir /x\n",
-            "ok\nok\nok 1\nok\nok\nok\nrefused 16 Unrestored 1\nok rolling 2\nrefused 12 RollingBack\n",
-        ),
-    ];
-    assert_eq!(rt; fault_in(rt.alloc(), 3, &runs)?.as_str(), "");
-    Ok(())
-}
-
-#[test]
-fn two_replicas_on_three_servers(rt: HostRuntime) -> Result<(), Fail> {
-    let runs: [Row; 2] = [
-        // Each chunk stands in both racks, and first on servers that have the fewest.
-        (
-            b"create /a\nwrite /a 0 61\ncreate /b\nwrite /b 0 62\ncreate /c\nwrite /c 0 63\nstat /a\nstat /b\nstat /c\n",
-            "ok\nok\nok\nok\nok\nok\nok file 1 1/1/0,1\nok file 1 2/1/1,2\nok file 1 3/1/0,1\n",
-        ),
-        // A copy that is made within an upgrade carries what was sealed: a rollback gives that back from the copy alone.
-        (
-            b"create /a\nwrite /a 0 61\ncreate /f\nwrite /f 0 62\nrm /a\nat 259201\nscan\nrollingUpgrade prepare\nlose 2 2\nbeat 2\nreplicate\nlose 1 2\nrollingUpgrade rollback\nread /f 0 1\nstat /f\n",
-            "ok\nok\nok\nok\nok /.deleted.00000000000000000000.00000000000000000001.a\nok\nok 1 1\nok 1\nok\nok 0\nok 2 0\nok\nok 2\nok 62\nok file 1 2/1/0\n",
-        ),
-    ];
-    assert_eq!(rt; fault_in(rt.alloc(), 2, &runs)?.as_str(), "");
-    Ok(())
-}
-
-#[test]
-fn lost_and_held_messages(rt: HostRuntime) -> Result<(), Fail> {
-    let runs: [Row; 5] = [
-        // A forward that comes after a prepare is refused by its stamp. Its edit stands at the primary alone, and a rollback
-        // keeps it.
-        (
-            b"create /f\nwrite /f 0 61\nhold on forward\nwrite /f 1 62\nhold off\nrollingUpgrade prepare\ndeliver 1\nrollingUpgrade rollback\nread /f 0 2\nstat /f\n",
-            "ok\nok\nok\nrefused 29 Unsure\nok\nok 1\nrefused 22 Stamp 0.3\nok 2\nok 6162\nok file 2 1/1/0\n",
-        ),
-        // An edit that is handed over twice is done once.
-        (
-            b"create /f\nappend /f 6162\nhold on edit\nappend /f 6364\nhold off\ndeliver 1\ndeliver 1\nread /f 0 16\n",
-            "ok\nok 0\nok\nrefused 29 Unsure\nok\nok\nok\nok 61626364\n",
-        ),
-        // Servers that missed an edit of an upgrade are left out once the lease is over. One of them drops its replica and gets
-        // a copy, and a rollback gives all three what was sealed.
-        (
-            b"create /f\nwrite /f 0 6161\nrollingUpgrade prepare\nhold on forward\nwrite /f 0 62\nhold off\nat 60\nwrite /f 1 63\nbeat 1\nreplicate\nwrite /f 0 64\nread /f 0 2\nrollingUpgrade rollback\nread /f 0 2\nstat /f\n",
-            "ok\nok\nok 1\nok\nrefused 29 Unsure\nok\nok\nok\nok 1\nok 1 1\nok\nok 6463\nok 2\nok 6161\nok file 2 1/1/0,1,2\n",
-        ),
-        // A grant comes when a rollback is begun and the master has begun again: it is refused by its epoch, and the commit ends
-        // the rollback.
-        (
-            b"create /f\nwrite /f 0 61\nrollingUpgrade prepare\nhold on grant\nwrite /f 0 62\nhold off\nrollback-begin\nrestart master\ndeliver 2\nrollback-commit\nread /f 0 1\nrollingUpgrade rollback\n",
-            "ok\nok\nok 1\nok\nrefused 20 NotPrimary\nok\nok 2\nok\nrefused 18 Epoch 2\nok 2\nok 61\nrefused 13 NotUpgrading\n",
-        ),
-        // Nothing is written where no server has heard of the upgrade, and it is once they hear of it.
-        (
-            b"create /f\nwrite /f 0 61\nhold on epoch\nrollingUpgrade prepare\nwrite /f 0 62\nhold off\ndeliver 1\nwrite /f 0 62\nrollingUpgrade rollback\nread /f 0 1\nstat /f\n",
-            "ok\nok\nok\nok 1\nrefused 28 NoReplica\nok\nok\nok\nok 2\nok 61\nok file 1 1/1/0,1,2\n",
-        ),
-    ];
-    assert_eq!(rt; fault_in(rt.alloc(), 3, &runs)?.as_str(), "");
-    Ok(())
-}
-
-#[test]
-fn restarts(rt: HostRuntime) -> Result<(), Fail> {
-    let runs: [Row; 2] = [
-        // A server begins again, and goes on with the replica that it kept.
-        (
-            b"create /f\nwrite /f 0 61\nrestart 0\nwrite /f 1 62\nread /f 0 2\n",
-            "ok\nok\nok\nok\nok 6162\n",
-        ),
-        // The master begins again, and goes on with the names and chunks that its journal tells.
-        (
-            b"mkdir /a\ncreate /f\nwrite /f 0 61\nrestart master\nls /\nread /f 0 1\nwrite /f 1 62\nread /f 0 2\n",
-            "ok\nok\nok\nok\nok a/ f\nok 61\nok\nok 6162\n",
-        ),
-    ];
-    assert_eq!(rt; fault_in(rt.alloc(), 3, &runs)?.as_str(), "");
-    Ok(())
-}
-
-#[test]
-fn bad_lines(rt: HostRuntime) -> Result<(), Fail> {
-    let runs: [Row; 10] = [
-        // Lines that ask for nothing, and requests for what is not there or may not be.
-        (
-            b"frob\nmkdir\nwrite /f 0 6\nrm /x\nrm /\nread /x 0 1\nundelete /x\nmkdir /a/b\nrm /a\n",
-            "refused 34 BadLine\nrefused 34 BadLine\nrefused 34 BadLine\nok false\nrefused 9 IsRoot\nrefused 3 NotFound\nrefused 38 NotHidden\nok\nrefused 7 NotEmpty\n",
-        ),
-        // An empty line.
-        (b"\n", "refused 34 BadLine\n"),
-        // Two spaces in a row.
-        (b"mkdir  /a\n", "refused 34 BadLine\n"),
-        // A number above 18,446,744,073,709,551,615.
-        (
-            b"write /f 18446744073709551616 61\n",
-            "refused 34 BadLine\n",
-        ),
-        // A letter that is no hexadecimal digit.
-        (b"write /f 0 6g\n", "refused 34 BadLine\n"),
-        // No kind of messages.
-        (b"hold on nothing\n", "refused 34 BadLine\n"),
-        // A line that is not UTF-8.
-        (b"mkdir /a\xff\n", "refused 34 BadLine\n"),
-        // A line that ends in a carriage return and a line feed.
-        (b"mkdir /a\r\n", "ok\n"),
-        // A last line that has no end.
-        (b"mkdir /a\nls /", "ok\nok a/\n"),
-        // Bad lines before good ones, and a carriage return that belongs to no end.
-        (
-            b"\nls  /\nls /\xff\nls /\r\r\nls /\r\nls /",
-            "refused 34 BadLine\nrefused 34 BadLine\nrefused 34 BadLine\nrefused 1 BadPath\nok\nok\n",
-        ),
-    ];
-    assert_eq!(rt; fault_in(rt.alloc(), 3, &runs)?.as_str(), "");
-    Ok(())
-}
-
-/// A line of so many bytes that begins as given and goes on with one byte, and what stands behind it.
 fn long_line(
     alloc: Global,
     beginning: &[u8],
@@ -343,42 +470,17 @@ fn long_line(
     Ok(script)
 }
 
+/// What is answered otherwise than the row says, as [`fault_in`] tells it.
+fn fault_in_long(alloc: Global, row: &LongRow) -> Result<String, Refusal> {
+    let (beginning, byte, length, end, wanted) = *row;
+    let script = long_line(alloc, beginning, byte, length, end)?;
+    fault_in(alloc, 3, &[(&script, wanted)])
+}
+
 #[test]
 fn long_lines(rt: HostRuntime) -> Result<(), Fail> {
-    let runs: [(&[u8], u8, usize, &[u8], &str); 4] = [
-        // One byte more than a line may have.
-        (b"m", b'm', 1_048_577, b"\n", "refused 34 BadLine\n"),
-        // The line behind such a one is answered.
-        (
-            b"mkdir /",
-            b'a',
-            1_048_577,
-            b"\nls /\n",
-            "refused 34 BadLine\nok\n",
-        ),
-        // As many bytes as a line may have.
-        (
-            b"mkdir /",
-            b'a',
-            1_048_576,
-            b"\nls /\n",
-            "refused 1 BadPath\nok\n",
-        ),
-        // A carriage return at the end of such a line is not counted.
-        (
-            b"ls ",
-            b'/',
-            1_048_576,
-            b"\r\nls /\n",
-            "refused 1 BadPath\nok\n",
-        ),
-    ];
-    for (beginning, byte, length, end, output) in runs {
-        let script = long_line(rt.alloc(), beginning, byte, length, end)?;
-        assert_eq!(rt;
-            output_of(rt.alloc(), store_of(3)?, &script)?.as_str(),
-            output
-        );
+    for row in &LONG_LINES {
+        assert_eq!(rt; fault_in_long(rt.alloc(), row)?.as_str(), "");
     }
     Ok(())
 }
@@ -394,77 +496,49 @@ fn files_rolled_back(alloc: Global, count: u32) -> Result<String, AllocError> {
     Ok(script)
 }
 
+fn rolled_back(alloc: Global, count: u32) -> Result<String, Refusal> {
+    let script = files_rolled_back(alloc, count)?;
+    output_of(alloc, 3, script.as_bytes())
+}
+
 // A rollback of many edits.
 #[test]
 fn rolls_back_many_edits(rt: HostRuntime) -> Result<(), Fail> {
-    let alloc = rt.alloc();
-    let script = files_rolled_back(alloc, 100_000)?;
-    let output = output_of(alloc, store_of(3)?, script.as_bytes())?;
-    assert_eq!(rt; output.as_str().split('\n').count(), 100_004);
-    assert!(rt; output.as_str().ends_with("ok\nok 2\nok\n"), "the end");
+    let output = rolled_back(rt.alloc(), 100_000)?;
+    assert!(rt; output.as_str().split('\n').count() == 100_004);
+    assert!(rt; output.as_str().ends_with("ok\nok 2\nok\n"));
     Ok(())
 }
 
-/// A reader that gives so many bytes at a time, is interrupted in between, and fails behind the last.
-#[derive(Drop)]
-struct Weak<'a> {
-    rest: &'a [u8],
-    most: usize,
-    calls: u64,
+/// What is answered to a line of 5,000 bytes that come one by one, and to those behind it, where a read fails in the fourth.
+fn told_until_a_read_fails(alloc: Global) -> Result<String, Refusal> {
+    let script = long_line(alloc, b"", b'x', 5_000, b"\nmkdir /a\nls /\nls")?;
+    let output = Output::new(alloc, usize::MAX, false);
+    told(alloc, 3, Input::weak(&script, 1), output)
 }
 
-impl Read for Weak<'_> {
-    fn read(&mut self, _buf: &mut [u8]) -> io::Result<usize> {
-        Err(io::Error::from(ErrorKind::Other))
-    }
+/// What is answered where a writer takes 5 bytes.
+fn told_until_a_write_fails(alloc: Global) -> Result<String, Refusal> {
+    let input = Input::whole(b"mkdir /a\nls /\nls /\n");
+    told(alloc, 3, input, Output::new(alloc, 5, false))
 }
 
-impl BufRead for Weak<'_> {
-    fn fill_buf(&mut self) -> io::Result<&[u8]> {
-        self.calls = self.calls.wrapping_add(1);
-        if self.calls % 2 == 0 {
-            return Err(io::Error::from(ErrorKind::Interrupted));
-        }
-        if self.rest.is_empty() {
-            return Err(io::Error::from(ErrorKind::BrokenPipe));
-        }
-        Ok(&self.rest[..self.rest.len().min(self.most)])
-    }
-
-    fn consume(&mut self, amount: usize) {
-        self.rest = &self.rest[amount.min(self.rest.len())..];
-    }
-}
-
-// A line takes as many reads as it needs, also one of 5,000 bytes that come one by one.
+// A line takes as many reads as it needs.
 #[test]
-fn stops_where_a_read_fails(rt: HostRuntime) -> Result<(), Fail> {
-    let mut script = vec![in rt.alloc(); b'x'; 5_000]?;
-    script.extend_from_slice(b"\nmkdir /a\nls /\nls")?;
-    let mut input = Weak {
-        rest: &script,
-        most: 1,
-        calls: 0,
-    };
-    let mut output = Vec::new(rt.alloc());
-    let disks = new_disks(rt.alloc());
-    let result = gs_shell::run(rt.alloc(), store_of(3)?, disks, &mut input, &mut output);
-    assert!(rt; matches!(result, Err(RunFault::Read)), "the fault");
+fn stops_where_a_read_or_a_write_fails(rt: HostRuntime) -> Result<(), Fail> {
+    let alloc = rt.alloc();
     assert_eq!(rt;
-        output.as_slice(),
-        b"refused 34 BadLine\nok\nok a/\n".as_slice()
+        told_until_a_read_fails(alloc)?.as_str(),
+        "refused 34 BadLine\nok\nok a/\n[Read]"
     );
+    assert_eq!(rt; told_until_a_write_fails(alloc)?.as_str(), "ok\nok[Write]");
     Ok(())
 }
 
 // The error is that of the read that failed.
 #[test]
 fn a_line_fails_as_its_read(rt: HostRuntime) -> Result<(), Fail> {
-    let mut input = Weak {
-        rest: b"ls",
-        most: 1,
-        calls: 0,
-    };
+    let mut input = Input::weak(b"ls", 1);
     let next = gs_line::next_line(rt.alloc(), &mut input);
     assert!(rt;
         matches!(next, Err(e) if e.kind() == ErrorKind::BrokenPipe),
@@ -473,91 +547,32 @@ fn a_line_fails_as_its_read(rt: HostRuntime) -> Result<(), Fail> {
     Ok(())
 }
 
-/// A writer that takes some bytes more, and then fails.
-#[derive(Drop)]
-struct Full {
-    written: Vec<u8>,
-    room: usize,
-}
-
-impl Write for Full {
-    fn write(&mut self, buf: &[u8]) -> io::Result<usize> {
-        let taken = buf.len().min(self.room);
-        if taken < buf.len() && taken == 0 {
-            return Err(io::Error::from(ErrorKind::StorageFull));
-        }
-        self.written.extend_from_slice(&buf[..taken])?;
-        self.room -= taken;
-        Ok(taken)
-    }
-
-    fn flush(&mut self) -> io::Result<()> {
-        Ok(())
-    }
-}
-
-#[test]
-fn stops_where_a_write_fails(rt: HostRuntime) -> Result<(), Fail> {
-    let mut input: &[u8] = b"mkdir /a\nls /\nls /\n";
-    let mut output = Full {
-        written: Vec::new(rt.alloc()),
-        room: 5,
+/// What is written for a script, with a bar at each flush. A weak reader gives so many bytes at a time, another all.
+fn flushes(alloc: Global, script: &[u8], weak: Option<usize>) -> Result<String, Refusal> {
+    let input = match weak {
+        Some(most) => Input::weak(script, most),
+        None => Input::whole(script),
     };
-    let disks = new_disks(rt.alloc());
-    let result = gs_shell::run(rt.alloc(), store_of(3)?, disks, &mut input, &mut output);
-    assert!(rt; matches!(result, Err(RunFault::Write)), "the fault");
-    assert_eq!(rt; output.written.as_slice(), b"ok\nok".as_slice());
-    Ok(())
+    told(alloc, 3, input, Output::new(alloc, usize::MAX, true))
 }
 
-/// A writer that marks by a bar where it is flushed.
-#[derive(Drop)]
-struct Marked {
-    written: Vec<u8>,
-}
-
-impl Write for Marked {
-    fn write(&mut self, buf: &[u8]) -> io::Result<usize> {
-        self.written.extend_from_slice(buf)?;
-        Ok(buf.len())
-    }
-
-    fn flush(&mut self) -> io::Result<()> {
-        self.written.extend_from_slice(b"|")?;
-        Ok(())
-    }
-}
-
-// The answers to lines that came together are flushed together. The last line, which lacks its end, is not at hand.
-#[test]
-fn flushes_where_no_line_is_at_hand(rt: HostRuntime) -> Result<(), Fail> {
-    let mut input = BufReader::new(rt.alloc(), b"ls /\nls /\nls /\nls /".as_slice())?;
-    let mut output = Marked {
-        written: Vec::new(rt.alloc()),
-    };
-    let disks = new_disks(rt.alloc());
-    let result = gs_shell::run(rt.alloc(), store_of(3)?, disks, &mut input, &mut output);
-    assert!(rt; result.is_ok(), "the run");
-    assert_eq!(rt; output.written.as_slice(), b"ok\nok\nok\n|ok\n|".as_slice());
-    Ok(())
-}
-
-// Each answer is flushed where lines come one by one, and where more than one line comes, but not the next one's end.
+// The answers to lines that came together are flushed together. The last line, which lacks its end, is not at hand. Each answer is
+// flushed where lines come one by one, and where more than one line comes, but not the next one's end.
 #[test]
 fn flushes_before_a_read(rt: HostRuntime) -> Result<(), Fail> {
-    for most in [1, 5, 9] {
-        let mut input = Weak {
-            rest: b"ls /\nls /\nls /\n",
-            most,
-            calls: 0,
-        };
-        let mut output = Marked {
-            written: Vec::new(rt.alloc()),
-        };
-        let disks = new_disks(rt.alloc());
-        let result = gs_shell::run(rt.alloc(), store_of(3)?, disks, &mut input, &mut output);
-        assert!(rt; matches!(result, Err(RunFault::Read)), "the fault");
-        assert_eq!(rt; output.written.as_slice(), b"ok\n|ok\n|ok\n|".as_slice());
+    let three = b"ls /\nls /\nls /\n".as_slice();
+    let each = "ok\n|ok\n|ok\n|[Read]";
+    for (script, weak, wanted) in [
+        (
+            b"ls /\nls /\nls /\nls /".as_slice(),
+            None,
+            "ok\nok\nok\n|ok\n|",
+        ),
+        (three, Some(1), each),
+        (three, Some(5), each),
+        (three, Some(9), each),
+    ] {
+        assert_eq!(rt; flushes(rt.alloc(), script, weak)?.as_str(), wanted);
     }
     Ok(())
 }
