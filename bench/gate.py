@@ -16,7 +16,7 @@ import time
 ROOT = os.path.dirname(os.path.dirname(os.path.abspath(__file__)))
 TICKS = os.sysconf("SC_CLK_TCK")
 MARK = "gate:"
-KINDS = ("proof", "tests", "edits")
+KINDS = ("proof", "edits")
 OTHER = "everything else"
 
 
@@ -46,7 +46,8 @@ def task_of(pid):
     crate = words[words.index("--crate-name") + 1]
     if "/rt-edit-" in os.readlink(f"/proc/{pid}/cwd"):
         return crate, "edits"
-    return crate, "tests" if "--test" in words else "proof"
+    # The proof of a crate's tests is part of its own.
+    return crate, "proof"
 
 
 def seconds_of(pid):
@@ -116,8 +117,8 @@ def read_log(log):
 def show(log):
     seconds, said = read_log(log)
     crates = sorted({crate for crate, _ in seconds if crate != "whole"})
-    print("| crate | code | specs | proofs | wrong bodies in the gate, beside it | seconds of its proof | of its tests' | of its wrong bodies |")
-    print("|---|---|---|---|---|---|---|---|")
+    print("| crate | code | specs | proofs | wrong bodies in the gate, beside it | seconds of its proof | of its wrong bodies |")
+    print("|---|---|---|---|---|---|---|")
     totals = collections.Counter()
     for crate in crates:
         folder = os.path.join(ROOT, "crates", crate)
@@ -127,9 +128,9 @@ def show(log):
         for at, number in enumerate(sizes + spent):
             totals[at] += number
         print(f"| `{crate}` | {sizes[0]} | {sizes[1]} | {sizes[2]} | {sizes[3]}, {sizes[4]} | " + " | ".join(str(s or "") for s in spent) + " |")
-    print(f"| all | {totals[0]} | {totals[1]} | {totals[2]} | {totals[3]}, {totals[4]} | {totals[5]} | {totals[6]} | {totals[7]} |")
+    print(f"| all | {totals[0]} | {totals[1]} | {totals[2]} | {totals[3]}, {totals[4]} | {totals[5]} | {totals[6]} |")
     whole = seconds.get(("whole", "processor"), 0)
-    rest = whole - totals[5] - totals[6] - totals[7]
+    rest = whole - totals[5] - totals[6]
     print(f"\n{said}: {whole / 60:.0f} processor minutes, {rest / 60:.0f} of them {OTHER}, in {seconds.get(('whole', 'elapsed'), 0) / 60:.0f} minutes")
     return 0
 

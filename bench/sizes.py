@@ -3,10 +3,10 @@
 
     bench/sizes.py [PART OF 1 TO 100] [--program PATH] [--only WORD]
 
-prints for each size the lines, the seconds and the greatest memory in use, and ends with status 1 where a run ends by a
-signal or with another status than 0, answers fewer or more lines than it was given, refuses more or fewer than it should, or answers something else
-than is expected at the end; or where memory grows with a size of which it isn't to: it takes more than 1.1 times that of a tenth of the size, and
-1 MB. A number makes each size that many hundredths of its own; a word leaves those without it in their names out."""
+prints for each size the lines, the seconds and the greatest memory in use. It ends with status 1 where a run ends by a signal or with
+another status than 0, answers fewer or more lines than it was given, refuses more or fewer than it should, or answers something else
+than is expected at the end; or where memory grows with a size of which it isn't to: it takes more than 1.1 times that of a tenth of
+the size, and 1 MB. A number makes each size that many hundredths of its own; a word leaves those without it in their names out."""
 
 import argparse
 import itertools
@@ -285,7 +285,7 @@ def try_size(program, make, n):
 
 def parsed():
     parser = argparse.ArgumentParser()
-    parser.add_argument("part", nargs="?", type=int, default=100, help="how many hundredths of its own each size has")
+    parser.add_argument("part", nargs="?", type=int, choices=range(1, 101), metavar="PART", default=100, help="how many hundredths of its own each size has, 1 to 100")
     parser.add_argument("--program", help="the built program, which else is built")
     parser.add_argument("--only", default="", help="sizes with this in their names")
     return parser.parse_args()

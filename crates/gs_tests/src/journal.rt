@@ -115,13 +115,9 @@ fn added_to(alloc: Global, bytes: &[u8]) -> Result<usize, Refusal> {
     }
 }
 
-// How many records there are after an append and a checkpoint of three records, where the disks have these faults, with whether
-// the append and the checkpoint were made.
-fn broken(
-    alloc: Global,
-    on_first: Fault,
-    on_second: Fault,
-) -> Result<(usize, bool, bool), Refusal> {
+// Whether the old records or the new are left after an append to three records and a checkpoint, where the disks have these
+// faults: of what was made nothing is missing, and of what wasn't made the next may be there.
+fn is_whole(alloc: Global, on_first: Fault, on_second: Fault) -> Result<bool, Refusal> {
     let first = FaultyDisk::new(MemoryDisk::new(THREE.to_vec(alloc)?), on_first);
     let second = FaultyDisk::new(MemoryDisk::new(Vec::new(alloc)), on_second);
     let Edited {
@@ -132,28 +128,25 @@ fn broken(
         ..
     } = edit(alloc, first, second)?;
     let found = count(alloc, first.into_disk(), second.into_disk())?;
-    Ok((found, added, made))
-}
-
-// Whether the old records or the new are left, where each disk stops after so many calls.
-fn stopped(alloc: Global, on_first: u64, on_second: u64) -> Result<bool, Refusal> {
-    let faults = (Fault::Stop(on_first), Fault::Stop(on_second));
-    let (found, added, made) = broken(alloc, faults.0, faults.1)?;
-    Ok(found == 1 || (!made && (found == 4 || (!added && found == 3))))
-}
-
-// The same where a write of a disk leaves bytes of its own.
-fn torn(alloc: Global, on_first: u64, on_second: u64, byte: u8) -> Result<bool, Refusal> {
-    let bytes = [byte; 40];
-    let on_first = Fault::Tear(on_first, bytes.to_vec(alloc)?);
-    let on_second = Fault::Tear(on_second, bytes.to_vec(alloc)?);
-    let (found, added, made) = broken(alloc, on_first, on_second)?;
     let least = match (made, added) {
         (true, _) => 1,
         (false, true) => 4,
         (false, false) => 3,
     };
     Ok(found == least || (found, least) == (1, 4) || (found, least) == (4, 3))
+}
+
+// The same where each disk stops after so many calls.
+fn stopped(alloc: Global, on_first: u64, on_second: u64) -> Result<bool, Refusal> {
+    is_whole(alloc, Fault::Stop(on_first), Fault::Stop(on_second))
+}
+
+// The same where a write of each disk leaves bytes of its own.
+fn torn(alloc: Global, on_first: u64, on_second: u64, byte: u8) -> Result<bool, Refusal> {
+    let bytes = [byte; 40];
+    let on_first = Fault::Tear(on_first, bytes.to_vec(alloc)?);
+    let on_second = Fault::Tear(on_second, bytes.to_vec(alloc)?);
+    is_whole(alloc, on_first, on_second)
 }
 
 #[test]

@@ -3,12 +3,8 @@
 #![tactic(auto)]
 
 #[cfg(test)]
-mod blocks;
-#[cfg(test)]
 mod example;
 #[cfg(test)]
 mod journal;
 #[cfg(test)]
 mod shell;
-#[cfg(test)]
-mod texts;

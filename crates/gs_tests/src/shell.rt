@@ -97,9 +97,9 @@ impl Write for Output {
     }
 }
 
-/// Three servers in two racks, each chunk on so many of them, and chunks of 16 bytes in blocks of 4.
-fn store_of(replicas: u64) -> Result<Config, Refusal> {
-    Config::new(3, 2, replicas, 4, 16)
+/// Three servers in two racks, each chunk on so many of them, and chunks of four blocks of so many bytes.
+fn store_of(replicas: u64, block: u64) -> Result<Config, Refusal> {
+    Config::new(3, 2, replicas, block, block.wrapping_mul(4))
 }
 
 /// The disks of a new store.
@@ -123,11 +123,10 @@ fn ending(ended: &Result<(), RunFault>) -> &'static str {
 /// What a run of a new store writes, and how it ended.
 fn told(
     alloc: Global,
-    replicas: u64,
+    config: Config,
     mut input: Input,
     mut output: Output,
 ) -> Result<String, Refusal> {
-    let config = store_of(replicas)?;
     let ended = gs_shell::run(alloc, config, new_disks(alloc), &mut input, &mut output);
     output.written.extend_from_slice(ending(&ended).as_bytes())?;
     String::from_utf8(output.written)
@@ -136,18 +135,18 @@ fn told(
 }
 
 /// What a run of a new store writes for a script.
-fn output_of(alloc: Global, replicas: u64, script: &[u8]) -> Result<String, Refusal> {
+fn output_of(alloc: Global, config: Config, script: &[u8]) -> Result<String, Refusal> {
     let output = Output::new(alloc, usize::MAX, false);
-    told(alloc, replicas, Input::whole(script), output)
+    told(alloc, config, Input::whole(script), output)
 }
 
 /// A script, and what a run of it writes.
 type Row<'a> = (&'a [u8], &'a str);
 
 /// The first of some scripts that a new store answers otherwise, by its place, with what it writes; or nothing.
-fn fault_in(alloc: Global, replicas: u64, rows: &[Row]) -> Result<String, Refusal> {
+fn fault_in(alloc: Global, config: Config, rows: &[Row]) -> Result<String, Refusal> {
     for (place, (script, wanted)) in rows.iter().enumerate() {
-        let output = output_of(alloc, replicas, script)?;
+        let output = output_of(alloc, config, script)?;
         if output.as_str() != *wanted {
             return Ok(format!(in alloc; "script {place}: {output}")?);
         }
@@ -156,9 +155,7 @@ fn fault_in(alloc: Global, replicas: u64, rows: &[Row]) -> Result<String, Refusa
 }
 
 /// Paths and names.
-const PATHS_AND_NAMES: [Row<'static>; 5] = [
-    // No line at all.
-    (b"", ""),
+const PATHS_AND_NAMES: [Row<'static>; 4] = [
     // A directory that is there again, and a file at its place.
     (
         b"mkdir /a/b\nmkdir /a/b\ncreate /a\n",
@@ -174,15 +171,15 @@ const PATHS_AND_NAMES: [Row<'static>; 5] = [
         b"mkdir /.\nmkdir /x:y\nmkdir /aaaaaaaaaaaaaaaaaaaaaaaaaaaaaaaaaaaaaaaaaaaaaaaaaaaaaaaaaaaaaaaaaaaaaaaaaaaaaaaaaaaaaaaaaaaaaaaaaaaaaaaaaaaaaaaaaaaaaaaaaaaaaaaaaaaaaaaaaaaaaaaaaaaaaaaaaaaaaaaaaaaaaaaaaaaaaaaaaaaaaaaaaaaaaaaaaaaaaaaa\nmkdir /aaaaaaaaaaaaaaaaaaaaaaaaaaaaaaaaaaaaaaaaaaaaaaaaaaaaaaaaaaaaaaaaaaaaaaaaaaaaaaaaaaaaaaaaaaaaaaaaaaaaaaaaaaaaaaaaaaaaaaaaaaaaaaaaaaaaaaaaaaaaaaaaaaaaaaaaaaaaaaaaaaaaaaaaaaaaaaaaaaaaaaaaaaaaaaaaaaaaaaaaa\nmkdir /.deleted.x\n",
         "refused 1 BadPath\nrefused 1 BadPath\nok\nrefused 1 BadPath\nrefused 2 HiddenName\n",
     ),
-    // Moves that end in 64 elements, and in 65.
+    // A move that would end in 65 elements, and one that ends in 64.
     (
         b"mkdir /x/y\nmkdir /d/d/d/d/d/d/d/d/d/d/d/d/d/d/d/d/d/d/d/d/d/d/d/d/d/d/d/d/d/d/d/d/d/d/d/d/d/d/d/d/d/d/d/d/d/d/d/d/d/d/d/d/d/d/d/d/d/d/d/d/d/d\nmkdir /e/d/d/d/d/d/d/d/d/d/d/d/d/d/d/d/d/d/d/d/d/d/d/d/d/d/d/d/d/d/d/d/d/d/d/d/d/d/d/d/d/d/d/d/d/d/d/d/d/d/d/d/d/d/d/d/d/d/d/d/d/d/d\nmv /x /e/d/d/d/d/d/d/d/d/d/d/d/d/d/d/d/d/d/d/d/d/d/d/d/d/d/d/d/d/d/d/d/d/d/d/d/d/d/d/d/d/d/d/d/d/d/d/d/d/d/d/d/d/d/d/d/d/d/d/d/d/d/d\nmv /x /d/d/d/d/d/d/d/d/d/d/d/d/d/d/d/d/d/d/d/d/d/d/d/d/d/d/d/d/d/d/d/d/d/d/d/d/d/d/d/d/d/d/d/d/d/d/d/d/d/d/d/d/d/d/d/d/d/d/d/d/d/d\n",
         "ok\nok\nok\nrefused 1 BadPath\nok\n",
     ),
 ];
 
-/// Files, their bytes and digests.
-const FILES: [Row<'static>; 4] = [
+/// Files and their bytes.
+const FILES: [Row<'static>; 3] = [
     // A write behind the end, over two chunks: what lies before it is zeros.
     (
         b"create /f\nwrite /f 14 616263\nread /f 0 32\nstat /f\n",
@@ -194,15 +191,24 @@ const FILES: [Row<'static>; 4] = [
         b"create /f\nappend /f 61626364\nappend /f 6162636465\nwrite /f 4 616161616161616161\nappend /f 7a7a7a7a\nread /f 12 8\nstat /f\n",
         "ok\nok 0\nrefused 26 TooLong\nok\nok 16\nok 610000007a7a7a7a\nok file 20 1/1/0,1,2 2/1/0,1,2\n",
     ),
-    // The digest of a block is that of its bytes, and there is none of a block behind the last.
+    // A write past 4,096 chunks is refused and changes nothing, and the file takes later ones.
+    (
+        b"create /f\nwrite /f 65536 61\nstat /f\nwrite /f 0 61\nread /f 0 4\n",
+        "ok\nrefused 25 Range\nok file 0\nok\nok 61\n",
+    ),
+];
+
+/// Digests, of the examples of FIPS 180-4.
+const DIGESTS: [Row<'static>; 2] = [
+    // Of `abc`. There is none of a block behind the last.
     (
         b"create /f\nwrite /f 0 616263\ndigest /f 0 0\ndigest /f 0 1\n",
         "ok\nok\nok ba7816bf8f01cfea414140de5dae2223b00361a396177a9cb410ff61f20015ad\nrefused 25 Range\n",
     ),
-    // A write past 4,096 chunks is refused and changes nothing, and the file takes later ones.
+    // Of 56 bytes, which are padded into two blocks of the digest.
     (
-        b"create /f\nwrite /f 65536 61\nstat /f\nat 60\nwrite /f 0 61\nread /f 0 4\n",
-        "ok\nrefused 25 Range\nok file 0\nok\nok\nok 61\n",
+        b"create /f\nwrite /f 0 6162636462636465636465666465666765666768666768696768696a68696a6b696a6b6c6a6b6c6d6b6c6d6e6c6d6e6f6d6e6f706e6f7071\ndigest /f 0 0\n",
+        "ok\nok\nok 248d6a61d20638b8e5c026930c3e6039a33ce45964ff2167f6ecedd419db06c1\n",
     ),
 ];
 
@@ -251,16 +257,11 @@ const SNAPSHOTS: [Row<'static>; 2] = [
 ];
 
 /// Upgrades that are kept or rolled back.
-const UPGRADES: [Row<'static>; 5] = [
+const UPGRADES: [Row<'static>; 4] = [
     // The epochs of an upgrade that is rolled back.
     (
         b"rollingUpgrade query\nrollingUpgrade prepare\nrollingUpgrade rollback\nrollingUpgrade query\n",
         "ok ordinary 0\nok 1\nok 2\nok ordinary 2\n",
-    ),
-    // A rollback brings back what was moved and deleted.
-    (
-        b"mkdir /a/b\ncreate /a/f\nrollingUpgrade prepare\nmv /a /c\nrm -r /c\nls /\nrollingUpgrade rollback\nls /a\n",
-        "ok\nok\nok 1\nok\nok /.deleted.00000000000000000000.00000000000000000001.c\nok\nok 2\nok b/ f\n",
     ),
     // A finalize forgets what a rollback would bring back.
     (
@@ -318,8 +319,8 @@ const TWO_REPLICAS_ON_THREE_SERVERS: [Row<'static>; 2] = [
     ),
     // A copy that is made within an upgrade carries what was sealed: a rollback gives that back from the copy alone.
     (
-        b"create /a\nwrite /a 0 61\ncreate /f\nwrite /f 0 62\nrm /a\nat 259201\nscan\nrollingUpgrade prepare\nlose 2 2\nbeat 2\nreplicate\nlose 1 2\nrollingUpgrade rollback\nread /f 0 1\nstat /f\n",
-        "ok\nok\nok\nok\nok /.deleted.00000000000000000000.00000000000000000001.a\nok\nok 1 1\nok 1\nok\nok 0\nok 2 0\nok\nok 2\nok 62\nok file 1 2/1/0\n",
+        b"create /a\nwrite /a 0 61\ncreate /f\nwrite /f 0 62\nrm /a\nat 259201\nscan\nrollingUpgrade prepare\nwrite /f 0 63\nlose 2 2\nbeat 2\nreplicate\nread /f 0 1\nlose 1 2\nrollingUpgrade rollback\nread /f 0 1\nstat /f\n",
+        "ok\nok\nok\nok\nok /.deleted.00000000000000000000.00000000000000000001.a\nok\nok 1 1\nok 1\nok\nok\nok 0\nok 2 0\nok 63\nok\nok 2\nok 62\nok file 1 2/1/0\n",
     ),
 ];
 
@@ -369,17 +370,14 @@ const RESTARTS: [Row<'static>; 2] = [
     ),
 ];
 
-/// Lines that are no requests, and the ends of lines.
-const BAD_LINES: [Row<'static>; 10] = [
-    // Lines that ask for nothing, and requests for what is not there or may not be.
+/// Lines that are no requests, the ends of lines, and no line at all.
+const BAD_LINES: [Row<'static>; 6] = [
+    (b"", ""),
+    // Lines that ask for nothing, and requests for what isn't there.
     (
-        b"frob\nmkdir\nwrite /f 0 6\nrm /x\nrm /\nread /x 0 1\nundelete /x\nmkdir /a/b\nrm /a\n",
-        "refused 34 BadLine\nrefused 34 BadLine\nrefused 34 BadLine\nok false\nrefused 9 IsRoot\nrefused 3 NotFound\nrefused 38 NotHidden\nok\nrefused 7 NotEmpty\n",
+        b"frob\nmkdir\nwrite /f 0 6\nread /x 0 1\nundelete /x\n",
+        "refused 34 BadLine\nrefused 34 BadLine\nrefused 34 BadLine\nrefused 3 NotFound\nrefused 38 NotHidden\n",
     ),
-    // An empty line.
-    (b"\n", "refused 34 BadLine\n"),
-    // Two spaces in a row.
-    (b"mkdir  /a\n", "refused 34 BadLine\n"),
     // A number above 18,446,744,073,709,551,615.
     (
         b"write /f 18446744073709551616 61\n",
@@ -389,13 +387,8 @@ const BAD_LINES: [Row<'static>; 10] = [
     (b"write /f 0 6g\n", "refused 34 BadLine\n"),
     // No kind of messages.
     (b"hold on nothing\n", "refused 34 BadLine\n"),
-    // A line that is not UTF-8.
-    (b"mkdir /a\xff\n", "refused 34 BadLine\n"),
-    // A line that ends in a carriage return and a line feed.
-    (b"mkdir /a\r\n", "ok\n"),
-    // A last line that has no end.
-    (b"mkdir /a\nls /", "ok\nok a/\n"),
-    // Bad lines before good ones, and a carriage return that belongs to no end.
+    // An empty line, two spaces in a row, a line that is not UTF-8, a carriage return that belongs to no end, one that does, and
+    // a last line that has no end.
     (
         b"\nls  /\nls /\xff\nls /\r\r\nls /\r\nls /",
         "refused 34 BadLine\nrefused 34 BadLine\nrefused 34 BadLine\nrefused 1 BadPath\nok\nok\n",
@@ -404,20 +397,22 @@ const BAD_LINES: [Row<'static>; 10] = [
 
 #[test]
 fn scripts_are_answered(rt: HostRuntime) -> Result<(), Fail> {
-    for (name, replicas, rows) in [
-        ("paths and names", 3, PATHS_AND_NAMES.as_slice()),
-        ("files", 3, FILES.as_slice()),
-        ("deletion and scan", 3, DELETION_AND_SCAN.as_slice()),
-        ("snapshots", 3, SNAPSHOTS.as_slice()),
-        ("upgrades", 3, UPGRADES.as_slice()),
-        ("copies", 3, COPIES.as_slice()),
-        ("two of three", 2, TWO_REPLICAS_ON_THREE_SERVERS.as_slice()),
-        ("lost and held", 3, LOST_AND_HELD_MESSAGES.as_slice()),
-        ("restarts", 3, RESTARTS.as_slice()),
-        ("bad lines", 3, BAD_LINES.as_slice()),
+    for (name, (replicas, block), rows) in [
+        ("paths and names", (3, 4), PATHS_AND_NAMES.as_slice()),
+        ("files", (3, 4), FILES.as_slice()),
+        ("digests", (3, 64), DIGESTS.as_slice()),
+        ("deletion and scan", (3, 4), DELETION_AND_SCAN.as_slice()),
+        ("snapshots", (3, 4), SNAPSHOTS.as_slice()),
+        ("upgrades", (3, 4), UPGRADES.as_slice()),
+        ("copies", (3, 4), COPIES.as_slice()),
+        ("two of three", (2, 4), TWO_REPLICAS_ON_THREE_SERVERS.as_slice()),
+        ("lost and held", (3, 4), LOST_AND_HELD_MESSAGES.as_slice()),
+        ("restarts", (3, 4), RESTARTS.as_slice()),
+        ("bad lines", (3, 4), BAD_LINES.as_slice()),
     ] {
+        let config = store_of(replicas, block)?;
         assert_eq!(rt;
-            fault_in(rt.alloc(), replicas, rows)?.as_str(),
+            fault_in(rt.alloc(), config, rows)?.as_str(),
             "",
             "{name}"
         );
@@ -428,10 +423,8 @@ fn scripts_are_answered(rt: HostRuntime) -> Result<(), Fail> {
 /// A line of so many bytes that begins as given and goes on with one byte, what stands behind it, and what a run of that writes.
 type LongRow = (&'static [u8], u8, usize, &'static [u8], &'static str);
 
-const LONG_LINES: [LongRow; 4] = [
-    // One byte more than a line may have.
-    (b"m", b'm', 1_048_577, b"\n", "refused 34 BadLine\n"),
-    // The line behind such a one is answered.
+const LONG_LINES: [LongRow; 3] = [
+    // One byte more than a line may have. The line behind such a one is answered.
     (
         b"mkdir /",
         b'a',
@@ -474,7 +467,7 @@ fn long_line(
 fn fault_in_long(alloc: Global, row: &LongRow) -> Result<String, Refusal> {
     let (beginning, byte, length, end, wanted) = *row;
     let script = long_line(alloc, beginning, byte, length, end)?;
-    fault_in(alloc, 3, &[(&script, wanted)])
+    fault_in(alloc, store_of(3, 4)?, &[(&script, wanted)])
 }
 
 #[test]
@@ -498,7 +491,7 @@ fn files_rolled_back(alloc: Global, count: u32) -> Result<String, AllocError> {
 
 fn rolled_back(alloc: Global, count: u32) -> Result<String, Refusal> {
     let script = files_rolled_back(alloc, count)?;
-    output_of(alloc, 3, script.as_bytes())
+    output_of(alloc, store_of(3, 4)?, script.as_bytes())
 }
 
 // A rollback of many edits.
@@ -510,28 +503,66 @@ fn rolls_back_many_edits(rt: HostRuntime) -> Result<(), Fail> {
     Ok(())
 }
 
-/// What is answered to a line of 5,000 bytes that come one by one, and to those behind it, where a read fails in the fourth.
-fn told_until_a_read_fails(alloc: Global) -> Result<String, Refusal> {
-    let script = long_line(alloc, b"", b'x', 5_000, b"\nmkdir /a\nls /\nls")?;
-    let output = Output::new(alloc, usize::MAX, false);
-    told(alloc, 3, Input::weak(&script, 1), output)
+/// A script, how many bytes a weak reader gives at a time or that another gives all, how many bytes a writer takes, and what is
+/// written, with a bar at each flush.
+type Way<'a> = (&'a [u8], Option<usize>, usize, &'a str);
+
+const WAYS: [Way<'static>; 5] = [
+    // The answers to lines that came together are flushed together. The last line, which lacks its end, is not at hand.
+    (
+        b"ls /\nls /\nls /\nls /",
+        None,
+        usize::MAX,
+        "ok\nok\nok\n|ok\n|",
+    ),
+    // Each answer is flushed where lines come one by one, until a read fails.
+    (
+        b"ls /\nls /\nls /\n",
+        Some(1),
+        usize::MAX,
+        "ok\n|ok\n|ok\n|[Read]",
+    ),
+    // So it is where more than one line comes, but not the next one's end.
+    (
+        b"ls /\nls /\nls /\n",
+        Some(5),
+        usize::MAX,
+        "ok\n|ok\n|ok\n|[Read]",
+    ),
+    (
+        b"ls /\nls /\nls /\n",
+        Some(9),
+        usize::MAX,
+        "ok\n|ok\n|ok\n|[Read]",
+    ),
+    // A write fails in the midst of an answer.
+    (b"mkdir /a\nls /\nls /\n", None, 5, "ok\nok[Write]"),
+];
+
+fn told_in_a_way(alloc: Global, way: &Way) -> Result<String, Refusal> {
+    let (script, weak, room, _) = *way;
+    let input = match weak {
+        Some(most) => Input::weak(script, most),
+        None => Input::whole(script),
+    };
+    told(alloc, store_of(3, 4)?, input, Output::new(alloc, room, true))
 }
 
-/// What is answered where a writer takes 5 bytes.
-fn told_until_a_write_fails(alloc: Global) -> Result<String, Refusal> {
-    let input = Input::whole(b"mkdir /a\nls /\nls /\n");
-    told(alloc, 3, input, Output::new(alloc, 5, false))
-}
-
-// A line takes as many reads as it needs.
 #[test]
-fn stops_where_a_read_or_a_write_fails(rt: HostRuntime) -> Result<(), Fail> {
-    let alloc = rt.alloc();
-    assert_eq!(rt;
-        told_until_a_read_fails(alloc)?.as_str(),
-        "refused 34 BadLine\nok\nok a/\n[Read]"
-    );
-    assert_eq!(rt; told_until_a_write_fails(alloc)?.as_str(), "ok\nok[Write]");
+fn flushes_before_a_read_and_stops_where_one_fails(rt: HostRuntime) -> Result<(), Fail> {
+    for way in &WAYS {
+        assert_eq!(rt; told_in_a_way(rt.alloc(), way)?.as_str(), way.3);
+    }
+    Ok(())
+}
+
+// A line takes as many reads as it needs: here of 5,000 bytes that come one by one. The fourth line is lost where its read fails.
+#[test]
+fn a_line_takes_many_reads(rt: HostRuntime) -> Result<(), Fail> {
+    let script = long_line(rt.alloc(), b"", b'x', 5_000, b"\nmkdir /a\nls /\nls")?;
+    let wanted = "refused 34 BadLine\n|ok\n|ok a/\n|[Read]";
+    let way = (script.as_slice(), Some(1), usize::MAX, wanted);
+    assert_eq!(rt; told_in_a_way(rt.alloc(), &way)?.as_str(), wanted);
     Ok(())
 }
 
@@ -544,35 +575,5 @@ fn a_line_fails_as_its_read(rt: HostRuntime) -> Result<(), Fail> {
         matches!(next, Err(e) if e.kind() == ErrorKind::BrokenPipe),
         "the kind"
     );
-    Ok(())
-}
-
-/// What is written for a script, with a bar at each flush. A weak reader gives so many bytes at a time, another all.
-fn flushes(alloc: Global, script: &[u8], weak: Option<usize>) -> Result<String, Refusal> {
-    let input = match weak {
-        Some(most) => Input::weak(script, most),
-        None => Input::whole(script),
-    };
-    told(alloc, 3, input, Output::new(alloc, usize::MAX, true))
-}
-
-// The answers to lines that came together are flushed together. The last line, which lacks its end, is not at hand. Each answer is
-// flushed where lines come one by one, and where more than one line comes, but not the next one's end.
-#[test]
-fn flushes_before_a_read(rt: HostRuntime) -> Result<(), Fail> {
-    let three = b"ls /\nls /\nls /\n".as_slice();
-    let each = "ok\n|ok\n|ok\n|[Read]";
-    for (script, weak, wanted) in [
-        (
-            b"ls /\nls /\nls /\nls /".as_slice(),
-            None,
-            "ok\nok\nok\n|ok\n|",
-        ),
-        (three, Some(1), each),
-        (three, Some(5), each),
-        (three, Some(9), each),
-    ] {
-        assert_eq!(rt; flushes(rt.alloc(), script, weak)?.as_str(), wanted);
-    }
     Ok(())
 }
