@@ -311,7 +311,7 @@ const COPIES: [Row<'static>; 5] = [
 ];
 
 /// Chunks that stand on two of three servers.
-const TWO_REPLICAS_ON_THREE_SERVERS: [Row<'static>; 2] = [
+const TWO_OF_THREE: [Row<'static>; 2] = [
     // Each chunk stands in both racks, and first on servers that have the fewest.
     (
         b"create /a\nwrite /a 0 61\ncreate /b\nwrite /b 0 62\ncreate /c\nwrite /c 0 63\nstat /a\nstat /b\nstat /c\n",
@@ -405,17 +405,13 @@ fn scripts_are_answered(rt: HostRuntime) -> Result<(), Fail> {
         ("snapshots", (3, 4), SNAPSHOTS.as_slice()),
         ("upgrades", (3, 4), UPGRADES.as_slice()),
         ("copies", (3, 4), COPIES.as_slice()),
-        ("two of three", (2, 4), TWO_REPLICAS_ON_THREE_SERVERS.as_slice()),
+        ("two of three", (2, 4), TWO_OF_THREE.as_slice()),
         ("lost and held", (3, 4), LOST_AND_HELD_MESSAGES.as_slice()),
         ("restarts", (3, 4), RESTARTS.as_slice()),
         ("bad lines", (3, 4), BAD_LINES.as_slice()),
     ] {
         let config = store_of(replicas, block)?;
-        assert_eq!(rt;
-            fault_in(rt.alloc(), config, rows)?.as_str(),
-            "",
-            "{name}"
-        );
+        assert_eq!(rt; fault_in(rt.alloc(), config, rows)?.as_str(), "", "{name}");
     }
     Ok(())
 }
@@ -545,7 +541,8 @@ fn told_in_a_way(alloc: Global, way: &Way) -> Result<String, Refusal> {
         Some(most) => Input::weak(script, most),
         None => Input::whole(script),
     };
-    told(alloc, store_of(3, 4)?, input, Output::new(alloc, room, true))
+    let output = Output::new(alloc, room, true);
+    told(alloc, store_of(3, 4)?, input, output)
 }
 
 #[test]
