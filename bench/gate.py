@@ -1,7 +1,7 @@
 #!/usr/bin/env python3
 """What the gate costs, crate by crate.
 
-    bench/gate.py run LOG     runs rt ci, writes what it says into LOG, and behind it the processor seconds of each crate
+    bench/gate.py run LOG     runs rt ci from nothing, writes what it says into LOG, and behind it the processor seconds of each crate
     bench/gate.py show LOG    prints the table of such a log
 
 The seconds of a crate are those of the checker's processes, looked at twice a second; those of the whole run are exact."""
@@ -71,7 +71,7 @@ def run(log):
     spent = {}
     begin = time.perf_counter()
     with open(log, "w") as out:
-        gate = subprocess.Popen(["rt", "ci"], cwd=ROOT, stdin=subprocess.DEVNULL, stdout=out, stderr=subprocess.STDOUT)
+        gate = subprocess.Popen(["rt", "ci", "--anew"], cwd=ROOT, stdin=subprocess.DEVNULL, stdout=out, stderr=subprocess.STDOUT)
         while gate.poll() is None:
             look(gate.pid, spent)
             time.sleep(0.5)
