@@ -103,12 +103,14 @@ def edits_in(folder):
 
 def read_log(log):
     """The seconds by crate and kind, and what rt ci said last."""
-    seconds, said = {}, ""
+    seconds, said = collections.Counter(), ""
     with open(log, encoding="utf-8", errors="replace") as lines:
         for line in lines:
             words = line.split()
             if words[:1] == [MARK]:
-                seconds[words[1], words[2]] = int(words[3])
+                # In an older log the tests of a crate stand by themselves.
+                kind = "proof" if words[2] == "tests" else words[2]
+                seconds[words[1], kind] += int(words[3])
             elif " passed, " in line:
                 said = line.strip()
     return seconds, said

@@ -283,9 +283,16 @@ def try_size(program, make, n):
     return wrong is None
 
 
+def hundredths(word):
+    number = int(word)
+    if not 1 <= number <= 100:
+        raise argparse.ArgumentTypeError("it has to be 1 to 100")
+    return number
+
+
 def parsed():
     parser = argparse.ArgumentParser()
-    parser.add_argument("part", nargs="?", type=int, choices=range(1, 101), metavar="PART", default=100, help="how many hundredths of its own each size has, 1 to 100")
+    parser.add_argument("part", nargs="?", type=hundredths, metavar="PART", default=100, help="how many hundredths of its own each size has, 1 to 100")
     parser.add_argument("--program", help="the built program, which else is built")
     parser.add_argument("--only", default="", help="sizes with this in their names")
     return parser.parse_args()

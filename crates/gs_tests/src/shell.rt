@@ -372,6 +372,7 @@ const RESTARTS: [Row<'static>; 2] = [
 
 /// Lines that are no requests, the ends of lines, and no line at all.
 const BAD_LINES: [Row<'static>; 6] = [
+    // No line at all.
     (b"", ""),
     // Lines that ask for nothing, and requests for what isn't there.
     (
@@ -511,20 +512,21 @@ const WAYS: [Way<'static>; 5] = [
         usize::MAX,
         "ok\nok\nok\n|ok\n|",
     ),
-    // Each answer is flushed where lines come one by one, until a read fails.
+    // Each answer is flushed where bytes come one by one, until a read fails.
     (
         b"ls /\nls /\nls /\n",
         Some(1),
         usize::MAX,
         "ok\n|ok\n|ok\n|[Read]",
     ),
-    // So it is where more than one line comes, but not the next one's end.
+    // So it is where each line comes by itself,
     (
         b"ls /\nls /\nls /\n",
         Some(5),
         usize::MAX,
         "ok\n|ok\n|ok\n|[Read]",
     ),
+    // and where more than one line comes, but not the next one's end.
     (
         b"ls /\nls /\nls /\n",
         Some(9),
@@ -546,9 +548,9 @@ fn told_in_a_way(alloc: Global, way: &Way) -> Result<String, Refusal> {
 }
 
 #[test]
-fn flushes_before_a_read_and_stops_where_one_fails(rt: HostRuntime) -> Result<(), Fail> {
-    for way in &WAYS {
-        assert_eq!(rt; told_in_a_way(rt.alloc(), way)?.as_str(), way.3);
+fn flushes_before_a_read_and_stops_at_a_fault(rt: HostRuntime) -> Result<(), Fail> {
+    for (place, way) in WAYS.iter().enumerate() {
+        assert_eq!(rt; told_in_a_way(rt.alloc(), way)?.as_str(), way.3, "{place}");
     }
     Ok(())
 }
