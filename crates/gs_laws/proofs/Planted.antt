@@ -30,7 +30,8 @@ use Rattle.gs_edit.proofs.Tables.{seen}
 use Rattle.gs_laws.proofs.EditsBack.{FitCounts}
 use Rattle.gs_laws.proofs.Grown.{Grown}
 use Rattle.gs_laws.proofs.Texted.{Headed, apart_told, at_told, headed, is_told, kept_told, not_tied, sorted_told}
-use Rattle.gs_state.specs.Undoing.{by_text, rows_of_nodes, seen_from}
+use Rattle.gs_state.specs.Undoing.{rows_of_nodes, seen_from}
+use Rattle.gs_text_order.specs.Order.{by_text}
 
 abbrev Nodes : Type 0
 Nodes = List (Path × Option (List ℕ))

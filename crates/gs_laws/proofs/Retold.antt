@@ -20,7 +20,8 @@ use Rattle.gs_tree.proofs.Chunks.{same_itself}
 use Rattle.gs_tree.proofs.Levels.{both_true}
 use Rattle.gs_edit.specs.Scan.{is_without_slashes}
 use Rattle.gs_edit.proofs.Occurring.{occurrences-append}
-use Rattle.gs_state.specs.Undoing.{by_text, rows_of_nodes}
+use Rattle.gs_state.specs.Undoing.{rows_of_nodes}
+use Rattle.gs_text_order.specs.Order.{by_text}
 use Rattle.gs_laws.proofs.Planted.{each_of, of_each}
 use Rattle.gs_laws.proofs.Texted.{apart_told, at_told, is_told, kept_told, same_told, sorted_told}
 

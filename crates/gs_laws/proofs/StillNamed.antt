@@ -33,7 +33,8 @@ use Rattle.gs_edit.proofs.References.{all_among, among, get-without}
 use Rattle.gs_edit.specs.Scan.{is_without_slashes}
 use Rattle.gs_record.specs.Plain.{PlainEdit, Mkdirs, Create, Rename, Hide, Unhide, Remove, AddChunk, Cow, Snapshot, Forget}
 use Rattle.gs_state.specs.Applied.{is_visible, is_visible_name, names_well}
-use Rattle.gs_state.specs.Undoing.{by_text, edited_names, named_plain, rows_of_nodes, seen_from}
+use Rattle.gs_state.specs.Undoing.{edited_names, named_plain, rows_of_nodes, seen_from}
+use Rattle.gs_text_order.specs.Order.{by_text}
 use Rattle.gs_laws.proofs.Commanded.{EachName, add_gives, all_beside, all_hidden, all_target, create_gives, each_chunks, each_copied, each_dirs, each_gone, each_made, each_moved, hide_gives, mkdirs_gives, remove_gives, rename_gives, set_gives, snapshot_gives, tree_chunks, tree_copied, tree_dirs, tree_gone, tree_made, tree_moved, unhide_gives}
 use Rattle.gs_laws.proofs.EditsBack.{FitCounts, IsDone, admitted, back_add, back_cow, back_create, back_hide, back_mkdirs, back_remove, back_rename, back_snapshot, back_unhide, done_of, with_parts}
 use Rattle.gs_laws.proofs.Grown.{Grown}

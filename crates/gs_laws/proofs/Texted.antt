@@ -21,7 +21,8 @@ use Rattle.gs_tree.proofs.Chunks.{same_itself}
 use Rattle.gs_tree.proofs.Reaching.{same_path-is}
 use Rattle.gs_tree.proofs.Splice.{begins_parts}
 use Rattle.gs_edit.specs.Scan.{is_without_slashes}
-use Rattle.gs_state.specs.Undoing.{by_text, rows_of_nodes}
+use Rattle.gs_state.specs.Undoing.{rows_of_nodes}
+use Rattle.gs_text_order.specs.Order.{by_text}
 
 abbrev Nodes : Type 0
 Nodes = List (Path × Option (List ℕ))

@@ -30,7 +30,8 @@ use Rattle.gs_state.specs.Durable.{Durable, Settled, has_its_primary, is_given, 
 use Rattle.gs_state.specs.Handling.{tidied}
 use Rattle.gs_laws.specs.Promises.{AreKept, IsGivenView, IsKept, IsStillThere, TellsAll}
 use Rattle.gs_state.specs.Replies.{client_cmp}
-use Rattle.gs_state.specs.Undoing.{by_text, rows_of_nodes}
+use Rattle.gs_state.specs.Undoing.{rows_of_nodes}
+use Rattle.gs_text_order.specs.Order.{by_text}
 use Rattle.gs_state.specs.Whole.{are_all_prepared, are_counts, are_hidden_once, are_prepared, are_settled, can_go_back, checkpoint_of, durable_with, has_upgrade, if_it_can, is_empty, is_prepared_before, is_view_given, is_whole, prepared_entry, reference_of, reply_of, settled_of, told_replies, whole_of}
 use Rattle.gs_state.specs.declared.asking.Prepared.{Prepared}
 use Rattle.gs_state.specs.declared.reply.KeptReply.{KeptReply}

@@ -29,7 +29,8 @@ use Rattle.gs_edit.proofs.Applied.{same_tree}
 use Rattle.gs_edit.proofs.References.{forgotten_back}
 use Rattle.gs_edit.proofs.Tables.{seen}
 use Rattle.gs_record.specs.Plain.{PlainEdit, Mkdirs, Create, Rename, Hide, Unhide, Remove, AddChunk, Cow, Snapshot, Forget}
-use Rattle.gs_state.specs.Undoing.{by_text, edited_names, fits_rows, inverse_of, named_plain, names_from, planted, rows_of_nodes, seen_from, tree_undone, undone}
+use Rattle.gs_state.specs.Undoing.{edited_names, fits_rows, inverse_of, named_plain, names_from, planted, rows_of_nodes, seen_from, tree_undone, undone}
+use Rattle.gs_text_order.specs.Order.{by_text}
 use Rattle.gs_state.proofs.Blanks.{made_holds}
 use Rattle.gs_laws.proofs.EditsBack.{FitCounts, admitted, back_add, back_cow, back_create, back_hide, back_mkdirs, back_remove, back_rename, back_snapshot, back_unhide, with_parts}
 use Rattle.gs_laws.proofs.Planted.{IsPlainTree, fits_all, listed_headed, listed_removed, planted_at}

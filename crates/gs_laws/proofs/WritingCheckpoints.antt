@@ -26,7 +26,7 @@ use Rattle.gs_state.specs.Durable.{Durable, is_listed}
 use Rattle.gs_state.specs.Handling.{checkpoint, checkpoint_body, checkpoint_tests, written_unless}
 use Rattle.gs_state.specs.Replies.{client_cmp}
 use Rattle.gs_state.specs.State.{State, first_of, is_failed}
-use Rattle.gs_state.specs.Undoing.{by_text}
+use Rattle.gs_text_order.specs.Order.{by_text}
 use Rattle.gs_state.specs.Whole.{checkpoint_of, prepared_entry, reference_of, reply_of, settled_of}
 use Rattle.gs_state.proofs.Tracking.{client_total}
 use Rattle.gs_edit.specs.Scan.{is_without_slashes}

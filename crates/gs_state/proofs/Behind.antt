@@ -12,7 +12,7 @@ use Rattle.gs_base.specs.declared.numbers.ReqId.{ReqId}
 use Rattle.gs_base.specs.declared.refusal.Refusal.{Refusal}
 use Rattle.gs_path.specs.Path.{Path, path_text}
 use Rattle.gs_record.specs.Encoding.{answered, edit, list, number, path, refusal, request}
-use Rattle.gs_record.specs.Plain.{plain, PlainEdit, PlainEntry, Hide, AddChunk, Cow, Forget, Edited, Said, RollbackCommit}
+use Rattle.gs_record.specs.Plain.{plain, PlainEdit, Hide, AddChunk, Cow, Forget, Edited, Said, RollbackCommit}
 use Rattle.gs_record.specs.declared.entry.Answered.{Answered}
 use Rattle.gs_record.specs.declared.entry.Entry.{Entry}
 use Rattle.gs_state.specs.Applied.{is_whole_entry}

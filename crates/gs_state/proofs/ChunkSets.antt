@@ -1,15 +1,13 @@
 -- Chunks that stand once in a list.
-use Rattle.std.proofs.Common.{◌≡◌, ◌∙◌, ◌<◌, ◌≤◌, ◌+◌, ◌==◌, ◌||◌, ◌&&◌, suc, add-one, drop, drop-cons, get_or, length, ℕ, Bool, true, false, not, cond, T, List, [], ◌∷◌, ◌++◌, map, filter, refl, ap, sym, eq-eqb, arith}
+use Rattle.std.proofs.Common.{◌≡◌, ◌∙◌, ◌<◌, ◌≤◌, ◌+◌, ◌==◌, ◌||◌, suc, add-one, drop, drop-cons, get_or, length, ℕ, Bool, true, false, cond, T, List, [], ◌∷◌, ◌++◌, map, filter, refl, ap, sym, eq-eqb, arith}
 use Rattle.std.specs.Prelude.{Option, Some, None, is_some}
 use Rattle.std.proofs.lemmas.Bool.{false≢true}
 use Rattle.std.proofs.lemmas.Bool.Decides.{nat_tests}
 use Rattle.std.proofs.lemmas.List.{drop_all}
-use Rattle.std.specs.List.{list_any}
 use Rattle.std.specs.Cmp.{eq_by_cmp_equiv, nat_cmp_total}
 use Rattle.std.specs.FinMap as fin
 use Rattle.std.specs.FinMap.Entries.{find-put, find-where_key, is_sorted-put, is_sorted-where_key, same_entries}
 use Rattle.std.specs.Ordering.{eq_by_cmp, nat_cmp}
-use Rattle.std.specs.declared.cmp.Ordering.TheVariants.{Equal}
 use Rattle.gs_base.specs.Members.{is_member}
 use Rattle.gs_edit.proofs.References.{same-is}
 use Rattle.gs_tree.proofs.Levels.{never}

@@ -1,6 +1,6 @@
 -- A place that is kept: what the names are without it, given up, or gone back to.
 use Rattle.std.proofs.Common.{◌≡◌, ◌≢◌, ◌∙◌, ◌&&◌, ℕ, Bool, true, false, cond, not, [], ◌∷◌, ◌++◌, append-nil, refl, ap, subst, sym}
-use Rattle.std.specs.Prelude.{Option, Some, None, Result, Ok, Err, is_some, unwrap_or, MatchBool}
+use Rattle.std.specs.Prelude.{Option, Some, None, Ok, is_some, unwrap_or, MatchBool}
 use Rattle.std.specs.Cmp.Lexicographic.{pointwise}
 use Rattle.std.specs.FinMap as fin
 use Rattle.gs_edit.specs.Names.{NamesTakenBack}
@@ -11,7 +11,7 @@ use Rattle.gs_path.specs.Element.{is_hidden}
 use Rattle.gs_path.specs.Path.{Name, Path, path_total, begins, same_name}
 use Rattle.gs_tree.specs.Edits.{last, moved, parent, same_path}
 use Rattle.gs_tree.specs.Entry.{Entry}
-use Rattle.gs_tree.specs.Listing.{HasVisible, HasVisibleBut, is_visible_but}
+use Rattle.gs_tree.specs.Listing.{HasVisible, HasVisibleBut}
 use Rattle.gs_tree.specs.Places.{KeepsPlace, can_return, returned, without_place}
 use Rattle.gs_tree.specs.Plain.{Plain, after, part_at, rooted, without}
 use Rattle.gs_tree.specs.declared.inverse.TreeInverse.{TreeInverse}

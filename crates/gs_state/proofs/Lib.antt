@@ -13,7 +13,6 @@ pub mod Led
 pub mod Listed
 pub mod Lowered
 pub mod Mapping
-pub mod Nodes
 pub mod Opened
 pub mod Readings
 pub mod Recording

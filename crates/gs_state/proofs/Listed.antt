@@ -1,7 +1,7 @@
 -- What the tree lists is what its rows list.
-use Rattle.std.proofs.Common.{◌≡◌, ◌⊎◌, ◌∙◌, ℕ, ◌+◌, ◌==◌, ◌&&◌, ◌||◌, Bool, true, false, not, cond, List, [], ◌∷◌, ◌++◌, map, filter, length, length-append, refl, sym, ap, subst, inl, inr, T, arith}
+use Rattle.std.proofs.Common.{◌≡◌, ◌⊎◌, ◌∙◌, ℕ, ◌+◌, ◌==◌, ◌&&◌, ◌||◌, Bool, true, false, not, cond, List, [], ◌∷◌, ◌++◌, map, length, length-append, refl, sym, ap, subst, inl, inr, T, arith}
 use Rattle.std.proofs.lemmas.Bool.Decides.{nat_tests}
-use Rattle.std.specs.Prelude.{Option, Some, None, Result, Ok, Err, is_some, MatchBool}
+use Rattle.std.specs.Prelude.{Option, Some, None, Ok, Err, is_some, MatchBool}
 use Rattle.std.specs.declared.cmp.Ordering.TheVariants.{Less, Equal, Greater}
 use Rattle.std.specs.Ordering.{is_eq, is_lt, ordering_then}
 use Rattle.std.specs.Cmp.{IsEquivalence, eq_by_cmp_equiv, Equal-is}
@@ -25,7 +25,7 @@ use Rattle.gs_tree.proofs.Moves.{last-append}
 use Rattle.gs_msg.specs.declared.answer.Answer.{Answer}
 use Rattle.gs_msg.specs.declared.answer.Answer.TheVariants as answers
 use Rattle.gs_msg.specs.declared.lists.ListedName.{ListedName}
-use Rattle.gs_state.specs.Calls.{children, has_visible_child, is_hidden_at, listing, name_of_row, names_of_rows}
+use Rattle.gs_state.specs.Calls.{children, has_visible_child, is_hidden_at, listing, names_of_rows}
 use Rattle.gs_state.specs.Judging.{listed_name}
 
 -- ---- visible children as pairs

@@ -15,7 +15,7 @@ use Rattle.gs_base.specs.declared.numbers.Stamp.{Stamp}
 use Rattle.gs_lease.specs.Told.{told_of}
 use Rattle.gs_lease.specs.declared.lease.Lease.{Lease}
 use Rattle.gs_lease.specs.declared.view.View.{View}
-use Rattle.gs_lease_table.specs.Tallies.{AreReplicas, has_primary, members_of, replicas}
+use Rattle.gs_lease_table.specs.Tallies.{AreReplicas, members_of, replicas}
 use Rattle.gs_msg.specs.declared.body.Reported.{Reported}
 use Rattle.gs_path.specs.Element.{is_hidden}
 use Rattle.gs_tree.specs.Chunks.{all_chunks, visible_chunks_under, visible_under}

@@ -1,5 +1,5 @@
 -- What a whole checkpoint tells is what is read with its replies.
-use Rattle.std.proofs.Common.{◌≡◌, ◌⊎◌, ◌∙◌, inl, inr, List, ap, refl}
+use Rattle.std.proofs.Common.{◌≡◌, ◌∙◌, inl, inr, List, ap, refl}
 use Rattle.std.specs.FinMap as fin
 use Rattle.std.specs.Prelude.{Option, Some, None, Result, Ok, Err, option_map}
 use Rattle.gs_base.specs.declared.numbers.ClientId.{ClientId}

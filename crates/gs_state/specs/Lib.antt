@@ -24,7 +24,6 @@ pub mod Settling
 pub mod State
 pub mod Surveying
 pub mod TakingBack
-pub mod Texts
 pub mod ToldNumbers
 pub mod Tracked
 pub mod Trying

@@ -4,7 +4,7 @@ use Rattle.gs_base.specs.declared.refusal.Refusal.{Refusal}
 use Rattle.gs_base.specs.declared.refusal.Refusal.TheVariants as refusals
 use Rattle.gs_record.specs.Plain.{PlainEntry}
 use Rattle.gs_state.specs.Applied.{replayed}
-use Rattle.gs_state.specs.Durable.{Durable, start}
+use Rattle.gs_state.specs.Durable.{start}
 use Rattle.gs_state.specs.Recorded.{durable_of}
 use Rattle.gs_state.specs.declared.recorded.Recorded.{Recorded}
 

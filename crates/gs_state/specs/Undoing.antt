@@ -4,10 +4,10 @@ use Rattle.std.specs.Fmt.{digits}
 use Rattle.std.specs.List.{list_any}
 use Rattle.std.specs.FinMap as fin
 use Rattle.gs_base.specs.declared.refusal.Refusal.{Refusal}
-use Rattle.gs_path.specs.Path.{Path, text_cmp, begins}
+use Rattle.gs_path.specs.Path.{Path, begins}
 use Rattle.gs_path.specs.Element.{twenty_digits}
 use Rattle.gs_refs.specs.Counts.{Counts, taken_each, put_each}
-use Rattle.gs_tree.specs.Entry.{Entry, Dir, File, chunks_of, entry_of}
+use Rattle.gs_tree.specs.Entry.{Entry, Dir, File, entry_of}
 use Rattle.gs_tree.specs.Plain.{after}
 use Rattle.gs_tree.specs.Find.{Rows, at}
 use Rattle.gs_tree.specs.Edits.{same_path, parent, is_dir, stood, target_of, hidden_path, old_name, chunks_in}
@@ -22,6 +22,7 @@ use Rattle.gs_edit.specs.Edits.{named, with_counts}
 use Rattle.gs_edit.specs.Names.{accepted, counts_back}
 use Rattle.gs_edit.specs.View.{NamesView, names_of}
 use Rattle.gs_edit.specs.declared.edit.Edit.TheVariants as edits
+use Rattle.gs_text_order.specs.Order.{by_text}
 use Rattle.gs_record.specs.Plain.{PlainEdit, Mkdirs, Create, Rename, Hide, Unhide, Remove, AddChunk, Cow, Snapshot, Forget, PlainNode, PlainInverse, UndoMkdirs, UndoCreate, UndoRename, UndoHide, UndoUnhide, UndoRemove, UndoAddChunk, UndoCow, UndoSnapshot, UndoForget, plain_edit}
 use Rattle.std.specs.FinMap as fin
 use Rattle.gs_edit.specs.declared.edit.Edit.{Edit}
@@ -51,11 +52,6 @@ unfoldable pub edited_names : PlainEdit → NamesView → Result NamesView Refus
 edited_names edit names = names_from (named_plain edit (fin.entries names.tree) names.refs)
 
 -- ---- what takes an edit back
-
--- rows by the bytes of their paths' texts, so that a path stands before those under it
-abbrev pub by_text : Rows ℕ → List PlainNode
-by_text [] = []
-by_text (r ∷ rows) = fin.put text_cmp r.0 (chunks_of r.1) (by_text rows)
 
 -- the inverse of an edit of these rows, as a list
 abbrev pub inverse_of : PlainEdit → Rows ℕ → PlainInverse

@@ -22,7 +22,8 @@ use Rattle.gs_record.specs.declared.checkpoint.Reference.{Reference}
 use Rattle.gs_record.specs.declared.checkpoint.SettledEntry.{SettledEntry}
 use Rattle.gs_state.specs.Durable.{Settled, Durable, is_given, is_listed, is_ordinary, upgrade_epoch, has_its_primary, prepared_view}
 use Rattle.gs_state.specs.Replies.{outcome_of, told_result}
-use Rattle.gs_state.specs.Undoing.{by_text, rows_of_nodes, all_undone}
+use Rattle.gs_state.specs.Undoing.{rows_of_nodes, all_undone}
+use Rattle.gs_text_order.specs.Order.{by_text}
 use Rattle.gs_state.specs.declared.asking.Prepared.{Prepared}
 use Rattle.gs_state.specs.declared.reply.KeptReply.{KeptReply}
 

@@ -51,7 +51,7 @@ fn target_of(purpose: Purpose) -> Option<ServerId>
 }
 
 impl Asking {
-    ghost use Rattle.gs_state.specs.Chunks.{asking_for, is_target, hears, have_all_spoken, has_yes, heard_yes, heard_no, ends_copy, step_after, once_spoken, step_of_yes, step_of_target, step_of_no, step_at_tick, with_target, source_in};
+    ghost use Rattle.gs_state.specs.Chunks.{asking_for, is_target, hears, have_all_spoken, has_yes, heard_yes, heard_no, ends_copy, step_after, step_of_yes, step_of_no, step_at_tick, with_target, source_in};
 
     /// What is asked when a view is begun: nobody has answered yet.
     pub fn of(stamp: Stamp, purpose: Purpose, asked: Members, call: Option<ReqId>) -> Asking

@@ -11,7 +11,6 @@ ghost use Rattle.gs_state.specs.Whole.{checkpoint_of, prepared_entry, reference_
 use crate::copying::copied_inverses;
 use crate::recorded::Recorded;
 use crate::reply::KeptReply;
-use crate::texts::by_text;
 use gs_base::{ClientId, Handle, Refusal, ReqId};
 use gs_lease::{Lease, Told, View};
 use gs_msg::Answer;
@@ -19,6 +18,7 @@ use gs_record::{
     Checkpoint, Extended, Outcome, PreparedView, Reference, Reply, SettledEntry, SettledView,
 };
 use gs_refs::Refs;
+use gs_text_order::by_text;
 use std::alloc::{AllocError, Global};
 
 fn references(alloc: Global, refs: &Refs) -> Result<Vec<Reference>, AllocError>

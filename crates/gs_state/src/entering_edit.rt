@@ -2,9 +2,6 @@
 ghost use Rattle.std.specs.Prelude.{◌≡◌, ◌<◌, ◌≤◌, ◌+◌, ◌++◌, true, false, [], ◌∷◌, map, length, IfOk, IfErr, vec_len, vec_capacity};
 ghost use Rattle.std.specs.Ordering.{nat_cmp};
 ghost use Rattle.gs_edit.specs.Edits.{Applies};
-ghost use Rattle.gs_edit.specs.Listed.{is_of_kind, kind_of};
-ghost use Rattle.gs_edit.specs.Names.{takes_memory};
-ghost use Rattle.gs_edit.specs.declared.edit.Inverse.{Inverse};
 ghost use Rattle.gs_record.specs.Plain as entries;
 ghost use Rattle.gs_record.specs.Plain.{plain_edit, plain_inverse};
 ghost use Rattle.gs_table.specs.Slots.{HasRoom, KeepsRoom, live, set_live};

@@ -11,10 +11,10 @@ ghost use Rattle.gs_state.specs.Undoing.{inverse_of};
 use crate::held_names::HeldNames;
 use crate::recorded::Recorded;
 use crate::reverting::{renamed_back, taken_back};
-use crate::texts::by_text;
 use gs_edit::{Edit, ListedInverse};
 use gs_path::Path;
 use gs_record::Phase;
+use gs_text_order::by_text;
 use gs_tree::made_paths;
 use std::alloc::{AllocError, Global};
 

@@ -50,7 +50,6 @@ mod settling;
 mod stacking;
 pub mod taking_back;
 mod telling;
-mod texts;
 mod tidying;
 mod told_answers;
 pub mod tracked;

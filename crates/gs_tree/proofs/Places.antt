@@ -1,17 +1,17 @@
 -- A place that is kept, given up, or gone back to.
-use Rattle.std.proofs.Common.{ℕ, Bool, ◌≡◌, ◌≢◌, ◌&&◌, true, false, cond, not, [], ◌∷◌, ◌++◌, refl, sym, ap, ◌∙◌, subst, append-nil}
-use Rattle.std.specs.Prelude.{Option, Some, None, Result, Ok, Err, IfOk, is_some}
+use Rattle.std.proofs.Common.{ℕ, Bool, ◌≡◌, ◌≢◌, ◌&&◌, true, false, cond, not, [], ◌∷◌, ◌++◌, refl, sym, ap, ◌∙◌, subst}
+use Rattle.std.specs.Prelude.{Some, None, Result, Ok, Err, IfOk, is_some}
 use Rattle.gs_base.specs.declared.refusal.Refusal.{Refusal}
 use Rattle.gs_path.specs.Path.{Path, begins}
 use Rattle.gs_tree.specs.Entry.{Dir}
-use Rattle.gs_tree.specs.Plain.{Plain, IsFree, after, rooted, with_at, without, part_at}
-use Rattle.gs_tree.specs.Edits.{moved, same_path}
+use Rattle.gs_tree.specs.Plain.{Plain, IsFree, after, with_at, without}
+use Rattle.gs_tree.specs.Edits.{moved}
 use Rattle.gs_tree.specs.Inverses.{TakesBack}
 use Rattle.gs_tree.specs.Follows.{Follows}
 use Rattle.gs_tree.specs.Places.{KeepsPlace, given_up, without_place, can_return, returned}
 use Rattle.gs_tree.specs.declared.inverse.TreeInverse.{TreeInverse}
 use Rattle.gs_tree.specs.declared.inverse.TreeInverse.TheVariants.{Made, Moved, Removed, Added, Changed, Copied}
-use Rattle.gs_tree.proofs.Laws.{landed, not_above, begins_either, begins_append, with_at-append}
+use Rattle.gs_tree.proofs.Laws.{landed, not_above, begins_either}
 use Rattle.gs_tree.proofs.Splice.{begins_parts}
 
 -- a node that was put at its target has gone from its place, where what replaced it still stands

@@ -1,5 +1,5 @@
 -- An empty directory that keeps the place of what was moved, until the move stands or is taken back.
-use Rattle.std.specs.Prelude.{◌≡◌, ◌≢◌, ◌&&◌, ℕ, Bool, not, cond, [], Result, Ok, Err, is_some}
+use Rattle.std.specs.Prelude.{◌≢◌, ◌&&◌, ℕ, Bool, not, cond, [], Result, Ok, Err, is_some}
 use Rattle.gs_base.specs.declared.refusal.Refusal.{Refusal}
 use Rattle.gs_path.specs.Path.{Path, begins}
 use Rattle.gs_tree.specs.Plain.{Plain, Same, rooted, part_at, without}

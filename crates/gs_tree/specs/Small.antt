@@ -10,7 +10,8 @@ use Rattle.gs_tree.specs.Plain.{Plain}
 use Rattle.gs_tree.specs.Find.{Rows, at, is_too_deep, is_copied_too_deep}
 use Rattle.gs_tree.specs.Edits.{mkdirs, create, rename, hide, unhide, remove, add_chunk, set_chunk, snapshot, stood}
 use Rattle.gs_tree.specs.Inverses.{after_undo}
-use Rattle.gs_tree.specs.Listing.{shown}
+use Rattle.gs_tree.specs.Listing.{shown, is_visible_but}
+use Rattle.gs_tree.specs.Places.{given_up, returned, without_place}
 use Rattle.gs_tree.specs.declared.inverse.TreeInverse.TheVariants.{Made, Moved, Removed, Added}
 
 -- what an edit leaves at these paths
@@ -185,3 +186,31 @@ snapshot_to_64_elements = refl
 
 snapshot_to_65_elements : is_copied_too_deep {A = ℕ} ((f ∷ [], Dir) ∷ (f ∷ a ∷ [], Dir) ∷ []) (f ∷ []) (replicate 64 a) ≡ true
 snapshot_to_65_elements = refl
+
+-- b with a file in it, which stood at a, and the empty directory that keeps its place
+abbrev placed : Plain ℕ
+placed = at (([], Dir) ∷ (a ∷ [], Dir) ∷ (b ∷ [], Dir) ∷ (b ∷ f ∷ [], File (7 ∷ [])) ∷ [])
+
+place_given_up : map (given_up (Ok (Moved (a ∷ []) (b ∷ []))) placed) ((a ∷ []) ∷ (b ∷ []) ∷ (b ∷ f ∷ []) ∷ []) ≡ None ∷ Some Dir ∷ Some (File (7 ∷ [])) ∷ []
+place_given_up = refl
+
+no_place_of_a_refusal : map (given_up (Err NotFound) placed) ((a ∷ []) ∷ []) ≡ Some Dir ∷ []
+no_place_of_a_refusal = refl
+
+place_taken_out : map (without_place (b ∷ []) placed) ((a ∷ []) ∷ (b ∷ []) ∷ (b ∷ f ∷ []) ∷ []) ≡ Some Dir ∷ None ∷ None ∷ []
+place_taken_out = refl
+
+place_of_the_root : map (without_place [] placed) ([] ∷ (b ∷ f ∷ []) ∷ []) ≡ Some Dir ∷ Some (File (7 ∷ [])) ∷ []
+place_of_the_root = refl
+
+returned_to_its_place : map (returned (a ∷ []) (b ∷ []) placed) ((a ∷ []) ∷ (a ∷ f ∷ []) ∷ (b ∷ []) ∷ (b ∷ f ∷ []) ∷ []) ≡ Some Dir ∷ Some (File (7 ∷ [])) ∷ None ∷ None ∷ []
+returned_to_its_place = refl
+
+returned_to_no_place : map (returned (f ∷ []) (b ∷ []) placed) ((f ∷ []) ∷ (b ∷ f ∷ []) ∷ []) ≡ None ∷ Some (File (7 ∷ [])) ∷ []
+returned_to_no_place = refl
+
+returned_above_itself : map (returned (b ∷ []) (b ∷ f ∷ []) placed) ((b ∷ []) ∷ (b ∷ f ∷ []) ∷ []) ≡ Some Dir ∷ Some (File (7 ∷ [])) ∷ []
+returned_above_itself = refl
+
+other_names_are_visible : map (is_visible_but a) (a ∷ b ∷ hidden_f ∷ []) ≡ false ∷ true ∷ false ∷ []
+other_names_are_visible = refl

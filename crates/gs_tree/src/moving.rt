@@ -1,5 +1,5 @@
 //! What is moved: renamed, hidden, and taken out of hiding.
-ghost use Rattle.std.specs.Prelude.{◌≡◌, ◌≢◌, ◌⊎◌, ◌-◌, [], Bool, true, false, ℕ, Result, is_some, IfOk, OnOk, IfErr, MatchBool};
+ghost use Rattle.std.specs.Prelude.{◌≡◌, ◌≢◌, ◌⊎◌, ◌-◌, [], Bool, true, false, ℕ, Result, is_some, IfOk, OnOk, IfErr};
 ghost use Rattle.gs_path.specs.Path.{begins};
 ghost use Rattle.gs_tree.specs.Find.{at, DirsAbove, IsDepthTest};
 ghost use Rattle.gs_tree.specs.Places.{KeepsPlace, given_up, returned, without_place};

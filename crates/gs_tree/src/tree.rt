@@ -1,6 +1,6 @@
 ghost use Rattle.std.specs.Prelude.{◌≡◌, [], false, IfOk, IfErr, MatchBool, Some};
 ghost use Rattle.std.specs.FinMap as fin_map;
-ghost use Rattle.gs_path.specs.Path.{begins, text_cmp};
+ghost use Rattle.gs_path.specs.Path.{begins};
 ghost use Rattle.gs_tree.specs.Find.{at, is_too_deep, is_copied_too_deep};
 ghost use Rattle.gs_tree.specs.Places.{KeepsPlace, given_up, returned, without_place};
 ghost use Rattle.gs_tree.specs.Plain.{Same, part_at, rooted};
@@ -11,8 +11,7 @@ ghost use Rattle.gs_tree.specs.Follows.{Follows, Moves, Undoes};
 ghost use Rattle.gs_tree.specs.Listing.{HasVisible, HasVisibleBut, Lists, StandsAs};
 ghost use Rattle.gs_tree.specs.Chunks.{chunks_under, rows_under, visible_chunks_under};
 ghost use Rattle.std.specs.List.{list_all};
-ghost use Rattle.std.specs.List.Sorted.{IsPermutation, IsSortedByKey};
-ghost use Rattle.gs_tree.specs.Build.{rooted_rows, below_root, is_short, is_tree, rows_of_entries, path_of_entry, Builds};
+ghost use Rattle.gs_tree.specs.Build.{rooted_rows, is_short, is_tree, rows_of_entries, Builds};
 
 use crate::building::built;
 use crate::entry::TreeEntry;
@@ -24,7 +23,6 @@ use crate::moving::{give_up, give_up_place, hide_in, rename_in, return_to, unhid
 use crate::node::{Leaf, Listed, Node};
 use crate::removing::remove_in;
 use crate::snapshots::snapshot_in;
-use crate::texts::by_text;
 use crate::undoing::{drop_chunk, drop_copy, move_back, plant, reset_chunk, unmake};
 use gs_base::{Handle, Moment, Refusal};
 use gs_path::{Name, Path};
@@ -357,18 +355,6 @@ impl Tree {
             Some(node) => node.entries_by_path(alloc, path),
             None => Ok(Vec::new(alloc)),
         }
-    }
-
-    /// What stands, in the order of the bytes of the paths' texts, so that `/a.b` stands between `/a` and `/a/b`. It takes the
-    /// memory of the texts beside that of the entries.
-    pub fn entries_by_text(&self, alloc: Global) -> Result<Vec<TreeEntry>, AllocError>
-        ensures rows { IfOk result (λ listed. IsPermutation (below_root (fin_map.entries self.now)) (rows_of_entries listed.items)) }
-        ensures order { IfOk result (λ listed. IsSortedByKey path_of_entry text_cmp listed.items) }
-        ensures same { IfOk result (λ listed. Same (at (rooted_rows (rows_of_entries listed.items))) (fin_map.get self.now)) }
-        ensures tree { IfOk result (λ listed. list_all (λ r. is_short r.0) (fin_map.entries self.now) ≡ is_tree (rows_of_entries listed.items)) }
-    {
-        let entries = self.entries(alloc)?;
-        by_text(alloc, entries)
     }
 
     /// The tree of these entries, in any order, and the root. BadLine where they aren't those of a tree: no path may stand

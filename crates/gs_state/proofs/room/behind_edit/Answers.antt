@@ -1,4 +1,4 @@
-use Rattle.std.proofs.Common.{◌≡◌, ◌+◌, ◌*◌, ◌∙◌, rules, ap, refl, subst, sym, length}
+use Rattle.std.proofs.Common.{◌≡◌, ◌+◌, ◌*◌, ◌∙◌, rules, ap, subst, sym, length}
 use Rattle.std.specs.Prelude.{IfOk}
 use Rattle.gs_record.specs.Encoding.{edit}
 use Rattle.gs_record.specs.Plain.{plain_edit}

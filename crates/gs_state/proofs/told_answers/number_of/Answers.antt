@@ -1,4 +1,4 @@
-use Rattle.std.proofs.Common.{◌≡◌, ◌∙◌, ◌+◌, ◌*◌, ap, sym, arith}
+use Rattle.std.proofs.Common.{arith}
 use Rattle.std.specs.Char.{digit_value}
 use Rattle.gs_state.proofs.Digits.{all_read, too_many}
 use Rattle.gs_state.proofs.told_answers.number_of.Goals as goal

@@ -1,8 +1,7 @@
-use Rattle.std.proofs.Common.{◌≡◌, ◌++◌, true, ap, sym, ◌∙◌, ℕ, inl, inr}
+use Rattle.std.proofs.Common.{◌≡◌, ◌++◌, true, ap, sym, ◌∙◌, inl, inr}
 use Rattle.std.specs.Prelude.{is_some}
-use Rattle.gs_path.specs.Path.{Path}
 use Rattle.gs_tree.specs.Find.{at}
-use Rattle.gs_tree.specs.Plain.{Plain, with_at, without}
+use Rattle.gs_tree.specs.Plain.{with_at, without}
 use Rattle.gs_tree.specs.inner.Sort.{sort_of}
 use Rattle.gs_tree.specs.declared.node.Sort.TheVariants as sorts
 use Rattle.gs_tree.proofs.Moves.{stands_is}

@@ -9,7 +9,7 @@ use Rattle.gs_path.specs.Path.{Path}
 use Rattle.gs_tree.specs.declared.inverse.TreeInverse.{TreeInverse}
 use Rattle.gs_tree.specs.declared.inverse.TreeInverse.TheVariants.{Moved}
 use Rattle.gs_state.specs.Held.{HeldView, IsPlace, StandsBy, without_kept}
-use Rattle.gs_state.proofs.Keeping.{closed_at, place_at, returned_home}
+use Rattle.gs_state.proofs.Keeping.{closed_at, returned_home}
 use Rattle.gs_state.proofs.held_names.HeldNames.enter_move.Goals as goal
 
 -- names that stay the same stay so seen

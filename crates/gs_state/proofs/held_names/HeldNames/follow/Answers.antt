@@ -1,4 +1,4 @@
-use Rattle.std.proofs.Common.{◌≡◌, ◌∙◌, ap, subst, sym}
+use Rattle.std.proofs.Common.{◌≡◌, ap, subst, sym}
 use Rattle.gs_state.specs.Held.{HeldView, StandsBy, without_kept}
 use Rattle.gs_state.specs.TakingBack.{AreNamesBefore}
 use Rattle.gs_state.specs.declared.undo.NamesBefore.TheVariants.{Moved as MovedTo}

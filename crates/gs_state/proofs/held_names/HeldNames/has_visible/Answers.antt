@@ -1,7 +1,6 @@
 use Rattle.std.proofs.Common.{◌≡◌, ◌∙◌, ◌++◌, ◌∷◌, [], ap, subst, sym}
-use Rattle.std.specs.Prelude.{Option, MatchBool}
+use Rattle.std.specs.Prelude.{MatchBool}
 use Rattle.std.specs.FinMap.{get}
-use Rattle.gs_path.specs.Path.{Path}
 use Rattle.gs_edit.specs.View.{NamesView}
 use Rattle.gs_tree.specs.Listing.{HasVisible, HasVisibleBut}
 use Rattle.gs_tree.specs.Plain.{part_at}

@@ -1,7 +1,6 @@
-use Rattle.std.proofs.Common.{◌≡◌, ◌∷◌, ◌+◌, ◌-◌, ◌<◌, ◌∙◌, arith, ap, drop, length, map}
+use Rattle.std.proofs.Common.{◌≡◌, ◌∷◌, ◌+◌, ◌-◌, ◌∙◌, arith, ap, drop, map}
 use Rattle.std.specs.Prelude.{is_some}
 use Rattle.gs_record.specs.Plain.{plain}
-use Rattle.gs_state.specs.Room.{room_left}
 use Rattle.gs_state.specs.State.{size_of, size_of_all}
 use Rattle.gs_state.proofs.Behind.{counted_on, next_item, none_from, none_left, sizes_from, whole_left}
 use Rattle.gs_state.proofs.log.Log.fits.Goals as goal

@@ -1,4 +1,4 @@
-use Rattle.std.proofs.Common.{[], ap, ◌∙◌}
+use Rattle.std.proofs.Common.{ap, ◌∙◌}
 use Rattle.std.specs.FinMap as fin
 use Rattle.gs_tree.specs.Chunks.{visible_chunks_under}
 use Rattle.gs_state.specs.Recorded.{durable_of}

@@ -1,8 +1,8 @@
-use Rattle.std.proofs.Common.{ℕ, ◌≡◌, ◌∷◌, ◌++◌, [], false, cond, ap, sym, ◌∙◌, subst}
+use Rattle.std.proofs.Common.{ℕ, ◌≡◌, ◌∷◌, ◌++◌, [], false, ap, sym, ◌∙◌, subst}
 use Rattle.std.specs.Prelude.{Option, Some, None, is_some}
 use Rattle.gs_path.specs.Path.{Path}
 use Rattle.gs_tree.specs.Find.{Rows, at, IsPartAt}
-use Rattle.gs_tree.specs.Plain.{Plain, after, with_at}
+use Rattle.gs_tree.specs.Plain.{Plain, with_at}
 use Rattle.gs_tree.proofs.Laws.{put_back, with_same, with_at-append}
 use Rattle.gs_tree.proofs.node.Node.land.Goals as goal
 

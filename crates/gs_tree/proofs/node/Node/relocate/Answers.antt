@@ -1,10 +1,5 @@
-use Rattle.std.proofs.Common.{ℕ, Bool, ◌≡◌, true, false}
-use Rattle.std.specs.Prelude.{Ok, is_some}
-use Rattle.std.proofs.lemmas.Bool.{false≢true}
-use Rattle.gs_path.specs.Path.{Path, begins}
+use Rattle.std.proofs.Common.{false}
 use Rattle.gs_tree.specs.Find.{at}
-use Rattle.gs_tree.specs.Plain.{Plain, IsFree, with_at}
-use Rattle.gs_tree.specs.inner.Steps.{Lands, Relocates}
 use Rattle.gs_tree.proofs.Laws.{landed}
 use Rattle.gs_tree.proofs.Moves.{put_there}
 use Rattle.gs_tree.proofs.node.Node.relocate.Goals as goal

@@ -1,9 +1,8 @@
 use Rattle.std.proofs.Common.{◌≡◌, ◌++◌, List, length}
 use Rattle.gs_tree.specs.Build.{rows_of_entries}
 use Rattle.gs_tree.specs.declared.entry.TreeEntry.{TreeEntry}
-use Rattle.gs_state.specs.Texts.{nodes_of}
-use Rattle.gs_state.specs.Undoing.{by_text}
-use Rattle.gs_state.proofs.texts.by_text.Given as goal
+use Rattle.gs_text_order.specs.Order.{by_text, nodes_of}
+use Rattle.gs_text_order.proofs.by_text.Given as goal
 
 abbrev pub invariant-loop-entry : goal.invariant-loop-entry
 invariant-loop-entry l = (rest : List TreeEntry) × ((l.left.items ++ rest ≡ l.fn.entries.items) × (nodes_of l.nodes.entries ≡ by_text (rows_of_entries rest)))

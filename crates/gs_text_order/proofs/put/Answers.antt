@@ -1,9 +1,9 @@
 use Rattle.std.proofs.Common.{◌∙◌, ap}
 use Rattle.std.specs.FinMap as fin
 use Rattle.gs_path.specs.Path.{text_cmp}
-use Rattle.gs_state.specs.Texts.{nodes_of}
-use Rattle.gs_state.proofs.Nodes.{nodes_put}
-use Rattle.gs_state.proofs.texts.put.Goals as goal
+use Rattle.gs_text_order.specs.Order.{nodes_of}
+use Rattle.gs_text_order.proofs.Nodes.{nodes_put}
+use Rattle.gs_text_order.proofs.put.Goals as goal
 
 pub returns : goal.returns
 returns c =

@@ -1,4 +1,6 @@
-// Entries of a tree in the order of the bytes of their paths' texts.
+//! Entries of a tree in the order of the bytes of their paths' texts, as a checkpoint tells them.
+#![tactic(auto)]
+
 ghost use Rattle.std.specs.Prelude.{◌≡◌, IfOk, OnOk, map, refl};
 ghost use Rattle.std.specs.Cmp.{partial_order_from_total, eq_by_cmp_equiv, partial_equiv_from_equiv};
 ghost use Rattle.std.specs.FinMap as fin;
@@ -7,8 +9,7 @@ ghost use Rattle.gs_path.specs.Path.{text_cmp};
 ghost use Rattle.gs_record.specs.Plain.{plain_node};
 ghost use Rattle.gs_tree.specs.Build.{kind_of_entry, path_of_entry, rows_of_entries};
 ghost use Rattle.gs_tree.specs.Entry.{chunks_of};
-ghost use Rattle.gs_state.specs.Texts.{nodes_of, plain_chunks, text_total};
-ghost use Rattle.gs_state.specs.Undoing.{by_text};
+ghost use Rattle.gs_text_order.specs.Order.{by_text, nodes_of, plain_chunks, text_total};
 
 use gs_base::Handle;
 use gs_path::Path;

@@ -12,8 +12,7 @@ use Rattle.gs_record.specs.Plain.{PlainNode}
 use Rattle.gs_tree.specs.Build.{kind_of_entry, path_of_entry, rows_of_entries}
 use Rattle.gs_tree.specs.Entry.{chunks_of}
 use Rattle.gs_tree.specs.declared.entry.TreeEntry.{TreeEntry}
-use Rattle.gs_state.specs.Texts.{nodes_of, plain_chunks}
-use Rattle.gs_state.specs.Undoing.{by_text}
+use Rattle.gs_text_order.specs.Order.{by_text, nodes_of, plain_chunks}
 
 -- a tree map's insert puts a node
 pub nodes_put : (es : List (Path × Option (Vec ℕ Global))) (p : Path) (chunks : Option (Vec ℕ Global)) → nodes_of (insert_entry text_cmp es p chunks) ≡ fin.put text_cmp p (plain_chunks chunks) (nodes_of es)
