@@ -1,4 +1,4 @@
-ghost use Rattle.std.specs.Prelude.{◌≡◌, ◌<◌, ◌≤◌, ℕ, ◌↔◌, IsSome, IfSome, IfOk, IfErr};
+ghost use Rattle.std.specs.Prelude.{◌≡◌, ◌<◌, ◌≤◌, ℕ, ◌↔◌, IsSome, IfSome, IfOk};
 ghost use Rattle.gs_base.specs.Numbers.{IsNext, stamp_text};
 
 use crate::refusal::Refusal;

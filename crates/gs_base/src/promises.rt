@@ -1,6 +1,6 @@
 //! What holds of all refusals and stamps.
 
-ghost use Rattle.std.specs.Prelude.{◌≡◌, ◌↔◌, ◌⊎◌, IsTrue, true, false};
+ghost use Rattle.std.specs.Prelude.{◌≡◌, ◌↔◌, IsTrue, true, false};
 ghost use Rattle.gs_base.specs.Refusals.{number_of};
 ghost use Rattle.gs_base.specs.Stamps.{is_before};
 ghost use Rattle.gs_base.specs.Told.{detail_text, IsRefusal};

@@ -1,4 +1,4 @@
-ghost use Rattle.std.specs.Prelude.{true, [], ◌≡◌, ◌≤◌, ◌<◌, ◌+◌, ◌-◌, ◌*◌, ◌/◌, List, ℕ, Bool, IfOk, IsTrue, length, map, min, not, replicate, is_some, Option, Some, None, Ok, slice_index_or};
+ghost use Rattle.std.specs.Prelude.{true, [], ◌≡◌, ◌≤◌, ◌<◌, ◌+◌, ◌-◌, ◌*◌, ◌/◌, List, ℕ, IfOk, IsTrue, length, map, min, not, replicate, is_some, Option, Some, None, Ok, slice_index_or};
 ghost use Rattle.gs_block.specs.Stored.{Stored, count_of, is_intact, first_damaged};
 ghost use Rattle.sha2.specs.Sha256.{sha256};
 ghost use Rattle.gs_block.specs.Inverses as inverses;

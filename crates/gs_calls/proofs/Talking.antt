@@ -1,5 +1,5 @@
 -- Lines, as calls one after another.
-use Rattle.std.proofs.Common.{◌≡◌, ◌≢◌, ◌∷◌, ℕ, Option, Some, None, Result, Ok, Err, refl, sym, ap, subst, ◌∙◌, inl, inr}
+use Rattle.std.proofs.Common.{◌≡◌, ℕ, Option, Result, Ok, Err, refl, sym, ap, subst, ◌∙◌, inl, inr}
 use Rattle.gs_base.specs.declared.numbers.ReqId.{ReqId}
 use Rattle.gs_base.specs.declared.refusal.Refusal.{Refusal}
 use Rattle.gs_base.specs.declared.refusal.Refusal.TheVariants as refusals
@@ -12,7 +12,7 @@ use Rattle.gs_client.specs.Trees.{Call}
 use Rattle.gs_client.specs.declared.client.Client.{Client}
 use Rattle.gs_client.specs.declared.link.Reply.{Reply}
 use Rattle.gs_dialogue.proofs.Talks.{follows_both, follows_none, follows_said}
-use Rattle.gs_dialogue.specs.Dialogues.{Ask, Follows, Grow, Say, both, upon}
+use Rattle.gs_dialogue.specs.Dialogues.{Ask, Follows, Grow, Say, upon}
 use Rattle.gs_msg.specs.declared.event.Request.{Request}
 use Rattle.gs_path.specs.Path.{Path}
 use Rattle.gs_path.specs.Rules.{Gives}

@@ -5,7 +5,7 @@ ghost use Rattle.gs_client.specs.Sends.{Sends};
 ghost use Rattle.gs_client.specs.Trees.{and_then};
 ghost use Rattle.gs_client.specs.Replies.{length_in};
 ghost use Rattle.gs_part.specs.Reading.{span};
-ghost use Rattle.gs_client.specs.Reading.{within, length_call, end_call, stored_call, piece_bytes, pieces_call, read_call, digest_call, stat_of, stat_call};
+ghost use Rattle.gs_client.specs.Reading.{within, length_call, end_call, stored_call, pieces_call, read_call, digest_call, stat_call};
 
 use crate::client::Client;
 use crate::link::Link;

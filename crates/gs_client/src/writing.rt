@@ -1,5 +1,5 @@
 //! What is written to a file.
-ghost use Rattle.std.specs.Prelude.{◌≡◌, ◌≤◌, ◌<◌, ◌+◌, ◌-◌, ◌*◌, ◌/◌, false, length, IfOk, IfSome};
+ghost use Rattle.std.specs.Prelude.{◌≡◌, ◌≤◌, ◌<◌, ◌+◌, ◌-◌, ◌*◌, ◌/◌, length, IfSome};
 ghost use Rattle.gs_dialogue.specs.Dialogues.{Follows};
 ghost use Rattle.gs_client.specs.Sends.{Sends};
 ghost use Rattle.gs_client.specs.Edits.{Edits, with_edit};

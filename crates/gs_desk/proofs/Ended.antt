@@ -1,5 +1,5 @@
 -- What an event comes to, where it is done.
-use Rattle.std.proofs.Common.{◌≡◌, Ok, Option, Result, subst, sym}
+use Rattle.std.proofs.Common.{◌≡◌, Ok, Result, subst, sym}
 use Rattle.gs_base.specs.declared.refusal.Refusal.{Refusal}
 use Rattle.gs_master.specs.declared.turn.Turn.{Turn}
 use Rattle.gs_world.specs.Happenings.{met_by}

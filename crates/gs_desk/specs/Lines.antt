@@ -1,12 +1,10 @@
 -- What a line comes to at a desk: what its client asks, or what it does to nodes and messages.
-use Rattle.std.specs.Prelude.{◌≡◌, ◌≢◌, ◌⊎◌, ◌<◌, ◌-◌, ◌==◌, ℕ, Bool, true, false, min, nat_lt, List, [], ◌∷◌, length, Option, Some, None, MatchOption, Result, Ok, Err, slice_get, if◌then◌else◌}
-use Rattle.gs_base.specs.declared.numbers.Moment.{Moment}
+use Rattle.std.specs.Prelude.{◌≡◌, ◌⊎◌, ◌-◌, ◌==◌, ℕ, Bool, true, false, min, nat_lt, List, length, Option, None, MatchOption, Result, Ok, Err, slice_get, if◌then◌else◌}
 use Rattle.gs_base.specs.declared.refusal.Refusal.{Refusal}
 use Rattle.gs_base.specs.declared.refusal.Refusal.TheVariants as refusals
 use Rattle.gs_block.specs.Follows.{Does as DoesAtServer}
 use Rattle.gs_client.specs.Sends.{Sends as Asks}
 use Rattle.gs_base.specs.declared.numbers.ReqId.{ReqId}
-use Rattle.gs_client.specs.declared.client.Client.{Client}
 use Rattle.gs_client.specs.declared.link.Reply.{Reply}
 use Rattle.gs_msg.specs.declared.event.Request.{Request as Req}
 use Rattle.gs_lines.specs.Grammar.{Request}
@@ -14,7 +12,6 @@ use Rattle.gs_lines.specs.Grammar as lines
 use Rattle.gs_lines.specs.declared.command.Restarted.{Restarted}
 use Rattle.gs_lines.specs.declared.command.Restarted.TheVariants as restarted
 use Rattle.gs_master.specs.declared.turn.Turn.{Turn}
-use Rattle.gs_msg.specs.declared.kind.Kind.{Kind}
 use Rattle.gs_msg.specs.declared.message.Message.{Message}
 use Rattle.gs_server.specs.Servers as servers
 use Rattle.gs_world.specs.Happenings.{AtServer, Reopens}

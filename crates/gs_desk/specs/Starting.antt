@@ -1,7 +1,6 @@
 -- A store over the disks of a journal.
 use Rattle.std.specs.Prelude.{◌≡◌, ℕ, false, List, [], None, Ok}
 use Rattle.gs_base.specs.declared.config.Config.{Config}
-use Rattle.gs_base.specs.declared.numbers.ClientId.{ClientId}
 use Rattle.gs_client.specs.declared.client.Client.{Client}
 use Rattle.gs_master.specs.declared.turn.Turn.{Turn}
 use Rattle.gs_world.specs.Happenings.{Opens}

@@ -1,12 +1,12 @@
 -- What is under way between the nodes of a store, and what becomes of it.
-use Rattle.std.specs.Prelude.{◌≡◌, ◌≢◌, ◌⊎◌, ◌+◌, ◌<◌, ℕ, zero, suc, Bool, true, false, min, List, [], ◌∷◌, ◌++◌, length, if◌then◌else◌, Option, Some, None, is_some, unwrap_or, MatchOption, Result, Ok, Err, Vec, refl}
+use Rattle.std.specs.Prelude.{◌≡◌, ◌⊎◌, ◌+◌, ℕ, zero, suc, Bool, true, false, min, List, [], ◌∷◌, ◌++◌, length, if◌then◌else◌, Option, Some, None, is_some, unwrap_or, MatchOption, Result, Ok, Err, Vec, refl}
 use Rattle.std.specs.declared.alloc.Global.{Global}
 use Rattle.gs_base.specs.declared.numbers.ClientId.{ClientId}
 use Rattle.gs_base.specs.declared.numbers.Moment.{Moment}
 use Rattle.gs_base.specs.declared.numbers.ReqId.{ReqId}
 use Rattle.gs_base.specs.declared.refusal.Refusal.{Refusal}
 use Rattle.gs_base.specs.declared.refusal.Refusal.TheVariants as refusals
-use Rattle.gs_client.specs.Nodes.{Node, given_up}
+use Rattle.gs_client.specs.Nodes.{given_up}
 use Rattle.gs_client.specs.declared.link.Reply.{Reply}
 use Rattle.gs_client.specs.declared.link.Reply.TheVariants as replies
 use Rattle.gs_master.specs.declared.turn.Turn.{Turn}
@@ -18,7 +18,7 @@ use Rattle.gs_msg.specs.declared.kind.Kind.{Kind}
 use Rattle.gs_msg.specs.declared.kind.Kind.TheVariants as kinds
 use Rattle.gs_msg.specs.declared.message.Message.{Message}
 use Rattle.gs_server.specs.Servers as servers
-use Rattle.gs_world.specs.Happenings.{AtClient, AtServer, ClientAsks, Delivers, MasterTicks, Reopens, ServerDoes, client_in, met_by}
+use Rattle.gs_world.specs.Happenings.{AtClient, AtServer, ClientAsks, Delivers, MasterTicks, ServerDoes, client_in, met_by}
 use Rattle.gs_world.specs.Nodes.{Nodes, nodes_of, with_master}
 use Rattle.gs_world.specs.declared.place.MasterPlace.{MasterPlace}
 use Rattle.gs_desk.specs.declared.wire.Wire.{Wire}

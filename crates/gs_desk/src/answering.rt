@@ -1,5 +1,5 @@
 // The answers to lines.
-ghost use Rattle.std.specs.Prelude.{◌≡◌, IfOk, OnErr, string_bytes};
+ghost use Rattle.std.specs.Prelude.{IfOk, OnErr, string_bytes};
 ghost use Rattle.gs_desk.specs.Answering.{AnswersText};
 ghost use Rattle.gs_script.specs.Run.{memory_text};
 

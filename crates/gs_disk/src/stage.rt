@@ -1,5 +1,5 @@
 // The steps that change a disk, each on the disk before it ends.
-ghost use Rattle.std.specs.Prelude.{◌≡◌, ◌⊎◌, ◌≤◌, ◌<◌, ◌^◌, ◌+◌, ◌++◌, [], ◌∷◌, List, ℕ, length, take, OnOk};
+ghost use Rattle.std.specs.Prelude.{◌≡◌, ◌≤◌, ◌<◌, ◌^◌, ◌+◌, ◌++◌, [], ◌∷◌, List, ℕ, length, take, OnOk};
 ghost use Rattle.gs_disk.specs.Stage.{IsClosing, IsOpening, IsRewriting, LeavesOnly};
 ghost use Rattle.gs_disk.specs.Disk.{Only, Torn, Cut, Holds, HasCause};
 

@@ -1,6 +1,5 @@
 // The form of each kind's body.
-ghost use Rattle.std.specs.Prelude.{◌≡◌, ◌*◌, ◌≤◌, ◌<◌, ◌^◌, length};
-ghost use Rattle.byteorder.specs.Endian.{big_number};
+ghost use Rattle.std.specs.Prelude.{◌≡◌, ◌*◌, ◌<◌, ◌^◌};
 ghost use Rattle.gs_journal.specs.Reading as reading;
 ghost use Rattle.gs_journal.specs.Bodies as bodies;
 ghost use Rattle.gs_journal.specs.inner.Items.{passes, part_of};

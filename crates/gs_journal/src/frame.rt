@@ -1,5 +1,5 @@
 // Headers and records as they stand on a disk.
-ghost use Rattle.std.specs.Prelude.{◌≡◌, ◌==◌, ◌≤◌, ◌<◌, ◌^◌, length, true, IfSome, IfOk, IfErr, is_some};
+ghost use Rattle.std.specs.Prelude.{◌≡◌, ◌≤◌, ◌<◌, ◌^◌, length, true, IfSome, IfOk, IfErr, is_some};
 ghost use Rattle.gs_base.specs.declared.refusal.Refusal.TheVariants.{Memory};
 ghost use Rattle.gs_journal.specs.Records.{header_length, records_of};
 ghost use Rattle.gs_journal.specs.Forms.{are_of_form};

@@ -1,5 +1,5 @@
 // A disk in memory.
-ghost use Rattle.std.specs.Prelude.{◌≡◌, ◌⊎◌, ◌≤◌, ℕ, List, [], ◌∷◌, ◌++◌, length, take, drop, OnOk, OnErr, refl};
+ghost use Rattle.std.specs.Prelude.{◌≡◌, ◌⊎◌, ◌≤◌, length, drop, OnOk, OnErr, refl};
 ghost use Rattle.std.proofs.Common.{inl};
 ghost use Rattle.gs_journal.specs.inner.History.{contents, failures_of};
 ghost use Rattle.gs_journal.specs.inner.Past.{HeldSince, only_bytes};

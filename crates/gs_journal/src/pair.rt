@@ -1,5 +1,5 @@
 // Two disks, of which one counts.
-ghost use Rattle.std.specs.Prelude.{◌≡◌, ◌<◌, ◌≤◌, ◌^◌, ◌+◌, ◌++◌, [], ◌∷◌, OnOk, IfOk};
+ghost use Rattle.std.specs.Prelude.{◌≡◌, ◌<◌, ◌^◌, ◌+◌, ◌++◌, [], ◌∷◌, OnOk, IfOk};
 ghost use Rattle.gs_disk.specs.Disk.{HasCause, LeavesPairs};
 ghost use Rattle.gs_journal.specs.Records.{frame, header, header_length, standing};
 ghost use Rattle.gs_journal.specs.Journal.{record_size, with_record, IsWithOrWithout, IsOldOrNew};

@@ -23,7 +23,7 @@ impl Drop for Record {
 }
 
 impl Model for Record {
-    ghost use Rattle.std.specs.Prelude.{◌≡◌, ◌<◌, ◌^◌, ◌++◌, [], ◌∷◌, List, ℕ, length};
+    ghost use Rattle.std.specs.Prelude.{◌≡◌, ◌<◌, ◌^◌, ◌++◌, [], ◌∷◌, length};
     ghost use Rattle.gs_journal.specs.Records.{Entry, frame, entry_of};
 
     ghost Value = { Entry };
@@ -43,7 +43,7 @@ fn put_front(bytes: &mut [u8], front: &[u8])
 
 impl Record {
     ghost use Rattle.gs_journal.specs.Records.{frame};
-    ghost use Rattle.std.specs.Prelude.{◌++◌, [], ◌∷◌, take, drop, slice_index};
+    ghost use Rattle.std.specs.Prelude.{◌++◌, [], ◌∷◌, drop};
 
     /// A record of this kind and body. It refuses `Memory` alone.
     pub fn new(alloc: Global, kind: u8, body: &[u8]) -> Result<Record, Refusal>

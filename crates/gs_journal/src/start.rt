@@ -1,5 +1,5 @@
 // How two disks are opened.
-ghost use Rattle.std.specs.Prelude.{◌≡◌, ◌≢◌, ◌+◌, ◌++◌, ◌∷◌, ◌<◌, ◌^◌, [], true, false, IfOk, IfErr, OnOk, List, ℕ};
+ghost use Rattle.std.specs.Prelude.{◌≡◌, ◌≢◌, ◌+◌, ◌++◌, ◌∷◌, ◌<◌, [], true, false, IfOk, IfErr, OnOk, List, ℕ};
 ghost use Rattle.gs_base.specs.declared.refusal.Refusal.TheVariants.{Device, Memory};
 ghost use Rattle.gs_disk.specs.Disk.{Only, LeavesPairs};
 ghost use Rattle.gs_journal.specs.Records.{generation_standing, header, is_begun, second_counts, standing};

@@ -1,6 +1,6 @@
 //! What holds of every chunk, whatever it goes through.
 
-ghost use Rattle.std.specs.Prelude.{◌≡◌, ℕ, List, Option, Some, None, false};
+ghost use Rattle.std.specs.Prelude.{◌≡◌, ℕ, List, Option, Some, false};
 ghost use Rattle.gs_base.specs.declared.numbers.Moment.{Moment};
 ghost use Rattle.gs_base.specs.declared.numbers.Stamp.{Stamp};
 ghost use Rattle.gs_lease.specs.declared.view.View.{View};
@@ -10,7 +10,7 @@ ghost use Rattle.gs_lease.specs.declared.view.Purpose.{Purpose};
 ghost use Rattle.gs_lease.specs.declared.lease.Lease.{Lease};
 ghost use Rattle.gs_lease.specs.declared.lease.Lease.TheVariants as leases;
 ghost use Rattle.gs_lease.specs.declared.lease.Settled.TheVariants as settlings;
-ghost use Rattle.gs_lease.specs.Transitions.{begun, begun_new, begun_again, settled_view, settled_on, lease_of, is_for_lease, restored};
+ghost use Rattle.gs_lease.specs.Transitions.{begun, begun_new, begun_again, settled_view, settled_on, lease_of, is_for_lease};
 ghost use Rattle.gs_lease.specs.Views.{as_view, without_term};
 ghost use Rattle.gs_lease.specs.Told.{nothing_told, after_proposal, after_settling, told_of, chunk_told};
 

@@ -1,4 +1,4 @@
-ghost use Rattle.std.specs.Prelude.{◌≡◌, ◌↔◌, ◌∷◌, [], IsTrue, ◌++◌, ◌-◌, ◌<◌, ◌≤◌, OnOk, OnErr, IfOk, length, map, take};
+ghost use Rattle.std.specs.Prelude.{◌≡◌, ◌↔◌, ◌∷◌, [], IsTrue, ◌++◌, ◌-◌, ◌<◌, OnOk, OnErr, IfOk, length, map, take};
 ghost use Rattle.gs_lock.specs.Operations.{same_op};
 ghost use Rattle.std.specs.List.{list_any};
 ghost use Rattle.gs_path.specs.Path.{begins};

@@ -1,10 +1,9 @@
 -- What an event that was begun anew goes on from, it went on from before.
-use Rattle.std.proofs.Common.{◌≡◌, inl, inr, ◌∙◌, ℕ, true, false, List, [], ◌∷◌, ◌++◌, length, take, refl, ap, subst, sym}
-use Rattle.std.specs.Prelude.{map, fold, Some, None, Result, Ok, Err}
+use Rattle.std.proofs.Common.{◌≡◌, inl, inr, ◌∙◌, true, false, List, [], ◌∷◌, ◌++◌, length, take, refl, ap, subst, sym}
+use Rattle.std.specs.Prelude.{map, fold, Result, Ok, Err}
 use Rattle.std.specs.Ordering.{nat_cmp}
 use Rattle.gs_table.specs.Slots.{live}
 use Rattle.gs_base.specs.declared.refusal.Refusal.{Refusal}
-use Rattle.gs_msg.specs.declared.message.Message.{Message}
 use Rattle.gs_journal.specs.declared.version.Version.TheVariants.{Two}
 use Rattle.gs_record.specs.Encoding.{encoded}
 use Rattle.gs_record.specs.Plain.{PlainEntry, plain}

@@ -1,7 +1,6 @@
 -- That an event which is ended is finished: its turn is done or cut, or nothing has happened.
-use Rattle.std.proofs.Common.{◌≡◌, ◌⊎◌, inl, inr, ◌∙◌, ◌≤◌, ℕ, List, [], ◌++◌, map, refl, ap, subst, sym}
-use Rattle.std.specs.Prelude.{None, Option, Result, Ok, Err, Some}
-use Rattle.std.specs.Ordering.{nat_cmp}
+use Rattle.std.proofs.Common.{◌≡◌, ◌⊎◌, inl, inr, ◌∙◌, ◌≤◌, ℕ, List, [], ◌++◌, map, ap, subst, sym}
+use Rattle.std.specs.Prelude.{None, Option, Some}
 use Rattle.gs_base.specs.declared.numbers.ReqId.{ReqId}
 use Rattle.gs_base.specs.declared.refusal.Refusal.{Refusal}
 use Rattle.gs_base.specs.declared.refusal.Refusal.TheVariants as refusals
@@ -11,16 +10,16 @@ use Rattle.gs_record.specs.Encoding.{encoded}
 use Rattle.gs_record.specs.Plain.{plain}
 use Rattle.gs_state.specs.Durable.{Durable}
 use Rattle.gs_master.specs.Events.{HasComeFrom}
-use Rattle.gs_master.specs.Finishing.{Finishes, IsAtRest, IsCutShort, IsFinished}
+use Rattle.gs_master.specs.Finishing.{IsAtRest, IsCutShort, IsFinished}
 use Rattle.gs_master.specs.Journaled.{AreCut, AreWritten, Breaks, Gains, IsLogOf, IsOver, stood_before}
 use Rattle.gs_master.specs.Renewing.{AreCutAnew, AreRenewed}
 use Rattle.gs_state.specs.Plans.{fault_of, log_of}
 use Rattle.gs_state.specs.Recorded.{durable_of}
-use Rattle.gs_master.specs.StartingOver.{BeginsAt, IsBegun, StartsOver}
+use Rattle.gs_master.specs.StartingOver.{BeginsAt, StartsOver}
 use Rattle.gs_state.specs.State.{Log, State, Turn}
 use Rattle.gs_state.specs.TakingBack.{RoomForAll}
 use Rattle.gs_state.specs.Tracked.{NowAndBefore}
-use Rattle.gs_master.specs.Turns.{GoesBack, IsTurned, IsUnderWay, Steps, WhyNotTurned, state_at}
+use Rattle.gs_master.specs.Turns.{GoesBack, IsTurned, IsUnderWay, state_at}
 use Rattle.gs_master.specs.declared.event.Event.{Event}
 use Rattle.gs_master.specs.declared.starting_over.Beginning.{Beginning}
 use Rattle.gs_master.specs.declared.turn.Turn.{Turn as Told}

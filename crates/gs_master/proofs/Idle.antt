@@ -1,6 +1,6 @@
 -- Once a disk has failed, no event records anything.
-use Rattle.std.proofs.Common.{◌≡◌, ◌∙◌, Bool, true, false, [], refl, ap}
-use Rattle.std.specs.Prelude.{Some, if◌then◌else◌}
+use Rattle.std.proofs.Common.{◌≡◌, Bool, true, false, [], refl, ap}
+use Rattle.std.specs.Prelude.{if◌then◌else◌}
 use Rattle.gs_base.specs.declared.config.Config.{Config}
 use Rattle.gs_base.specs.declared.numbers.Moment.{Moment}
 use Rattle.gs_base.specs.declared.numbers.ReqId.{ReqId}
@@ -13,8 +13,8 @@ use Rattle.gs_msg.specs.declared.node.NodeId.{NodeId}
 use Rattle.gs_msg.specs.declared.node.NodeId.TheVariants as nodes
 use Rattle.gs_state.specs.Calls.{is_locked, ordered}
 use Rattle.gs_state.specs.Durable.{is_rolling}
-use Rattle.gs_state.specs.Handling.{Numbered, New, Again, Older, call_turn, called_unless, from_client, from_node, handle, numbered, replied_again, server_turn, taken_as, waits_still}
-use Rattle.gs_state.specs.State.{State, Turn, first_of, is_failed, is_unopened, last_reply, met_by, unmoved}
+use Rattle.gs_state.specs.Handling.{Numbered, New, Again, Older, call_turn, called_unless, from_client, from_node, handle, numbered, server_turn, taken_as}
+use Rattle.gs_state.specs.State.{State, Turn, first_of, is_failed, is_unopened, last_reply, met_by}
 use Rattle.gs_state.specs.Volatile.{is_pending}
 
 either : (b : Bool) (t u : Turn) → t.records ≡ [] → u.records ≡ [] → (if b then t else u).records ≡ []

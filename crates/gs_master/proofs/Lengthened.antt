@@ -1,6 +1,6 @@
 -- What a call comes to where its tests have passed.
-use Rattle.std.proofs.Common.{◌≡◌, ◌∙◌, ◌<◌, ◌≤◌, ◌||◌, ◌&&◌, ℕ, Bool, true, false, not, cond, List, [], ◌∷◌, length, refl, ap, sym, subst}
-use Rattle.std.specs.Prelude.{Option, Some, None, is_some, is_none, Result, Ok, Err, nat_le, nat_lt, slice_get}
+use Rattle.std.proofs.Common.{◌≡◌, ◌∙◌, ◌||◌, ◌&&◌, ℕ, Bool, true, false, not, cond, List, [], ◌∷◌, length, refl, ap, sym}
+use Rattle.std.specs.Prelude.{Option, Some, None, is_some, is_none, Ok, Err, nat_le, nat_lt}
 use Rattle.gs_base.specs.declared.config.Config.{Config}
 use Rattle.gs_base.specs.declared.numbers.ReqId.{ReqId}
 use Rattle.gs_base.specs.declared.refusal.Refusal.{Refusal}
@@ -15,10 +15,10 @@ use Rattle.std.proofs.lemmas.Bool.{ne_eqb}
 use Rattle.gs_tree.specs.Entry.{Entry, Dir, File}
 use Rattle.gs_state.specs.Beginning.{counted_views, targets_for}
 use Rattle.gs_state.specs.Calls.{answered_with, deleted, edited_by, found_chunk, has_visible_child, location, looked_up}
-use Rattle.gs_state.specs.Chunks.{Chunk, chunk_at, is_wanted, members_of}
+use Rattle.gs_state.specs.Chunks.{Chunk, is_wanted, members_of}
 use Rattle.gs_state.specs.Judging.{length_at}
-use Rattle.gs_state.specs.State.{State, Turn, refused}
-use Rattle.gs_state.specs.Working.{created_on, extended_at, extends, replicated_to, replicates_chunk}
+use Rattle.gs_state.specs.State.{State, refused}
+use Rattle.gs_state.specs.Working.{created_on, extends, replicated_to, replicates_chunk}
 
 -- a file has so many chunks
 found_file : (entry : Option (Entry ℕ)) (n : ℕ) → length_at entry ≡ Ok n → (chunks : List ℕ) × ((entry ≡ Some (File chunks)) × (length chunks ≡ n))

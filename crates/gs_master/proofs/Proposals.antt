@@ -5,7 +5,7 @@ use Rattle.std.specs.Prelude.{nat_le, if◌then◌else◌}
 use Rattle.gs_base.specs.declared.numbers.ReqId.{ReqId}
 use Rattle.gs_lease.specs.declared.view.Purpose.{Purpose}
 use Rattle.gs_lease.specs.declared.view.Purpose.TheVariants as purposes
-use Rattle.gs_record.specs.Plain.{PlainEntry, Propose}
+use Rattle.gs_record.specs.Plain.{Propose}
 use Rattle.gs_state.specs.Beginning.{all_begun, begun, has_versions}
 use Rattle.gs_state.specs.Hearing.{made_quiet}
 use Rattle.gs_state.specs.State.{State, Turn, fits, size_of, size_of_all, unmoved}

@@ -1,13 +1,13 @@
 -- What the records of a journal tell, and the master that it is then.
-use Rattle.std.proofs.Common.{◌≡◌, ◌⊎◌, inl, inr, ◌∙◌, ◌+◌, ◌≤◌, ◌<◌, ℕ, zero, suc, Bool, true, false, List, [], ◌∷◌, ◌++◌, map, length, drop, get_or, refl, ap, subst, sym, ◌==◌, arith}
+use Rattle.std.proofs.Common.{◌≡◌, ◌⊎◌, inl, inr, ◌∙◌, ◌+◌, ◌≤◌, ◌<◌, ℕ, zero, suc, Bool, true, false, List, [], ◌∷◌, map, length, ap, subst, sym, ◌==◌, arith}
 use Rattle.std.specs.Prelude.{Option, Some, None, Result, Ok, Err, is_some, if◌then◌else◌, ◌&&◌}
 use Rattle.std.specs.List.{AllByRecursion}
 use Rattle.std.proofs.lemmas.Bool.{false≢true}
-use Rattle.std.proofs.lemmas.List.{append-nil, append_assoc, length-map, map-append}
+use Rattle.std.proofs.lemmas.List.{append-nil, length-map}
 use Rattle.gs_base.specs.declared.config.Config.{Config}
 use Rattle.gs_base.specs.declared.refusal.Refusal.{Refusal}
 use Rattle.gs_base.specs.declared.refusal.Refusal.TheVariants as refusals
-use Rattle.gs_journal.specs.Journal.{State as Journal, Makes, Stands, Stays, checkpointed, counting, failures_of_both}
+use Rattle.gs_journal.specs.Journal.{State as Journal, Stands, Stays, checkpointed, counting, failures_of_both}
 use Rattle.gs_journal.specs.Records.{Entry as Record, Text, fresh, header_length, body_length, is_whole, entry_of, is_begun, second_counts, standing, text_of, records_behind as behind_gates}
 use Rattle.gs_journal.specs.declared.version.Version.{Version}
 use Rattle.gs_journal.specs.declared.version.Version.TheVariants as versions
@@ -23,7 +23,7 @@ use Rattle.gs_master.specs.Journaled.{IsLogOf}
 use Rattle.gs_state.specs.Plans.{log_of}
 use Rattle.gs_state.specs.Recorded.{durable_of}
 use Rattle.gs_guard.specs.Reading.{AreRecordsOf}
-use Rattle.gs_master.specs.Recovering.{BreaksOff, IsAnew, IsLeft, IsRecovered, IsRested, StaysOpen, Tells, Updates, WhyNotAnew, WhyNotRecovered, log_behind_last, log_in}
+use Rattle.gs_master.specs.Recovering.{IsAnew, IsLeft, IsRecovered, IsRested, StaysOpen, Tells, Updates, WhyNotRecovered, log_behind_last, log_in}
 use Rattle.gs_master.specs.Renewing.{AreCutAnew, AreRenewed, BreaksLast, Renews}
 use Rattle.gs_plan.specs.Renewable.{renewal_refusal}
 use Rattle.gs_master.specs.StartingOver.{IsBegun}

@@ -17,15 +17,15 @@ use Rattle.gs_state.specs.Applied.{replayed}
 use Rattle.gs_state.specs.Durable.{Durable}
 use Rattle.gs_master.specs.Events.{log_behind}
 use Rattle.gs_master.specs.Finishing.{FinishesAnew, IsAtRest, IsCutShortAnew, IsFinishedAnew, and_checkpoint}
-use Rattle.gs_state.specs.Handling.{checkpoint, checkpoint_body, checkpoint_tests, due, tick, tidied, unless_failed, written, written_if_due, written_unless}
-use Rattle.gs_master.specs.Journaled.{IsAsSeen, IsLogOf, IsOver, text_seen}
+use Rattle.gs_state.specs.Handling.{checkpoint, checkpoint_body, checkpoint_tests, due, tick, tidied, written, written_if_due, written_unless}
+use Rattle.gs_master.specs.Journaled.{IsAsSeen, IsLogOf, text_seen}
 use Rattle.gs_master.specs.Masters.{Answers, DoubtLeaves, Holds, IsAnswered, IsAnsweredUnsure, IsHeld, IsTold, MasterOf}
-use Rattle.gs_state.specs.Outcomes.{IsDone, cut}
+use Rattle.gs_state.specs.Outcomes.{cut}
 use Rattle.gs_state.specs.Plans.{fault_of, log_of}
 use Rattle.gs_state.specs.Recorded.{durable_of}
-use Rattle.gs_master.specs.Renewing.{AreCutAnew, AreRenewed, BreaksAnew, BreaksLast, IsCutAnew, IsRenewed, Renews}
+use Rattle.gs_master.specs.Renewing.{AreCutAnew, AreRenewed, BreaksAnew, BreaksLast, Renews}
 use Rattle.gs_plan.specs.Renewable.{refusal_beforehand, renewal_refusal}
-use Rattle.gs_state.specs.State.{Fault, Sound, Failed, Unopened, Log, State, Turn, first_of, first_said, is_failed, joined, met_by, unmoved, with_record}
+use Rattle.gs_state.specs.State.{Fault, Sound, Failed, Unopened, Log, State, Turn, first_of, first_said, is_failed, joined, met_by, unmoved}
 use Rattle.gs_master.specs.Ticking.{AnswersAs, AnswersCheckpoint, AnswersTick, IsAnsweredAnew, LeavesAnew, is_written, lacking, pressed_all}
 use Rattle.gs_master.specs.Turns.{GoesBack, IsTurned, state_at}
 use Rattle.gs_state.specs.Whole.{checkpoint_of}

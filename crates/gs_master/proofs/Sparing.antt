@@ -1,5 +1,5 @@
 -- Turns that refuse all calls that wait: what is said of these refusals leaves records only where there is room for them.
-use Rattle.std.proofs.Common.{◌≡◌, ◌∙◌, ℕ, ◌+◌, ◌*◌, ◌≤◌, Bool, true, false, List, [], ◌∷◌, ◌++◌, length, append-nil, Option, None, Some, Ok, Err, refl, ap, sym, subst}
+use Rattle.std.proofs.Common.{◌≡◌, ◌∙◌, ◌+◌, ◌*◌, ◌≤◌, Bool, true, List, [], ◌∷◌, ◌++◌, length, append-nil, None, Ok, Err, refl, ap, sym, subst}
 use Rattle.std.specs.Prelude.{fold, nat_le, not, Result, if◌then◌else◌}
 use Rattle.std.proofs.lemmas.List.Sums.{fold-append}
 use Rattle.gs_base.specs.declared.config.Config.{Config}

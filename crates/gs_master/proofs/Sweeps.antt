@@ -1,5 +1,5 @@
 -- What a scan does where its own records have room: what it refuses then leaves records only where there is room for them.
-use Rattle.std.proofs.Common.{◌≡◌, ◌⊎◌, inl, inr, ◌∙◌, ℕ, ◌&&◌, ◌||◌, Bool, true, false, List, [], ◌∷◌, ◌++◌, map, length, append-nil, refl, ap, sym, subst}
+use Rattle.std.proofs.Common.{◌≡◌, ◌⊎◌, inl, inr, ◌∙◌, ℕ, ◌&&◌, Bool, true, false, List, [], ◌∷◌, ◌++◌, map, length, append-nil, refl, ap, sym, subst}
 use Rattle.std.specs.Prelude.{fold, Result, Ok, Err, if◌then◌else◌}
 use Rattle.std.specs.List.{list_any}
 use Rattle.gs_base.specs.declared.numbers.ReqId.{ReqId}

@@ -7,7 +7,7 @@ use Rattle.std.proofs.lemmas.List.{map-append, take-append-drop, take-map}
 use Rattle.gs_base.specs.declared.config.Config.{Config}
 use Rattle.gs_base.specs.declared.numbers.ReqId.{ReqId}
 use Rattle.gs_base.specs.declared.refusal.Refusal.{Refusal}
-use Rattle.gs_journal.specs.Journal.{State as Journal, Stands, failures_of_both}
+use Rattle.gs_journal.specs.Journal.{State as Journal, failures_of_both}
 use Rattle.gs_journal.specs.Records.{Text}
 use Rattle.gs_journal.specs.declared.version.Version.TheVariants.{Two}
 use Rattle.gs_record.specs.Encoding.{encoded}
@@ -16,11 +16,11 @@ use Rattle.gs_record.specs.Writable.{IsEntry}
 use Rattle.gs_state.specs.Applied.{applied, replayed}
 use Rattle.gs_state.specs.Durable.{Durable}
 use Rattle.gs_master.specs.Events.{log_behind}
-use Rattle.gs_master.specs.Finishing.{Finishes, IsAtRest, IsCutShort, IsFinished}
+use Rattle.gs_master.specs.Finishing.{Finishes, IsCutShort, IsFinished}
 use Rattle.gs_master.specs.Journaled.{Breaks, Gains, IsAsSeen, IsLogOf, StandUpTo, text_seen}
 use Rattle.gs_master.specs.Masters.{Answers, DoubtLeaves, Holds, IsAnswered, IsAnsweredUnsure, IsHeld, IsTold, LeavesText, MasterOf}
 use Rattle.gs_state.specs.Recorded.{durable_of}
-use Rattle.gs_state.specs.State.{Fault, Sound, Failed, Unopened, Log, State, Turn, is_failed, with_record}
+use Rattle.gs_state.specs.State.{Fault, Sound, Failed, Unopened, Log, State, Turn, is_failed}
 use Rattle.gs_master.specs.Turns.{state_at}
 use Rattle.gs_master.specs.declared.event.Event.{Event}
 use Rattle.gs_master.specs.declared.turn.Turn.{Turn as Told}

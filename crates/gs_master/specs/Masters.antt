@@ -8,7 +8,6 @@ use Rattle.gs_base.specs.declared.refusal.Refusal.TheVariants as refusals
 use Rattle.gs_journal.specs.Journal.{State as Journal, Stands, failures_of_both}
 use Rattle.gs_journal.specs.Records.{Entry as Record, Text}
 use Rattle.gs_journal.specs.declared.version.Version.TheVariants.{Two}
-use Rattle.gs_msg.specs.declared.message.Message.{Message}
 use Rattle.gs_record.specs.Encoding.{encoded}
 use Rattle.gs_record.specs.Plain.{PlainEntry, Whole}
 use Rattle.gs_record.specs.Writable.{IsEntry}

@@ -1,7 +1,5 @@
 -- What the records of an open journal tell, and the master that it is from then on.
-use Rattle.std.specs.Prelude.{◌≡◌, ◌⊎◌, ◌<◌, ℕ, false, true, List, [], map, Some, None, Result, Ok, Err, refl}
-use Rattle.std.specs.List.{AllByRecursion}
-use Rattle.std.specs.Global.{Vec}
+use Rattle.std.specs.Prelude.{◌≡◌, ◌⊎◌, ◌<◌, ℕ, false, true, List, [], Some, None, Result, Ok, Err, refl}
 use Rattle.gs_base.specs.declared.config.Config.{Config}
 use Rattle.gs_base.specs.declared.refusal.Refusal.{Refusal}
 use Rattle.gs_base.specs.declared.refusal.Refusal.TheVariants as refusals
@@ -10,10 +8,7 @@ use Rattle.gs_guard.specs.Reading.{AreRecordsOf}
 use Rattle.gs_journal.specs.Records.{Text, fresh}
 use Rattle.gs_journal.specs.declared.version.Version.{Version}
 use Rattle.gs_journal.specs.declared.version.Version.TheVariants as versions
-use Rattle.gs_record.specs.Encoding.{encoded}
-use Rattle.gs_record.specs.Plain.{PlainEntry, plain}
-use Rattle.gs_record.specs.Writable.{IsEntry}
-use Rattle.gs_record.specs.declared.entry.Entry.{Entry}
+use Rattle.gs_record.specs.Plain.{PlainEntry}
 use Rattle.gs_state.specs.Applied.{records_behind, replayed}
 use Rattle.gs_state.specs.Durable.{Durable, start}
 use Rattle.gs_state.specs.Handling.{checkpoint_body, recover, restarted, written}

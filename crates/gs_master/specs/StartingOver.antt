@@ -1,5 +1,5 @@
 -- What an event goes back to where it finds no room, and does something else then.
-use Rattle.std.specs.Prelude.{◌≡◌, [], None, take, length, List}
+use Rattle.std.specs.Prelude.{◌≡◌, [], None, take, length}
 use Rattle.std.specs.Ordering.{nat_cmp}
 use Rattle.gs_table.specs.Slots.{live}
 use Rattle.gs_state.specs.Durable.{Durable}

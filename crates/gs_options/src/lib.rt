@@ -1,10 +1,10 @@
 //! The options of the program.
 #![tactic(auto)]
 
-ghost use Rattle.std.specs.Prelude.{◌≡◌, ◌≢◌, [], map, false, MatchResult, IfOk, string_bytes};
+ghost use Rattle.std.specs.Prelude.{◌≡◌, [], map, false, MatchResult, IfOk, string_bytes};
 ghost use Rattle.clap.specs.Words.{rule_of, rows_of, found_of, matches_of as clap_matches, app_of, with_rule};
 ghost use Rattle.clap.specs.Faults.{fault_of};
-ghost use Rattle.gs_options.specs.Options.{app, named_rule, number_rule, flag_rule, number_in, flag_in, rows_sizes, rows_options, words_options, Gives, Refuses};
+ghost use Rattle.gs_options.specs.Options.{app, named_rule, number_rule, flag_rule, number_in, flag_in, rows_sizes, words_options, Gives, Refuses};
 
 use clap::error::ErrorKind;
 use clap::{Arg, ArgAction, ArgMatches, Command};

@@ -1,5 +1,4 @@
 //! The numbers of a client's requests.
-ghost use Rattle.std.specs.Prelude.{◌≡◌};
 ghost use Rattle.gs_part.specs.Numbering.{Takes};
 
 use gs_base::{Refusal, ReqId};

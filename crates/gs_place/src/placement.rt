@@ -1,5 +1,4 @@
-ghost use Rattle.std.specs.Prelude.{◌≡◌, ◌<◌, ◌≤◌, ℕ, Some, None, false, IfSome, IfNone, IfOk, OnErr, MatchResult};
-ghost use Rattle.gs_place.specs.Order.{precedes, rank};
+ghost use Rattle.std.specs.Prelude.{◌≡◌, ◌<◌, ℕ, Some, None, false, IfSome, IfNone, IfOk, OnErr, MatchResult};
 ghost use Rattle.gs_place.specs.Targets.{is_rack_used, is_candidate, comes_before, earlier, first_candidate, targets_of, IsFirst, AreTargets, RunsOut};
 
 use gs_base::{Config, Members, Refusal, ServerId};

@@ -1,5 +1,5 @@
 // On which servers replicas are put.
-ghost use Rattle.std.specs.Prelude.{◌≡◌, ◌<◌, ◌^◌, ℕ, [], slice_index};
+ghost use Rattle.std.specs.Prelude.{◌≡◌, ◌<◌, ◌^◌, ℕ, slice_index};
 ghost use Rattle.gs_state.specs.Beginning.{counted_views, is_counted, targets_for};
 ghost use Rattle.gs_plan.specs.Planning.{state_of};
 ghost use Rattle.gs_state.specs.Surveying.{AreCounts, CountsMembers, view_by_lease, view_where};

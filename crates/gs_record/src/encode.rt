@@ -1,5 +1,5 @@
 // Entries as records.
-ghost use Rattle.std.specs.Prelude.{◌≡◌, ◌⊎◌, ◌<◌, ◌^◌, ◌∷◌, [], length, IfOk, IfErr};
+ghost use Rattle.std.specs.Prelude.{◌≡◌, ◌⊎◌, ◌<◌, ◌∷◌, IfOk, IfErr};
 ghost use Rattle.gs_base.specs.declared.refusal.Refusal.TheVariants.{Memory, BadLine};
 ghost use Rattle.gs_journal.specs.declared.version.Version.TheVariants.{Two};
 ghost use Rattle.gs_record.specs.Encoding.{kind, body, encoded};

@@ -1,5 +1,5 @@
 // Fields of one number.
-ghost use Rattle.std.specs.Prelude.{◌≡◌, ◌<◌, ◌^◌, List, ℕ, length, take, drop};
+ghost use Rattle.std.specs.Prelude.{◌<◌, ◌^◌, List, ℕ, take};
 ghost use Rattle.std.specs.Int.{w16, w32, w64};
 ghost use Rattle.byteorder.specs.Endian.{big_bytes};
 ghost use Rattle.gs_base.specs.Told.{IsNumber};

@@ -1,9 +1,9 @@
 // Entries of a checkpoint's tree, and what takes edits back.
-ghost use Rattle.std.specs.Prelude.{◌≡◌, map};
-ghost use Rattle.gs_record.specs.Encoding.{node, list, tree_entry, inverse_tag, inverse_fields, path};
+ghost use Rattle.std.specs.Prelude.{◌≡◌};
+ghost use Rattle.gs_record.specs.Encoding.{tree_entry, inverse_tag, inverse_fields, path};
 ghost use Rattle.gs_record.specs.Plain.{plain_inverse, plain_node};
-ghost use Rattle.gs_record.specs.Writable.{IsNode, IsInverse, AreItems, IsTreeEntry, IsPath};
-ghost use Rattle.gs_record.specs.inner.Reading.{node_behind, inverse_of_chunks_at, inverse_fields_at, list_at, path_at};
+ghost use Rattle.gs_record.specs.Writable.{IsInverse, IsTreeEntry};
+ghost use Rattle.gs_record.specs.inner.Reading.{inverse_of_chunks_at, inverse_fields_at};
 ghost use Rattle.gs_record.specs.inner.Work.{Gives, Puts};
 
 use crate::fault::Fault;

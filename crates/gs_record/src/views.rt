@@ -1,5 +1,4 @@
 // Fields of a settled view, and what else tells of chunks.
-ghost use Rattle.gs_record.specs.inner.Work.{Gives, Puts};
 
 use crate::entry::{Answered, SettledView};
 use crate::fault::Fault;

@@ -1,6 +1,6 @@
-ghost use Rattle.std.specs.Prelude.{◌≡◌, IfOk, IfSome, IsSome, OnOk, OnErr, Some, None, Ok, MatchBool, is_none, is_ok, true};
+ghost use Rattle.std.specs.Prelude.{◌≡◌, IfOk, IsSome, OnOk, OnErr, Some, None, Ok, MatchBool, is_none, is_ok, true};
 ghost use Rattle.std.specs.FinMap as fin;
-ghost use Rattle.gs_refs.specs.Counts.{raised, lowered, raised_listed, raised_each, lowered_each, has_count, IsCountOf, is_zero, unlisted, taken_each, put_each, without_each, with_each, is_at_zero, ascends, ascends_from, Follows, FollowsOrMemory, orphans, Counts};
+ghost use Rattle.gs_refs.specs.Counts.{raised, lowered, raised_listed, raised_each, lowered_each, has_count, IsCountOf, is_zero, unlisted, taken_each, put_each, is_at_zero, ascends, Follows, FollowsOrMemory, orphans, Counts};
 ghost use Rattle.std.specs.List.{list_all};
 
 use gs_base::{Handle, Refusal};

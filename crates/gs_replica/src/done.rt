@@ -28,7 +28,6 @@ impl Drop for DoneTable {
 }
 
 impl Model for DoneTable {
-    ghost use Rattle.std.specs.Prelude.{ℕ};
     ghost use Rattle.std.specs.Ordering.{nat_cmp};
     ghost use Rattle.std.specs.FinMap as fin;
     ghost use Rattle.std.specs.Coded.{coded_ℕ};

@@ -15,7 +15,6 @@ pub(crate) struct FirstEntries {
 }
 
 impl Model for FirstEntries {
-    ghost use Rattle.std.specs.Prelude.{ℕ};
     ghost use Rattle.std.specs.FinMap as fin;
     ghost use Rattle.std.specs.Coded.{coded_ℕ, coded_option};
     ghost use Rattle.gs_replica.specs.First.{First};

@@ -1,4 +1,4 @@
-ghost use Rattle.std.specs.Prelude.{◌≡◌, ◌≤◌, ◌<◌, ◌+◌, ◌-◌, ◌==◌, List, ℕ, IfOk, OnOk, OnErr, IfErr, length, Ok, Err, Some, None, is_some};
+ghost use Rattle.std.specs.Prelude.{◌≡◌, ◌<◌, ◌+◌, ◌-◌, ◌==◌, IfOk, OnOk, OnErr, IfErr, length, Ok, Err, Some, None};
 ghost use Rattle.std.specs.FinMap as fin;
 ghost use Rattle.gs_block.specs.Stored.{Stored, IsStored, are_digests};
 ghost use Rattle.gs_block.specs.Edits as blocks;

@@ -1,13 +1,11 @@
-ghost use Rattle.std.specs.Prelude.{◌≡◌, ◌≤◌, ◌+◌, ◌==◌, ℕ, IfOk, OnOk, Option, Some, None, Ok, Result, length, min};
-ghost use Rattle.gs_block.specs.Stored.{Stored, IsStored};
+ghost use Rattle.std.specs.Prelude.{◌≡◌, ◌≤◌, ◌+◌, ◌==◌, ℕ, IfOk, Some, Ok, Result, length, min};
+ghost use Rattle.gs_block.specs.Stored.{IsStored};
 ghost use Rattle.gs_replica.specs.Edits.{start_of, end_of};
 ghost use Rattle.gs_replica.specs.Edits as edits;
 ghost use Rattle.gs_replica.specs.Undo as undos;
-ghost use Rattle.gs_block.specs.Images.{AreFirst};
 ghost use Rattle.gs_block.specs.Kept.{KeepsIntact};
 ghost use Rattle.gs_block.specs.Follows.{Follows, Does, Makes, Refuses};
-ghost use Rattle.gs_replica.specs.Held.{Held};
-ghost use Rattle.gs_replica.specs.Seals.{images_of, sealed_length, State, Sealed, sealed_of, apply, undo, damage, can_undo, holding, on_seal, damage_seal, with_seal};
+ghost use Rattle.gs_replica.specs.Seals.{images_of, sealed_length, apply, undo, damage, holding};
 ghost use Rattle.gs_replica.specs.Copies.{sealed_image_of};
 ghost use Rattle.gs_replica.specs.View.{seen, state_of, Belongs, Seals};
 

@@ -21,7 +21,7 @@ use Rattle.gs_store.specs.Slots as slots
 use Rattle.gs_store.specs.Learning as learning
 use Rattle.gs_store.specs.Stores.{Store, set_slot, put_slot}
 use Rattle.gs_store.specs.Standing.{StandsIn, StoodIn, LiveUndamaged}
-use Rattle.gs_store.specs.Calls.{Call, TakesLease, called, LeadsTo, LeadsSparing, IsSparing, KeepsSeal}
+use Rattle.gs_store.specs.Calls.{Call, TakesLease, called, LeadsTo, LeadsSparing}
 use Rattle.gs_store.specs.Calls as calls
 use Rattle.gs_store.proofs.Laws.{of_ok, of_unless}
 use Rattle.gs_store.proofs.Running.{keeps, IsSpent, taken_spent, run_spent, spent_refused, run_rises}

@@ -20,7 +20,7 @@ use Rattle.gs_msg.specs.declared.op.Op.TheVariants.{Write, Append, Pad}
 use Rattle.gs_msg.specs.Ops.{in_replica}
 use Rattle.gs_store.specs.Buffers.{pushed}
 use Rattle.gs_store.specs.Slots.{Live, Slot, with_live}
-use Rattle.gs_store.specs.Serving.{length_in, edited_in, done_in}
+use Rattle.gs_store.specs.Serving.{length_in, done_in}
 use Rattle.gs_store.specs.Serving as serving
 use Rattle.gs_store.specs.Stores.{put_slot}
 use Rattle.gs_store.specs.Whole.{LiveUnder}

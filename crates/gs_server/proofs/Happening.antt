@@ -25,11 +25,11 @@ use Rattle.gs_msg.specs.declared.message.Message.{Message}
 use Rattle.gs_msg.specs.declared.body.Body.{Body}
 use Rattle.gs_msg.specs.declared.body.Body.TheVariants as bodies
 use Rattle.gs_msg.specs.declared.chunk.Chunk.{Chunk}
-use Rattle.gs_store.specs.Slots.{Live, Slot, nothing, first_of, unless, unless_promised, unless_live, if_bad}
+use Rattle.gs_store.specs.Slots.{Live, Slot, first_of, unless, unless_promised, unless_live, if_bad}
 use Rattle.gs_store.specs.Slots as slots
 use Rattle.gs_store.specs.Moves as moves
 use Rattle.gs_store.specs.Stores.{Store, or_nothing, slot_of, set_slot, with_slot, put_slot}
-use Rattle.gs_store.specs.Calls.{Call, TakesCopy, Seals, Unseals, RollsBack, called, IsNoLease, KeepsSeal, IsSparing}
+use Rattle.gs_store.specs.Calls.{Call, TakesCopy, Seals, Unseals, RollsBack, called, IsNoLease}
 use Rattle.gs_store.specs.Calls as calls
 use Rattle.gs_store.proofs.Laws.{Holds, of_cond}
 use Rattle.gs_store.proofs.Standing.{of_live, of_trash, same_ok}

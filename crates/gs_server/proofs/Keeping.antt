@@ -14,14 +14,14 @@ use Rattle.gs_replica.specs.declared.op.Done.{Done}
 use Rattle.gs_msg.specs.declared.op.Op.{Op}
 use Rattle.gs_msg.specs.declared.node.NodeId.{NodeId}
 use Rattle.gs_msg.specs.Ops.{in_replica}
-use Rattle.gs_store.specs.Slots.{Live, Slot, first_of, when, unless, unless_live, unless_promised, check_grant, take_lease, is_taken, taking}
+use Rattle.gs_store.specs.Slots.{Live, Slot, first_of, when, unless, unless_live, unless_promised, check_grant, take_lease, is_taken}
 use Rattle.gs_store.specs.Serving.{done_in, apply}
 use Rattle.gs_primary.specs.Numbering.{numbered_op, is_passed}
 use Rattle.gs_server.specs.declared.turn.KeptRefusal.{KeptRefusal}
 use Rattle.gs_primary.specs.Leases.{Lease, renews, settled, hears, dones}
 use Rattle.gs_server.specs.Places.{Place, Here, Part, SlotChange, SlotStays, SlotBecomes, SlotMarked, marked_by, damaged_block, or_else, other_epoch, unanswered, sending, after, count_or_none}
 use Rattle.gs_server.specs.Holding.{grant, is_held, takes, goes_on, supplies_to, from_server, unless_leased}
-use Rattle.gs_server.specs.Edits.{edit, new_edit, unless_numbered, numbers_or_passes, unless_holding, unless_over, unless_there, bytes_of, bytes_or_none, refused_edit, refused_once, repeated, is_known_of_all, unless_kept, unless_done, forward, declines}
+use Rattle.gs_server.specs.Edits.{edit, new_edit, unless_numbered, numbers_or_passes, unless_holding, unless_over, bytes_of, bytes_or_none, refused_edit, refused_once, repeated, is_known_of_all, unless_kept, unless_done, forward, declines}
 use Rattle.gs_server.specs.Edits as edits
 use Rattle.gs_server.specs.Promises as promising
 use Rattle.gs_server.specs.Holding as holding

@@ -27,7 +27,7 @@ use Rattle.gs_store.specs.Serving.{apply_to}
 use Rattle.gs_store.specs.Moves.{copied_in}
 use Rattle.gs_sealed.specs.Rollback.{later}
 use Rattle.gs_store.specs.Learning.{start_of, rolled_to}
-use Rattle.gs_store.specs.Stores.{Store, or_nothing, slot_of, set_slot, put_slot, learn}
+use Rattle.gs_store.specs.Stores.{or_nothing, put_slot, learn}
 use Rattle.gs_store.specs.Stores as stores
 use Rattle.gs_store.specs.StoreCalls.{names}
 use Rattle.gs_store.specs.Whole.{Reaches}
@@ -47,7 +47,7 @@ use Rattle.gs_server.specs.Servers.{Server, new, place_of, here_of, store_of, ch
 use Rattle.gs_server.specs.Runs.{Event, Hears, Ticks, Restarts, Loses, Damages, unless_refused, behind, behind_all, slot_in, rolled_back, reseals, Spares, IsReached}
 use Rattle.gs_server.proofs.Lifts.{apart}
 use Rattle.gs_server.proofs.Others.{slot_epoch, rest_stays}
-use Rattle.gs_server.proofs.Walks.{IsLeaseOf, GoesOn, IsOf, Stays, Makes, Takes, Suits, IsWithin, leased_promise}
+use Rattle.gs_server.proofs.Walks.{GoesOn, IsOf, Suits, IsWithin, leased_promise}
 use Rattle.gs_server.proofs.Walks as walks
 use Rattle.gs_server.proofs.Happening.{goes_at, step_if, IsCopied}
 use Rattle.gs_server.proofs.Wholes.{each_whole}

@@ -8,7 +8,7 @@ use Rattle.gs_replica.specs.Copies.{Image, SealedImage}
 use Rattle.gs_msg.specs.declared.node.NodeId.TheVariants as nodes
 use Rattle.gs_msg.specs.declared.message.Message.{Message}
 use Rattle.gs_msg.specs.declared.chunk.Chunk.TheVariants as chunks
-use Rattle.gs_store.specs.Slots.{Slot, first_of, count_of, standing, dropped, empty_replica, sealed_replica, mark_bad}
+use Rattle.gs_store.specs.Slots.{Slot, count_of, standing, dropped, empty_replica, sealed_replica, mark_bad}
 use Rattle.gs_store.specs.Slots as slots
 use Rattle.gs_store.specs.Moves as moves
 use Rattle.gs_primary.specs.Leases.{granted, stamp_of, moment_of}

@@ -16,7 +16,7 @@ use Rattle.gs_base.specs.declared.refusal.Refusal.TheVariants as refusals
 use Rattle.gs_store.specs.declared.report.ReplicaReport.{ReplicaReport}
 use Rattle.gs_store.specs.Slots.{Slot, coded_slot}
 use Rattle.gs_store.specs.Buffers.{Pushes, coded_pushes, pushed, without}
-use Rattle.gs_store.specs.Stores.{Store, slot_of, with_slot, mark_bad, with_buffer, or_nothing}
+use Rattle.gs_store.specs.Stores.{Store, slot_of, with_slot, mark_bad, with_buffer}
 use Rattle.gs_store.specs.Stores as stores
 use Rattle.gs_msg.specs.declared.node.NodeId.{NodeId}
 use Rattle.gs_msg.specs.declared.node.NodeId.TheVariants as nodes

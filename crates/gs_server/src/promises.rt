@@ -1,6 +1,6 @@
 //! What holds of each server, whatever messages come.
 
-ghost use Rattle.std.specs.Prelude.{◌≡◌, ◌≢◌, ◌<◌, ◌≤◌, ◌+◌, ◌==◌, ℕ, Bool, true, false, List, [], ◌++◌, length, Option, Some, None, is_some, Ok, Err};
+ghost use Rattle.std.specs.Prelude.{◌≡◌, ◌≢◌, ◌<◌, ◌≤◌, ◌+◌, ℕ, true, false, List, [], ◌++◌, length, Option, Some, None, is_some, Ok, Err};
 ghost use Rattle.std.specs.List.{All};
 ghost use Rattle.gs_base.specs.declared.numbers.Moment.{Moment};
 ghost use Rattle.gs_base.specs.declared.numbers.Stamp.{Stamp};
@@ -20,7 +20,7 @@ ghost use Rattle.gs_store.specs.Slots.{Live, Slot};
 ghost use Rattle.gs_store.specs.Serving.{apply, done_in};
 ghost use Rattle.gs_store.specs.Stores as stores;
 ghost use Rattle.gs_primary.specs.Leases.{Lease, hears, forwards, done_at_once};
-ghost use Rattle.gs_server.specs.Places.{Place, Here, Part, SlotBecomes, LeaseBecomes, after};
+ghost use Rattle.gs_server.specs.Places.{Place, Here, SlotBecomes, LeaseBecomes, after};
 ghost use Rattle.gs_server.specs.Edits.{edit, forward};
 ghost use Rattle.gs_server.specs.Holding.{grant, ack};
 ghost use Rattle.gs_server.specs.Servers.{Server, store_of, place_of, restart, request_in, about_chunk, handle_chunk, make_copy, learn, tick};

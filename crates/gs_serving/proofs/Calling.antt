@@ -30,7 +30,7 @@ use Rattle.gs_store.specs.Slots.{Live, Slot, first_of, when, unless_live, unless
 use Rattle.gs_store.specs.Slots as slots
 use Rattle.gs_store.specs.Serving.{apply, done_in}
 use Rattle.gs_store.specs.Moves as moves
-use Rattle.gs_store.specs.Stores.{Store, or_nothing, slot_of, set_slot, with_slot, put_slot}
+use Rattle.gs_store.specs.Stores.{Store, slot_of, set_slot, with_slot, put_slot}
 use Rattle.gs_store.specs.Stores as stores
 use Rattle.gs_store.specs.Calls.{Call, Creates, Advances, CopiesIn, TakesCopy, Drops, TakesLease, Loses, Damages, Applies, called}
 use Rattle.gs_store.proofs.StoreLaws.{own_slot, other_slot, slot_goes}

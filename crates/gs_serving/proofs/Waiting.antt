@@ -54,7 +54,7 @@ use Rattle.gs_server.specs.Edits as edits
 use Rattle.gs_server.specs.Fetches as fetching
 use Rattle.gs_server.specs.Servers.{Server, new, place_of, here_of, store_of, change_slot, change_lease, changed_by, with_store, in_store, copies, request_in, about_chunk, push, handle_body, restart, standing_leases, stands_at}
 use Rattle.gs_server.specs.inner.Learning.{next_of}
-use Rattle.gs_server.specs.Runs.{Event, Hears, Ticks, Restarts, unless_refused, behind, behind_all, slot_in, BecomesBy, IsReached}
+use Rattle.gs_server.specs.Runs.{Event, Hears, Ticks, Restarts, unless_refused, behind, behind_all, slot_in, IsReached}
 use Rattle.gs_server.specs.Runs as runs
 use Rattle.gs_server.proofs.Happening.{own_place, step_if}
 use Rattle.gs_server.proofs.Reached.{held_promise}

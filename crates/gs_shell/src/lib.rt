@@ -1,7 +1,7 @@
 //! The shell of a store: a script's lines in, their answers out.
 #![tactic(auto)]
 
-ghost use Rattle.std.specs.Prelude.{◌≡◌, OnOk, IfErr, IfSome};
+ghost use Rattle.std.specs.Prelude.{OnOk, IfErr, IfSome};
 ghost use Rattle.gs_shell.specs.Serving.{Serves, ServeFails};
 
 use gs_base::Config;

@@ -9,7 +9,7 @@ use Rattle.gs_block.specs.Stored.{digests_of}
 use Rattle.gs_block.specs.Follows.{Follows, MakesOf}
 use Rattle.gs_replica.specs.declared.op.Op.{Op}
 use Rattle.gs_replica.specs.Edits as edits
-use Rattle.gs_replica.specs.Seals.{Sealed, State, with_seal}
+use Rattle.gs_replica.specs.Seals.{State, with_seal}
 use Rattle.gs_replica.specs.Seals as replicas
 use Rattle.gs_store.specs.Slots.{Live, Slot, with_live}
 use Rattle.gs_replica.specs.Copies.{Image, SealedImage, image_of, of_image, and_then}

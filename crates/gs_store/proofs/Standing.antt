@@ -18,7 +18,7 @@ use Rattle.gs_replica.specs.declared.op.Op.{Op}
 use Rattle.gs_replica.specs.declared.op.Done.{Done}
 use Rattle.gs_replica.specs.Held.{Held}
 use Rattle.gs_replica.specs.Edits as edits
-use Rattle.gs_replica.specs.Seals.{Sealed, State, with_seal, on_seal, touch_seal}
+use Rattle.gs_replica.specs.Seals.{State}
 use Rattle.gs_replica.specs.Seals as replicas
 use Rattle.gs_replica.specs.Stands.{Edit, StandsFor, IsToldFrom, replica_of}
 use Rattle.gs_replica.proofs.Own.{own, own_told, sized, alike_stands}

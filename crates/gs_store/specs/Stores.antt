@@ -14,7 +14,7 @@ use Rattle.gs_base.specs.declared.refusal.Refusal.TheVariants as refusals
 use Rattle.gs_replica.specs.declared.op.Op.{Op}
 use Rattle.gs_replica.specs.Copies.{Image, SealedImage}
 use Rattle.gs_store.specs.declared.report.ReplicaReport.{ReplicaReport}
-use Rattle.gs_store.specs.Slots.{Live, Slot, coded_slot, nothing, first_of, when, unless, standing, dropped, empty_replica, sealed_replica, stamp_of}
+use Rattle.gs_store.specs.Slots.{Live, Slot, coded_slot, nothing}
 use Rattle.gs_store.specs.Slots as slots
 use Rattle.gs_store.specs.Serving as serving
 use Rattle.gs_store.specs.Moves as moves

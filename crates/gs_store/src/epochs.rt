@@ -1,4 +1,4 @@
-ghost use Rattle.std.specs.Prelude.{◌≡◌, ◌≢◌, ◌⊎◌, ◌+◌, IfOk, IfErr, OnOk, map, length};
+ghost use Rattle.std.specs.Prelude.{◌≡◌, ◌≢◌, ◌⊎◌, ◌+◌, IfOk, IfErr, OnOk, map};
 ghost use Rattle.gs_base.specs.declared.refusal.Refusal.TheVariants.{Memory, Epoch};
 ghost use Rattle.gs_base.specs.declared.epoch.EpochEnd.TheVariants.{Prepare};
 ghost use Rattle.gs_store.specs.Learning.{prepared, held_in, finalized, rolled_back};

@@ -1,4 +1,4 @@
-ghost use Rattle.std.specs.Prelude.{◌≡◌, ℕ, IfOk, is_some};
+ghost use Rattle.std.specs.Prelude.{◌≡◌, IfOk, is_some};
 ghost use Rattle.gs_store.specs.Learning.{prepared, held_in, finalized, start_of, rolled_back, is_named};
 
 use crate::slot::{LiveReplica, Slot};

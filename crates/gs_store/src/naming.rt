@@ -1,5 +1,5 @@
 // The handles that are told of a rollback.
-ghost use Rattle.std.specs.Prelude.{◌≡◌, ◌≤◌, ◌+◌, ◌++◌, ◌∷◌, [], IfOk, IfErr};
+ghost use Rattle.std.specs.Prelude.{◌≡◌, ◌≤◌, ◌+◌, ◌++◌, ◌∷◌, [], IfOk};
 ghost use Rattle.std.specs.FinMap as fin;
 ghost use Rattle.gs_base.specs.declared.epoch.EpochEnd.TheVariants.{Rollback};
 ghost use Rattle.gs_store.specs.Stores.{Performs, learn, named};

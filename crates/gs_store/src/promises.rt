@@ -6,7 +6,7 @@ ghost use Rattle.gs_base.specs.declared.numbers.Stamp.{Stamp};
 ghost use Rattle.gs_base.specs.Stamps.{is_before, is_same};
 ghost use Rattle.gs_replica.specs.Held.{Held};
 ghost use Rattle.gs_replica.specs.Seals.{State};
-ghost use Rattle.gs_store.specs.Slots.{Live, Slot, nothing, create, advance, drop_replica, take_lease, lose, mark_bad};
+ghost use Rattle.gs_store.specs.Slots.{Slot, nothing, create, advance, drop_replica, take_lease, lose, mark_bad};
 ghost use Rattle.gs_store.specs.Serving.{read};
 ghost use Rattle.gs_store.specs.Moves.{copy_out, copy_for, take_copy};
 ghost use Rattle.gs_store.specs.Learning.{prepared, finalized, rolled_back};

@@ -11,7 +11,7 @@ ghost use Rattle.gs_replica.specs.Held.{Held};
 ghost use Rattle.gs_replica.specs.Seals.{Sealed};
 ghost use Rattle.gs_replica.specs.Seals as replicas;
 ghost use Rattle.gs_replica.specs.Stands.{Edit, IsTouched};
-ghost use Rattle.gs_store.specs.Slots.{Live, Slot, sound, create, advance, drop_replica, take_lease, lose, damage, mark_bad, bad_in, held_under, sealed_of};
+ghost use Rattle.gs_store.specs.Slots.{Live, Slot, sound, create, advance, drop_replica, take_lease, damage, mark_bad, bad_in, held_under, sealed_of};
 ghost use Rattle.gs_store.specs.Whole.{IsWholeSlot};
 ghost use Rattle.gs_store.specs.Serving.{apply};
 ghost use Rattle.gs_store.specs.Moves.{take_copy, sound_image};

@@ -1,8 +1,8 @@
-ghost use Rattle.std.specs.Prelude.{◌≡◌, OnOk, OnErr, OnSome, IfOk, Some, None, [], is_none, is_some, length, map, ◌<◌, ◌^◌};
+ghost use Rattle.std.specs.Prelude.{◌≡◌, OnOk, OnErr, OnSome, IfOk, Some, None, is_none, is_some, length, map, ◌<◌, ◌^◌};
 ghost use Rattle.std.specs.Option.{option_copied, option_flatten};
 ghost use Rattle.std.specs.FinMap as fin;
 ghost use Rattle.std.specs.List.Sorted.{IsStrictlySortedBy};
-ghost use Rattle.gs_table.specs.Slots.{live, live_entries, HasRoom, KeepsRoom, GivesUpRoom, IsWritten};
+ghost use Rattle.gs_table.specs.Slots.{live, HasRoom, KeepsRoom, GivesUpRoom, IsWritten};
 
 use crate::entries::Entries;
 use crate::key::Key;

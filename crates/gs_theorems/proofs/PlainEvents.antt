@@ -32,7 +32,7 @@ use Rattle.gs_world.specs.declared.place.MasterPlace.{MasterPlace}
 use Rattle.gs_world.specs.declared.place.MasterPlace.TheVariants.{Standing, Closed, Away}
 use Rattle.gs_theorems.specs.Meeting.{IsPlain, Stands, plain_of}
 use Rattle.gs_theorems.proofs.PlainEnduring.{IsGood}
-use Rattle.gs_theorems.specs.Plain.{Met, Plain}
+use Rattle.gs_theorems.specs.Plain.{Plain}
 use Rattle.gs_theorems.specs.Plain as plain
 use Rattle.gs_theorems.proofs.PlainSends.{SaysEnough, all_plain, all_stays, end_sends, end_stays, wanting}
 use Rattle.gs_theorems.proofs.Refusing.{message_refused_for_memory, tick_refused_for_memory}

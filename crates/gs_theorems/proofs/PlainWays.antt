@@ -17,7 +17,6 @@ use Rattle.gs_master.specs.declared.turn.Turn.{Turn as Told}
 use Rattle.gs_msg.specs.declared.event.Request.{Request as Asked}
 use Rattle.gs_msg.specs.declared.message.Message.{Message}
 use Rattle.gs_run.specs.Lasting.{failures_at}
-use Rattle.gs_server.specs.Servers.{Server}
 use Rattle.gs_server.specs.Servers as servers
 use Rattle.gs_state.specs.Handling.{tick}
 use Rattle.gs_world.specs.Happenings.{AtClient, ClientAsks, Delivers, Hears, MasterTicks, ServerDoes, client_in}

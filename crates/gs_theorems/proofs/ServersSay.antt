@@ -39,7 +39,6 @@ use Rattle.gs_primary.specs.Leases.{Lease, done_at_once, done_of, dones, forward
 use Rattle.gs_primary.specs.Numbering.{numbered_op, is_passed}
 use Rattle.gs_server.specs.Places.{Here, Part, Place, damaged_block, or_else, other_epoch, sending, tells_bad, unanswered}
 use Rattle.gs_server.specs.Promises as messages
-use Rattle.gs_server.specs.Promises.{Copying}
 use Rattle.gs_server.specs.Servers.{Server, Step, about_chunk, handle_body, here_of, learned, leases_after, place_of, request_in, store_of, with_leases, with_store}
 use Rattle.gs_server.specs.Servers as servers
 

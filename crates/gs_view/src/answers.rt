@@ -1,6 +1,5 @@
 ghost use Rattle.std.specs.Prelude.{◌≡◌};
 ghost use Rattle.std.specs.List.{list_all};
-ghost use Rattle.gs_base.specs.Members.{is_member};
 
 use crate::proposal::Proposal;
 use gs_base::{Members, ServerId};

@@ -1,5 +1,4 @@
-ghost use Rattle.std.specs.Prelude.{◌≡◌, ◌≤◌, ◌<◌, ◌==◌, ◌&&◌, ◌↔◌, ℕ, Some, None, IfOk, IfErr, OnErr, MatchResult, length, replicate, slice_set, slice_get, nat_lt};
-ghost use Rattle.gs_base.specs.Members.{servers_where};
+ghost use Rattle.std.specs.Prelude.{◌≡◌, ◌<◌, ◌==◌, ℕ, Some, None, IfOk, OnErr, MatchResult, length, replicate, slice_set};
 ghost use Rattle.gs_view.specs.Choice.{answer_of, answerers, greater, greatest, chosen, Chooses};
 
 use gs_base::{Members, Refusal, ServerId};

@@ -1,5 +1,5 @@
 -- Servers and clients one after the other.
-use Rattle.std.proofs.Common.{◌≡◌, ◌+◌, ◌++◌, ◌∷◌, ◌∙◌, ℕ, suc, List, [], Option, Some, None, IfSome, ap, arith, sym}
+use Rattle.std.proofs.Common.{◌≡◌, ◌+◌, ◌++◌, ◌∷◌, ◌∙◌, ℕ, suc, [], Option, Some, None, IfSome, ap, arith, sym}
 use Rattle.gs_base.specs.declared.config.Config.{Config}
 use Rattle.gs_client.specs.Nodes.{silent}
 use Rattle.gs_server.specs.Servers as servers

@@ -1,5 +1,4 @@
 -- Faults of the disks of the master's journal.
-use Rattle.std.specs.Prelude.{◌≡◌}
 use Rattle.gs_journal.specs.Faults.{Faulty, armed}
 use Rattle.gs_journal.specs.declared.fault.Fault.{Fault}
 use Rattle.gs_master.specs.Masters.{with_journal}

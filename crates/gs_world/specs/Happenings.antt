@@ -1,5 +1,5 @@
 -- What happens to the nodes of a store: each event is one node's, and leaves the others as they were.
-use Rattle.std.specs.Prelude.{◌≡◌, ◌⊎◌, ◌+◌, ◌-◌, ◌==◌, ◌<◌, ℕ, List, [], ◌∷◌, if◌then◌else◌, Option, Some, None, MatchOption, Result, Ok, Err, IfOk, Vec, slice_get, slice_set, refl}
+use Rattle.std.specs.Prelude.{◌≡◌, ◌⊎◌, ◌-◌, ◌==◌, ℕ, List, [], ◌∷◌, if◌then◌else◌, Option, Some, None, MatchOption, Result, Ok, Err, Vec, slice_get, slice_set}
 use Rattle.std.specs.declared.alloc.Global.{Global}
 use Rattle.gs_base.specs.declared.config.Config.{Config}
 use Rattle.gs_base.specs.declared.numbers.ClientId.{ClientId}

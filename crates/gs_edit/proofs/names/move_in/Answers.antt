@@ -1,8 +1,5 @@
-use Rattle.std.proofs.Common.{◌≡◌, true, sym, subst, ℕ}
-use Rattle.std.specs.Prelude.{Result}
-use Rattle.std.specs.FinMap.{FinMap, get, entries}
-use Rattle.gs_path.specs.Path.{path_cmp}
-use Rattle.gs_tree.specs.Entry.{Entry}
+use Rattle.std.proofs.Common.{sym, subst, ℕ}
+use Rattle.std.specs.FinMap.{get, entries}
 use Rattle.gs_tree.specs.Plain.{Plain}
 use Rattle.gs_tree.specs.Edits.{rename, hide, unhide}
 use Rattle.gs_tree.specs.Find.{is_too_deep}

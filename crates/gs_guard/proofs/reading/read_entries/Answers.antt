@@ -1,4 +1,4 @@
-use Rattle.std.proofs.Common.{◌≡◌, ◌+◌, inl, inr, drop, map}
+use Rattle.std.proofs.Common.{◌+◌, inl, inr, drop, map}
 use Rattle.gs_record.specs.Plain.{plain}
 use Rattle.gs_state.proofs.Behind.{next_item}
 use Rattle.gs_guard.proofs.ReadSoFar.{unreadable}

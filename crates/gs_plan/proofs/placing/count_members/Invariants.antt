@@ -1,4 +1,4 @@
-use Rattle.std.proofs.Common.{◌≡◌, ◌+◌, ◌<◌, ◌≤◌, ℕ, length}
+use Rattle.std.proofs.Common.{◌≡◌, ◌+◌, ◌<◌, ◌≤◌, ℕ}
 use Rattle.std.specs.Prelude.{slice_index, if◌then◌else◌}
 use Rattle.gs_base.specs.Members.{is_member}
 use Rattle.gs_plan.proofs.placing.count_members.Given as goal

@@ -2,7 +2,7 @@ use Rattle.std.proofs.Common.{Err}
 use Rattle.gs_client.specs.Sends.{Sends}
 use Rattle.gs_path.specs.Rules.{parse_hidden}
 use Rattle.gs_calls.proofs.Talking.{on_answered, on_located, opens_none, uses_file}
-use Rattle.gs_calls.specs.Asked.{digest_of, given_bytes, given_digest, with_file}
+use Rattle.gs_calls.specs.Asked.{digest_of, given_digest, with_file}
 use Rattle.gs_calls.specs.declared.answer.Answer.TheVariants as answers
 use Rattle.gs_calls.proofs.caller.Caller.digest.Goals as goal
 

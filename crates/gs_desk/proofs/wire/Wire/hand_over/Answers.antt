@@ -1,7 +1,7 @@
-use Rattle.std.proofs.Common.{inr, refl, subst, sym, ◌≡◌}
+use Rattle.std.proofs.Common.{inr, subst}
 use Rattle.gs_desk.proofs.Doing.{told}
 use Rattle.gs_desk.specs.Lines.{HandsOver, held_at}
-use Rattle.gs_desk.specs.Ways.{DeliversWhole, IsDelivered, Way, way_of}
+use Rattle.gs_desk.specs.Ways.{way_of}
 use Rattle.gs_desk.proofs.wire.Wire.hand_over.Goals as goal
 
 pub returns : goal.returns

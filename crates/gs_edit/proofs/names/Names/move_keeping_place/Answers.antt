@@ -1,6 +1,5 @@
-use Rattle.std.proofs.Common.{sym, subst, ℕ}
+use Rattle.std.proofs.Common.{sym, subst}
 use Rattle.std.specs.Prelude.{IfOk}
-use Rattle.std.specs.FinMap.{get}
 use Rattle.gs_refs.specs.Counts.{Counts}
 use Rattle.gs_edit.specs.View.{NamesView, names_of}
 use Rattle.gs_edit.specs.Edits.{Applies}

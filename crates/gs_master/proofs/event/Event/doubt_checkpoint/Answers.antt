@@ -1,4 +1,4 @@
-use Rattle.std.proofs.Common.{◌∙◌, ◌++◌, ◌∷◌, [], false, ap, arith, length, length-append, map, refl, subst, sym, take}
+use Rattle.std.proofs.Common.{◌∙◌, ◌∷◌, [], false, ap, arith, length, length-append, map, refl, subst, sym}
 use Rattle.std.specs.Prelude.{Some, fold}
 use Rattle.std.proofs.lemmas.List.{length-map}
 use Rattle.gs_record.specs.Plain.{Whole, plain}

@@ -1,6 +1,5 @@
 use Rattle.std.proofs.Common.{ap, subst, sym, ◌∙◌}
 use Rattle.std.specs.Prelude.{None}
-use Rattle.gs_state.specs.Plans.{plan_of}
 use Rattle.gs_state.specs.State.{end_changes, refusal_plan}
 use Rattle.gs_master.specs.Turns.{ComesWithOthers, state_at}
 use Rattle.gs_master.proofs.Together.{refused_together}

@@ -1,14 +1,11 @@
-use Rattle.std.proofs.Common.{◌≡◌, ◌<◌, ◌∙◌, ◌++◌, ◌∷◌, [], ap, arith, inl, inr, length, length-append, map, refl, subst, sym}
+use Rattle.std.proofs.Common.{◌≡◌, ◌<◌, ◌∙◌, ◌∷◌, [], ap, arith, inl, inr, length, length-append, map, subst, sym}
 use Rattle.std.proofs.lemmas.List.{length-map}
 use Rattle.gs_journal.specs.Journal.{IsOldOrNew, checkpointed}
-use Rattle.gs_journal.specs.Records.{Entry, standing}
+use Rattle.gs_journal.specs.Records.{standing}
 use Rattle.gs_record.specs.Plain.{Whole, plain}
-use Rattle.gs_state.specs.Durable.{Durable}
-use Rattle.gs_master.specs.Events.{HasComeFrom}
-use Rattle.gs_master.specs.Journaled.{Breaks, Gains, IsLogOf, IsReadyFor, stood_before}
+use Rattle.gs_master.specs.Journaled.{Breaks, Gains, IsReadyFor, stood_before}
 use Rattle.gs_state.specs.Plans.{log_of}
 use Rattle.gs_state.specs.Recorded.{durable_of}
-use Rattle.gs_master.specs.Renewing.{and_checkpoint}
 use Rattle.gs_state.specs.Whole.{checkpoint_of}
 use Rattle.gs_master.proofs.Appending.{seen_behind}
 use Rattle.gs_master.proofs.Leading.{ready}

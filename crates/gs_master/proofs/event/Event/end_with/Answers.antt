@@ -1,5 +1,4 @@
 use Rattle.std.proofs.Common.{ap, subst, sym, ◌∙◌}
-use Rattle.gs_state.specs.Plans.{plan_of}
 use Rattle.gs_state.specs.Settling.{end_plan}
 use Rattle.gs_master.specs.Turns.{ComesWithOthers, state_at}
 use Rattle.gs_master.proofs.Together.{ended_together}

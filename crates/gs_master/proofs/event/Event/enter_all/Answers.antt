@@ -1,10 +1,10 @@
-use Rattle.std.proofs.Common.{◌≡◌, ◌∙◌, ◌∷◌, [], ap, arith, length, append-nil, false, map, rules, refl, subst, sym}
+use Rattle.std.proofs.Common.{◌≡◌, ◌∙◌, ◌∷◌, ap, arith, length, false, map, rules, refl, subst, sym}
 use Rattle.std.proofs.lemmas.List.{nil_from_length}
 use Rattle.std.specs.Prelude.{Err, Ok, vec_len}
 use Rattle.std.specs.List.{list_any}
 use Rattle.gs_record.specs.Plain.{plain}
 use Rattle.gs_state.specs.TakingBack.{comes_alone}
-use Rattle.gs_master.specs.Turns.{AreEntered, EntersAll, GoesBack, WhyNotAll}
+use Rattle.gs_master.specs.Turns.{AreEntered, EntersAll, WhyNotAll}
 use Rattle.gs_master.specs.declared.event.Event.{Event}
 use Rattle.gs_master.proofs.Entered.{alone_first, enters_behind, enters_none, goes_back_here, goes_back_on, stepped_back, why_not_first}
 use Rattle.gs_master.proofs.event.Event.enter_all.Goals as goal

@@ -1,11 +1,11 @@
-use Rattle.std.proofs.Common.{◌∙◌, ◌⊎◌, ℕ, ap, inl, inr, refl, subst, sym}
+use Rattle.std.proofs.Common.{◌∙◌, ◌⊎◌, ℕ, ap, inl, refl, subst, sym}
 use Rattle.gs_master.specs.Events.{HasComeFrom}
 use Rattle.gs_master.specs.Journaled.{AreCut, AreWritten}
 use Rattle.gs_state.specs.Plans.{log_of}
 use Rattle.gs_state.specs.Recorded.{durable_of}
 use Rattle.gs_master.specs.StartingOver.{StartsOver}
 use Rattle.gs_master.specs.Turns.{Steps}
-use Rattle.gs_master.proofs.Finished.{came_from, came_where, ended_over, finished, rests_again, rests_over, state_again}
+use Rattle.gs_master.proofs.Finished.{came_from, came_where, ended_over, finished, rests_over, state_again}
 use Rattle.gs_master.proofs.event.Event.finish.Goals as goal
 
 pub returns-in-Err-clause-finishes : goal.returns-in-Err-clause-finishes

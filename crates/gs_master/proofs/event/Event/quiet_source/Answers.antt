@@ -1,15 +1,14 @@
-use Rattle.std.proofs.Common.{◌≡◌, ◌+◌, ◌*◌, Some, true, false, ap, length, rules, subst, sym, ◌∙◌}
+use Rattle.std.proofs.Common.{◌≡◌, ◌+◌, ◌*◌, Some, true, false, ap, length, rules, subst, sym}
 use Rattle.std.specs.List.{list_any}
 use Rattle.std.specs.Prelude.{nat_le}
 use Rattle.gs_lease.specs.declared.view.Purpose.TheVariants as purposes
 use Rattle.gs_state.specs.Beginning.{all_begun, has_versions}
 use Rattle.gs_state.specs.State.{Plan, Turn, and_then, turned}
-use Rattle.gs_master.specs.Turns.{ComesWithOthers, Steps, WhyNotTurned, state_at}
-use Rattle.gs_state.specs.Working.{begin_pending, is_wanted_at}
+use Rattle.gs_master.specs.Turns.{Steps, state_at}
+use Rattle.gs_state.specs.Working.{is_wanted_at}
 use Rattle.gs_state.specs.declared.pending.Waiting.TheVariants as waits
-use Rattle.gs_master.proofs.Accepting.{pending_together}
-use Rattle.gs_master.proofs.Composing.{steps_and, why_not_and}
-use Rattle.gs_master.proofs.Copies.{begins_quiet, by_room, while_wanted, without_versions}
+use Rattle.gs_master.proofs.Composing.{steps_and}
+use Rattle.gs_master.proofs.Copies.{begins_quiet, by_room}
 use Rattle.gs_master.proofs.Entered.{goes_back_on}
 use Rattle.gs_master.proofs.event.Event.quiet_source.Goals as goal
 

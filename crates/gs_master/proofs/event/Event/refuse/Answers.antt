@@ -1,4 +1,4 @@
-use Rattle.std.proofs.Common.{[], ap, refl, subst, sym, ◌∙◌}
+use Rattle.std.proofs.Common.{[], ap, subst, sym, ◌∙◌}
 use Rattle.std.specs.Prelude.{Some}
 use Rattle.gs_state.specs.State.{refusal_plan}
 use Rattle.gs_master.specs.Turns.{ComesWithOthers, state_at}

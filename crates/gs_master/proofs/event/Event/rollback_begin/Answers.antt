@@ -1,4 +1,4 @@
-use Rattle.std.proofs.Common.{◌≡◌, ◌∙◌, ◌+◌, [], ◌∷◌, None, true, false, ap, map, refl, rules, subst, sym}
+use Rattle.std.proofs.Common.{◌≡◌, ◌∙◌, ◌+◌, [], None, true, false, ap, map, refl, rules, subst, sym}
 use Rattle.std.specs.List.{list_any}
 use Rattle.gs_base.specs.declared.epoch.EpochEnd.TheVariants as ends
 use Rattle.gs_base.specs.declared.refusal.Refusal.TheVariants as refusals

@@ -5,8 +5,8 @@ use Rattle.gs_state.specs.Chunks.{settling}
 use Rattle.gs_state.specs.Durable.{prepared_view}
 use Rattle.gs_state.specs.Plans.{plan_of}
 use Rattle.gs_state.specs.Settling.{all_go_on, all_refused, concerned, settle_plan}
-use Rattle.gs_state.specs.State.{Plan, State, and_then, fits, turned}
-use Rattle.gs_master.specs.Turns.{Steps, WhyNotTurned, state_at}
+use Rattle.gs_state.specs.State.{Plan, State, fits, turned}
+use Rattle.gs_master.specs.Turns.{Steps, state_at}
 use Rattle.gs_master.proofs.Composing.{steps_and, why_not_and}
 use Rattle.gs_master.proofs.Ends.{refused_with_room, steps_with_room}
 use Rattle.gs_master.proofs.Entered.{goes_back_on}

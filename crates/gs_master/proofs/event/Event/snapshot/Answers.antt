@@ -1,4 +1,4 @@
-use Rattle.std.proofs.Common.{◌≡◌, ◌∙◌, [], Ok, Err, ap, length, rules, subst, sym}
+use Rattle.std.proofs.Common.{◌≡◌, ◌∙◌, [], Err, ap, length, rules, subst, sym}
 use Rattle.std.specs.FinMap as fin
 use Rattle.gs_edit.specs.Edits.{edited}
 use Rattle.gs_edit.specs.declared.edit.Edit.TheVariants as edits

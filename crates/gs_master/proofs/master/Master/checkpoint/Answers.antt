@@ -1,7 +1,7 @@
-use Rattle.std.proofs.Common.{◌≡◌, inl, inr, refl, subst, sym}
-use Rattle.std.specs.Prelude.{Err, None, Ok, Some}
+use Rattle.std.proofs.Common.{inl, inr, refl, subst, sym}
+use Rattle.std.specs.Prelude.{Err, Ok}
 use Rattle.gs_plan.proofs.Renewals.{none_beforehand}
-use Rattle.gs_plan.specs.Renewable.{IsRenewalOf, MakesRenewal, renewal_refusal}
+use Rattle.gs_plan.specs.Renewable.{IsRenewalOf, MakesRenewal}
 use Rattle.gs_state.specs.State.{unmoved}
 use Rattle.gs_master.specs.Ticking.{AnswersCheckpoint}
 use Rattle.gs_master.specs.Turns.{state_at}

@@ -1,5 +1,4 @@
-use Rattle.std.proofs.Common.{◌≡◌, ◌∙◌, ap, subst, sym}
-use Rattle.gs_master.specs.Finishing.{Finishes}
+use Rattle.std.proofs.Common.{subst}
 use Rattle.gs_state.specs.Handling.{handle}
 use Rattle.gs_master.specs.Masters.{Answers}
 use Rattle.gs_state.specs.Outcomes.{caller_of}
