@@ -2,7 +2,7 @@
 use Rattle.std.proofs.Common.{◌≡◌, ◌≢◌, ℕ, zero, suc, ◌+◌, ◌-◌, ◌*◌, ◌^◌, ◌/◌, ◌%◌, ◌<◌, ◌≤◌, Bool, true, false, cond, List, [], ◌∷◌, Option, Some, None, refl, sym, ap, ◌∙◌, ⊎_elim, arith, eqb, length, zero-add, IsSome, IfSome, ◌↔◌, slice_get}
 use Rattle.std.proofs.lemmas.Bool.{cases_eq, eqb-true, false≢true}
 use Rattle.std.proofs.lemmas.Bool.Decides.{nat_tests}
-use Rattle.std.proofs.lemmas.Nat.Bits.{shr_and_one, bit_at-zero, bit_at-trailing_zeros, bit_at_set_same, bit_at_set_other, bit_at_clear_same, bit_at_clear_other}
+use Rattle.std.proofs.lemmas.Nat.Bits.{shr_and_one, bit_at-trailing_zeros, bit_at_set_same, bit_at_set_other, bit_at_clear_same, bit_at_clear_other}
 use Rattle.std.proofs.lemmas.Slice.Eq.{bytes_eq-Decides}
 use Rattle.std.specs.Cmp.Lexicographic.{pointwise}
 use Rattle.std.specs.Prelude.{bit_and, bit_or, ◌||◌, ◌&&◌, not, filter, nat_eq}
@@ -65,9 +65,6 @@ lowest_where p first (suc many) n low high here none = ⊎_elim
     (λ (same : first ≡ n). rw (same, here) refl)
     (λ (later : first ≢ n). rw (none first (omega arith)) (lowest_where p (first + 1) many n (omega arith) (omega arith) here none))
     (cases_eq first n)
-
-zero_bit : (s : ℕ) → has_bit 0 s ≡ false
-zero_bit s = ap (λ n. eqb n 1) (bit_at-zero s)
 
 lowest_of : (b : ℕ) → b < 2 ^ 16 → (0 < b) → (trailing_zeros w16 b < 16) × (slice_get (servers_where (has_bit b)) 0 ≡ Some (trailing_zeros w16 b))
 unfolding servers_where
@@ -145,10 +142,6 @@ unfolding servers_where
 taken_first b s m new view first is =
     sym view ∙ rest_where (has_bit b) 0 16 s (ap (λ x. slice_get x 0) view ∙ first)
     ∙ ap (λ xs. s ∷ xs) (same_servers _ _ (λ i low. ap (λ x. not (eqb i s) && x) (sym (is_member-servers_where (has_bit b) i low) ∙ ap (λ x. is_member x i) view)) ∙ sym is)
-
-pub no_first : (m : List ℕ) (r : Option ℕ) → r ≡ None → r ≡ slice_get m 0 → m ≡ []
-no_first [] r none is = refl
-no_first (x ∷ m) r none is = absurd cc
 
 -- ---- how many there are
 count_one : (first k many : ℕ) → many ≡ suc k → count_from first many ≡ first ∷ count_from (first + 1) k

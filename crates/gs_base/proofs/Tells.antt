@@ -113,9 +113,6 @@ pub record ByKind (C : Refusal → Type 0) : Type 0 where
   pub damaged : (d : ℕ) → C (Damaged d)
   pub pending : (d : List ℕ) → C (Pending d)
 
-plain_number : (n : ℕ) → IsPlain n → IsPlain n
-plain_number n h = h
-
 pub by_kind : (C : Refusal → Type 0) → ByKind C → (r : Refusal) → C r
 by_kind C k BadPath = k.plain BadPath (search rules) refl
 by_kind C k HiddenName = k.plain HiddenName (search rules) refl

@@ -151,12 +151,3 @@ write_outside s new offset piece new_is =
       behind = drop-written offset piece s.bytes;
       longer = omega arith;
     })
-
-pub stays_outside : (at end : ℕ) (s : Stored) → Outside at end s s
-stays_outside at end s = record {
-  block = refl;
-  chunk = refl;
-  before = refl;
-  behind = refl;
-  longer = omega arith;
-}

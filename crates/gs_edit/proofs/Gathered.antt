@@ -43,10 +43,6 @@ remove_refused p e t u m l n hs are low is h =
       same_names u t n m (tree_of_rows u t rows.1) is,
     )
 
-pub remove_uncounted : (p : Path) (e : Refusal) (t : FinMap path_cmp (Entry ℕ)) (m : Counts) (hs : List ℕ) → hs ≡ chunks_under p (entries t) → lowered_each m hs ≡ Err e → renamed (edits.Remove p) (names_of t m) ≡ Err BadLine
-remove_uncounted p e t m hs are low =
-    ap (λ r. cond (is_ok r) (with_counts (edited (edits.Remove p) (entries t)) r) (Err BadLine)) (ap (lowered_each m) (sym are) ∙ low)
-
 pub removed_back : (p : Path) (i : TreeInverse) (node : List (Path × Entry ℕ)) (t u : FinMap path_cmp (Entry ℕ)) (m n : Counts) (hs : List ℕ) → i ≡ Removed p node → TakesBack i (get t) (get u) → part_chunks node ≡ hs → raised_each n hs ≡ Ok m → NamesTakenBack (inverses.Tree i) (names_of t m) (names_of u n)
 removed_back p i node t u m n hs is back are up =
     subst (λ (j : TreeInverse). TakesBack j (get t) (get u) → NamesTakenBack (inverses.Tree j) (names_of t m) (names_of u n)) (sym is)

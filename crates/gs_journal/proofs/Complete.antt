@@ -1,7 +1,7 @@
 -- Bytes that are a header and whole records.
-use Rattle.std.proofs.Common.{◌≡◌, ◌≢◌, ℕ, ◌+◌, ◌≤◌, List, [], ◌∷◌, ◌++◌, length, take, drop, get_or, refl, sym, ◌∙◌, ap, subst, arith, append_assoc, length-append, take-append-drop, length-drop}
+use Rattle.std.proofs.Common.{◌≡◌, ◌≢◌, ℕ, ◌+◌, List, [], ◌∷◌, ◌++◌, length, take, drop, get_or, refl, sym, ◌∙◌, ap, subst, arith, append_assoc, length-append, take-append-drop, length-drop}
 use Rattle.std.specs.Prelude.{sum_by}
-use Rattle.std.proofs.lemmas.List.{append-nil, take_at, drop_at, drop_all, drop_more, take-append-le, get_or_at, length-take-le}
+use Rattle.std.proofs.lemmas.List.{append-nil, take_at, drop_at, drop_all, drop_more, get_or_at, length-take-le}
 use Rattle.std.proofs.lemmas.List.Sums.{sum_by-append, sum_by-cons}
 use Rattle.gs_journal.specs.Records.{Entry, body_length, entry_of, records_behind, records_of, header_length, text_of}
 use Rattle.gs_journal.specs.Journal.{record_size, text_size}
@@ -52,10 +52,6 @@ complete_next front bytes so_far is =
 -- what stands behind whole records counts for nothing
 pub ends_there : (front rest : List ℕ) → IsComplete front → records_behind 0 rest ≡ [] → records_of (front ++ rest) ≡ records_of front
 ends_there front rest so_far none = so_far.goes_on rest ∙ ap (λ (rs : List Entry). records_of front ++ rs) none ∙ append-nil (records_of front)
-
--- the header stands in front
-pub header_front : (front rest : List ℕ) → header_length ≤ length front → take header_length (front ++ rest) ≡ take header_length front
-header_front front rest long = take-append-le header_length front rest long
 
 -- bytes at rest, in two parts
 pub at_rest_parts : (end : ℕ) (bytes : List ℕ) → IsAtRest end bytes → bytes ≡ take end bytes ++ get_or bytes end 1 ∷ []

@@ -35,15 +35,6 @@ indexed_same locks old new is same tight = record {
   held = λ k. same.held k ∙ is.held k;
 }
 
--- a lock more, a lock less
-pub indexed_more : (xs ys : List Lock) (l : Lock) (old new : Index) → IsIndexed (xs ++ ys) old → AddsLock old new l → (IsTight old → IsTight new) → IsIndexed (xs ++ l ∷ ys) new
-indexed_more xs ys l old new is adds tight = record {
-  tight = tight is.tight;
-  reads = λ p. adds.reads p ∙ ap (λ n. n + cond (reads_path p l) 1 0) (is.reads p) ∙ sym (count_mid (reads_path p) xs ys l);
-  writes = λ p. adds.writes p ∙ ap (λ n. n + cond (writes_path p l) 1 0) (is.writes p) ∙ sym (count_mid (writes_path p) xs ys l);
-  held = λ k. adds.held k ∙ ap (λ n. n + cond (is_of k l) 1 0) (is.held k) ∙ sym (count_mid (is_of k) xs ys l);
-}
-
 less : (old new one all rest : ℕ) → old ≡ new + one → old ≡ all → all ≡ rest + one → new ≡ rest
 less old new one all rest a b c = omega arith
 

@@ -83,11 +83,6 @@ pub path_text-read_by : (passes : Name → Bool) (text : List ℕ) (p : Path) �
 path_text-read_by passes [] p h = cc
 path_text-read_by passes (c ∷ rest) p h = slash_first passes (eqb c 47) c rest p refl h
 
--- a text that is more than its slash
-pub read_by-slash : (passes : Name → Bool) (text rest : List ℕ) → text ≡ 47 ∷ rest → 0 < length rest → read_by passes text ≡ judged passes (slice_split (λ b. eqb b 47) rest)
-read_by-slash passes text [] e h = absurd (omega arith)
-read_by-slash passes text (c ∷ rest) e h = ap (read_by passes) e
-
 -- the parts of a text of which the first are taken
 pub record Reads (passes : Name → Bool) (whole : Path) (done : Path) (rest : List ℕ) : Type 0 where
   pub passed : list_all passes done ≡ true

@@ -28,9 +28,6 @@ before_better racks replicas taken u b s least less =
 up_to : (n u : ℕ) → u < n + 1 → (u < n) ⊎ (u ≡ n)
 up_to n u h = ⊎_elim (λ (below : u < n). inl below) (λ (above : n ≤ u). inr (let e : u ≡ n = omega arith in e)) (cases_lt u n)
 
-pub best_start : (racks : ℕ) (replicas taken : List ℕ) → IsBest racks replicas taken 0 None
-best_start racks replicas taken u h = absurd (omega arith)
-
 clash : (b : Bool) → b ≡ true → b ≡ false → ⊥
 clash b t f = false≢true (sym f ∙ t)
 

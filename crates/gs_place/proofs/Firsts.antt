@@ -11,9 +11,6 @@ use Rattle.gs_place.specs.Order.{precedes}
 pub precedes_itself : (x y z : ℕ) → precedes x x y y z z ≡ false
 precedes_itself x y z = grind (arith, nat_tests)
 
-pub precedes_not_back : (x x' y y' z z' : ℕ) → precedes x x' y y' z z' ≡ true → precedes x' x y' y z' z ≡ false
-precedes_not_back x x' y y' z z' h = grind (arith, nat_tests)
-
 pub precedes_other : (x x' y y' z z' : ℕ) → z ≢ z' → precedes x x' y y' z z' ≡ false → precedes x' x y' y z' z ≡ true
 precedes_other x x' y y' z z' d h = grind (arith, nat_tests)
 

@@ -3,12 +3,12 @@ use Rattle.std.proofs.Common.{◌≡◌, ℕ, ◌+◌, ◌<◌, ◌≤◌, Bool,
 use Rattle.std.proofs.lemmas.List.{take_more}
 use Rattle.std.proofs.lemmas.Bool.{false≢true}
 use Rattle.std.proofs.lemmas.List.Elements.{Contains-push, Contains-push_cases, Contains-append_cases, Contains-append_left, Contains-append_right}
-use Rattle.std.specs.Prelude.{◌&&◌, not, filter, find, Contains, MatchOption}
+use Rattle.std.specs.Prelude.{◌&&◌, not, filter, find, Contains}
 use Rattle.std.specs.List.{list_all}
 use Rattle.std.specs.Option.{option_map}
 use Rattle.gs_place.specs.declared.need.Need.{Need}
 use Rattle.gs_place.specs.Order.{rank}
-use Rattle.gs_place.specs.Needs.{shortfall, is_needy, needs_more, needier, IsMost, most_needed_of, IsMostNeeded}
+use Rattle.gs_place.specs.Needs.{shortfall, is_needy, needs_more, needier, IsMost, most_needed_of}
 use Rattle.gs_place.specs.declared.need.Needed.{Needed}
 use Rattle.gs_place.specs.Offered.{IsNeeded}
 use Rattle.gs_place.proofs.Firsts.{precedes_itself, precedes_better_down, precedes_neither}
@@ -22,9 +22,6 @@ more_itself replicas n = precedes_itself (shortfall replicas n) (rank n.is_visib
 more_better : (replicas : ℕ) (u b s : Need) → needs_more replicas u b ≡ false → needs_more replicas s b ≡ true → needs_more replicas u s ≡ false
 more_better replicas u b s least less =
     precedes_better_down (shortfall replicas u) (shortfall replicas b) (shortfall replicas s) (rank u.is_visible) (rank b.is_visible) (rank s.is_visible) u.handle b.handle s.handle least less
-
-pub most_start : (replicas : ℕ) → IsMost replicas [] None
-most_start replicas o h = absurd (omega (arith, h.1))
 
 pub most_push : (replicas : ℕ) (needs : List Need) (n : Need) (most : Option Need) → IsMost replicas needs most → IsMost replicas (needs ++ n ∷ []) (needier replicas most n)
 most_push replicas needs n None is = at (is_needy replicas n) refl
@@ -141,11 +138,6 @@ most_is replicas needs (Some b) is =
     sym (find_alike (λ n. list_all (least n) (filter (is_needy replicas) needs)) (is_needy replicas) (λ n. n.handle) needs b is.0 is.1
     (all_of (least b) (is_needy replicas) needs (λ o among needy. ap not (is.2 o among needy)))
     (λ o among needy first. same_handle replicas o b (is.2 o among needy) (before_not (needs_more replicas b o) (each_of (least o) (is_needy replicas) needs first b is.0 is.1))))
-
-pub most_needed_is : (replicas : ℕ) (needs : List Need) (most : Option Need) → IsMost replicas needs most
-    → MatchOption (option_map (λ n. n.handle) most) ((need : Need) → Contains needs need → is_needy replicas need ≡ false) (IsMostNeeded replicas needs)
-most_needed_is replicas needs None is = is
-most_needed_is replicas needs (Some b) is = record { need = b; among = is.0; handle_is = refl; needy = is.1; most = is.2 }
 
 -- ---- as they are offered
 pub needed_more : (replicas : ℕ) (needs : List Need) (n : Need) (old new : Needed) → new.replicas ≡ old.replicas → new.most ≡ needier old.replicas old.most n

@@ -6,7 +6,7 @@ use Rattle.std.specs.Prelude.{◌||◌}
 use Rattle.std.specs.Option.{option_and_then}
 use Rattle.gs_base.specs.Members.{servers_where, is_member, with_member}
 use Rattle.gs_base.specs.MemberLaws.{same_servers, is_member-servers_where, servers_where-none}
-use Rattle.gs_place.specs.Targets.{is_candidate, first_candidate, picked_from, targets_of, taken_with, EachIsFirst, IsFirst, AreTargets, RunsOut}
+use Rattle.gs_place.specs.Targets.{first_candidate, picked_from, targets_of, taken_with, EachIsFirst, IsFirst, AreTargets}
 
 pub record Picked (servers racks : ℕ) (replicas present : List ℕ) (wanted i : ℕ) (taken targets : List ℕ) : Type 0 where
   pub picked : List ℕ
@@ -84,12 +84,3 @@ pub picked_out : (servers racks : ℕ) (replicas present : List ℕ) (wanted i :
 picked_out servers racks replicas present wanted i taken targets below none h =
     sym h.rest ∙ ap (picked_from servers racks replicas taken targets) (one_less i wanted below)
     ∙ ap (λ o. option_and_then (λ target. picked_from servers racks replicas (with_member taken target) (with_member targets target) (wanted - (i + 1))) o) none
-
-pub runs_out : (servers racks : ℕ) (replicas present : List ℕ) (wanted i : ℕ) (taken targets : List ℕ) → i < wanted → ((s : ℕ) → is_candidate servers taken s ≡ false)
-    → Picked servers racks replicas present wanted i taken targets → RunsOut servers racks replicas present wanted
-runs_out servers racks replicas present wanted i taken targets below none h = record {
-  picked = h.picked;
-  number = omega (arith, h.number);
-  first = h.first;
-  none = λ s. ap (λ x. is_candidate servers x s) (sym h.taken_is) ∙ none s;
-}

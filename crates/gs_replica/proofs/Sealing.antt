@@ -105,14 +105,8 @@ not_same m n h = grind (arith, nat_tests)
 eq_not : (m n : ℕ) → m ≢ n → (m == n) ≡ false
 eq_not m n h = grind (arith, nat_tests)
 
-eq_is : (m n : ℕ) → m ≡ n → (m == n) ≡ true
-eq_is m n h = grind (arith, nat_tests)
-
 pub can : (m n : ℕ) (b : Bool) → m ≢ n → b ≡ true → (not (m == n) && b) ≡ true
 can m n b h e = ap (λ c. not c && b) (eq_not m n h) ∙ e
-
-pub cannot_same : (m n : ℕ) (b : Bool) → m ≡ n → (not (m == n) && b) ≡ false
-cannot_same m n b h = ap (λ c. not c && b) (eq_is m n h)
 
 pub cannot_uncovered : (m n : ℕ) (b : Bool) → m ≢ n → b ≡ false → (not (m == n) && b) ≡ false
 cannot_uncovered m n b h e = ap (λ c. not c && b) (eq_not m n h) ∙ e

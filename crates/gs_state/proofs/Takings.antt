@@ -220,10 +220,6 @@ back_all inverses left names before is h = ap (λ n. back_to (drop n inverses) n
 back_more : (inverses : List ListedInverse) (left : ℕ) (x : ListedInverse) (names mid : NamesView) → left < length inverses → x ≡ get_or inverses left x → back_to (drop (left + 1) inverses) names ≡ Some mid → back_to (drop left inverses) names ≡ undone (plain_inverse x) mid
 back_more inverses left x names mid h at is = ap (λ l. back_to l names) (drop_here inverses left x h at) ∙ ap (option_and_then (undone (plain_inverse x))) is
 
-pub back_given : (inverses : List ListedInverse) (before left : ℕ) (x : ListedInverse) (names mid new : NamesView) → left < length inverses → before ≡ left + 1 → x ≡ get_or inverses left x → back_to (drop before inverses) names ≡ Some mid → TakesBackOne (plain_inverse x) mid (Ok tt) new
-    → back_to (drop left inverses) names ≡ Some new
-back_given inverses before left x names mid new h one at is takes = back_more inverses left x names mid h at (ap (λ n. back_to (drop n inverses) names) (sym one) ∙ is) ∙ takes
-
 none_further : (left : ℕ) (inverses : List ListedInverse) (names : NamesView) → back_to (drop left inverses) names ≡ None → back_to inverses names ≡ None
 none_further zero inverses names none = none
 none_further (suc left) [] names none = none

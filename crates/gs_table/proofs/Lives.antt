@@ -12,7 +12,7 @@ use Rattle.std.specs.Map.{lookup}
 use Rattle.std.specs.Option.{option_flatten}
 use Rattle.std.specs.List.{AllByRecursion}
 use Rattle.std.specs.List.Sorted.{IsStrictlySortedBy}
-use Rattle.gs_table.specs.Slots.{live_entries, set_live, live, HasRoom, KeepsRoom, GivesUpRoom, IsWritten}
+use Rattle.gs_table.specs.Slots.{live_entries, set_live, live, HasRoom, GivesUpRoom, IsWritten}
 
 joined_cond : {V : Type 0} (b : Bool) (x : Option V) (y : Option (Option V)) → option_flatten (cond b (Some x) y) ≡ cond b x (option_flatten y)
 joined_cond true x y = refl
@@ -45,10 +45,6 @@ length_live (e ∷ es) = held e.0 e.1 es (length_live es)
     held k None es h = omega arith
     held k (Some v) es h = omega arith
 
-is_some_cond : {A : Type 0} (b : Bool) (x : A) (y : Option A) → is_some y ≡ true → is_some (cond b (Some x) y) ≡ true
-is_some_cond true x y h = refl
-is_some_cond false x y h = h
-
 module _ {K V : Type 0} {R : K → K → Ordering} (o : IsTotalOrder R) where
   get-set_live : (k : K) (w : Option V) (m : fin.FinMap R V) (q : K) → fin.get (set_live k w m) q ≡ cond (eq_by_cmp R q k) w (fin.get m q)
   get-set_live k (Some v) m q = fin.get-insert o m k v q
@@ -59,9 +55,6 @@ module _ {K V : Type 0} {R : K → K → Ordering} (o : IsTotalOrder R) where
   unfolding live
   get-live [] q = fin.get-empty R q
   get-live (e ∷ es) q = get-set_live e.0 e.1 (live R es) q ∙ ap (cond (eq_by_cmp R q e.0) e.1) (get-live es q) ∙ sym (joined_cond (eq_by_cmp R q e.0) e.1 (fin.find R q es))
-
-  pub live_same : fin.IsAntisymmetric R → (es fs : List (K × Option V)) → ((q : K) → option_flatten (fin.find R q fs) ≡ option_flatten (fin.find R q es)) → live R fs ≡ live R es
-  live_same same es fs is = fin.same_map o same _ _ (λ q. get-live fs q ∙ is q ∙ sym (get-live es q))
 
   -- a write of a slot is a write of what lives
   pub live_written : fin.IsAntisymmetric R → (es fs : List (K × Option V)) (k : K) (w : Option V) → IsWritten R es fs k w → live R fs ≡ set_live k w (live R es)
@@ -105,18 +98,6 @@ module _ {K V : Type 0} {R : K → K → Ordering} (o : IsTotalOrder R) where
     none = found_without es fs k says k ∙ ap (λ b. cond b None (fin.find R k es)) ((eq_by_cmp_equiv o).refl k);
     others = λ q apart room. record { slot = ap is_some (found_without es fs k says q ∙ ap (λ b. cond b None (fin.find R q es)) apart) ∙ room.slot };
   }
-
-  pub room_written : (es fs : List (K × Option V)) (k : K) (w : Option V) → IsWritten R es fs k w → HasRoom R fs k
-  room_written es fs k w is = record { slot = ap is_some (is.each k ∙ ap (λ b. cond b (Some w) (fin.find R k es)) ((eq_by_cmp_equiv o).refl k)) }
-
-  pub keeps_written : (es fs : List (K × Option V)) (k : K) (w : Option V) → IsWritten R es fs k w → KeepsRoom R es fs
-  keeps_written es fs k w is = record { keeps = λ q room. record { slot = ap is_some (is.each q) ∙ is_some_cond (eq_by_cmp R q k) w (fin.find R q es) room.slot } }
-
-  pub keeps_same : (es : List (K × Option V)) → KeepsRoom R es es
-  keeps_same es = record { keeps = λ q room. room }
-
-  pub keeps_both : (es fs gs : List (K × Option V)) → KeepsRoom R es fs → KeepsRoom R fs gs → KeepsRoom R es gs
-  keeps_both es fs gs h k = record { keeps = λ q room. k.keeps q (h.keeps q room) }
 
   -- ---- in the order of the keys
   kept : (k key : K) (slot : Option V) (es : List (K × Option V)) → R k key ≡ Less → Below R k (map (λ e. e.0) (live_entries es)) → Below R k (map (λ e. e.0) (live_entries ((key, slot) ∷ es)))

@@ -8,11 +8,8 @@ use Rattle.std.specs.Ordering.{match_ordering}
 use Rattle.std.specs.declared.alloc.Global.{Global}
 use Rattle.std.specs.declared.cmp.Ordering.TheVariants.{Less, Equal, Greater}
 use Rattle.gs_path.specs.Path.{Path, text_cmp}
-use Rattle.gs_record.specs.Plain.{PlainNode}
-use Rattle.gs_tree.specs.Build.{kind_of_entry, path_of_entry, rows_of_entries}
-use Rattle.gs_tree.specs.Entry.{chunks_of}
 use Rattle.gs_tree.specs.declared.entry.TreeEntry.{TreeEntry}
-use Rattle.gs_text_order.specs.Order.{by_text, nodes_of, plain_chunks}
+use Rattle.gs_text_order.specs.Order.{nodes_of, plain_chunks}
 
 -- a tree map's insert puts a node
 pub nodes_put : (es : List (Path × Option (Vec ℕ Global))) (p : Path) (chunks : Option (Vec ℕ Global)) → nodes_of (insert_entry text_cmp es p chunks) ≡ fin.put text_cmp p (plain_chunks chunks) (nodes_of es)
@@ -24,10 +21,6 @@ nodes_put (e ∷ es) p chunks = each (nodes_put es p chunks) (text_cmp p e.0)
     each rest Less = refl
     each rest Equal = refl
     each rest Greater = ap (λ ns. (e.0, plain_chunks e.1) ∷ ns) rest
-
--- one entry more, before those that were put
-pub node_before : (nodes more : List PlainNode) (e : TreeEntry) (rest : List TreeEntry) → nodes ≡ by_text (rows_of_entries rest) → more ≡ fin.put text_cmp (path_of_entry e) (chunks_of (kind_of_entry e)) nodes → more ≡ by_text (rows_of_entries (e ∷ rest))
-node_before nodes more e rest is put = put ∙ ap (fin.put text_cmp (path_of_entry e) (chunks_of (kind_of_entry e))) is
 
 pub moved_over : (left new : List TreeEntry) (e : TreeEntry) (rest all : List TreeEntry) → left ≡ new ++ e ∷ [] → left ++ rest ≡ all → new ++ e ∷ rest ≡ all
 moved_over left new e rest all is h = sym (append_assoc new (e ∷ []) rest) ∙ ap (λ es. es ++ rest) (sym is) ∙ h

@@ -1,17 +1,17 @@
 -- A file with other chunks.
 use Rattle.std.proofs.Common.{◌≡◌, ◌-◌, ℕ, Bool, true, false, cond, List, [], ◌∷◌, ◌++◌, length, take, set, refl, sym, ap, ◌∙◌, arith, nat_lt}
-use Rattle.std.specs.Prelude.{Option, Some, None, Result, Ok, Err, is_none, not}
+use Rattle.std.specs.Prelude.{Option, Some, None, Result, Ok, Err, is_none}
 use Rattle.std.specs.declared.cmp.Ordering.{Ordering}
 use Rattle.std.specs.declared.cmp.Ordering.TheVariants.{Less, Equal, Greater}
 use Rattle.std.specs.Ordering.{is_eq, ordering_then}
 use Rattle.gs_base.specs.declared.refusal.Refusal.{Refusal}
-use Rattle.gs_base.specs.declared.refusal.Refusal.TheVariants.{NotFound, IsADirectory, Range}
+use Rattle.gs_base.specs.declared.refusal.Refusal.TheVariants.{NotFound, IsADirectory}
 use Rattle.gs_path.specs.Path.{Name, Path, same_name, name_cmp, path_cmp}
 use Rattle.gs_tree.specs.Entry.{Entry, Dir, File}
 use Rattle.gs_tree.specs.Entry as entry
 use Rattle.gs_tree.specs.Plain.{Plain, Same}
 use Rattle.gs_tree.specs.Find.{Rows, at}
-use Rattle.gs_tree.specs.Edits.{with_entry, with_chunks, chunks_in, is_file, is_dir, same_path, add_chunk, set_chunk}
+use Rattle.gs_tree.specs.Edits.{with_entry, with_chunks, chunks_in, is_file, is_dir, same_path, add_chunk}
 use Rattle.gs_tree.specs.inner.Sort.{sort_of}
 use Rattle.gs_tree.specs.declared.node.Sort.TheVariants as sorts
 use Rattle.gs_tree.proofs.Splice.{splice, one_name}
@@ -43,20 +43,10 @@ chunks_below x t chunks child child' f g is (y ∷ r) =
     ] refl
     ∙ sym (entry-cons x y t r (File chunks) f)
 
--- the file itself
-pub chunks_here : (old new : List ℕ) (q : Path) → at (([], File new) ∷ []) q ≡ with_chunks [] new (at (([], File old) ∷ [])) q
-chunks_here old new [] = refl
-chunks_here old new (y ∷ r) = refl
-
 pub file_is : (v : Option (Entry ℕ)) → sorts.File ≡ sort_of v → is_file v ≡ true
 file_is None e = absurd (cc)
 file_is (Some entry.Dir) e = absurd (cc)
 file_is (Some (entry.File chunks)) e = refl
-
-pub no_chunks : (v : Option (Entry ℕ)) → (sorts.File ≡ sort_of v → ⊥) → chunks_in v ≡ []
-no_chunks None h = refl
-no_chunks (Some entry.Dir) h = refl
-no_chunks (Some (entry.File chunks)) h = absurd (h refl)
 
 pub same_itself : (p : Path) → same_path p p ≡ true
 same_itself p = (eq_by_cmp_equiv path_total).refl p
@@ -98,9 +88,6 @@ file_tests (Some (entry.File chunks)) r h = refl
 
 pub add-is : (m : Plain ℕ) (p : Path) (chunk : ℕ) → is_file (m p) ≡ true → add_chunk m p chunk ≡ Ok (with_chunks p (chunks_in (m p) ++ chunk ∷ []) m)
 add-is m p chunk file = file_tests (m p) (Ok (with_chunks p (chunks_in (m p) ++ chunk ∷ []) m)) file
-
-pub set-is : (m : Plain ℕ) (p : Path) (index chunk : ℕ) → is_file (m p) ≡ true → set_chunk m p index chunk ≡ cond (not (nat_lt index (length (chunks_in (m p))))) (Err Range) (Ok (with_chunks p (set (chunks_in (m p)) index chunk) m))
-set-is m p index chunk file = file_tests (m p) (cond (not (nat_lt index (length (chunks_in (m p))))) (Err Range) (Ok (with_chunks p (set (chunks_in (m p)) index chunk) m))) file
 
 pub all_but_appended : (xs : List ℕ) (x : ℕ) → take (length (xs ++ x ∷ []) - 1) (xs ++ x ∷ []) ≡ xs
 all_but_appended xs x = let n : length (xs ++ x ∷ []) - 1 ≡ length xs = omega (arith, length-append xs (x ∷ [])) in ap (λ k. take k (xs ++ x ∷ [])) n ∙ take-append_seam xs (x ∷ [])

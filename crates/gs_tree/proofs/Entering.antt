@@ -1,5 +1,5 @@
 -- The rows of a node listed child by child.
-use Rattle.std.proofs.Common.{◌≡◌, ◌&&◌, ◌++◌, ℕ, Bool, true, false, cond, T, List, [], ◌∷◌, refl, sym, ap, ◌∙◌, subst, append_assoc, append-nil}
+use Rattle.std.proofs.Common.{◌≡◌, ◌&&◌, ◌++◌, ℕ, Bool, true, false, cond, T, List, [], ◌∷◌, refl, sym, ap, ◌∙◌, subst, append_assoc}
 use Rattle.std.specs.Prelude.{Option, Some, None, is_some, is_none}
 use Rattle.std.specs.List.{list_all}
 use Rattle.std.specs.List.Sorted.{IsStrictlySortedBy}
@@ -87,9 +87,6 @@ entered-more p all e left before found new is sound h = record {
       ∙ ap (λ l. found ++ (l ++ prefixed p (joined left))) (sym (prefixed-under p e.0 e.1)) ∙ ap (λ l. found ++ l) (sym (prefixed-append p (under e.0 e.1) (joined left))) ∙ h.rows;
   sound = λ each. h.sound (sound, each);
 }
-
-pub entered-all : (p : Path) (all : List (Name × Rows ℕ)) (before found : Rows ℕ) → Entered p all [] before found → found ≡ before ++ prefixed p (joined all)
-entered-all p all before found h = sym (append-nil found) ∙ h.rows
 
 -- paths that are sorted are apart
 none_below : (p : Path) (rows : Rows ℕ) → T (below_all path_cmp p rows) → at rows p ≡ None

@@ -159,12 +159,6 @@ pub record Gathered (keep : Bool) (all left : List (Name × Rows ℕ)) (before f
   pub chunks : found ++ all_chunks (kept_joined keep left) ≡ before ++ all_chunks (kept_joined keep all)
   pub rise : EachRises keep left → EachRises keep all
 
-pub gathered-less : (keep : Bool) (all : List (Name × Rows ℕ)) (e : Name × Rows ℕ) (left : List (Name × Rows ℕ)) (before found : List ℕ) → (not keep && is_hidden e.0) ≡ true → Gathered keep all (e ∷ left) before found → Gathered keep all left before found
-gathered-less keep all e left before found hid h = record {
-  chunks = sym (ap (λ b. found ++ all_chunks (cond b (kept_joined keep left) (under e.0 (kept_rows keep e.1) ++ kept_joined keep left))) hid) ∙ h.chunks;
-  rise = λ each. h.rise ((λ seen. absurd (cc)), each);
-}
-
 pub gathered-more : (keep : Bool) (all : List (Name × Rows ℕ)) (e : Name × Rows ℕ) (left : List (Name × Rows ℕ)) (before found new : List ℕ) → (not keep && is_hidden e.0) ≡ false → new ≡ found ++ all_chunks (kept_rows keep e.1) → is_sorted path_cmp (kept_rows keep e.1) ≡ true → Gathered keep all (e ∷ left) before found → Gathered keep all left before new
 gathered-more keep all e left before found new seen is rise h = record {
   chunks = ap (λ l. l ++ all_chunks (kept_joined keep left)) is ∙ append_assoc found (all_chunks (kept_rows keep e.1)) (all_chunks (kept_joined keep left))

@@ -147,18 +147,6 @@ pub record Filling (t : Path × Entry ℕ) (all left : Rows ℕ) (k : ℕ) (m : 
   pub levels : (n : ℕ) → length t.0 < n → n ≤ k → fits_level (has_parent t.0 (at (t ∷ all))) n all ≡ true
   pub fits : fits_level (has_parent t.0 (at (t ∷ all))) (k + 1) done ≡ true
 
-pub filling_none : (t : Path × Entry ℕ) (all : Rows ℕ) (k : ℕ) (m : Plain ℕ) → IsFilled t all k m → Filling t all all k m
-filling_none t all k m h = record {
-  done = [];
-  split = refl;
-  start = h.start;
-  upper = h.upper;
-  level = λ q l. h.lower q (omega arith);
-  lower = λ q l. h.lower q (omega arith);
-  levels = h.levels;
-  fits = refl;
-}
-
 -- a row of another length is passed over
 pub filling_skip : (t x : Path × Entry ℕ) (all left : Rows ℕ) (k : ℕ) (m : Plain ℕ) → Filling t all (x ∷ left) k m → (length x.0 == k + 1) ≡ false → Filling t all left k m
 filling_skip t x all left k m h other = record {

@@ -14,7 +14,7 @@ use Rattle.gs_tree.specs.declared.node.Sort.TheVariants as sorts
 use Rattle.gs_tree.specs.inner.Sort.{sort_of}
 use Rattle.gs_tree.specs.Plain.{Plain, after, rooted, with_at, without, part_at, IsFree}
 use Rattle.gs_tree.specs.Find.{Rows, at, DirsAbove, IsBelow, IsDepthTest}
-use Rattle.gs_tree.specs.Edits.{rename, move_to, placed, moved, hide, unhide, unhidden, renamed_beside, beside, old_name, snapshot, copied, parent, last, target_of, same_path, is_file, is_dir}
+use Rattle.gs_tree.specs.Edits.{rename, move_to, placed, moved, hide, renamed_beside, beside, old_name, snapshot, copied, parent, last, target_of, same_path, is_file, is_dir}
 use Rattle.gs_tree.specs.Listing.{IsListingOf, pairs_of}
 use Rattle.gs_tree.specs.declared.node.Listed.{Listed}
 use Rattle.gs_tree.specs.Inverses.{TakesBack}
@@ -44,10 +44,6 @@ last-append (y ∷ z ∷ p) x = last-append (z ∷ p) x
 front_of : (r : Path) (y x : Name) → take (length (r ++ x ∷ [])) (y ∷ (r ++ x ∷ [])) ≡ y ∷ r
 front_of [] y x = refl
 front_of (z ∷ r) y x = ap (λ s. y ∷ s) (front_of r z x)
-
-pub parent_of-append : (p : Path) (x : Name) → parent_of (p ++ x ∷ []) ≡ Some p
-parent_of-append [] x = refl
-parent_of-append (y ∷ p) x = ap (λ r. Some r) (front_of p y x)
 
 -- the answer by what the target's parent is
 abbrev pub by_parent : Bool → Sort → Plain ℕ → Result (Plain ℕ) Refusal
@@ -301,9 +297,6 @@ old_name-append [] x = refl
 old_name-append (y ∷ []) x = refl
 old_name-append (y ∷ z ∷ p) x = old_name-append (z ∷ p) x
 
-pub unhide-is : (m : Plain ℕ) (p : Path) (name : Option Name) → name ≡ old_name p → unhide m p ≡ unhidden m p name
-unhide-is m p name e = ap (unhidden m p) (sym e)
-
 -- a refusal that the plain tree gives
 pub refused : (I : Type 0) {r : Result (Plain ℕ) Refusal} (f : Refusal) (old : Plain ℕ) → r ≡ Err f → Follows {I = I} r (Err f) old old
 refused I f old e = subst (λ (s : Result (Plain ℕ) Refusal). Follows {I = I} s (Err f) old old) (sym e) (inl refl, λ q. refl)
@@ -340,8 +333,3 @@ taken m n from to false is h = h
 pub put_there : (m node n : Plain ℕ) (from to : Path) (b : Bool) → b ≡ true → Lands m node from to (Ok b) n → IsFree m to × ((q : Path) → n q ≡ with_at to node m q)
 put_there m node n from to true is h = h
 put_there m node n from to false is h = absurd (false≢true is)
-
--- a node that went back
-pub put_back_there : (m node n : Plain ℕ) (from to : Path) (b : Bool) → b ≡ false → Lands m node from to (Ok b) n → (is_some (m to) ≡ true) × ((q : Path) → n q ≡ with_at from node m q)
-put_back_there m node n from to true is h = absurd (false≢true (sym is))
-put_back_there m node n from to false is h = h

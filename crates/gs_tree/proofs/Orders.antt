@@ -1,22 +1,20 @@
 -- The rows of a part of a tree in another order.
-use Rattle.std.proofs.Common.{◌≡◌, ◌≤◌, ◌+◌, ◌&&◌, ℕ, Bool, true, false, cond, [], ◌∷◌, refl, sym, ap, ◌∙◌, subst, T, arith}
+use Rattle.std.proofs.Common.{◌≡◌, ◌≤◌, ◌+◌, ◌&&◌, ℕ, Bool, true, false, cond, [], ◌∷◌, refl, sym, ap, ◌∙◌, arith}
 use Rattle.std.specs.Prelude.{Option, Some, None, is_none}
 use Rattle.std.specs.List.{All, list_all, sum_by}
 use Rattle.std.specs.List.Sorted.{IsPermutation}
 use Rattle.std.proofs.lemmas.List.Sums.{sum_by-cons}
 use Rattle.std.proofs.lemmas.List.Elements.{All-nil, All-cons, All-head, All-tail}
-use Rattle.std.proofs.lemmas.List.Sorted.{All-permutation, sum_by-IsPermutation, IsPermutation-sym}
-use Rattle.gs_path.specs.Path.{Path, path_cmp, begins}
-use Rattle.gs_tree.specs.Entry.{Entry, Dir}
+use Rattle.std.proofs.lemmas.List.Sorted.{All-permutation, sum_by-IsPermutation}
+use Rattle.gs_path.specs.Path.{Path, begins}
+use Rattle.gs_tree.specs.Entry.{Entry}
 use Rattle.gs_tree.specs.Plain.{Plain, Same}
 use Rattle.gs_tree.specs.Find.{Rows, at}
 use Rattle.gs_tree.specs.Edits.{same_path, is_dir, parent}
-use Rattle.gs_tree.specs.Build.{all_apart, is_short, has_place, is_part, is_tree, rooted_rows}
-use Rattle.std.specs.FinMap.{FinMap, get, entries, entries_sorted, get-entries, is_sorted}
-use Rattle.gs_tree.proofs.Entering.{apart-of}
+use Rattle.gs_tree.specs.Build.{all_apart, is_short, has_place, is_part}
 use Rattle.gs_tree.proofs.Reaching.{same_path-is}
 use Rattle.gs_tree.proofs.Chunks.{same_itself}
-use Rattle.gs_tree.proofs.Levels.{both_true, left_true, right_true, no_one, tail_none, never, parts_of}
+use Rattle.gs_tree.proofs.Levels.{both_true, left_true, right_true, no_one, tail_none, parts_of}
 
 -- how often a path stands there
 hit : Path → Path × Entry ℕ → ℕ
@@ -135,19 +133,6 @@ part_moved t rows other moved whole =
           (All-permutation (λ r. (begins t.0 r.0 && has_place (at (t ∷ rows)) r.0) ≡ true) rows other moved (all_passed (λ r. begins t.0 r.0 && has_place (at (t ∷ rows)) r.0) rows parts.places)))),
       tops,
     )
-
-pub tree_moved : (rows other : Rows ℕ) → IsPermutation rows other → is_tree other ≡ is_tree rows
-tree_moved rows other moved = each (is_tree rows) refl
-  where
-    each : (b : Bool) → is_tree rows ≡ b → is_tree other ≡ b
-    each true is = (part_moved ([], Dir) rows other moved is).0
-    each false is = never (is_tree other) (λ h. let k = (part_moved ([], Dir) other rows (IsPermutation-sym rows other moved) h).0 in cc)
-
--- rows that are those of a map
-pub map_moved : (m : FinMap path_cmp (Entry ℕ)) (rows other : Rows ℕ) → rooted_rows rows ≡ entries m → IsPermutation rows other → Same (at (rooted_rows other)) (get m)
-map_moved m rows other is moved q =
-    let apart : all_apart (rooted_rows rows) ≡ true = apart-of (rooted_rows rows) (subst (λ l. T (is_sorted path_cmp l)) (sym is) (entries_sorted m)) in
-    ap (λ v. cond (same_path q []) (Some Dir) v) ((same_moved rows other moved (right_true (is_none (at rows [])) (all_apart rows) apart)).1 q) ∙ ap (λ l. at l q) is ∙ sym (get-entries m q)
 
 pub all_moved : (f : Path × Entry ℕ → Bool) (rows other : Rows ℕ) → IsPermutation rows other → list_all f rows ≡ true → list_all f other ≡ true
 all_moved f rows other moved h = pass_all f f other (λ r. refl) (All-permutation (λ r. f r ≡ true) rows other moved (all_passed f rows h))

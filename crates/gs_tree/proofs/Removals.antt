@@ -19,12 +19,6 @@ pub named : {A : Type 0} (v : Option A) → is_none v ≡ false → is_some v �
 named None h = absurd (cc)
 named (Some x) h = refl
 
-pub not_hidden-is : (m : Plain ℕ) (p : Path) → is_none (old_name p) ≡ true → remove m p ≡ Err NotHidden
-not_hidden-is m p hidden = ap (λ b. cond b (Err NotHidden) (cond (is_none (m p)) (Err NotFound) (Ok (without p m)))) hidden
-
-pub not_there-is : (m : Plain ℕ) (p : Path) → is_none (old_name p) ≡ false → is_none (m p) ≡ true → remove m p ≡ Err NotFound
-not_there-is m p hidden none = ap (λ b. cond b (Err NotHidden) (cond (is_none (m p)) (Err NotFound) (Ok (without p m)))) hidden ∙ ap (λ b. cond b (Err NotFound) (Ok (without p m))) none
-
 -- the place of what was taken out
 pub gone_at : (m new : Plain ℕ) (p : Path) → ((q : Path) → new q ≡ without p m q) → IsFree new p
 gone_at m new p is r = is (p ++ r) ∙ ap (λ b. cond b None (m (p ++ r))) (begins_append p r)

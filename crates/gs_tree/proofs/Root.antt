@@ -1,13 +1,13 @@
 -- The root is a directory, and stays one.
-use Rattle.std.proofs.Common.{◌≡◌, ◌≢◌, ◌++◌, ℕ, Bool, true, false, cond, not, [], ◌∷◌, length, take, add-one, arith, nat_lt, slice_set, refl, sym, ap, ◌∙◌}
+use Rattle.std.proofs.Common.{◌≡◌, ◌≢◌, ℕ, Bool, true, false, cond, [], ◌∷◌, length, take, add-one, arith, nat_lt, refl, sym, ap, ◌∙◌}
 use Rattle.std.specs.Prelude.{Option, Some, None, Result, Ok, Err, is_some, is_none}
 use Rattle.std.proofs.lemmas.Bool.{ltb-true}
 use Rattle.gs_base.specs.declared.refusal.Refusal.{Refusal}
-use Rattle.gs_base.specs.declared.refusal.Refusal.TheVariants.{BadPath, NotFound, Exists, NotADirectory, IsADirectory, IntoItself, IsRoot, NotHidden, Range}
+use Rattle.gs_base.specs.declared.refusal.Refusal.TheVariants.{BadPath, NotFound, Exists, NotADirectory, IntoItself, IsRoot, NotHidden}
 use Rattle.gs_path.specs.Path.{Name, Path, begins}
 use Rattle.gs_tree.specs.Entry.{Dir, File}
 use Rattle.gs_tree.specs.Plain.{Plain, without}
-use Rattle.gs_tree.specs.Edits.{mkdirs, create, made, rename, placed, moved, hide, hidden_path, unhide, unhidden, beside, old_name, remove, add_chunk, set_chunk, snapshot, copied, with_dirs, with_entry, with_chunks, chunks_in, is_dir, is_file, file_above, same_path, target_of, parent}
+use Rattle.gs_tree.specs.Edits.{mkdirs, create, made, rename, placed, moved, hide, hidden_path, unhide, unhidden, beside, old_name, remove, snapshot, copied, with_dirs, with_entry, chunks_in, is_dir, is_file, file_above, same_path, target_of, parent}
 use Rattle.gs_tree.specs.Inverses.{Fits, after_undo, first_made}
 use Rattle.gs_tree.specs.Follows.{Follows, Undoes}
 use Rattle.gs_tree.specs.declared.inverse.TreeInverse.{TreeInverse}
@@ -79,15 +79,6 @@ remove-root m (x ∷ p) root = tested (is_none (old_name (x ∷ p))) NotHidden _
 
 no_file : (m : Plain ℕ) → m [] ≡ Some Dir → is_dir (m []) ≡ false → ⊥
 no_file m root h = let k : is_dir (m []) ≡ true = ap is_dir root in cc
-
-pub add_chunk-root : (m : Plain ℕ) (p : Path) (chunk : ℕ) → m [] ≡ Some Dir → KeepsRoot (add_chunk m p chunk)
-add_chunk-root m [] chunk root = tested (is_none (m [])) NotFound _ (λ _. tested (is_dir (m [])) IsADirectory (Ok (with_chunks [] (chunks_in (m []) ++ chunk ∷ []) m)) (λ file. absurd (no_file m root file)))
-add_chunk-root m (x ∷ p) chunk root = tested (is_none (m (x ∷ p))) NotFound _ (λ _. tested (is_dir (m (x ∷ p))) IsADirectory (Ok (with_chunks (x ∷ p) (chunks_in (m (x ∷ p)) ++ chunk ∷ []) m)) (λ _. root))
-
-pub set_chunk-root : (m : Plain ℕ) (p : Path) (index chunk : ℕ) → m [] ≡ Some Dir → KeepsRoot (set_chunk m p index chunk)
-set_chunk-root m [] index chunk root = tested (is_none (m [])) NotFound _ (λ _. tested (is_dir (m [])) IsADirectory _ (λ file. absurd (no_file m root file)))
-set_chunk-root m (x ∷ p) index chunk root =
-    tested (is_none (m (x ∷ p))) NotFound _ (λ _. tested (is_dir (m (x ∷ p))) IsADirectory _ (λ _. tested (not (nat_lt index (length (chunks_in (m (x ∷ p)))))) Range (Ok (with_chunks (x ∷ p) (slice_set (chunks_in (m (x ∷ p))) index chunk) m)) (λ _. root)))
 
 copied-root : (m : Plain ℕ) (from to : Path) → to ≢ [] → copied from to m [] ≡ m []
 copied-root m from [] ne = absurd (ne refl)

@@ -14,9 +14,8 @@ use Rattle.gs_tree.specs.Plain.{Plain, Same, after, part_at}
 use Rattle.gs_tree.specs.Find.{Rows, at}
 use Rattle.gs_tree.specs.Edits.{same_path, visible, snapshot, copied, placed, parent, is_file}
 use Rattle.gs_tree.specs.Inverses.{IsRemoved, removed_chunks}
-use Rattle.gs_tree.specs.Follows.{Follows, Undoes}
+use Rattle.gs_tree.specs.Follows.{Follows}
 use Rattle.gs_tree.specs.declared.inverse.TreeInverse.{TreeInverse}
-use Rattle.gs_tree.specs.declared.inverse.TreeInverse.TheVariants.{Removed}
 use Rattle.gs_tree.specs.Chunks.{all_chunks, chunks_under, visible_chunks_under, visible_under, by_path, part_chunks}
 use Rattle.gs_tree.proofs.Splice.{begins_parts}
 use Rattle.gs_tree.proofs.Laws.{begins_append, with_at-append}
@@ -154,7 +153,3 @@ snapshot_chunks (Ok i) is_deep old new from to h =
 pub remove_chunks : (r : Result TreeInverse Refusal) (old : FinMap path_cmp (Entry ℕ)) (p : Path) → IfOk r (λ i. IsRemoved (get old) p i) → IfOk r (λ i. removed_chunks i ≡ chunks_under p (entries old))
 remove_chunks (Err e) old p h = tt
 remove_chunks (Ok i) old p (node, (same, is)) = ap removed_chunks is ∙ sym (chunks_under-part old p node same)
-
--- and where it is planted again they stand under the path again
-pub planted_chunks : (old new : FinMap path_cmp (Entry ℕ)) (p : Path) (node : Rows ℕ) → Undoes (Removed p node) (get old) (Ok tt) (get new) → chunks_under p (entries new) ≡ removed_chunks (Removed p node)
-planted_chunks old new p node h = chunks_under-part new p node (λ q. h.1 (p ++ q) ∙ with_at-append p (at node) (get old) q)

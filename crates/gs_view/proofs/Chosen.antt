@@ -8,16 +8,6 @@ use Rattle.gs_base.specs.Members.{servers_where, is_member, with_member}
 use Rattle.gs_base.specs.MemberLaws.{same_servers, servers_where-none, is_member-servers_where}
 use Rattle.gs_view.specs.Choice.{Answers, answer_of, is_count, answerers, greater, greatest, Chooses}
 
-pub greater_assoc : (a b c : Option ℕ) → greater (greater a b) c ≡ greater a (greater b c)
-greater_assoc None b c = refl
-greater_assoc (Some a) None c = refl
-greater_assoc (Some a) (Some b) None = refl
-greater_assoc (Some a) (Some b) (Some c) = ap Some (omega arith)
-
-pub greater_none : (a : Option ℕ) → greater a None ≡ a
-greater_none None = refl
-greater_none (Some a) = refl
-
 -- ---- the answerers among the first servers
 abbrev pub answerers_below : Answers → ℕ → ℕ → List ℕ
 answerers_below answers count number = servers_where (λ server. ltb server number && is_count count (answer_of answers server))
