@@ -92,9 +92,6 @@ pub edit_again : {S : Type 0} (carries : S → Request → Reply → S → Type 
 edit_again carries path index l op bytes old mid new refusal result follows after =
     follows_other carries (edit_call l op bytes) (otherwise (again_call path index l.view.stamp op bytes)) old mid new (Err refusal) result refl follows after
 
-pub no_more : (n : ℕ) → n + 0 ≡ n
-no_more n = omega arith
-
 -- chunks that are added, one after another
 pub extends_next : (path : Path) (from i count : ℕ) → i < count
     → extends_call path (from + i) (count - i) ≡ both (extend_call path (from + i)) (λ l. extends_call path (from + (i + 1)) (count - (i + 1)))

@@ -1,19 +1,23 @@
 -- A scan of a deleted file with one chunk, beside a chunk that stands in no file: what its law asks for holds of these names.
-use Rattle.std.proofs.Common.{◌≡◌, ◌&&◌, ◌||◌, ◌+◌, ℕ, Bool, true, false, cond, List, [], ◌∷◌, refl, sym, ap, ◌∙◌}
+use Rattle.std.proofs.Common.{◌≡◌, ◌&&◌, ◌||◌, ◌+◌, ℕ, Bool, true, false, cond, List, [], ◌∷◌, refl, sym, ap, ◌∙◌, subst, arith}
 use Rattle.std.specs.Prelude.{Some, None, is_some, codes}
+use Rattle.std.specs.List.Sorted.{IsStrictlySortedBy}
+use Rattle.std.specs.List.{list_any}
 use Rattle.std.specs.Cmp.{nat_cmp_total}
 use Rattle.std.specs.FinMap as fin
 use Rattle.std.specs.FinMap.Entries.{same_entries}
 use Rattle.gs_path.specs.Path.{Name, Path, path_cmp, path_total}
-use Rattle.gs_refs.specs.Counts.{Counts, count_or_zero, occurrences}
+use Rattle.gs_refs.specs.Counts.{Counts, count_or_zero, occurrences, ascends}
 use Rattle.gs_tree.specs.Entry.{Dir, File}
 use Rattle.gs_tree.specs.Find.{Rows, at}
 use Rattle.gs_tree.specs.Edits.{same_path}
 use Rattle.gs_tree.specs.Chunks.{all_chunks}
 use Rattle.gs_edit.specs.View.{NamesView}
 use Rattle.gs_edit.specs.Names.{IsCounted}
-use Rattle.gs_edit.specs.Scan.{goes, is_removed}
+use Rattle.gs_edit.specs.Scan.{goes, is_removed, has_just, removal_cmp, IsScan}
+use Rattle.gs_edit.specs.Sweep.{named_each, edits_of, Sweeps}
 use Rattle.gs_edit.specs.declared.scan.Scan.{Scan}
+use Rattle.gs_edit.proofs.Sweeping.{swept}
 use Rattle.gs_edit.proofs.Tables.{same_path-is, paths_antisymmetric}
 use Rattle.gs_edit.proofs.References.{same}
 
@@ -57,5 +61,27 @@ stands q true b e f = refl
 stands q false true e f = refl
 stands q false false e f = refl
 
+freed : (q : ℕ) (a b : Bool) → same q 7 ≡ a → same q 9 ≡ b → (a || (b || false)) ≡ has_just (cond a 1 0 + 0) (cond a (Some 1) (cond b (Some 0) None))
+freed q true b e f = refl
+freed q false true e f = refl
+freed q false false e f = refl
+
 pub counted : IsCounted names
 counted q = ap count_or_zero (count_at q) ∙ stands q (same q 7) (same q 9) refl refl ∙ ap (λ (rs : Rows ℕ). occurrences q (all_chunks rs)) (sym rows_are)
+
+pub one_scan : (scan : Scan) → scan.removed.items ≡ (old_f ∷ []) ∷ [] → scan.forgotten.items ≡ 7 ∷ 9 ∷ [] → IsScan 259201 (fin.entries names.tree) refs scan
+unfolding IsStrictlySortedBy
+one_scan scan paths chunks = subst (λ (rs : Rows ℕ). IsScan 259201 rs refs scan) (sym rows_are) (record {
+  removed = record {
+    each = λ p. ap (list_any (same_path p)) paths ∙ removed p;
+    rise = subst (λ (ps : List Path). IsStrictlySortedBy removal_cmp ps) (sym paths) (tt, tt);
+  };
+  counted = λ q. (let k = ap count_or_zero (count_at q) ∙ stands q (same q 7) (same q 9) refl refl in omega arith);
+  forgotten = record {
+    each = λ q. ap (list_any (same q)) chunks ∙ freed q (same q 7) (same q 9) refl refl ∙ ap (has_just (occurrences q (7 ∷ []))) (sym (count_at q));
+    rise = ap ascends chunks;
+  };
+})
+
+pub one_sweep : (scan : Scan) → scan.removed.items ≡ (old_f ∷ []) ∷ [] → scan.forgotten.items ≡ 7 ∷ 9 ∷ [] → Sweeps 259201 (fin.entries names.tree) (named_each (edits_of scan) (fin.entries names.tree) refs)
+one_sweep scan paths chunks = swept 259201 names scan counted (one_scan scan paths chunks)

@@ -203,10 +203,6 @@ forgets_are chunks (h ∷ hs) rows rest is rise zero =
     ∙ ap (λ b. and_next (with_counts (Ok rows) (cond (b && list_all (λ k. is_at_zero (fin.get rest k)) (h ∷ hs)) (Ok (without_each rest (h ∷ hs))) (Err BadLine))) (λ r c. Ok (r, c))) rise
     ∙ ap (λ b. and_next (with_counts (Ok rows) (cond b (Ok (without_each rest (h ∷ hs))) (Err BadLine))) (λ r c. Ok (r, c))) zero
 
-t_true : (b : Bool) → T b → b ≡ true
-t_true true h = refl
-t_true false h = absurd h
-
 -- what goes and what is left have all chunks
 both_sides : (moment : ℕ) (rows : Rows ℕ) (h : ℕ) → occurrences h (all_chunks rows) ≡ occurrences h (all_chunks (gone moment rows)) + occurrences h (all_chunks (left moment rows))
 both_sides moment rows h = split_chunks h (is_gone moment (at rows)) rows

@@ -1,7 +1,6 @@
 -- The records of a journal, read one after the other.
 use Rattle.std.proofs.Common.{◌≡◌, ◌∙◌, List, [], ◌∷◌, ◌++◌, map, drop, get_or, ap, sym}
 use Rattle.std.specs.List.{AllByRecursion}
-use Rattle.std.proofs.lemmas.List.{append-nil}
 use Rattle.gs_journal.specs.Records.{Entry as Record}
 use Rattle.gs_journal.specs.declared.version.Version.{Version}
 use Rattle.gs_record.specs.Encoding.{encoded}
@@ -16,8 +15,6 @@ pub record ReadSoFar (version : Version) (records : List Record) (entries : List
   pub are_entries : AllByRecursion (IsEntry version) entries
 
 module _ (version : Version) (records : List Record) where
-  pub all_read : (entries : List PlainEntry) (left : List Record) → left ≡ [] → ReadSoFar version records entries left → AreRecordsOf version records entries
-  all_read entries left none so = record { written = so.written ∙ ap (λ l. map (encoded version) entries ++ l) none ∙ append-nil (map (encoded version) entries); are_entries = so.are_entries }
 
 first_record : (a b : Record) (xs ys : List Record) → a ∷ xs ≡ b ∷ ys → a ≡ b
 first_record a b xs ys same = ap (λ l. get_or l 0 a) same

@@ -32,10 +32,6 @@ and_left : (b c : Bool) → (b && c) ≡ true → b ≡ true
 and_left true c both = refl
 and_left false c both = both
 
-and_right : (b c : Bool) → (b && c) ≡ true → c ≡ true
-and_right true c both = both
-and_right false c both = absurd (cc both)
-
 le_of_test : (m n : ℕ) → nat_le m n ≡ true → m ≤ n
 le_of_test m n test = grind (arith, nat_tests)
 

@@ -1,5 +1,5 @@
 -- An edit that is made at once: the turn is that of an edit that is judged before.
-use Rattle.std.proofs.Common.{◌≡◌, inl, inr, ◌∙◌, ◌++◌, ◌∷◌, [], true, false, refl, ap, subst, sym}
+use Rattle.std.proofs.Common.{◌≡◌, ◌∙◌, ◌++◌, ◌∷◌, [], true, false, refl, ap, subst, sym}
 use Rattle.std.specs.Prelude.{Some, Result, Ok, Err, is_some, if◌then◌else◌}
 use Rattle.std.proofs.lemmas.Bool.{false≢true}
 use Rattle.gs_base.specs.declared.numbers.ReqId.{ReqId}
@@ -11,12 +11,11 @@ use Rattle.gs_record.specs.Plain.{Edited, PlainEdit}
 use Rattle.gs_state.specs.Applied.{after_edit, applied}
 use Rattle.gs_state.specs.Calls.{accept_plan, edit_if, edited_by}
 use Rattle.gs_state.specs.Durable.{Durable}
-use Rattle.gs_state.specs.Plans.{log_of}
 use Rattle.gs_state.specs.Recorded.{durable_of}
-use Rattle.gs_state.specs.State.{State, Turn, fits, refused, reply_to, turned}
+use Rattle.gs_state.specs.State.{State, fits, refused, reply_to, turned}
 use Rattle.gs_state.specs.Undoing.{edited_names}
 use Rattle.gs_master.specs.Events.{IsEntered}
-use Rattle.gs_master.specs.Turns.{HaveRoom, IsTurned, state_at}
+use Rattle.gs_master.specs.Turns.{IsTurned, state_at}
 use Rattle.gs_master.specs.declared.event.Event.{Event}
 use Rattle.gs_master.proofs.Composing.{said_as_before}
 use Rattle.gs_master.proofs.Entered.{carried, enters_behind, enters_none}
@@ -52,7 +51,3 @@ entered_steps old mid new req edit answer one beside to_send messages =
     (λ i. record new { said = said_as_before new.said i }))
 
 -- ---- where nothing was done
-
-still_room : (t : Turn) (old mid : Event) → mid.log ≡ old.log → HaveRoom t.records mid → HaveRoom t.records old
-still_room t old mid log (inl none) = inl none
-still_room t old mid log (inr fit) = inr (subst (λ l. fits (log_of l) t.records ≡ true) log fit)

@@ -41,10 +41,6 @@ pub refusal_read : (bytes : List ℕ) (n : ℕ) (mid t rest : List ℕ) (o : Opt
 unfolding refusal_at
 refusal_read bytes n mid t rest o e f h = rw e (rw f (rw (told_is n t o h) refl))
 
--- a refusal is told of by its number and its detail, or it can't be written
-pub untold : (r : Refusal) (number : ℕ) (detail : List ℕ) → number ≡ number_of r → detail ≡ detail_text r → Told number detail None → ¬ IsWritable r
-untold r number detail n d h is = h r is.0 (sym n, sym d)
-
 pub other_told : (r s : Refusal) (number : ℕ) (detail : List ℕ) → number ≡ number_of r → detail ≡ detail_text r → Told number detail (Some s) → ¬ (s ≡ r) → ¬ IsWritable r
 other_told r s number detail n d h other is = other (some_is s r (sym (told_is number detail (Some s) h) ∙ ap (λ x. told x detail) n ∙ ap (told (number_of r)) d ∙ told_back r is.0))
 

@@ -169,11 +169,6 @@ has_popped f m k b has = λ q sealed e. ⊎_elim
     (λ (n : q ≢ k). ap is_some (get_before_other m k b q n) ∙ has q sealed (sym (removed_other f k q n) ∙ e))
     (cases_eq q k)
 
--- what is put back takes no memory
-pub room : (f : First) (m : Table) (k : ℕ) (b : Option Done) → HasSealed f m → fin.get f k ≡ Some b → is_some b ≡ true → is_some (fin.get m k) ≡ true
-room f m k None has e some = absurd (cc)
-room f m k (Some sealed) has e some = has k sealed e
-
 pub fewer : (f : First) (k : ℕ) (b : Option Done) → fin.get f k ≡ Some b → fin.len (fin.remove f k) < fin.len f
 fewer f k b e =
     let less : fin.len (fin.remove f k) ≡ fin.len f - 1 = fin.len-remove nat_cmp_total f k ∙ ap (λ o. cond (is_some o) (fin.len f - 1) (fin.len f)) e in

@@ -2,7 +2,6 @@ ghost use Rattle.std.specs.Prelude.{◌≡◌, ◌≤◌, ◌+◌, ◌==◌, ℕ
 ghost use Rattle.gs_block.specs.Stored.{IsStored};
 ghost use Rattle.gs_replica.specs.Edits.{start_of, end_of};
 ghost use Rattle.gs_replica.specs.Edits as edits;
-ghost use Rattle.gs_replica.specs.Undo as undos;
 ghost use Rattle.gs_block.specs.Kept.{KeepsIntact};
 ghost use Rattle.gs_block.specs.Follows.{Follows, Does, Makes, Refuses};
 ghost use Rattle.gs_replica.specs.Seals.{images_of, sealed_length, apply, undo, damage, holding};

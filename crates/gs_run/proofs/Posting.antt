@@ -1,5 +1,5 @@
 -- What a node sends, one after the other.
-use Rattle.std.proofs.Common.{◌≡◌, ◌∙◌, ◌++◌, ◌+◌, ◌-◌, ◌<◌, ◌==◌, ℕ, zero, suc, Bool, true, false, if◌then◌else◌, List, [], ◌∷◌, Option, Some, None, MatchOption, refl, sym, ap, subst, arith, replicate, slice_get, slice_index_or, slice_set, length}
+use Rattle.std.proofs.Common.{◌≡◌, ◌∙◌, ◌-◌, ◌<◌, ◌==◌, ℕ, zero, suc, Bool, true, false, if◌then◌else◌, List, [], ◌∷◌, Option, Some, None, MatchOption, refl, sym, ap, subst, arith, slice_get, slice_index_or, slice_set, length}
 use Rattle.gs_base.specs.declared.numbers.Moment.{Moment}
 use Rattle.gs_msg.specs.Posts.{Posted, posted}
 use Rattle.gs_msg.specs.declared.message.Message.{Message}
@@ -17,23 +17,6 @@ some_lost (message ∷ messages) has_lost some = refl
 pub none_lost : (messages : List Message) (has_lost : Bool) → length messages ≡ 0 → has_lost ≡ lost_all messages has_lost
 none_lost [] has_lost none = refl
 none_lost (message ∷ messages) has_lost none = absurd (omega (arith, none))
-
--- one more that has sent nothing
-pushed : (outboxes : List Posted) (o : Posted) → all_posts (outboxes ++ o ∷ []) ≡ all_posts outboxes ++ o.posts ∷ []
-pushed [] o = refl
-pushed (p ∷ outboxes) o = ap (λ (l : List (List Post)). p.posts ∷ l) (pushed outboxes o)
-
-one_silent : (n : ℕ) (none : List Post) → replicate n none ++ none ∷ [] ≡ replicate (suc n) none
-one_silent zero none = refl
-one_silent (suc n) none = ap (λ (l : List (List Post)). none ∷ l) (one_silent n none)
-
-next : (n : ℕ) → suc n ≡ n + 1
-next n = omega arith
-
-pub one_more : (outboxes after : List Posted) (o : Posted) (many : ℕ) → all_posts outboxes ≡ replicate many [] → o.posts ≡ [] → after ≡ outboxes ++ o ∷ [] → all_posts after ≡ replicate (many + 1) []
-one_more outboxes after o many before none is =
-    ap all_posts is ∙ pushed outboxes o ∙ ap (λ (l : List (List Post)). l ++ o.posts ∷ []) before ∙ ap (λ (posts : List Post). replicate many [] ++ posts ∷ []) none
-    ∙ one_silent many [] ∙ ap (λ (n : ℕ). replicate n []) (next many)
 
 -- ---- one of several
 

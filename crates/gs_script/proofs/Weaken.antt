@@ -1,5 +1,5 @@
 -- What holds of a result or an option, made weaker.
-use Rattle.std.proofs.Common.{◌≡◌, Option, Some, None, IfSome, Result, Ok, Err, OnOk, OnErr, IfOk, IfErr, IsErrAnd, subst, sym}
+use Rattle.std.proofs.Common.{◌≡◌, Option, Some, None, IfSome, Result, Ok, Err, OnOk, OnErr, IfErr, IsErrAnd, subst, sym}
 
 pub on_ok : {T E : Type 0} (r : Result T E) (P Q : Type 0) → (P → Q) → OnOk r P → OnOk r Q
 on_ok (Ok x) P Q f h = f h
@@ -29,8 +29,3 @@ if_some₂ (Some x) P Q R f h k = f x h k
 pub if_err : {T E : Type 0} (r : Result T E) (x : E) (P : E → Type 0) → IsErrAnd r (λ e. e ≡ x) → P x → IfErr r P
 if_err (Ok t) x P h p = tt
 if_err (Err e) x P h p = subst P (sym h) p
-
--- there is no value then
-pub if_ok : {T E : Type 0} (r : Result T E) (Q : E → Type 0) (P : T → Type 0) → IsErrAnd r Q → IfOk r P
-if_ok (Ok t) Q P h = absurd h
-if_ok (Err e) Q P h = tt

@@ -11,8 +11,6 @@ use Rattle.gs_base.specs.declared.refusal.Refusal.TheVariants as refusals
 use Rattle.gs_block.specs.Follows.{Follows}
 use Rattle.gs_msg.specs.declared.node.NodeId.{NodeId}
 use Rattle.gs_msg.specs.declared.op.Op.{Op}
-use Rattle.gs_msg.specs.declared.body.Body.TheVariants as bodies
-use Rattle.gs_msg.specs.declared.chunk.Chunk.TheVariants as chunks
 use Rattle.gs_msg.specs.Ops.{in_replica}
 use Rattle.gs_store.specs.Slots.{Slot, Live, first_of, when, count_of, check_grant, unless_live, unless_promised}
 use Rattle.gs_store.specs.Buffers.{pushed}

@@ -22,7 +22,6 @@ use Rattle.gs_primary.specs.Leases.{Lease}
 use Rattle.gs_server.specs.Places.{Part, Place, Here, or_else, sending}
 use Rattle.gs_server.specs.Edits.{bytes_of, bytes_or_none, applied_bytes, has_bytes, opened, done, refused_edit, numbers_as, numbers_or_passes, new_edit, unless_numbered, unless_holding, unless_over, unless_there}
 use Rattle.gs_server.specs.Servers.{Server, Steps, step_of, here_of, place_of}
-use Rattle.gs_server.specs.inner.Answering.{kept_by}
 use Rattle.gs_server.specs.inner.Numbering.{IsReady}
 use Rattle.gs_server.proofs.Keeping.{head_none, tail_none, not_met, first_same, second_same, never}
 
@@ -54,9 +53,6 @@ module _ (handle : ℕ) (req : ReqId) (stamp : Stamp) (op : Op) (moment : Moment
 
   abbrev Does : Part → Type 0
   Does part = Steps (step_of handle (Some req) part old) result old after
-
-  refused_does : (o : Option Refusal) (e : Refusal) (part : Part) → o ≡ Some e → Steps (kept_by handle req e old) result old after → Does (or_else o (refused_edit h p req) part)
-  refused_does o e part is steps = subst (λ x. Does (or_else x (refused_edit h p req) part)) (sym is) steps
 
   -- what is there where nothing refuses it
   abbrev tests : Option (List ℕ) → Option Live → Option Lease → List (Option Refusal)
@@ -104,11 +100,6 @@ module _ (handle : ℕ) (req : ReqId) (stamp : Stamp) (op : Op) (moment : Moment
       let numbered : Does (numbers_as h p v l (opened req new b v)) = subst (λ e. Does (numbers_as h p v l e)) (opened_once req new b v) (does (applied_bytes new b) v l ready) in
       subst (λ n. Does (cond (is_passed h.chunk n op) (sending (done h req (Ok Padded) ∷ [])) (numbers_as h p v l (opened req (numbered_op h.chunk n op) b v)))) long
       (subst (λ x. Does (cond x (sending (done h req (Ok Padded) ∷ [])) (numbers_as h p v l (opened req new b v)))) (sym room) numbered)
-
-pub new_refused : (handle : ℕ) (req : ReqId) (stamp : Stamp) (op : Op) (moment : Moment) (old after : Server) (result : Result Turn Refusal) (e : Refusal) →
-    unless_numbered (here_of old moment handle (Some req)) (place_of handle old) stamp op ≡ Some e → Steps (kept_by handle req e old) result old after →
-    Steps (step_of handle (Some req) (new_edit (here_of old moment handle (Some req)) (place_of handle old) req stamp op) old) result old after
-new_refused handle req stamp op moment old after result e is steps = refused_does handle req stamp op moment old after result (unless_numbered (here_of old moment handle (Some req)) (place_of handle old) stamp op) e _ is steps
 
 pub new_numbered : (handle : ℕ) (req : ReqId) (stamp : Stamp) (op : Op) (moment : Moment) (old after : Server) (result : Result Turn Refusal) (stored : ℕ) →
     unless_numbered (here_of old moment handle (Some req)) (place_of handle old) stamp op ≡ None → stored ≡ length_in (place_of handle old).slot.live → is_passed old.chunk stored op ≡ false →

@@ -7,7 +7,6 @@ ghost use Rattle.gs_base.specs.declared.numbers.Stamp.{Stamp};
 ghost use Rattle.gs_base.specs.declared.numbers.ReqId.{ReqId};
 ghost use Rattle.gs_base.specs.declared.epoch.EpochEnd.{EpochEnd};
 ghost use Rattle.gs_base.specs.declared.refusal.Refusal.{Refusal};
-ghost use Rattle.gs_base.specs.declared.refusal.Refusal.TheVariants as refusals;
 ghost use Rattle.gs_lease.specs.declared.held.Grant.{Grant};
 ghost use Rattle.gs_replica.specs.declared.op.Done.{Done};
 ghost use Rattle.gs_replica.specs.declared.op.Op.TheVariants.{Pad};

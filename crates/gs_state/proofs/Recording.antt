@@ -162,11 +162,6 @@ all_rest listed (e ∷ es) = ap (λ b. (not (listed e.0) || rests (settled_by e.
 abbrev pub all_rest_in : Recorded → List (ℕ × Lease) → Bool
 all_rest_in r es = list_all (λ (e : ℕ × Lease). not (is_listed (durable_of r) e.0) || rests (settled_by e.1)) es
 
-pub goes_on : (listed rest all : Bool) → listed && not rest ≡ false → (not listed || rest) && all ≡ all
-goes_on true true all h = refl
-goes_on true false all h = absurd (false≢true (sym h))
-goes_on false rest all h = refl
-
 pub ends_there : (listed rest all : Bool) → listed && not rest ≡ true → (not listed || rest) && all ≡ false
 ends_there true true all h = absurd (false≢true h)
 ends_there true false all h = refl
@@ -186,9 +181,6 @@ at_rest_is r es is rising b h = sym h ∙ ap (all_rest_in r) is ∙ at_rest_by r
 
 drop_here : (xs : List Answered) (i : ℕ) (x : Answered) → i < length xs → x ≡ get_or xs i x → drop i xs ≡ x ∷ drop (i + 1) xs
 drop_here xs i x h at = rw (add-one, drop-cons xs i x h) (ap (λ y. y ∷ drop (suc i) xs) (sym at))
-
-without_one : (f : Answered → Option (ℕ × Settled)) (x : Answered) (xs : List Answered) → f x ≡ None → filter_map f (x ∷ xs) ≡ filter_map f xs
-without_one f x xs is = rw is refl
 
 with_one : (f : Answered → Option (ℕ × Settled)) (x : Answered) (xs : List Answered) (y : ℕ × Settled) → f x ≡ Some y → filter_map f (x ∷ xs) ≡ y ∷ filter_map f xs
 with_one f x xs y is = rw is refl

@@ -1,12 +1,11 @@
 -- That the inverse of a list is undone as the list's definition says.
-use Rattle.std.proofs.Common.{◌≡◌, ◌⊎◌, inl, inr, ◌+◌, ◌-◌, ◌<◌, ◌≤◌, ◌++◌, ◌&&◌, ℕ, zero, suc, Bool, true, false, cond, List, [], ◌∷◌, map, drop, drop-cons, add-one, get_or, length, refl, sym, ap, ◌∙◌, subst, append-nil}
+use Rattle.std.proofs.Common.{◌≡◌, ◌⊎◌, inl, inr, ◌+◌, ◌-◌, ◌<◌, ◌++◌, ◌&&◌, ℕ, zero, suc, Bool, true, false, cond, List, [], ◌∷◌, map, drop, drop-cons, add-one, get_or, length, refl, sym, ap, ◌∙◌, subst, append-nil}
 use Rattle.std.specs.Prelude.{Option, Some, None, is_some, option_map, option_and_then, Result, Ok, Err, if◌then◌else◌}
 use Rattle.std.specs.List.{list_all}
 use Rattle.std.specs.Ordering.{is_eq}
 use Rattle.std.specs.FinMap as fin
 use Rattle.std.specs.FinMap.Entries.{same_entries}
 use Rattle.std.proofs.lemmas.Bool.{and_parts}
-use Rattle.std.proofs.lemmas.List.{drop_all}
 use Rattle.gs_base.specs.declared.refusal.Refusal.{Refusal}
 use Rattle.gs_base.specs.declared.refusal.Refusal.TheVariants.{Memory, BadLine}
 use Rattle.gs_path.specs.Path.{Path, path_cmp, path_total, begins}
@@ -209,9 +208,6 @@ drop_here xs i x h at = rw (add-one, drop-cons xs i x h) (ap (λ y. y ∷ drop (
 
 abbrev pub back_to : List ListedInverse → NamesView → Option NamesView
 back_to inverses names = all_undone (map plain_inverse inverses) names
-
-pub back_none : (inverses : List ListedInverse) (left : ℕ) (names : NamesView) → length inverses ≤ left → back_to (drop left inverses) names ≡ Some names
-back_none inverses left names h = ap (λ l. back_to l names) (drop_all left inverses h)
 
 pub back_all : (inverses : List ListedInverse) (left : ℕ) (names before : NamesView) → left ≡ 0 → back_to (drop left inverses) names ≡ Some before → back_to inverses names ≡ Some before
 back_all inverses left names before is h = ap (λ n. back_to (drop n inverses) names) (sym is) ∙ h

@@ -20,7 +20,6 @@ use Rattle.gs_state.specs.Recorded.{settled_by}
 use Rattle.gs_state.specs.Settling.{is_quiet_at}
 use Rattle.gs_state.specs.State.{State}
 use Rattle.gs_state.specs.Working.{forgotten_chunks, is_visible, need_of, removed_paths}
-use Rattle.std.specs.FinMap as fin
 use Rattle.gs_state.specs.Handling.{awaits_first}
 
 -- the settled view of a lease

@@ -24,9 +24,7 @@ use Rattle.gs_edit.specs.View.{NamesView, names_of}
 use Rattle.gs_edit.specs.declared.edit.Edit.TheVariants as edits
 use Rattle.gs_text_order.specs.Order.{by_text}
 use Rattle.gs_record.specs.Plain.{PlainEdit, Mkdirs, Create, Rename, Hide, Unhide, Remove, AddChunk, Cow, Snapshot, Forget, PlainNode, PlainInverse, UndoMkdirs, UndoCreate, UndoRename, UndoHide, UndoUnhide, UndoRemove, UndoAddChunk, UndoCow, UndoSnapshot, UndoForget, plain_edit}
-use Rattle.std.specs.FinMap as fin
 use Rattle.gs_edit.specs.declared.edit.Edit.{Edit}
-use Rattle.gs_edit.specs.declared.edit.Edit.TheVariants as edits
 
 -- ---- edits
 

@@ -1,5 +1,5 @@
 -- Entries of a tree put in the order of their texts.
-use Rattle.std.proofs.Common.{◌≡◌, ℕ, List, [], ◌∷◌, ◌++◌, Ordering, refl, ap, ◌∙◌, sym, append_assoc}
+use Rattle.std.proofs.Common.{◌≡◌, ℕ, List, [], ◌∷◌, Ordering, refl, ap}
 use Rattle.std.specs.Prelude.{Option, Vec}
 use Rattle.std.specs.BTreeMap.{insert_entry}
 use Rattle.std.specs.FinMap as fin
@@ -8,8 +8,7 @@ use Rattle.std.specs.Ordering.{match_ordering}
 use Rattle.std.specs.declared.alloc.Global.{Global}
 use Rattle.std.specs.declared.cmp.Ordering.TheVariants.{Less, Equal, Greater}
 use Rattle.gs_path.specs.Path.{Path, text_cmp}
-use Rattle.gs_tree.specs.declared.entry.TreeEntry.{TreeEntry}
-use Rattle.gs_text_order.specs.Order.{nodes_of, plain_chunks}
+use Rattle.gs_text_order.specs.inner.Texts.{nodes_of, plain_chunks}
 
 -- a tree map's insert puts a node
 pub nodes_put : (es : List (Path × Option (Vec ℕ Global))) (p : Path) (chunks : Option (Vec ℕ Global)) → nodes_of (insert_entry text_cmp es p chunks) ≡ fin.put text_cmp p (plain_chunks chunks) (nodes_of es)
@@ -21,6 +20,3 @@ nodes_put (e ∷ es) p chunks = each (nodes_put es p chunks) (text_cmp p e.0)
     each rest Less = refl
     each rest Equal = refl
     each rest Greater = ap (λ ns. (e.0, plain_chunks e.1) ∷ ns) rest
-
-pub moved_over : (left new : List TreeEntry) (e : TreeEntry) (rest all : List TreeEntry) → left ≡ new ++ e ∷ [] → left ++ rest ≡ all → new ++ e ∷ rest ≡ all
-moved_over left new e rest all is h = sym (append_assoc new (e ∷ []) rest) ∙ ap (λ es. es ++ rest) (sym is) ∙ h

@@ -9,7 +9,8 @@ ghost use Rattle.gs_path.specs.Path.{text_cmp};
 ghost use Rattle.gs_record.specs.Plain.{plain_node};
 ghost use Rattle.gs_tree.specs.Build.{kind_of_entry, path_of_entry, rows_of_entries};
 ghost use Rattle.gs_tree.specs.Entry.{chunks_of};
-ghost use Rattle.gs_text_order.specs.Order.{by_text, nodes_of, plain_chunks, text_total};
+ghost use Rattle.gs_text_order.specs.Order.{by_text};
+ghost use Rattle.gs_text_order.specs.inner.Texts.{nodes_of, plain_chunks, text_total};
 
 use gs_base::Handle;
 use gs_path::Path;

@@ -1,6 +1,6 @@
 -- Which answer a move has once the tests on its target are made, and what takes it back.
 use Rattle.std.specs.FinMap.{get, from_entries, get-from_entries}
-use Rattle.std.proofs.Common.{length, ℕ, ◌≢◌, ◌≡◌, inl, ◌<◌, ◌+◌, ◌-◌, Bool, true, false, cond, ◌&&◌, [], ◌∷◌, ◌++◌, refl, sym, ap, ◌∙◌, subst, arith, append-nil, length-append, ◌≤◌, List, map}
+use Rattle.std.proofs.Common.{length, ℕ, ◌≢◌, ◌≡◌, inl, ◌<◌, ◌+◌, ◌-◌, Bool, true, false, cond, ◌&&◌, [], ◌∷◌, ◌++◌, refl, sym, ap, ◌∙◌, subst, arith, append-nil, List, map}
 use Rattle.std.specs.Prelude.{Option, Some, None, Result, Ok, Err, is_some, is_none, ◌==◌, take, MatchBool}
 use Rattle.gs_base.specs.declared.refusal.Refusal.{Refusal}
 use Rattle.gs_base.specs.declared.refusal.Refusal.TheVariants.{NotFound, NotADirectory, Exists, IntoItself, BadPath}
@@ -40,10 +40,6 @@ pub last-append : (p : Path) (x : Name) → last (p ++ x ∷ []) ≡ x ∷ []
 last-append [] x = refl
 last-append (y ∷ []) x = refl
 last-append (y ∷ z ∷ p) x = last-append (z ∷ p) x
-
-front_of : (r : Path) (y x : Name) → take (length (r ++ x ∷ [])) (y ∷ (r ++ x ∷ [])) ≡ y ∷ r
-front_of [] y x = refl
-front_of (z ∷ r) y x = ap (λ s. y ∷ s) (front_of r z x)
 
 -- the answer by what the target's parent is
 abbrev pub by_parent : Bool → Sort → Plain ℕ → Result (Plain ℕ) Refusal
@@ -227,9 +223,6 @@ pub depth_of : (b : Bool) (limit n : ℕ) (m node : Plain ℕ) (from : Path) →
 depth_of b limit n m node from e part h =
     let is : node ≡ part_at from m = λ i q. sym (part q) i in
     subst (λ l. MatchBool b (IsBelow l (part_at from m)) (IsBelow l (part_at from m) → ⊥)) e (subst (λ (k : Plain ℕ). MatchBool b (IsBelow limit k) (IsBelow limit k → ⊥)) is h)
-
-at_least : (a b : List ℕ) → length b ≤ length (a ++ b)
-at_least a b = omega (arith, length-append a b)
 
 -- of two names in a directory, one begins with the other only where they are the same
 beside_begins : (par : Path) (x y : Name) → begins (par ++ x ∷ []) (par ++ y ∷ []) ≡ same_name x y

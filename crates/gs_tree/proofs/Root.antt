@@ -7,7 +7,7 @@ use Rattle.gs_base.specs.declared.refusal.Refusal.TheVariants.{BadPath, NotFound
 use Rattle.gs_path.specs.Path.{Name, Path, begins}
 use Rattle.gs_tree.specs.Entry.{Dir, File}
 use Rattle.gs_tree.specs.Plain.{Plain, without}
-use Rattle.gs_tree.specs.Edits.{mkdirs, create, made, rename, placed, moved, hide, hidden_path, unhide, unhidden, beside, old_name, remove, snapshot, copied, with_dirs, with_entry, chunks_in, is_dir, is_file, file_above, same_path, target_of, parent}
+use Rattle.gs_tree.specs.Edits.{mkdirs, create, made, rename, placed, moved, hide, hidden_path, unhide, unhidden, beside, old_name, remove, snapshot, copied, with_dirs, with_entry, chunks_in, is_file, file_above, same_path, target_of, parent}
 use Rattle.gs_tree.specs.Inverses.{Fits, after_undo, first_made}
 use Rattle.gs_tree.specs.Follows.{Follows, Undoes}
 use Rattle.gs_tree.specs.declared.inverse.TreeInverse.{TreeInverse}
@@ -76,9 +76,6 @@ unhide-root m (x ∷ p) root = named (old_name (x ∷ p))
 pub remove-root : (m : Plain ℕ) (p : Path) → m [] ≡ Some Dir → KeepsRoot (remove m p)
 remove-root m [] root = tt
 remove-root m (x ∷ p) root = tested (is_none (old_name (x ∷ p))) NotHidden _ (λ _. tested (is_none (m (x ∷ p))) NotFound (Ok (without (x ∷ p) m)) (λ _. root))
-
-no_file : (m : Plain ℕ) → m [] ≡ Some Dir → is_dir (m []) ≡ false → ⊥
-no_file m root h = let k : is_dir (m []) ≡ true = ap is_dir root in cc
 
 copied-root : (m : Plain ℕ) (from to : Path) → to ≢ [] → copied from to m [] ≡ m []
 copied-root m from [] ne = absurd (ne refl)

@@ -191,8 +191,8 @@ snapshot_to_65_elements = refl
 abbrev placed : Plain ℕ
 placed = at (([], Dir) ∷ (a ∷ [], Dir) ∷ (b ∷ [], Dir) ∷ (b ∷ f ∷ [], File (7 ∷ [])) ∷ [])
 
-place_given_up : map (given_up (Ok (Moved (a ∷ []) (b ∷ []))) placed) ((a ∷ []) ∷ (b ∷ []) ∷ (b ∷ f ∷ []) ∷ []) ≡ None ∷ Some Dir ∷ Some (File (7 ∷ [])) ∷ []
-place_given_up = refl
+the_place_is_given_up : map (given_up (Ok (Moved (a ∷ []) (b ∷ []))) placed) ((a ∷ []) ∷ (b ∷ []) ∷ (b ∷ f ∷ []) ∷ []) ≡ None ∷ Some Dir ∷ Some (File (7 ∷ [])) ∷ []
+the_place_is_given_up = refl
 
 no_place_of_a_refusal : map (given_up (Err NotFound) placed) ((a ∷ []) ∷ []) ≡ Some Dir ∷ []
 no_place_of_a_refusal = refl

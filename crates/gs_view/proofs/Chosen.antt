@@ -15,9 +15,6 @@ answerers_below answers count number = servers_where (λ server. ltb server numb
 no_below : (s : ℕ) (b : Bool) → (ltb s 0 && b) ≡ false
 no_below s b = grind (arith, nat_tests)
 
-all_below : (s : ℕ) (b : Bool) → s < 16 → (ltb s 16 && b) ≡ b
-all_below s b low = grind (arith, nat_tests)
-
 same_below : (s n : ℕ) (b : Bool) → b ≡ true → s ≡ n → (eqb s n || (ltb s n && b)) ≡ (ltb s (n + 1) && b)
 same_below s n b is here = grind (arith, nat_tests)
 

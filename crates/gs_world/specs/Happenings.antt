@@ -16,7 +16,6 @@ use Rattle.gs_master.specs.Starting.{IsOpened, WhyUnopened}
 use Rattle.gs_master.specs.Ticking.{AnswersTick}
 use Rattle.gs_master.specs.declared.turn.Turn.{Turn}
 use Rattle.gs_msg.specs.declared.body.Body.{Body}
-use Rattle.gs_msg.specs.declared.body.Body.TheVariants as bodies
 use Rattle.gs_msg.specs.declared.event.Request.{Request}
 use Rattle.gs_msg.specs.declared.message.Message.{Message}
 use Rattle.gs_msg.specs.declared.node.NodeId.{NodeId}

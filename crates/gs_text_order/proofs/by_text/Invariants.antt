@@ -1,7 +1,8 @@
 use Rattle.std.proofs.Common.{◌≡◌, ◌++◌, List, length}
 use Rattle.gs_tree.specs.Build.{rows_of_entries}
 use Rattle.gs_tree.specs.declared.entry.TreeEntry.{TreeEntry}
-use Rattle.gs_text_order.specs.Order.{by_text, nodes_of}
+use Rattle.gs_text_order.specs.Order.{by_text}
+use Rattle.gs_text_order.specs.inner.Texts.{nodes_of}
 use Rattle.gs_text_order.proofs.by_text.Given as goal
 
 abbrev pub invariant-loop-entry : goal.invariant-loop-entry

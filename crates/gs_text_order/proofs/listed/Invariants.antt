@@ -1,6 +1,6 @@
 use Rattle.std.proofs.Common.{◌≡◌, ◌++◌, map}
 use Rattle.gs_record.specs.Plain.{plain_node}
-use Rattle.gs_text_order.specs.Order.{nodes_of}
+use Rattle.gs_text_order.specs.inner.Texts.{nodes_of}
 use Rattle.gs_text_order.proofs.listed.Given as goal
 
 abbrev pub invariant-loop-path : goal.invariant-loop-path

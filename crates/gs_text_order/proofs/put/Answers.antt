@@ -1,7 +1,7 @@
 use Rattle.std.proofs.Common.{◌∙◌, ap}
 use Rattle.std.specs.FinMap as fin
 use Rattle.gs_path.specs.Path.{text_cmp}
-use Rattle.gs_text_order.specs.Order.{nodes_of}
+use Rattle.gs_text_order.specs.inner.Texts.{nodes_of}
 use Rattle.gs_text_order.proofs.Nodes.{nodes_put}
 use Rattle.gs_text_order.proofs.put.Goals as goal
 

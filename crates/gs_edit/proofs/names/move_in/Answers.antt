@@ -6,7 +6,6 @@ use Rattle.gs_tree.specs.Find.{is_too_deep}
 use Rattle.gs_tree.specs.Follows.{Follows}
 use Rattle.gs_edit.specs.Edits.{AppliesRows}
 use Rattle.gs_edit.specs.declared.edit.Edit.{Edit}
-use Rattle.gs_edit.specs.declared.edit.Edit.TheVariants as edits
 use Rattle.gs_edit.proofs.Covers.{applies-rename, applies-hide, applies-unhide}
 use Rattle.gs_edit.proofs.names.move_in.Goals as goal
 
