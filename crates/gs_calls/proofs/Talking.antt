@@ -2,6 +2,7 @@
 use Rattle.std.proofs.Common.{◌≡◌, ℕ, Option, Result, Ok, Err, refl, sym, ap, subst, ◌∙◌, inl, inr}
 use Rattle.gs_base.specs.declared.numbers.ReqId.{ReqId}
 use Rattle.gs_base.specs.declared.refusal.Refusal.{Refusal}
+use Rattle.gs_base.specs.declared.refusal.Refusal.TheVariants as refusals
 use Rattle.gs_client.specs.Edits.{Edits}
 use Rattle.gs_client.specs.Files.{open_call, with_location}
 use Rattle.gs_client.specs.Opened.{File}
@@ -67,6 +68,10 @@ module _ {S : Type 0} (carries : S → Request → Reply → S → Type 0) where
       → Gives from (Ok p) → Gives to (Err e) → Follows carries (on_two from to call) s (Err e) s
   two_none from to call s p e reads_from reads_to =
       follows_both carries (path_in from) (λ x. on to (call x) done) s s s p (Err e) (reads from (Ok p) s reads_from) (on_none to (call p) done s e reads_to)
+
+  pub two_bad : (from to : Result Path Refusal) (call : Path → Path → Call (Unit {0})) (s : S) (e : Refusal)
+      → Gives from (Err e) → Follows carries (on_two from to call) s (Err e) s
+  two_bad from to call s e reads_from = follows_none carries (path_in from) (λ x. on to (call x) done) s s e (reads from (Err e) s reads_from)
 
 -- a file's calls are those of its client, with its edits counted beside
 pub forgets_edits : {L A : Type 0} (carries : L → ReqId → Request → Reply → L → Type 0) (call : Call A) (old : Client × ℕ × L) (result : Result A Refusal) (new : Client × ℕ × L)

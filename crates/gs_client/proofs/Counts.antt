@@ -8,6 +8,8 @@ use Rattle.gs_lease.specs.declared.view.Term.{Term}
 use Rattle.gs_replica.specs.declared.op.Outcome.{Outcome}
 use Rattle.gs_dialogue.specs.Dialogues.{Dialogue, Say, Ask, Grow, Follows, upon, both, onward, otherwise}
 use Rattle.gs_dialogue.proofs.Talks.{follows_upon}
+use Rattle.gs_msg.specs.declared.answer.Answer.{Answer}
+use Rattle.gs_msg.specs.declared.call.Call.{Call as Called}
 use Rattle.gs_msg.specs.declared.op.Op.{Op}
 use Rattle.gs_msg.specs.declared.op.Op.TheVariants as ops
 use Rattle.gs_msg.specs.declared.event.Request.{Request}
@@ -18,7 +20,7 @@ use Rattle.gs_part.specs.declared.located.Located.{Located}
 use Rattle.gs_client.specs.Sends.{Sends}
 use Rattle.gs_client.specs.Edits.{Edits, counted, with_edit}
 use Rattle.gs_client.specs.Replies.{changed, looked, status_in, chunks_in, located_in, edited}
-use Rattle.gs_client.specs.Trees.{Call, and_then}
+use Rattle.gs_client.specs.Trees.{Call, and_then, look}
 use Rattle.gs_client.specs.Looking.{count_in, known_call}
 use Rattle.gs_part.specs.Writing.{part_bytes}
 use Rattle.gs_client.specs.Writing.{send_call, edit_call, again_call, write_part_call, extend_call, extends_call, part_op, parts_call}
@@ -43,6 +45,9 @@ quiet_onward : {A B : Type 0} (go : A → Call B) → ((x : A) → Quiet (go x))
 quiet_onward go quiet (Ok x) = quiet x
 quiet_onward go quiet (Err refusal) = tt
 
+pub quiet_look : {A : Type 0} (call : Called) (says : Answer → Result A Refusal) → Quiet (Grow (look call says))
+quiet_look call says = (λ reply n. refl, λ reply. tt)
+
 quiet_said : {A B : Type 0} (r : Result A Refusal) (says : A → Result B Refusal) → Quiet (both (Say r) (λ x. Say (says x)))
 quiet_said (Ok x) says = tt
 quiet_said (Err refusal) says = tt
@@ -64,6 +69,11 @@ pub edit_sent : {L : Type 0} (carries : L → ReqId → Request → Reply → L 
 edit_sent carries l term op bytes old new n m from to reply result known sent is count =
     subst (λ (t : Option Term). Follows (Edits carries) (send_call l t op bytes) (old, n, from) result (new, m, to)) (sym known)
     (inl (reply, (new, m, to), (sent, count ∙ ap (λ r. with_edit r n) is), (is, refl)))
+
+pub edit_unsent : {L : Type 0} (carries : L → ReqId → Request → Reply → L → Type 0) (l : Located) (term : Term) (op : Op) (bytes : List ℕ) (s : Client × ℕ × L)
+    → l.view.term ≡ Some term → Follows (Edits carries) (edit_call l op bytes) s (Err refusals.Memory) s
+edit_unsent carries l term op bytes s known =
+    subst (λ (t : Option Term). Follows (Edits carries) (send_call l t op bytes) s (Err refusals.Memory) s) (sym known) (inr (refl, refl))
 
 -- the first call came to something, and the second went on from there; where there was no memory nothing is left to do
 pub follows_other : {S Q R A B : Type 0} (carries : S → Q → R → S → Type 0) (call : Dialogue Q R (Result A Refusal)) (go : Result A Refusal → Dialogue Q R (Result B Refusal))
@@ -91,6 +101,9 @@ pub edit_again : {S : Type 0} (carries : S → Request → Reply → S → Type 
     → Follows carries (upon (edit_call l op bytes) (otherwise (again_call path index l.view.stamp op bytes))) old result new
 edit_again carries path index l op bytes old mid new refusal result follows after =
     follows_other carries (edit_call l op bytes) (otherwise (again_call path index l.view.stamp op bytes)) old mid new (Err refusal) result refl follows after
+
+pub no_more : (n : ℕ) → n + 0 ≡ n
+no_more n = omega arith
 
 -- chunks that are added, one after another
 pub extends_next : (path : Path) (from i count : ℕ) → i < count

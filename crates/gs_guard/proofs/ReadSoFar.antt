@@ -1,10 +1,11 @@
 -- The records of a journal, read one after the other.
-use Rattle.std.proofs.Common.{◌≡◌, ◌∙◌, List, [], ◌∷◌, ◌++◌, map, drop, get_or, ap, sym}
+use Rattle.std.proofs.Common.{◌≡◌, ◌∙◌, List, [], ◌∷◌, ◌++◌, map, drop, get_or, ap, subst, sym}
 use Rattle.std.specs.List.{AllByRecursion}
+use Rattle.std.proofs.lemmas.List.{append-nil, append_assoc, map-append}
 use Rattle.gs_journal.specs.Records.{Entry as Record}
 use Rattle.gs_journal.specs.declared.version.Version.{Version}
 use Rattle.gs_record.specs.Encoding.{encoded}
-use Rattle.gs_record.specs.Plain.{PlainEntry}
+use Rattle.gs_record.specs.Plain.{PlainEntry, plain}
 use Rattle.gs_record.specs.Writable.{IsEntry}
 use Rattle.gs_record.specs.declared.entry.Entry.{Entry}
 use Rattle.gs_guard.specs.Reading.{AreRecordsOf}
@@ -14,7 +15,25 @@ pub record ReadSoFar (version : Version) (records : List Record) (entries : List
   pub written : records ≡ map (encoded version) entries ++ left
   pub are_entries : AllByRecursion (IsEntry version) entries
 
+all_and : {A : Type 0} (P : A → Type 0) (xs : List A) (x : A) → AllByRecursion P xs → P x → AllByRecursion P (xs ++ x ∷ [])
+all_and P [] x all one = (one, tt)
+all_and P (y ∷ ys) x all one = (all.0, all_and P ys x all.1 one)
+
 module _ (version : Version) (records : List Record) where
+  pub one_more_read : (items next : List Entry) (e : Entry) (r : Record) (left rest : List Record) → left ≡ r ∷ rest → next ≡ items ++ e ∷ [] → IsEntry version (plain e) → encoded version (plain e) ≡ r →
+      ReadSoFar version records (map plain items) left → ReadSoFar version records (map plain next) rest
+  one_more_read items next e r left rest is grown entry same so = record {
+    written =
+        so.written ∙ ap (λ l. map (encoded version) (map plain items) ++ l) (is ∙ ap (λ x. x ∷ rest) (sym same)) ∙ sym (append_assoc (map (encoded version) (map plain items)) (encoded version (plain e) ∷ []) rest)
+        ∙ ap (λ l. l ++ rest) (sym (map-append (encoded version) (map plain items) (plain e ∷ []))) ∙ ap (λ l. map (encoded version) l ++ rest) (sym longer);
+    are_entries = subst (AllByRecursion (IsEntry version)) (sym longer) (all_and (IsEntry version) (map plain items) (plain e) so.are_entries entry);
+  }
+    where
+      longer : map plain next ≡ map plain items ++ plain e ∷ []
+      longer = ap (map plain) grown ∙ map-append plain items (e ∷ [])
+
+  pub all_read : (entries : List PlainEntry) (left : List Record) → left ≡ [] → ReadSoFar version records entries left → AreRecordsOf version records entries
+  all_read entries left none so = record { written = so.written ∙ ap (λ l. map (encoded version) entries ++ l) none ∙ append-nil (map (encoded version) entries); are_entries = so.are_entries }
 
 first_record : (a b : Record) (xs ys : List Record) → a ∷ xs ≡ b ∷ ys → a ≡ b
 first_record a b xs ys same = ap (λ l. get_or l 0 a) same

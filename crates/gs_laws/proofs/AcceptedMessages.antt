@@ -50,6 +50,9 @@ not_rolling true h = absurd (false≢true h)
 not_rolling false h = refl
 
 module _ (T : Type 0) where
+  sent_goes : (s : State) (t : Turn) → t.after.durable ≡ s.durable → t.records ≡ [] → Goes T s t
+  sent_goes s t a b = same_goes T s t a b
+
   still_goes : (s : State) → Goes T s (unmoved s)
   still_goes s = same_goes T s (unmoved s) refl refl
 

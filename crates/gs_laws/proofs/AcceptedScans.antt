@@ -143,6 +143,10 @@ all_removed d (p ∷ paths) moment k rolling clear all =
 
 -- ---- the paths that a scan removes: each once, in their order
 
+to_t : (b : Bool) → b ≡ true → T b
+to_t true e = tt
+to_t false e = absurd (false≢true e)
+
 from_t : (b : Bool) → T b → b ≡ true
 from_t true h = refl
 from_t false h = absurd h

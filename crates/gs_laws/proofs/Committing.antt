@@ -262,6 +262,9 @@ module _ (prepared : ℕ → Option Prepared) (told : ℕ → List ℕ) where
       }
 
 module _ (s : State) (req : ReqId) where
+  abbrev lacks_one : ℕ × ℕ → Bool
+  lacks_one e = lacks_answer (prepared_view s.durable) (told_of s) e
+
   first_unrestored : (names : NamesView) (chunk : ℕ) → is_rolling s.durable.phase ≡ true → all_undone s.durable.inverses s.durable.names ≡ Some names →
       unrestored (prepared_view s.durable) (told_of s) (fin.entries names.refs) ≡ Some chunk → IsFirstUnrestored s chunk
   first_unrestored names chunk begun back is =

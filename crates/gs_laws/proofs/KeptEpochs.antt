@@ -27,6 +27,9 @@ use Rattle.gs_laws.proofs.KeptEnds.{ends_more, ends_rolled, may_end}
 use Rattle.gs_laws.proofs.KeptRecords.{Parts, as_next, no_inverses, settled_is, within_kept}
 use Rattle.gs_laws.proofs.KeptViews.{Onward, chunked_moves, chunked_of, prepared_given, same_key, view_stays}
 
+is_that : (p q : Phase → Bool) (phase : Phase) → p phase ≡ true → ((x : Phase) → p x ≡ true → q x ≡ true) → q phase ≡ true
+is_that p q phase h all = all phase h
+
 names_is : {a b : NamesView} → ◌≡◌ {A = Option NamesView} (Some a) (Some b) → a ≡ b
 names_is h = cc
 

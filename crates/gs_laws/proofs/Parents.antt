@@ -131,6 +131,13 @@ grown_dirs m p t file = grown_by (with_dirs p m) (dir_stays (begins [] p) (m [])
             dir_or_none (begins (parent (x ∷ q)) p) (m (parent (x ∷ q))) (ap (begins (parent (x ∷ q))) whole ∙ begins_append (parent (x ∷ q)) (s.name ∷ after (x ∷ q) p))
             (no_file_at m (parent (x ∷ q)) s.name (after (x ∷ q) p) (ap (file_above m) (sym whole) ∙ file))
 
+longer_parent : (x : Name) (p : Path) → same_path (x ∷ p) (parent (x ∷ p)) ≡ false
+longer_parent x p = by_test (same_path (x ∷ p) (parent (x ∷ p))) refl
+  where
+    by_test : (b : Bool) → same_path (x ∷ p) (parent (x ∷ p)) ≡ b → b ≡ false
+    by_test false is = refl
+    by_test true is = let k = ap (λ (q : Path). length q) (same_path-is (x ∷ p) (parent (x ∷ p)) is) in let l = shorter x p in absurd (omega arith)
+
 -- another entry in the place of one, below which nothing stands unless it is a directory
 pub grown_entry : (m : Plain ℕ) (y : Name) (p : Path) (e : Entry ℕ) → Grown m → is_some (m (y ∷ p)) ≡ true → ((x : Name) (q : Path) → is_some (m (x ∷ q)) ≡ true → parent (x ∷ q) ≡ y ∷ p → e ≡ Dir) → Grown (with_entry (y ∷ p) e m)
 grown_entry m y p e t some leaf = grown_by (with_entry (y ∷ p) e m) t.root up

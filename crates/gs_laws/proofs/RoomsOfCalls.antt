@@ -56,6 +56,9 @@ use Rattle.gs_state.specs.declared.pending.Waiting.TheVariants as waits
 
 -- ---- chunks that are quiet are still
 
+settled_is : {a b : Settled} → ◌≡◌ {A = Option Settled} (Some a) (Some b) → a ≡ b
+settled_is h = cc
+
 -- a chunk that isn't known isn't
 unknown : (s : State) (chunk : ℕ) → has_entry s chunk ≡ false → is_quiet_at s chunk ≡ false
 unfolding chunk_at

@@ -546,6 +546,10 @@ module _ (d : Durable) (v : Volatile) (h : Stands d v) where
       absurd (false≢true (sym (ap (λ b. b || was_answered d v req) out ∙ new) ∙ ap (λ x. is_pending v.pending x || was_answered d v x) e ∙ (h.asked chunk asking has).past r is))))
       (is_call req asking.call) refl (λ is. is)
 
+  not_true : (b : Bool) → b ≡ false → (not b || true) ≡ true
+  not_true true e = refl
+  not_true false e = refl
+
   or_left_true : (b c : Bool) → b ≡ false → (not b || c) ≡ true
   or_left_true true c e = absurd (true≢false e)
   or_left_true false c e = refl

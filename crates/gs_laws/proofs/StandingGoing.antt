@@ -65,6 +65,9 @@ pub record Others (req : ReqId) (v w : Volatile) : Type 0 where
 others_end : (req : ReqId) (v w : Volatile) → w.pending ≡ without_pending v.pending req → ((q : ReqId) → NotAsked v q → NotAsked w q) → Others req v w
 others_end req v w pending fewer = record { waits = λ q f other. ap (is_waited_by (Some q) f) pending ∙ others_wait req q f v.pending other; asks = λ q other out. fewer q out }
 
+others_then : (req : ReqId) (v w x : Volatile) → Others req v w → Others req w x → Others req v x
+others_then req v w x a b = record { waits = λ q f other. b.waits q f other ∙ a.waits q f other; asks = λ q other out. b.asks q other (a.asks q other out) }
+
 not_asked_more : (req q : ReqId) (v : Volatile) (chunk : ℕ) (asking : Asking) → asking.call ≡ Some req → same_call req q ≡ false → NotAsked v q → (c : ℕ) (a : Asking) → fin.get (fin.insert v.moving chunk asking) c ≡ Some a → is_call q a.call ≡ false
 not_asked_more req q v chunk asking call other out c a has = by_key (eq_by_cmp nat_cmp c chunk) (sym (fin.get-insert nat_cmp_total v.moving chunk asking c) ∙ has)
   where

@@ -59,6 +59,10 @@ IsTold (Forget chunks) = Unit {0}
 
 -- ---- what is visible isn't hidden, so not twice
 
+not_false : (b : Bool) → not b ≡ true → b ≡ false
+not_false true h = absurd (false≢true h)
+not_false false h = refl
+
 pub each_visible : (p : Path) → is_visible p ≡ true → list_all (λ x. not (is_hidden x)) p ≡ true
 each_visible [] h = refl
 each_visible (x ∷ p) h = by_test (each_visible p) (is_hidden x) refl h

@@ -32,7 +32,7 @@ use Rattle.gs_record.specs.Writable.{IsPath, IsRequest, IsWritable}
 use Rattle.gs_state.specs.Beginning.{next_stamp, has_versions, has_handle, begin_at, all_begun, copy_plan, waits_on}
 use Rattle.gs_state.specs.Chunks.{Chunk, asking_for, chunk_at, has_entry, may_begin, hears, heard_yes, heard_no, is_target, step_of_yes, step_of_no, settling, is_holder, holder_records, target_of, view_by, step_at_tick, with_answers}
 use Rattle.gs_state.specs.Durable.{is_rolling, prepared_view}
-use Rattle.gs_state.specs.Handling.{handle, about_turn, server_turn, from_client, from_node, pressed, pressed_at, pressed_if}
+use Rattle.gs_state.specs.Handling.{handle, about_turn, server_turn, from_client, from_node, pressed, pressed_at, pressed_if, granted}
 use Rattle.gs_state.specs.Hearing.{stepped, heard, ask_plan, send_plan, is_with_sealed, promised, promised_for, promised_at, unpromised, unpromised_for, unpromised_at, sends, next_epoch, behind, learned, drops, lost, is_lost_at, made_quiet, reported, reported_now, damaged, renewed, is_leased_under}
 use Rattle.gs_state.specs.Settling.{ended_with, end_plan, if_room_for, edit_plan, edit_turn, ended_by_edit, copied, leased_next, replaced_if, replace_plan, goes_on, own_request, is_quiet_at, source_chunks, settle_plan, all_refused, all_go_on, settled_on, settled_if, settled_by, concerned, requests_of}
 use Rattle.gs_state.specs.State.{State, Plan, Turn, turned, unmoved, and_then, fits, if_room, met_by, about, is_failed, ended_by, answer_changes}
@@ -269,6 +269,9 @@ reported_tells : (server epoch : ℕ) (replicas : List Reported) (s : State) (ca
 reported_tells server epoch replicas s can =
     either_tells s (nat_lt epoch s.durable.epoch) (sends s (next_epoch s.durable server epoch)) (if may_begin s.durable.phase && (epoch == s.durable.epoch) then reported_now s server replicas else unmoved s) (sends_tells s can (next_epoch s.durable server epoch))
     (either_tells s (may_begin s.durable.phase && (epoch == s.durable.epoch)) (reported_now s server replicas) (unmoved s) (reported_now_tells server replicas s can) (same_tells s))
+
+pub granted_tells : (s : State) → Tells s (granted s)
+granted_tells s = quiet_tells s (granted s) refl refl refl
 
 -- ---- all messages
 

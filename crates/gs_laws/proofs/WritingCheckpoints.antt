@@ -109,6 +109,10 @@ mapped : {A B : Type 0} (P : B → Type 0) (g : A → B) (xs : List A) → AllBy
 mapped P g [] all = tt
 mapped P g (x ∷ xs) all = (all.0, mapped P g xs all.1)
 
+weaker : {A : Type 0} (P Q : A → Type 0) (xs : List A) → ((x : A) → P x → Q x) → AllByRecursion P xs → AllByRecursion Q xs
+weaker P Q [] h all = tt
+weaker P Q (x ∷ xs) h all = (h x all.0, weaker P Q xs h all.1)
+
 every : {A : Type 0} (P : A → Type 0) (xs : List A) → ((x : A) → P x) → AllByRecursion P xs
 every P [] h = tt
 every P (x ∷ xs) h = (h x, every P xs h)

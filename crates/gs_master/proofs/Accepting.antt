@@ -15,6 +15,7 @@ use Rattle.gs_state.specs.State.{State, answered}
 use Rattle.gs_state.specs.TakingBack.{comes_alone}
 use Rattle.gs_master.specs.Turns.{ComesWithOthers}
 use Rattle.gs_state.specs.Upgrades.{accepted_plan}
+use Rattle.gs_state.specs.Working.{begin_pending}
 use Rattle.gs_state.specs.declared.change.Change.{Change}
 use Rattle.gs_state.specs.declared.pending.Waiting.{Waiting}
 
@@ -33,6 +34,9 @@ created_together stamp chunk targets req waits = record { records = refl }
 
 pub copied_together : (stamp : Stamp) (old : ℕ) (view : View) (new : ℕ) (req : ReqId) (waits : Waiting) → ComesWithOthers (waits_from_now (copy_plan stamp old view new req) req waits)
 copied_together stamp old view new req waits = record { records = refl }
+
+pub pending_together : (req : ReqId) (waits : Waiting) → ComesWithOthers (begin_pending req waits)
+pending_together req waits = record { records = refl }
 
 -- a call of an upgrade, by its records
 pub accepted_together : (s : State) (req : ReqId) (records : List PlainEntry) (before : List Change) (sent : List Message) (epoch : ℕ) → list_any comes_alone records ≡ false →

@@ -143,6 +143,9 @@ why_not_and t next old e why = why_not_first t (next t.after) old e why
 pub record LeadsOn (whole rest : Turn) (old mid : Event) : Type 0 where
   pub on : (result : Result (Unit {0}) Refusal) (new : Event) → Steps rest mid result new → Steps whole old result new
 
+pub leads_from_start : (t : Turn) (old : Event) → LeadsOn t t old old
+leads_from_start t old = record { on = λ result new steps. steps }
+
 pub leads_further : (whole t rest : Turn) (old mid new : Event) → LeadsOn whole (joined t rest) old mid → IsTurned t mid new → LeadsOn whole rest old new
 leads_further whole t rest old mid new leads is = record { on = λ result end steps. leads.on result end (steps_both t rest mid new end result is steps) }
 

@@ -107,11 +107,29 @@ begins_so : (s : State) (req : ReqId) (from to : Path) (chunks : List ℕ) → c
 begins_so s req from to [] some = absurd (some refl)
 begins_so s req from to (chunk ∷ chunks) some = refl
 
+first_so : (a b c : Bool) (x y z w : Turn) → a ≡ true → (if a then x else if not b then y else if c then z else w) ≡ x
+first_so a b c x y z w h = ap (λ t. if t then x else if not b then y else if c then z else w) h
+
+second_so : (a b c : Bool) (x y z w : Turn) → a ≡ false → b ≡ false → (if a then x else if not b then y else if c then z else w) ≡ y
+second_so a b c x y z w h k = ap (λ t. if t then x else if not b then y else if c then z else w) h ∙ ap (λ t. if not t then y else if c then z else w) k
+
 third_so : (a b c d : Bool) (x y z w : Turn) → a ≡ false → b ≡ true → c ≡ d → (if a then x else if not b then y else if c then z else w) ≡ (if d then z else w)
 third_so a b c d x y z w h k l =
     ap (λ t. if t then x else if not b then y else if c then z else w) h ∙ ap (λ t. if not t then y else if c then z else w) k ∙ ap (λ t. if t then z else w) l
 
 module _ (s : State) (req : ReqId) (from to : Path) (chunks : List ℕ) (some : chunks ≢ []) where
+  pub while_wanted : list_any (is_wanted_at s) chunks ≡ true → begins_snapshot s req from to chunks ≡ refused s req refusals.Locked
+  while_wanted wanted =
+      begins_so s req from to chunks some
+      ∙ first_so (list_any (is_wanted_at s) chunks) (has_versions s.durable (length chunks)) (fits s.log (begins_quiet s req from to chunks).records) (refused s req refusals.Locked)
+      (refused s req refusals.Exhausted) (begins_quiet s req from to chunks) (refused s req refusals.Full) wanted
+
+  pub without_versions : list_any (is_wanted_at s) chunks ≡ false → has_versions s.durable (length chunks) ≡ false → begins_snapshot s req from to chunks ≡ refused s req refusals.Exhausted
+  without_versions free none =
+      begins_so s req from to chunks some
+      ∙ second_so (list_any (is_wanted_at s) chunks) (has_versions s.durable (length chunks)) (fits s.log (begins_quiet s req from to chunks).records) (refused s req refusals.Locked)
+      (refused s req refusals.Exhausted) (begins_quiet s req from to chunks) (refused s req refusals.Full) free none
+
   pub by_room : (room : Bool) → list_any (is_wanted_at s) chunks ≡ false → has_versions s.durable (length chunks) ≡ true → nat_le (s.log.size + length chunks * 22) s.log.limit ≡ room →
       begins_snapshot s req from to chunks ≡ (if room then begins_quiet s req from to chunks else refused s req refusals.Full)
   by_room room free left is =

@@ -3,6 +3,7 @@ use Rattle.std.proofs.Common.{◌≡◌, ◌⊎◌, inl, inr, ◌∙◌, ◌≤�
 use Rattle.std.specs.Prelude.{None, Option, Some}
 use Rattle.gs_base.specs.declared.numbers.ReqId.{ReqId}
 use Rattle.gs_base.specs.declared.refusal.Refusal.{Refusal}
+use Rattle.gs_base.specs.declared.refusal.Refusal.TheVariants as refusals
 use Rattle.gs_journal.specs.Journal.{State as Journal}
 use Rattle.gs_journal.specs.declared.version.Version.TheVariants.{Two}
 use Rattle.gs_record.specs.Encoding.{encoded}
@@ -44,6 +45,9 @@ records_are t begun old rest turned = turned.entries ∙ ap (λ es. map plain es
 -- where an event began, by what it knows of it
 pub came_from : (b : Beginning) (begun old : Event) → IsAtRest begun → BeginsAt b begun → GoesBack begun old → HasComeFrom (durable_of begun.recorded) (log_of b.log) old
 came_from b begun old rest at back = subst (λ log. HasComeFrom (durable_of begun.recorded) (log_of log) old) (sym at.log) (came begun old rest back)
+
+pub counted_there : (b : Beginning) (begun : Event) → IsAtRest begun → BeginsAt b begun → b.log.records ≤ b.log.size
+counted_there b begun rest at = subst (λ log. log.records ≤ log.size) (sym at.log) rest.counted
 
 module _ {D : Type 0} (seen : D → List ℕ) (may_leave : D → List ℕ → Type 0) (failures : D → ℕ) (caller : Option ReqId) (t : Turn) (begun old : Event) (rest : IsAtRest begun) (turned : IsTurned t begun old) (back : GoesBack begun old) where
   bytes : old.written.items ≡ map (encoded Two) t.records

@@ -10,6 +10,9 @@ use Rattle.gs_state.specs.Beginning.{all_begun, begun, has_versions}
 use Rattle.gs_state.specs.Hearing.{made_quiet}
 use Rattle.gs_state.specs.State.{State, Turn, fits, size_of, size_of_all, unmoved}
 
+proposal_size : (chunk version : ℕ) → size_of (Propose chunk version) ≡ 22
+proposal_size chunk version = refl
+
 -- each takes as much, whatever stands
 pub proposals_size : (s : State) (many : List ℕ) (purpose : Purpose) (call : Option ReqId) → size_of_all (all_begun s many purpose call).records ≡ length many * 22
 proposals_size s [] purpose call = refl

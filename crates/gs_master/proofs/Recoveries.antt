@@ -194,6 +194,10 @@ module _ {D : Type 0} (seen : D → List ℕ) (may_leave : D → List ℕ → Ty
   pub stays_open : StaysOpen failures old mid
   stays_open = record { stays = is.stays; is_open = is.stands.is_open; quiet = is.quiet }
 
+  pub not_told : (version : Version) → version ≡ old.text.0 → (records : List Record) → records ≡ old.text.1 → ((entries : List PlainEntry) → ¬ AreRecordsOf version records entries) → (entries : List PlainEntry) → ¬ AreRecordsOf old.text.0 old.text.1 entries
+  not_told version v records r none entries are =
+      none entries (subst (λ version. AreRecordsOf version records entries) (sym v) (subst (λ records. AreRecordsOf old.text.0 records entries) (sym r) are))
+
   same_log : (entries : List PlainEntry) → log_behind_last mid entries ≡ log_behind_last old entries
   same_log entries = λ i. record { records = records_behind entries; size = is.stays.size i; limit = is.stays.limit i; generation = is.stays.generation i }
 

@@ -266,6 +266,10 @@ plain_tick s moment sound none =
     let steps = pressed_all s moment in
     sound_tick s moment sound ∙ ap (joined steps) (if_due steps.after (due steps.after) none) ∙ as_they_are steps
 
+is_nothing : {A : Type 0} (o : Option A) → is_none o ≡ true → o ≡ None
+is_nothing None is = refl
+is_nothing (Some x) is = absurd (false≢true is)
+
 pub written_checkpoint : (s : State) → renewal_refusal s ≡ None → checkpoint s ≡ written s
 unfolding checkpoint
 written_checkpoint s none = ap (written_unless s) none

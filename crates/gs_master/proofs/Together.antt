@@ -1,15 +1,20 @@
 -- That what is planned comes with other records of an event.
-use Rattle.std.proofs.Common.{◌≡◌, ◌∙◌, ◌&&◌, ◌||◌, Bool, true, false, cond, List, [], ◌∷◌, Option, refl, ap}
+use Rattle.std.proofs.Common.{◌≡◌, ◌∙◌, ℕ, ◌&&◌, ◌||◌, Bool, true, false, cond, List, [], ◌∷◌, ◌++◌, Option, Some, None, refl, ap}
 use Rattle.std.specs.List.{list_any}
 use Rattle.gs_base.specs.declared.numbers.ReqId.{ReqId}
 use Rattle.gs_base.specs.declared.refusal.Refusal.{Refusal}
+use Rattle.gs_lease.specs.declared.view.View.{View}
 use Rattle.gs_msg.specs.declared.answer.Answer.{Answer}
 use Rattle.gs_record.specs.Plain.{PlainEntry, Edited, Said, Propose, Settle, Prepare, Finalize, RollbackBegin, RollbackCommit, Whole, Holder}
+use Rattle.gs_record.specs.declared.checkpoint.Phase.{Phase}
 use Rattle.gs_state.specs.Applied.{is_whole_entry}
+use Rattle.gs_state.specs.Chunks.{holder_records, is_holder, settling, target_of}
 use Rattle.gs_state.specs.Settling.{end_plan}
 use Rattle.gs_state.specs.State.{State, fits, keeps_refusal, refusal_plan}
 use Rattle.gs_state.specs.TakingBack.{comes_alone}
 use Rattle.gs_master.specs.Turns.{ComesWithOthers}
+use Rattle.gs_state.specs.declared.asking.Asking.{Asking}
+use Rattle.gs_state.specs.declared.asking.Prepared.{Prepared}
 use Rattle.gs_state.specs.declared.change.Change.{Change}
 
 -- ---- records
@@ -43,6 +48,11 @@ said_with_others : (b : Bool) (req : ReqId) (refusal : Refusal) → list_any com
 said_with_others true req refusal = refl
 said_with_others false req refusal = refl
 
+holder_with_others : (holds : Bool) (chunk : ℕ) (target : Option ℕ) (v : PlainEntry) → comes_alone v ≡ false → list_any comes_alone (holder_records holds chunk target ++ v ∷ []) ≡ false
+holder_with_others holds chunk None v h = both_none (comes_alone v) false h refl
+holder_with_others true chunk (Some target) v h = both_none (comes_alone v) false h refl
+holder_with_others false chunk (Some target) v h = both_none (comes_alone v) false h refl
+
 -- ---- plans
 
 pub refused_together : (s : State) (req : ReqId) (refusal : Refusal) (further : List Change) (said : Option Refusal) → ComesWithOthers (refusal_plan s req refusal further said)
@@ -50,3 +60,7 @@ refused_together s req refusal further said = record { records = said_with_other
 
 pub ended_together : (s : State) (req : ReqId) (answer : Answer) → ComesWithOthers (end_plan s req answer)
 ended_together s req answer = record { records = refl }
+
+pub settled_with_others : (phase : Phase) (prepared : Option Prepared) (carried : Bool) (chunk : ℕ) (asking : Asking) (view : View) → list_any comes_alone (settling phase prepared carried chunk asking view) ≡ false
+settled_with_others phase prepared carried chunk asking view =
+    holder_with_others (is_holder phase prepared carried asking view) chunk (target_of asking.purpose) (Settle (record { handle = chunk; view = view })) refl

@@ -1,5 +1,5 @@
 -- Why no checkpoint is written, as far as that is known before one is made, and behind that.
-use Rattle.std.proofs.Common.{◌≡◌, ◌⊎◌, inl, inr, ◌∙◌, ◌==◌, Bool, true, false, [], ◌∷◌, ap}
+use Rattle.std.proofs.Common.{◌≡◌, ◌⊎◌, inl, inr, ◌∙◌, ◌==◌, Bool, true, false, [], ◌∷◌, ap, refl}
 use Rattle.std.specs.Prelude.{Option, Some, None, nat_lt}
 use Rattle.gs_base.specs.declared.refusal.Refusal.{Refusal}
 use Rattle.gs_base.specs.declared.refusal.Refusal.TheVariants as refusals
@@ -20,6 +20,13 @@ known_first true b c d e is = is
 known_first false true c d e is = is
 known_first false false true d e is = is
 known_first false false false d e is = absurd (cc)
+
+-- where nothing is, room decides
+pub room_last : (a b c d : Bool) → None ≡ before a b c → whole a b c d ≡ first_of ((d, refusals.Full) ∷ [])
+room_last true b c d is = absurd (cc)
+room_last false true c d is = absurd (cc)
+room_last false false true d is = absurd (cc)
+room_last false false false d is = refl
 
 -- it is never memory
 not_memory : (a b c d : Bool) → whole a b c d ≡ Some refusals.Memory → ⊥

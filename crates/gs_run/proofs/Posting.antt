@@ -1,5 +1,5 @@
 -- What a node sends, one after the other.
-use Rattle.std.proofs.Common.{◌≡◌, ◌∙◌, ◌-◌, ◌<◌, ◌==◌, ℕ, zero, suc, Bool, true, false, if◌then◌else◌, List, [], ◌∷◌, Option, Some, None, MatchOption, refl, sym, ap, subst, arith, slice_get, slice_index_or, slice_set, length}
+use Rattle.std.proofs.Common.{◌≡◌, ◌∙◌, ◌++◌, ◌+◌, ◌-◌, ◌<◌, ◌≤◌, ◌==◌, ℕ, zero, suc, Bool, true, false, if◌then◌else◌, List, [], ◌∷◌, Option, Some, None, MatchOption, refl, sym, ap, subst, arith, replicate, slice_get, slice_index_or, slice_set, length}
 use Rattle.gs_base.specs.declared.numbers.Moment.{Moment}
 use Rattle.gs_msg.specs.Posts.{Posted, posted}
 use Rattle.gs_msg.specs.declared.message.Message.{Message}
@@ -18,12 +18,38 @@ pub none_lost : (messages : List Message) (has_lost : Bool) → length messages 
 none_lost [] has_lost none = refl
 none_lost (message ∷ messages) has_lost none = absurd (omega (arith, none))
 
+pub lost_still : (messages : List Message) → true ≡ lost_all messages true
+lost_still [] = refl
+lost_still (message ∷ messages) = refl
+
+-- one more that has sent nothing
+pushed : (outboxes : List Posted) (o : Posted) → all_posts (outboxes ++ o ∷ []) ≡ all_posts outboxes ++ o.posts ∷ []
+pushed [] o = refl
+pushed (p ∷ outboxes) o = ap (λ (l : List (List Post)). p.posts ∷ l) (pushed outboxes o)
+
+one_silent : (n : ℕ) (none : List Post) → replicate n none ++ none ∷ [] ≡ replicate (suc n) none
+one_silent zero none = refl
+one_silent (suc n) none = ap (λ (l : List (List Post)). none ∷ l) (one_silent n none)
+
+next : (n : ℕ) → suc n ≡ n + 1
+next n = omega arith
+
+pub one_more : (outboxes after : List Posted) (o : Posted) (many : ℕ) → all_posts outboxes ≡ replicate many [] → o.posts ≡ [] → after ≡ outboxes ++ o ∷ [] → all_posts after ≡ replicate (many + 1) []
+one_more outboxes after o many before none is =
+    ap all_posts is ∙ pushed outboxes o ∙ ap (λ (l : List (List Post)). l ++ o.posts ∷ []) before ∙ ap (λ (posts : List Post). replicate many [] ++ posts ∷ []) none
+    ∙ one_silent many [] ∙ ap (λ (n : ℕ). replicate n []) (next many)
+
 -- ---- one of several
 
 posts_at : (outboxes : List Posted) (i : ℕ) (o : Posted) → i < length outboxes → o ≡ slice_index_or outboxes i o → slice_get (all_posts outboxes) i ≡ Some o.posts
 posts_at [] i o inside is = absurd (omega (arith, inside))
 posts_at (p ∷ outboxes) zero o inside is = ap (λ (x : Posted). Some x.posts) (sym is)
 posts_at (p ∷ outboxes) (suc i) o inside is = posts_at outboxes i o (omega (arith, inside)) is
+
+posts_past : (outboxes : List Posted) (i : ℕ) → length outboxes ≤ i → slice_get (all_posts outboxes) i ≡ None
+posts_past [] i past = refl
+posts_past (p ∷ outboxes) zero past = absurd (omega (arith, past))
+posts_past (p ∷ outboxes) (suc i) past = posts_past outboxes i (omega (arith, past))
 
 posts_set : (outboxes : List Posted) (i : ℕ) (o : Posted) → all_posts (slice_set outboxes i o) ≡ slice_set (all_posts outboxes) i o.posts
 posts_set [] i o = refl
@@ -45,11 +71,24 @@ posted_there outboxes new node moment messages lost now o after inside is append
     (sym (posts_at outboxes node o inside is))
     ((after.posts, now), appends, both (all_posts new) (slice_set (all_posts outboxes) node after.posts) now now (ap all_posts same ∙ posts_set outboxes node after) refl)
 
+pub posted_nowhere : (outboxes new : List Posted) (node : ℕ) (moment : Moment) (messages : List Message) (lost now : Bool) → length outboxes ≤ node → new ≡ outboxes → now ≡ lost_all messages lost
+    → IsPostedIn node moment messages (all_posts outboxes, lost) (all_posts new, now)
+posted_nowhere outboxes new node moment messages lost now past same is =
+    subst
+    (λ (f : Option (List Post)). MatchOption f (lines (all_posts new) now ≡ lines (all_posts outboxes) (lost_all messages lost))
+    (λ posts. (later : Line) × Appends moment messages (posts, lost) later × (lines (all_posts new) now ≡ lines (slice_set (all_posts outboxes) node later.0) later.1)))
+    (sym (posts_past outboxes node past)) (both (all_posts new) (all_posts outboxes) now (lost_all messages lost) (ap all_posts same) is)
+
 pub forgotten_there : (outboxes new : List Posted) (node place : ℕ) (o after : Posted) → node < length outboxes → o ≡ slice_index_or outboxes node o
     → after.posts ≡ without_message o.posts place → new ≡ slice_set outboxes node after → ForgetsIn node place (all_posts outboxes) (all_posts new)
 forgotten_there outboxes new node place o after inside is without same =
     subst (λ (f : Option (List Post)). MatchOption f (all_posts new ≡ all_posts outboxes) (λ posts. all_posts new ≡ slice_set (all_posts outboxes) node (without_message posts place)))
     (sym (posts_at outboxes node o inside is)) (ap all_posts same ∙ posts_set outboxes node after ∙ ap (slice_set (all_posts outboxes) node) without)
+
+pub forgotten_nowhere : (outboxes new : List Posted) (node place : ℕ) → length outboxes ≤ node → new ≡ outboxes → ForgetsIn node place (all_posts outboxes) (all_posts new)
+forgotten_nowhere outboxes new node place past same =
+    subst (λ (f : Option (List Post)). MatchOption f (all_posts new ≡ all_posts outboxes) (λ posts. all_posts new ≡ slice_set (all_posts outboxes) node (without_message posts place)))
+    (sym (posts_past outboxes node past)) (ap all_posts same)
 
 -- ---- of all nodes
 

@@ -11,6 +11,8 @@ use Rattle.gs_base.specs.declared.refusal.Refusal.TheVariants as refusals
 use Rattle.gs_block.specs.Follows.{Follows}
 use Rattle.gs_msg.specs.declared.node.NodeId.{NodeId}
 use Rattle.gs_msg.specs.declared.op.Op.{Op}
+use Rattle.gs_msg.specs.declared.body.Body.TheVariants as bodies
+use Rattle.gs_msg.specs.declared.chunk.Chunk.TheVariants as chunks
 use Rattle.gs_msg.specs.Ops.{in_replica}
 use Rattle.gs_store.specs.Slots.{Slot, Live, first_of, when, count_of, check_grant, unless_live, unless_promised}
 use Rattle.gs_store.specs.Buffers.{pushed}
@@ -18,12 +20,20 @@ use Rattle.gs_store.specs.Serving as serving
 use Rattle.gs_store.specs.Stores.{Store, put_slot}
 use Rattle.gs_server.specs.declared.turn.Turn.{Turn}
 use Rattle.gs_primary.specs.Forwarding.{count_under}
+use Rattle.gs_primary.specs.Leases.{tell}
 use Rattle.gs_server.specs.Places.{Part, or_else, count_or_none}
 use Rattle.gs_server.specs.Edits.{has_bytes, bytes_of, forward, acknowledges, declines, takes_if, takes_next, takes, unless_there, bytes_or_none}
 use Rattle.gs_server.specs.Servers.{Server, Step, Steps, step_of, here_of, place_of, store_of, with_store}
 use Rattle.gs_server.specs.inner.Answering.{declined_by}
 use Rattle.gs_server.specs.inner.Applying.{leaving, applied_with, taken_by}
 use Rattle.gs_server.proofs.Made.{wants_memory}
+
+-- the edit is applied, or it isn't
+pub taken_ok : (handle : ℕ) (from : NodeId) (stamp : Stamp) (number : ℕ) (m : Result Store Refusal) (old : Server) (new : Store) (after : Server) (turn : Turn) →
+    Follows {B = Unit {0}} m (Ok tt) (store_of old) new → after ≡ with_store new old → turn.sent.items ≡ tell old.me from (bodies.About handle (chunks.Ack stamp number)) ∷ [] → turn.said ≡ None →
+    Steps (taken_by handle from stamp number m old) (Ok turn) old after
+taken_ok handle from stamp number (Err e) old new after turn follows is sent said = elim follows [ ]
+taken_ok handle from stamp number (Ok t) old new after turn follows is sent said = (is ∙ ap (λ n. with_store n old) follows, sent, said)
 
 pub taken_err : (handle : ℕ) (from : NodeId) (stamp : Stamp) (number : ℕ) (m : Result Store Refusal) (f : Refusal) (old : Server) (new : Store) (after : Server) (result : Result Turn Refusal) →
     Follows {B = Unit {0}} m (Err f) (store_of old) new →

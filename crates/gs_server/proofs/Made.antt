@@ -54,6 +54,15 @@ pub of_handed_back : {A G : Type 0} (given : G) (m : Result A Refusal) (f : Refu
 of_handed_back given (Ok a) f old new d = (d.0, d.2)
 of_handed_back given (Err e) f old new d = (inl d.0, d.2)
 
+-- the check of an epoch, as definitions and code make it
+pub right_epoch : (test : Bool) (e : Refusal) (f : Refusal → Part) (part : Part) → Judges {B = Unit {0}} (cond test None (Some e)) (Ok tt) → or_else (when (not test) e) f part ≡ part
+right_epoch true e f part c = refl
+right_epoch false e f part c = elim c [ ]
+
+pub wrong_epoch : (test : Bool) (e : Refusal) (f : Refusal → Part) (part : Part) (r : Refusal) → Judges {B = Unit {0}} (cond test None (Some e)) (Err r) → or_else (when (not test) e) f part ≡ f r
+wrong_epoch true e f part r c = elim c [ ]
+wrong_epoch false e f part r c = ap f (sym c)
+
 -- what wants memory does whatever was asked
 pub wants_memory : (step : Step) (result : Result Turn Refusal) (old new : Server) → result ≡ Err refusals.Memory → new ≡ old → Steps step result old new
 wants_memory step result old new is same = subst (λ r. Steps step r old new) (sym is) (refl, same)
@@ -100,6 +109,13 @@ made_err handle stamp moment old true e (Err g) f new after result checked follo
       | inr is ↦ wants_memory _ result old after (lacks is) (stays is ∙ ap (λ n. with_store n old) follows.1)
     ]
 
+-- it is of another epoch
+pub made_in_another_epoch : (handle : ℕ) (stamp : Stamp) (moment : Moment) (old : Server) (test : Bool) (e f : Refusal) (m : Result Slot Refusal) (after : Server) (result : Result Turn Refusal) →
+    Judges {B = Unit {0}} (cond test None (Some e)) (Err f) → Steps (refused_step handle stamp moment f old) result old after →
+    Steps (step_of handle None (or_else (when (not test) e) (unpromised (here_of old moment handle None) (place_of handle old) stamp) (promises (here_of old moment handle None) (place_of handle old) stamp m)) old) result old after
+made_in_another_epoch handle stamp moment old true e f m after result checked steps = elim checked [ ]
+made_in_another_epoch handle stamp moment old false e f m after result checked steps = subst (λ r. Steps (refused_step handle stamp moment r old) result old after) checked steps
+
 -- a replica is dropped, and its lease spent
 abbrev pub dropped_after : ℕ → Store → Server → Server
 dropped_after handle new old = with_leases (fin.remove old.dropped.leases handle) (with_store new old)
@@ -141,12 +157,21 @@ pub put_again : {X : Type 0} (f : X → X) (m removed new : fin.FinMap nat_cmp X
 put_again f m removed new key lease next l got taken is put held =
     put ∙ ap (λ r. fin.insert r key next) taken ∙ insert_removed m key next ∙ ap (fin.insert m key) (is ∙ ap f (inside lease l (got ∙ held)))
 
+-- what is judged before anything is done
+pub judged_none : (o : Option Refusal) → Judges {B = Unit {0}} o (Ok tt) → o ≡ None
+judged_none None j = refl
+judged_none (Some e) j = elim j [ ]
+
 pub judged_some : (o : Option Refusal) (f : Refusal) → Judges {B = Unit {0}} o (Err f) → o ≡ Some f
 judged_some None f j = elim j [ ]
 judged_some (Some e) f j = ap (λ r. Some r) (sym j)
 
 pub unanswered_step : (handle : ℕ) (old : Server) (o : Option Refusal) (part : Part) (f : Refusal) (turn : Turn) → o ≡ Some f → turn.sent.items ≡ [] → turn.said ≡ Some f → Steps (step_of handle None (or_else o unanswered part) old) (Ok turn) old old
 unanswered_step handle old o part f turn is sent said = subst (λ p. Steps (step_of handle None (or_else p unanswered part) old) (Ok turn) old old) (sym is) (refl, sent, said)
+
+-- and what is done then
+pub passed_step : (handle : ℕ) (old new : Server) (o : Option Refusal) (refuses : Refusal → Part) (part : Part) (result : Result Turn Refusal) → o ≡ None → Steps (step_of handle None part old) result old new → Steps (step_of handle None (or_else o refuses part) old) result old new
+passed_step handle old new o refuses part result is steps = subst (λ p. Steps (step_of handle None (or_else p refuses part) old) result old new) (sym is) steps
 
 -- a grant: the epoch, what the slot says of it, and whether the lease is held already
 pub second_refusal : (test : Bool) (e : Refusal) (o : Option Refusal) (f : Refusal) → Judges {B = Unit {0}} (cond test None (Some e)) (Ok tt) → o ≡ Some f → first_of (when (not test) e ∷ o ∷ []) ≡ Some f
@@ -224,3 +249,9 @@ copied_err handle new_handle stamp moment old true e (Err g) f new after result 
       | inl is ↦ subst (λ r. Steps (not_copied_by handle new_handle stamp r old) result old after) is (subst (λ s. Steps (not_copied_by handle new_handle stamp f s) result s after) (ap (λ n. with_store n old) follows.1) steps)
       | inr is ↦ wants_memory _ result old after (lacks is) (stays is ∙ ap (λ n. with_store n old) follows.1)
     ]
+
+pub copied_in_another_epoch : (handle new_handle : ℕ) (stamp : Stamp) (moment : Moment) (old : Server) (test : Bool) (e f : Refusal) (m : Result Slot Refusal) (after : Server) (result : Result Turn Refusal) →
+    Judges {B = Unit {0}} (cond test None (Some e)) (Err f) → Steps (not_copied_by handle new_handle stamp f old) result old after →
+    Steps (copied_as handle new_handle stamp moment test e m old) result old after
+copied_in_another_epoch handle new_handle stamp moment old true e f m after result checked steps = elim checked [ ]
+copied_in_another_epoch handle new_handle stamp moment old false e f m after result checked steps = subst (λ r. Steps (not_copied_by handle new_handle stamp r old) result old after) checked steps

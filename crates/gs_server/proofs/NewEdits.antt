@@ -22,6 +22,7 @@ use Rattle.gs_primary.specs.Leases.{Lease}
 use Rattle.gs_server.specs.Places.{Part, Place, Here, or_else, sending}
 use Rattle.gs_server.specs.Edits.{bytes_of, bytes_or_none, applied_bytes, has_bytes, opened, done, refused_edit, numbers_as, numbers_or_passes, new_edit, unless_numbered, unless_holding, unless_over, unless_there}
 use Rattle.gs_server.specs.Servers.{Server, Steps, step_of, here_of, place_of}
+use Rattle.gs_server.specs.inner.Answering.{kept_by, repeated_by}
 use Rattle.gs_server.specs.inner.Numbering.{IsReady}
 use Rattle.gs_server.proofs.Keeping.{head_none, tail_none, not_met, first_same, second_same, never}
 
@@ -53,6 +54,12 @@ module _ (handle : ℕ) (req : ReqId) (stamp : Stamp) (op : Op) (moment : Moment
 
   abbrev Does : Part → Type 0
   Does part = Steps (step_of handle (Some req) part old) result old after
+
+  refused_does : (o : Option Refusal) (e : Refusal) (part : Part) → o ≡ Some e → Steps (kept_by handle req e old) result old after → Does (or_else o (refused_edit h p req) part)
+  refused_does o e part is steps = subst (λ x. Does (or_else x (refused_edit h p req) part)) (sym is) steps
+
+  passed_does : (part : Part) (test : Bool) → test ≡ true → Steps (repeated_by req Padded true old) result old after → Does (cond test (sending (done h req (Ok Padded) ∷ [])) part)
+  passed_does part test is steps = subst (λ x. Does (cond x (sending (done h req (Ok Padded) ∷ [])) part)) (sym is) steps
 
   -- what is there where nothing refuses it
   abbrev tests : Option (List ℕ) → Option Live → Option Lease → List (Option Refusal)
@@ -88,6 +95,12 @@ module _ (handle : ℕ) (req : ReqId) (stamp : Stamp) (op : Op) (moment : Moment
       subst (λ x. Does (or_else x (refused_edit h p req) (numbers_or_passes h p req op (bytes_or_none (bytes_of op None h.pushed)) p.slot.live p.lease))) (sym none)
       (all_there (bytes_of op None h.pushed) p.slot.live p.lease none there)
 
+  -- it is passed, or it is numbered
+  passed_there : (stored : ℕ) → stored ≡ length_in p.slot.live → is_passed h.chunk stored op ≡ true → Steps (repeated_by req Padded true old) result old after → AllThere (bytes_of op None h.pushed) p.slot.live p.lease
+  passed_there stored same full steps = λ b v l found lives leased asked promised.
+      passed_does (numbers_as h p v l (opened req (numbered_op h.chunk (length v.replica.held.chunk.bytes) op) b v)) (is_passed h.chunk (length v.replica.held.chunk.bytes) op)
+      (ap (λ n. is_passed h.chunk n op) (sym (same ∙ ap length_in lives)) ∙ full) steps
+
   abbrev edit_of : ℕ → NewEdit
   edit_of stored = record { req = req; stamp = stamp; op = numbered_op h.chunk stored op }
 
@@ -100,6 +113,17 @@ module _ (handle : ℕ) (req : ReqId) (stamp : Stamp) (op : Op) (moment : Moment
       let numbered : Does (numbers_as h p v l (opened req new b v)) = subst (λ e. Does (numbers_as h p v l e)) (opened_once req new b v) (does (applied_bytes new b) v l ready) in
       subst (λ n. Does (cond (is_passed h.chunk n op) (sending (done h req (Ok Padded) ∷ [])) (numbers_as h p v l (opened req (numbered_op h.chunk n op) b v)))) long
       (subst (λ x. Does (cond x (sending (done h req (Ok Padded) ∷ [])) (numbers_as h p v l (opened req new b v)))) (sym room) numbered)
+
+pub new_refused : (handle : ℕ) (req : ReqId) (stamp : Stamp) (op : Op) (moment : Moment) (old after : Server) (result : Result Turn Refusal) (e : Refusal) →
+    unless_numbered (here_of old moment handle (Some req)) (place_of handle old) stamp op ≡ Some e → Steps (kept_by handle req e old) result old after →
+    Steps (step_of handle (Some req) (new_edit (here_of old moment handle (Some req)) (place_of handle old) req stamp op) old) result old after
+new_refused handle req stamp op moment old after result e is steps = refused_does handle req stamp op moment old after result (unless_numbered (here_of old moment handle (Some req)) (place_of handle old) stamp op) e _ is steps
+
+pub new_passed : (handle : ℕ) (req : ReqId) (stamp : Stamp) (op : Op) (moment : Moment) (old after : Server) (result : Result Turn Refusal) (stored : ℕ) →
+    unless_numbered (here_of old moment handle (Some req)) (place_of handle old) stamp op ≡ None → stored ≡ length_in (place_of handle old).slot.live → is_passed old.chunk stored op ≡ true → Steps (repeated_by req Padded true old) result old after →
+    Steps (step_of handle (Some req) (new_edit (here_of old moment handle (Some req)) (place_of handle old) req stamp op) old) result old after
+new_passed handle req stamp op moment old after result stored none same full steps =
+    new_does handle req stamp op moment old after result none (passed_there handle req stamp op moment old after result stored same full steps)
 
 pub new_numbered : (handle : ℕ) (req : ReqId) (stamp : Stamp) (op : Op) (moment : Moment) (old after : Server) (result : Result Turn Refusal) (stored : ℕ) →
     unless_numbered (here_of old moment handle (Some req)) (place_of handle old) stamp op ≡ None → stored ≡ length_in (place_of handle old).slot.live → is_passed old.chunk stored op ≡ false →

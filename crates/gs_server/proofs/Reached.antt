@@ -58,6 +58,9 @@ use Rattle.gs_server.proofs.Behind.{last_taken, not_refused, rolled_slot, taken_
 abbrev Within : ℕ → Slot → Type 0
 Within epoch s = s.promise.epoch ≤ epoch
 
+same_within : (epoch : ℕ) (s x : Slot) → x.promise ≡ s.promise → Within epoch s → Within epoch x
+same_within epoch s x is within = subst (λ (p : Stamp). p.epoch ≤ epoch) (sym is) within
+
 at_most : (a b : ℕ) → a ≡ b → a ≤ b
 at_most a b is = omega arith
 

@@ -143,6 +143,9 @@ room_for_all_stays r s [] room keeps = tt
 room_for_all_stays r s (undo ∷ more) room keeps =
     (room_back_stays (all_rooms_before more r) (all_rooms_before more s) undo room.0 (all_keep_before r s more keeps), room_for_all_stays r s more room.1 keeps)
 
+pub none_to_remove : (m : fin.FinMap nat_cmp Lease) (k : ℕ) → fin.get m k ≡ None → fin.remove m k ≡ m
+none_to_remove m k none = ap (λ w. set_live k w m) (sym none) ∙ nothing_undone nat_cmp_total fin.nat_cmp-IsAntisymmetric m k
+
 -- ---- chunks
 
 either_lease : (b : Bool) (lease rest : Option Lease) → cond b (option_and_then settled_by lease) (option_and_then settled_by rest) ≡ option_and_then settled_by (cond b lease rest)

@@ -51,6 +51,12 @@ add_long p chunk = omega (arith, with_path p (number chunk))
 pub cow_long : (p : Path) (index old new : ℕ) → length (edit (Cow p index old new)) ≡ 21 + length (path p)
 cow_long p index old new = omega (arith, with_path p (big_bytes 4 index ++ (number old ++ number new)))
 
+pub two_long : (p q : Path) → length (path p ++ path q) + 1 ≡ (1 + length (path p)) + length (path q)
+two_long p q = omega (arith, with_path p (path q))
+
+pub tagged_long : (tag : ℕ) (p q : Path) → length (tag ∷ path p ++ path q) ≡ length (path p ++ path q) + 1
+tagged_long tag p q = omega arith
+
 pub forget_long : (chunks : List ℕ) → length (edit (Forget chunks)) ≡ 5 + length chunks * 8
 forget_long chunks = omega (arith, length-append (big_bytes 4 (length chunks)) (flat_map number chunks), items_long number 8 (λ x. refl) chunks)
 

@@ -198,6 +198,10 @@ seen_blank p q t (e, (b, same)) =
 or_left : (a b : Bool) → a ≡ true → (a || b) ≡ true
 or_left a b h = ap (λ c. c || b) h
 
+or_right : (a b : Bool) → b ≡ true → (a || b) ≡ true
+or_right true b h = refl
+or_right false b h = h
+
 -- the test on rows says whether what was made stands there alone
 pub made_fits : (path : Path) (n : ℕ) (t : fin.FinMap path_cmp (Entry ℕ)) → fits_rows (Made path n) (fin.entries t) ≡ true → (length path ≤ n) ⊎ IsBlankRow (part_at (first_made path n) (at (fin.entries t))) (below_first path n)
 made_fits path n t h = each (nat_le (length path) n) refl h

@@ -99,3 +99,6 @@ filter_both test (x ∷ xs) ys = elim (test x) as (λ b. cond b (x ∷ filter te
   | true ↦ ap (λ l. x ∷ l) (filter_both test xs ys)
   | false ↦ filter_both test xs ys
 ]
+
+pub is_in : {A : Type 0} (found : Option A) (copied : Option Bool) (set : fin.FinMap nat_cmp Bool) (chunk : ℕ) (b : Bool) → b ≡ is_some copied → copied ≡ fin.get set chunk → (listed : List ℕ) → AreIn listed set → b ≡ is_member listed chunk
+is_in found copied set chunk b some get listed are = some ∙ ap is_some get ∙ are.each chunk

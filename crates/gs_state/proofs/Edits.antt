@@ -17,10 +17,10 @@ use Rattle.gs_path.specs.Path.{path_cmp, path_total}
 use Rattle.gs_record.specs.Plain.{Edited, PlainEdit, PlainInverse, plain_edit, plain_inverse, Mkdirs, Create, Rename, Hide, Unhide, Remove, AddChunk, Cow, Snapshot, Forget}
 use Rattle.gs_record.specs.declared.checkpoint.Phase.{Phase}
 use Rattle.gs_record.specs.declared.checkpoint.Phase.TheVariants.{Ordinary, Upgrade, Rolling}
-use Rattle.gs_table.specs.Slots.{KeepsRoom}
+use Rattle.gs_table.specs.Slots.{HasRoom, KeepsRoom}
 use Rattle.gs_tree.specs.Entry.{Entry}
 use Rattle.gs_state.specs.Applied.{after_edit, after_if, applied, chunk_of_edit, forgotten_by, inverses_with, may_edit, number_of_edit, view_for, with_answer, with_edit, without_chunks}
-use Rattle.gs_state.specs.Durable.{Durable, kept_before}
+use Rattle.gs_state.specs.Durable.{Durable, Settled, kept_before, prepared_of, upgrade_epoch}
 use Rattle.gs_state.specs.Undoing.{edits_as_told, edited_names, inverse_of, names_from}
 use Rattle.gs_state.specs.Recorded.{IsToldBack, RoomForEach, RoomToKeep, inverses_and, unfit, SayAlone}
 use Rattle.gs_state.specs.Replies.{answer_to}
@@ -64,6 +64,13 @@ pub room_to_keep_stays : (phase : Phase) (slots more : List (ℕ × Option Prepa
 room_to_keep_stays Ordinary slots more x keeps room = tt
 room_to_keep_stays Upgrade slots more x keeps room = keeps.keeps x room
 room_to_keep_stays Rolling slots more x keeps room = keeps.keeps x room
+
+-- what is kept has room
+pub room_of_kept : (phase : Phase) (epoch : ℕ) (kept : Option Prepared) (settled : Option Settled) (view : Prepared) (slots : List (ℕ × Option Prepared)) (x : ℕ) →
+    Some view ≡ prepared_of (upgrade_epoch phase epoch) kept settled → RoomToKeep phase slots x → HasRoom nat_cmp slots x
+room_of_kept Ordinary epoch kept settled view slots x is room = absurd (false≢true (sym (ap is_some is)))
+room_of_kept Upgrade epoch kept settled view slots x is room = room
+room_of_kept Rolling epoch kept settled view slots x is room = room
 
 room_kept : (phase : Phase) (slots more : List (ℕ × Option Prepared)) (xs : List ℕ) → KeepsRoom nat_cmp slots more → RoomForEach phase slots xs → RoomForEach phase more xs
 room_kept phase slots more [] keeps room = tt

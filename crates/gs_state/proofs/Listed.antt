@@ -1,7 +1,7 @@
 -- What the tree lists is what its rows list.
-use Rattle.std.proofs.Common.{◌≡◌, ◌∙◌, ℕ, ◌+◌, ◌==◌, ◌&&◌, ◌||◌, Bool, true, false, not, cond, List, [], ◌∷◌, ◌++◌, map, length, length-append, refl, sym, ap, subst, T, arith}
+use Rattle.std.proofs.Common.{◌≡◌, ◌⊎◌, ◌∙◌, ℕ, ◌+◌, ◌==◌, ◌&&◌, ◌||◌, Bool, true, false, not, cond, List, [], ◌∷◌, ◌++◌, map, length, length-append, refl, sym, ap, subst, inl, inr, T, arith}
 use Rattle.std.proofs.lemmas.Bool.Decides.{nat_tests}
-use Rattle.std.specs.Prelude.{Option, Some, None, Ok, is_some, MatchBool}
+use Rattle.std.specs.Prelude.{Option, Some, None, Ok, Err, is_some, MatchBool}
 use Rattle.std.specs.declared.cmp.Ordering.TheVariants.{Less, Equal, Greater}
 use Rattle.std.specs.Ordering.{is_eq, is_lt, ordering_then}
 use Rattle.std.specs.Cmp.{IsEquivalence, eq_by_cmp_equiv, Equal-is}
@@ -11,6 +11,7 @@ use Rattle.std.specs.Option.{option_map}
 use Rattle.std.specs.FinMap.{FinMap, find, is_sorted, entries, entries_sorted, get, get-entries, slice_cmp-IsAntisymmetric, nat_cmp-IsAntisymmetric}
 use Rattle.std.specs.FinMap.Entries.{below_all, same_entries}
 use Rattle.gs_base.specs.declared.refusal.Refusal.{Refusal}
+use Rattle.gs_base.specs.declared.refusal.Refusal.TheVariants as refusals
 use Rattle.gs_path.specs.Path.{Name, Path, same_name, begins, name_cmp, path_cmp}
 use Rattle.gs_path.specs.Element.{is_hidden}
 use Rattle.gs_tree.specs.Entry.{Entry, Dir, File}
@@ -236,6 +237,10 @@ listed_as m p items names h is = by_entry (get m p) h
     by_entry None g = absurd g
     by_entry (Some Dir) g = ap (λ l. Ok (answers.Names l)) (is ∙ ap (map listed_name) (shown_is m p items g) ∙ sym (names_told p (entries m)))
     by_entry (Some (File chunks)) g = ap (λ l. Ok (answers.Names l)) (is ∙ ap (map listed_name) g ∙ file_told p chunks (last p))
+
+pub not_listed : (m : FinMap path_cmp (Entry ℕ)) (p : Path) (e : Refusal) → ((e ≡ refusals.NotFound) × (get m p ≡ None)) ⊎ (e ≡ refusals.Memory) → (e ≡ refusals.Memory → ⊥) → Err e ≡ listing (entries m) p (get m p)
+not_listed m p e (inl h) other = ap Err h.0 ∙ sym (ap (listing (entries m) p) h.1)
+not_listed m p e (inr h) other = absurd (other h)
 
 -- ---- whether a directory has a visible child
 

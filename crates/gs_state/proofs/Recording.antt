@@ -1,5 +1,5 @@
 -- What a table of leases tells of its chunks.
-use Rattle.std.proofs.Common.{◌≡◌, ◌⊎◌, inl, inr, ◌∙◌, ◌<◌, ◌==◌, ◌+◌, suc, add-one, drop, drop-cons, get_or, length, ℕ, Bool, true, false, cond, List, [], ◌∷◌, ◌&&◌, ◌||◌, not, map, filter, refl, ap, subst, sym, arith}
+use Rattle.std.proofs.Common.{◌≡◌, ◌⊎◌, inl, inr, ◌∙◌, ◌<◌, ◌≤◌, ◌==◌, ◌+◌, suc, add-one, drop, drop-cons, get_or, length, ℕ, Bool, true, false, cond, List, [], ◌∷◌, ◌&&◌, ◌||◌, not, map, filter, refl, ap, subst, sym, arith}
 use Rattle.std.specs.Prelude.{Option, Some, None, filter_map, option_map, option_and_then, is_some, unwrap_or}
 use Rattle.std.proofs.lemmas.Bool.{false≢true}
 use Rattle.std.proofs.lemmas.List.{drop_all}
@@ -26,7 +26,7 @@ use Rattle.gs_record.specs.declared.entry.Answered.{Answered}
 use Rattle.gs_record.specs.declared.entry.SettledView.{SettledView}
 use Rattle.gs_state.specs.Applied.{after_undoing, applied, are_answers, are_at_rest, is_at_rest, if_fits, may_be_settled, may_restore, restored_chunk, rolled_back, without_prepared, restored_view, view_in, with_proposal}
 use Rattle.gs_state.specs.Durable.{Durable, Settled, is_listed, is_rolling, kept_before, prepared_view}
-use Rattle.gs_state.specs.Recorded.{chunks_of, durable_of, restored_chunks, rests, settled_by}
+use Rattle.gs_state.specs.Recorded.{answers_for_one, chunks_of, durable_of, restored_chunks, rests, settled_by}
 use Rattle.gs_state.specs.declared.asking.Prepared.{Prepared}
 use Rattle.gs_state.specs.declared.recorded.Recorded.{Recorded}
 
@@ -162,6 +162,11 @@ all_rest listed (e ∷ es) = ap (λ b. (not (listed e.0) || rests (settled_by e.
 abbrev pub all_rest_in : Recorded → List (ℕ × Lease) → Bool
 all_rest_in r es = list_all (λ (e : ℕ × Lease). not (is_listed (durable_of r) e.0) || rests (settled_by e.1)) es
 
+pub goes_on : (listed rest all : Bool) → listed && not rest ≡ false → (not listed || rest) && all ≡ all
+goes_on true true all h = refl
+goes_on true false all h = absurd (false≢true (sym h))
+goes_on false rest all h = refl
+
 pub ends_there : (listed rest all : Bool) → listed && not rest ≡ true → (not listed || rest) && all ≡ false
 ends_there true true all h = absurd (false≢true h)
 ends_there true false all h = refl
@@ -182,11 +187,20 @@ at_rest_is r es is rising b h = sym h ∙ ap (all_rest_in r) is ∙ at_rest_by r
 drop_here : (xs : List Answered) (i : ℕ) (x : Answered) → i < length xs → x ≡ get_or xs i x → drop i xs ≡ x ∷ drop (i + 1) xs
 drop_here xs i x h at = rw (add-one, drop-cons xs i x h) (ap (λ y. y ∷ drop (suc i) xs) (sym at))
 
+without_one : (f : Answered → Option (ℕ × Settled)) (x : Answered) (xs : List Answered) → f x ≡ None → filter_map f (x ∷ xs) ≡ filter_map f xs
+without_one f x xs is = rw is refl
+
 with_one : (f : Answered → Option (ℕ × Settled)) (x : Answered) (xs : List Answered) (y : ℕ × Settled) → f x ≡ Some y → filter_map f (x ∷ xs) ≡ y ∷ filter_map f xs
 with_one f x xs y is = rw is refl
 
 abbrev restored_entry : Durable → Answered → Prepared → ℕ × Settled
 restored_entry d x prepared = (x.handle, restored_view d.epoch prepared x.members)
+
+-- of a chunk without a prepared view nothing is restored
+pub nothing_restored : (d : Durable) (xs : List Answered) (i : ℕ) (x : Answered) (m : fin.FinMap nat_cmp Settled) → i < length xs → x ≡ get_or xs i x → prepared_view d x.handle ≡ None →
+    m ≡ restored_chunks d (drop (i + 1) xs) → m ≡ restored_chunks d (drop i xs)
+nothing_restored d xs i x m h at none is =
+    is ∙ sym (ap (restored_chunks d) (drop_here xs i x h at) ∙ ap fin.from_entries (without_one (restored_chunk d) x (drop (i + 1) xs) (ap (option_map (restored_entry d x)) none)))
 
 pub one_restored : (d : Durable) (xs : List Answered) (i : ℕ) (x : Answered) (p : Prepared) (leases more : fin.FinMap nat_cmp Lease) (lease : Lease) (view : View) → i < length xs → x ≡ get_or xs i x → Some p ≡ prepared_view d x.handle →
     more ≡ fin.insert leases x.handle lease → lease ≡ restored view None → view ≡ (restored_view d.epoch p x.members).view →
@@ -206,10 +220,27 @@ none_restored d xs i leases is no_lease = ap chunks_of no_lease ∙ chunks_empty
 abbrev Places : Type 0
 Places = ℕ → Option Prepared
 
+and_assoc : (a b c : Bool) → a && (b && c) ≡ (a && b) && c
+and_assoc true b c = refl
+and_assoc false b c = refl
+
 and_false : (a b : Bool) → a && (b && false) ≡ false
 and_false true true = refl
 and_false true false = refl
 and_false false b = refl
+
+drop_listed : (xs : List (ℕ × ℕ)) (i : ℕ) (x : ℕ × ℕ) → i < length xs → x ≡ get_or xs i x → drop i xs ≡ x ∷ drop (i + 1) xs
+drop_listed xs i x h at = rw (add-one, drop-cons xs i x h) (ap (λ y. y ∷ drop (suc i) xs) (sym at))
+
+pub answers_step : (prepared : Places) (listed : List (ℕ × ℕ)) (answers : List Answered) (i : ℕ) (e : ℕ × ℕ) (x : Answered) → i < length listed → i < length answers → e ≡ get_or listed i e → x ≡ get_or answers i x →
+    are_answers prepared (drop i listed) (drop i answers) ≡ answers_for_one prepared e x && are_answers prepared (drop (i + 1) listed) (drop (i + 1) answers)
+answers_step prepared listed answers i e x h k at_e at_x =
+    ap (λ es. are_answers prepared es (drop i answers)) (drop_listed listed i e h at_e) ∙ ap (are_answers prepared (e ∷ drop (i + 1) listed)) (drop_here answers i x k at_x)
+    ∙ and_assoc (x.handle == e.0) (may_restore (prepared e.0) e.1 x.members) (are_answers prepared (drop (i + 1) listed) (drop (i + 1) answers))
+
+pub answers_end : (prepared : Places) (listed : List (ℕ × ℕ)) (answers : List Answered) (i : ℕ) → length listed ≤ i → length answers ≤ i → are_answers prepared (drop i listed) (drop i answers) ≡ true
+answers_end prepared listed answers i h k =
+    ap (λ es. are_answers prepared es (drop i answers)) (drop_all i listed h) ∙ ap (are_answers prepared []) (drop_all i answers k)
 
 pub answers_unequal : (prepared : Places) (listed : List (ℕ × ℕ)) (answers : List Answered) → (length listed ≡ length answers → ⊥) → are_answers prepared listed answers ≡ false
 answers_unequal prepared [] [] apart = absurd (apart refl)

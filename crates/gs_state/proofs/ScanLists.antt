@@ -60,6 +60,10 @@ to_T : (b : Bool) → b ≡ true → T b
 to_T true e = tt
 to_T false e = absurd (cc)
 
+from_T : (b : Bool) → T b → b ≡ true
+from_T true h = refl
+from_T false h = absurd h
+
 below_tagged : {K : Type 0} (R : K → K → Ordering) (x : K) (ks : List K) → AllByRecursion (λ y. R x y ≡ Less) ks → T (below_all R x (tagged ks))
 unfolding tagged
 below_tagged R x [] h = tt

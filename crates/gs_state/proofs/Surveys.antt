@@ -157,6 +157,15 @@ need_found s chunk (Some found) true view is = let same : view ≡ found.view = 
 pub need_at : (s : State) (e : ℕ × Lease) (view : View) → Some view ≡ view_where (has_entry s) e → need_where s e ≡ Some (need_by s.durable e.0 (length view.members))
 need_at s e view is = need_found s e.0 (settled_by e.1) (has_entry s e.0) view is
 
+no_need_found : (s : State) (chunk : ℕ) (settled : Option Settled) (b : Bool) → None ≡ (if b then option_map (λ (s : Settled). s.view) settled else None) →
+    (if b then option_map (λ (settled : Settled). need_of s.durable (chunk, settled)) settled else None) ≡ None
+no_need_found s chunk settled false is = refl
+no_need_found s chunk None true is = refl
+no_need_found s chunk (Some found) true is = absurd (cc)
+
+pub no_need_at : (s : State) (e : ℕ × Lease) → None ≡ view_where (has_entry s) e → need_where s e ≡ None
+no_need_at s e is = no_need_found s e.0 (settled_by e.1) (has_entry s e.0) is
+
 -- ---- the views that each server is a member of
 
 pub one_view_more : (v : ℕ × Lease → Option View) (e : ℕ × Lease) (rest : List (ℕ × Lease)) (k : ℕ) (view : View) → Some view ≡ v e → replicas_on (filter_map v (e ∷ rest)) k ≡ (if is_member view.members k then 1 else 0) + replicas_on (filter_map v rest) k

@@ -1,11 +1,12 @@
 -- That the inverse of a list is undone as the list's definition says.
-use Rattle.std.proofs.Common.{◌≡◌, ◌⊎◌, inl, inr, ◌+◌, ◌-◌, ◌<◌, ◌++◌, ◌&&◌, ℕ, zero, suc, Bool, true, false, cond, List, [], ◌∷◌, map, drop, drop-cons, add-one, get_or, length, refl, sym, ap, ◌∙◌, subst, append-nil}
+use Rattle.std.proofs.Common.{◌≡◌, ◌⊎◌, inl, inr, ◌+◌, ◌-◌, ◌<◌, ◌≤◌, ◌++◌, ◌&&◌, ℕ, zero, suc, Bool, true, false, cond, List, [], ◌∷◌, map, drop, drop-cons, add-one, get_or, length, refl, sym, ap, ◌∙◌, subst, append-nil}
 use Rattle.std.specs.Prelude.{Option, Some, None, is_some, option_map, option_and_then, Result, Ok, Err, if◌then◌else◌}
 use Rattle.std.specs.List.{list_all}
 use Rattle.std.specs.Ordering.{is_eq}
 use Rattle.std.specs.FinMap as fin
 use Rattle.std.specs.FinMap.Entries.{same_entries}
 use Rattle.std.proofs.lemmas.Bool.{and_parts}
+use Rattle.std.proofs.lemmas.List.{drop_all}
 use Rattle.gs_base.specs.declared.refusal.Refusal.{Refusal}
 use Rattle.gs_base.specs.declared.refusal.Refusal.TheVariants.{Memory, BadLine}
 use Rattle.gs_path.specs.Path.{Path, path_cmp, path_total, begins}
@@ -209,12 +210,19 @@ drop_here xs i x h at = rw (add-one, drop-cons xs i x h) (ap (λ y. y ∷ drop (
 abbrev pub back_to : List ListedInverse → NamesView → Option NamesView
 back_to inverses names = all_undone (map plain_inverse inverses) names
 
+pub back_none : (inverses : List ListedInverse) (left : ℕ) (names : NamesView) → length inverses ≤ left → back_to (drop left inverses) names ≡ Some names
+back_none inverses left names h = ap (λ l. back_to l names) (drop_all left inverses h)
+
 pub back_all : (inverses : List ListedInverse) (left : ℕ) (names before : NamesView) → left ≡ 0 → back_to (drop left inverses) names ≡ Some before → back_to inverses names ≡ Some before
 back_all inverses left names before is h = ap (λ n. back_to (drop n inverses) names) (sym is) ∙ h
 
 -- one inverse more
 back_more : (inverses : List ListedInverse) (left : ℕ) (x : ListedInverse) (names mid : NamesView) → left < length inverses → x ≡ get_or inverses left x → back_to (drop (left + 1) inverses) names ≡ Some mid → back_to (drop left inverses) names ≡ undone (plain_inverse x) mid
 back_more inverses left x names mid h at is = ap (λ l. back_to l names) (drop_here inverses left x h at) ∙ ap (option_and_then (undone (plain_inverse x))) is
+
+pub back_given : (inverses : List ListedInverse) (before left : ℕ) (x : ListedInverse) (names mid new : NamesView) → left < length inverses → before ≡ left + 1 → x ≡ get_or inverses left x → back_to (drop before inverses) names ≡ Some mid → TakesBackOne (plain_inverse x) mid (Ok tt) new
+    → back_to (drop left inverses) names ≡ Some new
+back_given inverses before left x names mid new h one at is takes = back_more inverses left x names mid h at (ap (λ n. back_to (drop n inverses) names) (sym one) ∙ is) ∙ takes
 
 none_further : (left : ℕ) (inverses : List ListedInverse) (names : NamesView) → back_to (drop left inverses) names ≡ None → back_to inverses names ≡ None
 none_further zero inverses names none = none

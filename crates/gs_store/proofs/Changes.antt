@@ -1,6 +1,6 @@
 -- Calls of one handle, where its slot stands in a list.
 use Rattle.std.proofs.Common.{inl, ◌≡◌, ℕ, ◌<◌, Bool, true, false, cond, List, [], ◌∷◌, ◌++◌, get_or, slice_set, length, Option, Some, None, refl, sym, ap, subst, ◌∙◌}
-use Rattle.std.specs.Prelude.{Result, Ok, Err, Vec, vec_len, not, is_ok, option_map, OnOk, OnErr, IfErr}
+use Rattle.std.specs.Prelude.{Result, Ok, Err, Vec, vec_len, not, is_ok, is_some, option_map, OnOk, OnErr, IfErr}
 use Rattle.std.specs.declared.alloc.Global.{Global}
 use Rattle.std.proofs.lemmas.List.{set-get_or, get_or_read_under}
 use Rattle.std.specs.FinMap as fin
@@ -15,6 +15,8 @@ use Rattle.gs_store.specs.Slots.{Slot, nothing, first_stamp, drop_replica, when,
 use Rattle.gs_store.specs.Buffers.{Pushes}
 use Rattle.gs_store.specs.Stores.{Store, or_nothing, slot_of, at_slot, put_slot, set_slot, with_slot, with_slots, mark_bad, Performs}
 use Rattle.gs_store.specs.inner.Placed.{slot_at, slots_at, IsPlaced}
+use Rattle.gs_store.proofs.Maps.{get-each}
+use Rattle.std.proofs.lemmas.Bool.{false≢true}
 use Rattle.gs_store.specs.Slots as slots
 use Rattle.gs_store.proofs.Places.{added, added_placed, stands, stands_not, written, within_reach}
 
@@ -32,6 +34,13 @@ module _ (block chunk epoch : ℕ) (places : fin.FinMap nat_cmp ℕ) (v : Vec Sl
   -- a handle without a place has no slot
   pub absent : None ≡ fin.get places handle → fin.get s.slots handle ≡ None
   absent none = ap (λ x. fin.get x.slots handle) (sym view) ∙ stands_not places v.items handle (sym none)
+
+  no_place : (o : Option ℕ) → option_map (slot_at v.items) o ≡ None → o ≡ None
+  no_place None h = refl
+  no_place (Some p) h = absurd (false≢true (sym (ap is_some h)))
+
+  placeless : fin.get s.slots handle ≡ None → fin.get places handle ≡ None
+  placeless none = no_place (fin.get places handle) (sym (get-each nat_cmp (slot_at v.items) places handle) ∙ ap (λ x. fin.get x.slots handle) view ∙ none)
 
   module _ (t : Slot) (given grown : fin.FinMap nat_cmp ℕ) (place : ℕ) (items : List Slot) (none : fin.get s.slots handle ≡ None) (put : grown ≡ fin.insert given handle place) (same : given ≡ places) (last : place ≡ length v.items) (pushed : items ≡ v.items ++ t ∷ []) where
     grown_by : grown ≡ fin.insert places handle (length v.items)

@@ -91,6 +91,11 @@ pub rolled_rises : (m : Result State Refusal) (epoch : ℕ) (s : Slot) → is_be
 rolled_rises (Ok r) epoch s = not_below s.promise (start_of epoch)
 rolled_rises (Err e) epoch s = not_before_itself s.promise
 
+-- refusals of a bad replica
+pub behind_when : {A : Type 0} (a : Bool) (e f : Refusal) (m : Result A Refusal) → result_ok (unless (first_of (when a e ∷ Some f ∷ [])) m) ≡ None
+behind_when true e f m = refl
+behind_when false e f m = refl
+
 pub behind_both : {A : Type 0} (a b : Bool) (e g f : Refusal) (m : Result A Refusal) → result_ok (unless (first_of (when a e ∷ when b g ∷ Some f ∷ [])) m) ≡ None
 behind_both true b e g f m = refl
 behind_both false true e g f m = refl

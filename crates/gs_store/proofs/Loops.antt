@@ -1,8 +1,11 @@
 -- Lists whose items are changed one after the other, in place.
-use Rattle.std.proofs.Common.{◌≡◌, ℕ, zero, suc, ◌+◌, ◌<◌, List, [], ◌∷◌, ◌++◌, map, take, drop, length, get_or, slice_set, refl, ap, subst, ◌∙◌, arith, add-one, append-nil}
+use Rattle.std.proofs.Common.{◌≡◌, ℕ, zero, suc, ◌+◌, ◌<◌, ◌≤◌, List, [], ◌∷◌, ◌++◌, map, take, drop, length, get_or, slice_set, refl, ap, subst, ◌∙◌, arith, add-one, append-nil}
 use Rattle.std.proofs.lemmas.List.{length-map, take_all}
 
 module _ {A B : Type 0} (f : A → B) where
+  pub map_none : (xs : List A) → length xs ≤ 0 → map f xs ≡ []
+  map_none [] h = refl
+  map_none (x ∷ xs) h = absurd (omega arith)
 
 module _ {A : Type 0} (f : A → A) where
   -- the first ones are changed
@@ -25,6 +28,12 @@ module _ {A : Type 0} (f : A → A) where
   set_done zero (x ∷ xs) d h = refl
   set_done (suc n) (x ∷ xs) d h = ap (λ l. f x ∷ l) (set_done n xs d (omega arith))
 
+  pub all_done : (n : ℕ) (xs : List A) → length xs ≤ n → done n xs ≡ map f xs
+  all_done zero [] h = refl
+  all_done (suc n) [] h = refl
+  all_done zero (x ∷ xs) h = absurd (omega arith)
+  all_done (suc n) (x ∷ xs) h = ap (λ l. f x ∷ l) (all_done n xs (omega arith))
+
   -- the last ones are changed
   abbrev pub left : ℕ → List A → List A
   left n xs = take n xs ++ map f (drop n xs)
@@ -34,10 +43,22 @@ module _ {A : Type 0} (f : A → A) where
   get_left zero (x ∷ xs) d h = refl
   get_left (suc n) (x ∷ xs) d h = get_left n xs d (omega arith)
 
+  pub length_left : (n : ℕ) (xs : List A) → length (left n xs) ≡ length xs
+  length_left zero [] = refl
+  length_left zero (x ∷ xs) = ap suc (length_left zero xs)
+  length_left (suc n) [] = refl
+  length_left (suc n) (x ∷ xs) = ap suc (length_left n xs)
+
   pub set_left : (n : ℕ) (xs : List A) (d : A) → n < length xs → slice_set (left (suc n) xs) n (f (get_or xs n d)) ≡ left n xs
   set_left n [] d h = absurd (omega arith)
   set_left zero (x ∷ xs) d h = refl
   set_left (suc n) (x ∷ xs) d h = ap (λ l. x ∷ l) (set_left n xs d (omega arith))
+
+  pub none_done : (n : ℕ) (xs : List A) → length xs ≤ n → xs ≡ left n xs
+  none_done zero [] h = refl
+  none_done (suc n) [] h = refl
+  none_done zero (x ∷ xs) h = absurd (omega arith)
+  none_done (suc n) (x ∷ xs) h = ap (λ l. x ∷ l) (none_done n xs (omega arith))
 
   -- one more is changed
   pub next_done : (n : ℕ) (xs ys : List A) (d new : A) → ys ≡ done n xs → n < length ys → new ≡ f (get_or ys n d) → slice_set ys n new ≡ done (n + 1) xs

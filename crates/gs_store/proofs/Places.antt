@@ -3,7 +3,7 @@ use Rattle.std.proofs.Common.{◌≡◌, ℕ, ◌+◌, ◌<◌, Bool, true, fals
 use Rattle.std.specs.Prelude.{option_map, ◌≢◌, is_some, Vec, vec_len}
 use Rattle.std.specs.declared.alloc.Global.{Global}
 use Rattle.std.proofs.lemmas.Bool.{false≢true}
-use Rattle.std.proofs.lemmas.List.{get_or-set_same, get_or-set_other, get_or-map, get_or_append_left, length-append, length-set}
+use Rattle.std.proofs.lemmas.List.{get_or-set_same, get_or-set_other, get_or-map, get_or_append_left, length-append, length-set, length-map}
 use Rattle.std.proofs.Math.Seq.{get_or-append_seam}
 use Rattle.std.specs.FinMap as fin
 use Rattle.std.specs.Option.{unwrap_or}
@@ -124,6 +124,12 @@ all_written places slots f placed = same _ _ (λ q.
     at_each : (o : Option ℕ) → ((p : ℕ) → o ≡ Some p → p < length slots) → option_map (slot_at (map f slots)) o ≡ option_map f (option_map (slot_at slots) o)
     at_each None h = refl
     at_each (Some p) h = ap (λ x. Some x) (get_or-map f slots p nothing nothing (h p refl))
+
+pub all_placed : (places : Places) (slots : List Slot) (f : Slot → Slot) → IsPlaced places slots → IsPlaced places (map f slots)
+all_placed places slots f placed = record {
+  within = λ handle p is. subst (λ n. p < n) (sym (length-map slots f)) (placed.within handle p is);
+  apart = placed.apart;
+}
 
 pub within_reach : (slots : Vec Slot Global) (places : Places) (handle place : ℕ) → IsPlaced places slots.items → fin.get places handle ≡ Some place → place < vec_len slots
 within_reach slots places handle place placed is = subst (λ n. place < n) (sym slots.ok.0) (placed.within handle place is)

@@ -210,6 +210,9 @@ module _ {D : Type 0} (seen : D → List ℕ) (failures : D → ℕ) (me : Clien
   chosen true old r s new f P does h = does h
   chosen false old r s new f P does h = still_said old new r s h.0 h.1
 
+  abbrev enough_for : {R : Type 0} → Way D → R → (Plain → R × Plain) → (Plain → R × Plain) → Type 0
+  enough_for old r f g = (m : MasterOf D) → f (plain_of m.state old) ≡ g (plain_of m.state old)
+
   for_server : {A : Type 0} (number : ℕ) (does : Result A Refusal → Way D → Type 0) (old : Way D) (result : Result A Refusal) (new : Way D) (f : Plain → Result A Refusal × Plain)
       → (does result new → GivesLine old result new f) → ForServer number does old result new → GivesLine old result new (plain.for_server number f)
   for_server number does old result new f each h =

@@ -131,6 +131,10 @@ both true true is = (refl, refl)
 both true false is = absurd (false≢true is)
 both false b is = absurd (false≢true is)
 
+not_true : (b : Bool) → not b ≡ true → b ≡ false
+not_true true is = absurd (false≢true is)
+not_true false is = refl
+
 not_both : (a b : Bool) → a ≡ true → (a && b) ≡ false → b ≡ false
 not_both true b is none = none
 not_both false b is none = absurd (false≢true is)

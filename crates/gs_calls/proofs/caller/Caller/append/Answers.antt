@@ -3,6 +3,7 @@ use Rattle.gs_calls.specs.Asked.{append_to, with_file}
 use Rattle.gs_path.specs.Rules.{parse}
 use Rattle.gs_calls.proofs.Talking.{on_answered}
 use Rattle.gs_client.specs.Sends.{Sends}
+use Rattle.gs_client.specs.Trees as trees
 use Rattle.gs_calls.proofs.caller.Caller.append.Goals as goal
 
 pub returns : goal.returns

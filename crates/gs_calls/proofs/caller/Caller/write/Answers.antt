@@ -2,6 +2,7 @@ use Rattle.gs_calls.specs.Asked.{done, with_file, write_to}
 use Rattle.gs_path.specs.Rules.{parse}
 use Rattle.gs_calls.proofs.Talking.{on_answered}
 use Rattle.gs_client.specs.Sends.{Sends}
+use Rattle.gs_client.specs.Trees as trees
 use Rattle.gs_calls.proofs.caller.Caller.write.Goals as goal
 
 pub returns : goal.returns

@@ -6,6 +6,7 @@ use Rattle.gs_state.specs.Beginning.{all_begun, has_versions}
 use Rattle.gs_state.specs.State.{Plan, Turn, and_then, turned}
 use Rattle.gs_master.specs.Turns.{Steps, state_at}
 use Rattle.gs_state.specs.Working.{is_wanted_at}
+use Rattle.gs_state.specs.declared.pending.Waiting.TheVariants as waits
 use Rattle.gs_master.proofs.Composing.{steps_and}
 use Rattle.gs_master.proofs.Copies.{begins_quiet, by_room}
 use Rattle.gs_master.proofs.Entered.{goes_back_on}

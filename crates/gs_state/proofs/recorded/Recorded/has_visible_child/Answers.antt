@@ -1,3 +1,4 @@
+use Rattle.std.specs.FinMap as fin
 use Rattle.gs_state.specs.Calls.{has_visible_child}
 use Rattle.gs_state.proofs.Listed.{has_visible_is}
 use Rattle.gs_state.proofs.recorded.Recorded.has_visible_child.Goals as goal
