@@ -1,4 +1,4 @@
-//! Entries of a tree in the order of the bytes of their paths' texts, as a checkpoint tells them.
+//! Entries of a tree in the order of the bytes of their paths' texts, as a checkpoint and the list of a removal tell them.
 #![tactic(auto)]
 
 ghost use Rattle.std.specs.Prelude.{◌≡◌, IfOk, OnOk, map, refl};
@@ -134,7 +134,8 @@ fn listed(
     Ok(listed)
 }
 
-/// The entries in the order of the bytes of their paths' texts. It takes the memory of the texts beside theirs.
+/// The entries in the order of the bytes of their paths' texts, each text once: of several entries with one text it gives
+/// what the first of them is. It takes the memory of the texts beside theirs.
 pub fn by_text(alloc: Global, entries: Vec<TreeEntry>) -> Result<Vec<TreeEntry>, AllocError>
     ensures { IfOk result (λ sorted. map plain_node sorted.items ≡ by_text (rows_of_entries entries.items)) }
 {
