@@ -1,0 +1,12 @@
+pub mod Stamps
+pub mod Machine
+pub mod Events
+pub mod Laws
+pub mod Worked
+pub mod Carried
+pub mod Resting
+pub mod Acting
+pub mod Lists
+pub mod Mastering
+pub mod Rolling
+pub mod Numbering
