@@ -1,0 +1,51 @@
+-- Why something happens to a chunk at a server, and what its lists get then.
+use Rattle.std.specs.Prelude.{◌≡◌, ◌==◌, ◌⊎◌, ◌++◌, ℕ, Bool, true, false, cond, List, [], ◌∷◌, length, Some}
+use Rattle.gs_base.specs.declared.numbers.ReqId.{ReqId}
+use Rattle.gs_base.specs.declared.numbers.Stamp.{Stamp}
+use Rattle.gs_replica.specs.Stands.{Edit, replica_of}
+use Rattle.gs_msg.specs.declared.body.Body.{Body}
+use Rattle.gs_msg.specs.declared.body.Body.TheVariants as bodies
+use Rattle.gs_msg.specs.declared.chunk.Chunk.{Chunk}
+use Rattle.gs_msg.specs.declared.chunk.Chunk.TheVariants as chunks
+use Rattle.gs_msg.specs.declared.op.Op.{Op}
+use Rattle.gs_primary.specs.Numbering.{numbered_op}
+use Rattle.gs_chunk.specs.Stamps.{stamp_at}
+use Rattle.gs_chunk.specs.Machine.{Member}
+use Rattle.gs_member.specs.Showing.{Setting, Says}
+
+-- a client's edit is heard; or the replica is lost or damaged; or it is anything else
+pub data Cause : Type 0 where
+  Edits : (stamp : Stamp) → (req : ReqId) → (op : Op) → Cause
+  Strikes : Cause
+  Calm : Cause
+
+-- whether the replica is spared
+abbrev pub spares : Cause → Bool
+spares Strikes = false
+spares (Edits stamp req op) = true
+spares Calm = true
+
+-- of a message about the chunk, and of any
+abbrev pub cause_of : Chunk → Cause
+cause_of (chunks.Edit req stamp op) = Edits stamp req op
+cause_of said = Calm
+
+abbrev pub cause_in : ℕ → Body → Cause
+cause_in chunk (bodies.About handle said) = cond (chunk == handle) (cause_of said) Calm
+cause_in chunk body = Calm
+
+-- The client's edit is numbered under the promise, which is the stamp that it was asked for under: the list of that view has it behind
+-- its edits, and so has the live replica. It is the edit of the request, or a pad where the record doesn't fit.
+pub record NumbersEdit (c : Setting) (m n : Member) (asked : Stamp) (req : ReqId) (op : Op) (stamp : ℕ) (old new : List Edit) : Type 0 where
+  pub edit : Edit
+  pub is : new ≡ old ++ edit ∷ []
+  pub under : stamp ≡ m.promise
+  pub had : m.live ≡ Some old
+  pub has : n.live ≡ Some new
+  pub asked_is : asked ≡ stamp_at stamp
+  pub says : Says c req (numbered_op c.size (length (replica_of c.size old).bytes) op) edit
+
+-- So each list stays, but where a client's edit is heard. The members are the server before and behind.
+abbrev pub Numbers : Cause → Setting → Member → Member → ℕ → List Edit → List Edit → Type 0
+Numbers (Edits asked req op) c m n stamp old new = (new ≡ old) ⊎ NumbersEdit c m n asked req op stamp old new
+Numbers cause c m n stamp old new = new ≡ old
