@@ -1,0 +1,617 @@
+-- All chunks together, over a chain of moves.
+use Rattle.std.proofs.Common.{◌≡◌, ℕ, zero, suc, ◌==◌, ◌+◌, ◌^◌, ◌<◌, ◌≤◌, inl, inr, Bool, true, false, ◌||◌, List, [], ◌∷◌, ◌++◌, Option, Some, None, refl, sym, ap, subst, ◌∙◌, arith}
+use Rattle.std.specs.Prelude.{is_some, length, take}
+use Rattle.std.specs.List.{AllByRecursion}
+use Rattle.std.proofs.lemmas.Bool.{false≢true, true≢false, and_parts}
+use Rattle.std.proofs.lemmas.Bool.Decides.{nat_tests}
+use Rattle.gs_base.specs.Members.{count_from, is_member}
+use Rattle.gs_base.specs.Told.{IsNumber}
+use Rattle.gs_base.specs.declared.config.Config.{Config}
+use Rattle.gs_base.specs.declared.epoch.EpochEnd.{EpochEnd}
+use Rattle.gs_base.specs.declared.epoch.EpochEnd.TheVariants as ends
+use Rattle.gs_base.specs.declared.numbers.ReqId.{ReqId}
+use Rattle.gs_base.specs.declared.numbers.Stamp.{Stamp}
+use Rattle.gs_lease.specs.declared.view.Purpose.{Purpose}
+use Rattle.gs_lease.specs.declared.view.Term.{Term}
+use Rattle.gs_lease.specs.declared.view.View.{View}
+use Rattle.gs_msg.specs.declared.body.Body.{Body}
+use Rattle.gs_msg.specs.declared.body.Body.TheVariants as bodies
+use Rattle.gs_msg.specs.declared.chunk.Chunk.{Chunk as About}
+use Rattle.gs_msg.specs.declared.chunk.Chunk.TheVariants as abouts
+use Rattle.gs_msg.specs.declared.message.Message.{Message}
+use Rattle.gs_msg.specs.declared.node.NodeId.{NodeId}
+use Rattle.gs_msg.specs.declared.node.NodeId.TheVariants as nodes
+use Rattle.gs_replica.specs.Stands.{Edit}
+use Rattle.gs_state.specs.Beginning.{next_stamp}
+use Rattle.gs_state.specs.Applied.{replayed}
+use Rattle.gs_state.specs.Durable.{Durable, is_given, start}
+use Rattle.gs_state.specs.Handling.{restarted}
+use Rattle.gs_state.specs.Settling.{grant_of}
+use Rattle.gs_state.specs.State.{State, Log, Turn, about, post, to_each}
+use Rattle.gs_moves.specs.Asked.{IsAskedSo, WasHeard}
+use Rattle.gs_laws.specs.Promises.{IsKept, IsWritten}
+use Rattle.gs_moves.proofs.Stands.{chains_stand}
+use Rattle.gs_moves.specs.Guards.{Heard, IsMade, MayCopy, ask_nobody, asks_nobody}
+use Rattle.gs_moves.specs.Laws.{IsMadeWell}
+use Rattle.gs_moves.specs.Moves.{Chain, Rests as Rests_it, Moves, Then, Alone, Beside, FromNow, Further, Move, Begins, Makes, Copies, Hears, Sends, Settles, Edits, Extends, CopiesTree, Replaces, Scans, Refuses, Answers as Answers_it, Waits, Restores, Says as Says_it, Flags, Prepares, Finalizes, BeginsRollback, TellsRollback, CommitsRollback, Checkpoints, move_turn}
+use Rattle.gs_moves.proofs.Asked.{more_so}
+use Rattle.gs_chunk.specs.Stamps.{epoch_of, stamp_at}
+use Rattle.gs_chunk.specs.Laws.{Birth, IsNumbered, IsReached, world_of}
+use Rattle.gs_chunk.specs.Machine.{Member, World, CopyIn}
+use Rattle.gs_chunk.specs.Events.{Leads, Rests, marked, no_member}
+use Rattle.gs_chunk.proofs.Facts.{each_stands, reached_world}
+use Rattle.gs_chunk.proofs.Lasting.{agrees}
+use Rattle.gs_chunk.proofs.Worlds.{leads_later}
+use Rattle.gs_entry.proofs.Bearing.{copies_are_births}
+use Rattle.gs_entry.proofs.Carrying.{all_append, all_later, all_quiet, from_silent, same_blank, written_cuts_go_unborn}
+use Rattle.gs_entry.proofs.Every.{moves_follow, parts_follow}
+use Rattle.gs_entry.proofs.Leading.{masters_leave}
+use Rattle.gs_entry.proofs.Marking.{marks_both, same_epoch}
+use Rattle.gs_entry.proofs.Sending.{IsLed, heard_more, leads_on, masters_on, tells_more}
+use Rattle.gs_entry.proofs.Stamps.{of_member, same_number}
+use Rattle.gs_entry.proofs.Unborn.{copies_rise, each_move_goes_unborn, restarts_unborn}
+use Rattle.gs_entry.specs.Bearing.{IsBornWithin, IsUnbornAgain}
+use Rattle.gs_entry.specs.Births.{Anything, Brings, BringsTo, IsBorn}
+use Rattle.gs_entry.specs.Families.{Alive, BeginsOld, Beyond, BornFrom, ComesFrom, CopiesTo, Copies_of, FamiliesCut, FamiliesGo, FamilyLists, StartsUnborn, WrittenFamiliesGo, Family, FamilyGoes, Goes, Heard_of, IsAlive, IsCopyOf, IsFixed, Life, ListsFrom, MarksOf, Unborn, birth_of}
+use Rattle.gs_entry.specs.Showing.{ShowsSettled, primary_of}
+use Rattle.gs_entry.specs.Telling.{Follows, IsSameMember, Says, Shows, Tells}
+use Rattle.gs_entry.specs.Unborn.{GoesUnborn, IsUnborn, SaysNothing, StaysUnborn, silent}
+
+-- ---- the old chunk of a copy
+
+-- its list in the view on which it is at rest
+abbrev list_of : {old : ℕ} {s : State} → IsAlive old s → List Edit
+list_of a = a.world.known.list a.world.entry.view.stamp
+
+list_numbered : (old : ℕ) (s : State) (a : IsAlive old s) → IsNumbered (list_of a)
+list_numbered old s a = (each_stands a.world (reached_world a.world a.reached)).numbered a.world.entry.view.stamp
+
+module _ (old : ℕ) (s : State) (a : IsAlive old s) (view : View) (may : MayCopy s old view) where
+  shown : ShowsSettled (record { view = view; is_moving = false }) a.world.entry
+  shown = a.shows.entry.durable.settled (record { view = view; is_moving = false }) may.settled.has
+
+  at_is : view.stamp ≡ stamp_at a.world.entry.view.stamp
+  at_is = shown.view.stamp
+
+  -- nobody numbers in it
+  is_fixed : (me : ℕ) → is_member view.members me ≡ true → IsFixed a.world a.world.entry.view.stamp me (list_of a)
+  is_fixed me on =
+      let known = agrees a.world (reached_world a.world a.reached) in
+      record {
+        within = (let same = known.view in omega arith);
+        free = known.holder ∙ shown.view.holder ∙ ap primary_of may.quiet;
+        member = known.members me ∙ of_member a.world.entry.view.members me ∙ ap (λ ms. is_member ms me) shown.view.members ∙ on;
+        list = refl;
+      }
+
+pub fixed_on : (w v : World) (t me : ℕ) (edits : List Edit) → IsReached w → Leads w v → IsFixed w t me edits → IsFixed v t me edits
+fixed_on w v t me edits reached leads f =
+    let x = leads_later w v leads (reached_world w reached) in
+    let y = x.fixed t f.within f.free in
+    record { within = (let a = x.view in let b = f.within in omega arith); free = y.0; member = y.2 me ∙ f.member; list = y.1 ∙ f.list }
+
+-- ---- how one chunk goes on, by what it was
+
+abbrev none_yet : List Edit
+none_yet = []
+
+abbrev alive_on : (chunk : ℕ) (s u : State) (a : IsAlive chunk s) (v : World) → Leads a.world v → Shows chunk u v → IsAlive chunk u
+alive_on chunk s u a v leads shows = record { world = v; reached = (a.reached.0, leads_on (world_of a.reached.0) a.world v a.reached.1 leads); shows = shows }
+
+take_none : (many : ℕ) → take many none_yet ≡ []
+take_none zero = refl
+take_none (suc many) = refl
+
+-- a chunk behind a move, with how it goes on, and where it comes from
+record Next (P : List Edit → Type 0) (chunk : ℕ) (whole : ℕ → Bool) (s u : State) (messages : List Message) (life : Life chunk s) : Type 0 where
+  life_then : Life chunk u
+  goes : Goes chunk whole s u messages life life_then
+  from : BornFrom P chunk s u life life_then
+
+follows_next : (P : List Edit → Type 0) (chunk : ℕ) (whole : ℕ → Bool) (s u : State) (messages : List Message) (a : IsAlive chunk s) → Follows (birth_of a) chunk whole a.world u messages → Next P chunk whole s u messages (Alive a)
+follows_next P chunk whole s u messages a f = record {
+  life_then = Alive (alive_on chunk s u a f.world f.leads f.shows);
+  goes = record { leads = f.leads; masters = f.masters; same = refl; members = f.members; marks = f.marks; stays = f.stays; tells = f.tells };
+  from = tt;
+}
+
+born_next : (P : List Edit → Type 0) (chunk : ℕ) (whole : ℕ → Bool) (s u : State) (messages : List Message) (origin : List Edit) (k : IsUnborn chunk s) → ((many : ℕ) → P (take many origin)) → s.durable.epoch ≤ u.durable.epoch → IsBorn chunk origin u messages
+    → Next P chunk whole s u messages (Unborn k)
+born_next P chunk whole s u messages origin k from later b = record {
+  life_then = Alive (record { world = b.world; reached = (b.birth, b.leads); shows = b.shows });
+  goes = record { later = (let now = b.now in omega arith); leads = b.leads; masters = b.masters; members = b.members; tells = b.tells };
+  from = λ many. subst (λ es. P (take many es)) (sym b.begins) (from many);
+}
+
+silent_next : (P : List Edit → Type 0) (chunk : ℕ) (whole : ℕ → Bool) (s : State) (t : Turn) (k : IsUnborn chunk s) → StaysUnborn chunk s t → Next P chunk whole s t.after t.sent (Unborn k)
+silent_next P chunk whole s t k stays = record { life_then = Unborn stays.unborn; goes = record { later = stays.later; says = stays.says }; from = tt }
+
+-- the handle of a chunk that is given is below that of one that isn't
+below : (next old chunk : ℕ) → is_given next old ≡ true → is_given next chunk ≡ false → IsNumber chunk → 0 < chunk → IsNumber old
+below next old chunk given other number some = grind (arith, nat_tests)
+
+-- ---- messages that copy nothing
+
+module _ (u : State) (last : Family u) where
+  abbrev NoneCopied : List Message → Type 0
+  NoneCopied messages = AllByRecursion (Copies_of u last) messages
+
+  none_about : (q : ℕ) (said : About) (servers : List ℕ) → NoneCopied (to_each servers (about q said))
+  none_about q said [] = tt
+  none_about q said (x ∷ servers) = (tt, none_about q said servers)
+
+  none_epoch : (epoch : ℕ) (end : EpochEnd) (servers : List ℕ) → NoneCopied (to_each servers (λ server. post (nodes.Server server) (bodies.Epoch epoch end)))
+  none_epoch epoch end [] = tt
+  none_epoch epoch end (x ∷ servers) = (tt, none_epoch epoch end servers)
+
+  none_granted : (q : ℕ) (view : View) (term : Option Term) → NoneCopied (grant_of q view term)
+  none_granted q view None = tt
+  none_granted q view (Some term) = (tt, tt)
+
+  none_asked : (to : NodeId) (body : Body) → asks_nobody body ≡ true → CopiesTo u last to body
+  none_asked (nodes.Server to) (bodies.MakeCopy old at new stamp) asks = absurd (false≢true asks)
+  none_asked (nodes.Server to) body asks = tt
+  none_asked to body asks = tt
+
+  all_asked : (messages : List Message) → ask_nobody messages ≡ true → NoneCopied messages
+  all_asked [] asks = tt
+  all_asked (m ∷ messages) asks = (let parts = and_parts (asks_nobody m.body) (ask_nobody messages) asks in (none_asked m.to m.body parts.0, all_asked messages parts.1))
+
+abbrev is_copying : Move → Bool
+is_copying (Copies old view req beside) = true
+is_copying move = false
+
+begins_none : (config : Config) (s : State) (q : ℕ) (purpose : Purpose) (call : Option ReqId) (beside : Beside) → let t = move_turn config s (Begins q purpose call beside) in (last : Family t.after) → NoneCopied t.after last t.sent
+begins_none config s q purpose call Alone last = none_about _ last q (abouts.Advance (next_stamp s.durable)) _
+begins_none config s q purpose call (FromNow req waiting) last = none_about _ last q (abouts.Advance (next_stamp s.durable)) _
+begins_none config s q purpose call (Further req waiting) last = none_about _ last q (abouts.Advance (next_stamp s.durable)) _
+
+no_copies : (config : Config) (heard : Heard) (s : State) (move : Move) → IsMadeWell config heard s move → is_copying move ≡ false → (last : Family (move_turn config s move).after) → NoneCopied (move_turn config s move).after last (move_turn config s move).sent
+no_copies config heard s (Begins q purpose call beside) well plain last = begins_none config s q purpose call beside last
+no_copies config heard s (Makes targets req path) well plain last = none_about _ last s.durable.next_handle (abouts.Create (next_stamp s.durable)) targets
+no_copies config heard s (Copies old view req beside) well plain last = absurd (true≢false plain)
+no_copies config heard s (Hears q new) well plain last = tt
+no_copies config heard s (Sends q asking source target) well plain last = (tt, tt)
+no_copies config heard s (Settles q asking carried view) well plain last = none_granted _ last q view view.term
+no_copies config heard s (Edits req edit answer) well plain last = (tt, tt)
+no_copies config heard s (Extends req path q view) well plain last = (tt, tt)
+no_copies config heard s (CopiesTree req from to) well plain last = (tt, tt)
+no_copies config heard s (Replaces path index old new) well plain last = tt
+no_copies config heard s (Scans removed forgotten) well plain last = tt
+no_copies config heard s (Refuses req refusal over) well plain last = (tt, tt)
+no_copies config heard s (Answers_it req answer true) well plain last = (tt, tt)
+no_copies config heard s (Answers_it req answer false) well plain last = (tt, tt)
+no_copies config heard s (Waits req waiting) well plain last = tt
+no_copies config heard s (Restores server chunks) well plain last = tt
+no_copies config heard s (Says_it messages) well plain last = all_asked _ last messages well.made.may.1
+no_copies config heard s (Flags req preparing epoch) well plain last = (tt, tt)
+no_copies config heard s (Prepares req moment) well plain last = all_append (Copies_of _ last) _ _ (none_epoch _ last (s.durable.epoch + 1) ends.Prepare (count_from 0 config.servers)) (tt, tt)
+no_copies config heard s (Finalizes req) well plain last = all_append (Copies_of _ last) _ _ (none_epoch _ last (s.durable.epoch + 1) ends.Finalize (count_from 0 config.servers)) (tt, tt)
+no_copies config heard s BeginsRollback well plain last = tt
+no_copies config heard s (TellsRollback req epoch) well plain last = all_append (Copies_of _ last) _ _ (none_epoch _ last epoch ends.Rollback (count_from 0 config.servers)) (tt, tt)
+no_copies config heard s (CommitsRollback req names) well plain last = (tt, tt)
+no_copies config heard s Checkpoints well plain last = tt
+
+-- ---- one move
+
+module _ (whole : ℕ → ℕ → Bool) (config : Config) (heard : Heard) (s : State) (family : Family s) (hears : (chunk : ℕ) → Heard_of chunk s heard (family chunk)) (marks : (chunk : ℕ) → MarksOf chunk s (whole chunk) (family chunk)) where
+  -- what a new one may begin with
+  abbrev Comes : List Edit → Type 0
+  Comes = ComesFrom s family
+
+  -- the old chunk of a copy is alive
+  old_alive : (old : ℕ) (life : Life old s) → is_given s.durable.next_handle old ≡ true → IsNumber old → (a : IsAlive old s) × (life ≡ Alive a)
+  old_alive old (Beyond b) given number = absurd (let n : old < 2 ^ 64 = number in omega arith)
+  old_alive old (Unborn k) given number = absurd (false≢true (sym k.given ∙ given))
+  old_alive old (Alive a) given number = (a, refl)
+
+  positive : (chunk : ℕ) (u : State) (origin : List Edit) (messages : List Message) → IsBorn chunk origin u messages → 0 < chunk
+  positive chunk u origin messages b = above u.durable.next_handle chunk b.shows.entry.durable.given
+    where
+      above : (n c : ℕ) → is_given n c ≡ true → 0 < c
+      above n c given = grind (arith, nat_tests)
+
+  -- each chunk behind a move: a copy is born with the list of the old one
+  unborn_next : (move : Move) → IsMadeWell config heard s move → (chunk : ℕ) (k : IsUnborn chunk s) → WasHeard (Says chunk silent) heard → Next Comes chunk (whole chunk) s (move_turn config s move).after (move_turn config s move).sent (Unborn k)
+  unborn_next move well chunk k was = by_way (each_move_goes_unborn chunk config heard s move was well k)
+    where
+      t : Turn
+      t = move_turn config s move
+
+      by_way : GoesUnborn chunk s t → Next Comes chunk (whole chunk) s t.after t.sent (Unborn k)
+      by_way (inl stays) = silent_next Comes chunk (whole chunk) s t k stays
+      by_way (inr (later, inl born)) = born_next Comes chunk (whole chunk) s t.after t.sent [] k (λ many. inl (take_none many)) later born
+      by_way (inr (later, inr copied)) = born_next Comes chunk (whole chunk) s t.after t.sent [] k (λ many. inl (take_none many)) later (copied.3 [] (record { rises = λ i j x y at. absurd (false≢true (ap is_some at)) }))
+
+  plain_next : (move : Move) → IsMadeWell config heard s move → (chunk : ℕ) (life : Life chunk s) → Heard_of chunk s heard life → MarksOf chunk s (whole chunk) life → Next Comes chunk (whole chunk) s (move_turn config s move).after (move_turn config s move).sent life
+  plain_next move well chunk (Beyond b) was live = record { life_then = Beyond b; goes = tt; from = tt }
+  plain_next move well chunk (Unborn k) was live = unborn_next move well chunk k was
+  plain_next move well chunk (Alive a) was live =
+      follows_next Comes chunk (whole chunk) s (move_turn config s move).after (move_turn config s move).sent a (moves_follow (birth_of a) chunk (whole chunk) config heard s move a.world live a.shows was well)
+
+  -- ---- a chunk is copied
+
+  module _ (old : ℕ) (view : View) (req : ReqId) (beside : Beside) (well : IsMadeWell config heard s (Copies old view req beside)) where
+    abbrev next : ℕ
+    next = s.durable.next_handle
+
+    abbrev turn : Turn
+    turn = move_turn config s (Copies old view req beside)
+
+    asked_any : (chunk : ℕ) → (next == chunk) ≡ true → IsUnborn chunk s → IsAskedSo Anything s next
+    asked_any chunk same k = subst (IsAskedSo Anything s) (sym (same_number next chunk same)) (more_so (Says chunk silent) Anything (λ server body said. tt) s chunk k.said)
+
+    born_with : (chunk : ℕ) → (next == chunk) ≡ true → IsUnborn chunk s → (origin : List Edit) → IsNumbered origin → IsBorn chunk origin turn.after turn.sent
+    born_with chunk same k origin numbered =
+        subst (λ c. IsBorn c origin turn.after turn.sent) (same_number next chunk same) (copies_are_births config heard s old view req beside origin numbered k.counter (asked_any chunk same k) well)
+
+    no_edits : IsNumbered []
+    no_edits = record { rises = λ i j x y at. absurd (false≢true (ap is_some at)) }
+
+    old_number : (chunk : ℕ) → (next == chunk) ≡ true → IsUnborn chunk s → IsNumber old
+    old_number chunk same k = below next old chunk well.made.may.given k.given k.number (positive chunk turn.after [] turn.sent (born_with chunk same k [] no_edits))
+
+    -- the old one, as it is shown
+    the_old : (chunk : ℕ) → (next == chunk) ≡ true → IsUnborn chunk s → IsAlive old s
+    the_old chunk same k = (old_alive old (family old) well.made.may.given (old_number chunk same k)).0
+
+    -- the list of the new one is that of the old one
+    from_old : (chunk : ℕ) (same : (next == chunk) ≡ true) (k : IsUnborn chunk s) → (many : ℕ) → Comes (take many (list_of (the_old chunk same k)))
+    unfolding the_old
+    from_old chunk same k many =
+        let x = old_alive old (family old) well.made.may.given (old_number chunk same k) in
+        inr (record { chunk = old; alive = x.0; is = x.1; stamp = x.0.world.entry.view.stamp; many = many; begins = refl })
+
+    later : (chunk : ℕ) (same : (next == chunk) ≡ true) (k : IsUnborn chunk s) → IsBorn chunk (list_of (the_old chunk same k)) turn.after turn.sent
+    later chunk same k = born_with chunk same k (list_of (the_old chunk same k)) (list_numbered old s (the_old chunk same k))
+
+    rises : s.durable.epoch ≤ turn.after.durable.epoch
+    rises = copies_rise config heard s old view req beside well
+
+    copies_at : (chunk : ℕ) (b : Bool) → (next == chunk) ≡ b → (life : Life chunk s) → Heard_of chunk s heard life → MarksOf chunk s (whole chunk) life → Next Comes chunk (whole chunk) s turn.after turn.sent life
+    copies_at chunk true same (Unborn k) was live = born_next Comes chunk (whole chunk) s turn.after turn.sent (list_of (the_old chunk same k)) k (from_old chunk same k) rises (later chunk same k)
+    copies_at chunk true same (Beyond b) was live = plain_next (Copies old view req beside) well chunk (Beyond b) was live
+    copies_at chunk true same (Alive a) was live = plain_next (Copies old view req beside) well chunk (Alive a) was live
+    copies_at chunk false other life was live = plain_next (Copies old view req beside) well chunk life was live
+
+    each_then : (chunk : ℕ) → Next Comes chunk (whole chunk) s turn.after turn.sent (family chunk)
+    each_then chunk = copies_at chunk (next == chunk) refl (family chunk) (hears chunk) (marks chunk)
+
+    -- the old one goes on
+    record OldThen (a : IsAlive old s) (l : Life old turn.after) : Type 0 where
+      now : IsAlive old turn.after
+      is : l ≡ Alive now
+      leads : Leads a.world now.world
+
+    old_next : (life : Life old s) (was : Heard_of old s heard life) (live : MarksOf old s (whole old) life) (number : IsNumber old) → OldThen (old_alive old life well.made.may.given number).0 (plain_next (Copies old view req beside) well old life was live).life_then
+    unfolding plain_next follows_next old_alive
+    old_next (Beyond b) was live number = absurd (let n : old < 2 ^ 64 = number in omega arith)
+    old_next (Unborn k) was live number = absurd (false≢true (sym k.given ∙ well.made.may.given))
+    old_next (Alive a) was live number =
+        let f = moves_follow (birth_of a) old (whole old) config heard s (Copies old view req beside) a.world live a.shows was well in record { now = alive_on old s turn.after a f.world f.leads f.shows; is = refl; leads = f.leads }
+
+    old_then : (b : Bool) (e : (next == old) ≡ b) (number : IsNumber old) → OldThen (old_alive old (family old) well.made.may.given number).0 (copies_at old b e (family old) (hears old) (marks old)).life_then
+    unfolding copies_at plain_next
+    old_then true same number = absurd (ungiven next (subst (λ c. is_given next c ≡ true) (sym (same_number next old same)) well.made.may.given))
+      where
+        ungiven : (n : ℕ) → is_given n n ≡ true → ⊥
+        ungiven n g = absurd (grind (arith, nat_tests))
+    old_then false other number = old_next (family old) (hears old) (marks old) number
+
+    -- each that is told to copy it has it
+    copied_to : (me : ℕ) → is_member view.members me ≡ true → (b : Bool) (e : (next == next) ≡ b) (life : Life next s) (was : Heard_of next s heard life) (live : MarksOf next s (whole next) life)
+        → ((born : ℕ) (origin : List Edit) (w : World) → AllByRecursion (Brings born next origin w) turn.sent → BringsTo born origin w (nodes.Server me) (next_stamp s.durable)) → IsCopyOf old next turn.after (each_then old).life_then (copies_at next b e life was live).life_then me view.stamp (next_stamp s.durable)
+    unfolding copies_at born_next the_old later each_then plain_next
+    copied_to me on true same (Unborn k) was live told =
+        let a = the_old next same k in
+        let b = later next same k in
+        let o = old_then (next == old) refl (old_number next same k) in
+        let t = told b.birth.epoch (list_of a) b.world b.brings in
+        subst (λ l. IsCopyOf old next turn.after l (Alive (record { world = b.world; reached = (b.birth, b.leads); shows = b.shows })) me view.stamp (next_stamp s.durable)) (sym o.is)
+        (record {
+          before = a.world.entry.view.stamp;
+          after = t.0;
+          edits = list_of a;
+          origin = b.begins;
+          from = at_is old s a view well.made.may;
+          to = t.1;
+          late = t.2;
+          told = t.3;
+          fixed = fixed_on a.world o.now.world a.world.entry.view.stamp me (list_of a) a.reached o.leads (is_fixed old s a view well.made.may me on);
+        })
+    copied_to me on true same (Beyond b) was live told = tt
+    copied_to me on true same (Alive a) was live told = absurd (ungiven next a.shows.entry.durable.given)
+      where
+        ungiven : (n : ℕ) → is_given n n ≡ true → ⊥
+        ungiven n g = absurd (grind (arith, nat_tests))
+    copied_to me on false other life was live told = absurd (true≢false (sym (itself next) ∙ other))
+      where
+        itself : (n : ℕ) → (n == n) ≡ true
+        itself n = grind (arith, nat_tests)
+
+    abbrev copy_for : ℕ → Message
+    copy_for server = post (nodes.Server server) (bodies.MakeCopy old view.stamp next (next_stamp s.durable))
+
+    sent_is : turn.sent ≡ to_each view.members copy_for
+    sent_is = by_beside beside
+      where
+        by_beside : (b : Beside) → (move_turn config s (Copies old view req b)).sent ≡ to_each view.members copy_for
+        by_beside Alone = refl
+        by_beside (FromNow by waiting) = refl
+        by_beside (Further by waiting) = refl
+
+    brought : (born : ℕ) (origin : List Edit) (w : World) (me : ℕ) (js : List ℕ) → is_member js me ≡ true → AllByRecursion (Brings born next origin w) (to_each js copy_for) → BringsTo born origin w (nodes.Server me) (next_stamp s.durable)
+    brought born origin w me [] here all = absurd (false≢true here)
+    brought born origin w me (j ∷ js) here all = by_head (brought born origin w me js) (j == me) refl here
+      where
+        by_head : (is_member js me ≡ true → AllByRecursion (Brings born next origin w) (to_each js copy_for) → BringsTo born origin w (nodes.Server me) (next_stamp s.durable)) → (b : Bool) → (j == me) ≡ b → (b || is_member js me) ≡ true → BringsTo born origin w (nodes.Server me) (next_stamp s.durable)
+        by_head rest true same h = subst (λ x. BringsTo born origin w (nodes.Server x) (next_stamp s.durable)) (same_number j me same) (all.0 refl)
+        by_head rest false other h = rest h all.1
+
+    all_copied : (js : List ℕ) → ((j : ℕ) → is_member js j ≡ true → is_member view.members j ≡ true) → AllByRecursion (Copies_of turn.after (λ chunk. (each_then chunk).life_then)) (to_each js copy_for)
+    unfolding each_then copies_at
+    all_copied [] within = tt
+    all_copied (j ∷ js) within = (
+      copied_to j (within j (first (j == j) (itself j))) (next == next) refl (family next) (hears next) (marks next)
+          (λ born origin w all. brought born origin w j view.members (within j (first (j == j) (itself j))) (subst (AllByRecursion (Brings born next origin w)) sent_is all)),
+      all_copied js (λ x here. within x (second (j == x) (is_member js x) here)),
+    )
+      where
+        itself : (n : ℕ) → (n == n) ≡ true
+        itself n = grind (arith, nat_tests)
+
+        first : (b : Bool) → b ≡ true → (b || is_member js j) ≡ true
+        first true h = refl
+        first false h = absurd (false≢true h)
+
+        second : (b c : Bool) → c ≡ true → (b || c) ≡ true
+        second true c h = refl
+        second false c h = h
+
+    copies_family : FamilyGoes whole s turn.after turn.sent family
+    copies_family = record {
+      last = λ chunk. (each_then chunk).life_then;
+      goes = λ chunk. (each_then chunk).goes;
+      origins = λ chunk. (each_then chunk).from;
+      copies = subst (AllByRecursion (Copies_of turn.after (λ chunk. (each_then chunk).life_then))) (sym sent_is) (all_copied view.members (λ j here. here));
+    }
+
+  -- ---- any other move
+
+  -- it copies none
+  plain_family : (move : Move) → IsMadeWell config heard s move → ((last : Family (move_turn config s move).after) → AllByRecursion (Copies_of (move_turn config s move).after last) (move_turn config s move).sent) → FamilyGoes whole s (move_turn config s move).after (move_turn config s move).sent family
+  plain_family move well none = record {
+    last = λ chunk. (plain_next move well chunk (family chunk) (hears chunk) (marks chunk)).life_then;
+    goes = λ chunk. (plain_next move well chunk (family chunk) (hears chunk) (marks chunk)).goes;
+    origins = λ chunk. (plain_next move well chunk (family chunk) (hears chunk) (marks chunk)).from;
+    copies = none (λ chunk. (plain_next move well chunk (family chunk) (hears chunk) (marks chunk)).life_then);
+  }
+
+  move_family : (move : Move) → IsMadeWell config heard s move → FamilyGoes whole s (move_turn config s move).after (move_turn config s move).sent family
+  move_family move well = by_copying (is_copying move) refl
+    where
+      copying : (m : Move) → is_copying m ≡ true → IsMadeWell config heard s m → FamilyGoes whole s (move_turn config s m).after (move_turn config s m).sent family
+      copying (Copies old view req beside) is w = copies_family old view req beside w
+      copying m is w = absurd (false≢true is)
+
+      by_copying : (b : Bool) → is_copying move ≡ b → FamilyGoes whole s (move_turn config s move).after (move_turn config s move).sent family
+      by_copying true is = copying move is well
+      by_copying false is = plain_family move well (no_copies config heard s move well is)
+
+-- ---- chains
+
+same_twice : (m n o : Member) (b : Bool) → IsSameMember m b n → IsSameMember n b o → IsSameMember m b o
+same_twice m n o b (inl e) (inl f) = inl (f ∙ e)
+same_twice m n o b (inl e) (inr f) = inr (f ∙ ap (λ x. marked x b) e)
+same_twice m n o b (inr e) (inl f) = inr (f ∙ e)
+same_twice m n o b (inr e) (inr f) = inr (f ∙ ap (λ x. marked x b) e)
+
+same_live : (m n : Member) (b : Bool) → IsSameMember m b n → is_some m.live ≡ true → is_some n.live ≡ true
+same_live m n b (inl e) live = ap (λ (x : Member). is_some x.live) e ∙ live
+same_live m n b (inr e) live = ap (λ (x : Member). is_some x.live) e ∙ live
+
+-- what it hears behind some moves
+hears_on : (chunk : ℕ) (whole : ℕ → Bool) (heard : Heard) (s u : State) (messages : List Message) (l : Life chunk s) (m : Life chunk u) → Goes chunk whole s u messages l m → Heard_of chunk s heard l → Heard_of chunk u heard m
+hears_on chunk whole heard s u messages (Beyond b) (Beyond c) goes was = tt
+hears_on chunk whole heard s u messages (Beyond b) (Unborn v) goes was = absurd goes
+hears_on chunk whole heard s u messages (Beyond b) (Alive c) goes was = absurd goes
+hears_on chunk whole heard s u messages (Unborn b) (Beyond c) goes was = absurd goes
+hears_on chunk whole heard s u messages (Unborn b) (Unborn v) goes was = was
+hears_on chunk whole heard s u messages (Unborn b) (Alive c) goes was = heard_more chunk silent c.world (from_silent c.world) heard was
+hears_on chunk whole heard s u messages (Alive a) (Beyond c) goes was = absurd goes
+hears_on chunk whole heard s u messages (Alive a) (Unborn v) goes was = absurd goes
+hears_on chunk whole heard s u messages (Alive a) (Alive c) goes was = heard_more chunk a.world c.world goes.stays heard was
+
+marks_on : (chunk : ℕ) (whole : ℕ → Bool) (s u : State) (messages : List Message) (l : Life chunk s) (m : Life chunk u) → Goes chunk whole s u messages l m → MarksOf chunk s whole l → MarksOf chunk u whole m
+marks_on chunk whole s u messages (Beyond b) (Beyond c) goes live = tt
+marks_on chunk whole s u messages (Beyond b) (Unborn v) goes live = absurd goes
+marks_on chunk whole s u messages (Beyond b) (Alive c) goes live = absurd goes
+marks_on chunk whole s u messages (Unborn b) (Beyond c) goes live = absurd goes
+marks_on chunk whole s u messages (Unborn b) (Unborn v) goes live = live
+marks_on chunk whole s u messages (Unborn b) (Alive c) goes live = λ j is. absurd (false≢true (sym (live j) ∙ is))
+marks_on chunk whole s u messages (Alive a) (Beyond c) goes live = absurd goes
+marks_on chunk whole s u messages (Alive a) (Unborn v) goes live = absurd goes
+marks_on chunk whole s u messages (Alive a) (Alive c) goes live = λ j is. same_live (a.world.members j) (c.world.members j) (whole j) (goes.members j) (live j is)
+
+-- one behind the other
+goes_both : (chunk : ℕ) (whole : ℕ → Bool) (s u v : State) (first next : List Message) (l : Life chunk s) (m : Life chunk u) (n : Life chunk v) → MarksOf chunk s whole l → Goes chunk whole s u first l m → Goes chunk whole u v next m n → Goes chunk whole s v (first ++ next) l n
+goes_both chunk whole s u v first next (Beyond b) (Beyond c) (Beyond d) live f g = tt
+goes_both chunk whole s u v first next (Beyond b) (Beyond c) (Unborn d) live f g = absurd g
+goes_both chunk whole s u v first next (Beyond b) (Beyond c) (Alive d) live f g = absurd g
+goes_both chunk whole s u v first next (Beyond b) (Unborn c) n live f g = absurd f
+goes_both chunk whole s u v first next (Beyond b) (Alive c) n live f g = absurd f
+goes_both chunk whole s u v first next (Unborn b) (Beyond c) n live f g = absurd f
+goes_both chunk whole s u v first next (Unborn b) (Unborn c) (Beyond d) live f g = absurd g
+goes_both chunk whole s u v first next (Unborn b) (Unborn c) (Unborn d) live f g = record {
+  later = (let x = f.later in let y = g.later in omega arith);
+  says = all_append (SaysNothing chunk v.durable.epoch) first next (all_later chunk u.durable.epoch v.durable.epoch g.later first f.says) g.says;
+}
+goes_both chunk whole s u v first next (Unborn b) (Unborn c) (Alive d) live f g = record {
+  later = (let x = f.later in let y = g.later in omega arith);
+  leads = g.leads;
+  masters = g.masters;
+  members = g.members;
+  tells = all_append (Tells (birth_of d) chunk d.world) first next (all_quiet chunk (birth_of d) [] d.world first (all_later chunk u.durable.epoch (birth_of d) g.later first f.says)).0 g.tells;
+}
+goes_both chunk whole s u v first next (Unborn b) (Alive c) (Beyond d) live f g = absurd g
+goes_both chunk whole s u v first next (Unborn b) (Alive c) (Unborn d) live f g = absurd g
+goes_both chunk whole s u v first next (Unborn b) (Alive c) (Alive d) live f g =
+    let same : birth_of d ≡ birth_of c = ap (λ (x : Birth). x.epoch) g.same in
+    let led = subst (λ (b : Birth). IsLed (world_of b) d.world) (sym g.same) (record { leads = leads_on (world_of c.reached.0) c.world d.world f.leads g.leads; masters = masters_on (world_of c.reached.0) c.world d.world f.leads g.leads f.masters g.masters }) in
+    record {
+      later = (let x = f.later in omega arith);
+      leads = led.leads;
+      masters = led.masters;
+      members = λ j. same_blank (birth_of d) (c.world.members j) (d.world.members j) (f.members j ∙ ap no_member (sym same)) (subst (λ b. IsSameMember (c.world.members j) b (d.world.members j)) (live j) (g.members j));
+      tells = all_append (Tells (birth_of d) chunk d.world) first next (subst (λ e. AllByRecursion (Tells e chunk d.world) first) (sym same) (tells_more chunk c.world d.world g.stays (birth_of c) first f.tells)) g.tells;
+    }
+goes_both chunk whole s u v first next (Alive a) (Beyond c) n live f g = absurd f
+goes_both chunk whole s u v first next (Alive a) (Unborn c) n live f g = absurd f
+goes_both chunk whole s u v first next (Alive a) (Alive c) (Beyond d) live f g = absurd g
+goes_both chunk whole s u v first next (Alive a) (Alive c) (Unborn d) live f g = absurd g
+goes_both chunk whole s u v first next (Alive a) (Alive c) (Alive d) live f g =
+    let same : birth_of d ≡ birth_of c = ap (λ (x : Birth). x.epoch) g.same in
+    record {
+      leads = leads_on a.world c.world d.world f.leads g.leads;
+      masters = masters_on a.world c.world d.world f.leads g.leads f.masters g.masters;
+      same = g.same ∙ f.same;
+      members = λ j. same_twice (a.world.members j) (c.world.members j) (d.world.members j) (whole j) (f.members j) (g.members j);
+      marks = marks_both whole a.world c.world d.world g.leads f.members g.members f.marks g.marks;
+      stays = λ x there. g.stays x (f.stays x there);
+      tells = all_append (Tells (birth_of d) chunk d.world) first next (subst (λ e. AllByRecursion (Tells e chunk d.world) first) (sym same) (tells_more chunk c.world d.world g.stays (birth_of c) first f.tells)) g.tells;
+    }
+
+-- what was copied stays so
+copy_on : (old new : ℕ) (s u : State) (whole more : ℕ → Bool) (messages : List Message) (l : Life old s) (m : Life old u) (x : Life new s) (y : Life new u) → Goes old whole s u messages l m → Goes new more s u messages x y → (me : ℕ) (at stamp : Stamp) → IsCopyOf old new s l x me at stamp → IsCopyOf old new u m y me at stamp
+copy_on old new s u whole more messages (Alive a) (Alive b) (Alive c) (Alive d) f g me at stamp k = record {
+  before = k.before;
+  after = k.after;
+  edits = k.edits;
+  origin = ap (λ (z : Birth). z.origin) g.same ∙ k.origin;
+  from = k.from;
+  to = k.to;
+  late = subst (λ n. n ≤ epoch_of k.after) (sym (ap (λ (z : Birth). z.epoch) g.same)) k.late;
+  told = g.stays (record { server = me; body = CopyIn (k.after) (k.edits) None }) k.told;
+  fixed = fixed_on a.world b.world k.before me k.edits a.reached f.leads k.fixed;
+}
+copy_on old new s u whole more messages (Alive a) (Beyond b) (Alive c) y f g me at stamp k = absurd f
+copy_on old new s u whole more messages (Alive a) (Unborn b) (Alive c) y f g me at stamp k = absurd f
+copy_on old new s u whole more messages (Alive a) (Alive b) (Alive c) (Beyond d) f g me at stamp k = absurd g
+copy_on old new s u whole more messages (Alive a) (Alive b) (Alive c) (Unborn d) f g me at stamp k = absurd g
+copy_on old new s u whole more messages (Beyond a) m (Alive c) y f g me at stamp k = absurd k
+copy_on old new s u whole more messages (Unborn a) m (Alive c) y f g me at stamp k = absurd k
+copy_on old new s u whole more messages l m (Unborn c) y f g me at stamp k = absurd k
+copy_on old new s u whole more messages l m (Beyond c) (Beyond d) f g me at stamp k = tt
+copy_on old new s u whole more messages l m (Beyond c) (Unborn d) f g me at stamp k = absurd g
+copy_on old new s u whole more messages l m (Beyond c) (Alive d) f g me at stamp k = absurd g
+
+module _ (whole : ℕ → ℕ → Bool) (s u : State) (family : Family s) (last : Family u) (messages : List Message) (goes : (chunk : ℕ) → Goes chunk (whole chunk) s u messages (family chunk) (last chunk)) where
+  body_on : (to : NodeId) (body : Body) → CopiesTo s family to body → CopiesTo u last to body
+  body_on (nodes.Server me) (bodies.MakeCopy old at new stamp) k = copy_on old new s u (whole old) (whole new) messages (family old) (last old) (family new) (last new) (goes old) (goes new) me at stamp k
+  body_on (nodes.Server me) body k = tt
+  body_on to body k = tt
+
+  all_on : (sent : List Message) → AllByRecursion (Copies_of s family) sent → AllByRecursion (Copies_of u last) sent
+  all_on [] k = tt
+  all_on (m ∷ sent) k = (body_on m.to m.body k.0, all_on sent k.1)
+
+-- ---- where lists come from
+
+module _ (s u : State) (family : Family s) where
+  abbrev From : List Edit → Type 0
+  From = ComesFrom s family
+
+  -- a chunk that lives goes on by events of the master's part
+  lists_of : (chunk : ℕ) (whole : ℕ → Bool) (messages : List Message) (l : Life chunk s) (m : Life chunk u) → family chunk ≡ l → Goes chunk whole s u messages l m → BornFrom From chunk s u l m → ListsFrom From chunk u m
+  lists_of chunk whole messages (Alive a) (Alive b) is goes from = λ stamp many. let x = (masters_leave a.world b.world goes.leads goes.masters).lists stamp many in inr (record { chunk = chunk; alive = a; is = is; stamp = x.0; many = x.1; begins = x.2 })
+  lists_of chunk whole messages (Unborn k) (Alive b) is goes from = λ stamp many.
+      let x = (masters_leave (world_of b.reached.0) b.world goes.leads goes.masters).lists stamp many in subst From (sym x.2) (from x.1)
+  lists_of chunk whole messages (Beyond a) (Alive b) is goes from = absurd goes
+  lists_of chunk whole messages l (Beyond b) is goes from = tt
+  lists_of chunk whole messages l (Unborn b) is goes from = tt
+
+  -- what comes from a list there comes from one of before
+  carried : (last : Family u) → ((chunk : ℕ) → ListsFrom From chunk u (last chunk)) → (edits : List Edit) → ComesFrom u last edits → From edits
+  carried last lists edits (inl none) = inl none
+  carried last lists edits (inr old) = subst From (sym old.begins) (on (subst (ListsFrom From old.chunk u) old.is (lists old.chunk)) old.stamp old.many)
+    where
+      on : ListsFrom From old.chunk u (Alive old.alive) → (stamp many : ℕ) → From (take many (old.alive.world.known.list stamp))
+      on all = all
+
+  -- a chunk that is born behind some moves comes from what was before
+  from_both : (v : State) (first : Family u) → ((chunk : ℕ) → ListsFrom From chunk u (first chunk)) → (chunk : ℕ) (whole : ℕ → Bool) (one more : List Message) (l : Life chunk s) (m : Life chunk u) (n : Life chunk v)
+      → Goes chunk whole s u one l m → Goes chunk whole u v more m n → BornFrom From chunk s u l m → BornFrom (ComesFrom u first) chunk u v m n → BornFrom From chunk s v l n
+  from_both v first lists chunk whole one more (Unborn k) (Unborn m) (Alive n) f g a b = λ many. carried first lists (take many n.reached.0.origin) (b many)
+  from_both v first lists chunk whole one more (Unborn k) (Alive m) (Alive n) f g a b = λ many. subst (λ (z : Birth). From (take many z.origin)) (sym g.same) (a many)
+  from_both v first lists chunk whole one more (Unborn k) (Beyond m) (Alive n) f g a b = absurd f
+  from_both v first lists chunk whole one more (Unborn k) m (Beyond n) f g a b = tt
+  from_both v first lists chunk whole one more (Unborn k) m (Unborn n) f g a b = tt
+  from_both v first lists chunk whole one more (Beyond k) m n f g a b = tt
+  from_both v first lists chunk whole one more (Alive k) m n f g a b = tt
+
+pub family_lists : FamilyLists
+family_lists whole s u messages family f chunk = lists_of s u family chunk (whole chunk) messages (family chunk) (f.last chunk) refl (f.goes chunk) (f.origins chunk)
+
+-- nothing happens
+goes_still : (chunk : ℕ) (whole : ℕ → Bool) (s : State) (l : Life chunk s) → Goes chunk whole s s [] l l
+goes_still chunk whole s (Beyond b) = tt
+goes_still chunk whole s (Unborn k) = record { later = omega arith; says = tt }
+goes_still chunk whole s (Alive a) = record { leads = Rests; masters = tt; same = refl; members = λ j. inl refl; marks = same_epoch whole a.world a.world refl; stays = λ x there. there; tells = tt }
+
+-- nothing is born
+from_still : (P : List Edit → Type 0) (chunk : ℕ) (s : State) (l : Life chunk s) → BornFrom P chunk s s l l
+from_still P chunk s (Beyond b) = tt
+from_still P chunk s (Unborn k) = tt
+from_still P chunk s (Alive a) = tt
+
+pub families_go : FamiliesGo
+families_go whole config heard s t family hears marks (Rests_it u said) = record { last = family; goes = λ chunk. goes_still chunk (whole chunk) u (family chunk); origins = λ chunk. from_still (ComesFrom u family) chunk u (family chunk); copies = tt }
+families_go whole config heard s t family hears marks (Moves u move said well) = move_family whole config heard u family hears marks move well
+families_go whole config heard s t family hears marks (Then u first next a b) =
+    let f = families_go whole config heard u first family hears marks a in
+    let g = families_go whole config heard first.after next f.last (λ chunk. hears_on chunk (whole chunk) heard u first.after first.sent (family chunk) (f.last chunk) (f.goes chunk) (hears chunk))
+    (λ chunk. marks_on chunk (whole chunk) u first.after first.sent (family chunk) (f.last chunk) (f.goes chunk) (marks chunk)) b in
+    record {
+      last = g.last;
+      goes = λ chunk. goes_both chunk (whole chunk) u first.after next.after first.sent next.sent (family chunk) (f.last chunk) (g.last chunk) (marks chunk) (f.goes chunk) (g.goes chunk);
+      origins = λ chunk. from_both u first.after family next.after f.last (family_lists whole u first.after first.sent family f) chunk (whole chunk) first.sent next.sent (family chunk) (f.last chunk) (g.last chunk) (f.goes chunk) (g.goes chunk) (f.origins chunk) (g.origins chunk);
+      copies = all_append (Copies_of next.after g.last) first.sent next.sent (all_on whole first.after next.after f.last g.last next.sent g.goes first.sent f.copies) g.copies;
+    }
+
+-- ---- a chain whose records can be written
+
+pub written_families_go : WrittenFamiliesGo
+written_families_go whole config heard s t family hears marks kept written chain = families_go whole config heard s t family hears marks (chains_stand config heard s t chain written kept).chain
+
+within_next : (P : List Edit → Type 0) (chunk : ℕ) (whole : ℕ → Bool) (s u : State) (origin : List Edit) (k : IsUnborn chunk s) → ((many : ℕ) → P (take many origin)) → IsBornWithin chunk origin s.durable.epoch u [] → Next P chunk whole s u [] (Unborn k)
+within_next P chunk whole s u origin k from b = record {
+  life_then = Alive (record { world = b.world; reached = (b.birth, b.leads); shows = b.shows });
+  goes = record { later = b.later; leads = b.leads; masters = b.masters; members = b.members; tells = tt };
+  from = λ many. subst (λ es. P (take many es)) (sym b.begins) (from many);
+}
+
+-- it is cut, and the master is started again
+cut_next : (P : List Edit → Type 0) → ((many : ℕ) → P (take many none_yet)) → (whole : ℕ → Bool) (config : Config) (heard : Heard) (s : State) (t : Turn) (many : ℕ) (d : Durable) (log : Log) → IsKept s.durable → IsWritten t → Chain config (IsMade config heard) s t → many ≤ length t.records → replayed s.durable (take many t.records) ≡ Some d
+    → (chunk : ℕ) (life : Life chunk s) → Heard_of chunk s heard life → MarksOf chunk s whole life → Next P chunk whole s (restarted d log) [] life
+cut_next P none whole config heard s t many d log kept written chain within fit chunk (Beyond b) was live = record { life_then = Beyond b; goes = tt; from = tt }
+cut_next P none whole config heard s t many d log kept written chain within fit chunk (Alive a) was live =
+    follows_next P chunk whole s (restarted d log) [] a (parts_follow (birth_of a) chunk whole config heard s t many d log a.world live a.shows was kept written chain within fit)
+cut_next P none whole config heard s t many d log kept written chain within fit chunk (Unborn k) was live = by_way (written_cuts_go_unborn chunk config heard s t many d log was chain written kept fit k)
+  where
+    by_way : IsUnbornAgain config heard chunk s (restarted d log) → Next P chunk whole s (restarted d log) [] (Unborn k)
+    by_way (inl unborn) = record { life_then = Unborn unborn.0; goes = record { later = unborn.1; says = tt }; from = tt }
+    by_way (inr (inl born)) = within_next P chunk whole s (restarted d log) [] k none born
+    by_way (inr (inr copied)) = within_next P chunk whole s (restarted d log) [] k none (copied.born [] (record { rises = λ i j x y at. absurd (false≢true (ap is_some at)) }))
+
+pub families_cut : FamiliesCut
+families_cut whole config heard s t many d log family hears marks kept written chain within fit =
+    let each : (chunk : ℕ) → Next (ComesFrom s family) chunk (whole chunk) s (restarted d log) [] (family chunk) = λ chunk. cut_next (ComesFrom s family) (λ n. inl (take_none n)) (whole chunk) config heard s t many d log kept written chain within fit chunk (family chunk) (hears chunk) (marks chunk) in
+    record { last = λ chunk. (each chunk).life_then; goes = λ chunk. (each chunk).goes; origins = λ chunk. (each chunk).from; copies = tt }
+
+-- ---- a new store
+
+pub starts_unborn : StartsUnborn
+starts_unborn chunk log number = restarts_unborn chunk start log number (omega arith) (none_given chunk)
+  where
+    none_given : (c : ℕ) → is_given 1 c ≡ false
+    none_given c = grind (arith, nat_tests)
