@@ -1,0 +1,279 @@
+-- Each edit that a client is told is done is done in the machine of its chunk.
+use Rattle.std.proofs.Common.{◌≡◌, ◌∙◌, ◌⊎◌, inl, inr, ◌≤◌, ◌<◌, ◌^◌, ◌+◌, ℕ, Bool, true, false, cond, List, [], ◌∷◌, Option, Some, None, refl, sym, ap, subst, slice_get}
+use Rattle.std.specs.Prelude.{Result, Ok, Err, ◌==◌, nat_lt}
+use Rattle.std.specs.FinMap as fin
+use Rattle.std.specs.List.{AllByRecursion}
+use Rattle.std.proofs.lemmas.Bool.{cases_lt}
+use Rattle.gs_base.specs.Told.{IsNumber}
+use Rattle.gs_base.specs.declared.config.Config.{Config}
+use Rattle.gs_base.specs.declared.epoch.EpochEnd.{EpochEnd}
+use Rattle.gs_base.specs.declared.numbers.Moment.{Moment}
+use Rattle.gs_base.specs.declared.numbers.ReqId.{ReqId}
+use Rattle.gs_base.specs.declared.numbers.Stamp.{Stamp}
+use Rattle.gs_base.specs.declared.refusal.Refusal.{Refusal}
+use Rattle.gs_base.specs.declared.refusal.Refusal.TheVariants as refusals
+use Rattle.gs_replica.specs.declared.op.Outcome.{Outcome}
+use Rattle.gs_msg.specs.declared.body.Body.{Body}
+use Rattle.gs_msg.specs.declared.body.Body.TheVariants as bodies
+use Rattle.gs_msg.specs.declared.chunk.Chunk.{Chunk}
+use Rattle.gs_msg.specs.declared.chunk.Chunk.TheVariants as chunks
+use Rattle.gs_msg.specs.declared.event.DiskId.{DiskId}
+use Rattle.gs_msg.specs.declared.message.Message.{Message}
+use Rattle.gs_msg.specs.declared.node.NodeId.{NodeId}
+use Rattle.gs_msg.specs.declared.node.NodeId.TheVariants as nodes
+use Rattle.gs_msg.specs.declared.op.Op.{Op}
+use Rattle.gs_primary.specs.Leases.{Lease, is_over, reminds, tell}
+use Rattle.gs_store.specs.Moves as moves
+use Rattle.gs_store.specs.Slots.{Slot}
+use Rattle.gs_store.specs.Stores as stores
+use Rattle.gs_server.specs.Edits.{edit, new_edit, refused_once, unless_kept}
+use Rattle.gs_server.specs.Places.{Here, Place, damaged_block, empty_place, other_epoch, tells_bad}
+use Rattle.gs_server.specs.Promises.{copies, not_copied, or_copy}
+use Rattle.gs_server.specs.Servers.{Server, about_chunk, handle_body, here_of, learned, leases_after, place_of, request_in, store_of, with_leases, with_store}
+use Rattle.gs_server.specs.Servers as servers
+use Rattle.gs_server.specs.declared.turn.KeptRefusal.{KeptRefusal}
+use Rattle.gs_world.specs.declared.place.MasterPlace.{MasterPlace}
+use Rattle.gs_run.specs.Histories.{History}
+use Rattle.gs_run.specs.Lasting.{failures_at}
+use Rattle.gs_run.specs.Sent.{Sent, none_sent}
+use Rattle.gs_chunk.specs.Machine.{World}
+use Rattle.gs_chunk.specs.Events.{Leads, Rests}
+use Rattle.gs_chunk.specs.Laws.{Birth}
+use Rattle.gs_member.specs.Answering.{AnswersBody, AnswersOf, IsAnswered, IsPassed, NoYes, handle_in}
+use Rattle.gs_member.specs.Requests.{Asked, IsOfOneEdit}
+use Rattle.gs_member.specs.Unborn.{KeepsNothing}
+use Rattle.gs_member.proofs.Elsewhere.{NoYeses, chunk_says, quiet_sent, reminds_sent}
+use Rattle.gs_member.proofs.Lists.{all_flat}
+use Rattle.gs_member.proofs.Reading.{answers_on}
+use Rattle.gs_lift.specs.Saying.{AreOfClient, AreOfMaster, IsOfClient, IsOfMaster}
+use Rattle.gs_run.specs.Runs.{Step}
+use Rattle.gs_lift.specs.Going.{AllSent, Beats, Damages, Hears, Kind, Loses, MasterGoes, OfMaster, OfServer, Posts, Restarts, ServerGoes, Ticks, about_of}
+use Rattle.gs_lift.specs.Going as going
+use Rattle.gs_lift.specs.Joint.{AtMaster, AtServer, Elsewhere, GoesBy}
+use Rattle.gs_lift.specs.Showing.{IsAlive, Life, setting}
+use Rattle.gs_lift.specs.Answers.{AnswersBegin, AnswersGoOn, DonesAreAnswered, HasDone, HasDoneBody, LifeGoes, LivesOf, heard_by, heard_in}
+use Rattle.gs_lift.specs.Waiting.{AllWaitAsked, AsksFor}
+use Rattle.gs_lift.proofs.AskingRuns.{does_say}
+use Rattle.gs_lift.proofs.Beginning.{begins_silent, none_of}
+use Rattle.gs_lift.proofs.Doing.{masters_do}
+use Rattle.gs_lift.proofs.Posting.{posted_all, sent_then}
+use Rattle.gs_lift.proofs.Waiting.{YesAsks, YesesAsk, waits_begin, yeses_asked}
+
+-- ---- where no client is told so
+
+bad_quiet : (h : Here) (slot : Slot) (o : Option ℕ) → NoYeses (tells_bad h slot o)
+bad_quiet h slot None = tt
+bad_quiet h slot (Some block) = (tt, tt)
+
+copy_quiet : (h new : Here) (source target : Place) (stamp : Stamp) (o : Option Refusal) (m : Result Slot Refusal) → NoYeses (or_copy o (not_copied h source new stamp) (copies h source new target stamp m)).target.sent
+copy_quiet h new source target stamp (Some e) m = (tt, bad_quiet h source.slot (damaged_block e))
+copy_quiet h new source target stamp None (Err e) = (tt, bad_quiet h source.slot (damaged_block e))
+copy_quiet h new source target stamp None (Ok s) = (tt, tt)
+
+learn_quiet : (s : Server) (epoch : ℕ) (end : EpochEnd) → NoYeses (servers.learn s epoch end).sent
+learn_quiet s epoch end = by_case (epoch == s.kept.epoch) (epoch == s.kept.epoch + 1)
+  where
+    by_case : (a b : Bool) → NoYeses (cond a (learned s epoch end s) (cond b (learned s epoch end (with_leases (leases_after end s.dropped.leases) (with_store (stores.learned epoch end (store_of s)) s)))
+        (record { after = s; sent = tell s.me nodes.Master (bodies.Behind s.kept.epoch) ∷ []; said = Some (refusals.Epoch s.kept.epoch) }))).sent
+    by_case true b = (tt, tt)
+    by_case false true = (tt, tt)
+    by_case false false = (tt, tt)
+
+tick_quiet : (s : Server) (moment : Moment) → NoYeses (servers.tick s moment).sent
+tick_quiet s moment = all_flat (λ (m : Message). NoYes m.body) (λ (e : ℕ × Lease). cond (is_over moment e.1) [] (reminds s.me e.0 e.1)) (fin.entries s.dropped.leases) (λ e there. by_case e (is_over moment e.1))
+  where
+    by_case : (e : ℕ × Lease) (b : Bool) → NoYeses (cond b [] (reminds s.me e.0 e.1))
+    by_case e true = tt
+    by_case e false = quiet_sent e.0 (reminds s.me e.0 e.1) (reminds_sent (here_of s moment e.0 None) false e.1 e.1.outbox)
+
+-- a message about no chunk
+body_quiet : (s : Server) (from : NodeId) (body : Body) (moment : Moment) → handle_in body ≡ None → NoYeses (handle_body s from body moment).sent
+body_quiet s from (bodies.About handle said) moment none = absurd (cc)
+body_quiet s from (bodies.MakeCopy handle at new_handle stamp) moment none =
+    let h : Here = here_of s moment handle None in
+    copy_quiet h (here_of s moment new_handle None) (place_of handle s) (place_of new_handle s) stamp (other_epoch h stamp.epoch) (moves.make_copy at stamp (place_of handle s).slot (place_of new_handle s).slot)
+body_quiet s from (bodies.Epoch epoch end) moment none = learn_quiet s epoch end
+body_quiet s from (bodies.Push req bytes) moment none = tt
+body_quiet s from (bodies.Call req call) moment none = tt
+body_quiet s from (bodies.Reply req result) moment none = tt
+body_quiet s from (bodies.Done req result) moment none = tt
+body_quiet s from (bodies.Bytes req result) moment none = tt
+body_quiet s from (bodies.Report epoch replicas) moment none = tt
+body_quiet s from (bodies.Learned epoch handles) moment none = tt
+body_quiet s from (bodies.Behind epoch) moment none = tt
+
+goes_quiet : (sent : Sent) (id : ℕ) (s after : Server) (messages : List Message) (goes : ServerGoes sent id s after messages) → about_of goes ≡ None → NoYeses messages
+goes_quiet sent id s after messages (Hears message moment was to is sends) none = subst NoYeses (sym sends) (body_quiet s message.from message.body moment none)
+goes_quiet sent id s after messages (Ticks moment is sends) none = subst NoYeses (sym sends) (tick_quiet s moment)
+goes_quiet sent id s after messages (Beats is sends) none = subst NoYeses (sym sends) (tt, tt)
+goes_quiet sent id s after messages (Restarts is sends) none = subst NoYeses (sym sends) tt
+goes_quiet sent id s after messages (Loses handle is sends) none = subst NoYeses (sym sends) tt
+goes_quiet sent id s after messages (Damages handle block is sends) none = subst NoYeses (sym sends) tt
+
+-- ---- a message about a chunk of which nothing is kept
+
+edit_quiet : (h : Here) (req : ReqId) (stamp : Stamp) (op : Op) → NoYeses (edit h empty_place req stamp op).sent
+edit_quiet h req stamp op = by_kept h.refused
+  where
+    by_tests : (kept : KeptRefusal) (a b : Bool) → NoYeses (cond a (refused_once h req refusals.Old) (cond b (refused_once h req kept.refusal) (new_edit h empty_place req stamp op))).sent
+    by_tests kept true b = (tt, tt)
+    by_tests kept false true = (tt, tt)
+    by_tests kept false false = (tt, tt)
+
+    by_kept : (o : Option KeptRefusal) → NoYeses (unless_kept h req o (new_edit h empty_place req stamp op)).sent
+    by_kept None = (tt, tt)
+    by_kept (Some kept) = by_tests kept (nat_lt req.number kept.number) (req.number == kept.number)
+
+ack_quiet : (h : Here) (from : NodeId) (stamp : Stamp) (count : ℕ) → NoYeses (about_chunk h empty_place from (chunks.Ack stamp count)).sent
+ack_quiet h nodes.Master stamp count = tt
+ack_quiet h (nodes.Client client) stamp count = tt
+ack_quiet h (nodes.Server server) stamp count = tt
+
+place_quiet : (h : Here) (from : NodeId) (said : Chunk) → NoYeses (about_chunk h empty_place from said).sent
+place_quiet h from (chunks.Edit req stamp op) = edit_quiet h req stamp op
+place_quiet h from (chunks.Ack stamp count) = ack_quiet h from stamp count
+place_quiet h from said = quiet_sent h.handle (about_chunk h empty_place from said).sent (chunk_says h false empty_place from said (λ may. absurd (cc)))
+
+about_quiet : (s : Server) (from : NodeId) (body : Body) (moment : Moment) (chunk : ℕ) → handle_in body ≡ Some chunk → KeepsNothing chunk s → NoYeses (handle_body s from body moment).sent
+about_quiet s from (bodies.About handle said) moment chunk is nothing =
+    let same : handle ≡ chunk = cc in
+    let h : Here = here_of s moment handle (request_in said) in
+    subst (λ p. NoYeses (about_chunk h p from said).sent) (sym (subst (λ k. place_of k s ≡ empty_place) (sym same) nothing)) (place_quiet h from said)
+about_quiet s from body moment chunk is nothing = absurd (cc)
+
+goes_nothing : (sent : Sent) (id : ℕ) (s after : Server) (messages : List Message) (goes : ServerGoes sent id s after messages) (chunk : ℕ) → about_of goes ≡ Some chunk → KeepsNothing chunk s → NoYeses messages
+goes_nothing sent id s after messages (Hears message moment was to is sends) chunk about nothing = subst NoYeses (sym sends) (about_quiet s message.from message.body moment chunk about nothing)
+goes_nothing sent id s after messages (Ticks moment is sends) chunk about nothing = absurd (cc)
+goes_nothing sent id s after messages (Beats is sends) chunk about nothing = absurd (cc)
+goes_nothing sent id s after messages (Restarts is sends) chunk about nothing = absurd (cc)
+goes_nothing sent id s after messages (Loses handle is sends) chunk about nothing = absurd (cc)
+goes_nothing sent id s after messages (Damages handle block is sends) chunk about nothing = absurd (cc)
+
+-- ---- neither the master nor clients tell so
+
+master_quiet : (body : Body) → IsOfMaster body → NoYes body
+master_quiet (bodies.Done req result) of = absurd of
+master_quiet body of = tt
+
+of_master_quiet : (messages : List Message) → AreOfMaster messages → NoYeses messages
+of_master_quiet [] of = tt
+of_master_quiet (m ∷ messages) of = (master_quiet m.body of.0, of_master_quiet messages of.1)
+
+client_quiet : (body : Body) → IsOfClient body → NoYes body
+client_quiet (bodies.Done req result) of = absurd of
+client_quiet body of = tt
+
+of_client_quiet : (messages : List Message) → AreOfClient messages → NoYeses messages
+of_client_quiet [] of = tt
+of_client_quiet (m ∷ messages) of = (client_quiet m.body of.0, of_client_quiet messages of.1)
+
+-- ---- a step
+
+module _ {D : Type 0} (seen : D → List ℕ) (config : Config) (bytes : ReqId → List ℕ) (born chunk : ℕ) (step : Step) (old new : History D) (w v : World) where
+  pub leads_by : GoesBy seen config bytes born chunk step old new w v → Leads w v
+  leads_by (AtServer by) = subst (Leads w) (sym by.world) by.steps.leads
+  leads_by (AtMaster by) = by.leads
+  leads_by (Elsewhere still servers master) = subst (Leads w) (sym still) Rests
+
+module _ {D : Type 0} (seen : D → List ℕ) (failures : D → ℕ) (armed : DiskId → ℕ → MasterPlace D → MasterPlace D) (config : Config) (bytes : ReqId → List ℕ) (step : Step) (old new : History D) (kind : Kind seen failures armed step old new)
+    (asked : ℕ → Asked) (before : LivesOf seen config bytes old) (behind : LivesOf seen config bytes new) (each : (chunk : ℕ) (number : IsNumber chunk) → LifeGoes seen failures armed config bytes chunk step old new kind (before chunk number) (behind chunk number)) where
+  abbrev IsDone : Message → Type 0
+  IsDone m = HasDoneBody seen config bytes asked new behind m.body
+
+  -- what was done is done still
+  done_on : (chunk : ℕ) (number : IsNumber chunk) (req : ReqId) (outcome : Outcome) → HasDone seen config bytes chunk old (before chunk number) req outcome → HasDone seen config bytes chunk new (behind chunk number) req outcome
+  done_on chunk number req outcome has = by_lives (before chunk number) (behind chunk number) (each chunk number) has
+    where
+      by_lives : (l : Life seen config bytes chunk old) (m : Life seen config bytes chunk new) → LifeGoes seen failures armed config bytes chunk step old new kind l m → HasDone seen config bytes chunk old l req outcome → HasDone seen config bytes chunk new m req outcome
+      by_lives (inl unborn) m goes has = absurd has
+      by_lives (inr a) (inl unborn) goes has = absurd goes
+      by_lives (inr a) (inr b) (birth, by, heard) (me, is) = (
+        me,
+        subst (λ epoch. IsAnswered (setting config bytes epoch) b.world me req outcome ⊎ IsPassed (setting config bytes epoch) b.world outcome) (sym (ap (λ (x : Birth). x.epoch) birth))
+            (answers_on (setting config bytes a.reached.0.epoch) a.world b.world a.reached (leads_by seen config bytes a.reached.0.epoch chunk step old new a.world b.world by) me req outcome is),
+      )
+
+  old_done : (m : Message) → HasDoneBody seen config bytes asked old before m.body → IsDone m
+  old_done m has = by_body m.body has
+    where
+      by_body : (body : Body) → HasDoneBody seen config bytes asked old before body → HasDoneBody seen config bytes asked new behind body
+      by_body (bodies.Done req (Ok outcome)) (chunk, number, has, asks) = (chunk, number, done_on chunk number req outcome has, asks)
+      by_body body has = tt
+
+  quiet_done : (messages : List Message) → NoYeses messages → AllByRecursion IsDone messages
+  quiet_done [] none = tt
+  quiet_done (m ∷ messages) none = (by_body m.body none.0, quiet_done messages none.1)
+    where
+      by_body : (body : Body) → NoYes body → HasDoneBody seen config bytes asked new behind body
+      by_body (bodies.Done req (Ok outcome)) none = absurd none
+      by_body body none = tt
+
+  module _ (one : AllSent (IsOfOneEdit asked) old.sent) (waits : AllWaitAsked asked old) (answered : DonesAreAnswered seen config bytes asked old before) where
+    first : AllSent IsDone old.sent
+    first = sent_then (λ (m : Message). HasDoneBody seen config bytes asked old before m.body) IsDone old.sent old_done answered
+
+    nothing_new : (by : NodeId) (messages : List Message) (moment : Moment) → Posts moment by messages old.sent new.sent → NoYeses messages → AllSent IsDone new.sent
+    nothing_new by messages moment posted none = posted_all IsDone moment by messages old.sent new.sent posted first (quiet_done messages none)
+
+    -- the machine of the chunk that a server hears about has done what it tells
+    module _ (chunk : ℕ) (number : IsNumber chunk) (a : IsAlive seen config bytes chunk old) (b : IsAlive seen config bytes chunk new) (now : behind chunk number ≡ inr b) (birth : b.reached.0 ≡ a.reached.0) where
+      all_done : (v : World) (me : ℕ) (messages : List Message) → b.world ≡ v → YesesAsk (AsksFor asked chunk) messages → AllByRecursion (AnswersOf (setting config bytes a.reached.0.epoch) chunk v me (Some chunk)) messages → AllByRecursion IsDone messages
+      all_done v me [] is asks all = tt
+      all_done v me (m ∷ messages) is asks all = (by_body m.body asks.0 (all.0.1 refl), all_done v me messages is asks.1 all.1)
+        where
+          by_body : (body : Body) → YesAsks (AsksFor asked chunk) body → AnswersBody (setting config bytes a.reached.0.epoch) v me body → HasDoneBody seen config bytes asked new behind body
+          by_body (bodies.Done req (Ok outcome)) asks has = (
+            chunk,
+            number,
+            subst (λ l. HasDone seen config bytes chunk new l req outcome) (sym now) (
+              me,
+              subst (λ epoch. IsAnswered (setting config bytes epoch) b.world me req outcome ⊎ IsPassed (setting config bytes epoch) b.world outcome) (sym (ap (λ (x : Birth). x.epoch) birth))
+                  (subst (λ x. IsAnswered (setting config bytes a.reached.0.epoch) x me req outcome ⊎ IsPassed (setting config bytes a.reached.0.epoch) x outcome) (sym is) has),
+            ),
+            asks,
+          )
+          by_body body asks has = tt
+
+      heard_done : (by : GoesBy seen config bytes a.reached.0.epoch chunk step old new a.world b.world) → heard_by seen failures armed config bytes by ≡ Some chunk → AllSent IsDone new.sent
+      heard_done (AtServer by) about = posted_all IsDone by.moment (nodes.Server by.id) by.messages old.sent new.sent by.posted first
+          (all_done by.steps.world by.id by.messages by.world (yeses_asked asked old.sent by.id by.server by.after by.messages by.goes chunk one (waits by.id by.server by.found) about) (subst (λ o. AllByRecursion (AnswersOf (setting config bytes a.reached.0.epoch) chunk by.steps.world by.id o) by.messages) about by.steps.answers))
+      heard_done (AtMaster by) about = absurd (cc)
+      heard_done (Elsewhere still servers master) about = absurd (cc)
+
+    -- whatever a server hears about
+    server_done : (id : ℕ) (s after : Server) (messages : List Message) (moment : Moment) (goes : ServerGoes old.sent id s after messages) → slice_get old.nodes.servers id ≡ Some s → Posts moment (nodes.Server id) messages old.sent new.sent
+        → heard_in seen failures armed config bytes kind ≡ about_of goes → ((chunk : ℕ) → 2 ^ 64 ≤ chunk → KeepsNothing chunk s) → AllSent IsDone new.sent
+    server_done id s after messages moment goes found posted same beyond = by_about (about_of goes) refl
+      where
+        none_new : NoYeses messages → AllSent IsDone new.sent
+        none_new none = nothing_new (nodes.Server id) messages moment posted none
+
+        by_lives : (chunk : ℕ) (number : IsNumber chunk) → about_of goes ≡ Some chunk → (l : Life seen config bytes chunk old) (m : Life seen config bytes chunk new) → behind chunk number ≡ m → LifeGoes seen failures armed config bytes chunk step old new kind l m → AllSent IsDone new.sent
+        by_lives chunk number about (inl unborn) m now goes_so = none_new (goes_nothing old.sent id s after messages goes chunk about (unborn.servers id s found).0)
+        by_lives chunk number about (inr a) (inl unborn) now goes_so = absurd goes_so
+        by_lives chunk number about (inr a) (inr b) now (birth, by, heard) = heard_done chunk number a b now birth by (heard ∙ same ∙ about)
+
+        by_number : (chunk : ℕ) → about_of goes ≡ Some chunk → (chunk < 2 ^ 64) ⊎ (2 ^ 64 ≤ chunk) → AllSent IsDone new.sent
+        by_number chunk about (inl number) = by_lives chunk number about (before chunk number) (behind chunk number) refl (each chunk number)
+        by_number chunk about (inr far) = none_new (goes_nothing old.sent id s after messages goes chunk about (beyond chunk far))
+
+        by_about : (o : Option ℕ) → about_of goes ≡ o → AllSent IsDone new.sent
+        by_about None none = none_new (goes_quiet old.sent id s after messages goes none)
+        by_about (Some chunk) about = by_number chunk about (cases_lt chunk (2 ^ 64))
+
+pub answers_go_on : {D : Type 0} (seen : D → List ℕ) (failures : D → ℕ) (armed : DiskId → ℕ → MasterPlace D → MasterPlace D) (config : Config) (bytes : ReqId → List ℕ) (asked : ℕ → Asked) → AnswersGoOn seen failures armed config bytes asked
+answers_go_on seen failures armed config bytes asked step old new (OfServer id s after messages moment found goes met servers master posted) one waits lasts quiet beyond before behind each answered =
+    server_done seen failures armed config bytes step old new (OfServer id s after messages moment found goes met servers master posted) asked before behind each one waits answered id s after messages moment goes found posted refl (λ chunk far. beyond chunk id s far found)
+answers_go_on seen failures armed config bytes asked step old new (OfMaster place messages moment goes servers master posted) one waits lasts quiet beyond before behind each answered =
+    nothing_new seen failures armed config bytes step old new (OfMaster place messages moment goes servers master posted) asked before behind each one waits answered nodes.Master messages moment posted
+    (of_master_quiet messages (does_say seen armed old.sent old.nodes.master place messages (masters_do seen failures armed old.nodes.config old.sent old.nodes.master place messages lasts (sym (ap (failures_at failures) master) ∙ quiet) goes)))
+answers_go_on seen failures armed config bytes asked step old new (going.Elsewhere by messages moment are servers master posted) one waits lasts quiet beyond before behind each answered =
+    nothing_new seen failures armed config bytes step old new (going.Elsewhere by messages moment are servers master posted) asked before behind each one waits answered by messages moment posted (of_client_quiet messages are)
+
+pub answers_begin : {D : Type 0} (seen : D → List ℕ) (failures : D → ℕ) (armed : DiskId → ℕ → MasterPlace D → MasterPlace D) (config : Config) (bytes : ReqId → List ℕ) (asked : ℕ → Asked) → AnswersBegin seen failures armed config bytes asked
+answers_begin seen failures armed config bytes asked clients disks begun none begins = (
+  waits_begin seen failures armed config clients disks begun asked begins,
+  λ lives. posted_all (λ (m : Message). HasDoneBody seen config bytes asked begun lives m.body) (record { 0 = 0 }) nodes.Master begins.turn.sent.items (none_sent config.servers clients) begun.sent (inl begins.sent)
+      (none_of (λ (m : Message). HasDoneBody seen config bytes asked begun lives m.body) config.servers clients)
+      (subst (AllByRecursion (λ (m : Message). HasDoneBody seen config bytes asked begun lives m.body)) (sym (begins_silent seen failures armed config clients disks begun none begins)) tt),
+)

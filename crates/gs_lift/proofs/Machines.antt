@@ -1,0 +1,68 @@
+-- What each world that the machine reaches gives to the servers, and what of it stays.
+use Rattle.std.proofs.Common.{◌≡◌, ℕ, ◌≤◌, List, length, Some, None, true, refl, sym, ap, subst, ◌∙◌, arith}
+use Rattle.std.proofs.lemmas.List.{take_all}
+use Rattle.gs_replica.specs.Stands.{Edit}
+use Rattle.gs_chunk.specs.Machine.{Lease, World, Epoch}
+use Rattle.gs_chunk.specs.Events.{Leads}
+use Rattle.gs_chunk.specs.Laws.{IsReached, world_of}
+use Rattle.gs_chunk.proofs.Known.{Later}
+use Rattle.gs_chunk.proofs.Worlds.{WorldOk, said, leads_later, leads_then}
+use Rattle.gs_chunk.proofs.Facts.{reached_world}
+use Rattle.gs_member.specs.Moving.{EpochsAreKnown, LeadsWhole}
+use Rattle.gs_chunk.specs.Lists.{ListsAreOld}
+use Rattle.gs_entry.specs.Families.{IsFixed}
+
+module _ (w : World) (reached : IsReached w) where
+  ok : WorldOk w
+  ok = reached_world w reached
+
+  -- the replica of a primary has the whole list of its view
+  pub leads_whole : (me : ℕ) → LeadsWhole w me
+  leads_whole me l edits held at live =
+      let v = ok.views me in
+      let lease = v.lease l held in
+      let within : (w.members me).promise ≤ w.known.view = subst (λ t. t ≤ w.known.view) at lease.within in
+      let holder : w.known.holder (w.members me).promise ≡ Some me = subst (λ t. w.known.holder t ≡ Some me) at lease.holder in
+      let long = v.whole within holder edits live in
+      let begins = (v.member within (ok.known.held (w.members me).promise me within holder) edits live).1 in
+      (sym (begins.stands ∙ take_all (length edits) (w.known.list (w.members me).promise) (omega arith)), (let s = (ok.entry).stamp in omega arith))
+
+  -- what was told of an epoch is how it began
+  pub epochs_known : EpochsAreKnown w
+  epochs_known to epoch end told = (said w ok to (Epoch epoch end) told).1
+
+  -- a lease is of a view that was settled
+  pub lease_within : (me : ℕ) (l : Lease) → (w.members me).lease ≡ Some l → l.stamp ≤ w.known.view
+  lease_within me l held = ((ok.views me).lease l held).within
+
+  -- the epochs that are known are those of the master
+  pub current_is : w.known.current ≡ w.entry.epoch
+  current_is = sym (ok.entry).epoch
+
+  pub how_is : (e : ℕ) → w.known.how e ≡ w.entry.how e
+  how_is e = sym ((ok.entry).how e)
+
+  pub later : (v : World) → Leads w v → Later w.known v.known
+  later v leads = leads_later w v leads ok
+
+unfoldable pub reached_then : (w : World) → IsReached w → (v : World) → Leads w v → IsReached v
+reached_then w reached v leads = (reached.0, leads_then (world_of reached.0) w v reached.1 leads)
+
+-- ---- a view in which nobody may number any more
+
+-- a member that promises it and has a replica has just that list
+pub fixed_whole : (w : World) (t me : ℕ) (edits r : List Edit) → IsReached w → IsFixed w t me edits → (w.members me).promise ≡ t → (w.members me).live ≡ Some r → r ≡ edits
+fixed_whole w t me edits r reached f at live =
+    let ok = reached_world w reached in
+    let within : (w.members me).promise ≤ w.known.view = subst (λ n. n ≤ w.known.view) (sym at) f.within in
+    let member : w.known.members (w.members me).promise me ≡ true = subst (λ n. w.known.members n me ≡ true) (sym at) f.member in
+    let m = (ok.views me).member within member r live in
+    let q : length (w.known.list (w.members me).promise) ≡ w.known.base (w.members me).promise = ok.known.quiet (w.members me).promise within (subst (λ n. w.known.holder n ≡ None) (sym at) f.free) in
+    let least = m.0 in
+    let most = m.1.within in
+    m.1.stands ∙ take_all (length r) (w.known.list (w.members me).promise) (omega arith) ∙ ap w.known.list at ∙ f.list
+
+-- ---- lists of old ones
+
+pub old_itself : (w : World) → ListsAreOld w w
+old_itself w stamp many = (stamp, many, refl)

@@ -1,0 +1,14 @@
+pub mod Saying
+pub mod Going
+pub mod Unborn
+pub mod Showing
+pub mod Doing
+pub mod Joint
+pub mod Among
+pub mod Living
+pub mod Running
+pub mod Accounts
+pub mod Asking
+pub mod Numbered
+pub mod Waiting
+pub mod Answers
