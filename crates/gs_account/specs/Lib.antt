@@ -1,0 +1,4 @@
+pub mod Accounts
+pub mod Harm
+pub mod Moving
+pub mod Running
