@@ -1,0 +1,296 @@
+-- An account agrees with the machine of a chunk behind a step at one server.
+use Rattle.std.proofs.Common.{◌≡◌, ◌∙◌, ◌+◌, ◌<◌, ◌≤◌, ◌⊎◌, ◌&&◌, ◌++◌, ℕ, Bool, true, false, cond, List, Option, Some, None, refl, sym, ap, subst, inl, inr, arith, slice_get, append_assoc}
+use Rattle.std.specs.Prelude.{◌==◌, if◌then◌else◌, is_some}
+use Rattle.std.proofs.lemmas.Bool.{cases_lt, eqb-true, false≢true, true≢false}
+use Rattle.gs_base.specs.declared.config.Config.{Config}
+use Rattle.gs_base.specs.declared.numbers.Moment.{Moment}
+use Rattle.gs_base.specs.declared.numbers.ReqId.{ReqId}
+use Rattle.gs_account.specs.Accounts.{Account, edits_in, view_at}
+use Rattle.gs_account.specs.Moving.{account_behind, edit_under, list_behind, numbered, numbered_by, numbered_of, numbers, prepares, reached_behind, server_of}
+use Rattle.gs_chunk.specs.Stamps.{stamp_at, start_of}
+use Rattle.gs_chunk.specs.Machine.{Entry, Member, World}
+use Rattle.gs_chunk.specs.Events.{Leads, Rests}
+use Rattle.gs_base.specs.declared.epoch.EpochEnd.TheVariants.{Prepare}
+use Rattle.gs_chunk.specs.Laws.{Birth, IsReached, IsUpgrading, prepared_list, world_of}
+use Rattle.gs_chunk.specs.Mastering.{AreOfMaster}
+use Rattle.gs_chunk.proofs.Facts.{reached_world}
+use Rattle.gs_chunk.proofs.Lasting.{agrees}
+use Rattle.gs_chunk.proofs.Known.{Later}
+use Rattle.gs_chunk.proofs.Prepared.{prepared_rests}
+use Rattle.gs_chunk.proofs.Resting.{leases_rest}
+use Rattle.gs_chunk.proofs.Worlds.{WorldOk, leads_later, leads_world}
+use Rattle.gs_chunks.proofs.Edits.{AreNumbered}
+use Rattle.gs_chunks.proofs.Serving.{Meets, count_then, heard_then, reaches_more, unmoved}
+use Rattle.gs_chunks.proofs.Mastering as mastering
+use Rattle.gs_chunks.proofs.Mastering.{behind_it}
+use Rattle.gs_chunks.proofs.Still.{counts_still, none_numbered}
+use Rattle.gs_chunks.specs.Agreeing.{Agrees, BirthsAgree, IsBlank, MastersAgree, OriginShows, RowsGo, ServersAgree, StillAgree}
+use Rattle.gs_entry.proofs.Leading.{masters_leave}
+use Rattle.gs_entry.specs.Showing.{ShowsDurable}
+use Rattle.gs_lift.proofs.Machines.{reached_then}
+use Rattle.gs_lift.proofs.Serving.{set_found}
+use Rattle.gs_lift.specs.Accounts.{CountsShow, IsUnseen}
+use Rattle.gs_lift.specs.Going.{Beats, Damages, Hears, Loses, Restarts, ServerGoes, Ticks, cause_at}
+use Rattle.gs_lift.specs.Going.{IsMet}
+use Rattle.gs_lift.specs.Joint.{ByMaster, ByServer}
+use Rattle.gs_lift.specs.Showing.{IsServer, Keeps, ShowsNodes, setting}
+use Rattle.gs_member.proofs.Steps.{pushed_there}
+use Rattle.gs_member.specs.Causes.{Calm, Numbers, Strikes}
+use Rattle.gs_member.specs.Showing.{Setting}
+use Rattle.gs_msg.specs.declared.message.Message.{Message}
+use Rattle.gs_replica.specs.Stands.{Edit}
+use Rattle.gs_run.specs.Histories.{History}
+use Rattle.gs_run.specs.Runs.{Step}
+use Rattle.gs_server.specs.Servers.{Server}
+use Rattle.gs_record.specs.declared.checkpoint.Phase.{Phase}
+use Rattle.gs_record.specs.declared.checkpoint.Phase.TheVariants.{Ordinary, Rolling, Upgrade}
+use Rattle.gs_serving.specs.Following.{lengthened}
+use Rattle.gs_state.specs.Applied.{view_in}
+use Rattle.gs_state.specs.Durable.{Durable, Settled, is_ordinary, is_rolling, is_upgrade}
+use Rattle.std.specs.FinMap as fin
+use Rattle.gs_msg.specs.declared.node.NodeId.{NodeId}
+
+-- an epoch that goes on isn't prepared
+pub no_prepare : (d : Durable) (first other : List Edit) → (if prepares d d then first else other) ≡ other
+no_prepare d first other = by_phase d.phase
+  where
+    by_phase : (p : Phase) → (if is_ordinary p && is_upgrade p then first else other) ≡ other
+    by_phase Ordinary = refl
+    by_phase Upgrade = refl
+    by_phase Rolling = refl
+
+-- a loss or damage numbers nothing
+struck : (b : Bool) (c : Setting) (m n : Member) (t : ℕ) (old new : List Edit) → Numbers (cond b Strikes Calm) c m n t old new → new ≡ old
+struck true c m n t old new same = same
+struck false c m n t old new same = same
+
+module _ {D : Type 0} (law : AreNumbered) (chunk : ℕ) (step : Step) (old new : History D) (c : Setting) (w v : World) (id : ℕ) (s after : Server) (messages : List Message) (found : slice_get old.nodes.servers id ≡ Some s) (got : slice_get new.nodes.servers id ≡ Some after) (k : (moment : Moment) → Meets c w v chunk id s after moment) where
+  -- each list has the edit more that the account finds
+  numbered_then : (goes : ServerGoes old.sent id s after messages) → IsMet step goes → (t : ℕ) → Numbers (cause_at chunk goes) c (w.members id) (v.members id) t (w.known.list t) (v.known.list t) → lengthened (w.known.list t) (edit_under (stamp_at t) (numbered step old new chunk)) ≡ v.known.list t
+  numbered_then (Hears message moment was to is sends) (at, there, comes) t lists =
+      ap (λ (x : Step). lengthened (w.known.list t) (edit_under (stamp_at t) (numbered x old new chunk))) comes
+      ∙ ap (λ (o : Option Message). lengthened (w.known.list t) (edit_under (stamp_at t) (numbered_of o moment old new chunk))) there
+      ∙ ap (λ (n : NodeId). lengthened (w.known.list t) (edit_under (stamp_at t) (numbered_by (server_of n) message moment old new chunk))) to
+      ∙ ap (λ (o : Option Server). lengthened (w.known.list t) (edit_under (stamp_at t) (numbers chunk message moment o (slice_get new.nodes.servers id)))) found
+      ∙ ap (λ (o : Option Server). lengthened (w.known.list t) (edit_under (stamp_at t) (numbers chunk message moment (Some s) o))) got
+      ∙ heard_then law c w v chunk id s after message.from moment (k moment) t message.body is lists
+  numbered_then (Ticks moment is sends) (node, (at, comes)) t same = ap (λ (x : Step). lengthened (w.known.list t) (edit_under (stamp_at t) (numbered x old new chunk))) comes ∙ sym same
+  numbered_then (Beats is sends) (at, comes) t same = ap (λ (x : Step). lengthened (w.known.list t) (edit_under (stamp_at t) (numbered x old new chunk))) comes ∙ sym same
+  numbered_then (Restarts is sends) (node, (at, comes)) t same = ap (λ (x : Step). lengthened (w.known.list t) (edit_under (stamp_at t) (numbered x old new chunk))) comes ∙ sym same
+  numbered_then (Loses handle is sends) (at, comes) t lists = ap (λ (x : Step). lengthened (w.known.list t) (edit_under (stamp_at t) (numbered x old new chunk))) comes ∙ sym (struck (chunk == handle) c (w.members id) (v.members id) t (w.known.list t) (v.known.list t) lists)
+  numbered_then (Damages handle block is sends) (at, comes) t lists = ap (λ (x : Step). lengthened (w.known.list t) (edit_under (stamp_at t) (numbered x old new chunk))) comes ∙ sym (struck (chunk == handle) c (w.members id) (v.members id) t (w.known.list t) (v.known.list t) lists)
+
+-- ---- what is known of a machine whose master did nothing
+
+module _ (w v : World) (reached : IsReached w) (leads : Leads w v) (entry : v.entry ≡ w.entry) where
+  ok : WorldOk w
+  ok = reached_world w reached
+
+  okv : WorldOk v
+  okv = leads_world w v leads ok
+
+  behind : Later w.known v.known
+  behind = leads_later w v leads ok
+
+  same_view : v.known.view ≡ w.known.view
+  same_view = sym (okv.entry).stamp ∙ ap (λ e. e.view.stamp) entry ∙ (ok.entry).stamp
+
+  -- the same views stood
+  stood_same : (t : ℕ) → v.known.stood t ≡ w.known.stood t
+  stood_same t = elim (cases_lt w.known.view t) [
+    | inl above ↦ ((okv.known).fresh t (let same = same_view in omega arith)).3 ∙ sym ((ok.known).fresh t above).3
+    | inr within ↦ behind.stood t within
+  ]
+
+  stood_within : (t : ℕ) → w.known.stood t ≡ true → t ≤ w.known.view
+  stood_within t stood = elim (cases_lt w.known.view t) [
+    | inl above ↦ absurd (true≢false (sym stood ∙ ((ok.known).fresh t above).3))
+    | inr within ↦ within
+  ]
+
+-- ---- a step at a server
+
+module _ {D : Type 0} (law : AreNumbered) (seen : D → List ℕ) (config : Config) (bytes : ReqId → List ℕ) (chunk : ℕ) (step : Step) (old new : History D) (a : Account) (w v : World) (reached : IsReached w)
+    (keeps : Keeps config bytes old) (shown : ShowsNodes config bytes reached.0.epoch chunk old w) (shows : ShowsNodes config bytes reached.0.epoch chunk new v) (by : ByServer seen config bytes reached.0.epoch chunk step old new w v) (met : IsMet step by.goes) where
+  abbrev c : Setting
+  c = setting config bytes reached.0.epoch
+
+  is_world : by.steps.world ≡ v
+  is_world = sym by.world
+
+  leads : Leads w v
+  leads = subst (Leads w) is_world by.steps.leads
+
+  entry : v.entry ≡ w.entry
+  entry = ap (λ (x : World). x.entry) by.world ∙ by.steps.entry
+
+  reached_v : IsReached v
+  reached_v = reached_then w reached v leads
+
+  got : slice_get new.nodes.servers by.id ≡ Some by.after
+  got = subst (λ xs. slice_get xs by.id ≡ Some by.after) (sym by.servers) (set_found old.nodes.servers by.id by.server by.after by.found)
+
+  server : IsServer config by.id by.server
+  server = keeps.servers by.id by.server by.found
+
+  meets : (moment : Moment) → Meets c w v chunk by.id by.server by.after moment
+  meets moment = record {
+    size = server.size;
+    buffers = λ req b there. keeps.buffers by.id by.server by.found req b (pushed_there req by.server.dropped.buffer b there);
+    shown = shown.members by.id by.server by.found;
+    shows = shows.members by.id by.after got;
+    rested = leases_rest w (reached_world w reached);
+    rests = leases_rest v (reached_world v reached_v);
+  }
+
+  numbers_then : (t : ℕ) → Numbers (cause_at chunk by.goes) c (w.members by.id) (v.members by.id) t (w.known.list t) (v.known.list t)
+  numbers_then t = subst (λ (x : World). Numbers (cause_at chunk by.goes) c (w.members by.id) (x.members by.id) t (w.known.list t) (x.known.list t)) is_world (by.steps.numbers t)
+
+  -- the lists of views
+  list_then : (t : ℕ) → a.list chunk (stamp_at t) ≡ w.known.list t → (account_behind step old a new a.durable).list chunk (stamp_at t) ≡ v.known.list t
+  list_then t same =
+      unmoved a new.sent a.durable (numbered step old new chunk) chunk (stamp_at t) (view_at a chunk) refl
+      ∙ ap (λ (xs : List Edit). lengthened xs (edit_under (stamp_at t) (numbered step old new chunk))) same
+      ∙ numbered_then law chunk step old new c w v by.id by.server by.after by.messages by.found got meets by.goes met t (numbers_then t)
+
+  same : (t : ℕ) → w.known.stood t ≡ v.known.stood t
+  same t = sym (stood_same w v reached leads entry t)
+
+  grows : Later w.known v.known
+  grows = behind w v reached leads entry
+
+  -- what was unseen is so still
+  unseen_then : (t : ℕ) → w.known.stood t ≡ true → IsUnseen w t → IsUnseen v t
+  unseen_then t stood u =
+      let within : t ≤ w.known.view = stood_within w v reached leads entry t stood in
+      let below = u.below in
+      let fixed = grows.fixed t within u.free in
+      let more = grows.list u.lower (omega arith) in
+      let rest = u.begins in record {
+        gone = λ last. ap (λ e. e.is_known) entry ∙ u.gone (ap (λ e. e.view.stamp) (sym entry) ∙ last);
+        free = fixed.0;
+        lower = u.lower;
+        below = below;
+        begins = (rest.0 ++ more.0, more.1 ∙ ap (λ (xs : List Edit). xs ++ more.0) rest.1 ∙ append_assoc (w.known.list t) rest.0 more.0 ∙ ap (λ (xs : List Edit). xs ++ (rest.0 ++ more.0)) (sym fixed.1));
+      }
+
+  own_then : (before : Agrees a old.sent chunk reached.0 w) → (t : ℕ) → v.known.stood t ≡ true → v.known.born < t → ((account_behind step old a new a.durable).list chunk (stamp_at t) ≡ v.known.list t) ⊎ IsUnseen v t
+  own_then before t stood late =
+      let stood_w : w.known.stood t ≡ true = same t ∙ stood in
+      elim (before.lists.own t stood_w (let born = grows.born in omega arith)) [
+        | inl is ↦ inl (list_then t is)
+        | inr unseen ↦ inr (unseen_then t stood_w unseen)
+      ]
+
+  -- the counts
+  reached_of : (j t : ℕ) → (v.known.reached j t ≡ w.known.reached j t) ⊎ ((j ≡ by.id) × (t ≡ (v.members by.id).promise) × (is_some (v.members by.id).live ≡ true))
+  reached_of j t = subst (λ (x : World). (x.known.reached j t ≡ w.known.reached j t) ⊎ ((j ≡ by.id) × (t ≡ (x.members by.id).promise) × (is_some (x.members by.id).live ≡ true))) is_world (by.steps.reached j t)
+
+  counts_then : (before : Agrees a old.sent chunk reached.0 w) → CountsShow (account_behind step old a new a.durable).reached chunk v
+  counts_then before j t = by_server (slice_get new.nodes.servers j) refl
+    where
+      by_server : (o : Option Server) → slice_get new.nodes.servers j ≡ o → reached_behind (a.reached chunk j (stamp_at t)) o chunk (stamp_at t) ≡ v.known.reached j t
+      by_server None none = before.counts j t ∙ elim (reached_of j t) [
+        | inl kept ↦ sym kept
+        | inr (at, here, live) ↦ absurd (let there : slice_get new.nodes.servers j ≡ Some by.after = subst (λ i. slice_get new.nodes.servers i ≡ Some by.after) (sym at) got in (cc))
+      ]
+      by_server (Some x) there =
+          ap (λ n. reached_behind n (Some x) chunk (stamp_at t)) (before.counts j t)
+          ∙ count_then c w v chunk j t x (shows.members j x there) (agrees v (reached_world v reached_v)) (reaches_more w v reached leads j t)
+          (elim (reached_of j t) [
+            | inl kept ↦ inl kept
+            | inr (at, here, live) ↦ inr (here ∙ ap (λ i. (v.members i).promise) (sym at), ap (λ i. is_some (v.members i).live) at ∙ live)
+          ])
+
+  -- the prepare
+  before_then : (before : Agrees a old.sent chunk reached.0 w) → (e : ℕ) → IsUpgrading v e → v.entry.was_known ≡ true → (account_behind step old a new a.durable).before chunk ≡ prepared_list v
+  before_then before e upgrading known =
+      let upgrading_w : IsUpgrading w e = subst (λ (y : Entry). ((e ≡ y.epoch) × (y.how e ≡ Prepare)) ⊎ ((e + 1 ≡ y.epoch) × (y.is_rolling ≡ true))) entry upgrading in
+      let known_w : w.entry.was_known ≡ true = ap (λ (y : Entry). y.was_known) (sym entry) ∙ known in
+      let rests = prepared_rests w (reached_world w reached) e upgrading_w known_w in
+      no_prepare a.durable (edits_in a chunk (view_at a chunk)) (a.before chunk) ∙ before.before e upgrading_w known_w
+      ∙ sym (ap (λ (y : Entry). v.known.list y.prepared.stamp) entry ∙ (grows.fixed w.entry.prepared.stamp (let s = ((reached_world w reached).entry).stamp in let l = rests.within in omega arith) rests.free).1)
+
+  pub server_agrees : Agrees a old.sent chunk reached.0 w → OriginShows (account_behind step old a new a.durable).list new.sent chunk reached.0 v → Agrees (account_behind step old a new a.durable) new.sent chunk reached.0 v
+  server_agrees before origin = record {
+    lists = record { own = own_then before; origin = origin };
+    counts = counts_then before;
+    before = before_then before;
+    late = λ x there. (let late = before.late x there in let born = grows.born in let view = same_view w v reached leads entry in omega arith);
+  }
+
+pub servers_agree : {D : Type 0} → AreNumbered → (seen : D → List ℕ) (config : Config) (bytes : ReqId → List ℕ) → ServersAgree seen config bytes
+servers_agree law seen config bytes chunk step old new a w v reached keeps shown shows by met before origin = server_agrees law seen config bytes chunk step old new a w v reached keeps shown shows by met before origin
+
+-- ---- elsewhere
+
+pub still_agrees : (D : Type 0) (config : Config) (bytes : ReqId → List ℕ) → StillAgree D config bytes
+still_agrees D config bytes chunk step old new a w reached servers shows before origin = record {
+  lists = record {
+    own = λ t stood late. elim (before.lists.own t stood late) [
+      | inl same ↦ inl (unmoved a new.sent a.durable (numbered step old new chunk) chunk (stamp_at t) (view_at a chunk) refl ∙ ap (λ o. lengthened (a.list chunk (stamp_at t)) (edit_under (stamp_at t) o)) (none_numbered chunk old new servers step) ∙ same)
+      | inr unseen ↦ inr unseen
+    ];
+    origin = origin;
+  };
+  counts = counts_still config bytes chunk step old new a a.durable w w reached Rests shows refl before.counts;
+  before = λ e upgrading known. no_prepare a.durable (edits_in a chunk (view_at a chunk)) (a.before chunk) ∙ before.before e upgrading known;
+  late = before.late;
+}
+
+-- ---- the master
+
+module _ {D : Type 0} (seen : D → List ℕ) (config : Config) (bytes : ReqId → List ℕ) (chunk : ℕ) (step : Step) (old new : History D) (a : Account) (w v : World) (reached : IsReached w) (shows : ShowsNodes config bytes reached.0.epoch chunk new v)
+    (by : ByMaster seen config bytes reached.0.epoch chunk step old new w v) (told : by.before ≡ a.durable) (rows : RowsGo chunk by.before by.behind w v) where
+  shown_of : ShowsDurable chunk a.durable w.entry
+  shown_of = subst (λ d. ShowsDurable chunk d w.entry) told by.shown
+
+  rows_of : RowsGo chunk a.durable by.behind w v
+  rows_of = subst (λ d. RowsGo chunk d by.behind w v) told rows
+
+  list_of : (t : ℕ) → (account_behind step old a new by.behind).list chunk (stamp_at t) ≡ behind_it a new.sent by.behind chunk (stamp_at t) (fin.get by.behind.chunks chunk)
+  list_of t = ap (λ o. list_behind a new.sent by.behind o chunk (stamp_at t) (view_in (fin.get by.behind.chunks chunk))) (none_numbered chunk old new by.servers step)
+
+  pub master_agrees : Agrees a old.sent chunk reached.0 w → OriginShows a.list new.sent chunk reached.0 v → OriginShows (account_behind step old a new by.behind).list new.sent chunk reached.0 v → Agrees (account_behind step old a new by.behind) new.sent chunk reached.0 v
+  master_agrees before origin origin_then = record {
+    lists = record {
+      own = λ t stood late. elim (mastering.own_then chunk new.sent a by.behind w v reached by.leads by.masters (λ x there. (shown_of.settled x there).view.stamp) shown_of.rolling by.shows rows_of before.lists.own before.late before.before origin t stood late) [
+        | inl same ↦ inl (list_of t ∙ same)
+        | inr unseen ↦ inr unseen
+      ];
+      origin = origin_then;
+    };
+    counts = counts_still config bytes chunk step old new a by.behind w v reached by.leads shows (masters_leave w v by.leads by.masters).reached before.counts;
+    before = mastering.before_then chunk new.sent a by.behind w v reached by.leads by.masters (λ x there. (shown_of.settled x there).view.stamp) shown_of.rolling by.shows rows_of before.lists.own before.late before.before origin;
+    late = mastering.late_then chunk new.sent a by.behind w v reached by.leads by.masters (λ x there. (shown_of.settled x there).view.stamp) shown_of.rolling by.shows rows_of before.lists.own before.late before.before origin;
+  }
+
+pub masters_agree : {D : Type 0} (seen : D → List ℕ) (config : Config) (bytes : ReqId → List ℕ) → MastersAgree seen config bytes
+masters_agree seen config bytes chunk step old new a w v reached shows by told rows before origin origin_then = master_agrees seen config bytes chunk step old new a w v reached shows by told rows before origin origin_then
+
+-- ---- a birth
+
+module _ {D : Type 0} (config : Config) (bytes : ReqId → List ℕ) (chunk : ℕ) (step : Step) (old new : History D) (a : Account) (d : Durable) (b : Birth) (v : World) (blank : IsBlank a chunk) (servers : new.nodes.servers ≡ old.nodes.servers) (leads : Leads (world_of b) v) (masters : AreOfMaster (world_of b) v leads) (shows : ShowsNodes config bytes b.epoch chunk new v)
+    (shown : ShowsDurable chunk d v.entry) (calm : is_rolling a.durable.phase ≡ false) (rows : RowsGo chunk a.durable d (world_of b) v) (origin : OriginShows a.list new.sent chunk b v) (origin_then : OriginShows (account_behind step old a new d).list new.sent chunk b v) where
+  none_told : {Z : Type 0} (x : Settled) → fin.get a.durable.chunks chunk ≡ Some x → Z
+  none_told x there = absurd (let none = blank.none in cc)
+
+  none_stood : (t : ℕ) → (world_of b).known.stood t ≡ true → (world_of b).known.born < t → {Z : Type 0} → Z
+  none_stood t stood late = absurd (let at = eqb-true t (start_of b.epoch) stood in omega arith)
+
+  born_own : (t : ℕ) → v.known.stood t ≡ true → v.known.born < t → ((account_behind step old a new d).list chunk (stamp_at t) ≡ v.known.list t) ⊎ IsUnseen v t
+  born_own t stood late = elim (mastering.own_then chunk new.sent a d (world_of b) v (b, Rests) leads masters (λ x there. none_told x there) (sym calm) shown rows (λ t stood late. none_stood t stood late) (λ x there. none_told x there) (λ e upgrading was. absurd (false≢true was)) origin t stood late) [
+    | inl same ↦ inl (ap (λ o. list_behind a new.sent d o chunk (stamp_at t) (view_in (fin.get d.chunks chunk))) (none_numbered chunk old new servers step) ∙ same)
+    | inr unseen ↦ inr unseen
+  ]
+
+  pub birth_agrees : Agrees (account_behind step old a new d) new.sent chunk b v
+  birth_agrees = record {
+    lists = record { own = born_own; origin = origin_then };
+    counts = counts_still config bytes chunk step old new a d (world_of b) v (b, Rests) leads shows (masters_leave (world_of b) v leads masters).reached (λ j t. blank.reached j (stamp_at t));
+    before = mastering.before_then chunk new.sent a d (world_of b) v (b, Rests) leads masters (λ x there. none_told x there) (sym calm) shown rows (λ t stood late. none_stood t stood late) (λ x there. none_told x there) (λ e upgrading was. absurd (false≢true was)) origin;
+    late = mastering.late_then chunk new.sent a d (world_of b) v (b, Rests) leads masters (λ x there. none_told x there) (sym calm) shown rows (λ t stood late. none_stood t stood late) (λ x there. none_told x there) (λ e upgrading was. absurd (false≢true was)) origin;
+  }
+
+pub births_agree : (D : Type 0) (config : Config) (bytes : ReqId → List ℕ) → BirthsAgree D config bytes
+births_agree D config bytes chunk step old new a d b v blank servers leads masters shows shown calm rows origin origin_then = birth_agrees config bytes chunk step old new a d b v blank servers leads masters shows shown calm rows origin origin_then

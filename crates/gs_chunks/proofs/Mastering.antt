@@ -1,0 +1,405 @@
+-- An account agrees with the machine of a chunk behind what the master does.
+use Rattle.std.proofs.Common.{◌≡◌, ◌≢◌, ◌∙◌, ◌+◌, ◌-◌, ◌<◌, ◌≤◌, ◌⊎◌, ◌&&◌, ◌++◌, ℕ, Bool, true, false, cond, not, List, [], ◌∷◌, take, drop, Option, Some, None, refl, sym, ap, subst, inl, inr, arith}
+use Rattle.std.specs.Prelude.{if◌then◌else◌, is_some}
+use Rattle.std.specs.FinMap as fin
+use Rattle.std.proofs.lemmas.Bool.{cases_eq, cases_lt, eq-eqb, ne_eqb, true≢false}
+use Rattle.std.proofs.lemmas.Bool.Decides.{nat_tests}
+use Rattle.std.proofs.lemmas.List.{take-append-drop}
+use Rattle.gs_base.specs.Stamps.{is_same}
+use Rattle.gs_base.specs.declared.epoch.EpochEnd.TheVariants.{Prepare, Rollback}
+use Rattle.gs_base.specs.declared.numbers.Stamp.{Stamp}
+use Rattle.gs_account.specs.Accounts.{Account, edits_in, view_at}
+use Rattle.gs_account.specs.Moving.{begun, continued, copied_from, edits_of, is_under, list_behind, prepares, rolls_back}
+use Rattle.gs_chunk.specs.Stamps.{stamp_at, start_of}
+use Rattle.gs_chunk.specs.Machine.{World}
+use Rattle.gs_chunk.specs.Events.{Leads, Rests, is_of}
+use Rattle.gs_chunk.specs.Laws.{Agrees as AgreesKnown, IsReached, IsUpgrading, prepared_list, world_of}
+use Rattle.gs_chunk.specs.Mastering.{AreOfMaster, IsRestored, KeepsLists, NonePrepared, RestoresList, SettlesList, SettlesOnce}
+use Rattle.gs_chunk.proofs.Facts.{reached_world}
+use Rattle.gs_chunk.proofs.Knowing.{masters_forget, masters_keep_prepared, masters_people}
+use Rattle.gs_chunk.proofs.Known.{IsPrepared, Later}
+use Rattle.gs_chunk.proofs.Lasting.{agrees, stays_known}
+use Rattle.gs_chunk.proofs.Prepared.{prepared_rests}
+use Rattle.gs_chunk.proofs.Mastering.{masters_settle_once}
+use Rattle.gs_chunk.proofs.Worlds.{WorldOk, leads_later, leads_world}
+use Rattle.gs_chunks.specs.Agreeing.{OriginShows, RowsGo}
+use Rattle.gs_entry.specs.Showing.{ShowsDurable}
+use Rattle.gs_lift.specs.Accounts.{IsUnseen, edits_copied}
+use Rattle.gs_member.proofs.Stamps.{same_stamp, stamp_number}
+use Rattle.gs_replica.specs.Stands.{Edit}
+use Rattle.gs_run.specs.Sent.{Sent}
+use Rattle.gs_state.specs.Applied.{view_in}
+use Rattle.gs_record.specs.declared.checkpoint.Phase.{Phase}
+use Rattle.gs_record.specs.declared.checkpoint.Phase.TheVariants.{Ordinary, Rolling, Upgrade}
+use Rattle.gs_state.specs.Durable.{Durable, Settled, is_ordinary, is_rolling}
+
+same_itself : (p q : Stamp) → p ≡ q → is_same p q ≡ true
+same_itself p q is = rw is (let same : is_same q q ≡ true = grind (arith, nat_tests) in same)
+
+other_stamp : (p q : Stamp) (t u : ℕ) → p ≡ stamp_at t → q ≡ stamp_at u → t ≢ u → is_same p q ≡ false
+other_stamp p q t u first second apart = by_case (is_same p q) refl
+  where
+    by_case : (b : Bool) → is_same p q ≡ b → b ≡ false
+    by_case true same = absurd (apart (stamp_number t u (sym first ∙ same_stamp p q same ∙ second)))
+    by_case false other = refl
+
+-- ---- the list that an account has of a view, where no edit is numbered
+
+module _ (a : Account) (sent : Sent) (e : Durable) (chunk : ℕ) (s : Stamp) where
+  abbrev pub behind_it : Option Settled → List Edit
+  behind_it o = list_behind a sent e None chunk s (view_in o)
+
+  -- no view of this stamp is told anew
+  pub same_list : (o : Option Settled) → ((y : Settled) → o ≡ Some y → is_same y.view.stamp s ≡ true → is_under s (view_at a chunk) ≡ true) → behind_it o ≡ a.list chunk s
+  same_list None none = refl
+  same_list (Some y) none = by_case (is_same y.view.stamp s) refl
+    where
+      by_case : (b : Bool) → is_same y.view.stamp s ≡ b → (if b && not (is_under s (view_at a chunk)) then begun a sent e chunk y.view else a.list chunk s) ≡ a.list chunk s
+      by_case false other = refl
+      by_case true same = rw (none y refl same) refl
+
+  -- one is
+  pub new_list : (y : Settled) → is_same y.view.stamp s ≡ true → is_under s (view_at a chunk) ≡ false → behind_it (Some y) ≡ begun a sent e chunk y.view
+  new_list y same none = rw (same, none) refl
+
+first_is : (x : ℕ) (xs : List ℕ) → is_of (x ∷ xs) x ≡ true
+first_is x xs = rw (eq-eqb x x refl) refl
+
+copied_same : (a : Account) (o : Option (ℕ × Stamp)) → edits_of a o ≡ edits_copied a.list o
+copied_same a None = refl
+copied_same a (Some source) = refl
+
+-- ---- what is known of a machine whose master did something
+
+module _ (chunk : ℕ) (sent : Sent) (a : Account) (e : Durable) (w v : World) (reached : IsReached w) (leads : Leads w v) (masters : AreOfMaster w v leads) (was_stamp : (x : Settled) → fin.get a.durable.chunks chunk ≡ Some x → x.view.stamp ≡ stamp_at w.entry.view.stamp) (was_rolling : w.entry.is_rolling ≡ is_rolling a.durable.phase) (shows : ShowsDurable chunk e v.entry) (rows : RowsGo chunk a.durable e w v) where
+  ok : WorldOk w
+  ok = reached_world w reached
+
+  okv : WorldOk v
+  okv = leads_world w v leads ok
+
+  later : Later w.known v.known
+  later = leads_later w v leads ok
+
+  known_w : AgreesKnown w
+  known_w = agrees w ok
+
+  known_v : AgreesKnown v
+  known_v = agrees v okv
+
+  -- the views that are told, as the machine has them
+  old_stamp : (x : Settled) → fin.get a.durable.chunks chunk ≡ Some x → x.view.stamp ≡ stamp_at w.known.view
+  old_stamp x there = was_stamp x there ∙ ap stamp_at (sym known_w.view)
+
+  new_stamp : (y : Settled) → fin.get e.chunks chunk ≡ Some y → y.view.stamp ≡ stamp_at v.known.view
+  new_stamp y there = (shows.settled y there).view.stamp ∙ ap stamp_at (sym known_v.view)
+
+  abbrev told : ℕ → List Edit
+  told t = behind_it a sent e chunk (stamp_at t) (fin.get e.chunks chunk)
+
+  -- under another stamp than that of the view nothing is told anew
+  other_told : (t : ℕ) → t ≢ v.known.view → told t ≡ a.list chunk (stamp_at t)
+  other_told t other = same_list a sent e chunk (stamp_at t) (fin.get e.chunks chunk) (λ y there same. absurd (true≢false (sym same ∙ other_stamp y.view.stamp (stamp_at t) v.known.view t (new_stamp y there) refl (λ is. other (sym is)))))
+
+  -- a view that was told before is told no more
+  still_told : (t : ℕ) → v.known.view ≡ w.known.view → told t ≡ a.list chunk (stamp_at t)
+  still_told t still = same_list a sent e chunk (stamp_at t) (fin.get e.chunks chunk) (λ y there same. by_old y there same (fin.get a.durable.chunks chunk) refl)
+    where
+      by_old : (y : Settled) → fin.get e.chunks chunk ≡ Some y → is_same y.view.stamp (stamp_at t) ≡ true → (o : Option Settled) → fin.get a.durable.chunks chunk ≡ o → is_under (stamp_at t) (view_in o) ≡ true
+      by_old y there same None none = absurd (let up = rows.appears y none there in omega arith)
+      by_old y there same (Some x) was = same_itself x.view.stamp (stamp_at t) (old_stamp x was ∙ ap stamp_at (sym still) ∙ sym (new_stamp y there) ∙ same_stamp y.view.stamp (stamp_at t) same)
+
+  not_under : (t : ℕ) → t ≢ w.known.view → is_under (stamp_at t) (view_at a chunk) ≡ false
+  not_under t other = by_old (fin.get a.durable.chunks chunk) refl
+    where
+      by_old : (o : Option Settled) → fin.get a.durable.chunks chunk ≡ o → is_under (stamp_at t) (view_in o) ≡ false
+      by_old None none = refl
+      by_old (Some x) was = other_stamp x.view.stamp (stamp_at t) w.known.view t (old_stamp x was) refl (λ is. other (sym is))
+
+  -- the view is told anew
+  anew : (y : Settled) → fin.get e.chunks chunk ≡ Some y → v.known.view ≢ w.known.view → told v.known.view ≡ begun a sent e chunk y.view
+  anew y there other =
+      ap (behind_it a sent e chunk (stamp_at v.known.view)) there
+      ∙ new_list a sent e chunk (stamp_at v.known.view) y (same_itself y.view.stamp (stamp_at v.known.view) (new_stamp y there)) (not_under v.known.view other)
+
+  -- a view that begins a lower one, and of which nothing is told
+  gone_then : w.entry.is_known ≡ false → v.known.view ≡ w.known.view ⊎ (v.known.view ≤ w.known.top) → (v.entry.is_known ≡ false) × KeepsLists w v
+  gone_then unknown low = elim (masters_forget w v leads reached masters unknown) [
+    | inl still ↦ still
+    | inr over ↦ elim low [
+      | inl same ↦ absurd (let top = (ok.known).viewtop in omega arith)
+      | inr within ↦ absurd (omega arith)
+    ]
+  ]
+
+  stood_within : (t : ℕ) → w.known.stood t ≡ true → t ≤ w.known.view
+  stood_within t stood = elim (cases_lt w.known.view t) [
+    | inl above ↦ absurd (true≢false (sym stood ∙ ((ok.known).fresh t above).3))
+    | inr within ↦ within
+  ]
+
+  module _ (own : (t : ℕ) → w.known.stood t ≡ true → w.known.born < t → (a.list chunk (stamp_at t) ≡ w.known.list t) ⊎ IsUnseen w t) (late : (x : Settled) → fin.get a.durable.chunks chunk ≡ Some x → w.known.born < w.known.view)
+      (before : (e : ℕ) → IsUpgrading w e → w.entry.was_known ≡ true → a.before chunk ≡ prepared_list w) (origin : OriginShows a.list sent chunk reached.0 v) where
+    abbrev Then : ℕ → Type 0
+    Then t = (told t ≡ v.known.list t) ⊎ IsUnseen v t
+
+    -- what is unseen stays so
+    unseen_then : (t : ℕ) → t ≤ w.known.view → (u : IsUnseen w t) → (v.entry.view.stamp ≡ t → v.entry.is_known ≡ false) → v.known.list t ≡ w.known.list t → v.known.list u.lower ≡ w.known.list u.lower → IsUnseen v t
+    unseen_then t within u gone same lower = record {
+      gone = gone;
+      free = (later.fixed t within u.free).0;
+      lower = u.lower;
+      below = u.below;
+      begins = (u.begins.0, lower ∙ u.begins.1 ∙ ap (λ xs. xs ++ u.begins.0) (sym same));
+    }
+
+    -- no view is settled
+    keeps_then : KeepsLists w v → (t : ℕ) → v.known.stood t ≡ true → v.known.born < t → Then t
+    keeps_then k t stood behind =
+        let stood_w : w.known.stood t ≡ true = ap (λ f. f t) (sym k.stood) ∙ stood in
+        elim (own t stood_w (let born = later.born in omega arith)) [
+          | inl same ↦ inl (still_told t k.view ∙ same ∙ ap (λ f. f t) (sym k.list))
+          | inr unseen ↦ inr (unseen_then t (stood_within t stood_w) unseen (λ last. (gone_then (unseen.gone (known_view ∙ sym k.view ∙ known_v.view ∙ last)) (inl k.view)).0) (ap (λ f. f t) k.list) (ap (λ f. f unseen.lower) k.list))
+        ]
+      where
+        known_view : w.entry.view.stamp ≡ w.known.view
+        known_view = sym known_w.view
+
+    -- one is settled
+    settled_known : SettlesList w v → w.entry.is_known ≡ true
+    settled_known k = by_known w.entry.is_known refl
+      where
+        by_known : (b : Bool) → w.entry.is_known ≡ b → b ≡ true
+        by_known true is = refl
+        by_known false unknown = absurd (let still = (gone_then unknown (inr (let view = k.view in omega arith))).1.view in let view = k.view in let moving = k.moving in omega arith)
+
+    -- no rollback is committed then
+    none_back : SettlesList w v → rolls_back a.durable e ≡ false
+    none_back k = by_rolling (rolls_back a.durable e) refl
+      where
+        by_rolling : (b : Bool) → rolls_back a.durable e ≡ b → b ≡ false
+        by_rolling false is = refl
+        by_rolling true is = absurd (never (was_rolling ∙ (parts (is_rolling a.durable.phase) (is_ordinary e.phase) is).0) (shows.rolling ∙ not_rolling e.phase (parts (is_rolling a.durable.phase) (is_ordinary e.phase) is).1))
+          where
+            parts : (x y : Bool) → (x && y) ≡ true → (x ≡ true) × (y ≡ true)
+            parts true true both = (refl, refl)
+            parts true false both = absurd (cc)
+            parts false y both = absurd (cc)
+
+            not_rolling : (p : Phase) → is_ordinary p ≡ true → is_rolling p ≡ false
+            not_rolling Ordinary is = refl
+            not_rolling Upgrade is = absurd (cc)
+            not_rolling Rolling is = absurd (cc)
+
+            never : w.entry.is_rolling ≡ true → v.entry.is_rolling ≡ false → ⊥
+            never rolls calm =
+                let r = (ok.entry).rolling rolls in
+                let done = (okv.entry).done calm w.known.current later.current (later.how w.known.current (omega arith) ∙ ap w.known.how r.next ∙ r.how) in
+                let start : start_of w.known.current ≡ start_of (r.e + 1) = ap start_of r.next in
+                let below = r.below in
+                let view = k.view in
+                omega arith
+
+    -- what the list begins with that follows is that of the machine
+    former : SettlesList w v → (o : Option Settled) → fin.get a.durable.chunks chunk ≡ o → continued a sent chunk (view_in o) ≡ w.known.list w.known.view
+    former k None none =
+        let first = rows.first (settled_known k) none in
+        let birth = leads_later (world_of reached.0) w reached.1 (reached_world (world_of reached.0) (reached.0, Rests)) in
+        let list : w.known.list (start_of reached.0.epoch) ≡ reached.0.origin = (birth.fixed (start_of reached.0.epoch) (omega arith) refl).1 in
+        copied_same a (copied_from sent chunk) ∙ by_origin origin ∙ sym (ap w.known.list (first ∙ birth.born) ∙ list)
+      where
+        by_origin : OriginShows a.list sent chunk reached.0 v → edits_copied a.list (copied_from sent chunk) ≡ reached.0.origin
+        by_origin (inr same) = same
+        by_origin (inl none_promised) = elim (masters_people w v leads reached masters) [
+          | inl same ↦ absurd (let one = ap (λ x. x.stamp) same in let a = known_w.view in let b = known_v.view in let view = k.view in let moving = k.moving in omega arith)
+          | inr (inl some) ↦ absurd (by_members v.entry.view.members refl some)
+          | inr (inr over) ↦ absurd (let view = k.view in omega arith)
+        ]
+          where
+            by_members : (xs : List ℕ) → v.entry.view.members ≡ xs → v.entry.view.members ≢ [] → ⊥
+            by_members [] is some = some is
+            by_members (x ∷ xs) is some =
+                let member : v.known.members v.known.view x ≡ true = (okv.entry).members x ∙ ap (λ ys. is_of ys x) is ∙ first_is x xs in
+                let promised = (okv.known).members v.known.view x (omega arith) member in
+                let none = none_promised x in
+                let same = known_v.promises x in
+                let view = k.view in
+                let moving = k.moving in
+                omega arith
+    former k (Some x) was =
+        ap (a.list chunk) (old_stamp x was) ∙ elim (own w.known.view (ap w.known.stood known_w.view ∙ known_w.stood (settled_known k)) (late x was)) [
+          | inl same ↦ same
+          | inr unseen ↦ absurd (true≢false (sym (settled_known k) ∙ unseen.gone (sym known_w.view)))
+        ]
+
+    settles_then : SettlesList w v → (t : ℕ) → v.known.stood t ≡ true → v.known.born < t → Then t
+    settles_then k t stood behind = elim (cases_eq t w.known.top) [
+      | inr other ↦ elim (own t (stood_w other) (let born = later.born in omega arith)) [
+        | inl same ↦ inl (other_told t (λ is. other (is ∙ k.view)) ∙ same ∙ sym (list_other t other))
+        | inr unseen ↦ inr (unseen_then t (stood_within t (stood_w other)) unseen (λ last. absurd (other (sym last ∙ sym known_v.view ∙ k.view))) (list_other t other) (list_other unseen.lower (λ is. let below = unseen.below in let within = stood_within t (stood_w other) in let moving = k.moving in omega arith)))
+      ]
+      | inl here ↦ subst Then (k.view ∙ sym here) (at_top (fin.get e.chunks chunk) refl)
+    ]
+      where
+        stood_w : t ≢ w.known.top → w.known.stood t ≡ true
+        stood_w other = sym (k.stood t ∙ ap (λ b. cond b true (w.known.stood t)) (ne_eqb t w.known.top other)) ∙ stood
+
+        list_other : (n : ℕ) → n ≢ w.known.top → v.known.list n ≡ w.known.list n
+        list_other n other = k.list n ∙ ap (λ b. cond b (take (v.known.base w.known.top) (w.known.list w.known.view)) (w.known.list n)) (ne_eqb n w.known.top other)
+
+        list_is : v.known.list v.known.view ≡ take (v.known.base v.known.view) (w.known.list w.known.view)
+        list_is = ap v.known.list k.view ∙ k.list w.known.top ∙ ap (λ b. cond b (take (v.known.base w.known.top) (w.known.list w.known.view)) (w.known.list w.known.top)) (eq-eqb w.known.top w.known.top refl) ∙ ap (λ t. take (v.known.base t) (w.known.list w.known.view)) (sym k.view)
+
+        at_top : (o : Option Settled) → fin.get e.chunks chunk ≡ o → Then v.known.view
+        at_top (Some y) there = inl (
+            anew y there (λ is. let view = k.view in let moving = k.moving in omega arith)
+            ∙ ap (λ b. if b then a.before chunk else take y.view.count (continued a sent chunk (view_at a chunk))) (none_back k)
+            ∙ ap (take y.view.count) (former k (fin.get a.durable.chunks chunk) refl)
+            ∙ ap (λ n. take n (w.known.list w.known.view)) (sym (shows.settled y there).view.count ∙ sym known_v.count ∙ ap v.known.base (sym known_v.view))
+            ∙ sym list_is
+            )
+        at_top None none = inr (record {
+          gone = λ last. by_known v.entry.is_known refl;
+          free = rows.fades none (let view = k.view in let moving = k.moving in omega arith);
+          lower = w.known.view;
+          below = (let view = k.view in let moving = k.moving in omega arith);
+          begins = (drop (v.known.base v.known.view) (w.known.list w.known.view), same_lower ∙ sym (ap (λ xs. xs ++ drop (v.known.base v.known.view) (w.known.list w.known.view)) list_is ∙ take-append-drop (v.known.base v.known.view) (w.known.list w.known.view)));
+        })
+          where
+            same_lower : v.known.list w.known.view ≡ w.known.list w.known.view
+            same_lower = list_other w.known.view (λ is. let moving = k.moving in omega arith)
+
+            by_known : (b : Bool) → v.entry.is_known ≡ b → b ≡ false
+            by_known false is = refl
+            by_known true is = elim (masters_people w v leads reached masters) [
+              | inl same ↦ absurd (let one = ap (λ x. x.stamp) same in let a = known_w.view in let b = known_v.view in let view = k.view in let moving = k.moving in omega arith)
+              | inr (inl some) ↦ absurd (some (shows.bare is none).members)
+              | inr (inr over) ↦ absurd (let view = k.view in omega arith)
+            ]
+
+    -- a rollback is committed
+    restores_then : RestoresList w v → (t : ℕ) → v.known.stood t ≡ true → v.known.born < t → Then t
+    restores_then r t stood behind = elim (cases_eq t (start_of w.known.current)) [
+      | inr other ↦ elim (own t (sym (so.others t (inr still) other).1 ∙ stood) (let born = later.born in omega arith)) [
+        | inl same ↦ inl (other_told t (λ is. other (is ∙ so.view)) ∙ same ∙ sym (so.others t (inr still) other).0)
+        | inr unseen ↦ inr (unseen_then t (within other) unseen (λ last. absurd (other (sym last ∙ sym known_v.view ∙ so.view))) (so.others t (inr still) other).0
+            (so.others unseen.lower (inr still) (λ is. let below = unseen.below in let low = within other in let view = so.view in let over = r.later in let top = (ok.known).viewtop in omega arith)).0)
+      ]
+      | inl here ↦ subst Then (so.view ∙ sym here) (at_start (ap v.known.stood (so.view ∙ sym here) ∙ stood) so.here)
+    ]
+      where
+        back : (rolls_back a.durable e ≡ true) × (v.known.current ≡ w.known.current) × (w.known.view ≡ w.known.top)
+        back = rows.back r.later
+
+        still : w.known.view ≡ w.known.top
+        still = back.2
+
+        so : IsRestored w v
+        so = r.exact back.1
+
+        within : t ≢ start_of w.known.current → t ≤ w.known.view
+        within other = stood_within t (sym (so.others t (inr still) other).1 ∙ stood)
+
+        rolls : w.entry.is_rolling ≡ true
+        rolls = was_rolling ∙ first (is_rolling a.durable.phase) (is_ordinary e.phase) back.0
+          where
+            first : (x y : Bool) → (x && y) ≡ true → x ≡ true
+            first true y both = refl
+            first false y both = absurd (cc)
+
+        prepared_is : w.entry.was_known ≡ true → a.before chunk ≡ w.known.list (w.known.prepared (w.known.current - 1))
+        prepared_is was =
+            let roll = (ok.entry).rolling rolls in
+            let next = roll.next in
+            let current : (roll.e + 1 ≡ w.known.current) × (w.entry.is_rolling ≡ true) = (sym next, rolls) in
+            let prepared : IsPrepared w.known roll.e = (omega arith, roll.was, sym ((ok.entry).was_known roll.e (inr current)) ∙ was) in
+            let at : roll.e ≡ w.known.current - 1 = omega arith in
+            before roll.e (inr (sym next ∙ known_w.epoch, rolls)) was ∙ ap w.known.list (((ok.entry).prepared roll.e (inr current) prepared).stamp ∙ ap w.known.prepared at)
+
+        at_start : v.known.stood v.known.view ≡ true → ((v.known.list (start_of w.known.current) ≡ w.known.list (w.known.prepared (w.known.current - 1))) × (v.known.stood (start_of w.known.current) ≡ true) × (w.entry.was_known ≡ true)) ⊎ ((v.known.list (start_of w.known.current) ≡ []) × (v.known.stood (start_of w.known.current) ≡ false))
+            → Then v.known.view
+        at_start stands (inr none) = absurd (true≢false (sym stands ∙ ap v.known.stood so.view ∙ none.1))
+        at_start stands (inl some) = inl (by_row (fin.get e.chunks chunk) refl (rows.given r.later stands))
+          where
+            by_row : (o : Option Settled) → fin.get e.chunks chunk ≡ o → is_some o ≡ true → told v.known.view ≡ v.known.list v.known.view
+            by_row None none there = absurd (cc)
+            by_row (Some y) at there =
+                anew y at (λ is. let over = r.later in let top = (ok.known).viewtop in omega arith)
+                ∙ ap (λ b. if b then a.before chunk else take y.view.count (continued a sent chunk (view_at a chunk))) back.0
+                ∙ prepared_is some.2 ∙ sym some.0 ∙ ap v.known.list (sym so.view)
+
+    pub own_then : (t : ℕ) → v.known.stood t ≡ true → v.known.born < t → Then t
+    own_then t stood behind = by_once (masters_settle_once w v leads reached masters)
+      where
+        by_once : SettlesOnce w v → Then t
+        by_once (inl k) = keeps_then k t stood behind
+        by_once (inr (inl k)) = settles_then k t stood behind
+        by_once (inr (inr r)) = restores_then r t stood behind
+
+    pub late_then : (y : Settled) → fin.get e.chunks chunk ≡ Some y → v.known.born < v.known.view
+    late_then y there = by_old (fin.get a.durable.chunks chunk) refl
+      where
+        by_old : (o : Option Settled) → fin.get a.durable.chunks chunk ≡ o → v.known.born < v.known.view
+        by_old None none = let up = rows.appears y none there in let low = (ok.known).blank.0 in let born = later.born in omega arith
+        by_old (Some x) was = let low = late x was in let view = later.view in let born = later.born in omega arith
+
+    -- ---- the prepare
+
+    pub before_then : (x : ℕ) → IsUpgrading v x → v.entry.was_known ≡ true → (if prepares a.durable e then edits_in a chunk (view_at a chunk) else a.before chunk) ≡ prepared_list v
+    before_then x upgrading was = by_prepare (prepares a.durable e) refl
+      where
+        epochs : (w.entry.epoch ≤ v.entry.epoch) × ((n : ℕ) → n ≤ w.entry.epoch → v.entry.how n ≡ w.entry.how n)
+        epochs = (let stays = stays_known w ok v leads in (stays.epoch, stays.how))
+
+        old_upgrade : NonePrepared w v → IsUpgrading w x
+        old_upgrade none = elim upgrading [
+          | inl (at, is) ↦ elim (cases_lt w.entry.epoch x) [
+            | inl above ↦ absurd (none x above (omega arith) is)
+            | inr within ↦ inl (let low = epochs.0 in omega arith, sym (epochs.1 x within) ∙ is)
+          ]
+          | inr (at, rolls) ↦ by_rolling at rolls
+        ]
+          where
+            by_rolling : x + 1 ≡ v.entry.epoch → v.entry.is_rolling ≡ true → IsUpgrading w x
+            by_rolling at rolls =
+                let roll = (okv.entry).rolling rolls in
+                let next = roll.next in
+                let now = (okv.entry).epoch in
+                let same : roll.e ≡ x = omega arith in
+                let was_so : v.entry.how x ≡ Prepare = (okv.entry).how x ∙ ap v.known.how (sym same) ∙ roll.was in
+                elim (cases_lt w.entry.epoch x) [
+                  | inl above ↦ absurd (none x above (omega arith) was_so)
+                  | inr within ↦ elim (cases_lt x w.entry.epoch) [
+                    | inl over ↦ inr (let low = epochs.0 in omega arith, by_calm w.entry.is_rolling refl (let low = epochs.0 in omega arith) roll.e same roll.how roll.below next)
+                    | inr still ↦ inl (omega arith, sym (epochs.1 x within) ∙ was_so)
+                  ]
+                ]
+              where
+                by_calm : (b : Bool) → w.entry.is_rolling ≡ b → w.entry.epoch ≡ x + 1 → (n : ℕ) → n ≡ x → v.known.how (n + 1) ≡ Rollback → v.known.top < start_of (n + 1) → v.known.current ≡ n + 1 → b ≡ true
+                by_calm true is epoch n same how below next = refl
+                by_calm false calm epoch n same how below next =
+                    let current : n + 1 ≡ w.known.current = (let m = (ok.entry).epoch in omega arith) in
+                    let done = (ok.entry).done calm (n + 1) (omega arith) (sym (later.how (n + 1) (omega arith)) ∙ how) in
+                    absurd (let top = later.top in let low = (ok.known).viewtop in omega arith)
+
+        by_prepare : (b : Bool) → prepares a.durable e ≡ b → (if b then edits_in a chunk (view_at a chunk) else a.before chunk) ≡ prepared_list v
+        by_prepare false none =
+            let kept = masters_keep_prepared w v leads reached masters (rows.unprepared none) was in
+            let upgrade = old_upgrade (rows.unprepared none) in
+            let rests = prepared_rests w ok x upgrade kept.0 in
+            before x upgrade kept.0 ∙ sym (ap v.known.list kept.1 ∙ (later.fixed w.entry.prepared.stamp (let within = rests.within in let view = known_w.view in omega arith) rests.free).1)
+        by_prepare true is =
+            let so = rows.prepared is was in
+            by_row (fin.get a.durable.chunks chunk) refl so.0 so.1 ∙ sym (ap v.known.list so.2 ∙ same_there so.3 (masters_settle_once w v leads reached masters))
+          where
+            same_there : v.known.view ≡ w.known.view → SettlesOnce w v → v.known.list w.known.view ≡ w.known.list w.known.view
+            same_there still (inl k) = ap (λ f. f w.known.view) k.list
+            same_there still (inr (inl k)) = absurd (let view = k.view in let moving = k.moving in omega arith)
+            same_there still (inr (inr r)) = absurd (let over = r.later in let top = (ok.known).viewtop in omega arith)
+
+            by_row : (o : Option Settled) → fin.get a.durable.chunks chunk ≡ o → is_some o ≡ true → w.entry.is_known ≡ true → edits_in a chunk (view_in o) ≡ w.known.list w.known.view
+            by_row None none there known = absurd (cc)
+            by_row (Some y) at there known = ap (a.list chunk) (old_stamp y at) ∙ elim (own w.known.view (ap w.known.stood known_w.view ∙ known_w.stood known) (late y at)) [
+              | inl same ↦ same
+              | inr unseen ↦ absurd (true≢false (sym known ∙ unseen.gone (sym known_w.view)))
+            ]
