@@ -17,7 +17,7 @@ module _ (u : World) (ok : WorldOk u) where
   beyond : u.entry.is_rolling ≡ true → u.known.top < start_of u.known.current
   beyond rolls = let r = (ok.entry).rolling rolls in let at = ap start_of r.next in let below = r.below in omega arith
 
-  asked_known : (members : List ℕ) → members ≢ [] → ((j : ℕ) → is_of members j ≡ true → u.entry.asked j ≡ true) → u.entry.is_known ≡ true
+  pub asked_known : (members : List ℕ) → members ≢ [] → ((j : ℕ) → is_of members j ≡ true → u.entry.asked j ≡ true) → u.entry.is_known ≡ true
   asked_known [] some asked = absurd (some refl)
   asked_known (x ∷ members) some asked = (ok.entry).asking x (asked x (by_first x members))
     where

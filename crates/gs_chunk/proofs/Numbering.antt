@@ -5,18 +5,22 @@ use Rattle.std.proofs.lemmas.List.{take-append-le}
 use Rattle.std.proofs.lemmas.Option.{slice_get_within}
 use Rattle.std.proofs.lemmas.Bool.{cases_lt, cases_eq, eqb-true}
 use Rattle.std.proofs.lemmas.Bool.Decides.{nat_tests}
+use Rattle.gs_base.specs.declared.epoch.EpochEnd.TheVariants.{Prepare}
 use Rattle.gs_base.specs.declared.numbers.ReqId.{ReqId}
 use Rattle.gs_base.specs.declared.numbers.Stamp.{Stamp}
 use Rattle.gs_replica.specs.Stands.{Edit}
-use Rattle.gs_chunk.specs.Stamps.{stamp_at, start_of}
+use Rattle.gs_chunk.specs.Stamps.{epoch_of, stamp_at, start_of}
 use Rattle.gs_chunk.specs.Machine.{Entry, Known, World}
 use Rattle.gs_chunk.specs.Events.{Event, Raises, Rises, Promises, SendsCopy, TakesLease, Numbers, Forwards, Applies, Acknowledges, Hears, Closes, Answers, Spends, Drops, Loses, Damages, Learns, Names, Reports, Proposes, AsksFirst, Asks, AsksForCopy, GivesUp, Holds, Settles, Grants, Retires, SendsDrop, Prepares, Finalizes, BeginsRollback, CommitsRollback, TellsEpoch, Can, happens, learned, Leads, Rests, Goes}
 use Rattle.gs_chunk.specs.Acting.{actor}
 use Rattle.gs_chunk.specs.Laws.{Birth}
 use Rattle.gs_chunk.specs.Mastering.{AreOfMaster}
-use Rattle.gs_chunk.specs.Numbering.{AreNumbered, BornNumbered, IsBehind, IsNumberedAt, MastersNumber, NumbersAsked, ServersNumber, StaysBehind}
+use Rattle.gs_chunk.specs.Numbering.{AreNumbered, BornNumbered, IsBehind, IsNumberedAt, MastersNumber, NumbersAsked, ServersNumber, StandsPrepared, StaysBehind}
 use Rattle.gs_chunk.proofs.Facts.{reached_world}
-use Rattle.gs_chunk.proofs.Known.{Later, false_true}
+use Rattle.gs_chunk.proofs.Known.{IsPrepared, Later, false_true, later_of}
+use Rattle.gs_chunk.proofs.Knowing.{asked_known}
+use Rattle.gs_chunk.proofs.Stamps.{epoch_of-le, epoch_of-start}
+use Rattle.gs_chunk.proofs.Turns.{two_ends}
 use Rattle.gs_chunk.proofs.Lists.{at_push, take_at, take_from, take_within}
 use Rattle.gs_chunk.proofs.Worlds.{WorldOk, committing, happens_world, leads_later, leads_world, moving, prepared_then}
 
@@ -43,7 +47,7 @@ record Settled (u v : World) : Type 0 where
   top : v.known.top ≡ stamp
   stood : (t : ℕ) → v.known.stood t ≡ cond (nat_eq t stamp) stands (u.known.stood t)
   list : (t : ℕ) → v.known.list t ≡ cond (nat_eq t stamp) edits (u.known.list t)
-  from : (place : ℕ) (edit : Edit) → slice_get edits place ≡ Some edit → (old : ℕ) × (old ≤ u.known.view) × (take (place + 1) edits ≡ take (place + 1) (u.known.list old))
+  from : (place : ℕ) (edit : Edit) → slice_get edits place ≡ Some edit → (old : ℕ) × (old ≤ u.known.view) × (take (place + 1) edits ≡ take (place + 1) (u.known.list old)) × ((lower : ℕ) → StandsPrepared u.known lower old place → StandsPrepared v.known lower stamp place)
 
 abbrev Changes : Event → World → World → Type 0
 Changes e u v = Still e u v ⊎ Settled u v
@@ -73,6 +77,29 @@ module _ (u : World) (ok : WorldOk u) where
   -- the master acts, and settles nothing
   calm : (e : Event) (v : World) → v.known.born ≡ u.known.born → v.known.view ≡ u.known.view → u.known.top ≤ v.known.top → ((t : ℕ) → v.known.stood t ≡ u.known.stood t) → ((t : ℕ) → v.known.list t ≡ u.known.list t) → Changes e u v
   calm e v born view top stood list = inl (record { born = born; view = view; top = top; stood = stood; above = λ t l. list t; master = λ none. list })
+
+  -- What stands in the list of the former view, and behind it: the upgrade of the epoch may have begun with the former view, or before it.
+  settles_prepared : (members : List ℕ) (count : ℕ) (holder : Option ℕ) → Can u (Settles members count holder) → (place : ℕ) (edit : Edit) → slice_get (u.known.list u.known.view) place ≡ Some edit → (lower : ℕ) → StandsPrepared u.known lower u.known.view place
+      → StandsPrepared (happens u (Settles members count holder)).known lower u.known.top place
+  settles_prepared members count holder can place edit at lower first within stood now how kept over under =
+      let e : ℕ = epoch_of u.known.top in
+      let is : IsPrepared u.known e = (now, how, kept) in
+      let p : ℕ = u.known.prepared e in
+      let low = (ok.known).before e is in
+      let up = moving u ok can.0 in
+      let same : (happens u (Settles members count holder)).known.list p ≡ u.known.list p = ap (λ b. cond b (take count (u.known.list u.known.view)) (u.known.list p)) (below p u.known.top (omega arith)) in
+      subst (λ xs. place < length xs) (sym same) (elim (cases_eq p u.known.view) [
+        | inl here ↦ subst (λ t. place < length (u.known.list t)) (sym here) (slice_get_within (u.known.list u.known.view) place edit at)
+        | inr other ↦
+            let known = asked_known u ok members can.1 (λ j x. (can.2 j x).0) in
+            let stands : u.known.stood u.known.view ≡ true = (ok.known).now (sym (ok.entry).standing ∙ known) in
+            let early = (ok.known).early p ((ok.known).ready e is) in
+            let link = (ok.known).links u.known.view (omega arith) (omega arith) stands in
+            let rises = epoch_of-le u.known.view u.known.top (omega arith) in
+            let epoch : epoch_of u.known.view ≡ e = elim (link.legit e is) [ inl under_it ↦ absurd (omega arith) | inr above ↦ omega arith ] in
+            subst (λ n. n ≤ u.known.current → u.known.how n ≡ Prepare → u.known.kept n ≡ true → lower ≤ u.known.prepared n → u.known.prepared n < u.known.view → place < length (u.known.list (u.known.prepared n))) epoch
+            (first (omega arith) stands) now how kept over (omega arith)
+      ])
 
   changes : (e : Event) → Can u e → Changes e u (happens u e)
   changes (Raises me stamp edits image) can = quiet _ _ (λ none. absurd (cc)) refl refl refl (λ t. refl) (λ t. none_more (nat_eq t stamp) (u.known.list t))
@@ -131,7 +158,7 @@ module _ (u : World) (ok : WorldOk u) where
     top = refl;
     stood = λ t. refl;
     list = λ t. refl;
-    from = λ place edit at. (let l = take_within (u.known.list u.known.view) count place edit at in (u.known.view, omega arith, take_fewer (place + 1) count (u.known.list u.known.view) (omega arith)));
+    from = λ place edit at. (let l = take_within (u.known.list u.known.view) count place edit at in (u.known.view, omega arith, take_fewer (place + 1) count (u.known.list u.known.view) (omega arith), settles_prepared members count holder can place edit (take_from (u.known.list u.known.view) count place edit at)));
   })
   changes (CommitsRollback members true) can =
       let c = committing u ok can.0 in
@@ -147,7 +174,7 @@ module _ (u : World) (ok : WorldOk u) where
         top = refl;
         stood = λ t. refl;
         list = λ t. refl;
-        from = λ place edit at. (u.known.prepared (u.known.current - 1), (ok.known).before (u.known.current - 1) (prepared_then u ok can.0 (can.1 refl).0), refl);
+        from = λ place edit at. (u.known.prepared (u.known.current - 1), (ok.known).before (u.known.current - 1) (prepared_then u ok can.0 (can.1 refl).0), refl, λ lower first within stood now how kept over under. absurd (two_ends (u.known.how u.known.current) (ap u.known.how (sym (epoch_of-start u.known.current)) ∙ how) c.how));
       })
   changes (CommitsRollback members false) can =
       let c = committing u ok can.0 in
@@ -184,14 +211,27 @@ list_above w v (Goes u e before can) ok t l = let x = event_above u e (leads_wor
 
 -- ---- where an edit was numbered
 
+-- what stood at the prepare of an upgrade stands so where more is known, and no upgrade has begun but behind the settled view
+prepared_on : (a b : Known) → Later a b → ((e : ℕ) → IsPrepared a e → a.prepared e ≤ a.view) → ((e : ℕ) → a.current < e → IsPrepared b e → a.view ≤ b.prepared e) → (lower t place : ℕ) → t ≤ a.view → StandsPrepared a lower t place → StandsPrepared b lower t place
+prepared_on a b later before anew lower t place low first within stood now how kept over under = elim (cases_lt a.current (epoch_of t)) [
+  | inl above ↦ absurd (let p = anew (epoch_of t) above (now, how, kept) in omega arith)
+  | inr past ↦
+      let same = later.prepared (epoch_of t) past in
+      let is : IsPrepared a (epoch_of t) = (past, sym (later.how (epoch_of t) past) ∙ how, sym (later.kept (epoch_of t) past) ∙ kept) in
+      let was = first low (sym (later.stood t low) ∙ stood) is.0 is.1 is.2 (omega arith) (omega arith) in
+      let more = later.list (a.prepared (epoch_of t)) (before (epoch_of t) is) in
+      let long : length (b.list (a.prepared (epoch_of t))) ≡ length (a.list (a.prepared (epoch_of t)) ++ more.0) = ap length more.1 in
+      subst (λ p. place < length (b.list p)) (sym same) (omega (arith, length-append (a.list (a.prepared (epoch_of t))) more.0))
+]
+
 module _ (under : ReqId → Option Stamp) where
   pub born_numbered : (b : Birth) → BornNumbered under b
   born_numbered b t place edit at = inl at
 
   -- the lists of settled views have more, and a list has the same first edits as one had
   module _ (a b : Known) (born : b.born ≡ a.born) (view : a.view ≤ b.view) (stood : (t : ℕ) → t ≤ a.view → b.stood t ≡ a.stood t) (grown : (t : ℕ) → t ≤ a.view → (more : List Edit) × (b.list t ≡ a.list t ++ more)) where
-    moved : (t t2 place : ℕ) (edit : Edit) → IsNumberedAt under a t place edit → t ≤ t2 → slice_get (a.list t) place ≡ Some edit → take (place + 1) (b.list t2) ≡ take (place + 1) (a.list t) → IsNumberedAt under b t2 place edit
-    moved t t2 place edit n more at first =
+    moved : (t t2 place : ℕ) (edit : Edit) → (n : IsNumberedAt under a t place edit) → StandsPrepared b n.stamp t2 place → t ≤ t2 → slice_get (a.list t) place ≡ Some edit → take (place + 1) (b.list t2) ≡ take (place + 1) (a.list t) → IsNumberedAt under b t2 place edit
+    moved t t2 place edit n prepared more at first =
         let g = grown n.stamp n.settled in
         let there : slice_get (a.list n.stamp) place ≡ Some edit = take_from (a.list n.stamp) (place + 1) place edit (subst (λ xs. slice_get xs place ≡ Some edit) (sym n.same) (take_at (a.list t) (place + 1) place edit (omega arith) at)) in
         let within : place < length (a.list n.stamp) = slice_get_within (a.list n.stamp) place edit there in record {
@@ -202,17 +242,19 @@ module _ (under : ReqId → Option Stamp) where
           late = (let l = n.late in omega arith);
           asked = n.asked;
           same = ap (take (place + 1)) g.1 ∙ take-append-le (place + 1) (a.list n.stamp) g.0 (omega arith) ∙ n.same ∙ sym first;
+          prepared = prepared;
         }
 
   -- ---- the master
 
-  module _ (origin : List Edit) (e : Event) (u v : World) (numbered : AreNumbered under origin u.known) where
+  module _ (origin : List Edit) (e : Event) (u v : World) (ok : WorldOk u) (later : Later u.known v.known) (anew : (e : ℕ) → u.known.current < e → IsPrepared v.known e → u.known.view ≤ v.known.prepared e) (numbered : AreNumbered under origin u.known) where
     still_numbered : actor e ≡ None → Still e u v → AreNumbered under origin v.known
     still_numbered none s t place edit at =
         let same = s.master none t in
         let was : slice_get (u.known.list t) place ≡ Some edit = subst (λ xs. slice_get xs place ≡ Some edit) same at in
         ⊎_elim (λ first. inl first)
-        (λ (n : IsNumberedAt under u.known t place edit). inr (moved u.known v.known s.born (let x = s.view in omega arith) (λ x l. s.stood x) (λ x l. ([], s.master none x ∙ sym (append-nil (u.known.list x)))) t t place edit n (omega arith) was (ap (take (place + 1)) same)))
+        (λ (n : IsNumberedAt under u.known t place edit). inr (moved u.known v.known s.born (let x = s.view in omega arith) (λ x l. s.stood x) (λ x l. ([], s.master none x ∙ sym (append-nil (u.known.list x)))) t t place edit n
+        (λ within. prepared_on u.known v.known later (ok.known).before anew n.stamp t place (let x = s.view in omega arith) n.prepared within) (omega arith) was (ap (take (place + 1)) same)))
         (numbered t place edit was)
 
     settled_numbered : Settled u v → AreNumbered under origin v.known
@@ -224,10 +266,10 @@ module _ (under : ReqId → Option Stamp) where
         old_stood : (x : ℕ) → x ≤ u.known.view → v.known.stood x ≡ u.known.stood x
         old_stood x l = (let up = s.above in s.stood x ∙ ap (λ b. cond b s.stands (u.known.stood x)) (below x s.stamp (omega arith)))
 
-        from_old : (t1 : ℕ) → t1 ≤ t → slice_get (u.known.list t1) place ≡ Some edit → take (place + 1) (v.known.list t) ≡ take (place + 1) (u.known.list t1) → (slice_get origin place ≡ Some edit) ⊎ IsNumberedAt under v.known t place edit
-        from_old t1 l was first =
+        from_old : (t1 : ℕ) → t1 ≤ t → slice_get (u.known.list t1) place ≡ Some edit → take (place + 1) (v.known.list t) ≡ take (place + 1) (u.known.list t1) → ((lower : ℕ) → StandsPrepared u.known lower t1 place → StandsPrepared v.known lower t place) → (slice_get origin place ≡ Some edit) ⊎ IsNumberedAt under v.known t place edit
+        from_old t1 l was first prepared =
             ⊎_elim (λ born. inl born)
-            (λ (n : IsNumberedAt under u.known t1 place edit). inr (moved u.known v.known s.born (let x = s.view in let y = s.above in omega arith) old_stood (λ x l. ([], old_list x l ∙ sym (append-nil (u.known.list x)))) t1 t place edit n l was first))
+            (λ (n : IsNumberedAt under u.known t1 place edit). inr (moved u.known v.known s.born (let x = s.view in let y = s.above in omega arith) old_stood (λ x l. ([], old_list x l ∙ sym (append-nil (u.known.list x)))) t1 t place edit n (prepared n.stamp n.prepared) l was first))
             (numbered t1 place edit was)
 
         by_stamp : (b : Bool) → nat_eq t s.stamp ≡ b → (slice_get origin place ≡ Some edit) ⊎ IsNumberedAt under v.known t place edit
@@ -239,16 +281,23 @@ module _ (under : ReqId → Option Stamp) where
             let was : slice_get (u.known.list f.0) place ≡ Some edit = take_from (u.known.list f.0) (place + 1) place edit (subst (λ xs. slice_get xs place ≡ Some edit) first (take_at (v.known.list t) (place + 1) place edit (omega arith) at)) in
             let up = s.above in
             let low = f.1 in
-            from_old f.0 (omega arith) was first
+            from_old f.0 (omega arith) was first (λ lower p. subst (λ n. StandsPrepared v.known lower n place) (sym here) (f.3 lower p))
         by_stamp false is =
             let same : v.known.list t ≡ u.known.list t = s.list t ∙ ap (λ b. cond b s.edits (u.known.list t)) is in
-            from_old t (omega arith) (subst (λ xs. slice_get xs place ≡ Some edit) same at) (ap (take (place + 1)) same)
+            from_old t (omega arith) (subst (λ xs. slice_get xs place ≡ Some edit) same at) (ap (take (place + 1)) same) (λ lower p within stood. elim (cases_lt u.known.view t) [
+              | inl above ↦ absurd (false_true (u.known.stood t) ((ok.known).fresh t above).3 (sym (ap (λ b. cond b s.stands (u.known.stood t)) is) ∙ sym (s.stood t) ∙ stood))
+              | inr low ↦ prepared_on u.known v.known later (ok.known).before anew lower t place low p within stood
+            ])
 
   masters_number : (origin : List Edit) (w v : World) → WorldOk w → (leads : Leads w v) → AreOfMaster w v leads → AreNumbered under origin w.known → AreNumbered under origin v.known
   masters_number origin w v ok Rests of numbered = numbered
   masters_number origin w v ok (Goes u e before can) of numbered =
       let first = masters_number origin w u ok before of.0 numbered in
-      ⊎_elim (λ s. still_numbered origin e u (happens u e) first of.1 s) (λ s. settled_numbered origin e u (happens u e) first s) (changes u (leads_world w u before ok) e can)
+      let now = leads_world w u before ok in
+      let grows = (happens_world u now e can).grows in
+      let anew : (n : ℕ) → u.known.current < n → IsPrepared (happens u e).known n → u.known.view ≤ (happens u e).known.prepared n = λ n over is. (let p = (grows.preparing n over is).0 in omega arith) in
+      let later = later_of u.known (happens u e).known grows in
+      ⊎_elim (λ s. still_numbered origin e u (happens u e) now later anew first of.1 s) (λ s. settled_numbered origin e u (happens u e) now later anew first s) (changes u now e can)
 
   pub masters_numbered : (origin : List Edit) (w v : World) → MastersNumber under origin w v
   masters_numbered origin w v reached leads of numbered = masters_number origin w v (reached_world w reached) leads of numbered
@@ -270,10 +319,14 @@ module _ (under : ReqId → Option Stamp) where
       same_view : v.known.view ≡ w.known.view
       same_view = sym (ok_then.entry).stamp ∙ ap (λ (n : Entry). n.view.stamp) entry ∙ (ok.entry).stamp
 
+      same_current : v.known.current ≡ w.known.current
+      same_current = sym (ok_then.entry).epoch ∙ ap (λ (n : Entry). n.epoch) entry ∙ (ok.entry).epoch
+
       from_old : slice_get (w.known.list t) place ≡ Some edit → take (place + 1) (v.known.list t) ≡ take (place + 1) (w.known.list t) → (slice_get origin place ≡ Some edit) ⊎ IsNumberedAt under v.known t place edit
       from_old was first =
           ⊎_elim (λ born. inl born)
-          (λ (n : IsNumberedAt under w.known t place edit). inr (moved w.known v.known later.born later.view later.stood later.list t t place edit n (omega arith) was first))
+          (λ (n : IsNumberedAt under w.known t place edit). inr (moved w.known v.known later.born later.view later.stood later.list t t place edit n
+          (λ within. prepared_on w.known v.known later (ok.known).before (λ e over is. absurd (let now = is.0 in let same = same_current in omega arith)) n.stamp t place (let s = same_view in omega arith) n.prepared within) (omega arith) was first))
           (numbered t place edit was)
 
       -- a list that grows is of a view that was settled, in which a server may number
@@ -310,6 +363,7 @@ module _ (under : ReqId → Option Stamp) where
             late = (let l = late_so (grows new is) in let s = later.born in omega arith);
             asked = subst (λ (e : Edit). under e.req ≡ Some (stamp_at t)) last.1 was_asked;
             same = refl;
+            prepared = λ within stood now how kept over under. absurd (omega arith);
           }))
           (at_push (w.known.list t) new place edit (subst (λ xs. slice_get xs place ≡ Some edit) is at))
 

@@ -9,10 +9,10 @@ use Rattle.gs_chunk.proofs.Known.{IsPrepared}
 use Rattle.gs_chunk.proofs.Worlds.{WorldOk}
 
 module _ (w : World) (ok : WorldOk w) (e : ℕ) (upgrading : IsUpgrading w e) (known : w.entry.was_known ≡ true) where
-  current : IsCurrent w.known w.entry.is_rolling e
+  pub current : IsCurrent w.known w.entry.is_rolling e
   current = let m = ok.entry in ⊎_elim (λ x. inl (x.0 ∙ m.epoch, sym (m.how e) ∙ x.1)) (λ x. inr (x.0 ∙ m.epoch, x.1)) upgrading
 
-  prepared : IsPrepared w.known e
+  pub prepared : IsPrepared w.known e
   prepared = ⊎_elim
       (λ (x : (e ≡ w.known.current) × (w.known.how e ≡ Prepare)). ((let y = x.0 in omega arith), x.1, sym ((ok.entry).was_known e current) ∙ known))
       (λ (x : (e + 1 ≡ w.known.current) × (w.entry.is_rolling ≡ true)).

@@ -1,13 +1,20 @@
 -- Under which stamps edits were numbered: the list of a view has each edit where that of the view has it in which it was numbered, behind the same edits.
-use Rattle.std.specs.Prelude.{◌≡◌, ◌⊎◌, ◌+◌, ◌<◌, ◌≤◌, ◌++◌, ℕ, true, List, [], ◌∷◌, Option, Some, slice_get, take}
+use Rattle.std.specs.Prelude.{◌≡◌, ◌⊎◌, ◌+◌, ◌<◌, ◌≤◌, ◌++◌, ℕ, true, List, [], ◌∷◌, Option, Some, length, slice_get, take}
+use Rattle.gs_base.specs.declared.epoch.EpochEnd.TheVariants.{Prepare}
 use Rattle.gs_base.specs.declared.numbers.ReqId.{ReqId}
 use Rattle.gs_base.specs.declared.numbers.Stamp.{Stamp}
 use Rattle.gs_replica.specs.Stands.{Edit}
-use Rattle.gs_chunk.specs.Stamps.{stamp_at}
+use Rattle.gs_chunk.specs.Stamps.{epoch_of, stamp_at}
 use Rattle.gs_chunk.specs.Machine.{Known, World}
 use Rattle.gs_chunk.specs.Events.{Leads}
 use Rattle.gs_chunk.specs.Laws.{Birth, IsReached, world_of}
 use Rattle.gs_chunk.specs.Mastering.{AreOfMaster}
+
+-- What was numbered under a lower stamp, and stands at a place of the list of a view: where the upgrade of that view's epoch began behind the lower stamp, the
+-- prepared list has the place.
+abbrev pub StandsPrepared : Known → ℕ → ℕ → ℕ → Type 0
+StandsPrepared k lower t place = t ≤ k.view → k.stood t ≡ true → epoch_of t ≤ k.current → k.how (epoch_of t) ≡ Prepare → k.kept (epoch_of t) ≡ true → lower ≤ k.prepared (epoch_of t) → k.prepared (epoch_of t) < t
+    → place < length (k.list (k.prepared (epoch_of t)))
 
 -- where it is told under which stamp the edit of a request is asked for
 module _ (under : ReqId → Option Stamp) where
@@ -20,6 +27,7 @@ module _ (under : ReqId → Option Stamp) where
     pub late : k.born < stamp
     pub asked : under edit.req ≡ Some (stamp_at stamp)
     pub same : take (place + 1) (k.list stamp) ≡ take (place + 1) (k.list t)
+    pub prepared : StandsPrepared k stamp t place
 
   -- so was each edit of any list but those with which the chunk was born
   abbrev pub AreNumbered : List Edit → Known → Type 0
