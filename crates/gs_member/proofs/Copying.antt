@@ -30,7 +30,7 @@ use Rattle.gs_member.specs.Showing.{Setting, setting_at, ShowsImage, SealUndamag
 use Rattle.gs_member.specs.Telling.{IsImage, AreImages, TellsServer}
 use Rattle.gs_member.specs.Moving.{IsHere, IsToldApart, Outcome}
 use Rattle.gs_member.proofs.Stamps.{stamp_number, same_stamp}
-use Rattle.gs_member.proofs.Engine.{said_one, moves_so}
+use Rattle.gs_member.proofs.Engine.{said_one, moves_so, same_promise}
 use Rattle.gs_member.proofs.Places.{grows_by, place_grown}
 use Rattle.gs_member.proofs.Promising.{SealRaised, epoch_same, IsRaised, lives, holds_from, again_holds, or_outcome, unpromised_outcome, promises_outcome, raise_new, again_told}
 
@@ -137,6 +137,7 @@ module _ (bytes : ReqId → List ℕ) (born : ℕ) (w : World) (h : Here) (p : P
         lists = λ t. inl (so.list t);
         numbers = λ t. (so.list t);
         intact = λ spared whole. whole;
+        gains = same_promise (w.members h.me) m refl;
         shows = place_grown c w.known moved.world.known (grows_by w h.me m _ moved) h.epoch p m here.shows;
         tells = ((λ _. (tt, (t, edits, s.old, is, after, record { taken = stands_taken p.slot.live edits l.2; is = made.image edits l.2 (told.live edits l.1) }, s.are, said))), tt);
       }
@@ -185,7 +186,7 @@ module _ (bytes : ReqId → List ℕ) (born : ℕ) (w : World) (h : Here) (p : P
         promise = set.0;
         carried = set.1 ∙ some_same o old are;
         stands = live.0;
-        undamaged = λ _. live.1;
+        undamaged = λ _ _. live.1;
         taken = set.2;
         sealed = by_case o old are made;
       }

@@ -1,9 +1,10 @@
 -- A server that is intact names the chunk where the machine can.
-use Rattle.std.proofs.Common.{◌≡◌, ℕ, Bool, true, false, cond, List, [], ◌∷◌, length, Option, Some, None, refl, sym, ap, subst, ◌∙◌}
+use Rattle.std.proofs.Common.{◌≡◌, ℕ, Bool, true, false, cond, List, [], ◌∷◌, length, Option, Some, None, refl, sym, ap, subst, ◌∙◌, inr}
 use Rattle.std.specs.Prelude.{◌&&◌, is_none, is_some, Contains, filter}
 use Rattle.std.specs.FinMap as fin
 use Rattle.std.specs.Ordering.{nat_cmp, eq_by_cmp}
 use Rattle.gs_base.specs.Stamps.{is_same}
+use Rattle.gs_base.specs.declared.epoch.EpochEnd.TheVariants.{Rollback}
 use Rattle.gs_block.specs.Stored.{count_of, first_damaged}
 use Rattle.gs_block.proofs.Back.{eq_true}
 use Rattle.gs_replica.specs.Stands.{Edit}
@@ -57,11 +58,11 @@ named_there epoch s handle is =
     let there = found_there (fin.entries s.slots) handle t.0 (sym (fin.get-entries s.slots handle) ∙ t.1) in
     into_map (λ (e : ℕ × Slot). e.0) (filter (λ (e : ℕ × Slot). is_named epoch e.1) (fin.entries s.slots)) (handle, t.0) (into_filter (λ (e : ℕ × Slot). is_named epoch e.1) (fin.entries s.slots) (handle, t.0) there t.2)
 
-pub names_chunk : (c : Setting) (chunk : ℕ) (w : World) (s : Server) (edits : List Edit) → ShowsMember c chunk w s → (w.members s.me).intact ≡ true → Can w (Names s.me edits) → Contains (named s.kept.epoch (store_of s)) chunk
-names_chunk c chunk w s edits shows intact can =
+pub names_chunk : (c : Setting) (chunk : ℕ) (w : World) (s : Server) (edits : List Edit) → ShowsMember c chunk w s → (w.members s.me).intact ≡ true → w.known.how (w.members s.me).epoch ≡ Rollback → Can w (Names s.me edits) → Contains (named s.kept.epoch (store_of s)) chunk
+names_chunk c chunk w s edits shows intact rolled can =
     let m = w.members s.me in
     let stands = subst (ShowsLive c (slot_in chunk s)) can.0 shows.live in
-    let sound : is_sound (slot_in chunk s).live ≡ true = sound_live c.block c.size (slot_in chunk s).live edits stands (shows.intact intact).0 in
+    let sound : is_sound (slot_in chunk s).live ≡ true = sound_live c.block c.size (slot_in chunk s).live edits stands ((shows.intact intact).0 (inr rolled)) in
     let live : is_some (slot_in chunk s).live ≡ true = sound_is_live (slot_in chunk s).live sound in
     let epoch : m.epoch ≡ s.kept.epoch = shows.epoch_is (shown_late c w.known s.kept.epoch (place_of chunk s) m shows live) in
     let promise : (slot_in chunk s).promise ≡ start_of s.kept.epoch = shows.promise ∙ ap stamp_at (can.1 ∙ ap stamps.start_of epoch) ∙ start_stamp s.kept.epoch in

@@ -38,8 +38,8 @@ use Rattle.gs_member.specs.Moving.{Moved, Follows, IsHere, LeadsWhole, Answering
 use Rattle.gs_member.specs.Blocks.{HoldsBlocks, GoesOn}
 use Rattle.gs_member.proofs.Stamps.{stamp_number}
 use Rattle.gs_member.proofs.Lists.{cons_first, nil_contains, cons_cases, in_filter, inserted_cases, inserted_there, inserted_stays, all_mapped, all_append}
-use Rattle.gs_member.proofs.Engine.{moves, moves_list, and_then, first_contains, moves_at, then_list}
-use Rattle.gs_member.proofs.Places.{grows_by, counts_back, lease_grown}
+use Rattle.gs_member.proofs.Engine.{moves, moves_list, and_then, first_contains, moves_at, then_list, same_promise}
+use Rattle.gs_member.proofs.Places.{grows_by, counts_back, lease_grown, live_back}
 use Rattle.gs_member.proofs.Promising.{lives}
 use Rattle.gs_member.proofs.Leasing.{is_late}
 use Rattle.gs_member.proofs.Forwarding.{IsEdited, edited, image_kept, IsJudged, applied_judged}
@@ -202,7 +202,7 @@ module _ (bytes : ReqId → List ℕ) (born : ℕ) (w : World) (h : Here) (p : P
         taken = subst (λ o. ShowsTaken o m.taken) (sym made.taken) here.shows.taken;
         lease = shown;
         promised = λ _. here.shows.promised (ap is_some led.live);
-        intact = λ whole. let y = here.shows.intact whole in (made.undamaged y.0, λ counts. made.sealed.undamaged (y.1 (counts_back w.known moved.world.known m.epoch g counts)));
+        intact = λ whole. let y = here.shows.intact whole in (λ counts. made.undamaged (y.0 (live_back w.known moved.world.known m.epoch g counts)), λ counts. made.sealed.undamaged (y.1 (counts_back w.known moved.world.known m.epoch g counts)));
       }
 
   -- the forwards to the others
@@ -295,6 +295,7 @@ module _ (bytes : ReqId → List ℕ) (born : ℕ) (w : World) (h : Here) (p : P
             lists = λ t. goes_on t (all.moved.world.known.list t) (all.goes t);
             numbers = λ t. numbers_on ol t (all.moved.world.known.list t) (all.goes t);
             intact = λ spared whole. whole;
+            gains = same_promise (w.members h.me) (n ol) refl;
             shows = numbered_place here op l ml xs x e s led (waits_for (length xs + 1) x (hears h.me (length xs + 1) l)) ol all.sends all.moved shown;
             tells = sent_tells all.moved.world l ml xs x e l led.shows.stamp led.numbered.says all.told;
           };
@@ -328,6 +329,7 @@ module _ (bytes : ReqId → List ℕ) (born : ℕ) (w : World) (h : Here) (p : P
             sends = all.sends ++ (machine.one h.me (Done ml.stamp (length xs) e) ++ []);
             moved = moved;
             intact = λ spared whole. whole;
+            gains = same_promise (w.members h.me) (n closing.lease) refl;
             lists = λ t.
                 let same : moved.world.known.list t ≡ all.moved.world.known.list t =
                 then_list w h.me (n ol) (n closing.lease) all.sends (machine.one h.me (Done ml.stamp (length xs) e) ++ []) all.moved then (refl, refl) t

@@ -2,6 +2,7 @@
 use Rattle.std.proofs.Common.{◌≡◌, ℕ, ◌+◌, ◌<◌, ◌≤◌, inl, inr, ⊎_elim, true, List, Option, Some, None, ap, subst, ◌∙◌, arith}
 use Rattle.std.specs.Prelude.{is_some, Contains}
 use Rattle.std.proofs.lemmas.Bool.{cases_lt}
+use Rattle.gs_base.specs.declared.epoch.EpochEnd.TheVariants.{Rollback}
 use Rattle.gs_replica.specs.Seals.{Sealed}
 use Rattle.gs_replica.specs.Copies.{as_sealed}
 use Rattle.gs_replica.specs.Stands.{Edit, StoodFor}
@@ -17,9 +18,9 @@ use Rattle.gs_chunk.specs.Laws.{Birth, world_of, prepared_list, IsUpgrading, IsS
 use Rattle.gs_chunk.specs.Stamps.{stamp_at}
 use Rattle.gs_chunk.proofs.Facts.{reached_world, survivors_keep, survivors_name}
 use Rattle.gs_chunk.proofs.Lasting.{agrees}
-use Rattle.gs_chunk.proofs.Resting.{born_first}
+use Rattle.gs_chunk.proofs.Resting.{born_first, none_ahead}
 use Rattle.gs_chunk.proofs.Worlds.{WorldOk}
-use Rattle.gs_member.specs.Showing.{Setting, ShowsLive, ShowsImage, SealUndamaged, SealCounts, ShowsMember}
+use Rattle.gs_member.specs.Showing.{Setting, ShowsLive, ShowsImage, SealUndamaged, SealCounts, ShowsMember, LiveCounts}
 use Rattle.gs_member.specs.Sealing.{KeepsPrepared}
 use Rattle.gs_member.proofs.Naming.{names_chunk}
 
@@ -41,7 +42,7 @@ module _ (b : Birth) (w : World) (leads : Leads (world_of b) w) (c : Setting) (c
   m = w.members s.me
 
   -- such a server knows the epoch of the birth
-  knows_birth : (upgrade : ℕ) → IsUpgrading w upgrade → KeepsSealed w upgrade s.me → c.born ≤ s.kept.epoch
+  pub knows_birth : (upgrade : ℕ) → IsUpgrading w upgrade → KeepsSealed w upgrade s.me → c.born ≤ s.kept.epoch
   knows_birth upgrade up keeps = ⊎_elim
       (λ (early : s.kept.epoch < c.born). absurd (let none = shows.early early in
       let at : m.epoch ≡ c.born = none.0 in
@@ -65,7 +66,7 @@ module _ (b : Birth) (w : World) (leads : Leads (world_of b) w) (c : Setting) (c
       ]
 
   -- what it has sealed may yet be rolled back to
-  counts : (upgrade : ℕ) → IsUpgrading w upgrade → m.epoch ≡ upgrade → SealCounts w.known m.epoch
+  pub counts : (upgrade : ℕ) → IsUpgrading w upgrade → m.epoch ≡ upgrade → SealCounts w.known m.epoch
   counts upgrade up at known = elim up [
     | inl x ↦ absurd (let y = x.0 in let e = (agrees w ok).epoch in omega arith)
     | inr x ↦
@@ -75,23 +76,52 @@ module _ (b : Birth) (w : World) (leads : Leads (world_of b) w) (c : Setting) (c
         ap w.known.how same ∙ r.how
   ]
 
+  -- what is live of one that hasn't learned of the prepare counts
+  pub before_prepare : (upgrade : ℕ) → IsUpgrading w upgrade → m.epoch < upgrade → LiveCounts w.known m.epoch
+  before_prepare upgrade up before = elim up [
+    | inl x ↦ (let y = x.0 in let a = (agrees w ok).epoch in inl (upgrade, before, omega arith, (agrees w ok).how upgrade ∙ x.1))
+    | inr x ↦
+        let r = (ok.entry).rolling x.1 in
+        let y = x.0 in let e = (agrees w ok).epoch in let n = r.next in
+        let same : upgrade ≡ r.e = omega arith in
+        inl (upgrade, before, omega arith, ap w.known.how same ∙ r.was)
+  ]
+
+  -- and of one that has learned of the rollback
+  pub behind_rollback : (upgrade : ℕ) → IsUpgrading w upgrade → m.epoch ≡ upgrade + 1 → w.known.how m.epoch ≡ Rollback
+  behind_rollback upgrade up at = elim up [
+    | inl x ↦ absurd (let y = x.0 in let l = none_ahead w ok s.me in omega arith)
+    | inr x ↦
+        let r = (ok.entry).rolling x.1 in
+        let y = x.0 in let e = (agrees w ok).epoch in let n = r.next in
+        let same : m.epoch ≡ r.e + 1 = omega arith in
+        ap w.known.how same ∙ r.how
+  ]
+
   pub keeps_prepared : (upgrade : ℕ) → IsUpgrading w upgrade → IsSurvivor w s.me → KeepsPrepared c chunk s upgrade w.entry.prepared.stamp (prepared_list w)
   keeps_prepared upgrade up survives =
       let keeps = survivors_keep w ok upgrade s.me up survives in
       let late = knows_birth upgrade up keeps in
       let epoch : m.epoch ≡ s.kept.epoch = shows.epoch_is late in
       let whole = shows.intact survives.intact in record {
-        unlearned = λ before. let k = keeps.unlearned (omega arith) in (shows.promise ∙ ap stamp_at k.0, subst (ShowsLive c (slot_in chunk s)) k.1 shows.live, whole.0);
+        unlearned = λ before. let k = keeps.unlearned (omega arith) in (shows.promise ∙ ap stamp_at k.0, subst (ShowsLive c (slot_in chunk s)) k.1 shows.live, whole.0 (before_prepare upgrade up (omega arith)));
         learned = λ same.
             let at : m.epoch ≡ upgrade = epoch ∙ same in
             let stood = subst (ShowsImage c (slot_in chunk s)) (keeps.learned at) shows.image in
             (stood, sound_seal (sealed_of (slot_in chunk s)) c.block c.size (prepared_list w) stood (whole.1 (counts upgrade up at)));
-        rolled = λ same. let k = keeps.rolled (epoch ∙ same) in (shows.promise ∙ ap stamp_at k.0, subst (ShowsLive c (slot_in chunk s)) k.1 shows.live, whole.0);
+        rolled = λ same. let k = keeps.rolled (epoch ∙ same) in (shows.promise ∙ ap stamp_at k.0, subst (ShowsLive c (slot_in chunk s)) k.1 shows.live, whole.0 (inr (behind_rollback upgrade up (epoch ∙ same))));
       }
+
+  rolled_here : (upgrade : ℕ) → IsUpgrading w upgrade → w.entry.is_rolling ≡ true → m.epoch ≡ w.entry.epoch → w.known.how m.epoch ≡ Rollback
+  rolled_here upgrade up rolling here =
+      let r = (ok.entry).rolling rolling in
+      let e = (agrees w ok).epoch in let n = r.next in
+      let same : m.epoch ≡ r.e + 1 = omega arith in
+      ap w.known.how same ∙ r.how
 
   pub survivor_named : (upgrade : ℕ) → IsUpgrading w upgrade → w.entry.is_rolling ≡ true → IsSurvivor w s.me → s.kept.epoch ≡ w.entry.epoch → Contains (named s.kept.epoch (store_of s)) chunk
   survivor_named upgrade up rolling survives here =
       let keeps = survivors_keep w ok upgrade s.me up survives in
       let epoch : m.epoch ≡ s.kept.epoch = shows.epoch_is (knows_birth upgrade up keeps) in
       let n = survivors_name w ok s.me rolling survives in
-      names_chunk c chunk w s (prepared_list w) shows survives.intact (n.again (epoch ∙ here))
+      names_chunk c chunk w s (prepared_list w) shows survives.intact (rolled_here upgrade up rolling (epoch ∙ here)) (n.again (epoch ∙ here))

@@ -41,9 +41,9 @@ use Rattle.gs_chunk.specs.Machine.{World, WasTold, Epoch, Member}
 use Rattle.gs_member.specs.Showing.{Setting, setting_of, ShowsPlace, BuffersRight}
 use Rattle.gs_member.specs.Telling.{SaysOf, TellsServer, Tells, TellsBody, TellsEpochTo}
 use Rattle.gs_member.specs.Answering.{handle_in, AnswersOf}
-use Rattle.gs_member.specs.Moving.{Follows, IsHere, IsNext, IsShown, IsSteps}
+use Rattle.gs_member.specs.Moving.{Follows, IsHere, IsNext, IsShown, IsSteps, MadeIntact, Spares}
 use Rattle.gs_member.specs.Blocks.{GoesOn}
-use Rattle.gs_member.specs.Causes.{Cause, Calm, Numbers, Strikes, cause_of, cause_in}
+use Rattle.gs_member.specs.Causes.{Cause, Calm, Numbers, cause_of, cause_in}
 use Rattle.gs_member.proofs.Lists.{cons_cases, cons_first, cons_more, nil_contains}
 use Rattle.gs_member.proofs.Engine.{stays_put}
 use Rattle.gs_member.proofs.Entries.{names_all, reports_all}
@@ -172,7 +172,8 @@ module _ (c : Setting) (chunk : ℕ) (w : World) where
     lists = λ t. subst (λ q. GoesOn c q.slot (w.known.list t) (f.moved.world.known.list t)) (sym place_is) (f.lists t);
     numbers = λ t. subst (λ m. Numbers cause c (w.members me) m t (w.known.list t) (f.moved.world.known.list t)) (sym f.moved.is) (f.numbers t);
     reached = λ j t. ⊎_elim (λ kept. inl kept) (λ (x : (j ≡ me) × (t ≡ f.member.promise) × (is_some f.member.live ≡ true)). inr (x.0, x.1 ∙ ap (λ (m : Member). m.promise) (sym f.moved.is), ap (λ (m : Member). is_some m.live) f.moved.is ∙ x.2)) (f.moved.reached j t);
-    intact = λ spared whole. ap (λ (m : Member). m.intact) f.moved.is ∙ f.intact spared whole;
+    intact = λ spared whole. ap (λ (m : Member). m.intact) f.moved.is ∙ f.intact (subst (λ q. Spares cause w.known (w.members me).epoch q.slot) place_is spared) whole;
+    gains = subst (λ x. MadeIntact (w.members me) x) (sym f.moved.is) f.gains;
     stays = f.moved.stays;
     same = (me_is, block_is, size_is);
     shows =
@@ -189,27 +190,6 @@ module _ (c : Setting) (chunk : ℕ) (w : World) where
   passes s after sent about x me block size epoch place right tells answers =
       let f = stays_put c chunk w s.me s.kept.epoch (place_of chunk s) sent x.shows tells in
       from_follows Calm s.me s.kept.epoch (place_of chunk s) sent about after f me block size epoch place right (answers f.moved.world)
-
-  -- a step that spares the replica is a step also where the replica is struck
-  pub any_steps : (me : ℕ) (about : Option ℕ) (after : Server) (sent : List Message) (b : Bool) → IsSteps Calm c chunk w me about after sent → IsSteps (cond b Strikes Calm) c chunk w me about after sent
-  any_steps me about after sent false x = x
-  any_steps me about after sent true x = record {
-    world = x.world;
-    leads = x.leads;
-    others = x.others;
-    entry = x.entry;
-    grows = x.grows;
-    lists = x.lists;
-    numbers = x.numbers;
-    reached = x.reached;
-    intact = λ spared. x.intact refl;
-    stays = x.stays;
-    same = x.same;
-    shows = x.shows;
-    buffers = x.buffers;
-    tells = x.tells;
-    answers = x.answers;
-  }
 
 -- ---- a message about a chunk
 

@@ -1,5 +1,5 @@
 -- Why something happens to a chunk at a server, and what its lists get then.
-use Rattle.std.specs.Prelude.{◌≡◌, ◌==◌, ◌⊎◌, ◌++◌, ℕ, Bool, true, false, cond, List, [], ◌∷◌, length, Some}
+use Rattle.std.specs.Prelude.{◌≡◌, ◌==◌, ◌⊎◌, ◌++◌, ℕ, Bool, true, false, cond, List, [], ◌∷◌, length, Option, Some, None}
 use Rattle.gs_base.specs.declared.numbers.ReqId.{ReqId}
 use Rattle.gs_base.specs.declared.numbers.Stamp.{Stamp}
 use Rattle.gs_replica.specs.Stands.{Edit, replica_of}
@@ -9,6 +9,10 @@ use Rattle.gs_msg.specs.declared.chunk.Chunk.{Chunk}
 use Rattle.gs_msg.specs.declared.chunk.Chunk.TheVariants as chunks
 use Rattle.gs_msg.specs.declared.op.Op.{Op}
 use Rattle.gs_primary.specs.Numbering.{numbered_op}
+use Rattle.gs_store.specs.Calls.{Call}
+use Rattle.gs_server.specs.Servers.{Server}
+use Rattle.gs_server.specs.Runs.{Event, Hears, Ticks, Restarts, Loses, Damages}
+use Rattle.gs_serving.specs.Calling.{call_by}
 use Rattle.gs_chunk.specs.Stamps.{stamp_at}
 use Rattle.gs_chunk.specs.Machine.{Member}
 use Rattle.gs_member.specs.Showing.{Setting, Says}
@@ -33,6 +37,18 @@ cause_of said = Calm
 abbrev pub cause_in : ℕ → Body → Cause
 cause_in chunk (bodies.About handle said) = cond (chunk == handle) (cause_of said) Calm
 cause_in chunk body = Calm
+
+-- of all that happens at a server: a loss or damage that is refused strikes nothing
+abbrev pub struck_by : Option Call → Cause
+struck_by None = Calm
+struck_by (Some call) = Strikes
+
+abbrev pub cause_by : ℕ → Event → Server → Cause
+cause_by chunk (Hears message moment) s = cause_in chunk message.body
+cause_by chunk (Ticks moment) s = Calm
+cause_by chunk Restarts s = Calm
+cause_by chunk (Loses handle) s = struck_by (call_by chunk (Loses handle) s)
+cause_by chunk (Damages handle block) s = struck_by (call_by chunk (Damages handle block) s)
 
 -- The client's edit is numbered under the promise, which is the stamp that it was asked for under: the list of that view has it behind
 -- its edits, and so has the live replica. It is the edit of the request, or a pad where the record doesn't fit.

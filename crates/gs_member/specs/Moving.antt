@@ -1,5 +1,5 @@
 -- How the machine of a chunk goes on where something happens at one server.
-use Rattle.std.specs.Prelude.{◌≡◌, ◌≤◌, ℕ, ◌++◌, true, false, nat_eq, List, Option, Some, Contains, ◌⊎◌, is_some}
+use Rattle.std.specs.Prelude.{◌≡◌, ◌<◌, ◌≤◌, ℕ, ◌+◌, ◌++◌, true, false, nat_eq, List, Option, Some, Contains, ◌⊎◌, is_some}
 use Rattle.std.specs.List.{AllByRecursion}
 use Rattle.gs_replica.specs.Stands.{Edit}
 use Rattle.gs_msg.specs.declared.message.Message.{Message}
@@ -12,9 +12,9 @@ use Rattle.gs_server.specs.Places.{Place, Here, Part, after}
 use Rattle.gs_server.specs.Servers.{Server}
 use Rattle.gs_server.specs.Runs.{slot_in, IsReached}
 use Rattle.gs_base.specs.declared.epoch.EpochEnd.{EpochEnd}
-use Rattle.gs_chunk.specs.Machine.{Lease, Member, Sent, World, WasTold, Epoch}
+use Rattle.gs_chunk.specs.Machine.{Lease, Member, Known, Sent, World, WasTold, Epoch}
 use Rattle.gs_chunk.specs.Events.{Leads}
-use Rattle.gs_member.specs.Showing.{Setting, setting_at, ShowsPlace, ShowsMember, BuffersRight}
+use Rattle.gs_member.specs.Showing.{Setting, setting_at, IsLaterOne, LiveIsLater, ShowsPlace, ShowsMember, BuffersRight}
 use Rattle.gs_member.specs.Telling.{Tells}
 use Rattle.gs_member.specs.Answering.{Answers, AnswersOf}
 use Rattle.gs_member.specs.Blocks.{GoesOn}
@@ -36,15 +36,26 @@ pub record Moved (w : World) (me : ℕ) (m : Member) (sends : List Sent) : Type 
   pub stays : (x : Sent) → Contains w.sent x → Contains world.sent x
   pub says : (x : Sent) → Contains sends x → Contains world.sent x
 
+-- What a server of an epoch has to keep of a chunk is spared: nothing strikes the replica, or what is struck is a later one, which counts no more.
+abbrev pub Spares : Cause → Known → ℕ → Slot → Type 0
+Spares cause k epoch s = (spares cause ≡ true) ⊎ (IsLaterOne s × LiveIsLater k epoch)
+
+-- What makes a member intact, whatever it was before: a copy that carries the image and raises the promise, and a rollback at the server.
+pub record MadeIntact (m n : Member) : Type 0 where
+  pub brought : m.promise < n.promise → n.carried ≡ true → n.intact ≡ true
+  pub rolled : m.epoch + 1 ≡ n.epoch → m.promise < n.promise → n.intact ≡ true
+
 -- They lead to where a place is shown, and all that is sent with it. A list grows only where the place's replica takes an edit, which
--- is a client's that is heard. What spares the replica leaves the member intact.
+-- is a client's that is heard. What spares that which the server has to keep leaves the member intact, and what
+-- brings the image makes it so.
 pub record Follows (cause : Cause) (c : Setting) (chunk : ℕ) (w : World) (me epoch : ℕ) (p : Place) (sent : List Message) : Type 0 where
   pub member : Member
   pub sends : List Sent
   pub moved : Moved w me member sends
   pub lists : (t : ℕ) → GoesOn c p.slot (w.known.list t) (moved.world.known.list t)
   pub numbers : (t : ℕ) → Numbers cause c (w.members me) member t (w.known.list t) (moved.world.known.list t)
-  pub intact : spares cause ≡ true → (w.members me).intact ≡ true → member.intact ≡ true
+  pub intact : Spares cause w.known (w.members me).epoch p.slot → (w.members me).intact ≡ true → member.intact ≡ true
+  pub gains : MadeIntact (w.members me) member
   pub shows : ShowsPlace c moved.world.known epoch p member
   pub tells : AllByRecursion (Tells c chunk moved.world) sent
 
@@ -69,7 +80,7 @@ LeadsWhole w me = (l : Lease) (edits : List Edit) → (w.members me).lease ≡ S
 
 -- what the machine was told of an epoch is how the epoch began
 abbrev pub EpochsAreKnown : World → Type 0
-EpochsAreKnown w = (to epoch : ℕ) (end : EpochEnd) → WasTold w to (Epoch epoch end) → w.known.how epoch ≡ end
+EpochsAreKnown w = (to epoch : ℕ) (end : EpochEnd) → WasTold w to (Epoch epoch end) → (epoch ≤ w.known.current) × (w.known.how epoch ≡ end)
 
 -- What is known of a server of an epoch that hears of the next one: a lease that it holds is the one that was taken last, and no promise
 -- is of a later epoch.
@@ -90,8 +101,8 @@ pub record Answering (cause : Cause) (bytes : ReqId → List ℕ) (born : ℕ) (
 
 -- A server's step is some events of the machine: they lead to where the server is shown as it is then, and all that it sends. Where it
 -- hears a message about the chunk, each edit that it tells a client is done is done in the machine; and it tells so only at messages about
--- chunks. It says nothing of what the master or clients say. A step that spares the chunk's replica, which is any but its loss and
--- damage, leaves the member intact.
+-- chunks. It says nothing of what the master or clients say. A step that spares what the server has to keep leaves the
+-- member intact, and one that brings the image makes it so.
 pub record IsSteps (cause : Cause) (c : Setting) (chunk : ℕ) (w : World) (me : ℕ) (about : Option ℕ) (after : Server) (sent : List Message) : Type 0 where
   pub world : World
   pub leads : Leads w world
@@ -101,7 +112,8 @@ pub record IsSteps (cause : Cause) (c : Setting) (chunk : ℕ) (w : World) (me :
   pub lists : (t : ℕ) → GoesOn c (slot_in chunk after) (w.known.list t) (world.known.list t)
   pub numbers : (t : ℕ) → Numbers cause c (w.members me) (world.members me) t (w.known.list t) (world.known.list t)
   pub reached : (j t : ℕ) → (world.known.reached j t ≡ w.known.reached j t) ⊎ ((j ≡ me) × (t ≡ (world.members me).promise) × (is_some (world.members me).live ≡ true))
-  pub intact : spares cause ≡ true → (w.members me).intact ≡ true → (world.members me).intact ≡ true
+  pub intact : Spares cause w.known (w.members me).epoch (slot_in chunk after) → (w.members me).intact ≡ true → (world.members me).intact ≡ true
+  pub gains : MadeIntact (w.members me) (world.members me)
   pub stays : (x : Sent) → Contains w.sent x → Contains world.sent x
   pub same : (after.me ≡ me) × (after.block ≡ c.block) × (after.chunk ≡ c.size)
   pub shows : ShowsMember c chunk world after

@@ -1,6 +1,6 @@
 mod Tests
 mod Editing
-mod Calling
+pub mod Calling
 mod Following
 mod Telling
 mod Refusing
