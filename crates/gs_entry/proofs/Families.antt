@@ -1,6 +1,8 @@
 -- All chunks together, over a chain of moves.
-use Rattle.std.proofs.Common.{◌≡◌, ℕ, zero, suc, ◌==◌, ◌+◌, ◌^◌, ◌<◌, ◌≤◌, inl, inr, Bool, true, false, ◌||◌, List, [], ◌∷◌, ◌++◌, Option, Some, None, refl, sym, ap, subst, ◌∙◌, arith}
+use Rattle.std.proofs.Common.{◌≡◌, ℕ, zero, suc, ◌==◌, ◌+◌, ◌<◌, ◌≤◌, inl, inr, Bool, true, false, ◌||◌, List, [], ◌∷◌, ◌++◌, Option, Some, None, refl, sym, ap, subst, ◌∙◌, arith}
 use Rattle.std.specs.Prelude.{is_some, length, take}
+use Rattle.std.specs.FinMap as fin
+use Rattle.std.specs.Ordering.{nat_cmp}
 use Rattle.std.specs.List.{AllByRecursion}
 use Rattle.std.proofs.lemmas.Bool.{false≢true, true≢false, and_parts}
 use Rattle.std.proofs.lemmas.Bool.Decides.{nat_tests}
@@ -50,9 +52,12 @@ use Rattle.gs_entry.proofs.Marking.{marks_both, same_epoch}
 use Rattle.gs_entry.proofs.Sending.{IsLed, heard_more, leads_on, masters_on, tells_more}
 use Rattle.gs_entry.proofs.Stamps.{of_member, same_number}
 use Rattle.gs_entry.proofs.Unborn.{copies_rise, each_move_goes_unborn, restarts_unborn}
+use Rattle.gs_chunk.proofs.Numbering.{stays_behind}
+use Rattle.gs_entry.specs.Showing.{Rises}
+use Rattle.gs_entry.proofs.Leaving.{past_rises, rises_both, rises_itself}
 use Rattle.gs_entry.specs.Bearing.{IsBornWithin, IsUnbornAgain}
 use Rattle.gs_entry.specs.Births.{Anything, Brings, BringsTo, IsBorn}
-use Rattle.gs_entry.specs.Families.{Alive, BeginsOld, Beyond, BornFrom, ComesFrom, CopiesTo, Copies_of, FamiliesCut, FamiliesGo, FamilyLists, StartsUnborn, WrittenFamiliesGo, Family, FamilyGoes, Goes, Heard_of, IsAlive, IsCopyOf, IsFixed, Life, ListsFrom, MarksOf, Unborn, birth_of}
+use Rattle.gs_entry.specs.Families.{Alive, BornFrom, ComesFrom, CopiesTo, Copies_of, FamiliesCut, FamiliesGo, FamilyLists, StartsUnborn, WrittenFamiliesGo, Family, FamilyGoes, Goes, Heard_of, IsAlive, IsCopyOf, IsFixed, Life, ListsFrom, MarksOf, Unborn, birth_of}
 use Rattle.gs_entry.specs.Showing.{ShowsSettled, primary_of}
 use Rattle.gs_entry.specs.Telling.{Follows, IsSameMember, Says, Shows, Tells}
 use Rattle.gs_entry.specs.Unborn.{GoesUnborn, IsUnborn, SaysNothing, StaysUnborn, silent}
@@ -115,16 +120,16 @@ follows_next P chunk whole s u messages a f = record {
   from = tt;
 }
 
-born_next : (P : List Edit → Type 0) (chunk : ℕ) (whole : ℕ → Bool) (s u : State) (messages : List Message) (origin : List Edit) (k : IsUnborn chunk s) → ((many : ℕ) → P (take many origin)) → s.durable.epoch ≤ u.durable.epoch → IsBorn chunk origin u messages
+born_next : (P : List Edit → Type 0) (chunk : ℕ) (whole : ℕ → Bool) (s u : State) (messages : List Message) (origin : List Edit) (k : IsUnborn chunk s) → ((many : ℕ) → P (take many origin)) → Rises s.durable u.durable → IsBorn chunk origin u messages
     → Next P chunk whole s u messages (Unborn k)
-born_next P chunk whole s u messages origin k from later b = record {
+born_next P chunk whole s u messages origin k from rises b = record {
   life_then = Alive (record { world = b.world; reached = (b.birth, b.leads); shows = b.shows });
-  goes = record { later = (let now = b.now in omega arith); leads = b.leads; masters = b.masters; members = b.members; tells = b.tells };
+  goes = record { later = (let now = b.now in let up = rises.epoch in omega arith); leads = b.leads; masters = b.masters; members = b.members; fresh = λ top past. b.fresh top (past_rises s.durable u.durable rises top past); tells = b.tells };
   from = λ many. subst (λ es. P (take many es)) (sym b.begins) (from many);
 }
 
 silent_next : (P : List Edit → Type 0) (chunk : ℕ) (whole : ℕ → Bool) (s : State) (t : Turn) (k : IsUnborn chunk s) → StaysUnborn chunk s t → Next P chunk whole s t.after t.sent (Unborn k)
-silent_next P chunk whole s t k stays = record { life_then = Unborn stays.unborn; goes = record { later = stays.later; says = stays.says }; from = tt }
+silent_next P chunk whole s t k stays = record { life_then = Unborn stays.unborn; goes = record { rises = stays.rises; says = stays.says }; from = tt }
 
 -- the handle of a chunk that is given is below that of one that isn't
 below : (next old chunk : ℕ) → is_given next old ≡ true → is_given next chunk ≡ false → IsNumber chunk → 0 < chunk → IsNumber old
@@ -201,8 +206,7 @@ module _ (whole : ℕ → ℕ → Bool) (config : Config) (heard : Heard) (s : S
 
   -- the old chunk of a copy is alive
   old_alive : (old : ℕ) (life : Life old s) → is_given s.durable.next_handle old ≡ true → IsNumber old → (a : IsAlive old s) × (life ≡ Alive a)
-  old_alive old (Beyond b) given number = absurd (let n : old < 2 ^ 64 = number in omega arith)
-  old_alive old (Unborn k) given number = absurd (false≢true (sym k.given ∙ given))
+  old_alive old (Unborn k) given number = absurd (false≢true (sym (k.ungiven.given number) ∙ given))
   old_alive old (Alive a) given number = (a, refl)
 
   positive : (chunk : ℕ) (u : State) (origin : List Edit) (messages : List Message) → IsBorn chunk origin u messages → 0 < chunk
@@ -224,7 +228,6 @@ module _ (whole : ℕ → ℕ → Bool) (config : Config) (heard : Heard) (s : S
       by_way (inr (later, inr copied)) = born_next Comes chunk (whole chunk) s t.after t.sent [] k (λ many. inl (take_none many)) later (copied.3 [] (record { rises = λ i j x y at. absurd (false≢true (ap is_some at)) }))
 
   plain_next : (move : Move) → IsMadeWell config heard s move → (chunk : ℕ) (life : Life chunk s) → Heard_of chunk s heard life → MarksOf chunk s (whole chunk) life → Next Comes chunk (whole chunk) s (move_turn config s move).after (move_turn config s move).sent life
-  plain_next move well chunk (Beyond b) was live = record { life_then = Beyond b; goes = tt; from = tt }
   plain_next move well chunk (Unborn k) was live = unborn_next move well chunk k was
   plain_next move well chunk (Alive a) was live =
       follows_next Comes chunk (whole chunk) s (move_turn config s move).after (move_turn config s move).sent a (moves_follow (birth_of a) chunk (whole chunk) config heard s move a.world live a.shows was well)
@@ -249,7 +252,9 @@ module _ (whole : ℕ → ℕ → Bool) (config : Config) (heard : Heard) (s : S
     no_edits = record { rises = λ i j x y at. absurd (false≢true (ap is_some at)) }
 
     old_number : (chunk : ℕ) → (next == chunk) ≡ true → IsUnborn chunk s → IsNumber old
-    old_number chunk same k = below next old chunk well.made.may.given k.given k.number (positive chunk turn.after [] turn.sent (born_with chunk same k [] no_edits))
+    old_number chunk same k =
+        let number : IsNumber chunk = subst IsNumber (same_number next chunk same) k.ungiven.handle in
+        below next old chunk well.made.may.given (k.ungiven.given number) number (positive chunk turn.after [] turn.sent (born_with chunk same k [] no_edits))
 
     -- the old one, as it is shown
     the_old : (chunk : ℕ) → (next == chunk) ≡ true → IsUnborn chunk s → IsAlive old s
@@ -265,12 +270,11 @@ module _ (whole : ℕ → ℕ → Bool) (config : Config) (heard : Heard) (s : S
     later : (chunk : ℕ) (same : (next == chunk) ≡ true) (k : IsUnborn chunk s) → IsBorn chunk (list_of (the_old chunk same k)) turn.after turn.sent
     later chunk same k = born_with chunk same k (list_of (the_old chunk same k)) (list_numbered old s (the_old chunk same k))
 
-    rises : s.durable.epoch ≤ turn.after.durable.epoch
+    rises : Rises s.durable turn.after.durable
     rises = copies_rise config heard s old view req beside well
 
     copies_at : (chunk : ℕ) (b : Bool) → (next == chunk) ≡ b → (life : Life chunk s) → Heard_of chunk s heard life → MarksOf chunk s (whole chunk) life → Next Comes chunk (whole chunk) s turn.after turn.sent life
     copies_at chunk true same (Unborn k) was live = born_next Comes chunk (whole chunk) s turn.after turn.sent (list_of (the_old chunk same k)) k (from_old chunk same k) rises (later chunk same k)
-    copies_at chunk true same (Beyond b) was live = plain_next (Copies old view req beside) well chunk (Beyond b) was live
     copies_at chunk true same (Alive a) was live = plain_next (Copies old view req beside) well chunk (Alive a) was live
     copies_at chunk false other life was live = plain_next (Copies old view req beside) well chunk life was live
 
@@ -285,8 +289,7 @@ module _ (whole : ℕ → ℕ → Bool) (config : Config) (heard : Heard) (s : S
 
     old_next : (life : Life old s) (was : Heard_of old s heard life) (live : MarksOf old s (whole old) life) (number : IsNumber old) → OldThen (old_alive old life well.made.may.given number).0 (plain_next (Copies old view req beside) well old life was live).life_then
     unfolding plain_next follows_next old_alive
-    old_next (Beyond b) was live number = absurd (let n : old < 2 ^ 64 = number in omega arith)
-    old_next (Unborn k) was live number = absurd (false≢true (sym k.given ∙ well.made.may.given))
+    old_next (Unborn k) was live number = absurd (false≢true (sym (k.ungiven.given number) ∙ well.made.may.given))
     old_next (Alive a) was live number =
         let f = moves_follow (birth_of a) old (whole old) config heard s (Copies old view req beside) a.world live a.shows was well in record { now = alive_on old s turn.after a f.world f.leads f.shows; is = refl; leads = f.leads }
 
@@ -319,7 +322,6 @@ module _ (whole : ℕ → ℕ → Bool) (config : Config) (heard : Heard) (s : S
           told = t.3;
           fixed = fixed_on a.world o.now.world a.world.entry.view.stamp me (list_of a) a.reached o.leads (is_fixed old s a view well.made.may me on);
         })
-    copied_to me on true same (Beyond b) was live told = tt
     copied_to me on true same (Alive a) was live told = absurd (ungiven next a.shows.entry.durable.given)
       where
         ungiven : (n : ℕ) → is_given n n ≡ true → ⊥
@@ -412,48 +414,31 @@ same_live m n b (inr e) live = ap (λ (x : Member). is_some x.live) e ∙ live
 
 -- what it hears behind some moves
 hears_on : (chunk : ℕ) (whole : ℕ → Bool) (heard : Heard) (s u : State) (messages : List Message) (l : Life chunk s) (m : Life chunk u) → Goes chunk whole s u messages l m → Heard_of chunk s heard l → Heard_of chunk u heard m
-hears_on chunk whole heard s u messages (Beyond b) (Beyond c) goes was = tt
-hears_on chunk whole heard s u messages (Beyond b) (Unborn v) goes was = absurd goes
-hears_on chunk whole heard s u messages (Beyond b) (Alive c) goes was = absurd goes
-hears_on chunk whole heard s u messages (Unborn b) (Beyond c) goes was = absurd goes
 hears_on chunk whole heard s u messages (Unborn b) (Unborn v) goes was = was
 hears_on chunk whole heard s u messages (Unborn b) (Alive c) goes was = heard_more chunk silent c.world (from_silent c.world) heard was
-hears_on chunk whole heard s u messages (Alive a) (Beyond c) goes was = absurd goes
 hears_on chunk whole heard s u messages (Alive a) (Unborn v) goes was = absurd goes
 hears_on chunk whole heard s u messages (Alive a) (Alive c) goes was = heard_more chunk a.world c.world goes.stays heard was
 
 marks_on : (chunk : ℕ) (whole : ℕ → Bool) (s u : State) (messages : List Message) (l : Life chunk s) (m : Life chunk u) → Goes chunk whole s u messages l m → MarksOf chunk s whole l → MarksOf chunk u whole m
-marks_on chunk whole s u messages (Beyond b) (Beyond c) goes live = tt
-marks_on chunk whole s u messages (Beyond b) (Unborn v) goes live = absurd goes
-marks_on chunk whole s u messages (Beyond b) (Alive c) goes live = absurd goes
-marks_on chunk whole s u messages (Unborn b) (Beyond c) goes live = absurd goes
 marks_on chunk whole s u messages (Unborn b) (Unborn v) goes live = live
 marks_on chunk whole s u messages (Unborn b) (Alive c) goes live = λ j is. absurd (false≢true (sym (live j) ∙ is))
-marks_on chunk whole s u messages (Alive a) (Beyond c) goes live = absurd goes
 marks_on chunk whole s u messages (Alive a) (Unborn v) goes live = absurd goes
 marks_on chunk whole s u messages (Alive a) (Alive c) goes live = λ j is. same_live (a.world.members j) (c.world.members j) (whole j) (goes.members j) (live j is)
 
 -- one behind the other
 goes_both : (chunk : ℕ) (whole : ℕ → Bool) (s u v : State) (first next : List Message) (l : Life chunk s) (m : Life chunk u) (n : Life chunk v) → MarksOf chunk s whole l → Goes chunk whole s u first l m → Goes chunk whole u v next m n → Goes chunk whole s v (first ++ next) l n
-goes_both chunk whole s u v first next (Beyond b) (Beyond c) (Beyond d) live f g = tt
-goes_both chunk whole s u v first next (Beyond b) (Beyond c) (Unborn d) live f g = absurd g
-goes_both chunk whole s u v first next (Beyond b) (Beyond c) (Alive d) live f g = absurd g
-goes_both chunk whole s u v first next (Beyond b) (Unborn c) n live f g = absurd f
-goes_both chunk whole s u v first next (Beyond b) (Alive c) n live f g = absurd f
-goes_both chunk whole s u v first next (Unborn b) (Beyond c) n live f g = absurd f
-goes_both chunk whole s u v first next (Unborn b) (Unborn c) (Beyond d) live f g = absurd g
 goes_both chunk whole s u v first next (Unborn b) (Unborn c) (Unborn d) live f g = record {
-  later = (let x = f.later in let y = g.later in omega arith);
-  says = all_append (SaysNothing chunk v.durable.epoch) first next (all_later chunk u.durable.epoch v.durable.epoch g.later first f.says) g.says;
+  rises = rises_both s.durable u.durable v.durable f.rises g.rises;
+  says = all_append (SaysNothing chunk v.durable.epoch) first next (all_later chunk u.durable.epoch v.durable.epoch g.rises.epoch first f.says) g.says;
 }
 goes_both chunk whole s u v first next (Unborn b) (Unborn c) (Alive d) live f g = record {
-  later = (let x = f.later in let y = g.later in omega arith);
+  later = (let x = f.rises.epoch in let y = g.later in omega arith);
   leads = g.leads;
   masters = g.masters;
   members = g.members;
+  fresh = λ top past. g.fresh top (past_rises s.durable u.durable f.rises top past);
   tells = all_append (Tells (birth_of d) chunk d.world) first next (all_quiet chunk (birth_of d) [] d.world first (all_later chunk u.durable.epoch (birth_of d) g.later first f.says)).0 g.tells;
 }
-goes_both chunk whole s u v first next (Unborn b) (Alive c) (Beyond d) live f g = absurd g
 goes_both chunk whole s u v first next (Unborn b) (Alive c) (Unborn d) live f g = absurd g
 goes_both chunk whole s u v first next (Unborn b) (Alive c) (Alive d) live f g =
     let same : birth_of d ≡ birth_of c = ap (λ (x : Birth). x.epoch) g.same in
@@ -462,12 +447,11 @@ goes_both chunk whole s u v first next (Unborn b) (Alive c) (Alive d) live f g =
       later = (let x = f.later in omega arith);
       leads = led.leads;
       masters = led.masters;
+      fresh = λ top past. stays_behind c.world d.world top c.reached g.leads (f.fresh top past);
       members = λ j. same_blank (birth_of d) (c.world.members j) (d.world.members j) (f.members j ∙ ap no_member (sym same)) (subst (λ b. IsSameMember (c.world.members j) b (d.world.members j)) (live j) (g.members j));
       tells = all_append (Tells (birth_of d) chunk d.world) first next (subst (λ e. AllByRecursion (Tells e chunk d.world) first) (sym same) (tells_more chunk c.world d.world g.stays (birth_of c) first f.tells)) g.tells;
     }
-goes_both chunk whole s u v first next (Alive a) (Beyond c) n live f g = absurd f
 goes_both chunk whole s u v first next (Alive a) (Unborn c) n live f g = absurd f
-goes_both chunk whole s u v first next (Alive a) (Alive c) (Beyond d) live f g = absurd g
 goes_both chunk whole s u v first next (Alive a) (Alive c) (Unborn d) live f g = absurd g
 goes_both chunk whole s u v first next (Alive a) (Alive c) (Alive d) live f g =
     let same : birth_of d ≡ birth_of c = ap (λ (x : Birth). x.epoch) g.same in
@@ -494,16 +478,10 @@ copy_on old new s u whole more messages (Alive a) (Alive b) (Alive c) (Alive d) 
   told = g.stays (record { server = me; body = CopyIn (k.after) (k.edits) None }) k.told;
   fixed = fixed_on a.world b.world k.before me k.edits a.reached f.leads k.fixed;
 }
-copy_on old new s u whole more messages (Alive a) (Beyond b) (Alive c) y f g me at stamp k = absurd f
 copy_on old new s u whole more messages (Alive a) (Unborn b) (Alive c) y f g me at stamp k = absurd f
-copy_on old new s u whole more messages (Alive a) (Alive b) (Alive c) (Beyond d) f g me at stamp k = absurd g
 copy_on old new s u whole more messages (Alive a) (Alive b) (Alive c) (Unborn d) f g me at stamp k = absurd g
-copy_on old new s u whole more messages (Beyond a) m (Alive c) y f g me at stamp k = absurd k
 copy_on old new s u whole more messages (Unborn a) m (Alive c) y f g me at stamp k = absurd k
 copy_on old new s u whole more messages l m (Unborn c) y f g me at stamp k = absurd k
-copy_on old new s u whole more messages l m (Beyond c) (Beyond d) f g me at stamp k = tt
-copy_on old new s u whole more messages l m (Beyond c) (Unborn d) f g me at stamp k = absurd g
-copy_on old new s u whole more messages l m (Beyond c) (Alive d) f g me at stamp k = absurd g
 
 module _ (whole : ℕ → ℕ → Bool) (s u : State) (family : Family s) (last : Family u) (messages : List Message) (goes : (chunk : ℕ) → Goes chunk (whole chunk) s u messages (family chunk) (last chunk)) where
   body_on : (to : NodeId) (body : Body) → CopiesTo s family to body → CopiesTo u last to body
@@ -526,8 +504,6 @@ module _ (s u : State) (family : Family s) where
   lists_of chunk whole messages (Alive a) (Alive b) is goes from = λ stamp many. let x = (masters_leave a.world b.world goes.leads goes.masters).lists stamp many in inr (record { chunk = chunk; alive = a; is = is; stamp = x.0; many = x.1; begins = x.2 })
   lists_of chunk whole messages (Unborn k) (Alive b) is goes from = λ stamp many.
       let x = (masters_leave (world_of b.reached.0) b.world goes.leads goes.masters).lists stamp many in subst From (sym x.2) (from x.1)
-  lists_of chunk whole messages (Beyond a) (Alive b) is goes from = absurd goes
-  lists_of chunk whole messages l (Beyond b) is goes from = tt
   lists_of chunk whole messages l (Unborn b) is goes from = tt
 
   -- what comes from a list there comes from one of before
@@ -543,10 +519,7 @@ module _ (s u : State) (family : Family s) where
       → Goes chunk whole s u one l m → Goes chunk whole u v more m n → BornFrom From chunk s u l m → BornFrom (ComesFrom u first) chunk u v m n → BornFrom From chunk s v l n
   from_both v first lists chunk whole one more (Unborn k) (Unborn m) (Alive n) f g a b = λ many. carried first lists (take many n.reached.0.origin) (b many)
   from_both v first lists chunk whole one more (Unborn k) (Alive m) (Alive n) f g a b = λ many. subst (λ (z : Birth). From (take many z.origin)) (sym g.same) (a many)
-  from_both v first lists chunk whole one more (Unborn k) (Beyond m) (Alive n) f g a b = absurd f
-  from_both v first lists chunk whole one more (Unborn k) m (Beyond n) f g a b = tt
   from_both v first lists chunk whole one more (Unborn k) m (Unborn n) f g a b = tt
-  from_both v first lists chunk whole one more (Beyond k) m n f g a b = tt
   from_both v first lists chunk whole one more (Alive k) m n f g a b = tt
 
 pub family_lists : FamilyLists
@@ -554,13 +527,11 @@ family_lists whole s u messages family f chunk = lists_of s u family chunk (whol
 
 -- nothing happens
 goes_still : (chunk : ℕ) (whole : ℕ → Bool) (s : State) (l : Life chunk s) → Goes chunk whole s s [] l l
-goes_still chunk whole s (Beyond b) = tt
-goes_still chunk whole s (Unborn k) = record { later = omega arith; says = tt }
+goes_still chunk whole s (Unborn k) = record { rises = rises_itself s.durable; says = tt }
 goes_still chunk whole s (Alive a) = record { leads = Rests; masters = tt; same = refl; members = λ j. inl refl; marks = same_epoch whole a.world a.world refl; stays = λ x there. there; tells = tt }
 
 -- nothing is born
 from_still : (P : List Edit → Type 0) (chunk : ℕ) (s : State) (l : Life chunk s) → BornFrom P chunk s s l l
-from_still P chunk s (Beyond b) = tt
 from_still P chunk s (Unborn k) = tt
 from_still P chunk s (Alive a) = tt
 
@@ -583,23 +554,22 @@ families_go whole config heard s t family hears marks (Then u first next a b) =
 pub written_families_go : WrittenFamiliesGo
 written_families_go whole config heard s t family hears marks kept written chain = families_go whole config heard s t family hears marks (chains_stand config heard s t chain written kept).chain
 
-within_next : (P : List Edit → Type 0) (chunk : ℕ) (whole : ℕ → Bool) (s u : State) (origin : List Edit) (k : IsUnborn chunk s) → ((many : ℕ) → P (take many origin)) → IsBornWithin chunk origin s.durable.epoch u [] → Next P chunk whole s u [] (Unborn k)
+within_next : (P : List Edit → Type 0) (chunk : ℕ) (whole : ℕ → Bool) (s u : State) (origin : List Edit) (k : IsUnborn chunk s) → ((many : ℕ) → P (take many origin)) → IsBornWithin chunk origin s.durable u [] → Next P chunk whole s u [] (Unborn k)
 within_next P chunk whole s u origin k from b = record {
   life_then = Alive (record { world = b.world; reached = (b.birth, b.leads); shows = b.shows });
-  goes = record { later = b.later; leads = b.leads; masters = b.masters; members = b.members; tells = tt };
+  goes = record { later = b.later; leads = b.leads; masters = b.masters; members = b.members; fresh = b.fresh; tells = tt };
   from = λ many. subst (λ es. P (take many es)) (sym b.begins) (from many);
 }
 
 -- it is cut, and the master is started again
 cut_next : (P : List Edit → Type 0) → ((many : ℕ) → P (take many none_yet)) → (whole : ℕ → Bool) (config : Config) (heard : Heard) (s : State) (t : Turn) (many : ℕ) (d : Durable) (log : Log) → IsKept s.durable → IsWritten t → Chain config (IsMade config heard) s t → many ≤ length t.records → replayed s.durable (take many t.records) ≡ Some d
     → (chunk : ℕ) (life : Life chunk s) → Heard_of chunk s heard life → MarksOf chunk s whole life → Next P chunk whole s (restarted d log) [] life
-cut_next P none whole config heard s t many d log kept written chain within fit chunk (Beyond b) was live = record { life_then = Beyond b; goes = tt; from = tt }
 cut_next P none whole config heard s t many d log kept written chain within fit chunk (Alive a) was live =
     follows_next P chunk whole s (restarted d log) [] a (parts_follow (birth_of a) chunk whole config heard s t many d log a.world live a.shows was kept written chain within fit)
 cut_next P none whole config heard s t many d log kept written chain within fit chunk (Unborn k) was live = by_way (written_cuts_go_unborn chunk config heard s t many d log was chain written kept fit k)
   where
     by_way : IsUnbornAgain config heard chunk s (restarted d log) → Next P chunk whole s (restarted d log) [] (Unborn k)
-    by_way (inl unborn) = record { life_then = Unborn unborn.0; goes = record { later = unborn.1; says = tt }; from = tt }
+    by_way (inl unborn) = record { life_then = Unborn unborn.0; goes = record { rises = unborn.1; says = tt }; from = tt }
     by_way (inr (inl born)) = within_next P chunk whole s (restarted d log) [] k none born
     by_way (inr (inr copied)) = within_next P chunk whole s (restarted d log) [] k none (copied.born [] (record { rises = λ i j x y at. absurd (false≢true (ap is_some at)) }))
 
@@ -611,7 +581,7 @@ families_cut whole config heard s t many d log family hears marks kept written c
 -- ---- a new store
 
 pub starts_unborn : StartsUnborn
-starts_unborn chunk log number = restarts_unborn chunk start log number (omega arith) (none_given chunk)
+starts_unborn chunk log = restarts_unborn chunk start log (omega arith) (record { handle = omega arith; given = λ number. none_given chunk; settled = fin.get-empty nat_cmp chunk; prepared = fin.get-empty nat_cmp chunk })
   where
     none_given : (c : ℕ) → is_given 1 c ≡ false
     none_given c = grind (arith, nat_tests)

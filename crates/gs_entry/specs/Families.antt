@@ -1,7 +1,6 @@
 -- All chunks of a master together: each isn't born yet, or is shown by a machine; and what is told of copies is so in the machines of both.
-use Rattle.std.specs.Prelude.{◌≡◌, ◌⊎◌, ◌≤◌, ◌^◌, ℕ, Bool, true, false, List, [], length, take, None, Some, is_some, Contains}
+use Rattle.std.specs.Prelude.{◌≡◌, ◌⊎◌, ◌≤◌, ℕ, Bool, true, false, List, [], length, take, None, Some, is_some, Contains}
 use Rattle.std.specs.List.{AllByRecursion}
-use Rattle.gs_base.specs.Told.{IsNumber}
 use Rattle.gs_base.specs.declared.config.Config.{Config}
 use Rattle.gs_base.specs.declared.numbers.Stamp.{Stamp}
 use Rattle.gs_msg.specs.declared.body.Body.{Body}
@@ -24,6 +23,8 @@ use Rattle.gs_chunk.specs.Laws.{Birth, IsReached, world_of}
 use Rattle.gs_chunk.specs.Mastering.{AreOfMaster}
 use Rattle.gs_chunk.specs.Machine.{Sent, World, WasTold, CopyIn}
 use Rattle.gs_chunk.specs.Events.{Leads, no_member}
+use Rattle.gs_chunk.specs.Numbering.{IsBehind}
+use Rattle.gs_entry.specs.Showing.{IsPast, Rises}
 use Rattle.gs_entry.specs.Telling.{IsSameMember, Marks, Says, Shows, Tells}
 use Rattle.gs_entry.specs.Unborn.{IsUnborn, SaysNothing, silent}
 
@@ -35,9 +36,8 @@ pub record IsAlive (chunk : ℕ) (s : State) : Type 0 where
   pub reached : IsReached world
   pub shows : Shows chunk s world
 
--- A handle of more than 64 bits is never given.
+-- it isn't born, or it lives
 pub data Life (chunk : ℕ) (s : State) : Type 0 where
-  Beyond : 2 ^ 64 ≤ chunk → Life chunk s
   Unborn : IsUnborn chunk s → Life chunk s
   Alive : IsAlive chunk s → Life chunk s
 
@@ -47,13 +47,11 @@ birth_of a = a.reached.0.epoch
 
 -- what is heard was said in its machine; of one that isn't born nothing was said
 abbrev pub Heard_of : (chunk : ℕ) (s : State) → Heard → Life chunk s → Type 0
-Heard_of chunk s heard (Beyond b) = Unit {0}
 Heard_of chunk s heard (Unborn u) = WasHeard (Says chunk silent) heard
 Heard_of chunk s heard (Alive a) = WasHeard (Says chunk a.world) heard
 
 -- the servers that are whole have live replicas; of one that isn't born nobody has
 abbrev pub MarksOf : (chunk : ℕ) (s : State) → (ℕ → Bool) → Life chunk s → Type 0
-MarksOf chunk s whole (Beyond b) = Unit {0}
 MarksOf chunk s whole (Unborn u) = (j : ℕ) → whole j ≡ false
 MarksOf chunk s whole (Alive a) = (j : ℕ) → whole j ≡ true → is_some (a.world.members j).live ≡ true
 
@@ -67,27 +65,23 @@ pub record GoesAlive (chunk : ℕ) (whole : ℕ → Bool) (s u : State) (message
   pub stays : (x : Sent) → Contains a.world.sent x → Contains b.world.sent x
   pub tells : AllByRecursion (Tells (birth_of b) chunk b.world) messages
 
--- it is born: no server has anything
+-- it is born: no server has anything, and no view of it is of a stamp below one that was given before
 pub record GoesBorn (chunk : ℕ) (s u : State) (messages : List Message) (b : IsAlive chunk u) : Type 0 where
   pub later : s.durable.epoch ≤ birth_of b
   pub leads : Leads (world_of b.reached.0) b.world
   pub masters : AreOfMaster (world_of b.reached.0) b.world leads
   pub members : (j : ℕ) → b.world.members j ≡ no_member (birth_of b)
+  pub fresh : (top : ℕ) → IsPast s.durable top → IsBehind top b.world.known
   pub tells : AllByRecursion (Tells (birth_of b) chunk b.world) messages
 
 -- it isn't born yet: nothing is said of it
 pub record GoesSilent (chunk : ℕ) (s u : State) (messages : List Message) : Type 0 where
-  pub later : s.durable.epoch ≤ u.durable.epoch
+  pub rises : Rises s.durable u.durable
   pub says : AllByRecursion (SaysNothing chunk u.durable.epoch) messages
 
 abbrev pub Goes : (chunk : ℕ) (whole : ℕ → Bool) (s u : State) (messages : List Message) → Life chunk s → Life chunk u → Type 0
-Goes chunk whole s u messages (Beyond b) (Beyond c) = Unit {0}
-Goes chunk whole s u messages (Beyond b) (Unborn v) = ⊥
-Goes chunk whole s u messages (Beyond b) (Alive c) = ⊥
-Goes chunk whole s u messages (Unborn b) (Beyond c) = ⊥
 Goes chunk whole s u messages (Unborn b) (Unborn v) = GoesSilent chunk s u messages
 Goes chunk whole s u messages (Unborn b) (Alive c) = GoesBorn chunk s u messages c
-Goes chunk whole s u messages (Alive a) (Beyond c) = ⊥
 Goes chunk whole s u messages (Alive a) (Unborn v) = ⊥
 Goes chunk whole s u messages (Alive a) (Alive c) = GoesAlive chunk whole s u messages a c
 
@@ -113,12 +107,10 @@ pub record IsCopiedTo (w v : World) (birth : Birth) (me : ℕ) (at stamp : Stamp
   pub told : WasTold v me (CopyIn after edits None)
   pub fixed : IsFixed w before me edits
 
--- it is so of each two chunks; nothing is told of a handle that is never given
+-- it is so of each two chunks
 abbrev pub IsCopyOf : (old new : ℕ) (s : State) → Life old s → Life new s → ℕ → Stamp → Stamp → Type 0
-IsCopyOf old new s life (Beyond b) me at stamp = Unit {0}
 IsCopyOf old new s life (Unborn b) me at stamp = ⊥
 IsCopyOf old new s (Alive a) (Alive b) me at stamp = IsCopiedTo a.world b.world b.reached.0 me at stamp
-IsCopyOf old new s (Beyond a) (Alive b) me at stamp = ⊥
 IsCopyOf old new s (Unborn a) (Alive b) me at stamp = ⊥
 
 -- ---- all of them
@@ -186,4 +178,4 @@ FamiliesCut = (whole : ℕ → ℕ → Bool) (config : Config) (heard : Heard) (
 
 -- In a new store no chunk is born.
 abbrev pub StartsUnborn : Type 0
-StartsUnborn = (chunk : ℕ) (log : Log) → IsNumber chunk → IsUnborn chunk (fresh log)
+StartsUnborn = (chunk : ℕ) (log : Log) → IsUnborn chunk (fresh log)
