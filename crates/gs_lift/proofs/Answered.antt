@@ -1,10 +1,8 @@
 -- Each edit that a client is told is done is done in the machine of its chunk.
-use Rattle.std.proofs.Common.{◌≡◌, ◌∙◌, ◌⊎◌, inl, inr, ◌≤◌, ◌<◌, ◌^◌, ◌+◌, ℕ, Bool, true, false, cond, List, [], ◌∷◌, Option, Some, None, refl, sym, ap, subst, slice_get}
+use Rattle.std.proofs.Common.{◌≡◌, ◌∙◌, ◌⊎◌, inl, inr, ◌+◌, ℕ, Bool, true, false, cond, List, [], ◌∷◌, Option, Some, None, refl, sym, ap, subst, slice_get}
 use Rattle.std.specs.Prelude.{Result, Ok, Err, ◌==◌, nat_lt}
 use Rattle.std.specs.FinMap as fin
 use Rattle.std.specs.List.{AllByRecursion}
-use Rattle.std.proofs.lemmas.Bool.{cases_lt}
-use Rattle.gs_base.specs.Told.{IsNumber}
 use Rattle.gs_base.specs.declared.config.Config.{Config}
 use Rattle.gs_base.specs.declared.epoch.EpochEnd.{EpochEnd}
 use Rattle.gs_base.specs.declared.numbers.Moment.{Moment}
@@ -37,7 +35,6 @@ use Rattle.gs_run.specs.Histories.{History}
 use Rattle.gs_run.specs.Lasting.{failures_at}
 use Rattle.gs_run.specs.Sent.{Sent, none_sent}
 use Rattle.gs_chunk.specs.Machine.{World}
-use Rattle.gs_chunk.specs.Events.{Leads, Rests}
 use Rattle.gs_chunk.specs.Laws.{Birth}
 use Rattle.gs_member.specs.Answering.{AnswersBody, AnswersOf, IsAnswered, IsPassed, NoYes, handle_in}
 use Rattle.gs_member.specs.Requests.{Asked, IsOfOneEdit}
@@ -47,11 +44,12 @@ use Rattle.gs_member.proofs.Lists.{all_flat}
 use Rattle.gs_member.proofs.Reading.{answers_on}
 use Rattle.gs_lift.specs.Saying.{AreOfClient, AreOfMaster, IsOfClient, IsOfMaster}
 use Rattle.gs_run.specs.Runs.{Step}
-use Rattle.gs_lift.specs.Going.{AllSent, Beats, Damages, Hears, Kind, Loses, MasterGoes, OfMaster, OfServer, Posts, Restarts, ServerGoes, Ticks, about_of}
+use Rattle.gs_lift.specs.Going.{AllSent, Beats, Damages, Hears, Kind, Loses, MasterGoes, OfMaster, OfServer, Posts, Restarts, ServerGoes, Ticks, about_of, heard_in}
 use Rattle.gs_lift.specs.Going as going
-use Rattle.gs_lift.specs.Joint.{AtMaster, AtServer, Elsewhere, GoesBy}
+use Rattle.gs_lift.specs.Joint.{AtMaster, AtServer, Elsewhere, GoesBy, heard_by}
+use Rattle.gs_lift.specs.Living.{GoesOn}
 use Rattle.gs_lift.specs.Showing.{IsAlive, Life, setting}
-use Rattle.gs_lift.specs.Answers.{AnswersBegin, AnswersGoOn, DonesAreAnswered, HasDone, HasDoneBody, LifeGoes, LivesOf, heard_by, heard_in}
+use Rattle.gs_lift.specs.Answers.{AnswersBegin, AnswersGoOn, DonesAreAnswered, HasDone, HasDoneBody, LivesOf}
 use Rattle.gs_lift.specs.Waiting.{AllWaitAsked, AsksFor}
 use Rattle.gs_lift.proofs.AskingRuns.{does_say}
 use Rattle.gs_lift.proofs.Beginning.{begins_silent, none_of}
@@ -169,35 +167,29 @@ of_client_quiet (m ∷ messages) of = (client_quiet m.body of.0, of_client_quiet
 
 -- ---- a step
 
-module _ {D : Type 0} (seen : D → List ℕ) (config : Config) (bytes : ReqId → List ℕ) (born chunk : ℕ) (step : Step) (old new : History D) (w v : World) where
-  pub leads_by : GoesBy seen config bytes born chunk step old new w v → Leads w v
-  leads_by (AtServer by) = subst (Leads w) (sym by.world) by.steps.leads
-  leads_by (AtMaster by) = by.leads
-  leads_by (Elsewhere still servers master) = subst (Leads w) (sym still) Rests
-
 module _ {D : Type 0} (seen : D → List ℕ) (failures : D → ℕ) (armed : DiskId → ℕ → MasterPlace D → MasterPlace D) (config : Config) (bytes : ReqId → List ℕ) (step : Step) (old new : History D) (kind : Kind seen failures armed step old new)
-    (asked : ℕ → Asked) (before : LivesOf seen config bytes old) (behind : LivesOf seen config bytes new) (each : (chunk : ℕ) (number : IsNumber chunk) → LifeGoes seen failures armed config bytes chunk step old new kind (before chunk number) (behind chunk number)) where
+    (asked : ℕ → Asked) (before : LivesOf seen config bytes old) (behind : LivesOf seen config bytes new) (each : (chunk : ℕ) → GoesOn seen config bytes chunk step (heard_in seen failures armed kind) old new (before chunk) (behind chunk)) where
   abbrev IsDone : Message → Type 0
   IsDone m = HasDoneBody seen config bytes asked new behind m.body
 
   -- what was done is done still
-  done_on : (chunk : ℕ) (number : IsNumber chunk) (req : ReqId) (outcome : Outcome) → HasDone seen config bytes chunk old (before chunk number) req outcome → HasDone seen config bytes chunk new (behind chunk number) req outcome
-  done_on chunk number req outcome has = by_lives (before chunk number) (behind chunk number) (each chunk number) has
+  done_on : (chunk : ℕ) (req : ReqId) (outcome : Outcome) → HasDone seen config bytes chunk old (before chunk) req outcome → HasDone seen config bytes chunk new (behind chunk) req outcome
+  done_on chunk req outcome has = by_lives (before chunk) (behind chunk) (each chunk) has
     where
-      by_lives : (l : Life seen config bytes chunk old) (m : Life seen config bytes chunk new) → LifeGoes seen failures armed config bytes chunk step old new kind l m → HasDone seen config bytes chunk old l req outcome → HasDone seen config bytes chunk new m req outcome
-      by_lives (inl unborn) m goes has = absurd has
+      by_lives : (l : Life seen config bytes chunk old) (m : Life seen config bytes chunk new) → GoesOn seen config bytes chunk step (heard_in seen failures armed kind) old new l m → HasDone seen config bytes chunk old l req outcome → HasDone seen config bytes chunk new m req outcome
+      by_lives (inl unborn) life goes has = absurd has
       by_lives (inr a) (inl unborn) goes has = absurd goes
-      by_lives (inr a) (inr b) (birth, by, heard) (me, is) = (
+      by_lives (inr a) (inr b) goes (me, is) = (
         me,
-        subst (λ epoch. IsAnswered (setting config bytes epoch) b.world me req outcome ⊎ IsPassed (setting config bytes epoch) b.world outcome) (sym (ap (λ (x : Birth). x.epoch) birth))
-            (answers_on (setting config bytes a.reached.0.epoch) a.world b.world a.reached (leads_by seen config bytes a.reached.0.epoch chunk step old new a.world b.world by) me req outcome is),
+        subst (λ epoch. IsAnswered (setting config bytes epoch) b.world me req outcome ⊎ IsPassed (setting config bytes epoch) b.world outcome) (sym (ap (λ (x : Birth). x.epoch) goes.same))
+            (answers_on (setting config bytes a.reached.0.epoch) a.world b.world a.reached goes.leads me req outcome is),
       )
 
   old_done : (m : Message) → HasDoneBody seen config bytes asked old before m.body → IsDone m
   old_done m has = by_body m.body has
     where
       by_body : (body : Body) → HasDoneBody seen config bytes asked old before body → HasDoneBody seen config bytes asked new behind body
-      by_body (bodies.Done req (Ok outcome)) (chunk, number, has, asks) = (chunk, number, done_on chunk number req outcome has, asks)
+      by_body (bodies.Done req (Ok outcome)) (chunk, has, asks) = (chunk, done_on chunk req outcome has, asks)
       by_body body has = tt
 
   quiet_done : (messages : List Message) → NoYeses messages → AllByRecursion IsDone messages
@@ -216,7 +208,7 @@ module _ {D : Type 0} (seen : D → List ℕ) (failures : D → ℕ) (armed : Di
     nothing_new by messages moment posted none = posted_all IsDone moment by messages old.sent new.sent posted first (quiet_done messages none)
 
     -- the machine of the chunk that a server hears about has done what it tells
-    module _ (chunk : ℕ) (number : IsNumber chunk) (a : IsAlive seen config bytes chunk old) (b : IsAlive seen config bytes chunk new) (now : behind chunk number ≡ inr b) (birth : b.reached.0 ≡ a.reached.0) where
+    module _ (chunk : ℕ) (a : IsAlive seen config bytes chunk old) (b : IsAlive seen config bytes chunk new) (now : behind chunk ≡ inr b) (birth : b.reached.0 ≡ a.reached.0) where
       all_done : (v : World) (me : ℕ) (messages : List Message) → b.world ≡ v → YesesAsk (AsksFor asked chunk) messages → AllByRecursion (AnswersOf (setting config bytes a.reached.0.epoch) chunk v me (Some chunk)) messages → AllByRecursion IsDone messages
       all_done v me [] is asks all = tt
       all_done v me (m ∷ messages) is asks all = (by_body m.body asks.0 (all.0.1 refl), all_done v me messages is asks.1 all.1)
@@ -224,7 +216,6 @@ module _ {D : Type 0} (seen : D → List ℕ) (failures : D → ℕ) (armed : Di
           by_body : (body : Body) → YesAsks (AsksFor asked chunk) body → AnswersBody (setting config bytes a.reached.0.epoch) v me body → HasDoneBody seen config bytes asked new behind body
           by_body (bodies.Done req (Ok outcome)) asks has = (
             chunk,
-            number,
             subst (λ l. HasDone seen config bytes chunk new l req outcome) (sym now) (
               me,
               subst (λ epoch. IsAnswered (setting config bytes epoch) b.world me req outcome ⊎ IsPassed (setting config bytes epoch) b.world outcome) (sym (ap (λ (x : Birth). x.epoch) birth))
@@ -234,7 +225,7 @@ module _ {D : Type 0} (seen : D → List ℕ) (failures : D → ℕ) (armed : Di
           )
           by_body body asks has = tt
 
-      heard_done : (by : GoesBy seen config bytes a.reached.0.epoch chunk step old new a.world b.world) → heard_by seen failures armed config bytes by ≡ Some chunk → AllSent IsDone new.sent
+      heard_done : (by : GoesBy seen config bytes a.reached.0.epoch chunk step old new a.world b.world) → heard_by seen config bytes a.reached.0.epoch chunk step old new a.world b.world by ≡ Some chunk → AllSent IsDone new.sent
       heard_done (AtServer by) about = posted_all IsDone by.moment (nodes.Server by.id) by.messages old.sent new.sent by.posted first
           (all_done by.steps.world by.id by.messages by.world (yeses_asked asked old.sent by.id by.server by.after by.messages by.goes chunk one (waits by.id by.server by.found) about) (subst (λ o. AllByRecursion (AnswersOf (setting config bytes a.reached.0.epoch) chunk by.steps.world by.id o) by.messages) about by.steps.answers))
       heard_done (AtMaster by) about = absurd (cc)
@@ -242,32 +233,28 @@ module _ {D : Type 0} (seen : D → List ℕ) (failures : D → ℕ) (armed : Di
 
     -- whatever a server hears about
     server_done : (id : ℕ) (s after : Server) (messages : List Message) (moment : Moment) (goes : ServerGoes old.sent id s after messages) → slice_get old.nodes.servers id ≡ Some s → Posts moment (nodes.Server id) messages old.sent new.sent
-        → heard_in seen failures armed config bytes kind ≡ about_of goes → ((chunk : ℕ) → 2 ^ 64 ≤ chunk → KeepsNothing chunk s) → AllSent IsDone new.sent
-    server_done id s after messages moment goes found posted same beyond = by_about (about_of goes) refl
+        → heard_in seen failures armed kind ≡ about_of goes → AllSent IsDone new.sent
+    server_done id s after messages moment goes found posted same = by_about (about_of goes) refl
       where
         none_new : NoYeses messages → AllSent IsDone new.sent
         none_new none = nothing_new (nodes.Server id) messages moment posted none
 
-        by_lives : (chunk : ℕ) (number : IsNumber chunk) → about_of goes ≡ Some chunk → (l : Life seen config bytes chunk old) (m : Life seen config bytes chunk new) → behind chunk number ≡ m → LifeGoes seen failures armed config bytes chunk step old new kind l m → AllSent IsDone new.sent
-        by_lives chunk number about (inl unborn) m now goes_so = none_new (goes_nothing old.sent id s after messages goes chunk about (unborn.servers id s found).0)
-        by_lives chunk number about (inr a) (inl unborn) now goes_so = absurd goes_so
-        by_lives chunk number about (inr a) (inr b) now (birth, by, heard) = heard_done chunk number a b now birth by (heard ∙ same ∙ about)
-
-        by_number : (chunk : ℕ) → about_of goes ≡ Some chunk → (chunk < 2 ^ 64) ⊎ (2 ^ 64 ≤ chunk) → AllSent IsDone new.sent
-        by_number chunk about (inl number) = by_lives chunk number about (before chunk number) (behind chunk number) refl (each chunk number)
-        by_number chunk about (inr far) = none_new (goes_nothing old.sent id s after messages goes chunk about (beyond chunk far))
+        by_lives : (chunk : ℕ) → about_of goes ≡ Some chunk → (l : Life seen config bytes chunk old) (m : Life seen config bytes chunk new) → behind chunk ≡ m → GoesOn seen config bytes chunk step (heard_in seen failures armed kind) old new l m → AllSent IsDone new.sent
+        by_lives chunk about (inl unborn) life now goes_so = none_new (goes_nothing old.sent id s after messages goes chunk about (unborn.servers id s found).0)
+        by_lives chunk about (inr a) (inl unborn) now goes_so = absurd goes_so
+        by_lives chunk about (inr a) (inr b) now goes_so = heard_done chunk a b now goes_so.same goes_so.by (goes_so.heard ∙ same ∙ about)
 
         by_about : (o : Option ℕ) → about_of goes ≡ o → AllSent IsDone new.sent
         by_about None none = none_new (goes_quiet old.sent id s after messages goes none)
-        by_about (Some chunk) about = by_number chunk about (cases_lt chunk (2 ^ 64))
+        by_about (Some chunk) about = by_lives chunk about (before chunk) (behind chunk) refl (each chunk)
 
 pub answers_go_on : {D : Type 0} (seen : D → List ℕ) (failures : D → ℕ) (armed : DiskId → ℕ → MasterPlace D → MasterPlace D) (config : Config) (bytes : ReqId → List ℕ) (asked : ℕ → Asked) → AnswersGoOn seen failures armed config bytes asked
-answers_go_on seen failures armed config bytes asked step old new (OfServer id s after messages moment found goes met servers master posted) one waits lasts quiet beyond before behind each answered =
-    server_done seen failures armed config bytes step old new (OfServer id s after messages moment found goes met servers master posted) asked before behind each one waits answered id s after messages moment goes found posted refl (λ chunk far. beyond chunk id s far found)
-answers_go_on seen failures armed config bytes asked step old new (OfMaster place messages moment goes servers master posted) one waits lasts quiet beyond before behind each answered =
+answers_go_on seen failures armed config bytes asked step old new (OfServer id s after messages moment found goes met servers master posted) one waits lasts quiet before behind each answered =
+    server_done seen failures armed config bytes step old new (OfServer id s after messages moment found goes met servers master posted) asked before behind each one waits answered id s after messages moment goes found posted refl
+answers_go_on seen failures armed config bytes asked step old new (OfMaster place messages moment goes servers master posted) one waits lasts quiet before behind each answered =
     nothing_new seen failures armed config bytes step old new (OfMaster place messages moment goes servers master posted) asked before behind each one waits answered nodes.Master messages moment posted
     (of_master_quiet messages (does_say seen armed old.sent old.nodes.master place messages (masters_do seen failures armed old.nodes.config old.sent old.nodes.master place messages lasts (sym (ap (failures_at failures) master) ∙ quiet) goes)))
-answers_go_on seen failures armed config bytes asked step old new (going.Elsewhere by messages moment are servers master posted) one waits lasts quiet beyond before behind each answered =
+answers_go_on seen failures armed config bytes asked step old new (going.Elsewhere by messages moment are servers master posted) one waits lasts quiet before behind each answered =
     nothing_new seen failures armed config bytes step old new (going.Elsewhere by messages moment are servers master posted) asked before behind each one waits answered by messages moment posted (of_client_quiet messages are)
 
 pub answers_begin : {D : Type 0} (seen : D → List ℕ) (failures : D → ℕ) (armed : DiskId → ℕ → MasterPlace D → MasterPlace D) (config : Config) (bytes : ReqId → List ℕ) (asked : ℕ → Asked) → AnswersBegin seen failures armed config bytes asked

@@ -1,12 +1,11 @@
 -- A store that has begun new: no chunk is born.
-use Rattle.std.proofs.Common.{if◌then◌else◌, ◌≡◌, ◌∙◌, ◌⊎◌, ◌-◌, ◌^◌, ◌==◌, ◌<◌, ◌≤◌, ℕ, zero, suc, Bool, true, false, List, [], ◌∷◌, length, replicate, Some, None, Ok, refl, sym, ap, subst, inl, inr, slice_get, arith, length-append}
+use Rattle.std.proofs.Common.{if◌then◌else◌, ◌≡◌, ◌∙◌, ◌-◌, ◌==◌, ◌<◌, ◌≤◌, ℕ, zero, suc, Bool, true, false, List, [], ◌∷◌, length, replicate, Some, None, Ok, refl, sym, ap, subst, inl, inr, slice_get, arith, length-append}
 use Rattle.std.specs.Prelude.{nat_lt, Contains}
 use Rattle.std.specs.List.{AllByRecursion}
 use Rattle.std.specs.FinMap as fin
 use Rattle.std.specs.Ordering.{nat_cmp}
-use Rattle.std.proofs.lemmas.Bool.{and_parts, cases_lt}
+use Rattle.std.proofs.lemmas.Bool.{and_parts}
 use Rattle.std.proofs.lemmas.Bool.Decides.{nat_tests}
-use Rattle.gs_base.specs.Told.{IsNumber}
 use Rattle.gs_base.specs.declared.config.Config.{Config}
 use Rattle.gs_base.specs.declared.numbers.ReqId.{ReqId}
 use Rattle.gs_journal.specs.Records.{Text, fresh, standing}
@@ -38,9 +37,11 @@ use Rattle.gs_member.specs.Unborn.{KeepsNothing}
 use Rattle.gs_member.proofs.Lists.{nil_contains}
 use Rattle.gs_entry.specs.Unborn as unborn
 use Rattle.gs_entry.proofs.Unborn.{restarts_unborn}
+use Rattle.gs_member.specs.Requests.{Asked}
+use Rattle.gs_lift.specs.Telling.{NumberedIn}
 use Rattle.gs_lift.specs.Going.{AllSent}
-use Rattle.gs_lift.specs.Living.{CopiesTo, LifeAt, TextsOf}
-use Rattle.gs_lift.specs.Showing.{IsServer, Keeps}
+use Rattle.gs_lift.specs.Living.{CopiesTo, TextsOf}
+use Rattle.gs_lift.specs.Showing.{IsServer, Keeps, Life}
 use Rattle.gs_lift.specs.Unborn.{IsBefore, IsUnborn, IsUnknown}
 use Rattle.gs_lift.proofs.Posting.{posted_all}
 use Rattle.gs_lift.proofs.Reopening.{standing_is, started}
@@ -156,8 +157,8 @@ module _ {D : Type 0} (seen : D → List ℕ) (failures : D → ℕ) (armed : Di
   pub begins_lasting : Lasts seen new.nodes.master
   begins_lasting = begins_firm seen failures armed config clients disks new none begun
 
-  pub begins_unborn : (chunk : ℕ) → IsNumber chunk → IsUnborn seen chunk new
-  begins_unborn chunk number = by_opening begun.opens
+  pub begins_unborn : (chunk : ℕ) → IsUnborn seen chunk new
+  begins_unborn chunk = by_opening begun.opens
     where
       told : IsToldIn (standing (seen disks.0) (seen disks.1)) start
       told = subst (λ (t : Text). IsToldIn t start) (sym none) fresh_tells
@@ -169,10 +170,9 @@ module _ {D : Type 0} (seen : D → List ℕ) (failures : D → ℕ) (armed : Di
           let x = started seen failures config disks.0 disks.1 start after begun.turn.sent.items told (subst (λ (m : MasterOf D). m.state.durable ≡ start) same found.2) opened in
           record {
             epoch = 0;
-            number = number;
             servers = λ id s at. (let y = found_new id s at in subst (λ (z : Server). KeepsNothing chunk z × (z.kept.epoch ≤ 0)) (sym y) (keeps_nothing chunk id config.block config.chunk, omega arith));
             master = subst (λ (n : Nodes D). IsUnknown seen chunk 0 n.master) (sym begun.nodes) (subst (IsUnknown seen chunk 0) (sym is)
-                (subst (λ (u : State). unborn.IsUnborn chunk u × (0 ≤ u.durable.epoch)) (sym x.state) (restarts_unborn chunk start x.log number start_kept.1.version (not_given chunk), omega arith)));
+                (subst (λ (u : State). unborn.IsUnborn chunk u × (0 ≤ u.durable.epoch)) (sym x.state) (restarts_unborn chunk start x.log start_kept.1.version (record { handle = start_kept.1.handle; given = λ number. not_given chunk; settled = fin.get-empty nat_cmp chunk; prepared = fin.get-empty nat_cmp chunk }), omega arith)));
             sent = posted_all (IsBefore chunk 0) (record { 0 = 0 }) ids.Master begun.turn.sent.items (none_sent config.servers clients) new.sent (inl begun.sent) (none_of (IsBefore chunk 0) config.servers clients)
                 (subst (AllByRecursion (IsBefore chunk 0)) (sym x.sends) tt);
           }
@@ -182,20 +182,16 @@ module _ {D : Type 0} (seen : D → List ℕ) (failures : D → ℕ) (armed : Di
   begins_none P = posted_all P (record { 0 = 0 }) ids.Master begun.turn.sent.items (none_sent config.servers clients) new.sent (inl begun.sent) (none_of P config.servers clients)
       (subst (AllByRecursion P) (sym (begins_silent seen failures armed config clients disks new none begun)) tt)
 
-  by_number : (chunk : ℕ) → (chunk < 2 ^ 64) ⊎ (2 ^ 64 ≤ chunk) → LifeAt seen config bytes chunk new
-  by_number chunk (inl number) = inr (inl (begins_unborn chunk number))
-  by_number chunk (inr beyond) = inl beyond
-
-  pub begins_lives : (chunk : ℕ) → LifeAt seen config bytes chunk new
-  begins_lives chunk = by_number chunk (cases_lt chunk (2 ^ 64))
+  pub begins_lives : (chunk : ℕ) → Life seen config bytes chunk new
+  begins_lives chunk = inl (begins_unborn chunk)
 
   pub begins_texts : (among : List ℕ → Bool) (chunk : ℕ) → TextsOf seen config bytes among chunk new (begins_lives chunk)
-  unfolding begins_lives by_number
-  begins_texts among chunk = by_case (cases_lt chunk (2 ^ 64))
-    where
-      by_case : (x : (chunk < 2 ^ 64) ⊎ (2 ^ 64 ≤ chunk)) → TextsOf seen config bytes among chunk new (by_number chunk x)
-      by_case (inl number) = tt
-      by_case (inr beyond) = tt
+  unfolding begins_lives
+  begins_texts among chunk = tt
 
-  pub begins_tells_no_copy : (life : (chunk : ℕ) → LifeAt seen config bytes chunk new) → AllSent (λ (m : Message). CopiesTo seen config bytes new life m.to m.body) new.sent
+  pub begins_numbered : (asked : ℕ → Asked) (chunk : ℕ) → NumberedIn seen config bytes asked chunk new begins_lives (begins_lives chunk)
+  unfolding begins_lives
+  begins_numbered asked chunk = tt
+
+  pub begins_tells_no_copy : (life : (chunk : ℕ) → Life seen config bytes chunk new) → AllSent (λ (m : Message). CopiesTo seen config bytes new life m.to m.body) new.sent
   begins_tells_no_copy life = begins_none (λ (m : Message). CopiesTo seen config bytes new life m.to m.body)

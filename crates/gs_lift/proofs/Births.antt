@@ -2,6 +2,7 @@
 use Rattle.std.proofs.Common.{◌≡◌, ◌≤◌, ℕ, List, [], ◌∷◌, Some, sym, subst, slice_get, arith}
 use Rattle.std.specs.Prelude.{}
 use Rattle.std.specs.List.{AllByRecursion}
+use Rattle.std.proofs.lemmas.Bool.{false≢true}
 use Rattle.gs_base.specs.declared.config.Config.{Config}
 use Rattle.gs_base.specs.declared.numbers.Moment.{Moment}
 use Rattle.gs_base.specs.declared.numbers.ReqId.{ReqId}
@@ -23,6 +24,7 @@ use Rattle.gs_chunk.specs.Events as events
 use Rattle.gs_chunk.specs.Laws.{Birth, world_of}
 use Rattle.gs_member.specs.Showing.{Setting}
 use Rattle.gs_member.specs.Telling.{Tells}
+use Rattle.gs_member.proofs.Beside.{place_beside}
 use Rattle.gs_member.proofs.Unborn.{born_shows}
 use Rattle.gs_entry.specs.Families as families
 use Rattle.gs_entry.specs.Telling as entry
@@ -36,7 +38,6 @@ use Rattle.gs_lift.specs.Showing.{ShowsMaster, ShowsStore, setting}
 use Rattle.gs_lift.specs.Unborn.{IsBefore, IsUnborn, IsUnknown, SaysNothing, TellsWithin}
 use Rattle.gs_lift.proofs.Joint.{all_of_master}
 use Rattle.gs_lift.proofs.Posting.{posted_all, sent_then}
-use Rattle.gs_lift.proofs.Staying.{place_then}
 use Rattle.gs_lift.proofs.Unborn.{before_tells}
 
 -- ---- what the master says
@@ -99,7 +100,6 @@ module _ (config : Config) (bytes : ReqId → List ℕ) (chunk : ℕ) {D : Type 
     pub stays_unborn : (later : ℕ) → first.epoch ≤ later → IsUnknown seen chunk later new.nodes.master → AllByRecursion (IsBefore chunk later) messages → IsUnborn seen chunk new
     stays_unborn later less unknown says = record {
       epoch = later;
-      number = first.number;
       servers = λ id s found. (let x = first.servers id s (subst (λ xs. slice_get xs id ≡ Some s) servers found) in (x.0, (let y = x.1 in omega arith)));
       master = unknown;
       sent = posted_all (IsBefore chunk later) moment by messages old.sent new.sent posted (sent_then (IsBefore chunk first.epoch) (IsBefore chunk later) old.sent (before_later chunk first.epoch later less) first.sent) says;
@@ -112,7 +112,7 @@ module _ (config : Config) (bytes : ReqId → List ℕ) (chunk : ℕ) {D : Type 
       members = λ id x found.
           let y = first.servers id x (subst (λ xs. slice_get xs id ≡ Some x) servers found) in
           let within : x.kept.epoch ≤ birth.epoch = (let z = y.1 in let late = goes.later in omega arith) in
-          place_then c (world_of birth) b.world (birth, events.Rests) goes.leads id x.kept.epoch (place_of chunk x) (goes.members id) (born_shows c chunk birth.how birth.origin x y.0 within);
+          place_beside (world_of birth) b.world (birth, events.Rests) goes.leads c id x.kept.epoch (place_of chunk x) (goes.members id) (λ new whole. absurd (false≢true whole)) (born_shows c chunk birth.how birth.origin x y.0 within);
       master = subst (λ place. ShowsMaster seen chunk place b.world) (sym master) (subst (λ y. entry.Shows chunk y b.world) (sym state) b.shows);
       sent = λ id message is. all id message is (right id message is);
     }

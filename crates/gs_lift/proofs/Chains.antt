@@ -1,7 +1,8 @@
 -- All chunks of a store at once, where the master makes a chain of moves: each goes on, is born, or isn't born yet.
-use Rattle.std.proofs.Common.{◌≡◌, ◌∙◌, ◌&&◌, ◌||◌, ◌<◌, ◌≤◌, ℕ, take, Bool, true, false, List, [], ◌∷◌, Option, Some, None, refl, sym, ap, subst, inl, inr, slice_get, arith}
+use Rattle.std.proofs.Common.{◌≡◌, ◌∙◌, ◌&&◌, ◌||◌, ◌<◌, ◌≤◌, ◌⊎◌, ℕ, take, Bool, true, false, List, [], ◌∷◌, length, Option, Some, None, refl, sym, ap, subst, inl, inr, slice_get, arith}
 use Rattle.std.specs.Prelude.{Contains, is_some}
 use Rattle.std.specs.List.{AllByRecursion}
+use Rattle.std.proofs.lemmas.List.{take_all}
 use Rattle.gs_base.specs.declared.config.Config.{Config}
 use Rattle.gs_base.specs.declared.numbers.Moment.{Moment}
 use Rattle.gs_base.specs.declared.numbers.ReqId.{ReqId}
@@ -24,6 +25,7 @@ use Rattle.gs_state.specs.State.{Log, State, Turn}
 use Rattle.gs_store.specs.Slots.{sealed_of}
 use Rattle.gs_world.specs.declared.place.MasterPlace.TheVariants.{Standing}
 use Rattle.gs_run.specs.Histories.{History}
+use Rattle.gs_run.specs.Lasting.{Lasts}
 use Rattle.gs_chunk.specs.Machine.{Member, World}
 use Rattle.gs_chunk.specs.Machine as machine
 use Rattle.gs_chunk.specs.Events.{Leads, marked}
@@ -52,13 +54,13 @@ use Rattle.gs_lift.specs.Among.{TextsAmong}
 use Rattle.gs_lift.specs.Doing.{HasDurable, IsHeardIn}
 use Rattle.gs_lift.specs.Going.{AllSent, Posts}
 use Rattle.gs_lift.specs.Joint.{AtMaster}
-use Rattle.gs_lift.specs.Living.{CopiesTo, GoesOn, IsCopy, LifeAt, StoreLives, TextsOf}
+use Rattle.gs_lift.specs.Living.{BeginsOld, BornFrom, CopiesTo, GoesOn, IsCopy, StoreLives, TextsOf}
 use Rattle.gs_lift.specs.Saying.{PushRight}
-use Rattle.gs_lift.specs.Showing.{IsAlive, ShowsMaster, ShowsStore, is_live_whole, is_over, is_seal_whole, is_whole_there, setting, whole_in}
+use Rattle.gs_lift.specs.Showing.{IsAlive, Life, ShowsMaster, ShowsStore, is_live_whole, is_over, is_seal_whole, is_whole_there, setting, whole_in}
 use Rattle.gs_lift.specs.Unborn.{IsUnborn, IsUnknown}
 use Rattle.gs_lift.proofs.Among.{old_among}
 use Rattle.gs_lift.proofs.Births.{all_before, born_shown, heard_silent, stays_unborn}
-use Rattle.gs_lift.proofs.Durable.{durable_shown, unknown_on}
+use Rattle.gs_lift.proofs.Durable.{durable_shown, kept_there, unknown_on}
 use Rattle.gs_lift.proofs.Joint.{all_of_master, body_grown, chain_of_master}
 use Rattle.gs_lift.proofs.Living.{AllNext, copies_then}
 use Rattle.gs_lift.proofs.Machines.{reached_then}
@@ -66,9 +68,9 @@ use Rattle.gs_lift.proofs.Mastering.{heard_so, marks_live, members_then}
 use Rattle.gs_lift.proofs.Posting.{posted_all, sent_then}
 use Rattle.gs_lift.proofs.Reopening.{none_asked}
 
-module _ {D : Type 0} (seen : D → List ℕ) (config : Config) (bytes : ReqId → List ℕ) (among : List ℕ → Bool) (step : Step) (old new : History D) (lives : StoreLives seen config bytes among old) where
+module _ {D : Type 0} (seen : D → List ℕ) (config : Config) (bytes : ReqId → List ℕ) (among : List ℕ → Bool) (step : Step) (about : Option ℕ) (old new : History D) (lives : StoreLives seen config bytes among old) where
   abbrev Lives : ℕ → History D → Type 0
-  Lives = LifeAt seen config bytes
+  Lives = Life seen config bytes
 
   -- ---- where the chain begins
 
@@ -82,9 +84,8 @@ module _ {D : Type 0} (seen : D → List ℕ) (config : Config) (bytes : ReqId �
     pub same : c.reached.0 ≡ a.reached.0
 
   abbrev Linked : (chunk : ℕ) (s : State) → Lives chunk old → families.Life chunk s → Type 0
-  Linked chunk s (inl beyond) (families.Beyond c) = Unit {0}
-  Linked chunk s (inr (inl first)) (families.Unborn c) = first.epoch ≤ s.durable.epoch
-  Linked chunk s (inr (inr a)) (families.Alive c) = Readied chunk s a c
+  Linked chunk s (inl first) (families.Unborn c) = first.epoch ≤ s.durable.epoch
+  Linked chunk s (inr a) (families.Alive c) = Readied chunk s a c
   Linked chunk s life c = ⊥
 
   pub record Begun (chunk : ℕ) (s : State) (life : Lives chunk old) : Type 0 where
@@ -93,9 +94,8 @@ module _ {D : Type 0} (seen : D → List ℕ) (config : Config) (bytes : ReqId �
 
   -- the master stands, and makes moves
   pub begun_standing : (m : MasterOf D) → old.nodes.master ≡ Standing m → (chunk : ℕ) (life : Lives chunk old) → Begun chunk m.state life
-  begun_standing m at chunk (inl beyond) = record { there = families.Beyond beyond; linked = tt }
-  begun_standing m at chunk (inr (inl first)) = let x = subst (IsUnknown seen chunk first.epoch) at first.master in record { there = families.Unborn x.0; linked = x.1 }
-  begun_standing m at chunk (inr (inr a)) = record {
+  begun_standing m at chunk (inl first) = let x = subst (IsUnknown seen chunk first.epoch) at first.master in record { there = families.Unborn x.0; linked = x.1 }
+  begun_standing m at chunk (inr a) = record {
     there = families.Alive (record { world = a.world; reached = a.reached; shows = subst (λ place. ShowsMaster seen chunk place a.world) at a.shows.master });
     linked = record { leads = events.Rests; masters = tt; members = refl; epoch = refl; stays = λ x there. there; same = refl };
   }
@@ -103,10 +103,9 @@ module _ {D : Type 0} (seen : D → List ℕ) (config : Config) (bytes : ReqId �
   -- it is started again on what is durable
   pub begun_started : (d : Durable) (log : Log) → HasDurable seen old.nodes.master d → IsKept d → AreCounters d → (chunk : ℕ) (life : Lives chunk old) → Begun chunk (restarted d log) life
   unfolding reached_then
-  begun_started d log had kept counters chunk (inl beyond) = record { there = families.Beyond beyond; linked = tt }
-  begun_started d log had kept counters chunk (inr (inl first)) =
-      let x = unknown_on seen chunk first.epoch old.nodes.master d had first.master in record { there = families.Unborn (restarts_unborn chunk d log first.number counters.version x.0); linked = x.1 }
-  begun_started d log had kept counters chunk (inr (inr a)) =
+  begun_started d log had kept counters chunk (inl first) =
+      let x = unknown_on seen chunk first.epoch old.nodes.master d had first.master in record { there = families.Unborn (restarts_unborn chunk d log counters.version x.0); linked = x.1 }
+  begun_started d log had kept counters chunk (inr a) =
       let r : Reaches chunk a.world (restarted d log) = restarts_reach chunk d log a.world kept (durable_shown seen chunk a.world old.nodes.master d had a.shows.master) in
       record {
         there = families.Alive (record { world = r.world; reached = reached_then a.world a.reached r.world r.leads; shows = record { entry = r.shows; said = none_asked (Says chunk r.world) d log chunk } });
@@ -115,22 +114,21 @@ module _ {D : Type 0} (seen : D → List ℕ) (config : Config) (bytes : ReqId �
 
   -- ---- the chain
 
-  module _ (empty : HasBlocks config.block among (replica_of config.chunk []).bytes) (right : AllSent (PushRight bytes) new.sent)
+  module _ (quiet : None ≡ about) (empty : HasBlocks config.block among (replica_of config.chunk []).bytes) (right : AllSent (PushRight bytes) new.sent)
       (moment : Moment) (messages : List Message) (servers : new.nodes.servers ≡ old.nodes.servers) (posted : Posts moment ids.Master messages old.sent new.sent)
       (s : State) (had : HasDurable seen old.nodes.master s.durable) (begun : (chunk : ℕ) → Begun chunk s (lives.life chunk)) (by_config : Config) (heard : Heard) (t : Turn) (chain : Chain by_config (IsMadeWell by_config heard) s t) (was : IsHeardIn old.sent heard)
-      (m : MasterOf D) (master : new.nodes.master ≡ Standing m) (state : m.state ≡ t.after) (sends : messages ≡ t.sent) where
+      (m : MasterOf D) (master : new.nodes.master ≡ Standing m) (lasts : Lasts seen new.nodes.master) (state : m.state ≡ t.after) (sends : messages ≡ t.sent) where
     abbrev whole : ℕ → ℕ → Bool
     whole chunk = whole_in t.after.durable chunk old.nodes.servers
 
     -- what is heard was said in each machine
     heard_of : (chunk : ℕ) (life : Lives chunk old) (c : families.Life chunk s) → Linked chunk s life c → Heard_of chunk s heard c
-    heard_of chunk (inl beyond) (families.Beyond c) linked = tt
-    heard_of chunk (inr (inl first)) (families.Unborn c) linked = by_heard was
+    heard_of chunk (inl first) (families.Unborn c) linked = by_heard was
       where
         by_heard : IsHeardIn old.sent heard → WasHeard (Says chunk unborn.silent) heard
         by_heard (inl none) = λ server body is. absurd (cc)
         by_heard (inr (message, sent, is)) = subst (WasHeard (Says chunk unborn.silent)) (sym is) (heard_silent config bytes chunk seen old new first message sent)
-    heard_of chunk (inr (inr a)) (families.Alive c) linked = heard_more chunk a.world c.world linked.stays heard (by_heard was)
+    heard_of chunk (inr a) (families.Alive c) linked = heard_more chunk a.world c.world linked.stays heard (by_heard was)
       where
         by_heard : IsHeardIn old.sent heard → WasHeard (Says chunk a.world) heard
         by_heard (inl none) = λ server body is. absurd (cc)
@@ -143,9 +141,8 @@ module _ {D : Type 0} (seen : D → List ℕ) (config : Config) (bytes : ReqId �
     none_whole chunk first j (Some x) found = ap (λ (p : Place). is_live_whole p.slot.live && (is_seal_whole (sealed_of p.slot) || is_over t.after.durable x.kept.epoch)) (first.servers j x found).0
 
     marks_of : (chunk : ℕ) (life : Lives chunk old) (c : families.Life chunk s) → Linked chunk s life c → MarksOf chunk s (whole chunk) c
-    marks_of chunk (inl beyond) (families.Beyond c) linked = tt
-    marks_of chunk (inr (inl first)) (families.Unborn c) linked = λ j. none_whole chunk first j (slice_get old.nodes.servers j) refl
-    marks_of chunk (inr (inr a)) (families.Alive c) linked = λ j is.
+    marks_of chunk (inl first) (families.Unborn c) linked = λ j. none_whole chunk first j (slice_get old.nodes.servers j) refl
+    marks_of chunk (inr a) (families.Alive c) linked = λ j is.
         subst (λ (f : ℕ → Member). is_some (f j).live ≡ true) (sym linked.members) (marks_live config bytes a.reached.0.epoch chunk seen old a.world a.reached a.shows t.after.durable j is)
     marks_of chunk life c linked = absurd linked
 
@@ -158,23 +155,22 @@ module _ {D : Type 0} (seen : D → List ℕ) (config : Config) (bytes : ReqId �
     -- ---- one chunk behind it
 
     abbrev Agrees : (chunk : ℕ) → families.Life chunk t.after → Lives chunk new → Type 0
-    Agrees chunk (families.Beyond b) (inl beyond) = Unit {0}
-    Agrees chunk (families.Unborn b) (inr (inl first)) = Unit {0}
-    Agrees chunk (families.Alive b) (inr (inr a)) = (a.world ≡ b.world) × (a.reached.0 ≡ b.reached.0)
+    Agrees chunk (families.Unborn b) (inl first) = Unit {0}
+    Agrees chunk (families.Alive b) (inr a) = (a.world ≡ b.world) × (a.reached.0 ≡ b.reached.0)
     Agrees chunk b life = ⊥
 
     record Then (chunk : ℕ) (life : Lives chunk old) (d : families.Life chunk t.after) : Type 0 where
       last : Lives chunk new
-      goes : GoesOn seen config bytes chunk step old new life last
+      goes : GoesOn seen config bytes chunk step about old new life last
       agrees : Agrees chunk d last
 
     has : HasDurable seen new.nodes.master t.after.durable
     has = subst (λ place. HasDurable seen place t.after.durable) (sym master) (ap (λ (x : State). x.durable) state)
 
     -- a machine goes on
-    alive_then : (chunk : ℕ) (a : IsAlive seen config bytes chunk old) (c : families.IsAlive chunk s) (d : families.IsAlive chunk t.after) → Readied chunk s a c → families.GoesAlive chunk (whole chunk) s t.after t.sent c d → Then chunk (inr (inr a)) (families.Alive d)
+    alive_then : (chunk : ℕ) (a : IsAlive seen config bytes chunk old) (c : families.IsAlive chunk s) (d : families.IsAlive chunk t.after) → Readied chunk s a c → families.GoesAlive chunk (whole chunk) s t.after t.sent c d → Then chunk (inr a) (families.Alive d)
     alive_then chunk a c d ready goes = record {
-      last = inr (inr (record { world = d.world; reached = d.reached; shows = subst (λ (b : Birth). ShowsStore seen config bytes b.epoch chunk new d.world) (sym same) shown }));
+      last = (inr (record { world = d.world; reached = d.reached; shows = subst (λ (b : Birth). ShowsStore seen config bytes b.epoch chunk new d.world) (sym same) shown }));
       goes = record {
         same = same;
         leads = leads;
@@ -190,10 +186,12 @@ module _ {D : Type 0} (seen : D → List ℕ) (config : Config) (bytes : ReqId �
           members = members;
           marks = marks;
           servers = servers;
+          kept = kept_there seen new.nodes.master t.after.durable lasts has;
           messages = messages;
           moment = moment;
           posted = posted;
         });
+        heard = quiet;
       };
       agrees = (refl, refl);
     }
@@ -218,7 +216,7 @@ module _ {D : Type 0} (seen : D → List ℕ) (config : Config) (bytes : ReqId �
 
         shown : ShowsStore seen config bytes a.reached.0.epoch chunk new d.world
         shown = record {
-          members = λ id x found. members_then config bytes a.reached.0.epoch chunk seen old a.world a.reached a.shows t.after.durable d.world leads d.shows.entry.durable members id x (subst (λ xs. slice_get xs id ≡ Some x) servers found);
+          members = λ id x found. members_then config bytes a.reached.0.epoch chunk seen old a.world a.reached a.shows t.after.durable d.world leads d.shows.entry.durable members marks id x (subst (λ xs. slice_get xs id ≡ Some x) servers found);
           master = subst (λ place. ShowsMaster seen chunk place d.world) (sym master) (subst (λ x. Shows chunk x d.world) (sym state) d.shows);
           sent = posted_all (Tells set chunk d.world) moment ids.Master messages old.sent new.sent posted
               (sent_then (Tells set chunk a.world) (Tells set chunk d.world) old.sent (λ message tells. body_grown set chunk a.world d.world stays message.from message.to message.body tells) a.shows.sent)
@@ -227,9 +225,9 @@ module _ {D : Type 0} (seen : D → List ℕ) (config : Config) (bytes : ReqId �
         }
 
     -- one is born
-    born_then : (chunk : ℕ) (first : IsUnborn seen chunk old) (d : families.IsAlive chunk t.after) → first.epoch ≤ s.durable.epoch → families.GoesBorn chunk s t.after t.sent d → Then chunk (inr (inl first)) (families.Alive d)
+    born_then : (chunk : ℕ) (first : IsUnborn seen chunk old) (d : families.IsAlive chunk t.after) → first.epoch ≤ s.durable.epoch → families.GoesBorn chunk s t.after t.sent d → Then chunk (inl first) (families.Alive d)
     born_then chunk first d less goes = record {
-      last = inr (inr (record {
+      last = (inr (record {
         world = d.world;
         reached = d.reached;
         shows = born_shown config bytes chunk seen old new first ids.Master moment messages servers posted m s t.after t.sent d less goes (chain_of_master by_config heard s t chain) right state sends master;
@@ -245,6 +243,7 @@ module _ {D : Type 0} (seen : D → List ℕ) (config : Config) (bytes : ReqId �
         leads = goes.leads;
         masters = goes.masters;
         members = goes.members;
+        fresh = goes.fresh;
         servers = servers;
         messages = messages;
         moment = moment;
@@ -254,9 +253,9 @@ module _ {D : Type 0} (seen : D → List ℕ) (config : Config) (bytes : ReqId �
     }
 
     -- one isn't born yet
-    silent_then : (chunk : ℕ) (first : IsUnborn seen chunk old) (d : unborn.IsUnborn chunk t.after) → first.epoch ≤ s.durable.epoch → families.GoesSilent chunk s t.after t.sent → Then chunk (inr (inl first)) (families.Unborn d)
+    silent_then : (chunk : ℕ) (first : IsUnborn seen chunk old) (d : unborn.IsUnborn chunk t.after) → first.epoch ≤ s.durable.epoch → families.GoesSilent chunk s t.after t.sent → Then chunk (inl first) (families.Unborn d)
     silent_then chunk first d less goes = record {
-      last = inr (inl (stays_unborn config bytes chunk seen old new first ids.Master moment messages servers posted t.after.durable.epoch (let x = goes.later in omega arith)
+      last = (inl (stays_unborn config bytes chunk seen old new first ids.Master moment messages servers posted t.after.durable.epoch (let x = goes.rises in let up = x.epoch in omega arith)
           (subst (IsUnknown seen chunk t.after.durable.epoch) (sym master) (subst (λ (y : State). unborn.IsUnborn chunk y × (t.after.durable.epoch ≤ y.durable.epoch)) (sym state) (d, omega arith)))
           (subst (AllByRecursion _) (sym sends) (all_before chunk t.after.durable.epoch t.sent (chain_of_master by_config heard s t chain) goes.says))));
       goes = tt;
@@ -264,33 +263,54 @@ module _ {D : Type 0} (seen : D → List ℕ) (config : Config) (bytes : ReqId �
     }
 
     each_then : (chunk : ℕ) (life : Lives chunk old) (c : families.Life chunk s) (d : families.Life chunk t.after) → Linked chunk s life c → families.Goes chunk (whole chunk) s t.after t.sent c d → Then chunk life d
-    each_then chunk (inl beyond) (families.Beyond c) (families.Beyond d) linked goes = record { last = inl beyond; goes = tt; agrees = tt }
-    each_then chunk (inl beyond) (families.Beyond c) (families.Unborn d) linked goes = absurd goes
-    each_then chunk (inl beyond) (families.Beyond c) (families.Alive d) linked goes = absurd goes
-    each_then chunk (inr (inl first)) (families.Unborn c) (families.Beyond d) linked goes = absurd goes
-    each_then chunk (inr (inl first)) (families.Unborn c) (families.Unborn d) linked goes = silent_then chunk first d linked goes
-    each_then chunk (inr (inl first)) (families.Unborn c) (families.Alive d) linked goes = born_then chunk first d linked goes
-    each_then chunk (inr (inr a)) (families.Alive c) (families.Beyond d) linked goes = absurd goes
-    each_then chunk (inr (inr a)) (families.Alive c) (families.Unborn d) linked goes = absurd goes
-    each_then chunk (inr (inr a)) (families.Alive c) (families.Alive d) linked goes = alive_then chunk a c d linked goes
+    each_then chunk (inl first) (families.Unborn c) (families.Unborn d) linked goes = silent_then chunk first d linked goes
+    each_then chunk (inl first) (families.Unborn c) (families.Alive d) linked goes = born_then chunk first d linked goes
+    each_then chunk (inr a) (families.Alive c) (families.Unborn d) linked goes = absurd goes
+    each_then chunk (inr a) (families.Alive c) (families.Alive d) linked goes = alive_then chunk a c d linked goes
     each_then chunk life c d linked goes = absurd linked
 
     abbrev then : (chunk : ℕ) → Then chunk (lives.life chunk) (f.last chunk)
     then chunk = each_then chunk (lives.life chunk) (family chunk) (f.last chunk) (begun chunk).linked (f.goes chunk)
 
+    -- ---- with what one is born
+
+    abbrev OldIn : (chunk : ℕ) → families.Life chunk s → Type 0
+    OldIn chunk (families.Unborn c) = Unit {0}
+    OldIn chunk (families.Alive c) = (stamp many : ℕ) → BeginsOld seen config bytes old lives.life (take many (c.world.known.list stamp))
+
+    -- a list there begins one of before
+    old_begun : (chunk : ℕ) (life : Lives chunk old) → lives.life chunk ≡ life → (c : families.Life chunk s) → Linked chunk s life c → OldIn chunk c
+    old_begun chunk life is (families.Unborn c) linked = tt
+    old_begun chunk (inr a) is (families.Alive c) linked = λ stamp many.
+        let x = (masters_leave a.world c.world linked.leads linked.masters).lists stamp many in
+        record { chunk = chunk; alive = a; is = is; stamp = x.0; many = x.1; begins = x.2 }
+    old_begun chunk (inl first) is (families.Alive c) linked = absurd linked
+
+    old_edits : (edits : List Edit) → ComesFrom s family edits → (edits ≡ []) ⊎ BeginsOld seen config bytes old lives.life edits
+    old_edits edits (inl none) = inl none
+    old_edits edits (inr o) =
+        let x = (subst (OldIn o.chunk) o.is (old_begun o.chunk (lives.life o.chunk) refl (family o.chunk) (begun o.chunk).linked)) o.stamp o.many in
+        inr (subst (BeginsOld seen config bytes old lives.life) (sym o.begins) x)
+
+    from_by : (chunk : ℕ) (life : Lives chunk old) (c : families.Life chunk s) (d : families.Life chunk t.after) (last : Lives chunk new) → Linked chunk s life c → Agrees chunk d last → families.BornFrom (ComesFrom s family) chunk s t.after c d → BornFrom seen config bytes chunk old new lives.life life last
+    from_by chunk (inl first) (families.Unborn c) (families.Alive d) (inr b) linked agrees from =
+        let whole : ComesFrom s family d.reached.0.origin = subst (ComesFrom s family) (take_all (length d.reached.0.origin) d.reached.0.origin (omega arith)) (from (length d.reached.0.origin)) in
+        subst (λ (x : Birth). (x.origin ≡ []) ⊎ BeginsOld seen config bytes old lives.life x.origin) (sym agrees.1) (old_edits d.reached.0.origin whole)
+    from_by chunk (inl first) (families.Unborn c) (families.Unborn d) (inr b) linked agrees from = absurd agrees
+    from_by chunk (inl first) (families.Alive c) d (inr b) linked agrees from = absurd linked
+    from_by chunk (inl first) c d (inl b) linked agrees from = tt
+    from_by chunk (inr a) c d last linked agrees from = tt
+
     -- ---- the blocks of texts
 
     abbrev TextsIn : (chunk : ℕ) → families.Life chunk s → Type 0
-    TextsIn chunk (families.Beyond c) = Unit {0}
     TextsIn chunk (families.Unborn c) = Unit {0}
     TextsIn chunk (families.Alive c) = TextsAmong among config.block config.chunk c.world
 
     texts_begun : (chunk : ℕ) (life : Lives chunk old) (c : families.Life chunk s) → Linked chunk s life c → TextsOf seen config bytes among chunk old life → TextsIn chunk c
-    texts_begun chunk life (families.Beyond c) linked texts = tt
     texts_begun chunk life (families.Unborn c) linked texts = tt
-    texts_begun chunk (inr (inr a)) (families.Alive c) linked texts = old_among among config.block config.chunk a.world c.world texts (masters_leave a.world c.world linked.leads linked.masters).lists
-    texts_begun chunk (inl beyond) (families.Alive c) linked texts = absurd linked
-    texts_begun chunk (inr (inl first)) (families.Alive c) linked texts = absurd linked
+    texts_begun chunk (inr a) (families.Alive c) linked texts = old_among among config.block config.chunk a.world c.world texts (masters_leave a.world c.world linked.leads linked.masters).lists
+    texts_begun chunk (inl first) (families.Alive c) linked texts = absurd linked
 
     old_texts : (edits : List Edit) → ComesFrom s family edits → HasBlocks config.block among (replica_of config.chunk edits).bytes
     old_texts edits (inl none) = subst (λ es. HasBlocks config.block among (replica_of config.chunk es).bytes) (sym none) empty
@@ -299,29 +319,22 @@ module _ {D : Type 0} (seen : D → List ℕ) (config : Config) (bytes : ReqId �
         subst (λ es. HasBlocks config.block among (replica_of config.chunk es).bytes) (sym o.begins) (texts o.stamp o.many)
 
     texts_by : (chunk : ℕ) (d : families.Life chunk t.after) (life : Lives chunk new) → Agrees chunk d life → ListsFrom (ComesFrom s family) chunk t.after d → TextsOf seen config bytes among chunk new life
-    texts_by chunk d (inl beyond) agrees lists = tt
-    texts_by chunk d (inr (inl first)) agrees lists = tt
-    texts_by chunk (families.Alive d) (inr (inr a)) agrees lists = λ stamp many.
+    texts_by chunk d (inl first) agrees lists = tt
+    texts_by chunk (families.Alive d) (inr a) agrees lists = λ stamp many.
         subst (λ (w : World). HasBlocks config.block among (replica_of config.chunk (take many (w.known.list stamp))).bytes) (sym agrees.0) (old_texts (take many (d.world.known.list stamp)) (lists stamp many))
-    texts_by chunk (families.Beyond d) (inr (inr a)) agrees lists = absurd agrees
-    texts_by chunk (families.Unborn d) (inr (inr a)) agrees lists = absurd agrees
+    texts_by chunk (families.Unborn d) (inr a) agrees lists = absurd agrees
 
     -- ---- copies
 
     copy_by : (one other : ℕ) (l : families.Life one t.after) (m : families.Life other t.after) (x : Lives one new) (y : Lives other new) → Agrees one l x → Agrees other m y → (me : ℕ) (at stamp : Stamp) → IsCopyOf one other t.after l m me at stamp → IsCopy seen config bytes one other new x y me at stamp
-    copy_by one other (families.Alive l) (families.Alive n) (inr (inr x)) (inr (inr y)) p q me at stamp k =
+    copy_by one other (families.Alive l) (families.Alive n) (inr x) (inr y) p q me at stamp k =
         subst (λ (b : Birth). IsCopiedTo x.world y.world b me at stamp) (sym q.1)
         (subst (λ (w : World). IsCopiedTo x.world w n.reached.0 me at stamp) (sym q.0) (subst (λ (w : World). IsCopiedTo w n.world n.reached.0 me at stamp) (sym p.0) k))
-    copy_by one other (families.Alive l) (families.Alive n) (inr (inl x)) (inr (inr y)) p q me at stamp k = absurd p
-    copy_by one other (families.Alive l) (families.Alive n) (inl x) (inr (inr y)) p q me at stamp k = absurd p
-    copy_by one other (families.Beyond l) (families.Alive n) x (inr (inr y)) p q me at stamp k = absurd k
-    copy_by one other (families.Unborn l) (families.Alive n) x (inr (inr y)) p q me at stamp k = absurd k
-    copy_by one other l (families.Beyond n) x (inr (inr y)) p q me at stamp k = absurd q
-    copy_by one other l (families.Unborn n) x (inr (inr y)) p q me at stamp k = absurd q
-    copy_by one other l (families.Unborn n) x (inr (inl y)) p q me at stamp k = absurd k
-    copy_by one other l (families.Beyond n) x (inr (inl y)) p q me at stamp k = absurd q
-    copy_by one other l (families.Alive n) x (inr (inl y)) p q me at stamp k = absurd q
-    copy_by one other l n x (inl y) p q me at stamp k = tt
+    copy_by one other (families.Alive l) (families.Alive n) (inl x) (inr y) p q me at stamp k = absurd p
+    copy_by one other (families.Unborn l) (families.Alive n) x (inr y) p q me at stamp k = absurd k
+    copy_by one other l (families.Unborn n) x (inr y) p q me at stamp k = absurd q
+    copy_by one other l (families.Unborn n) x (inl y) p q me at stamp k = absurd k
+    copy_by one other l (families.Alive n) x (inl y) p q me at stamp k = absurd q
 
     all_copies : (sent : List Message) → AllByRecursion (Copies_of t.after f.last) sent → AllByRecursion (λ (message : Message). CopiesTo seen config bytes new (λ chunk. (then chunk).last) message.to message.body) sent
     all_copies [] all = tt
@@ -335,11 +348,12 @@ module _ {D : Type 0} (seen : D → List ℕ) (config : Config) (bytes : ReqId �
 
     -- ---- all of them
 
-    pub chain_next : AllNext seen config bytes among step old new lives
+    pub chain_next : AllNext seen config bytes among step about old new lives
     chain_next = record {
       last = λ chunk. (then chunk).last;
       goes = λ chunk. (then chunk).goes;
+      from = λ chunk. from_by chunk (lives.life chunk) (family chunk) (f.last chunk) (then chunk).last (begun chunk).linked (then chunk).agrees (f.origins chunk);
       texts = λ chunk. texts_by chunk (f.last chunk) (then chunk).last (then chunk).agrees (family_lists whole s t.after t.sent family f chunk);
-      copies = copies_then seen config bytes among step old new lives (λ chunk. (then chunk).last) (λ chunk. (then chunk).goes) ids.Master moment messages posted
+      copies = copies_then seen config bytes among step about old new lives (λ chunk. (then chunk).last) (λ chunk. (then chunk).goes) ids.Master moment messages posted
           (subst (AllByRecursion (λ (message : Message). CopiesTo seen config bytes new (λ chunk. (then chunk).last) message.to message.body)) (sym sends) (all_copies t.sent f.copies));
     }

@@ -1,5 +1,5 @@
 -- What is durable at the master, or told by its disks where they wait: it is one, and it is what is shown.
-use Rattle.std.proofs.Common.{◌≡◌, ◌∙◌, ◌≤◌, ℕ, false, List, [], ◌∷◌, map, Some, refl, sym, ap, subst}
+use Rattle.std.proofs.Common.{◌≡◌, ◌∙◌, ◌≤◌, ℕ, List, [], ◌∷◌, map, Some, refl, sym, ap, subst}
 use Rattle.std.specs.List.{AllByRecursion}
 use Rattle.gs_journal.specs.Records.{Text, standing}
 use Rattle.gs_journal.specs.declared.version.Version.TheVariants.{Two}
@@ -8,10 +8,12 @@ use Rattle.gs_record.specs.Plain.{PlainEntry}
 use Rattle.gs_record.specs.Writable.{IsEntry}
 use Rattle.gs_record.proofs.Whole.{one_entry}
 use Rattle.gs_state.specs.Applied.{replayed}
-use Rattle.gs_state.specs.Durable.{Durable, is_given, start}
+use Rattle.gs_state.specs.Durable.{Durable, start}
+use Rattle.gs_entry.specs.Unborn.{IsUngiven}
 use Rattle.gs_world.specs.declared.place.MasterPlace.{MasterPlace}
 use Rattle.gs_world.specs.declared.place.MasterPlace.TheVariants.{Standing, Closed, Away}
 use Rattle.gs_run.specs.Lasting.{IsToldIn, Lasts}
+use Rattle.gs_laws.specs.Promises.{IsKept}
 use Rattle.gs_chunk.specs.Machine.{World}
 use Rattle.gs_entry.specs.Showing.{ShowsDurable}
 use Rattle.gs_lift.specs.Doing.{HasDurable}
@@ -46,11 +48,17 @@ module _ {D : Type 0} (seen : D → List ℕ) where
   durable_shown chunk w (Closed first second) d has shows = subst (λ x. ShowsDurable chunk x w.entry) (told_once (standing (seen first) (seen second)) shows.durable d shows.told has) shows.shows
   durable_shown chunk w Away d has shows = absurd has
 
+  -- a master can have it
+  pub kept_there : (place : MasterPlace D) (d : Durable) → Lasts seen place → HasDurable seen place d → IsKept d
+  kept_there (Standing m) d lasts has = subst IsKept has lasts.firm.stands.kept
+  kept_there (Closed first second) d lasts has = subst IsKept (told_once (standing (seen first) (seen second)) lasts.durable d lasts.told has) lasts.kept
+  kept_there Away d lasts has = absurd has
+
   -- and where a chunk isn't known, it gives no such handle
-  pub unknown_on : (chunk epoch : ℕ) (place : MasterPlace D) (d : Durable) → HasDurable seen place d → IsUnknown seen chunk epoch place → (is_given d.next_handle chunk ≡ false) × (epoch ≤ d.epoch)
-  unknown_on chunk epoch (Standing m) d has unknown = subst (λ (x : Durable). (is_given x.next_handle chunk ≡ false) × (epoch ≤ x.epoch)) has (unknown.0.given, unknown.1)
+  pub unknown_on : (chunk epoch : ℕ) (place : MasterPlace D) (d : Durable) → HasDurable seen place d → IsUnknown seen chunk epoch place → IsUngiven chunk d × (epoch ≤ d.epoch)
+  unknown_on chunk epoch (Standing m) d has unknown = subst (λ (x : Durable). IsUngiven chunk x × (epoch ≤ x.epoch)) has (unknown.0.ungiven, unknown.1)
   unknown_on chunk epoch (Closed first second) d has unknown =
-      subst (λ (x : Durable). (is_given x.next_handle chunk ≡ false) × (epoch ≤ x.epoch)) (told_once (standing (seen first) (seen second)) unknown.durable d unknown.told has) (unknown.ungiven, unknown.later)
+      subst (λ (x : Durable). IsUngiven chunk x × (epoch ≤ x.epoch)) (told_once (standing (seen first) (seen second)) unknown.durable d unknown.told has) (unknown.ungiven, unknown.later)
   unknown_on chunk epoch Away d has unknown = absurd has
 
   -- as long as no disk fails there is one

@@ -1,6 +1,5 @@
 pub mod Machines
 pub mod Joint
-pub mod Staying
 pub mod Posting
 pub mod Placing
 pub mod Servers
@@ -28,3 +27,5 @@ pub mod AskingRuns
 pub mod Numbered
 pub mod Waiting
 pub mod Answered
+pub mod Marking
+pub mod Telling

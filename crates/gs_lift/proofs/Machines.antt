@@ -2,13 +2,13 @@
 use Rattle.std.proofs.Common.{◌≡◌, ℕ, ◌≤◌, List, length, Some, None, true, refl, sym, ap, subst, ◌∙◌, arith}
 use Rattle.std.proofs.lemmas.List.{take_all}
 use Rattle.gs_replica.specs.Stands.{Edit}
-use Rattle.gs_chunk.specs.Machine.{Lease, World, Epoch}
+use Rattle.gs_chunk.specs.Machine.{World}
 use Rattle.gs_chunk.specs.Events.{Leads}
 use Rattle.gs_chunk.specs.Laws.{IsReached, world_of}
 use Rattle.gs_chunk.proofs.Known.{Later}
-use Rattle.gs_chunk.proofs.Worlds.{WorldOk, said, leads_later, leads_then}
+use Rattle.gs_chunk.proofs.Worlds.{WorldOk, leads_later, leads_then}
 use Rattle.gs_chunk.proofs.Facts.{reached_world}
-use Rattle.gs_member.specs.Moving.{EpochsAreKnown, LeadsWhole}
+use Rattle.gs_member.specs.Moving.{LeadsWhole}
 use Rattle.gs_chunk.specs.Lists.{ListsAreOld}
 use Rattle.gs_entry.specs.Families.{IsFixed}
 
@@ -26,14 +26,6 @@ module _ (w : World) (reached : IsReached w) where
       let long = v.whole within holder edits live in
       let begins = (v.member within (ok.known.held (w.members me).promise me within holder) edits live).1 in
       (sym (begins.stands ∙ take_all (length edits) (w.known.list (w.members me).promise) (omega arith)), (let s = (ok.entry).stamp in omega arith))
-
-  -- what was told of an epoch is how it began
-  pub epochs_known : EpochsAreKnown w
-  epochs_known to epoch end told = (said w ok to (Epoch epoch end) told).1
-
-  -- a lease is of a view that was settled
-  pub lease_within : (me : ℕ) (l : Lease) → (w.members me).lease ≡ Some l → l.stamp ≤ w.known.view
-  lease_within me l held = ((ok.views me).lease l held).within
 
   -- the epochs that are known are those of the master
   pub current_is : w.known.current ≡ w.entry.epoch

@@ -1,5 +1,5 @@
 -- Each server is shown still behind what the master does, also where it is marked at a prepare; and what the master hears was said in the machine.
-use Rattle.std.proofs.Common.{◌≡◌, ◌≢◌, ◌∙◌, ◌⊎◌, ◌+◌, ◌<◌, ◌≤◌, ◌&&◌, ◌||◌, not, ℕ, Bool, true, false, List, ◌∷◌, Option, Some, None, refl, sym, ap, subst, inl, inr, slice_get}
+use Rattle.std.proofs.Common.{◌≡◌, ◌≢◌, ◌∙◌, ◌⊎◌, ◌+◌, ◌<◌, ◌≤◌, ◌&&◌, ◌||◌, not, ℕ, Bool, true, false, List, Option, Some, None, refl, sym, ap, subst, inl, inr, slice_get}
 use Rattle.std.specs.Prelude.{is_none, is_some}
 use Rattle.std.proofs.lemmas.Bool.{cases_lt, false≢true}
 use Rattle.gs_base.specs.declared.config.Config.{Config}
@@ -22,12 +22,13 @@ use Rattle.gs_store.specs.Standing.{LiveUndamaged}
 use Rattle.gs_run.specs.Histories.{History}
 use Rattle.gs_run.specs.Sent.{IsSent}
 use Rattle.gs_chunk.specs.Machine.{Member, World}
-use Rattle.gs_chunk.specs.Events.{Leads}
+use Rattle.gs_chunk.specs.Events.{Leads, marked}
 use Rattle.gs_chunk.specs.Laws.{IsReached}
 use Rattle.gs_member.specs.Showing.{SealCounts, SealUndamaged, Setting, ShowsLive, ShowsPlace}
 use Rattle.gs_member.specs.Telling.{TellsBody}
+use Rattle.gs_member.proofs.Beside.{place_by_marks}
 use Rattle.gs_entry.specs.Showing.{ShowsDurable}
-use Rattle.gs_entry.specs.Telling.{Says}
+use Rattle.gs_entry.specs.Telling.{Marks, Says}
 use Rattle.gs_entry.specs.Telling as entry
 use Rattle.gs_moves.specs.Asked.{WasHeard}
 use Rattle.gs_moves.specs.Guards.{Heard, IsMade}
@@ -37,7 +38,6 @@ use Rattle.gs_entry.specs.Chains.{AreLive}
 use Rattle.gs_lift.specs.Showing.{ShowsStore, is_live_whole, is_no_rollback, is_over, is_seal_whole, is_whole_at, is_whole_there, setting, whole_in}
 use Rattle.gs_lift.proofs.Joint.{says_of_tells}
 use Rattle.gs_lift.proofs.Machines.{current_is, how_is, reached_then}
-use Rattle.gs_lift.proofs.Staying.{master_then}
 
 pub not_true : (b : Bool) → not b ≡ true → b ≡ false
 not_true true is = absurd (false≢true is)
@@ -125,11 +125,13 @@ module _ (config : Config) (bytes : ReqId → List ℕ) (born chunk : ℕ) where
             (live_whole (slot_in chunk s).live (both (is_live_whole (slot_in chunk s).live) (is_seal_whole (sealed_of (slot_in chunk s)) || is_over d s.kept.epoch) whole).0).1
 
     -- where the machine has gone on to a state of which this is durable, each server is shown still
-    pub members_then : (d : Durable) (v : World) → Leads w v → ShowsDurable chunk d v.entry → ((j : ℕ) → entry.IsSameMember (w.members j) (whole_in d chunk old.nodes.servers j) (v.members j))
+    pub members_then : (d : Durable) (v : World) → Leads w v → ShowsDurable chunk d v.entry → ((j : ℕ) → entry.IsSameMember (w.members j) (whole_in d chunk old.nodes.servers j) (v.members j)) → Marks (whole_in d chunk old.nodes.servers) w v
         → (id : ℕ) (s : Server) → slice_get old.nodes.servers id ≡ Some s → ShowsPlace c v.known s.kept.epoch (place_of chunk s) (v.members id)
-    members_then d v leads durable same id s found =
+    members_then d v leads durable same marks id s found =
         let is = shows.members id s found in
-        master_then c w v reached leads id s.kept.epoch (place_of chunk s) (is_whole_at d chunk s)
+        place_by_marks w v reached leads c id s.kept.epoch (place_of chunk s) (is_whole_at d chunk s)
+        (subst (λ b. entry.IsSameMember (w.members id) b (v.members id)) (ap (is_whole_there d chunk) found) (same id))
+        (λ new. subst (λ b. v.members id ≡ marked (w.members id) b) (ap (is_whole_there d chunk) found) (marks new.0 (new.1, new.2, sym (how_is v (reached_then w reached v leads) new.0) ∙ new.3) id))
         (λ whole.
         let parts = both (is_live_whole (slot_in chunk s).live) (is_seal_whole (sealed_of (slot_in chunk s)) || is_over d s.kept.epoch) whole in
         let at : (w.members id).epoch ≡ s.kept.epoch = whole_epoch w id s is parts.0 in (
@@ -139,7 +141,7 @@ module _ (config : Config) (bytes : ReqId → List ℕ) (born chunk : ℕ) where
             | inr over ↦ absurd (over_counts chunk d v s.kept.epoch (reached_then w reached v leads) durable over (subst (λ n. SealCounts v.known n) at counts))
           ],
         ))
-        (subst (λ b. entry.IsSameMember (w.members id) b (v.members id)) (ap (is_whole_there d chunk) found) (same id)) is
+        is
 
     -- what was heard of a server was said in the machine
     pub heard_so : (message : Message) → IsSent message old.sent → WasHeard (Says chunk w) (said_from message.from message.body)

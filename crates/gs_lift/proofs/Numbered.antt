@@ -1,5 +1,5 @@
 -- Each edit of a chunk's lists was numbered under the stamp that its request names.
-use Rattle.std.proofs.Common.{◌≡◌, ◌∙◌, ⊎_elim, inl, inr, ◌+◌, ℕ, zero, suc, arith, take, Bool, true, false, cond, List, [], Option, Some, None, refl, sym, ap, subst, slice_get}
+use Rattle.std.proofs.Common.{◌≡◌, ◌∙◌, ⊎_elim, inl, inr, ℕ, arith, Bool, true, false, cond, List, Option, Some, None, refl, sym, ap, subst}
 use Rattle.std.specs.Prelude.{◌==◌}
 use Rattle.std.proofs.lemmas.Bool.Decides.{nat_tests}
 use Rattle.gs_base.specs.declared.config.Config.{Config}
@@ -12,16 +12,18 @@ use Rattle.gs_msg.specs.declared.chunk.Chunk.{Chunk}
 use Rattle.gs_msg.specs.declared.chunk.Chunk.TheVariants as chunks
 use Rattle.gs_msg.specs.declared.message.Message.{Message}
 use Rattle.gs_msg.specs.declared.op.Op.{Op}
+use Rattle.gs_server.specs.Runs as at_server
 use Rattle.gs_server.specs.Servers.{Server}
+use Rattle.gs_serving.specs.Calling.{call_by}
+use Rattle.gs_store.specs.Calls.{Call}
 use Rattle.gs_run.specs.Sent.{Sent}
 use Rattle.gs_chunk.specs.Stamps.{stamp_at}
 use Rattle.gs_chunk.specs.Machine.{Member, World}
 use Rattle.gs_chunk.specs.Numbering.{AreNumbered, IsNumberedAt, NumbersAsked}
-use Rattle.gs_chunk.proofs.Lists.{take_at}
 use Rattle.gs_chunk.specs.Events.{Rests}
 use Rattle.gs_chunk.specs.Laws.{world_of}
 use Rattle.gs_chunk.proofs.Numbering.{born_numbered, masters_numbered, servers_numbered}
-use Rattle.gs_member.specs.Causes.{Calm, Edits, Strikes, Numbers, cause_in, cause_of}
+use Rattle.gs_member.specs.Causes.{Calm, Edits, Numbers, cause_in, cause_of, struck_by}
 use Rattle.gs_member.specs.Requests.{Asked, IsOfOneEdit, named}
 use Rattle.gs_member.proofs.Stamps.{stamp_number}
 use Rattle.gs_msg.specs.declared.event.Request.{Request}
@@ -63,9 +65,9 @@ module _ (asked : ℕ → Asked) (chunk : ℕ) where
   heard_asked c m n t old new (bodies.Learned epoch handles) under numbers = inl numbers
   heard_asked c m n t old new (bodies.Behind epoch) under numbers = inl numbers
 
-  struck_asked : (c : Setting) (m n : Member) (t : ℕ) (old new : List Edit) (b : Bool) → Numbers (cond b Strikes Calm) c m n t old new → NumbersAsked Under t old new
-  struck_asked c m n t old new true numbers = inl numbers
-  struck_asked c m n t old new false numbers = inl numbers
+  struck_asked : (c : Setting) (m n : Member) (t : ℕ) (old new : List Edit) (call : Option Call) → Numbers (struck_by call) c m n t old new → NumbersAsked Under t old new
+  struck_asked c m n t old new None numbers = inl numbers
+  struck_asked c m n t old new (Some call) numbers = inl numbers
 
   -- what was sent names the stamp of its request
   pub named_under : (m : Message) → IsOfOneEdit asked m → (handle : ℕ) (req : ReqId) (stamp : Stamp) (op : Op) → m.body ≡ bodies.About handle (chunks.Edit req stamp op) → (chunk == handle) ≡ true → Under req ≡ Some stamp
@@ -79,8 +81,8 @@ module _ (asked : ℕ → Asked) (chunk : ℕ) where
   goes_asked sent id s after messages one (Ticks moment is sends) c m n t old new numbers = inl numbers
   goes_asked sent id s after messages one (Beats is sends) c m n t old new numbers = inl numbers
   goes_asked sent id s after messages one (Restarts is sends) c m n t old new numbers = inl numbers
-  goes_asked sent id s after messages one (Loses handle is sends) c m n t old new numbers = struck_asked c m n t old new (chunk == handle) numbers
-  goes_asked sent id s after messages one (Damages handle block is sends) c m n t old new numbers = struck_asked c m n t old new (chunk == handle) numbers
+  goes_asked sent id s after messages one (Loses handle is sends) c m n t old new numbers = struck_asked c m n t old new (call_by chunk (at_server.Loses handle) s) numbers
+  goes_asked sent id s after messages one (Damages handle block is sends) c m n t old new numbers = struck_asked c m n t old new (call_by chunk (at_server.Damages handle block) s) numbers
 
 pub numbering_goes_on : {D : Type 0} (seen : D → List ℕ) (config : Config) (bytes : ReqId → List ℕ) (asked : ℕ → Asked) → NumberingGoesOn seen config bytes asked
 numbering_goes_on seen config bytes asked born chunk step old new origin w v reached one (AtServer by) numbered =
@@ -94,7 +96,7 @@ numbering_goes_on seen config bytes asked born chunk step old new origin w v rea
 pub numbered_first : (asked : ℕ → Asked) → NumberedIsFirst asked
 numbered_first asked chunk origin k numbered apart t place edit stamp at under = ⊎_elim
     (λ first. absurd (never (asked_under asked chunk edit.req) (apart place edit first) under))
-    (λ (n : IsNumberedAt (asked_under asked chunk) k t place edit). record { number = n.stamp; is = same (sym under ∙ n.asked); within = n.within; stood = n.stood; late = n.late; same = n.same })
+    (λ (n : IsNumberedAt (asked_under asked chunk) k t place edit). record { number = n.stamp; is = same (sym under ∙ n.asked); within = n.within; stood = n.stood; late = n.late; same = n.same; prepared = n.prepared })
     (numbered t place edit at)
   where
     never : (o : Option Stamp) → o ≡ None → o ≡ Some stamp → ⊥
@@ -104,7 +106,7 @@ numbered_first asked chunk origin k numbered apart t place edit stamp at under =
     same is = cc
 
 -- the stamp that a request names for one chunk is the one that it names
-any_of : (chunk : ℕ) (request : Option Request) (stamp : Stamp) → stamp_in chunk request ≡ Some stamp → any_stamp request ≡ Some stamp
+pub any_of : (chunk : ℕ) (request : Option Request) (stamp : Stamp) → stamp_in chunk request ≡ Some stamp → any_stamp request ≡ Some stamp
 any_of chunk (Some (requests.Write handle members primary at op bytes)) stamp is = by_handle (chunk == handle) is
   where
     by_handle : (b : Bool) → cond b (Some at) None ≡ Some stamp → Some at ≡ Some stamp
@@ -131,7 +133,7 @@ newborns_numbered seen config bytes asked chunk old new b comes =
     masters_numbered (asked_under asked chunk) b.reached.0.origin (world_of b.reached.0) b.world (b.reached.0, Rests) comes.leads comes.masters (born_numbered (asked_under asked chunk) b.reached.0)
 
 -- a request asks for an edit of one chunk
-one_chunk : (chunk other : ℕ) (request : Option Request) (stamp : Stamp) → (other ≡ chunk → ⊥) → stamp_in chunk request ≡ Some stamp → stamp_in other request ≡ None
+pub one_chunk : (chunk other : ℕ) (request : Option Request) (stamp : Stamp) → (other ≡ chunk → ⊥) → stamp_in chunk request ≡ Some stamp → stamp_in other request ≡ None
 one_chunk chunk other (Some (requests.Write handle members primary at op bytes)) stamp apart is = by_handles (chunk == handle) (other == handle) refl refl is
   where
     by_handles : (a b : Bool) → (chunk == handle) ≡ a → (other == handle) ≡ b → cond a (Some at) None ≡ Some stamp → cond b (Some at) None ≡ None

@@ -1,5 +1,5 @@
 -- What happens at a server is some events of the machine of a chunk, and the store is shown behind it.
-use Rattle.std.proofs.Common.{◌≡◌, ◌≢◌, ◌==◌, cond, ◌∙◌, ◌⊎◌, ℕ, zero, suc, Bool, true, false, List, [], ◌∷◌, Option, Some, None, refl, sym, ap, subst, inl, inr, slice_get, slice_set, arith}
+use Rattle.std.proofs.Common.{◌≡◌, ◌≢◌, ◌∙◌, ◌⊎◌, ℕ, zero, suc, Bool, true, false, List, [], ◌∷◌, Option, Some, None, refl, sym, ap, subst, inl, inr, slice_get, slice_set, arith}
 use Rattle.std.specs.Prelude.{nat_eq, Contains}
 use Rattle.std.specs.List.{AllByRecursion}
 use Rattle.std.proofs.lemmas.Bool.{eqb-true}
@@ -22,9 +22,12 @@ use Rattle.gs_chunk.specs.Laws.{IsReached}
 use Rattle.gs_member.specs.Showing.{Setting, ShowsPlace, setting_of}
 use Rattle.gs_member.specs.Telling.{BringsCopy, Tells}
 use Rattle.gs_member.specs.Answering.{AnswersOf, IsByServer, handle_in}
-use Rattle.gs_member.specs.Causes.{Calm, Cause, Strikes, cause_in}
+use Rattle.gs_member.specs.Causes.{Calm, Cause, cause_by, cause_in}
 use Rattle.gs_member.specs.Moving.{IsShown, IsSteps, IsToldApart}
+use Rattle.gs_member.proofs.Beside.{place_beside}
+use Rattle.gs_member.proofs.Prepared.{none_prepared}
 use Rattle.gs_member.proofs.Renaming.{message_steps}
+use Rattle.gs_member.proofs.Resting.{epochs_known}
 use Rattle.gs_member.proofs.Steps.{beat_steps, restart_steps}
 use Rattle.gs_member.proofs.Ticks.{damage_steps, lose_steps, tick_steps}
 use Rattle.gs_entry.specs.Showing.{ShowsDurable}
@@ -34,9 +37,8 @@ use Rattle.gs_lift.specs.Going.{about_of, cause_at, Beats, Damages, Hears, Loses
 use Rattle.gs_lift.specs.Joint.{AtServer, GoesTo}
 use Rattle.gs_lift.specs.Showing.{AreToldApart, IsServer, Keeps, ShowsMaster, ShowsNodes, setting}
 use Rattle.gs_lift.proofs.Joint.{body_grown}
-use Rattle.gs_lift.proofs.Machines.{epochs_known, leads_whole}
+use Rattle.gs_lift.proofs.Machines.{leads_whole}
 use Rattle.gs_lift.proofs.Posting.{posted_all, sent_then}
-use Rattle.gs_lift.proofs.Staying.{place_then}
 
 -- ---- one of several
 
@@ -80,12 +82,12 @@ module _ {D : Type 0} (seen : D → List ℕ) where
   master_same chunk Away w v stays same shows = shows
 
 module _ {D : Type 0} (seen : D → List ℕ) (config : Config) (bytes : ReqId → List ℕ) where
-  setting_same : (born id : ℕ) (s : Server) → IsServer config id s → setting_of bytes born s ≡ setting config bytes born
+  pub setting_same : (born id : ℕ) (s : Server) → IsServer config id s → setting_of bytes born s ≡ setting config bytes born
   setting_same born id s k = let block = k.block in let size = k.size in λ i. record { block = block i; size = size i; bytes = bytes; born = born }
 
   module _ (born chunk : ℕ) (old : History D) (w : World) (reached : IsReached w) (shows : ShowsNodes config bytes born chunk old w) (keeps : Keeps config bytes old) (apart : AreToldApart chunk old w) where
     -- a server is shown
-    is_shown : (id : ℕ) (s : Server) → slice_get old.nodes.servers id ≡ Some s → IsShown (setting_of bytes born s) chunk w s
+    pub is_shown : (id : ℕ) (s : Server) → slice_get old.nodes.servers id ≡ Some s → IsShown (setting_of bytes born s) chunk w s
     is_shown id s found =
         let k = keeps.servers id s found in record {
           reached = k.reached;
@@ -99,7 +101,7 @@ module _ {D : Type 0} (seen : D → List ℕ) (config : Config) (bytes : ReqId �
         }
 
     -- what was told is told to it
-    was_told : (id : ℕ) (s : Server) → slice_get old.nodes.servers id ≡ Some s → (message : Message) → IsSent message old.sent → Tells (setting_of bytes born s) chunk w message
+    pub was_told : (id : ℕ) (s : Server) → slice_get old.nodes.servers id ≡ Some s → (message : Message) → IsSent message old.sent → Tells (setting_of bytes born s) chunk w message
     was_told id s found message was = subst (λ c. Tells c chunk w message) (sym (setting_same born id s (keeps.servers id s found))) (shows.sent was.0 message was.1)
 
     -- what happens at it is some events of the machine
@@ -114,14 +116,14 @@ module _ {D : Type 0} (seen : D → List ℕ) (config : Config) (bytes : ReqId �
     steps_at id s after messages found (Beats is sends) brings = as_steps Calm (setting_of bytes born s) chunk w s.me None s after (servers.beat s ∷ []) messages is sends (beat_steps bytes born chunk w s (is_shown id s found))
     steps_at id s after messages found (Restarts is sends) brings = as_steps Calm (setting_of bytes born s) chunk w s.me None (servers.restart s) after [] messages is sends (restart_steps bytes born chunk w s (is_shown id s found))
     steps_at id s after messages found (Loses handle is sends) brings =
-        as_steps (cond (chunk == handle) Strikes Calm) (setting_of bytes born s) chunk w s.me None (at_server.behind (at_server.Loses handle) s) after [] messages is sends (lose_steps bytes born chunk w s (is_shown id s found) handle)
+        as_steps (cause_by chunk (at_server.Loses handle) s) (setting_of bytes born s) chunk w s.me None (at_server.behind (at_server.Loses handle) s) after [] messages is sends (lose_steps bytes born chunk w s (is_shown id s found) handle)
     steps_at id s after messages found (Damages handle block is sends) brings =
-        as_steps (cond (chunk == handle) Strikes Calm) (setting_of bytes born s) chunk w s.me None (at_server.behind (at_server.Damages handle block) s) after [] messages is sends (damage_steps bytes born chunk w s (is_shown id s found) handle block)
+        as_steps (cause_by chunk (at_server.Damages handle block) s) (setting_of bytes born s) chunk w s.me None (at_server.behind (at_server.Damages handle block) s) after [] messages is sends (damage_steps bytes born chunk w s (is_shown id s found) handle block)
 
     -- and the store is shown then
     pub steps_show : ShowsMaster seen chunk old.nodes.master w → (step : Step) (new : History D) (id : ℕ) (s after : Server) (messages : List Message) (moment : Moment) → slice_get old.nodes.servers id ≡ Some s → (goes : ServerGoes old.sent id s after messages) → IsMet step goes → IsServer config id after
         → IsSteps (cause_at chunk goes) (setting_of bytes born s) chunk w s.me (about_of goes) after messages → new.nodes.servers ≡ slice_set old.nodes.servers id after → new.nodes.master ≡ old.nodes.master → Posts moment (ids.Server id) messages old.sent new.sent
-        → GoesTo seen config bytes born chunk step old w new
+        → GoesTo seen config bytes born chunk step (about_of goes) old w new
     steps_show known step new id s after messages moment found goes met k_after there servers master posted = record {
       world = v;
       leads = steps.leads;
@@ -132,6 +134,7 @@ module _ {D : Type 0} (seen : D → List ℕ) (config : Config) (bytes : ReqId �
             (sent_then (Tells c chunk w) (Tells c chunk v) old.sent (λ message tells. body_grown c chunk w v steps.stays message.from message.to message.body tells) shows.sent) steps.tells;
       };
       by = AtServer (record { id = id; server = s; after = after; messages = messages; moment = moment; found = found; goes = goes; met = met; servers = servers; master = master; posted = posted; steps = steps; world = refl });
+      heard = refl;
     }
       where
         k : IsServer config id s
@@ -157,4 +160,5 @@ module _ {D : Type 0} (seen : D → List ℕ) (config : Config) (bytes : ReqId �
             subst (λ n. ShowsPlace c v.known x.kept.epoch (place_of chunk x) (v.members n)) (sym here)
             (subst (λ (y : Server). ShowsPlace c v.known y.kept.epoch (place_of chunk y) (v.members id)) (sym is) this_one)
         by_place j x (inr (differs, there)) =
-            place_then c w v reached steps.leads j x.kept.epoch (place_of chunk x) (steps.others j (differ j id differs)) (shows.members j x there)
+            place_beside w v reached steps.leads c j x.kept.epoch (place_of chunk x) (steps.others j (differ j id differs))
+            (λ new. absurd (none_prepared w v (ap (λ (e : machine.Entry). e.epoch) steps.entry) new)) (shows.members j x there)

@@ -1,5 +1,5 @@
 -- All chunks of a store at once, over each step at which no disk of the master fails.
-use Rattle.std.proofs.Common.{◌≡◌, ◌∙◌, ◌≤◌, ℕ, Bool, List, [], ◌∷◌, Option, Some, None, refl, sym, ap, subst, inl, inr, slice_get, arith}
+use Rattle.std.proofs.Common.{◌≡◌, ◌∙◌, ℕ, Bool, List, [], ◌∷◌, Option, Some, None, refl, sym, ap, subst, inl, inr, slice_get, arith}
 use Rattle.std.specs.Prelude.{}
 use Rattle.std.specs.List.{AllByRecursion}
 use Rattle.gs_base.specs.declared.config.Config.{Config}
@@ -16,7 +16,7 @@ use Rattle.gs_state.specs.Durable.{Durable}
 use Rattle.gs_world.specs.Happenings.{refusal_of_call}
 use Rattle.gs_world.specs.declared.place.MasterPlace.{MasterPlace}
 use Rattle.gs_run.specs.Histories.{History}
-use Rattle.gs_run.specs.Lasting.{failures_at}
+use Rattle.gs_run.specs.Lasting.{Lasts, failures_at}
 use Rattle.gs_run.proofs.Lasting.{run_lasts}
 use Rattle.gs_chunk.specs.Machine.{World}
 use Rattle.gs_chunk.specs.Events as events
@@ -26,17 +26,17 @@ use Rattle.gs_entry.proofs.Marking.{same_epoch}
 use Rattle.gs_run.specs.Runs.{Step}
 use Rattle.gs_lift.specs.Among.{AllAmong}
 use Rattle.gs_lift.specs.Doing.{Arms, Does, HasDurable, Moves, Refuses, Starts, Waits}
-use Rattle.gs_lift.specs.Going.{AllSent, Elsewhere, Kind, OfMaster, OfServer, Posts}
+use Rattle.gs_lift.specs.Going.{AllSent, Elsewhere, Kind, OfMaster, OfServer, Posts, about_of, heard_in}
 use Rattle.gs_lift.specs.Joint.{AtMaster}
-use Rattle.gs_lift.specs.Living.{LifeAt, ShowsArmed, StoreLives, TextsOf}
+use Rattle.gs_lift.specs.Living.{ShowsArmed, StoreLives, TextsOf}
 use Rattle.gs_lift.specs.Running.{LastsArmed, StoresGoOn, UnknownArmed}
 use Rattle.gs_lift.specs.Saying.{PushRight}
-use Rattle.gs_lift.specs.Showing.{ShowsMaster, setting, whole_in}
+use Rattle.gs_lift.specs.Showing.{Life, ShowsMaster, setting, whole_in}
 use Rattle.gs_lift.specs.Unborn.{IsBefore, IsUnknown}
 use Rattle.gs_lift.proofs.Births.{stays_unborn}
 use Rattle.gs_lift.proofs.Chains.{begun_standing, begun_started, chain_next}
 use Rattle.gs_lift.proofs.Doing.{masters_do}
-use Rattle.gs_lift.proofs.Durable.{durable_shown, has_durable, unknown_on}
+use Rattle.gs_lift.proofs.Durable.{durable_shown, has_durable, kept_there, unknown_on}
 use Rattle.gs_lift.proofs.Keeping.{keeps_then}
 use Rattle.gs_lift.proofs.Living.{AllNext, Next, all_next, elsewhere_next, goes_next, server_next, tells_no_copy}
 use Rattle.gs_lift.proofs.Placing.{kind_of}
@@ -50,7 +50,7 @@ refusal_replies : (caller : Option ReqId) → AllByRecursion (λ (m : Message). 
 refusal_replies None = tt
 refusal_replies (Some req) = (tt, tt)
 
-module _ {D : Type 0} (seen : D → List ℕ) (config : Config) (bytes : ReqId → List ℕ) (among : List ℕ → Bool) (step : Step) (old new : History D) (lives : StoreLives seen config bytes among old)
+module _ {D : Type 0} (seen : D → List ℕ) (config : Config) (bytes : ReqId → List ℕ) (among : List ℕ → Bool) (step : Step) (about : Option ℕ) (quiet : None ≡ about) (old new : History D) (lives : StoreLives seen config bytes among old) (lasts : Lasts seen new.nodes.master)
     (held : (chunk : ℕ) → AllAmong among config.block chunk new.nodes.servers) (moment : Moment) (messages : List Message) (servers : new.nodes.servers ≡ old.nodes.servers) (posted : Posts moment ids.Master messages old.sent new.sent) where
   -- ---- no machine changes
 
@@ -72,17 +72,17 @@ module _ {D : Type 0} (seen : D → List ℕ) (config : Config) (bytes : ReqId �
         by_body (bodies.Reply req result) is = (tt, tt)
         by_body body is = absurd is
 
-    stays : (chunk : ℕ) (life : LifeAt seen config bytes chunk old) → TextsOf seen config bytes among chunk old life → Next seen config bytes among step old new lives chunk life
-    stays chunk (inl beyond) texts = record { last = inl beyond; goes = tt; texts = tt }
-    stays chunk (inr (inl first)) texts = record {
-      last = inr (inl (stays_unborn config bytes chunk seen old new first ids.Master moment messages servers posted first.epoch (omega arith) (unknown chunk first.epoch first.master) (reply_before chunk first.epoch messages replies)));
+    stays : (chunk : ℕ) (life : Life seen config bytes chunk old) → TextsOf seen config bytes among chunk old life → Next seen config bytes among step about old new lives chunk life
+    stays chunk (inl first) texts = record {
+      last = (inl (stays_unborn config bytes chunk seen old new first ids.Master moment messages servers posted first.epoch (omega arith) (unknown chunk first.epoch first.master) (reply_before chunk first.epoch messages replies)));
       goes = tt;
+      from = tt;
       texts = tt;
     }
-    stays chunk (inr (inr a)) texts =
+    stays chunk (inr a) texts =
         let c = setting config bytes a.reached.0.epoch in
         let there : ShowsMaster seen chunk new.nodes.master a.world = shown chunk a.world a.shows.master in
-        goes_next seen config bytes among step old new lives held chunk a texts (record {
+        goes_next seen config bytes among step about old new lives held chunk a texts (record {
           world = a.world;
           leads = events.Rests;
           shows = record {
@@ -102,28 +102,30 @@ module _ {D : Type 0} (seen : D → List ℕ) (config : Config) (bytes : ReqId �
             members = λ j. inl refl;
             marks = same_epoch (whole_in behind chunk old.nodes.servers) a.world a.world refl;
             servers = servers;
+            kept = kept_there seen new.nodes.master behind lasts has;
             messages = messages;
             moment = moment;
             posted = posted;
           });
+          heard = quiet;
         })
 
-    still_next : AllNext seen config bytes among step old new lives
+    still_next : AllNext seen config bytes among step about old new lives
     still_next =
-        let each : (chunk : ℕ) → Next seen config bytes among step old new lives chunk (lives.life chunk) = λ chunk. stays chunk (lives.life chunk) (lives.texts chunk) in
-        all_next seen config bytes among step old new lives each ids.Master moment messages posted
-        (tells_no_copy seen config bytes among step old new lives (λ (body : Body). IsReply body) (λ handle at new_handle stamp is. is) (λ chunk. (each chunk).last) messages replies)
+        let each : (chunk : ℕ) → Next seen config bytes among step about old new lives chunk (lives.life chunk) = λ chunk. stays chunk (lives.life chunk) (lives.texts chunk) in
+        all_next seen config bytes among step about old new lives each ids.Master moment messages posted
+        (tells_no_copy seen config bytes among step about old new lives (λ (body : Body). IsReply body) (λ handle at new_handle stamp is. is) (λ chunk. (each chunk).last) messages replies)
 
   -- ---- whatever the master does
 
   module _ (armed : DiskId → ℕ → MasterPlace D → MasterPlace D) (arming : ShowsArmed seen armed) (lasting : LastsArmed seen armed) (unknown : UnknownArmed seen armed) (empty : HasBlocks config.block among (replica_of config.chunk []).bytes) (right : AllSent (PushRight bytes) new.sent) where
-    master_next : Does seen armed old.sent old.nodes.master new.nodes.master messages → AllNext seen config bytes among step old new lives
+    master_next : Does seen armed old.sent old.nodes.master new.nodes.master messages → AllNext seen config bytes among step about old new lives
     master_next (Moves m after heard t at master was chain state sends) =
-        chain_next seen config bytes among step old new lives empty right moment messages servers posted m.state (subst (λ place. HasDurable seen place m.state.durable) (sym at) refl)
-        (λ chunk. begun_standing seen config bytes among step old new lives m at chunk (lives.life chunk)) m.config heard t chain was after master state sends
+        chain_next seen config bytes among step about old new lives quiet empty right moment messages servers posted m.state (subst (λ place. HasDurable seen place m.state.durable) (sym at) refl)
+        (λ chunk. begun_standing seen config bytes among step about old new lives m at chunk (lives.life chunk)) m.config heard t chain was after master lasts state sends
     master_next (Starts by_config d log after t had kept counters master chain state sends) =
-        chain_next seen config bytes among step old new lives empty right moment messages servers posted _ had
-        (λ chunk. begun_started seen config bytes among step old new lives d log had kept counters chunk (lives.life chunk)) by_config None t chain (inl refl) after master state sends
+        chain_next seen config bytes among step about old new lives quiet empty right moment messages servers posted _ had
+        (λ chunk. begun_started seen config bytes among step about old new lives d log had kept counters chunk (lives.life chunk)) by_config None t chain (inl refl) after master lasts state sends
     master_next (Waits d first second had kept counters master told none) =
         still_next d d had (subst (λ place. HasDurable seen place d) (sym master) told) (subst (AllByRecursion (λ (m : Message). IsReply m.body)) (sym none) tt)
         (λ chunk w shows. subst (λ place. ShowsMaster seen chunk place w) (sym master) (record { durable = d; kept = kept; counters = counters; told = told; shows = durable_shown seen chunk w old.nodes.master d had shows }))
@@ -143,22 +145,25 @@ module _ {D : Type 0} (seen : D → List ℕ) (config : Config) (bytes : ReqId �
 -- ---- a step
 
 module _ {D : Type 0} (seen : D → List ℕ) (failures : D → ℕ) (armed : DiskId → ℕ → MasterPlace D → MasterPlace D) (config : Config) (bytes : ReqId → List ℕ) (among : List ℕ → Bool) where
-  kind_next : ShowsArmed seen armed → LastsArmed seen armed → UnknownArmed seen armed → TellsApart among → HasBlocks config.block among (replica_of config.chunk []).bytes → (step : Step) (old new : History D) (lives : StoreLives seen config bytes among old) → Kind seen failures armed step old new
-      → failures_at failures new.nodes.master ≡ failures_at failures old.nodes.master → ((chunk : ℕ) → AllAmong among config.block chunk new.nodes.servers) → AllSent (PushRight bytes) new.sent → AllNext seen config bytes among step old new lives
-  kind_next arming lasting unknown apart empty step old new lives (OfServer id s after messages moment found goes met servers master posted) same held right = server_next seen config bytes among step old new lives held apart id s after messages moment found goes met servers master posted
-  kind_next arming lasting unknown apart empty step old new lives (OfMaster place messages moment goes servers master posted) same held right =
-      master_next seen config bytes among step old new lives held moment messages servers posted armed arming lasting unknown empty right
+  kind_next : ShowsArmed seen armed → LastsArmed seen armed → UnknownArmed seen armed → TellsApart among → HasBlocks config.block among (replica_of config.chunk []).bytes → (step : Step) (old new : History D) (lives : StoreLives seen config bytes among old) (kind : Kind seen failures armed step old new)
+      → failures_at failures new.nodes.master ≡ failures_at failures old.nodes.master → Lasts seen new.nodes.master → ((chunk : ℕ) → AllAmong among config.block chunk new.nodes.servers) → AllSent (PushRight bytes) new.sent → AllNext seen config bytes among step (heard_in seen failures armed kind) old new lives
+  kind_next arming lasting unknown apart empty step old new lives (OfServer id s after messages moment found goes met servers master posted) same lasts held right =
+      server_next seen config bytes among step (about_of goes) old new lives held apart id s after messages moment found goes refl met servers master posted
+  kind_next arming lasting unknown apart empty step old new lives (OfMaster place messages moment goes servers master posted) same lasts held right =
+      master_next seen config bytes among step None refl old new lives lasts held moment messages servers posted armed arming lasting unknown empty right
       (subst (λ there. Does seen armed old.sent old.nodes.master there messages) (sym master) (masters_do seen failures armed old.nodes.config old.sent old.nodes.master place messages lives.lasts (sym (ap (failures_at failures) master) ∙ same) goes))
-  kind_next arming lasting unknown apart empty step old new lives (Elsewhere by messages moment are servers master posted) same held right = elsewhere_next seen config bytes among step old new lives held right by messages moment are servers master posted
+  kind_next arming lasting unknown apart empty step old new lives (Elsewhere by messages moment are servers master posted) same lasts held right = elsewhere_next seen config bytes among step None old new lives held refl right by messages moment are servers master posted
 
   pub stores_go_on : StoresGoOn seen failures armed config bytes among
   stores_go_on arming lasting unknown apart empty step old new lives goes named same held right =
       let kind = kind_of seen failures armed step old new goes named in
-      let all = kind_next arming lasting unknown apart empty step old new lives kind same held right in
+      let lasts = run_lasts seen failures armed lasting (step ∷ []) old new (new, goes, named, same, refl) lives.lasts in
+      let all = kind_next arming lasting unknown apart empty step old new lives kind same lasts held right in
       record {
+        kind = kind;
         last = record {
           keeps = keeps_then seen failures armed config bytes step old new lives.pushes lives.keeps kind;
-          lasts = run_lasts seen failures armed lasting (step ∷ []) old new (new, goes, named, same, refl) lives.lasts;
+          lasts = lasts;
           pushes = right;
           held = held;
           life = all.last;
@@ -166,4 +171,5 @@ module _ {D : Type 0} (seen : D → List ℕ) (failures : D → ℕ) (armed : Di
           texts = all.texts;
         };
         goes = all.goes;
+        from = all.from;
       }

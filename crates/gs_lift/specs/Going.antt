@@ -1,5 +1,5 @@
 -- What a step of a store is: something at one server, at the master, or elsewhere; and what that node sends.
-use Rattle.std.specs.Prelude.{◌≡◌, ◌==◌, cond, ◌⊎◌, ℕ, List, [], ◌∷◌, Option, Some, None, Ok, Err, slice_get, slice_set}
+use Rattle.std.specs.Prelude.{◌≡◌, ◌⊎◌, ℕ, List, [], ◌∷◌, Option, Some, None, Ok, Err, slice_get, slice_set}
 use Rattle.gs_base.specs.declared.config.Config.{Config}
 use Rattle.gs_base.specs.declared.numbers.Moment.{Moment}
 use Rattle.gs_base.specs.declared.refusal.Refusal.{Refusal}
@@ -14,7 +14,7 @@ use Rattle.gs_msg.specs.declared.message.MsgId.{MsgId}
 use Rattle.gs_msg.specs.declared.node.NodeId.{NodeId}
 use Rattle.gs_msg.specs.declared.node.StoreNode.{StoreNode}
 use Rattle.gs_msg.specs.declared.node.NodeId.TheVariants as ids
-use Rattle.gs_member.specs.Causes.{Calm, Cause, Strikes, cause_in}
+use Rattle.gs_member.specs.Causes.{Calm, Cause, cause_by}
 use Rattle.gs_server.specs.Runs as at_server
 use Rattle.gs_server.specs.Servers.{Server}
 use Rattle.gs_server.specs.Servers as servers
@@ -52,12 +52,12 @@ about_of goes = None
 
 -- why something happens to a chunk at it
 abbrev pub cause_at : {sent : Sent} {id : ℕ} {s after : Server} {messages : List Message} (chunk : ℕ) → ServerGoes sent id s after messages → Cause
-cause_at chunk (Hears message moment was to is sends) = cause_in chunk message.body
-cause_at chunk (Loses handle is sends) = cond (chunk == handle) Strikes Calm
-cause_at chunk (Damages handle block is sends) = cond (chunk == handle) Strikes Calm
-cause_at chunk (Ticks moment is sends) = Calm
-cause_at chunk (Beats is sends) = Calm
-cause_at chunk (Restarts is sends) = Calm
+cause_at {sent} {id} {s} chunk (Hears message moment was to is sends) = cause_by chunk (at_server.Hears message moment) s
+cause_at {sent} {id} {s} chunk (Loses handle is sends) = cause_by chunk (at_server.Loses handle) s
+cause_at {sent} {id} {s} chunk (Damages handle block is sends) = cause_by chunk (at_server.Damages handle block) s
+cause_at {sent} {id} {s} chunk (Ticks moment is sends) = cause_by chunk (at_server.Ticks moment) s
+cause_at {sent} {id} {s} chunk (Beats is sends) = Calm
+cause_at {sent} {id} {s} chunk (Restarts is sends) = cause_by chunk at_server.Restarts s
 
 -- this event comes, at some moment
 abbrev pub ComesAs : Step → Happening → Type 0
@@ -92,3 +92,9 @@ module _ {D : Type 0} (seen : D → List ℕ) (failures : D → ℕ) (armed : Di
         → new.nodes.servers ≡ old.nodes.servers → new.nodes.master ≡ place → Posts moment ids.Master messages old.sent new.sent → Kind step old new
     Elsewhere : (by : NodeId) (messages : List Message) (moment : Moment) → AreOfClient messages
         → new.nodes.servers ≡ old.nodes.servers → new.nodes.master ≡ old.nodes.master → Posts moment by messages old.sent new.sent → Kind step old new
+
+  -- the chunk that a server hears about at a step, if it is such a step
+  abbrev pub heard_in : {step : Step} {old new : History D} → Kind step old new → Option ℕ
+  heard_in (OfServer id s after messages moment found goes met servers master posted) = about_of goes
+  heard_in (OfMaster place messages moment goes servers master posted) = None
+  heard_in (Elsewhere by messages moment are servers master posted) = None

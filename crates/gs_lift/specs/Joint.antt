@@ -1,8 +1,9 @@
 -- How the machine of one chunk goes on at a step of a store, and by what: by what happens at one server, by what the master does, or not at all.
-use Rattle.std.specs.Prelude.{◌≡◌, ℕ, List, Some, slice_get, slice_set}
+use Rattle.std.specs.Prelude.{◌≡◌, ℕ, List, Option, Some, None, slice_get, slice_set}
 use Rattle.gs_base.specs.declared.config.Config.{Config}
 use Rattle.gs_base.specs.declared.numbers.Moment.{Moment}
 use Rattle.gs_base.specs.declared.numbers.ReqId.{ReqId}
+use Rattle.gs_laws.specs.Promises.{IsKept}
 use Rattle.gs_msg.specs.declared.message.Message.{Message}
 use Rattle.gs_msg.specs.declared.node.NodeId.TheVariants as ids
 use Rattle.gs_server.specs.Servers.{Server}
@@ -50,6 +51,7 @@ module _ {D : Type 0} (seen : D → List ℕ) (config : Config) (bytes : ReqId �
     pub members : (j : ℕ) → entry.IsSameMember (w.members j) (whole_in behind chunk old.nodes.servers j) (v.members j)
     pub marks : Marks (whole_in behind chunk old.nodes.servers) w v
     pub servers : new.nodes.servers ≡ old.nodes.servers
+    pub kept : IsKept behind
     pub messages : List Message
     pub moment : Moment
     pub posted : Posts moment ids.Master messages old.sent new.sent
@@ -60,10 +62,17 @@ module _ {D : Type 0} (seen : D → List ℕ) (config : Config) (bytes : ReqId �
     -- a client asks, or takes an answer out
     Elsewhere : v ≡ w → new.nodes.servers ≡ old.nodes.servers → new.nodes.master ≡ old.nodes.master → GoesBy
 
+  -- the chunk that a server hears about then, if one does
+  abbrev pub heard_by : GoesBy → Option ℕ
+  heard_by (AtServer by) = about_of by.goes
+  heard_by (AtMaster by) = None
+  heard_by (Elsewhere still servers master) = None
+
 module _ {D : Type 0} (seen : D → List ℕ) (config : Config) (bytes : ReqId → List ℕ) where
-  -- The machine has gone on, by that, to where the store is shown.
-  pub record GoesTo (born chunk : ℕ) (step : Step) (old : History D) (w : World) (new : History D) : Type 0 where
+  -- The machine has gone on, by that, to where the store is shown, where a server hears about this chunk, if one does.
+  pub record GoesTo (born chunk : ℕ) (step : Step) (about : Option ℕ) (old : History D) (w : World) (new : History D) : Type 0 where
     pub world : World
     pub leads : Leads w world
     pub shows : ShowsStore seen config bytes born chunk new world
     pub by : GoesBy seen config bytes born chunk step old new w world
+    pub heard : heard_by seen config bytes born chunk step old new w world by ≡ about

@@ -12,3 +12,5 @@ pub mod Asking
 pub mod Numbered
 pub mod Waiting
 pub mod Answers
+pub mod Marking
+pub mod Telling

@@ -10,7 +10,7 @@ use Rattle.gs_run.specs.Histories.{History}
 use Rattle.gs_chunk.specs.Stamps.{stamp_at}
 use Rattle.gs_chunk.specs.Machine.{Known, World}
 use Rattle.gs_chunk.specs.Laws.{IsReached}
-use Rattle.gs_chunk.specs.Numbering.{AreNumbered, IsBehind}
+use Rattle.gs_chunk.specs.Numbering.{AreNumbered, IsBehind, StandsPrepared}
 use Rattle.gs_member.specs.Requests.{Asked, IsOfOneEdit, named}
 use Rattle.gs_run.specs.Runs.{Step}
 use Rattle.gs_lift.specs.Going.{AllSent}
@@ -44,6 +44,7 @@ pub record StandsFirst (k : Known) (t place : ℕ) (stamp : Stamp) : Type 0 wher
   pub stood : k.stood number ≡ true
   pub late : k.born < number
   pub same : take (place + 1) (k.list number) ≡ take (place + 1) (k.list t)
+  pub prepared : StandsPrepared k number t place
 
 -- So no list of a lower stamp has an edit of a request of this chunk, if none with which the chunk was born is.
 abbrev pub NumberedIsFirst : (ℕ → Asked) → Type 0

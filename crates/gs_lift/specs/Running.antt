@@ -43,7 +43,7 @@ StoresBegin {D} seen failures armed config bytes among = (clients : ℕ) (disks 
 abbrev pub StoresGoOn : {D : Type 0} → (D → List ℕ) → (D → ℕ) → (DiskId → ℕ → MasterPlace D → MasterPlace D) → Config → (ReqId → List ℕ) → (List ℕ → Bool) → Type 0
 StoresGoOn {D} seen failures armed config bytes among = ShowsArmed seen armed → LastsArmed seen armed → UnknownArmed seen armed → TellsApart among → HasBlocks config.block among (replica_of config.chunk []).bytes
     → (step : Step) (old new : History D) (lives : StoreLives seen config bytes among old) → Goes seen failures armed step old new → StepNamed step old → failures_at failures new.nodes.master ≡ failures_at failures old.nodes.master
-    → ((chunk : ℕ) → AllAmong among config.block chunk new.nodes.servers) → AllSent (PushRight bytes) new.sent → StoreGoes seen config bytes among step old new lives
+    → ((chunk : ℕ) → AllAmong among config.block chunk new.nodes.servers) → AllSent (PushRight bytes) new.sent → StoreGoes seen failures armed config bytes among step old new lives
 
 -- ---- a run
 

@@ -12,12 +12,11 @@ ghost use Rattle.gs_run.specs.Runs.{Goes, Step};
 ghost use Rattle.gs_base.specs.declared.config.Config.{Config};
 ghost use Rattle.gs_base.specs.declared.numbers.ReqId.{ReqId};
 ghost use Rattle.gs_base.specs.declared.numbers.Stamp.{Stamp};
+ghost use Rattle.gs_replica.specs.Stands.{Edit};
 ghost use Rattle.gs_lease.specs.declared.view.View.{View};
-ghost use Rattle.gs_store.specs.Slots.{Live, Slot};
 ghost use Rattle.gs_chunk.specs.Machine.{World};
 ghost use Rattle.gs_chunk.specs.Events.{Leads};
 ghost use Rattle.gs_chunk.specs.Laws.{Birth, settled, world_of};
-ghost use Rattle.gs_member.specs.Showing.{Setting, ShowsLive};
 ghost use Rattle.gs_entry.specs.Showing.{ShowsView};
 ghost use Rattle.gs_lift.specs.Accounts.{BeginsList, CountsShow, Lists, ListsShow, settled_in};
 ghost use Rattle.gs_member.specs.Requests.{Asked, IsOfOneEdit, bytes_in, named};
@@ -26,9 +25,11 @@ ghost use Rattle.gs_lift.specs.Going.{AllSent, Kind};
 ghost use Rattle.gs_lift.specs.Asking.{AreAskedIn, AreAskedOver, AskOn, StayAsked};
 ghost use Rattle.gs_lift.specs.Answers.{AnswersBegin, AnswersGoOn};
 ghost use Rattle.gs_lift.specs.Waiting.{WaitsGoOn};
+ghost use Rattle.gs_lift.specs.Telling.{StoresTellFirst, StoresTellOn, StoresTellRun, TellsFirst};
 ghost use Rattle.gs_lift.specs.Numbered.{ListsAreElsewhere, NewbornsAreNumbered, NoneIsEarlier, NumberedIsFirst, NumberingGoesOn};
 ghost use Rattle.gs_lift.specs.Doing.{MastersDo};
 ghost use Rattle.gs_lift.specs.Running.{EachLives, LastsArmed, StoresBegin, StoresGoOn, StoresRun, UnknownArmed};
+ghost use Rattle.gs_lift.specs.Marking.{WholeMembersAreMarked};
 ghost use Rattle.gs_lift.specs.Living.{ShowsArmed};
 
 use gs_block::promises::configurations_have_sizes;
@@ -64,17 +65,23 @@ pub fn a_failure_to_come_changes_nothing_that_is_shown<D>()
 /// Each chunk of a store is a run of its machine: over each run of a store that has begun new, in which no disk of the master fails, it is not born yet, or a
 /// world that the machine reaches from the chunk's birth shows the store as it is then; and from any world of a store on the machine of each chunk that lives
 /// leads to the one that shows the last, from the same birth.
-pub fn each_chunk_of_a_store_is_a_run_of_its_machine<D>()
+pub fn all_chunks_live_over_each_run<D>()
     ensures reached { (seen : D → List ℕ) (failures : D → ℕ) (armed : DiskId → ℕ → MasterPlace D → MasterPlace D) (config : Config) (bytes : ReqId → List ℕ) (among : List ℕ → Bool) → EachLives seen failures armed config bytes among }
     ensures onward { (seen : D → List ℕ) (failures : D → ℕ) (armed : DiskId → ℕ → MasterPlace D → MasterPlace D) (config : Config) (bytes : ReqId → List ℕ) (among : List ℕ → Bool) → StoresRun seen failures armed config bytes among }
 {
     configurations_have_sizes();
 }
 
-/// Where the lists and the counts that are told of a chunk beside the nodes agree with what its machine knows, each live replica that is shown stands for the
-/// first edits of one of these lists, and what is settled by them is what is settled in the machine.
+/// A member of the settled view whose live replica is whole when an upgrade is prepared is intact behind that in the machine of the chunk: what it has sealed
+/// before can't be rolled back to any more.
+pub fn a_whole_member_is_marked_at_a_prepare()
+    ensures { (config : Config) (bytes : ReqId → List ℕ) → WholeMembersAreMarked config bytes }
+{}
+
+/// Where the lists and the counts that are told of a chunk beside the nodes agree with what its machine knows, the edits of each live replica
+/// are the first ones of one of these lists, and what is settled by them is what is settled in the machine.
 pub fn lists_that_agree_tell_what_replicas_stand_for()
-    ensures stands { (list : Lists) (copied : Option (ℕ × Stamp)) (chunk : ℕ) (c : Setting) (b : Birth) (w : World) (me : ℕ) (s : Slot) (l : Live) → Leads (world_of b) w → ListsShow list copied chunk b w → 0 < (w.members me).promise → ShowsLive c s (w.members me).live → s.live ≡ Some l → BeginsList list copied chunk c.block c.size l }
+    ensures stands { (list : Lists) (copied : Option (ℕ × Stamp)) (chunk : ℕ) (b : Birth) (w : World) (me : ℕ) (edits : List Edit) → Leads (world_of b) w → ListsShow list copied chunk b w → 0 < (w.members me).promise → (w.members me).live ≡ Some edits → BeginsList list copied chunk edits }
     ensures settled { (list : Lists) (reached : ℕ → ℕ → Stamp → ℕ) (copied : Option (ℕ × Stamp)) (chunk : ℕ) (b : Birth) (w : World) (view : View) → ListsShow list copied chunk b w → CountsShow reached chunk w → ShowsView view w.entry.view → w.entry.is_known ≡ true → w.known.stood w.entry.view.stamp ≡ true → w.known.born < w.entry.view.stamp → settled_in list reached chunk view ≡ settled w }
 {}
 
@@ -110,3 +117,16 @@ pub fn each_edit_was_numbered_under_the_stamp_of_its_request<D>()
     ensures none_earlier { (asked : ℕ → Asked) → NoneIsEarlier asked }
     ensures elsewhere { (asked : ℕ → Asked) → ListsAreElsewhere asked }
 {}
+
+/// What clients have asked and were told goes along with the machines of a store's chunks: when a store begins new, at each step, and over each run in which no
+/// disk of the master fails, what a client was told done is done in the machine of a chunk of which it has asked for an edit, and each edit of a chunk's lists was
+/// numbered under the stamp of its request, but those with which the chunk was born: a copy is born with edits that were asked for of other chunks, under stamps
+/// below those of its own views. So each edit that was asked for of the chunk stands first in the view of its stamp.
+pub fn what_clients_are_told_goes_along_with_the_machines<D>()
+    ensures begins { (seen : D → List ℕ) (failures : D → ℕ) (armed : DiskId → ℕ → MasterPlace D → MasterPlace D) (config : Config) (bytes : ReqId → List ℕ) (among : List ℕ → Bool) (asked : ℕ → Asked) → StoresTellFirst seen failures armed config bytes among asked }
+    ensures step { (seen : D → List ℕ) (failures : D → ℕ) (armed : DiskId → ℕ → MasterPlace D → MasterPlace D) (config : Config) (bytes : ReqId → List ℕ) (among : List ℕ → Bool) (asked : ℕ → Asked) → StoresTellOn seen failures armed config bytes among asked }
+    ensures runs { (seen : D → List ℕ) (failures : D → ℕ) (armed : DiskId → ℕ → MasterPlace D → MasterPlace D) (config : Config) (bytes : ReqId → List ℕ) (among : List ℕ → Bool) (asked : ℕ → Asked) → StoresTellRun seen failures armed config bytes among asked }
+    ensures first { (seen : D → List ℕ) (config : Config) (bytes : ReqId → List ℕ) (among : List ℕ → Bool) (asked : ℕ → Asked) → TellsFirst seen config bytes asked among }
+{
+    configurations_have_sizes();
+}
