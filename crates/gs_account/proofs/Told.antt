@@ -55,14 +55,14 @@ module _ {D : Type 0} (x : Setup D) where
     told = subst (λ (t : Text). IsToldIn t m.state.durable) (sym (ap (λ (k : Journal D). k.text) alike.others)) h.told;
   }
 
-  arming : (seen : D → List ℕ) (place new : MasterPlace D) → IsArmed seen place new → Lasts seen place → Lasts seen new
+  pub arming : (seen : D → List ℕ) (place new : MasterPlace D) → IsArmed seen place new → Lasts seen place → Lasts seen new
   arming seen (Standing m) new (j, is, alike) h = subst (Lasts seen) (sym is) (firm_alike seen m j alike h)
   arming seen (Closed first second) new (other, another, is, one, two) h =
       subst (Lasts seen) (sym is) (subst TellsAMaster (sym (ap (λ s. standing s (seen another)) one ∙ ap (standing (seen first)) two)) h)
   arming seen Away new is h = absurd h
 
   -- a master hears only what is named, since all that was sent to it is within its types
-  named : (step : Step) (old : History D) → IsStepWithin step → KeepsTypes old → StepNamed step old
+  pub named : (step : Step) (old : History D) → IsStepWithin step → KeepsTypes old → StepNamed step old
   named (Takes client) old within types = tt
   named (Comes event) old within types = heard event.happening
     where
@@ -77,7 +77,7 @@ module _ {D : Type 0} (x : Setup D) where
       heard (happenings.FailDisk disk call) = tt
 
   -- what stands behind a step
-  one_lasts : IsGiven x → (step : Step) (old mid : History D) → Lasts x.seen old.nodes.master → KeepsTypes old → Steps x step old mid → Lasts x.seen mid.nodes.master × KeepsTypes mid
+  pub one_lasts : IsGiven x → (step : Step) (old mid : History D) → Lasts x.seen old.nodes.master → KeepsTypes old → Steps x step old mid → Lasts x.seen mid.nodes.master × KeepsTypes mid
   one_lasts given step old mid lasts types one = (
     run_lasts x.seen x.failures x.armed (λ disk call place k. arming x.seen place (x.armed disk call place) (given.armed disk call place) k) (step ∷ []) old mid (mid, one.goes, named step old one.within types, one.sound, refl) lasts,
     run_keeps x.seen x.failures x.armed (step ∷ []) old mid (mid, one.goes, refl) (one.within, tt) types,
@@ -93,7 +93,7 @@ module _ {D : Type 0} (x : Setup D) where
       (more.0, (mid, c, record { steps = one; told = tells.1; account = refl }, more.1))
 
   -- and behind many
-  runs_sound : IsGiven x → (steps : List Step) (old new : History D) (a b : Account) → Lasts x.seen old.nodes.master → KeepsTypes old → Runs x steps old a new b → StaysSound x steps old new
+  pub runs_sound : IsGiven x → (steps : List Step) (old new : History D) (a b : Account) → Lasts x.seen old.nodes.master → KeepsTypes old → Runs x steps old a new b → StaysSound x steps old new
   runs_sound given [] old new a b lasts types runs = record { lasts = subst (λ (h : History D). Lasts x.seen h.nodes.master) (sym runs.0) lasts; types = subst (λ (h : History D). KeepsTypes h) (sym runs.0) types; runs = runs.0 }
   runs_sound given (step ∷ steps) old new a b lasts types (mid, c, one, rest) =
       let behind = one_lasts given step old mid lasts types one.steps in

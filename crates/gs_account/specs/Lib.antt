@@ -1,4 +1,3 @@
 pub mod Accounts
-pub mod Harm
 pub mod Moving
 pub mod Running

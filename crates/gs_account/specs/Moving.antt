@@ -27,7 +27,7 @@ use Rattle.gs_server.specs.Runs as at_server
 use Rattle.gs_server.specs.Runs.{slot_in}
 use Rattle.gs_replica.specs.Stands.{Edit}
 use Rattle.gs_store.specs.Calls.{Call}
-use Rattle.gs_account.specs.Harm.{intact_behind, is_whole}
+use Rattle.gs_member.specs.Harm.{intact_behind, is_whole}
 use Rattle.gs_serving.specs.Following.{edit_in, lengthened}
 use Rattle.gs_store.specs.Slots.{count_of}
 use Rattle.gs_msg.specs.declared.outbox.Post.{Post}
