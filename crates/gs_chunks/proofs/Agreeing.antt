@@ -24,7 +24,7 @@ use Rattle.gs_chunks.proofs.Serving.{Meets, count_then, heard_then, reaches_more
 use Rattle.gs_chunks.proofs.Mastering as mastering
 use Rattle.gs_chunks.proofs.Mastering.{behind_it}
 use Rattle.gs_chunks.proofs.Still.{counts_still, none_numbered}
-use Rattle.gs_chunks.specs.Agreeing.{Agrees, BirthsAgree, IsBlank, MastersAgree, OriginShows, RowsGo, ServersAgree, StillAgree}
+use Rattle.gs_chunks.specs.Agreeing.{Agrees, BirthsAgree, IsBlank, ListsStayOn, MastersAgree, MastersKeepLists, OriginShows, RowsGo, ServersAgree, ServersKeepLists, StillAgree, StillKeepsLists}
 use Rattle.gs_entry.proofs.Leading.{masters_leave}
 use Rattle.gs_entry.specs.Showing.{ShowsDurable}
 use Rattle.gs_lift.proofs.Machines.{reached_then}
@@ -35,7 +35,10 @@ use Rattle.gs_lift.specs.Going.{IsMet}
 use Rattle.gs_lift.specs.Joint.{ByMaster, ByServer}
 use Rattle.gs_lift.specs.Showing.{IsServer, Keeps, ShowsNodes, setting}
 use Rattle.gs_member.proofs.Steps.{pushed_there}
-use Rattle.gs_member.specs.Causes.{Calm, Numbers, Strikes}
+use Rattle.gs_member.specs.Causes.{Numbers, struck_by}
+use Rattle.gs_server.specs.Runs as at_server
+use Rattle.gs_serving.specs.Calling.{call_by}
+use Rattle.gs_store.specs.Calls.{Call}
 use Rattle.gs_member.specs.Showing.{Setting}
 use Rattle.gs_msg.specs.declared.message.Message.{Message}
 use Rattle.gs_replica.specs.Stands.{Edit}
@@ -60,9 +63,9 @@ no_prepare d first other = by_phase d.phase
     by_phase Rolling = refl
 
 -- a loss or damage numbers nothing
-struck : (b : Bool) (c : Setting) (m n : Member) (t : ℕ) (old new : List Edit) → Numbers (cond b Strikes Calm) c m n t old new → new ≡ old
-struck true c m n t old new same = same
-struck false c m n t old new same = same
+struck : (call : Option Call) (c : Setting) (m n : Member) (t : ℕ) (old new : List Edit) → Numbers (struck_by call) c m n t old new → new ≡ old
+struck None c m n t old new same = same
+struck (Some call) c m n t old new same = same
 
 module _ {D : Type 0} (law : AreNumbered) (chunk : ℕ) (step : Step) (old new : History D) (c : Setting) (w v : World) (id : ℕ) (s after : Server) (messages : List Message) (found : slice_get old.nodes.servers id ≡ Some s) (got : slice_get new.nodes.servers id ≡ Some after) (k : (moment : Moment) → Meets c w v chunk id s after moment) where
   -- each list has the edit more that the account finds
@@ -77,8 +80,8 @@ module _ {D : Type 0} (law : AreNumbered) (chunk : ℕ) (step : Step) (old new :
   numbered_then (Ticks moment is sends) (node, (at, comes)) t same = ap (λ (x : Step). lengthened (w.known.list t) (edit_under (stamp_at t) (numbered x old new chunk))) comes ∙ sym same
   numbered_then (Beats is sends) (at, comes) t same = ap (λ (x : Step). lengthened (w.known.list t) (edit_under (stamp_at t) (numbered x old new chunk))) comes ∙ sym same
   numbered_then (Restarts is sends) (node, (at, comes)) t same = ap (λ (x : Step). lengthened (w.known.list t) (edit_under (stamp_at t) (numbered x old new chunk))) comes ∙ sym same
-  numbered_then (Loses handle is sends) (at, comes) t lists = ap (λ (x : Step). lengthened (w.known.list t) (edit_under (stamp_at t) (numbered x old new chunk))) comes ∙ sym (struck (chunk == handle) c (w.members id) (v.members id) t (w.known.list t) (v.known.list t) lists)
-  numbered_then (Damages handle block is sends) (at, comes) t lists = ap (λ (x : Step). lengthened (w.known.list t) (edit_under (stamp_at t) (numbered x old new chunk))) comes ∙ sym (struck (chunk == handle) c (w.members id) (v.members id) t (w.known.list t) (v.known.list t) lists)
+  numbered_then (Loses handle is sends) (at, comes) t lists = ap (λ (x : Step). lengthened (w.known.list t) (edit_under (stamp_at t) (numbered x old new chunk))) comes ∙ sym (struck (call_by chunk (at_server.Loses handle) s) c (w.members id) (v.members id) t (w.known.list t) (v.known.list t) lists)
+  numbered_then (Damages handle block is sends) (at, comes) t lists = ap (λ (x : Step). lengthened (w.known.list t) (edit_under (stamp_at t) (numbered x old new chunk))) comes ∙ sym (struck (call_by chunk (at_server.Damages handle block) s) c (w.members id) (v.members id) t (w.known.list t) (v.known.list t) lists)
 
 -- ---- what is known of a machine whose master did nothing
 
@@ -171,6 +174,7 @@ module _ {D : Type 0} (law : AreNumbered) (seen : D → List ℕ) (config : Conf
         free = fixed.0;
         lower = u.lower;
         below = below;
+        last = λ s stands low. u.last s (same s ∙ stands) low;
         begins = (rest.0 ++ more.0, more.1 ∙ ap (λ (xs : List Edit). xs ++ more.0) rest.1 ∙ append_assoc (w.known.list t) rest.0 more.0 ∙ ap (λ (xs : List Edit). xs ++ (rest.0 ++ more.0)) (sym fixed.1));
       }
 
@@ -222,13 +226,22 @@ module _ {D : Type 0} (law : AreNumbered) (seen : D → List ℕ) (config : Conf
 pub servers_agree : {D : Type 0} → AreNumbered → (seen : D → List ℕ) (config : Config) (bytes : ReqId → List ℕ) → ServersAgree seen config bytes
 servers_agree law seen config bytes chunk step old new a w v reached keeps shown shows by met before origin = server_agrees law seen config bytes chunk step old new a w v reached keeps shown shows by met before origin
 
+pub servers_keep : {D : Type 0} → AreNumbered → (seen : D → List ℕ) (config : Config) (bytes : ReqId → List ℕ) → ServersKeepLists seen config bytes
+servers_keep law seen config bytes chunk step old new a w v reached keeps shown shows by met t within same = list_then law seen config bytes chunk step old new a w v reached keeps shown shows by met t same
+
 -- ---- elsewhere
+
+still_list : {D : Type 0} (chunk : ℕ) (step : Step) (old new : History D) (a : Account) → new.nodes.servers ≡ old.nodes.servers → (t : ℕ) → (account_behind step old a new a.durable).list chunk (stamp_at t) ≡ a.list chunk (stamp_at t)
+still_list chunk step old new a servers t = unmoved a new.sent a.durable (numbered step old new chunk) chunk (stamp_at t) (view_at a chunk) refl ∙ ap (λ o. lengthened (a.list chunk (stamp_at t)) (edit_under (stamp_at t) o)) (none_numbered chunk old new servers step)
+
+pub still_keeps : (D : Type 0) → StillKeepsLists D
+still_keeps D chunk step old new a w servers t within same = still_list chunk step old new a servers t ∙ same
 
 pub still_agrees : (D : Type 0) (config : Config) (bytes : ReqId → List ℕ) → StillAgree D config bytes
 still_agrees D config bytes chunk step old new a w reached servers shows before origin = record {
   lists = record {
     own = λ t stood late. elim (before.lists.own t stood late) [
-      | inl same ↦ inl (unmoved a new.sent a.durable (numbered step old new chunk) chunk (stamp_at t) (view_at a chunk) refl ∙ ap (λ o. lengthened (a.list chunk (stamp_at t)) (edit_under (stamp_at t) o)) (none_numbered chunk old new servers step) ∙ same)
+      | inl same ↦ inl (still_list chunk step old new a servers t ∙ same)
       | inr unseen ↦ inr unseen
     ];
     origin = origin;
@@ -267,6 +280,16 @@ module _ {D : Type 0} (seen : D → List ℕ) (config : Config) (bytes : ReqId �
 
 pub masters_agree : {D : Type 0} (seen : D → List ℕ) (config : Config) (bytes : ReqId → List ℕ) → MastersAgree seen config bytes
 masters_agree seen config bytes chunk step old new a w v reached shows by told rows before origin origin_then = master_agrees seen config bytes chunk step old new a w v reached shows by told rows before origin origin_then
+
+pub masters_keep : {D : Type 0} (seen : D → List ℕ) (config : Config) (bytes : ReqId → List ℕ) → MastersKeepLists seen config bytes
+masters_keep seen config bytes chunk step old new a w v reached shows by told rows t within same =
+    let shown = shown_of seen config bytes chunk step old new a w v reached shows by told rows in
+    list_of seen config bytes chunk step old new a w v reached shows by told rows t
+    ∙ mastering.lists_then chunk new.sent a by.behind w v reached by.leads by.masters (λ x there. (shown.settled x there).view.stamp) shown.rolling by.shows (rows_of seen config bytes chunk step old new a w v reached shows by told rows) t within same
+
+-- from world to world
+pub lists_stay_on : ListsStayOn
+lists_stay_on chunk a b c u v w reached leads first second t within same = (let view = (leads_later u v leads (reached_world u reached)).view in second t (omega arith) (first t within same))
 
 -- ---- a birth
 

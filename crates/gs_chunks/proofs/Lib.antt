@@ -4,3 +4,13 @@ pub mod Still
 pub mod Mastering
 pub mod Agreeing
 pub mod Durables
+pub mod Standing
+mod Joining
+mod Reached
+pub mod Quiet
+pub mod Surviving
+pub mod Viewing
+pub mod Fetching
+pub mod Naming
+pub mod Preparing
+pub mod Back

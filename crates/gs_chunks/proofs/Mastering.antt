@@ -138,6 +138,23 @@ module _ (chunk : ℕ) (sent : Sent) (a : Account) (e : Durable) (w v : World) (
     | inr within ↦ within
   ]
 
+  -- What is told of a view that isn't above the settled one as the machine has it is told so still.
+  pub lists_then : (t : ℕ) → t ≤ w.known.view → a.list chunk (stamp_at t) ≡ w.known.list t → told t ≡ v.known.list t
+  lists_then t within same = by_once (masters_settle_once w v leads reached masters)
+    where
+      by_once : SettlesOnce w v → told t ≡ v.known.list t
+      by_once (inl k) = still_told t k.view ∙ same ∙ ap (λ f. f t) (sym k.list)
+      by_once (inr (inl k)) =
+          let moving = k.moving in
+          other_told t (λ is. absurd (let view = k.view in omega arith)) ∙ same
+          ∙ sym (k.list t ∙ ap (λ b. cond b (take (v.known.base w.known.top) (w.known.list w.known.view)) (w.known.list t)) (ne_eqb t w.known.top (λ is. absurd (omega arith))))
+      by_once (inr (inr r)) =
+          let over = r.later in
+          let top = (ok.known).viewtop in
+          let back = rows.back over in
+          let so : IsRestored w v = r.exact back.1 in
+          other_told t (λ is. absurd (omega arith)) ∙ same ∙ sym (so.others t (inr back.2) (λ is. absurd (let view = so.view in omega arith))).0
+
   module _ (own : (t : ℕ) → w.known.stood t ≡ true → w.known.born < t → (a.list chunk (stamp_at t) ≡ w.known.list t) ⊎ IsUnseen w t) (late : (x : Settled) → fin.get a.durable.chunks chunk ≡ Some x → w.known.born < w.known.view)
       (before : (e : ℕ) → IsUpgrading w e → w.entry.was_known ≡ true → a.before chunk ≡ prepared_list w) (origin : OriginShows a.list sent chunk reached.0 v) where
     abbrev Then : ℕ → Type 0
@@ -150,6 +167,7 @@ module _ (chunk : ℕ) (sent : Sent) (a : Account) (e : Durable) (w v : World) (
       free = (later.fixed t within u.free).0;
       lower = u.lower;
       below = u.below;
+      last = λ s stands low. u.last s (sym (later.stood s (omega arith)) ∙ stands) low;
       begins = (u.begins.0, lower ∙ u.begins.1 ∙ ap (λ xs. xs ++ u.begins.0) (sym same));
     }
 
@@ -241,8 +259,11 @@ module _ (chunk : ℕ) (sent : Sent) (a : Account) (e : Durable) (w v : World) (
       | inl here ↦ subst Then (k.view ∙ sym here) (at_top (fin.get e.chunks chunk) refl)
     ]
       where
+        stood_other : (n : ℕ) → n ≢ w.known.top → v.known.stood n ≡ w.known.stood n
+        stood_other n other = k.stood n ∙ ap (λ b. cond b true (w.known.stood n)) (ne_eqb n w.known.top other)
+
         stood_w : t ≢ w.known.top → w.known.stood t ≡ true
-        stood_w other = sym (k.stood t ∙ ap (λ b. cond b true (w.known.stood t)) (ne_eqb t w.known.top other)) ∙ stood
+        stood_w other = sym (stood_other t other) ∙ stood
 
         list_other : (n : ℕ) → n ≢ w.known.top → v.known.list n ≡ w.known.list n
         list_other n other = k.list n ∙ ap (λ b. cond b (take (v.known.base w.known.top) (w.known.list w.known.view)) (w.known.list n)) (ne_eqb n w.known.top other)
@@ -260,9 +281,10 @@ module _ (chunk : ℕ) (sent : Sent) (a : Account) (e : Durable) (w v : World) (
             )
         at_top None none = inr (record {
           gone = λ last. by_known v.entry.is_known refl;
-          free = rows.fades none (let view = k.view in let moving = k.moving in omega arith);
+          free = rows.fades (by_known v.entry.is_known refl) (let view = k.view in let moving = k.moving in omega arith);
           lower = w.known.view;
           below = (let view = k.view in let moving = k.moving in omega arith);
+          last = λ s stands low. stood_within s (sym (stood_other s (λ is. absurd (let view = k.view in omega arith))) ∙ stands);
           begins = (drop (v.known.base v.known.view) (w.known.list w.known.view), same_lower ∙ sym (ap (λ xs. xs ++ drop (v.known.base v.known.view) (w.known.list w.known.view)) list_is ∙ take-append-drop (v.known.base v.known.view) (w.known.list w.known.view)));
         })
           where

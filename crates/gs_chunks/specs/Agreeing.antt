@@ -1,5 +1,5 @@
 -- How an account agrees with the machine of a chunk, and that it goes on so.
-use Rattle.std.specs.Prelude.{◌≡◌, ◌⊎◌, ◌<◌, ℕ, false, List, [], None, Some, is_some, slice_get, true}
+use Rattle.std.specs.Prelude.{◌≡◌, ◌⊎◌, ◌<◌, ◌≤◌, ℕ, false, List, [], None, Some, is_some, slice_get, true}
 use Rattle.std.specs.FinMap as fin
 use Rattle.gs_base.specs.declared.config.Config.{Config}
 use Rattle.gs_base.specs.declared.numbers.ReqId.{ReqId}
@@ -9,6 +9,7 @@ use Rattle.gs_account.specs.Moving.{account_behind, copied_from, prepares, rolls
 use Rattle.gs_chunk.specs.Events.{Leads}
 use Rattle.gs_chunk.specs.Laws.{Birth, IsReached, IsUpgrading, prepared_list, world_of}
 use Rattle.gs_chunk.specs.Machine.{World}
+use Rattle.gs_chunk.specs.Stamps.{stamp_at}
 use Rattle.gs_chunk.specs.Mastering.{AreOfMaster, NonePrepared}
 use Rattle.gs_lift.specs.Going.{IsMet}
 use Rattle.gs_entry.specs.Showing.{ShowsDurable}
@@ -46,13 +47,13 @@ StillAgree D config bytes = (chunk : ℕ) (step : Step) (old new : History D) (a
     → Agrees a old.sent chunk reached.0 w → OriginShows (account_behind step old a new a.durable).list new.sent chunk reached.0 w → Agrees (account_behind step old a new a.durable) new.sent chunk reached.0 w
 
 -- What a step of the master makes of what the records tell of a chunk. A view that appears where none was told is a later one. Of a chunk that is known and of
--- which none is told none was settled since its birth. One that is settled, and of which none is told then, is one in which nobody may number. And where a
+-- which none is told none was settled since its birth. One that is settled, and that is forgotten then, is one in which nobody may number. And where a
 -- rollback is committed it is accepted at this step, within the epoch, when nothing was proposed; and each view that it gives back is told. An epoch begins by a
 -- prepare where one is accepted alone: then nothing is settled beside, and of each chunk that is known a view is told.
 pub record RowsGo (chunk : ℕ) (d e : Durable) (w v : World) : Type 0 where
   pub appears : (y : Settled) → fin.get d.chunks chunk ≡ None → fin.get e.chunks chunk ≡ Some y → w.known.view < v.known.view
   pub first : w.entry.is_known ≡ true → fin.get d.chunks chunk ≡ None → w.known.view ≡ w.known.born
-  pub fades : fin.get e.chunks chunk ≡ None → w.known.view < v.known.view → v.known.holder v.known.view ≡ None
+  pub fades : v.entry.is_known ≡ false → w.known.view < v.known.view → v.known.holder v.known.view ≡ None
   pub back : w.known.top < v.known.view → (rolls_back d e ≡ true) × (v.known.current ≡ w.known.current) × (w.known.view ≡ w.known.top)
   pub given : w.known.top < v.known.view → v.known.stood v.known.view ≡ true → is_some (fin.get e.chunks chunk) ≡ true
   pub unprepared : prepares d e ≡ false → NonePrepared w v
@@ -64,6 +65,26 @@ MastersAgree {D} seen config bytes = (chunk : ℕ) (step : Step) (old new : Hist
     → (by : ByMaster seen config bytes reached.0.epoch chunk step old new w v) → by.before ≡ a.durable → RowsGo chunk by.before by.behind w v
     → Agrees a old.sent chunk reached.0 w → OriginShows a.list new.sent chunk reached.0 v → OriginShows (account_behind step old a new by.behind).list new.sent chunk reached.0 v
     → Agrees (account_behind step old a new by.behind) new.sent chunk reached.0 v
+
+-- What an account has of a view that isn't above the settled one as the machine has it, it has so in another world.
+abbrev pub ListsStay : ℕ → Account → World → Account → World → Type 0
+ListsStay chunk a w b v = (t : ℕ) → t ≤ w.known.view → a.list chunk (stamp_at t) ≡ w.known.list t → b.list chunk (stamp_at t) ≡ v.known.list t
+
+-- So it is behind whatever happens at a server, behind whatever the master does, and where nothing happens at either; and so from world to world.
+abbrev pub ServersKeepLists : {D : Type 0} → (D → List ℕ) → Config → (ReqId → List ℕ) → Type 0
+ServersKeepLists {D} seen config bytes = (chunk : ℕ) (step : Step) (old new : History D) (a : Account) (w v : World) (reached : IsReached w)
+    → Keeps config bytes old → ShowsNodes config bytes reached.0.epoch chunk old w → ShowsNodes config bytes reached.0.epoch chunk new v → (by : ByServer seen config bytes reached.0.epoch chunk step old new w v) → IsMet step by.goes
+    → ListsStay chunk a w (account_behind step old a new a.durable) v
+
+abbrev pub MastersKeepLists : {D : Type 0} → (D → List ℕ) → Config → (ReqId → List ℕ) → Type 0
+MastersKeepLists {D} seen config bytes = (chunk : ℕ) (step : Step) (old new : History D) (a : Account) (w v : World) (reached : IsReached w) → ShowsNodes config bytes reached.0.epoch chunk new v
+    → (by : ByMaster seen config bytes reached.0.epoch chunk step old new w v) → by.before ≡ a.durable → RowsGo chunk by.before by.behind w v → ListsStay chunk a w (account_behind step old a new by.behind) v
+
+abbrev pub StillKeepsLists : Type 0 → Type 0
+StillKeepsLists D = (chunk : ℕ) (step : Step) (old new : History D) (a : Account) (w : World) → new.nodes.servers ≡ old.nodes.servers → ListsStay chunk a w (account_behind step old a new a.durable) w
+
+abbrev pub ListsStayOn : Type 0
+ListsStayOn = (chunk : ℕ) (a b c : Account) (u v w : World) → IsReached u → Leads u v → ListsStay chunk a u b v → ListsStay chunk b v c w → ListsStay chunk a u c w
 
 -- of a chunk that isn't born no edit is in any list, nobody has had any, and no view is told
 pub record IsBlank (a : Account) (chunk : ℕ) : Type 0 where

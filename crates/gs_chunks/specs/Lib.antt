@@ -1,8 +1,12 @@
 pub mod Standing
 pub mod Joined
+pub mod Seen
 pub mod Acknowledged
 pub mod Reading
+pub mod SeenReads
 pub mod Upgrading
 pub mod Sealing
 pub mod Durables
 pub mod Agreeing
+pub mod Joining
+pub mod Reached
