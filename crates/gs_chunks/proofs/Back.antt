@@ -1,7 +1,6 @@
 -- A survivor that has rolled back keeps the text of the prepare in any later world, as long as it makes no greater promise.
-use Rattle.std.proofs.Common.{◌≡◌, ◌∙◌, ◌+◌, ◌<◌, ◌≤◌, ◌⊎◌, inl, inr, ℕ, true, false, List, None, Option, Some, refl, sym, ap, subst, arith}
+use Rattle.std.proofs.Common.{◌≡◌, ◌∙◌, ◌+◌, ◌≤◌, inl, inr, ℕ, true, false, List, Some, sym, ap, subst, arith}
 use Rattle.std.specs.Prelude.{is_some, slice_get}
-use Rattle.gs_base.specs.Members.{is_member}
 use Rattle.gs_base.specs.Stamps.{is_before}
 use Rattle.gs_base.specs.declared.epoch.EpochEnd.TheVariants.{Rollback}
 use Rattle.gs_base.specs.declared.numbers.ReqId.{ReqId}
@@ -16,7 +15,7 @@ use Rattle.gs_chunk.proofs.Prepared.{prepared_rests}
 use Rattle.gs_chunk.proofs.Resting.{none_ahead}
 use Rattle.gs_chunk.proofs.Worlds.{WorldOk, leads_later}
 use Rattle.gs_chunk.specs.Events.{is_of}
-use Rattle.gs_chunk.specs.Laws.{IsSurvivor, KeepsSealed, StaysKnown, prepared_list}
+use Rattle.gs_chunk.specs.Laws.{IsSurvivor, prepared_list}
 use Rattle.gs_chunk.specs.Machine.{World}
 use Rattle.gs_chunk.specs.Resting.{PreparedRests}
 use Rattle.gs_chunk.specs.Stamps as stamps

@@ -1,5 +1,5 @@
 -- What a member of a view gives that was told of a chunk is legal.
-use Rattle.std.proofs.Common.{◌≡◌, ◌∙◌, ◌++◌, ◌+◌, ◌<◌, ◌≤◌, ◌⊎◌, inl, inr, ℕ, zero, suc, Bool, false, true, List, [], ◌∷◌, length, take, None, Option, Some, Result, Ok, Err, refl, sym, ap, subst, arith, append_assoc, slice_get, slice_set}
+use Rattle.std.proofs.Common.{◌≡◌, ◌∙◌, ◌++◌, ◌+◌, ◌<◌, ◌≤◌, ◌⊎◌, inl, inr, ℕ, zero, suc, Bool, false, true, List, [], length, None, Option, Some, Result, Ok, Err, refl, sym, ap, subst, arith, append_assoc, slice_get, slice_set}
 use Rattle.std.specs.Prelude.{Contains, MatchOption}
 use Rattle.std.specs.List.{AllByRecursion}
 use Rattle.std.proofs.lemmas.Bool.{cases_lt}
@@ -9,13 +9,12 @@ use Rattle.gs_base.specs.Members.{is_member}
 use Rattle.gs_base.specs.Stamps.{is_before}
 use Rattle.gs_base.specs.declared.numbers.Moment.{Moment}
 use Rattle.gs_base.specs.declared.numbers.ReqId.{ReqId}
-use Rattle.gs_base.specs.declared.numbers.Stamp.{Stamp}
 use Rattle.gs_base.specs.declared.refusal.Refusal.{Refusal}
 use Rattle.gs_base.specs.declared.refusal.Refusal.TheVariants as refusals
-use Rattle.gs_account.specs.Accounts.{Account, settled_count, settled_in, text_of}
+use Rattle.gs_account.specs.Accounts.{Account, text_of}
 use Rattle.gs_account.specs.Running.{Setup}
 use Rattle.gs_chunk.proofs.Facts.{reached_world}
-use Rattle.gs_chunk.proofs.Lasting.{agrees, stays_known}
+use Rattle.gs_chunk.proofs.Lasting.{agrees}
 use Rattle.gs_chunk.proofs.Known.{Later}
 use Rattle.gs_chunk.proofs.Stays.{known_inherits}
 use Rattle.gs_chunk.proofs.Viewed.{lists_of_views}
@@ -30,25 +29,20 @@ use Rattle.gs_lease.specs.declared.view.View.{View}
 use Rattle.gs_lift.proofs.Accounts.{no_front}
 use Rattle.gs_lift.proofs.Serving.{is_shown}
 use Rattle.gs_lift.specs.Accounts.{IsUnseen}
-use Rattle.gs_lift.specs.Showing.{ShowsNodes}
 use Rattle.gs_master.specs.declared.turn.Turn.{Turn}
 use Rattle.gs_member.proofs.Holding.{legal_read}
 use Rattle.gs_member.proofs.Reading.{fetch_read}
-use Rattle.gs_member.proofs.Stamps.{less_before, before_less}
+use Rattle.gs_member.proofs.Stamps.{before_less}
 use Rattle.gs_member.proofs.Lists.{nil_contains}
 use Rattle.gs_member.proofs.Ticks.{one_of_all}
 use Rattle.gs_member.specs.Moving.{IsShown}
 use Rattle.gs_member.specs.Reading.{GivesOf, IsRead, Reads, ReadsBody}
 use Rattle.gs_member.specs.Showing.{Setting, setting_of}
-use Rattle.gs_msg.specs.declared.body.Body.{Body}
-use Rattle.gs_msg.specs.declared.body.Body.TheVariants as bodies
 use Rattle.gs_msg.specs.declared.body.Given.{Given}
 use Rattle.gs_msg.specs.declared.body.Given.TheVariants as givens
 use Rattle.gs_msg.specs.declared.chunk.Asked.{Asked}
 use Rattle.gs_msg.specs.declared.chunk.Asked.TheVariants as asks
-use Rattle.gs_msg.specs.declared.chunk.Chunk.TheVariants as chunks
 use Rattle.gs_msg.specs.declared.event.Event.{Event}
-use Rattle.gs_msg.specs.declared.event.Happening.{Happening}
 use Rattle.gs_msg.specs.declared.event.Happening.TheVariants as happenings
 use Rattle.gs_msg.specs.declared.event.DiskId.{DiskId}
 use Rattle.gs_msg.specs.declared.message.Message.{Message}
@@ -60,7 +54,6 @@ use Rattle.gs_run.specs.Histories.{AtNode, ComesTo, Happens, History, Outcome, t
 use Rattle.gs_run.specs.Sent.{message_of}
 use Rattle.gs_server.specs.Servers.{Server}
 use Rattle.gs_server.specs.Servers as servers
-use Rattle.gs_state.specs.Durable.{is_rolling}
 use Rattle.gs_world.specs.Happenings.{Delivers, Hears, ServerDoes}
 use Rattle.gs_world.specs.Nodes.{Nodes, with_servers}
 use Rattle.gs_world.specs.declared.place.MasterPlace.{MasterPlace}

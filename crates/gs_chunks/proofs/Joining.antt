@@ -1,30 +1,26 @@
 -- An account and the machines of all chunks of a store go on agreeing.
-use Rattle.std.proofs.Common.{◌≡◌, ◌∙◌, ℕ, Bool, true, false, List, Option, Some, None, is_some, refl, sym, ap, subst, inl, inr, slice_get}
-use Rattle.std.proofs.lemmas.Bool.{false≢true}
+use Rattle.std.proofs.Common.{◌≡◌, ◌∙◌, ℕ, false, List, Option, None, refl, sym, ap, subst, inl, inr}
 use Rattle.std.specs.FinMap as fin
 use Rattle.gs_base.specs.declared.numbers.ReqId.{ReqId}
-use Rattle.gs_laws.specs.Promises.{IsKept}
 use Rattle.gs_run.specs.Histories.{History}
 use Rattle.gs_run.specs.Lasting.{Lasts}
 use Rattle.gs_run.specs.Runs.{Step}
 use Rattle.gs_server.specs.Places.{Place}
-use Rattle.gs_server.specs.Runs.{slot_in}
-use Rattle.gs_server.specs.Servers.{Server}
-use Rattle.gs_state.specs.Durable.{Durable, is_given, is_rolling}
+use Rattle.gs_state.specs.Durable.{Durable, is_rolling}
 use Rattle.gs_world.specs.declared.place.MasterPlace.{MasterPlace}
 use Rattle.gs_world.specs.declared.place.MasterPlace.TheVariants.{Standing, Closed, Away}
 use Rattle.gs_chunk.specs.Machine.{World}
 use Rattle.gs_chunk.specs.Laws.{Birth, world_of}
 use Rattle.gs_lift.specs.Doing.{HasDurable}
 use Rattle.gs_lift.specs.Joint.{AtMaster, AtServer, Elsewhere, GoesBy}
-use Rattle.gs_lift.specs.Living.{ComesAlive, GoesOn, StoreGoes, StoreLives}
+use Rattle.gs_lift.specs.Living.{ComesAlive, GoesOn, StoreLives}
 use Rattle.gs_lift.specs.Showing.{IsAlive, ShowsNodes, ShowsStore}
 use Rattle.gs_lift.specs.Unborn.{IsUnborn, IsUnknown}
 use Rattle.gs_account.specs.Accounts.{Account}
 use Rattle.gs_account.specs.Moving.{account_behind}
 use Rattle.gs_account.specs.Running.{IsToldAt, Moves, Setup}
 use Rattle.gs_chunks.specs.Agreeing.{Agrees, IsBlank, OriginShows, RowsGo}
-use Rattle.gs_chunks.specs.Joining.{AgreesAt, Life, OriginAt, RowsAt, RowsBy, StoreAgrees, StoresAgreeOn}
+use Rattle.gs_chunks.specs.Joining.{AgreesAt, Life, OriginAt, RowsAt, RowsBy, StoresAgreeOn}
 use Rattle.gs_chunks.proofs.Agreeing.{births_agree, masters_agree, servers_agree, still_agrees}
 use Rattle.gs_chunks.proofs.Durables.{told_is_had}
 use Rattle.gs_chunks.proofs.Edits.{AreNumbered}

@@ -1,29 +1,27 @@
 -- Behind each run of a store its chunks live.
-use Rattle.std.proofs.Common.{◌≡◌, ◌∙◌, ◌++◌, ℕ, List, [], ◌∷◌, Some, refl, sym, ap, subst, slice_get}
+use Rattle.std.proofs.Common.{◌≡◌, ◌∙◌, ℕ, List, [], ◌∷◌, Some, sym, ap, subst, slice_get}
 use Rattle.std.specs.FinMap as fin
 use Rattle.gs_block.specs.Written.{HasBlocks}
-use Rattle.gs_journal.specs.Records.{fresh, standing}
-use Rattle.gs_master.specs.Masters.{with_journal}
-use Rattle.gs_msg.specs.declared.event.DiskId.{DiskId}
+use Rattle.gs_journal.specs.Records.{standing}
 use Rattle.gs_replica.specs.Seals.{Sealed, State}
 use Rattle.gs_replica.specs.Stands.{replica_of}
-use Rattle.gs_run.specs.Histories.{Begins, History}
-use Rattle.gs_run.specs.Lasting.{IsToldIn, Lasts, RunsSoundly, failures_at}
+use Rattle.gs_run.specs.Histories.{History}
+use Rattle.gs_run.specs.Lasting.{IsToldIn}
 use Rattle.gs_run.specs.Runs.{Step}
 use Rattle.gs_server.specs.Runs.{slot_in}
 use Rattle.gs_server.specs.Servers.{Server}
-use Rattle.gs_store.specs.Slots.{Live, Slot, sealed_of}
+use Rattle.gs_store.specs.Slots.{Live, Slot}
 use Rattle.gs_theorems.specs.Saying.{KeepsTypes}
 use Rattle.gs_world.specs.declared.place.MasterPlace.{MasterPlace}
 use Rattle.gs_world.specs.declared.place.MasterPlace.TheVariants.{Standing, Closed, Away}
 use Rattle.gs_member.specs.Requests.{Asked, bytes_in}
 use Rattle.gs_lift.specs.Among.{AllAmong, SlotAmong}
-use Rattle.gs_lift.specs.Running.{AreHeld, LastsArmed, UnknownArmed}
+use Rattle.gs_lift.specs.Running.{LastsArmed, UnknownArmed}
 use Rattle.gs_lift.specs.Living.{ShowsArmed}
 use Rattle.gs_lift.specs.Showing.{ShowsMaster}
 use Rattle.gs_lift.specs.Unborn.{IsUnknown}
 use Rattle.gs_account.specs.Accounts.{Account}
-use Rattle.gs_account.specs.Running.{AreAmong, IsArmed, IsGiven, IsReached, ReplicaAmong, Runs, Setup, replica_in}
+use Rattle.gs_account.specs.Running.{AreAmong, IsArmed, IsGiven, ReplicaAmong, Runs, Setup, replica_in}
 use Rattle.gs_account.proofs.Blocks.{blocks_have}
 use Rattle.gs_account.proofs.Told.{arming, named, one_lasts, reached_sound, runs_sound}
 use Rattle.gs_chunks.specs.Reached.{EachIsARun, EachLeadsOn, Shows}

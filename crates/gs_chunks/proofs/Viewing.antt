@@ -1,5 +1,5 @@
 -- What the account of a chunk has settled, in a world in which its machine shows the store.
-use Rattle.std.proofs.Common.{◌≡◌, ◌∙◌, ◌<◌, ℕ, List, Option, Some, None, true, take, refl, sym, ap, subst, arith}
+use Rattle.std.proofs.Common.{◌≡◌, ◌∙◌, ◌<◌, ℕ, List, Some, true, take, ap, subst, arith}
 use Rattle.std.specs.FinMap as fin
 use Rattle.gs_base.specs.declared.numbers.ReqId.{ReqId}
 use Rattle.gs_account.specs.Accounts.{Account, settled_in, view_at}

@@ -1,5 +1,5 @@
 -- The chunks of a store behind each run of it, and what its clients have asked and were told.
-use Rattle.std.specs.Prelude.{◌≡◌, ℕ, List}
+use Rattle.std.specs.Prelude.{ℕ, List}
 use Rattle.gs_run.specs.Histories.{History}
 use Rattle.gs_run.specs.Runs.{Step}
 use Rattle.gs_member.specs.Requests.{Asked, bytes_in}

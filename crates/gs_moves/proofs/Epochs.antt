@@ -7,13 +7,8 @@ use Rattle.std.proofs.lemmas.Bool.{false≢true, true≢false, and_parts}
 use Rattle.gs_base.specs.declared.config.Config.{Config}
 use Rattle.gs_base.specs.declared.numbers.ReqId.{ReqId}
 use Rattle.gs_base.specs.declared.refusal.Refusal.{Refusal}
-use Rattle.gs_lease.specs.declared.view.Purpose.TheVariants as purposes
 use Rattle.gs_lease.specs.declared.view.View.{View}
-use Rattle.gs_msg.specs.declared.answer.Answer.TheVariants as answers
-use Rattle.gs_msg.specs.declared.body.Body.TheVariants as bodies
-use Rattle.gs_msg.specs.declared.chunk.Chunk.TheVariants as abouts
 use Rattle.gs_edit.specs.View.{NamesView}
-use Rattle.gs_base.specs.declared.epoch.EpochEnd.TheVariants as ends
 use Rattle.gs_record.specs.Plain.{PlainEdit, PlainEntry, Edited, Holder, Propose, Said, Settle, Remove}
 use Rattle.gs_laws.proofs.Beginnings.{fits_gives}
 use Rattle.gs_laws.proofs.KeptEdits.{forgets_only}
@@ -24,7 +19,6 @@ use Rattle.gs_state.specs.Durable.{Durable, is_upgrade, prepared_view, with_prep
 use Rattle.gs_state.specs.Settling.{own_request}
 use Rattle.gs_state.specs.State.{State, fits, keeps_refusal, said_records}
 use Rattle.gs_state.specs.Working.{forget_if}
-use Rattle.gs_state.specs.declared.change.Change.TheVariants as changes
 use Rattle.gs_moves.specs.Guards.{Heard, IsMade}
 use Rattle.gs_moves.specs.Moves.{Rests, Moves, Then, Alone, FromNow, Further, Move, Begins, Copies, Settles, Scans, Refuses, Answers as Answers_it, Prepares, Finalizes, BeginsRollback, CommitsRollback, Checkpoints, move_turn}
 use Rattle.gs_path.specs.Path.{Path}
