@@ -13,7 +13,7 @@ use Rattle.gs_chunk.specs.Stamps.{epoch_of, stamp_at, start_of}
 use Rattle.gs_chunk.specs.Machine.{Entry, Known, World}
 use Rattle.gs_chunk.specs.Events.{Event, Raises, Rises, Promises, SendsCopy, TakesLease, Numbers, Forwards, Applies, Acknowledges, Hears, Closes, Answers, Spends, Drops, Loses, Damages, Learns, Names, Reports, Proposes, AsksFirst, Asks, AsksForCopy, GivesUp, Holds, Settles, Grants, Retires, SendsDrop, Prepares, Finalizes, BeginsRollback, CommitsRollback, TellsEpoch, Can, happens, learned, Leads, Rests, Goes}
 use Rattle.gs_chunk.specs.Acting.{actor}
-use Rattle.gs_chunk.specs.Laws.{Birth}
+use Rattle.gs_chunk.specs.Laws.{Birth, IsReached}
 use Rattle.gs_chunk.specs.Mastering.{AreOfMaster}
 use Rattle.gs_chunk.specs.Numbering.{AreNumbered, BornNumbered, IsBehind, IsNumberedAt, MastersNumber, NumbersAsked, ServersNumber, StandsPrepared, StaysBehind}
 use Rattle.gs_chunk.proofs.Facts.{reached_world}
@@ -209,6 +209,36 @@ list_above : (w v : World) → Leads w v → WorldOk w → (t : ℕ) → v.known
 list_above w v Rests ok t l = refl
 list_above w v (Goes u e before can) ok t l = let x = event_above u e (leads_world w u before ok) can t l in x.1 ∙ list_above w u before ok t x.0
 
+-- A list that grows where the master does nothing is of a view that was settled, behind the birth: one in which a server may number.
+module _ (w v : World) (reached : IsReached w) (leads : Leads w v) (entry : v.entry ≡ w.entry) (t : ℕ) (never : v.known.list t ≡ w.known.list t → ⊥) where
+  grown_ok : WorldOk w
+  grown_ok = reached_world w reached
+
+  grown_then : WorldOk v
+  grown_then = leads_world w v leads grown_ok
+
+  grown_later : Later w.known v.known
+  grown_later = leads_later w v leads grown_ok
+
+  grown_view : v.known.view ≡ w.known.view
+  grown_view = sym (grown_then.entry).stamp ∙ ap (λ (n : Entry). n.view.stamp) entry ∙ (grown_ok.entry).stamp
+
+  pub grown_within : t ≤ w.known.view
+  grown_within = ⊎_elim (λ (above : v.known.view < t). absurd (never (list_above w v leads grown_ok t above))) (λ low. (let s = grown_view in omega arith)) (cases_lt v.known.view t)
+
+  grown_held : (o : Option ℕ) → w.known.holder t ≡ o → (j : ℕ) × (w.known.members t j ≡ true)
+  grown_held None none = absurd (never (grown_later.fixed t grown_within none).1)
+  grown_held (Some j) held = (j, (grown_ok.known).held t j grown_within held)
+
+  pub grown_stood : w.known.stood t ≡ true
+  grown_stood = (let m = grown_held (w.known.holder t) refl in (grown_ok.known).peopled t m.0 grown_within m.1)
+
+  pub grown_late : w.known.born < t
+  grown_late =
+      let m = grown_held (w.known.holder t) refl in
+      let low = (grown_ok.known).early t grown_stood in
+      ⊎_elim (λ (same : t ≡ w.known.born). absurd (false_true (w.known.members w.known.born m.0) ((grown_ok.known).first m.0) (subst (λ x. w.known.members x m.0 ≡ true) same m.1))) (λ differs. omega arith) (cases_eq t w.known.born)
+
 -- ---- where an edit was numbered
 
 -- what stood at the prepare of an upgrade stands so where more is known, and no upgrade has begun but behind the settled view
@@ -333,22 +363,6 @@ module _ (under : ReqId → Option Stamp) where
       grows : (new : Edit) → v.known.list t ≡ w.known.list t ++ new ∷ [] → v.known.list t ≡ w.known.list t → ⊥
       grows new is same = (let n : length (v.known.list t) ≡ length (w.known.list t) = ap length same in let m : length (v.known.list t) ≡ length (w.known.list t ++ new ∷ []) = ap length is in omega (arith, length-append (w.known.list t) (new ∷ [])))
 
-      within : (v.known.list t ≡ w.known.list t → ⊥) → t ≤ w.known.view
-      within never = ⊎_elim (λ (above : v.known.view < t). absurd (never (list_above w v leads ok t above))) (λ low. (let s = same_view in omega arith)) (cases_lt v.known.view t)
-
-      held_so : (v.known.list t ≡ w.known.list t → ⊥) → (o : Option ℕ) → w.known.holder t ≡ o → (j : ℕ) × (w.known.members t j ≡ true)
-      held_so never None none = absurd (never (later.fixed t (within never) none).1)
-      held_so never (Some j) held = (j, (ok.known).held t j (within never) held)
-
-      stood_so : (v.known.list t ≡ w.known.list t → ⊥) → w.known.stood t ≡ true
-      stood_so never = (let m = held_so never (w.known.holder t) refl in (ok.known).peopled t m.0 (within never) m.1)
-
-      late_so : (v.known.list t ≡ w.known.list t → ⊥) → w.known.born < t
-      late_so never =
-          let m = held_so never (w.known.holder t) refl in
-          let low = (ok.known).early t (stood_so never) in
-          ⊎_elim (λ (same : t ≡ w.known.born). absurd (false_true (w.known.members w.known.born m.0) ((ok.known).first m.0) (subst (λ x. w.known.members x m.0 ≡ true) same m.1))) (λ differs. omega arith) (cases_eq t w.known.born)
-
       by_list : NumbersAsked under t (w.known.list t) (v.known.list t) → (slice_get origin place ≡ Some edit) ⊎ IsNumberedAt under v.known t place edit
       by_list (inl same) = from_old (subst (λ xs. slice_get xs place ≡ Some edit) same at) (ap (take (place + 1)) same)
       by_list (inr (new, is, was_asked)) = ⊎_elim
@@ -358,9 +372,9 @@ module _ (under : ReqId → Option Stamp) where
           (λ last. inr (record {
             stamp = t;
             within = omega arith;
-            settled = (let l = within (grows new is) in let s = same_view in omega arith);
-            stood = later.stood t (within (grows new is)) ∙ stood_so (grows new is);
-            late = (let l = late_so (grows new is) in let s = later.born in omega arith);
+            settled = (let l = grown_within w v reached leads entry t (grows new is) in let s = same_view in omega arith);
+            stood = later.stood t (grown_within w v reached leads entry t (grows new is)) ∙ grown_stood w v reached leads entry t (grows new is);
+            late = (let l = grown_late w v reached leads entry t (grows new is) in let s = later.born in omega arith);
             asked = subst (λ (e : Edit). under e.req ≡ Some (stamp_at t)) last.1 was_asked;
             same = refl;
             prepared = λ within stood now how kept over under. absurd (omega arith);

@@ -1,12 +1,14 @@
 -- An account agrees with the machine of a chunk behind a step at one server.
-use Rattle.std.proofs.Common.{◌≡◌, ◌∙◌, ◌+◌, ◌<◌, ◌≤◌, ◌⊎◌, ◌&&◌, ◌++◌, ℕ, true, false, List, Option, Some, None, refl, sym, ap, subst, inl, inr, arith, slice_get, append_assoc}
-use Rattle.std.specs.Prelude.{if◌then◌else◌, is_some}
+use Rattle.std.proofs.Common.{◌≡◌, ◌∙◌, ◌+◌, ◌<◌, ◌≤◌, ◌⊎◌, ◌&&◌, ◌++◌, ◌∷◌, [], length, length-append, ℕ, Bool, true, false, List, Option, Some, None, refl, sym, ap, subst, inl, inr, arith, slice_get, append_assoc}
+use Rattle.std.specs.Prelude.{if◌then◌else◌, is_some, option_map}
 use Rattle.std.proofs.lemmas.Bool.{cases_lt, eqb-true, false≢true, true≢false}
 use Rattle.gs_base.specs.declared.config.Config.{Config}
+use Rattle.gs_base.specs.Stamps.{is_same}
 use Rattle.gs_base.specs.declared.numbers.Moment.{Moment}
 use Rattle.gs_base.specs.declared.numbers.ReqId.{ReqId}
+use Rattle.gs_base.specs.declared.numbers.Stamp.{Stamp}
 use Rattle.gs_account.specs.Accounts.{Account, edits_in, view_at}
-use Rattle.gs_account.specs.Moving.{account_behind, edit_under, list_behind, numbered, numbered_by, numbered_of, numbers, prepares, reached_behind, server_of}
+use Rattle.gs_account.specs.Moving.{account_behind, edit_under, has_more, is_edit, list_behind, numbered, numbered_by, numbered_of, numbers, prepares, reached_behind, server_of}
 use Rattle.gs_chunk.specs.Stamps.{stamp_at, start_of}
 use Rattle.gs_chunk.specs.Machine.{Entry, Member, World}
 use Rattle.gs_chunk.specs.Events.{Leads, Rests}
@@ -15,6 +17,7 @@ use Rattle.gs_chunk.specs.Laws.{Birth, IsReached, IsUpgrading, prepared_list, wo
 use Rattle.gs_chunk.specs.Mastering.{AreOfMaster}
 use Rattle.gs_chunk.proofs.Facts.{reached_world}
 use Rattle.gs_chunk.proofs.Lasting.{agrees}
+use Rattle.gs_chunk.proofs.Numbering.{grown_late, grown_stood, grown_within}
 use Rattle.gs_chunk.proofs.Known.{Later}
 use Rattle.gs_chunk.proofs.Prepared.{prepared_rests}
 use Rattle.gs_chunk.proofs.Resting.{leases_rest}
@@ -24,7 +27,7 @@ use Rattle.gs_chunks.proofs.Serving.{Meets, count_then, heard_then, reaches_more
 use Rattle.gs_chunks.proofs.Mastering as mastering
 use Rattle.gs_chunks.proofs.Mastering.{behind_it}
 use Rattle.gs_chunks.proofs.Still.{counts_still, none_numbered}
-use Rattle.gs_chunks.specs.Agreeing.{Agrees, BirthsAgree, IsBlank, ListsStayOn, MastersAgree, MastersKeepLists, OriginShows, RowsGo, ServersAgree, ServersKeepLists, StillAgree, StillKeepsLists}
+use Rattle.gs_chunks.specs.Agreeing.{Agrees, BirthsAgree, IsBlank, IsOfView, ListsStayOn, MastersAgree, MastersKeepLists, OriginShows, RowsGo, ServersAgree, ServersKeepLists, StillAgree, StillKeepsLists}
 use Rattle.gs_entry.proofs.Leading.{masters_leave}
 use Rattle.gs_entry.specs.Showing.{ShowsDurable}
 use Rattle.gs_lift.proofs.Machines.{reached_then}
@@ -34,6 +37,7 @@ use Rattle.gs_lift.specs.Going.{Beats, Damages, Hears, Loses, Restarts, ServerGo
 use Rattle.gs_lift.specs.Going.{IsMet}
 use Rattle.gs_lift.specs.Joint.{ByMaster, ByServer}
 use Rattle.gs_lift.specs.Showing.{IsServer, Keeps, ShowsNodes, setting}
+use Rattle.gs_member.proofs.Stamps.{same_stamp}
 use Rattle.gs_member.proofs.Steps.{pushed_there}
 use Rattle.gs_member.specs.Causes.{Numbers, struck_by}
 use Rattle.gs_server.specs.Runs as at_server
@@ -44,10 +48,11 @@ use Rattle.gs_msg.specs.declared.message.Message.{Message}
 use Rattle.gs_replica.specs.Stands.{Edit}
 use Rattle.gs_run.specs.Histories.{History}
 use Rattle.gs_run.specs.Runs.{Step}
+use Rattle.gs_server.specs.Runs.{slot_in}
 use Rattle.gs_server.specs.Servers.{Server}
 use Rattle.gs_record.specs.declared.checkpoint.Phase.{Phase}
 use Rattle.gs_record.specs.declared.checkpoint.Phase.TheVariants.{Ordinary, Rolling, Upgrade}
-use Rattle.gs_serving.specs.Following.{lengthened}
+use Rattle.gs_serving.specs.Following.{edit_in, lengthened}
 use Rattle.gs_state.specs.Applied.{view_in}
 use Rattle.gs_state.specs.Durable.{Durable, Settled, is_ordinary, is_rolling, is_upgrade}
 use Rattle.std.specs.FinMap as fin
@@ -82,6 +87,37 @@ module _ {D : Type 0} (law : AreNumbered) (chunk : ℕ) (step : Step) (old new :
   numbered_then (Restarts is sends) (node, (at, comes)) t same = ap (λ (x : Step). lengthened (w.known.list t) (edit_under (stamp_at t) (numbered x old new chunk))) comes ∙ sym same
   numbered_then (Loses handle is sends) (at, comes) t lists = ap (λ (x : Step). lengthened (w.known.list t) (edit_under (stamp_at t) (numbered x old new chunk))) comes ∙ sym (struck (call_by chunk (at_server.Loses handle) s) c (w.members id) (v.members id) t (w.known.list t) (v.known.list t) lists)
   numbered_then (Damages handle block is sends) (at, comes) t lists = ap (λ (x : Step). lengthened (w.known.list t) (edit_under (stamp_at t) (numbered x old new chunk))) comes ∙ sym (struck (call_by chunk (at_server.Damages handle block) s) c (w.members id) (v.members id) t (w.known.list t) (v.known.list t) lists)
+
+-- what is numbered is so under this stamp
+abbrev IsUnder : Stamp → Option (Stamp × Edit) → Type 0
+IsUnder stamp None = Unit {0}
+IsUnder stamp (Some found) = found.0 ≡ stamp
+
+numbers_under : (chunk : ℕ) (message : Message) (moment : Moment) (s after : Server) (stamp : Stamp) → (slot_in chunk s).promise ≡ stamp → IsUnder stamp (numbers chunk message moment (Some s) (Some after))
+numbers_under chunk message moment s after stamp promise = by_parts (is_edit chunk message.body && has_more chunk s after) (edit_in (call_by chunk (at_server.Hears message moment) s))
+  where
+    by_parts : (b : Bool) (o : Option Edit) → IsUnder stamp (if b then option_map (λ (edit : Edit). ((slot_in chunk s).promise, edit)) o else None)
+    by_parts false o = tt
+    by_parts true None = tt
+    by_parts true (Some e) = promise
+
+module _ {D : Type 0} (chunk : ℕ) (step : Step) (old new : History D) (id : ℕ) (s after : Server) (messages : List Message) (found : slice_get old.nodes.servers id ≡ Some s) (got : slice_get new.nodes.servers id ≡ Some after) (stamp : Stamp) (promise : (slot_in chunk s).promise ≡ stamp) where
+  none_under : numbered step old new chunk ≡ None → IsUnder stamp (numbered step old new chunk)
+  none_under none = subst (IsUnder stamp) (sym none) tt
+
+  numbered_under : (goes : ServerGoes old.sent id s after messages) → IsMet step goes → IsUnder stamp (numbered step old new chunk)
+  numbered_under (Hears message moment was to is sends) (at, there, comes) = subst (IsUnder stamp)
+      (sym (ap (λ (x : Step). numbered x old new chunk) comes
+      ∙ ap (λ (o : Option Message). numbered_of o moment old new chunk) there
+      ∙ ap (λ (n : NodeId). numbered_by (server_of n) message moment old new chunk) to
+      ∙ ap (λ (o : Option Server). numbers chunk message moment o (slice_get new.nodes.servers id)) found
+      ∙ ap (λ (o : Option Server). numbers chunk message moment (Some s) o) got))
+      (numbers_under chunk message moment s after stamp promise)
+  numbered_under (Ticks moment is sends) (node, (at, comes)) = none_under (ap (λ (x : Step). numbered x old new chunk) comes)
+  numbered_under (Beats is sends) (at, comes) = none_under (ap (λ (x : Step). numbered x old new chunk) comes)
+  numbered_under (Restarts is sends) (node, (at, comes)) = none_under (ap (λ (x : Step). numbered x old new chunk) comes)
+  numbered_under (Loses handle is sends) (at, comes) = none_under (ap (λ (x : Step). numbered x old new chunk) comes)
+  numbered_under (Damages handle block is sends) (at, comes) = none_under (ap (λ (x : Step). numbered x old new chunk) comes)
 
 -- ---- what is known of a machine whose master did nothing
 
@@ -186,6 +222,44 @@ module _ {D : Type 0} (law : AreNumbered) (seen : D → List ℕ) (config : Conf
         | inr unseen ↦ inr (unseen_then t stood_w unseen)
       ]
 
+  -- Under another stamp nothing is numbered: a server numbers under the one that it has promised, of a view that stood.
+  others_then : (before : Agrees a old.sent chunk reached.0 w) → (s : Stamp) → IsOfView ((account_behind step old a new a.durable).list chunk) v s
+  others_then before s = by_before (before.others s)
+    where
+      t : ℕ
+      t = (w.members by.id).promise
+
+      behind_it : (account_behind step old a new a.durable).list chunk s ≡ lengthened (a.list chunk s) (edit_under s (numbered step old new chunk))
+      behind_it = unmoved a new.sent a.durable (numbered step old new chunk) chunk s (view_at a chunk) refl
+
+      as_view : (u : ℕ) → s ≡ stamp_at u → w.known.born < u → w.known.stood u ≡ true → a.list chunk (stamp_at u) ≡ w.known.list u → IsOfView ((account_behind step old a new a.durable).list chunk) v s
+      as_view u is late stood alike = inr (u, is, (let born = grows.born in omega arith), sym (same u) ∙ stood, ap ((account_behind step old a new a.durable).list chunk) is ∙ list_then u alike)
+
+      by_same : (found : Stamp × Edit) → numbered step old new chunk ≡ Some found → found.0 ≡ stamp_at t → (b : Bool) → is_same found.0 s ≡ b → a.list chunk s ≡ [] → IsOfView ((account_behind step old a new a.durable).list chunk) v s
+      by_same found is under false other none = inl (behind_it ∙ ap (λ xs. lengthened xs (edit_under s (numbered step old new chunk))) none ∙ ap (λ o. lengthened [] (edit_under s o)) is ∙ ap (λ b. lengthened [] (if b then Some found.1 else None)) other)
+      by_same found is under true here none =
+          let at : s ≡ stamp_at t = sym (same_stamp found.0 s here) ∙ under in
+          let more : v.known.list t ≡ w.known.list t ++ found.1 ∷ [] =
+          sym (numbered_then law chunk step old new c w v by.id by.server by.after by.messages by.found got meets by.goes met t (numbers_then t))
+          ∙ ap (λ o. lengthened (w.known.list t) (edit_under (stamp_at t) o)) is ∙ ap (λ b. lengthened (w.known.list t) (if b then Some found.1 else None)) (ap (is_same found.0) (sym at) ∙ here) in
+          let never : v.known.list t ≡ w.known.list t → ⊥ = λ alike. (let n : length (v.known.list t) ≡ length (w.known.list t) = ap length alike in let m : length (v.known.list t) ≡ length (w.known.list t ++ found.1 ∷ []) = ap length more in omega (arith, length-append (w.known.list t) (found.1 ∷ []))) in
+          let stood = grown_stood w v reached leads entry t never in
+          let late = grown_late w v reached leads entry t never in
+          elim (before.lists.own t stood late) [
+            | inl alike ↦ as_view t at late stood alike
+            | inr unseen ↦ absurd (never (grows.fixed t (grown_within w v reached leads entry t never) unseen.free).1)
+          ]
+
+      by_found : (o : Option (Stamp × Edit)) → numbered step old new chunk ≡ o → IsUnder (stamp_at t) o → a.list chunk s ≡ [] → IsOfView ((account_behind step old a new a.durable).list chunk) v s
+      by_found None is under none = inl (behind_it ∙ ap (λ xs. lengthened xs (edit_under s (numbered step old new chunk))) none ∙ ap (λ o. lengthened [] (edit_under s o)) is)
+      by_found (Some found) is under none = by_same found is under (is_same found.0 s) refl none
+
+      by_before : IsOfView (a.list chunk) w s → IsOfView ((account_behind step old a new a.durable).list chunk) v s
+      by_before (inr (u, is, late, stood, alike)) = as_view u is late stood (ap (a.list chunk) (sym is) ∙ alike)
+      by_before (inl none) =
+          by_found (numbered step old new chunk) refl
+          (numbered_under chunk step old new by.id by.server by.after by.messages by.found got (stamp_at t) (shown.members by.id by.server by.found).promise by.goes met) none
+
   -- the counts
   reached_of : (j t : ℕ) → (v.known.reached j t ≡ w.known.reached j t) ⊎ ((j ≡ by.id) × (t ≡ (v.members by.id).promise) × (is_some (v.members by.id).live ≡ true))
   reached_of j t = subst (λ (x : World). (x.known.reached j t ≡ w.known.reached j t) ⊎ ((j ≡ by.id) × (t ≡ (x.members by.id).promise) × (is_some (x.members by.id).live ≡ true))) is_world (by.steps.reached j t)
@@ -218,6 +292,7 @@ module _ {D : Type 0} (law : AreNumbered) (seen : D → List ℕ) (config : Conf
   pub server_agrees : Agrees a old.sent chunk reached.0 w → OriginShows (account_behind step old a new a.durable).list new.sent chunk reached.0 v → Agrees (account_behind step old a new a.durable) new.sent chunk reached.0 v
   server_agrees before origin = record {
     lists = record { own = own_then before; origin = origin };
+    others = others_then before;
     counts = counts_then before;
     before = before_then before;
     late = λ x there. (let late = before.late x there in let born = grows.born in let view = same_view w v reached leads entry in omega arith);
@@ -231,21 +306,22 @@ servers_keep law seen config bytes chunk step old new a w v reached keeps shown 
 
 -- ---- elsewhere
 
-still_list : {D : Type 0} (chunk : ℕ) (step : Step) (old new : History D) (a : Account) → new.nodes.servers ≡ old.nodes.servers → (t : ℕ) → (account_behind step old a new a.durable).list chunk (stamp_at t) ≡ a.list chunk (stamp_at t)
-still_list chunk step old new a servers t = unmoved a new.sent a.durable (numbered step old new chunk) chunk (stamp_at t) (view_at a chunk) refl ∙ ap (λ o. lengthened (a.list chunk (stamp_at t)) (edit_under (stamp_at t) o)) (none_numbered chunk old new servers step)
+still_list : {D : Type 0} (chunk : ℕ) (step : Step) (old new : History D) (a : Account) → new.nodes.servers ≡ old.nodes.servers → (s : Stamp) → (account_behind step old a new a.durable).list chunk s ≡ a.list chunk s
+still_list chunk step old new a servers s = unmoved a new.sent a.durable (numbered step old new chunk) chunk s (view_at a chunk) refl ∙ ap (λ o. lengthened (a.list chunk s) (edit_under s o)) (none_numbered chunk old new servers step)
 
 pub still_keeps : (D : Type 0) → StillKeepsLists D
-still_keeps D chunk step old new a w servers t within same = still_list chunk step old new a servers t ∙ same
+still_keeps D chunk step old new a w servers t within same = still_list chunk step old new a servers (stamp_at t) ∙ same
 
 pub still_agrees : (D : Type 0) (config : Config) (bytes : ReqId → List ℕ) → StillAgree D config bytes
 still_agrees D config bytes chunk step old new a w reached servers shows before origin = record {
   lists = record {
     own = λ t stood late. elim (before.lists.own t stood late) [
-      | inl same ↦ inl (still_list chunk step old new a servers t ∙ same)
+      | inl same ↦ inl (still_list chunk step old new a servers (stamp_at t) ∙ same)
       | inr unseen ↦ inr unseen
     ];
     origin = origin;
   };
+  others = λ s. subst (λ xs. (xs ≡ []) ⊎ ((t : ℕ) × (s ≡ stamp_at t) × (w.known.born < t) × (w.known.stood t ≡ true) × (xs ≡ w.known.list t))) (sym (still_list chunk step old new a servers s)) (before.others s);
   counts = counts_still config bytes chunk step old new a a.durable w w reached Rests shows refl before.counts;
   before = λ e upgrading known. no_prepare a.durable (edits_in a chunk (view_at a chunk)) (a.before chunk) ∙ before.before e upgrading known;
   late = before.late;
@@ -261,18 +337,20 @@ module _ {D : Type 0} (seen : D → List ℕ) (config : Config) (bytes : ReqId �
   rows_of : RowsGo chunk a.durable by.behind w v
   rows_of = subst (λ d. RowsGo chunk d by.behind w v) told rows
 
-  list_of : (t : ℕ) → (account_behind step old a new by.behind).list chunk (stamp_at t) ≡ behind_it a new.sent by.behind chunk (stamp_at t) (fin.get by.behind.chunks chunk)
-  list_of t = ap (λ o. list_behind a new.sent by.behind o chunk (stamp_at t) (view_in (fin.get by.behind.chunks chunk))) (none_numbered chunk old new by.servers step)
+  list_of : (s : Stamp) → (account_behind step old a new by.behind).list chunk s ≡ behind_it a new.sent by.behind chunk s (fin.get by.behind.chunks chunk)
+  list_of s = ap (λ o. list_behind a new.sent by.behind o chunk s (view_in (fin.get by.behind.chunks chunk))) (none_numbered chunk old new by.servers step)
 
   pub master_agrees : Agrees a old.sent chunk reached.0 w → OriginShows a.list new.sent chunk reached.0 v → OriginShows (account_behind step old a new by.behind).list new.sent chunk reached.0 v → Agrees (account_behind step old a new by.behind) new.sent chunk reached.0 v
   master_agrees before origin origin_then = record {
     lists = record {
       own = λ t stood late. elim (mastering.own_then chunk new.sent a by.behind w v reached by.leads by.masters (λ x there. (shown_of.settled x there).view.stamp) shown_of.rolling by.shows rows_of before.lists.own before.late before.before origin t stood late) [
-        | inl same ↦ inl (list_of t ∙ same)
+        | inl same ↦ inl (list_of (stamp_at t) ∙ same)
         | inr unseen ↦ inr unseen
       ];
       origin = origin_then;
     };
+    others = λ s. subst (λ xs. (xs ≡ []) ⊎ ((t : ℕ) × (s ≡ stamp_at t) × (v.known.born < t) × (v.known.stood t ≡ true) × (xs ≡ v.known.list t))) (sym (list_of s))
+        (mastering.others_then chunk new.sent a by.behind w v reached by.leads by.masters (λ x there. (shown_of.settled x there).view.stamp) shown_of.rolling by.shows rows_of before.lists.own before.late before.before origin s (before.others s));
     counts = counts_still config bytes chunk step old new a by.behind w v reached by.leads shows (masters_leave w v by.leads by.masters).reached before.counts;
     before = mastering.before_then chunk new.sent a by.behind w v reached by.leads by.masters (λ x there. (shown_of.settled x there).view.stamp) shown_of.rolling by.shows rows_of before.lists.own before.late before.before origin;
     late = mastering.late_then chunk new.sent a by.behind w v reached by.leads by.masters (λ x there. (shown_of.settled x there).view.stamp) shown_of.rolling by.shows rows_of before.lists.own before.late before.before origin;
@@ -284,7 +362,7 @@ masters_agree seen config bytes chunk step old new a w v reached shows by told r
 pub masters_keep : {D : Type 0} (seen : D → List ℕ) (config : Config) (bytes : ReqId → List ℕ) → MastersKeepLists seen config bytes
 masters_keep seen config bytes chunk step old new a w v reached shows by told rows t within same =
     let shown = shown_of seen config bytes chunk step old new a w v reached shows by told rows in
-    list_of seen config bytes chunk step old new a w v reached shows by told rows t
+    list_of seen config bytes chunk step old new a w v reached shows by told rows (stamp_at t)
     ∙ mastering.lists_then chunk new.sent a by.behind w v reached by.leads by.masters (λ x there. (shown.settled x there).view.stamp) shown.rolling by.shows (rows_of seen config bytes chunk step old new a w v reached shows by told rows) t within same
 
 -- from world to world
@@ -307,9 +385,15 @@ module _ {D : Type 0} (config : Config) (bytes : ReqId → List ℕ) (chunk : �
     | inr unseen ↦ inr unseen
   ]
 
+  born_others : (s : Stamp) → IsOfView ((account_behind step old a new d).list chunk) v s
+  born_others s = subst (λ xs. (xs ≡ []) ⊎ ((t : ℕ) × (s ≡ stamp_at t) × (v.known.born < t) × (v.known.stood t ≡ true) × (xs ≡ v.known.list t)))
+      (sym (ap (λ o. list_behind a new.sent d o chunk s (view_in (fin.get d.chunks chunk))) (none_numbered chunk old new servers step)))
+      (mastering.others_then chunk new.sent a d (world_of b) v (b, Rests) leads masters (λ x there. none_told x there) (sym calm) shown rows (λ t stood late. none_stood t stood late) (λ x there. none_told x there) (λ e upgrading was. absurd (false≢true was)) origin s (inl (blank.list s)))
+
   pub birth_agrees : Agrees (account_behind step old a new d) new.sent chunk b v
   birth_agrees = record {
     lists = record { own = born_own; origin = origin_then };
+    others = born_others;
     counts = counts_still config bytes chunk step old new a d (world_of b) v (b, Rests) leads shows (masters_leave (world_of b) v leads masters).reached (λ j t. blank.reached j (stamp_at t));
     before = mastering.before_then chunk new.sent a d (world_of b) v (b, Rests) leads masters (λ x there. none_told x there) (sym calm) shown rows (λ t stood late. none_stood t stood late) (λ x there. none_told x there) (λ e upgrading was. absurd (false≢true was)) origin;
     late = mastering.late_then chunk new.sent a d (world_of b) v (b, Rests) leads masters (λ x there. none_told x there) (sym calm) shown rows (λ t stood late. none_stood t stood late) (λ x there. none_told x there) (λ e upgrading was. absurd (false≢true was)) origin;

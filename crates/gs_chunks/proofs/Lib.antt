@@ -11,6 +11,7 @@ pub mod Quiet
 pub mod Surviving
 pub mod Viewing
 pub mod Fetching
+pub mod Done
 pub mod Naming
 pub mod Preparing
 pub mod Back

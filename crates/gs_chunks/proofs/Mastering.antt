@@ -22,7 +22,7 @@ use Rattle.gs_chunk.proofs.Lasting.{agrees, stays_known}
 use Rattle.gs_chunk.proofs.Prepared.{prepared_rests}
 use Rattle.gs_chunk.proofs.Mastering.{masters_settle_once}
 use Rattle.gs_chunk.proofs.Worlds.{WorldOk, leads_later, leads_world}
-use Rattle.gs_chunks.specs.Agreeing.{OriginShows, RowsGo}
+use Rattle.gs_chunks.specs.Agreeing.{IsOfView, OriginShows, RowsGo}
 use Rattle.gs_entry.specs.Showing.{ShowsDurable}
 use Rattle.gs_lift.specs.Accounts.{IsUnseen, edits_copied}
 use Rattle.gs_member.proofs.Stamps.{same_stamp, stamp_number}
@@ -250,6 +250,18 @@ module _ (chunk : ℕ) (sent : Sent) (a : Account) (e : Durable) (w v : World) (
           | inr unseen ↦ absurd (true≢false (sym (settled_known k) ∙ unseen.gone (sym known_w.view)))
         ]
 
+    settled_list : SettlesList w v → v.known.list v.known.view ≡ take (v.known.base v.known.view) (w.known.list w.known.view)
+    settled_list k = ap v.known.list k.view ∙ k.list w.known.top ∙ ap (λ b. cond b (take (v.known.base w.known.top) (w.known.list w.known.view)) (w.known.list w.known.top)) (eq-eqb w.known.top w.known.top refl) ∙ ap (λ t. take (v.known.base t) (w.known.list w.known.view)) (sym k.view)
+
+    -- the one that is settled is told with its list
+    settles_told : (k : SettlesList w v) (y : Settled) → fin.get e.chunks chunk ≡ Some y → told v.known.view ≡ v.known.list v.known.view
+    settles_told k y there =
+        anew y there (λ is. let view = k.view in let moving = k.moving in omega arith)
+        ∙ ap (λ b. if b then a.before chunk else take y.view.count (continued a sent chunk (view_at a chunk))) (none_back k)
+        ∙ ap (take y.view.count) (former k (fin.get a.durable.chunks chunk) refl)
+        ∙ ap (λ n. take n (w.known.list w.known.view)) (sym (shows.settled y there).view.count ∙ sym known_v.count ∙ ap v.known.base (sym known_v.view))
+        ∙ sym (settled_list k)
+
     settles_then : SettlesList w v → (t : ℕ) → v.known.stood t ≡ true → v.known.born < t → Then t
     settles_then k t stood behind = elim (cases_eq t w.known.top) [
       | inr other ↦ elim (own t (stood_w other) (let born = later.born in omega arith)) [
@@ -268,24 +280,15 @@ module _ (chunk : ℕ) (sent : Sent) (a : Account) (e : Durable) (w v : World) (
         list_other : (n : ℕ) → n ≢ w.known.top → v.known.list n ≡ w.known.list n
         list_other n other = k.list n ∙ ap (λ b. cond b (take (v.known.base w.known.top) (w.known.list w.known.view)) (w.known.list n)) (ne_eqb n w.known.top other)
 
-        list_is : v.known.list v.known.view ≡ take (v.known.base v.known.view) (w.known.list w.known.view)
-        list_is = ap v.known.list k.view ∙ k.list w.known.top ∙ ap (λ b. cond b (take (v.known.base w.known.top) (w.known.list w.known.view)) (w.known.list w.known.top)) (eq-eqb w.known.top w.known.top refl) ∙ ap (λ t. take (v.known.base t) (w.known.list w.known.view)) (sym k.view)
-
         at_top : (o : Option Settled) → fin.get e.chunks chunk ≡ o → Then v.known.view
-        at_top (Some y) there = inl (
-            anew y there (λ is. let view = k.view in let moving = k.moving in omega arith)
-            ∙ ap (λ b. if b then a.before chunk else take y.view.count (continued a sent chunk (view_at a chunk))) (none_back k)
-            ∙ ap (take y.view.count) (former k (fin.get a.durable.chunks chunk) refl)
-            ∙ ap (λ n. take n (w.known.list w.known.view)) (sym (shows.settled y there).view.count ∙ sym known_v.count ∙ ap v.known.base (sym known_v.view))
-            ∙ sym list_is
-            )
+        at_top (Some y) there = inl (settles_told k y there)
         at_top None none = inr (record {
           gone = λ last. by_known v.entry.is_known refl;
           free = rows.fades (by_known v.entry.is_known refl) (let view = k.view in let moving = k.moving in omega arith);
           lower = w.known.view;
           below = (let view = k.view in let moving = k.moving in omega arith);
           last = λ s stands low. stood_within s (sym (stood_other s (λ is. absurd (let view = k.view in omega arith))) ∙ stands);
-          begins = (drop (v.known.base v.known.view) (w.known.list w.known.view), same_lower ∙ sym (ap (λ xs. xs ++ drop (v.known.base v.known.view) (w.known.list w.known.view)) list_is ∙ take-append-drop (v.known.base v.known.view) (w.known.list w.known.view)));
+          begins = (drop (v.known.base v.known.view) (w.known.list w.known.view), same_lower ∙ sym (ap (λ xs. xs ++ drop (v.known.base v.known.view) (w.known.list w.known.view)) (settled_list k) ∙ take-append-drop (v.known.base v.known.view) (w.known.list w.known.view)));
         })
           where
             same_lower : v.known.list w.known.view ≡ w.known.list w.known.view
@@ -300,27 +303,15 @@ module _ (chunk : ℕ) (sent : Sent) (a : Account) (e : Durable) (w v : World) (
             ]
 
     -- a rollback is committed
-    restores_then : RestoresList w v → (t : ℕ) → v.known.stood t ≡ true → v.known.born < t → Then t
-    restores_then r t stood behind = elim (cases_eq t (start_of w.known.current)) [
-      | inr other ↦ elim (own t (sym (so.others t (inr still) other).1 ∙ stood) (let born = later.born in omega arith)) [
-        | inl same ↦ inl (other_told t (λ is. other (is ∙ so.view)) ∙ same ∙ sym (so.others t (inr still) other).0)
-        | inr unseen ↦ inr (unseen_then t (within other) unseen (λ last. absurd (other (sym last ∙ sym known_v.view ∙ so.view))) (so.others t (inr still) other).0
-            (so.others unseen.lower (inr still) (λ is. let below = unseen.below in let low = within other in let view = so.view in let over = r.later in let top = (ok.known).viewtop in omega arith)).0)
-      ]
-      | inl here ↦ subst Then (so.view ∙ sym here) (at_start (ap v.known.stood (so.view ∙ sym here) ∙ stood) so.here)
-    ]
+    restored : RestoresList w v → IsRestored w v
+    restored r = r.exact (rows.back r.later).1
+
+    -- the view that it gives back is told with its list
+    restores_told : (r : RestoresList w v) → v.known.stood v.known.view ≡ true → told v.known.view ≡ v.known.list v.known.view
+    restores_told r stands = by_here (restored r).here
       where
         back : (rolls_back a.durable e ≡ true) × (v.known.current ≡ w.known.current) × (w.known.view ≡ w.known.top)
         back = rows.back r.later
-
-        still : w.known.view ≡ w.known.top
-        still = back.2
-
-        so : IsRestored w v
-        so = r.exact back.1
-
-        within : t ≢ start_of w.known.current → t ≤ w.known.view
-        within other = stood_within t (sym (so.others t (inr still) other).1 ∙ stood)
 
         rolls : w.entry.is_rolling ≡ true
         rolls = was_rolling ∙ first (is_rolling a.durable.phase) (is_ordinary e.phase) back.0
@@ -338,17 +329,36 @@ module _ (chunk : ℕ) (sent : Sent) (a : Account) (e : Durable) (w v : World) (
             let at : roll.e ≡ w.known.current - 1 = omega arith in
             before roll.e (inr (sym next ∙ known_w.epoch, rolls)) was ∙ ap w.known.list (((ok.entry).prepared roll.e (inr current) prepared).stamp ∙ ap w.known.prepared at)
 
-        at_start : v.known.stood v.known.view ≡ true → ((v.known.list (start_of w.known.current) ≡ w.known.list (w.known.prepared (w.known.current - 1))) × (v.known.stood (start_of w.known.current) ≡ true) × (w.entry.was_known ≡ true)) ⊎ ((v.known.list (start_of w.known.current) ≡ []) × (v.known.stood (start_of w.known.current) ≡ false))
-            → Then v.known.view
-        at_start stands (inr none) = absurd (true≢false (sym stands ∙ ap v.known.stood so.view ∙ none.1))
-        at_start stands (inl some) = inl (by_row (fin.get e.chunks chunk) refl (rows.given r.later stands))
-          where
-            by_row : (o : Option Settled) → fin.get e.chunks chunk ≡ o → is_some o ≡ true → told v.known.view ≡ v.known.list v.known.view
-            by_row None none there = absurd (cc)
-            by_row (Some y) at there =
-                anew y at (λ is. let over = r.later in let top = (ok.known).viewtop in omega arith)
-                ∙ ap (λ b. if b then a.before chunk else take y.view.count (continued a sent chunk (view_at a chunk))) back.0
-                ∙ prepared_is some.2 ∙ sym some.0 ∙ ap v.known.list (sym so.view)
+        by_row : v.known.list (start_of w.known.current) ≡ w.known.list (w.known.prepared (w.known.current - 1)) → w.entry.was_known ≡ true → (o : Option Settled) → fin.get e.chunks chunk ≡ o → is_some o ≡ true → told v.known.view ≡ v.known.list v.known.view
+        by_row list was None none there = absurd (cc)
+        by_row list was (Some y) at there =
+            anew y at (λ is. let over = r.later in let top = (ok.known).viewtop in omega arith)
+            ∙ ap (λ b. if b then a.before chunk else take y.view.count (continued a sent chunk (view_at a chunk))) back.0
+            ∙ prepared_is was ∙ sym list ∙ ap v.known.list (sym (restored r).view)
+
+        by_here : ((v.known.list (start_of w.known.current) ≡ w.known.list (w.known.prepared (w.known.current - 1))) × (v.known.stood (start_of w.known.current) ≡ true) × (w.entry.was_known ≡ true)) ⊎ ((v.known.list (start_of w.known.current) ≡ []) × (v.known.stood (start_of w.known.current) ≡ false))
+            → told v.known.view ≡ v.known.list v.known.view
+        by_here (inr none) = absurd (true≢false (sym stands ∙ ap v.known.stood (restored r).view ∙ none.1))
+        by_here (inl some) = by_row some.0 some.2 (fin.get e.chunks chunk) refl (rows.given r.later stands)
+
+    restores_then : RestoresList w v → (t : ℕ) → v.known.stood t ≡ true → v.known.born < t → Then t
+    restores_then r t stood behind = elim (cases_eq t (start_of w.known.current)) [
+      | inr other ↦ elim (own t (sym (so.others t (inr still) other).1 ∙ stood) (let born = later.born in omega arith)) [
+        | inl same ↦ inl (other_told t (λ is. other (is ∙ so.view)) ∙ same ∙ sym (so.others t (inr still) other).0)
+        | inr unseen ↦ inr (unseen_then t (within other) unseen (λ last. absurd (other (sym last ∙ sym known_v.view ∙ so.view))) (so.others t (inr still) other).0
+            (so.others unseen.lower (inr still) (λ is. let below = unseen.below in let low = within other in let view = so.view in let over = r.later in let top = (ok.known).viewtop in omega arith)).0)
+      ]
+      | inl here ↦ subst Then (so.view ∙ sym here) (inl (restores_told r (ap v.known.stood (so.view ∙ sym here) ∙ stood)))
+    ]
+      where
+        still : w.known.view ≡ w.known.top
+        still = (rows.back r.later).2
+
+        so : IsRestored w v
+        so = restored r
+
+        within : t ≢ start_of w.known.current → t ≤ w.known.view
+        within other = stood_within t (sym (so.others t (inr still) other).1 ∙ stood)
 
     pub own_then : (t : ℕ) → v.known.stood t ≡ true → v.known.born < t → Then t
     own_then t stood behind = by_once (masters_settle_once w v leads reached masters)
@@ -357,6 +367,45 @@ module _ (chunk : ℕ) (sent : Sent) (a : Account) (e : Durable) (w v : World) (
         by_once (inl k) = keeps_then k t stood behind
         by_once (inr (inl k)) = settles_then k t stood behind
         by_once (inr (inr r)) = restores_then r t stood behind
+
+    -- ---- under other stamps nothing is told
+
+    same_view : (y : Settled) (s : Stamp) → fin.get e.chunks chunk ≡ Some y → is_same y.view.stamp s ≡ true → stamp_at v.known.view ≡ s
+    same_view y s there same = sym (new_stamp y there) ∙ same_stamp y.view.stamp s same
+
+    -- nothing was told under a stamp
+    none_then : (s : Stamp) → a.list chunk s ≡ [] → IsOfView (λ s. behind_it a sent e chunk s (fin.get e.chunks chunk)) v s
+    none_then s none = by_row (fin.get e.chunks chunk) refl
+      where
+        Told : List Edit → Type 0
+        Told xs = (xs ≡ []) ⊎ ((t : ℕ) × (s ≡ stamp_at t) × (v.known.born < t) × (v.known.stood t ≡ true) × (xs ≡ v.known.list t))
+
+        view_told : (y : Settled) → fin.get e.chunks chunk ≡ Some y → is_same y.view.stamp s ≡ true → v.known.born < v.known.view → v.known.stood v.known.view ≡ true → told v.known.view ≡ v.known.list v.known.view → Told (behind_it a sent e chunk s (Some y))
+        view_told y there same late stood is =
+            inr (v.known.view, sym (same_view y s there same), late, stood, ap (behind_it a sent e chunk s) (sym there) ∙ ap (λ u. behind_it a sent e chunk u (fin.get e.chunks chunk)) (sym (same_view y s there same)) ∙ is)
+
+        by_once : (y : Settled) → fin.get e.chunks chunk ≡ Some y → is_same y.view.stamp s ≡ true → SettlesOnce w v → Told (behind_it a sent e chunk s (Some y))
+        by_once y there same (inl k) = inl (ap (behind_it a sent e chunk s) (sym there) ∙ ap (λ u. behind_it a sent e chunk u (fin.get e.chunks chunk)) (sym (same_view y s there same)) ∙ still_told v.known.view k.view ∙ ap (a.list chunk) (same_view y s there same) ∙ none)
+        by_once y there same (inr (inl k)) =
+            view_told y there same (let low = (ok.known).blank.0 in let born = later.born in let view = k.view in let moving = k.moving in omega arith)
+            (ap v.known.stood k.view ∙ k.stood w.known.top ∙ ap (λ b. cond b true (w.known.stood w.known.top)) (eq-eqb w.known.top w.known.top refl)) (settles_told k y there)
+        by_once y there same (inr (inr r)) =
+            let stands = rows.returned r.later (ap is_some there) in
+            view_told y there same (let low = (ok.known).blank.0 in let born = later.born in let over = r.later in let top = (ok.known).viewtop in omega arith) stands (restores_told r stands)
+
+        by_stamp : (y : Settled) → fin.get e.chunks chunk ≡ Some y → (b : Bool) → is_same y.view.stamp s ≡ b → Told (behind_it a sent e chunk s (Some y))
+        by_stamp y there true same = by_once y there same (masters_settle_once w v leads reached masters)
+        by_stamp y there false other = inl (same_list a sent e chunk s (Some y) (λ z at same. absurd (true≢false (sym same ∙ ap (λ (q : Settled). is_same q.view.stamp s) (let x : z ≡ y = cc in x) ∙ other))) ∙ none)
+
+        by_row : (o : Option Settled) → fin.get e.chunks chunk ≡ o → Told (behind_it a sent e chunk s o)
+        by_row None there = inl none
+        by_row (Some y) there = by_stamp y there (is_same y.view.stamp s) refl
+
+    pub others_then : (s : Stamp) → IsOfView (a.list chunk) w s → IsOfView (λ s. behind_it a sent e chunk s (fin.get e.chunks chunk)) v s
+    others_then s (inl none) = none_then s none
+    others_then s (inr (t, is, late, stood, same)) =
+        let within = stood_within t stood in
+        inr (t, is, (let born = later.born in omega arith), later.stood t within ∙ stood, ap (λ u. behind_it a sent e chunk u (fin.get e.chunks chunk)) is ∙ lists_then t within (ap (a.list chunk) (sym is) ∙ same))
 
     pub late_then : (y : Settled) → fin.get e.chunks chunk ≡ Some y → v.known.born < v.known.view
     late_then y there = by_old (fin.get a.durable.chunks chunk) refl

@@ -16,6 +16,7 @@ use Rattle.gs_entry.specs.Showing.{ShowsDurable}
 use Rattle.gs_lift.specs.Accounts.{CountsShow, Lists, ListsShow, edits_copied}
 use Rattle.gs_lift.specs.Joint.{ByMaster, ByServer}
 use Rattle.gs_lift.specs.Showing.{Keeps, ShowsNodes}
+use Rattle.gs_replica.specs.Stands.{Edit}
 use Rattle.gs_run.specs.Histories.{History}
 use Rattle.gs_run.specs.Runs.{Step}
 use Rattle.gs_run.specs.Sent.{Sent}
@@ -23,10 +24,15 @@ use Rattle.gs_server.specs.Runs.{slot_in}
 use Rattle.gs_server.specs.Servers.{Server}
 use Rattle.gs_state.specs.Durable.{Durable, Settled, is_rolling}
 
+-- what an account has under a stamp is the list of a view that stood behind the birth, or nothing
+abbrev pub IsOfView : (Stamp → List Edit) → World → Stamp → Type 0
+IsOfView list w stamp = (list stamp ≡ []) ⊎ ((t : ℕ) × (stamp ≡ stamp_at t) × (w.known.born < t) × (w.known.stood t ≡ true) × (list stamp ≡ w.known.list t))
+
 -- The lists of the account are those of the machine, and its counts; and while an upgrade stands, or is being rolled back, what it has of the prepare is the
 -- prepared list, of a chunk that was known then. A view that the records tell is one behind the birth.
 pub record Agrees (a : Account) (sent : Sent) (chunk : ℕ) (b : Birth) (w : World) : Type 0 where
   pub lists : ListsShow a.list (copied_from sent chunk) chunk b w
+  pub others : (stamp : Stamp) → IsOfView (a.list chunk) w stamp
   pub counts : CountsShow a.reached chunk w
   pub before : (e : ℕ) → IsUpgrading w e → w.entry.was_known ≡ true → a.before chunk ≡ prepared_list w
   pub late : (x : Settled) → fin.get a.durable.chunks chunk ≡ Some x → w.known.born < w.known.view
@@ -48,7 +54,7 @@ StillAgree D config bytes = (chunk : ℕ) (step : Step) (old new : History D) (a
 
 -- What a step of the master makes of what the records tell of a chunk. A view that appears where none was told is a later one. Of a chunk that is known and of
 -- which none is told none was settled since its birth. One that is settled, and that is forgotten then, is one in which nobody may number. And where a
--- rollback is committed it is accepted at this step, within the epoch, when nothing was proposed; and each view that it gives back is told. An epoch begins by a
+-- rollback is committed it is accepted at this step, within the epoch, when nothing was proposed; and each view that it gives back is told, and no other. An epoch begins by a
 -- prepare where one is accepted alone: then nothing is settled beside, and of each chunk that is known a view is told.
 pub record RowsGo (chunk : ℕ) (d e : Durable) (w v : World) : Type 0 where
   pub appears : (y : Settled) → fin.get d.chunks chunk ≡ None → fin.get e.chunks chunk ≡ Some y → w.known.view < v.known.view
@@ -56,6 +62,7 @@ pub record RowsGo (chunk : ℕ) (d e : Durable) (w v : World) : Type 0 where
   pub fades : v.entry.is_known ≡ false → w.known.view < v.known.view → v.known.holder v.known.view ≡ None
   pub back : w.known.top < v.known.view → (rolls_back d e ≡ true) × (v.known.current ≡ w.known.current) × (w.known.view ≡ w.known.top)
   pub given : w.known.top < v.known.view → v.known.stood v.known.view ≡ true → is_some (fin.get e.chunks chunk) ≡ true
+  pub returned : w.known.top < v.known.view → is_some (fin.get e.chunks chunk) ≡ true → v.known.stood v.known.view ≡ true
   pub unprepared : prepares d e ≡ false → NonePrepared w v
   pub prepared : prepares d e ≡ true → v.entry.was_known ≡ true → (is_some (fin.get d.chunks chunk) ≡ true) × (w.entry.is_known ≡ true) × (v.entry.prepared.stamp ≡ w.known.view) × (v.known.view ≡ w.known.view)
 

@@ -4,6 +4,7 @@ pub mod Seen
 pub mod Acknowledged
 pub mod Reading
 pub mod SeenReads
+pub mod SeenEdits
 pub mod Upgrading
 pub mod Sealing
 pub mod Durables

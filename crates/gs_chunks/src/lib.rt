@@ -9,6 +9,7 @@ ghost use Rattle.gs_chunks.specs.Agreeing.{BirthsAgree, BlanksStay, ListsStayOn,
 ghost use Rattle.gs_chunks.specs.Reached.{EachIsARun, EachLeadsOn};
 ghost use Rattle.gs_chunks.specs.Joining.{StoresAgreeOn};
 ghost use Rattle.gs_chunks.specs.Durables.{ToldIsHad};
+ghost use Rattle.gs_chunks.specs.SeenEdits.{SeenDonesStay};
 ghost use Rattle.gs_chunks.specs.SeenReads.{SeenReadsAreLegal};
 ghost use Rattle.gs_chunks.specs.Seen.{PreparesSettled, SeenQuietIsStill, SeenReplicasStand, SeenRolledBackStay, SeenSurvivorsKeep, SeenSurvivorsName, UnbornHaveNone};
 
@@ -87,6 +88,13 @@ pub fn seen_survivors_keep_what_stood<D>()
 /// text of a beginning of the view's list or a later one's, with all edits that were settled at the look-up.
 pub fn seen_reads_are_legal<D>()
     ensures { (x : Setup D) (bytes : ReqId → List ℕ) → SeenReadsAreLegal x bytes }
+{}
+
+/// An edit that a client was told done, as the machine of its chunk has it, was numbered under the stamp that it was asked for under, once, and stands in no list of a lower stamp; or it passed a
+/// full chunk. In each later world of the run in which a file has the chunk it is settled, at the same place, with the same edits before it, unless the upgrade within which
+/// it was numbered was rolled back.
+pub fn seen_done_edits_stay<D>()
+    ensures { (x : Setup D) (bytes : ReqId → List ℕ) → SeenDonesStay x bytes }
 {}
 
 /// Right behind a prepare, of which the records tell, and of nothing that was changed since, the settled view of each chunk that a file has is the prepared one.

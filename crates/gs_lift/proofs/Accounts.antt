@@ -53,13 +53,17 @@ module _ (list : Lists) (copied : Option (ℕ × Stamp)) (chunk : ℕ) (b : Birt
           let before = unseen.below in
           lower unseen.lower (omega arith) edits (rest ++ more.0) (more.1 ∙ ap (λ (xs : List Edit). xs ++ more.0) is ∙ append_assoc edits rest more.0)
 
+-- the first edits of a list, where a server has promised a stamp
+pub list_begins : (list : Lists) (copied : Option (ℕ × Stamp)) (chunk : ℕ) (b : Birth) (w : World) (me t : ℕ) (edits rest : List Edit) → Leads (world_of b) w → ListsShow list copied chunk b w → 0 < (w.members me).promise → w.known.list t ≡ edits ++ rest → BeginsList list copied chunk edits
+list_begins list copied chunk b w me t edits rest leads shows promised is = of_list list copied chunk b w leads shows me promised (t + 1) t (omega arith) edits rest is
+
 -- the edits of a live replica
 pub replica_begins : (list : Lists) (copied : Option (ℕ × Stamp)) (chunk : ℕ) (b : Birth) (w : World) (me : ℕ) (edits : List Edit) → Leads (world_of b) w → ListsShow list copied chunk b w → 0 < (w.members me).promise → (w.members me).live ≡ Some edits
     → BeginsList list copied chunk edits
 replica_begins list copied chunk b w me edits leads shows promised is =
     let x = (each_stands w (reached_world w (b, leads))).live me edits is in
     let rest = x.2 in
-    of_list list copied chunk b w leads shows me promised (x.0 + 1) x.0 (omega arith) edits rest.0 rest.1
+    list_begins list copied chunk b w me x.0 edits rest.0 leads shows promised rest.1
 
 -- ---- what is settled
 
