@@ -222,6 +222,7 @@ recorded d e v o h = record {
         since = l.since asking.stamp a.since;
         told = a.told;
         wanted = a.wanted;
+        leased = λ lease. l.listed (a.leased lease);
         purposed = a.purposed;
         made = λ none. a.made (l.none none);
         own = a.own;
@@ -298,6 +299,7 @@ module _ (d : Durable) (v : Volatile) (h : Stands d v) where
           since = a.since;
           told = a.told;
           wanted = a.wanted;
+          leased = a.leased;
           purposed = a.purposed;
           made = a.made;
           own = a.own;
@@ -323,7 +325,7 @@ module _ (d : Durable) (v : Volatile) (h : Stands d v) where
     counters = h.counters;
     asked = λ chunk asking has.
         (let a = all chunk asking has in
-        record { known = a.known; handle = a.handle; version = a.version; number = a.number; epoch = a.epoch; follows = a.follows; since = a.since; told = a.told; wanted = a.wanted; purposed = a.purposed; made = a.made; own = a.own; first = a.first; past = a.past });
+        record { known = a.known; handle = a.handle; version = a.version; number = a.number; epoch = a.epoch; follows = a.follows; since = a.since; told = a.told; wanted = a.wanted; leased = a.leased; purposed = a.purposed; made = a.made; own = a.own; first = a.first; past = a.past });
     unplaced = h.unplaced;
     counted = h.counted;
     out = h.out;
@@ -373,6 +375,7 @@ module _ (d : Durable) (v : Volatile) (h : Stands d v) where
           since = s.since;
           told = s.told;
           wanted = s.wanted;
+          leased = s.leased;
           purposed = s.purposed;
           made = s.made;
           past = s.past;
@@ -453,6 +456,7 @@ module _ (d : Durable) (v : Volatile) (h : Stands d v) where
           since = s.since;
           told = s.told;
           wanted = s.wanted;
+          leased = s.leased;
           purposed = s.purposed;
           made = s.made;
           past = s.past;
@@ -518,7 +522,7 @@ module _ (d : Durable) (v : Volatile) (h : Stands d v) where
   }
     where
       again : (q : ℕ) (a : Asking) → IsSought d v q a → IsSought d (record v { taken_out = outs }) q a
-      again q a s = record { known = s.known; handle = s.handle; version = s.version; number = s.number; epoch = s.epoch; follows = s.follows; since = s.since; told = s.told; wanted = s.wanted; purposed = s.purposed; made = s.made; own = s.own; first = s.first; past = s.past }
+      again q a s = record { known = s.known; handle = s.handle; version = s.version; number = s.number; epoch = s.epoch; follows = s.follows; since = s.since; told = s.told; wanted = s.wanted; leased = s.leased; purposed = s.purposed; made = s.made; own = s.own; first = s.first; past = s.past }
 
   all_removed_was : (chunks : List ℕ) (m : fin.FinMap nat_cmp Asking) (q : ℕ) (a : Asking) → fin.get (fold fin.remove m chunks) q ≡ Some a → fin.get m q ≡ Some a
   all_removed_was [] m q a has = has
@@ -572,6 +576,7 @@ module _ (d : Durable) (v : Volatile) (h : Stands d v) where
           wanted = list_all-append (λ (x : Pending). not (is_call x.req a.call) || may_wait_for q x.waits) v.pending (p ∷ [])
               ∙ both_true (list_all (λ (x : Pending). not (is_call x.req a.call) || may_wait_for q x.waits) v.pending) ((not (is_call p.req a.call) || may_wait_for q p.waits) && true) s.wanted
               (both_true (not (is_call p.req a.call) || may_wait_for q p.waits) true (or_left_true (is_call p.req a.call) (may_wait_for q p.waits) (none q a has)) refl);
+          leased = s.leased;
           purposed = list_all-append (λ (x : Pending). not (is_call x.req a.call) || may_ask a.purpose x.waits) v.pending (p ∷ [])
               ∙ both_true (list_all (λ (x : Pending). not (is_call x.req a.call) || may_ask a.purpose x.waits) v.pending) ((not (is_call p.req a.call) || may_ask a.purpose p.waits) && true) s.purposed
               (both_true (not (is_call p.req a.call) || may_ask a.purpose p.waits) true (or_left_true (is_call p.req a.call) (may_ask a.purpose p.waits) (none q a has)) refl);
@@ -594,13 +599,13 @@ module _ (d : Durable) (v : Volatile) (h : Stands d v) where
   prepare b now = record { kept = h.kept; counters = h.counters; asked = λ q a has. again q a (h.asked q a has); unplaced = h.unplaced; counted = h.counted; out = h.out; apart = h.apart; calls = h.calls; preparing = now }
     where
       again : (q : ℕ) (a : Asking) → IsSought d v q a → IsSought d (record v { is_preparing = b }) q a
-      again q a s = record { known = s.known; handle = s.handle; version = s.version; number = s.number; epoch = s.epoch; follows = s.follows; since = s.since; told = s.told; wanted = s.wanted; purposed = s.purposed; made = s.made; own = s.own; first = s.first; past = s.past }
+      again q a s = record { known = s.known; handle = s.handle; version = s.version; number = s.number; epoch = s.epoch; follows = s.follows; since = s.since; told = s.told; wanted = s.wanted; leased = s.leased; purposed = s.purposed; made = s.made; own = s.own; first = s.first; past = s.past }
 
   pub restored : (server : ℕ) (chunks : List ℕ) → Stands d (changed v (changes.Restored server chunks))
   restored server chunks = record { kept = h.kept; counters = h.counters; asked = λ q a has. again q a (h.asked q a has); unplaced = h.unplaced; counted = h.counted; out = h.out; apart = h.apart; calls = h.calls; preparing = h.preparing }
     where
       again : (q : ℕ) (a : Asking) → IsSought d v q a → IsSought d (changed v (changes.Restored server chunks)) q a
-      again q a s = record { known = s.known; handle = s.handle; version = s.version; number = s.number; epoch = s.epoch; follows = s.follows; since = s.since; told = s.told; wanted = s.wanted; purposed = s.purposed; made = s.made; own = s.own; first = s.first; past = s.past }
+      again q a s = record { known = s.known; handle = s.handle; version = s.version; number = s.number; epoch = s.epoch; follows = s.follows; since = s.since; told = s.told; wanted = s.wanted; leased = s.leased; purposed = s.purposed; made = s.made; own = s.own; first = s.first; past = s.past }
 
 -- Nothing is asked any more, and no chunk is new. Those that were are out, until the record that follows.
 pub rolled : (d : Durable) (v : Volatile) → Stands d v → Stands d (record (changed v changes.RolledBack) { taken_out = v.unplaced ++ v.taken_out })
@@ -699,6 +704,7 @@ module _ (req : ReqId) where
           since = s.since;
           told = s.told;
           wanted = kept_all (λ (p : Pending). not (is_call p.req a.call) || may_wait_for q p.waits) v.pending s.wanted;
+          leased = s.leased;
           purposed = kept_all (λ (p : Pending). not (is_call p.req a.call) || may_ask a.purpose p.waits) v.pending s.purposed;
           first = s.first;
           made = λ new. made_still q a (λ out. absurd (false≢true (sym (ap is_some new) ∙ (may q a has out).1.0))) a.call refl (s.made new);
@@ -770,6 +776,7 @@ free_sought d w chunk a f = record {
   since = f.since;
   told = f.told;
   wanted = no_call (may_wait_for chunk) w.pending;
+  leased = λ lease. f.listed;
   purposed = no_call (may_ask a.purpose) w.pending;
   made = λ none. absurd (false≢true (sym (ap is_some none) ∙ f.settled));
   own = λ req call here. absurd (false≢true (ap is_some call));
@@ -1036,6 +1043,7 @@ module _ (req : ReqId) (waiting : Waiting) where
           since = s.since;
           told = s.told;
           wanted = set_all (λ (p : Pending). not (is_call p.req a.call) || may_wait_for q p.waits) v.pending (or_left_false (is_call req a.call) (may_wait_for q waiting) (none q a has)) s.wanted;
+          leased = s.leased;
           purposed = set_all (λ (p : Pending). not (is_call p.req a.call) || may_ask a.purpose p.waits) v.pending (or_left_false (is_call req a.call) (may_ask a.purpose waiting) (none q a has)) s.purposed;
           first = s.first;
           made = λ new. made_still q a a.call refl (none q a has) (s.made new);

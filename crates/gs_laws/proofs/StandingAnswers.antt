@@ -16,7 +16,7 @@ use Rattle.gs_base.specs.declared.numbers.ReqId.{ReqId}
 use Rattle.gs_base.specs.declared.numbers.Stamp.{Stamp}
 use Rattle.gs_base.specs.declared.refusal.Refusal.TheVariants as refusals
 use Rattle.gs_tree.proofs.Levels.{both_true}
-use Rattle.gs_lease.specs.Transitions.{end_of, settled_view, term_of}
+use Rattle.gs_lease.specs.Transitions.{end_of, is_for_lease, settled_view, term_of}
 use Rattle.gs_lease.specs.declared.view.Purpose.{Purpose}
 use Rattle.gs_lease.specs.declared.view.Purpose.TheVariants as purposes
 use Rattle.gs_lease.specs.declared.view.View.{View}
@@ -198,10 +198,10 @@ copies_so s chunk (waits.Snapshot from to) h = (refl, refl)
 copies_so s chunk (waits.Replicate copied target) h = absurd (false≢true h)
 
 -- one of those that wait, each once
-record IsOne (ps : List Pending) (p : Pending) : Type 0 where
-  now : (f : Waiting → Bool) → is_waited_by (Some p.req) f ps ≡ f p.waits
-  can : CanWait p
-  each : (f : Pending → Bool) → list_all f ps ≡ true → f p ≡ true
+pub record IsOne (ps : List Pending) (p : Pending) : Type 0 where
+  pub now : (f : Waiting → Bool) → is_waited_by (Some p.req) f ps ≡ f p.waits
+  pub can : CanWait p
+  pub each : (f : Pending → Bool) → list_all f ps ≡ true → f p ≡ true
 
 module _ (s : State) (chunk : ℕ) (call : Option ReqId) where
   abbrev concerns : Pending → Bool
@@ -255,7 +255,7 @@ not_true true h = absurd (false≢true h)
 not_true false h = refl
 
 -- each that waits is one of them
-each_one : (ps : List Pending) → are_apart ps ≡ true → AllByRecursion CanWait ps → AllByRecursion (IsOne ps) ps
+pub each_one : (ps : List Pending) → are_apart ps ≡ true → AllByRecursion CanWait ps → AllByRecursion (IsOne ps) ps
 each_one [] apart calls = tt
 each_one (p ∷ ps) apart calls =
     let parts = apart_parts p ps apart in (
@@ -380,6 +380,7 @@ sought_on d v chunk asking new stamp call purpose told k = record {
   since = ap (is_since (upgrade_epoch d.phase d.epoch) (fin.get d.chunks chunk)) stamp ∙ k.since;
   told = told;
   wanted = ap (λ c. list_all (λ (p : Pending). not (is_call p.req c) || may_wait_for chunk p.waits) v.pending) call ∙ k.wanted;
+  leased = λ lease. k.leased (sym (ap is_for_lease purpose) ∙ lease);
   purposed = (λ i. list_all (λ (p : Pending). not (is_call p.req (call i)) || may_ask (purpose i) p.waits) v.pending) ∙ k.purposed;
   made = λ none. ap (λ c. is_waited_by c (makes chunk) v.pending) call ∙ k.made none;
   own = λ r is here. ap (λ c. is_waited_by c (makes chunk) v.pending) call ∙ k.own r (sym call ∙ is) here;

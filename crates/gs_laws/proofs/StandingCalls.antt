@@ -69,7 +69,7 @@ all_placed d k =
     each_chunk (is_placed d) (all_chunks (fin.entries d.names.tree))
     (λ h some. let listed = counts_some (fin.get d.names.refs h) (subst (λ n. 0 < n) (sym (k.names.counted h)) some) in both_true (is_listed d h) (is_settled d h) listed (k.settled h listed))
 
-found_placed : (d : Durable) (path : Path) (index chunk : ℕ) → IsKept d → found_chunk (fin.get d.names.tree path) index ≡ Ok chunk → is_placed d chunk ≡ true
+pub found_placed : (d : Durable) (path : Path) (index chunk : ℕ) → IsKept d → found_chunk (fin.get d.names.tree path) index ≡ Ok chunk → is_placed d chunk ≡ true
 found_placed d path index chunk k e =
     found_so (is_placed d) (at (fin.entries d.names.tree) path) index chunk (one_row (is_placed d) (fin.entries d.names.tree) path (all_placed d k)) (ap (λ o. found_chunk o index) (sym (fin.get-entries d.names.tree path)) ∙ e)
 
@@ -192,6 +192,7 @@ module _ (s : State) (req : ReqId) (h : Holds true s) (may : MayBegin s req) whe
         rolling = may.rolling;
         left = not_false (has_versions s.durable (length many)) left;
         known = list_weaker (is_placed s.durable) (λ c. is_settled s.durable c && has_entry s c) many (λ c k. (let p = and_parts (is_listed s.durable c) (is_settled s.durable c) k in both_true (is_settled s.durable c) (has_entry s c) p.1 (or_left (is_listed s.durable c) (is_member s.volatile.unplaced c) p.0))) known;
+        quiet = refl;
         owned = inl (list_weaker (is_placed s.durable) (is_listed s.durable) many (λ c k. (and_parts (is_listed s.durable c) (is_settled s.durable c) k).0) known);
         for = λ c. for_begun s.durable s.volatile (record { req = req; waits = waiting }) c purposes.Quiet may.out refl refl;
       })))))

@@ -116,6 +116,7 @@ module _ (s : State) (h : Stands s.durable s.volatile) where
           since = ap (λ o. is_since (upgrade_epoch s.durable.phase s.durable.epoch) o a.stamp) still.same ∙ k.since;
           told = k.told;
           wanted = k.wanted;
+          leased = k.leased;
           purposed = k.purposed;
           made = λ none. k.made (sym still.same ∙ none);
           own = λ req call here. k.own req call (member_was (awaits_first s) s.volatile.unplaced chunk here);

@@ -275,7 +275,7 @@ module _ (chunk : ℕ) (req : ReqId) (waiting : Waiting) where
       let waited = wait req next s.durable v h.stands (visible, told) none in
       let fit = proposes s.durable new zero r.rolling parts.1 (or_right (is_settled s.durable new) (is_fresh new new) (next_is_fresh new 1 (omega arith) parts.0)) in
       let made = ap (is_waited_by (Some req) (makes new)) (set_so v.pending req next) ∙ waits_now req next (makes new) v.pending h.stands.apart here ∙ ap (λ b. b || false) (eqb_itself new) in
-      let stands = proposed_new s.durable w purposes.Quiet view.members (Some req) waited r.rolling parts.1 parts.0 (waits_wanted v next new purposes.Quiet h.stands.apart (eqb_itself new) refl here s.durable) made in
+      let stands = proposed_new s.durable w purposes.Quiet view.members (Some req) waited r.rolling parts.1 parts.0 refl (waits_wanted v next new purposes.Quiet h.stands.apart (eqb_itself new) refl here s.durable) made in
       let asking = asking_for (next_stamp s.durable) purposes.Quiet view.members (Some req) in
       room_stepped s (turned s plan) h (record {
         numbers = λ n. subst (λ o. HasNumbers (unwrap_or o s.durable)) (sym fit) (keeps_numbers (Propose new s.durable.next_version) refl s.durable (proposed s.durable new s.durable.next_version) tt h.stands.kept n fit);
@@ -300,7 +300,7 @@ module _ (chunk : ℕ) (req : ReqId) (waiting : Waiting) where
       let members = members_at (chunk_at s new) in
       let waited = wait req next s.durable v h.stands (visible, told) none in
       let fit = proposes s.durable new zero rolling some (or_left (is_settled s.durable new) (is_fresh s.durable.next_handle new) known) in
-      let stands = proposed_settled s.durable w purposes.Lease members (Some req) waited rolling some new known (or_left (is_listed s.durable new) (is_member v.unplaced new) listed) (inl listed) (waits_wanted v next new purposes.Lease h.stands.apart (eqb_itself new) refl here s.durable) in
+      let stands = proposed_settled s.durable w purposes.Lease members (Some req) waited rolling some new known (or_left (is_listed s.durable new) (is_member v.unplaced new) listed) (inl listed) (λ lease. listed) (waits_wanted v next new purposes.Lease h.stands.apart (eqb_itself new) refl here s.durable) in
       let asking = asking_for (next_stamp s.durable) purposes.Lease members (Some req) in
       room_stepped s (turned s plan) h (record {
         numbers = λ n. subst (λ o. HasNumbers (unwrap_or o s.durable)) (sym fit) (keeps_numbers (Propose new s.durable.next_version) refl s.durable (proposed s.durable new s.durable.next_version) tt h.stands.kept n fit);

@@ -196,7 +196,7 @@ module _ (s : State) (h : Holds true s) where
       let all = all_begun s many purposes.Quiet None in
       test_good true s (has_versions s.durable (length many)) (if_room s all (unmoved s)) (unmoved s)
       (λ left. test_good true s (fits s.log all.records) all (unmoved s)
-      (λ _. all_begun_good true many purposes.Quiet None s h (record { rolling = rolling; left = left; known = known; owned = inr refl; for = λ c. for_none s.durable s.volatile c purposes.Quiet })) (λ _. still_good)) (λ _. still_good)
+      (λ _. all_begun_good true many purposes.Quiet None s h (record { rolling = rolling; left = left; known = known; quiet = refl; owned = inr refl; for = λ c. for_none s.durable s.volatile c purposes.Quiet })) (λ _. still_good)) (λ _. still_good)
 
   damaged_good : (server chunk : ℕ) → Good true s (damaged s server chunk)
   damaged_good server chunk =

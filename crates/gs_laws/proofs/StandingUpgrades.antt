@@ -183,6 +183,7 @@ prepare_good s req h rolling =
       left = all_ended_same (λ d. has_versions d (length many)) (λ d replies. refl) reqs refusals.Preparing s ∙ left;
       known = ap (λ u. list_all (λ c. is_settled ended.after.durable c && (is_listed ended.after.durable c || is_member u c)) many) placed
           ∙ all_ended_same (λ d. list_all (λ c. is_settled d c && (is_listed d c || is_member s.volatile.unplaced c)) many) (λ d replies. refl) reqs refusals.Preparing s ∙ known;
+      quiet = refl;
       owned = inr refl;
       for = λ c. for_none ended.after.durable ended.after.volatile c purposes.Quiet;
     }) in

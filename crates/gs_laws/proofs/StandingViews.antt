@@ -14,6 +14,7 @@ use Rattle.gs_base.specs.Told.{IsNumber}
 use Rattle.gs_base.specs.declared.numbers.ReqId.{ReqId}
 use Rattle.gs_base.specs.declared.refusal.Refusal.TheVariants as refusals
 use Rattle.gs_tree.proofs.Levels.{both_true}
+use Rattle.gs_lease.specs.Transitions.{is_for_lease}
 use Rattle.gs_lease.specs.declared.view.Purpose.{Purpose}
 use Rattle.gs_lease.specs.declared.view.Purpose.TheVariants as purposes
 use Rattle.gs_record.specs.Plain.{Propose}
@@ -141,9 +142,9 @@ made_begun v p chunk made =
 
 module _ (d : Durable) (w : Volatile) (purpose : Purpose) (members : List ℕ) (call : Option ReqId) (h : Stands d w) (rolling : is_rolling d.phase ≡ false) (left : has_versions d 1 ≡ true) where
   -- for a chunk that is settled
-  sought_settled : (chunk : ℕ) (s : Settled) → fin.get d.chunks chunk ≡ Some s → (is_listed d chunk || is_member w.unplaced chunk) ≡ true → ((is_listed d chunk ≡ true) ⊎ (call ≡ None)) → IsFor d w chunk purpose call
+  sought_settled : (chunk : ℕ) (s : Settled) → fin.get d.chunks chunk ≡ Some s → (is_listed d chunk || is_member w.unplaced chunk) ≡ true → ((is_listed d chunk ≡ true) ⊎ (call ≡ None)) → (is_for_lease purpose ≡ true → is_listed d chunk ≡ true) → IsFor d w chunk purpose call
       → IsSought (proposed d chunk d.next_version) w chunk (asking_for (next_stamp d) purpose members call)
-  sought_settled chunk s has known owned for =
+  sought_settled chunk s has known owned leases for =
       let fresh = next_is_fresh d.next_version 1 (omega arith) left in
       let view = h.kept.views chunk s has in
       let now : fin.get (proposed d chunk d.next_version).chunks chunk ≡ Some (record s { is_moving = true }) = moved in
@@ -157,6 +158,7 @@ module _ (d : Durable) (w : Volatile) (purpose : Purpose) (members : List ℕ) (
         since = since_now d.phase d.epoch d.next_version (fin.get (proposed d chunk d.next_version).chunks chunk) rolling;
         told = none_told 16;
         wanted = for.wanted;
+        leased = leases;
         purposed = for.purposed;
         made = λ none. absurd (false≢true (sym (ap is_some none) ∙ ap is_some now));
         own = λ r is here. not_owned r is here owned;
@@ -191,9 +193,9 @@ module _ (d : Durable) (w : Volatile) (purpose : Purpose) (members : List ℕ) (
       by_entry None is = refl
       by_entry (Some s) is = absurd (not_given d.next_handle (h.kept.handles d.next_handle (ap is_some is)) fresh)
 
-  sought_new : is_fresh d.next_handle d.next_handle ≡ true → IsFor d w d.next_handle purpose call → is_waited_by call (makes d.next_handle) w.pending ≡ true
+  sought_new : is_fresh d.next_handle d.next_handle ≡ true → is_for_lease purpose ≡ false → IsFor d w d.next_handle purpose call → is_waited_by call (makes d.next_handle) w.pending ≡ true
       → IsSought (proposed d d.next_handle d.next_version) (changed w (changes.Enter d.next_handle)) d.next_handle (asking_for (next_stamp d) purpose members call)
-  sought_new fresh for made =
+  sought_new fresh quiet for made =
       let new = d.next_handle in
       let e = proposed d d.next_handle d.next_version in
       let now : fin.get e.chunks d.next_handle ≡ None = ap (λ o. fin.get (with_proposal d d.next_handle o) d.next_handle) (none_settled fresh) ∙ none_settled fresh in
@@ -208,6 +210,7 @@ module _ (d : Durable) (w : Volatile) (purpose : Purpose) (members : List ℕ) (
         since = since_now d.phase d.epoch d.next_version (fin.get e.chunks d.next_handle) rolling;
         told = none_told 16;
         wanted = for.wanted;
+        leased = λ lease. absurd (true≢false (sym lease ∙ quiet));
         purposed = for.purposed;
         made = λ none. made;
         own = λ r is here. made;
@@ -217,9 +220,9 @@ module _ (d : Durable) (w : Volatile) (purpose : Purpose) (members : List ℕ) (
 
   -- ---- so it is proposed
 
-  pub proposed_settled : (chunk : ℕ) → is_settled d chunk ≡ true → (is_listed d chunk || is_member w.unplaced chunk) ≡ true → ((is_listed d chunk ≡ true) ⊎ (call ≡ None)) → IsFor d w chunk purpose call
+  pub proposed_settled : (chunk : ℕ) → is_settled d chunk ≡ true → (is_listed d chunk || is_member w.unplaced chunk) ≡ true → ((is_listed d chunk ≡ true) ⊎ (call ≡ None)) → (is_for_lease purpose ≡ true → is_listed d chunk ≡ true) → IsFor d w chunk purpose call
       → Stands (proposed d chunk d.next_version) (changed w (changes.Ask chunk (asking_for (next_stamp d) purpose members call)))
-  proposed_settled chunk some known owned for = by_entry (fin.get d.chunks chunk) refl some
+  proposed_settled chunk some known owned leases for = by_entry (fin.get d.chunks chunk) refl some
     where
       e : Durable
       e = proposed d chunk d.next_version
@@ -229,11 +232,11 @@ module _ (d : Durable) (w : Volatile) (purpose : Purpose) (members : List ℕ) (
       by_entry (Some s) is k =
           let fit = proposes d chunk zero rolling left (or_left (is_settled d chunk) (is_fresh d.next_handle chunk) some) in
           let few = raised_settled d.next_handle chunk (h.kept.handles chunk some) h.counters.handle in
-          ask e w (recorded d e w (propose_onto d e w chunk d.next_version h h.counters.version few fit) h) chunk (asking_for (next_stamp d) purpose members call) (sought_settled chunk s is known owned for)
+          ask e w (recorded d e w (propose_onto d e w chunk d.next_version h h.counters.version few fit) h) chunk (asking_for (next_stamp d) purpose members call) (sought_settled chunk s is known owned leases for)
 
-  pub proposed_new : has_handle d ≡ true → IsFor d w d.next_handle purpose call → is_waited_by call (makes d.next_handle) w.pending ≡ true
+  pub proposed_new : has_handle d ≡ true → is_for_lease purpose ≡ false → IsFor d w d.next_handle purpose call → is_waited_by call (makes d.next_handle) w.pending ≡ true
       → Stands (proposed d d.next_handle d.next_version) (changed (changed w (changes.Enter d.next_handle)) (changes.Ask d.next_handle (asking_for (next_stamp d) purpose members call)))
-  proposed_new handle for made =
+  proposed_new handle quiet for made =
       let fresh = next_is_fresh d.next_handle 1 (omega arith) handle in
       let new = d.next_handle in
       let e = proposed d new d.next_version in
@@ -243,7 +246,7 @@ module _ (d : Durable) (w : Volatile) (purpose : Purpose) (members : List ℕ) (
       let entered = enter e w on new (given_raised_itself new new fresh) (unlisted fresh) (never_out fresh) (unasked fresh) in
       let x = changed w (changes.Enter new) in
       ask e x entered new (asking_for (next_stamp d) purpose members call)
-      (sought_new fresh for made)
+      (sought_new fresh quiet for made)
     where
       not_given : (n : ℕ) → is_given n n ≡ true → is_fresh n n ≡ true → ⊥
       not_given n g f = absurd (grind (arith, nat_tests))
@@ -296,7 +299,7 @@ module _ (b : Bool) (s : State) (req : ReqId) (h : Holds b s) (may : MayBegin s 
       (λ left. let some = not_false (has_versions s.durable 1) left in
       room_good b s req (turned s plan) h
       (one_good b s (Propose chunk s.durable.next_version) plan (proposed s.durable chunk s.durable.next_version) (proposes s.durable chunk zero may.rolling some (or_left (is_settled s.durable chunk) (is_fresh s.durable.next_handle chunk) known))
-      (proposed_settled s.durable (changed s.volatile (changes.Begin (waiting_call waiting))) purpose (members_at (chunk_at s chunk)) (Some req) (begun_call waiting can) may.rolling some chunk known (or_left (is_listed s.durable chunk) (is_member s.volatile.unplaced chunk) listed) (inl listed)
+      (proposed_settled s.durable (changed s.volatile (changes.Begin (waiting_call waiting))) purpose (members_at (chunk_at s chunk)) (Some req) (begun_call waiting can) may.rolling some chunk known (or_left (is_listed s.durable chunk) (is_member s.volatile.unplaced chunk) listed) (inl listed) (λ lease. listed)
       (for_begun s.durable s.volatile (waiting_call waiting) chunk purpose may.out right asks))
       (not_rolling (proposed s.durable chunk s.durable.next_version) refl)
       (λ n. keeps_numbers (Propose chunk s.durable.next_version) refl s.durable (proposed s.durable chunk s.durable.next_version) tt h.stands.kept n (proposes s.durable chunk zero may.rolling some (or_left (is_settled s.durable chunk) (is_fresh s.durable.next_handle chunk) known)))))
@@ -314,7 +317,7 @@ module _ (b : Bool) (s : State) (req : ReqId) (h : Holds b s) (may : MayBegin s 
       (λ left. let some = not_false (has_versions s.durable 1) left in
       room_good b s req (turned s whole) h
       (one_good b s (Propose new s.durable.next_version) whole (proposed s.durable new s.durable.next_version) (proposes s.durable new zero may.rolling some (or_right (is_settled s.durable new) (is_fresh new new) (next_is_fresh new 1 (omega arith) one)))
-      (proposed_new s.durable (changed s.volatile (changes.Begin (waiting_call waiting))) purposes.Quiet members (Some req) (begun_call waiting (visible, told one)) may.rolling some one
+      (proposed_new s.durable (changed s.volatile (changes.Begin (waiting_call waiting))) purposes.Quiet members (Some req) (begun_call waiting (visible, told one)) may.rolling some one refl
       (for_begun s.durable s.volatile (waiting_call waiting) new purposes.Quiet may.out right refl) (made_begun s.volatile (waiting_call waiting) new makes_it))
       (not_rolling (proposed s.durable new s.durable.next_version) refl)
       (λ n. keeps_numbers (Propose new s.durable.next_version) refl s.durable (proposed s.durable new s.durable.next_version) tt h.stands.kept n (proposes s.durable new zero may.rolling some (or_right (is_settled s.durable new) (is_fresh new new) (next_is_fresh new 1 (omega arith) one)))))))
@@ -326,6 +329,7 @@ module _ (b : Bool) where
     pub rolling : is_rolling s.durable.phase ≡ false
     pub left : has_versions s.durable (length many) ≡ true
     pub known : list_all (λ c. is_settled s.durable c && has_entry s c) many ≡ true
+    pub quiet : is_for_lease purpose ≡ false
     pub owned : (list_all (is_listed s.durable) many ≡ true) ⊎ (call ≡ None)
     pub for : (chunk : ℕ) → IsFor s.durable s.volatile chunk purpose call
 
@@ -343,7 +347,7 @@ module _ (b : Bool) where
       let some = some_left s.durable (length many) a.left in
       let next = proposed s.durable chunk s.durable.next_version in
       let fit = proposes s.durable chunk (length many) a.rolling a.left (or_left (is_settled s.durable chunk) (is_fresh s.durable.next_handle chunk) here.0) in
-      let stands = proposed_settled s.durable s.volatile purpose (members_at (chunk_at s chunk)) call h.stands a.rolling some chunk here.0 here.1 (first_owned a.owned) (a.for chunk) in
+      let stands = proposed_settled s.durable s.volatile purpose (members_at (chunk_at s chunk)) call h.stands a.rolling some chunk here.0 here.1 (first_owned a.owned) (λ lease. absurd (true≢false (sym lease ∙ a.quiet))) (a.for chunk) in
       let one = one_good b s (Propose chunk s.durable.next_version) (begin_at s chunk purpose call) next fit stands (λ c r. h.rolling c r) (λ n. keeps_numbers (Propose chunk s.durable.next_version) refl s.durable next tt h.stands.kept n fit) in
       then_good b s (begun s chunk purpose call) (λ after. all_begun after many purpose call) one
       (all_begun_good many purpose call (begun s chunk purpose call).after one.holds (record {
@@ -351,6 +355,7 @@ module _ (b : Bool) where
         left = left_after s chunk (length many) a.left;
         known = ap (λ o. list_all (λ c. is_settled (unwrap_or o s.durable) c && (is_listed (unwrap_or o s.durable) c || is_member s.volatile.unplaced c)) many) fit
             ∙ ap (λ (f : ℕ → Bool). list_all f many) (λ i c. proposed_some s.durable chunk c (fin.get s.durable.chunks chunk) refl i && has_entry s c) ∙ parts.1;
+        quiet = a.quiet;
         owned = rest_owned fit a.owned;
         for = λ c. subst (λ o. IsFor (unwrap_or o s.durable) (begun s chunk purpose call).after.volatile c purpose call) (sym fit) (record { wanted = (a.for c).wanted; purposed = (a.for c).purposed; past = (a.for c).past });
       }))

@@ -7,6 +7,7 @@ use Rattle.gs_base.specs.Told.{IsNumber}
 use Rattle.gs_base.specs.declared.config.Config.{Config}
 use Rattle.gs_base.specs.declared.numbers.Moment.{Moment}
 use Rattle.gs_base.specs.declared.numbers.ReqId.{ReqId}
+use Rattle.gs_lease.specs.Transitions.{is_for_lease}
 use Rattle.gs_lease.specs.declared.view.Purpose.{Purpose}
 use Rattle.gs_lease.specs.declared.view.Purpose.TheVariants as purposes
 use Rattle.gs_msg.specs.declared.body.Body.{Body}
@@ -71,7 +72,7 @@ IsToldCount (Some count) = IsNumber count
 -- The master knows the chunk; its handle and the version were given, in an epoch that there was; a view that was settled is moving,
 -- under a smaller stamp, and one that never was belongs to the upgrade that stands. A call for which the chunk moves waits for it, and for
 -- such a view, or was answered. A chunk without a settled view is made by a call that waits, and so is one without a place that moves for a call, which
--- has no settled view then. What was answered can be told.
+-- has no settled view then. A lease is asked for a chunk that a file has. What was answered can be told.
 pub record IsSought (d : Durable) (v : Volatile) (chunk : ℕ) (asking : Asking) : Type 0 where
   pub known : (is_listed d chunk || is_member v.unplaced chunk) ≡ true
   pub handle : is_given d.next_handle chunk ≡ true
@@ -82,6 +83,7 @@ pub record IsSought (d : Durable) (v : Volatile) (chunk : ℕ) (asking : Asking)
   pub since : is_since (upgrade_epoch d.phase d.epoch) (fin.get d.chunks chunk) asking.stamp ≡ true
   pub told : AllByRecursion IsToldCount asking.answers.counts
   pub wanted : list_all (λ (p : Pending). not (is_call p.req asking.call) || may_wait_for chunk p.waits) v.pending ≡ true
+  pub leased : is_for_lease asking.purpose ≡ true → is_listed d chunk ≡ true
   pub purposed : list_all (λ (p : Pending). not (is_call p.req asking.call) || may_ask asking.purpose p.waits) v.pending ≡ true
   pub made : fin.get d.chunks chunk ≡ None → is_waited_by asking.call (makes chunk) v.pending ≡ true
   pub own : (req : ReqId) → asking.call ≡ Some req → is_member v.unplaced chunk ≡ true → is_waited_by asking.call (makes chunk) v.pending ≡ true
