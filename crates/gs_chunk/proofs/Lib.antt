@@ -29,3 +29,4 @@ pub mod Reached
 pub mod Prepared
 pub mod Viewed
 pub mod Knowing
+pub mod Committed

@@ -8,11 +8,12 @@ use Rattle.gs_chunk.specs.Stamps.{start_of}
 use Rattle.gs_chunk.specs.Machine.{Message, Create, Advance, Promised, Grant, CopyOut, CopyIn, Drop, Epoch, Sent, World, WasTold}
 use Rattle.gs_chunk.specs.Events.{Event, Proposes, AsksFirst, Asks, AsksForCopy, GivesUp, Holds, Settles, Grants, Retires, SendsDrop, Prepares, Finalizes, BeginsRollback, CommitsRollback, TellsEpoch, is_of, Can, happens, one, sends, Leads, Rests, Goes}
 use Rattle.gs_chunk.specs.Acting.{actor}
-use Rattle.gs_chunk.specs.Mastering.{AreOfMaster, KeepsLists, MastersSettleOnce, RestoresList, SettlesList, SettlesOnce}
+use Rattle.gs_chunk.specs.Mastering.{AreOfMaster, IsCommittedSince, KeepsLists, MastersSettleOnce, RestoresList, SettlesList, SettlesOnce}
+use Rattle.gs_chunk.proofs.Committed.{stays_calm}
 use Rattle.gs_chunk.proofs.Entries.{Rolling}
 use Rattle.gs_chunk.proofs.Facts.{reached_world}
 use Rattle.gs_chunk.proofs.Known.{IsPrepared, Later}
-use Rattle.gs_chunk.proofs.Worlds.{WorldOk, happens_world, leads_later, said}
+use Rattle.gs_chunk.proofs.Worlds.{Moved, WorldOk, happens_world, leads_later, said}
 
 -- ---- nobody promises
 
@@ -79,7 +80,7 @@ record Still (u v : World) : Type 0 where
   current : u.known.current ≤ v.known.current
   over : v.known.current ≡ u.known.current → u.entry.is_rolling ≡ false → v.entry.is_rolling ≡ false
 
-module _ (w u v : World) (s : Still u v) where
+module _ (w u v : World) (ok : WorldOk u) (m : Moved u v) (s : Still u v) where
   kept_so : KeepsLists w u → KeepsLists w v
   kept_so k = record { view = s.view ∙ k.view; list = s.list ∙ k.list; stood = s.stood ∙ k.stood }
 
@@ -92,9 +93,23 @@ module _ (w u v : World) (s : Still u v) where
     stood = λ t. ap (λ f. f t) s.stood ∙ k.stood t;
   }
 
+  committed_so : IsCommittedSince w u → IsCommittedSince w v
+  committed_so k = record {
+    e = k.e;
+    since = k.since;
+    within = (let a = k.within in omega arith);
+    how = ((m.ok).entry).how k.e ∙ (m.grows).how k.e (let a = k.within in let b = (ok.entry).epoch in omega arith) ∙ sym ((ok.entry).how k.e) ∙ k.how;
+    was = k.was;
+    done = λ at. s.over (let a = k.within in let b = (ok.entry).epoch in let c = ((m.ok).entry).epoch in omega arith) (k.done (let a = k.within in omega arith));
+  }
+    where
+      rises : u.entry.epoch ≤ v.entry.epoch
+      rises = (let a = (ok.entry).epoch in let b = ((m.ok).entry).epoch in let c = s.current in omega arith)
+
   restored_so : w.known.current ≤ u.known.current → RestoresList w u → RestoresList w v
   restored_so later k = record {
     later = subst (λ n. w.known.top < n) (sym s.view) k.later;
+    committed = committed_so k.committed;
     over = λ same. s.over (same ∙ sym (within same)) (k.over (within same));
     exact = λ same. (let old = k.exact (within same) in record {
       view = s.view ∙ old.view;
@@ -124,6 +139,7 @@ record Run (w u : World) : Type 0 where
   ok : WorldOk u
   later : Later w.known u.known
   told : ToldBefore w u
+  calm : w.entry.is_rolling ≡ false → u.entry.epoch ≡ w.entry.epoch → u.entry.is_rolling ≡ false
   once : SettlesOnce w u
 
 module _ (w u : World) (ok : WorldOk w) (r : Run w u) where
@@ -238,12 +254,27 @@ module _ (w u : World) (ok : WorldOk w) (r : Run w u) where
           by_rolling true rolls =
               (ok.entry).was_known rolling.e (inr (sym rolling.next ∙ at, rolls)) ∙ sym (r.later.kept rolling.e (let n = sym at ∙ rolling.next in omega arith)) ∙ sym ((r.ok.entry).was_known rolling.e (inr (sym rolling.next, can.0))) ∙ (can.1 keep).0
 
+      committed : (v : World) → v.entry.epoch ≡ u.entry.epoch → v.entry.how ≡ u.entry.how → v.entry.is_rolling ≡ false → IsCommittedSince w v
+      committed v at same over = record {
+        e = u.entry.epoch;
+        since = (let a = (ok.entry).epoch in let b = (r.ok.entry).epoch in let c = r.later.current in omega arith);
+        within = omega arith;
+        how = ap (λ h. h u.entry.epoch) same ∙ (r.ok.entry).how u.entry.epoch ∙ ap u.known.how ((r.ok.entry).epoch ∙ rolling.next) ∙ rolling.how;
+        was = λ first. by_rolling first w.entry.is_rolling refl;
+        done = λ last. over;
+      }
+        where
+          by_rolling : u.entry.epoch ≡ w.entry.epoch → (b : Bool) → w.entry.is_rolling ≡ b → w.entry.is_rolling ≡ true
+          by_rolling first true rolls = rolls
+          by_rolling first false still = absurd (true≢false (sym can.0 ∙ r.calm still first))
+
       apart : (t : ℕ) → u.known.current ≡ w.known.current → t ≢ start_of w.known.current → nat_eq t (start_of u.known.current) ≡ false
       apart t at new = differs t (start_of u.known.current) (λ x. new (x ∙ ap start_of at))
 
       by_keeps : (b : Bool) → keeps ≡ b → SettlesOnce w (happens u (CommitsRollback members b))
       by_keeps true is = inr (inr (record {
         later = above;
+        committed = committed (happens u (CommitsRollback members true)) refl refl refl;
         over = λ at. refl;
         exact = λ at. record {
           view = ap start_of at;
@@ -263,6 +294,7 @@ module _ (w u : World) (ok : WorldOk w) (r : Run w u) where
           after = happens u (CommitsRollback members true)
       by_keeps false is = inr (inr (record {
         later = above;
+        committed = committed (happens u (CommitsRollback members false)) refl refl refl;
         over = λ at. refl;
         exact = λ at. record {
           view = ap start_of at;
@@ -280,34 +312,36 @@ module _ (w u : World) (ok : WorldOk w) (r : Run w u) where
           after : World
           after = happens u (CommitsRollback members false)
 
-step_so : (w u : World) (e : Event) → WorldOk w → Run w u → Can u e → actor e ≡ None → SettlesOnce w (happens u e)
-step_so w u (Settles members count holder) ok r can none = settles_so w u ok r members count holder can
-step_so w u (CommitsRollback members keeps) ok r can none = commits_so w u ok r members keeps can
-step_so w u (Proposes stamp asked) ok r can none = still_so w u (happens u (Proposes stamp asked)) (record { view = refl; list = refl; stood = refl; base = refl; current = omega arith; over = λ same still. still }) r.later.current r.once
-step_so w u (AsksFirst to false) ok r can none = still_so w u (happens u (AsksFirst to false)) (record { view = refl; list = refl; stood = refl; base = refl; current = omega arith; over = λ same still. still }) r.later.current r.once
-step_so w u (AsksFirst to true) ok r can none = still_so w u (happens u (AsksFirst to true)) (record { view = refl; list = refl; stood = refl; base = refl; current = omega arith; over = λ same still. still }) r.later.current r.once
-step_so w u (Asks to) ok r can none = still_so w u (happens u (Asks to)) (record { view = refl; list = refl; stood = refl; base = refl; current = omega arith; over = λ same still. still }) r.later.current r.once
-step_so w u (AsksForCopy source target with_image) ok r can none = still_so w u (happens u (AsksForCopy source target with_image)) (record { view = refl; list = refl; stood = refl; base = refl; current = omega arith; over = λ same still. still }) r.later.current r.once
-step_so w u GivesUp ok r can none = still_so w u (happens u GivesUp) (record { view = refl; list = refl; stood = refl; base = refl; current = omega arith; over = λ same still. still }) r.later.current r.once
-step_so w u (Holds server) ok r can none = still_so w u (happens u (Holds server)) (record { view = refl; list = refl; stood = refl; base = refl; current = omega arith; over = λ same still. still }) r.later.current r.once
-step_so w u (Grants to) ok r can none = still_so w u (happens u (Grants to)) (record { view = refl; list = refl; stood = refl; base = refl; current = omega arith; over = λ same still. still }) r.later.current r.once
-step_so w u Retires ok r can none = still_so w u (happens u Retires) (record { view = refl; list = refl; stood = refl; base = refl; current = omega arith; over = λ same still. still }) r.later.current r.once
-step_so w u (SendsDrop to promise) ok r can none = still_so w u (happens u (SendsDrop to promise)) (record { view = refl; list = refl; stood = refl; base = refl; current = omega arith; over = λ same still. still }) r.later.current r.once
-step_so w u (Prepares whole) ok r can none = still_so w u (happens u (Prepares whole)) (record { view = refl; list = refl; stood = refl; base = refl; current = omega arith; over = λ same still. still }) r.later.current r.once
-step_so w u Finalizes ok r can none = still_so w u (happens u Finalizes) (record { view = refl; list = refl; stood = refl; base = refl; current = omega arith; over = λ same still. still }) r.later.current r.once
-step_so w u BeginsRollback ok r can none = still_so w u (happens u BeginsRollback) (record { view = refl; list = refl; stood = refl; base = refl; current = omega arith; over = λ same still. absurd (let a = same in omega arith) }) r.later.current r.once
-step_so w u (TellsEpoch to epoch) ok r can none = still_so w u (happens u (TellsEpoch to epoch)) (record { view = refl; list = refl; stood = refl; base = refl; current = omega arith; over = λ same still. still }) r.later.current r.once
-step_so w u e ok r can none = absurd (false≢true (sym (ap is_some none)))
+step_so : (w u : World) (e : Event) → WorldOk w → Run w u → Moved u (happens u e) → Can u e → actor e ≡ None → SettlesOnce w (happens u e)
+step_so w u (Settles members count holder) ok r moved can none = settles_so w u ok r members count holder can
+step_so w u (CommitsRollback members keeps) ok r moved can none = commits_so w u ok r members keeps can
+step_so w u (Proposes stamp asked) ok r moved can none = still_so w u (happens u (Proposes stamp asked)) r.ok moved (record { view = refl; list = refl; stood = refl; base = refl; current = omega arith; over = λ same still. still }) r.later.current r.once
+step_so w u (AsksFirst to false) ok r moved can none = still_so w u (happens u (AsksFirst to false)) r.ok moved (record { view = refl; list = refl; stood = refl; base = refl; current = omega arith; over = λ same still. still }) r.later.current r.once
+step_so w u (AsksFirst to true) ok r moved can none = still_so w u (happens u (AsksFirst to true)) r.ok moved (record { view = refl; list = refl; stood = refl; base = refl; current = omega arith; over = λ same still. still }) r.later.current r.once
+step_so w u (Asks to) ok r moved can none = still_so w u (happens u (Asks to)) r.ok moved (record { view = refl; list = refl; stood = refl; base = refl; current = omega arith; over = λ same still. still }) r.later.current r.once
+step_so w u (AsksForCopy source target with_image) ok r moved can none = still_so w u (happens u (AsksForCopy source target with_image)) r.ok moved (record { view = refl; list = refl; stood = refl; base = refl; current = omega arith; over = λ same still. still }) r.later.current r.once
+step_so w u GivesUp ok r moved can none = still_so w u (happens u GivesUp) r.ok moved (record { view = refl; list = refl; stood = refl; base = refl; current = omega arith; over = λ same still. still }) r.later.current r.once
+step_so w u (Holds server) ok r moved can none = still_so w u (happens u (Holds server)) r.ok moved (record { view = refl; list = refl; stood = refl; base = refl; current = omega arith; over = λ same still. still }) r.later.current r.once
+step_so w u (Grants to) ok r moved can none = still_so w u (happens u (Grants to)) r.ok moved (record { view = refl; list = refl; stood = refl; base = refl; current = omega arith; over = λ same still. still }) r.later.current r.once
+step_so w u Retires ok r moved can none = still_so w u (happens u Retires) r.ok moved (record { view = refl; list = refl; stood = refl; base = refl; current = omega arith; over = λ same still. still }) r.later.current r.once
+step_so w u (SendsDrop to promise) ok r moved can none = still_so w u (happens u (SendsDrop to promise)) r.ok moved (record { view = refl; list = refl; stood = refl; base = refl; current = omega arith; over = λ same still. still }) r.later.current r.once
+step_so w u (Prepares whole) ok r moved can none = still_so w u (happens u (Prepares whole)) r.ok moved (record { view = refl; list = refl; stood = refl; base = refl; current = omega arith; over = λ same still. still }) r.later.current r.once
+step_so w u Finalizes ok r moved can none = still_so w u (happens u Finalizes) r.ok moved (record { view = refl; list = refl; stood = refl; base = refl; current = omega arith; over = λ same still. still }) r.later.current r.once
+step_so w u BeginsRollback ok r moved can none = still_so w u (happens u BeginsRollback) r.ok moved (record { view = refl; list = refl; stood = refl; base = refl; current = omega arith; over = λ same still. absurd (let a = same in omega arith) }) r.later.current r.once
+step_so w u (TellsEpoch to epoch) ok r moved can none = still_so w u (happens u (TellsEpoch to epoch)) r.ok moved (record { view = refl; list = refl; stood = refl; base = refl; current = omega arith; over = λ same still. still }) r.later.current r.once
+step_so w u e ok r moved can none = absurd (false≢true (sym (ap is_some none)))
 
 run_of : (w v : World) (leads : Leads w v) → WorldOk w → AreOfMaster w v leads → Run w v
-run_of w v Rests ok masters = record { ok = ok; later = leads_later w w Rests ok; told = λ j t n c told. told; once = inl (record { view = refl; list = refl; stood = refl }) }
+run_of w v Rests ok masters = record { ok = ok; later = leads_later w w Rests ok; told = λ j t n c told. told; calm = λ calm same. calm; once = inl (record { view = refl; list = refl; stood = refl }) }
 run_of w v (Goes u e before can) ok masters =
     let r = run_of w u before ok masters.0 in
+    let moved = happens_world u r.ok e can in
     record {
-      ok = (happens_world u r.ok e can).ok;
+      ok = moved.ok;
       later = leads_later w (happens u e) (Goes u e before can) ok;
       told = λ j t n c told. r.told j t n c (told_so u e masters.1 j t n c told);
-      once = step_so w u e ok r can masters.1;
+      calm = stays_calm w (happens u e) (Goes u e before can) ok masters;
+      once = step_so w u e ok r moved can masters.1;
     }
 
 pub masters_settle_once : MastersSettleOnce

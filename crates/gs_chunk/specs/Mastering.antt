@@ -1,6 +1,6 @@
 -- What runs of events of the master alone make of the lists of views.
-use Rattle.std.specs.Prelude.{◌≡◌, ◌≢◌, ◌⊎◌, ◌<◌, ◌≤◌, ◌-◌, ℕ, true, false, nat_eq, cond, [], take, None}
-use Rattle.gs_base.specs.declared.epoch.EpochEnd.TheVariants.{Prepare}
+use Rattle.std.specs.Prelude.{◌≡◌, ◌≢◌, ◌⊎◌, ◌<◌, ◌≤◌, ◌+◌, ◌-◌, ℕ, true, false, nat_eq, cond, [], take, None}
+use Rattle.gs_base.specs.declared.epoch.EpochEnd.TheVariants.{Prepare, Rollback}
 use Rattle.gs_chunk.specs.Stamps.{start_of}
 use Rattle.gs_chunk.specs.Machine.{World}
 use Rattle.gs_chunk.specs.Events.{Leads, Rests, Goes}
@@ -34,9 +34,19 @@ pub record IsRestored (w v : World) : Type 0 where
   pub here : ((v.known.list (start_of w.known.current) ≡ w.known.list (w.known.prepared (w.known.current - 1))) × (v.known.stood (start_of w.known.current) ≡ true) × (w.entry.was_known ≡ true))
       ⊎ ((v.known.list (start_of w.known.current) ≡ []) × (v.known.stood (start_of w.known.current) ≡ false))
 
+-- A rollback was committed in an epoch that it began: the one that stood, which was being rolled back, or one that has begun since. It is over there.
+pub record IsCommittedSince (w v : World) : Type 0 where
+  pub e : ℕ
+  pub since : w.entry.epoch ≤ e
+  pub within : e ≤ v.entry.epoch
+  pub how : v.entry.how e ≡ Rollback
+  pub was : e ≡ w.entry.epoch → w.entry.is_rolling ≡ true
+  pub done : e ≡ v.entry.epoch → v.entry.is_rolling ≡ false
+
 -- A rollback was committed: the view is later than all that were proposed. Within one epoch it is the last one that was begun.
 pub record RestoresList (w v : World) : Type 0 where
   pub later : w.known.top < v.known.view
+  pub committed : IsCommittedSince w v
   pub over : v.known.current ≡ w.known.current → v.entry.is_rolling ≡ false
   pub exact : v.known.current ≡ w.known.current → IsRestored w v
 
@@ -62,3 +72,20 @@ NonePrepared w v = (e : ℕ) → w.entry.epoch < e → e ≤ v.entry.epoch → v
 -- Then what was prepared is as it was, of a chunk that was known at the prepare, as long as the upgrade isn't over.
 abbrev pub MastersKeepPrepared : Type 0
 MastersKeepPrepared = (w v : World) (leads : Leads w v) → IsReached w → AreOfMaster w v leads → NonePrepared w v → v.entry.was_known ≡ true → (w.entry.was_known ≡ true) × (v.entry.prepared.stamp ≡ w.entry.prepared.stamp)
+
+-- Within one epoch nothing is rolled back where nothing was; and where a rollback is over it was committed.
+abbrev pub MastersStayCalm : Type 0
+MastersStayCalm = (w v : World) (leads : Leads w v) → IsReached w → AreOfMaster w v leads → w.entry.is_rolling ≡ false → v.entry.epoch ≡ w.entry.epoch → v.entry.is_rolling ≡ false
+
+abbrev pub MastersCommit : Type 0
+MastersCommit = (w v : World) (leads : Leads w v) → IsReached w → AreOfMaster w v leads → w.entry.is_rolling ≡ true → v.entry.is_rolling ≡ false → w.known.top < v.known.view
+
+-- Where one epoch has begun, by a prepare, and nothing was being rolled back, a chunk that was known at the prepare was known before; and the view of the prepare is none that is
+-- earlier than the one before, or later than the one behind it.
+abbrev pub MastersPrepare : Type 0
+MastersPrepare = (w v : World) (leads : Leads w v) → IsReached w → AreOfMaster w v leads → w.entry.is_rolling ≡ false → v.entry.epoch ≡ w.entry.epoch + 1 → v.entry.how v.entry.epoch ≡ Prepare → v.entry.was_known ≡ true
+    → (w.entry.is_known ≡ true) × (w.entry.view.stamp ≤ v.entry.prepared.stamp) × (v.entry.prepared.stamp ≤ v.entry.view.stamp)
+
+-- A view with members stood.
+abbrev pub MembersStood : Type 0
+MembersStood = (w : World) (t j : ℕ) → IsReached w → w.known.members t j ≡ true → (w.known.stood t ≡ true) × (w.known.born < t)

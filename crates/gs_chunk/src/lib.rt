@@ -12,7 +12,7 @@ ghost use Rattle.gs_chunk.specs.Worked as written;
 ghost use Rattle.gs_chunk.specs.Carried as carried;
 ghost use Rattle.gs_chunk.specs.Acting.{OthersStay};
 ghost use Rattle.gs_chunk.specs.Lists.{ListsAreOfViews, ListsAreOld, MastersListsAreOld};
-ghost use Rattle.gs_chunk.specs.Mastering.{MastersForget, MastersKeepPrepared, MastersPeople, MastersSettleOnce};
+ghost use Rattle.gs_chunk.specs.Mastering.{MastersCommit, MastersForget, MastersKeepPrepared, MastersPeople, MastersPrepare, MastersSettleOnce, MastersStayCalm, MembersStood};
 ghost use Rattle.gs_chunk.specs.Numbering.{BornNumbered, MastersNumber, ServersNumber, StaysBehind};
 ghost use Rattle.gs_chunk.specs.Rolling.{LearnersAreIntact, RolledAreHeld, RolledAreFirst, SurvivorsAreBack};
 ghost use Rattle.gs_chunk.specs.Resting.{LeasesRest, EpochsAreTold, BornFirst, MembersHaveLearned, PeopledStood, PreparedViewsRest, PromisesRest, NoneIsAhead};
@@ -113,12 +113,17 @@ pub fn lists_are_of_views()
 /// In a run of events of the master alone, as one of its turns is, at most one view of the chunk is settled, since nobody has promised a stamp that is
 /// proposed in it: the one that had been proposed last. Its list is the first edits of that of the view before, as many as it begins with; all other lists
 /// stay. Where a rollback is committed the list that was prepared is that of the view of version 0, or the chunk has none. A chunk that isn't known is settled no
-/// more; and a view that is settled has a member.
+/// more; and a view that is settled has a member, while one that has members stood. Where a rollback is over it was committed, none begins within an epoch, and a
+/// prepare finds what was known before it.
 pub fn the_master_settles_one_view_at_most()
     ensures once { MastersSettleOnce }
     ensures forgets { MastersForget }
     ensures people { MastersPeople }
     ensures prepared { MastersKeepPrepared }
+    ensures calm { MastersStayCalm }
+    ensures commits { MastersCommit }
+    ensures prepares { MastersPrepare }
+    ensures stood { MembersStood }
 {}
 
 /// What has been rolled back stays until the rollback is committed: a server that makes its image live as it learns of it is intact from then on;

@@ -237,7 +237,7 @@ module _ (bytes : ReqId → List ℕ) (born : ℕ) (w : World) (h : Here) (p : P
         let at = moves_at w (Numbers h.me ml xs e) h.me st (led.lease, led.live, led.fresh) refl in
         let all = all_forwarded first.world h.me (n ol) ol first.is refl in record {
           sends = [] ++ all.sends;
-          moved = and_then w h.me (n ol) (n ol) [] all.sends first all.moved (refl, refl);
+          moved = and_then w h.me (n ol) (n ol) [] all.sends first all.moved (refl, refl, refl);
           list = all.list ml.stamp ∙ ap first.world.known.list led.stamp ∙ list ∙ ap (λ ys. ys ++ e ∷ []) led.whole;
           goes = λ t. ⊎_elim
               (λ same. inl (all.list t ∙ same))
@@ -316,8 +316,8 @@ module _ (bytes : ReqId → List ℕ) (born : ℕ) (w : World) (h : Here) (p : P
         let answered_so = answers_one all.moved.world h.me (n ol) ol o all.moved.is refl led.stamp (Contains-append_right ml.waiting (o ∷ []) o (first_contains o [])) (covers known (length xs) (cons_first (length xs) [] (length xs) refl)) in
         let answered = answered_so.moved in
         let closing = closes answered.world h.me (n ol) ol answered.is refl (length xs ∷ []) (covers known) in
-        let then = and_then all.moved.world h.me (n ol) (n closing.lease) (machine.one h.me (Done ml.stamp (length xs) e)) [] answered closing.moved (refl, refl) in
-        let moved = and_then w h.me (n ol) (n closing.lease) all.sends (machine.one h.me (Done ml.stamp (length xs) e) ++ []) all.moved then (refl, refl) in
+        let then = and_then all.moved.world h.me (n ol) (n closing.lease) (machine.one h.me (Done ml.stamp (length xs) e)) [] answered closing.moved (refl, refl, refl) in
+        let moved = and_then w h.me (n ol) (n closing.lease) all.sends (machine.one h.me (Done ml.stamp (length xs) e) ++ []) all.moved then (refl, refl, refl) in
         let g = grows_by w h.me (n closing.lease) (all.sends ++ (machine.one h.me (Done ml.stamp (length xs) e) ++ [])) moved in
         let grown = lease_grown c w.known moved.world.known g l ml led.shows in
         let more = then.grows ml.stamp in
@@ -332,14 +332,14 @@ module _ (bytes : ReqId → List ℕ) (born : ℕ) (w : World) (h : Here) (p : P
             gains = same_promise (w.members h.me) (n closing.lease) refl;
             lists = λ t.
                 let same : moved.world.known.list t ≡ all.moved.world.known.list t =
-                then_list w h.me (n ol) (n closing.lease) all.sends (machine.one h.me (Done ml.stamp (length xs) e) ++ []) all.moved then (refl, refl) t
-                ∙ then_list all.moved.world h.me (n ol) (n closing.lease) (machine.one h.me (Done ml.stamp (length xs) e)) [] answered closing.moved (refl, refl) t
+                then_list w h.me (n ol) (n closing.lease) all.sends (machine.one h.me (Done ml.stamp (length xs) e) ++ []) all.moved then (refl, refl, refl) t
+                ∙ then_list all.moved.world h.me (n ol) (n closing.lease) (machine.one h.me (Done ml.stamp (length xs) e)) [] answered closing.moved (refl, refl, refl) t
                 ∙ closing.list t ∙ answered_so.list t in
                 subst (GoesOn c s (w.known.list t)) (sym same) (goes_on t (all.moved.world.known.list t) (all.goes t));
             numbers = λ t.
                 let same : moved.world.known.list t ≡ all.moved.world.known.list t =
-                then_list w h.me (n ol) (n closing.lease) all.sends (machine.one h.me (Done ml.stamp (length xs) e) ++ []) all.moved then (refl, refl) t
-                ∙ then_list all.moved.world h.me (n ol) (n closing.lease) (machine.one h.me (Done ml.stamp (length xs) e)) [] answered closing.moved (refl, refl) t
+                then_list w h.me (n ol) (n closing.lease) all.sends (machine.one h.me (Done ml.stamp (length xs) e) ++ []) all.moved then (refl, refl, refl) t
+                ∙ then_list all.moved.world h.me (n ol) (n closing.lease) (machine.one h.me (Done ml.stamp (length xs) e)) [] answered closing.moved (refl, refl, refl) t
                 ∙ closing.list t ∙ answered_so.list t in
                 subst (NumbersSo (Edits l.grant.stamp x.req op) c (w.members h.me) (n closing.lease) t (w.known.list t)) (sym same) (numbers_on closing.lease t (all.moved.world.known.list t) (all.goes t));
             shows = numbered_place here op l ml xs x e s led (hears h.me (length xs + 1) l) closing.lease (all.sends ++ (machine.one h.me (Done ml.stamp (length xs) e) ++ [])) moved shown;

@@ -41,7 +41,7 @@ use Rattle.gs_chunk.specs.Machine.{World, WasTold, Epoch, Member}
 use Rattle.gs_member.specs.Showing.{Setting, setting_of, ShowsPlace, BuffersRight}
 use Rattle.gs_member.specs.Telling.{SaysOf, TellsServer, Tells, TellsBody, TellsEpochTo}
 use Rattle.gs_member.specs.Answering.{handle_in, AnswersOf}
-use Rattle.gs_member.specs.Moving.{Follows, IsHere, IsNext, IsShown, IsSteps, MadeIntact, Spares}
+use Rattle.gs_member.specs.Moving.{CarriesMore, Follows, IsHere, IsNext, IsShown, IsSteps, MadeIntact, Spares}
 use Rattle.gs_member.specs.Blocks.{GoesOn}
 use Rattle.gs_member.specs.Causes.{Cause, Calm, Numbers, cause_of, cause_in}
 use Rattle.gs_member.proofs.Lists.{cons_cases, cons_first, cons_more, nil_contains}
@@ -172,6 +172,7 @@ module _ (c : Setting) (chunk : ℕ) (w : World) where
     lists = λ t. subst (λ q. GoesOn c q.slot (w.known.list t) (f.moved.world.known.list t)) (sym place_is) (f.lists t);
     numbers = λ t. subst (λ m. Numbers cause c (w.members me) m t (w.known.list t) (f.moved.world.known.list t)) (sym f.moved.is) (f.numbers t);
     reached = λ j t. ⊎_elim (λ kept. inl kept) (λ (x : (j ≡ me) × (t ≡ f.member.promise) × (is_some f.member.live ≡ true)). inr (x.0, x.1 ∙ ap (λ (m : Member). m.promise) (sym f.moved.is), ap (λ (m : Member). is_some m.live) f.moved.is ∙ x.2)) (f.moved.reached j t);
+    carries = λ e j is. subst (λ (m : Member). CarriesMore w me m e j) (sym f.moved.is) (f.moved.carries e j is);
     intact = λ spared whole. ap (λ (m : Member). m.intact) f.moved.is ∙ f.intact (subst (λ q. Spares cause w.known (w.members me).epoch q.slot) place_is spared) whole;
     gains = subst (λ x. MadeIntact (w.members me) x) (sym f.moved.is) f.gains;
     stays = f.moved.stays;

@@ -14,15 +14,20 @@ use Rattle.gs_server.specs.Runs.{slot_in, IsReached}
 use Rattle.gs_base.specs.declared.epoch.EpochEnd.{EpochEnd}
 use Rattle.gs_chunk.specs.Machine.{Lease, Member, Known, Sent, World, WasTold, Epoch}
 use Rattle.gs_chunk.specs.Events.{Leads}
+use Rattle.gs_chunk.specs.Stamps.{epoch_of}
 use Rattle.gs_member.specs.Showing.{Setting, setting_at, IsLaterOne, LiveIsLater, ShowsPlace, ShowsMember, BuffersRight}
 use Rattle.gs_member.specs.Telling.{Tells}
 use Rattle.gs_member.specs.Answering.{Answers, AnswersOf}
 use Rattle.gs_member.specs.Blocks.{GoesOn}
 use Rattle.gs_member.specs.Causes.{Cause, Calm, spares, Numbers}
 
+-- it was carried before, or this member carries it now
+abbrev pub CarriesMore : World → ℕ → Member → ℕ → ℕ → Type 0
+CarriesMore w me m e j = (w.known.carries e j ≡ true) ⊎ ((j ≡ me) × (e ≡ epoch_of m.promise) × (m.carried ≡ true))
+
 -- Events of one server lead to a world in which it is this member and these messages are sent. No other member changes, and nothing
 -- of the master. What was sent stays so, and lists of views grow at their ends alone. No count that was reached changes but that of this
--- member under its promise, while it has a live replica.
+-- member under its promise, while it has a live replica; and nothing is carried more but by this member, within the epoch of its promise, if it tells so.
 pub record Moved (w : World) (me : ℕ) (m : Member) (sends : List Sent) : Type 0 where
   pub world : World
   pub leads : Leads w world
@@ -33,6 +38,7 @@ pub record Moved (w : World) (me : ℕ) (m : Member) (sends : List Sent) : Type 
   pub how : world.known.how ≡ w.known.how
   pub grows : (t : ℕ) → (more : List Edit) × (world.known.list t ≡ w.known.list t ++ more)
   pub reached : (j t : ℕ) → (world.known.reached j t ≡ w.known.reached j t) ⊎ ((j ≡ me) × (t ≡ m.promise) × (is_some m.live ≡ true))
+  pub carries : (e j : ℕ) → world.known.carries e j ≡ true → CarriesMore w me m e j
   pub stays : (x : Sent) → Contains w.sent x → Contains world.sent x
   pub says : (x : Sent) → Contains sends x → Contains world.sent x
 
@@ -112,6 +118,7 @@ pub record IsSteps (cause : Cause) (c : Setting) (chunk : ℕ) (w : World) (me :
   pub lists : (t : ℕ) → GoesOn c (slot_in chunk after) (w.known.list t) (world.known.list t)
   pub numbers : (t : ℕ) → Numbers cause c (w.members me) (world.members me) t (w.known.list t) (world.known.list t)
   pub reached : (j t : ℕ) → (world.known.reached j t ≡ w.known.reached j t) ⊎ ((j ≡ me) × (t ≡ (world.members me).promise) × (is_some (world.members me).live ≡ true))
+  pub carries : (e j : ℕ) → world.known.carries e j ≡ true → CarriesMore w me (world.members me) e j
   pub intact : Spares cause w.known (w.members me).epoch (slot_in chunk after) → (w.members me).intact ≡ true → (world.members me).intact ≡ true
   pub gains : MadeIntact (w.members me) (world.members me)
   pub stays : (x : Sent) → Contains w.sent x → Contains world.sent x

@@ -1,3 +1,4 @@
+use Rattle.gs_chunk.proofs.Committed.{masters_commit, masters_prepare, masters_stay_calm, members_stood}
 use Rattle.gs_chunk.proofs.Knowing.{masters_forget, masters_keep_prepared, masters_people}
 use Rattle.gs_chunk.proofs.Mastering.{masters_settle_once}
 use Rattle.gs_chunk.proofs.the_master_settles_one_view_at_most.Goals as goal
@@ -13,3 +14,15 @@ returns-clause-people c = masters_people
 
 pub returns-clause-prepared : goal.returns-clause-prepared
 returns-clause-prepared c = masters_keep_prepared
+
+pub returns-clause-calm : goal.returns-clause-calm
+returns-clause-calm c = masters_stay_calm
+
+pub returns-clause-commits : goal.returns-clause-commits
+returns-clause-commits c = masters_commit
+
+pub returns-clause-prepares : goal.returns-clause-prepares
+returns-clause-prepares c = masters_prepare
+
+pub returns-clause-stood : goal.returns-clause-stood
+returns-clause-stood c = members_stood
