@@ -150,31 +150,43 @@ abbrev pub ListsFrom : (List Edit → Type 0) → (chunk : ℕ) (u : State) → 
 ListsFrom P chunk u (Alive b) = (stamp many : ℕ) → P (take many (b.world.known.list stamp))
 ListsFrom P chunk u life = Unit {0}
 
--- Behind some moves each chunk has gone on so, those that are born begin with the edits of old ones, and what is told of copies is so.
-pub record FamilyGoes (whole : ℕ → ℕ → Bool) (s u : State) (messages : List Message) (family : Family s) : Type 0 where
+-- who is told to make one of these chunks, as a copy
+abbrev pub is_kept : (ℕ → Bool) → Body → Bool
+is_kept keeps (bodies.MakeCopy old at new stamp) = keeps new
+is_kept keeps body = true
+
+-- one that is born, and isn't one of these, is born without edits
+abbrev pub BornBare : Bool → (chunk : ℕ) (s u : State) → Life chunk s → Life chunk u → Type 0
+BornBare kept chunk s u (Unborn k) (Alive b) = kept ≡ false → b.reached.0.origin ≡ []
+BornBare kept chunk s u life last = Unit {0}
+
+-- Behind some moves each chunk has gone on so. Of those that are born as copies some are kept: they begin with the edits of old ones, and what is told of copies to them is so. Nobody need
+-- ever hear of the others.
+pub record FamilyGoes (keeps : ℕ → Bool) (whole : ℕ → ℕ → Bool) (s u : State) (messages : List Message) (family : Family s) : Type 0 where
   pub last : Family u
   pub goes : (chunk : ℕ) → Goes chunk (whole chunk) s u messages (family chunk) (last chunk)
   pub origins : (chunk : ℕ) → BornFrom (ComesFrom s family) chunk s u (family chunk) (last chunk)
-  pub copies : AllByRecursion (Copies_of u last) messages
+  pub bare : (chunk : ℕ) → BornBare (keeps chunk) chunk s u (family chunk) (last chunk)
+  pub copies : AllByRecursion (λ (m : Message). is_kept keeps m.body ≡ true → Copies_of u last m) messages
 
 -- So the first edits of each list are none, or those of one of before.
 abbrev pub FamilyLists : Type 0
-FamilyLists = (whole : ℕ → ℕ → Bool) (s u : State) (messages : List Message) (family : Family s) (f : FamilyGoes whole s u messages family) (chunk : ℕ) → ListsFrom (ComesFrom s family) chunk u (f.last chunk)
+FamilyLists = (keeps : ℕ → Bool) (whole : ℕ → ℕ → Bool) (s u : State) (messages : List Message) (family : Family s) (f : FamilyGoes keeps whole s u messages family) (chunk : ℕ) → ListsFrom (ComesFrom s family) chunk u (f.last chunk)
 
 -- So it is over each chain of moves.
 abbrev pub FamiliesGo : Type 0
-FamiliesGo = (whole : ℕ → ℕ → Bool) (config : Config) (heard : Heard) (s : State) (t : Turn) (family : Family s) → ((chunk : ℕ) → Heard_of chunk s heard (family chunk)) → ((chunk : ℕ) → MarksOf chunk s (whole chunk) (family chunk))
-    → Chain config (IsMadeWell config heard) s t → FamilyGoes whole s t.after t.sent family
+FamiliesGo = (keeps : ℕ → Bool) (whole : ℕ → ℕ → Bool) (config : Config) (heard : Heard) (s : State) (t : Turn) (family : Family s) → ((chunk : ℕ) → Heard_of chunk s heard (family chunk)) → ((chunk : ℕ) → MarksOf chunk s (whole chunk) (family chunk))
+    → Chain config (IsMadeWell config heard) s t → FamilyGoes keeps whole s t.after t.sent family
 
 -- So it is of a chain whose records can be written, where what is durable stands at its beginning,
 abbrev pub WrittenFamiliesGo : Type 0
-WrittenFamiliesGo = (whole : ℕ → ℕ → Bool) (config : Config) (heard : Heard) (s : State) (t : Turn) (family : Family s) → ((chunk : ℕ) → Heard_of chunk s heard (family chunk)) → ((chunk : ℕ) → MarksOf chunk s (whole chunk) (family chunk))
-    → IsKept s.durable → IsWritten t → Chain config (IsMade config heard) s t → FamilyGoes whole s t.after t.sent family
+WrittenFamiliesGo = (keeps : ℕ → Bool) (whole : ℕ → ℕ → Bool) (config : Config) (heard : Heard) (s : State) (t : Turn) (family : Family s) → ((chunk : ℕ) → Heard_of chunk s heard (family chunk)) → ((chunk : ℕ) → MarksOf chunk s (whole chunk) (family chunk))
+    → IsKept s.durable → IsWritten t → Chain config (IsMade config heard) s t → FamilyGoes keeps whole s t.after t.sent family
 
 -- and where the master is started again on the first of its records, or on all.
 abbrev pub FamiliesCut : Type 0
-FamiliesCut = (whole : ℕ → ℕ → Bool) (config : Config) (heard : Heard) (s : State) (t : Turn) (many : ℕ) (d : Durable) (log : Log) (family : Family s) → ((chunk : ℕ) → Heard_of chunk s heard (family chunk)) → ((chunk : ℕ) → MarksOf chunk s (whole chunk) (family chunk))
-    → IsKept s.durable → IsWritten t → Chain config (IsMade config heard) s t → many ≤ length t.records → replayed s.durable (take many t.records) ≡ Some d → FamilyGoes whole s (restarted d log) [] family
+FamiliesCut = (keeps : ℕ → Bool) (whole : ℕ → ℕ → Bool) (config : Config) (heard : Heard) (s : State) (t : Turn) (many : ℕ) (d : Durable) (log : Log) (family : Family s) → ((chunk : ℕ) → Heard_of chunk s heard (family chunk)) → ((chunk : ℕ) → MarksOf chunk s (whole chunk) (family chunk))
+    → IsKept s.durable → IsWritten t → Chain config (IsMade config heard) s t → many ≤ length t.records → replayed s.durable (take many t.records) ≡ Some d → FamilyGoes keeps whole s (restarted d log) [] family
 
 -- In a new store no chunk is born.
 abbrev pub StartsUnborn : Type 0

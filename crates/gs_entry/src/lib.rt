@@ -5,6 +5,8 @@ ghost use Rattle.gs_entry.specs.Bearing.{ChainsGoUnborn, EventsCutGoUnborn, Even
 ghost use Rattle.gs_entry.specs.Births.{CopiesAreBirths, MakesAreBirths, ProposalsAreBirths};
 ghost use Rattle.gs_entry.specs.Families.{FamiliesCut, FamiliesGo, FamilyLists, StartsUnborn, WrittenFamiliesGo};
 ghost use Rattle.gs_entry.specs.Laws.{RestartsReach};
+ghost use Rattle.gs_entry.specs.Locating.{KeptAreLookedUp, MovesLocate, SentAreLookedUp, SettledStay};
+ghost use Rattle.gs_entry.specs.Rows.{FamiliesGoByRows};
 ghost use Rattle.gs_entry.specs.Unborn.{EachMoveGoesUnborn, RestartsUnborn};
 ghost use Rattle.gs_entry.specs.Chains.{ChainsFollow, CutsFollow, EventsCutFollow, EventsFollow, FirstViewTells, MastersLeave, MovesFollow, PartsFollow, RestartsFollow, TicksFollow, ViewsTellLists, WrittenChainsFollow, MastersSpare};
 
@@ -78,4 +80,23 @@ pub fn all_chunks_go_on_together()
     ensures written { WrittenFamiliesGo }
     ensures cut { FamiliesCut }
     ensures start { StartsUnborn }
+{}
+
+/// So it is over each turn of the master that ends one epoch at most, with what the rows that it keeps tell of each chunk: a view that appears is a later one, and where a rollback is
+/// committed each view that it gives back is told, and no other. Each chunk that is copied was known before, and is copied under a view that stood then, or was settled since.
+pub fn all_chunks_go_on_by_their_rows()
+    ensures { FamiliesGoByRows }
+{}
+
+/// A chunk that a file has, and that is settled with no other view proposed, is settled on the same view behind a chain of moves of which none is alone.
+pub fn what_is_settled_stays_within_a_turn()
+    ensures { SettledStay }
+{}
+
+/// Where a move tells a client that a chunk is on a view, so it is still behind its turn, as what is durable there tells: a file has the chunk, or had it, this is its settled view, and this the epoch; and nothing
+/// is rolled back. So it is of each such reply that a turn keeps or sends, if it wasn't kept before.
+pub fn what_is_told_of_a_chunk_is_so_behind_the_turn()
+    ensures moves { MovesLocate }
+    ensures kept { KeptAreLookedUp }
+    ensures sent { SentAreLookedUp }
 {}
