@@ -24,22 +24,19 @@ module _ (list : Lists) (copied : Option (ℕ × Stamp)) (chunk : ℕ) (b : Birt
   none_begin : (edits : List Edit) → edits ≡ [] → BeginsList list copied chunk edits
   none_begin edits none = record { source = chunk; stamp = stamp_at 0; own = inl refl; behind = list chunk (stamp_at 0); beginning = sym (ap (λ (xs : List Edit). xs ++ list chunk (stamp_at 0)) none) }
 
-  of_origin : (me : ℕ) → 0 < (w.members me).promise → (edits rest : List Edit) → b.origin ≡ edits ++ rest → BeginsList list copied chunk edits
-  of_origin me promised edits rest is = elim shows.origin [
-    | inl none ↦ absurd (let none_of_it = none me in omega arith)
-    | inr same ↦ of_copied copied refl same
-  ]
+  of_origin : (edits rest : List Edit) → b.origin ≡ edits ++ rest → BeginsList list copied chunk edits
+  of_origin edits rest is = of_copied copied refl shows.origin
     where
       of_copied : (o : Option (ℕ × Stamp)) → copied ≡ o → edits_copied list o ≡ b.origin → BeginsList list copied chunk edits
       of_copied None at none = none_begin edits (no_front edits rest (sym is ∙ sym none))
       of_copied (Some source) at same = record { source = source.0; stamp = source.1; own = inr at; behind = rest; beginning = same ∙ is }
 
   -- a view that is unseen begins as a lower one
-  of_list : (me : ℕ) → 0 < (w.members me).promise → (n t : ℕ) → t < n → (edits rest : List Edit) → w.known.list t ≡ edits ++ rest → BeginsList list copied chunk edits
-  of_list me promised zero t below edits rest is = absurd (omega arith)
-  of_list me promised (suc n) t below edits rest is = elim (lists_of_views b w leads t) [
-    | inl (stood, behind) ↦ by_own (shows.own t stood behind) (of_list me promised n)
-    | inr (inl first) ↦ of_origin me promised edits rest (sym first ∙ is)
+  of_list : (n t : ℕ) → t < n → (edits rest : List Edit) → w.known.list t ≡ edits ++ rest → BeginsList list copied chunk edits
+  of_list zero t below edits rest is = absurd (omega arith)
+  of_list (suc n) t below edits rest is = elim (lists_of_views b w leads t) [
+    | inl (stood, behind) ↦ by_own (shows.own t stood behind) (of_list n)
+    | inr (inl first) ↦ of_origin edits rest (sym first ∙ is)
     | inr (inr none) ↦ none_begin edits (no_front edits rest (sym is ∙ none))
   ]
     where
@@ -55,7 +52,7 @@ module _ (list : Lists) (copied : Option (ℕ × Stamp)) (chunk : ℕ) (b : Birt
 
 -- the first edits of a list, where a server has promised a stamp
 pub list_begins : (list : Lists) (copied : Option (ℕ × Stamp)) (chunk : ℕ) (b : Birth) (w : World) (me t : ℕ) (edits rest : List Edit) → Leads (world_of b) w → ListsShow list copied chunk b w → 0 < (w.members me).promise → w.known.list t ≡ edits ++ rest → BeginsList list copied chunk edits
-list_begins list copied chunk b w me t edits rest leads shows promised is = of_list list copied chunk b w leads shows me promised (t + 1) t (omega arith) edits rest is
+list_begins list copied chunk b w me t edits rest leads shows promised is = of_list list copied chunk b w leads shows (t + 1) t (omega arith) edits rest is
 
 -- the edits of a live replica
 pub replica_begins : (list : Lists) (copied : Option (ℕ × Stamp)) (chunk : ℕ) (b : Birth) (w : World) (me : ℕ) (edits : List Edit) → Leads (world_of b) w → ListsShow list copied chunk b w → 0 < (w.members me).promise → (w.members me).live ≡ Some edits

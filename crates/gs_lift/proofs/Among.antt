@@ -90,7 +90,7 @@ lists_by seen config bytes born chunk step old new w v (AtServer x) = inr (
   λ t. subst (λ (u : World). GoesOn (setting config bytes born) (slot_in chunk x.after) (w.known.list t) (u.known.list t)) (sym x.world) (x.steps.lists t),
 )
 lists_by seen config bytes born chunk step old new w v (AtMaster x) = inl (masters_leave w v x.leads x.masters).lists
-lists_by seen config bytes born chunk step old new w v (Elsewhere same servers master) = inl (subst (λ u. ListsAreOld w u) (sym same) (old_itself w))
+lists_by seen config bytes born chunk step old new w v (Elsewhere same servers master by messages moment are posted) = inl (subst (λ u. ListsAreOld w u) (sym same) (old_itself w))
 
 pub texts_then : {D : Type 0} (seen : D → List ℕ) (config : Config) (bytes : ReqId → List ℕ) (among : List ℕ → Bool) (born chunk : ℕ) (step : Step) (old new : History D) (w v : World) → GoesBy seen config bytes born chunk step old new w v
     → AllAmong among config.block chunk new.nodes.servers → TextsAmong among config.block config.chunk w → TextsAmong among config.block config.chunk v

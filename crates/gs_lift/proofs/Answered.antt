@@ -44,7 +44,7 @@ use Rattle.gs_member.proofs.Lists.{all_flat}
 use Rattle.gs_member.proofs.Reading.{answers_on}
 use Rattle.gs_lift.specs.Saying.{AreOfClient, AreOfMaster, IsOfClient, IsOfMaster}
 use Rattle.gs_run.specs.Runs.{Step}
-use Rattle.gs_lift.specs.Going.{AllSent, Beats, Damages, Hears, Kind, Loses, MasterGoes, OfMaster, OfServer, Posts, Restarts, ServerGoes, Ticks, about_of, heard_in}
+use Rattle.gs_lift.specs.Going.{AllSent, Beats, Damages, Hears, Kind, Loses, OfMaster, OfServer, Posts, Restarts, ServerGoes, Ticks, about_of, heard_in}
 use Rattle.gs_lift.specs.Going as going
 use Rattle.gs_lift.specs.Joint.{AtMaster, AtServer, Elsewhere, GoesBy, heard_by}
 use Rattle.gs_lift.specs.Living.{GoesOn}
@@ -229,7 +229,7 @@ module _ {D : Type 0} (seen : D → List ℕ) (failures : D → ℕ) (armed : Di
       heard_done (AtServer by) about = posted_all IsDone by.moment (nodes.Server by.id) by.messages old.sent new.sent by.posted first
           (all_done by.steps.world by.id by.messages by.world (yeses_asked asked old.sent by.id by.server by.after by.messages by.goes chunk one (waits by.id by.server by.found) about) (subst (λ o. AllByRecursion (AnswersOf (setting config bytes a.reached.0.epoch) chunk by.steps.world by.id o) by.messages) about by.steps.answers))
       heard_done (AtMaster by) about = absurd (cc)
-      heard_done (Elsewhere still servers master) about = absurd (cc)
+      heard_done (Elsewhere still servers master by said moment are sent) about = absurd (cc)
 
     -- whatever a server hears about
     server_done : (id : ℕ) (s after : Server) (messages : List Message) (moment : Moment) (goes : ServerGoes old.sent id s after messages) → slice_get old.nodes.servers id ≡ Some s → Posts moment (nodes.Server id) messages old.sent new.sent

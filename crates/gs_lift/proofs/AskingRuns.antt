@@ -29,6 +29,8 @@ use Rattle.gs_member.proofs.Lists.{cons_first, nil_contains}
 use Rattle.gs_member.proofs.Requests.{all_of_one_edit, clients_ask, clients_go_on, has_asked_nothing, sent_still}
 use Rattle.gs_lift.specs.Saying.{AreOfMaster, PushRight}
 use Rattle.gs_lift.specs.Going.{AllSent, MasterGoes}
+use Rattle.gs_moves.proofs.Fitting.{once_chain}
+use Rattle.gs_moves.specs.Laws.{IsMadeWell}
 use Rattle.gs_lift.specs.Doing.{Arms, Does, Moves, Refuses, Starts, Waits}
 use Rattle.gs_lift.specs.Asking.{AreAskedIn, AreAskedOver, AskMore, AskOn, StayAsked, client_at}
 use Rattle.gs_lift.proofs.AskingClients.{Asks, ClientsGo, GoesOn, NoRequests, Rest, clients_go, of_master}
@@ -46,8 +48,8 @@ refused_says (Some req) = (tt, tt)
 
 module _ {D : Type 0} (seen : D → List ℕ) (armed : DiskId → ℕ → MasterPlace D → MasterPlace D) (sent : Sent) (old new : MasterPlace D) (messages : List Message) where
   pub does_say : Does seen armed sent old new messages → AreOfMaster messages
-  does_say (Moves m after heard t was is hears chain state sends) = subst AreOfMaster (sym sends) (chain_of_master m.config heard m.state t chain)
-  does_say (Starts config d log after t has kept counters is chain state sends) = subst AreOfMaster (sym sends) (chain_of_master config None (restarted d log) t chain)
+  does_say (Moves m after heard t was is hears chain state sends) = subst AreOfMaster (sym sends) (chain_of_master m.config heard m.state t (once_chain m.config (IsMadeWell m.config heard) m.state t chain))
+  does_say (Starts config d log after t has kept counters is chain state sends) = subst AreOfMaster (sym sends) (chain_of_master config None (restarted d log) t (once_chain config (IsMadeWell config None) (restarted d log) t chain))
   does_say (Waits d first second has kept counters is told none) = subst AreOfMaster (sym none) tt
   does_say (Refuses caller still sends) = subst AreOfMaster (sym sends) (refused_says caller)
   does_say (Arms disk call is none) = subst AreOfMaster (sym none) tt

@@ -22,11 +22,13 @@ use Rattle.gs_msg.specs.declared.outbox.Post.{Post}
 use Rattle.gs_server.specs.Servers.{Server}
 use Rattle.gs_server.specs.Servers as servers
 use Rattle.gs_state.specs.Durable.{is_given, start}
+use Rattle.gs_state.specs.Handling.{restarted}
 use Rattle.gs_state.specs.State.{Log, State}
 use Rattle.gs_store.specs.Stores.{or_nothing}
 use Rattle.gs_world.specs.Happenings.{Opens}
 use Rattle.gs_world.specs.Nodes.{Nodes, silent_servers}
 use Rattle.gs_world.specs.declared.place.MasterPlace.{MasterPlace}
+use Rattle.gs_world.specs.declared.place.MasterPlace.TheVariants.{Standing}
 use Rattle.gs_run.specs.Histories.{Begins, History}
 use Rattle.gs_run.specs.Lasting.{IsToldIn, Lasts, OpensAs}
 use Rattle.gs_run.proofs.Lasting.{begins_firm, opens_told}
@@ -103,7 +105,7 @@ none_of P many clients id m is = absurd (by_sender id.sender is)
 
 -- ---- the master
 
-not_given : (chunk : ℕ) → is_given 1 chunk ≡ false
+pub not_given : (chunk : ℕ) → is_given 1 chunk ≡ false
 not_given chunk = by_case (is_given 1 chunk) refl
   where
     by_case : (b : Bool) → is_given 1 chunk ≡ b → b ≡ false
@@ -124,6 +126,28 @@ start_kept = let firm = starts_firm no_log in (firm.stands.kept, firm.stands.cou
 
 fresh_tells : IsToldIn fresh start
 fresh_tells = record { entries = []; records = refl; are_entries = tt; replays = refl }
+
+-- a new store's master stands with what it begins with
+pub begins_told : {D : Type 0} (seen : D → List ℕ) (failures : D → ℕ) (armed : DiskId → ℕ → MasterPlace D → MasterPlace D) (config : Config) (clients : ℕ) (disks : D × D) (new : History D)
+    → standing (seen disks.0) (seen disks.1) ≡ fresh → Begins seen failures armed config clients disks new → OpensAs seen start new.nodes.master
+begins_told {D} seen failures armed config clients disks new none begun =
+    subst (λ (n : Nodes D). OpensAs seen start n.master) (sym begun.nodes)
+    (opens_told seen failures config disks.0 disks.1 start begun.turn begun.place start_kept.0 start_kept.1 (subst (λ (t : Text). IsToldIn t start) (sym none) fresh_tells) begun.opens)
+
+-- it keeps nothing in memory
+pub begins_restarted : {D : Type 0} (seen : D → List ℕ) (failures : D → ℕ) (armed : DiskId → ℕ → MasterPlace D → MasterPlace D) (config : Config) (clients : ℕ) (disks : D × D) (new : History D)
+    → standing (seen disks.0) (seen disks.1) ≡ fresh → Begins seen failures armed config clients disks new → (log : Log) × (after : MasterOf D) × (new.nodes.master ≡ Standing after) × (after.state ≡ restarted start log)
+begins_restarted {D} seen failures armed config clients disks new none begun = by_opening begun.opens
+  where
+    told : IsToldIn (standing (seen disks.0) (seen disks.1)) start
+    told = subst (λ (t : Text). IsToldIn t start) (sym none) fresh_tells
+
+    by_opening : (opens : Opens seen failures config disks (Ok begun.turn) begun.place) → (log : Log) × (after : MasterOf D) × (new.nodes.master ≡ Standing after) × (after.state ≡ restarted start log)
+    by_opening (after, is, opened, said) =
+        let found : OpensAs seen start begun.place = opens_told seen failures config disks.0 disks.1 start begun.turn begun.place start_kept.0 start_kept.1 told (after, is, opened, said) in
+        let same = standing_is found.0 after (sym found.1 ∙ is) in
+        let x = started seen failures config disks.0 disks.1 start after begun.turn.sent.items told (subst (λ (m : MasterOf D). m.state.durable ≡ start) same found.2) opened in
+        (x.log, after, ap (λ (n : Nodes D). n.master) begun.nodes ∙ is, x.state)
 
 -- and it has said nothing then
 pub begins_silent : {D : Type 0} (seen : D → List ℕ) (failures : D → ℕ) (armed : DiskId → ℕ → MasterPlace D → MasterPlace D) (config : Config) (clients : ℕ) (disks : D × D) (new : History D)
@@ -178,7 +202,7 @@ module _ {D : Type 0} (seen : D → List ℕ) (failures : D → ℕ) (armed : Di
           }
 
   -- it has said nothing
-  begins_none : (P : Message → Type 0) → AllSent P new.sent
+  pub begins_none : (P : Message → Type 0) → AllSent P new.sent
   begins_none P = posted_all P (record { 0 = 0 }) ids.Master begun.turn.sent.items (none_sent config.servers clients) new.sent (inl begun.sent) (none_of P config.servers clients)
       (subst (AllByRecursion P) (sym (begins_silent seen failures armed config clients disks new none begun)) tt)
 

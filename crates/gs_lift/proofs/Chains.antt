@@ -1,4 +1,4 @@
--- All chunks of a store at once, where the master makes a chain of moves: each goes on, is born, or isn't born yet.
+-- All chunks of a store at once, where the master makes a turn of moves: each goes on, is born, or isn't born yet.
 use Rattle.std.proofs.Common.{◌≡◌, ◌∙◌, ◌&&◌, ◌||◌, ◌<◌, ◌≤◌, ◌⊎◌, ℕ, take, Bool, true, false, List, [], ◌∷◌, length, Option, Some, None, refl, sym, ap, subst, inl, inr, slice_get, arith}
 use Rattle.std.specs.Prelude.{Contains, is_some}
 use Rattle.std.specs.List.{AllByRecursion}
@@ -19,7 +19,7 @@ use Rattle.gs_msg.specs.declared.node.NodeId.TheVariants as ids
 use Rattle.gs_replica.specs.Stands.{Edit, replica_of}
 use Rattle.gs_server.specs.Places.{Place}
 use Rattle.gs_server.specs.Servers.{Server}
-use Rattle.gs_state.specs.Durable.{Durable}
+use Rattle.gs_state.specs.Durable.{Durable, is_given}
 use Rattle.gs_state.specs.Handling.{restarted}
 use Rattle.gs_state.specs.State.{Log, State, Turn}
 use Rattle.gs_store.specs.Slots.{sealed_of}
@@ -34,23 +34,29 @@ use Rattle.gs_chunk.specs.Laws.{Birth}
 use Rattle.gs_chunk.specs.Mastering.{AreOfMaster}
 use Rattle.gs_member.specs.Showing.{Setting}
 use Rattle.gs_member.specs.Telling.{Tells}
-use Rattle.gs_entry.specs.Families.{ComesFrom, Copies_of, CopiesTo as CopiesThere, FamilyGoes, Heard_of, IsCopiedTo, IsCopyOf, ListsFrom, MarksOf}
+use Rattle.gs_entry.specs.Families.{ComesFrom, Copies_of, CopiesTo as CopiesThere, FamilyGoes, Heard_of, IsCopiedTo, IsCopyOf, ListsFrom, MarksOf, is_kept}
 use Rattle.gs_entry.specs.Families as families
-use Rattle.gs_entry.specs.Laws.{Reaches}
+use Rattle.gs_entry.specs.Laws.{Reaches, StaysKnownSo}
+use Rattle.gs_entry.specs.Rows.{AreCopiedSince, FamilyRows, RowsIn}
 use Rattle.gs_entry.specs.Telling.{IsSameMember, Marks, Says, Shows}
 use Rattle.gs_entry.specs.Telling as entry
 use Rattle.gs_entry.specs.Unborn as unborn
-use Rattle.gs_entry.proofs.Families.{families_go, family_lists}
+use Rattle.gs_entry.proofs.Families.{family_lists}
+use Rattle.gs_entry.proofs.Rows.{families_go_by_rows}
 use Rattle.gs_entry.proofs.Leading.{masters_leave}
 use Rattle.gs_entry.proofs.Restarting.{restarts_reach}
 use Rattle.gs_entry.proofs.Sending.{heard_more, leads_on, masters_on}
 use Rattle.gs_entry.proofs.Unborn.{restarts_unborn}
 use Rattle.gs_moves.specs.Asked.{WasHeard}
-use Rattle.gs_moves.specs.Guards.{Heard}
+use Rattle.gs_moves.specs.Guards.{Heard, IsMade}
 use Rattle.gs_moves.specs.Laws.{IsMadeWell}
 use Rattle.gs_moves.specs.Moves.{Chain}
+use Rattle.gs_moves.specs.Epochs.{EndsOnce}
+use Rattle.gs_moves.proofs.Fitting.{mapped, once_chain}
+use Rattle.gs_moves.proofs.Rows.{copies_are_new}
 use Rattle.gs_run.specs.Runs.{Step}
 use Rattle.gs_lift.specs.Among.{TextsAmong}
+use Rattle.gs_lift.specs.Copying.{MakesOther, is_copied}
 use Rattle.gs_lift.specs.Doing.{HasDurable, IsHeardIn}
 use Rattle.gs_lift.specs.Going.{AllSent, Posts}
 use Rattle.gs_lift.specs.Joint.{AtMaster}
@@ -62,14 +68,16 @@ use Rattle.gs_lift.proofs.Among.{old_among}
 use Rattle.gs_lift.proofs.Births.{all_before, born_shown, heard_silent, stays_unborn}
 use Rattle.gs_lift.proofs.Durable.{durable_shown, kept_there, unknown_on}
 use Rattle.gs_lift.proofs.Joint.{all_of_master, body_grown, chain_of_master}
-use Rattle.gs_lift.proofs.Living.{AllNext, copies_then}
+use Rattle.gs_lift.proofs.Living.{AllNext, copies_there}
 use Rattle.gs_lift.proofs.Machines.{reached_then}
 use Rattle.gs_lift.proofs.Mastering.{heard_so, marks_live, members_then}
-use Rattle.gs_lift.proofs.Posting.{posted_all, sent_then}
+use Rattle.gs_lift.proofs.Copying.{copied_there, makes_others}
+use Rattle.gs_lift.proofs.Posting.{HasSaid, posted_all, sent_then}
+use Rattle.gs_lift.proofs.Rowing.{copies_readied, rows_readied}
 use Rattle.gs_lift.proofs.Reopening.{none_asked}
 
 module _ {D : Type 0} (seen : D → List ℕ) (config : Config) (bytes : ReqId → List ℕ) (among : List ℕ → Bool) (step : Step) (about : Option ℕ) (old new : History D) (lives : StoreLives seen config bytes among old) where
-  abbrev Lives : ℕ → History D → Type 0
+  abbrev pub Lives : ℕ → History D → Type 0
   Lives = Life seen config bytes
 
   -- ---- where the chain begins
@@ -80,10 +88,11 @@ module _ {D : Type 0} (seen : D → List ℕ) (config : Config) (bytes : ReqId �
     pub masters : AreOfMaster a.world c.world leads
     pub members : c.world.members ≡ a.world.members
     pub epoch : c.world.entry.epoch ≡ a.world.entry.epoch
+    pub known : StaysKnownSo a.world c.world
     pub stays : (x : machine.Sent) → Contains a.world.sent x → Contains c.world.sent x
     pub same : c.reached.0 ≡ a.reached.0
 
-  abbrev Linked : (chunk : ℕ) (s : State) → Lives chunk old → families.Life chunk s → Type 0
+  abbrev pub Linked : (chunk : ℕ) (s : State) → Lives chunk old → families.Life chunk s → Type 0
   Linked chunk s (inl first) (families.Unborn c) = first.epoch ≤ s.durable.epoch
   Linked chunk s (inr a) (families.Alive c) = Readied chunk s a c
   Linked chunk s life c = ⊥
@@ -97,7 +106,7 @@ module _ {D : Type 0} (seen : D → List ℕ) (config : Config) (bytes : ReqId �
   begun_standing m at chunk (inl first) = let x = subst (IsUnknown seen chunk first.epoch) at first.master in record { there = families.Unborn x.0; linked = x.1 }
   begun_standing m at chunk (inr a) = record {
     there = families.Alive (record { world = a.world; reached = a.reached; shows = subst (λ place. ShowsMaster seen chunk place a.world) at a.shows.master });
-    linked = record { leads = events.Rests; masters = tt; members = refl; epoch = refl; stays = λ x there. there; same = refl };
+    linked = record { leads = events.Rests; masters = tt; members = refl; epoch = refl; known = record { born = refl; view = refl; top = refl; current = refl; stood = refl; came = λ known. known }; stays = λ x there. there; same = refl };
   }
 
   -- it is started again on what is durable
@@ -109,20 +118,14 @@ module _ {D : Type 0} (seen : D → List ℕ) (config : Config) (bytes : ReqId �
       let r : Reaches chunk a.world (restarted d log) = restarts_reach chunk d log a.world kept (durable_shown seen chunk a.world old.nodes.master d had a.shows.master) in
       record {
         there = families.Alive (record { world = r.world; reached = reached_then a.world a.reached r.world r.leads; shows = record { entry = r.shows; said = none_asked (Says chunk r.world) d log chunk } });
-        linked = record { leads = r.leads; masters = r.masters; members = r.members; epoch = r.epoch; stays = λ x there. subst (λ ys. Contains ys x) (sym r.sent) there; same = refl };
+        linked = record { leads = r.leads; masters = r.masters; members = r.members; epoch = r.epoch; known = r.known; stays = λ x there. subst (λ ys. Contains ys x) (sym r.sent) there; same = refl };
       }
 
-  -- ---- the chain
+  -- ---- what is heard, and who is marked
 
-  module _ (quiet : None ≡ about) (empty : HasBlocks config.block among (replica_of config.chunk []).bytes) (right : AllSent (PushRight bytes) new.sent)
-      (moment : Moment) (messages : List Message) (servers : new.nodes.servers ≡ old.nodes.servers) (posted : Posts moment ids.Master messages old.sent new.sent)
-      (s : State) (had : HasDurable seen old.nodes.master s.durable) (begun : (chunk : ℕ) → Begun chunk s (lives.life chunk)) (by_config : Config) (heard : Heard) (t : Turn) (chain : Chain by_config (IsMadeWell by_config heard) s t) (was : IsHeardIn old.sent heard)
-      (m : MasterOf D) (master : new.nodes.master ≡ Standing m) (lasts : Lasts seen new.nodes.master) (state : m.state ≡ t.after) (sends : messages ≡ t.sent) where
-    abbrev whole : ℕ → ℕ → Bool
-    whole chunk = whole_in t.after.durable chunk old.nodes.servers
-
-    -- what is heard was said in each machine
-    heard_of : (chunk : ℕ) (life : Lives chunk old) (c : families.Life chunk s) → Linked chunk s life c → Heard_of chunk s heard c
+  -- what is heard was said in each machine
+  module _ (s : State) (heard : Heard) (was : IsHeardIn old.sent heard) where
+    pub heard_of : (chunk : ℕ) (life : Lives chunk old) (c : families.Life chunk s) → Linked chunk s life c → Heard_of chunk s heard c
     heard_of chunk (inl first) (families.Unborn c) linked = by_heard was
       where
         by_heard : IsHeardIn old.sent heard → WasHeard (Says chunk unborn.silent) heard
@@ -135,22 +138,43 @@ module _ {D : Type 0} (seen : D → List ℕ) (config : Config) (bytes : ReqId �
         by_heard (inr (message, sent, is)) = subst (WasHeard (Says chunk a.world)) (sym is) (heard_so config bytes a.reached.0.epoch chunk seen old a.world a.reached a.shows message sent)
     heard_of chunk life c linked = absurd linked
 
+  -- those servers are marked that are whole, behind a prepare at which this is durable
+  module _ (s : State) (d : Durable) where
     -- of a chunk that isn't born no server is whole
-    none_whole : (chunk : ℕ) (first : IsUnborn seen chunk old) (j : ℕ) (o : Option Server) → slice_get old.nodes.servers j ≡ o → is_whole_there t.after.durable chunk o ≡ false
+    none_whole : (chunk : ℕ) (first : IsUnborn seen chunk old) (j : ℕ) (o : Option Server) → slice_get old.nodes.servers j ≡ o → is_whole_there d chunk o ≡ false
     none_whole chunk first j None found = refl
-    none_whole chunk first j (Some x) found = ap (λ (p : Place). is_live_whole p.slot.live && (is_seal_whole (sealed_of p.slot) || is_over t.after.durable x.kept.epoch)) (first.servers j x found).0
+    none_whole chunk first j (Some x) found = ap (λ (p : Place). is_live_whole p.slot.live && (is_seal_whole (sealed_of p.slot) || is_over d x.kept.epoch)) (first.servers j x found).0
 
-    marks_of : (chunk : ℕ) (life : Lives chunk old) (c : families.Life chunk s) → Linked chunk s life c → MarksOf chunk s (whole chunk) c
+    pub marks_of : (chunk : ℕ) (life : Lives chunk old) (c : families.Life chunk s) → Linked chunk s life c → MarksOf chunk s (whole_in d chunk old.nodes.servers) c
     marks_of chunk (inl first) (families.Unborn c) linked = λ j. none_whole chunk first j (slice_get old.nodes.servers j) refl
     marks_of chunk (inr a) (families.Alive c) linked = λ j is.
-        subst (λ (f : ℕ → Member). is_some (f j).live ≡ true) (sym linked.members) (marks_live config bytes a.reached.0.epoch chunk seen old a.world a.reached a.shows t.after.durable j is)
+        subst (λ (f : ℕ → Member). is_some (f j).live ≡ true) (sym linked.members) (marks_live config bytes a.reached.0.epoch chunk seen old a.world a.reached a.shows d j is)
     marks_of chunk life c linked = absurd linked
+
+  -- ---- the chain
+
+  module _ (quiet : None ≡ about) (empty : HasBlocks config.block among (replica_of config.chunk []).bytes) (right : AllSent (PushRight bytes) new.sent)
+      (moment : Moment) (messages : List Message) (servers : new.nodes.servers ≡ old.nodes.servers) (posted : Posts moment ids.Master messages old.sent new.sent)
+      (s : State) (had : HasDurable seen old.nodes.master s.durable) (begun : (chunk : ℕ) → Begun chunk s (lives.life chunk)) (by_config : Config) (heard : Heard) (t : Turn) (turn : EndsOnce by_config (IsMadeWell by_config heard) s t) (was : IsHeardIn old.sent heard)
+      (m : MasterOf D) (master : new.nodes.master ≡ Standing m) (lasts : Lasts seen new.nodes.master) (state : m.state ≡ t.after) (sends : messages ≡ t.sent) where
+    abbrev whole : ℕ → ℕ → Bool
+    whole chunk = whole_in t.after.durable chunk old.nodes.servers
+
+    -- those of which a server is told
+    abbrev keeps : ℕ → Bool
+    keeps chunk = is_copied new.sent chunk
+
+    chain : Chain by_config (IsMadeWell by_config heard) s t
+    chain = once_chain by_config (IsMadeWell by_config heard) s t turn
 
     abbrev family : families.Family s
     family chunk = (begun chunk).there
 
-    abbrev f : FamilyGoes whole s t.after t.sent family
-    f = families_go whole by_config heard s t family (λ chunk. heard_of chunk (lives.life chunk) (family chunk) (begun chunk).linked) (λ chunk. marks_of chunk (lives.life chunk) (family chunk) (begun chunk).linked) chain
+    by_rows : FamilyRows keeps whole s t.after t.sent family
+    by_rows = families_go_by_rows keeps whole by_config heard s t family (λ chunk. heard_of s heard was chunk (lives.life chunk) (family chunk) (begun chunk).linked) (λ chunk. marks_of s t.after.durable chunk (lives.life chunk) (family chunk) (begun chunk).linked) turn
+
+    abbrev f : FamilyGoes keeps whole s t.after t.sent family
+    f = by_rows.goes
 
     -- ---- one chunk behind it
 
@@ -168,8 +192,8 @@ module _ {D : Type 0} (seen : D → List ℕ) (config : Config) (bytes : ReqId �
     has = subst (λ place. HasDurable seen place t.after.durable) (sym master) (ap (λ (x : State). x.durable) state)
 
     -- a machine goes on
-    alive_then : (chunk : ℕ) (a : IsAlive seen config bytes chunk old) (c : families.IsAlive chunk s) (d : families.IsAlive chunk t.after) → Readied chunk s a c → families.GoesAlive chunk (whole chunk) s t.after t.sent c d → Then chunk (inr a) (families.Alive d)
-    alive_then chunk a c d ready goes = record {
+    alive_then : (chunk : ℕ) (a : IsAlive seen config bytes chunk old) (c : families.IsAlive chunk s) (d : families.IsAlive chunk t.after) → Readied chunk s a c → families.GoesAlive chunk (whole chunk) s t.after t.sent c d → RowsIn chunk s t.after t.sent (families.Alive c) (families.Alive d) → Then chunk (inr a) (families.Alive d)
+    alive_then chunk a c d ready goes rows = record {
       last = (inr (record { world = d.world; reached = d.reached; shows = subst (λ (b : Birth). ShowsStore seen config bytes b.epoch chunk new d.world) (sym same) shown }));
       goes = record {
         same = same;
@@ -187,7 +211,12 @@ module _ {D : Type 0} (seen : D → List ℕ) (config : Config) (bytes : ReqId �
           marks = marks;
           servers = servers;
           kept = kept_there seen new.nodes.master t.after.durable lasts has;
+          rows = rows_readied chunk s.durable t.after.durable a.world c.world d.world ready.known ready.epoch rows.0;
           messages = messages;
+          copies = subst (AreCopiedSince chunk t.after.durable a.world.known.view a.world.entry.is_known d.world) (sym sends)
+              (copies_readied chunk t.after.durable a.world.known.view c.world.entry.is_known a.world.entry.is_known d.world ready.known.came t.sent
+              (subst (λ low. AreCopiedSince chunk t.after.durable low c.world.entry.is_known d.world t.sent) ready.known.view rows.1));
+          others = subst (AllByRecursion (λ (message : Message). MakesOther chunk message.body)) (sym sends) (makes_others chunk s.durable.next_handle given t.sent (copies_are_new by_config heard s t (mapped by_config (IsMadeWell by_config heard) (IsMade by_config heard) (λ u move well. well.made) s t chain)));
           moment = moment;
           posted = posted;
         });
@@ -198,6 +227,9 @@ module _ {D : Type 0} (seen : D → List ℕ) (config : Config) (bytes : ReqId �
       where
         same : d.reached.0 ≡ a.reached.0
         same = goes.same ∙ ready.same
+
+        given : is_given s.durable.next_handle chunk ≡ true
+        given = (durable_shown seen chunk a.world old.nodes.master s.durable had a.shows.master).given
 
         leads : Leads a.world d.world
         leads = leads_on a.world c.world d.world ready.leads goes.leads
@@ -225,8 +257,9 @@ module _ {D : Type 0} (seen : D → List ℕ) (config : Config) (bytes : ReqId �
         }
 
     -- one is born
-    born_then : (chunk : ℕ) (first : IsUnborn seen chunk old) (d : families.IsAlive chunk t.after) → first.epoch ≤ s.durable.epoch → families.GoesBorn chunk s t.after t.sent d → Then chunk (inl first) (families.Alive d)
-    born_then chunk first d less goes = record {
+    born_then : (chunk : ℕ) (first : IsUnborn seen chunk old) (d : families.IsAlive chunk t.after) → first.epoch ≤ s.durable.epoch → families.GoesBorn chunk s t.after t.sent d → (k : unborn.IsUnborn chunk s) → RowsIn chunk s t.after t.sent (families.Unborn k) (families.Alive d)
+        → (keeps chunk ≡ false → d.reached.0.origin ≡ []) → Then chunk (inl first) (families.Alive d)
+    born_then chunk first d less goes k rows bare = record {
       last = (inr (record {
         world = d.world;
         reached = d.reached;
@@ -244,8 +277,12 @@ module _ {D : Type 0} (seen : D → List ℕ) (config : Config) (bytes : ReqId �
         masters = goes.masters;
         members = goes.members;
         fresh = goes.fresh;
+        rows = rows.0;
+        calm = rows.1;
+        bare = bare;
         servers = servers;
         messages = messages;
+        copies = subst (AreCopiedSince chunk t.after.durable 0 true d.world) (sym sends) rows.2;
         moment = moment;
         posted = posted;
       };
@@ -262,15 +299,16 @@ module _ {D : Type 0} (seen : D → List ℕ) (config : Config) (bytes : ReqId �
       agrees = tt;
     }
 
-    each_then : (chunk : ℕ) (life : Lives chunk old) (c : families.Life chunk s) (d : families.Life chunk t.after) → Linked chunk s life c → families.Goes chunk (whole chunk) s t.after t.sent c d → Then chunk life d
-    each_then chunk (inl first) (families.Unborn c) (families.Unborn d) linked goes = silent_then chunk first d linked goes
-    each_then chunk (inl first) (families.Unborn c) (families.Alive d) linked goes = born_then chunk first d linked goes
-    each_then chunk (inr a) (families.Alive c) (families.Unborn d) linked goes = absurd goes
-    each_then chunk (inr a) (families.Alive c) (families.Alive d) linked goes = alive_then chunk a c d linked goes
-    each_then chunk life c d linked goes = absurd linked
+    each_then : (chunk : ℕ) (life : Lives chunk old) (c : families.Life chunk s) (d : families.Life chunk t.after) → Linked chunk s life c → families.Goes chunk (whole chunk) s t.after t.sent c d
+        → RowsIn chunk s t.after t.sent c d → families.BornBare (keeps chunk) chunk s t.after c d → Then chunk life d
+    each_then chunk (inl first) (families.Unborn c) (families.Unborn d) linked goes rows bare = silent_then chunk first d linked goes
+    each_then chunk (inl first) (families.Unborn c) (families.Alive d) linked goes rows bare = born_then chunk first d linked goes c rows bare
+    each_then chunk (inr a) (families.Alive c) (families.Unborn d) linked goes rows bare = absurd goes
+    each_then chunk (inr a) (families.Alive c) (families.Alive d) linked goes rows bare = alive_then chunk a c d linked goes rows
+    each_then chunk life c d linked goes rows bare = absurd linked
 
     abbrev then : (chunk : ℕ) → Then chunk (lives.life chunk) (f.last chunk)
-    then chunk = each_then chunk (lives.life chunk) (family chunk) (f.last chunk) (begun chunk).linked (f.goes chunk)
+    then chunk = each_then chunk (lives.life chunk) (family chunk) (f.last chunk) (begun chunk).linked (f.goes chunk) (by_rows.rows chunk) (f.bare chunk)
 
     -- ---- with what one is born
 
@@ -336,15 +374,17 @@ module _ {D : Type 0} (seen : D → List ℕ) (config : Config) (bytes : ReqId �
     copy_by one other l (families.Unborn n) x (inl y) p q me at stamp k = absurd k
     copy_by one other l (families.Alive n) x (inl y) p q me at stamp k = absurd q
 
-    all_copies : (sent : List Message) → AllByRecursion (Copies_of t.after f.last) sent → AllByRecursion (λ (message : Message). CopiesTo seen config bytes new (λ chunk. (then chunk).last) message.to message.body) sent
+    -- of what is told of copies, and stands
+    all_copies : (sent : List Message) → AllByRecursion (λ (m : Message). is_kept keeps m.body ≡ true → Copies_of t.after f.last m) sent
+        → AllByRecursion (λ (m : Message). HasSaid new.sent m → CopiesTo seen config bytes new (λ chunk. (then chunk).last) m.to m.body) sent
     all_copies [] all = tt
-    all_copies (message ∷ sent) all = (by_body message.to message.body all.0, all_copies sent all.1)
+    all_copies (message ∷ sent) all = (λ there. by_body message.to message.body refl refl there all.0, all_copies sent all.1)
       where
-        by_body : (to : NodeId) (body : Body) → CopiesThere t.after f.last to body → CopiesTo seen config bytes new (λ chunk. (then chunk).last) to body
-        by_body (ids.Server me) (bodies.MakeCopy handle at new_handle stamp) k =
-            copy_by handle new_handle (f.last handle) (f.last new_handle) (then handle).last (then new_handle).last (then handle).agrees (then new_handle).agrees me at stamp k
-        by_body (ids.Server me) body k = tt
-        by_body to body k = tt
+        by_body : (to : NodeId) (body : Body) → message.to ≡ to → message.body ≡ body → HasSaid new.sent message → (is_kept keeps body ≡ true → CopiesThere t.after f.last to body) → CopiesTo seen config bytes new (λ chunk. (then chunk).last) to body
+        by_body (ids.Server me) (bodies.MakeCopy handle at new_handle stamp) node is there k =
+            copy_by handle new_handle (f.last handle) (f.last new_handle) (then handle).last (then new_handle).last (then handle).agrees (then new_handle).agrees me at stamp (k (copied_there new.sent message me handle new_handle at stamp there node is))
+        by_body (ids.Server me) body node is there k = tt
+        by_body to body node is there k = tt
 
     -- ---- all of them
 
@@ -353,7 +393,7 @@ module _ {D : Type 0} (seen : D → List ℕ) (config : Config) (bytes : ReqId �
       last = λ chunk. (then chunk).last;
       goes = λ chunk. (then chunk).goes;
       from = λ chunk. from_by chunk (lives.life chunk) (family chunk) (f.last chunk) (then chunk).last (begun chunk).linked (then chunk).agrees (f.origins chunk);
-      texts = λ chunk. texts_by chunk (f.last chunk) (then chunk).last (then chunk).agrees (family_lists whole s t.after t.sent family f chunk);
-      copies = copies_then seen config bytes among step about old new lives (λ chunk. (then chunk).last) (λ chunk. (then chunk).goes) ids.Master moment messages posted
-          (subst (AllByRecursion (λ (message : Message). CopiesTo seen config bytes new (λ chunk. (then chunk).last) message.to message.body)) (sym sends) (all_copies t.sent f.copies));
+      texts = λ chunk. texts_by chunk (f.last chunk) (then chunk).last (then chunk).agrees (family_lists keeps whole s t.after t.sent family f chunk);
+      copies = copies_there seen config bytes among step about old new lives (λ chunk. (then chunk).last) (λ chunk. (then chunk).goes) moment messages posted
+          (subst (AllByRecursion (λ (message : Message). HasSaid new.sent message → CopiesTo seen config bytes new (λ chunk. (then chunk).last) message.to message.body)) (sym sends) (all_copies t.sent f.copies));
     }

@@ -1,6 +1,8 @@
 pub mod Machines
 pub mod Joint
 pub mod Posting
+pub mod Copying
+pub mod Rowing
 pub mod Placing
 pub mod Servers
 pub mod Serving

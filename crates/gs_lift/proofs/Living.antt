@@ -45,7 +45,7 @@ use Rattle.gs_lift.proofs.Among.{texts_then, told_there}
 use Rattle.gs_lift.proofs.Asking.{all_of_client}
 use Rattle.gs_lift.proofs.Births.{stays_unborn}
 use Rattle.gs_lift.proofs.Machines.{fixed_whole, reached_then}
-use Rattle.gs_lift.proofs.Posting.{posted_all, sent_then}
+use Rattle.gs_lift.proofs.Posting.{HasSaid, posted_all, posted_there, sent_then}
 use Rattle.gs_lift.proofs.Servers.{goes_server}
 use Rattle.gs_lift.proofs.Serving.{by_server, set_cases, steps_at, steps_show}
 use Rattle.gs_lift.proofs.Unborn.{server_says, server_unborn}
@@ -120,18 +120,27 @@ module _ {D : Type 0} (seen : D → List ℕ) (config : Config) (bytes : ReqId �
     pub texts : (chunk : ℕ) → TextsOf seen config bytes among chunk new (last chunk)
     pub copies : AllSent (λ (m : Message). CopiesTo seen config bytes new last m.to m.body) new.sent
 
-  -- what was told of copies stays so, and what is sent is so
+  -- what was told of copies stays so
+  copy_then : (last : (chunk : ℕ) → Life seen config bytes chunk new) → ((chunk : ℕ) → GoesOn seen config bytes chunk step about old new (lives.life chunk) (last chunk)) → (to : NodeId) (body : Body)
+      → CopiesTo seen config bytes old lives.life to body → CopiesTo seen config bytes new last to body
+  copy_then last goes (ids.Server me) (bodies.MakeCopy handle at new_handle stamp) k =
+      copy_on seen config bytes step about old new handle new_handle (lives.life handle) (last handle) (lives.life new_handle) (last new_handle) (goes handle) (goes new_handle) me at stamp k
+  copy_then last goes (ids.Server me) body k = tt
+  copy_then last goes to body k = tt
+
+  -- and what is sent is so
   pub copies_then : (last : (chunk : ℕ) → Life seen config bytes chunk new) → ((chunk : ℕ) → GoesOn seen config bytes chunk step about old new (lives.life chunk) (last chunk)) → (by : NodeId) (moment : Moment) (messages : List Message)
       → Posts moment by messages old.sent new.sent → AllByRecursion (λ (m : Message). CopiesTo seen config bytes new last m.to m.body) messages → AllSent (λ (m : Message). CopiesTo seen config bytes new last m.to m.body) new.sent
   copies_then last goes by moment messages posted says =
       posted_all (λ (m : Message). CopiesTo seen config bytes new last m.to m.body) moment by messages old.sent new.sent posted
-      (sent_then (λ (m : Message). CopiesTo seen config bytes old lives.life m.to m.body) (λ (m : Message). CopiesTo seen config bytes new last m.to m.body) old.sent (λ m k. by_body m.to m.body k) lives.copies) says
-    where
-      by_body : (to : NodeId) (body : Body) → CopiesTo seen config bytes old lives.life to body → CopiesTo seen config bytes new last to body
-      by_body (ids.Server me) (bodies.MakeCopy handle at new_handle stamp) k =
-          copy_on seen config bytes step about old new handle new_handle (lives.life handle) (last handle) (lives.life new_handle) (last new_handle) (goes handle) (goes new_handle) me at stamp k
-      by_body (ids.Server me) body k = tt
-      by_body to body k = tt
+      (sent_then (λ (m : Message). CopiesTo seen config bytes old lives.life m.to m.body) (λ (m : Message). CopiesTo seen config bytes new last m.to m.body) old.sent (λ m k. copy_then last goes m.to m.body k) lives.copies) says
+
+  -- or what stands of what the master sends
+  pub copies_there : (last : (chunk : ℕ) → Life seen config bytes chunk new) → ((chunk : ℕ) → GoesOn seen config bytes chunk step about old new (lives.life chunk) (last chunk)) → (moment : Moment) (messages : List Message)
+      → Posts moment ids.Master messages old.sent new.sent → AllByRecursion (λ (m : Message). HasSaid new.sent m → CopiesTo seen config bytes new last m.to m.body) messages → AllSent (λ (m : Message). CopiesTo seen config bytes new last m.to m.body) new.sent
+  copies_there last goes moment messages posted says =
+      posted_there (λ (m : Message). CopiesTo seen config bytes new last m.to m.body) moment messages old.sent new.sent posted
+      (sent_then (λ (m : Message). CopiesTo seen config bytes old lives.life m.to m.body) (λ (m : Message). CopiesTo seen config bytes new last m.to m.body) old.sent (λ m k. copy_then last goes m.to m.body k) lives.copies) says
 
   -- nothing is told of copies by what says nothing of them
   pub tells_no_copy : (P : Body → Type 0) → ((handle : ℕ) (at : Stamp) (new_handle : ℕ) (stamp : Stamp) → P (bodies.MakeCopy handle at new_handle stamp) → ⊥) → (last : (chunk : ℕ) → Life seen config bytes chunk new)
@@ -261,7 +270,7 @@ module _ {D : Type 0} (seen : D → List ℕ) (config : Config) (bytes : ReqId �
               master = subst (λ place. ShowsMaster seen chunk place a.world) (sym master) a.shows.master;
               sent = λ id m is. all id m is (right id m is);
             };
-            by = Elsewhere refl servers master;
+            by = Elsewhere refl servers master by messages moment are posted;
             heard = quiet;
           })
 

@@ -33,7 +33,8 @@ use Rattle.gs_entry.specs.Telling as entry
 use Rattle.gs_moves.specs.Asked.{WasHeard}
 use Rattle.gs_moves.specs.Guards.{Heard, IsMade}
 use Rattle.gs_moves.specs.Laws.{said_from}
-use Rattle.gs_moves.specs.Moves.{Chain, Moves, Rests, Then}
+use Rattle.gs_moves.specs.Epochs.{ByItself, Closes, EndsOnce, Within, closes, is_alone}
+use Rattle.gs_moves.specs.Moves.{Chain, Move, Moves, Rests, Then, move_turn}
 use Rattle.gs_entry.specs.Chains.{AreLive}
 use Rattle.gs_lift.specs.Showing.{ShowsStore, is_live_whole, is_no_rollback, is_over, is_seal_whole, is_whole_at, is_whole_there, setting, whole_in}
 use Rattle.gs_lift.proofs.Joint.{says_of_tells}
@@ -50,10 +51,16 @@ nothing (Some x) is = absurd (false≢true is)
 -- ---- chains
 
 -- what a turn says to nobody is left open
-pub said_other : (config : Config) (heard : Heard) (s : State) (t : Turn) (said : Option Refusal) → Chain config (IsMade config heard) s t → Chain config (IsMade config heard) s (record t { said = said })
-said_other config heard s t said (Rests u before) = Rests u said
-said_other config heard s t said (Moves u move before made) = Moves u move said made
-said_other config heard s t said (Then u first next a b) = Then u (record first { said = None }) (record next { said = said }) (said_other config heard u first None a) (said_other config heard first.after next said b)
+said_other : (config : Config) (P : State → Move → Type 0) (s : State) (t : Turn) (said : Option Refusal) → Chain config P s t → Chain config P s (record t { said = said })
+said_other config P s t said (Rests u before) = Rests u said
+said_other config P s t said (Moves u move before made) = Moves u move said made
+said_other config P s t said (Then u first next a b) = Then u (record first { said = None }) (record next { said = said }) (said_other config P u first None a) (said_other config P first.after next said b)
+
+pub said_once : (config : Config) (heard : Heard) (s : State) (t : Turn) (said : Option Refusal) → EndsOnce config (IsMade config heard) s t → EndsOnce config (IsMade config heard) s (record t { said = said })
+said_once config heard s t said (Within u v chain) = Within s (record t { said = said }) (said_other config (λ u move. IsMade config heard u move × (is_alone move ≡ false)) s t said chain)
+said_once config heard s t said (ByItself u move before made is) = ByItself s move said made is
+said_once config heard s t said (Closes u move before next made is chain) =
+    Closes s move None (record next { said = said }) made is (said_other config (λ u move. IsMade config heard u move × (closes move ≡ true)) (move_turn config s move).after next said chain)
 
 -- ---- who is marked at a prepare
 

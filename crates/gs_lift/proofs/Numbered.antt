@@ -91,7 +91,7 @@ numbering_goes_on seen config bytes asked born chunk step old new origin w v rea
     (servers_numbered (asked_under asked chunk) origin w steps.world reached steps.leads steps.entry
     (λ t. goes_asked asked chunk old.sent by.id by.server by.after by.messages one by.goes (setting config bytes born) (w.members by.id) (steps.world.members by.id) t (w.known.list t) (steps.world.known.list t) (steps.numbers t)) numbered)
 numbering_goes_on seen config bytes asked born chunk step old new origin w v reached one (AtMaster by) numbered = masters_numbered (asked_under asked chunk) origin w v reached by.leads by.masters numbered
-numbering_goes_on seen config bytes asked born chunk step old new origin w v reached one (Elsewhere still servers master) numbered = subst (λ (x : World). AreNumbered (asked_under asked chunk) origin x.known) (sym still) numbered
+numbering_goes_on seen config bytes asked born chunk step old new origin w v reached one (Elsewhere still servers master by messages moment are posted) numbered = subst (λ (x : World). AreNumbered (asked_under asked chunk) origin x.known) (sym still) numbered
 
 pub numbered_first : (asked : ℕ → Asked) → NumberedIsFirst asked
 numbered_first asked chunk origin k numbered apart t place edit stamp at under = ⊎_elim

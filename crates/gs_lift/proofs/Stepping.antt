@@ -23,6 +23,9 @@ use Rattle.gs_chunk.specs.Events as events
 use Rattle.gs_member.specs.Showing.{Setting}
 use Rattle.gs_member.specs.Telling.{Tells}
 use Rattle.gs_entry.proofs.Marking.{same_epoch}
+use Rattle.gs_entry.specs.Rows.{AreCopiedSince, CopiesSince}
+use Rattle.gs_lift.specs.Copying.{MakesOther}
+use Rattle.gs_lift.proofs.Rowing.{rows_still}
 use Rattle.gs_run.specs.Runs.{Step}
 use Rattle.gs_lift.specs.Among.{AllAmong}
 use Rattle.gs_lift.specs.Doing.{Arms, Does, HasDurable, Moves, Refuses, Starts, Waits}
@@ -54,13 +57,29 @@ module _ {D : Type 0} (seen : D → List ℕ) (config : Config) (bytes : ReqId �
     (held : (chunk : ℕ) → AllAmong among config.block chunk new.nodes.servers) (moment : Moment) (messages : List Message) (servers : new.nodes.servers ≡ old.nodes.servers) (posted : Posts moment ids.Master messages old.sent new.sent) where
   -- ---- no machine changes
 
-  module _ (before behind : Durable) (had : HasDurable seen old.nodes.master before) (has : HasDurable seen new.nodes.master behind) (replies : AllByRecursion (λ (m : Message). IsReply m.body) messages)
+  module _ (before behind : Durable) (same : behind ≡ before) (had : HasDurable seen old.nodes.master before) (has : HasDurable seen new.nodes.master behind) (replies : AllByRecursion (λ (m : Message). IsReply m.body) messages)
       (shown : (chunk : ℕ) (w : World) → ShowsMaster seen chunk old.nodes.master w → ShowsMaster seen chunk new.nodes.master w) (unknown : (chunk epoch : ℕ) → IsUnknown seen chunk epoch old.nodes.master → IsUnknown seen chunk epoch new.nodes.master) where
     reply_tells : (c : Setting) (chunk : ℕ) (w : World) (ms : List Message) → AllByRecursion (λ (m : Message). IsReply m.body) ms → AllByRecursion (Tells c chunk w) ms
     reply_tells c chunk w [] all = tt
     reply_tells c chunk w (m ∷ ms) all = (by_body m.body all.0, reply_tells c chunk w ms all.1)
       where
         by_body : (body : Body) → IsReply body → Tells c chunk w (record { from = m.from; to = m.to; body = body })
+        by_body (bodies.Reply req result) is = tt
+        by_body body is = absurd is
+
+    reply_copies : (chunk : ℕ) (d : Durable) (low : ℕ) (was : Bool) (w : World) (ms : List Message) → AllByRecursion (λ (m : Message). IsReply m.body) ms → AreCopiedSince chunk d low was w ms
+    reply_copies chunk d low was w [] all = tt
+    reply_copies chunk d low was w (m ∷ ms) all = (by_body m.body all.0, reply_copies chunk d low was w ms all.1)
+      where
+        by_body : (body : Body) → IsReply body → CopiesSince chunk d low was w body
+        by_body (bodies.Reply req result) is = tt
+        by_body body is = absurd is
+
+    reply_others : (chunk : ℕ) (ms : List Message) → AllByRecursion (λ (m : Message). IsReply m.body) ms → AllByRecursion (λ (m : Message). MakesOther chunk m.body) ms
+    reply_others chunk [] all = tt
+    reply_others chunk (m ∷ ms) all = (by_body m.body all.0, reply_others chunk ms all.1)
+      where
+        by_body : (body : Body) → IsReply body → MakesOther chunk body
         by_body (bodies.Reply req result) is = tt
         by_body body is = absurd is
 
@@ -103,7 +122,10 @@ module _ {D : Type 0} (seen : D → List ℕ) (config : Config) (bytes : ReqId �
             marks = same_epoch (whole_in behind chunk old.nodes.servers) a.world a.world refl;
             servers = servers;
             kept = kept_there seen new.nodes.master behind lasts has;
+            rows = rows_still chunk before behind a.world a.reached same;
             messages = messages;
+            copies = reply_copies chunk behind a.world.known.view a.world.entry.is_known a.world messages replies;
+            others = reply_others chunk messages replies;
             moment = moment;
             posted = posted;
           });
@@ -120,26 +142,25 @@ module _ {D : Type 0} (seen : D → List ℕ) (config : Config) (bytes : ReqId �
 
   module _ (armed : DiskId → ℕ → MasterPlace D → MasterPlace D) (arming : ShowsArmed seen armed) (lasting : LastsArmed seen armed) (unknown : UnknownArmed seen armed) (empty : HasBlocks config.block among (replica_of config.chunk []).bytes) (right : AllSent (PushRight bytes) new.sent) where
     master_next : Does seen armed old.sent old.nodes.master new.nodes.master messages → AllNext seen config bytes among step about old new lives
-    master_next (Moves m after heard t at master was chain state sends) =
+    master_next (Moves m after heard t at master was turn state sends) =
         chain_next seen config bytes among step about old new lives quiet empty right moment messages servers posted m.state (subst (λ place. HasDurable seen place m.state.durable) (sym at) refl)
-        (λ chunk. begun_standing seen config bytes among step about old new lives m at chunk (lives.life chunk)) m.config heard t chain was after master lasts state sends
-    master_next (Starts by_config d log after t had kept counters master chain state sends) =
+        (λ chunk. begun_standing seen config bytes among step about old new lives m at chunk (lives.life chunk)) m.config heard t turn was after master lasts state sends
+    master_next (Starts by_config d log after t had kept counters master turn state sends) =
         chain_next seen config bytes among step about old new lives quiet empty right moment messages servers posted _ had
-        (λ chunk. begun_started seen config bytes among step about old new lives d log had kept counters chunk (lives.life chunk)) by_config None t chain (inl refl) after master lasts state sends
+        (λ chunk. begun_started seen config bytes among step about old new lives d log had kept counters chunk (lives.life chunk)) by_config None t turn (inl refl) after master lasts state sends
     master_next (Waits d first second had kept counters master told none) =
-        still_next d d had (subst (λ place. HasDurable seen place d) (sym master) told) (subst (AllByRecursion (λ (m : Message). IsReply m.body)) (sym none) tt)
+        still_next d d refl had (subst (λ place. HasDurable seen place d) (sym master) told) (subst (AllByRecursion (λ (m : Message). IsReply m.body)) (sym none) tt)
         (λ chunk w shows. subst (λ place. ShowsMaster seen chunk place w) (sym master) (record { durable = d; kept = kept; counters = counters; told = told; shows = durable_shown seen chunk w old.nodes.master d had shows }))
         (λ chunk epoch untold. let x = unknown_on seen chunk epoch old.nodes.master d had untold in
         subst (IsUnknown seen chunk epoch) (sym master) (record { durable = d; kept = kept; counters = counters; told = told; ungiven = x.0; later = x.1 }))
     master_next (Refuses caller same sends) =
         let x = has_durable seen old.nodes.master lives.lasts in
-        still_next x.0 x.0 x.1 (subst (λ place. HasDurable seen place x.0) (sym same) x.1) (subst (AllByRecursion (λ (m : Message). IsReply m.body)) (sym sends) (refusal_replies caller))
+        still_next x.0 x.0 refl x.1 (subst (λ place. HasDurable seen place x.0) (sym same) x.1) (subst (AllByRecursion (λ (m : Message). IsReply m.body)) (sym sends) (refusal_replies caller))
         (λ chunk w shows. subst (λ place. ShowsMaster seen chunk place w) (sym same) shows) (λ chunk epoch untold. subst (IsUnknown seen chunk epoch) (sym same) untold)
     master_next (Arms disk call same none) =
         let x = has_durable seen old.nodes.master lives.lasts in
-        let y = has_durable seen (armed disk call old.nodes.master) (lasting disk call old.nodes.master lives.lasts) in
-        still_next x.0 y.0 x.1 (subst (λ place. HasDurable seen place y.0) (sym same) y.1) (subst (AllByRecursion (λ (m : Message). IsReply m.body)) (sym none) tt)
-        (λ chunk w shows. subst (λ place. ShowsMaster seen chunk place w) (sym same) (arming chunk w disk call old.nodes.master shows))
+        still_next x.0 x.0 refl x.1 (subst (λ place. HasDurable seen place x.0) (sym same) (arming.durable x.0 disk call old.nodes.master x.1)) (subst (AllByRecursion (λ (m : Message). IsReply m.body)) (sym none) tt)
+        (λ chunk w shows. subst (λ place. ShowsMaster seen chunk place w) (sym same) (arming.shown chunk w disk call old.nodes.master shows))
         (λ chunk epoch untold. subst (IsUnknown seen chunk epoch) (sym same) (unknown chunk disk call epoch old.nodes.master untold))
 
 -- ---- a step

@@ -42,7 +42,7 @@ some_same : {X : Type 0} {x y : X} → Some x ≡ Some y → x ≡ y
 some_same is = cc
 
 -- a request asks for an edit of one chunk
-asks_one : (asked : ℕ → Asked) (chunk other : ℕ) (req : ReqId) (stamp : Stamp) → asked_under asked chunk req ≡ Some stamp → AsksFor asked other req → other ≡ chunk
+pub asks_one : (asked : ℕ → Asked) (chunk other : ℕ) (req : ReqId) (stamp : Stamp) → asked_under asked chunk req ≡ Some stamp → AsksFor asked other req → other ≡ chunk
 asks_one asked chunk other req stamp is asks = by_test (other == chunk) refl
   where
     by_test : (b : Bool) → (other == chunk) ≡ b → other ≡ chunk

@@ -26,11 +26,10 @@ pub record IsUnseen (w : World) (t : ℕ) : Type 0 where
   pub last : (s : ℕ) → w.known.stood s ≡ true → s < t → s ≤ lower
   pub begins : Begins (w.known.list lower) (w.known.list t)
 
--- Of a stamp that stood, behind that of the birth, the list is the machine's. The list of the birth is what was copied, or empty; but as long as no server has
--- promised anything nothing needs to be told of it.
+-- Of a stamp that stood, behind that of the birth, the list is the machine's. The list of the birth is what was copied, or empty.
 pub record ListsShow (list : Lists) (copied : Option (ℕ × Stamp)) (chunk : ℕ) (b : Birth) (w : World) : Type 0 where
   pub own : (t : ℕ) → w.known.stood t ≡ true → w.known.born < t → (list chunk (stamp_at t) ≡ w.known.list t) ⊎ IsUnseen w t
-  pub origin : ((me : ℕ) → (w.members me).promise ≡ 0) ⊎ (edits_copied list copied ≡ b.origin)
+  pub origin : edits_copied list copied ≡ b.origin
 
 -- so many edits each server has had under each stamp
 abbrev pub CountsShow : (ℕ → ℕ → Stamp → ℕ) → ℕ → World → Type 0

@@ -1,10 +1,12 @@
 -- How the machine of one chunk goes on at a step of a store, and by what: by what happens at one server, by what the master does, or not at all.
 use Rattle.std.specs.Prelude.{◌≡◌, ℕ, List, Option, Some, None, slice_get, slice_set}
+use Rattle.std.specs.List.{AllByRecursion}
 use Rattle.gs_base.specs.declared.config.Config.{Config}
 use Rattle.gs_base.specs.declared.numbers.Moment.{Moment}
 use Rattle.gs_base.specs.declared.numbers.ReqId.{ReqId}
 use Rattle.gs_laws.specs.Promises.{IsKept}
 use Rattle.gs_msg.specs.declared.message.Message.{Message}
+use Rattle.gs_msg.specs.declared.node.NodeId.{NodeId}
 use Rattle.gs_msg.specs.declared.node.NodeId.TheVariants as ids
 use Rattle.gs_server.specs.Servers.{Server}
 use Rattle.gs_state.specs.Durable.{Durable}
@@ -13,12 +15,15 @@ use Rattle.gs_chunk.specs.Machine.{World}
 use Rattle.gs_chunk.specs.Events.{Leads}
 use Rattle.gs_chunk.specs.Mastering.{AreOfMaster}
 use Rattle.gs_member.specs.Moving.{IsSteps}
+use Rattle.gs_entry.specs.Rows.{AreCopiedSince, RowsGo}
 use Rattle.gs_entry.specs.Showing.{ShowsDurable}
 use Rattle.gs_entry.specs.Telling.{Marks}
 use Rattle.gs_entry.specs.Telling as entry
 use Rattle.gs_lift.specs.Doing.{HasDurable}
 use Rattle.gs_run.specs.Runs.{Step}
 use Rattle.gs_lift.specs.Going.{IsMet, Posts, ServerGoes, about_of, cause_at}
+use Rattle.gs_lift.specs.Copying.{MakesOther}
+use Rattle.gs_lift.specs.Saying.{AreOfClient}
 use Rattle.gs_lift.specs.Showing.{ShowsStore, setting, whole_in}
 
 module _ {D : Type 0} (seen : D → List ℕ) (config : Config) (bytes : ReqId → List ℕ) (born chunk : ℕ) (step : Step) (old new : History D) (w v : World) where
@@ -38,7 +43,8 @@ module _ {D : Type 0} (seen : D → List ℕ) (config : Config) (bytes : ReqId �
     pub steps : IsSteps (cause_at chunk goes) (setting config bytes born) chunk w id (about_of goes) after messages
     pub world : v ≡ steps.world
 
-  -- The master does something: events of its part lead on, from where its records told one thing to where they tell another. Each server is as it was.
+  -- The master does something: events of its part lead on, from where its records told one thing to where they tell another, and the rows of the chunk go along. What is
+  -- sent to copy the chunk copies a view that stood before or was settled now; and the chunk is made no more. Each server is as it was.
   pub record ByMaster : Type 0 where
     pub before : Durable
     pub behind : Durable
@@ -52,7 +58,10 @@ module _ {D : Type 0} (seen : D → List ℕ) (config : Config) (bytes : ReqId �
     pub marks : Marks (whole_in behind chunk old.nodes.servers) w v
     pub servers : new.nodes.servers ≡ old.nodes.servers
     pub kept : IsKept behind
+    pub rows : RowsGo chunk before behind w v
     pub messages : List Message
+    pub copies : AreCopiedSince chunk behind w.known.view w.entry.is_known v messages
+    pub others : AllByRecursion (λ (m : Message). MakesOther chunk m.body) messages
     pub moment : Moment
     pub posted : Posts moment ids.Master messages old.sent new.sent
 
@@ -60,13 +69,13 @@ module _ {D : Type 0} (seen : D → List ℕ) (config : Config) (bytes : ReqId �
     AtServer : ByServer → GoesBy
     AtMaster : ByMaster → GoesBy
     -- a client asks, or takes an answer out
-    Elsewhere : v ≡ w → new.nodes.servers ≡ old.nodes.servers → new.nodes.master ≡ old.nodes.master → GoesBy
+    Elsewhere : v ≡ w → new.nodes.servers ≡ old.nodes.servers → new.nodes.master ≡ old.nodes.master → (by : NodeId) (messages : List Message) (moment : Moment) → AreOfClient messages → Posts moment by messages old.sent new.sent → GoesBy
 
   -- the chunk that a server hears about then, if one does
   abbrev pub heard_by : GoesBy → Option ℕ
   heard_by (AtServer by) = about_of by.goes
   heard_by (AtMaster by) = None
-  heard_by (Elsewhere still servers master) = None
+  heard_by (Elsewhere still servers master by messages moment are posted) = None
 
 module _ {D : Type 0} (seen : D → List ℕ) (config : Config) (bytes : ReqId → List ℕ) where
   -- The machine has gone on, by that, to where the store is shown, where a server hears about this chunk, if one does.

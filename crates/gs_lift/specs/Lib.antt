@@ -1,4 +1,5 @@
 pub mod Saying
+pub mod Copying
 pub mod Going
 pub mod Unborn
 pub mod Showing

@@ -1,5 +1,5 @@
 -- The chunks of a store, each with a machine that shows the store, or not born yet; and how they go on, all at once.
-use Rattle.std.specs.Prelude.{◌≡◌, ◌⊎◌, ◌≤◌, ℕ, Bool, List, [], Option, take}
+use Rattle.std.specs.Prelude.{◌≡◌, ◌⊎◌, ◌≤◌, ℕ, Bool, true, false, List, [], Option, take}
 use Rattle.std.proofs.Common.{inl, inr}
 use Rattle.gs_base.specs.declared.config.Config.{Config}
 use Rattle.gs_base.specs.declared.numbers.Moment.{Moment}
@@ -11,7 +11,7 @@ use Rattle.gs_msg.specs.declared.event.DiskId.{DiskId}
 use Rattle.gs_msg.specs.declared.message.Message.{Message}
 use Rattle.gs_msg.specs.declared.node.NodeId.{NodeId}
 use Rattle.gs_msg.specs.declared.node.NodeId.TheVariants as nodes
-use Rattle.gs_state.specs.Durable.{Durable}
+use Rattle.gs_state.specs.Durable.{Durable, is_rolling}
 use Rattle.gs_world.specs.declared.place.MasterPlace.{MasterPlace}
 use Rattle.gs_run.specs.Histories.{History}
 use Rattle.gs_run.specs.Lasting.{Lasts}
@@ -22,10 +22,12 @@ use Rattle.gs_chunk.specs.Mastering.{AreOfMaster}
 use Rattle.gs_chunk.specs.Numbering.{IsBehind}
 use Rattle.gs_replica.specs.Stands.{Edit}
 use Rattle.gs_entry.specs.Families.{IsCopiedTo}
+use Rattle.gs_entry.specs.Rows.{AreCopiedSince, RowsGo}
 use Rattle.gs_entry.specs.Showing.{IsPast, ShowsDurable}
 use Rattle.gs_entry.specs.Unborn.{IsUngiven}
 use Rattle.gs_run.specs.Runs.{Step}
 use Rattle.gs_lift.specs.Among.{AllAmong, TextsAmong}
+use Rattle.gs_lift.specs.Copying.{is_copied}
 use Rattle.gs_lift.specs.Doing.{HasDurable}
 use Rattle.gs_lift.specs.Going.{AllSent, Kind, Posts, heard_in}
 use Rattle.gs_lift.specs.Joint.{GoesBy, heard_by}
@@ -54,8 +56,8 @@ module _ {D : Type 0} (seen : D → List ℕ) (config : Config) (bytes : ReqId �
     pub by : GoesBy seen config bytes a.reached.0.epoch chunk step old new a.world b.world
     pub heard : heard_by seen config bytes a.reached.0.epoch chunk step old new a.world b.world by ≡ about
 
-  -- One is born by what the master does: it gives the handle, no server has anything of the chunk, and events of the master's part lead on from its birth. No
-  -- view of it is of a stamp below one that was given before.
+  -- One is born by what the master does: it gives the handle, no server has anything of the chunk, and events of the master's part lead on from its birth, and its
+  -- rows go along; nothing is rolled back. No view of it is of a stamp below one that was given before. Where nobody is told to make it as a copy it has no edits.
   pub record ComesAlive (chunk : ℕ) (old new : History D) (b : IsAlive seen config bytes chunk new) : Type 0 where
     pub before : Durable
     pub behind : Durable
@@ -68,8 +70,12 @@ module _ {D : Type 0} (seen : D → List ℕ) (config : Config) (bytes : ReqId �
     pub masters : AreOfMaster (world_of b.reached.0) b.world leads
     pub members : (j : ℕ) → b.world.members j ≡ no_member b.reached.0.epoch
     pub fresh : (top : ℕ) → IsPast before top → IsBehind top b.world.known
+    pub rows : RowsGo chunk before behind (world_of b.reached.0) b.world
+    pub calm : is_rolling before.phase ≡ false
+    pub bare : is_copied new.sent chunk ≡ false → b.reached.0.origin ≡ []
     pub servers : new.nodes.servers ≡ old.nodes.servers
     pub messages : List Message
+    pub copies : AreCopiedSince chunk behind 0 true b.world messages
     pub moment : Moment
     pub posted : Posts moment nodes.Master messages old.sent new.sent
 
@@ -134,6 +140,7 @@ module _ {D : Type 0} (seen : D → List ℕ) (failures : D → ℕ) (armed : Di
     pub goes : (chunk : ℕ) → GoesOn seen config bytes chunk step (heard_in seen failures armed kind) old new (lives.life chunk) (last.life chunk)
     pub from : (chunk : ℕ) → BornFrom seen config bytes chunk old new lives.life (lives.life chunk) (last.life chunk)
 
--- a failure that is arranged changes nothing that is shown of the master
-abbrev pub ShowsArmed : {D : Type 0} → (D → List ℕ) → (DiskId → ℕ → MasterPlace D → MasterPlace D) → Type 0
-ShowsArmed {D} seen armed = (chunk : ℕ) (w : World) (disk : DiskId) (call : ℕ) (place : MasterPlace D) → ShowsMaster seen chunk place w → ShowsMaster seen chunk (armed disk call place) w
+-- a failure that is arranged changes nothing that is shown of the master, or durable there
+pub record ShowsArmed {D : Type 0} (seen : D → List ℕ) (armed : DiskId → ℕ → MasterPlace D → MasterPlace D) : Type 0 where
+  pub shown : (chunk : ℕ) (w : World) (disk : DiskId) (call : ℕ) (place : MasterPlace D) → ShowsMaster seen chunk place w → ShowsMaster seen chunk (armed disk call place) w
+  pub durable : (d : Durable) (disk : DiskId) (call : ℕ) (place : MasterPlace D) → HasDurable seen place d → HasDurable seen (armed disk call place) d
