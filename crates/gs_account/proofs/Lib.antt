@@ -1,3 +1,4 @@
 pub mod Blocks
 pub mod Once
 pub mod Told
+pub mod Scripts

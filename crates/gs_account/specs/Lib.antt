@@ -1,3 +1,4 @@
 pub mod Accounts
 pub mod Moving
 pub mod Running
+pub mod Scripts

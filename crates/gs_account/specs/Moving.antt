@@ -1,6 +1,6 @@
 -- How an account moves at a step: by the step, and by the nodes before and behind it.
 use Rattle.std.specs.Ordering.{nat_cmp}
-use Rattle.std.specs.Prelude.{[], ◌&&◌, ◌==◌, ◌∷◌, ◌≡◌, Bool, List, None, Option, Some, false, filter_map, if◌then◌else◌, max, nat_lt, not, option_map, refl, slice_get, take, true, ℕ}
+use Rattle.std.specs.Prelude.{[], ◌&&◌, ◌==◌, ◌∷◌, ◌≡◌, Bool, List, None, Option, Some, false, if◌then◌else◌, max, nat_lt, not, option_map, refl, slice_get, take, ℕ}
 use Rattle.gs_base.specs.Stamps.{is_same}
 use Rattle.gs_base.specs.declared.numbers.Moment.{Moment}
 use Rattle.gs_base.specs.declared.numbers.Stamp.{Stamp}
@@ -9,15 +9,16 @@ use Rattle.gs_msg.specs.declared.body.Body.{Body}
 use Rattle.gs_msg.specs.declared.message.Message.{Message}
 use Rattle.gs_msg.specs.declared.node.NodeId.{NodeId}
 use Rattle.gs_account.specs.Accounts.{Account, edits_in, first_account, view_at}
-use Rattle.gs_record.specs.declared.checkpoint.Phase.TheVariants.{Rolling, Upgrade}
 use Rattle.gs_run.specs.Histories.{History}
 use Rattle.gs_run.specs.Runs.{Comes, Step, Takes}
 use Rattle.gs_run.specs.Sent.{Sent, message_of, none_sent}
+use Rattle.gs_lift.specs.Copying.{copied_from, tells_of_a_copy}
+use Rattle.gs_moves.specs.Epochs.{prepares, rolls_back}
 use Rattle.gs_server.specs.Places.{count_or_none}
 use Rattle.gs_server.specs.Servers.{Server}
 use Rattle.gs_serving.specs.Calling.{call_by}
 use Rattle.gs_state.specs.Applied.{view_in}
-use Rattle.gs_state.specs.Durable.{Durable, is_ordinary, is_rolling, is_upgrade, start, upgrade_epoch}
+use Rattle.gs_state.specs.Durable.{Durable, start, upgrade_epoch}
 use Rattle.std.specs.FinMap as fin
 use Rattle.gs_msg.specs.declared.chunk.Chunk.TheVariants as chunks
 use Rattle.gs_msg.specs.declared.body.Body.TheVariants as bodies
@@ -30,17 +31,7 @@ use Rattle.gs_store.specs.Calls.{Call}
 use Rattle.gs_member.specs.Harm.{intact_behind, is_whole}
 use Rattle.gs_serving.specs.Following.{edit_in, lengthened}
 use Rattle.gs_store.specs.Slots.{count_of}
-use Rattle.gs_msg.specs.declared.outbox.Post.{Post}
 use Rattle.gs_msg.specs.declared.event.Happening.{Happening}
-
--- ---- upgrades
-
--- a prepare and the commit of a rollback, as the records tell them
-abbrev pub prepares : Durable → Durable → Bool
-prepares old new = is_ordinary old.phase && is_upgrade new.phase
-
-abbrev pub rolls_back : Durable → Durable → Bool
-rolls_back old new = is_rolling old.phase && is_ordinary new.phase
 
 -- ---- what a step is at a server
 
@@ -113,21 +104,6 @@ abbrev pub edit_under : Stamp → Option (Stamp × Edit) → Option Edit
 edit_under stamp None = None
 edit_under stamp (Some found) = if is_same found.0 stamp then Some found.1 else None
 
--- the chunk of which a new one is a copy, and the stamp under which that was copied, as the master has told a server
-abbrev pub copied_by : ℕ → Post → Option (ℕ × Stamp)
-copied_by chunk post = in_message post.message
-  where
-    in_body : Body → Option (ℕ × Stamp)
-    in_body (bodies.MakeCopy old stamp new under) = if new == chunk then Some (old, stamp) else None
-    in_body body = None
-
-    in_message : Option Message → Option (ℕ × Stamp)
-    in_message None = None
-    in_message (Some message) = in_body message.body
-
-abbrev pub copied_from : Sent → ℕ → Option (ℕ × Stamp)
-copied_from sent chunk = slice_get (filter_map (copied_by chunk) sent.master) 0
-
 abbrev pub edits_of : Account → Option (ℕ × Stamp) → List Edit
 edits_of a None = []
 edits_of a (Some source) = a.list source.0 source.1
@@ -178,21 +154,6 @@ account_behind step old a new d = record {
 abbrev ordinary : Durable
 ordinary = start
 
-abbrev upgrading : Durable
-upgrading = record start { phase = Upgrade; epoch = 1 }
-
-abbrev rolling : Durable
-rolling = record start { phase = Rolling; epoch = 2 }
-
-a_prepare : prepares ordinary upgrading ≡ true
-a_prepare = refl
-
-a_rollback_that_is_begun_is_not_done : rolls_back upgrading rolling ≡ false
-a_rollback_that_is_begun_is_not_done = refl
-
-its_commit : rolls_back rolling (record start { epoch = 2 }) ≡ true
-its_commit = refl
-
 abbrev at_stamp : ℕ → Stamp
 at_stamp version = record { epoch = 0; version = version }
 
@@ -211,14 +172,6 @@ a_first_view_begins_with_no_edits : list_behind (first_account start) (none_sent
 a_first_view_begins_with_no_edits = rw (fin.get-empty nat_cmp 7) refl
 
 -- a copy of chunk 6, which had two edits under the stamp that the master has told; one of them is counted
-abbrev tells_of_a_copy : Sent
-tells_of_a_copy = record (none_sent 1 1) {
-  master = record {
-    moment = record { 0 = 0 };
-    message = Some (record { from = nodes.Master; to = nodes.Server 0; body = bodies.MakeCopy 6 (at_stamp 1) 7 (at_stamp 2) });
-  } ∷ [];
-}
-
 abbrev with_two : Edit → Edit → Account
 with_two first second = record (first_account start) { list = λ chunk stamp. if (chunk == 6) && is_same stamp (at_stamp 1) then first ∷ second ∷ [] else [] }
 
