@@ -1,20 +1,20 @@
 -- An account agrees with the machine of a chunk behind a step at one server.
 use Rattle.std.proofs.Common.{◌≡◌, ◌∙◌, ◌+◌, ◌<◌, ◌≤◌, ◌⊎◌, ◌&&◌, ◌++◌, ◌∷◌, [], length, length-append, ℕ, Bool, true, false, List, Option, Some, None, refl, sym, ap, subst, inl, inr, arith, slice_get, append_assoc}
 use Rattle.std.specs.Prelude.{if◌then◌else◌, is_some, option_map}
-use Rattle.std.proofs.lemmas.Bool.{cases_lt, eqb-true, false≢true, true≢false}
+use Rattle.std.proofs.lemmas.Bool.{cases_lt, true≢false}
 use Rattle.gs_base.specs.declared.config.Config.{Config}
 use Rattle.gs_base.specs.Stamps.{is_same}
 use Rattle.gs_base.specs.declared.numbers.Moment.{Moment}
 use Rattle.gs_base.specs.declared.numbers.ReqId.{ReqId}
 use Rattle.gs_base.specs.declared.numbers.Stamp.{Stamp}
 use Rattle.gs_account.specs.Accounts.{Account, edits_in, view_at}
-use Rattle.gs_account.specs.Moving.{account_behind, edit_under, has_more, is_edit, list_behind, numbered, numbered_by, numbered_of, numbers, prepares, reached_behind, server_of}
-use Rattle.gs_chunk.specs.Stamps.{stamp_at, start_of}
+use Rattle.gs_account.specs.Moving.{account_behind, edit_under, has_more, is_edit, list_behind, numbered, numbered_by, numbered_of, numbers, reached_behind, server_of}
+use Rattle.gs_moves.specs.Epochs.{prepares}
+use Rattle.gs_chunk.specs.Stamps.{stamp_at}
 use Rattle.gs_chunk.specs.Machine.{Entry, Member, World}
 use Rattle.gs_chunk.specs.Events.{Leads, Rests}
 use Rattle.gs_base.specs.declared.epoch.EpochEnd.TheVariants.{Prepare}
-use Rattle.gs_chunk.specs.Laws.{Birth, IsReached, IsUpgrading, prepared_list, world_of}
-use Rattle.gs_chunk.specs.Mastering.{AreOfMaster}
+use Rattle.gs_chunk.specs.Laws.{IsReached, IsUpgrading, prepared_list}
 use Rattle.gs_chunk.proofs.Facts.{reached_world}
 use Rattle.gs_chunk.proofs.Lasting.{agrees}
 use Rattle.gs_chunk.proofs.Numbering.{grown_late, grown_stood, grown_within}
@@ -27,10 +27,17 @@ use Rattle.gs_chunks.proofs.Serving.{Meets, count_then, heard_then, reaches_more
 use Rattle.gs_chunks.proofs.Mastering as mastering
 use Rattle.gs_chunks.proofs.Mastering.{behind_it}
 use Rattle.gs_chunks.proofs.Still.{counts_still, none_numbered}
-use Rattle.gs_chunks.specs.Agreeing.{Agrees, BirthsAgree, IsBlank, IsOfView, ListsStayOn, MastersAgree, MastersKeepLists, OriginShows, RowsGo, ServersAgree, ServersKeepLists, StillAgree, StillKeepsLists}
+use Rattle.gs_chunks.specs.Agreeing.{Agrees, CopyShows, IsCopyShown, IsOfView, ListsStayOn, MastersAgree, MastersKeepLists, OriginShows, ServersAgree, ServersKeepLists, StillAgree, StillKeepsLists}
+use Rattle.gs_chunks.proofs.Copies.{by_servers_none, copies_now, copies_stay, of_clients_none}
+use Rattle.gs_entry.specs.Rows.{IsFirst, RowsGo}
+use Rattle.gs_lift.proofs.Posting.{posted_all}
+use Rattle.gs_lift.specs.Going.{AllSent, Posts}
+use Rattle.gs_lift.specs.Saying.{AreOfClient}
+use Rattle.gs_msg.specs.declared.node.NodeId.TheVariants as nodes
 use Rattle.gs_entry.proofs.Leading.{masters_leave}
 use Rattle.gs_entry.specs.Showing.{ShowsDurable}
 use Rattle.gs_lift.proofs.Machines.{reached_then}
+use Rattle.gs_lift.proofs.Serving as serving
 use Rattle.gs_lift.proofs.Serving.{set_found}
 use Rattle.gs_lift.specs.Accounts.{CountsShow, IsUnseen}
 use Rattle.gs_lift.specs.Going.{Beats, Damages, Hears, Loses, Restarts, ServerGoes, Ticks, cause_at}
@@ -289,6 +296,28 @@ module _ {D : Type 0} (law : AreNumbered) (seen : D → List ℕ) (config : Conf
       no_prepare a.durable (edits_in a chunk (view_at a chunk)) (a.before chunk) ∙ before.before e upgrading_w known_w
       ∙ sym (ap (λ (y : Entry). v.known.list y.prepared.stamp) entry ∙ (grows.fixed w.entry.prepared.stamp (let s = ((reached_world w reached).entry).stamp in let l = rests.within in omega arith) rests.free).1)
 
+  -- a chunk of which nothing is told was settled on no view still
+  first_then : (before : Agrees a old.sent chunk reached.0 w) → IsFirst chunk a.durable v
+  first_then before known none = same_view w v reached leads entry ∙ before.first (ap (λ (e : Entry). e.is_known) (sym entry) ∙ known) none ∙ sym grows.born
+
+  -- what is told of copies is shown
+  copy_then : (at : Stamp) → IsCopyShown (a.list chunk) w at → IsCopyShown ((account_behind step old a new a.durable).list chunk) v at
+  copy_then at k =
+      let fixed = grows.fixed k.t k.within k.free in record {
+        t = k.t;
+        is = k.is;
+        within = (let low = k.within in let view = grows.view in omega arith);
+        free = fixed.0;
+        same = ap ((account_behind step old a new a.durable).list chunk) k.is ∙ list_then k.t (ap (a.list chunk) (sym k.is) ∙ k.same);
+      }
+
+  pub server_copied : (before : Agrees a old.sent chunk reached.0 w) → AllSent (λ (m : Message). CopyShows chunk ((account_behind step old a new a.durable).list chunk) v m.to m.body) new.sent
+  server_copied before =
+      let list = (account_behind step old a new a.durable).list chunk in
+      posted_all (λ (m : Message). CopyShows chunk list v m.to m.body) by.moment (nodes.Server by.id) by.messages old.sent new.sent by.posted
+      (copies_stay chunk list v (a.list chunk) w copy_then old.sent before.copied)
+      (by_servers_none chunk list v by.messages (serving.by_server c chunk by.steps.world by.id _ by.messages by.steps.answers))
+
   pub server_agrees : Agrees a old.sent chunk reached.0 w → OriginShows (account_behind step old a new a.durable).list new.sent chunk reached.0 v → Agrees (account_behind step old a new a.durable) new.sent chunk reached.0 v
   server_agrees before origin = record {
     lists = record { own = own_then before; origin = origin };
@@ -296,6 +325,8 @@ module _ {D : Type 0} (law : AreNumbered) (seen : D → List ℕ) (config : Conf
     counts = counts_then before;
     before = before_then before;
     late = λ x there. (let late = before.late x there in let born = grows.born in let view = same_view w v reached leads entry in omega arith);
+    first = first_then before;
+    copied = server_copied before;
   }
 
 pub servers_agree : {D : Type 0} → AreNumbered → (seen : D → List ℕ) (config : Config) (bytes : ReqId → List ℕ) → ServersAgree seen config bytes
@@ -312,8 +343,16 @@ still_list chunk step old new a servers s = unmoved a new.sent a.durable (number
 pub still_keeps : (D : Type 0) → StillKeepsLists D
 still_keeps D chunk step old new a w servers t within same = still_list chunk step old new a servers (stamp_at t) ∙ same
 
+pub still_copied : {D : Type 0} (chunk : ℕ) (step : Step) (old new : History D) (a : Account) (w : World) → new.nodes.servers ≡ old.nodes.servers → (by : NodeId) (messages : List Message) (moment : Moment) → AreOfClient messages → Posts moment by messages old.sent new.sent
+    → AllSent (λ (m : Message). CopyShows chunk (a.list chunk) w m.to m.body) old.sent → AllSent (λ (m : Message). CopyShows chunk ((account_behind step old a new a.durable).list chunk) w m.to m.body) new.sent
+still_copied chunk step old new a w servers by messages moment are posted copied =
+    let list = (account_behind step old a new a.durable).list chunk in
+    posted_all (λ (m : Message). CopyShows chunk list w m.to m.body) moment by messages old.sent new.sent posted
+    (copies_stay chunk list w (a.list chunk) w (λ at k. record { t = k.t; is = k.is; within = k.within; free = k.free; same = still_list chunk step old new a servers at ∙ k.same }) old.sent copied)
+    (of_clients_none chunk list w messages are)
+
 pub still_agrees : (D : Type 0) (config : Config) (bytes : ReqId → List ℕ) → StillAgree D config bytes
-still_agrees D config bytes chunk step old new a w reached servers shows before origin = record {
+still_agrees D config bytes chunk step old new a w reached servers by messages moment are posted shows before origin = record {
   lists = record {
     own = λ t stood late. elim (before.lists.own t stood late) [
       | inl same ↦ inl (still_list chunk step old new a servers (stamp_at t) ∙ same)
@@ -325,79 +364,69 @@ still_agrees D config bytes chunk step old new a w reached servers shows before 
   counts = counts_still config bytes chunk step old new a a.durable w w reached Rests shows refl before.counts;
   before = λ e upgrading known. no_prepare a.durable (edits_in a chunk (view_at a chunk)) (a.before chunk) ∙ before.before e upgrading known;
   late = before.late;
+  first = before.first;
+  copied = still_copied chunk step old new a w servers by messages moment are posted before.copied;
 }
 
 -- ---- the master
 
 module _ {D : Type 0} (seen : D → List ℕ) (config : Config) (bytes : ReqId → List ℕ) (chunk : ℕ) (step : Step) (old new : History D) (a : Account) (w v : World) (reached : IsReached w) (shows : ShowsNodes config bytes reached.0.epoch chunk new v)
-    (by : ByMaster seen config bytes reached.0.epoch chunk step old new w v) (told : by.before ≡ a.durable) (rows : RowsGo chunk by.before by.behind w v) where
+    (by : ByMaster seen config bytes reached.0.epoch chunk step old new w v) (told : by.before ≡ a.durable) where
   shown_of : ShowsDurable chunk a.durable w.entry
   shown_of = subst (λ d. ShowsDurable chunk d w.entry) told by.shown
 
   rows_of : RowsGo chunk a.durable by.behind w v
-  rows_of = subst (λ d. RowsGo chunk d by.behind w v) told rows
+  rows_of = subst (λ d. RowsGo chunk d by.behind w v) told by.rows
 
   list_of : (s : Stamp) → (account_behind step old a new by.behind).list chunk s ≡ behind_it a new.sent by.behind chunk s (fin.get by.behind.chunks chunk)
   list_of s = ap (λ o. list_behind a new.sent by.behind o chunk s (view_in (fin.get by.behind.chunks chunk))) (none_numbered chunk old new by.servers step)
 
-  pub master_agrees : Agrees a old.sent chunk reached.0 w → OriginShows a.list new.sent chunk reached.0 v → OriginShows (account_behind step old a new by.behind).list new.sent chunk reached.0 v → Agrees (account_behind step old a new by.behind) new.sent chunk reached.0 v
-  master_agrees before origin origin_then = record {
-    lists = record {
-      own = λ t stood late. elim (mastering.own_then chunk new.sent a by.behind w v reached by.leads by.masters (λ x there. (shown_of.settled x there).view.stamp) shown_of.rolling by.shows rows_of before.lists.own before.late before.before origin t stood late) [
-        | inl same ↦ inl (list_of (stamp_at t) ∙ same)
-        | inr unseen ↦ inr unseen
-      ];
-      origin = origin_then;
-    };
-    others = λ s. subst (λ xs. (xs ≡ []) ⊎ ((t : ℕ) × (s ≡ stamp_at t) × (v.known.born < t) × (v.known.stood t ≡ true) × (xs ≡ v.known.list t))) (sym (list_of s))
-        (mastering.others_then chunk new.sent a by.behind w v reached by.leads by.masters (λ x there. (shown_of.settled x there).view.stamp) shown_of.rolling by.shows rows_of before.lists.own before.late before.before origin s (before.others s));
-    counts = counts_still config bytes chunk step old new a by.behind w v reached by.leads shows (masters_leave w v by.leads by.masters).reached before.counts;
-    before = mastering.before_then chunk new.sent a by.behind w v reached by.leads by.masters (λ x there. (shown_of.settled x there).view.stamp) shown_of.rolling by.shows rows_of before.lists.own before.late before.before origin;
-    late = mastering.late_then chunk new.sent a by.behind w v reached by.leads by.masters (λ x there. (shown_of.settled x there).view.stamp) shown_of.rolling by.shows rows_of before.lists.own before.late before.before origin;
-  }
+  module _ (before : Agrees a old.sent chunk reached.0 w) (origin : OriginShows a.list new.sent chunk reached.0 v) where
+    was_stamp : (x : Settled) → fin.get a.durable.chunks chunk ≡ Some x → x.view.stamp ≡ stamp_at w.entry.view.stamp
+    was_stamp x there = (shown_of.settled x there).view.stamp
+
+    master_own : (t : ℕ) → v.known.stood t ≡ true → v.known.born < t → ((account_behind step old a new by.behind).list chunk (stamp_at t) ≡ v.known.list t) ⊎ IsUnseen v t
+    master_own t stood late = elim (mastering.own_then chunk new.sent a by.behind w v reached by.leads by.masters was_stamp shown_of.rolling by.shows rows_of before.lists.own before.late before.before before.first origin t stood late) [
+      | inl same ↦ inl (list_of (stamp_at t) ∙ same)
+      | inr unseen ↦ inr unseen
+    ]
+
+    master_others : (s : Stamp) → IsOfView ((account_behind step old a new by.behind).list chunk) v s
+    master_others s = subst (λ xs. (xs ≡ []) ⊎ ((t : ℕ) × (s ≡ stamp_at t) × (v.known.born < t) × (v.known.stood t ≡ true) × (xs ≡ v.known.list t))) (sym (list_of s))
+        (mastering.others_then chunk new.sent a by.behind w v reached by.leads by.masters was_stamp shown_of.rolling by.shows rows_of before.lists.own before.late before.before before.first origin s (before.others s))
+
+    -- what is told of copies is shown
+    as_account : (at : Stamp) → IsCopyShown (λ s. behind_it a new.sent by.behind chunk s (fin.get by.behind.chunks chunk)) v at → IsCopyShown ((account_behind step old a new by.behind).list chunk) v at
+    as_account at k = record { t = k.t; is = k.is; within = k.within; free = k.free; same = list_of at ∙ k.same }
+
+    pub master_copied : AllSent (λ (m : Message). CopyShows chunk ((account_behind step old a new by.behind).list chunk) v m.to m.body) new.sent
+    master_copied =
+        let list = (account_behind step old a new by.behind).list chunk in
+        posted_all (λ (m : Message). CopyShows chunk list v m.to m.body) by.moment nodes.Master by.messages old.sent new.sent by.posted
+        (copies_stay chunk list v (a.list chunk) w (λ at k. as_account at (mastering.copies_then chunk new.sent a by.behind w v reached by.leads by.masters was_stamp shown_of.rolling by.shows rows_of at k)) old.sent before.copied)
+        (copies_now chunk list v by.behind w.known.view w.entry.is_known
+        (λ at k. as_account at (mastering.copied_since chunk new.sent a by.behind w v reached by.leads by.masters was_stamp shown_of.rolling by.shows rows_of before.lists.own before.late before.before before.first origin at k)) by.messages by.copies)
+
+    pub master_agrees : OriginShows (account_behind step old a new by.behind).list new.sent chunk reached.0 v → Agrees (account_behind step old a new by.behind) new.sent chunk reached.0 v
+    master_agrees origin_then = record {
+      lists = record { own = master_own; origin = origin_then };
+      others = master_others;
+      counts = counts_still config bytes chunk step old new a by.behind w v reached by.leads shows (masters_leave w v by.leads by.masters).reached before.counts;
+      before = mastering.before_then chunk new.sent a by.behind w v reached by.leads by.masters was_stamp shown_of.rolling by.shows rows_of before.lists.own before.late before.before before.first origin;
+      late = mastering.late_then chunk new.sent a by.behind w v reached by.leads by.masters was_stamp shown_of.rolling by.shows rows_of before.lists.own before.late before.before before.first origin;
+      first = rows_of.first before.first;
+      copied = master_copied;
+    }
 
 pub masters_agree : {D : Type 0} (seen : D → List ℕ) (config : Config) (bytes : ReqId → List ℕ) → MastersAgree seen config bytes
-masters_agree seen config bytes chunk step old new a w v reached shows by told rows before origin origin_then = master_agrees seen config bytes chunk step old new a w v reached shows by told rows before origin origin_then
+masters_agree seen config bytes chunk step old new a w v reached shows by told before origin origin_then = master_agrees seen config bytes chunk step old new a w v reached shows by told before origin origin_then
 
 pub masters_keep : {D : Type 0} (seen : D → List ℕ) (config : Config) (bytes : ReqId → List ℕ) → MastersKeepLists seen config bytes
-masters_keep seen config bytes chunk step old new a w v reached shows by told rows t within same =
-    let shown = shown_of seen config bytes chunk step old new a w v reached shows by told rows in
-    list_of seen config bytes chunk step old new a w v reached shows by told rows (stamp_at t)
-    ∙ mastering.lists_then chunk new.sent a by.behind w v reached by.leads by.masters (λ x there. (shown.settled x there).view.stamp) shown.rolling by.shows (rows_of seen config bytes chunk step old new a w v reached shows by told rows) t within same
+masters_keep seen config bytes chunk step old new a w v reached shows by told t within same =
+    let shown = shown_of seen config bytes chunk step old new a w v reached shows by told in
+    list_of seen config bytes chunk step old new a w v reached shows by told (stamp_at t)
+    ∙ mastering.lists_then chunk new.sent a by.behind w v reached by.leads by.masters (λ x there. (shown.settled x there).view.stamp) shown.rolling by.shows (rows_of seen config bytes chunk step old new a w v reached shows by told) t within same
 
 -- from world to world
 pub lists_stay_on : ListsStayOn
 lists_stay_on chunk a b c u v w reached leads first second t within same = (let view = (leads_later u v leads (reached_world u reached)).view in second t (omega arith) (first t within same))
-
--- ---- a birth
-
-module _ {D : Type 0} (config : Config) (bytes : ReqId → List ℕ) (chunk : ℕ) (step : Step) (old new : History D) (a : Account) (d : Durable) (b : Birth) (v : World) (blank : IsBlank a chunk) (servers : new.nodes.servers ≡ old.nodes.servers) (leads : Leads (world_of b) v) (masters : AreOfMaster (world_of b) v leads) (shows : ShowsNodes config bytes b.epoch chunk new v)
-    (shown : ShowsDurable chunk d v.entry) (calm : is_rolling a.durable.phase ≡ false) (rows : RowsGo chunk a.durable d (world_of b) v) (origin : OriginShows a.list new.sent chunk b v) (origin_then : OriginShows (account_behind step old a new d).list new.sent chunk b v) where
-  none_told : {Z : Type 0} (x : Settled) → fin.get a.durable.chunks chunk ≡ Some x → Z
-  none_told x there = absurd (let none = blank.none in cc)
-
-  none_stood : (t : ℕ) → (world_of b).known.stood t ≡ true → (world_of b).known.born < t → {Z : Type 0} → Z
-  none_stood t stood late = absurd (let at = eqb-true t (start_of b.epoch) stood in omega arith)
-
-  born_own : (t : ℕ) → v.known.stood t ≡ true → v.known.born < t → ((account_behind step old a new d).list chunk (stamp_at t) ≡ v.known.list t) ⊎ IsUnseen v t
-  born_own t stood late = elim (mastering.own_then chunk new.sent a d (world_of b) v (b, Rests) leads masters (λ x there. none_told x there) (sym calm) shown rows (λ t stood late. none_stood t stood late) (λ x there. none_told x there) (λ e upgrading was. absurd (false≢true was)) origin t stood late) [
-    | inl same ↦ inl (ap (λ o. list_behind a new.sent d o chunk (stamp_at t) (view_in (fin.get d.chunks chunk))) (none_numbered chunk old new servers step) ∙ same)
-    | inr unseen ↦ inr unseen
-  ]
-
-  born_others : (s : Stamp) → IsOfView ((account_behind step old a new d).list chunk) v s
-  born_others s = subst (λ xs. (xs ≡ []) ⊎ ((t : ℕ) × (s ≡ stamp_at t) × (v.known.born < t) × (v.known.stood t ≡ true) × (xs ≡ v.known.list t)))
-      (sym (ap (λ o. list_behind a new.sent d o chunk s (view_in (fin.get d.chunks chunk))) (none_numbered chunk old new servers step)))
-      (mastering.others_then chunk new.sent a d (world_of b) v (b, Rests) leads masters (λ x there. none_told x there) (sym calm) shown rows (λ t stood late. none_stood t stood late) (λ x there. none_told x there) (λ e upgrading was. absurd (false≢true was)) origin s (inl (blank.list s)))
-
-  pub birth_agrees : Agrees (account_behind step old a new d) new.sent chunk b v
-  birth_agrees = record {
-    lists = record { own = born_own; origin = origin_then };
-    others = born_others;
-    counts = counts_still config bytes chunk step old new a d (world_of b) v (b, Rests) leads shows (masters_leave (world_of b) v leads masters).reached (λ j t. blank.reached j (stamp_at t));
-    before = mastering.before_then chunk new.sent a d (world_of b) v (b, Rests) leads masters (λ x there. none_told x there) (sym calm) shown rows (λ t stood late. none_stood t stood late) (λ x there. none_told x there) (λ e upgrading was. absurd (false≢true was)) origin;
-    late = mastering.late_then chunk new.sent a d (world_of b) v (b, Rests) leads masters (λ x there. none_told x there) (sym calm) shown rows (λ t stood late. none_stood t stood late) (λ x there. none_told x there) (λ e upgrading was. absurd (false≢true was)) origin;
-  }
-
-pub births_agree : (D : Type 0) (config : Config) (bytes : ReqId → List ℕ) → BirthsAgree D config bytes
-births_agree D config bytes chunk step old new a d b v blank servers leads masters shows shown calm rows origin origin_then = birth_agrees config bytes chunk step old new a d b v blank servers leads masters shows shown calm rows origin origin_then

@@ -12,7 +12,7 @@ use Rattle.gs_base.specs.declared.epoch.EpochEnd.TheVariants.{Prepare, Rollback}
 use Rattle.gs_base.specs.declared.numbers.ReqId.{ReqId}
 use Rattle.gs_base.specs.declared.numbers.Stamp.{Stamp}
 use Rattle.gs_account.specs.Accounts.{Account, settled_edits, settled_in, text_of, view_at}
-use Rattle.gs_account.specs.Moving.{copied_from}
+use Rattle.gs_lift.specs.Copying.{copied_from}
 use Rattle.gs_account.specs.Running.{Setup}
 use Rattle.gs_chunk.proofs.Facts.{reached_world}
 use Rattle.gs_chunk.proofs.Known.{IsPrepared, Later, Settled}

@@ -21,7 +21,7 @@ use Rattle.gs_chunk.proofs.Viewed.{lists_of_views}
 use Rattle.gs_chunk.proofs.Worlds.{leads_later}
 use Rattle.gs_chunk.specs.Events.{is_of}
 use Rattle.gs_chunk.specs.Laws as machine
-use Rattle.gs_chunk.specs.Laws.{BeginsList, Birth, Inherits, settled}
+use Rattle.gs_chunk.specs.Laws.{Birth, settled}
 use Rattle.gs_chunk.specs.Machine.{World}
 use Rattle.gs_chunk.specs.Stamps.{stamp_at}
 use Rattle.gs_entry.proofs.Stamps.{of_member}

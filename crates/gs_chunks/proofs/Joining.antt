@@ -1,12 +1,14 @@
 -- An account and the machines of all chunks of a store go on agreeing.
-use Rattle.std.proofs.Common.{◌≡◌, ◌∙◌, ℕ, false, List, Option, None, refl, sym, ap, subst, inl, inr}
+use Rattle.std.proofs.Common.{◌≡◌, ◌∙◌, ℕ, false, List, [], Option, None, refl, sym, ap, subst, inl, inr}
+use Rattle.std.specs.Prelude.{is_some}
+use Rattle.std.proofs.lemmas.Bool.{false≢true}
 use Rattle.std.specs.FinMap as fin
 use Rattle.gs_base.specs.declared.numbers.ReqId.{ReqId}
 use Rattle.gs_run.specs.Histories.{History}
-use Rattle.gs_run.specs.Lasting.{Lasts}
+use Rattle.gs_run.specs.Lasting.{Lasts, OpensAs}
 use Rattle.gs_run.specs.Runs.{Step}
 use Rattle.gs_server.specs.Places.{Place}
-use Rattle.gs_state.specs.Durable.{Durable, is_rolling}
+use Rattle.gs_state.specs.Durable.{Durable, is_given, is_rolling, start}
 use Rattle.gs_world.specs.declared.place.MasterPlace.{MasterPlace}
 use Rattle.gs_world.specs.declared.place.MasterPlace.TheVariants.{Standing, Closed, Away}
 use Rattle.gs_chunk.specs.Machine.{World}
@@ -14,14 +16,25 @@ use Rattle.gs_chunk.specs.Laws.{Birth, world_of}
 use Rattle.gs_lift.specs.Doing.{HasDurable}
 use Rattle.gs_lift.specs.Joint.{AtMaster, AtServer, Elsewhere, GoesBy}
 use Rattle.gs_lift.specs.Living.{ComesAlive, GoesOn, StoreLives}
-use Rattle.gs_lift.specs.Showing.{IsAlive, ShowsNodes, ShowsStore}
+use Rattle.gs_lift.specs.Showing.{IsAlive, ShowsMaster, ShowsNodes, ShowsStore, setting}
 use Rattle.gs_lift.specs.Unborn.{IsUnborn, IsUnknown}
 use Rattle.gs_account.specs.Accounts.{Account}
 use Rattle.gs_account.specs.Moving.{account_behind}
 use Rattle.gs_account.specs.Running.{IsToldAt, Moves, Setup}
-use Rattle.gs_chunks.specs.Agreeing.{Agrees, IsBlank, OriginShows, RowsGo}
-use Rattle.gs_chunks.specs.Joining.{AgreesAt, Life, OriginAt, RowsAt, RowsBy, StoresAgreeOn}
-use Rattle.gs_chunks.proofs.Agreeing.{births_agree, masters_agree, servers_agree, still_agrees}
+use Rattle.gs_chunks.specs.Agreeing.{Agrees, CopiesNone, CopyShows, IsBlank, OriginShows}
+use Rattle.gs_chunks.specs.Joining.{AgreesAt, Life, StoresAgreeFirst, StoresAgreeOn}
+use Rattle.gs_chunks.proofs.Agreeing.{master_copied, masters_agree, server_copied, servers_agree, still_agrees, still_copied}
+use Rattle.gs_chunks.proofs.Births.{birth_copied, births_agree}
+use Rattle.gs_chunks.proofs.Origins.{CopiedAt, by_servers_others, of_clients_others, origin_shows, unborn_copies_none}
+use Rattle.gs_entry.specs.Rows.{RowsGo}
+use Rattle.gs_lift.proofs.Beginning.{begins_told, not_given}
+use Rattle.gs_lift.proofs.Copying.{copied_beside}
+use Rattle.gs_lift.proofs.Serving.{by_server}
+use Rattle.gs_lift.specs.Accounts.{edits_copied}
+use Rattle.gs_lift.specs.Copying.{copied_from}
+use Rattle.gs_lift.specs.Going.{AllSent}
+use Rattle.gs_msg.specs.declared.message.Message.{Message}
+use Rattle.gs_msg.specs.declared.node.NodeId.TheVariants as nodes
 use Rattle.gs_chunks.proofs.Durables.{told_is_had}
 use Rattle.gs_chunks.proofs.Edits.{AreNumbered}
 use Rattle.gs_chunks.proofs.Still.{blank_stays}
@@ -68,54 +81,145 @@ module _ {D : Type 0} (x : Setup D) (bytes : ReqId → List ℕ) where
     has_told d has = is_account ∙ ap B (sym (told_is_had x.seen new.nodes.master b.durable d behind.lasts moves.told has))
 
     module _ (chunk : ℕ) where
-      -- what stands of the nodes is shown by a machine from the birth of before
-      shown_there : (l : IsAlive x.seen x.config bytes chunk old) (m : IsAlive x.seen x.config bytes chunk new) → m.reached.0 ≡ l.reached.0 → ShowsNodes x.config bytes l.reached.0.epoch chunk new m.world
-      shown_there l m same = subst (λ (birth : Birth). ShowsNodes x.config bytes birth.epoch chunk new m.world) same (nodes_of m.shows)
+      -- what is told of copies of the chunk is shown behind the step
+      abbrev Shows : Account → World → Type 0
+      Shows c w = AllSent (λ (m : Message). CopyShows chunk (c.list chunk) w m.to m.body) new.sent
 
-      by_what : (l : IsAlive x.seen x.config bytes chunk old) (m : IsAlive x.seen x.config bytes chunk new) → m.reached.0 ≡ l.reached.0 → (by : GoesBy x.seen x.config bytes l.reached.0.epoch chunk step old new l.world m.world) → RowsBy x bytes by
-          → OriginAt x bytes a.list new.sent chunk new (inr m) → OriginAt x bytes b.list new.sent chunk new (inr m) → Agrees a old.sent chunk l.reached.0 l.world → Agrees b new.sent chunk m.reached.0 m.world
-      by_what l m same (AtServer by) rows first then agrees =
-          subst (λ (birth : Birth). Agrees b new.sent chunk birth m.world) (sym same)
-          (subst (λ (c : Account). Agrees c new.sent chunk l.reached.0 m.world) (sym (same_account by.master))
-          (servers_agree law x.seen x.config bytes chunk step old new a l.world m.world l.reached before.keeps (nodes_of l.shows) (shown_there l m same) by by.met agrees
-          (subst (λ (c : Account). OriginShows c.list new.sent chunk l.reached.0 m.world) (same_account by.master) (subst (λ (birth : Birth). OriginShows b.list new.sent chunk birth m.world) same then))))
-      by_what l m same (AtMaster by) rows first then agrees =
-          subst (λ (birth : Birth). Agrees b new.sent chunk birth m.world) (sym same)
-          (subst (λ (c : Account). Agrees c new.sent chunk l.reached.0 m.world) (sym (has_told by.behind by.has))
-          (masters_agree x.seen x.config bytes chunk step old new a l.world m.world l.reached (shown_there l m same) by (had_told by.before by.had) rows agrees
-          (subst (λ (birth : Birth). OriginShows a.list new.sent chunk birth m.world) same first)
-          (subst (λ (c : Account). OriginShows c.list new.sent chunk l.reached.0 m.world) (has_told by.behind by.has) (subst (λ (birth : Birth). OriginShows b.list new.sent chunk birth m.world) same then))))
-      by_what l m same (Elsewhere still servers master) rows first then agrees =
-          subst (λ (birth : Birth). Agrees b new.sent chunk birth m.world) (sym same)
-          (subst (λ (w : World). Agrees b new.sent chunk l.reached.0 w) (sym still)
-          (subst (λ (c : Account). Agrees c new.sent chunk l.reached.0 l.world) (sym (same_account master))
-          (still_agrees D x.config bytes chunk step old new a l.world l.reached servers (subst (λ (w : World). ShowsNodes x.config bytes l.reached.0.epoch chunk new w) still (shown_there l m same)) agrees
-          (subst (λ (c : Account). OriginShows c.list new.sent chunk l.reached.0 l.world) (same_account master)
-          (subst (λ (w : World). OriginShows b.list new.sent chunk l.reached.0 w) still (subst (λ (birth : Birth). OriginShows b.list new.sent chunk birth m.world) same then))))))
+      module _ (l : IsAlive x.seen x.config bytes chunk old) (m : IsAlive x.seen x.config bytes chunk new) (same : m.reached.0 ≡ l.reached.0) (agrees : Agrees a old.sent chunk l.reached.0 l.world) where
+        abbrev By : Type 0
+        By = GoesBy x.seen x.config bytes l.reached.0.epoch chunk step old new l.world m.world
 
-      born_there : (m : IsAlive x.seen x.config bytes chunk new) (comes : ComesAlive x.seen x.config bytes chunk old new m) → RowsGo chunk comes.before comes.behind (world_of m.reached.0) m.world → is_rolling comes.before.phase ≡ false
-          → OriginAt x bytes a.list new.sent chunk new (inr m) → OriginAt x bytes b.list new.sent chunk new (inr m) → IsBlank a chunk → Agrees b new.sent chunk m.reached.0 m.world
-      born_there m comes rows calm first then blank =
-          subst (λ (c : Account). Agrees c new.sent chunk m.reached.0 m.world) (sym (has_told comes.behind comes.has))
-          (births_agree D x.config bytes chunk step old new a comes.behind m.reached.0 m.world blank comes.servers comes.leads comes.masters (nodes_of m.shows) comes.shows
-          (subst (λ (d : Durable). is_rolling d.phase ≡ false) (had_told comes.before comes.had) calm)
-          (subst (λ (d : Durable). RowsGo chunk d comes.behind (world_of m.reached.0) m.world) (had_told comes.before comes.had) rows) first
-          (subst (λ (c : Account). OriginShows c.list new.sent chunk m.reached.0 m.world) (has_told comes.behind comes.has) then))
+        -- what stands of the nodes is shown by a machine from the birth of before
+        shown_there : ShowsNodes x.config bytes l.reached.0.epoch chunk new m.world
+        shown_there = subst (λ (birth : Birth). ShowsNodes x.config bytes birth.epoch chunk new m.world) same (nodes_of m.shows)
+
+        -- it is the copy that it was
+        copied_same : By → copied_from new.sent chunk ≡ copied_from old.sent chunk
+        copied_same (AtServer by) =
+            copied_beside chunk by.moment (nodes.Server by.id) by.messages old.sent new.sent by.posted
+            (by_servers_others chunk by.messages (by_server (setting x.config bytes l.reached.0.epoch) chunk by.steps.world by.id _ by.messages by.steps.answers))
+        copied_same (AtMaster by) = copied_beside chunk by.moment nodes.Master by.messages old.sent new.sent by.posted by.others
+        copied_same (Elsewhere still servers master by messages moment are posted) = copied_beside chunk moment by messages old.sent new.sent posted (of_clients_others chunk messages are)
+
+        origin_kept : By → OriginShows a.list new.sent chunk l.reached.0 m.world
+        origin_kept by = ap (edits_copied a.list) (copied_same by) ∙ agrees.lists.origin
+
+        shows_by : By → Shows b m.world
+        shows_by (AtServer by) =
+            subst (λ (c : Account). Shows c m.world) (sym (same_account by.master))
+            (server_copied law x.seen x.config bytes chunk step old new a l.world m.world l.reached before.keeps (nodes_of l.shows) shown_there by by.met agrees)
+        shows_by (AtMaster by) =
+            subst (λ (c : Account). Shows c m.world) (sym (has_told by.behind by.has))
+            (master_copied x.seen x.config bytes chunk step old new a l.world m.world l.reached shown_there by (had_told by.before by.had) agrees (origin_kept (AtMaster by)))
+        shows_by (Elsewhere still servers master by messages moment are posted) =
+            subst (Shows b) (sym still)
+            (subst (λ (c : Account). Shows c l.world) (sym (same_account master))
+            (still_copied chunk step old new a l.world servers by messages moment are posted agrees.copied))
+
+        by_what : By → OriginShows b.list new.sent chunk m.reached.0 m.world → Agrees b new.sent chunk m.reached.0 m.world
+        by_what (AtServer by) then =
+            subst (λ (birth : Birth). Agrees b new.sent chunk birth m.world) (sym same)
+            (subst (λ (c : Account). Agrees c new.sent chunk l.reached.0 m.world) (sym (same_account by.master))
+            (servers_agree law x.seen x.config bytes chunk step old new a l.world m.world l.reached before.keeps (nodes_of l.shows) shown_there by by.met agrees
+            (subst (λ (c : Account). OriginShows c.list new.sent chunk l.reached.0 m.world) (same_account by.master) (subst (λ (birth : Birth). OriginShows b.list new.sent chunk birth m.world) same then))))
+        by_what (AtMaster by) then =
+            subst (λ (birth : Birth). Agrees b new.sent chunk birth m.world) (sym same)
+            (subst (λ (c : Account). Agrees c new.sent chunk l.reached.0 m.world) (sym (has_told by.behind by.has))
+            (masters_agree x.seen x.config bytes chunk step old new a l.world m.world l.reached shown_there by (had_told by.before by.had) agrees (origin_kept (AtMaster by))
+            (subst (λ (c : Account). OriginShows c.list new.sent chunk l.reached.0 m.world) (has_told by.behind by.has) (subst (λ (birth : Birth). OriginShows b.list new.sent chunk birth m.world) same then))))
+        by_what (Elsewhere still servers master by messages moment are posted) then =
+            subst (λ (birth : Birth). Agrees b new.sent chunk birth m.world) (sym same)
+            (subst (λ (w : World). Agrees b new.sent chunk l.reached.0 w) (sym still)
+            (subst (λ (c : Account). Agrees c new.sent chunk l.reached.0 l.world) (sym (same_account master))
+            (still_agrees D x.config bytes chunk step old new a l.world l.reached servers by messages moment are posted (subst (λ (w : World). ShowsNodes x.config bytes l.reached.0.epoch chunk new w) still shown_there) agrees
+            (subst (λ (c : Account). OriginShows c.list new.sent chunk l.reached.0 l.world) (same_account master)
+            (subst (λ (w : World). OriginShows b.list new.sent chunk l.reached.0 w) still (subst (λ (birth : Birth). OriginShows b.list new.sent chunk birth m.world) same then))))))
+
+        -- one that is no copy was born with nothing
+        bare_kept : By → copied_from new.sent chunk ≡ None → m.reached.0.origin ≡ []
+        bare_kept by none = ap (λ (birth : Birth). birth.origin) same ∙ sym (origin_kept by) ∙ ap (edits_copied a.list) none
+
+      -- ---- one that is born
+
+      module _ (unborn : IsUnborn x.seen chunk old) (is : before.life chunk ≡ inl unborn) (m : IsAlive x.seen x.config bytes chunk new) (comes : ComesAlive x.seen x.config bytes chunk old new m) (blank : IsBlank a chunk) where
+        none_copied : AllSent (λ (m : Message). CopiesNone chunk m.to m.body) old.sent
+        none_copied = unborn_copies_none x.seen x.config bytes old before.life before.copies chunk unborn is
+
+        calm_there : is_rolling a.durable.phase ≡ false
+        calm_there = subst (λ (d : Durable). is_rolling d.phase ≡ false) (had_told comes.before comes.had) comes.calm
+
+        rows_there : RowsGo chunk a.durable comes.behind (world_of m.reached.0) m.world
+        rows_there = subst (λ (d : Durable). RowsGo chunk d comes.behind (world_of m.reached.0) m.world) (had_told comes.before comes.had) comes.rows
+
+        shows_born : Shows b m.world
+        shows_born =
+            subst (λ (c : Account). Shows c m.world) (sym (has_told comes.behind comes.has))
+            (birth_copied x.config bytes chunk step old new a comes.behind m.reached.0 m.world blank comes.servers comes.leads comes.masters (nodes_of m.shows) calm_there rows_there none_copied comes.messages comes.moment comes.posted comes.copies)
+
+        born_there : OriginShows b.list new.sent chunk m.reached.0 m.world → Agrees b new.sent chunk m.reached.0 m.world
+        born_there then =
+            subst (λ (c : Account). Agrees c new.sent chunk m.reached.0 m.world) (sym (has_told comes.behind comes.has))
+            (births_agree D x.config bytes chunk step old new a comes.behind m.reached.0 m.world blank comes.servers comes.leads comes.masters (nodes_of m.shows) comes.shows calm_there rows_there
+            none_copied comes.messages comes.moment comes.posted comes.copies
+            (subst (λ (c : Account). OriginShows c.list new.sent chunk m.reached.0 m.world) (has_told comes.behind comes.has) then))
+
+        bare_born : copied_from new.sent chunk ≡ None → m.reached.0.origin ≡ []
+        bare_born none = comes.bare (ap is_some none)
 
       blank_there : IsUnborn x.seen chunk new → IsBlank a chunk → IsBlank b chunk
       blank_there unborn blank =
           subst (λ (c : Account). IsBlank c chunk) (sym is_account)
           (blank_stays D chunk step old new a b.durable blank (λ id s found. ap (λ (p : Place). p.slot.live) (unborn.servers id s found).0) (unknown_none chunk unborn.epoch new.nodes.master b.durable behind.lasts moves.told unborn.master))
 
-      one_agrees : (heard : Option ℕ) (l : Life x bytes chunk old) (m : Life x bytes chunk new) (goes : GoesOn x.seen x.config bytes chunk step heard old new l m) → RowsAt x bytes chunk step heard old new l m goes
-          → OriginAt x bytes a.list new.sent chunk new m → OriginAt x bytes b.list new.sent chunk new m → AgreesAt x bytes a chunk old l → AgreesAt x bytes b chunk new m
-      one_agrees heard (inl l) (inl m) goes rows first then agrees = blank_there m agrees
-      one_agrees heard (inl l) (inr m) goes rows first then agrees = born_there m goes rows.0 rows.1 first then agrees
-      one_agrees heard (inr l) (inl m) goes rows first then agrees = absurd goes
-      one_agrees heard (inr l) (inr m) goes rows first then agrees = by_what l m goes.same goes.by rows first then agrees
+      -- ---- in either case
+
+      module _ (heard : Option ℕ) where
+        abbrev Goes : Life x bytes chunk old → Life x bytes chunk new → Type 0
+        Goes l m = GoesOn x.seen x.config bytes chunk step heard old new l m
+
+        one_shows : (l : Life x bytes chunk old) (m : Life x bytes chunk new) → before.life chunk ≡ l → Goes l m → AgreesAt x bytes a chunk old l → CopiedAt x.seen x.config bytes new behind.life behind.copies b.list chunk m
+        one_shows l (inl m) is goes agrees = tt
+        one_shows (inl l) (inr m) is goes agrees = shows_born l is m goes agrees
+        one_shows (inr l) (inr m) is goes agrees = shows_by l m goes.same agrees goes.by
+
+        one_bare : (l : Life x bytes chunk old) (m : IsAlive x.seen x.config bytes chunk new) → before.life chunk ≡ l → Goes l (inr m) → AgreesAt x bytes a chunk old l → copied_from new.sent chunk ≡ None → m.reached.0.origin ≡ []
+        one_bare (inl l) m is goes agrees = bare_born l is m goes agrees
+        one_bare (inr l) m is goes agrees = bare_kept l m goes.same agrees goes.by
+
+        one_agrees : ((c : ℕ) → CopiedAt x.seen x.config bytes new behind.life behind.copies b.list c (behind.life c)) → (l : Life x bytes chunk old) (m : Life x bytes chunk new) → before.life chunk ≡ l → behind.life chunk ≡ m → Goes l m → AgreesAt x bytes a chunk old l → AgreesAt x bytes b chunk new m
+        one_agrees copied (inl l) (inl m) is there goes agrees = blank_there m agrees
+        one_agrees copied (inr l) (inl m) is there goes agrees = absurd goes
+        one_agrees copied (inl l) (inr m) is there goes agrees =
+            born_there l is m goes agrees (origin_shows x.seen x.config bytes new behind.life behind.copies b.list copied chunk m there (one_bare (inl l) m is goes agrees))
+        one_agrees copied (inr l) (inr m) is there goes agrees =
+            by_what l m goes.same agrees goes.by (origin_shows x.seen x.config bytes new behind.life behind.copies b.list copied chunk m there (one_bare (inr l) m is goes agrees))
 
   pub stores_agree_on : AreNumbered → StoresAgreeOn x bytes
-  stores_agree_on law step old new a b lives goes moves agrees rows first then = record {
+  stores_agree_on law step old new a b lives goes moves agrees = record {
     told = moves.told;
-    agrees = λ chunk. one_agrees law step old new a b lives goes.last moves agrees.told chunk _ (lives.life chunk) (goes.last.life chunk) (goes.goes chunk) (rows chunk) (first chunk) (then chunk) (agrees.agrees chunk);
+    agrees = λ chunk. one_agrees law step old new a b lives goes.last moves agrees.told chunk _
+        (λ c. one_shows law step old new a b lives goes.last moves agrees.told c _ (lives.life c) (goes.last.life c) refl (goes.goes c) (agrees.agrees c))
+        (lives.life chunk) (goes.last.life chunk) refl refl (goes.goes chunk) (agrees.agrees chunk);
   }
+
+  -- ---- a store that begins new
+
+  -- a master that has given no handle shows no chunk
+  none_shown : (chunk : ℕ) (place : MasterPlace D) (w : World) → OpensAs x.seen start place → ShowsMaster x.seen chunk place w → ⊥
+  none_shown chunk place w (after, is, begins, firm) shows =
+      let there : ShowsMaster x.seen chunk (Standing after) w = subst (λ p. ShowsMaster x.seen chunk p w) is shows in
+      false≢true (sym (not_given chunk) ∙ ap (λ (d : Durable). is_given d.next_handle chunk) (sym begins) ∙ there.entry.durable.given)
+
+  pub stores_agree_first : StoresAgreeFirst x bytes
+  stores_agree_first begun a lives new = record {
+    told = new.told;
+    agrees = λ chunk. by_life chunk (lives.life chunk);
+  }
+    where
+      by_life : (chunk : ℕ) (l : Life x bytes chunk begun) → AgreesAt x bytes a chunk begun l
+      by_life chunk (inl unborn) = record {
+        list = λ stamp. ap (λ (c : Account). c.list chunk stamp) new.account;
+        reached = λ server stamp. ap (λ (c : Account). c.reached chunk server stamp) new.account;
+        none = unknown_none chunk unborn.epoch begun.nodes.master a.durable lives.lasts new.told unborn.master;
+      }
+      by_life chunk (inr alive) = absurd (none_shown chunk begun.nodes.master alive.world (begins_told x.seen x.failures x.armed x.config x.clients x.disks begun new.given.new new.begins) alive.shows.master)

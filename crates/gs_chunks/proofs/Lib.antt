@@ -1,12 +1,19 @@
 pub mod Edits
 pub mod Serving
 pub mod Still
+pub mod Copies
 pub mod Mastering
 pub mod Agreeing
+pub mod Births
+pub mod Origins
 pub mod Durables
+pub mod Carrying
+pub mod Upgraded
+pub mod Intact
 pub mod Standing
 mod Joining
 mod Reached
+pub mod Seeing
 pub mod Quiet
 pub mod Surviving
 pub mod Viewing
@@ -15,3 +22,10 @@ pub mod Done
 pub mod Naming
 pub mod Preparing
 pub mod Back
+pub mod Sealed
+pub mod Spared
+pub mod Staying
+pub mod Runs
+pub mod Holding
+pub mod Locating
+pub mod Returning

@@ -1,28 +1,31 @@
 -- An account agrees with the machine of a chunk behind what the master does.
-use Rattle.std.proofs.Common.{◌≡◌, ◌≢◌, ◌∙◌, ◌+◌, ◌-◌, ◌<◌, ◌≤◌, ◌⊎◌, ◌&&◌, ◌++◌, ℕ, Bool, true, false, cond, not, List, [], ◌∷◌, take, drop, Option, Some, None, refl, sym, ap, subst, inl, inr, arith}
+use Rattle.std.proofs.Common.{◌≡◌, ◌≢◌, ◌∙◌, ◌+◌, ◌-◌, ◌<◌, ◌≤◌, ◌⊎◌, ◌&&◌, ◌++◌, ℕ, Bool, true, false, cond, not, List, [], take, drop, Option, Some, None, refl, sym, ap, subst, inl, inr, arith}
 use Rattle.std.specs.Prelude.{if◌then◌else◌, is_some}
 use Rattle.std.specs.FinMap as fin
 use Rattle.std.proofs.lemmas.Bool.{cases_eq, cases_lt, eq-eqb, ne_eqb, true≢false}
 use Rattle.std.proofs.lemmas.Bool.Decides.{nat_tests}
 use Rattle.std.proofs.lemmas.List.{take-append-drop}
 use Rattle.gs_base.specs.Stamps.{is_same}
-use Rattle.gs_base.specs.declared.epoch.EpochEnd.TheVariants.{Prepare, Rollback}
 use Rattle.gs_base.specs.declared.numbers.Stamp.{Stamp}
 use Rattle.gs_account.specs.Accounts.{Account, edits_in, view_at}
-use Rattle.gs_account.specs.Moving.{begun, continued, copied_from, edits_of, is_under, list_behind, prepares, rolls_back}
+use Rattle.gs_account.specs.Moving.{begun, continued, edits_of, is_under, list_behind}
+use Rattle.gs_lift.specs.Copying.{copied_from}
+use Rattle.gs_moves.specs.Epochs.{prepares, rolls_back}
 use Rattle.gs_chunk.specs.Stamps.{stamp_at, start_of}
 use Rattle.gs_chunk.specs.Machine.{World}
-use Rattle.gs_chunk.specs.Events.{Leads, Rests, is_of}
+use Rattle.gs_chunk.specs.Events.{Leads, Rests}
 use Rattle.gs_chunk.specs.Laws.{Agrees as AgreesKnown, IsReached, IsUpgrading, prepared_list, world_of}
-use Rattle.gs_chunk.specs.Mastering.{AreOfMaster, IsRestored, KeepsLists, NonePrepared, RestoresList, SettlesList, SettlesOnce}
+use Rattle.gs_chunk.specs.Mastering.{AreOfMaster, IsRestored, KeepsLists, RestoresList, SettlesList, SettlesOnce}
 use Rattle.gs_chunk.proofs.Facts.{reached_world}
 use Rattle.gs_chunk.proofs.Knowing.{masters_forget, masters_keep_prepared, masters_people}
 use Rattle.gs_chunk.proofs.Known.{IsPrepared, Later}
-use Rattle.gs_chunk.proofs.Lasting.{agrees, stays_known}
+use Rattle.gs_chunk.proofs.Lasting.{agrees}
 use Rattle.gs_chunk.proofs.Prepared.{prepared_rests}
 use Rattle.gs_chunk.proofs.Mastering.{masters_settle_once}
 use Rattle.gs_chunk.proofs.Worlds.{WorldOk, leads_later, leads_world}
-use Rattle.gs_chunks.specs.Agreeing.{IsOfView, OriginShows, RowsGo}
+use Rattle.gs_chunks.specs.Agreeing.{IsCopyShown, IsOfView, OriginShows}
+use Rattle.gs_entry.specs.Rows.{IsCopiedSince, IsFirst, RowsGo}
+use Rattle.gs_chunks.proofs.Upgraded.{upgraded_before}
 use Rattle.gs_entry.specs.Showing.{ShowsDurable}
 use Rattle.gs_lift.specs.Accounts.{IsUnseen, edits_copied}
 use Rattle.gs_member.proofs.Stamps.{same_stamp, stamp_number}
@@ -31,7 +34,7 @@ use Rattle.gs_run.specs.Sent.{Sent}
 use Rattle.gs_state.specs.Applied.{view_in}
 use Rattle.gs_record.specs.declared.checkpoint.Phase.{Phase}
 use Rattle.gs_record.specs.declared.checkpoint.Phase.TheVariants.{Ordinary, Rolling, Upgrade}
-use Rattle.gs_state.specs.Durable.{Durable, Settled, is_ordinary, is_rolling}
+use Rattle.gs_state.specs.Durable.{Durable, Settled, is_listed, is_ordinary, is_rolling}
 
 same_itself : (p q : Stamp) → p ≡ q → is_same p q ≡ true
 same_itself p q is = rw is (let same : is_same q q ≡ true = grind (arith, nat_tests) in same)
@@ -61,9 +64,6 @@ module _ (a : Account) (sent : Sent) (e : Durable) (chunk : ℕ) (s : Stamp) whe
   -- one is
   pub new_list : (y : Settled) → is_same y.view.stamp s ≡ true → is_under s (view_at a chunk) ≡ false → behind_it (Some y) ≡ begun a sent e chunk y.view
   new_list y same none = rw (same, none) refl
-
-first_is : (x : ℕ) (xs : List ℕ) → is_of (x ∷ xs) x ≡ true
-first_is x xs = rw (eq-eqb x x refl) refl
 
 copied_same : (a : Account) (o : Option (ℕ × Stamp)) → edits_of a o ≡ edits_copied a.list o
 copied_same a None = refl
@@ -138,6 +138,13 @@ module _ (chunk : ℕ) (sent : Sent) (a : Account) (e : Durable) (w v : World) (
     | inr within ↦ within
   ]
 
+  -- a view that isn't above the settled one isn't one that was proposed and not settled
+  passed : (t : ℕ) → t ≤ w.known.view → (t ≢ w.known.top) ⊎ (w.known.view ≡ w.known.top)
+  passed t within = elim (cases_eq t w.known.top) [
+    | inl here ↦ inr (let top = (ok.known).viewtop in omega arith)
+    | inr other ↦ inl other
+  ]
+
   -- What is told of a view that isn't above the settled one as the machine has it is told so still.
   pub lists_then : (t : ℕ) → t ≤ w.known.view → a.list chunk (stamp_at t) ≡ w.known.list t → told t ≡ v.known.list t
   lists_then t within same = by_once (masters_settle_once w v leads reached masters)
@@ -153,10 +160,24 @@ module _ (chunk : ℕ) (sent : Sent) (a : Account) (e : Durable) (w v : World) (
           let top = (ok.known).viewtop in
           let back = rows.back over in
           let so : IsRestored w v = r.exact back.1 in
-          other_told t (λ is. absurd (omega arith)) ∙ same ∙ sym (so.others t (inr back.2) (λ is. absurd (let view = so.view in omega arith))).0
+          other_told t (λ is. absurd (omega arith)) ∙ same ∙ sym (so.others t (passed t within) (λ is. absurd (let view = so.view in omega arith))).0
+
+  abbrev told_under : Stamp → List Edit
+  told_under s = behind_it a sent e chunk s (fin.get e.chunks chunk)
+
+  -- What is shown of a copy is shown so still.
+  pub copies_then : (at : Stamp) → IsCopyShown (a.list chunk) w at → IsCopyShown told_under v at
+  copies_then at k =
+      let fixed = later.fixed k.t k.within k.free in record {
+        t = k.t;
+        is = k.is;
+        within = (let low = k.within in let view = later.view in omega arith);
+        free = fixed.0;
+        same = ap told_under k.is ∙ lists_then k.t k.within (ap (a.list chunk) (sym k.is) ∙ k.same);
+      }
 
   module _ (own : (t : ℕ) → w.known.stood t ≡ true → w.known.born < t → (a.list chunk (stamp_at t) ≡ w.known.list t) ⊎ IsUnseen w t) (late : (x : Settled) → fin.get a.durable.chunks chunk ≡ Some x → w.known.born < w.known.view)
-      (before : (e : ℕ) → IsUpgrading w e → w.entry.was_known ≡ true → a.before chunk ≡ prepared_list w) (origin : OriginShows a.list sent chunk reached.0 v) where
+      (before : (e : ℕ) → IsUpgrading w e → w.entry.was_known ≡ true → a.before chunk ≡ prepared_list w) (first : IsFirst chunk a.durable w) (origin : OriginShows a.list sent chunk reached.0 v) where
     abbrev Then : ℕ → Type 0
     Then t = (told t ≡ v.known.list t) ⊎ IsUnseen v t
 
@@ -221,29 +242,10 @@ module _ (chunk : ℕ) (sent : Sent) (a : Account) (e : Durable) (w v : World) (
     -- what the list begins with that follows is that of the machine
     former : SettlesList w v → (o : Option Settled) → fin.get a.durable.chunks chunk ≡ o → continued a sent chunk (view_in o) ≡ w.known.list w.known.view
     former k None none =
-        let first = rows.first (settled_known k) none in
+        let at_birth : w.known.view ≡ w.known.born = first (settled_known k) none in
         let birth = leads_later (world_of reached.0) w reached.1 (reached_world (world_of reached.0) (reached.0, Rests)) in
         let list : w.known.list (start_of reached.0.epoch) ≡ reached.0.origin = (birth.fixed (start_of reached.0.epoch) (omega arith) refl).1 in
-        copied_same a (copied_from sent chunk) ∙ by_origin origin ∙ sym (ap w.known.list (first ∙ birth.born) ∙ list)
-      where
-        by_origin : OriginShows a.list sent chunk reached.0 v → edits_copied a.list (copied_from sent chunk) ≡ reached.0.origin
-        by_origin (inr same) = same
-        by_origin (inl none_promised) = elim (masters_people w v leads reached masters) [
-          | inl same ↦ absurd (let one = ap (λ x. x.stamp) same in let a = known_w.view in let b = known_v.view in let view = k.view in let moving = k.moving in omega arith)
-          | inr (inl some) ↦ absurd (by_members v.entry.view.members refl some)
-          | inr (inr over) ↦ absurd (let view = k.view in omega arith)
-        ]
-          where
-            by_members : (xs : List ℕ) → v.entry.view.members ≡ xs → v.entry.view.members ≢ [] → ⊥
-            by_members [] is some = some is
-            by_members (x ∷ xs) is some =
-                let member : v.known.members v.known.view x ≡ true = (okv.entry).members x ∙ ap (λ ys. is_of ys x) is ∙ first_is x xs in
-                let promised = (okv.known).members v.known.view x (omega arith) member in
-                let none = none_promised x in
-                let same = known_v.promises x in
-                let view = k.view in
-                let moving = k.moving in
-                omega arith
+        copied_same a (copied_from sent chunk) ∙ origin ∙ sym (ap w.known.list (at_birth ∙ birth.born) ∙ list)
     former k (Some x) was =
         ap (a.list chunk) (old_stamp x was) ∙ elim (own w.known.view (ap w.known.stood known_w.view ∙ known_w.stood (settled_known k)) (late x was)) [
           | inl same ↦ same
@@ -310,15 +312,15 @@ module _ (chunk : ℕ) (sent : Sent) (a : Account) (e : Durable) (w v : World) (
     restores_told : (r : RestoresList w v) → v.known.stood v.known.view ≡ true → told v.known.view ≡ v.known.list v.known.view
     restores_told r stands = by_here (restored r).here
       where
-        back : (rolls_back a.durable e ≡ true) × (v.known.current ≡ w.known.current) × (w.known.view ≡ w.known.top)
+        back : (rolls_back a.durable e ≡ true) × (v.known.current ≡ w.known.current) × ((w.known.view ≡ w.known.top) ⊎ (v.known.stood w.known.top ≡ false))
         back = rows.back r.later
 
         rolls : w.entry.is_rolling ≡ true
-        rolls = was_rolling ∙ first (is_rolling a.durable.phase) (is_ordinary e.phase) back.0
+        rolls = was_rolling ∙ former_of (is_rolling a.durable.phase) (is_ordinary e.phase) back.0
           where
-            first : (x y : Bool) → (x && y) ≡ true → x ≡ true
-            first true y both = refl
-            first false y both = absurd (cc)
+            former_of : (x y : Bool) → (x && y) ≡ true → x ≡ true
+            former_of true y both = refl
+            former_of false y both = absurd (cc)
 
         prepared_is : w.entry.was_known ≡ true → a.before chunk ≡ w.known.list (w.known.prepared (w.known.current - 1))
         prepared_is was =
@@ -341,24 +343,43 @@ module _ (chunk : ℕ) (sent : Sent) (a : Account) (e : Durable) (w v : World) (
         by_here (inr none) = absurd (true≢false (sym stands ∙ ap v.known.stood (restored r).view ∙ none.1))
         by_here (inl some) = by_row some.0 some.2 (fin.get e.chunks chunk) refl (rows.given r.later stands)
 
+    -- a view that stood, behind which another was given back, was settled or isn't the one that was proposed
+    settled_or_passed : RestoresList w v → (t : ℕ) → v.known.stood t ≡ true → (t ≢ w.known.top) ⊎ (w.known.view ≡ w.known.top)
+    settled_or_passed r t stood = elim (rows.back r.later).2 [
+      | inl still ↦ inr still
+      | inr never ↦ inl (λ is. true≢false (sym stood ∙ ap v.known.stood is ∙ never))
+    ]
+
+    -- what stood then, but for a view that was settled now, stood before
+    stood_before : (t : ℕ) → v.known.stood t ≡ true → t ≢ v.known.view → w.known.stood t ≡ true
+    stood_before t stood other = by_once (masters_settle_once w v leads reached masters)
+      where
+        by_once : SettlesOnce w v → w.known.stood t ≡ true
+        by_once (inl k) = ap (λ f. f t) (sym k.stood) ∙ stood
+        by_once (inr (inl k)) = sym (k.stood t ∙ ap (λ b. cond b true (w.known.stood t)) (ne_eqb t w.known.top (λ is. other (is ∙ sym k.view)))) ∙ stood
+        by_once (inr (inr r)) =
+            let so = restored r in
+            sym (so.others t (settled_or_passed r t stood) (λ is. other (is ∙ sym so.view))).1 ∙ stood
+
     restores_then : RestoresList w v → (t : ℕ) → v.known.stood t ≡ true → v.known.born < t → Then t
     restores_then r t stood behind = elim (cases_eq t (start_of w.known.current)) [
-      | inr other ↦ elim (own t (sym (so.others t (inr still) other).1 ∙ stood) (let born = later.born in omega arith)) [
-        | inl same ↦ inl (other_told t (λ is. other (is ∙ so.view)) ∙ same ∙ sym (so.others t (inr still) other).0)
-        | inr unseen ↦ inr (unseen_then t (within other) unseen (λ last. absurd (other (sym last ∙ sym known_v.view ∙ so.view))) (so.others t (inr still) other).0
-            (so.others unseen.lower (inr still) (λ is. let below = unseen.below in let low = within other in let view = so.view in let over = r.later in let top = (ok.known).viewtop in omega arith)).0)
+      | inr other ↦ elim (own t (before_it other) (let born = later.born in omega arith)) [
+        | inl same ↦ inl (other_told t (λ is. other (is ∙ so.view)) ∙ same ∙ sym (so.others t (settled_or_passed r t stood) other).0)
+        | inr unseen ↦ inr (unseen_then t (within other) unseen (λ last. absurd (other (sym last ∙ sym known_v.view ∙ so.view))) (so.others t (settled_or_passed r t stood) other).0
+            (so.others unseen.lower (inl (λ is. let below = unseen.below in let low = within other in let top = (ok.known).viewtop in omega arith))
+            (λ is. let below = unseen.below in let low = within other in let view = so.view in let over = r.later in let top = (ok.known).viewtop in omega arith)).0)
       ]
       | inl here ↦ subst Then (so.view ∙ sym here) (inl (restores_told r (ap v.known.stood (so.view ∙ sym here) ∙ stood)))
     ]
       where
-        still : w.known.view ≡ w.known.top
-        still = (rows.back r.later).2
-
         so : IsRestored w v
         so = restored r
 
+        before_it : t ≢ start_of w.known.current → w.known.stood t ≡ true
+        before_it other = stood_before t stood (λ is. other (is ∙ so.view))
+
         within : t ≢ start_of w.known.current → t ≤ w.known.view
-        within other = stood_within t (sym (so.others t (inr still) other).1 ∙ stood)
+        within other = stood_within t (before_it other)
 
     pub own_then : (t : ℕ) → v.known.stood t ≡ true → v.known.born < t → Then t
     own_then t stood behind = by_once (masters_settle_once w v leads reached masters)
@@ -368,13 +389,40 @@ module _ (chunk : ℕ) (sent : Sent) (a : Account) (e : Durable) (w v : World) (
         by_once (inr (inl k)) = settles_then k t stood behind
         by_once (inr (inr r)) = restores_then r t stood behind
 
+    -- ---- copies
+
+    -- of a chunk that a file has the settled view is told
+    told_last : is_listed e chunk ≡ true → v.known.stood v.known.view ≡ true → v.known.born < v.known.view → told v.known.view ≡ v.known.list v.known.view
+    told_last listed stood late = elim (own_then v.known.view stood late) [
+      | inl same ↦ same
+      | inr unseen ↦ absurd (true≢false (sym (shows.listed listed) ∙ unseen.gone (sym known_v.view)))
+    ]
+
+    -- and so is the one that was settled before
+    told_before : w.entry.is_known ≡ true → w.known.stood w.known.view ≡ true → w.known.born < w.known.view → told w.known.view ≡ v.known.list w.known.view
+    told_before known stood late = elim (own w.known.view stood late) [
+      | inl same ↦ lists_then w.known.view (omega arith) same
+      | inr unseen ↦ absurd (true≢false (sym known ∙ unseen.gone (sym known_w.view)))
+    ]
+
+    -- What is copied now is the list of one of the two.
+    pub copied_since : (at : Stamp) → IsCopiedSince chunk e w.known.view w.entry.is_known v at → IsCopyShown told_under v at
+    copied_since at k = record { t = k.t; is = k.is; within = k.within; free = k.free; same = ap told_under k.is ∙ by_place (cases_eq k.t v.known.view) }
+      where
+        by_place : (k.t ≡ v.known.view) ⊎ (k.t ≢ v.known.view) → told k.t ≡ v.known.list k.t
+        by_place (inl here) = subst (λ t. told t ≡ v.known.list t) (sym here) (told_last k.listed (ap v.known.stood (sym here) ∙ k.stood) (let late = k.late in omega arith))
+        by_place (inr other) =
+            let stood = stood_before k.t k.stood other in
+            let here : k.t ≡ w.known.view = (let since = k.since in let within = stood_within k.t stood in omega arith) in
+            subst (λ t. told t ≡ v.known.list t) (sym here) (told_before k.known (ap w.known.stood (sym here) ∙ stood) (let late = k.late in let born = later.born in omega arith))
+
     -- ---- under other stamps nothing is told
 
     same_view : (y : Settled) (s : Stamp) → fin.get e.chunks chunk ≡ Some y → is_same y.view.stamp s ≡ true → stamp_at v.known.view ≡ s
     same_view y s there same = sym (new_stamp y there) ∙ same_stamp y.view.stamp s same
 
     -- nothing was told under a stamp
-    none_then : (s : Stamp) → a.list chunk s ≡ [] → IsOfView (λ s. behind_it a sent e chunk s (fin.get e.chunks chunk)) v s
+    none_then : (s : Stamp) → a.list chunk s ≡ [] → IsOfView told_under v s
     none_then s none = by_row (fin.get e.chunks chunk) refl
       where
         Told : List Edit → Type 0
@@ -401,7 +449,7 @@ module _ (chunk : ℕ) (sent : Sent) (a : Account) (e : Durable) (w v : World) (
         by_row None there = inl none
         by_row (Some y) there = by_stamp y there (is_same y.view.stamp s) refl
 
-    pub others_then : (s : Stamp) → IsOfView (a.list chunk) w s → IsOfView (λ s. behind_it a sent e chunk s (fin.get e.chunks chunk)) v s
+    pub others_then : (s : Stamp) → IsOfView (a.list chunk) w s → IsOfView told_under v s
     others_then s (inl none) = none_then s none
     others_then s (inr (t, is, late, stood, same)) =
         let within = stood_within t stood in
@@ -419,44 +467,10 @@ module _ (chunk : ℕ) (sent : Sent) (a : Account) (e : Durable) (w v : World) (
     pub before_then : (x : ℕ) → IsUpgrading v x → v.entry.was_known ≡ true → (if prepares a.durable e then edits_in a chunk (view_at a chunk) else a.before chunk) ≡ prepared_list v
     before_then x upgrading was = by_prepare (prepares a.durable e) refl
       where
-        epochs : (w.entry.epoch ≤ v.entry.epoch) × ((n : ℕ) → n ≤ w.entry.epoch → v.entry.how n ≡ w.entry.how n)
-        epochs = (let stays = stays_known w ok v leads in (stays.epoch, stays.how))
-
-        old_upgrade : NonePrepared w v → IsUpgrading w x
-        old_upgrade none = elim upgrading [
-          | inl (at, is) ↦ elim (cases_lt w.entry.epoch x) [
-            | inl above ↦ absurd (none x above (omega arith) is)
-            | inr within ↦ inl (let low = epochs.0 in omega arith, sym (epochs.1 x within) ∙ is)
-          ]
-          | inr (at, rolls) ↦ by_rolling at rolls
-        ]
-          where
-            by_rolling : x + 1 ≡ v.entry.epoch → v.entry.is_rolling ≡ true → IsUpgrading w x
-            by_rolling at rolls =
-                let roll = (okv.entry).rolling rolls in
-                let next = roll.next in
-                let now = (okv.entry).epoch in
-                let same : roll.e ≡ x = omega arith in
-                let was_so : v.entry.how x ≡ Prepare = (okv.entry).how x ∙ ap v.known.how (sym same) ∙ roll.was in
-                elim (cases_lt w.entry.epoch x) [
-                  | inl above ↦ absurd (none x above (omega arith) was_so)
-                  | inr within ↦ elim (cases_lt x w.entry.epoch) [
-                    | inl over ↦ inr (let low = epochs.0 in omega arith, by_calm w.entry.is_rolling refl (let low = epochs.0 in omega arith) roll.e same roll.how roll.below next)
-                    | inr still ↦ inl (omega arith, sym (epochs.1 x within) ∙ was_so)
-                  ]
-                ]
-              where
-                by_calm : (b : Bool) → w.entry.is_rolling ≡ b → w.entry.epoch ≡ x + 1 → (n : ℕ) → n ≡ x → v.known.how (n + 1) ≡ Rollback → v.known.top < start_of (n + 1) → v.known.current ≡ n + 1 → b ≡ true
-                by_calm true is epoch n same how below next = refl
-                by_calm false calm epoch n same how below next =
-                    let current : n + 1 ≡ w.known.current = (let m = (ok.entry).epoch in omega arith) in
-                    let done = (ok.entry).done calm (n + 1) (omega arith) (sym (later.how (n + 1) (omega arith)) ∙ how) in
-                    absurd (let top = later.top in let low = (ok.known).viewtop in omega arith)
-
         by_prepare : (b : Bool) → prepares a.durable e ≡ b → (if b then edits_in a chunk (view_at a chunk) else a.before chunk) ≡ prepared_list v
         by_prepare false none =
             let kept = masters_keep_prepared w v leads reached masters (rows.unprepared none) was in
-            let upgrade = old_upgrade (rows.unprepared none) in
+            let upgrade = upgraded_before w v reached leads (rows.unprepared none) x upgrading in
             let rests = prepared_rests w ok x upgrade kept.0 in
             before x upgrade kept.0 ∙ sym (ap v.known.list kept.1 ∙ (later.fixed w.entry.prepared.stamp (let within = rests.within in let view = known_w.view in omega arith) rests.free).1)
         by_prepare true is =

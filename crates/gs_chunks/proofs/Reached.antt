@@ -10,12 +10,14 @@ use Rattle.gs_run.specs.Lasting.{IsToldIn}
 use Rattle.gs_run.specs.Runs.{Step}
 use Rattle.gs_server.specs.Runs.{slot_in}
 use Rattle.gs_server.specs.Servers.{Server}
+use Rattle.gs_state.specs.Durable.{Durable}
 use Rattle.gs_store.specs.Slots.{Live, Slot}
 use Rattle.gs_theorems.specs.Saying.{KeepsTypes}
 use Rattle.gs_world.specs.declared.place.MasterPlace.{MasterPlace}
 use Rattle.gs_world.specs.declared.place.MasterPlace.TheVariants.{Standing, Closed, Away}
 use Rattle.gs_member.specs.Requests.{Asked, bytes_in}
 use Rattle.gs_lift.specs.Among.{AllAmong, SlotAmong}
+use Rattle.gs_lift.specs.Doing.{HasDurable}
 use Rattle.gs_lift.specs.Running.{LastsArmed, UnknownArmed}
 use Rattle.gs_lift.specs.Living.{ShowsArmed}
 use Rattle.gs_lift.specs.Showing.{ShowsMaster}
@@ -66,6 +68,11 @@ module _ {D : Type 0} (seen : D → List ℕ) where
       (record { durable = shows.durable; kept = shows.kept; counters = shows.counters; told = subst (λ t. IsToldIn t shows.durable) (sym (same_text one two other another first second)) shows.told; shows = shows.shows })
   shown_armed chunk w Away new is shows = absurd shows
 
+  durable_armed : (d : Durable) (place new : MasterPlace D) → IsArmed seen place new → HasDurable seen place d → HasDurable seen new d
+  durable_armed d (Standing m) new (j, is, alike) has = subst (λ place. HasDurable seen place d) (sym is) has
+  durable_armed d (Closed one two) new (other, another, is, first, second) has = subst (λ place. HasDurable seen place d) (sym is) (subst (λ t. IsToldIn t d) (sym (same_text one two other another first second)) has)
+  durable_armed d Away new is has = absurd has
+
   unknown_armed : (chunk epoch : ℕ) (place new : MasterPlace D) → IsArmed seen place new → IsUnknown seen chunk epoch place → IsUnknown seen chunk epoch new
   unknown_armed chunk epoch (Standing m) new (j, is, alike) unknown = subst (IsUnknown seen chunk epoch) (sym is) unknown
   unknown_armed chunk epoch (Closed one two) new (other, another, is, first, second) unknown =
@@ -106,27 +113,30 @@ module _ {D : Type 0} (x : Setup D) (asked : ℕ → Asked) (given : IsGiven x) 
   abbrev bytes : ReqId → List ℕ
   bytes = bytes_in asked
 
-  arms_shown : ShowsArmed x.seen x.armed
-  arms_shown chunk w disk call place shows = shown_armed x.seen chunk w place (x.armed disk call place) (given.armed disk call place) shows
+  pub arms_shown : ShowsArmed x.seen x.armed
+  arms_shown = record {
+    shown = λ chunk w disk call place shows. shown_armed x.seen chunk w place (x.armed disk call place) (given.armed disk call place) shows;
+    durable = λ d disk call place has. durable_armed x.seen d place (x.armed disk call place) (given.armed disk call place) has;
+  }
 
-  arms_lasting : LastsArmed x.seen x.armed
+  pub arms_lasting : LastsArmed x.seen x.armed
   arms_lasting disk call place lasts = arming x x.seen place (x.armed disk call place) (given.armed disk call place) lasts
 
-  arms_unknown : UnknownArmed x.seen x.armed
+  pub arms_unknown : UnknownArmed x.seen x.armed
   arms_unknown chunk disk call epoch place unknown = unknown_armed x.seen chunk epoch place (x.armed disk call place) (given.armed disk call place) unknown
 
-  empty_text : HasBlocks x.config.block x.among (replica_of x.config.chunk []).bytes
+  pub empty_text : HasBlocks x.config.block x.among (replica_of x.config.chunk []).bytes
   unfolding replica_of
   empty_text = blocks_have x.config.block x.among [] given.empty (λ i within. absurd (omega arith))
 
   -- what servers have that are of the store's sizes
-  all_among : (h : History D) → Keeps x.config bytes h → AreAmong x.among h.nodes → (chunk : ℕ) → AllAmong x.among x.config.block chunk h.nodes.servers
+  pub all_among : (h : History D) → Keeps x.config bytes h → AreAmong x.among h.nodes → (chunk : ℕ) → AllAmong x.among x.config.block chunk h.nodes.servers
   all_among h keeps are chunk id s found =
       let a = are id chunk s found in
       subst (λ n. SlotAmong x.among n (slot_in chunk s)) (let k = keeps.servers id s found in k.block) (slot_among x.among s.block (slot_in chunk s) given.empty a.0 a.1)
 
   -- what was sent stays so
-  run_stays : (steps : List Step) (old new : History D) (a b : Account) → Runs x steps old a new b → StaySent old.sent new.sent
+  pub run_stays : (steps : List Step) (old new : History D) (a b : Account) → Runs x steps old a new b → StaySent old.sent new.sent
   run_stays [] old new a b runs id message is = subst (λ (h : History D). message_of h.sent id ≡ Some message) (sym runs.0) is
   run_stays (step ∷ steps) old new a b (mid, c, one, rest) id message is = run_stays steps mid new c b rest id message (step_stays x.seen x.failures x.armed step old mid one.steps.goes id message is)
 
@@ -151,7 +161,7 @@ module _ {D : Type 0} (x : Setup D) (asked : ℕ → Asked) (given : IsGiven x) 
       record { last = more.last; leads = λ chunk. leads_more x.seen x.config bytes chunk step _ old mid new (first.lives.life chunk) (goes.last.life chunk) (more.last.lives.life chunk) (goes.goes chunk) (more.leads chunk) }
 
   -- a store that has begun new
-  shows_first : HaveSizes → (begun : History D) (first : Account) → IsNew x begun first → AllSent (PushRight bytes) begun.sent → AllSent (IsOfOneEdit asked) begun.sent → Shows x asked begun
+  pub shows_first : HaveSizes → (begun : History D) (first : Account) → IsNew x begun first → AllSent (PushRight bytes) begun.sent → AllSent (IsOfOneEdit asked) begun.sent → Shows x asked begun
   shows_first sizes begun first new right one =
       let tells = stores_tell_first x.seen x.failures x.armed x.config bytes x.among asked sizes x.clients x.disks begun given.new new.begins (λ chunk id s found. subst (λ (s : Server). SlotAmong x.among x.config.block (slot_in chunk s)) (sym (begun_new id s found)) (none_among chunk id)) right one in
       record { lives = tells.0; tells = tells.1 }

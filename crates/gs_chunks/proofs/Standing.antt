@@ -4,7 +4,7 @@ use Rattle.std.specs.Prelude.{is_some}
 use Rattle.std.proofs.lemmas.Bool.{cases_lt}
 use Rattle.gs_base.specs.declared.numbers.ReqId.{ReqId}
 use Rattle.gs_account.specs.Accounts.{text_of}
-use Rattle.gs_account.specs.Moving.{copied_from}
+use Rattle.gs_lift.specs.Copying.{copied_from}
 use Rattle.gs_account.specs.Running.{Setup}
 use Rattle.gs_block.proofs.Standing.{behind_same, intact_same}
 use Rattle.gs_block.specs.Stored.{Stored}

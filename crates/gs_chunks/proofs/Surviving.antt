@@ -7,7 +7,7 @@ use Rattle.gs_base.specs.Members.{is_member}
 use Rattle.gs_base.specs.declared.numbers.ReqId.{ReqId}
 use Rattle.gs_base.specs.declared.numbers.Stamp.{Stamp}
 use Rattle.gs_account.specs.Accounts.{Account, least, settled_edits, settled_in, text_of, view_at}
-use Rattle.gs_account.specs.Moving.{copied_from}
+use Rattle.gs_lift.specs.Copying.{copied_from}
 use Rattle.gs_account.specs.Running.{Setup}
 use Rattle.gs_block.proofs.Telling.{whole_same}
 use Rattle.gs_block.specs.Written.{ToldApart}

@@ -3,7 +3,7 @@ use Rattle.std.proofs.Common.{◌≡◌, ◌∙◌, ◌<◌, ℕ, List, Some, tr
 use Rattle.std.specs.FinMap as fin
 use Rattle.gs_base.specs.declared.numbers.ReqId.{ReqId}
 use Rattle.gs_account.specs.Accounts.{Account, settled_in, view_at}
-use Rattle.gs_account.specs.Moving.{copied_from}
+use Rattle.gs_lift.specs.Copying.{copied_from}
 use Rattle.gs_account.specs.Running.{Setup}
 use Rattle.gs_chunk.proofs.Facts.{reached_world}
 use Rattle.gs_chunk.proofs.Lasting.{agrees}

@@ -67,6 +67,11 @@ module _ {D : Type 0} (x : Setup D) where
       ⊎ ((chunk : ℕ) × (numbered : IsNumbered x.config.chunk a chunk req outcome)
       × (is_listed b.durable chunk ≡ true → is_undone b.durable numbered.stamp ≡ false → IsSettledStill a b chunk req numbered.stamp numbered.place))
 
+  -- Whoever is told twice of the edit of one request is told alike, but for a full chunk that was passed.
+  abbrev pub RepeatsAreAlike : Type 0
+  RepeatsAreAlike = (now : History D) (a : Account) (req : ReqId) (one other : Outcome) → IsReached x now a → WasDone now.sent req one → WasDone now.sent req other →
+      PassedFull x.config.chunk a one ⊎ (PassedFull x.config.chunk a other ⊎ (one ≡ other))
+
 -- ---- Worked
 no_epoch_has_ended : (stamp : Stamp) → is_undone start stamp ≡ false
 no_epoch_has_ended stamp = refl

@@ -1,17 +1,26 @@
 -- How an account agrees with the machine of a chunk, and that it goes on so.
-use Rattle.std.specs.Prelude.{◌≡◌, ◌⊎◌, ◌<◌, ◌≤◌, ℕ, false, List, [], None, Some, is_some, slice_get, true}
+use Rattle.std.specs.Prelude.{◌≡◌, ◌⊎◌, ◌<◌, ◌≤◌, ℕ, false, List, [], None, Some, slice_get, true}
 use Rattle.std.specs.FinMap as fin
 use Rattle.gs_base.specs.declared.config.Config.{Config}
 use Rattle.gs_base.specs.declared.numbers.ReqId.{ReqId}
 use Rattle.gs_base.specs.declared.numbers.Stamp.{Stamp}
 use Rattle.gs_account.specs.Accounts.{Account}
-use Rattle.gs_account.specs.Moving.{account_behind, copied_from, prepares, rolls_back}
+use Rattle.gs_account.specs.Moving.{account_behind}
+use Rattle.gs_lift.specs.Copying.{copied_from}
 use Rattle.gs_chunk.specs.Events.{Leads}
 use Rattle.gs_chunk.specs.Laws.{Birth, IsReached, IsUpgrading, prepared_list, world_of}
 use Rattle.gs_chunk.specs.Machine.{World}
 use Rattle.gs_chunk.specs.Stamps.{stamp_at}
-use Rattle.gs_chunk.specs.Mastering.{AreOfMaster, NonePrepared}
-use Rattle.gs_lift.specs.Going.{IsMet}
+use Rattle.gs_chunk.specs.Mastering.{AreOfMaster}
+use Rattle.gs_base.specs.declared.numbers.Moment.{Moment}
+use Rattle.gs_entry.specs.Rows.{AreCopiedSince, IsFirst, RowsGo}
+use Rattle.gs_lift.specs.Going.{AllSent, IsMet, Posts}
+use Rattle.gs_lift.specs.Saying.{AreOfClient}
+use Rattle.gs_msg.specs.declared.body.Body.{Body}
+use Rattle.gs_msg.specs.declared.body.Body.TheVariants as bodies
+use Rattle.gs_msg.specs.declared.message.Message.{Message}
+use Rattle.gs_msg.specs.declared.node.NodeId.{NodeId}
+use Rattle.gs_msg.specs.declared.node.NodeId.TheVariants as nodes
 use Rattle.gs_entry.specs.Showing.{ShowsDurable}
 use Rattle.gs_lift.specs.Accounts.{CountsShow, Lists, ListsShow, edits_copied}
 use Rattle.gs_lift.specs.Joint.{ByMaster, ByServer}
@@ -28,18 +37,39 @@ use Rattle.gs_state.specs.Durable.{Durable, Settled, is_rolling}
 abbrev pub IsOfView : (Stamp → List Edit) → World → Stamp → Type 0
 IsOfView list w stamp = (list stamp ≡ []) ⊎ ((t : ℕ) × (stamp ≡ stamp_at t) × (w.known.born < t) × (w.known.stood t ≡ true) × (list stamp ≡ w.known.list t))
 
+-- A copy of the chunk is asked for under a view in which nobody may number; and the account has of that view what the machine has.
+pub record IsCopyShown (list : Stamp → List Edit) (w : World) (at : Stamp) : Type 0 where
+  pub t : ℕ
+  pub is : at ≡ stamp_at t
+  pub within : t ≤ w.known.view
+  pub free : w.known.holder t ≡ None
+  pub same : list at ≡ w.known.list t
+
+-- so it is of what a server is told
+abbrev pub CopyShows : ℕ → (Stamp → List Edit) → World → NodeId → Body → Type 0
+CopyShows chunk list w (nodes.Server me) (bodies.MakeCopy old at new stamp) = old ≡ chunk → IsCopyShown list w at
+CopyShows chunk list w to body = Unit {0}
+
+-- no server is told to copy the chunk
+abbrev pub CopiesNone : ℕ → NodeId → Body → Type 0
+CopiesNone chunk (nodes.Server me) (bodies.MakeCopy old at new stamp) = old ≡ chunk → ⊥
+CopiesNone chunk to body = Unit {0}
+
 -- The lists of the account are those of the machine, and its counts; and while an upgrade stands, or is being rolled back, what it has of the prepare is the
--- prepared list, of a chunk that was known then. A view that the records tell is one behind the birth.
+-- prepared list, of a chunk that was known then. A view that the records tell is one behind the birth, and one that is known and of which they tell none was settled on none. So it is of
+-- what was copied of the chunk.
 pub record Agrees (a : Account) (sent : Sent) (chunk : ℕ) (b : Birth) (w : World) : Type 0 where
   pub lists : ListsShow a.list (copied_from sent chunk) chunk b w
   pub others : (stamp : Stamp) → IsOfView (a.list chunk) w stamp
   pub counts : CountsShow a.reached chunk w
   pub before : (e : ℕ) → IsUpgrading w e → w.entry.was_known ≡ true → a.before chunk ≡ prepared_list w
   pub late : (x : Settled) → fin.get a.durable.chunks chunk ≡ Some x → w.known.born < w.known.view
+  pub first : IsFirst chunk a.durable w
+  pub copied : AllSent (λ (m : Message). CopyShows chunk (a.list chunk) w m.to m.body) sent
 
--- nothing was promised of the chunk yet, or it began with the edits that it is a copy of, if it is one
+-- it began with the edits that it is a copy of, if it is one
 abbrev pub OriginShows : Lists → Sent → ℕ → Birth → World → Type 0
-OriginShows list sent chunk b w = ((me : ℕ) → (w.members me).promise ≡ 0) ⊎ (edits_copied list (copied_from sent chunk) ≡ b.origin)
+OriginShows list sent chunk b w = edits_copied list (copied_from sent chunk) ≡ b.origin
 
 -- Behind whatever happens at a server the account agrees with the machine if it did before. What the chunk is a copy of is a matter of two chunks.
 abbrev pub ServersAgree : {D : Type 0} → (D → List ℕ) → Config → (ReqId → List ℕ) → Type 0
@@ -49,27 +79,14 @@ ServersAgree {D} seen config bytes = (chunk : ℕ) (step : Step) (old new : Hist
 
 -- And where nothing happens at any server or at the master it agrees as before.
 abbrev pub StillAgree : Type 0 → Config → (ReqId → List ℕ) → Type 0
-StillAgree D config bytes = (chunk : ℕ) (step : Step) (old new : History D) (a : Account) (w : World) (reached : IsReached w) → new.nodes.servers ≡ old.nodes.servers → ShowsNodes config bytes reached.0.epoch chunk new w
+StillAgree D config bytes = (chunk : ℕ) (step : Step) (old new : History D) (a : Account) (w : World) (reached : IsReached w) → new.nodes.servers ≡ old.nodes.servers
+    → (by : NodeId) (messages : List Message) (moment : Moment) → AreOfClient messages → Posts moment by messages old.sent new.sent → ShowsNodes config bytes reached.0.epoch chunk new w
     → Agrees a old.sent chunk reached.0 w → OriginShows (account_behind step old a new a.durable).list new.sent chunk reached.0 w → Agrees (account_behind step old a new a.durable) new.sent chunk reached.0 w
-
--- What a step of the master makes of what the records tell of a chunk. A view that appears where none was told is a later one. Of a chunk that is known and of
--- which none is told none was settled since its birth. One that is settled, and that is forgotten then, is one in which nobody may number. And where a
--- rollback is committed it is accepted at this step, within the epoch, when nothing was proposed; and each view that it gives back is told, and no other. An epoch begins by a
--- prepare where one is accepted alone: then nothing is settled beside, and of each chunk that is known a view is told.
-pub record RowsGo (chunk : ℕ) (d e : Durable) (w v : World) : Type 0 where
-  pub appears : (y : Settled) → fin.get d.chunks chunk ≡ None → fin.get e.chunks chunk ≡ Some y → w.known.view < v.known.view
-  pub first : w.entry.is_known ≡ true → fin.get d.chunks chunk ≡ None → w.known.view ≡ w.known.born
-  pub fades : v.entry.is_known ≡ false → w.known.view < v.known.view → v.known.holder v.known.view ≡ None
-  pub back : w.known.top < v.known.view → (rolls_back d e ≡ true) × (v.known.current ≡ w.known.current) × (w.known.view ≡ w.known.top)
-  pub given : w.known.top < v.known.view → v.known.stood v.known.view ≡ true → is_some (fin.get e.chunks chunk) ≡ true
-  pub returned : w.known.top < v.known.view → is_some (fin.get e.chunks chunk) ≡ true → v.known.stood v.known.view ≡ true
-  pub unprepared : prepares d e ≡ false → NonePrepared w v
-  pub prepared : prepares d e ≡ true → v.entry.was_known ≡ true → (is_some (fin.get d.chunks chunk) ≡ true) × (w.entry.is_known ≡ true) × (v.entry.prepared.stamp ≡ w.known.view) × (v.known.view ≡ w.known.view)
 
 -- Behind whatever the master does, an account agrees with the machine if it did before.
 abbrev pub MastersAgree : {D : Type 0} → (D → List ℕ) → Config → (ReqId → List ℕ) → Type 0
 MastersAgree {D} seen config bytes = (chunk : ℕ) (step : Step) (old new : History D) (a : Account) (w v : World) (reached : IsReached w) → ShowsNodes config bytes reached.0.epoch chunk new v
-    → (by : ByMaster seen config bytes reached.0.epoch chunk step old new w v) → by.before ≡ a.durable → RowsGo chunk by.before by.behind w v
+    → (by : ByMaster seen config bytes reached.0.epoch chunk step old new w v) → by.before ≡ a.durable
     → Agrees a old.sent chunk reached.0 w → OriginShows a.list new.sent chunk reached.0 v → OriginShows (account_behind step old a new by.behind).list new.sent chunk reached.0 v
     → Agrees (account_behind step old a new by.behind) new.sent chunk reached.0 v
 
@@ -85,7 +102,7 @@ ServersKeepLists {D} seen config bytes = (chunk : ℕ) (step : Step) (old new : 
 
 abbrev pub MastersKeepLists : {D : Type 0} → (D → List ℕ) → Config → (ReqId → List ℕ) → Type 0
 MastersKeepLists {D} seen config bytes = (chunk : ℕ) (step : Step) (old new : History D) (a : Account) (w v : World) (reached : IsReached w) → ShowsNodes config bytes reached.0.epoch chunk new v
-    → (by : ByMaster seen config bytes reached.0.epoch chunk step old new w v) → by.before ≡ a.durable → RowsGo chunk by.before by.behind w v → ListsStay chunk a w (account_behind step old a new by.behind) v
+    → (by : ByMaster seen config bytes reached.0.epoch chunk step old new w v) → by.before ≡ a.durable → ListsStay chunk a w (account_behind step old a new by.behind) v
 
 abbrev pub StillKeepsLists : Type 0 → Type 0
 StillKeepsLists D = (chunk : ℕ) (step : Step) (old new : History D) (a : Account) (w : World) → new.nodes.servers ≡ old.nodes.servers → ListsStay chunk a w (account_behind step old a new a.durable) w
@@ -107,4 +124,5 @@ BlanksStay D = (chunk : ℕ) (step : Step) (old new : History D) (a : Account) (
 abbrev pub BirthsAgree : Type 0 → Config → (ReqId → List ℕ) → Type 0
 BirthsAgree D config bytes = (chunk : ℕ) (step : Step) (old new : History D) (a : Account) (d : Durable) (b : Birth) (v : World) → IsBlank a chunk → new.nodes.servers ≡ old.nodes.servers → (leads : Leads (world_of b) v) → AreOfMaster (world_of b) v leads
     → ShowsNodes config bytes b.epoch chunk new v → ShowsDurable chunk d v.entry → is_rolling a.durable.phase ≡ false → RowsGo chunk a.durable d (world_of b) v
-    → OriginShows a.list new.sent chunk b v → OriginShows (account_behind step old a new d).list new.sent chunk b v → Agrees (account_behind step old a new d) new.sent chunk b v
+    → AllSent (λ (m : Message). CopiesNone chunk m.to m.body) old.sent → (messages : List Message) (moment : Moment) → Posts moment nodes.Master messages old.sent new.sent → AreCopiedSince chunk d 0 true v messages
+    → OriginShows (account_behind step old a new d).list new.sent chunk b v → Agrees (account_behind step old a new d) new.sent chunk b v

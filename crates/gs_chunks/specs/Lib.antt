@@ -11,3 +11,5 @@ pub mod Durables
 pub mod Agreeing
 pub mod Joining
 pub mod Reached
+pub mod Seeing
+pub mod Locating

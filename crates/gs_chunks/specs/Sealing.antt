@@ -63,11 +63,11 @@ module _ {D : Type 0} (x : Setup D) where
       KeepsText x.config.chunk before.durable.epoch view (settled_edits before chunk) chunk s
 
   -- A survivor that has learned of the rollback has its replica live behind that too, whatever happens, the commit and all that comes behind it: until the server
-  -- makes a greater promise, or the replica is lost, damaged or dropped.
+  -- makes a greater promise, or the replica is lost or damaged, or it is told to drop it under that promise.
   abbrev pub RolledBackStay : Type 0
   RolledBackStay = (prepared now later : History D) (before after b : Account) (chunk id : ℕ) (s r : Server) (steps : List Step) → IsNumber chunk → IsUpgrading x prepared before now after → Survives before after chunk id →
       slice_get now.nodes.servers id ≡ Some s → s.kept.epoch ≡ before.durable.epoch + 1 →
-      (runs : Runs x steps now after later b) → Spare chunk id steps → DropsNone x chunk id steps now after later b runs →
+      (runs : Runs x steps now after later b) → Spare chunk id steps → DropsNone x chunk id (start_of (before.durable.epoch + 1)) steps now after later b runs →
       slice_get later.nodes.servers id ≡ Some r → is_before (start_of (before.durable.epoch + 1)) (slot_in chunk r).promise ≡ false →
       IsLiveWith x.config.chunk (start_of (before.durable.epoch + 1)) (settled_edits before chunk) (slot_in chunk r)
 

@@ -22,7 +22,7 @@ use Rattle.gs_serving.specs.Following.{edit_in}
 use Rattle.gs_store.specs.Slots.{Live}
 use Rattle.gs_replica.specs.Stands.{Edit, StandsFor}
 use Rattle.gs_run.specs.Histories.{History}
-use Rattle.gs_account.specs.Moving.{copied_from}
+use Rattle.gs_lift.specs.Copying.{copied_from}
 
 -- ---- each replica stands for a beginning of a list
 

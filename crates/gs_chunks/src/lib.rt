@@ -7,8 +7,13 @@ ghost use Rattle.gs_base.specs.declared.numbers.ReqId.{ReqId};
 ghost use Rattle.gs_account.specs.Running.{Setup};
 ghost use Rattle.gs_chunks.specs.Agreeing.{BirthsAgree, BlanksStay, ListsStayOn, MastersAgree, MastersKeepLists, ServersAgree, ServersKeepLists, StillAgree, StillKeepsLists};
 ghost use Rattle.gs_chunks.specs.Reached.{EachIsARun, EachLeadsOn};
-ghost use Rattle.gs_chunks.specs.Joining.{StoresAgreeOn};
+ghost use Rattle.gs_chunks.specs.Acknowledged.{DoneStays, RepeatsAreAlike};
+ghost use Rattle.gs_chunks.specs.Joining.{StoresAgreeFirst, StoresAgreeOn};
+ghost use Rattle.gs_chunks.specs.Reading.{LocationsWereLookedUp, ReadsAreLegal};
+ghost use Rattle.gs_chunks.specs.Sealing.{RolledBackStay, SurvivorsKeepTheirText, SurvivorsName};
+ghost use Rattle.gs_chunks.specs.Standing.{QuietStaysStill, ReplicasStand};
 ghost use Rattle.gs_chunks.specs.Durables.{ToldIsHad};
+ghost use Rattle.gs_chunks.specs.Seeing.{EachIsSeen, EachSeesOn, StoresStayIntact};
 ghost use Rattle.gs_chunks.specs.SeenEdits.{SeenDonesStay};
 ghost use Rattle.gs_chunks.specs.SeenReads.{SeenReadsAreLegal};
 ghost use Rattle.gs_chunks.specs.Seen.{PreparesSettled, SeenQuietIsStill, SeenReplicasStand, SeenRolledBackStay, SeenSurvivorsKeep, SeenSurvivorsName, UnbornHaveNone};
@@ -31,8 +36,8 @@ pub fn what_the_records_tell_is_what_the_master_has<D>()
     ensures { (seen : D → List ℕ) → ToldIsHad seen }
 {}
 
-/// The account of a run agrees with the machine of each chunk: its lists are those of the views that stood, its counts those that were reached, and what it
-/// has of a prepare is the prepared list. It goes on so at each step.
+/// The account of a run agrees with the machine of each chunk: its lists are those of the views that stood, its counts those that were reached, what it has of a prepare is
+/// the prepared list, and what is told to be copied is a list that it has. It goes on so at each step.
 pub fn accounts_agree_with_machines<D>()
     ensures servers { (seen : D → List ℕ) (config : Config) (bytes : ReqId → List ℕ) → ServersAgree seen config bytes }
     ensures masters { (seen : D → List ℕ) (config : Config) (bytes : ReqId → List ℕ) → MastersAgree seen config bytes }
@@ -59,10 +64,11 @@ pub fn seen_replicas_stand<D>()
     ensures unborn { (seen : D → List ℕ) → UnbornHaveNone seen }
 {}
 
-/// The account of a run of a store agrees with the machines of all its chunks behind each step, where it did so before it: if what the master does to the records of a
-/// chunk is as it does it, and what a copy began with is shown.
+/// The account of a run of a store agrees with the machines of all its chunks when the store begins new, and behind each step where it did so before it. A copy was born with
+/// what the account has of the view that it is a copy of.
 pub fn accounts_of_stores_agree_with_machines<D>()
-    ensures { (x : Setup D) (bytes : ReqId → List ℕ) → StoresAgreeOn x bytes }
+    ensures first { (x : Setup D) (bytes : ReqId → List ℕ) → StoresAgreeFirst x bytes }
+    ensures steps { (x : Setup D) (bytes : ReqId → List ℕ) → StoresAgreeOn x bytes }
 {
     a_message_edits_a_replica_by_what_it_says();
 }
@@ -101,3 +107,77 @@ pub fn seen_done_edits_stay<D>()
 pub fn settled_views_are_prepared()
     ensures { PreparesSettled }
 {}
+
+/// Who survives by the account of a run, of those from whom a rollback may take a chunk, is intact in the chunk's machine, behind each step of a store at which it was so before it.
+pub fn accounts_tell_who_is_intact<D>()
+    ensures { (x : Setup D) (bytes : ReqId → List ℕ) → StoresStayIntact x bytes }
+{}
+
+/// Behind each run of a store that has begun new, in which no disk of the master fails and all that is asked is within its types, where different blocks have different digests: each chunk is not
+/// born yet, or a machine of it shows the store; the account of the run agrees with the machines, and who survives by it is intact in them. In a later world of the run each
+/// chunk that lived leads on, and what the account had of its views it has still.
+pub fn all_chunks_are_seen<D>()
+    ensures reached { (x : Setup D) → EachIsSeen x }
+    ensures onward { (x : Setup D) → EachSeesOn x }
+{
+    configurations_have_sizes();
+    a_message_edits_a_replica_by_what_it_says();
+}
+
+/// Behind each run of a store, each live replica stands for a beginning of a list: it has applied that many edits of one view's list, from the first on, has as many bytes as they leave, and each of its blocks that
+/// isn't damaged holds theirs. Here and below a run is one that has begun new, in which no disk of the master fails, all that is asked is within its types, and different blocks have different digests.
+pub fn replicas_stand_for_beginnings_of_lists<D>()
+    ensures { (x : Setup D) → ReplicasStand x }
+{
+    configurations_have_sizes();
+    a_message_edits_a_replica_by_what_it_says();
+}
+
+/// Behind each run each member of a quiet chunk, of which the view was settled without a primary and no other is proposed, has as many edits as the view counts, under its stamp, unless its replica is lost. No message that was
+/// ever sent makes it take another edit.
+pub fn quiet_chunks_are_still<D>()
+    ensures { (x : Setup D) → QuietStaysStill x }
+{
+    configurations_have_sizes();
+    a_message_edits_a_replica_by_what_it_says();
+    an_event_calls_what_it_says();
+}
+
+/// An edit that a client was told done was numbered under the stamp that it was asked for under, once, or it passed a full chunk. It is settled then and in each later world of the run in which a file has the chunk, at
+/// the same place, behind the same edits, unless the upgrade within which it was numbered was rolled back. Whoever is told twice of one request is told alike, but for a full chunk that was passed.
+pub fn done_edits_stay<D>()
+    ensures stays { (x : Setup D) → DoneStays x }
+    ensures repeats { (x : Setup D) → RepeatsAreAlike x }
+{
+    configurations_have_sizes();
+    a_message_edits_a_replica_by_what_it_says();
+}
+
+/// Whatever has happened since a chunk was looked up, a member of the view that was told gives a read in that epoch the part that was asked for of the text of a beginning of the list of this view or a later one, with all
+/// edits that were settled at the look-up; or it refuses.
+pub fn reads_are_legal<D>()
+    ensures { (x : Setup D) → ReadsAreLegal x }
+{
+    configurations_have_sizes();
+    a_message_edits_a_replica_by_what_it_says();
+}
+
+/// While an upgrade stands, and while it is rolled back, each server that survives keeps the text of the prepare: live under the stamp of then until it learns of the prepare, sealed while it knows of the upgrade, and
+/// live under the first stamp of the rollback's epoch once it has learned of that. And it names the chunk where it learns of the rollback, and where it is told so again. One that has
+/// rolled back keeps that text behind the commit too, whatever happens, until it makes a greater promise, or its replica is lost, damaged or dropped.
+pub fn survivors_keep_what_stood_at_the_prepare<D>()
+    ensures keep { (x : Setup D) → SurvivorsKeepTheirText x }
+    ensures name { (x : Setup D) → SurvivorsName x }
+    ensures stay { (x : Setup D) → RolledBackStay x }
+{
+    configurations_have_sizes();
+    a_message_edits_a_replica_by_what_it_says();
+}
+
+/// Each view of a chunk that a client was ever told was looked up in some world of the run: the records told then that a file has the chunk, or had it, that this is its settled view, and that this is the epoch; and
+/// nothing was rolled back. It needn't be where the client was first told: an answer that is kept may be sent later, when another view has been settled.
+pub fn locations_were_looked_up<D>()
+    ensures { (x : Setup D) → LocationsWereLookedUp x }
+{
+    configurations_have_sizes();
+}

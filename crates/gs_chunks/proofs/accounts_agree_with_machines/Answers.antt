@@ -1,4 +1,5 @@
-use Rattle.gs_chunks.proofs.Agreeing.{births_agree, masters_agree, servers_agree, still_agrees}
+use Rattle.gs_chunks.proofs.Agreeing.{masters_agree, servers_agree, still_agrees}
+use Rattle.gs_chunks.proofs.Births.{births_agree}
 use Rattle.gs_chunks.proofs.Still.{blank_stays}
 use Rattle.gs_chunks.proofs.accounts_agree_with_machines.Goals as goal
 

@@ -1,0 +1,265 @@
+-- Each view of a chunk that a client was told was looked up.
+use Rattle.std.proofs.Common.{◌≡◌, ◌∙◌, ◌++◌, ℕ, Bool, List, [], ◌∷◌, Option, Some, None, refl, sym, ap, subst, inl, inr}
+use Rattle.std.specs.Prelude.{is_some}
+use Rattle.std.specs.FinMap as fin
+use Rattle.std.specs.List.{AllByRecursion}
+use Rattle.std.proofs.lemmas.Bool.{false≢true}
+use Rattle.gs_base.specs.declared.config.Config.{Config}
+use Rattle.gs_base.specs.declared.numbers.Moment.{Moment}
+use Rattle.gs_base.specs.declared.numbers.ReqId.{ReqId}
+use Rattle.gs_journal.specs.Records.{standing}
+use Rattle.gs_lease.specs.declared.view.View.{View}
+use Rattle.gs_msg.specs.declared.body.Body.{Body}
+use Rattle.gs_msg.specs.declared.body.Body.TheVariants as bodies
+use Rattle.gs_msg.specs.declared.event.DiskId.{DiskId}
+use Rattle.gs_msg.specs.declared.message.Message.{Message}
+use Rattle.gs_msg.specs.declared.node.NodeId.{NodeId}
+use Rattle.gs_msg.specs.declared.node.NodeId.TheVariants as ids
+use Rattle.gs_state.specs.Durable.{Durable, start}
+use Rattle.gs_state.specs.Handling.{restarted}
+use Rattle.gs_state.specs.Replies.{client_cmp}
+use Rattle.gs_state.specs.State.{Log, State, Turn}
+use Rattle.gs_server.specs.Servers.{Server}
+use Rattle.gs_world.specs.Happenings.{refusal_of_call}
+use Rattle.gs_master.specs.Masters.{MasterOf}
+use Rattle.gs_world.specs.declared.place.MasterPlace.{MasterPlace}
+use Rattle.gs_world.specs.declared.place.MasterPlace.TheVariants.{Standing, Closed, Away}
+use Rattle.gs_run.proofs.Reaching.{HaveSizes}
+use Rattle.gs_run.specs.Histories.{History}
+use Rattle.gs_run.specs.Lasting.{IsToldIn, Lasts, failures_at}
+use Rattle.gs_run.specs.Runs.{Step}
+use Rattle.gs_run.specs.Sent.{Sent}
+use Rattle.gs_moves.specs.Epochs.{EndsOnce}
+use Rattle.gs_moves.specs.Guards.{Heard}
+use Rattle.gs_moves.specs.Laws.{IsMadeWell}
+use Rattle.gs_moves.specs.Locations.{IsToldOnlyIf, KeepsLocation}
+use Rattle.gs_moves.specs.Locations as replies
+use Rattle.gs_entry.proofs.Located.{all_further, kept_are_looked_up, sent_are_looked_up, told_further}
+use Rattle.gs_entry.specs.Families.{Family, Heard_of, MarksOf}
+use Rattle.gs_entry.specs.Locating.{IsLookedUpIn, IsToldSo}
+use Rattle.gs_member.proofs.Elsewhere.{ByServer}
+use Rattle.gs_member.specs.Answering.{IsByServer}
+use Rattle.gs_lift.proofs.AskingServers.{handled_by, tick_by}
+use Rattle.gs_lift.proofs.Beginning.{begins_none, begins_restarted}
+use Rattle.gs_lift.proofs.Chains.{Begun, begun_standing, begun_started, heard_of, marks_of}
+use Rattle.gs_lift.proofs.Doing.{masters_do}
+use Rattle.gs_lift.proofs.Placing.{kind_of}
+use Rattle.gs_lift.proofs.Posting.{posted_all, sent_then}
+use Rattle.gs_lift.specs.Doing.{Arms, Does, HasDurable, IsHeardIn, Moves as Does_moves, Refuses, Starts, Waits}
+use Rattle.gs_lift.specs.Going.{AllSent, Beats, Damages, Elsewhere, Hears, Kind, Loses, OfMaster, OfServer, Posts, Restarts, ServerGoes, Ticks}
+use Rattle.gs_lift.specs.Living.{StoreLives}
+use Rattle.gs_lift.specs.Saying.{AreOfClient, IsOfClient}
+use Rattle.gs_lift.specs.Showing.{whole_in}
+use Rattle.gs_account.proofs.Once.{told_once}
+use Rattle.gs_account.proofs.Told.{named, one_lasts, reached_sound}
+use Rattle.gs_account.specs.Accounts.{Account}
+use Rattle.gs_account.specs.Running.{IsArmed, IsNew, IsReached, Moves, Runs, Setup}
+use Rattle.gs_chunks.proofs.Durables.{told_is_had}
+use Rattle.gs_chunks.proofs.Reached.{each_is_a_run}
+use Rattle.gs_chunks.specs.Locating.{IsLocatedAt, KeepsAt, LocatesSo, WereLookedUp}
+use Rattle.gs_chunks.specs.Reading.{LocationsWereLookedUp, WasLookedUp}
+
+-- ---- who tells of no chunk
+
+module _ (Was : ℕ → View → ℕ → Type 0) where
+  abbrev TellIf : List Message → Type 0
+  TellIf messages = AllByRecursion (λ (m : Message). IsToldOnlyIf Was m.body) messages
+
+  server_silent : (body : Body) → IsByServer body → IsToldOnlyIf Was body
+  server_silent (bodies.Reply req result) by = absurd by
+  server_silent body by = tt
+
+  servers_silent : (messages : List Message) → ByServer messages → TellIf messages
+  servers_silent [] by = tt
+  servers_silent (m ∷ messages) by = (server_silent m.body by.0, servers_silent messages by.1)
+
+  client_silent : (body : Body) → IsOfClient body → IsToldOnlyIf Was body
+  client_silent (bodies.Reply req result) of = absurd of
+  client_silent body of = tt
+
+  clients_silent : (messages : List Message) → AreOfClient messages → TellIf messages
+  clients_silent [] of = tt
+  clients_silent (m ∷ messages) of = (client_silent m.body of.0, clients_silent messages of.1)
+
+  refusals_silent : (caller : Option ReqId) → TellIf (refusal_of_call caller)
+  refusals_silent None = tt
+  refusals_silent (Some req) = (tt, tt)
+
+goes_by : (sent : Sent) (id : ℕ) (s after : Server) (messages : List Message) → ServerGoes sent id s after messages → ByServer messages
+goes_by sent id s after messages (Hears message moment was to is sends) = subst ByServer (sym sends) (handled_by s message moment)
+goes_by sent id s after messages (Ticks moment is sends) = subst ByServer (sym sends) (tick_by s moment)
+goes_by sent id s after messages (Beats is sends) = subst ByServer (sym sends) (tt, tt)
+goes_by sent id s after messages (Restarts is sends) = subst ByServer (sym sends) tt
+goes_by sent id s after messages (Loses handle is sends) = subst ByServer (sym sends) tt
+goes_by sent id s after messages (Damages handle block is sends) = subst ByServer (sym sends) tt
+
+-- of no replies none tells so
+none_told : (chunk : ℕ) (view : View) (epoch : ℕ) → replies.IsToldIn fin.empty chunk view epoch → ⊥
+none_told chunk view epoch k = false≢true (ap is_some (sym (fin.get-empty client_cmp k.client) ∙ k.has))
+
+-- ---- what the master does
+
+module _ {D : Type 0} (seen : D → List ℕ) (config : Config) (bytes : ReqId → List ℕ) (among : List ℕ → Bool) (step : Step) (old new : History D) (lives : StoreLives seen config bytes among old) where
+  -- a turn of moves
+  module _ (s : State) (begun : (chunk : ℕ) → Begun seen config bytes among step None old new lives chunk s (lives.life chunk)) (by_config : Config) (heard : Heard) (t : Turn) (turn : EndsOnce by_config (IsMadeWell by_config heard) s t) (was : IsHeardIn old.sent heard)
+      (before : (chunk : ℕ) (view : View) (epoch : ℕ) → KeepsLocation s chunk view epoch → KeepsAt seen old.nodes.master chunk view epoch)
+      (place : MasterPlace D) (messages : List Message) (after : MasterOf D) (master : place ≡ Standing after) (state : after.state ≡ t.after) (sends : messages ≡ t.sent) where
+    family : Family s
+    family chunk = (begun chunk).there
+
+    whole : ℕ → ℕ → Bool
+    whole chunk = whole_in t.after.durable chunk old.nodes.servers
+
+    hears : (chunk : ℕ) → Heard_of chunk s heard (family chunk)
+    unfolding family
+    hears chunk = heard_of seen config bytes among step None old new lives s heard was chunk (lives.life chunk) (begun chunk).there (begun chunk).linked
+
+    marks : (chunk : ℕ) → MarksOf chunk s (whole chunk) (family chunk)
+    unfolding family whole
+    marks chunk = marks_of seen config bytes among step None old new lives s t.after.durable chunk (lives.life chunk) (begun chunk).there (begun chunk).linked
+
+    located : (chunk : ℕ) (view : View) (epoch : ℕ) → IsToldSo s t.after.durable chunk view epoch → IsLocatedAt seen old.nodes.master place chunk view epoch
+    located chunk view epoch (inl k) = inl (before chunk view epoch k)
+    located chunk view epoch (inr looked) = inr (t.after.durable, subst (λ p. HasDurable seen p t.after.durable) (sym master) (ap (λ (u : State). u.durable) state), looked)
+
+    turn_locates : LocatesSo seen old.nodes.master place messages
+    turn_locates = record {
+      kept = λ chunk view epoch k. located chunk view epoch
+          (kept_are_looked_up whole by_config heard s t family hears marks turn chunk view epoch (subst (λ (u : State). KeepsLocation u chunk view epoch) state (subst (λ p. KeepsAt seen p chunk view epoch) master k)));
+      sent = subst (λ ms. AllByRecursion (λ (m : Message). IsToldOnlyIf (IsLocatedAt seen old.nodes.master place) m.body) ms) (sym sends)
+          (all_further (IsToldSo s t.after.durable) (IsLocatedAt seen old.nodes.master place) located t.sent (sent_are_looked_up whole by_config heard s t family hears marks turn));
+    }
+
+  -- what is durable is kept where the master is
+  durable_kept : (d : Durable) (there : MasterPlace D) → HasDurable seen there d → (chunk : ℕ) (view : View) (epoch : ℕ) → replies.IsToldIn d.replies chunk view epoch → KeepsAt seen there chunk view epoch
+  durable_kept d (Standing m) had chunk view epoch k = inl (subst (λ (e : Durable). replies.IsToldIn e.replies chunk view epoch) (sym had) k)
+  durable_kept d (Closed first second) had chunk view epoch k = (d, had, k)
+  durable_kept d Away had chunk view epoch k = absurd had
+
+  -- a restart forgets what was kept in memory
+  restarted_keeps : (d : Durable) (log : Log) → HasDurable seen old.nodes.master d → (chunk : ℕ) (view : View) (epoch : ℕ) → KeepsLocation (restarted d log) chunk view epoch → KeepsAt seen old.nodes.master chunk view epoch
+  restarted_keeps d log had chunk view epoch (inl k) = durable_kept d old.nodes.master had chunk view epoch k
+  restarted_keeps d log had chunk view epoch (inr k) = absurd (none_told chunk view epoch k)
+
+  waits_on : (d : Durable) (first second : D) → IsToldIn (standing (seen first) (seen second)) d → HasDurable seen old.nodes.master d → (chunk : ℕ) (view : View) (epoch : ℕ) → KeepsAt seen (Closed first second) chunk view epoch → KeepsAt seen old.nodes.master chunk view epoch
+  waits_on d first second told had chunk view epoch (e, tells, k) =
+      durable_kept d old.nodes.master had chunk view epoch (subst (λ (y : Durable). replies.IsToldIn y.replies chunk view epoch) (told_once (standing (seen first) (seen second)) e d tells told) k)
+
+  -- a failure that is arranged changes nothing that is kept
+  armed_keeps : (there place : MasterPlace D) → IsArmed seen there place → (chunk : ℕ) (view : View) (epoch : ℕ) → KeepsAt seen place chunk view epoch → KeepsAt seen there chunk view epoch
+  armed_keeps (Standing m) place (j, is, alike) chunk view epoch k = subst (λ p. KeepsAt seen p chunk view epoch) is k
+  armed_keeps (Closed first second) place (other, another, is, one, two) chunk view epoch k =
+      let told = subst (λ p. KeepsAt seen p chunk view epoch) is k in
+      (told.0, subst (λ t. IsToldIn t told.0) (ap (λ s. standing s (seen another)) one ∙ ap (standing (seen first)) two) told.1, told.2)
+  armed_keeps Away place is chunk view epoch k = subst (λ p. KeepsAt seen p chunk view epoch) is k
+
+  module _ (armed : DiskId → ℕ → MasterPlace D → MasterPlace D) (arming : (disk : DiskId) (call : ℕ) (there : MasterPlace D) → IsArmed seen there (armed disk call there)) (place : MasterPlace D) (messages : List Message) where
+    -- nothing is sent that tells of a chunk
+    quietly : ((chunk : ℕ) (view : View) (epoch : ℕ) → KeepsAt seen place chunk view epoch → KeepsAt seen old.nodes.master chunk view epoch) → AllByRecursion (λ (m : Message). IsToldOnlyIf (IsLocatedAt seen old.nodes.master place) m.body) messages → LocatesSo seen old.nodes.master place messages
+    quietly keeps silent = record { kept = λ chunk view epoch k. inl (keeps chunk view epoch k); sent = silent }
+
+    masters_locate : Does seen armed old.sent old.nodes.master place messages → LocatesSo seen old.nodes.master place messages
+    masters_locate (Does_moves m after heard t at master was turn state sends) =
+        turn_locates m.state (λ chunk. begun_standing seen config bytes among step None old new lives m at chunk (lives.life chunk)) m.config heard t turn was (λ chunk view epoch k. subst (λ p. KeepsAt seen p chunk view epoch) (sym at) k) place messages after master state sends
+    masters_locate (Starts by_config d log after t had kept counters master turn state sends) =
+        turn_locates (restarted d log) (λ chunk. begun_started seen config bytes among step None old new lives d log had kept counters chunk (lives.life chunk)) by_config None t turn (inl refl) (restarted_keeps d log had) place messages after master state sends
+    masters_locate (Waits d first second had kept counters master told none) =
+        quietly (λ chunk view epoch k. waits_on d first second told had chunk view epoch (subst (λ p. KeepsAt seen p chunk view epoch) master k)) (subst (λ ms. AllByRecursion (λ (m : Message). IsToldOnlyIf (IsLocatedAt seen old.nodes.master place) m.body) ms) (sym none) tt)
+    masters_locate (Refuses caller same sends) =
+        quietly (λ chunk view epoch k. subst (λ p. KeepsAt seen p chunk view epoch) same k) (subst (λ ms. AllByRecursion (λ (m : Message). IsToldOnlyIf (IsLocatedAt seen old.nodes.master place) m.body) ms) (sym sends) (refusals_silent (IsLocatedAt seen old.nodes.master place) caller))
+    masters_locate (Arms disk call is none) =
+        quietly (λ chunk view epoch k. armed_keeps old.nodes.master (armed disk call old.nodes.master) (arming disk call old.nodes.master) chunk view epoch (subst (λ p. KeepsAt seen p chunk view epoch) is k))
+        (subst (λ ms. AllByRecursion (λ (m : Message). IsToldOnlyIf (IsLocatedAt seen old.nodes.master place) m.body) ms) (sym none) tt)
+
+-- so a new store keeps none
+both_none : (log : Log) (chunk : ℕ) (view : View) (epoch : ℕ) → KeepsLocation (restarted start log) chunk view epoch → ⊥
+both_none log chunk view epoch (inl k) = none_told chunk view epoch k
+both_none log chunk view epoch (inr k) = none_told chunk view epoch k
+
+-- ---- runs
+
+module _ {D : Type 0} (x : Setup D) where
+  runs_then : (steps : List Step) (step : Step) (old mid new : History D) (a c b : Account) → Runs x steps old a mid c → Moves x step mid c new b → Runs x (steps ++ step ∷ []) old a new b
+  runs_then [] step old mid new a c b same moves = (new, b, subst (λ h. Moves x step h a new b) same.0 (subst (λ y. Moves x step mid y new b) same.1 moves), (refl, refl))
+  runs_then (one ∷ steps) step old mid new a c b (h, e, first, rest) moves = (h, e, first, runs_then steps step h mid new e c b rest moves)
+
+  reached_then : (step : Step) (old new : History D) (a b : Account) → IsReached x old a → Moves x step old a new b → IsReached x new b
+  reached_then step old new a b r moves = record { apart = r.apart; begun = r.begun; first = r.first; steps = r.steps ++ step ∷ []; begins = r.begins; runs = runs_then r.steps step r.begun old new r.first a b r.runs moves }
+
+  -- what was looked up stays so
+  looked_then : (step : Step) (old new : History D) (a b : Account) → Moves x step old a new b → (chunk : ℕ) (view : View) (epoch : ℕ) → WasLookedUp x old a chunk view epoch → WasLookedUp x new b chunk view epoch
+  looked_then step old new a b moves chunk view epoch was =
+      record { looked = was.looked; a = was.a; reached = was.reached; steps = was.steps ++ step ∷ []; runs = runs_then was.steps step was.looked old new was.a a b was.runs moves; is = was.is }
+
+  looked_now : (now : History D) (a : Account) → IsReached x now a → (d : Durable) → d ≡ a.durable → (chunk : ℕ) (view : View) (epoch : ℕ) → IsLookedUpIn d chunk view epoch → WasLookedUp x now a chunk view epoch
+  looked_now now a r d same chunk view epoch looked =
+      let is = subst (λ (e : Durable). IsLookedUpIn e chunk view epoch) same looked in
+      record { looked = now; a = a; reached = r; steps = []; runs = (refl, refl); is = record { listed = is.listed; settled = is.settled; now = is.now; calm = is.calm } }
+
+  -- ---- a step
+
+  module _ (sizes : HaveSizes) (step : Step) (old new : History D) (a b : Account) (r : IsReached x old a) (moves : Moves x step old a new b) (were : WereLookedUp x old a) where
+    abbrev Then : ℕ → View → ℕ → Type 0
+    Then = WasLookedUp x new b
+
+    abbrev on : (chunk : ℕ) (view : View) (epoch : ℕ) → WasLookedUp x old a chunk view epoch → Then chunk view epoch
+    on = looked_then step old new a b moves
+
+    -- what was sent before
+    old_sent : AllSent (λ (m : Message). IsToldOnlyIf Then m.body) old.sent
+    old_sent = sent_then (λ (m : Message). IsToldOnlyIf (WasLookedUp x old a) m.body) (λ (m : Message). IsToldOnlyIf Then m.body) old.sent (λ m was. told_further (WasLookedUp x old a) Then on m.body was) were.sent
+
+    -- the master does nothing
+    elsewhere : (moment : Moment) (by : NodeId) (messages : List Message) → new.nodes.master ≡ old.nodes.master → Posts moment by messages old.sent new.sent → AllByRecursion (λ (m : Message). IsToldOnlyIf Then m.body) messages → WereLookedUp x new b
+    elsewhere moment by messages same posted silent = record {
+      sent = posted_all (λ (m : Message). IsToldOnlyIf Then m.body) moment by messages old.sent new.sent posted old_sent silent;
+      kept = λ chunk view epoch k. on chunk view epoch (were.kept chunk view epoch (subst (λ p. KeepsAt x.seen p chunk view epoch) same k));
+    }
+
+    lasts : Lasts x.seen new.nodes.master
+    lasts = let sound = reached_sound x old a r in (one_lasts x r.begins.given step old new sound.lasts sound.types moves.steps).0
+
+    looked : (chunk : ℕ) (view : View) (epoch : ℕ) → IsLocatedAt x.seen old.nodes.master new.nodes.master chunk view epoch → Then chunk view epoch
+    looked chunk view epoch (inl k) = on chunk view epoch (were.kept chunk view epoch k)
+    looked chunk view epoch (inr (d, has, is)) = looked_now new b (reached_then step old new a b r moves) d (told_is_had x.seen new.nodes.master b.durable d lasts moves.told has) chunk view epoch is
+
+    by_kind : Kind x.seen x.failures x.armed step old new → WereLookedUp x new b
+    by_kind (OfServer id s after messages moment found goes met servers master posted) = elsewhere moment (ids.Server id) messages master posted (servers_silent Then messages (goes_by old.sent id s after messages goes))
+    by_kind (Elsewhere by messages moment are servers master posted) = elsewhere moment by messages master posted (clients_silent Then messages are)
+    by_kind (OfMaster place messages moment goes servers master posted) =
+        let run = each_is_a_run sizes x old a r in
+        let lives = run.2.lives in
+        let does = masters_do x.seen x.failures x.armed old.nodes.config old.sent old.nodes.master place messages lives.lasts (sym (ap (failures_at x.failures) master) ∙ moves.steps.sound) goes in
+        let so = masters_locate x.seen x.config _ x.among step old new lives x.armed r.begins.given.armed place messages does in
+        let there = subst (λ p. LocatesSo x.seen old.nodes.master p messages) (sym master) so in
+        record {
+          sent = posted_all (λ (m : Message). IsToldOnlyIf Then m.body) moment ids.Master messages old.sent new.sent posted old_sent (all_further (IsLocatedAt x.seen old.nodes.master new.nodes.master) Then looked messages there.sent);
+          kept = λ chunk view epoch k. looked chunk view epoch (there.kept chunk view epoch k);
+        }
+
+    step_locates : WereLookedUp x new b
+    step_locates = let sound = reached_sound x old a r in by_kind (kind_of x.seen x.failures x.armed step old new moves.steps.goes (named x step old moves.steps.within sound.types))
+
+  -- ---- a run
+
+  run_locates : HaveSizes → (steps : List Step) (old new : History D) (a b : Account) → IsReached x old a → WereLookedUp x old a → Runs x steps old a new b → WereLookedUp x new b
+  run_locates sizes [] old new a b r were same = subst (λ h. WereLookedUp x h b) (sym same.0) (subst (WereLookedUp x old) (sym same.1) were)
+  run_locates sizes (step ∷ steps) old new a b r were (mid, c, moves, rest) = run_locates sizes steps mid new c b (reached_then step old mid a c r moves) (step_locates sizes step old mid a c r moves were) rest
+
+  -- a store that has begun new
+  first_locates : HaveSizes → (begun : History D) (first : Account) → IsNew x begun first → WereLookedUp x begun first
+  first_locates sizes begun first new = record {
+    sent = begins_none x.seen x.failures x.armed sizes x.config (λ req. []) x.clients x.disks begun new.given.new new.begins (λ (m : Message). IsToldOnlyIf (WasLookedUp x begun first) m.body);
+    kept = λ chunk view epoch k. absurd (none_kept chunk view epoch k);
+  }
+    where
+      none_kept : (chunk : ℕ) (view : View) (epoch : ℕ) → KeepsAt x.seen begun.nodes.master chunk view epoch → ⊥
+      none_kept chunk view epoch k =
+          let found = begins_restarted x.seen x.failures x.armed x.config x.clients x.disks begun new.given.new new.begins in
+          both_none found.0 chunk view epoch (subst (λ (u : State). KeepsLocation u chunk view epoch) found.3 (subst (λ p. KeepsAt x.seen p chunk view epoch) found.2 k))
+
+pub locations_were_looked_up : HaveSizes → {D : Type 0} (x : Setup D) → LocationsWereLookedUp x
+locations_were_looked_up sizes x now b chunk epoch view r (message, req, sent, is) =
+    let first : IsReached x r.begun r.first = record { apart = r.apart; begun = r.begun; first = r.first; steps = []; begins = r.begins; runs = (refl, refl) } in
+    let were = run_locates x sizes r.steps r.begun now r.first b first (first_locates x sizes r.begun r.first r.begins) r.runs in
+    subst (IsToldOnlyIf (WasLookedUp x now b)) is (were.sent sent.0 message sent.1)
