@@ -25,6 +25,7 @@ pub mod Origins
 pub mod Mastering
 pub mod Rolling
 pub mod Numbering
+pub mod Owning
 pub mod Reached
 pub mod Prepared
 pub mod Viewed

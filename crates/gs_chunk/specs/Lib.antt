@@ -10,3 +10,4 @@ pub mod Lists
 pub mod Mastering
 pub mod Rolling
 pub mod Numbering
+pub mod Owning

@@ -14,6 +14,7 @@ ghost use Rattle.gs_chunk.specs.Acting.{OthersStay};
 ghost use Rattle.gs_chunk.specs.Lists.{ListsAreOfViews, ListsAreOld, MastersListsAreOld};
 ghost use Rattle.gs_chunk.specs.Mastering.{MastersCommit, MastersForget, MastersKeepPrepared, MastersPeople, MastersPrepare, MastersSettleOnce, MastersStayCalm, MembersStood};
 ghost use Rattle.gs_chunk.specs.Numbering.{BornNumbered, MastersNumber, ServersNumber, StaysBehind};
+ghost use Rattle.gs_chunk.specs.Owning.{BeginningsOwn, BornOwn, MastersOwn, ServersOwn};
 ghost use Rattle.gs_chunk.specs.Rolling.{LearnersAreIntact, RolledAreHeld, RolledAreFirst, SurvivorsAreBack};
 ghost use Rattle.gs_chunk.specs.Resting.{LeasesRest, EpochsAreTold, BornFirst, MembersHaveLearned, PeopledStood, PreparedViewsRest, PromisesRest, NoneIsAhead};
 ghost use Rattle.gs_chunk.specs.Laws.{Birth, world_of, IsReached, EachStands, QuietIsStill, QuietStays, SurvivorsKeep, SurvivorsName, SurvivorsWereCurrent, CurrentStillKeep, GivesBack, GivesBackExactly, QuietIsSettled, SettlesOn, AcknowledgedStays, SettledStays, KnownInherits, ReadsAreLegal, Agrees, ReachedWithin, StaysKnown};
@@ -151,4 +152,13 @@ pub fn each_edit_was_numbered_in_a_view()
     ensures masters { (under : ReqId → Option Stamp) (origin : List Edit) (w v : World) → MastersNumber under origin w v }
     ensures servers { (under : ReqId → Option Stamp) (origin : List Edit) (w v : World) → ServersNumber under origin w v }
     ensures behind { (w v : World) → StaysBehind w v }
+{}
+
+/// What a test tells of each edit of a list by the edits before it, it tells of each edit of a beginning of the list. So it stays where the master's events lead, which make
+/// lists of beginnings of old ones, and where servers add edits of which it tells so; and a chunk that is born with such edits has no others.
+pub fn what_holds_of_edits_by_those_before_them_stays()
+    ensures beginnings { (own : List Edit → Edit → Bool) → BeginningsOwn (λ before edit. own before edit ≡ true) }
+    ensures born { (own : List Edit → Edit → Bool) (b : Birth) → BornOwn (λ before edit. own before edit ≡ true) b }
+    ensures masters { (own : List Edit → Edit → Bool) (w v : World) → MastersOwn (λ before edit. own before edit ≡ true) w v }
+    ensures servers { (own : List Edit → Edit → Bool) (w v : World) → ServersOwn (λ before edit. own before edit ≡ true) w v }
 {}

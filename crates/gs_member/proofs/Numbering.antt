@@ -25,7 +25,7 @@ use Rattle.gs_store.proofs.Standing.{of_live}
 use Rattle.gs_primary.specs.declared.lease.Open.{Open as Waiting}
 use Rattle.gs_primary.specs.Leases as primary
 use Rattle.gs_primary.specs.Leases.{hears, is_acknowledged, waits_for, forward_of, forwards, done_of, done_at_once}
-use Rattle.gs_primary.specs.Numbering.{numbered_op}
+use Rattle.gs_primary.specs.Numbering.{is_passed, is_too_long, numbered_op}
 use Rattle.gs_server.specs.Places.{Place, Here, SlotBecomes, LeaseBecomes}
 use Rattle.gs_server.specs.Edits.{bytes_of, as_many, bytes_or_none, applied_bytes, unless_there, opened, numbers, has_bytes}
 use Rattle.gs_chunk.specs.Stamps.{stamp_at}
@@ -63,7 +63,7 @@ all_new size e xs fresh taken before (o ∷ behind) is = (
     older a b None old new = absurd (cc)
     older a b (Some d) old new = grind (arith, nat_tests)
 
-is_new : (size : ℕ) (e : Edit) (xs : List Edit) → is_old e.req.number (fin.get (replica_of size xs).done e.req.client.0) ≡ false → IsTaken size xs → IsNew xs e
+pub is_new : (size : ℕ) (e : Edit) (xs : List Edit) → is_old e.req.number (fin.get (replica_of size xs).done e.req.client.0) ≡ false → IsTaken size xs → IsNew xs e
 is_new size e xs fresh taken = all_new size e xs fresh taken [] xs refl
 
 -- ---- an edit as it is numbered
@@ -102,7 +102,7 @@ shorter xs before behind o place is placed = (let a : length xs ≡ length (befo
 -- a place that is shown behind events, with what is sent, where each edit that is done is answered
 record Follows2 (cause : Cause) (c : Setting) (chunk : ℕ) (w : World) (me epoch : ℕ) (p : Place) (sent : List Message) : Type 0 where
   follows : Follows cause c chunk w me epoch p sent
-  answers : AllByRecursion (Answers c follows.moved.world me) sent
+  answers : AllByRecursion (Answers cause c follows.moved.world me) sent
 
 module _ (bytes : ReqId → List ℕ) (born : ℕ) (w : World) (h : Here) (p : Place) where
   abbrev c : Setting
@@ -183,6 +183,9 @@ module _ (bytes : ReqId → List ℕ) (born : ℕ) (w : World) (h : Here) (p : P
     made : IsEdited h.block h.chunk p.slot (w.members h.me) xs e s
     numbered : IsNumbered xs x e
     padded : x.op ≡ numbered_op h.chunk (length (replica_of h.chunk xs).bytes) op
+    short : is_too_long h.chunk op ≡ false
+    fits : is_passed h.chunk (length (replica_of h.chunk xs).bytes) op ≡ false
+    within : length (replica_of h.chunk xs).bytes ≤ h.chunk
 
   -- the place behind it
   numbered_place : IsHere bytes born w h p → (op : Op) (l : primary.Lease) (ml : Lease) (xs : List Edit) (x : Waiting) (e : Edit) (s : Slot) → IsLed op l ml xs x e s → (lease : primary.Lease) (k : Lease) (sends : List Sent)
@@ -272,6 +275,9 @@ module _ (bytes : ReqId → List ℕ) (born : ℕ) (w : World) (h : Here) (p : P
           has = ap (λ (zs : List Edit). Some (zs ++ e ∷ [])) (sym more.1) ∙ ap (λ (zs : List Edit). Some zs) (sym more.0);
           asked_is = led.shows.stamp ∙ ap stamp_at (led.stamp ∙ sym more.2);
           says = subst (λ o. Says c x.req o e) (led.padded ∙ ap (λ zs. numbered_op h.chunk (length (replica_of h.chunk zs).bytes) op) (sym more.1)) led.numbered.says;
+          short = led.short;
+          fits = ap (λ zs. is_passed h.chunk (length (replica_of h.chunk zs).bytes) op) more.1 ∙ led.fits;
+          within = subst (λ zs. length (replica_of h.chunk zs).bytes ≤ h.chunk) (sym more.1) led.within;
         }))
         goes
 
@@ -279,8 +285,8 @@ module _ (bytes : ReqId → List ℕ) (born : ℕ) (w : World) (h : Here) (p : P
     list_is = ap w.known.list led.stamp ∙ led.whole
 
     -- what is said of edits that are done
-    forwards_answer : (v : World) → AllByRecursion (Answers c v h.me) (forwards h.me h.handle l (length xs + 1, x))
-    forwards_answer v = all_mapped (Answers c v h.me) (forward_of h.me h.handle l None (length xs + 1, x)) (filter (λ server. not (server == h.me)) l.grant.members) (λ to member. tt)
+    forwards_answer : (v : World) → AllByRecursion (Answers (Edits l.grant.stamp x.req op) c v h.me) (forwards h.me h.handle l (length xs + 1, x))
+    forwards_answer v = all_mapped (Answers (Edits l.grant.stamp x.req op) c v h.me) (forward_of h.me h.handle l None (length xs + 1, x)) (filter (λ server. not (server == h.me)) l.grant.members) (λ to member. tt)
 
     -- it waits for the members
     waits_outcome : (b : Bool) → Sends b → is_acknowledged (hears h.me (length xs + 1) l) (length xs + 1) ≡ false → Follows2 (Edits l.grant.stamp x.req op) c h.handle w h.me h.epoch (record { slot = s; lease = Some (waits_for (length xs + 1) x (hears h.me (length xs + 1) l)) }) (forwards h.me h.handle l (length xs + 1, x) ++ done_at_once h.me (length xs + 1) x l)
@@ -299,8 +305,8 @@ module _ (bytes : ReqId → List ℕ) (born : ℕ) (w : World) (h : Here) (p : P
             shows = numbered_place here op l ml xs x e s led (waits_for (length xs + 1) x (hears h.me (length xs + 1) l)) ol all.sends all.moved shown;
             tells = sent_tells all.moved.world l ml xs x e l led.shows.stamp led.numbered.says all.told;
           };
-          answers = all_append (Answers c all.moved.world h.me) (forwards h.me h.handle l (length xs + 1, x)) (done_at_once h.me (length xs + 1) x l) (forwards_answer all.moved.world)
-              (subst (λ b. AllByRecursion (Answers c all.moved.world h.me) (cond b (done_of h.me (length xs + 1, x) ∷ []) [])) (sym unknown) tt);
+          answers = all_append (Answers (Edits l.grant.stamp x.req op) c all.moved.world h.me) (forwards h.me h.handle l (length xs + 1, x)) (done_at_once h.me (length xs + 1) x l) (forwards_answer all.moved.world)
+              (subst (λ b. AllByRecursion (Answers (Edits l.grant.stamp x.req op) c all.moved.world h.me) (cond b (done_of h.me (length xs + 1, x) ∷ []) [])) (sym unknown) tt);
         }
 
     covers : is_acknowledged (hears h.me (length xs + 1) l) (length xs + 1) ≡ true → (place : ℕ) → Contains (length xs ∷ []) place → IsCovered ol place
@@ -345,8 +351,8 @@ module _ (bytes : ReqId → List ℕ) (born : ℕ) (w : World) (h : Here) (p : P
             shows = numbered_place here op l ml xs x e s led (hears h.me (length xs + 1) l) closing.lease (all.sends ++ (machine.one h.me (Done ml.stamp (length xs) e) ++ [])) moved shown;
             tells = sent_tells moved.world l ml xs x e l led.shows.stamp led.numbered.says (λ to member. then.stays (record { server = to; body = Forward ml.stamp (length xs) e }) (all.told to member));
           };
-          answers = all_append (Answers c moved.world h.me) (forwards h.me h.handle l (length xs + 1, x)) (done_at_once h.me (length xs + 1) x l) (forwards_answer moved.world)
-              (subst (λ b. AllByRecursion (Answers c moved.world h.me) (cond b (done_of h.me (length xs + 1, x) ∷ []) [])) (sym known)
+          answers = all_append (Answers (Edits l.grant.stamp x.req op) c moved.world h.me) (forwards h.me h.handle l (length xs + 1, x)) (done_at_once h.me (length xs + 1) x l) (forwards_answer moved.world)
+              (subst (λ b. AllByRecursion (Answers (Edits l.grant.stamp x.req op) c moved.world h.me) (cond b (done_of h.me (length xs + 1, x) ∷ []) [])) (sym known)
               (inl (record { stamp = ml.stamp; edit = e; before = xs; behind = list.0; told = done_there; req = (let y = led.numbered.says in y.req); stands = list.1; is = (let y = led.numbered in y.outcome) }), tt));
         }
 
@@ -370,9 +376,9 @@ module _ (bytes : ReqId → List ℕ) (born : ℕ) (w : World) (h : Here) (p : P
   there_is (Some b) none = refl
 
   pub numbered : IsHere bytes born w h p → ((xs : List Edit) → (w.members h.me).live ≡ Some xs → IsToldIn h.block h.chunk p.slot xs) → LeadsWhole w h.me → (req : ReqId) (op : Op) (found : List ℕ) → ((b : List ℕ) → h.pushed ≡ Some b → b ≡ bytes req) → bytes_of op None h.pushed ≡ Some found
-      → (live : Live) (l : primary.Lease) → p.slot.live ≡ Some live → p.lease ≡ Some l → (s : Slot) → apply l.grant.stamp (live.replica.held.count + 1) req (in_replica (numbered_op h.chunk (length live.replica.held.chunk.bytes) op)) (applied_bytes (numbered_op h.chunk (length live.replica.held.chunk.bytes) op) found) p.slot ≡ Ok s
+      → (live : Live) (l : primary.Lease) → p.slot.live ≡ Some live → p.lease ≡ Some l → is_too_long h.chunk op ≡ false → is_passed h.chunk (length live.replica.held.chunk.bytes) op ≡ false → (s : Slot) → apply l.grant.stamp (live.replica.held.count + 1) req (in_replica (numbered_op h.chunk (length live.replica.held.chunk.bytes) op)) (applied_bytes (numbered_op h.chunk (length live.replica.held.chunk.bytes) op) found) p.slot ≡ Ok s
       → Answering (Edits l.grant.stamp req op) bytes born w h p (numbers h s l (live.replica.held.count + 1) (opened req (numbered_op h.chunk (length live.replica.held.chunk.bytes) op) found live))
-  numbered here told whole req op found right there live l is held s applied =
+  numbered here told whole req op found right there live l is held short fits s applied =
       let m : Member = w.members h.me in
       let y = lives c p.slot m.live here.shows.live (ap is_some is) in
       let xs : List Edit = y.0 in
@@ -397,6 +403,9 @@ module _ (bytes : ReqId → List ℕ) (born : ℕ) (w : World) (h : Here) (p : P
         fresh = is_new h.chunk e xs fresh stands.taken;
         made = edited h.block h.chunk p.slot m xs l.grant.stamp (live.replica.held.count + 1) req (in_replica nop) (applied_bytes nop found) s y.2 (told xs y.1) applied;
         padded = ap (λ n. numbered_op h.chunk n op) written.long;
+        short = short;
+        fits = ap (λ n. is_passed h.chunk n op) (sym written.long) ∙ fits;
+        within = (let long = written.long in let stored = written.stored in let fit = stored.bytes_fit in let size = stands.chunk in omega arith);
         numbered = record { says = says_of c req (length live.replica.held.chunk.bytes) h.chunk op h.pushed found right there; same = refl; outcome = outcome_is nop live (length (replica_of h.chunk xs).bytes) written.long };
       } in
       subst (λ k. Answering (Edits l.grant.stamp req op) bytes born w h p (numbers h s l (k + 1) x)) (sym stands.count) (number_it here op l ml xs x e s led)

@@ -162,7 +162,7 @@ IsNoCopy body = Unit {0}
 -- ---- from a place to the server
 
 module _ (c : Setting) (chunk : ℕ) (w : World) where
-  pub from_follows : (cause : Cause) (me epoch : ℕ) (p : Place) (sent : List Message) (about : Option ℕ) (s : Server) → (f : Follows cause c chunk w me epoch p sent) → s.me ≡ me → s.block ≡ c.block → s.chunk ≡ c.size → s.kept.epoch ≡ epoch → place_of chunk s ≡ p → BuffersRight c s → AllByRecursion (AnswersOf c chunk f.moved.world me about) sent → IsSteps cause c chunk w me about s sent
+  pub from_follows : (cause : Cause) (me epoch : ℕ) (p : Place) (sent : List Message) (about : Option ℕ) (s : Server) → (f : Follows cause c chunk w me epoch p sent) → s.me ≡ me → s.block ≡ c.block → s.chunk ≡ c.size → s.kept.epoch ≡ epoch → place_of chunk s ≡ p → BuffersRight c s → AllByRecursion (AnswersOf cause c chunk f.moved.world me about) sent → IsSteps cause c chunk w me about s sent
   from_follows cause me epoch p sent about s f me_is block_is size_is epoch_is place_is right answers = record {
     world = f.moved.world;
     leads = f.moved.leads;
@@ -187,7 +187,7 @@ module _ (c : Setting) (chunk : ℕ) (w : World) where
   }
 
   -- nothing of the chunk changes, and nothing is said of it
-  pub passes : (s after : Server) (sent : List Message) (about : Option ℕ) → IsShown c chunk w s → after.me ≡ s.me → after.block ≡ c.block → after.chunk ≡ c.size → after.kept.epoch ≡ s.kept.epoch → place_of chunk after ≡ place_of chunk s → BuffersRight c after → AllByRecursion (Tells c chunk w) sent → ((v : World) → AllByRecursion (AnswersOf c chunk v s.me about) sent) → IsSteps Calm c chunk w s.me about after sent
+  pub passes : (s after : Server) (sent : List Message) (about : Option ℕ) → IsShown c chunk w s → after.me ≡ s.me → after.block ≡ c.block → after.chunk ≡ c.size → after.kept.epoch ≡ s.kept.epoch → place_of chunk after ≡ place_of chunk s → BuffersRight c after → AllByRecursion (Tells c chunk w) sent → ((v : World) → AllByRecursion (AnswersOf Calm c chunk v s.me about) sent) → IsSteps Calm c chunk w s.me about after sent
   passes s after sent about x me block size epoch place right tells answers =
       let f = stays_put c chunk w s.me s.kept.epoch (place_of chunk s) sent x.shows tells in
       from_follows Calm s.me s.kept.epoch (place_of chunk s) sent about after f me block size epoch place right (answers f.moved.world)
@@ -230,14 +230,14 @@ module _ (bytes : ReqId → List ℕ) (born chunk : ℕ) (w : World) (s : Server
       let a = about_answering bytes born w h (place_of chunk s) (here moment (request_in said)) x.apart x.whole from said (pushed_right said moment) says tells in
       from_follows c chunk w (cause_of said) s.me s.kept.epoch (after (place_of chunk s) part) part.sent (Some chunk) (changed_by chunk (request_in said) part s) a.follows
       refl (changed_block chunk (request_in said) part s) (changed_size chunk (request_in said) part s) (changed_epoch chunk (request_in said) part s) (own_place chunk (request_in said) part s) (changed_buffers c chunk (request_in said) part s x.buffers)
-      (own_in c chunk a.follows.moved.world s.me chunk part.sent (by_server true chunk part.sent (chunk_says h true (place_of chunk s) from said (λ may. refl))) (λ same. a.answers))
+      (own_in (cause_of said) c chunk a.follows.moved.world s.me chunk part.sent (by_server true chunk part.sent (chunk_says h true (place_of chunk s) from said (λ may. refl))) (λ same. a.answers))
 
   other_about : (from : NodeId) (handle : ℕ) (said : Chunk) (moment : Moment) → (chunk == handle) ≡ false → (handle ≡ chunk → ⊥) → IsSteps Calm c chunk w s.me (Some handle) (handle_chunk s from handle said moment).after (handle_chunk s from handle said moment).sent
   other_about from handle said moment apart never =
       let h : Here = here_of s moment handle (request_in said) in
       let part : Part = about_chunk h (place_of handle s) from said in
       passes c chunk w s (changed_by handle (request_in said) part s) part.sent (Some handle) x refl (changed_block handle (request_in said) part s) (changed_size handle (request_in said) part s) (changed_epoch handle (request_in said) part s) (other_place handle chunk (request_in said) part s apart) (changed_buffers c handle (request_in said) part s x.buffers)
-      (elsewhere c chunk w handle true part.sent never (chunk_says h true (place_of handle s) from said (λ may. refl))) (λ v. apart_in c chunk v s.me handle part.sent (by_server true handle part.sent (chunk_says h true (place_of handle s) from said (λ may. refl))) never)
+      (elsewhere c chunk w handle true part.sent never (chunk_says h true (place_of handle s) from said (λ may. refl))) (λ v. apart_in Calm c chunk v s.me handle part.sent (by_server true handle part.sent (chunk_says h true (place_of handle s) from said (λ may. refl))) never)
 
   about_steps : (from : NodeId) (handle : ℕ) (said : Chunk) (moment : Moment) → (handle ≡ chunk → SaysOf c w from said × TellsServer c w s.me said) → IsSteps (cond (chunk == handle) (cause_of said) Calm) c chunk w s.me (Some handle) (handle_chunk s from handle said moment).after (handle_chunk s from handle said moment).sent
   about_steps from handle said moment tells = by_case (chunk == handle) refl

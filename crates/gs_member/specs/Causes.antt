@@ -1,5 +1,5 @@
 -- Why something happens to a chunk at a server, and what its lists get then.
-use Rattle.std.specs.Prelude.{◌≡◌, ◌==◌, ◌⊎◌, ◌++◌, ℕ, Bool, true, false, cond, List, [], ◌∷◌, length, Option, Some, None}
+use Rattle.std.specs.Prelude.{◌≡◌, ◌≤◌, ◌==◌, ◌⊎◌, ◌++◌, ℕ, Bool, true, false, cond, List, [], ◌∷◌, length, Option, Some, None}
 use Rattle.gs_base.specs.declared.numbers.ReqId.{ReqId}
 use Rattle.gs_base.specs.declared.numbers.Stamp.{Stamp}
 use Rattle.gs_replica.specs.Stands.{Edit, replica_of}
@@ -8,7 +8,7 @@ use Rattle.gs_msg.specs.declared.body.Body.TheVariants as bodies
 use Rattle.gs_msg.specs.declared.chunk.Chunk.{Chunk}
 use Rattle.gs_msg.specs.declared.chunk.Chunk.TheVariants as chunks
 use Rattle.gs_msg.specs.declared.op.Op.{Op}
-use Rattle.gs_primary.specs.Numbering.{numbered_op}
+use Rattle.gs_primary.specs.Numbering.{is_passed, is_too_long, numbered_op}
 use Rattle.gs_store.specs.Calls.{Call}
 use Rattle.gs_server.specs.Servers.{Server}
 use Rattle.gs_server.specs.Runs.{Event, Hears, Ticks, Restarts, Loses, Damages}
@@ -51,7 +51,8 @@ cause_by chunk (Loses handle) s = struck_by (call_by chunk (Loses handle) s)
 cause_by chunk (Damages handle block) s = struck_by (call_by chunk (Damages handle block) s)
 
 -- The client's edit is numbered under the promise, which is the stamp that it was asked for under: the list of that view has it behind
--- its edits, and so has the live replica. It is the edit of the request, or a pad where the record doesn't fit.
+-- its edits, and so has the live replica. It is the edit of the request, or a pad where the record doesn't fit; no record is longer than it may be, and no full chunk
+-- passes it. The text before it is within the size.
 pub record NumbersEdit (c : Setting) (m n : Member) (asked : Stamp) (req : ReqId) (op : Op) (stamp : ℕ) (old new : List Edit) : Type 0 where
   pub edit : Edit
   pub is : new ≡ old ++ edit ∷ []
@@ -60,6 +61,9 @@ pub record NumbersEdit (c : Setting) (m n : Member) (asked : Stamp) (req : ReqId
   pub has : n.live ≡ Some new
   pub asked_is : asked ≡ stamp_at stamp
   pub says : Says c req (numbered_op c.size (length (replica_of c.size old).bytes) op) edit
+  pub short : is_too_long c.size op ≡ false
+  pub fits : is_passed c.size (length (replica_of c.size old).bytes) op ≡ false
+  pub within : length (replica_of c.size old).bytes ≤ c.size
 
 -- So each list stays, but where a client's edit is heard. The members are the server before and behind.
 abbrev pub Numbers : Cause → Setting → Member → Member → ℕ → List Edit → List Edit → Type 0

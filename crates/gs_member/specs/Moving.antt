@@ -103,7 +103,7 @@ Outcome bytes born w h p part = Follows Calm (setting_at bytes born h) h.handle 
 -- a part that is some events of the machine, where each edit that is done is answered
 pub record Answering (cause : Cause) (bytes : ReqId → List ℕ) (born : ℕ) (w : World) (h : Here) (p : Place) (part : Part) : Type 0 where
   pub follows : Follows cause (setting_at bytes born h) h.handle w h.me h.epoch (after p part) part.sent
-  pub answers : AllByRecursion (Answers (setting_at bytes born h) follows.moved.world h.me) part.sent
+  pub answers : AllByRecursion (Answers cause (setting_at bytes born h) follows.moved.world h.me) part.sent
 
 -- A server's step is some events of the machine: they lead to where the server is shown as it is then, and all that it sends. Where it
 -- hears a message about the chunk, each edit that it tells a client is done is done in the machine; and it tells so only at messages about
@@ -126,7 +126,7 @@ pub record IsSteps (cause : Cause) (c : Setting) (chunk : ℕ) (w : World) (me :
   pub shows : ShowsMember c chunk world after
   pub buffers : BuffersRight c after
   pub tells : AllByRecursion (Tells c chunk world) sent
-  pub answers : AllByRecursion (AnswersOf c chunk world me about) sent
+  pub answers : AllByRecursion (AnswersOf cause c chunk world me about) sent
 
 -- What is known of a server whenever something happens to it: it has begun with nothing; it is shown, and so are the bytes that were pushed
 -- to it; digests tell what it keeps of the chunk from what that stands for; where it numbers edits its replica has the whole list; and the
