@@ -38,7 +38,7 @@ use Rattle.gs_entry.proofs.Carrying.{all_append}
 use Rattle.gs_entry.proofs.Families.{CopiesNothing, LeftBy, at_is, families_both, family_hears, family_marks, family_still, fixed_on, is_copying, is_fixed, move_family, no_copies, nothing_so}
 use Rattle.gs_entry.proofs.Settling.{row_settled}
 use Rattle.gs_entry.proofs.Stamps.{same_number}
-use Rattle.gs_entry.specs.Families.{Alive, Family, FamilyGoes, Goes, Heard_of, IsAlive, Life, MarksOf, Unborn}
+use Rattle.gs_entry.specs.Families.{Alive, Family, FamilyGoes, Goes, HeardOf, IsAlive, Life, MarksOf, Unborn}
 use Rattle.gs_entry.specs.Rows.{AreCopiedSince, CopiesSince, IsCopiedSince}
 use Rattle.gs_entry.specs.Showing.{primary_of}
 use Rattle.gs_entry.specs.Single.{AsOf, IsUnmoved}
@@ -63,12 +63,12 @@ pub record CalmFamily (keeps : ℕ → Bool) (whole : ℕ → ℕ → Bool) (s u
 
 -- So it is over each chain of such moves,
 abbrev pub FamiliesCalm : Type 0
-FamiliesCalm = (keeps : ℕ → Bool) (whole : ℕ → ℕ → Bool) (config : Config) (heard : Heard) (s : State) (t : Turn) (family : Family s) → ((chunk : ℕ) → Heard_of chunk s heard (family chunk)) → ((chunk : ℕ) → MarksOf chunk s (whole chunk) (family chunk))
+FamiliesCalm = (keeps : ℕ → Bool) (whole : ℕ → ℕ → Bool) (config : Config) (heard : Heard) (s : State) (t : Turn) (family : Family s) → ((chunk : ℕ) → HeardOf chunk s heard (family chunk)) → ((chunk : ℕ) → MarksOf chunk s (whole chunk) (family chunk))
     → Chain config (λ u move. IsMadeWell config heard u move × (is_alone move ≡ false)) s t → CalmFamily keeps whole s t.after t.sent family
 
 -- as those are by which calls end.
 abbrev pub FamiliesClose : Type 0
-FamiliesClose = (keeps : ℕ → Bool) (whole : ℕ → ℕ → Bool) (config : Config) (heard : Heard) (s : State) (t : Turn) (family : Family s) → ((chunk : ℕ) → Heard_of chunk s heard (family chunk)) → ((chunk : ℕ) → MarksOf chunk s (whole chunk) (family chunk))
+FamiliesClose = (keeps : ℕ → Bool) (whole : ℕ → ℕ → Bool) (config : Config) (heard : Heard) (s : State) (t : Turn) (family : Family s) → ((chunk : ℕ) → HeardOf chunk s heard (family chunk)) → ((chunk : ℕ) → MarksOf chunk s (whole chunk) (family chunk))
     → Chain config (λ u move. IsMadeWell config heard u move × (closes move ≡ true)) s t → CalmFamily keeps whole s t.after t.sent family
 
 -- ---- one that is alone
@@ -84,7 +84,7 @@ pub record AloneFamily (keeps : ℕ → Bool) (whole : ℕ → ℕ → Bool) (mo
   pub alone : (chunk : ℕ) → AloneIn chunk move s u messages (family chunk) (goes.last chunk)
 
 abbrev pub FamiliesAlone : Type 0
-FamiliesAlone = (keeps : ℕ → Bool) (whole : ℕ → ℕ → Bool) (config : Config) (heard : Heard) (s : State) (move : Move) (family : Family s) → ((chunk : ℕ) → Heard_of chunk s heard (family chunk)) → ((chunk : ℕ) → MarksOf chunk s (whole chunk) (family chunk))
+FamiliesAlone = (keeps : ℕ → Bool) (whole : ℕ → ℕ → Bool) (config : Config) (heard : Heard) (s : State) (move : Move) (family : Family s) → ((chunk : ℕ) → HeardOf chunk s heard (family chunk)) → ((chunk : ℕ) → MarksOf chunk s (whole chunk) (family chunk))
     → IsMadeWell config heard s move → is_alone move ≡ true → AloneFamily keeps whole move s (move_turn config s move).after (move_turn config s move).sent family
 
 -- ---- copies, over one move
@@ -122,7 +122,7 @@ module _ (config : Config) (heard : Heard) (s : State) (old : ℕ) (view : View)
   -- the view of the old chunk stood, and nobody may number in it
   copied_since : (chunk : ℕ) (a : IsAlive chunk s) (b : IsAlive chunk turn.after) → Leads a.world b.world → (me : ℕ) → is_member view.members me ≡ true → is_listed turn.after.durable old ≡ true → old ≡ chunk → IsCopiedSince chunk turn.after.durable a.world.known.view a.world.entry.is_known b.world view.stamp
   copied_since chunk a b leads me on listed same =
-      let may : MayCopy s chunk view = subst (λ c. MayCopy s c view) same well.made.may in
+      let may : MayCopy s chunk view = subst (λ c. MayCopy s c view) same well.made.may.0 in
       let t = a.world.entry.view.stamp in
       let fixed = fixed_on a.world b.world t me _ a.reached leads (is_fixed chunk s a view may me on) in
       let peopled = members_stood b.world t me b.reached fixed.member in
@@ -167,7 +167,7 @@ module _ (config : Config) (heard : Heard) (s : State) (old : ℕ) (view : View)
   none_of chunk k e low was w = subst (AreCopiedSince chunk e low was w) (sym sent_is) (each view.members)
     where
       other : old ≡ chunk → ⊥
-      other same = false≢true (sym (ap is_some k.ungiven.settled) ∙ ap (λ c. is_some (fin.get s.durable.chunks c)) (sym same) ∙ ap is_some well.made.may.settled.has)
+      other same = false≢true (sym (ap is_some k.ungiven.settled) ∙ ap (λ c. is_some (fin.get s.durable.chunks c)) (sym same) ∙ ap is_some well.made.may.0.settled.has)
 
       each : (js : List ℕ) → AreCopiedSince chunk e low was w (to_each js copy_for)
       each [] = tt

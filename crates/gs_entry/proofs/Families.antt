@@ -36,7 +36,7 @@ use Rattle.gs_moves.proofs.Stands.{chains_stand}
 use Rattle.gs_moves.specs.Epochs.{is_alone}
 use Rattle.gs_moves.specs.Guards.{Heard, IsMade, MayCopy, ask_nobody, asks_nobody}
 use Rattle.gs_moves.specs.Laws.{IsMadeWell}
-use Rattle.gs_moves.specs.Moves.{Chain, Rests as Rests_it, Moves, Then, Alone, Beside, FromNow, Further, Move, Begins, Makes, Copies, Hears, Sends, Settles, Edits, Extends, CopiesTree, Replaces, Scans, Refuses, Answers as Answers_it, Waits, Restores, Says as Says_it, Flags, Prepares, Finalizes, BeginsRollback, TellsRollback, CommitsRollback, Checkpoints, move_turn}
+use Rattle.gs_moves.specs.Moves.{Chain, Rests as Rests_it, Moves, Then, Alone, Beside, FromNow, Further, Move, Begins, Makes, Copies, Hears, Sends, Settles, Edits, Extends, CopiesTree, Replaces, Scans, Refuses, Answers as AnswersCall, Waits, Restores, Says as Says_it, Flags, Prepares, Finalizes, BeginsRollback, TellsRollback, CommitsRollback, Checkpoints, move_turn}
 use Rattle.gs_moves.proofs.Asked.{more_so}
 use Rattle.gs_chunk.specs.Stamps.{epoch_of, stamp_at}
 use Rattle.gs_chunk.specs.Laws.{Birth, IsNumbered, IsReached, world_of}
@@ -58,7 +58,7 @@ use Rattle.gs_entry.specs.Showing.{Rises}
 use Rattle.gs_entry.proofs.Leaving.{past_rises, rises_both, rises_itself}
 use Rattle.gs_entry.specs.Bearing.{IsBornWithin, IsUnbornAgain}
 use Rattle.gs_entry.specs.Births.{Anything, Brings, BringsTo, IsBorn}
-use Rattle.gs_entry.specs.Families.{Alive, BornBare, BornFrom, ComesFrom, CopiesTo, Copies_of, FamiliesCut, FamiliesGo, FamilyLists, StartsUnborn, WrittenFamiliesGo, Family, FamilyGoes, Goes, Heard_of, IsAlive, IsCopyOf, IsFixed, Life, ListsFrom, MarksOf, Unborn, birth_of, is_kept}
+use Rattle.gs_entry.specs.Families.{Alive, BornBare, BornFrom, ComesFrom, CopiesTo, CopiesOf, FamiliesCut, FamiliesGo, FamilyLists, StartsUnborn, WrittenFamiliesGo, Family, FamilyGoes, Goes, HeardOf, IsAlive, IsCopyOf, IsFixed, Life, ListsFrom, MarksOf, Unborn, birth_of, is_kept}
 use Rattle.gs_entry.specs.Showing.{ShowsSettled, primary_of}
 use Rattle.gs_entry.specs.Single.{AsOf}
 use Rattle.gs_entry.specs.Telling.{Follows, IsSameMember, Says, Shows, Tells}
@@ -185,7 +185,7 @@ nothing_so P so [] none = tt
 nothing_so P so (m ∷ messages) none = (so m none.0, nothing_so P so messages none.1)
 
 abbrev KeptTo : (keeps : ℕ → Bool) (u : State) → Family u → Message → Type 0
-KeptTo keeps u last m = is_kept keeps m.body ≡ true → Copies_of u last m
+KeptTo keeps u last m = is_kept keeps m.body ≡ true → CopiesOf u last m
 
 none_kept : (keeps : ℕ → Bool) (u : State) (last : Family u) (m : Message) → CopiesNothing m.body → KeptTo keeps u last m
 none_kept keeps u last m none kept = by_body m.to m.body none
@@ -217,8 +217,8 @@ no_copies config heard s (CopiesTree req from to) well plain = (tt, tt)
 no_copies config heard s (Replaces path index old new) well plain = tt
 no_copies config heard s (Scans removed forgotten) well plain = tt
 no_copies config heard s (Refuses req refusal over) well plain = (tt, tt)
-no_copies config heard s (Answers_it req answer true) well plain = (tt, tt)
-no_copies config heard s (Answers_it req answer false) well plain = (tt, tt)
+no_copies config heard s (AnswersCall req answer true) well plain = (tt, tt)
+no_copies config heard s (AnswersCall req answer false) well plain = (tt, tt)
 no_copies config heard s (Waits req waiting) well plain = tt
 no_copies config heard s (Restores server chunks) well plain = tt
 no_copies config heard s (Says_it messages) well plain = all_asked messages well.made.may.1
@@ -244,7 +244,7 @@ pub record MoveFamily (keeps : ℕ → Bool) (whole : ℕ → ℕ → Bool) (mov
   pub goes : FamilyGoes keeps whole s u messages family
   pub leaves : (chunk : ℕ) → LeftBy chunk move s u (family chunk) (goes.last chunk)
 
-module _ (keeps : ℕ → Bool) (whole : ℕ → ℕ → Bool) (config : Config) (heard : Heard) (s : State) (family : Family s) (hears : (chunk : ℕ) → Heard_of chunk s heard (family chunk)) (marks : (chunk : ℕ) → MarksOf chunk s (whole chunk) (family chunk)) where
+module _ (keeps : ℕ → Bool) (whole : ℕ → ℕ → Bool) (config : Config) (heard : Heard) (s : State) (family : Family s) (hears : (chunk : ℕ) → HeardOf chunk s heard (family chunk)) (marks : (chunk : ℕ) → MarksOf chunk s (whole chunk) (family chunk)) where
   -- what a new one may begin with
   abbrev Comes : List Edit → Type 0
   Comes = ComesFrom s family
@@ -285,7 +285,7 @@ module _ (keeps : ℕ → Bool) (whole : ℕ → ℕ → Bool) (config : Config)
       by_alone true alone = silent_next Comes (AsOf chunk move t.after) (IsBornBy move) kept chunk (whole chunk) s t k (alone_moves_stay chunk config heard s move was well k alone)
       by_alone false beside = by_way beside (each_move_goes_unborn chunk config heard s move was well k)
 
-  plain_next : (kept : Bool) (move : Move) → IsMadeWell config heard s move → (chunk : ℕ) (life : Life chunk s) → Heard_of chunk s heard life → MarksOf chunk s (whole chunk) life → Behind kept move chunk life
+  plain_next : (kept : Bool) (move : Move) → IsMadeWell config heard s move → (chunk : ℕ) (life : Life chunk s) → HeardOf chunk s heard life → MarksOf chunk s (whole chunk) life → Behind kept move chunk life
   plain_next kept move well chunk (Unborn k) was live = unborn_next kept move well chunk k was
   plain_next kept move well chunk (Alive a) was live =
       let f = moves_follow_as (birth_of a) chunk (whole chunk) config heard s move a.world live a.shows was well in
@@ -310,17 +310,17 @@ module _ (keeps : ℕ → Bool) (whole : ℕ → ℕ → Bool) (config : Config)
     old_number : (chunk : ℕ) → (next == chunk) ≡ true → IsUnborn chunk s → IsNumber old
     old_number chunk same k =
         let number : IsNumber chunk = subst IsNumber (same_number next chunk same) k.ungiven.handle in
-        below next old chunk well.made.may.given (k.ungiven.given number) number (positive chunk turn.after [] turn.sent (born_with chunk same k [] no_edits))
+        below next old chunk well.made.may.0.given (k.ungiven.given number) number (positive chunk turn.after [] turn.sent (born_with chunk same k [] no_edits))
 
     -- the old one, as it is shown
     the_old : (chunk : ℕ) → (next == chunk) ≡ true → IsUnborn chunk s → IsAlive old s
-    the_old chunk same k = (old_alive old (family old) well.made.may.given (old_number chunk same k)).0
+    the_old chunk same k = (old_alive old (family old) well.made.may.0.given (old_number chunk same k)).0
 
     -- the list of the new one is that of the old one
     from_old : (chunk : ℕ) (same : (next == chunk) ≡ true) (k : IsUnborn chunk s) → (many : ℕ) → Comes (take many (list_of (the_old chunk same k)))
     unfolding the_old
     from_old chunk same k many =
-        let x = old_alive old (family old) well.made.may.given (old_number chunk same k) in
+        let x = old_alive old (family old) well.made.may.0.given (old_number chunk same k) in
         inr (record { chunk = old; alive = x.0; is = x.1; stamp = x.0.world.entry.view.stamp; many = many; begins = refl })
 
     later : (chunk : ℕ) (same : (next == chunk) ≡ true) (k : IsUnborn chunk s) → IsBorn chunk (list_of (the_old chunk same k)) turn.after turn.sent
@@ -338,7 +338,7 @@ module _ (keeps : ℕ → Bool) (whole : ℕ → ℕ → Bool) (config : Config)
         let b = born_with chunk same k [] no_edits in
         born_next Comes (AsOf chunk (Copies old view req beside) turn.after) (IsBornBy (Copies old view req beside)) false chunk (whole chunk) s turn.after turn.sent [] k (λ many. inl (take_none many)) (λ out. refl) rises b (b.unled, refl)
 
-    copies_at : (chunk : ℕ) (b : Bool) → (next == chunk) ≡ b → (life : Life chunk s) → Heard_of chunk s heard life → MarksOf chunk s (whole chunk) life → Behind (keeps chunk) (Copies old view req beside) chunk life
+    copies_at : (chunk : ℕ) (b : Bool) → (next == chunk) ≡ b → (life : Life chunk s) → HeardOf chunk s heard life → MarksOf chunk s (whole chunk) life → Behind (keeps chunk) (Copies old view req beside) chunk life
     copies_at chunk true same (Unborn k) was live = copied_as (keeps chunk) chunk same k
     copies_at chunk true same (Alive a) was live = plain_next (keeps chunk) (Copies old view req beside) well chunk (Alive a) was live
     copies_at chunk false other life was live = plain_next (keeps chunk) (Copies old view req beside) well chunk life was live
@@ -352,15 +352,15 @@ module _ (keeps : ℕ → Bool) (whole : ℕ → ℕ → Bool) (config : Config)
       is : l ≡ Alive now
       leads : Leads a.world now.world
 
-    old_next : (life : Life old s) (was : Heard_of old s heard life) (live : MarksOf old s (whole old) life) (number : IsNumber old) → OldThen (old_alive old life well.made.may.given number).0 (plain_next (keeps old) (Copies old view req beside) well old life was live).life_then
+    old_next : (life : Life old s) (was : HeardOf old s heard life) (live : MarksOf old s (whole old) life) (number : IsNumber old) → OldThen (old_alive old life well.made.may.0.given number).0 (plain_next (keeps old) (Copies old view req beside) well old life was live).life_then
     unfolding plain_next follows_next old_alive
-    old_next (Unborn k) was live number = absurd (false≢true (sym (k.ungiven.given number) ∙ well.made.may.given))
+    old_next (Unborn k) was live number = absurd (false≢true (sym (k.ungiven.given number) ∙ well.made.may.0.given))
     old_next (Alive a) was live number =
         let f = (moves_follow_as (birth_of a) old (whole old) config heard s (Copies old view req beside) a.world live a.shows was well).follows in record { now = alive_on old s turn.after a f.world f.leads f.shows; is = refl; leads = f.leads }
 
-    old_then : (b : Bool) (e : (next == old) ≡ b) (number : IsNumber old) → OldThen (old_alive old (family old) well.made.may.given number).0 (copies_at old b e (family old) (hears old) (marks old)).life_then
+    old_then : (b : Bool) (e : (next == old) ≡ b) (number : IsNumber old) → OldThen (old_alive old (family old) well.made.may.0.given number).0 (copies_at old b e (family old) (hears old) (marks old)).life_then
     unfolding copies_at plain_next
-    old_then true same number = absurd (ungiven next (subst (λ c. is_given next c ≡ true) (sym (same_number next old same)) well.made.may.given))
+    old_then true same number = absurd (ungiven next (subst (λ c. is_given next c ≡ true) (sym (same_number next old same)) well.made.may.0.given))
       where
         ungiven : (n : ℕ) → is_given n n ≡ true → ⊥
         ungiven n g = absurd (grind (arith, nat_tests))
@@ -381,15 +381,15 @@ module _ (keeps : ℕ → Bool) (whole : ℕ → ℕ → Bool) (config : Config)
           after = t.0;
           edits = list_of a;
           origin = b.begins;
-          from = at_is old s a view well.made.may;
+          from = at_is old s a view well.made.may.0;
           to = t.1;
           late = t.2;
           told = t.3;
-          fixed = fixed_on a.world o.now.world a.world.entry.view.stamp me (list_of a) a.reached o.leads (is_fixed old s a view well.made.may me on);
+          fixed = fixed_on a.world o.now.world a.world.entry.view.stamp me (list_of a) a.reached o.leads (is_fixed old s a view well.made.may.0 me on);
         })
     copied_as_to me on false is same k told = absurd (false≢true is)
 
-    copied_to : (me : ℕ) → is_member view.members me ≡ true → keeps next ≡ true → (b : Bool) (e : (next == next) ≡ b) (life : Life next s) (was : Heard_of next s heard life) (live : MarksOf next s (whole next) life)
+    copied_to : (me : ℕ) → is_member view.members me ≡ true → keeps next ≡ true → (b : Bool) (e : (next == next) ≡ b) (life : Life next s) (was : HeardOf next s heard life) (live : MarksOf next s (whole next) life)
         → ((born : ℕ) (origin : List Edit) (w : World) → AllByRecursion (Brings born next origin w) turn.sent → BringsTo born origin w (nodes.Server me) (next_stamp s.durable)) → IsCopyOf old next turn.after (each_then old).life_then (copies_at next b e life was live).life_then me view.stamp (next_stamp s.durable)
     unfolding copies_at
     copied_to me on kept true same (Unborn k) was live told = copied_as_to me on (keeps next) kept same k told
@@ -494,7 +494,7 @@ same_live m n b (inl e) live = ap (λ (x : Member). is_some x.live) e ∙ live
 same_live m n b (inr e) live = ap (λ (x : Member). is_some x.live) e ∙ live
 
 -- what it hears behind some moves
-hears_on : (chunk : ℕ) (whole : ℕ → Bool) (heard : Heard) (s u : State) (messages : List Message) (l : Life chunk s) (m : Life chunk u) → Goes chunk whole s u messages l m → Heard_of chunk s heard l → Heard_of chunk u heard m
+hears_on : (chunk : ℕ) (whole : ℕ → Bool) (heard : Heard) (s u : State) (messages : List Message) (l : Life chunk s) (m : Life chunk u) → Goes chunk whole s u messages l m → HeardOf chunk s heard l → HeardOf chunk u heard m
 hears_on chunk whole heard s u messages (Unborn b) (Unborn v) goes was = was
 hears_on chunk whole heard s u messages (Unborn b) (Alive c) goes was = heard_more chunk silent c.world (from_silent c.world) heard was
 hears_on chunk whole heard s u messages (Alive a) (Unborn v) goes was = absurd goes
@@ -633,7 +633,7 @@ family_still keeps whole s family = record { last = family; goes = λ chunk. goe
 -- ---- one behind the other
 
 module _ (keeps : ℕ → Bool) (whole : ℕ → ℕ → Bool) (s u : State) (messages : List Message) (family : Family s) (f : FamilyGoes keeps whole s u messages family) where
-  pub family_hears : (heard : Heard) → ((chunk : ℕ) → Heard_of chunk s heard (family chunk)) → (chunk : ℕ) → Heard_of chunk u heard (f.last chunk)
+  pub family_hears : (heard : Heard) → ((chunk : ℕ) → HeardOf chunk s heard (family chunk)) → (chunk : ℕ) → HeardOf chunk u heard (f.last chunk)
   family_hears heard hears chunk = hears_on chunk (whole chunk) heard s u messages (family chunk) (f.last chunk) (f.goes chunk) (hears chunk)
 
   pub family_marks : ((chunk : ℕ) → MarksOf chunk s (whole chunk) (family chunk)) → (chunk : ℕ) → MarksOf chunk u (whole chunk) (f.last chunk)
@@ -679,7 +679,7 @@ within_next P kept chunk whole s u k from b = record {
 
 -- it is cut, and the master is started again
 cut_next : (P : List Edit → Type 0) → ((many : ℕ) → P (take many none_yet)) → (kept : Bool) (whole : ℕ → Bool) (config : Config) (heard : Heard) (s : State) (t : Turn) (many : ℕ) (d : Durable) (log : Log) → IsKept s.durable → IsWritten t → Chain config (IsMade config heard) s t → many ≤ length t.records → replayed s.durable (take many t.records) ≡ Some d
-    → (chunk : ℕ) (life : Life chunk s) → Heard_of chunk s heard life → MarksOf chunk s whole life → Next P AnyLeft AnyBorn kept chunk whole s (restarted d log) [] life
+    → (chunk : ℕ) (life : Life chunk s) → HeardOf chunk s heard life → MarksOf chunk s whole life → Next P AnyLeft AnyBorn kept chunk whole s (restarted d log) [] life
 cut_next P none kept whole config heard s t many d log stands written chain within fit chunk (Alive a) was live =
     follows_next P AnyLeft AnyBorn kept chunk whole s (restarted d log) [] a (parts_follow (birth_of a) chunk whole config heard s t many d log a.world live a.shows was stands written chain within fit) tt
 cut_next P none kept whole config heard s t many d log stands written chain within fit chunk (Unborn k) was live = by_way (written_cuts_go_unborn chunk config heard s t many d log was chain written stands fit k)

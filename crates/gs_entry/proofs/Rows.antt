@@ -22,7 +22,7 @@ use Rattle.gs_chunk.specs.Machine.{World}
 use Rattle.gs_entry.proofs.Calm.{AloneIn, CalmGoes, CalmIn, calm_both, each_closing, each_made, families_alone, families_calm, families_close, none_commits, unmoved_unled}
 use Rattle.gs_entry.proofs.Families.{families_both, family_hears, family_marks}
 use Rattle.gs_entry.proofs.Rowing.{rows_back, rows_born, rows_go}
-use Rattle.gs_entry.specs.Families.{Alive, Family, Goes, Heard_of, Life, MarksOf, Unborn, birth_of}
+use Rattle.gs_entry.specs.Families.{Alive, Family, Goes, HeardOf, Life, MarksOf, Unborn, birth_of}
 use Rattle.gs_entry.specs.Rows.{FamiliesGoByRows, FamilyRows, RowsIn}
 use Rattle.gs_entry.specs.Single.{AsOf, IsUnmoved}
 use Rattle.gs_entry.specs.Telling.{Shows}
@@ -93,7 +93,7 @@ rows_committed chunk whole config s move u messages life (Unborn k) epochs back 
 
 -- ---- all of them
 
-module _ (keeps : ℕ → Bool) (whole : ℕ → ℕ → Bool) (config : Config) (heard : Heard) (s : State) (family : Family s) (hears : (chunk : ℕ) → Heard_of chunk s heard (family chunk)) (marks : (chunk : ℕ) → MarksOf chunk s (whole chunk) (family chunk)) where
+module _ (keeps : ℕ → Bool) (whole : ℕ → ℕ → Bool) (config : Config) (heard : Heard) (s : State) (family : Family s) (hears : (chunk : ℕ) → HeardOf chunk s heard (family chunk)) (marks : (chunk : ℕ) → MarksOf chunk s (whole chunk) (family chunk)) where
   rows_within : (t : Turn) → Chain config (λ u move. IsMadeWell config heard u move × (is_alone move ≡ false)) s t → FamilyRows keeps whole s t.after t.sent family
   rows_within t chain =
       let f = families_calm keeps whole config heard s t family hears marks chain in

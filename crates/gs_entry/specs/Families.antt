@@ -46,9 +46,9 @@ abbrev pub birth_of : {chunk : ℕ} {s : State} → IsAlive chunk s → ℕ
 birth_of a = a.reached.0.epoch
 
 -- what is heard was said in its machine; of one that isn't born nothing was said
-abbrev pub Heard_of : (chunk : ℕ) (s : State) → Heard → Life chunk s → Type 0
-Heard_of chunk s heard (Unborn u) = WasHeard (Says chunk silent) heard
-Heard_of chunk s heard (Alive a) = WasHeard (Says chunk a.world) heard
+abbrev pub HeardOf : (chunk : ℕ) (s : State) → Heard → Life chunk s → Type 0
+HeardOf chunk s heard (Unborn u) = WasHeard (Says chunk silent) heard
+HeardOf chunk s heard (Alive a) = WasHeard (Says chunk a.world) heard
 
 -- the servers that are whole have live replicas; of one that isn't born nobody has
 abbrev pub MarksOf : (chunk : ℕ) (s : State) → (ℕ → Bool) → Life chunk s → Type 0
@@ -122,8 +122,8 @@ abbrev pub CopiesTo : (s : State) → Family s → NodeId → Body → Type 0
 CopiesTo s family (nodes.Server me) (bodies.MakeCopy old at new stamp) = IsCopyOf old new s (family old) (family new) me at stamp
 CopiesTo s family to body = Unit {0}
 
-abbrev pub Copies_of : (s : State) → Family s → Message → Type 0
-Copies_of s family m = CopiesTo s family m.to m.body
+abbrev pub CopiesOf : (s : State) → Family s → Message → Type 0
+CopiesOf s family m = CopiesTo s family m.to m.body
 
 -- ---- where lists come from
 
@@ -167,7 +167,7 @@ pub record FamilyGoes (keeps : ℕ → Bool) (whole : ℕ → ℕ → Bool) (s u
   pub goes : (chunk : ℕ) → Goes chunk (whole chunk) s u messages (family chunk) (last chunk)
   pub origins : (chunk : ℕ) → BornFrom (ComesFrom s family) chunk s u (family chunk) (last chunk)
   pub bare : (chunk : ℕ) → BornBare (keeps chunk) chunk s u (family chunk) (last chunk)
-  pub copies : AllByRecursion (λ (m : Message). is_kept keeps m.body ≡ true → Copies_of u last m) messages
+  pub copies : AllByRecursion (λ (m : Message). is_kept keeps m.body ≡ true → CopiesOf u last m) messages
 
 -- So the first edits of each list are none, or those of one of before.
 abbrev pub FamilyLists : Type 0
@@ -175,17 +175,17 @@ FamilyLists = (keeps : ℕ → Bool) (whole : ℕ → ℕ → Bool) (s u : State
 
 -- So it is over each chain of moves.
 abbrev pub FamiliesGo : Type 0
-FamiliesGo = (keeps : ℕ → Bool) (whole : ℕ → ℕ → Bool) (config : Config) (heard : Heard) (s : State) (t : Turn) (family : Family s) → ((chunk : ℕ) → Heard_of chunk s heard (family chunk)) → ((chunk : ℕ) → MarksOf chunk s (whole chunk) (family chunk))
+FamiliesGo = (keeps : ℕ → Bool) (whole : ℕ → ℕ → Bool) (config : Config) (heard : Heard) (s : State) (t : Turn) (family : Family s) → ((chunk : ℕ) → HeardOf chunk s heard (family chunk)) → ((chunk : ℕ) → MarksOf chunk s (whole chunk) (family chunk))
     → Chain config (IsMadeWell config heard) s t → FamilyGoes keeps whole s t.after t.sent family
 
 -- So it is of a chain whose records can be written, where what is durable stands at its beginning,
 abbrev pub WrittenFamiliesGo : Type 0
-WrittenFamiliesGo = (keeps : ℕ → Bool) (whole : ℕ → ℕ → Bool) (config : Config) (heard : Heard) (s : State) (t : Turn) (family : Family s) → ((chunk : ℕ) → Heard_of chunk s heard (family chunk)) → ((chunk : ℕ) → MarksOf chunk s (whole chunk) (family chunk))
+WrittenFamiliesGo = (keeps : ℕ → Bool) (whole : ℕ → ℕ → Bool) (config : Config) (heard : Heard) (s : State) (t : Turn) (family : Family s) → ((chunk : ℕ) → HeardOf chunk s heard (family chunk)) → ((chunk : ℕ) → MarksOf chunk s (whole chunk) (family chunk))
     → IsKept s.durable → IsWritten t → Chain config (IsMade config heard) s t → FamilyGoes keeps whole s t.after t.sent family
 
 -- and where the master is started again on the first of its records, or on all.
 abbrev pub FamiliesCut : Type 0
-FamiliesCut = (keeps : ℕ → Bool) (whole : ℕ → ℕ → Bool) (config : Config) (heard : Heard) (s : State) (t : Turn) (many : ℕ) (d : Durable) (log : Log) (family : Family s) → ((chunk : ℕ) → Heard_of chunk s heard (family chunk)) → ((chunk : ℕ) → MarksOf chunk s (whole chunk) (family chunk))
+FamiliesCut = (keeps : ℕ → Bool) (whole : ℕ → ℕ → Bool) (config : Config) (heard : Heard) (s : State) (t : Turn) (many : ℕ) (d : Durable) (log : Log) (family : Family s) → ((chunk : ℕ) → HeardOf chunk s heard (family chunk)) → ((chunk : ℕ) → MarksOf chunk s (whole chunk) (family chunk))
     → IsKept s.durable → IsWritten t → Chain config (IsMade config heard) s t → many ≤ length t.records → replayed s.durable (take many t.records) ≡ Some d → FamilyGoes keeps whole s (restarted d log) [] family
 
 -- In a new store no chunk is born.

@@ -3,6 +3,7 @@ use Rattle.std.specs.Prelude.{◌≡◌, ◌⊎◌, ℕ, Bool, true, false, Some
 use Rattle.std.specs.FinMap as fin
 use Rattle.std.specs.List.{AllByRecursion}
 use Rattle.gs_base.specs.declared.config.Config.{Config}
+use Rattle.gs_base.specs.declared.numbers.ReqId.{ReqId}
 use Rattle.gs_lease.specs.declared.view.View.{View}
 use Rattle.gs_msg.specs.declared.message.Message.{Message}
 use Rattle.gs_state.specs.Applied.{view_in}
@@ -17,7 +18,7 @@ use Rattle.gs_moves.specs.Moves.{Chain, Move, move_turn}
 use Rattle.gs_chunk.specs.Machine.{World}
 use Rattle.gs_chunk.specs.Laws.{IsReached}
 use Rattle.gs_entry.specs.Chains.{AreLive}
-use Rattle.gs_entry.specs.Families.{Family, Heard_of, MarksOf}
+use Rattle.gs_entry.specs.Families.{Family, HeardOf, MarksOf}
 use Rattle.gs_entry.specs.Telling.{Says, Shows}
 
 -- A file has the chunk, and its view that was settled last is this one.
@@ -38,20 +39,20 @@ pub record IsLookedUpIn (d : Durable) (chunk : ℕ) (view : View) (epoch : ℕ) 
 
 -- a chunk that is told of by a move which isn't alone is looked up so behind all moves that follow in its turn
 abbrev pub MovesLocate : Type 0
-MovesLocate = (whole : ℕ → ℕ → Bool) (config : Config) (heard : Heard) (s : State) (family : Family s) → ((chunk : ℕ) → Heard_of chunk s heard (family chunk)) → ((chunk : ℕ) → MarksOf chunk s (whole chunk) (family chunk))
-    → (move : Move) (t : Turn) (chunk : ℕ) (view : View) (epoch : ℕ) → IsMadeWell config heard s move → is_alone move ≡ false → Locates s move chunk view epoch
+MovesLocate = (whole : ℕ → ℕ → Bool) (config : Config) (heard : Heard) (s : State) (family : Family s) → ((chunk : ℕ) → HeardOf chunk s heard (family chunk)) → ((chunk : ℕ) → MarksOf chunk s (whole chunk) (family chunk))
+    → (move : Move) (t : Turn) (caller : ReqId) (chunk : ℕ) (view : View) (epoch : ℕ) → IsMadeWell config heard s move → is_alone move ≡ false → Locates s move caller chunk view epoch
     → Chain config (λ u m. IsMadeWell config heard u m × (is_alone m ≡ false)) (move_turn config s move).after t → IsLookedUpIn t.after.durable chunk view epoch
 
 -- It was told before, or is looked up where this is durable.
-abbrev pub IsToldSo : State → Durable → (chunk : ℕ) → View → (epoch : ℕ) → Type 0
-IsToldSo s d chunk view epoch = KeepsLocation s chunk view epoch ⊎ IsLookedUpIn d chunk view epoch
+abbrev pub IsToldSo : State → Durable → (caller : ReqId) (chunk : ℕ) → View → (epoch : ℕ) → Type 0
+IsToldSo s d caller chunk view epoch = KeepsLocation s caller chunk view epoch ⊎ IsLookedUpIn d chunk view epoch
 
 -- So it is of each reply that is kept behind a turn that ends one epoch at most,
 abbrev pub KeptAreLookedUp : Type 0
-KeptAreLookedUp = (whole : ℕ → ℕ → Bool) (config : Config) (heard : Heard) (s : State) (t : Turn) (family : Family s) → ((chunk : ℕ) → Heard_of chunk s heard (family chunk)) → ((chunk : ℕ) → MarksOf chunk s (whole chunk) (family chunk))
-    → EndsOnce config (IsMadeWell config heard) s t → (chunk : ℕ) (view : View) (epoch : ℕ) → KeepsLocation t.after chunk view epoch → IsToldSo s t.after.durable chunk view epoch
+KeptAreLookedUp = (whole : ℕ → ℕ → Bool) (config : Config) (heard : Heard) (s : State) (t : Turn) (family : Family s) → ((chunk : ℕ) → HeardOf chunk s heard (family chunk)) → ((chunk : ℕ) → MarksOf chunk s (whole chunk) (family chunk))
+    → EndsOnce config (IsMadeWell config heard) s t → (caller : ReqId) (chunk : ℕ) (view : View) (epoch : ℕ) → KeepsLocation t.after caller chunk view epoch → IsToldSo s t.after.durable caller chunk view epoch
 
 -- and of each that is sent.
 abbrev pub SentAreLookedUp : Type 0
-SentAreLookedUp = (whole : ℕ → ℕ → Bool) (config : Config) (heard : Heard) (s : State) (t : Turn) (family : Family s) → ((chunk : ℕ) → Heard_of chunk s heard (family chunk)) → ((chunk : ℕ) → MarksOf chunk s (whole chunk) (family chunk))
+SentAreLookedUp = (whole : ℕ → ℕ → Bool) (config : Config) (heard : Heard) (s : State) (t : Turn) (family : Family s) → ((chunk : ℕ) → HeardOf chunk s heard (family chunk)) → ((chunk : ℕ) → MarksOf chunk s (whole chunk) (family chunk))
     → EndsOnce config (IsMadeWell config heard) s t → AllByRecursion (λ (m : Message). IsToldOnlyIf (IsToldSo s t.after.durable) m.body) t.sent

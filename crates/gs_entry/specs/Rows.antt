@@ -8,7 +8,7 @@ use Rattle.gs_chunk.specs.Laws.{world_of}
 use Rattle.gs_chunk.specs.Machine.{World}
 use Rattle.gs_chunk.specs.Mastering.{NonePrepared}
 use Rattle.gs_chunk.specs.Stamps.{stamp_at}
-use Rattle.gs_entry.specs.Families.{Alive, Family, FamilyGoes, Heard_of, Life, MarksOf, Unborn}
+use Rattle.gs_entry.specs.Families.{Alive, Family, FamilyGoes, HeardOf, Life, MarksOf, Unborn}
 use Rattle.gs_moves.specs.Epochs.{EndsOnce, EpochGoes, prepares, rolls_back}
 use Rattle.gs_moves.specs.Guards.{Heard}
 use Rattle.gs_moves.specs.Laws.{IsMadeWell}
@@ -72,5 +72,5 @@ pub record FamilyRows (keeps : ℕ → Bool) (whole : ℕ → ℕ → Bool) (s u
 
 -- So it is over each turn that ends one epoch at most.
 abbrev pub FamiliesGoByRows : Type 0
-FamiliesGoByRows = (keeps : ℕ → Bool) (whole : ℕ → ℕ → Bool) (config : Config) (heard : Heard) (s : State) (t : Turn) (family : Family s) → ((chunk : ℕ) → Heard_of chunk s heard (family chunk)) → ((chunk : ℕ) → MarksOf chunk s (whole chunk) (family chunk))
+FamiliesGoByRows = (keeps : ℕ → Bool) (whole : ℕ → ℕ → Bool) (config : Config) (heard : Heard) (s : State) (t : Turn) (family : Family s) → ((chunk : ℕ) → HeardOf chunk s heard (family chunk)) → ((chunk : ℕ) → MarksOf chunk s (whole chunk) (family chunk))
     → EndsOnce config (IsMadeWell config heard) s t → FamilyRows keeps whole s t.after t.sent family

@@ -8,7 +8,7 @@ ghost use Rattle.gs_entry.specs.Laws.{RestartsReach};
 ghost use Rattle.gs_entry.specs.Locating.{KeptAreLookedUp, MovesLocate, SentAreLookedUp, SettledStay};
 ghost use Rattle.gs_entry.specs.Rows.{FamiliesGoByRows};
 ghost use Rattle.gs_entry.specs.Unborn.{EachMoveGoesUnborn, RestartsUnborn};
-ghost use Rattle.gs_entry.specs.Chains.{ChainsFollow, CutsFollow, EventsCutFollow, EventsFollow, FirstViewTells, MastersLeave, MovesFollow, PartsFollow, RestartsFollow, TicksFollow, ViewsTellLists, WrittenChainsFollow, MastersSpare};
+ghost use Rattle.gs_entry.specs.Chains.{ChainsFollow, CutsFollow, EventsCutFollow, EventsFollow, MastersLeave, MovesFollow, PartsFollow, RestartsFollow, TicksFollow, WrittenChainsFollow, MastersSpare};
 
 /// A master that is started again on what it kept is reached by events of its part alone, whatever was in memory: nobody is asked any more, and
 /// a chunk that stands in no file is forgotten.
@@ -49,13 +49,6 @@ pub fn what_the_master_leaves_of_a_chunk()
 /// Where no epoch is begun by a prepare, the master's events leave each server as it is, also for what only the proof sees.
 pub fn who_is_not_marked_stays()
     ensures { MastersSpare }
-{}
-
-/// Of a chunk that is settled before and behind what the master does within one epoch, the stamps of its views tell what becomes of its lists: all are as
-/// they were, or the view was settled once, from the list of the one before, or a rollback gave back the prepared list.
-pub fn the_views_of_a_chunk_tell_its_lists()
-    ensures both { ViewsTellLists }
-    ensures first { FirstViewTells }
 {}
 
 /// Of a chunk whose handle wasn't given the master knows nothing, and it says nothing of it, through each move but the one that gives the handle: at

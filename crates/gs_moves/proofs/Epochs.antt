@@ -26,7 +26,7 @@ use Rattle.gs_state.specs.State.{State, Turn}
 use Rattle.gs_state.specs.Working.{forget_if}
 use Rattle.gs_moves.specs.Guards.{Heard, IsMade, is_location}
 use Rattle.gs_moves.specs.Laws.{IsMadeWell}
-use Rattle.gs_moves.specs.Moves.{Chain, Rests, Moves, Then, Move, Scans, Refuses, Answers as Answers_it, Prepares, Finalizes, BeginsRollback, TellsRollback, CommitsRollback, Checkpoints, move_turn}
+use Rattle.gs_moves.specs.Moves.{Chain, Rests, Moves, Then, Move, Scans, Refuses, Answers as AnswersCall, Prepares, Finalizes, BeginsRollback, TellsRollback, CommitsRollback, Checkpoints, move_turn}
 use Rattle.gs_path.specs.Path.{Path}
 use Rattle.gs_moves.specs.Epochs.{Begun, ByItself, Closes, Committed, EpochGoes, EpochsGo, Finalized, IsSameEpoch, Prepared, Stays, Within, WithinStays, closes, is_alone, is_followed}
 use Rattle.gs_moves.proofs.Listed.{keeps_listed, over_records, within_keeps}
@@ -95,7 +95,7 @@ module _ (config : Config) (heard : Heard) where
   -- who ends a call isn't alone
   closing_same : (s : State) (move : Move) → IsMade config heard s move → closes move ≡ true → told (move_turn config s move).after.durable ≡ told s.durable
   closing_same s (Refuses req refusal over) made is = move_same s (Refuses req refusal over) made refl
-  closing_same s (Answers_it req answer over) made is = move_same s (Answers_it req answer over) made (apart (is_location answer) over is)
+  closing_same s (AnswersCall req answer over) made is = move_same s (AnswersCall req answer over) made (apart (is_location answer) over is)
     where
       apart : (a b : Bool) → (b || not a) ≡ true → (a && not b) ≡ false
       apart true true e = refl
@@ -193,8 +193,8 @@ module _ (config : Config) (heard : Heard) where
       let answers = answers_for (prepared_view s.durable) (told_of s) (fin.entries names.refs) in
       let n = (move_turn config s (CommitsRollback req names)).after.durable in
       undone_goes s.durable n s.durable.epoch answers (one_fits s.durable n (RollbackCommit s.durable.epoch answers) made.fits)
-  alone_goes s (Answers_it req answer true) made is = Stays refl refl
-  alone_goes s (Answers_it req answer false) made is = Stays refl refl
+  alone_goes s (AnswersCall req answer true) made is = Stays refl refl
+  alone_goes s (AnswersCall req answer false) made is = Stays refl refl
   alone_goes s move made is = absurd (false≢true is)
 
 pub epochs_go : EpochsGo

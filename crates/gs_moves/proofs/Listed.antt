@@ -23,7 +23,7 @@ use Rattle.gs_laws.proofs.KeptEdits.{listed_after}
 use Rattle.gs_moves.proofs.Stands.{is_checkpoint, no_whole, plain, plain_records}
 use Rattle.gs_moves.specs.Epochs.{is_alone}
 use Rattle.gs_moves.specs.Guards.{Heard, IsMade, is_of_tree}
-use Rattle.gs_moves.specs.Moves.{Alone, FromNow, Further, Move, Begins, Copies, Settles, Edits, Scans, Refuses, Answers as Answers_it, Prepares, Finalizes, BeginsRollback, CommitsRollback, Checkpoints, move_turn}
+use Rattle.gs_moves.specs.Moves.{Alone, FromNow, Further, Move, Begins, Copies, Settles, Edits, Scans, Refuses, Answers as AnswersCall, Prepares, Finalizes, BeginsRollback, CommitsRollback, Checkpoints, move_turn}
 
 durable_is : {a b : Durable} → ◌≡◌ {A = Option Durable} (Some a) (Some b) → a ≡ b
 durable_is k = cc
@@ -126,8 +126,8 @@ module _ (config : Config) (heard : Heard) where
   within_keeps s (Settles q asking carried view) made within other = settle_keeps (is_holder s.durable.phase (prepared_view s.durable q) carried asking view) q (target_of asking.purpose) view
   within_keeps s (Edits req edit answer) made within other = tree_keeps edit made.may.tree
   within_keeps s (Refuses req refusal over) made within other = said_keeps s req refusal
-  within_keeps s (Answers_it req answer true) made within other = refl
-  within_keeps s (Answers_it req answer false) made within other = refl
+  within_keeps s (AnswersCall req answer true) made within other = refl
+  within_keeps s (AnswersCall req answer false) made within other = refl
   within_keeps s move made within other = refl
 
   pub stays_listed : (s : State) (move : Move) (chunk : ℕ) → IsMade config heard s move → is_alone move ≡ false → ListedOn chunk s.durable (move_turn config s move).after.durable

@@ -1,9 +1,10 @@
 -- Where a client is told that a chunk is, it was told before, or a move of the chain looks it up.
-use Rattle.std.proofs.Common.{◌≡◌, ◌⊎◌, inl, inr, ◌∙◌, ◌==◌, ◌&&◌, ◌+◌, ◌++◌, ℕ, Bool, true, false, not, cond, List, [], ◌∷◌, refl, ap, sym, subst}
+use Rattle.std.proofs.Common.{arith, ◌≡◌, ◌⊎◌, inl, inr, ◌∙◌, ◌==◌, ◌&&◌, ◌+◌, ◌++◌, ℕ, Bool, true, false, not, cond, List, [], ◌∷◌, refl, ap, sym, subst}
 use Rattle.std.specs.Prelude.{flat_map, is_some, map, nat_lt, Option, Some, None, Result, Ok, Err, if◌then◌else◌}
 use Rattle.std.specs.FinMap as fin
 use Rattle.std.specs.List.{AllByRecursion, list_all}
 use Rattle.std.specs.Ordering.{eq_by_cmp}
+use Rattle.std.proofs.lemmas.Bool.Decides.{nat_tests}
 use Rattle.std.proofs.lemmas.Bool.{false≢true, true≢false, and_parts}
 use Rattle.gs_base.specs.Members.{count_from, is_member}
 use Rattle.gs_base.specs.declared.config.Config.{Config}
@@ -41,13 +42,14 @@ use Rattle.gs_state.specs.declared.change.Change.TheVariants as changes
 use Rattle.gs_state.specs.declared.reply.KeptReply.{KeptReply}
 use Rattle.gs_state.proofs.Tracking.{client_total}
 use Rattle.gs_laws.proofs.Beginnings.{fits_gives}
+use Rattle.gs_laws.proofs.KeptViews.{same_key}
 use Rattle.gs_laws.proofs.Standing.{changed_more}
 use Rattle.gs_moves.proofs.Chains.{is_located}
 use Rattle.gs_moves.proofs.Listed.{over_records}
 use Rattle.gs_moves.proofs.Right.{added_right, each_of, one_fits}
 use Rattle.gs_moves.specs.Guards.{AreSaidAgain, Heard, IsLocatedBy, IsMade, IsRightAnswer, IsSaidAgain, WasReplied, is_location, is_of_tree}
 use Rattle.gs_moves.specs.Locations.{IsLocatedWithin, IsToldIn, IsToldOnlyIf, KeepsLocation, KeptWereLocated, LocatedAreRight, Locates, SentWereLocated, WasLocated}
-use Rattle.gs_moves.specs.Moves.{Alone, Chain, FromNow, Further, Move, Moves, Rests, Then, Begins, Makes, Copies, Hears, Sends, Settles, Edits, Extends, CopiesTree, Replaces, Scans, Refuses, Answers as Answers_it, Waits, Restores, Says, Flags, Prepares, Finalizes, BeginsRollback, TellsRollback, CommitsRollback, Checkpoints, move_turn}
+use Rattle.gs_moves.specs.Moves.{Alone, Chain, FromNow, Further, Move, Moves, Rests, Then, Begins, Makes, Copies, Hears, Sends, Settles, Edits, Extends, CopiesTree, Replaces, Scans, Refuses, Answers as AnswersCall, Waits, Restores, Says, Flags, Prepares, Finalizes, BeginsRollback, TellsRollback, CommitsRollback, Checkpoints, move_turn}
 
 some_is : {a b : KeptReply} → ◌≡◌ {A = Option KeptReply} (Some a) (Some b) → a ≡ b
 some_is h = cc
@@ -92,48 +94,61 @@ of_tree : (edit : PlainEdit) → is_of_tree edit ≡ true → (not (is_addition 
 of_tree (AddChunk path chunk) tree = absurd (false≢true tree)
 of_tree edit tree = refl
 
--- a chunk, its view, and an epoch
-module _ (chunk : ℕ) (view : View) (epoch : ℕ) where
+same_client : (a b : ClientId) → eq_by_cmp client_cmp a b ≡ true → a ≡ b
+same_client a b h = (let e : a.0 ≡ b.0 = same_key a.0 b.0 h in (λ i. record { 0 = e i }))
+
+call_is : (a b : ReqId) → a.client ≡ b.client → a.number ≡ b.number → a ≡ b
+call_is a b client number = λ i. record { client = client i; number = number i }
+
+same_number : (a b : ℕ) → (a == b) ≡ true → a ≡ b
+same_number a b is = grind (arith, nat_tests)
+
+-- a call, a chunk, its view, and an epoch
+module _ (caller : ReqId) (chunk : ℕ) (view : View) (epoch : ℕ) where
   abbrev place : Result Answer Refusal
   place = Ok (answers.Location chunk view epoch)
 
   -- ---- replies that are kept
 
-  inserted : (m : fin.FinMap client_cmp KeptReply) (client : ClientId) (reply : KeptReply) → IsToldIn (fin.insert m client reply) chunk view epoch → IsToldIn m chunk view epoch ⊎ (reply.result ≡ place)
-  inserted m client reply k = by_key (eq_by_cmp client_cmp k.client client) (sym (fin.get-insert client_total m client reply k.client) ∙ k.has)
+  inserted : (m : fin.FinMap client_cmp KeptReply) (client : ClientId) (reply : KeptReply) → IsToldIn (fin.insert m client reply) caller chunk view epoch → IsToldIn m caller chunk view epoch ⊎ ((reply.result ≡ place) × ((client ≡ caller.client) × (reply.number ≡ caller.number)))
+  inserted m client reply k = by_key (eq_by_cmp client_cmp caller.client client) refl (sym (fin.get-insert client_total m client reply caller.client) ∙ k.has)
     where
-      by_key : (b : Bool) → cond b (Some reply) (fin.get m k.client) ≡ Some k.reply → IsToldIn m chunk view epoch ⊎ (reply.result ≡ place)
-      by_key true h = inr (ap (λ (r : KeptReply). r.result) (some_is h) ∙ k.is)
-      by_key false h = inl (record { client = k.client; reply = k.reply; has = h; is = k.is })
+      by_key : (b : Bool) → eq_by_cmp client_cmp caller.client client ≡ b → cond b (Some reply) (fin.get m caller.client) ≡ Some k.reply → IsToldIn m caller chunk view epoch ⊎ ((reply.result ≡ place) × ((client ≡ caller.client) × (reply.number ≡ caller.number)))
+      by_key true same h = inr (ap (λ (r : KeptReply). r.result) (some_is h) ∙ k.is, (sym (same_client caller.client client same), ap (λ (r : KeptReply). r.number) (some_is h) ∙ k.number))
+      by_key false other h = inl (record { reply = k.reply; has = h; number = k.number; is = k.is })
 
-  replied : (m : fin.FinMap client_cmp KeptReply) (to : ReqId) (result : Result Answer Refusal) → IsToldIn (with_reply m to result) chunk view epoch → IsToldIn m chunk view epoch ⊎ (result ≡ place)
+  replied : (m : fin.FinMap client_cmp KeptReply) (to : ReqId) (result : Result Answer Refusal) → IsToldIn (with_reply m to result) caller chunk view epoch → IsToldIn m caller chunk view epoch ⊎ ((result ≡ place) × (to ≡ caller))
   replied m to result k = by_test (is_later (fin.get m to.client) to.number) k
     where
-      by_test : (b : Bool) → IsToldIn (if b then fin.insert m to.client (record { number = to.number; result = result }) else m) chunk view epoch → IsToldIn m chunk view epoch ⊎ (result ≡ place)
-      by_test true k = inserted m to.client (record { number = to.number; result = result }) k
+      for_call : IsToldIn m caller chunk view epoch ⊎ ((result ≡ place) × ((to.client ≡ caller.client) × (to.number ≡ caller.number))) → IsToldIn m caller chunk view epoch ⊎ ((result ≡ place) × (to ≡ caller))
+      for_call (inl k) = inl k
+      for_call (inr (is, (client, number))) = inr (is, call_is to caller client number)
+
+      by_test : (b : Bool) → IsToldIn (if b then fin.insert m to.client (record { number = to.number; result = result }) else m) caller chunk view epoch → IsToldIn m caller chunk view epoch ⊎ ((result ≡ place) × (to ≡ caller))
+      by_test true k = for_call (inserted m to.client (record { number = to.number; result = result }) k)
       by_test false k = inl k
 
   -- another result tells no place
-  unlocated : {A : Type 0} (result : Result Answer Refusal) → is_located result ≡ false → A ⊎ (result ≡ place) → A
+  unlocated : {A B : Type 0} (result : Result Answer Refusal) → is_located result ≡ false → A ⊎ ((result ≡ place) × B) → A
   unlocated result plain (inl a) = a
-  unlocated result plain (inr is) = absurd (true≢false (sym (ap is_located is) ∙ plain))
+  unlocated result plain (inr is) = absurd (true≢false (sym (ap is_located is.0) ∙ plain))
 
-  answered_so : (m : fin.FinMap client_cmp KeptReply) (to : ReqId) (answer : Option Answer) → is_place answer ≡ false → IsToldIn (with_answer m to answer) chunk view epoch → IsToldIn m chunk view epoch
+  answered_so : (m : fin.FinMap client_cmp KeptReply) (to : ReqId) (answer : Option Answer) → is_place answer ≡ false → IsToldIn (with_answer m to answer) caller chunk view epoch → IsToldIn m caller chunk view epoch
   answered_so m to None plain k = k
   answered_so m to (Some answer) plain k = unlocated (Ok answer) plain (replied m to (Ok answer) k)
 
   -- ---- records
 
   abbrev Before : Durable → Durable → Type 0
-  Before d e = IsToldIn e.replies chunk view epoch → IsToldIn d.replies chunk view epoch
+  Before d e = IsToldIn e.replies caller chunk view epoch → IsToldIn d.replies caller chunk view epoch
 
   same_replies : (d e : Durable) → e.replies ≡ d.replies → Before d e
-  same_replies d e is k = subst (λ m. IsToldIn m chunk view epoch) is k
+  same_replies d e is k = subst (λ m. IsToldIn m caller chunk view epoch) is k
 
   edited_before : (d e : Durable) (by : ReqId) (edit : PlainEdit) (names : Result NamesView Refusal) → is_addition edit ≡ false → after_edit d by edit names ≡ Some e → Before d e
   edited_before d e by edit (Ok names) plain fit k =
       answered_so d.replies by (answer_to edit (view_for d (chunk_of_edit edit)) d.epoch) (no_place_of edit (view_for d (chunk_of_edit edit)) d.epoch plain)
-      (subst (λ m. IsToldIn m chunk view epoch) (ap (λ (x : Durable). x.replies) (sym (fits_gives (may_edit d edit) (with_edit d by edit names) e fit).1)) k)
+      (subst (λ m. IsToldIn m caller chunk view epoch) (ap (λ (x : Durable). x.replies) (sym (fits_gives (may_edit d edit) (with_edit d by edit names) e fit).1)) k)
   edited_before d e by edit (Err refusal) plain fit k = absurd (false≢true (ap is_some fit))
 
   undone_before : (d e : Durable) (now : ℕ) (told : List Answered) (names : Option NamesView) → after_undoing d now told names ≡ Some e → Before d e
@@ -142,7 +157,7 @@ module _ (chunk : ℕ) (view : View) (epoch : ℕ) where
       same_replies d e (ap (λ (x : Durable). x.replies) (sym (fits_gives (is_rolling d.phase && ((now == d.epoch) && are_answers (prepared_view d) (fin.entries names.refs) told)) (rolled_back d told names) e fit).1))
 
   said_before : (d e : Durable) (to : ReqId) (refusal : Refusal) → ◌≡◌ {A = Option Durable} (Some (record d { replies = with_reply d.replies to (Err refusal) })) (Some e) → Before d e
-  said_before d e to refusal fit k = unlocated (Err refusal) refl (replied d.replies to (Err refusal) (subst (λ m. IsToldIn m chunk view epoch) (ap (λ (x : Durable). x.replies) (sym (durable_is fit))) k))
+  said_before d e to refusal fit k = unlocated (Err refusal) refl (replied d.replies to (Err refusal) (subst (λ m. IsToldIn m caller chunk view epoch) (ap (λ (x : Durable). x.replies) (sym (durable_is fit))) k))
     where
       durable_is : {a b : Durable} → ◌≡◌ {A = Option Durable} (Some a) (Some b) → a ≡ b
       durable_is h = cc
@@ -163,7 +178,7 @@ module _ (chunk : ℕ) (view : View) (epoch : ℕ) where
 
   -- ---- what is kept in memory
 
-  change_before : (v : Volatile) (change : Change) → keeps_no_place change ≡ true → IsToldIn (changed v change).replies chunk view epoch → IsToldIn v.replies chunk view epoch
+  change_before : (v : Volatile) (change : Change) → keeps_no_place change ≡ true → IsToldIn (changed v change).replies caller chunk view epoch → IsToldIn v.replies caller chunk view epoch
   change_before v (changes.Keep client reply) plain k = unlocated reply.result (not_true (is_located reply.result) plain) (inserted v.replies client reply k)
   change_before v (changes.Ask q asking) plain k = k
   change_before v (changes.Settled q) plain k = k
@@ -178,42 +193,42 @@ module _ (chunk : ℕ) (view : View) (epoch : ℕ) where
   change_before v (changes.Restored server chunks) plain k = k
   change_before v changes.RolledBack plain k = k
 
-  changes_before : (cs : List Change) (v : Volatile) → list_all keeps_no_place cs ≡ true → IsToldIn (all_changed v cs).replies chunk view epoch → IsToldIn v.replies chunk view epoch
+  changes_before : (cs : List Change) (v : Volatile) → list_all keeps_no_place cs ≡ true → IsToldIn (all_changed v cs).replies caller chunk view epoch → IsToldIn v.replies caller chunk view epoch
   changes_before [] v all k = k
   changes_before (c ∷ cs) v all k = (let parts = and_parts (keeps_no_place c) (list_all keeps_no_place cs) all in change_before v c parts.0 (changes_before cs (changed v c) parts.1 k))
 
   -- ---- an answer
 
   -- an answer without a record
-  answer_before : (s : State) (req : ReqId) (answer : Answer) → IsToldIn (all_changed s.volatile (answer_changes s req answer)).replies chunk view epoch → IsToldIn s.volatile.replies chunk view epoch ⊎ (answer ≡ answers.Location chunk view epoch)
+  answer_before : (s : State) (req : ReqId) (answer : Answer) → IsToldIn (all_changed s.volatile (answer_changes s req answer)).replies caller chunk view epoch → IsToldIn s.volatile.replies caller chunk view epoch ⊎ ((answer ≡ answers.Location chunk view epoch) × (req ≡ caller))
   answer_before s req answer k = by_test (is_later (last_reply s req.client) req.number) k
     where
       same : Ok answer ≡ place → answer ≡ answers.Location chunk view epoch
       same h = cc
 
-      told : IsToldIn s.volatile.replies chunk view epoch ⊎ (Ok answer ≡ place) → IsToldIn s.volatile.replies chunk view epoch ⊎ (answer ≡ answers.Location chunk view epoch)
+      told : IsToldIn s.volatile.replies caller chunk view epoch ⊎ ((Ok answer ≡ place) × ((req.client ≡ caller.client) × (req.number ≡ caller.number))) → IsToldIn s.volatile.replies caller chunk view epoch ⊎ ((answer ≡ answers.Location chunk view epoch) × (req ≡ caller))
       told (inl k) = inl k
-      told (inr is) = inr (same is)
+      told (inr (is, (client, number))) = inr (same is, call_is req caller client number)
 
-      by_test : (b : Bool) → IsToldIn (all_changed s.volatile (if b then kept_in_memory req (Ok answer) ∷ [] else [])).replies chunk view epoch → IsToldIn s.volatile.replies chunk view epoch ⊎ (answer ≡ answers.Location chunk view epoch)
+      by_test : (b : Bool) → IsToldIn (all_changed s.volatile (if b then kept_in_memory req (Ok answer) ∷ [] else [])).replies caller chunk view epoch → IsToldIn s.volatile.replies caller chunk view epoch ⊎ ((answer ≡ answers.Location chunk view epoch) × (req ≡ caller))
       by_test true k = told (inserted s.volatile.replies req.client (record { number = req.number; result = Ok answer }) k)
       by_test false k = inl k
 
   -- the last reply to a client is kept
-  replied_before : (s : State) (req : ReqId) → WasReplied s req place → KeepsLocation s chunk view epoch
-  replied_before s req was = by_replies (fin.get s.durable.replies req.client) (fin.get s.volatile.replies req.client) refl refl was.has
+  replied_before : (s : State) → WasReplied s caller place → KeepsLocation s caller chunk view epoch
+  replied_before s was = by_replies (fin.get s.durable.replies caller.client) (fin.get s.volatile.replies caller.client) refl refl was.has
     where
-      durable : fin.get s.durable.replies req.client ≡ Some was.reply → KeepsLocation s chunk view epoch
-      durable has = inl (record { client = req.client; reply = was.reply; has = has; is = was.is })
+      durable : fin.get s.durable.replies caller.client ≡ Some was.reply → KeepsLocation s caller chunk view epoch
+      durable has = inl (record { reply = was.reply; has = has; number = same_number was.reply.number caller.number was.number; is = was.is })
 
-      volatile : fin.get s.volatile.replies req.client ≡ Some was.reply → KeepsLocation s chunk view epoch
-      volatile has = inr (record { client = req.client; reply = was.reply; has = has; is = was.is })
+      volatile : fin.get s.volatile.replies caller.client ≡ Some was.reply → KeepsLocation s caller chunk view epoch
+      volatile has = inr (record { reply = was.reply; has = has; number = same_number was.reply.number caller.number was.number; is = was.is })
 
-      by_number : (b : Bool) (a o : KeptReply) → fin.get s.durable.replies req.client ≡ Some a → fin.get s.volatile.replies req.client ≡ Some o → (if b then Some o else Some a) ≡ Some was.reply → KeepsLocation s chunk view epoch
+      by_number : (b : Bool) (a o : KeptReply) → fin.get s.durable.replies caller.client ≡ Some a → fin.get s.volatile.replies caller.client ≡ Some o → (if b then Some o else Some a) ≡ Some was.reply → KeepsLocation s caller chunk view epoch
       by_number true a o in_durable in_volatile h = volatile (in_volatile ∙ h)
       by_number false a o in_durable in_volatile h = durable (in_durable ∙ h)
 
-      by_replies : (a o : Option KeptReply) → fin.get s.durable.replies req.client ≡ a → fin.get s.volatile.replies req.client ≡ o → later a o ≡ Some was.reply → KeepsLocation s chunk view epoch
+      by_replies : (a o : Option KeptReply) → fin.get s.durable.replies caller.client ≡ a → fin.get s.volatile.replies caller.client ≡ o → later a o ≡ Some was.reply → KeepsLocation s caller chunk view epoch
       by_replies None o in_durable in_volatile h = volatile (in_volatile ∙ h)
       by_replies (Some a) None in_durable in_volatile h = durable (in_durable ∙ h)
       by_replies (Some a) (Some o) in_durable in_volatile h = by_number (nat_lt a.number o.number) a o in_durable in_volatile h
@@ -274,50 +289,50 @@ accepted_keeps s req before epoch plain = both_all keeps_no_place before (answer
 
 -- ---- what is kept behind a move
 
-module _ (config : Config) (heard : Heard) (s : State) (chunk : ℕ) (view : View) (epoch : ℕ) where
+module _ (config : Config) (heard : Heard) (s : State) (caller : ReqId) (chunk : ℕ) (view : View) (epoch : ℕ) where
   abbrev WasBy : Move → Type 0
-  WasBy move = KeepsLocation s chunk view epoch ⊎ Locates s move chunk view epoch
+  WasBy move = KeepsLocation s caller chunk view epoch ⊎ Locates s move caller chunk view epoch
 
-  added_by : (req : ReqId) (path : Path) (new : ℕ) (at : View) → IsMade config heard s (Extends req path new at) → KeepsLocation (move_turn config s (Extends req path new at)).after chunk view epoch → WasBy (Extends req path new at)
+  added_by : (req : ReqId) (path : Path) (new : ℕ) (at : View) → IsMade config heard s (Extends req path new at) → KeepsLocation (move_turn config s (Extends req path new at)).after caller chunk view epoch → WasBy (Extends req path new at)
   unfolding applied
   added_by req path new at made (inl k) =
       let after = (move_turn config s (Extends req path new at)).after.durable in
       let edit = AddChunk path new in
       let fit = one_fits s.durable after (Edited req edit) made.fits in
       let gives = fits_gives (may_edit s.durable edit) (with_edit s.durable req edit made.may.0.0) after (ap (after_edit s.durable req edit) (sym made.may.0.1) ∙ fit) in
-      told (replied chunk view epoch s.durable.replies req (Ok (answers.Location new at s.durable.epoch))
-      (subst (λ m. IsToldIn m chunk view epoch) (ap (λ (x : Durable). x.replies) (sym gives.1) ∙ ap (λ o. with_answer s.durable.replies req (answer_to edit o s.durable.epoch)) (ap view_in made.may.1.has)) k))
+      told (replied caller chunk view epoch s.durable.replies req (Ok (answers.Location new at s.durable.epoch))
+      (subst (λ m. IsToldIn m caller chunk view epoch) (ap (λ (x : Durable). x.replies) (sym gives.1) ∙ ap (λ o. with_answer s.durable.replies req (answer_to edit o s.durable.epoch)) (ap view_in made.may.1.has)) k))
     where
       new_is : {a b : ℕ} {x y : View} {m n : ℕ} → ◌≡◌ {A = Result Answer Refusal} (Ok (answers.Location a x m)) (Ok (answers.Location b y n)) → (a ≡ b) × (x ≡ y) × (m ≡ n)
       new_is h = (cc, cc, cc)
 
-      told : IsToldIn s.durable.replies chunk view epoch ⊎ (◌≡◌ {A = Result Answer Refusal} (Ok (answers.Location new at s.durable.epoch)) (Ok (answers.Location chunk view epoch))) → WasBy (Extends req path new at)
+      told : IsToldIn s.durable.replies caller chunk view epoch ⊎ ((◌≡◌ {A = Result Answer Refusal} (Ok (answers.Location new at s.durable.epoch)) (Ok (answers.Location chunk view epoch))) × (req ≡ caller)) → WasBy (Extends req path new at)
       told (inl k) = inl (inl k)
-      told (inr is) = inr (new_is is)
-  added_by req path new at made (inr k) = inl (inr (changes_before chunk view epoch (changes.Place new ∷ changes.End req ∷ []) s.volatile refl k))
+      told (inr (is, own)) = (let parts = new_is is in inr (parts.0, parts.1, parts.2, own))
+  added_by req path new at made (inr k) = inl (inr (changes_before caller chunk view epoch (changes.Place new ∷ changes.End req ∷ []) s.volatile refl k))
 
-  answered_by : (req : ReqId) (answer : Answer) (over : Bool) → KeepsLocation (move_turn config s (Answers_it req answer over)).after chunk view epoch → WasBy (Answers_it req answer over)
+  answered_by : (req : ReqId) (answer : Answer) (over : Bool) → KeepsLocation (move_turn config s (AnswersCall req answer over)).after caller chunk view epoch → WasBy (AnswersCall req answer over)
   answered_by req answer true (inl k) = inl (inl k)
   answered_by req answer false (inl k) = inl (inl k)
-  answered_by req answer true (inr k) = told (answer_before chunk view epoch s req answer (subst (λ (v : Volatile). IsToldIn v.replies chunk view epoch) (changed_more (answer_changes s req answer) (changes.End req ∷ []) s.volatile) k))
+  answered_by req answer true (inr k) = told (answer_before caller chunk view epoch s req answer (subst (λ (v : Volatile). IsToldIn v.replies caller chunk view epoch) (changed_more (answer_changes s req answer) (changes.End req ∷ []) s.volatile) k))
     where
-      told : IsToldIn s.volatile.replies chunk view epoch ⊎ (answer ≡ answers.Location chunk view epoch) → WasBy (Answers_it req answer true)
+      told : IsToldIn s.volatile.replies caller chunk view epoch ⊎ ((answer ≡ answers.Location chunk view epoch) × (req ≡ caller)) → WasBy (AnswersCall req answer true)
       told (inl k) = inl (inr k)
       told (inr is) = inr is
-  answered_by req answer false (inr k) = told (answer_before chunk view epoch s req answer k)
+  answered_by req answer false (inr k) = told (answer_before caller chunk view epoch s req answer k)
     where
-      told : IsToldIn s.volatile.replies chunk view epoch ⊎ (answer ≡ answers.Location chunk view epoch) → WasBy (Answers_it req answer false)
+      told : IsToldIn s.volatile.replies caller chunk view epoch ⊎ ((answer ≡ answers.Location chunk view epoch) × (req ≡ caller)) → WasBy (AnswersCall req answer false)
       told (inl k) = inl (inr k)
       told (inr is) = inr is
 
   -- what tells no place
   plain_by : (move : Move) (cs : List Change) → IsMade config heard s move → list_all tells_no_place (move_turn config s move).records ≡ true → list_all keeps_no_place cs ≡ true → (move_turn config s move).after.volatile.replies ≡ (all_changed s.volatile cs).replies
-      → KeepsLocation (move_turn config s move).after chunk view epoch → WasBy move
+      → KeepsLocation (move_turn config s move).after caller chunk view epoch → WasBy move
   plain_by move cs made records_so changes_so same (inl k) =
-      inl (inl (over_records (Before chunk view epoch) (λ d k. k) (λ d n e a b k. a (b k)) tells_no_place (record_before chunk view epoch) (move_turn config s move).records s.durable (move_turn config s move).after.durable records_so made.fits k))
-  plain_by move cs made records_so changes_so same (inr k) = inl (inr (changes_before chunk view epoch cs s.volatile changes_so (subst (λ m. IsToldIn m chunk view epoch) same k)))
+      inl (inl (over_records (Before caller chunk view epoch) (λ d k. k) (λ d n e a b k. a (b k)) tells_no_place (record_before caller chunk view epoch) (move_turn config s move).records s.durable (move_turn config s move).after.durable records_so made.fits k))
+  plain_by move cs made records_so changes_so same (inr k) = inl (inr (changes_before caller chunk view epoch cs s.volatile changes_so (subst (λ m. IsToldIn m caller chunk view epoch) same k)))
 
-  kept_by : (move : Move) → IsMade config heard s move → KeepsLocation (move_turn config s move).after chunk view epoch → WasBy move
+  kept_by : (move : Move) → IsMade config heard s move → KeepsLocation (move_turn config s move).after caller chunk view epoch → WasBy move
   kept_by (Begins q purpose call Alone) made k = plain_by (Begins q purpose call Alone) [] made refl refl refl k
   kept_by (Begins q purpose call (FromNow req waiting)) made k = plain_by (Begins q purpose call (FromNow req waiting)) [] made refl refl refl k
   kept_by (Begins q purpose call (Further req waiting)) made k = plain_by (Begins q purpose call (Further req waiting)) [] made refl refl refl k
@@ -338,7 +353,7 @@ module _ (config : Config) (heard : Heard) (s : State) (chunk : ℕ) (view : Vie
   kept_by (Extends req path new at) made k = added_by req path new at made k
   kept_by (Refuses req refusal over) made k =
       plain_by (Refuses req refusal over) (said_changes (keeps_refusal s req refusal) s.log req refusal ++ (if over then end_changes s req else [])) made (said_tells s req refusal) (refused_keeps s req refusal over) refl k
-  kept_by (Answers_it req answer over) made k = answered_by req answer over k
+  kept_by (AnswersCall req answer over) made k = answered_by req answer over k
   kept_by (Says messages) made k = inl k
   kept_by (Flags req preparing now) made k = plain_by (Flags req preparing now) (changes.Prepare preparing ∷ answer_changes s req (answers.Epoch now)) made refl (accepted_keeps s req (changes.Prepare preparing ∷ []) now refl) refl k
   kept_by (Prepares req moment) made k = plain_by (Prepares req moment) (changes.Prepare false ∷ answer_changes s req (answers.Epoch (s.durable.epoch + 1))) made refl (accepted_keeps s req (changes.Prepare false ∷ []) (s.durable.epoch + 1) refl) refl k
@@ -351,18 +366,18 @@ module _ (config : Config) (heard : Heard) (s : State) (chunk : ℕ) (view : Vie
 
 module _ (config : Config) (heard : Heard) (s : State) where
   abbrev SentBy : Move → Message → Type 0
-  SentBy move m = IsToldOnlyIf (λ chunk view epoch. WasBy config heard s chunk view epoch move) m.body
+  SentBy move m = IsToldOnlyIf (λ caller chunk view epoch. WasBy config heard s caller chunk view epoch move) m.body
 
   plain_sent : (move : Move) (req : ReqId) (answer : Answer) → is_location answer ≡ false → SentBy move (reply_to req (Ok answer))
   plain_sent move req (answers.Location chunk view epoch) plain = absurd (true≢false plain)
   plain_sent move req answer plain = tt
 
-  answer_sent : (req by : ReqId) (answer : Answer) (over : Bool) → SentBy (Answers_it by answer over) (reply_to req (Ok answer))
-  answer_sent req by (answers.Location chunk view epoch) over = inr refl
-  answer_sent req by answer over = tt
+  answer_sent : (req : ReqId) (answer : Answer) (over : Bool) → SentBy (AnswersCall req answer over) (reply_to req (Ok answer))
+  answer_sent req (answers.Location chunk view epoch) over = inr (refl, refl)
+  answer_sent req answer over = tt
 
-  again_sent : (move : Move) (body : Body) → IsSaidAgain s body → IsToldOnlyIf (λ chunk view epoch. WasBy config heard s chunk view epoch move) body
-  again_sent move (bodies.Reply req (Ok (answers.Location chunk view epoch))) was = inl (replied_before chunk view epoch s req was)
+  again_sent : (move : Move) (body : Body) → IsSaidAgain s body → IsToldOnlyIf (λ caller chunk view epoch. WasBy config heard s caller chunk view epoch move) body
+  again_sent move (bodies.Reply req (Ok (answers.Location chunk view epoch))) was = inl (replied_before req chunk view epoch s was)
   again_sent move body was = tt
 
   all_again : (move : Move) (messages : List Message) → AreSaidAgain s messages → AllByRecursion (SentBy move) messages
@@ -396,13 +411,13 @@ module _ (config : Config) (heard : Heard) (s : State) where
   sent_by (Sends q asking source target) made = (tt, tt)
   sent_by (Settles q asking carried at) made = grant_sent (Settles q asking carried at) q at at.term
   sent_by (Edits req edit answer) made = (plain_sent (Edits req edit answer) req answer made.may.answers, tt)
-  sent_by (Extends req path new at) made = (inr (refl, refl, refl), tt)
+  sent_by (Extends req path new at) made = (inr (refl, refl, refl, refl), tt)
   sent_by (CopiesTree req from to) made = (tt, tt)
   sent_by (Replaces path index old new) made = tt
   sent_by (Scans removed forgotten) made = tt
   sent_by (Refuses req refusal over) made = (tt, tt)
-  sent_by (Answers_it req answer true) made = (answer_sent req req answer true, tt)
-  sent_by (Answers_it req answer false) made = (answer_sent req req answer false, tt)
+  sent_by (AnswersCall req answer true) made = (answer_sent req answer true, tt)
+  sent_by (AnswersCall req answer false) made = (answer_sent req answer false, tt)
   sent_by (Waits req waiting) made = tt
   sent_by (Restores server chunks) made = tt
   sent_by (Says messages) made = all_again (Says messages) messages made.may.2
@@ -416,82 +431,82 @@ module _ (config : Config) (heard : Heard) (s : State) where
 
 -- ---- what a move tells is so behind it
 
-located_right : (config : Config) (heard : Heard) (s : State) (move : Move) (chunk : ℕ) (view : View) (epoch : ℕ) → IsMade config heard s move → Locates s move chunk view epoch → IsLocatedBy (move_turn config s move).after chunk view epoch
-located_right config heard s (Answers_it req answer over) chunk view epoch made is = by_over over (subst (λ a. IsRightAnswer s a) is made.may.0)
+located_right : (config : Config) (heard : Heard) (s : State) (move : Move) (caller : ReqId) (chunk : ℕ) (view : View) (epoch : ℕ) → IsMade config heard s move → Locates s move caller chunk view epoch → IsLocatedBy (move_turn config s move).after chunk view epoch
+located_right config heard s (AnswersCall req answer over) caller chunk view epoch made is = by_over over (subst (λ a. IsRightAnswer s a) is.0 made.may.0)
   where
-    by_over : (b : Bool) → IsLocatedBy s chunk view epoch → IsLocatedBy (move_turn config s (Answers_it req answer b)).after chunk view epoch
+    by_over : (b : Bool) → IsLocatedBy s chunk view epoch → IsLocatedBy (move_turn config s (AnswersCall req answer b)).after chunk view epoch
     by_over true k = record { settled = k.settled; now = k.now; listed = k.listed; calm = k.calm }
     by_over false k = record { settled = k.settled; now = k.now; listed = k.listed; calm = k.calm }
-located_right config heard s (Extends req path new at) chunk view epoch made is =
+located_right config heard s (Extends req path new at) caller chunk view epoch made is =
     let after = (move_turn config s (Extends req path new at)).after in
     let k = added_right config heard s req path new at made.may.0 made.may.1 made.fits in
     subst (λ c. IsLocatedBy after c view epoch) is.0 (subst (λ v. IsLocatedBy after new v epoch) is.1 (subst (λ e. IsLocatedBy after new at e) is.2 k))
-located_right config heard s move chunk view epoch made is = absurd is
+located_right config heard s move caller chunk view epoch made is = absurd is
 
 pub located_are_right : LocatedAreRight
-located_are_right config heard s move chunk view epoch made is = located_right config heard s move chunk view epoch made is
+located_are_right config heard s move caller chunk view epoch made is = located_right config heard s move caller chunk view epoch made is
 
 -- ---- chains
 
 -- So it is of each chain of moves that are made, whatever else holds of them.
 module _ (config : Config) (heard : Heard) (Holds : State → Move → Type 0) (made : (s : State) (move : Move) → Holds s move → IsMade config heard s move) where
-  abbrev Was : State → Turn → ℕ → View → ℕ → Type 0
-  Was s t chunk view epoch = WasLocated config Holds s t chunk view epoch
+  abbrev Was : State → Turn → ReqId → ℕ → View → ℕ → Type 0
+  Was s t caller chunk view epoch = WasLocated config Holds s t caller chunk view epoch
 
   -- by one move
-  one_located : (s : State) (move : Move) (said : Option Refusal) (chunk : ℕ) (view : View) (epoch : ℕ) → Holds s move → KeepsLocation s chunk view epoch ⊎ Locates s move chunk view epoch → Was s (record (move_turn config s move) { said = said }) chunk view epoch
-  one_located s move said chunk view epoch holds (inl k) = inl k
-  one_located s move said chunk view epoch holds (inr is) =
+  one_located : (s : State) (move : Move) (said : Option Refusal) (caller : ReqId) (chunk : ℕ) (view : View) (epoch : ℕ) → Holds s move → KeepsLocation s caller chunk view epoch ⊎ Locates s move caller chunk view epoch → Was s (record (move_turn config s move) { said = said }) caller chunk view epoch
+  one_located s move said caller chunk view epoch holds (inl k) = inl k
+  one_located s move said caller chunk view epoch holds (inr is) =
       inr (record { before = record { after = s; records = []; sent = []; said = None }; first = Rests s None; move = move; holds = holds; locates = is; next = record { after = (move_turn config s move).after; records = []; sent = []; said = None }; rest = Rests (move_turn config s move).after None; last = refl })
 
   -- and so where others follow, or were made before
-  then_located : (s : State) (t next u : Turn) (chunk : ℕ) (view : View) (epoch : ℕ) → Chain config Holds t.after next → u.after ≡ next.after → Was s t chunk view epoch → Was s u chunk view epoch
-  then_located s t next u chunk view epoch chain last (inl k) = inl k
-  then_located s t next u chunk view epoch chain last (inr w) =
+  then_located : (s : State) (t next u : Turn) (caller : ReqId) (chunk : ℕ) (view : View) (epoch : ℕ) → Chain config Holds t.after next → u.after ≡ next.after → Was s t caller chunk view epoch → Was s u caller chunk view epoch
+  then_located s t next u caller chunk view epoch chain last (inl k) = inl k
+  then_located s t next u caller chunk view epoch chain last (inr w) =
       inr (record { before = w.before; first = w.first; move = w.move; holds = w.holds; locates = w.locates; next = joined w.next next; rest = Then (move_turn config w.before.after w.move).after w.next next w.rest (subst (λ x. Chain config Holds x next) w.last chain); last = last })
 
-  located_then : (s : State) (t next u : Turn) (chunk : ℕ) (view : View) (epoch : ℕ) → Chain config Holds s t → u.after ≡ next.after → IsLocatedWithin config Holds t.after next chunk view epoch → Was s u chunk view epoch
-  located_then s t next u chunk view epoch chain last w =
+  located_then : (s : State) (t next u : Turn) (caller : ReqId) (chunk : ℕ) (view : View) (epoch : ℕ) → Chain config Holds s t → u.after ≡ next.after → IsLocatedWithin config Holds t.after next caller chunk view epoch → Was s u caller chunk view epoch
+  located_then s t next u caller chunk view epoch chain last w =
       inr (record { before = joined t w.before; first = Then s t w.before chain w.first; move = w.move; holds = w.holds; locates = w.locates; next = w.next; rest = w.rest; last = last ∙ w.last })
 
-  pub chain_keeps : (s : State) (t : Turn) (chunk : ℕ) (view : View) (epoch : ℕ) → Chain config Holds s t → KeepsLocation t.after chunk view epoch → Was s t chunk view epoch
-  chain_keeps s t chunk view epoch (Rests u said) k = inl k
-  chain_keeps s t chunk view epoch (Moves u move said holds) k = one_located s move said chunk view epoch holds (kept_by config heard s chunk view epoch move (made s move holds) k)
-  chain_keeps s t chunk view epoch (Then u first next a b) k = by_next (chain_keeps first.after next chunk view epoch b k) (λ here. chain_keeps s first chunk view epoch a here)
+  pub chain_keeps : (s : State) (t : Turn) (caller : ReqId) (chunk : ℕ) (view : View) (epoch : ℕ) → Chain config Holds s t → KeepsLocation t.after caller chunk view epoch → Was s t caller chunk view epoch
+  chain_keeps s t caller chunk view epoch (Rests u said) k = inl k
+  chain_keeps s t caller chunk view epoch (Moves u move said holds) k = one_located s move said caller chunk view epoch holds (kept_by config heard s caller chunk view epoch move (made s move holds) k)
+  chain_keeps s t caller chunk view epoch (Then u first next a b) k = by_next (chain_keeps first.after next caller chunk view epoch b k) (λ here. chain_keeps s first caller chunk view epoch a here)
     where
-      by_next : Was first.after next chunk view epoch → (KeepsLocation first.after chunk view epoch → Was s first chunk view epoch) → Was s t chunk view epoch
-      by_next (inl here) earlier = then_located s first next t chunk view epoch b refl (earlier here)
-      by_next (inr w) earlier = located_then s first next t chunk view epoch a refl w
+      by_next : Was first.after next caller chunk view epoch → (KeepsLocation first.after caller chunk view epoch → Was s first caller chunk view epoch) → Was s t caller chunk view epoch
+      by_next (inl here) earlier = then_located s first next t caller chunk view epoch b refl (earlier here)
+      by_next (inr w) earlier = located_then s first next t caller chunk view epoch a refl w
 
-  abbrev AreSent : (ℕ → View → ℕ → Type 0) → List Message → Type 0
+  abbrev AreSent : (ReqId → ℕ → View → ℕ → Type 0) → List Message → Type 0
   AreSent P messages = AllByRecursion (λ (m : Message). IsToldOnlyIf P m.body) messages
 
-  sent_further : (P Q : ℕ → View → ℕ → Type 0) → ((chunk : ℕ) (view : View) (epoch : ℕ) → P chunk view epoch → Q chunk view epoch) → (body : Body) → IsToldOnlyIf P body → IsToldOnlyIf Q body
-  sent_further P Q more (bodies.Reply req (Ok (answers.Location chunk view epoch))) was = more chunk view epoch was
+  sent_further : (P Q : ReqId → ℕ → View → ℕ → Type 0) → ((caller : ReqId) (chunk : ℕ) (view : View) (epoch : ℕ) → P caller chunk view epoch → Q caller chunk view epoch) → (body : Body) → IsToldOnlyIf P body → IsToldOnlyIf Q body
+  sent_further P Q more (bodies.Reply req (Ok (answers.Location chunk view epoch))) was = more req chunk view epoch was
   sent_further P Q more body was = tt
 
-  all_further : (P Q : ℕ → View → ℕ → Type 0) → ((chunk : ℕ) (view : View) (epoch : ℕ) → P chunk view epoch → Q chunk view epoch) → (messages : List Message) → AreSent P messages → AreSent Q messages
+  all_further : (P Q : ReqId → ℕ → View → ℕ → Type 0) → ((caller : ReqId) (chunk : ℕ) (view : View) (epoch : ℕ) → P caller chunk view epoch → Q caller chunk view epoch) → (messages : List Message) → AreSent P messages → AreSent Q messages
   all_further P Q more [] all = tt
   all_further P Q more (m ∷ messages) all = (sent_further P Q more m.body all.0, all_further P Q more messages all.1)
 
-  all_both : (P : ℕ → View → ℕ → Type 0) (xs ys : List Message) → AreSent P xs → AreSent P ys → AreSent P (xs ++ ys)
+  all_both : (P : ReqId → ℕ → View → ℕ → Type 0) (xs ys : List Message) → AreSent P xs → AreSent P ys → AreSent P (xs ++ ys)
   all_both P [] ys a b = b
   all_both P (x ∷ xs) ys a b = (a.0, all_both P xs ys a.1 b)
 
   pub chain_sends : (s : State) (t : Turn) → Chain config Holds s t → AreSent (Was s t) t.sent
   chain_sends s t (Rests u said) = tt
   chain_sends s t (Moves u move said holds) =
-      all_further (λ chunk view epoch. KeepsLocation s chunk view epoch ⊎ Locates s move chunk view epoch) (Was s t) (λ chunk view epoch was. one_located s move said chunk view epoch holds was) (move_turn config s move).sent (sent_by config heard s move (made s move holds))
+      all_further (λ caller chunk view epoch. KeepsLocation s caller chunk view epoch ⊎ Locates s move caller chunk view epoch) (Was s t) (λ caller chunk view epoch was. one_located s move said caller chunk view epoch holds was) (move_turn config s move).sent (sent_by config heard s move (made s move holds))
   chain_sends s t (Then u first next a b) =
-      all_both (Was s t) first.sent next.sent (all_further (Was s first) (Was s t) (λ chunk view epoch was. then_located s first next t chunk view epoch b refl was) first.sent (chain_sends s first a))
+      all_both (Was s t) first.sent next.sent (all_further (Was s first) (Was s t) (λ caller chunk view epoch was. then_located s first next t caller chunk view epoch b refl was) first.sent (chain_sends s first a))
       (all_further (Was first.after next) (Was s t) later_on next.sent (chain_sends first.after next b))
     where
-      later_on : (chunk : ℕ) (view : View) (epoch : ℕ) → Was first.after next chunk view epoch → Was s t chunk view epoch
-      later_on chunk view epoch (inl here) = then_located s first next t chunk view epoch b refl (chain_keeps s first chunk view epoch a here)
-      later_on chunk view epoch (inr w) = located_then s first next t chunk view epoch a refl w
+      later_on : (caller : ReqId) (chunk : ℕ) (view : View) (epoch : ℕ) → Was first.after next caller chunk view epoch → Was s t caller chunk view epoch
+      later_on caller chunk view epoch (inl here) = then_located s first next t caller chunk view epoch b refl (chain_keeps s first caller chunk view epoch a here)
+      later_on caller chunk view epoch (inr w) = located_then s first next t caller chunk view epoch a refl w
 
 pub kept_were_located : KeptWereLocated
-kept_were_located config heard s t chunk view epoch chain k = chain_keeps config heard (IsMade config heard) (λ u move made. made) s t chunk view epoch chain k
+kept_were_located config heard s t caller chunk view epoch chain k = chain_keeps config heard (IsMade config heard) (λ u move made. made) s t caller chunk view epoch chain k
 
 pub sent_were_located : SentWereLocated
 sent_were_located config heard s t chain = chain_sends config heard (IsMade config heard) (λ u move made. made) s t chain

@@ -19,7 +19,7 @@ use Rattle.gs_state.specs.Upgrades.{answers_for, chunk_count, told_of}
 use Rattle.gs_moves.specs.Epochs.{is_alone, is_followed, prepares, rolls_back}
 use Rattle.gs_moves.specs.Guards.{Heard, IsMade, MayPrepare}
 use Rattle.gs_moves.specs.Moved.{is_commit}
-use Rattle.gs_moves.specs.Moves.{Answers as Answers_it, Move, Scans, Prepares, Finalizes, BeginsRollback, CommitsRollback, move_turn}
+use Rattle.gs_moves.specs.Moves.{Answers as AnswersCall, Move, Scans, Prepares, Finalizes, BeginsRollback, CommitsRollback, move_turn}
 use Rattle.gs_moves.proofs.Epochs.{by_records, ordinary_is, rolling_is, scan_usual, stays_by, upgrade_is}
 use Rattle.gs_moves.proofs.Right.{one_fits}
 
@@ -103,8 +103,8 @@ module _ (config : Config) (heard : Heard) (s : State) where
   prepares_by BeginsRollback made is here = absurd (true≢false (sym here ∙ followed_none BeginsRollback made refl))
   prepares_by (CommitsRollback req names) made is here =
       absurd (true≢false (sym here ∙ ap (λ p. is_ordinary p && is_upgrade (behind (CommitsRollback req names)).phase) (rolling_is s.durable.phase made.may.rolling)))
-  prepares_by (Answers_it req answer true) made is here = absurd (true≢false (sym here ∙ same_prepares_none s.durable (behind (Answers_it req answer true)) refl))
-  prepares_by (Answers_it req answer false) made is here = absurd (true≢false (sym here ∙ same_prepares_none s.durable (behind (Answers_it req answer false)) refl))
+  prepares_by (AnswersCall req answer true) made is here = absurd (true≢false (sym here ∙ same_prepares_none s.durable (behind (AnswersCall req answer true)) refl))
+  prepares_by (AnswersCall req answer false) made is here = absurd (true≢false (sym here ∙ same_prepares_none s.durable (behind (AnswersCall req answer false)) refl))
   prepares_by move made is here = absurd (false≢true is)
 
   -- only a commit commits
@@ -122,6 +122,6 @@ module _ (config : Config) (heard : Heard) (s : State) where
       let answers = answers_for (prepared_view s.durable) (told_of s) (fin.entries names.refs) in
       let n = behind (CommitsRollback req names) in
       committed_from s.durable n s.durable.epoch answers (one_fits s.durable n (RollbackCommit s.durable.epoch answers) made.fits)
-  commits_by (Answers_it req answer true) made is = same_commits_none s.durable (behind (Answers_it req answer true)) refl
-  commits_by (Answers_it req answer false) made is = same_commits_none s.durable (behind (Answers_it req answer false)) refl
+  commits_by (AnswersCall req answer true) made is = same_commits_none s.durable (behind (AnswersCall req answer true)) refl
+  commits_by (AnswersCall req answer false) made is = same_commits_none s.durable (behind (AnswersCall req answer false)) refl
   commits_by move made is = absurd (false≢true is)

@@ -49,7 +49,7 @@ use Rattle.gs_moves.proofs.Sharing.{view_term}
 use Rattle.gs_moves.specs.Epochs.{is_alone}
 use Rattle.gs_moves.specs.Guards.{Heard, IsMade, ask_nobody, asks_nobody, settled_chunk}
 use Rattle.gs_moves.specs.Moved.{is_commit, proposed_now, settled_after}
-use Rattle.gs_moves.specs.Moves.{Alone, FromNow, Further, Begins, BeginsRollback, Chain, Checkpoints, CommitsRollback, Copies, Finalizes, Hears, Makes, Move, Moves, Prepares, Refuses, Replaces, Restores, Rests, Says, Scans, Sends, Settles, TellsRollback, Then, Waits, Answers as Answers_it, move_turn}
+use Rattle.gs_moves.specs.Moves.{Alone, FromNow, Further, Begins, BeginsRollback, Chain, Checkpoints, CommitsRollback, Copies, Finalizes, Hears, Makes, Move, Moves, Prepares, Refuses, Replaces, Restores, Rests, Says, Scans, Sends, Settles, TellsRollback, Then, Waits, Answers as AnswersCall, move_turn}
 use Rattle.gs_moves.specs.Rows.{CopiesAreListed, CopiesAreNew, CopiesListed, CopiesNew, EachRowGoes, EpochsLeave, ListedStay, NewAreUnled, RowGoes, RowsGoOver}
 
 same_number : (a b : ℕ) → (a == b) ≡ true → a ≡ b
@@ -114,8 +114,8 @@ module _ (config : Config) (heard : Heard) (s : State) (chunk : ℕ) where
   row_by (Settles q asking carried view) made other = by_settling q asking carried view made (q == chunk) refl
   row_by (Scans removed forgotten) made other = by_records (Scans removed forgotten) made (scan_usual chunk own_request (scan_edits removed forgotten))
   row_by (Refuses req refusal over) made other = by_records (Refuses req refusal over) made (said_usual chunk s req refusal)
-  row_by (Answers_it req answer true) made other = by_records (Answers_it req answer true) made refl
-  row_by (Answers_it req answer false) made other = by_records (Answers_it req answer false) made refl
+  row_by (AnswersCall req answer true) made other = by_records (AnswersCall req answer true) made refl
+  row_by (AnswersCall req answer false) made other = by_records (AnswersCall req answer false) made refl
   row_by (CommitsRollback req names) made other = absurd (true≢false other)
   row_by Checkpoints made other = came Checkpoints (tidied_view chunk s.durable)
   row_by move made other = by_records move made refl
@@ -297,18 +297,18 @@ module _ (config : Config) (heard : Heard) (s : State) where
   sent_listed (Begins q purpose call (Further req waiting)) made within = begun_listed (move_turn config s (Begins q purpose call (Further req waiting))).after.durable q
   sent_listed (Makes targets req path) made within = to_members (move_turn config s (Makes targets req path)).after.durable (about s.durable.next_handle (abouts.Create (next_stamp s.durable))) targets (λ server. tt)
   sent_listed (Copies old view req Alone) made within =
-      copied_listed (move_turn config s (Copies old view req Alone)).after.durable old view (stays_listed config heard s (Copies old view req Alone) old made refl made.may.listed)
+      copied_listed (move_turn config s (Copies old view req Alone)).after.durable old view (stays_listed config heard s (Copies old view req Alone) old made refl made.may.0.listed)
   sent_listed (Copies old view req (FromNow by waiting)) made within =
-      copied_listed (move_turn config s (Copies old view req (FromNow by waiting))).after.durable old view (stays_listed config heard s (Copies old view req (FromNow by waiting)) old made refl made.may.listed)
+      copied_listed (move_turn config s (Copies old view req (FromNow by waiting))).after.durable old view (stays_listed config heard s (Copies old view req (FromNow by waiting)) old made refl made.may.0.listed)
   sent_listed (Copies old view req (Further by waiting)) made within =
-      copied_listed (move_turn config s (Copies old view req (Further by waiting))).after.durable old view (stays_listed config heard s (Copies old view req (Further by waiting)) old made refl made.may.listed)
+      copied_listed (move_turn config s (Copies old view req (Further by waiting))).after.durable old view (stays_listed config heard s (Copies old view req (Further by waiting)) old made refl made.may.0.listed)
   sent_listed (Hears q asking) made within = tt
   sent_listed (Sends q asking source target) made within = (tt, tt)
   sent_listed (Settles q asking carried view) made within = granted_listed (move_turn config s (Settles q asking carried view)).after.durable q view view.term
   sent_listed (Replaces path index old new) made within = tt
   sent_listed (Scans removed forgotten) made within = absurd (true≢false within)
-  sent_listed (Answers_it req answer true) made within = (tt, tt)
-  sent_listed (Answers_it req answer false) made within = (tt, tt)
+  sent_listed (AnswersCall req answer true) made within = (tt, tt)
+  sent_listed (AnswersCall req answer false) made within = (tt, tt)
   sent_listed (Waits req waiting) made within = tt
   sent_listed (Restores server chunks) made within = tt
   sent_listed (Says messages) made within = who_asks_nobody s.durable messages made.may.1
@@ -394,8 +394,8 @@ module _ (config : Config) (heard : Heard) (s : State) where
   sent_new (Settles q asking carried view) made = granted_new q view view.term
   sent_new (Replaces path index old new) made = tt
   sent_new (Scans removed forgotten) made = tt
-  sent_new (Answers_it req answer true) made = (tt, tt)
-  sent_new (Answers_it req answer false) made = (tt, tt)
+  sent_new (AnswersCall req answer true) made = (tt, tt)
+  sent_new (AnswersCall req answer false) made = (tt, tt)
   sent_new (Waits req waiting) made = tt
   sent_new (Restores server chunks) made = tt
   sent_new (Says messages) made = none_new s.durable messages made.may.1

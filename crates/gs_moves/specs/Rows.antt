@@ -44,7 +44,7 @@ begins_epoch (Finalizes req) = true
 begins_epoch BeginsRollback = true
 begins_epoch move = false
 
--- leaves the entries, and the rows.
+-- Such a move leaves the entries, and the rows.
 abbrev pub EpochsLeave : Type 0
 EpochsLeave = (config : Config) (heard : Heard) (s : State) (move : Move) (chunk : ℕ) → IsMade config heard s move → begins_epoch move ≡ true
     → (has_entry (move_turn config s move).after chunk ≡ has_entry s chunk) × (fin.get (move_turn config s move).after.durable.chunks chunk ≡ fin.get s.durable.chunks chunk)
