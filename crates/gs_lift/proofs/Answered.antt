@@ -16,6 +16,7 @@ use Rattle.gs_msg.specs.declared.body.Body.TheVariants as bodies
 use Rattle.gs_msg.specs.declared.chunk.Chunk.{Chunk}
 use Rattle.gs_msg.specs.declared.chunk.Chunk.TheVariants as chunks
 use Rattle.gs_msg.specs.declared.event.DiskId.{DiskId}
+use Rattle.gs_msg.specs.declared.event.Request.TheVariants as requests
 use Rattle.gs_msg.specs.declared.message.Message.{Message}
 use Rattle.gs_msg.specs.declared.node.NodeId.{NodeId}
 use Rattle.gs_msg.specs.declared.node.NodeId.TheVariants as nodes
@@ -33,28 +34,31 @@ use Rattle.gs_server.specs.declared.turn.KeptRefusal.{KeptRefusal}
 use Rattle.gs_world.specs.declared.place.MasterPlace.{MasterPlace}
 use Rattle.gs_run.specs.Histories.{History}
 use Rattle.gs_run.specs.Lasting.{failures_at}
-use Rattle.gs_run.specs.Sent.{Sent, none_sent}
+use Rattle.gs_run.proofs.Sending.{sent_still}
+use Rattle.gs_run.specs.Sent.{IsSent, Sent, none_sent}
 use Rattle.gs_chunk.specs.Machine.{World}
 use Rattle.gs_chunk.specs.Laws.{Birth}
-use Rattle.gs_member.specs.Answering.{AnswersBody, AnswersOf, IsAnswered, IsPassed, NoYes, handle_in}
-use Rattle.gs_member.specs.Requests.{Asked, IsOfOneEdit}
+use Rattle.gs_member.specs.Answering.{AnswersBody, AnswersOf, IsAnswered, NoYes, PassesHeard, handle_in}
+use Rattle.gs_member.specs.Causes.{Calm, Cause, Edits, Strikes, cause_in, cause_of}
+use Rattle.gs_member.specs.Requests.{Asked, IsOfOneEdit, bytes_in, named}
+use Rattle.gs_member.specs.Showing.{Setting}
 use Rattle.gs_member.specs.Unborn.{KeepsNothing}
 use Rattle.gs_member.proofs.Elsewhere.{NoYeses, chunk_says, quiet_sent, reminds_sent}
 use Rattle.gs_member.proofs.Lists.{all_flat}
-use Rattle.gs_member.proofs.Reading.{answers_on}
+use Rattle.gs_member.proofs.Reading.{answered_on, passed_on}
 use Rattle.gs_lift.specs.Saying.{AreOfClient, AreOfMaster, IsOfClient, IsOfMaster}
-use Rattle.gs_run.specs.Runs.{Step}
-use Rattle.gs_lift.specs.Going.{AllSent, Beats, Damages, Hears, Kind, Loses, OfMaster, OfServer, Posts, Restarts, ServerGoes, Ticks, about_of, heard_in}
+use Rattle.gs_run.specs.Runs.{StaySent, Step}
+use Rattle.gs_lift.specs.Going.{AllSent, Beats, Damages, Hears, Kind, Loses, OfMaster, OfServer, Posts, Restarts, ServerGoes, Ticks, about_of, cause_at, heard_in}
 use Rattle.gs_lift.specs.Going as going
 use Rattle.gs_lift.specs.Joint.{AtMaster, AtServer, Elsewhere, GoesBy, heard_by}
 use Rattle.gs_lift.specs.Living.{GoesOn}
 use Rattle.gs_lift.specs.Showing.{IsAlive, Life, setting}
-use Rattle.gs_lift.specs.Answers.{AnswersBegin, AnswersGoOn, DonesAreAnswered, HasDone, HasDoneBody, LivesOf}
+use Rattle.gs_lift.specs.Answers.{AnswersBegin, AnswersGoOn, DonesAreAnswered, HasDone, HasDoneBody, HasPassed, LivesOf}
 use Rattle.gs_lift.specs.Waiting.{AllWaitAsked, AsksFor}
 use Rattle.gs_lift.proofs.AskingRuns.{does_say}
 use Rattle.gs_lift.proofs.Beginning.{begins_silent, none_of}
 use Rattle.gs_lift.proofs.Doing.{masters_do}
-use Rattle.gs_lift.proofs.Posting.{posted_all, sent_then}
+use Rattle.gs_lift.proofs.Posting.{posted_all, posts_stay, sent_then}
 use Rattle.gs_lift.proofs.Waiting.{YesAsks, YesesAsk, waits_begin, yeses_asked}
 
 -- ---- where no client is told so
@@ -165,24 +169,94 @@ of_client_quiet : (messages : List Message) → AreOfClient messages → NoYeses
 of_client_quiet [] of = tt
 of_client_quiet (m ∷ messages) of = (client_quiet m.body of.0, of_client_quiet messages of.1)
 
+-- ---- the edit that is heard was asked for
+
+-- of a client's edit that is heard, the request for it, and the message
+record IsHeard (asked : ℕ → Asked) (sent : Sent) (chunk : ℕ) (under : Stamp) (req : ReqId) (op : Op) : Type 0 where
+  members : List ℕ
+  primary : ℕ
+  bytes : List ℕ
+  asks : named asked req ≡ Some (requests.Write chunk members primary under op bytes)
+  message : Message
+  was : IsSent message sent
+  says : message.body ≡ bodies.About chunk (chunks.Edit req under op)
+
+abbrev IsAskedBy : (ℕ → Asked) → Sent → ℕ → Cause → Type 0
+IsAskedBy asked sent chunk (Edits under req op) = IsHeard asked sent chunk under req op
+IsAskedBy asked sent chunk Strikes = Unit {0}
+IsAskedBy asked sent chunk Calm = Unit {0}
+
+said_asked : (asked : ℕ → Asked) (sent : Sent) (chunk : ℕ) (said : Chunk) → ((req : ReqId) (stamp : Stamp) (op : Op) → said ≡ chunks.Edit req stamp op → IsHeard asked sent chunk stamp req op) → IsAskedBy asked sent chunk (cause_of said)
+said_asked asked sent chunk (chunks.Edit req stamp op) heard = heard req stamp op refl
+said_asked asked sent chunk said heard = tt
+
+goes_asked : (asked : ℕ → Asked) (chunk : ℕ) (sent : Sent) (id : ℕ) (s after : Server) (messages : List Message) → AllSent (IsOfOneEdit asked) sent → (goes : ServerGoes sent id s after messages) → about_of goes ≡ Some chunk → IsAskedBy asked sent chunk (cause_at chunk goes)
+goes_asked asked chunk sent id s after messages one (Hears message moment was to is sends) about = by_body message.body (one was.0 message was.1) refl about
+  where
+    by_body : (body : Body) → IsOfOneEdit asked message → message.body ≡ body → handle_in body ≡ Some chunk → IsAskedBy asked sent chunk (cause_in chunk body)
+    by_body (bodies.About handle said) heard body about = by_handle (chunk == handle)
+      where
+        same : handle ≡ chunk
+        same = cc
+
+        by_handle : (b : Bool) → IsAskedBy asked sent chunk (cond b (cause_of said) Calm)
+        by_handle true = said_asked asked sent chunk said (λ req stamp op is.
+            let says = body ∙ ap (bodies.About handle) is in
+            let e = heard.edits handle req stamp op says in
+            subst (λ k. IsHeard asked sent k stamp req op) same (record { members = e.0; primary = e.1; bytes = bytes_in asked req; asks = e.2; message = message; was = was; says = says }))
+        by_handle false = tt
+    by_body body heard is about = absurd (cc)
+goes_asked asked chunk sent id s after messages one (Ticks moment is sends) about = absurd (cc)
+goes_asked asked chunk sent id s after messages one (Beats is sends) about = absurd (cc)
+goes_asked asked chunk sent id s after messages one (Restarts is sends) about = absurd (cc)
+goes_asked asked chunk sent id s after messages one (Loses handle is sends) about = absurd (cc)
+goes_asked asked chunk sent id s after messages one (Damages handle block is sends) about = absurd (cc)
+
+heard_passed : (asked : ℕ → Asked) (chunk : ℕ) (old new : Sent) → StaySent old new → (c : Setting) (w : World) (cause : Cause) (req : ReqId) (outcome : Outcome) → IsAskedBy asked old chunk cause → PassesHeard cause c w req outcome → HasPassed asked chunk new c w req outcome
+heard_passed asked chunk old new stays c w (Edits under other op) req outcome heard (same, passed) = record {
+  members = heard.members;
+  primary = heard.primary;
+  under = under;
+  op = op;
+  bytes = heard.bytes;
+  asks = ap (named asked) (sym same) ∙ heard.asks;
+  message = heard.message;
+  was = sent_still heard.message old new stays heard.was;
+  says = heard.says ∙ ap (λ r. bodies.About chunk (chunks.Edit r under op)) same;
+  passed = passed;
+}
+heard_passed asked chunk old new stays c w Strikes req outcome heard passes = absurd passes
+heard_passed asked chunk old new stays c w Calm req outcome heard passes = absurd passes
+
 -- ---- a step
 
 module _ {D : Type 0} (seen : D → List ℕ) (failures : D → ℕ) (armed : DiskId → ℕ → MasterPlace D → MasterPlace D) (config : Config) (bytes : ReqId → List ℕ) (step : Step) (old new : History D) (kind : Kind seen failures armed step old new)
     (asked : ℕ → Asked) (before : LivesOf seen config bytes old) (behind : LivesOf seen config bytes new) (each : (chunk : ℕ) → GoesOn seen config bytes chunk step (heard_in seen failures armed kind) old new (before chunk) (behind chunk)) where
+  stays : StaySent old.sent new.sent
+  stays = by_kind kind
+    where
+      by_kind : Kind seen failures armed step old new → StaySent old.sent new.sent
+      by_kind (OfServer id s after messages moment found goes met servers master posted) = posts_stay moment (nodes.Server id) messages old.sent new.sent posted
+      by_kind (OfMaster place messages moment goes servers master posted) = posts_stay moment nodes.Master messages old.sent new.sent posted
+      by_kind (going.Elsewhere by messages moment are servers master posted) = posts_stay moment by messages old.sent new.sent posted
+
   abbrev IsDone : Message → Type 0
   IsDone m = HasDoneBody seen config bytes asked new behind m.body
 
   -- what was done is done still
-  done_on : (chunk : ℕ) (req : ReqId) (outcome : Outcome) → HasDone seen config bytes chunk old (before chunk) req outcome → HasDone seen config bytes chunk new (behind chunk) req outcome
+  done_on : (chunk : ℕ) (req : ReqId) (outcome : Outcome) → HasDone seen config bytes asked chunk old (before chunk) req outcome → HasDone seen config bytes asked chunk new (behind chunk) req outcome
   done_on chunk req outcome has = by_lives (before chunk) (behind chunk) (each chunk) has
     where
-      by_lives : (l : Life seen config bytes chunk old) (m : Life seen config bytes chunk new) → GoesOn seen config bytes chunk step (heard_in seen failures armed kind) old new l m → HasDone seen config bytes chunk old l req outcome → HasDone seen config bytes chunk new m req outcome
+      by_lives : (l : Life seen config bytes chunk old) (m : Life seen config bytes chunk new) → GoesOn seen config bytes chunk step (heard_in seen failures armed kind) old new l m → HasDone seen config bytes asked chunk old l req outcome → HasDone seen config bytes asked chunk new m req outcome
       by_lives (inl unborn) life goes has = absurd has
       by_lives (inr a) (inl unborn) goes has = absurd goes
       by_lives (inr a) (inr b) goes (me, is) = (
         me,
-        subst (λ epoch. IsAnswered (setting config bytes epoch) b.world me req outcome ⊎ IsPassed (setting config bytes epoch) b.world outcome) (sym (ap (λ (x : Birth). x.epoch) goes.same))
-            (answers_on (setting config bytes a.reached.0.epoch) a.world b.world a.reached goes.leads me req outcome is),
+        subst (λ epoch. IsAnswered (setting config bytes epoch) b.world me req outcome ⊎ HasPassed asked chunk new.sent (setting config bytes epoch) b.world req outcome) (sym (ap (λ (x : Birth). x.epoch) goes.same))
+            (elim is [
+              | inl answered ↦ inl (answered_on (setting config bytes a.reached.0.epoch) a.world b.world a.reached goes.leads me req outcome answered)
+              | inr has ↦ inr (record { members = has.members; primary = has.primary; under = has.under; op = has.op; bytes = has.bytes; asks = has.asks; message = has.message; was = sent_still has.message old.sent new.sent stays has.was; says = has.says; passed = passed_on (setting config bytes a.reached.0.epoch) a.world b.world a.reached goes.leads has.under req has.op outcome has.passed })
+            ]),
       )
 
   old_done : (m : Message) → HasDoneBody seen config bytes asked old before m.body → IsDone m
@@ -209,17 +283,18 @@ module _ {D : Type 0} (seen : D → List ℕ) (failures : D → ℕ) (armed : Di
 
     -- the machine of the chunk that a server hears about has done what it tells
     module _ (chunk : ℕ) (a : IsAlive seen config bytes chunk old) (b : IsAlive seen config bytes chunk new) (now : behind chunk ≡ inr b) (birth : b.reached.0 ≡ a.reached.0) where
-      all_done : (v : World) (me : ℕ) (messages : List Message) → b.world ≡ v → YesesAsk (AsksFor asked chunk) messages → AllByRecursion (AnswersOf (setting config bytes a.reached.0.epoch) chunk v me (Some chunk)) messages → AllByRecursion IsDone messages
-      all_done v me [] is asks all = tt
-      all_done v me (m ∷ messages) is asks all = (by_body m.body asks.0 (all.0.1 refl), all_done v me messages is asks.1 all.1)
+      all_done : (cause : Cause) (v : World) (me : ℕ) (messages : List Message) → IsAskedBy asked old.sent chunk cause → b.world ≡ v → YesesAsk (AsksFor asked chunk) messages → AllByRecursion (AnswersOf cause (setting config bytes a.reached.0.epoch) chunk v me (Some chunk)) messages → AllByRecursion IsDone messages
+      all_done cause v me [] heard is asks all = tt
+      all_done cause v me (m ∷ messages) heard is asks all = (by_body m.body asks.0 (all.0.1 refl), all_done cause v me messages heard is asks.1 all.1)
         where
-          by_body : (body : Body) → YesAsks (AsksFor asked chunk) body → AnswersBody (setting config bytes a.reached.0.epoch) v me body → HasDoneBody seen config bytes asked new behind body
+          by_body : (body : Body) → YesAsks (AsksFor asked chunk) body → AnswersBody cause (setting config bytes a.reached.0.epoch) v me body → HasDoneBody seen config bytes asked new behind body
           by_body (bodies.Done req (Ok outcome)) asks has = (
             chunk,
-            subst (λ l. HasDone seen config bytes chunk new l req outcome) (sym now) (
+            subst (λ l. HasDone seen config bytes asked chunk new l req outcome) (sym now) (
               me,
-              subst (λ epoch. IsAnswered (setting config bytes epoch) b.world me req outcome ⊎ IsPassed (setting config bytes epoch) b.world outcome) (sym (ap (λ (x : Birth). x.epoch) birth))
-                  (subst (λ x. IsAnswered (setting config bytes a.reached.0.epoch) x me req outcome ⊎ IsPassed (setting config bytes a.reached.0.epoch) x outcome) (sym is) has),
+              subst (λ epoch. IsAnswered (setting config bytes epoch) b.world me req outcome ⊎ HasPassed asked chunk new.sent (setting config bytes epoch) b.world req outcome) (sym (ap (λ (x : Birth). x.epoch) birth))
+                  (subst (λ x. IsAnswered (setting config bytes a.reached.0.epoch) x me req outcome ⊎ HasPassed asked chunk new.sent (setting config bytes a.reached.0.epoch) x req outcome) (sym is)
+                  (elim has [ inl answered ↦ inl answered | inr passes ↦ inr (heard_passed asked chunk old.sent new.sent stays (setting config bytes a.reached.0.epoch) v cause req outcome heard passes) ])),
             ),
             asks,
           )
@@ -227,7 +302,7 @@ module _ {D : Type 0} (seen : D → List ℕ) (failures : D → ℕ) (armed : Di
 
       heard_done : (by : GoesBy seen config bytes a.reached.0.epoch chunk step old new a.world b.world) → heard_by seen config bytes a.reached.0.epoch chunk step old new a.world b.world by ≡ Some chunk → AllSent IsDone new.sent
       heard_done (AtServer by) about = posted_all IsDone by.moment (nodes.Server by.id) by.messages old.sent new.sent by.posted first
-          (all_done by.steps.world by.id by.messages by.world (yeses_asked asked old.sent by.id by.server by.after by.messages by.goes chunk one (waits by.id by.server by.found) about) (subst (λ o. AllByRecursion (AnswersOf (setting config bytes a.reached.0.epoch) chunk by.steps.world by.id o) by.messages) about by.steps.answers))
+          (all_done (cause_at chunk by.goes) by.steps.world by.id by.messages (goes_asked asked chunk old.sent by.id by.server by.after by.messages one by.goes about) by.world (yeses_asked asked old.sent by.id by.server by.after by.messages by.goes chunk one (waits by.id by.server by.found) about) (subst (λ o. AllByRecursion (AnswersOf (cause_at chunk by.goes) (setting config bytes a.reached.0.epoch) chunk by.steps.world by.id o) by.messages) about by.steps.answers))
       heard_done (AtMaster by) about = absurd (cc)
       heard_done (Elsewhere still servers master by said moment are sent) about = absurd (cc)
 

@@ -127,7 +127,7 @@ all_of_none asked (m ∷ messages) none = (inr none.0, all_of_none asked message
 pub of_one_edit : {D : Type 0} (asked : ℕ → Asked) (h : History D) → AreAskedIn asked h → AllSent (IsOfOneEdit asked) h.sent
 of_one_edit asked h are id m stands = all_of_one_edit (λ k. None) asked (m ∷ []) (record { have = λ k n none. absurd (cc); once = are.once; are = (are.sent id m stands, tt) }) m (cons_first m [] m refl)
 
-right_of : (asked : ℕ → Asked) (m : Message) → IsOfOneEdit asked m → PushRight (bytes_in asked) m
+pub right_of : (asked : ℕ → Asked) (m : Message) → IsOfOneEdit asked m → PushRight (bytes_in asked) m
 right_of asked m is = by_body m.body refl
   where
     IsRight : Body → Type 0

@@ -40,7 +40,7 @@ use Rattle.gs_member.proofs.Lists.{nil_contains}
 use Rattle.gs_entry.specs.Unborn as unborn
 use Rattle.gs_entry.proofs.Unborn.{restarts_unborn}
 use Rattle.gs_member.specs.Requests.{Asked}
-use Rattle.gs_lift.specs.Telling.{NumberedIn}
+use Rattle.gs_lift.specs.Telling.{AskedIn, NumberedIn, OwnIn}
 use Rattle.gs_lift.specs.Going.{AllSent}
 use Rattle.gs_lift.specs.Living.{CopiesTo, TextsOf}
 use Rattle.gs_lift.specs.Showing.{IsServer, Keeps, Life}
@@ -216,6 +216,14 @@ module _ {D : Type 0} (seen : D → List ℕ) (failures : D → ℕ) (armed : Di
   pub begins_numbered : (asked : ℕ → Asked) (chunk : ℕ) → NumberedIn seen config bytes asked chunk new begins_lives (begins_lives chunk)
   unfolding begins_lives
   begins_numbered asked chunk = tt
+
+  pub begins_own : (asked : ℕ → Asked) (chunk : ℕ) → OwnIn seen config bytes asked chunk new (begins_lives chunk)
+  unfolding begins_lives
+  begins_own asked chunk = tt
+
+  pub begins_asked : (chunk : ℕ) → AskedIn seen config bytes chunk new (begins_lives chunk)
+  unfolding begins_lives
+  begins_asked chunk = tt
 
   pub begins_tells_no_copy : (life : (chunk : ℕ) → Life seen config bytes chunk new) → AllSent (λ (m : Message). CopiesTo seen config bytes new life m.to m.body) new.sent
   begins_tells_no_copy life = begins_none (λ (m : Message). CopiesTo seen config bytes new life m.to m.body)

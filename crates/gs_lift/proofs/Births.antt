@@ -36,7 +36,7 @@ use Rattle.gs_lift.specs.Saying.{AreOfMaster, IsOfClientAbout, IsOfMaster, PushR
 use Rattle.gs_lift.specs.Going.{AllSent, Posts}
 use Rattle.gs_lift.specs.Showing.{ShowsMaster, ShowsStore, setting}
 use Rattle.gs_lift.specs.Unborn.{IsBefore, IsUnborn, IsUnknown, SaysNothing, TellsWithin}
-use Rattle.gs_lift.proofs.Joint.{all_of_master}
+use Rattle.gs_lift.proofs.Joint.{all_of_master, call_says}
 use Rattle.gs_lift.proofs.Posting.{posted_all, sent_then}
 use Rattle.gs_lift.proofs.Unborn.{before_tells}
 
@@ -90,7 +90,7 @@ module _ (config : Config) (bytes : ReqId → List ℕ) (chunk : ℕ) {D : Type 
     where
       by_from : (from : NodeId) → WasHeard (Says chunk unborn.silent) (said_from from message.body)
       by_from ids.Master server body is = absurd (cc)
-      by_from (ids.Client client) server body is = absurd (cc)
+      by_from (ids.Client client) server body is = call_says chunk unborn.silent client message.body server body is
       by_from (ids.Server from) server body is =
           let pair : ◌≡◌ {A = ℕ × Body} (from, message.body) (server, body) = cc in
           subst (λ (x : ℕ × Body). Says chunk unborn.silent x.0 x.1) pair (says_silent chunk from message.body (first.sent was.0 message was.1).0)

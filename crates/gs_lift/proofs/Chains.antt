@@ -34,7 +34,7 @@ use Rattle.gs_chunk.specs.Laws.{Birth}
 use Rattle.gs_chunk.specs.Mastering.{AreOfMaster}
 use Rattle.gs_member.specs.Showing.{Setting}
 use Rattle.gs_member.specs.Telling.{Tells}
-use Rattle.gs_entry.specs.Families.{ComesFrom, Copies_of, CopiesTo as CopiesThere, FamilyGoes, Heard_of, IsCopiedTo, IsCopyOf, ListsFrom, MarksOf, is_kept}
+use Rattle.gs_entry.specs.Families.{ComesFrom, CopiesOf, CopiesTo as CopiesThere, FamilyGoes, HeardOf, IsCopiedTo, IsCopyOf, ListsFrom, MarksOf, is_kept}
 use Rattle.gs_entry.specs.Families as families
 use Rattle.gs_entry.specs.Laws.{Reaches, StaysKnownSo}
 use Rattle.gs_entry.specs.Rows.{AreCopiedSince, FamilyRows, RowsIn}
@@ -125,7 +125,7 @@ module _ {D : Type 0} (seen : D → List ℕ) (config : Config) (bytes : ReqId �
 
   -- what is heard was said in each machine
   module _ (s : State) (heard : Heard) (was : IsHeardIn old.sent heard) where
-    pub heard_of : (chunk : ℕ) (life : Lives chunk old) (c : families.Life chunk s) → Linked chunk s life c → Heard_of chunk s heard c
+    pub heard_of : (chunk : ℕ) (life : Lives chunk old) (c : families.Life chunk s) → Linked chunk s life c → HeardOf chunk s heard c
     heard_of chunk (inl first) (families.Unborn c) linked = by_heard was
       where
         by_heard : IsHeardIn old.sent heard → WasHeard (Says chunk unborn.silent) heard
@@ -375,7 +375,7 @@ module _ {D : Type 0} (seen : D → List ℕ) (config : Config) (bytes : ReqId �
     copy_by one other l (families.Alive n) x (inl y) p q me at stamp k = absurd q
 
     -- of what is told of copies, and stands
-    all_copies : (sent : List Message) → AllByRecursion (λ (m : Message). is_kept keeps m.body ≡ true → Copies_of t.after f.last m) sent
+    all_copies : (sent : List Message) → AllByRecursion (λ (m : Message). is_kept keeps m.body ≡ true → CopiesOf t.after f.last m) sent
         → AllByRecursion (λ (m : Message). HasSaid new.sent m → CopiesTo seen config bytes new (λ chunk. (then chunk).last) m.to m.body) sent
     all_copies [] all = tt
     all_copies (message ∷ sent) all = (λ there. by_body message.to message.body refl refl there all.0, all_copies sent all.1)

@@ -27,7 +27,9 @@ pub mod AskingServers
 pub mod AskingClients
 pub mod AskingRuns
 pub mod Numbered
+pub mod Owning
 pub mod Waiting
 pub mod Answered
 pub mod Marking
 pub mod Telling
+pub mod Passing

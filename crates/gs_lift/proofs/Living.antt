@@ -229,7 +229,7 @@ module _ {D : Type 0} (seen : D → List ℕ) (config : Config) (bytes : ReqId �
           let steps =
           steps_at seen config bytes a.reached.0.epoch chunk old a.world a.reached (nodes_in a.shows) lives.keeps (told_there config bytes among chunk old a.world a.reached lives.keeps apart texts (lives.held chunk)) id s after messages found goes
           (λ message was to. brought chunk a is message was to) in
-          by_server (setting_of bytes a.reached.0.epoch s) chunk steps.world s.me _ messages steps.answers
+          by_server _ (setting_of bytes a.reached.0.epoch s) chunk steps.world s.me _ messages steps.answers
 
       pub server_next : AllNext
       server_next =

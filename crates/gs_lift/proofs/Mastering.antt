@@ -37,7 +37,7 @@ use Rattle.gs_moves.specs.Epochs.{ByItself, Closes, EndsOnce, Within, closes, is
 use Rattle.gs_moves.specs.Moves.{Chain, Move, Moves, Rests, Then, move_turn}
 use Rattle.gs_entry.specs.Chains.{AreLive}
 use Rattle.gs_lift.specs.Showing.{ShowsStore, is_live_whole, is_no_rollback, is_over, is_seal_whole, is_whole_at, is_whole_there, setting, whole_in}
-use Rattle.gs_lift.proofs.Joint.{says_of_tells}
+use Rattle.gs_lift.proofs.Joint.{call_says, says_of_tells}
 use Rattle.gs_lift.proofs.Machines.{current_is, how_is, reached_then}
 
 pub not_true : (b : Bool) → not b ≡ true → b ≡ false
@@ -156,7 +156,7 @@ module _ (config : Config) (bytes : ReqId → List ℕ) (born chunk : ℕ) where
       where
         by_from : (from : NodeId) → TellsBody c chunk w from message.to message.body → WasHeard (Says chunk w) (said_from from message.body)
         by_from ids.Master tells server body is = absurd (cc)
-        by_from (ids.Client client) tells server body is = absurd (cc)
+        by_from (ids.Client client) tells server body is = call_says chunk w client message.body server body is
         by_from (ids.Server from) tells server body is =
             let pair : ◌≡◌ {A = ℕ × Body} (from, message.body) (server, body) = cc in
             subst (λ (x : ℕ × Body). Says chunk w x.0 x.1) pair (says_of_tells c chunk w from message.to message.body tells)

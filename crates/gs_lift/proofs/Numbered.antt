@@ -1,5 +1,5 @@
 -- Each edit of a chunk's lists was numbered under the stamp that its request names.
-use Rattle.std.proofs.Common.{◌≡◌, ◌∙◌, ⊎_elim, inl, inr, ℕ, arith, Bool, true, false, cond, List, Option, Some, None, refl, sym, ap, subst}
+use Rattle.std.proofs.Common.{◌≡◌, ◌∙◌, ◌⊎◌, ⊎_elim, inl, inr, ℕ, arith, Bool, true, false, cond, List, Option, Some, None, refl, sym, ap, subst}
 use Rattle.std.specs.Prelude.{◌==◌}
 use Rattle.std.proofs.lemmas.Bool.Decides.{nat_tests}
 use Rattle.gs_base.specs.declared.config.Config.{Config}
@@ -16,15 +16,15 @@ use Rattle.gs_server.specs.Runs as at_server
 use Rattle.gs_server.specs.Servers.{Server}
 use Rattle.gs_serving.specs.Calling.{call_by}
 use Rattle.gs_store.specs.Calls.{Call}
-use Rattle.gs_run.specs.Sent.{Sent}
+use Rattle.gs_run.specs.Sent.{IsSent, Sent}
 use Rattle.gs_chunk.specs.Stamps.{stamp_at}
 use Rattle.gs_chunk.specs.Machine.{Member, World}
 use Rattle.gs_chunk.specs.Numbering.{AreNumbered, IsNumberedAt, NumbersAsked}
 use Rattle.gs_chunk.specs.Events.{Rests}
 use Rattle.gs_chunk.specs.Laws.{world_of}
 use Rattle.gs_chunk.proofs.Numbering.{born_numbered, masters_numbered, servers_numbered}
-use Rattle.gs_member.specs.Causes.{Calm, Edits, Numbers, cause_in, cause_of, struck_by}
-use Rattle.gs_member.specs.Requests.{Asked, IsOfOneEdit, named}
+use Rattle.gs_member.specs.Causes.{Calm, Numbers, NumbersEdit, cause_in, cause_of, struck_by}
+use Rattle.gs_member.specs.Requests.{Asked, IsOfOneEdit, bytes_in, named}
 use Rattle.gs_member.proofs.Stamps.{stamp_number}
 use Rattle.gs_msg.specs.declared.event.Request.{Request}
 use Rattle.gs_msg.specs.declared.event.Request.TheVariants as requests
@@ -38,58 +38,82 @@ module _ (asked : ℕ → Asked) (chunk : ℕ) where
   abbrev Under : ReqId → Option Stamp
   Under = asked_under asked chunk
 
-  -- a client's edit that is heard is asked for under its one stamp
-  edit_asked : (c : Setting) (m n : Member) (t : ℕ) (old new : List Edit) (req : ReqId) (stamp : Stamp) (op : Op) → Under req ≡ Some stamp → Numbers (Edits stamp req op) c m n t old new → NumbersAsked Under t old new
-  edit_asked c m n t old new req stamp op under (inl same) = inl same
-  edit_asked c m n t old new req stamp op under (inr e) = inr (e.edit, e.is, ap Under (let s = e.says in s.req) ∙ under ∙ ap Some e.asked_is)
+  -- An edit is numbered that was asked for of this chunk, by a message that was sent.
+  pub record NumbersOf (sent : Sent) (c : Setting) (m n : Member) (t : ℕ) (old new : List Edit) : Type 0 where
+    pub handle : ℕ
+    pub req : ReqId
+    pub stamp : Stamp
+    pub op : Op
+    pub members : List ℕ
+    pub primary : ℕ
+    pub message : Message
+    pub was : IsSent message sent
+    pub says : message.body ≡ bodies.About handle (chunks.Edit req stamp op)
+    pub here : (chunk == handle) ≡ true
+    pub asks : named asked req ≡ Some (requests.Write handle members primary stamp op (bytes_in asked req))
+    pub numbers : NumbersEdit c m n stamp req op t old new
 
-  heard_asked : (c : Setting) (m n : Member) (t : ℕ) (old new : List Edit) (body : Body) → ((handle : ℕ) (req : ReqId) (stamp : Stamp) (op : Op) → body ≡ bodies.About handle (chunks.Edit req stamp op) → (chunk == handle) ≡ true → Under req ≡ Some stamp)
-      → Numbers (cause_in chunk body) c m n t old new → NumbersAsked Under t old new
-  heard_asked c m n t old new (bodies.About handle said) under numbers = by_handle (chunk == handle) refl numbers
-    where
-      by_said : (said : Chunk) → ((req : ReqId) (stamp : Stamp) (op : Op) → said ≡ chunks.Edit req stamp op → Under req ≡ Some stamp) → Numbers (cause_of said) c m n t old new → NumbersAsked Under t old new
-      by_said (chunks.Edit req stamp op) so numbers = edit_asked c m n t old new req stamp op (so req stamp op refl) numbers
-      by_said said so numbers = inl numbers
+  -- a message is heard that was sent
+  module _ (sent : Sent) (message : Message) (was : IsSent message sent) (one : IsOfOneEdit asked message) (c : Setting) (m n : Member) (t : ℕ) (old new : List Edit) where
+    heard_said : (handle : ℕ) (said : Chunk) → message.body ≡ bodies.About handle said → (chunk == handle) ≡ true → Numbers (cause_of said) c m n t old new → (new ≡ old) ⊎ NumbersOf sent c m n t old new
+    heard_said handle (chunks.Edit req stamp op) says here (inl same) = inl same
+    heard_said handle (chunks.Edit req stamp op) says here (inr e) =
+        let x = one.edits handle req stamp op says in
+        inr (record { handle = handle; req = req; stamp = stamp; op = op; members = x.0; primary = x.1; message = message; was = was; says = says; here = here; asks = x.2; numbers = e })
+    heard_said handle said says here numbers = inl numbers
 
-      by_handle : (b : Bool) → (chunk == handle) ≡ b → Numbers (cond b (cause_of said) Calm) c m n t old new → NumbersAsked Under t old new
-      by_handle true is numbers = by_said said (λ req stamp op same. under handle req stamp op (ap (bodies.About handle) same) is) numbers
-      by_handle false is numbers = inl numbers
-  heard_asked c m n t old new (bodies.Push req pushed) under numbers = inl numbers
-  heard_asked c m n t old new (bodies.MakeCopy handle at new_handle stamp) under numbers = inl numbers
-  heard_asked c m n t old new (bodies.Epoch epoch end) under numbers = inl numbers
-  heard_asked c m n t old new (bodies.Call req call) under numbers = inl numbers
-  heard_asked c m n t old new (bodies.Reply req result) under numbers = inl numbers
-  heard_asked c m n t old new (bodies.Done req result) under numbers = inl numbers
-  heard_asked c m n t old new (bodies.Bytes req result) under numbers = inl numbers
-  heard_asked c m n t old new (bodies.Report epoch replicas) under numbers = inl numbers
-  heard_asked c m n t old new (bodies.Learned epoch handles) under numbers = inl numbers
-  heard_asked c m n t old new (bodies.Behind epoch) under numbers = inl numbers
+    heard_of : (body : Body) → message.body ≡ body → Numbers (cause_in chunk body) c m n t old new → (new ≡ old) ⊎ NumbersOf sent c m n t old new
+    heard_of (bodies.About handle said) says numbers = by_handle (chunk == handle) refl numbers
+      where
+        by_handle : (b : Bool) → (chunk == handle) ≡ b → Numbers (cond b (cause_of said) Calm) c m n t old new → (new ≡ old) ⊎ NumbersOf sent c m n t old new
+        by_handle true here numbers = heard_said handle said says here numbers
+        by_handle false apart numbers = inl numbers
+    heard_of (bodies.Push req pushed) says numbers = inl numbers
+    heard_of (bodies.MakeCopy handle at new_handle stamp) says numbers = inl numbers
+    heard_of (bodies.Epoch epoch end) says numbers = inl numbers
+    heard_of (bodies.Call req call) says numbers = inl numbers
+    heard_of (bodies.Reply req result) says numbers = inl numbers
+    heard_of (bodies.Done req result) says numbers = inl numbers
+    heard_of (bodies.Bytes req result) says numbers = inl numbers
+    heard_of (bodies.Report epoch replicas) says numbers = inl numbers
+    heard_of (bodies.Learned epoch handles) says numbers = inl numbers
+    heard_of (bodies.Behind epoch) says numbers = inl numbers
 
-  struck_asked : (c : Setting) (m n : Member) (t : ℕ) (old new : List Edit) (call : Option Call) → Numbers (struck_by call) c m n t old new → NumbersAsked Under t old new
-  struck_asked c m n t old new None numbers = inl numbers
-  struck_asked c m n t old new (Some call) numbers = inl numbers
+  struck_of : (c : Setting) (m n : Member) (t : ℕ) (old new : List Edit) (call : Option Call) → Numbers (struck_by call) c m n t old new → new ≡ old
+  struck_of c m n t old new None numbers = numbers
+  struck_of c m n t old new (Some call) numbers = numbers
 
-  -- what was sent names the stamp of its request
+  -- where a server does something each list stays, or has one more edit, which was asked for
+  pub goes_of : (sent : Sent) (id : ℕ) (s after : Server) (messages : List Message) → AllSent (IsOfOneEdit asked) sent → (goes : ServerGoes sent id s after messages) (c : Setting) (m n : Member) (t : ℕ) (old new : List Edit) → Numbers (cause_at chunk goes) c m n t old new
+      → (new ≡ old) ⊎ NumbersOf sent c m n t old new
+  goes_of sent id s after messages one (Hears message moment was to is sends) c m n t old new numbers = heard_of sent message was (one was.0 message was.1) c m n t old new message.body refl numbers
+  goes_of sent id s after messages one (Ticks moment is sends) c m n t old new numbers = inl numbers
+  goes_of sent id s after messages one (Beats is sends) c m n t old new numbers = inl numbers
+  goes_of sent id s after messages one (Restarts is sends) c m n t old new numbers = inl numbers
+  goes_of sent id s after messages one (Loses handle is sends) c m n t old new numbers = inl (struck_of c m n t old new (call_by chunk (at_server.Loses handle) s) numbers)
+  goes_of sent id s after messages one (Damages handle block is sends) c m n t old new numbers = inl (struck_of c m n t old new (call_by chunk (at_server.Damages handle block) s) numbers)
+
+  -- what was asked for names the stamp of its request
+  under_stamp : (handle : ℕ) (req : ReqId) (members : List ℕ) (primary : ℕ) (stamp : Stamp) (op : Op) → named asked req ≡ Some (requests.Write handle members primary stamp op (bytes_in asked req)) → (chunk == handle) ≡ true → Under req ≡ Some stamp
+  under_stamp handle req members primary stamp op asks is = ap (stamp_in chunk) asks ∙ ap (λ b. cond b (Some stamp) None) is
+
   pub named_under : (m : Message) → IsOfOneEdit asked m → (handle : ℕ) (req : ReqId) (stamp : Stamp) (op : Op) → m.body ≡ bodies.About handle (chunks.Edit req stamp op) → (chunk == handle) ≡ true → Under req ≡ Some stamp
-  named_under m one handle req stamp op said is =
-      let e = one.edits handle req stamp op said in
-      ap (stamp_in chunk) e.2 ∙ ap (λ b. cond b (Some stamp) None) is
+  named_under m one handle req stamp op said is = (let e = one.edits handle req stamp op said in under_stamp handle req e.0 e.1 stamp op e.2 is)
 
-  goes_asked : (sent : Sent) (id : ℕ) (s after : Server) (messages : List Message) → AllSent (IsOfOneEdit asked) sent → (goes : ServerGoes sent id s after messages) (c : Setting) (m n : Member) (t : ℕ) (old new : List Edit) → Numbers (cause_at chunk goes) c m n t old new
-      → NumbersAsked Under t old new
-  goes_asked sent id s after messages one (Hears message moment was to is sends) c m n t old new numbers = heard_asked c m n t old new message.body (named_under message (one was.0 message was.1)) numbers
-  goes_asked sent id s after messages one (Ticks moment is sends) c m n t old new numbers = inl numbers
-  goes_asked sent id s after messages one (Beats is sends) c m n t old new numbers = inl numbers
-  goes_asked sent id s after messages one (Restarts is sends) c m n t old new numbers = inl numbers
-  goes_asked sent id s after messages one (Loses handle is sends) c m n t old new numbers = struck_asked c m n t old new (call_by chunk (at_server.Loses handle) s) numbers
-  goes_asked sent id s after messages one (Damages handle block is sends) c m n t old new numbers = struck_asked c m n t old new (call_by chunk (at_server.Damages handle block) s) numbers
+  -- so an edit that is numbered is asked for under the stamp of its list
+  numbers_asked : (sent : Sent) (c : Setting) (m n : Member) (t : ℕ) (old new : List Edit) → (new ≡ old) ⊎ NumbersOf sent c m n t old new → NumbersAsked Under t old new
+  numbers_asked sent c m n t old new (inl same) = inl same
+  numbers_asked sent c m n t old new (inr x) =
+      let e = x.numbers in
+      inr (e.edit, e.is, ap Under (let s = e.says in s.req) ∙ under_stamp x.handle x.req x.members x.primary x.stamp x.op x.asks x.here ∙ ap Some e.asked_is)
 
 pub numbering_goes_on : {D : Type 0} (seen : D → List ℕ) (config : Config) (bytes : ReqId → List ℕ) (asked : ℕ → Asked) → NumberingGoesOn seen config bytes asked
 numbering_goes_on seen config bytes asked born chunk step old new origin w v reached one (AtServer by) numbered =
     let steps = by.steps in
     subst (λ (x : World). AreNumbered (asked_under asked chunk) origin x.known) (sym by.world)
     (servers_numbered (asked_under asked chunk) origin w steps.world reached steps.leads steps.entry
-    (λ t. goes_asked asked chunk old.sent by.id by.server by.after by.messages one by.goes (setting config bytes born) (w.members by.id) (steps.world.members by.id) t (w.known.list t) (steps.world.known.list t) (steps.numbers t)) numbered)
+    (λ t. numbers_asked asked chunk old.sent (setting config bytes born) (w.members by.id) (steps.world.members by.id) t (w.known.list t) (steps.world.known.list t)
+    (goes_of asked chunk old.sent by.id by.server by.after by.messages one by.goes (setting config bytes born) (w.members by.id) (steps.world.members by.id) t (w.known.list t) (steps.world.known.list t) (steps.numbers t))) numbered)
 numbering_goes_on seen config bytes asked born chunk step old new origin w v reached one (AtMaster by) numbered = masters_numbered (asked_under asked chunk) origin w v reached by.leads by.masters numbered
 numbering_goes_on seen config bytes asked born chunk step old new origin w v reached one (Elsewhere still servers master by messages moment are posted) numbered = subst (λ (x : World). AreNumbered (asked_under asked chunk) origin x.known) (sym still) numbered
 

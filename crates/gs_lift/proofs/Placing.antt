@@ -65,7 +65,7 @@ request_of_client req (requests.Call call) = (tt, tt)
 request_of_client req (requests.Write handle members primary stamp op bytes) = both_of_client (pushes req (with_bytes members op) bytes) _ (pushes_of_client req (with_bytes members op) bytes) (tt, tt)
 request_of_client req (requests.Fetch to handle stamp epoch what) = (tt, tt)
 
-asked_of_client : (number : ℕ) (request : Request) (n : Node) (out : Result (Vec Message Global) Refusal) (after : Node) → Asks (asks number request n) out n after → AreOfClient (sent_by (asked out))
+pub asked_of_client : (number : ℕ) (request : Request) (n : Node) (out : Result (Vec Message Global) Refusal) (after : Node) → Asks (asks number request n) out n after → AreOfClient (sent_by (asked out))
 asked_of_client number request n out after a = by_old (nat_le number n.last) out a
   where
     by_old : (b : Bool) (out : Result (Vec Message Global) Refusal)
@@ -93,7 +93,7 @@ at_client : {A D : Type 0} (id : ClientId) (none : A) (does : Node → A → Nod
 at_client id none does old result new at = found_client (client_in old.clients id) id none does old result new at
 
 -- what one client does, if there is one
-one_client : {A D : Type 0} (P : A → Type 0) (found : Option Node) (id : ClientId) (none : A) (does : Node → A → Node → Type 0) (old : Nodes D) (result : A) (new : Nodes D)
+pub one_client : {A D : Type 0} (P : A → Type 0) (found : Option Node) (id : ClientId) (none : A) (does : Node → A → Node → Type 0) (old : Nodes D) (result : A) (new : Nodes D)
     → MatchOption found ((new ≡ old) × (result ≡ none)) (λ n. (after : Node) × (new ≡ with_clients (slice_set old.clients (id.0 - 1) after) old) × does n result after)
     → P none → ((n after : Node) → does n result after → P result) → P result
 one_client P None id none does old result new (same, refused) nobody some = subst P (sym refused) nobody

@@ -69,10 +69,10 @@ as_steps : (cause : Cause) (c : Setting) (chunk : ℕ) (w : World) (me : ℕ) (a
 as_steps cause c chunk w me about x after y messages is sends steps = subst (λ t. IsSteps cause c chunk w me about t messages) (sym is) (subst (λ ms. IsSteps cause c chunk w me about x ms) (sym sends) steps)
 
 -- a server says none of what the master or clients say
-pub by_server : (c : Setting) (chunk : ℕ) (v : World) (me : ℕ) (about : Option ℕ) (messages : List Message) → AllByRecursion (AnswersOf c chunk v me about) messages → AllByRecursion (λ (m : Message). IsByServer m.body) messages
-by_server c chunk v me about [] all = tt
-by_server c chunk v me None (m ∷ messages) all = (all.0.0, by_server c chunk v me None messages all.1)
-by_server c chunk v me (Some handle) (m ∷ messages) all = (all.0.0, by_server c chunk v me (Some handle) messages all.1)
+pub by_server : (cause : Cause) (c : Setting) (chunk : ℕ) (v : World) (me : ℕ) (about : Option ℕ) (messages : List Message) → AllByRecursion (AnswersOf cause c chunk v me about) messages → AllByRecursion (λ (m : Message). IsByServer m.body) messages
+by_server cause c chunk v me about [] all = tt
+by_server cause c chunk v me None (m ∷ messages) all = (all.0.0, by_server cause c chunk v me None messages all.1)
+by_server cause c chunk v me (Some handle) (m ∷ messages) all = (all.0.0, by_server cause c chunk v me (Some handle) messages all.1)
 
 module _ {D : Type 0} (seen : D → List ℕ) where
   -- the master is shown still where nothing of its part changes

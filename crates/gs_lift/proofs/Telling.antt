@@ -16,24 +16,28 @@ use Rattle.gs_chunk.specs.Stamps.{stamp_at}
 use Rattle.gs_chunk.specs.Machine.{World}
 use Rattle.gs_chunk.specs.Laws.{Birth}
 use Rattle.gs_chunk.specs.Numbering.{AreNumbered, IsNumberedAt}
+use Rattle.gs_chunk.specs.Owning.{AreOwn, IsOwnList}
 use Rattle.gs_chunk.proofs.Facts.{reached_world}
 use Rattle.gs_chunk.proofs.Lasting.{agrees}
 use Rattle.gs_chunk.proofs.Lists.{take_from}
 use Rattle.gs_chunk.proofs.Numbering.{stays_behind}
+use Rattle.gs_chunk.proofs.Owning.{beginnings_own}
 use Rattle.gs_member.specs.Requests.{Asked, IsOfOneEdit, named}
 use Rattle.gs_member.proofs.Stamps.{stamp_number}
 use Rattle.gs_entry.specs.Showing.{IsPast}
 use Rattle.gs_lift.specs.Going.{AllSent, heard_in}
 use Rattle.gs_lift.specs.Living.{BeginsOld, BornFrom, ComesAlive, GoesOn}
 use Rattle.gs_lift.specs.Numbered.{AskedElsewhere, AskedWithin, any_stamp, asked_under}
+use Rattle.gs_lift.specs.Owning.{IsAskedEdit, WasAskedFor}
 use Rattle.gs_lift.specs.Saying.{PushRight}
 use Rattle.gs_lift.specs.Showing.{IsAlive, Life}
-use Rattle.gs_lift.specs.Telling.{IsLiving, NumberedIn, NumbersAsAsked, StoreTellsOn, StoresTellFirst, StoresTellOn, StoresTellRun, TellsFirst}
+use Rattle.gs_lift.specs.Telling.{AskedIn, IsLiving, NumberedIn, NumbersAsAsked, OwnIn, StoreTellsOn, StoresTellFirst, StoresTellOn, StoresTellRun, TellsFirst}
 use Rattle.gs_lift.specs.Waiting.{AsksFor}
 use Rattle.gs_lift.proofs.Answered.{answers_begin, answers_go_on}
-use Rattle.gs_lift.proofs.Beginning.{begins_kept, begins_lasting, begins_lives, begins_numbered, begins_tells_no_copy, begins_texts}
+use Rattle.gs_lift.proofs.Beginning.{begins_asked, begins_kept, begins_lasting, begins_lives, begins_numbered, begins_own, begins_tells_no_copy, begins_texts}
 use Rattle.gs_lift.proofs.Durable.{durable_shown}
 use Rattle.gs_lift.proofs.Numbered.{any_of, newborns_numbered, none_earlier, numbered_first, numbering_goes_on, one_chunk}
+use Rattle.gs_lift.proofs.Owning.{asking_goes_on, newborns_asked, newborns_own, owning_goes_on}
 use Rattle.gs_lift.proofs.Running.{before, held_first, leads_more, leads_still, sound_stays}
 use Rattle.gs_lift.proofs.Stepping.{stores_go_on}
 use Rattle.gs_lift.proofs.Waiting.{waits_go_on}
@@ -136,10 +140,39 @@ module _ {D : Type 0} (seen : D → List ℕ) (config : Config) (bytes : ReqId �
           behind = stays_behind a.world b.world n.bound a.reached goes_so.leads n.behind;
         }
 
+  -- ---- each edit is the one that was asked for
+
+  module _ (step : Step) (about : Option ℕ) (old new : History D) (before : (other : ℕ) → Life seen config bytes other old) (one : AllSent (IsOfOneEdit asked) old.sent) where
+    -- what holds of each edit of chunks that live holds of each with which another is born
+    module _ (Own : List Edit → Edit → Type 0) (all : (other : ℕ) (a : IsAlive seen config bytes other old) → before other ≡ inr a → AreOwn Own a.world.known) where
+      nothing_at : (place : ℕ) (edit : Edit) → ◌≡◌ {A = Option Edit} (slice_get [] place) (Some edit) → ⊥
+      nothing_at place edit at = absurd (cc)
+
+      origin_own : (edits : List Edit) → (edits ≡ []) ⊎ BeginsOld seen config bytes old before edits → IsOwnList Own edits
+      origin_own edits (inl none) = subst (IsOwnList Own) (sym none) (λ place edit at. absurd (nothing_at place edit at))
+      origin_own edits (inr o) = subst (IsOwnList Own) (sym o.begins) (beginnings_own Own o.many (o.alive.world.known.list o.stamp) (all o.chunk o.alive o.is o.stamp))
+
+    own_on : ((other : ℕ) → OwnIn seen config bytes asked other old (before other)) → (chunk : ℕ) (l : Life seen config bytes chunk old) (m : Life seen config bytes chunk new) → GoesOn seen config bytes chunk step about old new l m
+        → BornFrom seen config bytes chunk old new before l m → OwnIn seen config bytes asked chunk old l → OwnIn seen config bytes asked chunk new m
+    own_on all chunk l (inl unborn) goes from own = tt
+    own_on all chunk (inl unborn) (inr b) comes from own =
+        newborns_own seen config bytes asked chunk old new b comes
+        (origin_own (IsAskedEdit bytes asked config.chunk) (λ other a is. subst (OwnIn seen config bytes asked other old) is (all other)) b.reached.0.origin from)
+    own_on all chunk (inr a) (inr b) goes from own = owning_goes_on seen config bytes asked a.reached.0.epoch chunk step old new a.world b.world one goes.by own
+
+    asked_on : ((other : ℕ) → AskedIn seen config bytes other old (before other)) → (chunk : ℕ) (l : Life seen config bytes chunk old) (m : Life seen config bytes chunk new) → GoesOn seen config bytes chunk step about old new l m
+        → BornFrom seen config bytes chunk old new before l m → AskedIn seen config bytes chunk old l → AskedIn seen config bytes chunk new m
+    asked_on all chunk l (inl unborn) goes from own = tt
+    asked_on all chunk (inl unborn) (inr b) comes from own =
+        newborns_asked seen config bytes chunk old new b comes
+        (origin_own (λ before edit. WasAskedFor old.sent edit) (λ other a is. subst (AskedIn seen config bytes other old) is (all other)) b.reached.0.origin from)
+    asked_on all chunk (inr a) (inr b) goes from own = asking_goes_on seen config bytes asked a.reached.0.epoch chunk step old new a.world b.world one goes.by own
+
   pub tells_first : (among : List ℕ → Bool) → TellsFirst seen config bytes asked among
   tells_first among h lives tells chunk a is = record {
     first = λ t place edit stamp at under. numbered_first asked chunk a.reached.0.origin a.world.known n.numbered elsewhere t place edit stamp at under;
     earlier = λ t late stood. none_earlier asked chunk n.bound a.reached.0.origin a.world.known n.numbered n.behind n.within t late stood;
+    own = subst (OwnIn seen config bytes asked chunk h) is (tells.own chunk);
   }
     where
       n : NumbersAsAsked seen config bytes asked chunk h lives.life a
@@ -160,6 +193,8 @@ module _ {D : Type 0} (seen : D → List ℕ) (failures : D → ℕ) (armed : Di
     dones = answers_go_on seen failures armed config bytes asked step old new goes.kind tells.one tells.waits lives.lasts same lives.life (goes.last).life goes.goes tells.dones;
     numbered = λ chunk.
         numbered_on seen config bytes asked step (heard_in seen failures armed goes.kind) old new lives.life (goes.last).life goes.goes tells.one tells.numbered chunk (lives.life chunk) ((goes.last).life chunk) refl (goes.goes chunk) (goes.from chunk) (tells.numbered chunk);
+    own = λ chunk. own_on seen config bytes asked step (heard_in seen failures armed goes.kind) old new lives.life tells.one tells.own chunk (lives.life chunk) ((goes.last).life chunk) (goes.goes chunk) (goes.from chunk) (tells.own chunk);
+    asked_for = λ chunk. asked_on seen config bytes asked step (heard_in seen failures armed goes.kind) old new lives.life tells.one tells.asked_for chunk (lives.life chunk) ((goes.last).life chunk) (goes.goes chunk) (goes.from chunk) (tells.asked_for chunk);
   }
 
   pub stores_tell_run : StoresTellRun seen failures armed config bytes among asked
@@ -195,7 +230,14 @@ module _ {D : Type 0} (seen : D → List ℕ) (failures : D → ℕ) (armed : Di
           copies = begins_tells_no_copy seen failures armed sizes config bytes clients disks begun none begins first;
           texts = begins_texts seen failures armed sizes config bytes clients disks begun none begins among;
         },
-        record { one = one; waits = answers.0; dones = answers.1 first; numbered = begins_numbered seen failures armed sizes config bytes clients disks begun none begins asked },
+        record {
+          one = one;
+          waits = answers.0;
+          dones = answers.1 first;
+          numbered = begins_numbered seen failures armed sizes config bytes clients disks begun none begins asked;
+          own = begins_own seen failures armed sizes config bytes clients disks begun none begins asked;
+          asked_for = begins_asked seen failures armed sizes config bytes clients disks begun none begins;
+        },
       )
     where
       first : (chunk : ℕ) → Life seen config bytes chunk begun

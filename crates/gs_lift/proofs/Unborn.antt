@@ -150,7 +150,7 @@ module _ {D : Type 0} (seen : D → List ℕ) (config : Config) (bytes : ReqId �
 
   -- it says none of what the master or clients say
   pub server_says : (id : ℕ) (s after : Server) (messages : List Message) → slice_get old.nodes.servers id ≡ Some s → ServerGoes old.sent id s after messages → AllByRecursion (λ (m : Message). IsByServer m.body) messages
-  server_says id s after messages found goes = let steps = steps_silent id s after messages found goes in by_server (setting_of bytes epoch s) chunk steps.world s.me (about_of goes) messages steps.answers
+  server_says id s after messages found goes = let steps = steps_silent id s after messages found goes in by_server _ (setting_of bytes epoch s) chunk steps.world s.me (about_of goes) messages steps.answers
 
   -- it keeps nothing, is of no epoch behind this one, and says nothing
   pub server_unborn : (id : ℕ) (s after : Server) (messages : List Message) → slice_get old.nodes.servers id ≡ Some s → ServerGoes old.sent id s after messages → KeepsNothing chunk after × (after.kept.epoch ≤ epoch) × AllByRecursion (IsBefore chunk epoch) messages

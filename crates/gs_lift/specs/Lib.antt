@@ -11,7 +11,9 @@ pub mod Running
 pub mod Accounts
 pub mod Asking
 pub mod Numbered
+pub mod Owning
 pub mod Waiting
 pub mod Answers
 pub mod Marking
 pub mod Telling
+pub mod Passing

@@ -14,12 +14,14 @@ use Rattle.gs_run.specs.Runs.{Step}
 use Rattle.gs_base.specs.declared.numbers.Stamp.{Stamp}
 use Rattle.gs_chunk.specs.Machine.{Known}
 use Rattle.gs_chunk.specs.Numbering.{AreNumbered, IsBehind}
+use Rattle.gs_chunk.specs.Owning.{AreOwn}
 use Rattle.gs_member.specs.Requests.{Asked, IsOfOneEdit}
 use Rattle.gs_lift.specs.Among.{AllAmong}
 use Rattle.gs_lift.specs.Answers.{DonesAreAnswered}
 use Rattle.gs_lift.specs.Going.{AllSent}
 use Rattle.gs_lift.specs.Living.{ShowsArmed, StoreGoes, StoreLeads, StoreLives}
 use Rattle.gs_lift.specs.Numbered.{AskedWithin, StandsFirst, asked_under}
+use Rattle.gs_lift.specs.Owning.{IsAskedEdit, WasAskedFor}
 use Rattle.gs_lift.specs.Running.{AreHeld, LastsArmed, UnknownArmed}
 use Rattle.gs_lift.specs.Saying.{PushRight}
 use Rattle.gs_lift.specs.Showing.{IsAlive, Life}
@@ -44,19 +46,33 @@ module _ {D : Type 0} (seen : D → List ℕ) (config : Config) (bytes : ReqId �
   NumberedIn asked chunk h life (inl unborn) = Unit {0}
   NumberedIn asked chunk h life (inr a) = NumbersAsAsked asked chunk h life a
 
+  -- Each edit of the lists of a chunk that lives is the one that its request asks for,
+  abbrev pub OwnIn : (ℕ → Asked) → (chunk : ℕ) (h : History D) → Life seen config bytes chunk h → Type 0
+  OwnIn asked chunk h (inl unborn) = Unit {0}
+  OwnIn asked chunk h (inr a) = AreOwn (IsAskedEdit bytes asked config.chunk) a.world.known
+
+  -- and a message that asks for it was sent.
+  abbrev pub AskedIn : (chunk : ℕ) (h : History D) → Life seen config bytes chunk h → Type 0
+  AskedIn chunk h (inl unborn) = Unit {0}
+  AskedIn chunk h (inr a) = AreOwn (λ before edit. WasAskedFor h.sent edit) a.world.known
+
   -- What clients have asked, and were told. All that was ever sent for a request is of its one edit, and servers wait for what was asked of their chunks; what
-  -- clients were told done is done in the machines; and edits were numbered as they were asked for.
+  -- clients were told done is done in the machines; and edits were numbered as they were asked for, and are the ones that were asked for,
+  -- by messages that were sent.
   pub record StoreTells (asked : ℕ → Asked) (among : List ℕ → Bool) (h : History D) (lives : StoreLives seen config bytes among h) : Type 0 where
     pub one : AllSent (IsOfOneEdit asked) h.sent
     pub waits : AllWaitAsked asked h
     pub dones : DonesAreAnswered seen config bytes asked h lives.life
     pub numbered : (chunk : ℕ) → NumberedIn asked chunk h lives.life (lives.life chunk)
+    pub own : (chunk : ℕ) → OwnIn asked chunk h (lives.life chunk)
+    pub asked_for : (chunk : ℕ) → AskedIn chunk h (lives.life chunk)
 
-  -- So an edit of a chunk's lists that was asked for of this chunk stands first in the list of the view of its stamp, behind the same edits; and no list of a view
-  -- has an edit of any request that was asked for under a greater stamp.
+  -- So an edit of a chunk's lists that was asked for of this chunk stands first in the list of the view of its stamp, behind the same edits; no list of a view
+  -- has an edit of any request that was asked for under a greater stamp; and each edit is the one that its request asks for.
   pub record EditsStandFirst (asked : ℕ → Asked) (k : Known) (chunk : ℕ) : Type 0 where
     pub first : (t place : ℕ) (edit : Edit) (stamp : Stamp) → slice_get (k.list t) place ≡ Some edit → asked_under asked chunk edit.req ≡ Some stamp → StandsFirst k t place stamp
     pub earlier : (t : ℕ) → k.born < t → k.stood t ≡ true → AskedWithin asked t (k.list t)
+    pub own : AreOwn (IsAskedEdit bytes asked config.chunk) k
 
   abbrev pub TellsFirst : (ℕ → Asked) → (List ℕ → Bool) → Type 0
   TellsFirst asked among = (h : History D) (lives : StoreLives seen config bytes among h) → StoreTells asked among h lives → (chunk : ℕ) (a : IsAlive seen config bytes chunk h) → lives.life chunk ≡ inr a → EditsStandFirst asked a.world.known chunk

@@ -25,8 +25,10 @@ ghost use Rattle.gs_lift.specs.Going.{AllSent, Kind};
 ghost use Rattle.gs_lift.specs.Asking.{AreAskedIn, AreAskedOver, AskOn, StayAsked};
 ghost use Rattle.gs_lift.specs.Answers.{AnswersBegin, AnswersGoOn};
 ghost use Rattle.gs_lift.specs.Waiting.{WaitsGoOn};
+ghost use Rattle.gs_lift.specs.Passing.{PassedHasNone};
 ghost use Rattle.gs_lift.specs.Telling.{StoresTellFirst, StoresTellOn, StoresTellRun, TellsFirst};
 ghost use Rattle.gs_lift.specs.Numbered.{ListsAreElsewhere, NewbornsAreNumbered, NoneIsEarlier, NumberedIsFirst, NumberingGoesOn};
+ghost use Rattle.gs_lift.specs.Owning.{AskingGoesOn, NewbornsAsked, NewbornsOwn, OwningGoesOn};
 ghost use Rattle.gs_lift.specs.Doing.{MastersDo};
 ghost use Rattle.gs_lift.specs.Running.{EachLives, LastsArmed, StoresBegin, StoresGoOn, StoresRun, UnknownArmed};
 ghost use Rattle.gs_lift.specs.Marking.{WholeMembersAreMarked};
@@ -118,15 +120,26 @@ pub fn each_edit_was_numbered_under_the_stamp_of_its_request<D>()
     ensures elsewhere { (asked : ℕ → Asked) → ListsAreElsewhere asked }
 {}
 
+/// Each edit of a chunk's lists is the one that its request asks for: what a primary numbers for that operation behind the edits before it, with the bytes of the request; and a
+/// message that asks for it was sent. So it stays at each step of a store in which all that was sent for a request is of its one edit, and a chunk that is born with such edits has no others.
+pub fn each_edit_is_the_one_that_was_asked_for<D>()
+    ensures newborn { (seen : D → List ℕ) (config : Config) (bytes : ReqId → List ℕ) (asked : ℕ → Asked) → NewbornsOwn seen config bytes asked }
+    ensures goes_on { (seen : D → List ℕ) (config : Config) (bytes : ReqId → List ℕ) (asked : ℕ → Asked) → OwningGoesOn seen config bytes asked }
+    ensures newborn_asked { (seen : D → List ℕ) (config : Config) (bytes : ReqId → List ℕ) → NewbornsAsked seen config bytes }
+    ensures asked_on { (seen : D → List ℕ) (config : Config) (bytes : ReqId → List ℕ) (asked : ℕ → Asked) → AskingGoesOn seen config bytes asked }
+{}
+
 /// What clients have asked and were told goes along with the machines of a store's chunks: when a store begins new, at each step, and over each run in which no
 /// disk of the master fails, what a client was told done is done in the machine of a chunk of which it has asked for an edit, and each edit of a chunk's lists was
 /// numbered under the stamp of its request, but those with which the chunk was born: a copy is born with edits that were asked for of other chunks, under stamps
-/// below those of its own views. So each edit that was asked for of the chunk stands first in the view of its stamp.
+/// below those of its own views. So each edit that was asked for of the chunk stands first in the view of its stamp; and each edit of a list is the one that its request asks for,
+/// and a message that asks for it was sent. Where a full chunk has passed on what a request asks for, no list has an edit of that request.
 pub fn what_clients_are_told_goes_along_with_the_machines<D>()
     ensures begins { (seen : D → List ℕ) (failures : D → ℕ) (armed : DiskId → ℕ → MasterPlace D → MasterPlace D) (config : Config) (bytes : ReqId → List ℕ) (among : List ℕ → Bool) (asked : ℕ → Asked) → StoresTellFirst seen failures armed config bytes among asked }
     ensures step { (seen : D → List ℕ) (failures : D → ℕ) (armed : DiskId → ℕ → MasterPlace D → MasterPlace D) (config : Config) (bytes : ReqId → List ℕ) (among : List ℕ → Bool) (asked : ℕ → Asked) → StoresTellOn seen failures armed config bytes among asked }
     ensures runs { (seen : D → List ℕ) (failures : D → ℕ) (armed : DiskId → ℕ → MasterPlace D → MasterPlace D) (config : Config) (bytes : ReqId → List ℕ) (among : List ℕ → Bool) (asked : ℕ → Asked) → StoresTellRun seen failures armed config bytes among asked }
     ensures first { (seen : D → List ℕ) (config : Config) (bytes : ReqId → List ℕ) (among : List ℕ → Bool) (asked : ℕ → Asked) → TellsFirst seen config bytes asked among }
+    ensures passed { (seen : D → List ℕ) (config : Config) (bytes : ReqId → List ℕ) (asked : ℕ → Asked) → PassedHasNone seen config bytes asked }
 {
     configurations_have_sizes();
 }

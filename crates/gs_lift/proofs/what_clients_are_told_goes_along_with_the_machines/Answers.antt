@@ -1,3 +1,4 @@
+use Rattle.gs_lift.proofs.Passing.{passed_has_none}
 use Rattle.gs_lift.proofs.Telling.{stores_tell_first, stores_tell_on, stores_tell_run, tells_first}
 use Rattle.gs_lift.proofs.what_clients_are_told_goes_along_with_the_machines.Goals as goal
 
@@ -12,3 +13,6 @@ returns-clause-runs g c seen failures armed config bytes among asked = stores_te
 
 pub returns-clause-first : goal.returns-clause-first
 returns-clause-first g c seen config bytes among asked = tells_first seen config bytes asked among
+
+pub returns-clause-passed : goal.returns-clause-passed
+returns-clause-passed g c seen config bytes asked = passed_has_none seen config bytes asked
