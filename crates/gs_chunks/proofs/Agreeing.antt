@@ -27,7 +27,7 @@ use Rattle.gs_chunks.proofs.Serving.{Meets, count_then, heard_then, reaches_more
 use Rattle.gs_chunks.proofs.Mastering as mastering
 use Rattle.gs_chunks.proofs.Mastering.{behind_it}
 use Rattle.gs_chunks.proofs.Still.{counts_still, none_numbered}
-use Rattle.gs_chunks.specs.Agreeing.{Agrees, CopyShows, IsCopyShown, IsOfView, ListsStayOn, MastersAgree, MastersKeepLists, OriginShows, ServersAgree, ServersKeepLists, StillAgree, StillKeepsLists}
+use Rattle.gs_chunks.specs.Agreeing.{Agrees, CopyShows, IsCopyShown, IsOfView, IsViewShown, ListsStayOn, MastersAgree, MastersKeepLists, OriginShows, ServersAgree, ServersKeepLists, StillAgree, StillKeepsLists}
 use Rattle.gs_chunks.proofs.Copies.{by_servers_none, copies_now, copies_stay, of_clients_none}
 use Rattle.gs_entry.specs.Rows.{IsFirst, RowsGo}
 use Rattle.gs_lift.proofs.Posting.{posted_all}
@@ -296,6 +296,15 @@ module _ {D : Type 0} (law : AreNumbered) (seen : D → List ℕ) (config : Conf
       no_prepare a.durable (edits_in a chunk (view_at a chunk)) (a.before chunk) ∙ before.before e upgrading_w known_w
       ∙ sym (ap (λ (y : Entry). v.known.list y.prepared.stamp) entry ∙ (grows.fixed w.entry.prepared.stamp (let s = ((reached_world w reached).entry).stamp in let l = rests.within in omega arith) rests.free).1)
 
+  -- the view that is told is shown still
+  shown_then : (before : Agrees a old.sent chunk reached.0 w) → (x : Settled) → fin.get a.durable.chunks chunk ≡ Some x → IsViewShown ((account_behind step old a new a.durable).list chunk) v
+  shown_then before x there =
+      let was = before.shown x there in
+      let view : v.known.view ≡ w.known.view = same_view w v reached leads entry in record {
+        stood = ap v.known.stood view ∙ sym (same w.known.view) ∙ was.stood;
+        same = subst (λ t. (account_behind step old a new a.durable).list chunk (stamp_at t) ≡ v.known.list t) (sym view) (list_then w.known.view was.same);
+      }
+
   -- a chunk of which nothing is told was settled on no view still
   first_then : (before : Agrees a old.sent chunk reached.0 w) → IsFirst chunk a.durable v
   first_then before known none = same_view w v reached leads entry ∙ before.first (ap (λ (e : Entry). e.is_known) (sym entry) ∙ known) none ∙ sym grows.born
@@ -316,7 +325,7 @@ module _ {D : Type 0} (law : AreNumbered) (seen : D → List ℕ) (config : Conf
       let list = (account_behind step old a new a.durable).list chunk in
       posted_all (λ (m : Message). CopyShows chunk list v m.to m.body) by.moment (nodes.Server by.id) by.messages old.sent new.sent by.posted
       (copies_stay chunk list v (a.list chunk) w copy_then old.sent before.copied)
-      (by_servers_none chunk list v by.messages (serving.by_server c chunk by.steps.world by.id _ by.messages by.steps.answers))
+      (by_servers_none chunk list v by.messages (serving.by_server _ c chunk by.steps.world by.id _ by.messages by.steps.answers))
 
   pub server_agrees : Agrees a old.sent chunk reached.0 w → OriginShows (account_behind step old a new a.durable).list new.sent chunk reached.0 v → Agrees (account_behind step old a new a.durable) new.sent chunk reached.0 v
   server_agrees before origin = record {
@@ -325,6 +334,7 @@ module _ {D : Type 0} (law : AreNumbered) (seen : D → List ℕ) (config : Conf
     counts = counts_then before;
     before = before_then before;
     late = λ x there. (let late = before.late x there in let born = grows.born in let view = same_view w v reached leads entry in omega arith);
+    shown = shown_then before;
     first = first_then before;
     copied = server_copied before;
   }
@@ -364,6 +374,7 @@ still_agrees D config bytes chunk step old new a w reached servers by messages m
   counts = counts_still config bytes chunk step old new a a.durable w w reached Rests shows refl before.counts;
   before = λ e upgrading known. no_prepare a.durable (edits_in a chunk (view_at a chunk)) (a.before chunk) ∙ before.before e upgrading known;
   late = before.late;
+  shown = λ x there. (let was = before.shown x there in record { stood = was.stood; same = still_list chunk step old new a servers (stamp_at w.known.view) ∙ was.same });
   first = before.first;
   copied = still_copied chunk step old new a w servers by messages moment are posted before.copied;
 }
@@ -407,6 +418,12 @@ module _ {D : Type 0} (seen : D → List ℕ) (config : Config) (bytes : ReqId �
         (copies_now chunk list v by.behind w.known.view w.entry.is_known
         (λ at k. as_account at (mastering.copied_since chunk new.sent a by.behind w v reached by.leads by.masters was_stamp shown_of.rolling by.shows rows_of before.lists.own before.late before.before before.first origin at k)) by.messages by.copies)
 
+    -- and so is the view that is told
+    master_shown : (y : Settled) → fin.get by.behind.chunks chunk ≡ Some y → IsViewShown ((account_behind step old a new by.behind).list chunk) v
+    master_shown y there =
+        let is = mastering.shown_then chunk new.sent a by.behind w v reached by.leads by.masters was_stamp shown_of.rolling by.shows rows_of before.lists.own before.late before.before before.first origin before.shown y there in
+        record { stood = is.stood; same = list_of (stamp_at v.known.view) ∙ is.same }
+
     pub master_agrees : OriginShows (account_behind step old a new by.behind).list new.sent chunk reached.0 v → Agrees (account_behind step old a new by.behind) new.sent chunk reached.0 v
     master_agrees origin_then = record {
       lists = record { own = master_own; origin = origin_then };
@@ -414,6 +431,7 @@ module _ {D : Type 0} (seen : D → List ℕ) (config : Config) (bytes : ReqId �
       counts = counts_still config bytes chunk step old new a by.behind w v reached by.leads shows (masters_leave w v by.leads by.masters).reached before.counts;
       before = mastering.before_then chunk new.sent a by.behind w v reached by.leads by.masters was_stamp shown_of.rolling by.shows rows_of before.lists.own before.late before.before before.first origin;
       late = mastering.late_then chunk new.sent a by.behind w v reached by.leads by.masters was_stamp shown_of.rolling by.shows rows_of before.lists.own before.late before.before before.first origin;
+      shown = master_shown;
       first = rows_of.first before.first;
       copied = master_copied;
     }

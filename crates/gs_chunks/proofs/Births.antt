@@ -57,7 +57,7 @@ module _ {D : Type 0} (config : Config) (bytes : ReqId → List ℕ) (chunk : �
       by_once (inr (inr r)) = absurd (none_back a.durable d calm (rows.back r.later).0)
 
   -- but for that of the birth none stood
-  none_stood : (t : ℕ) → v.known.stood t ≡ true → v.known.born < t → ⊥
+  pub none_stood : (t : ℕ) → v.known.stood t ≡ true → v.known.born < t → ⊥
   none_stood t stood late = (let at : t ≡ start_of b.epoch = eqb-true t (start_of b.epoch) (ap (λ f. f t) (sym keeps.stood) ∙ stood) in let born : v.known.born ≡ start_of b.epoch = later.born in omega arith)
 
   -- and none is told
@@ -96,6 +96,7 @@ module _ {D : Type 0} (config : Config) (bytes : ReqId → List ℕ) (chunk : �
     counts = counts_still config bytes chunk step old new a d (world_of b) v reached leads shows (masters_leave (world_of b) v leads masters).reached (λ j t. blank.reached j (stamp_at t));
     before = λ e upgrading was. absurd (never_known was);
     late = λ x there. absurd (let gone = none_told in cc);
+    shown = λ x there. absurd (let gone = none_told in cc);
     first = λ known there. keeps.view ∙ sym later.born;
     copied = birth_copied none messages moment posted copies;
   }

@@ -1,5 +1,5 @@
 -- An edit that a client was told done was numbered once, or passed a full chunk; and it stays.
-use Rattle.std.proofs.Common.{◌≡◌, ◌≢◌, ◌∙◌, ◌++◌, ◌+◌, ◌<◌, ◌≤◌, inl, inr, ℕ, false, true, List, [], ◌∷◌, length, take, None, Option, Some, refl, sym, ap, subst, arith, append_assoc}
+use Rattle.std.proofs.Common.{◌≡◌, ◌≢◌, ◌∙◌, ◌++◌, ◌+◌, ◌<◌, ◌≤◌, inl, inr, ℕ, Bool, cond, false, true, List, [], ◌∷◌, length, take, None, Option, Some, refl, sym, ap, subst, arith, append_assoc}
 use Rattle.std.specs.Prelude.{◌==◌, is_some, slice_get}
 use Rattle.std.specs.FinMap as fin
 use Rattle.std.proofs.lemmas.Bool.{cases_lt, true≢false}
@@ -20,36 +20,46 @@ use Rattle.gs_chunk.proofs.Lists.{at_end, at_front, take_at, take_from, take_wit
 use Rattle.gs_chunk.proofs.Stamps.{epoch_of-le, epoch_of-start}
 use Rattle.gs_chunk.proofs.Stays.{one_place}
 use Rattle.gs_chunk.proofs.Worlds.{WorldOk, leads_later, leads_world, said}
-use Rattle.gs_chunk.specs.Laws.{StandsStill, WasUndone, settled, settled_count}
+use Rattle.gs_chunk.specs.Laws.{Birth, StandsStill, WasUndone, settled, settled_count}
 use Rattle.gs_chunk.specs.Machine as machine
 use Rattle.gs_chunk.specs.Machine.{World}
+use Rattle.gs_chunk.specs.Owning.{AreOwn}
 use Rattle.gs_chunk.specs.Stamps.{epoch_of, stamp_at, start_of}
 use Rattle.gs_laws.specs.Promises.{IsKept}
 use Rattle.gs_lease.specs.declared.view.View.{View}
 use Rattle.gs_lift.proofs.Accounts.{list_begins}
 use Rattle.gs_lift.proofs.Numbered.{any_of}
+use Rattle.gs_lift.proofs.Passing.{passed_has_none}
 use Rattle.gs_lift.specs.Accounts.{BeginsList}
-use Rattle.gs_lift.specs.Numbered.{StandsFirst, any_stamp, asked_under}
+use Rattle.gs_lift.specs.Numbered.{StandsFirst, any_stamp, asked_under, stamp_in}
+use Rattle.gs_lift.specs.Answers.{HasPassed}
+use Rattle.gs_lift.specs.Going.{AllSent}
+use Rattle.gs_lift.specs.Owning.{IsAskedEdit, WasAskedFor}
+use Rattle.gs_lift.specs.Saying.{PushRight}
 use Rattle.gs_lift.specs.Showing.{setting}
 use Rattle.gs_lift.specs.Telling.{EditsStandFirst}
 use Rattle.gs_lift.specs.Waiting.{AsksFor}
-use Rattle.gs_member.proofs.Reading.{answered_stays}
+use Rattle.gs_member.proofs.Reading.{answered_stays, passed_on}
 use Rattle.gs_member.proofs.Stamps.{before_less, epoch_is, stamp_number}
 use Rattle.gs_member.specs.Answering.{IsAnswered, IsPassed}
-use Rattle.gs_member.specs.Requests.{Asked, named}
+use Rattle.gs_member.specs.Requests.{Asked, IsOfOneEdit, named}
 use Rattle.gs_member.specs.Showing.{Setting}
+use Rattle.gs_primary.specs.Numbering.{is_passed, is_too_long}
 use Rattle.gs_record.specs.declared.checkpoint.Phase.{Phase}
 use Rattle.gs_replica.specs.Stands.{Edit, outcome_at}
 use Rattle.gs_replica.specs.declared.op.Outcome.{Outcome}
+use Rattle.gs_run.proofs.Sending.{sent_still}
 use Rattle.gs_run.specs.Histories.{History}
+use Rattle.gs_run.specs.Runs.{StaySent}
 use Rattle.gs_state.specs.Applied.{view_in}
 use Rattle.gs_state.specs.Durable.{Durable, Settled as SettledRow, is_listed}
 use Rattle.gs_state.specs.Whole.{are_ends}
+use Rattle.gs_chunks.proofs.Asked.{is_asked, same_write}
 use Rattle.gs_chunks.proofs.Surviving.{both_true}
 use Rattle.gs_chunks.proofs.Viewing.{IsViewed, viewed}
-use Rattle.gs_chunks.specs.Acknowledged.{IsNumbered, IsSettledStill, PassedFull, is_undone}
+use Rattle.gs_chunks.specs.Acknowledged.{IsAskedHere, IsNumbered, IsSettledStill, PassedFull, is_undone}
 use Rattle.gs_chunks.specs.Joined.{IsSeen, SeenOn}
-use Rattle.gs_chunks.specs.SeenEdits.{SeenDonesStay}
+use Rattle.gs_chunks.specs.SeenEdits.{SeenDonesStay, WerePushed}
 
 -- ---- lists
 
@@ -62,6 +72,16 @@ front_of xs ys = take-append-le (length xs) xs ys (omega arith) ∙ take_all (le
 some_of : {X : Type 0} (o : Option X) → is_some o ≡ true → (x : X) × (o ≡ Some x)
 some_of None is = absurd (cc)
 some_of (Some x) is = (x, refl)
+
+-- ---- what was asked for
+
+-- a request asks for an edit of one chunk, under one stamp
+asked_here : (chunk handle : ℕ) (under stamp : Stamp) → cond (chunk == handle) (Some under) None ≡ Some stamp → (handle ≡ chunk) × (under ≡ stamp)
+asked_here chunk handle under stamp is = by_handle (chunk == handle) refl is
+  where
+    by_handle : (b : Bool) → (chunk == handle) ≡ b → cond b (Some under) None ≡ Some stamp → (handle ≡ chunk) × (under ≡ stamp)
+    by_handle true here same = (grind (arith, nat_tests), cc)
+    by_handle false apart none = absurd (cc)
 
 -- ---- epochs
 
@@ -84,17 +104,32 @@ module _ {D : Type 0} (x : Setup D) (bytes : ReqId → List ℕ) (chunk : ℕ) (
   ok = reached_world w first.alive.reached
 
   -- a full chunk has passed it on
-  passed : IsPassed c w outcome → PassedFull x.config.chunk a outcome
-  passed p =
-      let begins : BeginsList a.list (copied_from now.sent chunk) chunk p.before = list_begins a.list (copied_from now.sent chunk) chunk first.alive.reached.0 w p.by p.stamp p.before p.behind first.alive.reached.1 first.agrees.lists p.promised p.stands in record {
-        padded = p.padded;
-        chunk = begins.source;
-        stamp = begins.stamp;
-        count = length p.before;
-        full = ap (λ xs. length (text_of x.config.chunk xs)) (ap (take (length p.before)) begins.beginning ∙ front_of p.before begins.behind) ∙ p.full;
-      }
+  module _ (asked : ℕ → Asked) (req : ReqId) (told : EditsStandFirst x.seen x.config bytes asked w.known chunk) (one : AllSent (IsOfOneEdit asked) now.sent) (has : HasPassed asked chunk now.sent c w req outcome) where
+    none_stands : (under : Stamp) (place : ℕ) (edit : Edit) → slice_get (a.list chunk under) place ≡ Some edit → edit.req ≢ req
+    none_stands under place edit stands = elim (first.agrees.others under) [
+      | inl none ↦ absurd (let nothing : slice_get (a.list chunk under) place ≡ None = ap (λ xs. slice_get xs place) none in cc)
+      | inr (u, at_u, late, stood, same) ↦ passed_has_none x.seen x.config bytes asked first.alive.reached.0.epoch chunk now.sent w req outcome told has u place edit (subst (λ xs. slice_get xs place ≡ Some edit) same stands)
+    ]
 
-  module _ (asked : ℕ → Asked) (me : ℕ) (req : ReqId) (told : EditsStandFirst x.seen x.config bytes asked w.known chunk) (asks : AsksFor asked chunk req) (answer : IsAnswered c w me req outcome) where
+    passed : PassedFull x.config.chunk now.sent a chunk req outcome
+    passed =
+        let p : IsPassed c w has.under req has.op outcome = has.passed in
+        let begins : BeginsList a.list (copied_from now.sent chunk) chunk p.before = list_begins a.list (copied_from now.sent chunk) chunk first.alive.reached.0 w p.by p.stamp p.before p.behind first.alive.reached.1 first.agrees.lists p.promised p.stands in record {
+          padded = p.padded;
+          was = (has.message, has.under, has.op, has.was, has.says);
+          asked = λ message handle under op was says.
+              let e = (one was.0 message was.1).edits handle req under op says in
+              let same = same_write handle chunk e.0 has.members e.1 has.primary under has.under op has.op _ _ (sym e.2 ∙ has.asks) in
+              (same.0, ap (is_too_long x.config.chunk) same.2 ∙ p.short, ap (is_passed x.config.chunk x.config.chunk) same.2 ∙ p.passed);
+          source = begins.source;
+          stamp = begins.stamp;
+          own = begins.own;
+          count = length p.before;
+          full = ap (λ xs. length (text_of x.config.chunk xs)) (ap (take (length p.before)) begins.beginning ∙ front_of p.before begins.behind) ∙ p.full;
+          none = none_stands;
+        }
+
+  module _ (asked : ℕ → Asked) (me : ℕ) (req : ReqId) (told : EditsStandFirst x.seen x.config bytes asked w.known chunk) (right : AllSent (PushRight bytes) now.sent) (one : AllSent (IsOfOneEdit asked) now.sent) (heard : AreOwn (λ before edit. WasAskedFor now.sent edit) w.known) (pushed : WerePushed now.sent a chunk) (asks : AsksFor asked chunk req) (answer : IsAnswered c w me req outcome) where
     abbrev t : ℕ
     t = answer.stamp
 
@@ -151,7 +186,21 @@ module _ {D : Type 0} (x : Setup D) (bytes : ReqId → List ℕ) (chunk : ℕ) (
           absurd (omega arith)
     ]
 
-    numbered : IsNumbered x.config.chunk a chunk req outcome
+    -- it is the one that was asked for
+    own : IsAskedEdit bytes asked x.config.chunk (take place (a.list chunk (stamp_at number))) edit
+    own = subst (λ xs. IsAskedEdit bytes asked x.config.chunk (take place xs) edit) (sym list_is) (told.own number place edit at_number)
+
+    own_here : (own.handle ≡ chunk) × (own.stamp ≡ under.0)
+    own_here = asked_here chunk own.handle own.stamp under.0 (ap (stamp_in chunk) (sym own.asks ∙ ap (named asked) answer.req) ∙ under.1)
+
+    is_asked_here : IsAskedHere x.config.chunk now.sent chunk req (stamp_at number) (take place (a.list chunk (stamp_at number))) edit
+    is_asked_here =
+        subst (λ s. IsAskedHere x.config.chunk now.sent chunk req s (take place (a.list chunk (stamp_at number))) edit) (own_here.1 ∙ f.is)
+        (subst (λ h. IsAskedHere x.config.chunk now.sent h req own.stamp (take place (a.list chunk (stamp_at number))) edit) own_here.0
+        (subst (λ r. IsAskedHere x.config.chunk now.sent own.handle r own.stamp (take place (a.list chunk (stamp_at number))) edit) answer.req
+        (is_asked bytes asked x.config.chunk now.sent right one (take place (a.list chunk (stamp_at number))) edit own (heard number place edit at_number) (pushed (stamp_at number) place edit (ap (λ xs. slice_get xs place) list_is ∙ at_number)))))
+
+    numbered : IsNumbered x.config.chunk now.sent a chunk req outcome
     numbered = record {
       stamp = stamp_at number;
       place = place;
@@ -162,6 +211,7 @@ module _ {D : Type 0} (x : Setup D) (bytes : ReqId → List ℕ) (chunk : ℕ) (
         once = λ other another stands is. one_place w.known ok.known number place other edit another at_number (ap (λ xs. slice_get xs other) (sym list_is) ∙ stands) (ap (λ r. r.client.0) (is ∙ sym answer.req)) (ap (λ r. r.number) (is ∙ sym answer.req));
       };
       first = none_lower;
+      asked = is_asked_here;
       answered = answer.is ∙ ap (λ xs. outcome_at edit.op (length (text_of x.config.chunk xs))) (sym (ap (take place) list_is ∙ before_it));
     }
 
@@ -287,9 +337,27 @@ module _ {D : Type 0} (x : Setup D) (bytes : ReqId → List ℕ) (chunk : ℕ) (
         | inr still ↦ settled_still still
       ]
 
+-- ---- what was passed, later
+
+module _ {D : Type 0} (x : Setup D) (bytes : ReqId → List ℕ) (asked : ℕ → Asked) (chunk : ℕ) (req : ReqId) (outcome : Outcome) (now later : History D) (a b : Account)
+    (first : IsSeen x bytes chunk now a) (last : IsSeen x bytes chunk later b) (on : SeenOn x bytes chunk now a later b first last) (stays : StaySent now.sent later.sent) where
+  passed_still : HasPassed asked chunk now.sent (setting x.config bytes first.alive.reached.0.epoch) first.alive.world req outcome → HasPassed asked chunk later.sent (setting x.config bytes last.alive.reached.0.epoch) last.alive.world req outcome
+  passed_still has = subst (λ epoch. HasPassed asked chunk later.sent (setting x.config bytes epoch) last.alive.world req outcome) (sym (ap (λ (z : Birth). z.epoch) on.same)) (record {
+    members = has.members;
+    primary = has.primary;
+    under = has.under;
+    op = has.op;
+    bytes = has.bytes;
+    asks = has.asks;
+    message = has.message;
+    was = sent_still has.message now.sent later.sent stays has.was;
+    says = has.says;
+    passed = passed_on (setting x.config bytes first.alive.reached.0.epoch) first.alive.world last.alive.world first.alive.reached on.leads has.under req has.op outcome has.passed;
+  })
+
 pub dones_stay : {D : Type 0} (x : Setup D) (bytes : ReqId → List ℕ) → SeenDonesStay x bytes
 unfolding f numbered
-dones_stay x bytes asked chunk me req outcome now later a b first last on told asks kept has = elim has [
-  | inr p ↦ inl (passed x bytes chunk now a first outcome p)
-  | inl answer ↦ inr (numbered x bytes chunk now a first outcome asked me req told asks answer, λ listed spared. stays x bytes chunk now a first outcome asked me req told asks answer later b last on kept listed spared)
+dones_stay x bytes asked chunk me req outcome now later a b first last on stays_sent told told_later right one one_later heard pushed asks kept has = elim has [
+  | inr has ↦ inl (passed x bytes chunk now a first outcome asked req told one has, passed x bytes chunk later b last outcome asked req told_later one_later (passed_still x bytes asked chunk req outcome now later a b first last on stays_sent has))
+  | inl answer ↦ inr (numbered x bytes chunk now a first outcome asked me req told right one heard pushed asks answer, λ listed spared. stays x bytes chunk now a first outcome asked me req told right one heard pushed asks answer later b last on kept listed spared)
 ]

@@ -1,7 +1,6 @@
 -- What a member of a view gives that was told of a chunk is legal.
 use Rattle.std.proofs.Common.{◌≡◌, ◌∙◌, ◌++◌, ◌+◌, ◌<◌, ◌≤◌, ◌⊎◌, inl, inr, ℕ, zero, suc, Bool, false, true, List, [], length, None, Option, Some, Result, Ok, Err, refl, sym, ap, subst, arith, append_assoc, slice_get, slice_set}
 use Rattle.std.specs.Prelude.{Contains, MatchOption}
-use Rattle.std.specs.List.{AllByRecursion}
 use Rattle.std.proofs.lemmas.Bool.{cases_lt}
 use Rattle.std.proofs.lemmas.List.{take-append-drop}
 use Rattle.std.specs.Prelude.{drop}
@@ -27,21 +26,15 @@ use Rattle.gs_chunk.specs.Stamps.{stamp_at}
 use Rattle.gs_entry.proofs.Stamps.{of_member}
 use Rattle.gs_lease.specs.declared.view.View.{View}
 use Rattle.gs_lift.proofs.Accounts.{no_front}
-use Rattle.gs_lift.proofs.Serving.{is_shown}
 use Rattle.gs_lift.specs.Accounts.{IsUnseen}
 use Rattle.gs_master.specs.declared.turn.Turn.{Turn}
 use Rattle.gs_member.proofs.Holding.{legal_read}
-use Rattle.gs_member.proofs.Reading.{fetch_read}
 use Rattle.gs_member.proofs.Stamps.{before_less}
 use Rattle.gs_member.proofs.Lists.{nil_contains}
-use Rattle.gs_member.proofs.Ticks.{one_of_all}
-use Rattle.gs_member.specs.Moving.{IsShown}
-use Rattle.gs_member.specs.Reading.{GivesOf, IsRead, Reads, ReadsBody}
+use Rattle.gs_member.specs.Reading.{GivesOf, IsRead}
 use Rattle.gs_member.specs.Showing.{Setting, setting_of}
 use Rattle.gs_msg.specs.declared.body.Given.{Given}
-use Rattle.gs_msg.specs.declared.body.Given.TheVariants as givens
 use Rattle.gs_msg.specs.declared.chunk.Asked.{Asked}
-use Rattle.gs_msg.specs.declared.chunk.Asked.TheVariants as asks
 use Rattle.gs_msg.specs.declared.event.Event.{Event}
 use Rattle.gs_msg.specs.declared.event.Happening.TheVariants as happenings
 use Rattle.gs_msg.specs.declared.event.DiskId.{DiskId}
@@ -57,6 +50,7 @@ use Rattle.gs_server.specs.Servers as servers
 use Rattle.gs_world.specs.Happenings.{Delivers, Hears, ServerDoes}
 use Rattle.gs_world.specs.Nodes.{Nodes, with_servers}
 use Rattle.gs_world.specs.declared.place.MasterPlace.{MasterPlace}
+use Rattle.gs_chunks.proofs.Given.{given_so, read_of_member}
 use Rattle.gs_chunks.proofs.Viewing.{IsViewed, viewed}
 use Rattle.gs_chunks.specs.Joined.{IsSeen, SeenOn}
 use Rattle.gs_chunks.specs.Reading.{Gives, IsFetch, IsLegalRead, IsLookedUp, given_of, sent_at}
@@ -64,14 +58,14 @@ use Rattle.gs_chunks.specs.SeenReads.{SeenReadsAreLegal}
 
 -- ---- what a server sends where a message is delivered to it
 
-nothing_given : {Z : Type 0} (sent : List Message) (m : Message) → sent ≡ [] → Contains sent m → Z
+pub nothing_given : {Z : Type 0} (sent : List Message) (m : Message) → sent ≡ [] → Contains sent m → Z
 nothing_given sent m none there = nil_contains m (subst (λ xs. Contains xs m) none there)
 
 -- something is sent at a delivery to a server: there is one, and it sends what it does
-record IsServed {D : Type 0} (now : Nodes D) (id : ℕ) (message : Message) (moment : Moment) (outcome : Outcome) : Type 0 where
-  server : Server
-  found : slice_get now.servers id ≡ Some server
-  sends : sent_at outcome ≡ (servers.handle server message moment).sent
+pub record IsServed {D : Type 0} (now : Nodes D) (id : ℕ) (message : Message) (moment : Moment) (outcome : Outcome) : Type 0 where
+  pub server : Server
+  pub found : slice_get now.servers id ≡ Some server
+  pub sends : sent_at outcome ≡ (servers.handle server message moment).sent
 
 module _ {D : Type 0} (seen : D → List ℕ) (failures : D → ℕ) (armed : DiskId → ℕ → MasterPlace D → MasterPlace D) (now new : Nodes D) (message : Message) (moment : Moment) (m : Message) where
   by_does : (id : ℕ) (s after : Server) (turn : Result Turn Refusal) (outcome : Outcome) → slice_get now.servers id ≡ Some s → ServerDoes (servers.handle s message moment) s turn after → outcome ≡ told turn → Contains (sent_at outcome) m → IsServed now id message moment outcome
@@ -92,25 +86,14 @@ module _ {D : Type 0} (seen : D → List ℕ) (failures : D → ℕ) (armed : Di
   by_coming id by outcome to (inr (refused, same)) there = nothing_given (sent_at outcome) m (ap sent_at refused) there
 
 -- an event at which a message is delivered to a server
-served : {D : Type 0} (seen : D → List ℕ) (failures : D → ℕ) (armed : DiskId → ℕ → MasterPlace D → MasterPlace D) (event : Event) (now next : History D) (said : Result (Unit {0}) Refusal) (happens : Happens seen failures armed event now said next) (at : MsgId) (message : Message) (id : ℕ) (m : Message)
+pub served : {D : Type 0} (seen : D → List ℕ) (failures : D → ℕ) (armed : DiskId → ℕ → MasterPlace D → MasterPlace D) (event : Event) (now next : History D) (said : Result (Unit {0}) Refusal) (happens : Happens seen failures armed event now said next) (at : MsgId) (message : Message) (id : ℕ) (m : Message)
     → event.happening ≡ happenings.Deliver at → message_of now.sent at ≡ Some message → message.to ≡ nodes.Server id → Contains (sent_at happens.outcome) m → IsServed now.nodes id message event.moment happens.outcome
 served seen failures armed event now next said happens at message id m is found to there =
     by_coming seen failures armed now.nodes next.nodes message event.moment m id happens.by happens.outcome to
     (subst (λ o. MatchOption o ((happens.outcome ≡ Err refusals.Range) × (next.nodes ≡ now.nodes)) (λ message. ComesTo seen failures armed message event.moment now.nodes happens.by happens.outcome next.nodes)) found
     (subst (λ h. AtNode seen failures armed event.moment h now happens.by happens.outcome next.nodes) is happens.at)) there
 
--- ---- what was asked for
-
-given_so : (c : Setting) (text : List ℕ) (asked : Asked) (given : Given) → GivesOf c text asked given → given ≡ given_of c.block text asked
-given_so c text (asks.Bytes offset many) (givens.Bytes part) is = ap givens.Bytes is
-given_so c text asks.Length (givens.Length many) is = ap givens.Length is
-given_so c text (asks.Digest block) (givens.Digest found) is = ap givens.Digest is
-given_so c text (asks.Bytes offset many) (givens.Length found) is = absurd is
-given_so c text (asks.Bytes offset many) (givens.Digest found) is = absurd is
-given_so c text asks.Length (givens.Bytes part) is = absurd is
-given_so c text asks.Length (givens.Digest found) is = absurd is
-given_so c text (asks.Digest block) (givens.Bytes part) is = absurd is
-given_so c text (asks.Digest block) (givens.Length many) is = absurd is
+-- ---- stamps
 
 no_less : (a b : ℕ) → b ≤ a → is_before (stamp_at a) (stamp_at b) ≡ false
 no_less a b more = by_case (is_before (stamp_at a) (stamp_at b)) refl
@@ -214,18 +197,13 @@ module _ {D : Type 0} (x : Setup D) (bytes : ReqId → List ℕ) (chunk epoch : 
     abbrev c : Setting
     c = setting_of bytes last.alive.reached.0.epoch s
 
-    shown : IsShown c chunk v s
-    shown = is_shown x.seen x.config bytes last.alive.reached.0.epoch chunk now v last.alive.reached (record { members = last.alive.shows.members; sent = last.alive.shows.sent }) last.keeps last.apart id s serves.found
+    read : IsRead c v s.me epoch view.stamp asked given
+    read =
+        read_of_member x bytes chunk now b last id s serves.found message.from req view.stamp epoch asked event.moment given
+        (subst (λ sent. Gives sent req given) (serves.sends ∙ ap (λ body. (servers.handle_body s message.from body event.moment).sent) fetch.7) gives)
 
     me : s.me ≡ id
     me = (last.keeps.servers id s serves.found).me
-
-    read : IsRead c v s.me epoch view.stamp asked given
-    read =
-        let all : AllByRecursion (Reads c v s.me epoch view.stamp asked) (sent_at happens.outcome) =
-        subst (AllByRecursion (Reads c v s.me epoch view.stamp asked)) (sym (serves.sends ∙ ap (λ body. (servers.handle_body s message.from body event.moment).sent) fetch.7))
-        (fetch_read bytes last.alive.reached.0.epoch chunk v s shown message.from req view.stamp epoch asked event.moment) in
-        subst (ReadsBody c v s.me epoch view.stamp asked) gives.2 (one_of_all (Reads c v s.me epoch view.stamp asked) (sent_at happens.outcome) gives.0 all gives.1)
 
     member : machine.is_member w s.me ≡ true
     member = ap (λ xs. is_of xs s.me) at_look.shows.members ∙ of_member view.members s.me ∙ ap (is_member view.members) me ∙ fetch.6

@@ -11,11 +11,12 @@ use Rattle.gs_account.specs.Accounts.{Account, text_of, view_at}
 use Rattle.gs_account.specs.Running.{IsGiven, IsReached, Moves, Runs, Setup}
 use Rattle.gs_account.proofs.Told.{reached_sound}
 use Rattle.gs_block.specs.Written.{TellsApart}
+use Rattle.gs_chunk.specs.Owning.{AreOwn}
 use Rattle.gs_lease.specs.declared.view.View.{View}
 use Rattle.gs_lift.proofs.AskingRuns.{of_one_edit, pushes_right}
 use Rattle.gs_lift.proofs.Running.{before}
 use Rattle.gs_lift.proofs.Telling.{asks_one, tells_first}
-use Rattle.gs_lift.specs.Answers.{HasDone, HasDoneBody}
+use Rattle.gs_lift.specs.Answers.{HasDone, HasDoneBody, HasPassed}
 use Rattle.gs_lift.specs.Doing.{HasDurable}
 use Rattle.gs_lift.specs.Asking.{AreAskedIn}
 use Rattle.gs_lift.specs.Going.{AllSent, heard_in}
@@ -24,10 +25,11 @@ use Rattle.gs_lift.specs.Living.{GoesOn}
 use Rattle.gs_lift.specs.Saying.{PushRight}
 use Rattle.gs_lift.specs.Showing.{IsAlive, Life, setting}
 use Rattle.gs_lift.specs.Numbered.{asked_under}
-use Rattle.gs_lift.specs.Telling.{EditsStandFirst}
+use Rattle.gs_lift.specs.Owning.{WasAskedFor}
+use Rattle.gs_lift.specs.Telling.{AskedIn, EditsStandFirst}
 use Rattle.gs_lift.specs.Waiting.{AsksFor}
 use Rattle.gs_lift.proofs.Mastering.{both}
-use Rattle.gs_member.specs.Answering.{IsAnswered, IsPassed}
+use Rattle.gs_member.specs.Answering.{IsAnswered}
 use Rattle.gs_member.proofs.Stamps.{neither_same, same_stamp}
 use Rattle.gs_member.specs.Requests.{Asked, IsOfOneEdit, bytes_in}
 use Rattle.gs_moves.specs.Epochs.{Begun, Committed, EpochGoes, Finalized, Prepared, Stays, prepares}
@@ -38,11 +40,14 @@ use Rattle.gs_record.specs.declared.checkpoint.Phase.{Phase}
 use Rattle.gs_record.specs.declared.checkpoint.Phase.TheVariants.{Ordinary, Rolling, Upgrade}
 use Rattle.gs_run.proofs.Reaching.{HaveSizes}
 use Rattle.gs_run.specs.Histories.{History}
-use Rattle.gs_run.specs.Runs.{Step}
+use Rattle.gs_run.specs.Runs.{StaySent, Step}
+use Rattle.gs_run.specs.Sent.{Sent}
 use Rattle.gs_state.specs.Applied.{view_in}
 use Rattle.gs_state.specs.Chunks.{members_in}
 use Rattle.gs_state.specs.Durable.{Durable, Settled, is_listed, is_ordinary, is_upgrade, prepared_view, upgrade_epoch}
 use Rattle.gs_theorems.specs.Saying.{KeepsTypes}
+use Rattle.gs_chunks.proofs.Copying.{seen_inherits}
+use Rattle.gs_chunks.proofs.Asked.{edits_were_asked}
 use Rattle.gs_chunks.proofs.Done.{dones_stay}
 use Rattle.gs_chunks.proofs.Durables.{told_is_had}
 use Rattle.gs_chunks.proofs.Edits.{AreNumbered}
@@ -52,13 +57,15 @@ use Rattle.gs_chunks.proofs.Naming.{seen_survivors_name}
 use Rattle.gs_chunks.proofs.Preparing.{prepares_settled}
 use Rattle.gs_chunks.proofs.Quiet.{AreCalled, seen_still}
 use Rattle.gs_chunks.proofs.Reached.{run_stays}
-use Rattle.gs_chunks.proofs.Runs.{both_seen, keeps_told, living_listed, living_told, seen_next, seen_of}
+use Rattle.gs_chunks.proofs.Runs.{both_seen, keeps_told, living_copied, living_listed, living_told, seen_next, seen_of}
 use Rattle.gs_chunks.proofs.Seeing.{SeesNext, each_is_seen, each_sees_on, sees_step}
 use Rattle.gs_chunks.proofs.Standing.{seen_stands, unborn_none}
 use Rattle.gs_chunks.proofs.Surviving.{seen_survivors_keep}
+use Rattle.gs_chunks.specs.Copying.{CopiesInherit}
 use Rattle.gs_chunks.specs.Acknowledged.{DoneStays, IsNumbered, IsSettledStill, PassedFull, RepeatsAreAlike, WasDone, is_undone}
 use Rattle.gs_chunks.specs.Joined.{SeenSince}
 use Rattle.gs_chunks.specs.Reading.{ReadsAreLegal}
+use Rattle.gs_chunks.specs.SeenEdits.{WerePushed}
 use Rattle.gs_chunks.specs.Sealing.{SurvivorsKeepTheirText, SurvivorsName}
 use Rattle.gs_chunks.specs.Seeing.{Sees, SeesBoth, SeesOn}
 use Rattle.gs_chunks.specs.Standing.{IsBeginningOf, QuietStaysStill, ReplicasStand}
@@ -87,8 +94,8 @@ view_told (Some y) view is = refl
 -- ---- one request is numbered once
 
 -- under one stamp, since no list of a lower one has its edit
-numbered_under : (size : ℕ) (a : Account) (chunk : ℕ) (req : ReqId) (one other : Outcome) (p : IsNumbered size a chunk req one) (q : IsNumbered size a chunk req other) → q.stamp ≡ p.stamp
-numbered_under size a chunk req one other p q = by_order (is_before p.stamp q.stamp) (is_before q.stamp p.stamp) refl refl
+numbered_under : (size : ℕ) (sent : Sent) (a : Account) (chunk : ℕ) (req : ReqId) (one other : Outcome) (p : IsNumbered size sent a chunk req one) (q : IsNumbered size sent a chunk req other) → q.stamp ≡ p.stamp
+numbered_under size sent a chunk req one other p q = by_order (is_before p.stamp q.stamp) (is_before q.stamp p.stamp) refl refl
   where
     by_order : (first second : Bool) → is_before p.stamp q.stamp ≡ first → is_before q.stamp p.stamp ≡ second → q.stamp ≡ p.stamp
     by_order true second lower order = absurd (q.first p.stamp p.place p.once.edit lower p.once.stands p.once.is)
@@ -99,9 +106,9 @@ same_edit : (one other : Edit) → Some one ≡ Some other → one ≡ other
 same_edit one other is = cc
 
 -- at one place, with one outcome
-numbered_alike : (size : ℕ) (a : Account) (chunk : ℕ) (req : ReqId) (one other : Outcome) → IsNumbered size a chunk req one → IsNumbered size a chunk req other → one ≡ other
-numbered_alike size a chunk req one other p q =
-    let under : q.stamp ≡ p.stamp = numbered_under size a chunk req one other p q in
+numbered_alike : (size : ℕ) (sent : Sent) (a : Account) (chunk : ℕ) (req : ReqId) (one other : Outcome) → IsNumbered size sent a chunk req one → IsNumbered size sent a chunk req other → one ≡ other
+numbered_alike size sent a chunk req one other p q =
+    let under : q.stamp ≡ p.stamp = numbered_under size sent a chunk req one other p q in
     let stands : slice_get (a.list chunk p.stamp) q.place ≡ Some q.once.edit = subst (λ s. slice_get (a.list chunk s) q.place ≡ Some q.once.edit) under q.once.stands in
     let place : q.place ≡ p.place = p.once.once q.place q.once.edit stands q.once.is in
     let edit : q.once.edit ≡ p.once.edit = same_edit q.once.edit p.once.edit (sym stands ∙ ap (λ n. slice_get (a.list chunk p.stamp) n) place ∙ p.once.stands) in
@@ -119,7 +126,7 @@ asks_one_chunk asked chunk other req asks also = by_stamp (asked_under asked chu
 
 module _ (sizes : HaveSizes) (law : AreNumbered) {D : Type 0} (x : Setup D) where
   pub replicas_stand : ReplicasStand x
-  replicas_stand now a id chunk s l number r found live = by_life (sees.2.lives.life chunk) refl
+  replicas_stand now a id chunk s l r found live = by_life (sees.2.lives.life chunk) refl
     where
       sees : (asked : ℕ → Asked) × AreAskedIn asked now × Sees x asked now a
       sees = each_is_seen sizes law x now a r
@@ -129,7 +136,7 @@ module _ (sizes : HaveSizes) (law : AreNumbered) {D : Type 0} (x : Setup D) wher
       by_life (inr alive) is = seen_stands x (bytes_in sees.0) now a id chunk s l (seen_of x sees.0 now a sees.2 r.apart chunk alive is).0 found live
 
   pub quiet_stays_still : AreCalled → QuietStaysStill x
-  quiet_stays_still called now a id chunk view s number r quiet member found =
+  quiet_stays_still called now a id chunk view s r quiet member found =
       let sees = each_is_seen sizes law x now a r in
       let living = living_told x sees.0 now a sees.2 chunk (ap is_some quiet.told) in
       seen_still called x (bytes_in sees.0) now a id chunk view s (seen_of x sees.0 now a sees.2 r.apart chunk living.0 living.1).0 quiet member found
@@ -137,55 +144,71 @@ module _ (sizes : HaveSizes) (law : AreNumbered) {D : Type 0} (x : Setup D) wher
   -- ---- in two worlds
 
   pub reads_legal : ReadsAreLegal x
-  reads_legal looked now next a b c steps event said chunk epoch view req asked given number r is runs moves happens fetch gives =
+  reads_legal looked now next a b c steps event said chunk epoch view req asked given r is runs moves happens fetch gives =
       let sees = each_sees_on sizes law x looked now a b steps r runs in
       let living = living_told x sees.asked looked a sees.first chunk (view_told (fin.get a.durable.chunks chunk) view is.settled) in
       let seen = both_seen x sees.asked looked now a b sees.first sees.last r.apart chunk (sees.on chunk) living.0 living.1 in
       reads_are_legal x (bytes_in sees.asked) looked now next a b event said chunk epoch view req asked given seen.first seen.last seen.on is happens fetch gives
 
-  -- what a client was told done was numbered, and stays settled, of a chunk for which its request asks; or it passed a full chunk
-  abbrev DoneIn : (asked : ℕ → Asked) → Account → Account → ReqId → Outcome → Type 0
-  DoneIn asked a b req outcome = PassedFull x.config.chunk a outcome
-      ⊎ ((chunk : ℕ) × AsksFor asked chunk req × ((numbered : IsNumbered x.config.chunk a chunk req outcome)
+  pub copies_inherit : CopiesInherit x
+  copies_inherit now later a b steps chunk source at view r copied runs told =
+      let sees = each_sees_on sizes law x now later a b steps r runs in
+      let living = living_copied x sees.asked now a sees.first chunk source at copied in
+      let seen = both_seen x sees.asked now later a b sees.first sees.last r.apart chunk (sees.on chunk) living.0 living.1 in
+      seen_inherits x (bytes_in sees.asked) chunk source at now later a b view seen.first seen.last seen.on copied told
+
+  -- what a client was told done was numbered, and stays settled, of a chunk for which its request asks; or it passed that chunk, which was full
+  abbrev DoneIn : (asked : ℕ → Asked) → Sent → Sent → Account → Account → ReqId → Outcome → Type 0
+  DoneIn asked sent then a b req outcome = (chunk : ℕ) × AsksFor asked chunk req × ((PassedFull x.config.chunk sent a chunk req outcome × PassedFull x.config.chunk then b chunk req outcome)
+      ⊎ ((numbered : IsNumbered x.config.chunk sent a chunk req outcome)
       × (is_listed b.durable chunk ≡ true → is_undone b.durable numbered.stamp ≡ false → IsSettledStill a b chunk req numbered.stamp numbered.place)))
 
-  done_in : (now later : History D) (a b : Account) (req : ReqId) (outcome : Outcome) → TellsApart x.among → (sees : SeesBoth x now a later b) → WasDone now.sent req outcome → DoneIn sees.asked a b req outcome
-  done_in now later a b req outcome apart sees (message, (id, is), says) = by_done (subst (HasDoneBody x.seen x.config (bytes_in sees.asked) sees.asked now sees.first.lives.life) says (sees.first.tells.dones id message is))
+  done_in : (now later : History D) (a b : Account) (req : ReqId) (outcome : Outcome) → TellsApart x.among → (sees : SeesBoth x now a later b) → StaySent now.sent later.sent → ((chunk : ℕ) → WerePushed now.sent a chunk) → WasDone now.sent req outcome → DoneIn sees.asked now.sent later.sent a b req outcome
+  done_in now later a b req outcome apart sees stays pushed (message, (id, is), says) = by_done (subst (HasDoneBody x.seen x.config (bytes_in sees.asked) sees.asked now sees.first.lives.life) says (sees.first.tells.dones id message is))
     where
-      by_life : (chunk : ℕ) → AsksFor sees.asked chunk req → (life : Life x.seen x.config (bytes_in sees.asked) chunk now) → sees.first.lives.life chunk ≡ life → HasDone x.seen x.config (bytes_in sees.asked) chunk now life req outcome → DoneIn sees.asked a b req outcome
+      by_life : (chunk : ℕ) → AsksFor sees.asked chunk req → (life : Life x.seen x.config (bytes_in sees.asked) chunk now) → sees.first.lives.life chunk ≡ life → HasDone x.seen x.config (bytes_in sees.asked) sees.asked chunk now life req outcome → DoneIn sees.asked now.sent later.sent a b req outcome
       by_life chunk asks (inl unborn) at done = absurd done
       by_life chunk asks (inr l) at (me, done) =
-          let seen = both_seen x sees.asked now later a b sees.first sees.last apart chunk (sees.on chunk) l at in
+          let here = seen_of x sees.asked now a sees.first apart chunk l at in
+          let there = seen_next x sees.asked now later a b sees.first sees.last apart chunk (sees.on chunk) here.0
+          (at ∙ ap (λ (z : IsAlive x.seen x.config (bytes_in sees.asked) chunk now). (let life : Life x.seen x.config (bytes_in sees.asked) chunk now = inr z in life)) (sym here.1)) in
           let first : EditsStandFirst x.seen x.config (bytes_in sees.asked) sees.asked l.world.known chunk = tells_first x.seen x.config (bytes_in sees.asked) sees.asked x.among now sees.first.lives sees.first.tells chunk l at in
-          elim (dones_stay x (bytes_in sees.asked) sees.asked chunk me req outcome now later a b seen.first seen.last seen.on
-          (subst (λ (z : IsAlive x.seen x.config (bytes_in sees.asked) chunk now). EditsStandFirst x.seen x.config (bytes_in sees.asked) sees.asked z.world.known chunk) (sym seen.is_first) first) asks (keeps_told x sees.asked later b sees.last)
-          (subst (λ (z : IsAlive x.seen x.config (bytes_in sees.asked) chunk now). IsAnswered (setting x.config (bytes_in sees.asked) z.reached.0.epoch) z.world me req outcome ⊎ IsPassed (setting x.config (bytes_in sees.asked) z.reached.0.epoch) z.world outcome) (sym seen.is_first) done)) [
-            | inl passed ↦ inl passed
-            | inr stays ↦ inr (chunk, asks, stays)
-          ]
+          let heard : AreOwn (λ before edit. WasAskedFor now.sent edit) l.world.known = subst (AskedIn x.seen x.config (bytes_in sees.asked) chunk now) at (sees.first.tells.asked_for chunk) in (
+            chunk,
+            asks,
+            dones_stay x (bytes_in sees.asked) sees.asked chunk me req outcome now later a b here.0 there.last there.on stays
+                (subst (λ (z : IsAlive x.seen x.config (bytes_in sees.asked) chunk now). EditsStandFirst x.seen x.config (bytes_in sees.asked) sees.asked z.world.known chunk) (sym here.1) first)
+                (tells_first x.seen x.config (bytes_in sees.asked) sees.asked x.among later sees.last.lives sees.last.tells chunk there.last.alive there.lives) sees.first.lives.pushes sees.first.tells.one sees.last.tells.one (subst (λ (z : IsAlive x.seen x.config (bytes_in sees.asked) chunk now). AreOwn (λ before edit. WasAskedFor now.sent edit) z.world.known) (sym here.1) heard) (pushed chunk) asks (keeps_told x sees.asked later b sees.last)
+                (subst (λ (z : IsAlive x.seen x.config (bytes_in sees.asked) chunk now). IsAnswered (setting x.config (bytes_in sees.asked) z.reached.0.epoch) z.world me req outcome ⊎ HasPassed sees.asked chunk now.sent (setting x.config (bytes_in sees.asked) z.reached.0.epoch) z.world req outcome) (sym here.1) done),
+          )
 
-      by_done : HasDoneBody x.seen x.config (bytes_in sees.asked) sees.asked now sees.first.lives.life (bodies.Done req (Ok outcome)) → DoneIn sees.asked a b req outcome
+      by_done : HasDoneBody x.seen x.config (bytes_in sees.asked) sees.asked now sees.first.lives.life (bodies.Done req (Ok outcome)) → DoneIn sees.asked now.sent later.sent a b req outcome
       by_done (chunk, done, asks) = by_life chunk asks (sees.first.lives.life chunk) refl done
+
+  pushed_for : (now : History D) (a : Account) → IsReached x now a → (chunk : ℕ) → WerePushed now.sent a chunk
+  pushed_for now a r chunk under place edit at = let asked = edits_were_asked sizes law x now a chunk under place edit r at in asked.2.had
 
   pub done_stays : DoneStays x
   done_stays now later a b steps req outcome r runs told =
       let sees = each_sees_on sizes law x now later a b steps r runs in
-      elim (done_in now later a b req outcome r.apart sees told) [
-        | inl passed ↦ inl passed
-        | inr (chunk, asks, stays) ↦ inr (chunk, stays.0, stays.1)
-      ]
+      let done = done_in now later a b req outcome r.apart sees (run_stays x sees.asked r.begins.given steps now later a b runs) (pushed_for now a r) told in
+      (done.0, done.2)
+
+  -- a full chunk that was passed has no edit of the request
+  done_alike : (sent : Sent) (a : Account) (chunk : ℕ) (req : ReqId) (one other : Outcome) → PassedFull x.config.chunk sent a chunk req one ⊎ IsNumbered x.config.chunk sent a chunk req one → PassedFull x.config.chunk sent a chunk req other ⊎ IsNumbered x.config.chunk sent a chunk req other → one ≡ other
+  done_alike sent a chunk req one other (inl p) (inl q) = p.padded ∙ sym q.padded
+  done_alike sent a chunk req one other (inl p) (inr q) = absurd (p.none q.stamp q.place q.once.edit q.once.stands q.once.is)
+  done_alike sent a chunk req one other (inr p) (inl q) = absurd (q.none p.stamp p.place p.once.edit p.once.stands p.once.is)
+  done_alike sent a chunk req one other (inr p) (inr q) = numbered_alike x.config.chunk sent a chunk req one other p q
 
   pub repeats_alike : RepeatsAreAlike x
   repeats_alike now a req one other r told again =
       let sees = each_sees_on sizes law x now now a a [] r (refl, refl) in
-      by_both sees (done_in now now a a req one r.apart sees told) (done_in now now a a req other r.apart sees again)
-    where
-      by_both : (sees : SeesBoth x now a now a) → DoneIn sees.asked a a req one → DoneIn sees.asked a a req other → PassedFull x.config.chunk a one ⊎ (PassedFull x.config.chunk a other ⊎ (one ≡ other))
-      by_both sees (inl passed) done = inl passed
-      by_both sees (inr numbered) (inl passed) = inr (inl passed)
-      by_both sees (inr (chunk, asks, first)) (inr (another, also, then)) =
-          let same : another ≡ chunk = asks_one_chunk sees.asked chunk another req asks also in
-          inr (inr (numbered_alike x.config.chunk a chunk req one other first.0 (subst (λ c. IsNumbered x.config.chunk a c req other) same then.0)))
+      let first = done_in now now a a req one r.apart sees (λ id message is. is) (pushed_for now a r) told in
+      let then = done_in now now a a req other r.apart sees (λ id message is. is) (pushed_for now a r) again in
+      let same : then.0 ≡ first.0 = asks_one_chunk sees.asked first.0 then.0 req first.1 then.1 in
+      done_alike now.sent a first.0 req one other (elim first.2 [ inl passed ↦ inl passed.0 | inr stays ↦ inr stays.0 ])
+      (subst (λ k. PassedFull x.config.chunk now.sent a k req other ⊎ IsNumbered x.config.chunk now.sent a k req other) same (elim then.2 [ inl passed ↦ inl passed.0 | inr stays ↦ inr stays.0 ]))
 
 -- ---- epochs
 
@@ -334,11 +357,11 @@ listed_then before now chunk id survives = (both (is_listed before.durable chunk
 
 module _ (sizes : HaveSizes) (law : AreNumbered) {D : Type 0} (x : Setup D) where
   pub survivors_keep_text : SurvivorsKeepTheirText x
-  survivors_keep_text prepared now before after chunk id view s number up survives is found =
+  survivors_keep_text prepared now before after chunk id view s up survives is found =
       let since = seen_since sizes law x prepared now before after up chunk (listed_then before after chunk id survives) in
       seen_survivors_keep x (bytes_in (sees_there sizes law x prepared now before after up).asked) prepared now before after chunk id view s since survives is found
 
   pub survivors_name : SurvivorsName x
-  survivors_name prepared now before after chunk id s number up rolling survives found at =
+  survivors_name prepared now before after chunk id s up rolling survives found at =
       let since = seen_since sizes law x prepared now before after up chunk (listed_then before after chunk id survives) in
       seen_survivors_name x (bytes_in (sees_there sizes law x prepared now before after up).asked) prepared now before after chunk id s since rolling survives found at

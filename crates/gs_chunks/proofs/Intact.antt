@@ -54,7 +54,8 @@ use Rattle.gs_chunks.proofs.Carrying.{carried_rises, masters_carry}
 use Rattle.gs_chunks.proofs.Durables.{told_is_had}
 use Rattle.gs_chunks.proofs.Upgraded.{upgrade_told, upgraded_before}
 use Rattle.gs_chunks.specs.Joined.{WasFit}
-use Rattle.gs_chunks.specs.Seeing.{IntactAt, IsIntact, StoresStayIntact}
+use Rattle.gs_chunks.specs.Joined.{IsIntact}
+use Rattle.gs_chunks.specs.Seeing.{IntactAt, StoresStayIntact}
 
 -- ---- small facts
 

@@ -16,7 +16,7 @@ use Rattle.gs_chunk.specs.Laws.{Birth, world_of}
 use Rattle.gs_lift.specs.Doing.{HasDurable}
 use Rattle.gs_lift.specs.Joint.{AtMaster, AtServer, Elsewhere, GoesBy}
 use Rattle.gs_lift.specs.Living.{ComesAlive, GoesOn, StoreLives}
-use Rattle.gs_lift.specs.Showing.{IsAlive, ShowsMaster, ShowsNodes, ShowsStore, setting}
+use Rattle.gs_lift.specs.Showing.{IsAlive, ShowsMaster, ShowsNodes, ShowsStore}
 use Rattle.gs_lift.specs.Unborn.{IsUnborn, IsUnknown}
 use Rattle.gs_account.specs.Accounts.{Account}
 use Rattle.gs_account.specs.Moving.{account_behind}
@@ -25,16 +25,13 @@ use Rattle.gs_chunks.specs.Agreeing.{Agrees, CopiesNone, CopyShows, IsBlank, Ori
 use Rattle.gs_chunks.specs.Joining.{AgreesAt, Life, StoresAgreeFirst, StoresAgreeOn}
 use Rattle.gs_chunks.proofs.Agreeing.{master_copied, masters_agree, server_copied, servers_agree, still_agrees, still_copied}
 use Rattle.gs_chunks.proofs.Births.{birth_copied, births_agree}
-use Rattle.gs_chunks.proofs.Origins.{CopiedAt, by_servers_others, of_clients_others, origin_shows, unborn_copies_none}
+use Rattle.gs_chunks.proofs.Origins.{CopiedAt, copied_same, origin_shows, unborn_copies_none}
 use Rattle.gs_entry.specs.Rows.{RowsGo}
 use Rattle.gs_lift.proofs.Beginning.{begins_told, not_given}
-use Rattle.gs_lift.proofs.Copying.{copied_beside}
-use Rattle.gs_lift.proofs.Serving.{by_server}
 use Rattle.gs_lift.specs.Accounts.{edits_copied}
 use Rattle.gs_lift.specs.Copying.{copied_from}
 use Rattle.gs_lift.specs.Going.{AllSent}
 use Rattle.gs_msg.specs.declared.message.Message.{Message}
-use Rattle.gs_msg.specs.declared.node.NodeId.TheVariants as nodes
 use Rattle.gs_chunks.proofs.Durables.{told_is_had}
 use Rattle.gs_chunks.proofs.Edits.{AreNumbered}
 use Rattle.gs_chunks.proofs.Still.{blank_stays}
@@ -94,15 +91,11 @@ module _ {D : Type 0} (x : Setup D) (bytes : ReqId → List ℕ) where
         shown_there = subst (λ (birth : Birth). ShowsNodes x.config bytes birth.epoch chunk new m.world) same (nodes_of m.shows)
 
         -- it is the copy that it was
-        copied_same : By → copied_from new.sent chunk ≡ copied_from old.sent chunk
-        copied_same (AtServer by) =
-            copied_beside chunk by.moment (nodes.Server by.id) by.messages old.sent new.sent by.posted
-            (by_servers_others chunk by.messages (by_server (setting x.config bytes l.reached.0.epoch) chunk by.steps.world by.id _ by.messages by.steps.answers))
-        copied_same (AtMaster by) = copied_beside chunk by.moment nodes.Master by.messages old.sent new.sent by.posted by.others
-        copied_same (Elsewhere still servers master by messages moment are posted) = copied_beside chunk moment by messages old.sent new.sent posted (of_clients_others chunk messages are)
+        same_copy : By → copied_from new.sent chunk ≡ copied_from old.sent chunk
+        same_copy by = copied_same x.seen x.config bytes l.reached.0.epoch chunk step old new l.world m.world by
 
         origin_kept : By → OriginShows a.list new.sent chunk l.reached.0 m.world
-        origin_kept by = ap (edits_copied a.list) (copied_same by) ∙ agrees.lists.origin
+        origin_kept by = ap (edits_copied a.list) (same_copy by) ∙ agrees.lists.origin
 
         shows_by : By → Shows b m.world
         shows_by (AtServer by) =

@@ -1,6 +1,7 @@
 pub mod Edits
 pub mod Serving
 pub mod Still
+pub mod Copied
 pub mod Copies
 pub mod Mastering
 pub mod Agreeing
@@ -17,7 +18,13 @@ pub mod Seeing
 pub mod Quiet
 pub mod Surviving
 pub mod Viewing
+pub mod Copying
 pub mod Fetching
+mod Given
+mod Giving
+mod Fetched
+mod Pushed
+pub mod Asked
 pub mod Done
 pub mod Naming
 pub mod Preparing

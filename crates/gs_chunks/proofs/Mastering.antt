@@ -23,7 +23,7 @@ use Rattle.gs_chunk.proofs.Lasting.{agrees}
 use Rattle.gs_chunk.proofs.Prepared.{prepared_rests}
 use Rattle.gs_chunk.proofs.Mastering.{masters_settle_once}
 use Rattle.gs_chunk.proofs.Worlds.{WorldOk, leads_later, leads_world}
-use Rattle.gs_chunks.specs.Agreeing.{IsCopyShown, IsOfView, OriginShows}
+use Rattle.gs_chunks.specs.Agreeing.{IsCopyShown, IsOfView, IsViewShown, OriginShows}
 use Rattle.gs_entry.specs.Rows.{IsCopiedSince, IsFirst, RowsGo}
 use Rattle.gs_chunks.proofs.Upgraded.{upgraded_before}
 use Rattle.gs_entry.specs.Showing.{ShowsDurable}
@@ -70,6 +70,24 @@ copied_same a None = refl
 copied_same a (Some source) = refl
 
 -- ---- what is known of a machine whose master did something
+
+-- a view that stood, behind which another was given back, was settled or isn't the one that was proposed
+settled_or_passed : (chunk : ℕ) (d e : Durable) (w v : World) → RowsGo chunk d e w v → RestoresList w v → (t : ℕ) → v.known.stood t ≡ true → (t ≢ w.known.top) ⊎ (w.known.view ≡ w.known.top)
+settled_or_passed chunk d e w v rows r t stood = elim (rows.back r.later).2 [
+  | inl still ↦ inr still
+  | inr never ↦ inl (λ is. true≢false (sym stood ∙ ap v.known.stood is ∙ never))
+]
+
+-- what stood then, but for a view that was settled now, stood before
+pub stood_before : (chunk : ℕ) (d e : Durable) (w v : World) → IsReached w → (leads : Leads w v) → AreOfMaster w v leads → RowsGo chunk d e w v → (t : ℕ) → v.known.stood t ≡ true → t ≢ v.known.view → w.known.stood t ≡ true
+stood_before chunk d e w v reached leads masters rows t stood other = by_once (masters_settle_once w v leads reached masters)
+  where
+    by_once : SettlesOnce w v → w.known.stood t ≡ true
+    by_once (inl k) = ap (λ f. f t) (sym k.stood) ∙ stood
+    by_once (inr (inl k)) = sym (k.stood t ∙ ap (λ b. cond b true (w.known.stood t)) (ne_eqb t w.known.top (λ is. other (is ∙ sym k.view)))) ∙ stood
+    by_once (inr (inr r)) =
+        let so = r.exact (rows.back r.later).1 in
+        sym (so.others t (settled_or_passed chunk d e w v rows r t stood) (λ is. other (is ∙ sym so.view))).1 ∙ stood
 
 module _ (chunk : ℕ) (sent : Sent) (a : Account) (e : Durable) (w v : World) (reached : IsReached w) (leads : Leads w v) (masters : AreOfMaster w v leads) (was_stamp : (x : Settled) → fin.get a.durable.chunks chunk ≡ Some x → x.view.stamp ≡ stamp_at w.entry.view.stamp) (was_rolling : w.entry.is_rolling ≡ is_rolling a.durable.phase) (shows : ShowsDurable chunk e v.entry) (rows : RowsGo chunk a.durable e w v) where
   ok : WorldOk w
@@ -343,29 +361,11 @@ module _ (chunk : ℕ) (sent : Sent) (a : Account) (e : Durable) (w v : World) (
         by_here (inr none) = absurd (true≢false (sym stands ∙ ap v.known.stood (restored r).view ∙ none.1))
         by_here (inl some) = by_row some.0 some.2 (fin.get e.chunks chunk) refl (rows.given r.later stands)
 
-    -- a view that stood, behind which another was given back, was settled or isn't the one that was proposed
-    settled_or_passed : RestoresList w v → (t : ℕ) → v.known.stood t ≡ true → (t ≢ w.known.top) ⊎ (w.known.view ≡ w.known.top)
-    settled_or_passed r t stood = elim (rows.back r.later).2 [
-      | inl still ↦ inr still
-      | inr never ↦ inl (λ is. true≢false (sym stood ∙ ap v.known.stood is ∙ never))
-    ]
-
-    -- what stood then, but for a view that was settled now, stood before
-    stood_before : (t : ℕ) → v.known.stood t ≡ true → t ≢ v.known.view → w.known.stood t ≡ true
-    stood_before t stood other = by_once (masters_settle_once w v leads reached masters)
-      where
-        by_once : SettlesOnce w v → w.known.stood t ≡ true
-        by_once (inl k) = ap (λ f. f t) (sym k.stood) ∙ stood
-        by_once (inr (inl k)) = sym (k.stood t ∙ ap (λ b. cond b true (w.known.stood t)) (ne_eqb t w.known.top (λ is. other (is ∙ sym k.view)))) ∙ stood
-        by_once (inr (inr r)) =
-            let so = restored r in
-            sym (so.others t (settled_or_passed r t stood) (λ is. other (is ∙ sym so.view))).1 ∙ stood
-
     restores_then : RestoresList w v → (t : ℕ) → v.known.stood t ≡ true → v.known.born < t → Then t
     restores_then r t stood behind = elim (cases_eq t (start_of w.known.current)) [
       | inr other ↦ elim (own t (before_it other) (let born = later.born in omega arith)) [
-        | inl same ↦ inl (other_told t (λ is. other (is ∙ so.view)) ∙ same ∙ sym (so.others t (settled_or_passed r t stood) other).0)
-        | inr unseen ↦ inr (unseen_then t (within other) unseen (λ last. absurd (other (sym last ∙ sym known_v.view ∙ so.view))) (so.others t (settled_or_passed r t stood) other).0
+        | inl same ↦ inl (other_told t (λ is. other (is ∙ so.view)) ∙ same ∙ sym (so.others t (settled_or_passed chunk a.durable e w v rows r t stood) other).0)
+        | inr unseen ↦ inr (unseen_then t (within other) unseen (λ last. absurd (other (sym last ∙ sym known_v.view ∙ so.view))) (so.others t (settled_or_passed chunk a.durable e w v rows r t stood) other).0
             (so.others unseen.lower (inl (λ is. let below = unseen.below in let low = within other in let top = (ok.known).viewtop in omega arith))
             (λ is. let below = unseen.below in let low = within other in let view = so.view in let over = r.later in let top = (ok.known).viewtop in omega arith)).0)
       ]
@@ -376,7 +376,7 @@ module _ (chunk : ℕ) (sent : Sent) (a : Account) (e : Durable) (w v : World) (
         so = restored r
 
         before_it : t ≢ start_of w.known.current → w.known.stood t ≡ true
-        before_it other = stood_before t stood (λ is. other (is ∙ so.view))
+        before_it other = stood_before chunk a.durable e w v reached leads masters rows t stood (λ is. other (is ∙ so.view))
 
         within : t ≢ start_of w.known.current → t ≤ w.known.view
         within other = stood_within t (before_it other)
@@ -412,7 +412,7 @@ module _ (chunk : ℕ) (sent : Sent) (a : Account) (e : Durable) (w v : World) (
         by_place : (k.t ≡ v.known.view) ⊎ (k.t ≢ v.known.view) → told k.t ≡ v.known.list k.t
         by_place (inl here) = subst (λ t. told t ≡ v.known.list t) (sym here) (told_last k.listed (ap v.known.stood (sym here) ∙ k.stood) (let late = k.late in omega arith))
         by_place (inr other) =
-            let stood = stood_before k.t k.stood other in
+            let stood = stood_before chunk a.durable e w v reached leads masters rows k.t k.stood other in
             let here : k.t ≡ w.known.view = (let since = k.since in let within = stood_within k.t stood in omega arith) in
             subst (λ t. told t ≡ v.known.list t) (sym here) (told_before k.known (ap w.known.stood (sym here) ∙ stood) (let late = k.late in let born = later.born in omega arith))
 
@@ -461,6 +461,26 @@ module _ (chunk : ℕ) (sent : Sent) (a : Account) (e : Durable) (w v : World) (
         by_old : (o : Option Settled) → fin.get a.durable.chunks chunk ≡ o → v.known.born < v.known.view
         by_old None none = let up = rows.appears y none there in let low = (ok.known).blank.0 in let born = later.born in omega arith
         by_old (Some x) was = let low = late x was in let view = later.view in let born = later.born in omega arith
+
+    -- The view that is told is shown.
+    pub shown_then : ((x : Settled) → fin.get a.durable.chunks chunk ≡ Some x → IsViewShown (a.list chunk) w) → (y : Settled) → fin.get e.chunks chunk ≡ Some y → IsViewShown told_under v
+    shown_then shown y there = by_once (masters_settle_once w v leads reached masters)
+      where
+        by_old : KeepsLists w v → (o : Option Settled) → fin.get a.durable.chunks chunk ≡ o → IsViewShown told_under v
+        by_old k None none = absurd (let up = rows.appears y none there in let view = k.view in omega arith)
+        by_old k (Some x) was =
+            let was_shown = shown x was in record {
+              stood = ap v.known.stood k.view ∙ ap (λ f. f w.known.view) k.stood ∙ was_shown.stood;
+              same = subst (λ t. told t ≡ v.known.list t) (sym k.view) (still_told w.known.view k.view ∙ was_shown.same ∙ ap (λ f. f w.known.view) (sym k.list));
+            }
+
+        by_once : SettlesOnce w v → IsViewShown told_under v
+        by_once (inl k) = by_old k (fin.get a.durable.chunks chunk) refl
+        by_once (inr (inl k)) = record {
+          stood = ap v.known.stood k.view ∙ k.stood w.known.top ∙ ap (λ b. cond b true (w.known.stood w.known.top)) (eq-eqb w.known.top w.known.top refl);
+          same = settles_told k y there;
+        }
+        by_once (inr (inr r)) = (let stands = rows.returned r.later (ap is_some there) in record { stood = stands; same = restores_told r stands })
 
     -- ---- the prepare
 

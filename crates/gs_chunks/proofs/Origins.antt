@@ -8,13 +8,15 @@ use Rattle.gs_chunk.specs.Machine.{World}
 use Rattle.gs_chunks.proofs.Copies.{all_then}
 use Rattle.gs_chunks.specs.Agreeing.{CopiesNone, CopyShows, IsCopyShown}
 use Rattle.gs_entry.specs.Families.{IsCopiedTo}
-use Rattle.gs_lift.proofs.Copying.{IsToldToCopy, copied_is_told}
+use Rattle.gs_lift.proofs.Copying.{IsToldToCopy, copied_beside, copied_is_told}
+use Rattle.gs_lift.proofs.Serving.{by_server}
 use Rattle.gs_lift.specs.Accounts.{Lists, edits_copied}
 use Rattle.gs_lift.specs.Copying.{MakesOther, copied_from}
 use Rattle.gs_lift.specs.Going.{AllSent}
+use Rattle.gs_lift.specs.Joint.{AtMaster, AtServer, Elsewhere, GoesBy}
 use Rattle.gs_lift.specs.Living.{CopiesTo, IsCopy}
 use Rattle.gs_lift.specs.Saying.{AreOfClient, IsOfClient}
-use Rattle.gs_lift.specs.Showing.{IsAlive, Life}
+use Rattle.gs_lift.specs.Showing.{IsAlive, Life, setting}
 use Rattle.gs_lift.specs.Unborn.{IsUnborn}
 use Rattle.gs_member.proofs.Stamps.{stamp_number}
 use Rattle.gs_member.specs.Answering.{IsByServer}
@@ -24,6 +26,7 @@ use Rattle.gs_msg.specs.declared.message.Message.{Message}
 use Rattle.gs_msg.specs.declared.node.NodeId.{NodeId}
 use Rattle.gs_msg.specs.declared.node.NodeId.TheVariants as nodes
 use Rattle.gs_run.specs.Histories.{History}
+use Rattle.gs_run.specs.Runs.{Step}
 
 -- ---- who tells of no copy
 
@@ -40,6 +43,14 @@ of_clients_others chunk = all_then IsOfClient (λ to body. MakesOther chunk body
     by_body : (to : NodeId) (body : Body) → IsOfClient body → MakesOther chunk body
     by_body to (bodies.MakeCopy old at new stamp) is = absurd is
     by_body to body is = tt
+
+-- a chunk that lives is the copy that it was
+pub copied_same : {D : Type 0} (seen : D → List ℕ) (config : Config) (bytes : ReqId → List ℕ) (born chunk : ℕ) (step : Step) (old new : History D) (w v : World) → GoesBy seen config bytes born chunk step old new w v → copied_from new.sent chunk ≡ copied_from old.sent chunk
+copied_same seen config bytes born chunk step old new w v (AtServer by) =
+    copied_beside chunk by.moment (nodes.Server by.id) by.messages old.sent new.sent by.posted
+    (by_servers_others chunk by.messages (by_server _ (setting config bytes born) chunk by.steps.world by.id _ by.messages by.steps.answers))
+copied_same seen config bytes born chunk step old new w v (AtMaster by) = copied_beside chunk by.moment nodes.Master by.messages old.sent new.sent by.posted by.others
+copied_same seen config bytes born chunk step old new w v (Elsewhere still servers master by messages moment are posted) = copied_beside chunk moment by messages old.sent new.sent posted (of_clients_others chunk messages are)
 
 -- ---- the chunks of a store
 

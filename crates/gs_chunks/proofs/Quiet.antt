@@ -2,15 +2,17 @@
 use Rattle.std.proofs.Common.{◌≡◌, ◌∙◌, ◌+◌, ℕ, Bool, true, false, cond, List, None, Option, Some, Result, Ok, Err, refl, sym, ap, subst, arith}
 use Rattle.std.specs.Prelude.{◌==◌, is_some, slice_get}
 use Rattle.gs_base.specs.Members.{is_member}
+use Rattle.gs_block.specs.Written.{ToldApart}
 use Rattle.gs_base.specs.Stamps.{is_same}
 use Rattle.gs_base.specs.declared.epoch.EpochEnd.{EpochEnd}
 use Rattle.gs_base.specs.declared.epoch.EpochEnd.TheVariants as ends
 use Rattle.gs_base.specs.declared.numbers.Moment.{Moment}
 use Rattle.gs_base.specs.declared.numbers.ReqId.{ReqId}
 use Rattle.gs_base.specs.declared.refusal.Refusal.{Refusal}
-use Rattle.gs_account.specs.Accounts.{Account}
+use Rattle.gs_account.specs.Accounts.{Account, settled_edits, settled_in, text_of, view_at}
 use Rattle.gs_account.specs.Running.{Setup}
-use Rattle.gs_chunk.proofs.Facts.{reached_world}
+use Rattle.gs_chunk.proofs.Exact.{quiet_is_settled}
+use Rattle.gs_chunk.proofs.Facts.{quiet_is_still, reached_world}
 use Rattle.gs_chunk.proofs.Resting.{promises_rest}
 use Rattle.gs_chunk.specs.Events.{Leads, Rests, is_of}
 use Rattle.gs_chunk.specs.Laws as machine
@@ -23,6 +25,7 @@ use Rattle.gs_lease.specs.declared.view.View.{View}
 use Rattle.gs_lift.proofs.Serving.{is_shown, was_told}
 use Rattle.gs_lift.specs.Showing.{ShowsNodes}
 use Rattle.gs_member.proofs.Holding.{holds_all}
+use Rattle.gs_member.proofs.Promising.{lives}
 use Rattle.gs_member.proofs.Renaming.{message_steps}
 use Rattle.gs_member.proofs.Stamps.{is_itself}
 use Rattle.gs_member.specs.Holding.{HoldsAll}
@@ -34,7 +37,7 @@ use Rattle.gs_msg.specs.declared.body.Body.TheVariants as bodies
 use Rattle.gs_msg.specs.declared.message.Message.{Message}
 use Rattle.gs_msg.specs.declared.node.NodeId.TheVariants as nodes
 use Rattle.gs_replica.specs.Held.{Held}
-use Rattle.gs_replica.specs.Stands.{Edit}
+use Rattle.gs_replica.specs.Stands.{Edit, IsToldFrom, StandsFor}
 use Rattle.gs_run.specs.Histories.{History}
 use Rattle.gs_run.specs.Sent.{IsSent}
 use Rattle.gs_server.proofs.Wholes.{each_whole}
@@ -52,11 +55,14 @@ use Rattle.gs_store.specs.Calls.{Applies, Call}
 use Rattle.gs_store.specs.Moves.{copied_from}
 use Rattle.gs_store.specs.Serving.{apply}
 use Rattle.gs_store.specs.Slots.{Live, Slot, count_of}
-use Rattle.gs_store.specs.Standing.{IsNextEdit}
+use Rattle.gs_state.specs.Applied.{view_in}
+use Rattle.gs_store.specs.Standing.{IsNextEdit, LiveStandsFor, LiveToldFrom}
 use Rattle.gs_store.specs.Whole.{LiveUnder}
+use Rattle.gs_chunks.proofs.Standing.{holds_where_whole}
+use Rattle.gs_chunks.proofs.Viewing.{told_view}
 use Rattle.gs_chunks.specs.Joined.{IsSeen}
 use Rattle.gs_chunks.specs.Seen.{SeenQuietIsStill}
-use Rattle.gs_chunks.specs.Standing.{IsQuiet, IsStill}
+use Rattle.gs_chunks.specs.Standing.{HoldsWhereWhole, IsQuiet, IsStill}
 
 -- ---- calls
 
@@ -149,16 +155,41 @@ module _ (law : AreCalled) {D : Type 0} (x : Setup D) (bytes : ReqId → List �
   count_is : w.entry.view.count ≡ view.count
   count_is = settled.view.count ∙ ap (λ (v : View). v.count) quiet.is
 
-  -- behind whatever comes, a server that keeps the promise and is live has as many edits
-  counts_then : (v : World) (t : Server) → Leads w v → t.me ≡ s.me → ShowsMember c chunk v t → (slot_in chunk t).promise ≡ (slot_in chunk s).promise → is_some (slot_in chunk t).live ≡ true → count_of (slot_in chunk t).live ≡ Some view.count
-  counts_then v t leads me shows promise lives =
-      let all : HoldsAll c chunk w t = holds_all c chunk w seen.alive.reached v t leads free (subst (λ n. machine.is_member w n ≡ true) (sym me) within) shows (record { promise = promise ∙ under; live = lives }) in
-      all.counts ∙ ap (λ n. Some n) count_is
+  -- behind whatever comes, a server that keeps the promise and is live has the whole list, and as many edits
+  holds_then : (v : World) (t : Server) → Leads w v → t.me ≡ s.me → ShowsMember c chunk v t → (slot_in chunk t).promise ≡ (slot_in chunk s).promise → is_some (slot_in chunk t).live ≡ true → HoldsAll c chunk w t
+  holds_then v t leads me shows promise lives = holds_all c chunk w seen.alive.reached v t leads free (subst (λ n. machine.is_member w n ≡ true) (sym me) within) shows (record { promise = promise ∙ under; live = lives })
 
-  still : IsStill chunk view s
+  counts_then : (v : World) (t : Server) → Leads w v → t.me ≡ s.me → ShowsMember c chunk v t → (slot_in chunk t).promise ≡ (slot_in chunk s).promise → is_some (slot_in chunk t).live ≡ true → count_of (slot_in chunk t).live ≡ Some view.count
+  counts_then v t leads me shows promise lives = (holds_then v t leads me shows promise lives).counts ∙ ap (λ n. Some n) count_is
+
+  view_told : view_at a chunk ≡ Some view
+  view_told = ap view_in quiet.told ∙ ap (λ v. Some v) quiet.is
+
+  -- the list of the settled view is all that is settled, since nobody may number in it
+  settled_is : settled_edits a chunk ≡ w.known.list w.entry.view.stamp
+  settled_is = ap (settled_in a chunk) view_told ∙ (told_view x bytes chunk now a seen view view_told).settled ∙ quiet_is_settled w (reached_world w seen.alive.reached) free
+
+  stands : (l : Live) → (slot_in chunk s).live ≡ Some l → StandsFor s.block x.config.chunk l.replica.held (settled_edits a chunk)
+  stands l is =
+      let all = holds_then w s Rests refl shown.shows refl (ap is_some is) in
+      let stands : StandsFor s.block s.chunk l.replica.held (w.known.list w.entry.view.stamp) = subst (λ o. LiveStandsFor s.block s.chunk o (w.known.list w.entry.view.stamp)) is all.stands in
+      subst (StandsFor s.block x.config.chunk l.replica.held) (sym settled_is) (subst (λ size. StandsFor s.block size l.replica.held (w.known.list w.entry.view.stamp)) (seen.keeps.servers id s at).size stands)
+
+  whole : (l : Live) → (slot_in chunk s).live ≡ Some l → HoldsWhereWhole l.replica.held.chunk (text_of x.config.chunk (settled_edits a chunk))
+  whole l is =
+      let lived = lives c (slot_in chunk s) (w.members s.me).live shown.shows.live (ap is_some is) in
+      let all : lived.0 ≡ settled_edits a chunk = (quiet_is_still w (reached_world w seen.alive.reached) free s.me lived.0 (within, promised, lived.1)).whole ∙ sym settled_is in
+      let told : IsToldFrom s.block s.chunk l.replica.held lived.0 = subst (λ o. LiveToldFrom s.block s.chunk o lived.0) is (shown.apart.live lived.0 lived.1) in
+      let here : IsToldFrom s.block x.config.chunk l.replica.held (settled_edits a chunk) = subst (λ size. IsToldFrom s.block size l.replica.held (settled_edits a chunk)) (seen.keeps.servers id s at).size (subst (IsToldFrom s.block s.chunk l.replica.held) all told) in
+      holds_where_whole l.replica.held.chunk (text_of x.config.chunk (settled_edits a chunk)) (stands l is).bytes
+      (subst (λ b. ToldApart b l.replica.held.chunk.bytes (text_of x.config.chunk (settled_edits a chunk))) (sym (stands l is).block) here)
+
+  still : IsStill x.config.chunk a chunk view s
   still = record {
     stamp = λ l is. subst (λ u. is_same (slot_in chunk s).promise u ≡ true) (under ∙ sym settled.view.stamp ∙ ap (λ (v : View). v.stamp) quiet.is) (is_itself (slot_in chunk s).promise);
     count = λ l is. some_count (slot_in chunk s).live l view.count is (counts_then w s Rests refl shown.shows refl (ap is_some is));
+    stands = stands;
+    whole = whole;
   }
 
   -- were an edit taken, the replica would have one more

@@ -127,7 +127,7 @@ module _ {D : Type 0} (x : Setup D) (bytes : _) (chunk : ℕ) (prepared : Histor
 -- ---- and later
 
 pub rolled_back_stay : HaveSizes → AreNumbered → {D : Type 0} (x : Setup D) → RolledBackStay x
-rolled_back_stay sizes law x prepared now later before_account after b chunk id s r steps number up survives at rolled runs spare drops there below =
+rolled_back_stay sizes law x prepared now later before_account after b chunk id s r steps up survives at rolled runs spare drops there below =
     let upgraded = runs_of x up.steps prepared now before_account after up.runs in
     let reached = prepared_reached sizes law x prepared now before_account after up in
     let given = given_there sizes law x prepared now before_account after up in

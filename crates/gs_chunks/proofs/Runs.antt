@@ -1,20 +1,27 @@
 -- What is seen of one chunk, from what is seen of all of them.
-use Rattle.std.proofs.Common.{◌≡◌, ◌∙◌, ℕ, List, true, refl, sym, ap, subst, inl, inr}
+use Rattle.std.proofs.Common.{◌≡◌, ◌∙◌, ℕ, List, Some, true, refl, sym, ap, subst, inl, inr}
 use Rattle.std.specs.Prelude.{is_some}
 use Rattle.std.proofs.lemmas.Bool.{false≢true}
 use Rattle.std.specs.FinMap as fin
 use Rattle.gs_base.specs.declared.numbers.ReqId.{ReqId}
+use Rattle.gs_base.specs.declared.numbers.Stamp.{Stamp}
 use Rattle.gs_account.specs.Accounts.{Account}
 use Rattle.gs_account.specs.Running.{Setup}
 use Rattle.gs_block.specs.Written.{TellsApart}
 use Rattle.gs_laws.specs.Promises.{IsKept}
 use Rattle.gs_lift.proofs.Among.{told_there}
 use Rattle.gs_lift.proofs.Durable.{durable_shown, has_durable, kept_there}
+use Rattle.gs_lift.proofs.Copying.{IsToldToCopy, copied_is_told}
+use Rattle.gs_lift.specs.Copying.{copied_from}
 use Rattle.gs_lift.specs.Doing.{HasDurable}
-use Rattle.gs_lift.specs.Living.{TextsOf}
+use Rattle.gs_lift.specs.Living.{CopiesTo, IsCopy, TextsOf}
 use Rattle.gs_lift.specs.Showing.{IsAlive, Life}
 use Rattle.gs_lift.specs.Unborn.{IsUnborn}
 use Rattle.gs_member.specs.Requests.{Asked, bytes_in}
+use Rattle.gs_msg.specs.declared.body.Body.{Body}
+use Rattle.gs_msg.specs.declared.body.Body.TheVariants as bodies
+use Rattle.gs_msg.specs.declared.node.NodeId.{NodeId}
+use Rattle.gs_msg.specs.declared.node.NodeId.TheVariants as nodes
 use Rattle.gs_run.specs.Histories.{History}
 use Rattle.gs_state.specs.Durable.{is_listed}
 use Rattle.gs_chunks.proofs.Durables.{told_is_had}
@@ -67,6 +74,21 @@ module _ {D : Type 0} (x : Setup D) (asked : ℕ → Asked) (h : History D) (a :
   -- and one that a file has
   pub living_listed : (chunk : ℕ) → is_listed a.durable chunk ≡ true → (l : IsAlive x.seen x.config bytes chunk h) × (s.lives.life chunk ≡ inr l)
   living_listed chunk listed = living_told chunk (keeps_told.settled chunk listed)
+
+  -- and one that is a copy
+  pub living_copied : (chunk source : ℕ) (at : Stamp) → copied_from h.sent chunk ≡ Some (source, at) → (l : IsAlive x.seen x.config bytes chunk h) × (s.lives.life chunk ≡ inr l)
+  living_copied chunk source at copied = by_life (s.lives.life chunk) refl
+    where
+      told : IsToldToCopy h.sent source chunk at
+      told = copied_is_told h.sent source chunk at copied
+
+      is_copy : IsCopy x.seen x.config bytes source chunk h (s.lives.life source) (s.lives.life chunk) told.me at told.stamp
+      is_copy = subst (λ (to : NodeId). CopiesTo x.seen x.config bytes h s.lives.life to (bodies.MakeCopy source at chunk told.stamp)) told.to
+          (subst (λ (body : Body). CopiesTo x.seen x.config bytes h s.lives.life told.message.to body) told.is (s.lives.copies (record { sender = nodes.Master; place = told.there.0 }) told.message told.there.1))
+
+      by_life : (life : Life x.seen x.config bytes chunk h) → s.lives.life chunk ≡ life → (l : IsAlive x.seen x.config bytes chunk h) × (s.lives.life chunk ≡ inr l)
+      by_life (inl unborn) is = absurd (subst (λ (life : Life x.seen x.config bytes chunk h). IsCopy x.seen x.config bytes source chunk h (s.lives.life source) life told.me at told.stamp) is is_copy)
+      by_life (inr l) is = (l, is)
 
 -- ---- in two worlds
 

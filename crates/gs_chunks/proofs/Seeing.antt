@@ -4,7 +4,7 @@ use Rattle.std.proofs.lemmas.Bool.{false≢true}
 use Rattle.gs_base.specs.declared.numbers.ReqId.{ReqId}
 use Rattle.gs_account.specs.Accounts.{Account}
 use Rattle.gs_account.specs.Moving.{account_behind}
-use Rattle.gs_account.specs.Running.{IsGiven, IsNew, Moves, Runs, Setup}
+use Rattle.gs_account.specs.Running.{IsGiven, IsNew, IsReached, Moves, Runs, Setup}
 use Rattle.gs_account.proofs.Told.{arming, named, one_lasts, reached_sound, runs_sound}
 use Rattle.gs_block.specs.Written.{TellsApart}
 use Rattle.gs_chunk.specs.Events.{Rests}
@@ -123,23 +123,26 @@ module _ {D : Type 0} (x : Setup D) (asked : ℕ → Asked) (given : IsGiven x) 
   nobody_intact begun a new chunk (inl unborn) = tt
   nobody_intact begun a new chunk (inr l) = λ e j upgrading known fit is. absurd (false≢true (sym (ap (λ (c : Account). c.intact chunk j) new.account) ∙ is))
 
-  sees_first : HaveSizes → (begun : History D) (first : Account) → IsNew x begun first → AllSent (PushRight bytes) begun.sent → AllSent (IsOfOneEdit asked) begun.sent → Sees x asked begun first
+  pub sees_first : HaveSizes → (begun : History D) (first : Account) → IsNew x begun first → AllSent (PushRight bytes) begun.sent → AllSent (IsOfOneEdit asked) begun.sent → Sees x asked begun first
   sees_first sizes begun first new right one =
       let shows = shows_first x asked given sizes begun first new right one in
       record { lives = shows.lives; tells = shows.tells; agrees = stores_agree_first x bytes begun first shows.lives new; intact = λ chunk. nobody_intact begun first new chunk (shows.lives.life chunk) }
 
--- behind each run
+-- behind each run, for all that is said to be asked by which what was sent for a request is of its one edit
+pub sees_for : HaveSizes → AreNumbered → {D : Type 0} (x : Setup D) (asked : ℕ → Asked) (now : History D) (a : Account) → IsReached x now a → AllSent (PushRight (bytes_in asked)) now.sent → AllSent (IsOfOneEdit asked) now.sent → Sees x asked now a
+sees_for sizes law x asked now a r right one =
+    let given = r.begins.given in
+    let stays = run_stays x asked given r.steps r.begun now r.first a r.runs in
+    let first = sees_first x asked given law sizes r.begun r.first r.begins (before x.seen x.failures x.armed (PushRight (bytes_in asked)) r.begun.sent now.sent stays right) (before x.seen x.failures x.armed (IsOfOneEdit asked) r.begun.sent now.sent stays one) in
+    let types = begins_keeping x.seen x.failures x.armed x.config x.clients x.disks r.begun given.few r.begins.begins in
+    (sees_run x asked given law r.apart r.steps r.begun now r.first a first types r.runs right one).last
+
 pub each_is_seen : HaveSizes → AreNumbered → {D : Type 0} (x : Setup D) → EachIsSeen x
 each_is_seen sizes law x now a r =
     let given = r.begins.given in
     let sound = reached_sound x now a r in
     let asks = asked_over x.seen x.failures x.armed (λ disk call place lasts. arming x x.seen place (x.armed disk call place) (given.armed disk call place) lasts) x.config x.clients x.disks r.steps r.begun now given.new r.begins.begins sound.runs in
-    let right = pushes_right asks.0 now asks.1 in
-    let one = of_one_edit asks.0 now asks.1 in
-    let stays = run_stays x asks.0 given r.steps r.begun now r.first a r.runs in
-    let first = sees_first x asks.0 given law sizes r.begun r.first r.begins (before x.seen x.failures x.armed (PushRight (bytes_in asks.0)) r.begun.sent now.sent stays right) (before x.seen x.failures x.armed (IsOfOneEdit asks.0) r.begun.sent now.sent stays one) in
-    let types = begins_keeping x.seen x.failures x.armed x.config x.clients x.disks r.begun given.few r.begins.begins in
-    (asks.0, asks.1, (sees_run x asks.0 given law r.apart r.steps r.begun now r.first a first types r.runs right one).last)
+    (asks.0, asks.1, sees_for sizes law x asks.0 now a r (pushes_right asks.0 now asks.1) (of_one_edit asks.0 now asks.1))
 
 -- and in two worlds of one
 pub each_sees_on : HaveSizes → AreNumbered → {D : Type 0} (x : Setup D) → EachSeesOn x

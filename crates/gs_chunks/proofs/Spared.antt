@@ -1,10 +1,10 @@
 -- A live replica that is neither lost, damaged nor dropped stays live and undamaged, until another comes under a greater promise.
-use Rattle.std.proofs.Common.{◌≡◌, ◌∙◌, ◌⊎◌, inl, inr, ℕ, Bool, true, false, List, [], ◌∷◌, Option, Some, None, refl, sym, ap, subst}
-use Rattle.std.specs.Prelude.{Err, Ok, Result, is_some, not}
+use Rattle.std.proofs.Common.{◌≡◌, ◌∙◌, ◌⊎◌, inl, inr, ℕ, true, false, List, Option, Some, None, refl, sym, ap, subst}
+use Rattle.std.specs.Prelude.{Err, Ok, Result, is_some}
 use Rattle.std.proofs.lemmas.Bool.{false≢true}
 use Rattle.std.proofs.lemmas.Bool.Decides.{nat_tests}
 use Rattle.std.proofs.Common.{arith}
-use Rattle.gs_base.specs.Stamps.{is_before, is_same}
+use Rattle.gs_base.specs.Stamps.{is_before}
 use Rattle.gs_base.specs.declared.numbers.Stamp.{Stamp}
 use Rattle.gs_base.specs.declared.refusal.Refusal.{Refusal}
 use Rattle.gs_block.specs.Edits.{unless_damaged}
@@ -21,8 +21,7 @@ use Rattle.gs_store.specs.Calls as calls
 use Rattle.gs_store.specs.Calls.{Call, called}
 use Rattle.gs_store.specs.Learning.{finalized, prepared, rolled_back, rolled_to, sealed_live, start_of, unsealed_live}
 use Rattle.gs_store.specs.Moves.{copied_in, copy_in, in_trash, replicas_of, take_copy}
-use Rattle.gs_base.specs.declared.refusal.Refusal.TheVariants as refusals
-use Rattle.gs_store.specs.Slots.{Live, Slot, advance, again, create, drop_replica, first_of, live_under, mark_bad, marked_live, removed, replaced, risen, seal_of, sealed_of, take_lease, taking, unless_live, unless_promised, when}
+use Rattle.gs_store.specs.Slots.{Live, Slot, advance, again, create, live_under, mark_bad, marked_live, replaced, risen, seal_of, sealed_of, take_lease, taking}
 use Rattle.gs_store.specs.Standing.{IsToldIn, LiveStandsFor, LiveUndamaged, StandsIn}
 
 -- a live replica, and what is sealed, without a damaged block
@@ -31,11 +30,11 @@ pub record StillLive (s : Slot) : Type 0 where
   pub whole : LiveUndamaged s.live
   pub sealed : SealUndamaged (sealed_of s)
 
--- a call is no loss or damage, nor a drop under the promise; and for a rollback something is sealed
+-- a call is no loss, damage or drop; and for a rollback something is sealed
 abbrev pub Allows : Slot → Call → Type 0
 Allows s calls.Loses = ⊥
 Allows s (calls.Damages block) = ⊥
-Allows s (calls.Drops promise) = is_same promise s.promise ≡ false
+Allows s (calls.Drops promise) = ⊥
 Allows s (calls.RollsBack epoch) = is_some (sealed_of s) ≡ true
 Allows s call = Unit {0}
 
@@ -76,13 +75,6 @@ live_stands : (block chunk : ℕ) (o : Option Live) (xs : List Edit) → LiveSta
 live_stands block chunk None xs stands = absurd stands
 live_stands block chunk (Some l) xs stands = refl
 
-never_dropped : (promise : Stamp) (s : Slot) → is_same promise s.promise ≡ false → first_of (unless_promised promise s ∷ unless_live s.live ∷ []) ≡ None → ⊥
-never_dropped promise s other none = by_test (is_same promise s.promise) other none
-  where
-    by_test : (b : Bool) → b ≡ false → first_of (when (not b) (refusals.Stamp s.promise) ∷ unless_live s.live ∷ []) ≡ None → ⊥
-    by_test true is none = absurd (false≢true (sym is))
-    by_test false is none = absurd (cc)
-
 trashed_promise : (trash : Option State) (s : Slot) → (in_trash trash s).promise ≡ s.promise
 trashed_promise None s = refl
 trashed_promise (Some r) s = refl
@@ -113,7 +105,7 @@ module _ (block chunk : ℕ) (m : Member) (bound : Stamp) (s : Slot) (xs : List 
       by_made up (Ok p) = inl (subst (λ q. is_before bound q ≡ true) (sym (trashed_promise p.1 (replaced stamp (is_some sealed) p.0 s))) (over bound s.promise stamp least up))
       by_made up (Err e) = tt
   call_stays (calls.TakesCopy h) t allowed made = of_ok StaysLive (take_copy h s) t made (of_raised StaysLive h.promise false _ s (inr k) (λ up. inl (over bound s.promise h.promise least up)))
-  call_stays (calls.Drops promise) t allowed made = of_ok StaysLive (drop_replica promise s) t made (of_unless StaysLive _ (removed s) (λ none. absurd (never_dropped promise s allowed none)))
+  call_stays (calls.Drops promise) t allowed made = absurd allowed
   call_stays (calls.TakesLease stamp) t allowed made = of_ok StaysLive (take_lease stamp s) t made (of_unless StaysLive _ (taking stamp s) (λ none. inr (record { live = k.live; whole = k.whole; sealed = k.sealed })))
   call_stays calls.Loses t allowed made = absurd allowed
   call_stays (calls.Damages index) t allowed made = absurd allowed

@@ -3,7 +3,7 @@ use Rattle.std.proofs.Common.{◌≡◌, ◌≢◌, ◌∙◌, ◌+◌, ◌<◌,
 use Rattle.std.specs.Prelude.{is_some}
 use Rattle.std.proofs.lemmas.Bool.{cases_eq, cases_lt, false≢true}
 use Rattle.std.proofs.lemmas.Bool.Decides.{nat_tests}
-use Rattle.gs_base.specs.Stamps.{is_before, is_same}
+use Rattle.gs_base.specs.Stamps.{is_before}
 use Rattle.gs_base.specs.declared.epoch.EpochEnd.{EpochEnd}
 use Rattle.gs_base.specs.declared.epoch.EpochEnd.TheVariants.{Finalize, Prepare, Rollback}
 use Rattle.gs_base.specs.declared.numbers.Moment.{Moment}
@@ -11,7 +11,7 @@ use Rattle.gs_base.specs.declared.numbers.ReqId.{ReqId}
 use Rattle.gs_base.specs.declared.numbers.Stamp.{Stamp}
 use Rattle.gs_base.specs.declared.refusal.Refusal.{Refusal}
 use Rattle.gs_account.specs.Accounts.{Account}
-use Rattle.gs_account.specs.Moving.{event_at}
+use Rattle.gs_account.specs.Moving.{call_in, event_at}
 use Rattle.gs_account.specs.Running.{IsGiven, Runs, Setup}
 use Rattle.gs_block.specs.Written.{TellsApart}
 use Rattle.gs_chunk.proofs.Facts.{reached_world}
@@ -98,8 +98,8 @@ image_there block size (Some t) xs stood = refl
 
 -- ---- what is heard
 
--- Of what a server hears about a chunk each call is one by which a replica stays, but a drop under its promise; and a rollback where nothing is sealed.
-module _ (chunk : ℕ) (promise : Stamp) (s : Server) (promised : (slot_in chunk s).promise ≡ promise) (from to : NodeId) (moment : Moment) where
+-- Of what a server hears about a chunk each call is one by which a replica stays, but a drop; and a rollback where nothing is sealed.
+module _ (chunk : ℕ) (s : Server) (from to : NodeId) (moment : Moment) where
   abbrev slot : Slot
   slot = slot_in chunk s
 
@@ -112,10 +112,16 @@ module _ (chunk : ℕ) (promise : Stamp) (s : Server) (promised : (slot_in chunk
   numbered_allowed h req stamp op None = tt
   numbered_allowed h req stamp op (Some l) = tt
 
-  asked_allowed : (h : Here) (p : Place) (said : Chunk) → ((epoch : ℕ) (stamp : Stamp) → said ≡ chunks.Drop epoch stamp → is_same stamp promise ≡ false) → AllowsIn slot (asked_call h p said)
-  asked_allowed h p (chunks.Edit req stamp op) none = numbered_allowed h req stamp op p.slot.live
-  asked_allowed h p (chunks.Drop epoch stamp) none = ap (is_same stamp) promised ∙ none epoch stamp refl
-  asked_allowed h p said none = tt
+  asked_allowed : (h : Here) (p : Place) (said : Chunk) → is_drop (asked_call h p said) ≡ false → AllowsIn slot (asked_call h p said)
+  asked_allowed h p (chunks.Edit req stamp op) kept = numbered_allowed h req stamp op p.slot.live
+  asked_allowed h p (chunks.Drop epoch promise) kept = absurd (false≢true (sym kept))
+  asked_allowed h p said kept = tt
+
+  -- what is refused is no call
+  kept_allowed : (change : SlotChange) (o : Option Call) → (is_drop o ≡ false → AllowsIn slot o) → is_drop (made_by change o) ≡ false → AllowsIn slot (made_by change o)
+  kept_allowed SlotStays o allowed kept = tt
+  kept_allowed (SlotBecomes t) o allowed kept = allowed kept
+  kept_allowed (SlotMarked block) o allowed kept = tt
 
   taken_allowed : (r : Result Held Refusal) → AllowsIn slot (copy_taken r)
   taken_allowed (Ok h) = tt
@@ -147,20 +153,15 @@ module _ (chunk : ℕ) (promise : Stamp) (s : Server) (promised : (slot_in chunk
       by_case false false is = tt
       by_case false true is = end_allowed epoch end (λ end_is. rolls end_is (number_is epoch (stands + 1) is))
 
-  pub heard_allowed : (body : Body) → is_drop chunk promise (Some (at_server.Hears (record { from = from; to = to; body = body }) moment)) ≡ false → ((epoch : ℕ) → body ≡ bodies.Epoch epoch Rollback → epoch ≡ s.kept.epoch + 1 → is_some (sealed_of slot) ≡ true)
+  pub heard_allowed : (body : Body) → is_drop (heard_call chunk s from body moment) ≡ false → ((epoch : ℕ) → body ≡ bodies.Epoch epoch Rollback → epoch ≡ s.kept.epoch + 1 → is_some (sealed_of slot) ≡ true)
       → AllowsIn slot (heard_call chunk s from body moment)
-  heard_allowed (bodies.About other said) kept rolls = by_same (chunk == other) refl
+  heard_allowed (bodies.About other said) kept rolls = by_same (chunk == other) kept
     where
-      none_dropped : (chunk == other) ≡ true → (epoch : ℕ) (stamp : Stamp) → said ≡ chunks.Drop epoch stamp → is_same stamp promise ≡ false
-      none_dropped same epoch stamp drops =
-          let kept_there : ((other == chunk) && is_same stamp promise) ≡ false = subst (λ (y : Chunk). is_drop chunk promise (Some (at_server.Hears (record { from = from; to = to; body = bodies.About other y }) moment)) ≡ false) drops kept in
-          sym (ap (λ b. b && is_same stamp promise) (turned chunk other same)) ∙ kept_there
-
-      by_same : (t : Bool) → (chunk == other) ≡ t → AllowsIn slot (cond t (call_at (here_of s moment other (request_in said)) (place_of other s) from said) None)
-      by_same false is = tt
-      by_same true is =
-          made_allowed (about_chunk (here_of s moment other (request_in said)) (place_of other s) from said).slot (asked_call (here_of s moment other (request_in said)) (place_of other s) said)
-          (asked_allowed (here_of s moment other (request_in said)) (place_of other s) said (none_dropped is))
+      by_same : (t : Bool) → is_drop (cond t (call_at (here_of s moment other (request_in said)) (place_of other s) from said) None) ≡ false → AllowsIn slot (cond t (call_at (here_of s moment other (request_in said)) (place_of other s) from said) None)
+      by_same false kept = tt
+      by_same true kept =
+          kept_allowed (about_chunk (here_of s moment other (request_in said)) (place_of other s) from said).slot (asked_call (here_of s moment other (request_in said)) (place_of other s) said)
+          (asked_allowed (here_of s moment other (request_in said)) (place_of other s) said) kept
   heard_allowed (bodies.MakeCopy old at new stamp) kept rolls =
       copying_allowed old new (promises.make_copy (here_of s moment old None) (place_of old s) at (here_of s moment new None) (place_of new s) stamp) (copy_taken (copied_from at stamp (slot_in old s))) (taken_allowed (copied_from at stamp (slot_in old s)))
   heard_allowed (bodies.Epoch epoch end) kept rolls = epoch_allowed s.kept.epoch epoch end (λ is next. rolls epoch (ap (bodies.Epoch epoch) is) next)
@@ -240,20 +241,18 @@ module _ {D : Type 0} (x : Setup D) (bytes : ReqId → List ℕ) (chunk id e : �
     abbrev Stays : Slot → Type 0
     Stays t = (is_before bound t.promise ≡ true) ⊎ StillLive t
 
-    promised : (slot_in chunk s).promise ≡ bound
-    promised = shown.shows.promise ∙ ap stamp_at promise_is ∙ start_stamp (e + 1)
-
     stays_then : (o : Option Call) (t : Slot) → AllowsIn (slot_in chunk s) o → BecomesBy s.block s.chunk (slot_in chunk s) o t → Stays t
     stays_then o t allowed becomes =
         let l = lives c (slot_in chunk s) m.live shown.shows.live k.live in
-        stays_by s.block s.chunk m bound (slot_in chunk s) l.0 l.2 (shown.apart.live l.0 l.1) (ap (λ p. is_before p bound) promised ∙ not_before_itself bound) k o t allowed becomes
+        let same : (slot_in chunk s).promise ≡ bound = shown.shows.promise ∙ ap stamp_at promise_is ∙ start_stamp (e + 1) in
+        stays_by s.block s.chunk m bound (slot_in chunk s) l.0 l.2 (shown.apart.live l.0 l.1) (ap (λ p. is_before p bound) same ∙ not_before_itself bound) k o t allowed becomes
 
     behind_event : (event : at_server.Event) (after : Server) → after ≡ at_server.behind event s → AllowsIn (slot_in chunk s) (call_by chunk event s) → Stays (slot_in chunk after)
     behind_event event after is allowed = subst (λ (t : Server). Stays (slot_in chunk t)) (sym is) (stays_then (call_by chunk event s) (slot_in chunk (at_server.behind event s)) allowed (event_calls chunk event s))
 
-    own_stays : (after : Server) (messages : List Message) (goes : ServerGoes old.sent id s after messages) → IsMet step goes → is_harm chunk id step ≡ false → is_drop chunk bound (event_at step old.sent id) ≡ false → Stays (slot_in chunk after)
+    own_stays : (after : Server) (messages : List Message) (goes : ServerGoes old.sent id s after messages) → IsMet step goes → is_harm chunk id step ≡ false → is_drop (call_in chunk (event_at step old.sent id) (slice_get old.nodes.servers id)) ≡ false → Stays (slot_in chunk after)
     own_stays after messages (Hears message moment was to is sends) (msg, there, comes) spared kept =
-        behind_event (at_server.Hears message moment) after is (heard_allowed chunk bound s promised message.from message.to moment message.body (subst (λ (o : Option at_server.Event). is_drop chunk bound o ≡ false) (heard_event step old.sent id msg message moment there to comes) kept) rolls)
+        behind_event (at_server.Hears message moment) after is (heard_allowed chunk s message.from message.to moment message.body (subst (λ (o : Option Server). is_drop (call_in chunk (Some (at_server.Hears message moment)) o) ≡ false) at (subst (λ (o : Option at_server.Event). is_drop (call_in chunk o (slice_get old.nodes.servers id)) ≡ false) (heard_event step old.sent id msg message moment there to comes) kept)) rolls)
       where
         rolls : (epoch : ℕ) → message.body ≡ bodies.Epoch epoch Rollback → epoch ≡ s.kept.epoch + 1 → is_some (sealed_of (slot_in chunk s)) ≡ true
         rolls epoch body next =
@@ -283,7 +282,7 @@ module _ {D : Type 0} (x : Setup D) (bytes : ReqId → List ℕ) (chunk id e : �
   -- ---- a step
 
   module _ (step : Step) (old new : History D) (l : IsAlive x.seen x.config bytes chunk old) (n : IsAlive x.seen x.config bytes chunk new) (same : n.reached.0 ≡ l.reached.0) (leads : Leads l.world n.world) (keeps : Keeps x.config bytes old) (apart : AreToldApart chunk old l.world) (s : Server) (was : IsStaying old l.world s)
-      (spared : is_harm chunk id step ≡ false) (kept : is_drop chunk bound (event_at step old.sent id) ≡ false) where
+      (spared : is_harm chunk id step ≡ false) (kept : is_drop (call_in chunk (event_at step old.sent id) (slice_get old.nodes.servers id)) ≡ false) where
     onward : Later l.world.known n.world.known
     onward = leads_later l.world n.world leads (reached_world l.world l.reached)
 
@@ -360,7 +359,7 @@ module _ (law : AreNumbered) {D : Type 0} (x : Setup D) (asked : ℕ → Asked) 
 
   -- a chunk lives on over a step, and the replica stays
   step_on : TellsApart x.among → (step : Step) (old mid : History D) (a c : Account) (first : Sees x asked old a) (next : SeesNext x asked given law step old mid a c first) (l : IsAlive x.seen x.config (bytes_in asked) chunk old) → first.lives.life chunk ≡ inr l
-      → (s : Server) → IsStaying x (bytes_in asked) chunk id e old l.world s → is_harm chunk id step ≡ false → is_drop chunk (start_of (e + 1)) (event_at step old.sent id) ≡ false
+      → (s : Server) → IsStaying x (bytes_in asked) chunk id e old l.world s → is_harm chunk id step ≡ false → is_drop (call_in chunk (event_at step old.sent id) (slice_get old.nodes.servers id)) ≡ false
       → (m : IsAlive x.seen x.config (bytes_in asked) chunk mid) × (next.goes.last.life chunk ≡ inr m) × (t : Server) × IsStaying x (bytes_in asked) chunk id e mid m.world t
   step_on apart step old mid a c first next l is s staying spared kept =
       by_life (next.goes.last.life chunk) refl (subst (λ life. GoesOn x.seen x.config (bytes_in asked) chunk step (heard_in x.seen x.failures x.armed next.goes.kind) old mid life (next.goes.last.life chunk)) is (next.goes.goes chunk))
@@ -375,7 +374,7 @@ module _ (law : AreNumbered) {D : Type 0} (x : Setup D) (asked : ℕ → Asked) 
           (alive, at, stayed.0, stayed.1)
 
   pub staying_on : TellsApart x.among → (steps : List Step) (old new : History D) (a b : Account) (first : Sees x asked old a) → KeepsTypes old → (runs : Runs x steps old a new b) → AllSent (PushRight (bytes_in asked)) new.sent → AllSent (IsOfOneEdit asked) new.sent
-      → (l : IsAlive x.seen x.config (bytes_in asked) chunk old) → first.lives.life chunk ≡ inr l → (s : Server) → IsStaying x (bytes_in asked) chunk id e old l.world s → Spare chunk id steps → DropsNone x chunk id (start_of (e + 1)) steps old a new b runs → Ends new
+      → (l : IsAlive x.seen x.config (bytes_in asked) chunk old) → first.lives.life chunk ≡ inr l → (s : Server) → IsStaying x (bytes_in asked) chunk id e old l.world s → Spare chunk id steps → DropsNone x chunk id steps old a new b runs → Ends new
   staying_on apart [] old new a b first types runs right one l is s staying spare drops = subst Ends (sym runs.0) (ends_there old l s staying)
   staying_on apart (step ∷ steps) old new a b first types (mid, c, moves, rest) right one l is s staying spare drops =
       let stays = run_stays x asked given steps mid new c b rest in

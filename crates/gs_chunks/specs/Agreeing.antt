@@ -55,15 +55,21 @@ abbrev pub CopiesNone : ℕ → NodeId → Body → Type 0
 CopiesNone chunk (nodes.Server me) (bodies.MakeCopy old at new stamp) = old ≡ chunk → ⊥
 CopiesNone chunk to body = Unit {0}
 
+-- The view that is settled is one that stood, and the account has of it what the machine has.
+pub record IsViewShown (list : Stamp → List Edit) (w : World) : Type 0 where
+  pub stood : w.known.stood w.known.view ≡ true
+  pub same : list (stamp_at w.known.view) ≡ w.known.list w.known.view
+
 -- The lists of the account are those of the machine, and its counts; and while an upgrade stands, or is being rolled back, what it has of the prepare is the
--- prepared list, of a chunk that was known then. A view that the records tell is one behind the birth, and one that is known and of which they tell none was settled on none. So it is of
--- what was copied of the chunk.
+-- prepared list, of a chunk that was known then. A view that the records tell is one behind the birth, and is shown; and one that is known and of which they tell none was settled on none. So
+-- it is of what was copied of the chunk.
 pub record Agrees (a : Account) (sent : Sent) (chunk : ℕ) (b : Birth) (w : World) : Type 0 where
   pub lists : ListsShow a.list (copied_from sent chunk) chunk b w
   pub others : (stamp : Stamp) → IsOfView (a.list chunk) w stamp
   pub counts : CountsShow a.reached chunk w
   pub before : (e : ℕ) → IsUpgrading w e → w.entry.was_known ≡ true → a.before chunk ≡ prepared_list w
   pub late : (x : Settled) → fin.get a.durable.chunks chunk ≡ Some x → w.known.born < w.known.view
+  pub shown : (x : Settled) → fin.get a.durable.chunks chunk ≡ Some x → IsViewShown (a.list chunk) w
   pub first : IsFirst chunk a.durable w
   pub copied : AllSent (λ (m : Message). CopyShows chunk (a.list chunk) w m.to m.body) sent
 

@@ -17,6 +17,10 @@ use Rattle.gs_chunks.specs.Agreeing.{Agrees, ListsStay}
 abbrev pub WasFit : World → ℕ → ℕ → Type 0
 WasFit w e j = (w.known.members (w.known.prepared e) j ≡ true) ⊎ (w.known.carries e j ≡ true)
 
+-- Who survives by the account, of those from whom a rollback may take the chunk, is intact in the machine.
+abbrev pub IsIntact : Account → ℕ → World → Type 0
+IsIntact a chunk w = (e j : ℕ) → IsUpgrading w e → w.entry.was_known ≡ true → WasFit w e j → a.intact chunk j ≡ true → (w.members j).intact ≡ true
+
 module _ {D : Type 0} (x : Setup D) (bytes : ReqId → List ℕ) (chunk : ℕ) (now : History D) (a : Account) where
   -- What the account says of the chunk is what its machine has; while an upgrade stands, or is being rolled back, who survives by the account is intact there,
   -- of those from whom a rollback may take the chunk. What the records tell is shown. And digests tell what each server keeps of the chunk from what that
@@ -24,7 +28,7 @@ module _ {D : Type 0} (x : Setup D) (bytes : ReqId → List ℕ) (chunk : ℕ) (
   pub record IsSeen : Type 0 where
     pub alive : IsAlive x.seen x.config bytes chunk now
     pub agrees : Agrees a now.sent chunk alive.reached.0 alive.world
-    pub intact : (e j : ℕ) → IsUpgrading alive.world e → alive.world.entry.was_known ≡ true → WasFit alive.world e j → a.intact chunk j ≡ true → (alive.world.members j).intact ≡ true
+    pub intact : IsIntact a chunk alive.world
     pub keeps : Keeps x.config bytes now
     pub apart : AreToldApart chunk now alive.world
     pub told : ShowsDurable chunk a.durable alive.world.entry

@@ -2,6 +2,7 @@ pub mod Standing
 pub mod Joined
 pub mod Seen
 pub mod Acknowledged
+pub mod Asked
 pub mod Reading
 pub mod SeenReads
 pub mod SeenEdits
@@ -13,3 +14,4 @@ pub mod Joining
 pub mod Reached
 pub mod Seeing
 pub mod Locating
+pub mod Copying

@@ -2,7 +2,6 @@
 use Rattle.std.specs.Prelude.{[], ◌+◌, ◌<◌, ◌∷◌, ◌≡◌, ◌⊎◌, List, None, Some, false, length, slice_get, true, ℕ}
 use Rattle.gs_base.specs.Members.{is_member}
 use Rattle.gs_base.specs.Stamps.{is_before}
-use Rattle.gs_base.specs.Told.{IsNumber}
 use Rattle.gs_base.specs.declared.numbers.Stamp.{Stamp}
 use Rattle.gs_block.specs.Stored.{Stored}
 use Rattle.gs_lease.specs.declared.view.View.{View}
@@ -58,20 +57,20 @@ pub record Names (s : Server) (epoch chunk : ℕ) : Type 0 where
 module _ {D : Type 0} (x : Setup D) where
   -- so it is of each survivor, while the upgrade stands and while it is rolled back
   abbrev pub SurvivorsKeepTheirText : Type 0
-  SurvivorsKeepTheirText = (prepared now : History D) (before after : Account) (chunk id : ℕ) (view : View) (s : Server) → IsNumber chunk → IsUpgrading x prepared before now after → Survives before after chunk id →
+  SurvivorsKeepTheirText = (prepared now : History D) (before after : Account) (chunk id : ℕ) (view : View) (s : Server) → IsUpgrading x prepared before now after → Survives before after chunk id →
       view_at before chunk ≡ Some view → slice_get now.nodes.servers id ≡ Some s →
       KeepsText x.config.chunk before.durable.epoch view (settled_edits before chunk) chunk s
 
   -- A survivor that has learned of the rollback has its replica live behind that too, whatever happens, the commit and all that comes behind it: until the server
-  -- makes a greater promise, or the replica is lost or damaged, or it is told to drop it under that promise.
+  -- makes a greater promise, or the replica is lost, damaged or dropped.
   abbrev pub RolledBackStay : Type 0
-  RolledBackStay = (prepared now later : History D) (before after b : Account) (chunk id : ℕ) (s r : Server) (steps : List Step) → IsNumber chunk → IsUpgrading x prepared before now after → Survives before after chunk id →
+  RolledBackStay = (prepared now later : History D) (before after b : Account) (chunk id : ℕ) (s r : Server) (steps : List Step) → IsUpgrading x prepared before now after → Survives before after chunk id →
       slice_get now.nodes.servers id ≡ Some s → s.kept.epoch ≡ before.durable.epoch + 1 →
-      (runs : Runs x steps now after later b) → Spare chunk id steps → DropsNone x chunk id (start_of (before.durable.epoch + 1)) steps now after later b runs →
+      (runs : Runs x steps now after later b) → Spare chunk id steps → DropsNone x chunk id steps now after later b runs →
       slice_get later.nodes.servers id ≡ Some r → is_before (start_of (before.durable.epoch + 1)) (slot_in chunk r).promise ≡ false →
       IsLiveWith x.config.chunk (start_of (before.durable.epoch + 1)) (settled_edits before chunk) (slot_in chunk r)
 
   -- and each survivor names its chunk
   abbrev pub SurvivorsName : Type 0
-  SurvivorsName = (prepared now : History D) (before after : Account) (chunk id : ℕ) (s : Server) → IsNumber chunk → IsUpgrading x prepared before now after → is_rolling after.durable.phase ≡ true → Survives before after chunk id →
+  SurvivorsName = (prepared now : History D) (before after : Account) (chunk id : ℕ) (s : Server) → IsUpgrading x prepared before now after → is_rolling after.durable.phase ≡ true → Survives before after chunk id →
       slice_get now.nodes.servers id ≡ Some s → (s.kept.epoch ≡ after.durable.epoch) ⊎ (s.kept.epoch + 1 ≡ after.durable.epoch) → Names s after.durable.epoch chunk

@@ -1,25 +1,19 @@
 -- What is seen of all chunks behind each run of a store, and in two worlds of one.
-use Rattle.std.specs.Prelude.{◌≡◌, ℕ, List, true}
+use Rattle.std.specs.Prelude.{◌≡◌, ℕ, List}
 use Rattle.std.proofs.Common.{inl, inr}
 use Rattle.gs_base.specs.declared.numbers.ReqId.{ReqId}
 use Rattle.gs_run.specs.Histories.{History}
 use Rattle.gs_run.specs.Runs.{Step}
 use Rattle.gs_chunk.specs.Events.{Leads}
-use Rattle.gs_chunk.specs.Laws.{IsUpgrading}
-use Rattle.gs_chunk.specs.Machine.{World}
 use Rattle.gs_lift.specs.Asking.{AreAskedIn}
 use Rattle.gs_lift.specs.Living.{StoreGoes, StoreLives}
 use Rattle.gs_lift.specs.Telling.{StoreTells}
 use Rattle.gs_member.specs.Requests.{Asked, bytes_in}
 use Rattle.gs_account.specs.Accounts.{Account}
 use Rattle.gs_account.specs.Running.{IsReached, Moves, Runs, Setup}
+use Rattle.gs_chunks.specs.Joined.{IsIntact}
 use Rattle.gs_chunks.specs.Agreeing.{ListsStay}
-use Rattle.gs_chunks.specs.Joined.{WasFit}
 use Rattle.gs_chunks.specs.Joining.{Life, StoreAgrees}
-
--- Who survives by the account, of those from whom a rollback may take the chunk, is intact in the machine.
-abbrev pub IsIntact : Account → ℕ → World → Type 0
-IsIntact a chunk w = (e j : ℕ) → IsUpgrading w e → w.entry.was_known ≡ true → WasFit w e j → a.intact chunk j ≡ true → (w.members j).intact ≡ true
 
 module _ {D : Type 0} (x : Setup D) where
   -- so it is of a chunk that lives

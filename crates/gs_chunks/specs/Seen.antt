@@ -30,7 +30,7 @@ module _ {D : Type 0} (x : Setup D) (bytes : ReqId → List ℕ) where
 
   -- each member of a quiet one has as many edits as its view counts, and takes no more
   abbrev pub SeenQuietIsStill : Type 0
-  SeenQuietIsStill = (now : History D) (a : Account) (id chunk : ℕ) (view : View) (s : Server) → IsSeen x bytes chunk now a → IsQuiet a chunk view → is_member view.members id ≡ true → slice_get now.nodes.servers id ≡ Some s → IsStill chunk view s × TakesNoEdit now.sent chunk id s
+  SeenQuietIsStill = (now : History D) (a : Account) (id chunk : ℕ) (view : View) (s : Server) → IsSeen x bytes chunk now a → IsQuiet a chunk view → is_member view.members id ≡ true → slice_get now.nodes.servers id ≡ Some s → IsStill x.config.chunk a chunk view s × TakesNoEdit now.sent chunk id s
 
   -- while an upgrade stands, or is being rolled back, each survivor keeps the text of the prepare
   abbrev pub SeenSurvivorsKeep : Type 0

@@ -2,13 +2,12 @@
 use Rattle.std.specs.Prelude.{◌++◌, ◌≡◌, ◌⊎◌, List, None, Some, false, refl, slice_get, true, ℕ}
 use Rattle.gs_base.specs.Members.{is_member}
 use Rattle.gs_base.specs.Stamps.{is_same}
-use Rattle.gs_base.specs.Told.{IsNumber}
 use Rattle.gs_base.specs.declared.numbers.Moment.{Moment}
 use Rattle.gs_base.specs.declared.numbers.Stamp.{Stamp}
 use Rattle.gs_block.specs.Stored.{Stored, block_at, is_intact}
 use Rattle.gs_lease.specs.declared.view.View.{View}
 use Rattle.gs_msg.specs.declared.message.Message.{Message}
-use Rattle.gs_account.specs.Accounts.{Account, text_of}
+use Rattle.gs_account.specs.Accounts.{Account, settled_edits, text_of, view_at}
 use Rattle.gs_account.specs.Running.{IsReached, Setup}
 use Rattle.gs_run.specs.Sent.{IsSent, Sent}
 use Rattle.gs_server.specs.Servers.{Server}
@@ -35,7 +34,7 @@ HoldsWhereWhole stored bytes = (i : ℕ) → is_intact stored.block stored.bytes
 pub record IsBeginningOf (size chunk : ℕ) (a : Account) (sent : Sent) (s : Server) (l : Live) : Type 0 where
   pub source : ℕ
   pub stamp : Stamp
-  pub own : (source ≡ chunk) ⊎ (copied_from sent chunk ≡ Some (source, stamp))
+  pub own : (source ≡ chunk) ⊎ ((copied_from sent chunk ≡ Some (source, stamp)) × (view_at a chunk ≡ None))
   pub edits : List Edit
   pub behind : List Edit
   pub beginning : a.list source stamp ≡ edits ++ behind
@@ -54,25 +53,28 @@ pub record IsQuiet (a : Account) (chunk : ℕ) (view : View) : Type 0 where
   pub still : settled.is_moving ≡ false
   pub calm : is_rolling a.durable.phase ≡ false
 
--- a member's replica, if it isn't lost, is under the view's stamp and has the view's count
-pub record IsStill (chunk : ℕ) (view : View) (s : Server) : Type 0 where
+-- a member's replica, if it isn't lost, is under the view's stamp, has the view's count, and stands for all edits that are settled; each block
+-- that isn't damaged holds theirs
+pub record IsStill (size : ℕ) (a : Account) (chunk : ℕ) (view : View) (s : Server) : Type 0 where
   pub stamp : (l : Live) → (slot_in chunk s).live ≡ Some l → is_same (slot_in chunk s).promise view.stamp ≡ true
   pub count : (l : Live) → (slot_in chunk s).live ≡ Some l → l.replica.held.count ≡ view.count
+  pub stands : (l : Live) → (slot_in chunk s).live ≡ Some l → StandsFor s.block size l.replica.held (settled_edits a chunk)
+  pub whole : (l : Live) → (slot_in chunk s).live ≡ Some l → HoldsWhereWhole l.replica.held.chunk (text_of size (settled_edits a chunk))
 
 -- and no message that was sent makes it take an edit
 abbrev pub TakesNoEdit : Sent → ℕ → ℕ → Server → Type 0
 TakesNoEdit sent chunk id s = (message : Message) (moment : Moment) → IsSent message sent → message.to ≡ nodes.Server id → edit_in (call_by chunk (at_server.Hears message moment) s) ≡ None
 
 module _ {D : Type 0} (x : Setup D) where
-  -- So it is of each live replica in each world of each run. A chunk's handle is a number of its type, here and in all that follows.
+  -- So it is of each live replica in each world of each run.
   abbrev pub ReplicasStand : Type 0
-  ReplicasStand = (now : History D) (a : Account) (id chunk : ℕ) (s : Server) (l : Live) → IsNumber chunk → IsReached x now a → slice_get now.nodes.servers id ≡ Some s → (slot_in chunk s).live ≡ Some l →
+  ReplicasStand = (now : History D) (a : Account) (id chunk : ℕ) (s : Server) (l : Live) → IsReached x now a → slice_get now.nodes.servers id ≡ Some s → (slot_in chunk s).live ≡ Some l →
       IsBeginningOf x.config.chunk chunk a now.sent s l
 
   -- and of each quiet chunk
   abbrev pub QuietStaysStill : Type 0
-  QuietStaysStill = (now : History D) (a : Account) (id chunk : ℕ) (view : View) (s : Server) → IsNumber chunk → IsReached x now a → IsQuiet a chunk view → is_member view.members id ≡ true → slice_get now.nodes.servers id ≡ Some s →
-      IsStill chunk view s × TakesNoEdit now.sent chunk id s
+  QuietStaysStill = (now : History D) (a : Account) (id chunk : ℕ) (view : View) (s : Server) → IsReached x now a → IsQuiet a chunk view → is_member view.members id ≡ true → slice_get now.nodes.servers id ≡ Some s →
+      IsStill x.config.chunk a chunk view s × TakesNoEdit now.sent chunk id s
 
 -- ---- Worked
 a_text_holds_itself : (stored : Stored) → HoldsWhereWhole stored stored.bytes

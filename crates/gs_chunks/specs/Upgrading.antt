@@ -1,20 +1,16 @@
 -- An upgrade within a run, and what of its prepare survives.
-use Rattle.gs_base.specs.Stamps.{is_same}
-use Rattle.gs_base.specs.declared.numbers.Stamp.{Stamp}
-use Rattle.std.specs.Prelude.{[], ◌&&◌, ◌==◌, ◌||◌, ◌∷◌, ◌≡◌, Bool, List, None, Option, Some, false, refl, true, ℕ}
+use Rattle.std.specs.Prelude.{[], slice_get, ◌&&◌, ◌==◌, ◌||◌, ◌∷◌, ◌≡◌, Bool, List, None, Option, Some, false, refl, true, ℕ}
 use Rattle.std.specs.List.{AllByRecursion}
 use Rattle.gs_base.specs.Members.{is_member}
 use Rattle.gs_base.specs.declared.numbers.ClientId.{ClientId}
 use Rattle.gs_base.specs.declared.numbers.Moment.{Moment}
 use Rattle.gs_account.specs.Accounts.{Account, view_at}
-use Rattle.gs_account.specs.Moving.{event_at}
+use Rattle.gs_account.specs.Moving.{call_in, event_at}
 use Rattle.gs_moves.specs.Epochs.{prepares}
 use Rattle.gs_account.specs.Running.{IsReached, Moves, Runs, Setup}
-use Rattle.gs_msg.specs.declared.body.Body.{Body}
-use Rattle.gs_msg.specs.declared.body.Body.TheVariants as bodies
-use Rattle.gs_msg.specs.declared.chunk.Chunk.TheVariants as chunks
-use Rattle.gs_server.specs.Runs as at_server
 use Rattle.gs_state.specs.Chunks.{members_in}
+use Rattle.gs_store.specs.Calls as calls
+use Rattle.gs_store.specs.Calls.{Call}
 use Rattle.gs_state.specs.Durable.{is_listed, is_ordinary, prepared_view}
 use Rattle.gs_state.specs.declared.asking.Prepared.{Prepared}
 use Rattle.gs_run.specs.Histories.{History}
@@ -27,7 +23,7 @@ abbrev pub is_holder : ℕ → Option Prepared → Bool
 is_holder server None = false
 is_holder server (Some prepared) = is_member prepared.holders server
 
--- Of a chunk that a file had at the prepare: a view that is kept of any other, as one that was taken out before a restart, is one that the master has no more.
+-- Of a chunk that a file had at the prepare, or before: a view that is kept of any other, as one that was taken out before a restart, is one that the master has no more.
 abbrev pub is_current : Account → Account → ℕ → ℕ → Bool
 is_current before now chunk server = is_listed before.durable chunk && (is_member (members_in (view_at before chunk)) server || is_holder server (prepared_view now.durable chunk))
 
@@ -50,21 +46,17 @@ is_harm chunk server (Takes client) = false
 abbrev pub Spare : ℕ → ℕ → List Step → Type 0
 Spare chunk server steps = AllByRecursion (λ step. is_harm chunk server step ≡ false) steps
 
--- a server is told to drop what it has of a chunk under this promise
-abbrev pub is_drop : ℕ → Stamp → Option at_server.Event → Bool
-is_drop chunk promise None = false
-is_drop chunk promise (Some (at_server.Hears message moment)) = drops message.body
-  where
-    drops : Body → Bool
-    drops (bodies.About handle (chunks.Drop epoch stamp)) = (handle == chunk) && is_same stamp promise
-    drops body = false
-is_drop chunk promise (Some event) = false
+-- a call by which a server drops what it has of a chunk
+abbrev pub is_drop : Option Call → Bool
+is_drop (Some (calls.Drops promise)) = true
+is_drop call = false
 
 module _ {D : Type 0} (x : Setup D) where
-  -- in none of the steps of a run it is told so
-  abbrev pub DropsNone : (chunk server : ℕ) (promise : Stamp) (steps : List Step) (old : History D) (a : Account) (new : History D) (b : Account) → Runs x steps old a new b → Type 0
-  DropsNone chunk server promise [] old a new b runs = Unit {0}
-  DropsNone chunk server promise (step ∷ steps) old a new b (mid, c, moves, rest) = (is_drop chunk promise (event_at step old.sent server) ≡ false) × DropsNone chunk server promise steps mid c new b rest
+  -- in no step of a run does it do so: a drop that it refuses is none
+  abbrev pub DropsNone : (chunk server : ℕ) (steps : List Step) (old : History D) (a : Account) (new : History D) (b : Account) → Runs x steps old a new b → Type 0
+  DropsNone chunk server [] old a new b runs = Unit {0}
+  DropsNone chunk server (step ∷ steps) old a new b (mid, c, moves, rest) =
+      (is_drop (call_in chunk (event_at step old.sent server) (slice_get old.nodes.servers server)) ≡ false) × DropsNone chunk server steps mid c new b rest
 
   -- steps behind each of which an upgrade stands, or is being rolled back: none is finalized or rolled back
   abbrev pub RunsUpgraded : List Step → History D → Account → History D → Account → Type 0

@@ -7,16 +7,15 @@ ghost use Rattle.gs_base.specs.declared.numbers.ReqId.{ReqId};
 ghost use Rattle.gs_account.specs.Running.{Setup};
 ghost use Rattle.gs_chunks.specs.Agreeing.{BirthsAgree, BlanksStay, ListsStayOn, MastersAgree, MastersKeepLists, ServersAgree, ServersKeepLists, StillAgree, StillKeepsLists};
 ghost use Rattle.gs_chunks.specs.Reached.{EachIsARun, EachLeadsOn};
+ghost use Rattle.gs_chunks.specs.Copying.{CopiesAreOfViews, CopiesInherit};
 ghost use Rattle.gs_chunks.specs.Acknowledged.{DoneStays, RepeatsAreAlike};
+ghost use Rattle.gs_chunks.specs.Asked.{EditsWereAsked};
 ghost use Rattle.gs_chunks.specs.Joining.{StoresAgreeFirst, StoresAgreeOn};
-ghost use Rattle.gs_chunks.specs.Reading.{LocationsWereLookedUp, ReadsAreLegal};
+ghost use Rattle.gs_chunks.specs.Reading.{BytesAreFetched, LocationsWereLookedUp, ReadsAreLegal};
 ghost use Rattle.gs_chunks.specs.Sealing.{RolledBackStay, SurvivorsKeepTheirText, SurvivorsName};
 ghost use Rattle.gs_chunks.specs.Standing.{QuietStaysStill, ReplicasStand};
 ghost use Rattle.gs_chunks.specs.Durables.{ToldIsHad};
 ghost use Rattle.gs_chunks.specs.Seeing.{EachIsSeen, EachSeesOn, StoresStayIntact};
-ghost use Rattle.gs_chunks.specs.SeenEdits.{SeenDonesStay};
-ghost use Rattle.gs_chunks.specs.SeenReads.{SeenReadsAreLegal};
-ghost use Rattle.gs_chunks.specs.Seen.{PreparesSettled, SeenQuietIsStill, SeenReplicasStand, SeenRolledBackStay, SeenSurvivorsKeep, SeenSurvivorsName, UnbornHaveNone};
 
 use gs_block::promises::configurations_have_sizes;
 use gs_serving::{a_message_edits_a_replica_by_what_it_says, an_event_calls_what_it_says};
@@ -58,12 +57,6 @@ pub fn what_accounts_have_as_machines_stays<D>()
     a_message_edits_a_replica_by_what_it_says();
 }
 
-/// In one world of a run, each live replica of a chunk that is born stands for a beginning of a list of the account; of one that isn't born no server has a live replica.
-pub fn seen_replicas_stand<D>()
-    ensures stands { (x : Setup D) (bytes : ReqId → List ℕ) → SeenReplicasStand x bytes }
-    ensures unborn { (seen : D → List ℕ) → UnbornHaveNone seen }
-{}
-
 /// The account of a run of a store agrees with the machines of all its chunks when the store begins new, and behind each step where it did so before it. A copy was born with
 /// what the account has of the view that it is a copy of.
 pub fn accounts_of_stores_agree_with_machines<D>()
@@ -72,41 +65,6 @@ pub fn accounts_of_stores_agree_with_machines<D>()
 {
     a_message_edits_a_replica_by_what_it_says();
 }
-
-/// In one world of a run, each member of a quiet chunk that has a live replica has as many edits as the view counts, under its stamp; and no message that was sent makes it take
-/// another.
-pub fn seen_quiet_chunks_are_still<D>()
-    ensures { (x : Setup D) (bytes : ReqId → List ℕ) → SeenQuietIsStill x bytes }
-{
-    an_event_calls_what_it_says();
-}
-
-/// From the world right behind an accepted prepare to a later one, in which the upgrade stands or is being rolled back, each server that survives keeps the text of the prepare; and
-/// while it is rolled back it names the chunk, where it learns of that and where it is told so again. One that has rolled back
-/// has that text also later, as long as its replica is live and undamaged under the same promise.
-pub fn seen_survivors_keep_what_stood<D>()
-    ensures keep { (x : Setup D) (bytes : ReqId → List ℕ) → SeenSurvivorsKeep x bytes }
-    ensures name { (x : Setup D) (bytes : ReqId → List ℕ) → SeenSurvivorsName x bytes }
-    ensures stay { (x : Setup D) (bytes : ReqId → List ℕ) → SeenRolledBackStay x bytes }
-{}
-
-/// From a world of a run in which a chunk is looked up to a later one, each read under the view and the epoch that were told, of a member of the view, gives the part that was asked for of the
-/// text of a beginning of the view's list or a later one's, with all edits that were settled at the look-up.
-pub fn seen_reads_are_legal<D>()
-    ensures { (x : Setup D) (bytes : ReqId → List ℕ) → SeenReadsAreLegal x bytes }
-{}
-
-/// An edit that a client was told done, as the machine of its chunk has it, was numbered under the stamp that it was asked for under, once, and stands in no list of a lower stamp; or it passed a
-/// full chunk. In each later world of the run in which a file has the chunk it is settled, at the same place, with the same edits before it, unless the upgrade within which
-/// it was numbered was rolled back.
-pub fn seen_done_edits_stay<D>()
-    ensures { (x : Setup D) (bytes : ReqId → List ℕ) → SeenDonesStay x bytes }
-{}
-
-/// Right behind a prepare, of which the records tell, and of nothing that was changed since, the settled view of each chunk that a file has is the prepared one.
-pub fn settled_views_are_prepared()
-    ensures { PreparesSettled }
-{}
 
 /// Who survives by the account of a run, of those from whom a rollback may take a chunk, is intact in the chunk's machine, behind each step of a store at which it was so before it.
 pub fn accounts_tell_who_is_intact<D>()
@@ -125,7 +83,7 @@ pub fn all_chunks_are_seen<D>()
 }
 
 /// Behind each run of a store, each live replica stands for a beginning of a list: it has applied that many edits of one view's list, from the first on, has as many bytes as they leave, and each of its blocks that
-/// isn't damaged holds theirs. Here and below a run is one that has begun new, in which no disk of the master fails, all that is asked is within its types, and different blocks have different digests.
+/// has its digest holds theirs. The list is the chunk's own, or, until a view of a copy is settled, that of which it is a copy. Here and below a run is one that has begun new, in which no disk of the master fails, all that is asked is within its types, and different blocks have different digests.
 pub fn replicas_stand_for_beginnings_of_lists<D>()
     ensures { (x : Setup D) → ReplicasStand x }
 {
@@ -133,8 +91,8 @@ pub fn replicas_stand_for_beginnings_of_lists<D>()
     a_message_edits_a_replica_by_what_it_says();
 }
 
-/// Behind each run each member of a quiet chunk, of which the view was settled without a primary and no other is proposed, has as many edits as the view counts, under its stamp, unless its replica is lost. No message that was
-/// ever sent makes it take another edit.
+/// Behind each run each member of a quiet chunk, of which the view was settled without a primary and no other is proposed, while no rollback is going on, has as many edits as the view counts, under its stamp, unless its replica
+/// is lost, and they are all that is settled. No message that was ever sent makes it take another edit.
 pub fn quiet_chunks_are_still<D>()
     ensures { (x : Setup D) → QuietStaysStill x }
 {
@@ -143,8 +101,19 @@ pub fn quiet_chunks_are_still<D>()
     an_event_calls_what_it_says();
 }
 
-/// An edit that a client was told done was numbered under the stamp that it was asked for under, once, or it passed a full chunk. It is settled then and in each later world of the run in which a file has the chunk, at
-/// the same place, behind the same edits, unless the upgrade within which it was numbered was rolled back. Whoever is told twice of one request is told alike, but for a full chunk that was passed.
+/// Each edit in each list that the account of a run has, of whichever chunk and view, is one that was asked for: a message was sent that asks for it, and it is what is numbered for that operation behind the edits
+/// before it, with the bytes that were pushed, or a pad where its record didn't fit. All that was ever sent for its request asks for the same, and names the same chunk and the same stamp; and bytes were pushed for it,
+/// unless it is a pad. No record is longer than a quarter of a chunk.
+pub fn each_edit_was_asked_for<D>()
+    ensures { (x : Setup D) → EditsWereAsked x }
+{
+    configurations_have_sizes();
+    a_message_edits_a_replica_by_what_it_says();
+}
+
+/// An edit that a client was told done was numbered under the stamp that it was asked for under, once; or it is a record that passed a full chunk, and no list of that chunk has an edit of its request, then or later. No record is longer than a quarter of a chunk. What was numbered is the edit that was asked for: of this chunk, with the bytes that were pushed, or a
+/// pad where its record didn't fit behind the edits before it. What was numbered is settled then and in each later world of the run in which a file has the chunk, or had it, at
+/// the same place, behind the same edits, unless the upgrade within which it was numbered was rolled back. Whoever is told twice that the edit of one request is done is told the same outcome.
 pub fn done_edits_stay<D>()
     ensures stays { (x : Setup D) → DoneStays x }
     ensures repeats { (x : Setup D) → RepeatsAreAlike x }
@@ -154,9 +123,11 @@ pub fn done_edits_stay<D>()
 }
 
 /// Whatever has happened since a chunk was looked up, a member of the view that was told gives a read in that epoch the part that was asked for of the text of a beginning of the list of this view or a later one, with all
-/// edits that were settled at the look-up; or it refuses.
+/// edits that were settled at the look-up; or it refuses. And whatever is given at any event is given by a server that is asked for that request then, and is the
+/// part asked for of the text of a beginning of a list: nothing else is ever read. That list is the chunk's own, or, until the first view of a copy is settled, that of which it is one.
 pub fn reads_are_legal<D>()
-    ensures { (x : Setup D) → ReadsAreLegal x }
+    ensures legal { (x : Setup D) → ReadsAreLegal x }
+    ensures fetched { (x : Setup D) → BytesAreFetched x }
 {
     configurations_have_sizes();
     a_message_edits_a_replica_by_what_it_says();
@@ -174,10 +145,21 @@ pub fn survivors_keep_what_stood_at_the_prepare<D>()
     a_message_edits_a_replica_by_what_it_says();
 }
 
-/// Each view of a chunk that a client was ever told was looked up in some world of the run: the records told then that a file has the chunk, or had it, that this is its settled view, and that this is the epoch; and
-/// nothing was rolled back. It needn't be where the client was first told: an answer that is kept may be sent later, when another view has been settled.
+/// Each view of a chunk that a client was ever told was looked up in some world of the run in which the call that is answered had been sent: the records told then that a file has the chunk, or had it, that this is its
+/// settled view, and that this is the epoch; and nothing was rolled back. It needn't be where the client was first told: an answer that is kept may be sent later, when another view has been settled.
 pub fn locations_were_looked_up<D>()
     ensures { (x : Setup D) → LocationsWereLookedUp x }
 {
     configurations_have_sizes();
+}
+
+/// A chunk that is a copy, once a view of it is settled, has settled all edits that the chunk of which it is one has under the stamp that was copied, and they stand first. It is so in each
+/// world of each run, also of a chunk that no file has any more; and of the edits that were under that stamp in an earlier world of the run in which it was a copy. That stamp is the one of a view of its source
+/// that was settled right before or right behind the step at which the chunk became a copy, and in which nobody might number; and the source has no other edits under it than it had then, among them all that it had settled in it.
+pub fn copies_inherit<D>()
+    ensures inherit { (x : Setup D) → CopiesInherit x }
+    ensures views { (x : Setup D) → CopiesAreOfViews x }
+{
+    configurations_have_sizes();
+    a_message_edits_a_replica_by_what_it_says();
 }
