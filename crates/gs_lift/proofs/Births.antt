@@ -28,6 +28,7 @@ use Rattle.gs_member.proofs.Beside.{place_beside}
 use Rattle.gs_member.proofs.Unborn.{born_shows}
 use Rattle.gs_entry.specs.Families as families
 use Rattle.gs_entry.specs.Telling as entry
+use Rattle.gs_member.specs.Messages as messages
 use Rattle.gs_entry.specs.Telling.{Says}
 use Rattle.gs_entry.specs.Unborn as unborn
 use Rattle.gs_moves.specs.Asked.{WasHeard}
@@ -68,18 +69,18 @@ before_later chunk epoch later less m before = (before.0, within_later epoch lat
 says_silent : (chunk server : ℕ) (body : Body) → SaysNothing chunk body → Says chunk unborn.silent server body
 says_silent chunk server (bodies.About handle said) says = λ same. by_client said (says same)
   where
-    by_client : (said : About) → IsOfClientAbout said → entry.SaysOf unborn.silent server said
+    by_client : (said : About) → IsOfClientAbout said → messages.SaysOf unborn.silent server said
     by_client (abouts.Edit req stamp op) is = tt
     by_client (abouts.Fetch req stamp epoch asked) is = tt
     by_client said is = absurd is
 says_silent chunk server (bodies.Report epoch replicas) says = all_reports epoch replicas says
   where
-    all_reports : (epoch : ℕ) (replicas : List Reported) → AllByRecursion (λ (r : Reported). r.handle ≡ chunk → ⊥) replicas → AllByRecursion (entry.ReportsIt chunk unborn.silent server epoch) replicas
+    all_reports : (epoch : ℕ) (replicas : List Reported) → AllByRecursion (λ (r : Reported). r.handle ≡ chunk → ⊥) replicas → AllByRecursion (messages.ReportsIt chunk unborn.silent server epoch) replicas
     all_reports epoch [] says = tt
     all_reports epoch (r ∷ replicas) says = ((λ same. absurd (says.0 same)), all_reports epoch replicas says.1)
 says_silent chunk server (bodies.Learned epoch handles) says = all_names epoch handles says
   where
-    all_names : (epoch : ℕ) (handles : List ℕ) → AllByRecursion (λ (handle : ℕ). handle ≡ chunk → ⊥) handles → AllByRecursion (entry.NamesIt chunk unborn.silent server epoch) handles
+    all_names : (epoch : ℕ) (handles : List ℕ) → AllByRecursion (λ (handle : ℕ). handle ≡ chunk → ⊥) handles → AllByRecursion (messages.NamesIt chunk unborn.silent server epoch) handles
     all_names epoch [] says = tt
     all_names epoch (h ∷ handles) says = ((λ same. absurd (says.0 same)), all_names epoch handles says.1)
 says_silent chunk server body says = tt

@@ -39,7 +39,8 @@ use Rattle.gs_server.proofs.Wholes.{each_whole}
 use Rattle.gs_server.proofs.Reached.{held_last, held_promise, sound_where}
 use Rattle.gs_chunk.specs.Machine.{World, WasTold, Epoch, Member}
 use Rattle.gs_member.specs.Showing.{Setting, setting_of, ShowsPlace, BuffersRight}
-use Rattle.gs_member.specs.Telling.{SaysOf, TellsServer, Tells, TellsBody, TellsEpochTo}
+use Rattle.gs_member.specs.Messages.{TellsEpochTo}
+use Rattle.gs_member.specs.Telling.{SaysOf, TellsServer, Tells, TellsBody}
 use Rattle.gs_member.specs.Answering.{handle_in, AnswersOf}
 use Rattle.gs_member.specs.Moving.{CarriesMore, Follows, IsHere, IsNext, IsShown, IsSteps, MadeIntact, Spares}
 use Rattle.gs_member.specs.Blocks.{GoesOn}
@@ -279,7 +280,7 @@ module _ (bytes : ReqId → List ℕ) (born chunk : ℕ) (w : World) (s : Server
   gone_lease Finalize = refl
   gone_lease Rollback = fin.get-empty nat_cmp chunk
 
-  next : (epoch : ℕ) (end : EpochEnd) → epoch ≡ s.kept.epoch + 1 → TellsEpochTo c w (nodes.Server s.me) epoch end
+  next : (epoch : ℕ) (end : EpochEnd) → epoch ≡ s.kept.epoch + 1 → TellsEpochTo c.born w (nodes.Server s.me) epoch end
       → IsSteps Calm c chunk w s.me None (with_leases (leases_after end s.dropped.leases) (with_store (stores.learned epoch end (store_of s)) s)) (tell s.me nodes.Master (bodies.Learned epoch (named_at end epoch (stores.learned epoch end (store_of s)))) ∷ [])
   next epoch end is told =
       let p : Place = place_of chunk s in
@@ -294,7 +295,7 @@ module _ (bytes : ReqId → List ℕ) (born chunk : ℕ) (w : World) (s : Server
       let f2 : Follows Calm c chunk w s.me epoch (place_of chunk s2) [] = subst (λ q. Follows Calm c chunk w s.me epoch q []) (sym place) (subst (λ n. Follows Calm c chunk w s.me n (lifts.gone_on end n p) []) (sym is) f) in
       from_follows c chunk w Calm s.me epoch (place_of chunk s2) _ None s2 (named c chunk w s.me (place_of chunk s2) epoch (place_of chunk s2) (named_at end epoch t) f2 (named_there end epoch t)) refl refl refl refl refl x.buffers ((tt, tt), tt)
 
-  learn_steps : (epoch : ℕ) (end : EpochEnd) → TellsEpochTo c w (nodes.Server s.me) epoch end → IsSteps Calm c chunk w s.me None (learn s epoch end).after (learn s epoch end).sent
+  learn_steps : (epoch : ℕ) (end : EpochEnd) → TellsEpochTo c.born w (nodes.Server s.me) epoch end → IsSteps Calm c chunk w s.me None (learn s epoch end).after (learn s epoch end).sent
   learn_steps epoch end told = by_case (epoch == s.kept.epoch) (epoch == s.kept.epoch + 1) refl refl
     where
       eq_same : (a b : ℕ) → (a == b) ≡ true → a ≡ b
