@@ -12,7 +12,6 @@ use Rattle.gs_base.specs.declared.epoch.EpochEnd.TheVariants.{Prepare, Rollback}
 use Rattle.gs_base.specs.declared.numbers.ReqId.{ReqId}
 use Rattle.gs_base.specs.declared.numbers.Stamp.{Stamp}
 use Rattle.gs_account.specs.Accounts.{Account, settled_edits, settled_in, text_of, view_at}
-use Rattle.gs_lift.specs.Copying.{copied_from}
 use Rattle.gs_account.specs.Running.{Setup}
 use Rattle.gs_chunk.proofs.Facts.{reached_world}
 use Rattle.gs_chunk.proofs.Known.{IsPrepared, Later, Settled}
@@ -27,10 +26,8 @@ use Rattle.gs_chunk.specs.Owning.{AreOwn}
 use Rattle.gs_chunk.specs.Stamps.{epoch_of, stamp_at, start_of}
 use Rattle.gs_laws.specs.Promises.{IsKept}
 use Rattle.gs_lease.specs.declared.view.View.{View}
-use Rattle.gs_lift.proofs.Accounts.{list_begins}
 use Rattle.gs_lift.proofs.Numbered.{any_of}
 use Rattle.gs_lift.proofs.Passing.{passed_has_none}
-use Rattle.gs_lift.specs.Accounts.{BeginsList}
 use Rattle.gs_lift.specs.Numbered.{StandsFirst, any_stamp, asked_under, stamp_in}
 use Rattle.gs_lift.specs.Answers.{HasPassed}
 use Rattle.gs_lift.specs.Going.{AllSent}
@@ -111,23 +108,29 @@ module _ {D : Type 0} (x : Setup D) (bytes : ReqId → List ℕ) (chunk : ℕ) (
       | inr (u, at_u, late, stood, same) ↦ passed_has_none x.seen x.config bytes asked first.alive.reached.0.epoch chunk now.sent w req outcome told has u place edit (subst (λ xs. slice_get xs place ≡ Some edit) same stands)
     ]
 
+    p : IsPassed c w has.under req has.op outcome
+    p = has.passed
+
+    -- the account has seen the view under which it was asked for, since a server might number in it
+    list_under : a.list chunk has.under ≡ w.known.list p.stamp
+    list_under = ap (a.list chunk) p.under_is ∙ elim (first.agrees.lists.own p.stamp p.led.stood p.led.late) [
+      | inl same ↦ same
+      | inr unseen ↦ absurd (let held = p.led.holder in let free = unseen.free in cc)
+    ]
+
     passed : PassedFull x.config.chunk now.sent a chunk req outcome
-    passed =
-        let p : IsPassed c w has.under req has.op outcome = has.passed in
-        let begins : BeginsList a.list (copied_from now.sent chunk) chunk p.before = list_begins a.list (copied_from now.sent chunk) chunk first.alive.reached.0 w p.by p.stamp p.before p.behind first.alive.reached.1 first.agrees.lists p.promised p.stands in record {
-          padded = p.padded;
-          was = (has.message, has.under, has.op, has.was, has.says);
-          asked = λ message handle under op was says.
-              let e = (one was.0 message was.1).edits handle req under op says in
-              let same = same_write handle chunk e.0 has.members e.1 has.primary under has.under op has.op _ _ (sym e.2 ∙ has.asks) in
-              (same.0, ap (is_too_long x.config.chunk) same.2 ∙ p.short, ap (is_passed x.config.chunk x.config.chunk) same.2 ∙ p.passed);
-          source = begins.source;
-          stamp = begins.stamp;
-          own = begins.own;
-          count = length p.before;
-          full = ap (λ xs. length (text_of x.config.chunk xs)) (ap (take (length p.before)) begins.beginning ∙ front_of p.before begins.behind) ∙ p.full;
-          none = none_stands;
-        }
+    passed = record {
+      padded = p.padded;
+      stamp = has.under;
+      was = (has.message, has.op, has.was, has.says);
+      asked = λ message handle under op was says.
+          let e = (one was.0 message was.1).edits handle req under op says in
+          let same = same_write handle chunk e.0 has.members e.1 has.primary under has.under op has.op _ _ (sym e.2 ∙ has.asks) in
+          (same.0, same.1, ap (is_too_long x.config.chunk) same.2 ∙ p.short, ap (is_passed x.config.chunk x.config.chunk) same.2 ∙ p.passed);
+      count = length p.before;
+      full = ap (λ xs. length (text_of x.config.chunk xs)) (ap (take (length p.before)) (list_under ∙ p.stands) ∙ front_of p.before p.behind) ∙ p.full;
+      none = none_stands;
+    }
 
   module _ (asked : ℕ → Asked) (me : ℕ) (req : ReqId) (told : EditsStandFirst x.seen x.config bytes asked w.known chunk) (right : AllSent (PushRight bytes) now.sent) (one : AllSent (IsOfOneEdit asked) now.sent) (heard : AreOwn (λ before edit. WasAskedFor now.sent edit) w.known) (pushed : WerePushed now.sent a chunk) (asks : AsksFor asked chunk req) (answer : IsAnswered c w me req outcome) where
     abbrev t : ℕ

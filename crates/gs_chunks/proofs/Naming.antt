@@ -15,8 +15,7 @@ use Rattle.gs_chunk.specs.Laws.{Birth, IsSurvivor, IsUpgrading, world_of}
 use Rattle.gs_chunk.specs.Machine as machine
 use Rattle.gs_chunk.specs.Machine.{Entry, WasTold, World}
 use Rattle.gs_entry.proofs.Stamps.{of_member}
-use Rattle.gs_lift.proofs.Machines.{leads_whole}
-use Rattle.gs_member.proofs.Resting.{epochs_known}
+use Rattle.gs_member.proofs.Resting.{epochs_known, leads_whole}
 use Rattle.gs_member.proofs.Beside.{shown_beside}
 use Rattle.gs_member.proofs.Lists.{any_of}
 use Rattle.gs_member.proofs.Renaming.{message_steps}

@@ -10,7 +10,6 @@ use Rattle.gs_msg.specs.declared.op.Op.{Op}
 use Rattle.gs_primary.specs.Numbering.{is_passed, is_too_long}
 use Rattle.gs_account.specs.Accounts.{Account, settled_edits, text_of}
 use Rattle.gs_account.specs.Running.{IsReached, Runs, Setup}
-use Rattle.gs_lift.specs.Copying.{copied_from}
 use Rattle.gs_lift.specs.Owning.{IsNumberedOp}
 use Rattle.gs_run.specs.Runs.{Step}
 use Rattle.gs_run.specs.Sent.{IsSent, Sent}
@@ -63,17 +62,16 @@ pub record IsNumbered (size : ℕ) (sent : Sent) (a : Account) (chunk : ℕ) (re
   pub asked : IsAskedHere size sent chunk req stamp (take place (a.list chunk stamp)) once.edit
   pub answered : outcome ≡ outcome_at once.edit.op (length (text_of size (take place (a.list chunk stamp))))
 
--- A record passed the chunk, whose text was full: no list of the chunk has an edit of its request. A message was sent that asks for the edit of this request, and each
--- that was ever sent asks to append a record of some bytes, no longer than a quarter of a chunk, in this chunk. The full text is that of the first edits of a list of the chunk's own, or of the chunk of which it is a copy, under the stamp that was copied.
+-- A record passed the chunk, whose text was full: no list of the chunk has an edit of its request. A message was sent that asks for the edit of this request under this stamp, and each
+-- that was ever sent asks to append a record of some bytes, no longer than a quarter of a chunk, in this chunk, under this stamp. The full text is that of the first edits of the chunk's list under it.
 pub record PassedFull (size : ℕ) (sent : Sent) (a : Account) (chunk : ℕ) (req : ReqId) (outcome : Outcome) : Type 0 where
   pub padded : outcome ≡ outcomes.Padded
-  pub was : (message : Message) × (under : Stamp) × (op : Op) × IsSent message sent × (message.body ≡ bodies.About chunk (chunks.Edit req under op))
-  pub asked : (message : Message) (handle : ℕ) (under : Stamp) (op : Op) → IsSent message sent → message.body ≡ bodies.About handle (chunks.Edit req under op) → (handle ≡ chunk) × (is_too_long size op ≡ false) × (is_passed size size op ≡ true)
-  pub source : ℕ
   pub stamp : Stamp
-  pub own : (source ≡ chunk) ⊎ (copied_from sent chunk ≡ Some (source, stamp))
+  pub was : (message : Message) × (op : Op) × IsSent message sent × (message.body ≡ bodies.About chunk (chunks.Edit req stamp op))
+  pub asked : (message : Message) (handle : ℕ) (under : Stamp) (op : Op) → IsSent message sent → message.body ≡ bodies.About handle (chunks.Edit req under op)
+      → (handle ≡ chunk) × (under ≡ stamp) × (is_too_long size op ≡ false) × (is_passed size size op ≡ true)
   pub count : ℕ
-  pub full : length (text_of size (take count (a.list source stamp))) ≡ size
+  pub full : length (text_of size (take count (a.list chunk stamp))) ≡ size
   pub none : (under : Stamp) (place : ℕ) (edit : Edit) → slice_get (a.list chunk under) place ≡ Some edit → edit.req ≢ req
 
 -- the epoch of a stamp was ended by a rollback
@@ -90,7 +88,7 @@ pub record IsSettledStill (a now : Account) (chunk : ℕ) (req : ReqId) (stamp :
   pub once : StandsOnce (settled_edits now chunk) req place
 
 module _ {D : Type 0} (x : Setup D) where
-  -- An edit that a client was told done was numbered, once; or it passed a full chunk, which has no edit of its request, in this world and in each later one. What was numbered is settled in this world and in each later one in which a file has
+  -- An edit that a client was told done was numbered, once; or it passed a chunk that is full under the stamp of its request, and has no edit of it, in this world and in each later one. What was numbered is settled in this world and in each later one in which a file has
   -- the chunk, unless the upgrade within which it was numbered was rolled back.
   abbrev pub DoneStays : Type 0
   DoneStays = (now later : History D) (a b : Account) (steps : List Step) (req : ReqId) (outcome : Outcome) → IsReached x now a → Runs x steps now a later b → WasDone now.sent req outcome →

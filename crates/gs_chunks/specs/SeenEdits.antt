@@ -30,7 +30,7 @@ abbrev pub WerePushed : Sent → Account → ℕ → Type 0
 WerePushed sent a chunk = (under : Stamp) (place : ℕ) (edit : Edit) → slice_get (a.list chunk under) place ≡ Some edit → edit.op ≢ applied.Pad → WasPushed sent edit.req
 
 -- What a chunk's machine has done, of a request for this chunk, where edits that were asked for stand first in the views of their stamps, all that was sent for a request is of its one edit, and a message was sent for each edit, and bytes pushed for it: it was numbered, once, or passed a
--- full chunk, which has no edit of the request, now and later; and what was numbered is settled in each later world in which a file has the chunk, unless the upgrade within which it was numbered was rolled back.
+-- chunk that is full under the stamp of its request, and has no edit of it, now and later; and what was numbered is settled in each later world in which a file has the chunk, unless the upgrade within which it was numbered was rolled back.
 abbrev pub SeenDonesStay : {D : Type 0} → Setup D → (ReqId → List ℕ) → Type 0
 SeenDonesStay {D} x bytes = (asked : ℕ → Asked) (chunk me : ℕ) (req : ReqId) (outcome : Outcome) (now later : History D) (a b : Account)
     → (first : IsSeen x bytes chunk now a) (last : IsSeen x bytes chunk later b) → SeenOn x bytes chunk now a later b first last → StaySent now.sent later.sent → EditsStandFirst x.seen x.config bytes asked first.alive.world.known chunk → EditsStandFirst x.seen x.config bytes asked last.alive.world.known chunk → AllSent (PushRight bytes) now.sent → AllSent (IsOfOneEdit asked) now.sent → AllSent (IsOfOneEdit asked) later.sent → AreOwn (λ before edit. WasAskedFor now.sent edit) first.alive.world.known → WerePushed now.sent a chunk → AsksFor asked chunk req → IsKept b.durable

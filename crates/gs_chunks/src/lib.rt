@@ -111,7 +111,7 @@ pub fn each_edit_was_asked_for<D>()
     a_message_edits_a_replica_by_what_it_says();
 }
 
-/// An edit that a client was told done was numbered under the stamp that it was asked for under, once; or it is a record that passed a full chunk, and no list of that chunk has an edit of its request, then or later. No record is longer than a quarter of a chunk. What was numbered is the edit that was asked for: of this chunk, with the bytes that were pushed, or a
+/// An edit that a client was told done was numbered under the stamp that it was asked for under, once; or it is a record that passed a full chunk: the full text is of the view under whose stamp it was asked for, and no list of that chunk has an edit of its request, then or later. No record is longer than a quarter of a chunk. What was numbered is the edit that was asked for: of this chunk, with the bytes that were pushed, or a
 /// pad where its record didn't fit behind the edits before it. What was numbered is settled then and in each later world of the run in which a file has the chunk, or had it, at
 /// the same place, behind the same edits, unless the upgrade within which it was numbered was rolled back. Whoever is told twice that the edit of one request is done is told the same outcome.
 pub fn done_edits_stay<D>()

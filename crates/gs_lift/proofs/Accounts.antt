@@ -51,7 +51,7 @@ module _ (list : Lists) (copied : Option (ℕ × Stamp)) (chunk : ℕ) (b : Birt
           lower unseen.lower (omega arith) edits (rest ++ more.0) (more.1 ∙ ap (λ (xs : List Edit). xs ++ more.0) is ∙ append_assoc edits rest more.0)
 
 -- the first edits of a list, where a server has promised a stamp
-pub list_begins : (list : Lists) (copied : Option (ℕ × Stamp)) (chunk : ℕ) (b : Birth) (w : World) (me t : ℕ) (edits rest : List Edit) → Leads (world_of b) w → ListsShow list copied chunk b w → 0 < (w.members me).promise → w.known.list t ≡ edits ++ rest → BeginsList list copied chunk edits
+list_begins : (list : Lists) (copied : Option (ℕ × Stamp)) (chunk : ℕ) (b : Birth) (w : World) (me t : ℕ) (edits rest : List Edit) → Leads (world_of b) w → ListsShow list copied chunk b w → 0 < (w.members me).promise → w.known.list t ≡ edits ++ rest → BeginsList list copied chunk edits
 list_begins list copied chunk b w me t edits rest leads shows promised is = of_list list copied chunk b w leads shows (t + 1) t (omega arith) edits rest is
 
 -- the edits of a live replica

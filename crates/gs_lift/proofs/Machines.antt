@@ -8,24 +8,12 @@ use Rattle.gs_chunk.specs.Laws.{IsReached, world_of}
 use Rattle.gs_chunk.proofs.Known.{Later}
 use Rattle.gs_chunk.proofs.Worlds.{WorldOk, leads_later, leads_then}
 use Rattle.gs_chunk.proofs.Facts.{reached_world}
-use Rattle.gs_member.specs.Moving.{LeadsWhole}
 use Rattle.gs_chunk.specs.Lists.{ListsAreOld}
 use Rattle.gs_entry.specs.Families.{IsFixed}
 
 module _ (w : World) (reached : IsReached w) where
   ok : WorldOk w
   ok = reached_world w reached
-
-  -- the replica of a primary has the whole list of its view
-  pub leads_whole : (me : ℕ) → LeadsWhole w me
-  leads_whole me l edits held at live =
-      let v = ok.views me in
-      let lease = v.lease l held in
-      let within : (w.members me).promise ≤ w.known.view = subst (λ t. t ≤ w.known.view) at lease.within in
-      let holder : w.known.holder (w.members me).promise ≡ Some me = subst (λ t. w.known.holder t ≡ Some me) at lease.holder in
-      let long = v.whole within holder edits live in
-      let begins = (v.member within (ok.known.held (w.members me).promise me within holder) edits live).1 in
-      (sym (begins.stands ∙ take_all (length edits) (w.known.list (w.members me).promise) (omega arith)), (let s = (ok.entry).stamp in omega arith))
 
   -- the epochs that are known are those of the master
   pub current_is : w.known.current ≡ w.entry.epoch

@@ -37,7 +37,7 @@ use Rattle.gs_lift.specs.Going.{about_of, cause_at, Beats, Damages, Hears, Loses
 use Rattle.gs_lift.specs.Joint.{AtServer, GoesTo}
 use Rattle.gs_lift.specs.Showing.{AreToldApart, IsServer, Keeps, ShowsMaster, ShowsNodes, setting}
 use Rattle.gs_lift.proofs.Joint.{body_grown}
-use Rattle.gs_lift.proofs.Machines.{leads_whole}
+use Rattle.gs_member.proofs.Resting.{leads_whole}
 use Rattle.gs_lift.proofs.Posting.{posted_all, sent_then}
 
 -- ---- one of several

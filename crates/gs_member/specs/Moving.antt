@@ -17,7 +17,7 @@ use Rattle.gs_chunk.specs.Events.{Leads}
 use Rattle.gs_chunk.specs.Stamps.{epoch_of}
 use Rattle.gs_member.specs.Showing.{Setting, setting_at, IsLaterOne, LiveIsLater, ShowsPlace, ShowsMember, BuffersRight}
 use Rattle.gs_member.specs.Telling.{Tells}
-use Rattle.gs_member.specs.Answering.{Answers, AnswersOf}
+use Rattle.gs_member.specs.Answering.{Answers, AnswersOf, IsLed}
 use Rattle.gs_member.specs.Blocks.{GoesOn}
 use Rattle.gs_member.specs.Causes.{Cause, Calm, spares, Numbers}
 
@@ -80,9 +80,9 @@ pub record IsToldApart (block size : ℕ) (s : Slot) (m : Member) : Type 0 where
   pub live : (edits : List Edit) → m.live ≡ Some edits → IsToldIn block size s edits
   pub image : (edits : List Edit) → m.image ≡ Some edits → SealToldIn block size s edits
 
--- the replica of a primary has the whole list of the view in which it numbers edits, which was settled
+-- The replica of a primary has the whole list of the view in which it numbers edits, which was settled. Wherever the machine goes on that view is one in which a server may number.
 abbrev pub LeadsWhole : World → ℕ → Type 0
-LeadsWhole w me = (l : Lease) (edits : List Edit) → (w.members me).lease ≡ Some l → l.stamp ≡ (w.members me).promise → (w.members me).live ≡ Some edits → (w.known.list (w.members me).promise ≡ edits) × ((w.members me).promise ≤ w.entry.view.stamp)
+LeadsWhole w me = (l : Lease) (edits : List Edit) → (w.members me).lease ≡ Some l → l.stamp ≡ (w.members me).promise → (w.members me).live ≡ Some edits → (w.known.list (w.members me).promise ≡ edits) × ((w.members me).promise ≤ w.entry.view.stamp) × ((last : World) → Leads w last → IsLed last.known (w.members me).promise)
 
 -- what the machine was told of an epoch is how the epoch began
 abbrev pub EpochsAreKnown : World → Type 0
