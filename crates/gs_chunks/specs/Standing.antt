@@ -53,7 +53,7 @@ pub record IsQuiet (a : Account) (chunk : ℕ) (view : View) : Type 0 where
   pub still : settled.is_moving ≡ false
   pub calm : is_rolling a.durable.phase ≡ false
 
--- a member's replica, if it isn't lost, is under the view's stamp, has the view's count, and stands for all edits that are settled; each block
+-- a member's live replica, if it has one, is under the view's stamp, has the view's count, and stands for all edits that are settled; each block
 -- that isn't damaged holds theirs
 pub record IsStill (size : ℕ) (a : Account) (chunk : ℕ) (view : View) (s : Server) : Type 0 where
   pub stamp : (l : Live) → (slot_in chunk s).live ≡ Some l → is_same (slot_in chunk s).promise view.stamp ≡ true

@@ -91,8 +91,8 @@ pub fn replicas_stand_for_beginnings_of_lists<D>()
     a_message_edits_a_replica_by_what_it_says();
 }
 
-/// Behind each run each member of a quiet chunk, of which the view was settled without a primary and no other is proposed, while no rollback is going on, has as many edits as the view counts, under its stamp, unless its replica
-/// is lost, and they are all that is settled. No message that was ever sent makes it take another edit.
+/// Behind each run each member of a quiet chunk, of which the view was settled without a primary and no other is proposed, while no rollback is going on, has as many edits as the view counts, under its stamp, if it has a live
+/// replica, and they are all that is settled. No message that was ever sent makes it take another edit.
 pub fn quiet_chunks_are_still<D>()
     ensures { (x : Setup D) → QuietStaysStill x }
 {
