@@ -63,7 +63,8 @@ use Rattle.gs_account.proofs.Told.{named, one_lasts, reached_sound}
 use Rattle.gs_account.specs.Accounts.{Account}
 use Rattle.gs_account.specs.Running.{IsArmed, IsNew, IsReached, Moves, Runs, Setup}
 use Rattle.gs_chunks.proofs.Durables.{told_is_had}
-use Rattle.gs_chunks.proofs.Reached.{each_is_a_run}
+use Rattle.gs_chunks.proofs.Edits.{AreNumbered}
+use Rattle.gs_chunks.proofs.Seeing.{each_is_a_run}
 use Rattle.gs_chunks.specs.Locating.{IsLocatedAt, KeepsAt, LocatesSo, WaitAt, WereLookedUp}
 use Rattle.gs_chunks.specs.Reading.{LocationsWereLookedUp, WasCalled, WasLookedUp}
 
@@ -267,7 +268,7 @@ module _ {D : Type 0} (x : Setup D) where
 
   -- ---- a step
 
-  module _ (sizes : HaveSizes) (step : Step) (old new : History D) (a b : Account) (r : IsReached x old a) (moves : Moves x step old a new b) (were : WereLookedUp x old a) where
+  module _ (sizes : HaveSizes) (law : AreNumbered) (step : Step) (old new : History D) (a b : Account) (r : IsReached x old a) (moves : Moves x step old a new b) (were : WereLookedUp x old a) where
     abbrev Then : ReqId → ℕ → View → ℕ → Type 0
     Then = WasLookedUp x new b
 
@@ -301,7 +302,7 @@ module _ {D : Type 0} (x : Setup D) where
     by_kind (OfServer id s after messages moment found goes met servers master posted) = elsewhere moment (ids.Server id) messages master posted (servers_silent Then messages (goes_by old.sent id s after messages goes))
     by_kind (Elsewhere by messages moment are servers master posted) = elsewhere moment by messages master posted (clients_silent Then messages are)
     by_kind (OfMaster place messages moment goes servers master posted) =
-        let run = each_is_a_run sizes x old a r in
+        let run = each_is_a_run sizes law x old a r in
         let lives = run.2.lives in
         let does = masters_do x.seen x.failures x.armed old.nodes.config old.sent old.nodes.master place messages lives.lasts (sym (ap (failures_at x.failures) master) ∙ moves.steps.sound) goes in
         let so = masters_locate x.seen x.config _ x.among step old new lives x.armed r.begins.given.armed place messages were.waits does in
@@ -317,9 +318,9 @@ module _ {D : Type 0} (x : Setup D) where
 
   -- ---- a run
 
-  run_locates : HaveSizes → (steps : List Step) (old new : History D) (a b : Account) → IsReached x old a → WereLookedUp x old a → Runs x steps old a new b → WereLookedUp x new b
-  run_locates sizes [] old new a b r were same = subst (λ h. WereLookedUp x h b) (sym same.0) (subst (WereLookedUp x old) (sym same.1) were)
-  run_locates sizes (step ∷ steps) old new a b r were (mid, c, moves, rest) = run_locates sizes steps mid new c b (reached_then step old mid a c r moves) (step_locates sizes step old mid a c r moves were) rest
+  run_locates : HaveSizes → AreNumbered → (steps : List Step) (old new : History D) (a b : Account) → IsReached x old a → WereLookedUp x old a → Runs x steps old a new b → WereLookedUp x new b
+  run_locates sizes law [] old new a b r were same = subst (λ h. WereLookedUp x h b) (sym same.0) (subst (WereLookedUp x old) (sym same.1) were)
+  run_locates sizes law (step ∷ steps) old new a b r were (mid, c, moves, rest) = run_locates sizes law steps mid new c b (reached_then step old mid a c r moves) (step_locates sizes law step old mid a c r moves were) rest
 
   -- a store that has begun new
   first_locates : HaveSizes → (begun : History D) (first : Account) → IsNew x begun first → WereLookedUp x begun first
@@ -335,8 +336,8 @@ module _ {D : Type 0} (x : Setup D) where
           let found = begins_restarted x.seen x.failures x.armed x.config x.clients x.disks begun new.given.new new.begins in
           both_none found.0 caller chunk view epoch (subst (λ (u : State). KeepsLocation u caller chunk view epoch) found.3 (subst (λ p. KeepsAt x.seen p caller chunk view epoch) found.2 k))
 
-pub locations_were_looked_up : HaveSizes → {D : Type 0} (x : Setup D) → LocationsWereLookedUp x
-locations_were_looked_up sizes x now b req chunk epoch view r (message, sent, is) =
+pub locations_were_looked_up : HaveSizes → AreNumbered → {D : Type 0} (x : Setup D) → LocationsWereLookedUp x
+locations_were_looked_up sizes law x now b req chunk epoch view r (message, sent, is) =
     let first : IsReached x r.begun r.first = record { apart = r.apart; begun = r.begun; first = r.first; steps = []; begins = r.begins; runs = (refl, refl) } in
-    let were = run_locates x sizes r.steps r.begun now r.first b first (first_locates x sizes r.begun r.first r.begins) r.runs in
+    let were = run_locates x sizes law r.steps r.begun now r.first b first (first_locates x sizes r.begun r.first r.begins) r.runs in
     subst (IsToldOnlyIf (WasLookedUp x now b)) is (were.sent sent.0 message sent.1)

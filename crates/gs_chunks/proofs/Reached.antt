@@ -12,7 +12,6 @@ use Rattle.gs_server.specs.Runs.{slot_in}
 use Rattle.gs_server.specs.Servers.{Server}
 use Rattle.gs_state.specs.Durable.{Durable}
 use Rattle.gs_store.specs.Slots.{Live, Slot}
-use Rattle.gs_theorems.specs.Saying.{KeepsTypes}
 use Rattle.gs_world.specs.declared.place.MasterPlace.{MasterPlace}
 use Rattle.gs_world.specs.declared.place.MasterPlace.TheVariants.{Standing, Closed, Away}
 use Rattle.gs_member.specs.Requests.{Asked, bytes_in}
@@ -25,19 +24,13 @@ use Rattle.gs_lift.specs.Unborn.{IsUnknown}
 use Rattle.gs_account.specs.Accounts.{Account}
 use Rattle.gs_account.specs.Running.{AreAmong, IsArmed, IsGiven, ReplicaAmong, Runs, Setup, replica_in}
 use Rattle.gs_account.proofs.Blocks.{blocks_have}
-use Rattle.gs_account.proofs.Told.{arming, named, one_lasts, reached_sound, runs_sound}
-use Rattle.gs_chunks.specs.Reached.{EachIsARun, EachLeadsOn, Shows}
+use Rattle.gs_account.proofs.Told.{arming}
+use Rattle.gs_chunks.specs.Reached.{Shows}
 use Rattle.gs_lift.specs.Going.{AllSent}
-use Rattle.gs_lift.specs.Living.{LeadsOn, StoreLives}
 use Rattle.gs_lift.specs.Saying.{PushRight}
 use Rattle.gs_lift.specs.Showing.{Keeps}
-use Rattle.gs_lift.proofs.AskingRuns.{ask_on, asked_over, of_one_edit, pushes_right}
 use Rattle.gs_lift.proofs.Beginning.{silent_at}
-use Rattle.gs_lift.proofs.Keeping.{keeps_then}
-use Rattle.gs_lift.proofs.Placing.{kind_of}
-use Rattle.gs_lift.proofs.Running.{before, leads_more, leads_still}
-use Rattle.gs_lift.proofs.Stepping.{stores_go_on}
-use Rattle.gs_lift.proofs.Telling.{stores_tell_first, stores_tell_on}
+use Rattle.gs_lift.proofs.Telling.{stores_tell_first}
 use Rattle.gs_member.specs.Requests.{IsOfOneEdit}
 use Rattle.gs_run.proofs.Reaching.{HaveSizes}
 use Rattle.gs_run.proofs.Sending.{step_stays}
@@ -45,10 +38,8 @@ use Rattle.gs_run.specs.Runs.{StaySent}
 use Rattle.gs_run.specs.Sent.{message_of}
 use Rattle.gs_server.specs.Servers as servers
 use Rattle.gs_store.specs.Stores.{or_nothing}
-use Rattle.gs_theorems.proofs.Keeping.{begins_keeping}
 use Rattle.gs_world.specs.Nodes.{Nodes}
 use Rattle.gs_account.specs.Running.{BlocksAmong, IsNew, SealAmong}
-use Rattle.gs_block.specs.Written.{TellsApart}
 use Rattle.gs_base.specs.declared.numbers.ReqId.{ReqId}
 use Rattle.gs_chunk.specs.Machine.{World}
 use Rattle.gs_store.specs.Slots.{seal_in, seal_of, trashed_seal}
@@ -140,26 +131,6 @@ module _ {D : Type 0} (x : Setup D) (asked : ℕ → Asked) (given : IsGiven x) 
   run_stays [] old new a b runs id message is = subst (λ (h : History D). message_of h.sent id ≡ Some message) (sym runs.0) is
   run_stays (step ∷ steps) old new a b (mid, c, one, rest) id message is = run_stays steps mid new c b rest id message (step_stays x.seen x.failures x.armed step old mid one.steps.goes id message is)
 
-  -- from a world in which all is shown steps lead to another
-  pub record LeadsTo (old new : History D) (lives : StoreLives x.seen x.config bytes x.among old) : Type 0 where
-    pub last : Shows x asked new
-    pub leads : (chunk : ℕ) → LeadsOn x.seen x.config bytes chunk old new (lives.life chunk) (last.lives.life chunk)
-
-  shows_run : TellsApart x.among → (steps : List Step) (old new : History D) (a b : Account) (first : Shows x asked old) → KeepsTypes old → Runs x steps old a new b → AllSent (PushRight bytes) new.sent → AllSent (IsOfOneEdit asked) new.sent → LeadsTo old new first.lives
-  shows_run apart [] old new a b first types runs right one =
-      subst (λ (h : History D). LeadsTo old h first.lives) (sym runs.0) (record { last = first; leads = λ chunk. leads_still x.seen x.config bytes chunk old (first.lives.life chunk) })
-  shows_run apart (step ∷ steps) old new a b first types (mid, c, moves, rest) right one =
-      let stays = run_stays steps mid new c b rest in
-      let right_mid = before x.seen x.failures x.armed (PushRight bytes) mid.sent new.sent stays right in
-      let one_mid = before x.seen x.failures x.armed (IsOfOneEdit asked) mid.sent new.sent stays one in
-      let is_named = named x step old moves.steps.within types in
-      let keeps_mid = keeps_then x.seen x.failures x.armed x.config bytes step old mid first.lives.pushes first.lives.keeps (kind_of x.seen x.failures x.armed step old mid moves.steps.goes is_named) in
-      let goes = stores_go_on x.seen x.failures x.armed x.config bytes x.among arms_shown arms_lasting arms_unknown apart empty_text step old mid first.lives moves.steps.goes is_named moves.steps.sound (all_among mid keeps_mid moves.steps.among) right_mid in
-      let tells = stores_tell_on x.seen x.failures x.armed x.config bytes x.among asked step old mid first.lives goes moves.steps.sound one_mid first.tells in
-      let behind = one_lasts x given step old mid first.lives.lasts types moves.steps in
-      let more = shows_run apart steps mid new c b (record { lives = goes.last; tells = tells }) behind.1 rest right one in
-      record { last = more.last; leads = λ chunk. leads_more x.seen x.config bytes chunk step _ old mid new (first.lives.life chunk) (goes.last.life chunk) (more.last.lives.life chunk) (goes.goes chunk) (more.leads chunk) }
-
   -- a store that has begun new
   pub shows_first : HaveSizes → (begun : History D) (first : Account) → IsNew x begun first → AllSent (PushRight bytes) begun.sent → AllSent (IsOfOneEdit asked) begun.sent → Shows x asked begun
   shows_first sizes begun first new right one =
@@ -171,37 +142,3 @@ module _ {D : Type 0} (x : Setup D) (asked : ℕ → Asked) (given : IsGiven x) 
 
       none_among : (chunk id : ℕ) → SlotAmong x.among x.config.block (slot_in chunk (servers.new id x.config.block x.config.chunk))
       none_among chunk id = subst (λ (s : Slot). SlotAmong x.among x.config.block s) (sym (ap or_nothing (fin.get-empty nat_cmp chunk))) (record { live = λ l is. absurd (cc); seal = λ t is. absurd (cc) })
-
--- behind each run
-pub each_is_a_run : HaveSizes → {D : Type 0} (x : Setup D) → EachIsARun x
-each_is_a_run sizes x now a r =
-    let given = r.begins.given in
-    let sound = reached_sound x now a r in
-    let asks = asked_over x.seen x.failures x.armed (λ disk call place lasts. arming x x.seen place (x.armed disk call place) (given.armed disk call place) lasts) x.config x.clients x.disks r.steps r.begun now given.new r.begins.begins sound.runs in
-    let right = pushes_right asks.0 now asks.1 in
-    let one = of_one_edit asks.0 now asks.1 in
-    let stays = run_stays x asks.0 given r.steps r.begun now r.first a r.runs in
-    let first = shows_first x asks.0 given sizes r.begun r.first r.begins (before x.seen x.failures x.armed (PushRight (bytes_in asks.0)) r.begun.sent now.sent stays right) (before x.seen x.failures x.armed (IsOfOneEdit asks.0) r.begun.sent now.sent stays one) in
-    let types = begins_keeping x.seen x.failures x.armed x.config x.clients x.disks r.begun given.few r.begins.begins in
-    (asks.0, asks.1, (shows_run x asks.0 given r.apart r.steps r.begun now r.first a first types r.runs right one).last)
-
--- and in two worlds of one
-pub each_leads_on : HaveSizes → {D : Type 0} (x : Setup D) → EachLeadsOn x
-each_leads_on sizes x now later a b steps r runs =
-    let given = r.begins.given in
-    let arms : LastsArmed x.seen x.armed = λ disk call place lasts. arming x x.seen place (x.armed disk call place) (given.armed disk call place) lasts in
-    let sound = reached_sound x now a r in
-    let asks = asked_over x.seen x.failures x.armed arms x.config x.clients x.disks r.steps r.begun now given.new r.begins.begins sound.runs in
-    let more = ask_on x.seen x.failures x.armed arms steps now later asks.0 asks.1 sound.lasts (runs_sound x given steps now later a b sound.lasts sound.types runs).runs in
-    let asked = more.all in
-    let right = pushes_right asked later more.are in
-    let one = of_one_edit asked later more.are in
-    let on = run_stays x asked given steps now later a b runs in
-    let right_now = before x.seen x.failures x.armed (PushRight (bytes_in asked)) now.sent later.sent on right in
-    let one_now = before x.seen x.failures x.armed (IsOfOneEdit asked) now.sent later.sent on one in
-    let stays = run_stays x asked given r.steps r.begun now r.first a r.runs in
-    let first = shows_first x asked given sizes r.begun r.first r.begins (before x.seen x.failures x.armed (PushRight (bytes_in asked)) r.begun.sent now.sent stays right_now) (before x.seen x.failures x.armed (IsOfOneEdit asked) r.begun.sent now.sent stays one_now) in
-    let types = begins_keeping x.seen x.failures x.armed x.config x.clients x.disks r.begun given.few r.begins.begins in
-    let here = (shows_run x asked given r.apart r.steps r.begun now r.first a first types r.runs right_now one_now).last in
-    let there = shows_run x asked given r.apart steps now later a b here sound.types runs right one in
-    record { asked = asked; are = more.are; first = here; last = there.last; leads = there.leads }

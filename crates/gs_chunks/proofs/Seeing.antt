@@ -13,7 +13,7 @@ use Rattle.gs_chunk.specs.Machine.{World}
 use Rattle.gs_entry.proofs.Sending.{leads_on}
 use Rattle.gs_lift.specs.Going.{AllSent}
 use Rattle.gs_lift.specs.Joint.{AtMaster, AtServer, Elsewhere, GoesBy}
-use Rattle.gs_lift.specs.Living.{GoesOn, StoreGoes, StoreLives}
+use Rattle.gs_lift.specs.Living.{GoesOn, LeadsOn, StoreGoes, StoreLives}
 use Rattle.gs_lift.specs.Running.{LastsArmed}
 use Rattle.gs_lift.specs.Saying.{PushRight}
 use Rattle.gs_lift.specs.Showing.{IsAlive, Life, ShowsNodes}
@@ -38,6 +38,7 @@ use Rattle.gs_chunks.proofs.Joining.{stores_agree_first, stores_agree_on}
 use Rattle.gs_chunks.proofs.Reached.{all_among, arms_lasting, arms_shown, arms_unknown, empty_text, run_stays, shows_first}
 use Rattle.gs_chunks.specs.Agreeing.{ListsStay}
 use Rattle.gs_chunks.specs.Joining.{StoreAgrees}
+use Rattle.gs_chunks.specs.Reached.{EachIsARun, EachLeadsOn, Shows}
 use Rattle.gs_chunks.specs.Seeing.{EachIsSeen, EachSeesOn, IntactAt, Sees, SeesOn}
 
 -- ---- a step of one chunk
@@ -164,3 +165,27 @@ each_sees_on sizes law x now later a b steps r runs =
     let here = (sees_run x asked given law r.apart r.steps r.begun now r.first a first types r.runs right_now one_now).last in
     let there = sees_run x asked given law r.apart steps now later a b here sound.types runs right one in
     record { asked = asked; are = more.are; first = here; last = there.last; on = there.on }
+
+-- ---- each chunk is a run of its machine
+
+abbrev shown_by : {D : Type 0} (x : Setup D) (asked : ℕ → Asked) (h : History D) (a : Account) → Sees x asked h a → Shows x asked h
+shown_by x asked h a sees = record { lives = sees.lives; tells = sees.tells }
+
+leads_seen : {D : Type 0} (x : Setup D) (bytes : ReqId → List ℕ) (chunk : ℕ) (old new : History D) (a b : Account) (life : Life x.seen x.config bytes chunk old) (last : Life x.seen x.config bytes chunk new) → SeesOn x bytes chunk old a new b life last → LeadsOn x.seen x.config bytes chunk old new life last
+leads_seen x bytes chunk old new a b (inl unborn) last on = tt
+leads_seen x bytes chunk old new a b (inr l) (inl unborn) on = on
+leads_seen x bytes chunk old new a b (inr l) (inr m) on = (on.0, on.1)
+
+pub each_is_a_run : HaveSizes → AreNumbered → {D : Type 0} (x : Setup D) → EachIsARun x
+each_is_a_run sizes law x now a r = (let sees = each_is_seen sizes law x now a r in (sees.0, sees.1, shown_by x sees.0 now a sees.2))
+
+pub each_leads_on : HaveSizes → AreNumbered → {D : Type 0} (x : Setup D) → EachLeadsOn x
+each_leads_on sizes law x now later a b steps r runs =
+    let sees = each_sees_on sizes law x now later a b steps r runs in
+    record {
+      asked = sees.asked;
+      are = sees.are;
+      first = shown_by x sees.asked now a sees.first;
+      last = shown_by x sees.asked later b sees.last;
+      leads = λ chunk. leads_seen x (bytes_in sees.asked) chunk now later a b (sees.first.lives.life chunk) (sees.last.lives.life chunk) (sees.on chunk);
+    }

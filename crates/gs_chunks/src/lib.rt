@@ -28,6 +28,7 @@ pub fn each_chunk_of_a_store_is_a_run_of_its_machine<D>()
     ensures onward { (x : Setup D) → EachLeadsOn x }
 {
     configurations_have_sizes();
+    a_message_edits_a_replica_by_what_it_says();
 }
 
 /// What an account has of the records is what is durable at the master, as long as no disk fails.
@@ -82,8 +83,9 @@ pub fn all_chunks_are_seen<D>()
     a_message_edits_a_replica_by_what_it_says();
 }
 
-/// Behind each run of a store, each live replica stands for a beginning of a list: it has applied that many edits of one view's list, from the first on, has as many bytes as they leave, and each of its blocks that
-/// has its digest holds theirs. The list is the chunk's own, or, until a view of a copy is settled, that of which it is a copy. Here and below a run is one that has begun new, in which no disk of the master fails, all that is asked is within its types, and different blocks have different digests.
+/// Behind each run of a store, each live replica stands for a beginning of a list: it has applied that many edits of one view's list, from the first on, has as many bytes as they leave, and each of its blocks
+/// that has its digest holds theirs. The list is the chunk's own, or, until a view of a copy is settled, that of which it is a copy. Here and below a run is one that has begun new, in which no disk of the
+/// master fails, all that is asked is within its types, and different blocks have different digests.
 pub fn replicas_stand_for_beginnings_of_lists<D>()
     ensures { (x : Setup D) → ReplicasStand x }
 {
@@ -111,9 +113,10 @@ pub fn each_edit_was_asked_for<D>()
     a_message_edits_a_replica_by_what_it_says();
 }
 
-/// An edit that a client was told done was numbered under the stamp that it was asked for under, once; or it is a record that passed a full chunk: the full text is of the view under whose stamp it was asked for, and no list of that chunk has an edit of its request, then or later. No record is longer than a quarter of a chunk. What was numbered is the edit that was asked for: of this chunk, with the bytes that were pushed, or a
-/// pad where its record didn't fit behind the edits before it. What was numbered is settled then and in each later world of the run in which a file has the chunk, or had it, at
-/// the same place, behind the same edits, unless the upgrade within which it was numbered was rolled back. Whoever is told twice that the edit of one request is done is told the same outcome.
+/// An edit that a client was told done was numbered under the stamp that it was asked for under, once; or it is a record that passed a full chunk: the full text is of the view under whose stamp it was asked
+/// for, and no list of that chunk has an edit of its request, then or later. No record is longer than a quarter of a chunk. What was numbered is the edit that was asked for: of this chunk, with the bytes that
+/// were pushed, or a pad where its record didn't fit behind the edits before it. It is settled then and in each later world of the run in which a file has the chunk, or had it, at the same place, behind the
+/// same edits, unless the upgrade within which it was numbered was rolled back. Whoever is told twice that the edit of one request is done is told the same outcome.
 pub fn done_edits_stay<D>()
     ensures stays { (x : Setup D) → DoneStays x }
     ensures repeats { (x : Setup D) → RepeatsAreAlike x }
@@ -151,6 +154,7 @@ pub fn locations_were_looked_up<D>()
     ensures { (x : Setup D) → LocationsWereLookedUp x }
 {
     configurations_have_sizes();
+    a_message_edits_a_replica_by_what_it_says();
 }
 
 /// A chunk that is a copy, once a view of it is settled, has settled all edits that the chunk of which it is one has under the stamp that was copied, and they stand first. It is so in each
