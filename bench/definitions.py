@@ -16,7 +16,7 @@ import re
 import sys
 
 ROOT = pathlib.Path(__file__).resolve().parent.parent
-TOP = ["gs_shell", "gs_options", "gs_command", "chunkstore"]
+TOP = ["gs_shell", "gs_shell_options", "gs_shell_command", "chunkstore"]
 BESIDE = ["gs_tests"]
 WORD = re.compile(r"[^\s(){}\[\],;`]+")
 IMPORT = re.compile(r"use Rattle\.(\w+)\.specs\.([\w.]+?)(?:\.\{([^}]*)\})?(?: as ([\w-]+))?;?\s*$", re.M)

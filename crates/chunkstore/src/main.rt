@@ -2,9 +2,9 @@
 #![tactic(auto)]
 
 use gs_base::{Config, Refusal};
-use gs_command::configured;
 use gs_journal::MemoryDisk;
 use gs_shell::RunFault;
+use gs_shell_command::configured;
 use std::alloc::Global;
 use std::io::{self, BufReader, BufWriter};
 use std::process::ExitCode;

@@ -2,7 +2,7 @@
 //! standard output.
 #![tactic(auto)]
 
-use gs_command::configured;
+use gs_shell_command::configured;
 use std::process::ExitCode;
 
 fn main(rt: HostRuntime) -> ExitCode {

@@ -1,7 +1,7 @@
 // What stands on a disk of the master's journal.
 ghost use Rattle.std.specs.Prelude.{◌≤◌, IfSome, length};
 
-use gs_script::{MEMORY, RunFault, write_line};
+use gs_shell_script::{MEMORY, RunFault, write_line};
 use std::alloc::{AllocError, Global};
 use std::io::Write;
 

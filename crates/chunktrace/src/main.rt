@@ -5,12 +5,12 @@
 mod disks;
 
 use gs_base::{Config, Refusal};
-use gs_command::configured;
-use gs_desk::Desk;
 use gs_journal::MemoryDisk;
-use gs_line::{Line, next_line};
-use gs_script::{RunFault, flush, write_answer, write_line};
-use gs_world::MasterPlace;
+use gs_nodes::MasterPlace;
+use gs_shell_command::configured;
+use gs_shell_desk::Desk;
+use gs_shell_line::{Line, next_line};
+use gs_shell_script::{RunFault, flush, write_answer, write_line};
 use std::alloc::{AllocError, Global};
 use std::io::{self, BufRead, BufReader, BufWriter, Write};
 use std::mem;
@@ -102,7 +102,7 @@ fn run<R: BufRead, W: Write>(
     writer: &mut W,
 ) -> Result<(), RunFault> {
     answer_all(alloc, desk, reader, writer)?;
-    let master = mem::replace(&mut desk.wire.world.master, MasterPlace::Away);
+    let master = mem::replace(&mut desk.wire.nodes.master, MasterPlace::Away);
     tell_disks(alloc, master, writer)?;
     flush(writer)
 }

@@ -1,3 +1,4 @@
+pub mod Calls
 pub mod Configs
 pub mod Configured
 pub mod MemberLaws

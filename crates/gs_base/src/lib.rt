@@ -7,6 +7,7 @@ mod members;
 mod numbers;
 pub mod promises;
 mod refusal;
+mod refused;
 mod told;
 
 pub use config::Config;
@@ -14,3 +15,4 @@ pub use epoch::EpochEnd;
 pub use members::{Members, MembersIter};
 pub use numbers::{ClientId, Handle, Moment, ReqId, ServerId, Stamp, next_number};
 pub use refusal::{PathText, Refusal};
+pub use refused::Refused;

@@ -7,7 +7,7 @@ use Rattle.gs_block.specs.Stored.{Stored, IsStored, count_of, digests_from}
 use Rattle.gs_block.specs.Chunk.{written, appended, padded}
 use Rattle.gs_block.proofs.Writing.{appended_is_written, padded_is_written}
 use Rattle.gs_block.specs.Edits.{append, pad, read, changed, unless_damaged, damaged_between, with_bytes}
-use Rattle.gs_block.specs.Follows.{Follows, Does, Answers}
+use Rattle.gs_base.specs.Calls.{Follows, Does, Answers}
 use Rattle.gs_block.specs.Inverses.{Inverse, undo, fits, restored, replaced}
 use Rattle.gs_block.proofs.Counts.{count_mono}
 use Rattle.std.proofs.lemmas.Bool.Decides.{nat_tests}

@@ -12,7 +12,7 @@ use Rattle.std.proofs.lemmas.Nat.{div-add-mod', le-div}
 use Rattle.std.proofs.Math.Nat.{mod-lt, div-mul-le_self, mul-le-mul_right, add-mul}
 use Rattle.gs_block.specs.Stored.{Stored, IsStored, count_of, block_at, digest_at, is_intact, first_damaged}
 use Rattle.gs_block.specs.Edits.{unless_damaged, copied}
-use Rattle.gs_block.specs.Follows.{Makes}
+use Rattle.gs_base.specs.Calls.{Makes}
 use Rattle.gs_block.specs.Inverses.{replaced}
 use Rattle.gs_block.specs.Images.{Images, AreFirst, undone, IsImage, byte_of, byte_before, bytes_before, block_before}
 use Rattle.gs_block.specs.Inside.{image_or, put_image}

@@ -2,7 +2,6 @@ pub mod Chunk
 pub mod Stored
 pub mod Edits
 pub mod Inverses
-pub mod Follows
 pub mod Kept
 pub mod Images
 pub mod Written

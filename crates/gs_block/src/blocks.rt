@@ -3,7 +3,7 @@ ghost use Rattle.gs_block.specs.Chunk.{written};
 ghost use Rattle.gs_block.specs.Stored.{Stored, IsStored, empty, digests_of, first_damaged, are_digests};
 ghost use Rattle.gs_block.specs.Edits.{changed, chunk_of, carried, copied, copied_bytes, is_outside, out_of_range, write, append, pad, read, digest, damage, damaged_between};
 ghost use Rattle.gs_block.specs.Inverses.{fits, undo, inverse_of};
-ghost use Rattle.gs_block.specs.Follows.{Follows, Does, Foretells, Answers, Makes, Gives, Refuses, HandsBack, MakesOf};
+ghost use Rattle.gs_base.specs.Calls.{Follows, Does, Foretells, Answers, Makes, Gives, Refuses, HandsBack, MakesOf};
 ghost use Rattle.gs_block.specs.Kept.{KeepsIntact, KeepsOutside};
 ghost use Rattle.gs_block.specs.Images.{Images, AreFirst, begun, undone, touched, damage_before};
 
@@ -14,9 +14,8 @@ use crate::digests::{
 use crate::images::{Images, SealedBytes, first_damaged_before, no_images, put_back};
 use crate::inverse::BlockInverse;
 use crate::parts::{copy_of_part, put_over, write_anew};
-use crate::refused::Refused;
 use crate::sizes::Sizes;
-use gs_base::Refusal;
+use gs_base::{Refusal, Refused};
 use std::alloc::{AllocError, Global};
 use std::marker::Model;
 

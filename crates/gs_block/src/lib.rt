@@ -7,12 +7,10 @@ mod images;
 mod inverse;
 mod parts;
 pub mod promises;
-mod refused;
 mod sizes;
 
 pub use blocks::{BlockParts, Blocks};
 pub use digests::Digest;
 pub use images::{Images, Missing};
 pub use inverse::BlockInverse;
-pub use refused::Refused;
 pub use sizes::Sizes;

@@ -4,7 +4,7 @@ use Rattle.std.specs.Prelude.{is_some, nat_eq}
 use Rattle.std.proofs.lemmas.Bool.{cases_eq, cases_lt, eq-eqb, false≢true, true≢false}
 use Rattle.gs_base.specs.declared.epoch.EpochEnd.{EpochEnd}
 use Rattle.gs_base.specs.declared.epoch.EpochEnd.TheVariants.{Prepare, Finalize, Rollback}
-use Rattle.gs_chunk.specs.Machine.{World}
+use Rattle.gs_chunk.specs.Machine.{ChunkWorld}
 use Rattle.gs_chunk.specs.Events.{Event, AsksFirst, Asks, AsksForCopy, GivesUp, Holds, Grants, SendsDrop, Prepares, Finalizes, BeginsRollback, TellsEpoch, Proposes, Settles, Retires, CommitsRollback, Can, Goes, Leads, Rests, happens}
 use Rattle.gs_chunk.specs.Acting.{actor}
 use Rattle.gs_chunk.specs.Mastering.{AreOfMaster, MastersCommit, MastersPrepare, MastersStayCalm, MembersStood}
@@ -15,7 +15,7 @@ use Rattle.gs_chunk.proofs.Worlds.{WorldOk, committing, happens_world, leads_lat
 -- ---- what an event of the master makes of the epoch
 
 -- the epoch stays as it is, and so does what was prepared
-record Stays (u v : World) : Type 0 where
+record Stays (u v : ChunkWorld) : Type 0 where
   epoch : v.entry.epoch ≡ u.entry.epoch
   how : v.entry.how ≡ u.entry.how
   rolling : v.entry.is_rolling ≡ u.entry.is_rolling
@@ -24,7 +24,7 @@ record Stays (u v : World) : Type 0 where
   prepared : v.entry.prepared ≡ u.entry.prepared
 
 -- a rollback is committed
-record Commits (u v : World) : Type 0 where
+record Commits (u v : ChunkWorld) : Type 0 where
   epoch : v.entry.epoch ≡ u.entry.epoch
   how : v.entry.how ≡ u.entry.how
   rolling : u.entry.is_rolling ≡ true
@@ -32,7 +32,7 @@ record Commits (u v : World) : Type 0 where
   beyond : u.known.top < v.known.view
 
 -- an epoch begins by a prepare
-record Begins (u v : World) : Type 0 where
+record Begins (u v : ChunkWorld) : Type 0 where
   epoch : v.entry.epoch ≡ u.entry.epoch + 1
   calm : u.entry.is_rolling ≡ false
   still : v.entry.is_rolling ≡ false
@@ -41,18 +41,18 @@ record Begins (u v : World) : Type 0 where
   view : v.entry.view ≡ u.entry.view
 
 -- an epoch begins otherwise
-record Ends (u v : World) : Type 0 where
+record Ends (u v : ChunkWorld) : Type 0 where
   epoch : v.entry.epoch ≡ u.entry.epoch + 1
   calm : u.entry.is_rolling ≡ false
   how : v.entry.how v.entry.epoch ≢ Prepare
 
-abbrev Turns : World → World → Type 0
+abbrev Turns : ChunkWorld → ChunkWorld → Type 0
 Turns u v = Stays u v ⊎ (Commits u v ⊎ (Begins u v ⊎ Ends u v))
 
 other_end : (e : ℕ) (end was : EpochEnd) → end ≢ Prepare → cond (nat_eq e e) end was ≢ Prepare
 other_end e end was other is = other (sym (ap (λ b. cond b end was) (eq-eqb e e refl)) ∙ is)
 
-event_turns : (u : World) → WorldOk u → (e : Event) → Can u e → actor e ≡ None → Turns u (happens u e)
+event_turns : (u : ChunkWorld) → WorldOk u → (e : Event) → Can u e → actor e ≡ None → Turns u (happens u e)
 event_turns u ok (CommitsRollback members true) can none = inr (inl (record { epoch = refl; how = refl; rolling = can.0; over = refl; beyond = (committing u ok can.0).below }))
 event_turns u ok (CommitsRollback members false) can none = inr (inl (record { epoch = refl; how = refl; rolling = can.0; over = refl; beyond = (committing u ok can.0).below }))
 event_turns u ok (Prepares whole) can none = inr (inr (inl (record { epoch = refl; calm = can.0; still = can.0; was_known = refl; prepared = refl; view = refl })))
@@ -73,12 +73,12 @@ event_turns u ok (TellsEpoch to epoch) can none = inl (record { epoch = refl; ho
 event_turns u ok e can none = absurd (false≢true (sym (ap is_some none)))
 
 -- epochs only rise
-rises : (w v : World) → Leads w v → WorldOk w → w.entry.epoch ≤ v.entry.epoch
+rises : (w v : ChunkWorld) → Leads w v → WorldOk w → w.entry.epoch ≤ v.entry.epoch
 rises w v leads ok = (let a = (ok.entry).epoch in let b = ((leads_world w v leads ok).entry).epoch in let c = (leads_later w v leads ok).current in omega arith)
 
 -- ---- rolling back
 
-pub stays_calm : (w v : World) (leads : Leads w v) → WorldOk w → AreOfMaster w v leads → w.entry.is_rolling ≡ false → v.entry.epoch ≡ w.entry.epoch → v.entry.is_rolling ≡ false
+pub stays_calm : (w v : ChunkWorld) (leads : Leads w v) → WorldOk w → AreOfMaster w v leads → w.entry.is_rolling ≡ false → v.entry.epoch ≡ w.entry.epoch → v.entry.is_rolling ≡ false
 stays_calm w v Rests ok masters calm same = calm
 stays_calm w v (Goes u e before can) ok masters calm same =
     let low = rises w u before ok in
@@ -93,7 +93,7 @@ pub masters_stay_calm : MastersStayCalm
 masters_stay_calm w v leads reached masters calm same = stays_calm w v leads (reached_world w reached) masters calm same
 
 -- at the next event
-commits_next : (w u : World) (before : Leads w u) → WorldOk w → (u.entry.is_rolling ≡ false → w.known.top < u.known.view) → (e : Event) → Can u e → actor e ≡ None → (happens u e).entry.is_rolling ≡ false → w.known.top < (happens u e).known.view
+commits_next : (w u : ChunkWorld) (before : Leads w u) → WorldOk w → (u.entry.is_rolling ≡ false → w.known.top < u.known.view) → (e : Event) → Can u e → actor e ≡ None → (happens u e).entry.is_rolling ≡ false → w.known.top < (happens u e).known.view
 commits_next w u before ok old e can none over = by_rolling u.entry.is_rolling refl
   where
     oku : WorldOk u
@@ -108,7 +108,7 @@ commits_next w u before ok old e can none over = by_rolling u.entry.is_rolling r
       | inr (inr (inr next)) ↦ absurd (true≢false (sym still ∙ next.calm))
     ]
 
-commits : (w v : World) (leads : Leads w v) → WorldOk w → AreOfMaster w v leads → w.entry.is_rolling ≡ true → v.entry.is_rolling ≡ false → w.known.top < v.known.view
+commits : (w v : ChunkWorld) (leads : Leads w v) → WorldOk w → AreOfMaster w v leads → w.entry.is_rolling ≡ true → v.entry.is_rolling ≡ false → w.known.top < v.known.view
 commits w v Rests ok masters rolls over = absurd (true≢false (sym rolls ∙ over))
 commits w v (Goes u e before can) ok masters rolls over = commits_next w u before ok (commits w u before ok masters.0 rolls) e can masters.1 over
 
@@ -118,27 +118,27 @@ masters_commit w v leads reached masters rolls over = commits w v leads (reached
 -- ---- a prepare
 
 -- while the epoch stands nothing is rolled back, and what is known was known
-record Standing (w v : World) : Type 0 where
+record Standing (w v : ChunkWorld) : Type 0 where
   calm : v.entry.is_rolling ≡ false
   known : v.entry.is_known ≡ true → w.entry.is_known ≡ true
 
 -- behind a prepare: what was known then was known before, and its view isn't earlier than the one before
-record Finds (w v : World) : Type 0 where
+record Finds (w v : ChunkWorld) : Type 0 where
   calm : v.entry.is_rolling ≡ false
   known : v.entry.was_known ≡ true → w.entry.is_known ≡ true
   above : w.entry.view.stamp ≤ v.entry.prepared.stamp
   below : v.entry.prepared.stamp ≤ v.entry.view.stamp
 
-record Found (w v : World) : Type 0 where
+record Found (w v : ChunkWorld) : Type 0 where
   stands : v.entry.epoch ≡ w.entry.epoch → Standing w v
   finds : v.entry.epoch ≡ w.entry.epoch + 1 → v.entry.how v.entry.epoch ≡ Prepare → Finds w v
 
 -- views only rise
-climbs : (w v : World) → Leads w v → WorldOk w → w.entry.view.stamp ≤ v.entry.view.stamp
+climbs : (w v : ChunkWorld) → Leads w v → WorldOk w → w.entry.view.stamp ≤ v.entry.view.stamp
 climbs w v leads ok = (let a = (ok.entry).stamp in let b = ((leads_world w v leads ok).entry).stamp in let c = (leads_later w v leads ok).view in omega arith)
 
 -- at the next event
-found_next : (w u : World) (before : Leads w u) → WorldOk w → Found w u → (e : Event) → Can u e → actor e ≡ None → Found w (happens u e)
+found_next : (w u : ChunkWorld) (before : Leads w u) → WorldOk w → Found w u → (e : Event) → Can u e → actor e ≡ None → Found w (happens u e)
 found_next w u before ok old e can none = elim (event_turns u oku e can none) [
   | inl same ↦ record {
     stands = λ at. (let s = old.stands (sym same.epoch ∙ at) in record { calm = same.rolling ∙ s.calm; known = λ is. s.known (same.known is) });
@@ -177,7 +177,7 @@ found_next w u before ok old e can none = elim (event_turns u oku e can none) [
     began : (happens u e).entry.epoch ≡ u.entry.epoch → (happens u e).entry.how ≡ u.entry.how → (happens u e).entry.how (happens u e).entry.epoch ≡ Prepare → u.entry.how u.entry.epoch ≡ Prepare
     began at same how = ap u.entry.how (sym at) ∙ sym (ap (λ h. h (happens u e).entry.epoch) same) ∙ how
 
-found : (w v : World) (leads : Leads w v) → WorldOk w → AreOfMaster w v leads → w.entry.is_rolling ≡ false → Found w v
+found : (w v : ChunkWorld) (leads : Leads w v) → WorldOk w → AreOfMaster w v leads → w.entry.is_rolling ≡ false → Found w v
 found w v Rests ok masters calm = record { stands = λ same. record { calm = calm; known = λ is. is }; finds = λ next. absurd (omega arith) }
 found w v (Goes u e before can) ok masters calm = found_next w u before ok (found w u before ok masters.0 calm) e can masters.1
 

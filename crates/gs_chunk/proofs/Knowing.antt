@@ -3,7 +3,7 @@ use Rattle.std.proofs.Common.{◌≡◌, ◌≢◌, ◌∙◌, ◌+◌, ◌<◌,
 use Rattle.std.specs.Prelude.{is_some}
 use Rattle.std.proofs.lemmas.Bool.{eq-eqb, false≢true, true≢false}
 use Rattle.gs_chunk.specs.Stamps.{start_of}
-use Rattle.gs_chunk.specs.Machine.{World}
+use Rattle.gs_chunk.specs.Machine.{ChunkWorld}
 use Rattle.gs_chunk.specs.Events.{Event, AsksFirst, Asks, AsksForCopy, GivesUp, Holds, Grants, SendsDrop, Prepares, Finalizes, BeginsRollback, TellsEpoch, Proposes, Settles, Retires, CommitsRollback, Can, Goes, Leads, Rests, happens, is_of}
 use Rattle.gs_chunk.specs.Acting.{actor}
 use Rattle.gs_chunk.specs.Mastering.{AreOfMaster, KeepsLists, MastersForget, MastersKeepPrepared, MastersPeople, NonePrepared}
@@ -12,7 +12,7 @@ use Rattle.gs_chunk.proofs.Facts.{reached_world}
 use Rattle.gs_chunk.proofs.Lasting.{stays_known}
 use Rattle.gs_chunk.proofs.Worlds.{WorldOk, happens_world, leads_later, leads_world}
 
-module _ (u : World) (ok : WorldOk u) where
+module _ (u : ChunkWorld) (ok : WorldOk u) where
   -- a commit goes beyond all that was proposed
   beyond : u.entry.is_rolling ≡ true → u.known.top < start_of u.known.current
   beyond rolls = let r = (ok.entry).rolling rolls in let at = ap start_of r.next in let below = r.below in omega arith
@@ -24,7 +24,7 @@ module _ (u : World) (ok : WorldOk u) where
       by_first : (x : ℕ) (xs : List ℕ) → is_of (x ∷ xs) x ≡ true
       by_first x xs = rw (eq-eqb x x refl) refl
 
-  abbrev Forgets : World → Type 0
+  abbrev Forgets : ChunkWorld → Type 0
   Forgets v = ((v.entry.is_known ≡ false) × KeepsLists u v) ⊎ (u.known.top < v.known.view)
 
   event_forgets : (e : Event) → Can u e → actor e ≡ None → u.entry.is_known ≡ false → Forgets (happens u e)
@@ -47,7 +47,7 @@ module _ (u : World) (ok : WorldOk u) where
   event_forgets (TellsEpoch to epoch) can none unknown = inl (unknown, record { view = refl; list = refl; stood = refl })
   event_forgets e can none unknown = absurd (false≢true (sym (ap is_some none)))
 
-  abbrev Peoples : World → Type 0
+  abbrev Peoples : ChunkWorld → Type 0
   Peoples v = (v.entry.view ≡ u.entry.view) ⊎ ((v.entry.view.members ≢ []) ⊎ (u.known.top < v.known.view))
 
   event_peoples : (e : Event) → Can u e → actor e ≡ None → Peoples (happens u e)
@@ -70,10 +70,10 @@ module _ (u : World) (ok : WorldOk u) where
   event_peoples (TellsEpoch to epoch) can none = inl refl
   event_peoples e can none = absurd (false≢true (sym (ap is_some none)))
 
-both : (w u v : World) → KeepsLists w u → KeepsLists u v → KeepsLists w v
+both : (w u v : ChunkWorld) → KeepsLists w u → KeepsLists u v → KeepsLists w v
 both w u v x y = record { view = y.view ∙ x.view; list = y.list ∙ x.list; stood = y.stood ∙ x.stood }
 
-forgets : (w v : World) (leads : Leads w v) → WorldOk w → AreOfMaster w v leads → w.entry.is_known ≡ false → ((v.entry.is_known ≡ false) × KeepsLists w v) ⊎ (w.known.top < v.known.view)
+forgets : (w v : ChunkWorld) (leads : Leads w v) → WorldOk w → AreOfMaster w v leads → w.entry.is_known ≡ false → ((v.entry.is_known ≡ false) × KeepsLists w v) ⊎ (w.known.top < v.known.view)
 forgets w v Rests ok masters unknown = inl (unknown, record { view = refl; list = refl; stood = refl })
 forgets w v (Goes u e before can) ok masters unknown =
     let oku = leads_world w u before ok in
@@ -90,7 +90,7 @@ forgets w v (Goes u e before can) ok masters unknown =
 pub masters_forget : MastersForget
 masters_forget w v leads reached masters unknown = forgets w v leads (reached_world w reached) masters unknown
 
-peoples : (w v : World) (leads : Leads w v) → WorldOk w → AreOfMaster w v leads → (v.entry.view ≡ w.entry.view) ⊎ ((v.entry.view.members ≢ []) ⊎ (w.known.top < v.known.view))
+peoples : (w v : ChunkWorld) (leads : Leads w v) → WorldOk w → AreOfMaster w v leads → (v.entry.view ≡ w.entry.view) ⊎ ((v.entry.view.members ≢ []) ⊎ (w.known.top < v.known.view))
 peoples w v Rests ok masters = inl refl
 peoples w v (Goes u e before can) ok masters =
     let oku = leads_world w u before ok in
@@ -111,10 +111,10 @@ masters_people w v leads reached masters = peoples w v leads (reached_world w re
 
 -- ---- what was prepared
 
-abbrev Kept : World → World → Type 0
+abbrev Kept : ChunkWorld → ChunkWorld → Type 0
 Kept w v = (w.entry.was_known ≡ true) × (v.entry.prepared.stamp ≡ w.entry.prepared.stamp)
 
-event_prepared : (u : World) (e : Event) → Can u e → actor e ≡ None → (happens u e).entry.was_known ≡ true → Kept u (happens u e) ⊎ (((happens u e).entry.epoch ≡ u.entry.epoch + 1) × ((happens u e).entry.how (u.entry.epoch + 1) ≡ Prepare))
+event_prepared : (u : ChunkWorld) (e : Event) → Can u e → actor e ≡ None → (happens u e).entry.was_known ≡ true → Kept u (happens u e) ⊎ (((happens u e).entry.epoch ≡ u.entry.epoch + 1) × ((happens u e).entry.how (u.entry.epoch + 1) ≡ Prepare))
 event_prepared u (Prepares whole) can none was = inr (refl, rw (eq-eqb (u.entry.epoch + 1) (u.entry.epoch + 1) refl) refl)
 event_prepared u Finalizes can none was = absurd (false≢true was)
 event_prepared u (CommitsRollback members true) can none was = absurd (false≢true was)
@@ -134,7 +134,7 @@ event_prepared u BeginsRollback can none was = inl (was, refl)
 event_prepared u (TellsEpoch to epoch) can none was = inl (was, refl)
 event_prepared u e can none was = absurd (false≢true (sym (ap is_some none)))
 
-keeps_prepared : (w v : World) (leads : Leads w v) → WorldOk w → AreOfMaster w v leads → NonePrepared w v → v.entry.was_known ≡ true → Kept w v
+keeps_prepared : (w v : ChunkWorld) (leads : Leads w v) → WorldOk w → AreOfMaster w v leads → NonePrepared w v → v.entry.was_known ≡ true → Kept w v
 keeps_prepared w v Rests ok masters none was = (was, refl)
 keeps_prepared w v (Goes u e before can) ok masters none was =
     let oku = leads_world w u before ok in

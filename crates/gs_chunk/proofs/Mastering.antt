@@ -5,7 +5,7 @@ use Rattle.std.proofs.lemmas.Bool.{false≢true, true≢false}
 use Rattle.std.proofs.lemmas.Bool.Decides.{nat_tests}
 use Rattle.std.proofs.lemmas.List.Elements.{Contains-append_cases, Contains-push_cases}
 use Rattle.gs_chunk.specs.Stamps.{start_of}
-use Rattle.gs_chunk.specs.Machine.{Message, Create, Advance, Promised, Grant, CopyOut, CopyIn, Drop, Epoch, Sent, World, WasTold}
+use Rattle.gs_chunk.specs.Machine.{Message, Create, Advance, Promised, Grant, CopyOut, CopyIn, Drop, Epoch, Sent, ChunkWorld, WasTold}
 use Rattle.gs_chunk.specs.Events.{Event, Proposes, AsksFirst, Asks, AsksForCopy, GivesUp, Holds, Settles, Grants, Retires, SendsDrop, Prepares, Finalizes, BeginsRollback, CommitsRollback, TellsEpoch, is_of, Can, happens, one, sends, Leads, Rests, Goes}
 use Rattle.gs_chunk.specs.Acting.{actor}
 use Rattle.gs_chunk.specs.Mastering.{AreOfMaster, IsCommittedSince, KeepsLists, MastersSettleOnce, RestoresList, SettlesList, SettlesOnce}
@@ -21,7 +21,7 @@ abbrev is_promised : Message → Bool
 is_promised (Promised stamp count carried) = true
 is_promised m = false
 
-module _ (u : World) (server : ℕ) (m : Message) (other : is_promised m ≡ false) where
+module _ (u : ChunkWorld) (server : ℕ) (m : Message) (other : is_promised m ≡ false) where
   told_before : (j t n : ℕ) (c : Bool) → WasTold (sends u server m) j (Promised t n c) → WasTold u j (Promised t n c)
   told_before j t n c told = by_place (Contains-append_cases u.sent (one server m) (record { server = j; body = Promised t n c }) told)
     where
@@ -43,10 +43,10 @@ module _ (u : World) (server : ℕ) (m : Message) (other : is_promised m ≡ fal
       by_place (inr new) = by_one (Contains-push_cases [] (record { server = server; body = m }) (record { server = j; body = Promised t n c }) new)
 
 -- what is promised behind an event of the master was promised before it
-abbrev ToldBefore : World → World → Type 0
+abbrev ToldBefore : ChunkWorld → ChunkWorld → Type 0
 ToldBefore w v = (j t n : ℕ) (c : Bool) → WasTold v j (Promised t n c) → WasTold w j (Promised t n c)
 
-told_so : (u : World) (e : Event) → actor e ≡ None → ToldBefore u (happens u e)
+told_so : (u : ChunkWorld) (e : Event) → actor e ≡ None → ToldBefore u (happens u e)
 told_so u (Proposes stamp asked) none = λ j t n c told. told
 told_so u (AsksFirst to false) none = told_before u to (Create (u.entry.top)) refl
 told_so u (AsksFirst to true) none = told_before u to (CopyIn (u.entry.top) (u.known.list u.entry.view.stamp) None) refl
@@ -72,7 +72,7 @@ itself : (n : ℕ) → nat_eq n n ≡ true
 itself n = grind (arith, nat_tests)
 
 -- nothing is settled at the last event
-record Still (u v : World) : Type 0 where
+record Still (u v : ChunkWorld) : Type 0 where
   view : v.known.view ≡ u.known.view
   list : v.known.list ≡ u.known.list
   stood : v.known.stood ≡ u.known.stood
@@ -80,7 +80,7 @@ record Still (u v : World) : Type 0 where
   current : u.known.current ≤ v.known.current
   over : v.known.current ≡ u.known.current → u.entry.is_rolling ≡ false → v.entry.is_rolling ≡ false
 
-module _ (w u v : World) (ok : WorldOk u) (m : Moved u v) (s : Still u v) where
+module _ (w u v : ChunkWorld) (ok : WorldOk u) (m : Moved u v) (s : Still u v) where
   kept_so : KeepsLists w u → KeepsLists w v
   kept_so k = record { view = s.view ∙ k.view; list = s.list ∙ k.list; stood = s.stood ∙ k.stood }
 
@@ -135,14 +135,14 @@ module _ (w u v : World) (ok : WorldOk u) (m : Moved u v) (s : Still u v) where
   still_so later (inr (inr k)) = inr (inr (restored_so later k))
 
 -- a run as it is shown so far
-record Run (w u : World) : Type 0 where
+record Run (w u : ChunkWorld) : Type 0 where
   ok : WorldOk u
   later : Later w.known u.known
   told : ToldBefore w u
   calm : w.entry.is_rolling ≡ false → u.entry.epoch ≡ w.entry.epoch → u.entry.is_rolling ≡ false
   once : SettlesOnce w u
 
-module _ (w u : World) (ok : WorldOk w) (r : Run w u) where
+module _ (w u : ChunkWorld) (ok : WorldOk w) (r : Run w u) where
   -- a view is settled
   settles_so : (members : List ℕ) (count : ℕ) (holder : Option ℕ) → Can u (Settles members count holder) → SettlesOnce w (happens u (Settles members count holder))
   settles_so members count holder can = by_once r.once
@@ -177,7 +177,7 @@ module _ (w u : World) (ok : WorldOk w) (r : Run w u) where
         stood = λ t. ap (λ n. cond (nat_eq t n) true (u.known.stood t)) same ∙ ap (λ f. cond (nat_eq t w.known.top) true (f t)) k.stood;
       }))
         where
-          after : World
+          after : ChunkWorld
           after = happens u (Settles members count holder)
 
           based : (t : ℕ) → after.known.base w.known.top ≡ count
@@ -254,7 +254,7 @@ module _ (w u : World) (ok : WorldOk w) (r : Run w u) where
           by_rolling true rolls =
               (ok.entry).was_known rolling.e (inr (sym rolling.next ∙ at, rolls)) ∙ sym (r.later.kept rolling.e (let n = sym at ∙ rolling.next in omega arith)) ∙ sym ((r.ok.entry).was_known rolling.e (inr (sym rolling.next, can.0))) ∙ (can.1 keep).0
 
-      committed : (v : World) → v.entry.epoch ≡ u.entry.epoch → v.entry.how ≡ u.entry.how → v.entry.is_rolling ≡ false → IsCommittedSince w v
+      committed : (v : ChunkWorld) → v.entry.epoch ≡ u.entry.epoch → v.entry.how ≡ u.entry.how → v.entry.is_rolling ≡ false → IsCommittedSince w v
       committed v at same over = record {
         e = u.entry.epoch;
         since = (let a = (ok.entry).epoch in let b = (r.ok.entry).epoch in let c = r.later.current in omega arith);
@@ -290,7 +290,7 @@ module _ (w u : World) (ok : WorldOk w) (r : Run w u) where
         };
       }))
         where
-          after : World
+          after : ChunkWorld
           after = happens u (CommitsRollback members true)
       by_keeps false is = inr (inr (record {
         later = above;
@@ -309,10 +309,10 @@ module _ (w u : World) (ok : WorldOk w) (r : Run w u) where
         };
       }))
         where
-          after : World
+          after : ChunkWorld
           after = happens u (CommitsRollback members false)
 
-step_so : (w u : World) (e : Event) → WorldOk w → Run w u → Moved u (happens u e) → Can u e → actor e ≡ None → SettlesOnce w (happens u e)
+step_so : (w u : ChunkWorld) (e : Event) → WorldOk w → Run w u → Moved u (happens u e) → Can u e → actor e ≡ None → SettlesOnce w (happens u e)
 step_so w u (Settles members count holder) ok r moved can none = settles_so w u ok r members count holder can
 step_so w u (CommitsRollback members keeps) ok r moved can none = commits_so w u ok r members keeps can
 step_so w u (Proposes stamp asked) ok r moved can none = still_so w u (happens u (Proposes stamp asked)) r.ok moved (record { view = refl; list = refl; stood = refl; base = refl; current = omega arith; over = λ same still. still }) r.later.current r.once
@@ -331,7 +331,7 @@ step_so w u BeginsRollback ok r moved can none = still_so w u (happens u BeginsR
 step_so w u (TellsEpoch to epoch) ok r moved can none = still_so w u (happens u (TellsEpoch to epoch)) r.ok moved (record { view = refl; list = refl; stood = refl; base = refl; current = omega arith; over = λ same still. still }) r.later.current r.once
 step_so w u e ok r moved can none = absurd (false≢true (sym (ap is_some none)))
 
-run_of : (w v : World) (leads : Leads w v) → WorldOk w → AreOfMaster w v leads → Run w v
+run_of : (w v : ChunkWorld) (leads : Leads w v) → WorldOk w → AreOfMaster w v leads → Run w v
 run_of w v Rests ok masters = record { ok = ok; later = leads_later w w Rests ok; told = λ j t n c told. told; calm = λ calm same. calm; once = inl (record { view = refl; list = refl; stood = refl }) }
 run_of w v (Goes u e before can) ok masters =
     let r = run_of w u before ok masters.0 in

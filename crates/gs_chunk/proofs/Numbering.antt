@@ -10,7 +10,7 @@ use Rattle.gs_base.specs.declared.numbers.ReqId.{ReqId}
 use Rattle.gs_base.specs.declared.numbers.Stamp.{Stamp}
 use Rattle.gs_replica.specs.Stands.{Edit}
 use Rattle.gs_chunk.specs.Stamps.{epoch_of, stamp_at, start_of}
-use Rattle.gs_chunk.specs.Machine.{Entry, Known, World}
+use Rattle.gs_chunk.specs.Machine.{Entry, Known, ChunkWorld}
 use Rattle.gs_chunk.specs.Events.{Event, Raises, Rises, Promises, SendsCopy, TakesLease, Numbers, Forwards, Applies, Acknowledges, Hears, Closes, Answers, Spends, Drops, Loses, Damages, Learns, Names, Reports, Proposes, AsksFirst, Asks, AsksForCopy, GivesUp, Holds, Settles, Grants, Retires, SendsDrop, Prepares, Finalizes, BeginsRollback, CommitsRollback, TellsEpoch, Can, happens, learned, Leads, Rests, Goes}
 use Rattle.gs_chunk.specs.Acting.{actor}
 use Rattle.gs_chunk.specs.Laws.{Birth, IsReached}
@@ -27,7 +27,7 @@ use Rattle.gs_chunk.proofs.Worlds.{WorldOk, committing, happens_world, leads_lat
 -- ---- what an event makes of lists and views
 
 -- No view is settled. The lists of stamps behind the settled one stay, and where the master acts all of them.
-record Still (e : Event) (u v : World) : Type 0 where
+record Still (e : Event) (u v : ChunkWorld) : Type 0 where
   born : v.known.born ≡ u.known.born
   view : v.known.view ≡ u.known.view
   top : u.known.top ≤ v.known.top
@@ -36,7 +36,7 @@ record Still (e : Event) (u v : World) : Type 0 where
   master : actor e ≡ None → (t : ℕ) → v.known.list t ≡ u.known.list t
 
 -- A view is settled, behind all that were. Its list is of the first edits of one that was settled before, and all other lists stay.
-record Settled (u v : World) : Type 0 where
+record Settled (u v : ChunkWorld) : Type 0 where
   stamp : ℕ
   edits : List Edit
   stands : Bool
@@ -49,7 +49,7 @@ record Settled (u v : World) : Type 0 where
   list : (t : ℕ) → v.known.list t ≡ cond (nat_eq t stamp) edits (u.known.list t)
   from : (place : ℕ) (edit : Edit) → slice_get edits place ≡ Some edit → (old : ℕ) × (old ≤ u.known.view) × (take (place + 1) edits ≡ take (place + 1) (u.known.list old)) × ((lower : ℕ) → StandsPrepared u.known lower old place → StandsPrepared v.known lower stamp place)
 
-abbrev Changes : Event → World → World → Type 0
+abbrev Changes : Event → ChunkWorld → ChunkWorld → Type 0
 Changes e u v = Still e u v ⊎ Settled u v
 
 -- no edit is added
@@ -69,13 +69,13 @@ take_fewer (suc n) zero xs l = absurd (omega arith)
 take_fewer (suc n) (suc m) [] l = refl
 take_fewer (suc n) (suc m) (x ∷ xs) l = ap (λ ys. x ∷ ys) (take_fewer n m xs (omega arith))
 
-module _ (u : World) (ok : WorldOk u) where
+module _ (u : ChunkWorld) (ok : WorldOk u) where
   -- a server acts, and numbers nothing
-  quiet : (e : Event) (v : World) → (actor e ≡ None → ⊥) → v.known.born ≡ u.known.born → v.known.view ≡ u.known.view → v.known.top ≡ u.known.top → ((t : ℕ) → v.known.stood t ≡ u.known.stood t) → ((t : ℕ) → v.known.list t ≡ u.known.list t) → Changes e u v
+  quiet : (e : Event) (v : ChunkWorld) → (actor e ≡ None → ⊥) → v.known.born ≡ u.known.born → v.known.view ≡ u.known.view → v.known.top ≡ u.known.top → ((t : ℕ) → v.known.stood t ≡ u.known.stood t) → ((t : ℕ) → v.known.list t ≡ u.known.list t) → Changes e u v
   quiet e v some born view top stood list = inl (record { born = born; view = view; top = omega arith; stood = stood; above = λ t l. list t; master = λ none. absurd (some none) })
 
   -- the master acts, and settles nothing
-  calm : (e : Event) (v : World) → v.known.born ≡ u.known.born → v.known.view ≡ u.known.view → u.known.top ≤ v.known.top → ((t : ℕ) → v.known.stood t ≡ u.known.stood t) → ((t : ℕ) → v.known.list t ≡ u.known.list t) → Changes e u v
+  calm : (e : Event) (v : ChunkWorld) → v.known.born ≡ u.known.born → v.known.view ≡ u.known.view → u.known.top ≤ v.known.top → ((t : ℕ) → v.known.stood t ≡ u.known.stood t) → ((t : ℕ) → v.known.list t ≡ u.known.list t) → Changes e u v
   calm e v born view top stood list = inl (record { born = born; view = view; top = top; stood = stood; above = λ t l. list t; master = λ none. list })
 
   -- What stands in the list of the former view, and behind it: the upgrade of the epoch may have begun with the former view, or before it.
@@ -195,7 +195,7 @@ module _ (u : World) (ok : WorldOk u) where
 
 -- ---- lists of stamps behind the settled one
 
-event_above : (u : World) (e : Event) → WorldOk u → Can u e → (t : ℕ) → (happens u e).known.view < t → (u.known.view < t) × ((happens u e).known.list t ≡ u.known.list t)
+event_above : (u : ChunkWorld) (e : Event) → WorldOk u → Can u e → (t : ℕ) → (happens u e).known.view < t → (u.known.view < t) × ((happens u e).known.list t ≡ u.known.list t)
 event_above u e ok can t l = by_changes (changes u ok e can)
   where
     by_changes : Changes e u (happens u e) → (u.known.view < t) × ((happens u e).known.list t ≡ u.known.list t)
@@ -205,12 +205,12 @@ event_above u e ok can t l = by_changes (changes u ok e can)
         let same = s.view in
         (omega arith, s.list t ∙ ap (λ b. cond b s.edits (u.known.list t)) (apart t s.stamp (omega arith)))
 
-list_above : (w v : World) → Leads w v → WorldOk w → (t : ℕ) → v.known.view < t → v.known.list t ≡ w.known.list t
+list_above : (w v : ChunkWorld) → Leads w v → WorldOk w → (t : ℕ) → v.known.view < t → v.known.list t ≡ w.known.list t
 list_above w v Rests ok t l = refl
 list_above w v (Goes u e before can) ok t l = let x = event_above u e (leads_world w u before ok) can t l in x.1 ∙ list_above w u before ok t x.0
 
 -- A list that grows where the master does nothing is of a view that was settled, behind the birth: one in which a server may number.
-module _ (w v : World) (reached : IsReached w) (leads : Leads w v) (entry : v.entry ≡ w.entry) (t : ℕ) (never : v.known.list t ≡ w.known.list t → ⊥) where
+module _ (w v : ChunkWorld) (reached : IsReached w) (leads : Leads w v) (entry : v.entry ≡ w.entry) (t : ℕ) (never : v.known.list t ≡ w.known.list t → ⊥) where
   grown_ok : WorldOk w
   grown_ok = reached_world w reached
 
@@ -277,7 +277,7 @@ module _ (under : ReqId → Option Stamp) where
 
   -- ---- the master
 
-  module _ (origin : List Edit) (e : Event) (u v : World) (ok : WorldOk u) (later : Later u.known v.known) (anew : (e : ℕ) → u.known.current < e → IsPrepared v.known e → u.known.view ≤ v.known.prepared e) (numbered : AreNumbered under origin u.known) where
+  module _ (origin : List Edit) (e : Event) (u v : ChunkWorld) (ok : WorldOk u) (later : Later u.known v.known) (anew : (e : ℕ) → u.known.current < e → IsPrepared v.known e → u.known.view ≤ v.known.prepared e) (numbered : AreNumbered under origin u.known) where
     still_numbered : actor e ≡ None → Still e u v → AreNumbered under origin v.known
     still_numbered none s t place edit at =
         let same = s.master none t in
@@ -319,7 +319,7 @@ module _ (under : ReqId → Option Stamp) where
               | inr low ↦ prepared_on u.known v.known later (ok.known).before anew lower t place low p within stood
             ])
 
-  masters_number : (origin : List Edit) (w v : World) → WorldOk w → (leads : Leads w v) → AreOfMaster w v leads → AreNumbered under origin w.known → AreNumbered under origin v.known
+  masters_number : (origin : List Edit) (w v : ChunkWorld) → WorldOk w → (leads : Leads w v) → AreOfMaster w v leads → AreNumbered under origin w.known → AreNumbered under origin v.known
   masters_number origin w v ok Rests of numbered = numbered
   masters_number origin w v ok (Goes u e before can) of numbered =
       let first = masters_number origin w u ok before of.0 numbered in
@@ -329,12 +329,12 @@ module _ (under : ReqId → Option Stamp) where
       let later = later_of u.known (happens u e).known grows in
       ⊎_elim (λ s. still_numbered origin e u (happens u e) now later anew first of.1 s) (λ s. settled_numbered origin e u (happens u e) now later anew first s) (changes u now e can)
 
-  pub masters_numbered : (origin : List Edit) (w v : World) → MastersNumber under origin w v
+  pub masters_numbered : (origin : List Edit) (w v : ChunkWorld) → MastersNumber under origin w v
   masters_numbered origin w v reached leads of numbered = masters_number origin w v (reached_world w reached) leads of numbered
 
   -- ---- a server
 
-  pub servers_numbered : (origin : List Edit) (w v : World) → ServersNumber under origin w v
+  pub servers_numbered : (origin : List Edit) (w v : ChunkWorld) → ServersNumber under origin w v
   servers_numbered origin w v reached leads entry asked numbered t place edit at = by_list (asked t)
     where
       ok : WorldOk w
@@ -383,7 +383,7 @@ module _ (under : ReqId → Option Stamp) where
 
 -- ---- a bound below all stamps of views
 
-event_behind : (u : World) (e : Event) (bound : ℕ) → WorldOk u → Can u e → IsBehind bound u.known → IsBehind bound (happens u e).known
+event_behind : (u : ChunkWorld) (e : Event) (bound : ℕ) → WorldOk u → Can u e → IsBehind bound u.known → IsBehind bound (happens u e).known
 event_behind u e bound ok can first = by_changes (changes u ok e can)
   where
     by_stamp : (s : Settled u (happens u e)) (t : ℕ) → (happens u e).known.born < t → (happens u e).known.stood t ≡ true → (b : Bool) → nat_eq t s.stamp ≡ b → bound ≤ t
@@ -400,9 +400,9 @@ event_behind u e bound ok can first = by_changes (changes u ok e can)
       top = (let a = first.top in let b = s.top in let c = s.later in omega arith);
     }
 
-behind : (w v : World) (bound : ℕ) → WorldOk w → Leads w v → IsBehind bound w.known → IsBehind bound v.known
+behind : (w v : ChunkWorld) (bound : ℕ) → WorldOk w → Leads w v → IsBehind bound w.known → IsBehind bound v.known
 behind w v bound ok Rests b = b
 behind w v bound ok (Goes u e before can) b = event_behind u e bound (leads_world w u before ok) can (behind w u bound ok before b)
 
-pub stays_behind : (w v : World) → StaysBehind w v
+pub stays_behind : (w v : ChunkWorld) → StaysBehind w v
 stays_behind w v bound reached leads b = behind w v bound (reached_world w reached) leads b

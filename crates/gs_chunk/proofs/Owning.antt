@@ -4,7 +4,7 @@ use Rattle.std.specs.Prelude.{slice_get}
 use Rattle.std.proofs.lemmas.List.{take_all, take-take, take-append-le}
 use Rattle.std.proofs.lemmas.Option.{slice_get_within}
 use Rattle.gs_replica.specs.Stands.{Edit}
-use Rattle.gs_chunk.specs.Machine.{World}
+use Rattle.gs_chunk.specs.Machine.{ChunkWorld}
 use Rattle.gs_chunk.specs.Events.{Rests, Goes, happens}
 use Rattle.gs_chunk.specs.Laws.{Birth}
 use Rattle.gs_chunk.specs.Owning.{AddsOwn, BeginningsOwn, BornOwn, IsOwnList, MastersOwn, ServersOwn}
@@ -28,7 +28,7 @@ module _ (Own : List Edit → Edit → Type 0) where
   pub born_own : (b : Birth) → BornOwn Own b
   born_own b own t = own
 
-  pub masters_own : (w v : World) → MastersOwn Own w v
+  pub masters_own : (w v : ChunkWorld) → MastersOwn Own w v
   masters_own w v Rests of own = own
   masters_own w v (Goes u e before can) of own = λ t place edit at.
       let old = masters_lists_old u e of.1 t (place + 1) in
@@ -46,5 +46,5 @@ module _ (Own : List Edit → Edit → Type 0) where
       subst (λ (e : Edit). Own (take place (old ++ more ∷ [])) e) last.1 (subst (λ zs. Own zs more) (sym whole) now))
       (at_push old more place edit at))
 
-  pub servers_own : (w v : World) → ServersOwn Own w v
+  pub servers_own : (w v : ChunkWorld) → ServersOwn Own w v
   servers_own w v adds own t = adds_own (w.known.list t) (v.known.list t) (adds t) (own t)

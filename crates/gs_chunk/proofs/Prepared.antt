@@ -1,14 +1,14 @@
 -- The prepared view rests.
 use Rattle.std.proofs.Common.{◌≡◌, ◌∙◌, ◌+◌, ℕ, true, inl, inr, ⊎_elim, sym, ap, arith}
 use Rattle.gs_base.specs.declared.epoch.EpochEnd.TheVariants.{Prepare}
-use Rattle.gs_chunk.specs.Machine.{World}
+use Rattle.gs_chunk.specs.Machine.{ChunkWorld}
 use Rattle.gs_chunk.specs.Laws.{IsUpgrading}
 use Rattle.gs_chunk.specs.Resting.{PreparedRests, PreparedViewsRest}
 use Rattle.gs_chunk.proofs.Entries.{IsCurrent}
 use Rattle.gs_chunk.proofs.Known.{IsPrepared}
 use Rattle.gs_chunk.proofs.Worlds.{WorldOk}
 
-module _ (w : World) (ok : WorldOk w) (e : ℕ) (upgrading : IsUpgrading w e) (known : w.entry.was_known ≡ true) where
+module _ (w : ChunkWorld) (ok : WorldOk w) (e : ℕ) (upgrading : IsUpgrading w e) (known : w.entry.was_known ≡ true) where
   pub current : IsCurrent w.known w.entry.is_rolling e
   current = let m = ok.entry in ⊎_elim (λ x. inl (x.0 ∙ m.epoch, sym (m.how e) ∙ x.1)) (λ x. inr (x.0 ∙ m.epoch, x.1)) upgrading
 
@@ -31,5 +31,5 @@ module _ (w : World) (ok : WorldOk w) (e : ℕ) (upgrading : IsUpgrading w e) (k
         free = ap w.known.holder at ∙ (ok.known).prepared e prepared;
       }
 
-pub prepared_rests : (w : World) → WorldOk w → PreparedViewsRest w
+pub prepared_rests : (w : ChunkWorld) → WorldOk w → PreparedViewsRest w
 prepared_rests w ok e upgrading known = rests w ok e upgrading known

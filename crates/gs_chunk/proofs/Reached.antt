@@ -2,7 +2,7 @@
 use Rattle.std.proofs.Common.{◌≡◌, ℕ, ◌<◌, ◌&&◌, ◌⊎◌, inl, inr, Bool, true, false, cond, refl, sym, ◌∙◌, arith}
 use Rattle.std.specs.Prelude.{nat_eq}
 use Rattle.std.proofs.lemmas.Bool.{eqb-true}
-use Rattle.gs_chunk.specs.Machine.{World}
+use Rattle.gs_chunk.specs.Machine.{ChunkWorld}
 use Rattle.gs_chunk.specs.Events.{Event, Raises, Rises, Promises, SendsCopy, TakesLease, Numbers, Forwards, Applies, Acknowledges, Hears, Closes, Answers, Spends, Drops, Loses, Damages, Learns, Names, Reports, Proposes, AsksFirst, Asks, AsksForCopy, GivesUp, Holds, Settles, Grants, Retires, SendsDrop, Prepares, Finalizes, BeginsRollback, CommitsRollback, TellsEpoch, happens, Leads, Rests, Goes}
 use Rattle.gs_chunk.specs.Laws.{Birth, IsReached, ReachedWithin, world_of}
 use Rattle.gs_chunk.proofs.Facts.{reached_world}
@@ -19,7 +19,7 @@ step_reached me j t p n old promise = by_case (nat_eq j me) (nat_eq t p) refl
     by_case false b is = inl refl
 
 -- what is reached under a stamp stays, but under the promise
-event_reached : (w : World) (e : Event) (j t : ℕ) → ((happens w e).known.reached j t ≡ w.known.reached j t) ⊎ ((happens w e).known.promise j ≡ t)
+event_reached : (w : ChunkWorld) (e : Event) (j t : ℕ) → ((happens w e).known.reached j t ≡ w.known.reached j t) ⊎ ((happens w e).known.promise j ≡ t)
 event_reached w (Raises me stamp edits image) j t = step_reached me j t _ _ _ _
 event_reached w (Rises me stamp edits) j t = step_reached me j t _ _ _ _
 event_reached w (Promises me edits) j t = step_reached me j t _ _ _ _
@@ -57,7 +57,7 @@ event_reached w (CommitsRollback members true) j t = inl refl
 event_reached w (CommitsRollback members false) j t = inl refl
 event_reached w (TellsEpoch to epoch) j t = inl refl
 
-known_within : (b : Birth) (w : World) → Leads (world_of b) w → (j t : ℕ) → w.known.promise j < t → w.known.reached j t ≡ 0
+known_within : (b : Birth) (w : ChunkWorld) → Leads (world_of b) w → (j t : ℕ) → w.known.promise j < t → w.known.reached j t ≡ 0
 known_within b w Rests j t above = refl
 known_within b w (Goes u e before can) j t above =
     let rises = (happens_world u (reached_world u (b, before)) e can).grows.promise j in
@@ -66,5 +66,5 @@ known_within b w (Goes u e before can) j t above =
       | inr at ↦ absurd (omega arith)
     ]
 
-pub reached_within : (w : World) → IsReached w → ReachedWithin w
+pub reached_within : (w : ChunkWorld) → IsReached w → ReachedWithin w
 reached_within w reached j t above = let same = (agrees w (reached_world w reached)).promises j in known_within reached.0 w reached.1 j t (omega arith)

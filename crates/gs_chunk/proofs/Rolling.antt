@@ -6,7 +6,7 @@ use Rattle.gs_base.specs.declared.epoch.EpochEnd.{EpochEnd}
 use Rattle.gs_base.specs.declared.epoch.EpochEnd.TheVariants.{Prepare, Finalize, Rollback}
 use Rattle.gs_replica.specs.Stands.{Edit}
 use Rattle.gs_chunk.specs.Stamps.{epoch_of, start_of}
-use Rattle.gs_chunk.specs.Machine.{Lease, Member, Create, Advance, Forward, CopyIn, Drop, Epoch, World, WasTold}
+use Rattle.gs_chunk.specs.Machine.{MemberLease, Member, Create, Advance, Forward, CopyIn, Drop, Epoch, ChunkWorld, WasTold}
 use Rattle.gs_chunk.specs.Events.{Event, Raises, Rises, Promises, SendsCopy, TakesLease, Numbers, Forwards, Applies, Acknowledges, Hears, Closes, Answers, Spends, Drops, Loses, Damages, Learns, Names, Reports, Proposes, AsksFirst, Asks, AsksForCopy, GivesUp, Holds, Settles, Grants, Retires, SendsDrop, Prepares, Finalizes, BeginsRollback, CommitsRollback, TellsEpoch, IsFit, Can, Brings, rolled, learned, happens, Leads, Rests, Goes}
 use Rattle.gs_chunk.specs.Laws.{world_of, IsReached, prepared_list, IsUpgrading, IsSurvivor}
 use Rattle.gs_chunk.specs.Rolling.{LearnersAreIntact, IsHeld, RolledAreHeld, RolledAreFirst, IsBack, SurvivorsAreBack}
@@ -28,7 +28,7 @@ held_then a b c x y = record {
   intact = λ whole. let v = y.intact whole in let u = x.intact v.0 in (u.0, v.1 ∙ u.1);
 }
 
-held_lease : (m : Member) (o : Option Lease) (t : ℕ) → IsHeld m (record m { lease = o; taken = t })
+held_lease : (m : Member) (o : Option MemberLease) (t : ℕ) → IsHeld m (record m { lease = o; taken = t })
 held_lease m o t = record { epoch = refl; promise = refl; live = λ edits is. is; intact = λ whole. (whole, refl) }
 
 -- what is live is under the first stamp of the epoch
@@ -39,7 +39,7 @@ IsFirst current m = (edits : List Edit) → m.live ≡ Some edits → m.promise 
 abbrev IsGoing : ℕ → Member → Member → Type 0
 IsGoing current m n = ((n.epoch ≡ m.epoch) × (m.epoch ≡ current → IsFirst current m → IsHeld m n)) ⊎ ((n.epoch ≡ m.epoch + 1) × (m.epoch < current) × (n.epoch ≡ current → IsFirst current n))
 
-module _ (w : World) (ok : WorldOk w) (rolling : w.entry.is_rolling ≡ true) where
+module _ (w : ChunkWorld) (ok : WorldOk w) (rolling : w.entry.is_rolling ≡ true) where
   r : Rolling w.known
   r = (ok.entry).rolling rolling
 
@@ -61,7 +61,7 @@ module _ (w : World) (ok : WorldOk w) (rolling : w.entry.is_rolling ≡ true) wh
   rests : (m : Member) → IsGoing w.known.current m m
   rests m = inl (refl, λ at first. held_same m)
 
-  leased : (m : Member) (o : Option Lease) (t : ℕ) → IsGoing w.known.current m (record m { lease = o; taken = t })
+  leased : (m : Member) (o : Option MemberLease) (t : ℕ) → IsGoing w.known.current m (record m { lease = o; taken = t })
   leased m o t = inl (refl, λ at first. held_lease m o t)
 
   -- at one server
@@ -125,7 +125,7 @@ module _ (w : World) (ok : WorldOk w) (rolling : w.entry.is_rolling ≡ true) wh
   goes me (TellsEpoch to epoch) can = rests (w.members me)
 
 -- a rollback that goes on behind an event went on before, or it was begun by it
-was_rolling : (w : World) (e : Event) → Can w e → (happens w e).entry.is_rolling ≡ true → (w.entry.is_rolling ≡ true) ⊎ (((happens w e).known.current ≡ w.known.current + 1) × ((j : ℕ) → (happens w e).members j ≡ w.members j))
+was_rolling : (w : ChunkWorld) (e : Event) → Can w e → (happens w e).entry.is_rolling ≡ true → (w.entry.is_rolling ≡ true) ⊎ (((happens w e).known.current ≡ w.known.current + 1) × ((j : ℕ) → (happens w e).members j ≡ w.members j))
 was_rolling w (Raises j stamp edits image) can is = inl is
 was_rolling w (Rises j stamp edits) can is = inl is
 was_rolling w (Promises j edits) can is = inl is
@@ -164,7 +164,7 @@ was_rolling w (CommitsRollback members false) can is = absurd (cc)
 was_rolling w (TellsEpoch to epoch) can is = inl is
 
 -- and its epoch is the same
-same_epoch : (w : World) (e : Event) → Can w e → w.entry.is_rolling ≡ true → (happens w e).entry.is_rolling ≡ true → (happens w e).known.current ≡ w.known.current
+same_epoch : (w : ChunkWorld) (e : Event) → Can w e → w.entry.is_rolling ≡ true → (happens w e).entry.is_rolling ≡ true → (happens w e).known.current ≡ w.known.current
 same_epoch w (Raises j stamp edits image) can was is = refl
 same_epoch w (Rises j stamp edits) can was is = refl
 same_epoch w (Promises j edits) can was is = refl
@@ -203,10 +203,10 @@ same_epoch w (CommitsRollback members false) can was is = refl
 same_epoch w (TellsEpoch to epoch) can was is = refl
 
 -- what is live of a server that has learned of the rollback is under its first stamp
-abbrev AreFirst : World → Type 0
+abbrev AreFirst : ChunkWorld → Type 0
 AreFirst w = w.entry.is_rolling ≡ true → (me : ℕ) → (w.members me).epoch ≡ w.known.current → IsFirst w.known.current (w.members me)
 
-first_then : (w : World) → WorldOk w → AreFirst w → (e : Event) → Can w e → AreFirst (happens w e)
+first_then : (w : ChunkWorld) → WorldOk w → AreFirst w → (e : Event) → Can w e → AreFirst (happens w e)
 first_then w ok first e can is me now = ⊎_elim
     (λ (was : w.entry.is_rolling ≡ true).
     let same = same_epoch w e can was is in
@@ -223,17 +223,17 @@ first_then w ok first e can is me now = ⊎_elim
     absurd (let l = (ok.seals me).learned in let s = ap (λ (m : Member). m.epoch) (x.1 me) in let c = x.0 in omega arith))
     (was_rolling w e can is)
 
-first_throughout : (w last : World) → WorldOk w → AreFirst w → Leads w last → AreFirst last
+first_throughout : (w last : ChunkWorld) → WorldOk w → AreFirst w → Leads w last → AreFirst last
 first_throughout w last ok first (Rests) = first
 first_throughout w last ok first (Goes v e before can) = first_then v (leads_world w v before ok) (first_throughout w v ok first before) e can
 
-are_first : (w : World) → IsReached w → AreFirst w
+are_first : (w : ChunkWorld) → IsReached w → AreFirst w
 are_first w reached = let b = reached.0 in first_throughout (world_of b) w (born_world b.epoch b.how b.origin (rising_of b.origin b.numbered)) (λ is. absurd (cc)) reached.1
 
-pub rolled_are_first : (w : World) → IsReached w → RolledAreFirst w
+pub rolled_are_first : (w : ChunkWorld) → IsReached w → RolledAreFirst w
 rolled_are_first w reached rolling me edits now live = let m = ((reached_world w reached).entry).epoch in are_first w reached rolling me (now ∙ m) edits live ∙ ap start_of (sym m)
 
-held_throughout : (w last : World) → WorldOk w → AreFirst w → w.entry.is_rolling ≡ true → (me : ℕ) → (w.members me).epoch ≡ w.known.current
+held_throughout : (w last : ChunkWorld) → WorldOk w → AreFirst w → w.entry.is_rolling ≡ true → (me : ℕ) → (w.members me).epoch ≡ w.known.current
     → Leads w last → last.entry.is_rolling ≡ true → last.known.current ≡ w.known.current → IsHeld (w.members me) (last.members me)
 held_throughout w last ok first rolling me now (Rests) is same = held_same (w.members me)
 held_throughout w last ok first rolling me now (Goes v e before can) is same =
@@ -254,7 +254,7 @@ held_throughout w last ok first rolling me now (Goes v e before can) is same =
     (λ (x : ((happens v e).known.current ≡ v.known.current + 1) × ((j : ℕ) → (happens v e).members j ≡ v.members j)). absurd (let c = x.0 in omega arith))
     (was_rolling v e can is)
 
-pub rolled_are_held : (w last : World) → IsReached w → Leads w last → RolledAreHeld w last
+pub rolled_are_held : (w last : ChunkWorld) → IsReached w → Leads w last → RolledAreHeld w last
 rolled_are_held w last reached leads still me now =
     let ok = reached_world w reached in
     let later = leads_world w last leads ok in
@@ -262,7 +262,7 @@ rolled_are_held w last reached leads still me now =
     let n = (later.entry).epoch in
     held_throughout w last ok (are_first w reached) still.first me (now ∙ m) leads still.still (sym n ∙ still.same ∙ m)
 
-module _ (w last : World) (reached : IsReached w) (leads : Leads w last) (rolling : w.entry.is_rolling ≡ true) (same : last.entry.epoch ≡ w.entry.epoch) (known : w.entry.was_known ≡ true)
+module _ (w last : ChunkWorld) (reached : IsReached w) (leads : Leads w last) (rolling : w.entry.is_rolling ≡ true) (same : last.entry.epoch ≡ w.entry.epoch) (known : w.entry.was_known ≡ true)
     (me : ℕ) (now : (w.members me).epoch ≡ w.entry.epoch) (fit : IsFit w.entry me) (intact : (last.members me).intact ≡ true) (still : last.entry.is_rolling ≡ true) where
   ok : WorldOk w
   ok = reached_world w reached
@@ -318,12 +318,12 @@ module _ (w last : World) (reached : IsReached w) (leads : Leads w last) (rollin
     list = λ keeps. absurd (cc);
   }
 
-pub survivors_are_back : (w last : World) → IsReached w → Leads w last → SurvivorsAreBack w last
+pub survivors_are_back : (w last : ChunkWorld) → IsReached w → Leads w last → SurvivorsAreBack w last
 survivors_are_back w last reached leads rolling same known me now fit intact members keeps can = back w last reached leads rolling same known me now fit intact can.0 members keeps can
 
 learner_is_intact : (m : Member) (o : Option (List Edit)) (edits : List Edit) → (rolled m (m.epoch + 1) o).live ≡ Some edits → (rolled m (m.epoch + 1) o).intact ≡ true
 learner_is_intact m None edits is = absurd (cc)
 learner_is_intact m (Some image) edits is = refl
 
-pub learners_are_intact : (w : World) → LearnersAreIntact w
+pub learners_are_intact : (w : ChunkWorld) → LearnersAreIntact w
 learners_are_intact w me fails edits = rw (eq-eqb me me refl) (learner_is_intact (w.members me) (cond fails None (w.members me).image) edits)

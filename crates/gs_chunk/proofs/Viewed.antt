@@ -4,7 +4,7 @@ use Rattle.std.specs.Prelude.{nat_eq}
 use Rattle.std.proofs.lemmas.Bool.{cases_eq, eq-eqb, ne_eqb}
 use Rattle.gs_replica.specs.Stands.{Edit}
 use Rattle.gs_chunk.specs.Stamps.{start_of}
-use Rattle.gs_chunk.specs.Machine.{World}
+use Rattle.gs_chunk.specs.Machine.{ChunkWorld}
 use Rattle.gs_chunk.specs.Events.{Event, Numbers, Settles, CommitsRollback, Raises, Rises, Promises, SendsCopy, TakesLease, Forwards, Applies, Acknowledges, Hears, Closes, Answers, Spends, Drops, Loses, Damages, Learns, Names, Reports, Proposes, AsksFirst, Asks, AsksForCopy, GivesUp, Holds, Grants, Retires, SendsDrop, Prepares, Finalizes, BeginsRollback, TellsEpoch, Can, happens, Leads, Rests, Goes}
 use Rattle.gs_chunk.specs.Laws.{Birth, world_of}
 use Rattle.gs_chunk.specs.Lists.{ListsAreOfViews}
@@ -20,19 +20,19 @@ none_more t p xs = by_case (nat_eq t p)
     by_case false = refl
 
 -- where no list changes, and each view that stood stands
-same_then : (b : Birth) (u v : World) → ((t : ℕ) → v.known.list t ≡ u.known.list t) → ((t : ℕ) → v.known.stood t ≡ u.known.stood t) → v.known.born ≡ u.known.born → ListsAreOfViews b u → ListsAreOfViews b v
+same_then : (b : Birth) (u v : ChunkWorld) → ((t : ℕ) → v.known.list t ≡ u.known.list t) → ((t : ℕ) → v.known.stood t ≡ u.known.stood t) → v.known.born ≡ u.known.born → ListsAreOfViews b u → ListsAreOfViews b v
 same_then b u v list stood born of t = ⊎_elim
     (λ (x : (u.known.stood t ≡ true) × (u.known.born < t)). inl (stood t ∙ x.0, (let y = x.1 in omega arith)))
     (λ (x : (u.known.list t ≡ b.origin) ⊎ (u.known.list t ≡ [])). inr (⊎_elim (λ y. inl (list t ∙ y)) (λ y. inr (list t ∙ y)) x))
     (of t)
 
-module _ (b : Birth) (u : World) (ok : WorldOk u) (of : ListsAreOfViews b u) where
+module _ (b : Birth) (u : ChunkWorld) (ok : WorldOk u) (of : ListsAreOfViews b u) where
   -- a view that is settled lies behind the birth
   behind_birth : u.known.born ≤ u.known.view
   behind_birth = (ok.known).blank.0
 
   -- at one stamp, which stands then, behind the birth; the others as they were
-  at_one : (v : World) (p : ℕ) → v.known.born ≡ u.known.born → (v.known.stood p ≡ true) → u.known.born < p → ((t : ℕ) → t ≢ p → (v.known.list t ≡ u.known.list t) × (v.known.stood t ≡ u.known.stood t)) → ListsAreOfViews b v
+  at_one : (v : ChunkWorld) (p : ℕ) → v.known.born ≡ u.known.born → (v.known.stood p ≡ true) → u.known.born < p → ((t : ℕ) → t ≢ p → (v.known.list t ≡ u.known.list t) × (v.known.stood t ≡ u.known.stood t)) → ListsAreOfViews b v
   at_one v p born stands late others t = ⊎_elim
       (λ (is : t ≡ p). inl (ap v.known.stood is ∙ stands, omega arith))
       (λ (other : t ≢ p). ⊎_elim
@@ -119,6 +119,6 @@ module _ (b : Birth) (u : World) (ok : WorldOk u) (of : ListsAreOfViews b u) whe
   event_views BeginsRollback can = same_then b u (happens u BeginsRollback) (λ t. refl) (λ t. refl) refl of
   event_views (TellsEpoch to epoch) can = same_then b u (happens u (TellsEpoch to epoch)) (λ t. refl) (λ t. refl) refl of
 
-pub lists_of_views : (b : Birth) (w : World) → Leads (world_of b) w → ListsAreOfViews b w
+pub lists_of_views : (b : Birth) (w : ChunkWorld) → Leads (world_of b) w → ListsAreOfViews b w
 lists_of_views b w Rests = λ t. inr (inl refl)
 lists_of_views b w (Goes u e before can) = event_views b u (reached_world u (b, before)) (lists_of_views b u before) e can

@@ -4,7 +4,7 @@ use Rattle.std.specs.Prelude.{◌≡◌, ℕ, ◌+◌, Bool, true, false, ◌||�
 use Rattle.gs_base.specs.declared.epoch.EpochEnd.TheVariants.{Prepare, Finalize, Rollback}
 use Rattle.gs_replica.specs.Stands.{Edit}
 use Rattle.gs_chunk.specs.Stamps.{epoch_of, start_of}
-use Rattle.gs_chunk.specs.Machine.{Lease, World}
+use Rattle.gs_chunk.specs.Machine.{MemberLease, ChunkWorld}
 use Rattle.gs_chunk.specs.Events.{Event, Raises, Rises, SendsCopy, TakesLease, Numbers, Forwards, Applies, Acknowledges, Hears, Answers, Loses, Learns, Names, Proposes, AsksFirst, Asks, AsksForCopy, Holds, Settles, Grants, Prepares, BeginsRollback, CommitsRollback, TellsEpoch, new_lease, opened, told_by, run, born}
 use Rattle.gs_chunk.specs.Laws.{settled}
 use Rattle.gs_chunk.specs.Worked.{edit, upgraded}
@@ -23,14 +23,14 @@ are_three j = nat_eq j 0 || (nat_eq j 1 || nat_eq j 2)
 abbrev pub others : List ℕ
 others = 0 ∷ 2 ∷ []
 
-abbrev pub at_first : World
+abbrev pub at_first : ChunkWorld
 at_first = born 0 (λ _. Finalize) []
 
 -- a lease under which an edit of these waits at a place, and with what a member has told of it
-abbrev pub waiting : ℕ → List ℕ → ℕ → Edit → Lease
+abbrev pub waiting : ℕ → List ℕ → ℕ → Edit → MemberLease
 waiting stamp members place e = opened 0 (new_lease stamp members) place e
 
-abbrev pub heard : ℕ → List ℕ → ℕ → Edit → ℕ → Lease
+abbrev pub heard : ℕ → List ℕ → ℕ → Edit → ℕ → MemberLease
 heard stamp members place e from = told_by (waiting stamp members place e) from (place + 1)
 
 -- settled on both under version 1; the first numbers an edit and forwards it, and it is done once the second has told that it has it
@@ -58,19 +58,19 @@ rolls_back = BeginsRollback ∷ TellsEpoch 2 2 ∷ Learns 2 Rollback false ∷ N
 abbrev pub whole_run : List Event
 whole_run = writes_once ++ prepares_it ++ carries_it ++ writes_again ++ rolls_back
 
-abbrev pub written : World
+abbrev pub written : ChunkWorld
 written = run at_first writes_once
 
-abbrev pub prepared : World
+abbrev pub prepared : ChunkWorld
 prepared = run written prepares_it
 
-abbrev pub carried : World
+abbrev pub carried : ChunkWorld
 carried = run prepared carries_it
 
-abbrev pub written_again : World
+abbrev pub written_again : ChunkWorld
 written_again = run carried writes_again
 
-abbrev pub rolled_back : World
+abbrev pub rolled_back : ChunkWorld
 rolled_back = run written_again rolls_back
 
 one_edit_is_settled : settled written ≡ edit 1 ∷ []

@@ -5,7 +5,7 @@ use Rattle.gs_base.specs.declared.numbers.ReqId.{ReqId}
 use Rattle.gs_base.specs.declared.numbers.Stamp.{Stamp}
 use Rattle.gs_replica.specs.Stands.{Edit}
 use Rattle.gs_chunk.specs.Stamps.{epoch_of, stamp_at}
-use Rattle.gs_chunk.specs.Machine.{Known, World}
+use Rattle.gs_chunk.specs.Machine.{Known, ChunkWorld}
 use Rattle.gs_chunk.specs.Events.{Leads}
 use Rattle.gs_chunk.specs.Laws.{Birth, IsReached, world_of}
 use Rattle.gs_chunk.specs.Mastering.{AreOfMaster}
@@ -37,14 +37,14 @@ module _ (under : ReqId → Option Stamp) where
   BornNumbered b = AreNumbered b.origin (world_of b).known
 
   -- So it stays where the master's events lead,
-  abbrev pub MastersNumber : List Edit → World → World → Type 0
+  abbrev pub MastersNumber : List Edit → ChunkWorld → ChunkWorld → Type 0
   MastersNumber origin w v = IsReached w → (leads : Leads w v) → AreOfMaster w v leads → AreNumbered origin w.known → AreNumbered origin v.known
 
   -- and where others lead that number no edit that isn't asked for under the stamp of the list.
   abbrev pub NumbersAsked : ℕ → List Edit → List Edit → Type 0
   NumbersAsked t old new = (new ≡ old) ⊎ ((edit : Edit) × (new ≡ old ++ edit ∷ []) × (under edit.req ≡ Some (stamp_at t)))
 
-  abbrev pub ServersNumber : List Edit → World → World → Type 0
+  abbrev pub ServersNumber : List Edit → ChunkWorld → ChunkWorld → Type 0
   ServersNumber origin w v = IsReached w → Leads w v → v.entry ≡ w.entry → ((t : ℕ) → NumbersAsked t (w.known.list t) (v.known.list t)) → AreNumbered origin w.known → AreNumbered origin v.known
 
 -- No view behind the birth's is of a stamp below a bound, nor will be, since the stamp proposed last isn't.
@@ -52,5 +52,5 @@ pub record IsBehind (bound : ℕ) (k : Known) : Type 0 where
   pub stood : (t : ℕ) → k.born < t → k.stood t ≡ true → bound ≤ t
   pub top : bound ≤ k.top
 
-abbrev pub StaysBehind : World → World → Type 0
+abbrev pub StaysBehind : ChunkWorld → ChunkWorld → Type 0
 StaysBehind w v = (bound : ℕ) → IsReached w → Leads w v → IsBehind bound w.known → IsBehind bound v.known

@@ -1,7 +1,7 @@
 -- What holds of each edit of a list by the edits before it: it stays where the lists of a chunk go on.
 use Rattle.std.specs.Prelude.{◌≡◌, ◌⊎◌, ◌++◌, ◌∷◌, [], ℕ, List, Some, slice_get, take}
 use Rattle.gs_replica.specs.Stands.{Edit}
-use Rattle.gs_chunk.specs.Machine.{Known, World}
+use Rattle.gs_chunk.specs.Machine.{Known, ChunkWorld}
 use Rattle.gs_chunk.specs.Events.{Leads}
 use Rattle.gs_chunk.specs.Laws.{Birth, world_of}
 use Rattle.gs_chunk.specs.Mastering.{AreOfMaster}
@@ -25,12 +25,12 @@ module _ (Own : List Edit → Edit → Type 0) where
   BornOwn b = IsOwnList b.origin → AreOwn (world_of b).known
 
   -- where the master's events lead,
-  abbrev pub MastersOwn : World → World → Type 0
+  abbrev pub MastersOwn : ChunkWorld → ChunkWorld → Type 0
   MastersOwn w v = (leads : Leads w v) → AreOfMaster w v leads → AreOwn w.known → AreOwn v.known
 
   -- and where each list is as it was, or has one more edit, of which it holds.
   abbrev pub AddsOwn : List Edit → List Edit → Type 0
   AddsOwn old new = (new ≡ old) ⊎ ((edit : Edit) × (new ≡ old ++ edit ∷ []) × Own old edit)
 
-  abbrev pub ServersOwn : World → World → Type 0
+  abbrev pub ServersOwn : ChunkWorld → ChunkWorld → Type 0
   ServersOwn w v = ((t : ℕ) → AddsOwn (w.known.list t) (v.known.list t)) → AreOwn w.known → AreOwn v.known

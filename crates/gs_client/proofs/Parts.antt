@@ -5,8 +5,8 @@ use Rattle.std.proofs.Math.Seq.{take-add, take-length}
 use Rattle.std.proofs.lemmas.List.{length-take-le}
 use Rattle.std.proofs.Math.Numerals.{suc-eq-add-one}
 use Rattle.std.proofs.lemmas.Bool.Decides.{nat_tests}
-use Rattle.gs_part.specs.Writing.{most_chunks}
-use Rattle.gs_part.specs.Writing.{part_start, part_bytes, part_count, is_out}
+use Rattle.gs_client_part.specs.Writing.{most_chunks}
+use Rattle.gs_client_part.specs.Writing.{part_start, part_bytes, part_count, is_out}
 use Rattle.gs_client.specs.Writing.{first_parts}
 
 -- where the parts before this one end

@@ -4,14 +4,14 @@ use Rattle.std.proofs.Math.Nat.{mul-le-mul_left, mul-div-le}
 use Rattle.gs_base.specs.declared.refusal.Refusal.{Refusal}
 use Rattle.gs_base.specs.declared.refusal.Refusal.TheVariants as refusals
 use Rattle.gs_path.specs.Path.{Path}
-use Rattle.gs_dialogue.specs.Dialogues.{Grow, both, Follows, Leads}
-use Rattle.gs_dialogue.proofs.Talks.{follows_both, follows_none, leads_next, leads_stop}
+use Rattle.gs_client_dialogue.specs.Dialogues.{Grow, both, FollowsDialogue, Leads}
+use Rattle.gs_client_dialogue.proofs.Talks.{follows_both, follows_none, leads_next, leads_stop}
 use Rattle.gs_msg.specs.declared.chunk.Asked.TheVariants as asks
 use Rattle.gs_msg.specs.declared.event.Request.{Request}
 use Rattle.gs_client.specs.declared.link.Reply.{Reply}
-use Rattle.gs_part.specs.declared.located.Located.{Located}
+use Rattle.gs_client_part.specs.declared.located.Located.{Located}
 use Rattle.gs_client.specs.Trees.{Call}
-use Rattle.gs_part.specs.Reading.{piece_end, span}
+use Rattle.gs_client_part.specs.Reading.{piece_end, span}
 use Rattle.gs_client.specs.Reading.{stored_call, piece_bytes, piece_call, pieces_call}
 
 below_end : (size end : ℕ) → 1 ≤ size → end ≤ 4096 * size → (end - 1) / size < 4096
@@ -29,10 +29,10 @@ in_bounds size offset end i some few below = spanned (nat_lt offset end) (offset
 
 -- a part under the name of its length
 pub stored_named : {S : Type 0} (carries : S → Request → Reply → S → Type 0) (path : Path) (known : Option Located) (index start many many' : ℕ) (old new : S) (result : Result (List ℕ × Located) Refusal)
-    → many ≡ many' → Follows carries (stored_call path known index (asks.Bytes start many)) old result new
-    → Follows carries (stored_call path known index (asks.Bytes start many')) old result new
+    → many ≡ many' → FollowsDialogue carries (stored_call path known index (asks.Bytes start many)) old result new
+    → FollowsDialogue carries (stored_call path known index (asks.Bytes start many')) old result new
 stored_named carries path known index start many many' old new result is follows =
-    subst (λ (n : ℕ). Follows carries (stored_call path known index (asks.Bytes start n)) old result new) is follows
+    subst (λ (n : ℕ). FollowsDialogue carries (stored_call path known index (asks.Bytes start n)) old result new) is follows
 
 module _ {S : Type 0} (carries : S → Request → Reply → S → Type 0) (size : ℕ) (path : Path) (chunks end : ℕ) (whole : Call (List ℕ × Option Located)) (old now mid : S)
     (known : Option Located) (first start i count : ℕ) (read : List ℕ) (more : i < count)
@@ -48,37 +48,37 @@ module _ {S : Type 0} (carries : S → Request → Reply → S → Type 0) (size
       subst (λ (k : ℕ). Leads carries whole old (pieces_call size path chunks end known (first + i) start k read) now) e leads
 
   -- its bytes were refused
-  pub piece_refused : (refusal : Refusal) → Follows carries (stored_call path known (first + i) (asks.Bytes start many)) now (Err refusal) mid → Follows carries whole old (Err refusal) mid
+  pub piece_refused : (refusal : Refusal) → FollowsDialogue carries (stored_call path known (first + i) (asks.Bytes start many)) now (Err refusal) mid → FollowsDialogue carries whole old (Err refusal) mid
   piece_refused refusal follows =
       leads_stop carries whole (piece_call path known chunks (first + i) start many) rest old now mid refusal next
       (follows_none carries (stored_call path known (first + i) (asks.Bytes start many)) _ now mid refusal follows)
 
-  got : (bytes : List ℕ) (located : Located) → Follows carries (stored_call path known (first + i) (asks.Bytes start many)) now (Ok (bytes, located)) mid
+  got : (bytes : List ℕ) (located : Located) → FollowsDialogue carries (stored_call path known (first + i) (asks.Bytes start many)) now (Ok (bytes, located)) mid
       → Leads carries whole old (rest (piece_bytes chunks (first + i) many bytes, located)) mid
   got bytes located follows =
       leads_next carries whole (piece_call path known chunks (first + i) start many) rest old now mid (piece_bytes chunks (first + i) many bytes, located) next
       (follows_both carries (stored_call path known (first + i) (asks.Bytes start many)) _ now mid mid (bytes, located) (Ok (piece_bytes chunks (first + i) many bytes, located)) follows (refl, refl))
 
   -- there was no memory for them
-  pub piece_unheld : (bytes : List ℕ) (located : Located) → Follows carries (stored_call path known (first + i) (asks.Bytes start many)) now (Ok (bytes, located)) mid
-      → Follows carries whole old (Err refusals.Memory) mid
+  pub piece_unheld : (bytes : List ℕ) (located : Located) → FollowsDialogue carries (stored_call path known (first + i) (asks.Bytes start many)) now (Ok (bytes, located)) mid
+      → FollowsDialogue carries whole old (Err refusals.Memory) mid
   piece_unheld bytes located follows = got bytes located follows (Err refusals.Memory) mid (inr (refl, refl))
 
   -- they were added
-  pub piece_added : (bytes : List ℕ) (located : Located) (longer : List ℕ) → Follows carries (stored_call path known (first + i) (asks.Bytes start many)) now (Ok (bytes, located)) mid
+  pub piece_added : (bytes : List ℕ) (located : Located) (longer : List ℕ) → FollowsDialogue carries (stored_call path known (first + i) (asks.Bytes start many)) now (Ok (bytes, located)) mid
       → longer ≡ read ++ piece_bytes chunks (first + i) many bytes
       → Leads carries whole old (pieces_call size path chunks end (Some located) (first + (i + 1)) 0 (count - (i + 1)) longer) mid
   piece_added bytes located longer follows added result new after =
       let e : first + i + 1 ≡ first + (i + 1) = omega arith in
       got bytes located follows result new (inl
-      (subst (λ (n : ℕ). Follows carries (pieces_call size path chunks end (Some located) n 0 (count - (i + 1)) (read ++ piece_bytes chunks (first + i) many bytes)) mid result new) (sym e)
-      (subst (λ (l : List ℕ). Follows carries (pieces_call size path chunks end (Some located) (first + (i + 1)) 0 (count - (i + 1)) l) mid result new) added after)))
+      (subst (λ (n : ℕ). FollowsDialogue carries (pieces_call size path chunks end (Some located) n 0 (count - (i + 1)) (read ++ piece_bytes chunks (first + i) many bytes)) mid result new) (sym e)
+      (subst (λ (l : List ℕ). FollowsDialogue carries (pieces_call size path chunks end (Some located) (first + (i + 1)) 0 (count - (i + 1)) l) mid result new) added after)))
 
 pub pieces_begin : {S : Type 0} (carries : S → Request → Reply → S → Type 0) (size : ℕ) (path : Path) (chunks end : ℕ) (known : Option Located) (first start count : ℕ) (read items : List ℕ) (s : S)
     → items ≡ read → Leads carries (pieces_call size path chunks end known first start count read) s (pieces_call size path chunks end known (first + 0) start (count - 0) items) s
 pieces_begin carries size path chunks end known first start count read items s is result new follows =
     let no_more : first + 0 ≡ first = omega arith in
     let no_less : count - 0 ≡ count = omega arith in
-    subst (λ (n : ℕ). Follows carries (pieces_call size path chunks end known n start count read) s result new) no_more
-    (subst (λ (n : ℕ). Follows carries (pieces_call size path chunks end known (first + 0) start n read) s result new) no_less
-    (subst (λ (l : List ℕ). Follows carries (pieces_call size path chunks end known (first + 0) start (count - 0) l) s result new) is follows))
+    subst (λ (n : ℕ). FollowsDialogue carries (pieces_call size path chunks end known n start count read) s result new) no_more
+    (subst (λ (n : ℕ). FollowsDialogue carries (pieces_call size path chunks end known (first + 0) start n read) s result new) no_less
+    (subst (λ (l : List ℕ). FollowsDialogue carries (pieces_call size path chunks end known (first + 0) start (count - 0) l) s result new) is follows))

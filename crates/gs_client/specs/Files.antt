@@ -2,8 +2,8 @@
 use Rattle.std.specs.Prelude.{◌≡◌, ℕ, Option, Some, None, Result, Ok, Err}
 use Rattle.gs_base.specs.declared.refusal.Refusal.{Refusal}
 use Rattle.gs_path.specs.Path.{Path}
-use Rattle.gs_dialogue.specs.Dialogues.{Say, both}
-use Rattle.gs_part.specs.declared.located.Located.{Located}
+use Rattle.gs_client_dialogue.specs.Dialogues.{Say, both}
+use Rattle.gs_client_part.specs.declared.located.Located.{Located}
 use Rattle.gs_client.specs.Opened.{File}
 use Rattle.gs_client.specs.Trees.{Call}
 use Rattle.gs_client.specs.Looking.{chunks_call}

@@ -3,14 +3,14 @@ use Rattle.std.specs.Prelude.{◌==◌, ℕ, List, [], ◌∷◌, if◌then◌el
 use Rattle.gs_base.specs.declared.refusal.Refusal.{Refusal}
 use Rattle.gs_base.specs.declared.refusal.Refusal.TheVariants as refusals
 use Rattle.gs_path.specs.Path.{Path}
-use Rattle.gs_dialogue.specs.Dialogues.{Say, Ask, Grow, upon, both, otherwise}
+use Rattle.gs_client_dialogue.specs.Dialogues.{Say, Ask, Grow, upon, both, otherwise}
 use Rattle.gs_msg.specs.declared.call.Call.TheVariants as calls
 use Rattle.gs_msg.specs.declared.chunk.Asked.{Asked}
 use Rattle.gs_msg.specs.declared.answer.ChunkStatus.{ChunkStatus}
 use Rattle.gs_msg.specs.declared.body.Given.{Given}
-use Rattle.gs_part.specs.declared.located.Located.{Located}
-use Rattle.gs_part.specs.Fetching.{fetch_of}
-use Rattle.gs_part.specs.Writing.{most_chunks}
+use Rattle.gs_client_part.specs.declared.located.Located.{Located}
+use Rattle.gs_client_part.specs.Fetching.{fetch_of}
+use Rattle.gs_client_part.specs.Writing.{most_chunks}
 use Rattle.gs_client.specs.Replies.{status_in, chunks_in, located_in, given}
 use Rattle.gs_client.specs.Trees.{Call, look}
 

@@ -3,14 +3,14 @@ use Rattle.std.specs.Prelude.{◌+◌, ◌-◌, ◌*◌, ◌/◌, ◌%◌, ◌++
 use Rattle.gs_base.specs.declared.refusal.Refusal.{Refusal}
 use Rattle.gs_base.specs.declared.refusal.Refusal.TheVariants as refusals
 use Rattle.gs_path.specs.Path.{Path}
-use Rattle.gs_dialogue.specs.Dialogues.{Say, Grow, both}
+use Rattle.gs_client_dialogue.specs.Dialogues.{Say, Grow, both}
 use Rattle.gs_msg.specs.declared.call.Call.TheVariants as calls
 use Rattle.gs_msg.specs.declared.chunk.Asked.{Asked}
 use Rattle.gs_msg.specs.declared.chunk.Asked.TheVariants as asks
 use Rattle.gs_msg.specs.declared.answer.Status.{Status}
 use Rattle.gs_msg.specs.declared.answer.Status.TheVariants as statuses
-use Rattle.gs_part.specs.declared.located.Located.{Located}
-use Rattle.gs_part.specs.Reading.{filled, piece_end, span}
+use Rattle.gs_client_part.specs.declared.located.Located.{Located}
+use Rattle.gs_client_part.specs.Reading.{filled, piece_end, span}
 use Rattle.gs_client.specs.declared.reading.Stat.{Stat}
 use Rattle.gs_client.specs.declared.reading.Stat.TheVariants as stats
 use Rattle.gs_client.specs.Replies.{status_in, bytes_in, length_in, digest_in}

@@ -18,7 +18,7 @@ use Rattle.gs_msg.specs.declared.chunk.Asked.{Asked}
 use Rattle.gs_msg.specs.declared.chunk.Asked.TheVariants as asks
 use Rattle.gs_client.specs.declared.link.Reply.{Reply}
 use Rattle.gs_client.specs.declared.link.Reply.TheVariants as replies
-use Rattle.gs_part.specs.declared.located.Located.{Located}
+use Rattle.gs_client_part.specs.declared.located.Located.{Located}
 
 -- A request that changes something and that nobody answered, or that a node had no memory or no disk for, stands or doesn't.
 abbrev pub unsure_or : Refusal → Refusal

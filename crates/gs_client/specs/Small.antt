@@ -5,7 +5,7 @@ use Rattle.gs_base.specs.declared.numbers.Stamp.{Stamp}
 use Rattle.gs_path.specs.Path.{Path}
 use Rattle.gs_lease.specs.declared.view.View.{View}
 use Rattle.gs_replica.specs.declared.op.Outcome.TheVariants as outcomes
-use Rattle.gs_dialogue.specs.Dialogues.{run}
+use Rattle.gs_client_dialogue.specs.Dialogues.{run}
 use Rattle.gs_msg.specs.declared.answer.Answer.TheVariants as answers
 use Rattle.gs_msg.specs.declared.answer.Status.TheVariants as statuses
 use Rattle.gs_msg.specs.declared.body.Given.TheVariants as givens
@@ -16,7 +16,7 @@ use Rattle.gs_msg.specs.declared.event.Request.{Request}
 use Rattle.gs_msg.specs.declared.event.Request.TheVariants as requests
 use Rattle.gs_client.specs.declared.link.Reply.{Reply}
 use Rattle.gs_client.specs.declared.link.Reply.TheVariants as replies
-use Rattle.gs_part.specs.declared.located.Located.{Located}
+use Rattle.gs_client_part.specs.declared.located.Located.{Located}
 use Rattle.gs_client.specs.declared.reading.Stat.TheVariants as stats
 use Rattle.gs_client.specs.Looking.{chunks_call}
 use Rattle.gs_client.specs.Files.{open_call, opened_with}

@@ -3,8 +3,8 @@ use Rattle.std.specs.Prelude.{◌≡◌, ℕ, List, [], ◌∷◌, Bool, true, O
 use Rattle.gs_base.specs.declared.refusal.Refusal.{Refusal}
 use Rattle.gs_base.specs.declared.refusal.Refusal.TheVariants as refusals
 use Rattle.gs_path.specs.Path.{Path}
-use Rattle.gs_dialogue.specs.Dialogues.{ask, run}
-use Rattle.gs_dialogue.specs.Dialogues.{Call as AnyCall}
+use Rattle.gs_client_dialogue.specs.Dialogues.{ask, run}
+use Rattle.gs_client_dialogue.specs.Dialogues.{Call as AnyCall}
 use Rattle.gs_msg.specs.declared.call.Call.{Call as Called}
 use Rattle.gs_msg.specs.declared.call.Call.TheVariants as calls
 use Rattle.gs_msg.specs.declared.event.Request.{Request}

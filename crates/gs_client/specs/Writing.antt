@@ -7,13 +7,13 @@ use Rattle.gs_path.specs.Path.{Path}
 use Rattle.gs_lease.specs.declared.view.Term.{Term}
 use Rattle.gs_replica.specs.declared.op.Outcome.{Outcome}
 use Rattle.gs_replica.specs.declared.op.Outcome.TheVariants as outcomes
-use Rattle.gs_dialogue.specs.Dialogues.{Say, Grow, upon, both, ask, otherwise}
+use Rattle.gs_client_dialogue.specs.Dialogues.{Say, Grow, upon, both, ask, otherwise}
 use Rattle.gs_msg.specs.declared.call.Call.TheVariants as calls
 use Rattle.gs_msg.specs.declared.op.Op.{Op}
 use Rattle.gs_msg.specs.declared.op.Op.TheVariants as ops
 use Rattle.gs_msg.specs.declared.event.Request.TheVariants as requests
-use Rattle.gs_part.specs.declared.located.Located.{Located}
-use Rattle.gs_part.specs.Writing.{most_chunks, part_start, part_bytes, chunks_to, is_out, part_count, placed}
+use Rattle.gs_client_part.specs.declared.located.Located.{Located}
+use Rattle.gs_client_part.specs.Writing.{most_chunks, part_start, part_bytes, chunks_to, is_out, part_count, placed}
 use Rattle.gs_client.specs.Replies.{located_in, edited, is_stale, is_location_good}
 use Rattle.gs_client.specs.Trees.{Call, change, look}
 use Rattle.gs_client.specs.Looking.{known_call}

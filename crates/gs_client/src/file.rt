@@ -1,6 +1,6 @@
 //! Open files.
 ghost use Rattle.std.specs.Prelude.{◌≡◌};
-ghost use Rattle.gs_dialogue.specs.Dialogues.{Follows};
+ghost use Rattle.gs_client_dialogue.specs.Dialogues.{FollowsDialogue};
 ghost use Rattle.gs_client.specs.Sends.{Sends};
 ghost use Rattle.gs_client.specs.Edits.{Edits};
 ghost use Rattle.gs_client.specs.Reading.{read_call, digest_call};
@@ -13,8 +13,8 @@ use crate::reading::{Opened, Range};
 use crate::writing::Record;
 use gs_base::Refusal;
 use gs_block::Digest;
+use gs_client_part::{Located, Write};
 use gs_msg::Bytes;
-use gs_part::{Located, Write};
 use gs_path::Path;
 use std::alloc::Global;
 use std::marker::Model;
@@ -70,7 +70,7 @@ impl Client {
         link: &mut L,
         path: Path,
     ) -> Result<OpenFile<Reading>, Refusal>
-        ensures { Follows (Sends L.Carries) (open_call path) (self.old, link.old) result (self.new, link.new) }
+        ensures { FollowsDialogue (Sends L.Carries) (open_call path) (self.old, link.old) result (self.new, link.new) }
     {
         let chunks = self.chunks(alloc, link, &path)?;
         Ok(OpenFile {
@@ -89,7 +89,7 @@ impl Client {
         link: &mut L,
         path: Path,
     ) -> Result<OpenFile<Writing>, Refusal>
-        ensures { Follows (Sends L.Carries) (open_call path) (self.old, link.old) result (self.new, link.new) }
+        ensures { FollowsDialogue (Sends L.Carries) (open_call path) (self.old, link.old) result (self.new, link.new) }
     {
         let chunks = self.chunks(alloc, link, &path)?;
         Ok(OpenFile {
@@ -112,7 +112,7 @@ impl OpenFile<Reading> {
         offset: u64,
         many: u64,
     ) -> Result<Bytes, Refusal>
-        ensures asks { Follows (Sends L.Carries) (read_call client.old.chunk self.old.path self.old.opened self.old.located offset many) (client.old, link.old) (with_location result self.new) (client.new, link.new) }
+        ensures asks { FollowsDialogue (Sends L.Carries) (read_call client.old.chunk self.old.path self.old.opened self.old.located offset many) (client.old, link.old) (with_location result self.new) (client.new, link.new) }
         ensures remembers { Remembers self.old result self.new }
     {
         let file = Opened {
@@ -137,7 +137,7 @@ impl OpenFile<Reading> {
         index: u64,
         block: u64,
     ) -> Result<Digest, Refusal>
-        ensures asks { Follows (Sends L.Carries) (digest_call self.old.path self.old.opened self.old.located index block) (client.old, link.old) (with_location result self.new) (client.new, link.new) }
+        ensures asks { FollowsDialogue (Sends L.Carries) (digest_call self.old.path self.old.opened self.old.located index block) (client.old, link.old) (with_location result self.new) (client.new, link.new) }
         ensures remembers { Remembers self.old result self.new }
     {
         let file = Opened {
@@ -165,7 +165,7 @@ impl OpenFile<Writing> {
         offset: u64,
         bytes: &[u8],
     ) -> Result<(), Refusal>
-        ensures asks { Follows (Edits L.Carries) (write_call client.old.chunk self.old.path self.old.opened offset bytes.now) (client.old, self.old.edits, link.old) result (client.new, self.new.edits, link.new) }
+        ensures asks { FollowsDialogue (Edits L.Carries) (write_call client.old.chunk self.old.path self.old.opened offset bytes.now) (client.old, self.old.edits, link.old) result (client.new, self.new.edits, link.new) }
         ensures counts { self.new ≡ record (used self.old) { edits = self.new.edits } }
     {
         let mut edits = self.edits;
@@ -190,7 +190,7 @@ impl OpenFile<Writing> {
         link: &mut L,
         bytes: &[u8],
     ) -> Result<u64, Refusal>
-        ensures asks { Follows (Edits L.Carries) (append_call client.old.chunk self.old.path self.old.opened bytes.now) (client.old, self.old.edits, link.old) result (client.new, self.new.edits, link.new) }
+        ensures asks { FollowsDialogue (Edits L.Carries) (append_call client.old.chunk self.old.path self.old.opened bytes.now) (client.old, self.old.edits, link.old) result (client.new, self.new.edits, link.new) }
         ensures counts { self.new ≡ record (used self.old) { edits = self.new.edits } }
     {
         let mut edits = self.edits;

@@ -2,7 +2,7 @@
 ghost use Rattle.std.specs.Prelude.{◌≡◌, ◌≤◌, IfOk, IfSome};
 ghost use Rattle.gs_base.specs.declared.refusal.Refusal.TheVariants.{NoReplica};
 ghost use Rattle.gs_msg.specs.declared.call.Call.TheVariants as calls;
-ghost use Rattle.gs_dialogue.specs.Dialogues.{Follows, Grow};
+ghost use Rattle.gs_client_dialogue.specs.Dialogues.{FollowsDialogue, Grow};
 ghost use Rattle.gs_client.specs.Sends.{Sends};
 ghost use Rattle.gs_client.specs.Replies.{status_in, chunks_in};
 ghost use Rattle.gs_client.specs.Trees.{look, and_then};
@@ -12,9 +12,9 @@ use crate::client::Client;
 use crate::link::Link;
 use crate::replies;
 use gs_base::Refusal;
+use gs_client_part::Located;
+use gs_client_part::writing::MOST_CHUNKS;
 use gs_msg::{Asked, Call, ChunkStatus, Given, Request, Status};
-use gs_part::Located;
-use gs_part::writing::MOST_CHUNKS;
 use gs_path::Path;
 use std::alloc::Global;
 
@@ -55,7 +55,7 @@ impl Client {
         link: &mut L,
         path: &Path,
     ) -> Result<Status, Refusal>
-        ensures { Follows (Sends L.Carries) (Grow (look (calls.Status path.now) status_in)) (self.old, link.old) result (self.new, link.new) }
+        ensures { FollowsDialogue (Sends L.Carries) (Grow (look (calls.Status path.now) status_in)) (self.old, link.old) result (self.new, link.new) }
     {
         let request = Request::Call(Call::Status(path.copy(alloc)?));
         replies::status_in(replies::looked(self.ask(link, request)))
@@ -68,7 +68,7 @@ impl Client {
         link: &mut L,
         path: &Path,
     ) -> Result<u64, Refusal>
-        ensures is { Follows (Sends L.Carries) (chunks_call path.now) (self.old, link.old) result (self.new, link.new) }
+        ensures is { FollowsDialogue (Sends L.Carries) (chunks_call path.now) (self.old, link.old) result (self.new, link.new) }
         ensures few { IfOk result (λ count. count ≤ 4096) }
     {
         let status = self.look(alloc, link, path)?;
@@ -84,7 +84,7 @@ impl Client {
         opened: Option<u64>,
     ) -> Result<u64, Refusal>
         requires { IfSome opened (λ count. count ≤ 4096) }
-        ensures is { Follows (Sends L.Carries) (known_call path.now opened) (self.old, link.old) result (self.new, link.new) }
+        ensures is { FollowsDialogue (Sends L.Carries) (known_call path.now opened) (self.old, link.old) result (self.new, link.new) }
         ensures few { IfOk result (λ count. count ≤ 4096) }
     {
         match opened {
@@ -101,7 +101,7 @@ impl Client {
         path: &Path,
         index: u64,
     ) -> Result<Located, Refusal>
-        ensures { Follows (Sends L.Carries) (find_call path.now index) (self.old, link.old) result (self.new, link.new) }
+        ensures { FollowsDialogue (Sends L.Carries) (find_call path.now index) (self.old, link.old) result (self.new, link.new) }
     {
         let request = Request::Call(Call::FindForReading {
             path: path.copy(alloc)?,
@@ -117,7 +117,7 @@ impl Client {
         located: &Located,
         asked: Asked,
     ) -> Result<Given, Refusal>
-        ensures { Follows (Sends L.Carries) (members_call located.now asked located.now.view.members NoReplica) (self.old, link.old) result (self.new, link.new) }
+        ensures { FollowsDialogue (Sends L.Carries) (members_call located.now asked located.now.view.members NoReplica) (self.old, link.old) result (self.new, link.new) }
     {
         let mut last = Refusal::NoReplica;
         for member in located.view.members {
@@ -136,7 +136,7 @@ impl Client {
         located: &Located,
         asked: Asked,
     ) -> Result<(Given, Located), Refusal>
-        ensures { Follows (Sends L.Carries) (round_call located.now asked) (self.old, link.old) result (self.new, link.new) }
+        ensures { FollowsDialogue (Sends L.Carries) (round_call located.now asked) (self.old, link.old) result (self.new, link.new) }
     {
         let given = self.members(link, located, asked)?;
         Ok((given, *located))
@@ -149,7 +149,7 @@ impl Client {
         link: &mut L,
         wanted: Wanted<'_>,
     ) -> Result<(Given, Located), Refusal>
-        ensures { Follows (Sends L.Carries) (anew_call wanted.entry.path.now wanted.entry.index wanted.entry.asked) (self.old, link.old) result (self.new, link.new) }
+        ensures { FollowsDialogue (Sends L.Carries) (anew_call wanted.entry.path.now wanted.entry.index wanted.entry.asked) (self.old, link.old) result (self.new, link.new) }
     {
         let located = self.find(alloc, link, wanted.path, wanted.index)?;
         self.round(link, &located, wanted.asked)
@@ -164,7 +164,7 @@ impl Client {
         wanted: Wanted<'_>,
         known: Option<Located>,
     ) -> Result<(Given, Located), Refusal>
-        ensures { Follows (Sends L.Carries) (fetch_call wanted.entry.path.now known wanted.entry.index wanted.entry.asked) (self.old, link.old) result (self.new, link.new) }
+        ensures { FollowsDialogue (Sends L.Carries) (fetch_call wanted.entry.path.now known wanted.entry.index wanted.entry.asked) (self.old, link.old) result (self.new, link.new) }
     {
         let Some(located) = known else {
             return self.anew(alloc, link, wanted);

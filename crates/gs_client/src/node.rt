@@ -1,5 +1,5 @@
 ghost use Rattle.std.specs.Prelude.{◌≡◌, ◌++◌, ◌∷◌, [], OnOk, IfOk};
-ghost use Rattle.gs_block.specs.Follows.{Does};
+ghost use Rattle.gs_base.specs.Calls.{Does};
 ghost use Rattle.gs_client.specs.Nodes.{silent, asks, Asks, hears, given_up, tell, with_bytes, pushes, messages_of, takes};
 
 use crate::link::Reply;

@@ -2,13 +2,13 @@
 ghost use Rattle.std.specs.Prelude.{◌≡◌, ◌≢◌, ◌≤◌, ◌<◌, ◌+◌, ◌*◌, ◌/◌, ℕ, List, length, false, Result, Err};
 ghost use Rattle.gs_base.specs.declared.refusal.Refusal.{Refusal};
 ghost use Rattle.gs_base.specs.declared.refusal.Refusal.TheVariants.{Memory};
-ghost use Rattle.gs_dialogue.specs.Dialogues.{Follows, run};
+ghost use Rattle.gs_client_dialogue.specs.Dialogues.{FollowsDialogue, run};
 ghost use Rattle.gs_client.specs.declared.client.Client.{Client};
 ghost use Rattle.gs_client.specs.Sends.{Sends};
 ghost use Rattle.gs_client.specs.Serves.{served, served_edits};
 ghost use Rattle.gs_client.specs.Edits.{Edits};
 ghost use Rattle.gs_client.specs.Trees.{Call as AnyCall};
-ghost use Rattle.gs_part.specs.Writing.{part_start, part_bytes, part_count, is_out};
+ghost use Rattle.gs_client_part.specs.Writing.{part_start, part_bytes, part_count, is_out};
 ghost use Rattle.gs_client.specs.Writing.{first_parts};
 
 use crate::link::Link;
@@ -33,12 +33,12 @@ pub trait Serve: Link {
 
 /// Over such a link each call that doesn't lack memory of its own comes to what the function gives.
 pub fn a_call_is_what_is_served<L: Serve, A>()
-    ensures { (call : AnyCall A) (old new : Client × L) (result : Result A Refusal) → Follows (Sends L.Carries) call old result new → result ≢ Err Memory → (result, (new.0, L.world new.1)) ≡ run (served L.serve) call (old.0, L.world old.1) }
+    ensures { (call : AnyCall A) (old new : Client × L) (result : Result A Refusal) → FollowsDialogue (Sends L.Carries) call old result new → result ≢ Err Memory → (result, (new.0, L.world new.1)) ≡ run (served L.serve) call (old.0, L.world old.1) }
 {}
 
 /// The same of the calls of a file that is open for writing, with how many of its edits are acknowledged.
 pub fn an_edit_is_what_is_served<L: Serve, A>()
-    ensures { (call : AnyCall A) (old new : Client × ℕ × L) (result : Result A Refusal) → Follows (Edits L.Carries) call old result new → result ≢ Err Memory → (result, (new.0, new.1, L.world new.2)) ≡ run (served_edits L.serve) call (old.0, old.1, L.world old.2) }
+    ensures { (call : AnyCall A) (old new : Client × ℕ × L) (result : Result A Refusal) → FollowsDialogue (Edits L.Carries) call old result new → result ≢ Err Memory → (result, (new.0, new.1, L.world new.2)) ≡ run (served_edits L.serve) call (old.0, old.1, L.world old.2) }
 {}
 
 /// The parts of a write, one after another, are its bytes. Each part has some, fits into its chunk, and begins in the file where

@@ -1,10 +1,10 @@
 //! What is read of a file.
 ghost use Rattle.std.specs.Prelude.{◌≡◌, ◌≤◌, ◌*◌, ◌/◌, ◌%◌, [], IfOk, IfSome};
-ghost use Rattle.gs_dialogue.specs.Dialogues.{Follows};
+ghost use Rattle.gs_client_dialogue.specs.Dialogues.{FollowsDialogue};
 ghost use Rattle.gs_client.specs.Sends.{Sends};
 ghost use Rattle.gs_client.specs.Trees.{and_then};
 ghost use Rattle.gs_client.specs.Replies.{length_in};
-ghost use Rattle.gs_part.specs.Reading.{span};
+ghost use Rattle.gs_client_part.specs.Reading.{span};
 ghost use Rattle.gs_client.specs.Reading.{within, length_call, end_call, stored_call, pieces_call, read_call, digest_call, stat_call};
 
 use crate::client::Client;
@@ -13,9 +13,9 @@ use crate::looking::{self, Wanted};
 use crate::replies;
 use gs_base::Refusal;
 use gs_block::Digest;
+use gs_client_part::Located;
+use gs_client_part::reading::{add_piece, bytes_of, piece_end, span};
 use gs_msg::{Asked, Bytes, ChunkStatus, Given, Items, Status};
-use gs_part::Located;
-use gs_part::reading::{add_piece, bytes_of, piece_end, span};
 use gs_path::Path;
 use std::alloc::Global;
 
@@ -77,7 +77,7 @@ impl Client {
         link: &mut L,
         file: &Counted<'_>,
     ) -> Result<(u64, Option<Located>), Refusal>
-        ensures is { Follows (Sends L.Carries) (length_call file.now.size file.now.path.now file.now.known file.now.chunks) (self.old, link.old) result (self.new, link.new) }
+        ensures is { FollowsDialogue (Sends L.Carries) (length_call file.now.size file.now.path.now file.now.known file.now.chunks) (self.old, link.old) result (self.new, link.new) }
         ensures few { IfOk result (λ l. l.0 ≤ 4096 * file.now.size) }
     {
         if file.chunks == 0 {
@@ -102,7 +102,7 @@ impl Client {
         file: &Counted<'_>,
         range: Range,
     ) -> Result<(u64, Option<Located>), Refusal>
-        ensures is { Follows (Sends L.Carries) (end_call file.now.size file.now.path.now file.now.known file.now.chunks range.offset range.many) (self.old, link.old) result (self.new, link.new) }
+        ensures is { FollowsDialogue (Sends L.Carries) (end_call file.now.size file.now.path.now file.now.known file.now.chunks range.offset range.many) (self.old, link.old) result (self.new, link.new) }
         ensures few { IfOk result (λ e. e.0 ≤ 4096 * file.now.size) }
     {
         let full = bytes_of(file.chunks.saturating_sub(1), file.size);
@@ -125,7 +125,7 @@ impl Client {
         wanted: Wanted<'_>,
         known: Option<Located>,
     ) -> Result<(Bytes, Located), Refusal>
-        ensures { Follows (Sends L.Carries) (stored_call wanted.entry.path.now known wanted.entry.index wanted.entry.asked) (self.old, link.old) result (self.new, link.new) }
+        ensures { FollowsDialogue (Sends L.Carries) (stored_call wanted.entry.path.now known wanted.entry.index wanted.entry.asked) (self.old, link.old) result (self.new, link.new) }
     {
         let asked = wanted.asked;
         let (given, located) = self.fetch(alloc, link, wanted, known)?;
@@ -143,7 +143,7 @@ impl Client {
         end: u64,
     ) -> Result<(Bytes, Option<Located>), Refusal>
         requires { end ≤ 4096 * file.now.size }
-        ensures { Follows (Sends L.Carries) (pieces_call file.now.size file.now.path.now file.now.chunks end file.now.known (offset / file.now.size) (offset % file.now.size) (span file.now.size offset end) []) (self.old, link.old) result (self.new, link.new) }
+        ensures { FollowsDialogue (Sends L.Carries) (pieces_call file.now.size file.now.path.now file.now.chunks end file.now.known (offset / file.now.size) (offset % file.now.size) (span file.now.size offset end) []) (self.old, link.old) result (self.new, link.new) }
     {
         let count = span(file.size, offset, end);
         let first = offset / file.size;
@@ -178,7 +178,7 @@ impl Client {
         range: Range,
     ) -> Result<(Bytes, Option<Located>), Refusal>
         requires { IfSome file.now.opened (λ chunks. chunks ≤ 4096) }
-        ensures { Follows (Sends L.Carries) (read_call self.old.chunk file.now.path.now file.now.opened file.now.known range.offset range.many) (self.old, link.old) result (self.new, link.new) }
+        ensures { FollowsDialogue (Sends L.Carries) (read_call self.old.chunk file.now.path.now file.now.opened file.now.known range.offset range.many) (self.old, link.old) result (self.new, link.new) }
     {
         let size = self.chunk();
         let chunks = self.known(alloc, link, file.path, file.opened)?;
@@ -208,7 +208,7 @@ impl Client {
         block: u64,
     ) -> Result<(Digest, Option<Located>), Refusal>
         requires { IfSome file.now.opened (λ chunks. chunks ≤ 4096) }
-        ensures { Follows (Sends L.Carries) (digest_call file.now.path.now file.now.opened file.now.known index block) (self.old, link.old) result (self.new, link.new) }
+        ensures { FollowsDialogue (Sends L.Carries) (digest_call file.now.path.now file.now.opened file.now.known index block) (self.old, link.old) result (self.new, link.new) }
     {
         self.known(alloc, link, file.path, file.opened)?;
         let wanted = Wanted {
@@ -228,7 +228,7 @@ impl Client {
         link: &mut L,
         path: &Path,
     ) -> Result<Stat, Refusal>
-        ensures { Follows (Sends L.Carries) (stat_call self.old.chunk path.now) (self.old, link.old) result (self.new, link.new) }
+        ensures { FollowsDialogue (Sends L.Carries) (stat_call self.old.chunk path.now) (self.old, link.old) result (self.new, link.new) }
     {
         let size = self.chunk();
         let chunks = match self.look(alloc, link, path)? {

@@ -6,8 +6,8 @@ ghost use Rattle.gs_client.specs.Trees.{and_then};
 use crate::link::Reply;
 use gs_base::Refusal;
 use gs_block::Digest;
+use gs_client_part::Located;
 use gs_msg::{Answer, Asked, Bytes, ChunkStatus, Copied, Given, Items, Names, Phase, Status};
-use gs_part::Located;
 use gs_path::Path;
 use gs_replica::Outcome;
 

@@ -1,6 +1,6 @@
 //! What is written to a file.
 ghost use Rattle.std.specs.Prelude.{◌≡◌, ◌≤◌, ◌<◌, ◌+◌, ◌-◌, ◌*◌, ◌/◌, length, IfSome};
-ghost use Rattle.gs_dialogue.specs.Dialogues.{Follows};
+ghost use Rattle.gs_client_dialogue.specs.Dialogues.{FollowsDialogue};
 ghost use Rattle.gs_client.specs.Sends.{Sends};
 ghost use Rattle.gs_client.specs.Edits.{Edits, with_edit};
 ghost use Rattle.gs_client.specs.Writing as calls;
@@ -9,9 +9,11 @@ use crate::client::Client;
 use crate::link::Link;
 use crate::replies;
 use gs_base::{Refusal, Stamp};
+use gs_client_part::writing::{
+    MOST_CHUNKS, chunks_to, is_out, part_bytes, part_count, part_start, place,
+};
+use gs_client_part::{Located, Write};
 use gs_msg::{Bytes, Call, Op, Request};
-use gs_part::writing::{MOST_CHUNKS, chunks_to, is_out, part_bytes, part_count, part_start, place};
-use gs_part::{Located, Write};
 use gs_path::Path;
 use gs_replica::Outcome;
 use std::alloc::Global;
@@ -63,7 +65,7 @@ impl Client {
         edit: &Edit<'_>,
         refused: Option<Stamp>,
     ) -> Result<Located, Refusal>
-        ensures { Follows (Sends L.Carries) (calls.writing_call edit.now.path.now edit.now.index refused) (self.old, link.old) result (self.new, link.new) }
+        ensures { FollowsDialogue (Sends L.Carries) (calls.writing_call edit.now.path.now edit.now.index refused) (self.old, link.old) result (self.new, link.new) }
     {
         let request = Request::Call(Call::FindForWriting {
             path: edit.path.copy(alloc)?,
@@ -82,7 +84,7 @@ impl Client {
         located: &Located,
         edit: &Edit<'_>,
     ) -> Result<Outcome, Refusal>
-        ensures { Follows (Edits L.Carries) (calls.edit_call located.now edit.now.op edit.now.bytes.now) (self.old, edits.old, link.old) result (self.new, edits.new, link.new) }
+        ensures { FollowsDialogue (Edits L.Carries) (calls.edit_call located.now edit.now.op edit.now.bytes.now) (self.old, edits.old, link.old) result (self.new, edits.new, link.new) }
     {
         let Some(term) = located.view.term else {
             return Err(Refusal::Stray);
@@ -110,7 +112,7 @@ impl Client {
         stamp: Stamp,
         refusal: Refusal,
     ) -> Result<Outcome, Refusal>
-        ensures { Follows (Edits L.Carries) (calls.again_call edit.now.path.now edit.now.index stamp edit.now.op edit.now.bytes.now refusal) (self.old, edits.old, link.old) result (self.new, edits.new, link.new) }
+        ensures { FollowsDialogue (Edits L.Carries) (calls.again_call edit.now.path.now edit.now.index stamp edit.now.op edit.now.bytes.now refusal) (self.old, edits.old, link.old) result (self.new, edits.new, link.new) }
     {
         if !replies::is_stale(&refusal) {
             return Err(refusal);
@@ -127,7 +129,7 @@ impl Client {
         edits: &mut u64,
         edit: &Edit<'_>,
     ) -> Result<Outcome, Refusal>
-        ensures { Follows (Edits L.Carries) (calls.part_call edit.now.path.now edit.now.index edit.now.op edit.now.bytes.now) (self.old, edits.old, link.old) result (self.new, edits.new, link.new) }
+        ensures { FollowsDialogue (Edits L.Carries) (calls.part_call edit.now.path.now edit.now.index edit.now.op edit.now.bytes.now) (self.old, edits.old, link.old) result (self.new, edits.new, link.new) }
     {
         let located = self.find_for_writing(alloc, link, edit, None)?;
         let stamp = located.view.stamp;
@@ -145,7 +147,7 @@ impl Client {
         edits: &mut u64,
         edit: &Edit<'_>,
     ) -> Result<(), Refusal>
-        ensures { Follows (Edits L.Carries) (calls.write_part_call edit.now.path.now edit.now.index edit.now.op edit.now.bytes.now) (self.old, edits.old, link.old) result (self.new, edits.new, link.new) }
+        ensures { FollowsDialogue (Edits L.Carries) (calls.write_part_call edit.now.path.now edit.now.index edit.now.op edit.now.bytes.now) (self.old, edits.old, link.old) result (self.new, edits.new, link.new) }
     {
         let outcome = self.part(alloc, link, edits, edit)?;
         written(outcome)
@@ -159,7 +161,7 @@ impl Client {
         path: &Path,
         index: u64,
     ) -> Result<Located, Refusal>
-        ensures { Follows (Sends L.Carries) (calls.extend_call path.now index) (self.old, link.old) result (self.new, link.new) }
+        ensures { FollowsDialogue (Sends L.Carries) (calls.extend_call path.now index) (self.old, link.old) result (self.new, link.new) }
     {
         let request = Request::Call(Call::Extend {
             path: path.copy(alloc)?,
@@ -179,7 +181,7 @@ impl Client {
     ) -> Result<(), Refusal>
         requires near { from ≤ 4096 }
         requires few { count ≤ 4096 }
-        ensures { Follows (Sends L.Carries) (calls.extends_call path.now from count) (self.old, link.old) result (self.new, link.new) }
+        ensures { FollowsDialogue (Sends L.Carries) (calls.extends_call path.now from count) (self.old, link.old) result (self.new, link.new) }
     {
         for i in 0..count {
             self.extend(alloc, link, path, from + i)?;
@@ -198,7 +200,7 @@ impl Client {
     ) -> Result<(), Refusal>
         requires near { write.now.offset ≤ 274877906944 }
         requires few { count ≤ 4096 }
-        ensures { Follows (Edits L.Carries) (calls.parts_call write.now.size write.now.path.now write.now.offset write.now.bytes.now 0 count) (self.old, edits.old, link.old) result (self.new, edits.new, link.new) }
+        ensures { FollowsDialogue (Edits L.Carries) (calls.parts_call write.now.size write.now.path.now write.now.offset write.now.bytes.now 0 count) (self.old, edits.old, link.old) result (self.new, edits.new, link.new) }
     {
         for i in 0..count {
             let bytes = part_bytes(write, i);
@@ -226,7 +228,7 @@ impl Client {
         opened: Option<u64>,
     ) -> Result<(), Refusal>
         requires { IfSome opened (λ chunks. chunks ≤ 4096) }
-        ensures { Follows (Edits L.Carries) (calls.write_call write.now.size write.now.path.now opened write.now.offset write.now.bytes.now) (self.old, edits.old, link.old) result (self.new, edits.new, link.new) }
+        ensures { FollowsDialogue (Edits L.Carries) (calls.write_call write.now.size write.now.path.now opened write.now.offset write.now.bytes.now) (self.old, edits.old, link.old) result (self.new, edits.new, link.new) }
     {
         let chunks = self.known(alloc, link, write.path, opened)?;
         if is_out(write) {
@@ -247,7 +249,7 @@ impl Client {
         first: u64,
     ) -> Result<u64, Refusal>
         requires { first < 4096 }
-        ensures { Follows (Edits L.Carries) (calls.append_from appended.now.size appended.now.path.now appended.now.bytes.now first (4095 - first)) (self.old, edits.old, link.old) result (self.new, edits.new, link.new) }
+        ensures { FollowsDialogue (Edits L.Carries) (calls.append_from appended.now.size appended.now.path.now appended.now.bytes.now first (4095 - first)) (self.old, edits.old, link.old) result (self.new, edits.new, link.new) }
     {
         for index in first..MOST_CHUNKS {
             let part = Edit {
@@ -281,7 +283,7 @@ impl Client {
         opened: Option<u64>,
     ) -> Result<u64, Refusal>
         requires { IfSome opened (λ chunks. chunks ≤ 4096) }
-        ensures { Follows (Edits L.Carries) (calls.append_call appended.now.size appended.now.path.now opened appended.now.bytes.now) (self.old, edits.old, link.old) result (self.new, edits.new, link.new) }
+        ensures { FollowsDialogue (Edits L.Carries) (calls.append_call appended.now.size appended.now.path.now opened appended.now.bytes.now) (self.old, edits.old, link.old) result (self.new, edits.new, link.new) }
     {
         let chunks = self.known(alloc, link, appended.path, opened)?;
         if appended.bytes.is_empty() {

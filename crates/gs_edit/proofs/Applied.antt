@@ -72,37 +72,37 @@ last_appended cs c =
     slice_get_read (cs ++ c ∷ []) (length (cs ++ c ∷ [])) (length (cs ++ c ∷ []) - 1) c refl (omega arith) (sym (get_or_push cs c c (length (cs ++ c ∷ []) - 1) at_end))
 
 -- the last chunk once one was added
-pub added_last : (m new : Plain ℕ) (p : Path) (c : ℕ) (i : TreeInverse) → tree.Follows (add_chunk m p c) (Ok i) m new → last_chunk (chunks_in (new p)) ≡ Some c
+pub added_last : (m new : Plain ℕ) (p : Path) (c : ℕ) (i : TreeInverse) → tree.FollowsPlain (add_chunk m p c) (Ok i) m new → last_chunk (chunks_in (new p)) ≡ Some c
 added_last m new p c i h = each (m p) h
   where
-    each : (v : Option (Entry ℕ)) → tree.Follows {I = TreeInverse} (cond (is_none v) (Err NotFound) (cond (is_dir v) (Err IsADirectory) (Ok (with_chunks p (chunks_in v ++ c ∷ []) m)))) (Ok i) m new → last_chunk (chunks_in (new p)) ≡ Some c
+    each : (v : Option (Entry ℕ)) → tree.FollowsPlain {I = TreeInverse} (cond (is_none v) (Err NotFound) (cond (is_dir v) (Err IsADirectory) (Ok (with_chunks p (chunks_in v ++ c ∷ []) m)))) (Ok i) m new → last_chunk (chunks_in (new p)) ≡ Some c
     each None k = absurd k
     each (Some entry.Dir) k = absurd k
     each (Some (entry.File cs)) k = ap last_chunk (chunks_now p (cs ++ c ∷ []) m new k) ∙ last_appended cs c
 
 -- the chunk at a place once it was changed
-pub changed_at : (m new : Plain ℕ) (p : Path) (index c : ℕ) (i : TreeInverse) → tree.Follows (set_chunk m p index c) (Ok i) m new → slice_get (chunks_in (new p)) index ≡ Some c
+pub changed_at : (m new : Plain ℕ) (p : Path) (index c : ℕ) (i : TreeInverse) → tree.FollowsPlain (set_chunk m p index c) (Ok i) m new → slice_get (chunks_in (new p)) index ≡ Some c
 changed_at m new p index c i h = each (m p) h
   where
-    inside : (cs : List ℕ) (b : Bool) → nat_lt index (length cs) ≡ b → tree.Follows {I = TreeInverse} (cond (not b) (Err Range) (Ok (with_chunks p (set cs index c) m))) (Ok i) m new → slice_get (chunks_in (new p)) index ≡ Some c
+    inside : (cs : List ℕ) (b : Bool) → nat_lt index (length cs) ≡ b → tree.FollowsPlain {I = TreeInverse} (cond (not b) (Err Range) (Ok (with_chunks p (set cs index c) m))) (Ok i) m new → slice_get (chunks_in (new p)) index ≡ Some c
     inside cs false e k = absurd k
     inside cs true e k =
         let below = ltb-true index (length cs) e in
         let len = length-set cs index c in
         ap (λ l. slice_get l index) (chunks_now p (set cs index c) m new k) ∙ slice_get_read (set cs index c) (length (set cs index c)) index c refl (omega arith) (sym (get_or-set_same cs index c c below))
 
-    each : (v : Option (Entry ℕ)) → tree.Follows {I = TreeInverse} (cond (is_none v) (Err NotFound) (cond (is_dir v) (Err IsADirectory) (cond (not (nat_lt index (length (chunks_in v)))) (Err Range) (Ok (with_chunks p (set (chunks_in v) index c) m))))) (Ok i) m new → slice_get (chunks_in (new p)) index ≡ Some c
+    each : (v : Option (Entry ℕ)) → tree.FollowsPlain {I = TreeInverse} (cond (is_none v) (Err NotFound) (cond (is_dir v) (Err IsADirectory) (cond (not (nat_lt index (length (chunks_in v)))) (Err Range) (Ok (with_chunks p (set (chunks_in v) index c) m))))) (Ok i) m new → slice_get (chunks_in (new p)) index ≡ Some c
     each None k = absurd k
     each (Some entry.Dir) k = absurd k
     each (Some (entry.File cs)) k = inside cs (nat_lt index (length cs)) refl k
 
 -- a chunk that is added
-pub add_applies : (p : Path) (c : ℕ) (i : TreeInverse) (t u : FinMap path_cmp (Entry ℕ)) (m n : Counts) → is_none (get m c) ≡ true → n ≡ insert m c 1 → tree.Follows (add_chunk (get t) p c) (Ok i) (get t) (get u) → renamed (edits.AddChunk p c) (names_of t m) ≡ Ok (entries u, n)
+pub add_applies : (p : Path) (c : ℕ) (i : TreeInverse) (t u : FinMap path_cmp (Entry ℕ)) (m n : Counts) → is_none (get m c) ≡ true → n ≡ insert m c 1 → tree.FollowsPlain (add_chunk (get t) p c) (Ok i) (get t) (get u) → renamed (edits.AddChunk p c) (names_of t m) ≡ Ok (entries u, n)
 add_applies p c i t u m n none is h =
     ap (λ b. cond b (with_counts (edited (edits.AddChunk p c) (entries t)) (Ok (insert m c 1))) (Err BadLine)) none
     ∙ ap (λ rows. with_counts rows (Ok (insert m c 1))) (applies-add p c (Ok i) t u h) ∙ ap (λ (k : Counts). Ok (entries u, k)) (sym is)
 
-pub add_refused : (p : Path) (c : ℕ) (e : Refusal) (t u : FinMap path_cmp (Entry ℕ)) (m n : Counts) → is_none (get m c) ≡ true → n ≡ m → tree.Follows {I = TreeInverse} (add_chunk (get t) p c) (Err e) (get t) (get u) → Applies {I = TreeInverse} (edits.AddChunk p c) (names_of t m) (Err e) (names_of u n)
+pub add_refused : (p : Path) (c : ℕ) (e : Refusal) (t u : FinMap path_cmp (Entry ℕ)) (m n : Counts) → is_none (get m c) ≡ true → n ≡ m → tree.FollowsPlain {I = TreeInverse} (add_chunk (get t) p c) (Err e) (get t) (get u) → Applies {I = TreeInverse} (edits.AddChunk p c) (names_of t m) (Err e) (names_of u n)
 add_refused p c e t u m n none is h =
     let rows = applies-add {I = TreeInverse} p c (Err e) t u h in (
       elim rows.0 [
@@ -113,12 +113,12 @@ add_refused p c e t u m n none is h =
     )
 
 -- a chunk that is changed
-pub set_applies : (p : Path) (index old c : ℕ) (i : TreeInverse) (t u : FinMap path_cmp (Entry ℕ)) (m n : Counts) → admits (edits.Cow p index old c) (entries t) m ≡ true → n ≡ handed_over m old c → tree.Follows (set_chunk (get t) p index c) (Ok i) (get t) (get u) → renamed (edits.Cow p index old c) (names_of t m) ≡ Ok (entries u, n)
+pub set_applies : (p : Path) (index old c : ℕ) (i : TreeInverse) (t u : FinMap path_cmp (Entry ℕ)) (m n : Counts) → admits (edits.Cow p index old c) (entries t) m ≡ true → n ≡ handed_over m old c → tree.FollowsPlain (set_chunk (get t) p index c) (Ok i) (get t) (get u) → renamed (edits.Cow p index old c) (names_of t m) ≡ Ok (entries u, n)
 set_applies p index old c i t u m n admitted is h =
     ap (λ b. cond b (with_counts (edited (edits.Cow p index old c) (entries t)) (Ok (handed_over m old c))) (Err BadLine)) admitted
     ∙ ap (λ rows. with_counts rows (Ok (handed_over m old c))) (applies-set p index old c (Ok i) t u h) ∙ ap (λ (k : Counts). Ok (entries u, k)) (sym is)
 
-pub set_refused : (p : Path) (index old c : ℕ) (e : Refusal) (t u : FinMap path_cmp (Entry ℕ)) (m n : Counts) → admits (edits.Cow p index old c) (entries t) m ≡ true → n ≡ m → tree.Follows {I = TreeInverse} (set_chunk (get t) p index c) (Err e) (get t) (get u) → Applies {I = TreeInverse} (edits.Cow p index old c) (names_of t m) (Err e) (names_of u n)
+pub set_refused : (p : Path) (index old c : ℕ) (e : Refusal) (t u : FinMap path_cmp (Entry ℕ)) (m n : Counts) → admits (edits.Cow p index old c) (entries t) m ≡ true → n ≡ m → tree.FollowsPlain {I = TreeInverse} (set_chunk (get t) p index c) (Err e) (get t) (get u) → Applies {I = TreeInverse} (edits.Cow p index old c) (names_of t m) (Err e) (names_of u n)
 set_refused p index old c e t u m n admitted is h =
     let rows = applies-set {I = TreeInverse} p index old c (Err e) t u h in (
       elim rows.0 [

@@ -15,7 +15,7 @@ use Rattle.gs_tree.specs.Plain.{Plain, after, without}
 use Rattle.gs_tree.specs.Find.{Rows, at, is_too_deep, is_copied_too_deep}
 use Rattle.gs_tree.specs.Edits.{same_path, with_dirs, with_entry, with_chunks, chunks_in, moved, mkdirs, create, rename, hide, unhide, unhidden, remove, snapshot, copied, visible, old_name, beside, add_chunk, set_chunk, move_to, is_file, is_dir, file_above, target_of, hidden_path, parent}
 use Rattle.gs_edit.specs.Plain.{unhide_target}
-use Rattle.gs_tree.specs.Follows.{Follows}
+use Rattle.gs_tree.specs.Follows.{FollowsPlain}
 use Rattle.gs_edit.specs.Table.{tabled, paths_of, fronts, moved_path}
 use Rattle.gs_edit.specs.Edits.{AppliesRows, edited}
 use Rattle.gs_edit.specs.declared.edit.Edit.{Edit}
@@ -164,36 +164,36 @@ covered-snapshot rows from to =
     (unless ps (is_copied_too_deep rows from to) BadPath (Ok (copied from to (at rows))) (covers-copied rows from to))))))))
 
 -- what follows the plain tree's command, as rows
-pub applies : {I : Type 0} (edit : Edit) (ps : List Path) (r : Result (Plain ℕ) Refusal) (result : Result I Refusal) (old new : FinMap path_cmp (Entry ℕ)) → edited edit (entries old) ≡ tabled ps r → Covered ps r → Follows r result (get old) (get new) → AppliesRows edit (entries old) result (entries new)
+pub applies : {I : Type 0} (edit : Edit) (ps : List Path) (r : Result (Plain ℕ) Refusal) (result : Result I Refusal) (old new : FinMap path_cmp (Entry ℕ)) → edited edit (entries old) ≡ tabled ps r → Covered ps r → FollowsPlain r result (get old) (get new) → AppliesRows edit (entries old) result (entries new)
 applies edit ps (Ok m) (Ok i) old new is c h = is ∙ ap Ok (table-entries ps m new c h)
 applies edit ps (Err e) (Ok i) old new is c h = absurd h
 applies edit ps (Ok m) (Err f) old new is c h = (inr h.0, entries-same new old h.1)
 applies edit ps (Err e) (Err f) old new is c (inl same, left) = (inl (is ∙ ap Err (sym same)), entries-same new old left)
 applies edit ps (Err e) (Err f) old new is c (inr memory, left) = (inr memory, entries-same new old left)
 
-pub applies-mkdirs : {I : Type 0} (p : Path) (result : Result I Refusal) (old new : FinMap path_cmp (Entry ℕ)) → Follows (mkdirs (get old) p) result (get old) (get new) → AppliesRows (edits.Mkdirs p) (entries old) result (entries new)
+pub applies-mkdirs : {I : Type 0} (p : Path) (result : Result I Refusal) (old new : FinMap path_cmp (Entry ℕ)) → FollowsPlain (mkdirs (get old) p) result (get old) (get new) → AppliesRows (edits.Mkdirs p) (entries old) result (entries new)
 applies-mkdirs p result old new h =
     let rows = entries old in
     applies (edits.Mkdirs p) (paths_of rows ++ fronts p) (mkdirs (at rows) p) result old new refl (covered-mkdirs rows p)
-    (subst (λ (m : Plain ℕ). Follows (mkdirs m p) result (get old) (get new)) (seen old) h)
+    (subst (λ (m : Plain ℕ). FollowsPlain (mkdirs m p) result (get old) (get new)) (seen old) h)
 
-pub applies-create : {I : Type 0} (p : Path) (result : Result I Refusal) (old new : FinMap path_cmp (Entry ℕ)) → Follows (create (get old) p) result (get old) (get new) → AppliesRows (edits.Create p) (entries old) result (entries new)
+pub applies-create : {I : Type 0} (p : Path) (result : Result I Refusal) (old new : FinMap path_cmp (Entry ℕ)) → FollowsPlain (create (get old) p) result (get old) (get new) → AppliesRows (edits.Create p) (entries old) result (entries new)
 applies-create p result old new h =
     let rows = entries old in
     applies (edits.Create p) (paths_of rows ++ fronts p) (create (at rows) p) result old new refl (covered-create rows p)
-    (subst (λ (m : Plain ℕ). Follows (create m p) result (get old) (get new)) (seen old) h)
+    (subst (λ (m : Plain ℕ). FollowsPlain (create m p) result (get old) (get new)) (seen old) h)
 
-pub applies-rename : {I : Type 0} (from to : Path) (result : Result I Refusal) (old new : FinMap path_cmp (Entry ℕ)) → Follows (rename (is_too_deep (entries old) from) (get old) from to) result (get old) (get new) → AppliesRows (edits.Rename from to) (entries old) result (entries new)
+pub applies-rename : {I : Type 0} (from to : Path) (result : Result I Refusal) (old new : FinMap path_cmp (Entry ℕ)) → FollowsPlain (rename (is_too_deep (entries old) from) (get old) from to) result (get old) (get new) → AppliesRows (edits.Rename from to) (entries old) result (entries new)
 applies-rename from to result old new h =
     let rows = entries old in
     applies (edits.Rename from to) (paths_of rows ++ map (moved_path from (target_of (at rows) from to)) (paths_of rows)) (rename (is_too_deep rows from) (at rows) from to) result old new refl (covered-rename rows from to)
-    (subst (λ (m : Plain ℕ). Follows (rename (is_too_deep rows from) m from to) result (get old) (get new)) (seen old) h)
+    (subst (λ (m : Plain ℕ). FollowsPlain (rename (is_too_deep rows from) m from to) result (get old) (get new)) (seen old) h)
 
-pub applies-hide : {I : Type 0} (p : Path) (moment : Moment) (number : ℕ) (result : Result I Refusal) (old new : FinMap path_cmp (Entry ℕ)) → Follows (hide (get old) p moment.0 number) result (get old) (get new) → AppliesRows (edits.Hide p moment number) (entries old) result (entries new)
+pub applies-hide : {I : Type 0} (p : Path) (moment : Moment) (number : ℕ) (result : Result I Refusal) (old new : FinMap path_cmp (Entry ℕ)) → FollowsPlain (hide (get old) p moment.0 number) result (get old) (get new) → AppliesRows (edits.Hide p moment number) (entries old) result (entries new)
 applies-hide p moment number result old new h =
     let rows = entries old in
     applies (edits.Hide p moment number) (paths_of rows ++ map (moved_path p (hidden_path p moment.0 number)) (paths_of rows)) (hide (at rows) p moment.0 number) result old new refl (covered-hide rows p moment.0 number)
-    (subst (λ (m : Plain ℕ). Follows (hide m p moment.0 number) result (get old) (get new)) (seen old) h)
+    (subst (λ (m : Plain ℕ). FollowsPlain (hide m p moment.0 number) result (get old) (get new)) (seen old) h)
 
 covers-chunks : {A : Type 0} (rows : Rows A) (p : Path) (chunks : List A) → is_some (at rows p) ≡ true → Covers (paths_of rows) (with_chunks p chunks (at rows))
 covers-chunks rows p chunks stands q some =
@@ -226,33 +226,33 @@ covered-unhide rows p (Some name) =
     unless ps (is_none (at rows p)) NotFound _
     (unless ps (is_some (at rows target)) Exists (Ok (moved p target (at rows))) (covers-moved rows p target))
 
-pub applies-unhide : {I : Type 0} (p : Path) (result : Result I Refusal) (old new : FinMap path_cmp (Entry ℕ)) → Follows (unhide (get old) p) result (get old) (get new) → AppliesRows (edits.Unhide p) (entries old) result (entries new)
+pub applies-unhide : {I : Type 0} (p : Path) (result : Result I Refusal) (old new : FinMap path_cmp (Entry ℕ)) → FollowsPlain (unhide (get old) p) result (get old) (get new) → AppliesRows (edits.Unhide p) (entries old) result (entries new)
 applies-unhide p result old new h =
     let rows = entries old in
     applies (edits.Unhide p) (paths_of rows ++ map (moved_path p (unhide_target p (old_name p))) (paths_of rows)) (unhide (at rows) p) result old new refl (covered-unhide rows p (old_name p))
-    (subst (λ (m : Plain ℕ). Follows (unhide m p) result (get old) (get new)) (seen old) h)
+    (subst (λ (m : Plain ℕ). FollowsPlain (unhide m p) result (get old) (get new)) (seen old) h)
 
 -- the edit's rows, for a chunk that is added or changed
-pub applies-add : {I : Type 0} (p : Path) (chunk : ℕ) (result : Result I Refusal) (old new : FinMap path_cmp (Entry ℕ)) → Follows (add_chunk (get old) p chunk) result (get old) (get new) → AppliesRows (edits.AddChunk p chunk) (entries old) result (entries new)
+pub applies-add : {I : Type 0} (p : Path) (chunk : ℕ) (result : Result I Refusal) (old new : FinMap path_cmp (Entry ℕ)) → FollowsPlain (add_chunk (get old) p chunk) result (get old) (get new) → AppliesRows (edits.AddChunk p chunk) (entries old) result (entries new)
 applies-add p chunk result old new h =
     let rows = entries old in
     applies (edits.AddChunk p chunk) (paths_of rows) (add_chunk (at rows) p chunk) result old new refl (covered-add rows p chunk)
-    (subst (λ (m : Plain ℕ). Follows (add_chunk m p chunk) result (get old) (get new)) (seen old) h)
+    (subst (λ (m : Plain ℕ). FollowsPlain (add_chunk m p chunk) result (get old) (get new)) (seen old) h)
 
-pub applies-set : {I : Type 0} (p : Path) (index before chunk : ℕ) (result : Result I Refusal) (old new : FinMap path_cmp (Entry ℕ)) → Follows (set_chunk (get old) p index chunk) result (get old) (get new) → AppliesRows (edits.Cow p index before chunk) (entries old) result (entries new)
+pub applies-set : {I : Type 0} (p : Path) (index before chunk : ℕ) (result : Result I Refusal) (old new : FinMap path_cmp (Entry ℕ)) → FollowsPlain (set_chunk (get old) p index chunk) result (get old) (get new) → AppliesRows (edits.Cow p index before chunk) (entries old) result (entries new)
 applies-set p index before chunk result old new h =
     let rows = entries old in
     applies (edits.Cow p index before chunk) (paths_of rows) (set_chunk (at rows) p index chunk) result old new refl (covered-set rows p index chunk)
-    (subst (λ (m : Plain ℕ). Follows (set_chunk m p index chunk) result (get old) (get new)) (seen old) h)
+    (subst (λ (m : Plain ℕ). FollowsPlain (set_chunk m p index chunk) result (get old) (get new)) (seen old) h)
 
-pub applies-remove : {I : Type 0} (p : Path) (result : Result I Refusal) (old new : FinMap path_cmp (Entry ℕ)) → Follows (remove (get old) p) result (get old) (get new) → AppliesRows (edits.Remove p) (entries old) result (entries new)
+pub applies-remove : {I : Type 0} (p : Path) (result : Result I Refusal) (old new : FinMap path_cmp (Entry ℕ)) → FollowsPlain (remove (get old) p) result (get old) (get new) → AppliesRows (edits.Remove p) (entries old) result (entries new)
 applies-remove p result old new h =
     let rows = entries old in
     applies (edits.Remove p) (paths_of rows) (remove (at rows) p) result old new refl (covered-remove rows p)
-    (subst (λ (m : Plain ℕ). Follows (remove m p) result (get old) (get new)) (seen old) h)
+    (subst (λ (m : Plain ℕ). FollowsPlain (remove m p) result (get old) (get new)) (seen old) h)
 
-pub applies-snapshot : {I : Type 0} (from to : Path) (result : Result I Refusal) (old new : FinMap path_cmp (Entry ℕ)) → Follows (snapshot (is_copied_too_deep (entries old) from) (get old) from to) result (get old) (get new) → AppliesRows (edits.Snapshot from to) (entries old) result (entries new)
+pub applies-snapshot : {I : Type 0} (from to : Path) (result : Result I Refusal) (old new : FinMap path_cmp (Entry ℕ)) → FollowsPlain (snapshot (is_copied_too_deep (entries old) from) (get old) from to) result (get old) (get new) → AppliesRows (edits.Snapshot from to) (entries old) result (entries new)
 applies-snapshot from to result old new h =
     let rows = entries old in
     applies (edits.Snapshot from to) (paths_of rows ++ map (moved_path from to) (paths_of rows)) (snapshot (is_copied_too_deep rows from) (at rows) from to) result old new refl (covered-snapshot rows from to)
-    (subst (λ (m : Plain ℕ). Follows (snapshot (is_copied_too_deep rows from) m from to) result (get old) (get new)) (seen old) h)
+    (subst (λ (m : Plain ℕ). FollowsPlain (snapshot (is_copied_too_deep rows from) m from to) result (get old) (get new)) (seen old) h)

@@ -24,16 +24,16 @@ use Rattle.gs_edit.proofs.Covers.{applies-remove, applies-snapshot}
 use Rattle.gs_edit.proofs.Applied.{same_names, same_tree, tree_of_rows}
 
 -- what is sure to be accepted
-pub follows_ok : (expected : Result Counts Refusal) (r : Result (Unit {0}) Refusal) (old new m : Counts) → expected ≡ Ok m → refs.Follows expected r old new → new ≡ m
+pub follows_ok : (expected : Result Counts Refusal) (r : Result (Unit {0}) Refusal) (old new m : Counts) → expected ≡ Ok m → refs.CountsDo expected r old new → new ≡ m
 follows_ok expected (Ok _) old new m is h = let k : ◌≡◌ {A = Result Counts Refusal} (Ok new) (Ok m) = sym h ∙ is in cc
 follows_ok expected (Err e) old new m is h = absurd (let k : ◌≡◌ {A = Result Counts Refusal} (Ok m) (Err e) = sym is ∙ h.0 in cc)
 
-pub remove_applies : (p : Path) (i : TreeInverse) (t u : FinMap path_cmp (Entry ℕ)) (m n : Counts) (hs : List ℕ) → hs ≡ chunks_under p (entries t) → lowered_each m hs ≡ Ok n → tree.Follows (remove (get t) p) (Ok i) (get t) (get u) → renamed (edits.Remove p) (names_of t m) ≡ Ok (entries u, n)
+pub remove_applies : (p : Path) (i : TreeInverse) (t u : FinMap path_cmp (Entry ℕ)) (m n : Counts) (hs : List ℕ) → hs ≡ chunks_under p (entries t) → lowered_each m hs ≡ Ok n → tree.FollowsPlain (remove (get t) p) (Ok i) (get t) (get u) → renamed (edits.Remove p) (names_of t m) ≡ Ok (entries u, n)
 remove_applies p i t u m n hs are low h =
     ap (λ r. cond (is_ok r) (with_counts (edited (edits.Remove p) (entries t)) r) (Err BadLine)) (ap (lowered_each m) (sym are) ∙ low)
     ∙ ap (λ rows. with_counts rows (Ok n)) (applies-remove p (Ok i) t u h)
 
-pub remove_refused : (p : Path) (e : Refusal) (t u : FinMap path_cmp (Entry ℕ)) (m l n : Counts) (hs : List ℕ) → hs ≡ chunks_under p (entries t) → lowered_each m hs ≡ Ok l → n ≡ m → tree.Follows {I = TreeInverse} (remove (get t) p) (Err e) (get t) (get u) → Applies {I = TreeInverse} (edits.Remove p) (names_of t m) (Err e) (names_of u n)
+pub remove_refused : (p : Path) (e : Refusal) (t u : FinMap path_cmp (Entry ℕ)) (m l n : Counts) (hs : List ℕ) → hs ≡ chunks_under p (entries t) → lowered_each m hs ≡ Ok l → n ≡ m → tree.FollowsPlain {I = TreeInverse} (remove (get t) p) (Err e) (get t) (get u) → Applies {I = TreeInverse} (edits.Remove p) (names_of t m) (Err e) (names_of u n)
 remove_refused p e t u m l n hs are low is h =
     let rows = applies-remove {I = TreeInverse} p (Err e) t u h in (
       elim rows.0 [
@@ -48,12 +48,12 @@ removed_back p i node t u m n hs is back are up =
     subst (λ (j : TreeInverse). TakesBack j (get t) (get u) → NamesTakenBack (inverses.Tree j) (names_of t m) (names_of u n)) (sym is)
     (λ b. record { fits = b.fits; tree = b.back; refs = ap (λ l. accepted (raised_each n l)) are ∙ ap accepted up }) back
 
-pub snapshot_applies : (from to : Path) (i : TreeInverse) (t u : FinMap path_cmp (Entry ℕ)) (m n : Counts) (hs : List ℕ) → hs ≡ visible_chunks_under from (entries t) → raised_each m hs ≡ Ok n → tree.Follows (snapshot (is_copied_too_deep (entries t) from) (get t) from to) (Ok i) (get t) (get u) → renamed (edits.Snapshot from to) (names_of t m) ≡ Ok (entries u, n)
+pub snapshot_applies : (from to : Path) (i : TreeInverse) (t u : FinMap path_cmp (Entry ℕ)) (m n : Counts) (hs : List ℕ) → hs ≡ visible_chunks_under from (entries t) → raised_each m hs ≡ Ok n → tree.FollowsPlain (snapshot (is_copied_too_deep (entries t) from) (get t) from to) (Ok i) (get t) (get u) → renamed (edits.Snapshot from to) (names_of t m) ≡ Ok (entries u, n)
 snapshot_applies from to i t u m n hs are up h =
     ap (with_counts (edited (edits.Snapshot from to) (entries t))) (ap (raised_each m) (sym are) ∙ up)
     ∙ ap (λ rows. with_counts rows (Ok n)) (applies-snapshot from to (Ok i) t u h)
 
-pub snapshot_refused : (from to : Path) (e : Refusal) (t u : FinMap path_cmp (Entry ℕ)) (m : Counts) → tree.Follows {I = TreeInverse} (snapshot (is_copied_too_deep (entries t) from) (get t) from to) (Err e) (get t) (get u) → Applies {I = TreeInverse} (edits.Snapshot from to) (names_of t m) (Err e) (names_of u m)
+pub snapshot_refused : (from to : Path) (e : Refusal) (t u : FinMap path_cmp (Entry ℕ)) (m : Counts) → tree.FollowsPlain {I = TreeInverse} (snapshot (is_copied_too_deep (entries t) from) (get t) from to) (Err e) (get t) (get u) → Applies {I = TreeInverse} (edits.Snapshot from to) (names_of t m) (Err e) (names_of u m)
 snapshot_refused from to e t u m h =
     let rows = applies-snapshot {I = TreeInverse} from to (Err e) t u h in (
       elim rows.0 [
@@ -63,7 +63,7 @@ snapshot_refused from to e t u m h =
       same_names u t m m (tree_of_rows u t rows.1) refl,
     )
 
-pub snapshot_uncounted : (from to : Path) (i : TreeInverse) (e : Refusal) (t u : FinMap path_cmp (Entry ℕ)) (m : Counts) (hs : List ℕ) → hs ≡ visible_chunks_under from (entries t) → raised_each m hs ≡ Err e → tree.Follows (snapshot (is_copied_too_deep (entries t) from) (get t) from to) (Ok i) (get t) (get u) → renamed (edits.Snapshot from to) (names_of t m) ≡ Err e
+pub snapshot_uncounted : (from to : Path) (i : TreeInverse) (e : Refusal) (t u : FinMap path_cmp (Entry ℕ)) (m : Counts) (hs : List ℕ) → hs ≡ visible_chunks_under from (entries t) → raised_each m hs ≡ Err e → tree.FollowsPlain (snapshot (is_copied_too_deep (entries t) from) (get t) from to) (Ok i) (get t) (get u) → renamed (edits.Snapshot from to) (names_of t m) ≡ Err e
 snapshot_uncounted from to i e t u m hs are up h =
     ap (with_counts (edited (edits.Snapshot from to) (entries t))) (ap (raised_each m) (sym are) ∙ up)
     ∙ ap (λ rows. with_counts rows (Err e)) (applies-snapshot from to (Ok i) t u h)

@@ -9,7 +9,7 @@ use Rattle.std.specs.Ordering.{nat_cmp, eq_by_cmp}
 use Rattle.std.specs.FinMap as fin
 use Rattle.gs_base.specs.declared.refusal.Refusal.{Refusal}
 use Rattle.gs_base.specs.declared.refusal.Refusal.TheVariants.{BadLine, Exhausted}
-use Rattle.gs_refs.specs.Counts.{Counts, count_or_zero, last_count, raised, raised_from, lowered, lowered_from, unlisted, unlisted_from, taken_each, put_each, without_each, with_each, is_at_zero, ascends, Follows}
+use Rattle.gs_refs.specs.Counts.{Counts, count_or_zero, last_count, raised, raised_from, lowered, lowered_from, unlisted, unlisted_from, taken_each, put_each, without_each, with_each, is_at_zero, ascends, CountsDo}
 use Rattle.gs_edit.specs.Edits.{handed_over, has_reference}
 use Rattle.gs_edit.specs.Names.{is_one, has_room, returned, without_added, without_changed, accepted}
 
@@ -59,7 +59,7 @@ remove_added m c v none = same_counts (fin.remove (fin.insert m c v) c) m (λ q.
 pub raised_new : (m n : Counts) (c : ℕ) → is_none (fin.get m c) ≡ true → raised m c ≡ Ok n → n ≡ fin.insert m c 1
 raised_new m n c none is = let k : Ok n ≡ Ok (fin.insert m c 1) = sym is ∙ ap (raised_from m c) (none_is (fin.get m c) none) in cc
 
-pub unlisted_now : (m new : Counts) (c : ℕ) (r : Result (Unit {0}) Refusal) → fin.get m c ≡ Some 1 → Follows (unlisted m c) r m new → new ≡ fin.remove m c
+pub unlisted_now : (m new : Counts) (c : ℕ) (r : Result (Unit {0}) Refusal) → fin.get m c ≡ Some 1 → CountsDo (unlisted m c) r m new → new ≡ fin.remove m c
 unlisted_now m new c (Ok _) one h = let k : Ok new ≡ Ok (fin.remove m c) = sym h ∙ ap (unlisted_from m c) one in cc
 unlisted_now m new c (Err e) one h = absurd (let k : Ok (fin.remove m c) ≡ Err e = sym (ap (unlisted_from m c) one) ∙ h.0 in cc)
 
@@ -68,7 +68,7 @@ one_is None h = absurd (cc)
 one_is (Some n) h = ap (λ k. Some k) (grind (arith, nat_tests))
 
 -- a new chunk that couldn't be put into its file
-pub listed_in_vain : (m raised_one new : Counts) (c : ℕ) (r : Result (Unit {0}) Refusal) → is_none (fin.get m c) ≡ true → raised m c ≡ Ok raised_one → Follows (unlisted raised_one c) r raised_one new → new ≡ m
+pub listed_in_vain : (m raised_one new : Counts) (c : ℕ) (r : Result (Unit {0}) Refusal) → is_none (fin.get m c) ≡ true → raised m c ≡ Ok raised_one → CountsDo (unlisted raised_one c) r raised_one new → new ≡ m
 listed_in_vain m raised_one new c r none is h =
     let k = raised_new m raised_one c none is in
     unlisted_now raised_one new c r (ap (λ n. fin.get n c) k ∙ get-put m c 1) h ∙ ap (λ n. fin.remove n c) k ∙ remove_added m c 1 none
@@ -91,7 +91,7 @@ referred m c h = each (fin.get m c) refl h
     each None e k = absurd (cc)
     each (Some n) e k = let parts = and_parts (nat_lt 0 n) (nat_le n last_count) k in (n, record { count = e; some = ltb-true 0 n parts.0; most = leb-true n last_count parts.1 })
 
-pub handed_now : (m one new : Counts) (old c n : ℕ) (r : Result (Unit {0}) Refusal) → is_none (fin.get m c) ≡ true → Referred m old n → raised m c ≡ Ok one → Follows (lowered one old) r one new → new ≡ handed_over m old c
+pub handed_now : (m one new : Counts) (old c n : ℕ) (r : Result (Unit {0}) Refusal) → is_none (fin.get m c) ≡ true → Referred m old n → raised m c ≡ Ok one → CountsDo (lowered one old) r one new → new ≡ handed_over m old c
 handed_now m one new old c n r none ref is h =
     let k = raised_new m one c none is in
     let far = turned c old false (apart m c old none (ap is_none ref.count)) in
@@ -101,7 +101,7 @@ handed_now m one new old c n r none ref is h =
     let lower : lowered one old ≡ Ok (fin.insert one old (n - 1)) = ap (lowered_from one old) count ∙ ap (λ b. cond b (Err BadLine) (Ok (fin.insert one old (n - 1)))) not_zero in
     lowered_is r lower h ∙ ap (λ v. fin.insert v old (n - 1)) k ∙ ap (λ v. fin.insert (fin.insert m c 1) old (count_or_zero v - 1)) (sym ref.count)
   where
-    lowered_is : {x : Counts} (s : Result (Unit {0}) Refusal) → lowered one old ≡ Ok x → Follows (lowered one old) s one new → new ≡ x
+    lowered_is : {x : Counts} (s : Result (Unit {0}) Refusal) → lowered one old ≡ Ok x → CountsDo (lowered one old) s one new → new ≡ x
     lowered_is {x = x} (Ok _) l g = let k : Ok new ≡ Ok x = sym g ∙ l in cc
     lowered_is {x = x} (Err e) l g = absurd (let k : Ok x ≡ Err e = sym l ∙ g.0 in cc)
 
@@ -203,7 +203,7 @@ forgotten_back m n hs ks e is = ap (λ l. accepted (put_each n l)) e ∙ tested 
         ∙ ap (λ b. accepted (cond b (Ok (with_each n hs)) (Err BadLine))) gone ∙ ap (λ v. Some v) back
 
 -- the one reference of a chunk goes back
-pub given_now : (m one new : Counts) (c old : ℕ) (r s : Result (Unit {0}) Refusal) → (is_one (fin.get m c) && (not (c == old) && has_room (fin.get m old))) ≡ true → Follows (unlisted m c) r m one → (is_some (fin.get one old) ≡ true → Follows (raised one old) s one new) → new ≡ returned m c old
+pub given_now : (m one new : Counts) (c old : ℕ) (r s : Result (Unit {0}) Refusal) → (is_one (fin.get m c) && (not (c == old) && has_room (fin.get m old))) ≡ true → CountsDo (unlisted m c) r m one → (is_some (fin.get one old) ≡ true → CountsDo (raised one old) s one new) → new ≡ returned m c old
 given_now m one new c old r s tests h g =
     let parts = and_parts (is_one (fin.get m c)) (not (c == old) && has_room (fin.get m old)) tests in
     let rest = and_parts (not (c == old)) (has_room (fin.get m old)) parts.1 in
@@ -215,7 +215,7 @@ given_now m one new c old r s tests h g =
     let count : fin.get one old ≡ fin.get m old = ap (λ v. fin.get v old) k ∙ get-removed_other m c old far in
     each (fin.get m old) refl count rest.1 k
   where
-    raised_is : {x : Counts} (t : Result (Unit {0}) Refusal) → raised one old ≡ Ok x → Follows (raised one old) t one new → new ≡ x
+    raised_is : {x : Counts} (t : Result (Unit {0}) Refusal) → raised one old ≡ Ok x → CountsDo (raised one old) t one new → new ≡ x
     raised_is {x = x} (Ok _) l f = let k : Ok new ≡ Ok x = sym f ∙ l in cc
     raised_is {x = x} (Err e) l f = absurd (let k : Ok x ≡ Err e = sym l ∙ f.0 in cc)
 

@@ -1,6 +1,6 @@
 -- What two disks say while the other one is made anew.
 use Rattle.std.proofs.Common.{◌≡◌, inl, inr, ℕ, suc, ◌+◌, ◌<◌, ◌^◌, true, false, List, [], ◌∷◌, ◌++◌, length, sym, ◌∙◌, ap, subst, arith, append_assoc, length-append}
-use Rattle.gs_disk.specs.Disk.{Only}
+use Rattle.gs_journal_disk.specs.Disk.{Only}
 use Rattle.gs_journal.specs.Records.{Entry, frame, entry_of, header, is_begun, version_of, generation_of, records_of, second_counts, standing, text_of}
 use Rattle.gs_journal.specs.inner.Rest.{IsAtRest, IsMaking}
 use Rattle.gs_journal.specs.Journal.{IsOldOrNew}

@@ -3,8 +3,8 @@ use Rattle.std.proofs.Common.{◌≡◌, ◌≢◌, ◌⊎◌, inl, inr, ⊎_eli
 use Rattle.std.proofs.Math.Seq.{take-add}
 use Rattle.std.proofs.lemmas.Bool.{cases_eq}
 use Rattle.std.proofs.lemmas.List.{append-nil, drop_at, take_all, take_more, drop_more, length-take-le, take-append-le}
-use Rattle.gs_disk.specs.Disk.{Torn, Cut}
-use Rattle.gs_disk.specs.Stage.{IsClosing, IsOpening}
+use Rattle.gs_journal_disk.specs.Disk.{Torn, Cut}
+use Rattle.gs_journal_disk.specs.Stage.{IsClosing, IsOpening}
 use Rattle.gs_journal.specs.Records.{Entry, frame, entry_of, records_behind, records_of, header_length}
 use Rattle.gs_journal.specs.inner.Rest.{IsComplete, IsAtRest, Continues, IsBeforeOrAfter}
 use Rattle.gs_journal.specs.inner.Frames.{IsEnd}

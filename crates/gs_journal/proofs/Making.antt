@@ -2,7 +2,7 @@
 use Rattle.std.proofs.Common.{◌≡◌, ◌≢◌, inl, inr, ⊎_elim, ℕ, ◌<◌, false, List, [], ◌∷◌, length, drop, get_or, sym, ◌∙◌, ap, arith}
 use Rattle.std.proofs.lemmas.Bool.{cases_eq}
 use Rattle.std.proofs.lemmas.Bool.Decides.{nat_tests}
-use Rattle.gs_disk.specs.Stage.{IsClosing, IsOpening}
+use Rattle.gs_journal_disk.specs.Stage.{IsClosing, IsOpening}
 use Rattle.gs_journal.specs.Records.{is_begun}
 use Rattle.gs_journal.specs.inner.Rest.{IsUnmade, IsMaking}
 use Rattle.gs_journal.proofs.Crash.{torn_front, torn_byte}

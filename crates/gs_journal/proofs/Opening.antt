@@ -9,9 +9,9 @@ use Rattle.gs_journal.specs.Journal.{MightHaveStood}
 use Rattle.gs_journal.specs.inner.Places.{IsPlace, IsFresh, IsReady, IsLikeFirst, IsLikeSecond}
 use Rattle.gs_journal.specs.declared.place.Place.{Place}
 use Rattle.gs_journal.specs.declared.version.Version.TheVariants.{Two}
-use Rattle.gs_disk.specs.Disk.{Only, LeavesPairs}
-use Rattle.gs_disk.specs.Stage.{LeavesOnly}
-use Rattle.gs_disk.proofs.Moments.{Stays, started, weaker, both}
+use Rattle.gs_journal_disk.specs.Disk.{Only, LeavesPairs}
+use Rattle.gs_journal_disk.specs.Stage.{LeavesOnly}
+use Rattle.gs_journal_disk.proofs.Moments.{Stays, started, weaker, both}
 use Rattle.gs_journal.proofs.Complete.{complete_header, at_rest}
 use Rattle.gs_journal.proofs.Standing.{SameHeader, same_header, counts_by, fresh_while_made, standing_first, standing_none, first_unbegun, second_unbegun}
 

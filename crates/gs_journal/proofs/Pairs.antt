@@ -1,11 +1,11 @@
 -- What a crash leaves of two disks while one of them changes.
 use Rattle.std.proofs.Common.{◌≡◌, inl, inr, ℕ, true, false, List, [], ◌∷◌, ◌++◌, sym, ◌∙◌, ap, subst, arith}
-use Rattle.gs_disk.specs.Disk.{Only, LeavesPairs}
-use Rattle.gs_disk.specs.Stage.{LeavesOnly}
+use Rattle.gs_journal_disk.specs.Disk.{Only, LeavesPairs}
+use Rattle.gs_journal_disk.specs.Stage.{LeavesOnly}
 use Rattle.gs_journal.specs.Records.{Entry, Text, is_begun, records_of, second_counts, standing}
 use Rattle.gs_journal.specs.inner.Rest.{IsBeforeOrAfter}
 use Rattle.gs_journal.specs.Journal.{with_record, IsWithOrWithout}
-use Rattle.gs_disk.proofs.Moments.{Stays}
+use Rattle.gs_journal_disk.proofs.Moments.{Stays}
 use Rattle.gs_journal.proofs.Standing.{standing_first, standing_second, first_continues, second_continues}
 
 module _ {D : Type 0} (seen : D → List ℕ) (may_leave : D → List ℕ → Type 0) (moment : D → ℕ) (left_since : D → ℕ → List ℕ → Type 0) where

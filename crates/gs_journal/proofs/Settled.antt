@@ -1,7 +1,7 @@
 -- Journals of which one disk changes.
 use Rattle.std.proofs.Common.{◌≡◌, ℕ, ◌+◌, Bool, true, false, List, [], ◌∷◌, ◌++◌, length, sym, ◌∙◌, ap, subst, arith, length-append}
 use Rattle.std.specs.Prelude.{if◌then◌else◌}
-use Rattle.gs_disk.specs.Disk.{Only}
+use Rattle.gs_journal_disk.specs.Disk.{Only}
 use Rattle.gs_journal.specs.Records.{Entry, Text, frame, is_begun, version_of, generation_of, records_of, second_counts, standing}
 use Rattle.gs_journal.specs.inner.Rest.{IsAtRest, Continues}
 use Rattle.gs_journal.specs.Journal.{with_record}

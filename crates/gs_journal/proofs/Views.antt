@@ -5,13 +5,13 @@ use Rattle.std.proofs.lemmas.Bool.{cond-true}
 use Rattle.std.proofs.lemmas.Bool.Decides.{nat_tests}
 use Rattle.gs_base.specs.declared.refusal.Refusal.{Refusal}
 use Rattle.gs_base.specs.declared.refusal.Refusal.TheVariants.{Device, Full}
-use Rattle.gs_disk.specs.Disk.{LeavesPairs}
+use Rattle.gs_journal_disk.specs.Disk.{LeavesPairs}
 use Rattle.gs_journal.specs.Records.{Entry, Text, frame, generation_of, second_counts, standing}
 use Rattle.gs_journal.specs.Journal.{State, Stands, record_size, append_refusal, text_size}
 use Rattle.gs_journal.specs.inner.Pair.{text, counting, IsSettled}
 use Rattle.gs_journal.specs.declared.pair.Pair.{Pair}
 use Rattle.gs_journal.proofs.Complete.{at_rest_size}
-use Rattle.gs_disk.proofs.Moments.{Stays}
+use Rattle.gs_journal_disk.proofs.Moments.{Stays}
 use Rattle.gs_journal.proofs.Pairs.{nothing_changed}
 use Rattle.gs_journal.proofs.Standing.{text_counts}
 

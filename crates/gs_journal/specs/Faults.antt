@@ -2,7 +2,7 @@
 use Rattle.std.specs.Prelude.{◌≡◌, ◌⊎◌, ◌<◌, ◌-◌, ◌==◌, ℕ, zero, suc, Bool, true, false, Option, Some, None, List, length, take, Result, IsErrOf, MatchOption}
 use Rattle.gs_base.specs.declared.refusal.Refusal.{Refusal}
 use Rattle.gs_base.specs.declared.refusal.Refusal.TheVariants.{Device}
-use Rattle.gs_disk.specs.Disk.{HasCause, Holds}
+use Rattle.gs_journal_disk.specs.Disk.{HasCause, Holds}
 use Rattle.gs_journal.specs.declared.fault.Fault.{Fault}
 use Rattle.gs_journal.specs.declared.fault.Fault.TheVariants.{Never, Fail, Stop, Tear}
 
@@ -34,23 +34,23 @@ torn_by (Stop calls) = None
 torn_by (Tear calls torn) = Some torn.items
 
 -- a disk with a fault, and how often that has made a call fail
-pub record Faulty (D : Type 0) : Type 0 where
+pub record Failing (D : Type 0) : Type 0 where
   pub disk : D
   pub fault : Fault
   pub failures : ℕ
 
 -- the disk with this fault in place of its own
-abbrev pub armed : {D : Type 0} → Faulty D → Fault → Faulty D
+abbrev pub armed : {D : Type 0} → Failing D → Fault → Failing D
 armed disk fault = record { disk = disk.disk; fault = fault; failures = disk.failures }
 
 -- What a call counts. The one that fails is refused `Device`; any other is refused only where the disk below fails.
-pub record Counts {D T : Type 0} (failures : D → ℕ) (old new : Faulty D) (result : Result T Refusal) : Type 0 where
+pub record Counts {D T : Type 0} (failures : D → ℕ) (old new : Failing D) (result : Result T Refusal) : Type 0 where
   pub counted : new.fault ≡ next old.fault
   pub failed : fails old.fault ≡ true → IsErrOf result Device × (new.failures ≡ suc old.failures)
   pub passed : fails old.fault ≡ false → HasCause (failures old.disk) (failures new.disk) result × (new.failures ≡ old.failures)
 
 -- What a write that fails leaves: nothing of it, or the fault's bytes where its first were to stand, unless the disk below
 -- fails in that.
-abbrev pub Tears : {D : Type 0} → (D → List ℕ) → (D → ℕ) → ℕ → List ℕ → Faulty D → Faulty D → Type 0
+abbrev pub Tears : {D : Type 0} → (D → List ℕ) → (D → ℕ) → ℕ → List ℕ → Failing D → Failing D → Type 0
 Tears seen failures at bytes old new =
     MatchOption (torn_by old.fault) (new.disk ≡ old.disk) (λ torn. Holds (seen old.disk) at (take (length bytes) torn) (seen new.disk) ⊎ (failures old.disk < failures new.disk))

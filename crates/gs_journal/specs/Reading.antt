@@ -45,9 +45,9 @@ abbrev pub list : Part → Part
 list part bytes = skip 4 bytes >>= times part (big_number 4 bytes)
 
 -- what a function found is what a part gives
-abbrev pub Gives : Option (Bor (List ℕ)) → Option (List ℕ) → Type 0
-Gives (Some rest) read = read ≡ Some rest.now
-Gives None read = read ≡ None
+abbrev pub LeavesRest : Option (Bor (List ℕ)) → Option (List ℕ) → Type 0
+LeavesRest (Some rest) read = read ≡ Some rest.now
+LeavesRest None read = read ≡ None
 
 abbrev pub is_end : Option (List ℕ) → Bool
 is_end (Some []) = Bool.true

@@ -1,15 +1,15 @@
 // What is done to the end of a disk, and to a disk that is made anew.
 ghost use Rattle.std.specs.Prelude.{◌≡◌, ◌≢◌, ◌<◌, ◌^◌, ◌+◌, ◌++◌, true, [], ◌∷◌, length, get_or, OnOk};
-ghost use Rattle.gs_disk.specs.Disk.{Only, HasCause};
-ghost use Rattle.gs_disk.specs.Stage.{LeavesOnly};
+ghost use Rattle.gs_journal_disk.specs.Disk.{Only, HasCause};
+ghost use Rattle.gs_journal_disk.specs.Stage.{LeavesOnly};
 ghost use Rattle.gs_journal.specs.Records.{frame, records_of};
 ghost use Rattle.gs_journal.specs.inner.Rest.{IsAtRest, Continues, IsBeforeOrAfter, IsMaking};
 ghost use Rattle.gs_journal.specs.inner.Frames.{IsEnd};
 
 use crate::record::Record;
 use gs_base::Refusal;
-use gs_disk::Disk;
-use gs_disk::stage::{close_at, keep_front, open_behind, write_anew};
+use gs_journal_disk::Disk;
+use gs_journal_disk::stage::{close_at, keep_front, open_behind, write_anew};
 
 /// Writes a record behind those of a disk at rest.
 pub(crate) fn append_to<D: Disk>(disk: &mut D, end: usize, entry: &Record) -> Result<(), Refusal>

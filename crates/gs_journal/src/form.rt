@@ -32,7 +32,7 @@ enum Listed {
 
 /// The bytes behind the first `n`.
 fn skip(bytes: &[u8], n: usize) -> Option<&[u8]>
-    ensures { reading.Gives result (reading.skip n bytes.now) }
+    ensures { reading.LeavesRest result (reading.skip n bytes.now) }
 {
     if n <= bytes.len() {
         Some(&bytes[n..])
@@ -57,7 +57,7 @@ fn passes(test: Test, byte: u8) -> bool
 
 /// The bytes behind one that passes the test.
 fn byte(bytes: &[u8], test: Test) -> Option<&[u8]>
-    ensures { reading.Gives result (reading.byte (passes test) bytes.now) }
+    ensures { reading.LeavesRest result (reading.byte (passes test) bytes.now) }
 {
     match bytes {
         [first, rest @ ..] if passes(test, *first) => Some(rest),
@@ -67,7 +67,7 @@ fn byte(bytes: &[u8], test: Test) -> Option<&[u8]>
 
 /// The bytes behind a text.
 fn text(bytes: &[u8]) -> Option<&[u8]>
-    ensures { reading.Gives result (reading.text bytes.now) }
+    ensures { reading.LeavesRest result (reading.text bytes.now) }
 {
     let rest = skip(bytes, 2)?;
     skip(rest, usize::from(BigEndian::read_u16(bytes)))
@@ -84,7 +84,7 @@ fn count(bytes: &[u8]) -> Option<(u32, &[u8])>
 /// The bytes behind a list of items of `size` bytes.
 fn items(bytes: &[u8], size: usize) -> Option<&[u8]>
     requires { size < 2 ^ 16 }
-    ensures { reading.Gives result (reading.items size bytes.now) }
+    ensures { reading.LeavesRest result (reading.items size bytes.now) }
 {
     let (n, rest) = count(bytes)?;
     skip(rest, n as usize * size)
@@ -92,7 +92,7 @@ fn items(bytes: &[u8], size: usize) -> Option<&[u8]>
 
 /// The bytes behind a settled view.
 fn settled(bytes: &[u8]) -> Option<&[u8]>
-    ensures { reading.Gives result (bodies.settled bytes.now) }
+    ensures { reading.LeavesRest result (bodies.settled bytes.now) }
 {
     let rest = skip(bytes, 34)?;
     let rest = byte(rest, Test::Primary)?;
@@ -101,7 +101,7 @@ fn settled(bytes: &[u8]) -> Option<&[u8]>
 
 /// The bytes behind an entry of a checkpoint's tree.
 fn tree_entry(bytes: &[u8]) -> Option<&[u8]>
-    ensures { reading.Gives result (bodies.tree_entry bytes.now) }
+    ensures { reading.LeavesRest result (bodies.tree_entry bytes.now) }
 {
     let rest = text(bytes)?;
     match rest {
@@ -113,7 +113,7 @@ fn tree_entry(bytes: &[u8]) -> Option<&[u8]>
 
 /// The bytes behind a kept reply of a checkpoint.
 fn reply(bytes: &[u8]) -> Option<&[u8]>
-    ensures { reading.Gives result (bodies.reply bytes.now) }
+    ensures { reading.LeavesRest result (bodies.reply bytes.now) }
 {
     let rest = skip(bytes, 12)?;
     let rest = byte(rest, Test::Outcome)?;
@@ -122,7 +122,7 @@ fn reply(bytes: &[u8]) -> Option<&[u8]>
 
 /// The bytes behind a prepared view of a checkpoint.
 fn prepared_view(bytes: &[u8], version: Version) -> Option<&[u8]>
-    ensures { reading.Gives result (bodies.prepared_view version bytes.now) }
+    ensures { reading.LeavesRest result (bodies.prepared_view version bytes.now) }
 {
     let rest = settled(bytes)?;
     match version {
@@ -133,7 +133,7 @@ fn prepared_view(bytes: &[u8], version: Version) -> Option<&[u8]>
 
 /// The bytes behind a settled view with its flag.
 fn settled_entry(bytes: &[u8]) -> Option<&[u8]>
-    ensures { reading.Gives result (bodies.settled_entry bytes.now) }
+    ensures { reading.LeavesRest result (bodies.settled_entry bytes.now) }
 {
     let rest = settled(bytes)?;
     byte(rest, Test::Flag)
@@ -141,7 +141,7 @@ fn settled_entry(bytes: &[u8]) -> Option<&[u8]>
 
 /// The bytes behind an item.
 fn item(bytes: &[u8], of: Listed) -> Option<&[u8]>
-    ensures { reading.Gives result (part_of of bytes.now) }
+    ensures { reading.LeavesRest result (part_of of bytes.now) }
 {
     match of {
         Listed::Text => text(bytes),
@@ -155,7 +155,7 @@ fn item(bytes: &[u8], of: Listed) -> Option<&[u8]>
 
 /// The bytes behind a list.
 fn list(bytes: &[u8], of: Listed) -> Option<&[u8]>
-    ensures { reading.Gives result (reading.list (part_of of) bytes.now) }
+    ensures { reading.LeavesRest result (reading.list (part_of of) bytes.now) }
 {
     let (n, mut rest) = count(bytes)?;
     for _ in 0..n {
@@ -166,7 +166,7 @@ fn list(bytes: &[u8], of: Listed) -> Option<&[u8]>
 
 /// The bytes behind two texts.
 fn two_texts(bytes: &[u8]) -> Option<&[u8]>
-    ensures { reading.Gives result (reading.two_texts bytes.now) }
+    ensures { reading.LeavesRest result (reading.two_texts bytes.now) }
 {
     let rest = text(bytes)?;
     text(rest)
@@ -174,7 +174,7 @@ fn two_texts(bytes: &[u8]) -> Option<&[u8]>
 
 /// The bytes behind a text and `n` bytes more.
 fn text_and(bytes: &[u8], n: usize) -> Option<&[u8]>
-    ensures { reading.Gives result (reading.text_and n bytes.now) }
+    ensures { reading.LeavesRest result (reading.text_and n bytes.now) }
 {
     let rest = text(bytes)?;
     skip(rest, n)
@@ -182,7 +182,7 @@ fn text_and(bytes: &[u8], n: usize) -> Option<&[u8]>
 
 /// The bytes behind an inverse.
 fn inverse(bytes: &[u8]) -> Option<&[u8]>
-    ensures { reading.Gives result (bodies.inverse bytes.now) }
+    ensures { reading.LeavesRest result (bodies.inverse bytes.now) }
 {
     let (tag, rest) = bytes.split_first()?;
     match *tag {
@@ -198,7 +198,7 @@ fn inverse(bytes: &[u8]) -> Option<&[u8]>
 
 /// The bytes behind a list of inverses.
 fn inverses(bytes: &[u8]) -> Option<&[u8]>
-    ensures { reading.Gives result (reading.list bodies.inverse bytes.now) }
+    ensures { reading.LeavesRest result (reading.list bodies.inverse bytes.now) }
 {
     let (n, mut rest) = count(bytes)?;
     for _ in 0..n {
@@ -209,7 +209,7 @@ fn inverses(bytes: &[u8]) -> Option<&[u8]>
 
 /// The bytes behind an edit.
 fn edit(bytes: &[u8]) -> Option<&[u8]>
-    ensures { reading.Gives result (bodies.edit bytes.now) }
+    ensures { reading.LeavesRest result (bodies.edit bytes.now) }
 {
     let (tag, rest) = bytes.split_first()?;
     match *tag {
@@ -225,7 +225,7 @@ fn edit(bytes: &[u8]) -> Option<&[u8]>
 
 /// The bytes behind the lists of a checkpoint.
 fn checkpoint_lists(bytes: &[u8], version: Version) -> Option<&[u8]>
-    ensures { reading.Gives result (bodies.checkpoint_lists version bytes.now) }
+    ensures { reading.LeavesRest result (bodies.checkpoint_lists version bytes.now) }
 {
     let rest = list(bytes, Listed::TreeEntry)?;
     let rest = items(rest, 12)?;
@@ -237,7 +237,7 @@ fn checkpoint_lists(bytes: &[u8], version: Version) -> Option<&[u8]>
 
 /// The bytes behind a checkpoint.
 fn checkpoint(bytes: &[u8], version: Version) -> Option<&[u8]>
-    ensures { reading.Gives result (bodies.checkpoint version bytes.now) }
+    ensures { reading.LeavesRest result (bodies.checkpoint version bytes.now) }
 {
     let rest = skip(bytes, 32)?;
     let rest = byte(rest, Test::Phase)?;
@@ -247,7 +247,7 @@ fn checkpoint(bytes: &[u8], version: Version) -> Option<&[u8]>
 
 /// The bytes behind the body of an edit.
 fn edit_body(bytes: &[u8]) -> Option<&[u8]>
-    ensures { reading.Gives result (bodies.edit_body bytes.now) }
+    ensures { reading.LeavesRest result (bodies.edit_body bytes.now) }
 {
     let rest = skip(bytes, 12)?;
     edit(rest)
@@ -255,7 +255,7 @@ fn edit_body(bytes: &[u8]) -> Option<&[u8]>
 
 /// The bytes behind the body of a kept refusal.
 fn said_body(bytes: &[u8]) -> Option<&[u8]>
-    ensures { reading.Gives result (bodies.said_body bytes.now) }
+    ensures { reading.LeavesRest result (bodies.said_body bytes.now) }
 {
     let rest = skip(bytes, 12)?;
     let rest = byte(rest, Test::Refusal)?;
@@ -264,7 +264,7 @@ fn said_body(bytes: &[u8]) -> Option<&[u8]>
 
 /// The bytes behind the body of a rollback.
 fn rollback_body(bytes: &[u8]) -> Option<&[u8]>
-    ensures { reading.Gives result (bodies.rollback_body bytes.now) }
+    ensures { reading.LeavesRest result (bodies.rollback_body bytes.now) }
 {
     let rest = skip(bytes, 8)?;
     items(rest, 10)
@@ -272,7 +272,7 @@ fn rollback_body(bytes: &[u8]) -> Option<&[u8]>
 
 /// The bytes behind the body of a holder.
 fn holder_body(bytes: &[u8]) -> Option<&[u8]>
-    ensures { reading.Gives result (bodies.holder_body bytes.now) }
+    ensures { reading.LeavesRest result (bodies.holder_body bytes.now) }
 {
     let rest = skip(bytes, 8)?;
     byte(rest, Test::Server)
@@ -280,7 +280,7 @@ fn holder_body(bytes: &[u8]) -> Option<&[u8]>
 
 /// The bytes behind the body of a record.
 fn body(bytes: &[u8], version: Version, is_first: bool, kind: u8) -> Option<&[u8]>
-    ensures { reading.Gives result (bodies.body version is_first kind bytes.now) }
+    ensures { reading.LeavesRest result (bodies.body version is_first kind bytes.now) }
 {
     match kind {
         1 => edit_body(bytes),

@@ -10,7 +10,7 @@ use crate::record::Record;
 use crate::version::Version;
 use byteorder::{BigEndian, ByteOrder};
 use gs_base::Refusal;
-use gs_disk::is_open;
+use gs_journal_disk::is_open;
 use std::alloc::Global;
 
 /// How many bytes a header has: a gate, a mark of four, and a generation of eight.

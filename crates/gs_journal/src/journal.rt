@@ -1,20 +1,20 @@
 // A journal on two disks, of which one counts.
 ghost use Rattle.std.specs.Prelude.{◌≡◌, ◌≢◌, ◌⊎◌, ◌<◌, ◌≤◌, ◌^◌, ◌+◌, ◌-◌, true, false, not, length, if◌then◌else◌, Ok, Err, None, OnOk, IfOk, IfErr, IfSome, IsTrue};
 ghost use Rattle.gs_base.specs.declared.refusal.Refusal.TheVariants.{Device, Memory};
-ghost use Rattle.gs_disk.specs.Disk.{LeavesPairs};
+ghost use Rattle.gs_journal_disk.specs.Disk.{LeavesPairs};
 ghost use Rattle.gs_journal.specs.Records.{generation_standing, standing};
 ghost use Rattle.gs_journal.specs.Forms.{is_text};
 ghost use Rattle.gs_journal.specs.Drafts.{draft_refusal};
 
 use crate::draft::Draft;
+use crate::failing::FailingDisk;
 use crate::fault::Fault;
-use crate::faulty::FaultyDisk;
 use crate::pair::Pair;
 use crate::record::Record;
 use crate::start::start;
 use crate::version::Version;
 use gs_base::Refusal;
-use gs_disk::{Disk, fits, has_failed};
+use gs_journal_disk::{Disk, fits, has_failed};
 use std::alloc::Global;
 use std::marker::Model;
 
@@ -333,7 +333,7 @@ impl<D: Disk> Journal<D> {
     }
 }
 
-impl<D: Disk> Journal<FaultyDisk<D>> {
+impl<D: Disk> Journal<FailingDisk<D>> {
     ghost use Rattle.gs_journal.specs.Faults.{armed};
 
     /// Gives the first disk a fault in place of the one that it has.

@@ -3,8 +3,8 @@
 
 mod draft;
 mod ends;
+mod failing;
 mod fault;
-mod faulty;
 mod form;
 mod frame;
 mod history;
@@ -18,10 +18,10 @@ mod start;
 mod version;
 
 pub use draft::Draft;
+pub use failing::FailingDisk;
 pub use fault::Fault;
-pub use faulty::FaultyDisk;
 pub use form::is_of_form;
-pub use gs_disk::Disk;
+pub use gs_journal_disk::Disk;
 pub use journal::{Journal, Unopened};
 pub use memory::MemoryDisk;
 pub use record::{HEAD_BYTES, Record};

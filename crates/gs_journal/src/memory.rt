@@ -3,11 +3,11 @@ ghost use Rattle.std.specs.Prelude.{◌≡◌, ◌⊎◌, ◌≤◌, length, dro
 ghost use Rattle.std.proofs.Common.{inl};
 ghost use Rattle.gs_journal.specs.inner.History.{contents, failures_of};
 ghost use Rattle.gs_journal.specs.inner.Past.{HeldSince, only_bytes};
-ghost use Rattle.gs_disk.specs.Disk.{Holds};
+ghost use Rattle.gs_journal_disk.specs.Disk.{Holds};
 
 use crate::history::History;
 use gs_base::Refusal;
-use gs_disk::Disk;
+use gs_journal_disk::Disk;
 use std::alloc::Global;
 
 /// A disk in memory. Each call is done at once, so a crash leaves what is there. It fails where a growth is refused.

@@ -1,6 +1,6 @@
 // Two disks, of which one counts.
 ghost use Rattle.std.specs.Prelude.{◌≡◌, ◌<◌, ◌^◌, ◌+◌, ◌++◌, [], ◌∷◌, OnOk, IfOk};
-ghost use Rattle.gs_disk.specs.Disk.{HasCause, LeavesPairs};
+ghost use Rattle.gs_journal_disk.specs.Disk.{HasCause, LeavesPairs};
 ghost use Rattle.gs_journal.specs.Records.{frame, header, header_length, standing};
 ghost use Rattle.gs_journal.specs.Journal.{record_size, with_record, IsWithOrWithout, IsOldOrNew};
 ghost use Rattle.gs_journal.specs.inner.Places.{ReadRefuses};
@@ -12,7 +12,7 @@ use crate::record::Record;
 use crate::start::read_all;
 use crate::version::Version;
 use gs_base::Refusal;
-use gs_disk::Disk;
+use gs_journal_disk::Disk;
 use std::alloc::Global;
 
 /// Two disks, which of them counts, what its header says, and where its records end.

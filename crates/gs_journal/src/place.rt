@@ -7,7 +7,7 @@ ghost use Rattle.gs_journal.specs.Forms.{is_text};
 use crate::frame::{Header, end_of_records, header_of};
 use crate::version::Version;
 use gs_base::Refusal;
-use gs_disk::is_open;
+use gs_journal_disk::is_open;
 
 /// Which disk counts, what its header says, where its records end, and whether a closed gate stands there.
 #[derive(Clone, Copy)]

@@ -1,12 +1,12 @@
 // How two disks are opened.
 ghost use Rattle.std.specs.Prelude.{◌≡◌, ◌≢◌, ◌+◌, ◌++◌, ◌∷◌, ◌<◌, [], true, false, IfOk, IfErr, OnOk, List, ℕ};
 ghost use Rattle.gs_base.specs.declared.refusal.Refusal.TheVariants.{Device, Memory};
-ghost use Rattle.gs_disk.specs.Disk.{Only, LeavesPairs};
+ghost use Rattle.gs_journal_disk.specs.Disk.{Only, LeavesPairs};
 ghost use Rattle.gs_journal.specs.Records.{generation_standing, header, is_begun, second_counts, standing};
 ghost use Rattle.gs_journal.specs.Forms.{is_text};
 ghost use Rattle.gs_journal.specs.Journal.{WhyClosed, MightHaveStood};
 ghost use Rattle.gs_journal.specs.inner.Places.{FindsPlace, IsFresh, IsReady, ReadRefuses, IsLikeFirst, IsLikeSecond};
-ghost use Rattle.gs_disk.specs.Stage.{LeavesOnly};
+ghost use Rattle.gs_journal_disk.specs.Stage.{LeavesOnly};
 ghost use Rattle.gs_journal.specs.declared.version.Version.TheVariants.{Two};
 
 use crate::ends::{make, repair};
@@ -15,8 +15,8 @@ use crate::place::Place;
 use crate::version::Version;
 use byteorder::{BigEndian, ByteOrder};
 use gs_base::Refusal;
-use gs_disk::Disk;
-use gs_disk::stage::settle_both;
+use gs_journal_disk::Disk;
+use gs_journal_disk::stage::settle_both;
 use std::alloc::Global;
 
 /// What is written behind the header gate of a new disk: the mark, the generation, a gate, and the bytes behind it.

@@ -8,7 +8,7 @@ mod quiet;
 mod told;
 mod view;
 
-pub use gs_table::Table;
+pub use gs_base_table::Table;
 pub use held::{Grant, Held, Spent};
 pub use lease::{Lease, Leased, Moving, Quiet, Settled, is_any_asked, restore};
 pub use quiet::AllQuiet;

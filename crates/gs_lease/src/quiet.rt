@@ -1,11 +1,11 @@
 ghost use Rattle.std.specs.Prelude.{◌≡◌, IfOk, MatchOption, MatchResult};
 ghost use Rattle.std.specs.Ordering.{nat_cmp};
-ghost use Rattle.gs_table.specs.Slots.{live};
+ghost use Rattle.gs_base_table.specs.Slots.{live};
 ghost use Rattle.gs_lease.specs.Chunks.{is_quiet, IsAllQuiet, IsLowestNotQuiet, RefusedFor};
 
 use crate::lease::Lease;
 use gs_base::{Handle, Refusal};
-use gs_table::Table;
+use gs_base_table::Table;
 use std::marker::Model;
 use std::snapshot::Snapshot;
 
@@ -19,7 +19,7 @@ impl Model for AllQuiet {
     ghost use Rattle.std.specs.Ordering.{nat_cmp};
     ghost use Rattle.std.specs.FinMap as fin;
     ghost use Rattle.std.specs.Coded.{coded_ℕ};
-    ghost use Rattle.gs_table.specs.Slots.{live};
+    ghost use Rattle.gs_base_table.specs.Slots.{live};
     ghost use Rattle.gs_lease.specs.declared.lease.Lease.{Lease as AnyLease};
     ghost use Rattle.gs_lease.specs.Chunks.{IsAllQuiet};
     ghost use Rattle.gs_lease.specs.contracts.lease.Lease as lease_code;

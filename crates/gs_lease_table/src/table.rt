@@ -5,13 +5,13 @@ ghost use Rattle.std.specs.List.{list_any};
 ghost use Rattle.std.specs.List.Sorted.{IsStrictlySortedBy};
 ghost use Rattle.std.specs.Ordering.{nat_cmp};
 ghost use Rattle.gs_lease.specs.declared.lease.Lease.{Lease as AnyLease};
-ghost use Rattle.gs_table.specs.Slots.{GivesUpRoom, HasRoom, KeepsRoom, live};
+ghost use Rattle.gs_base_table.specs.Slots.{GivesUpRoom, HasRoom, KeepsRoom, live};
 ghost use Rattle.gs_lease_table.specs.Tallies.{AreReplicas, has_primary};
 
 use crate::tally::{Tally, are_few};
 use gs_base::Handle;
+use gs_base_table::{Entries, Table};
 use gs_lease::Lease;
-use gs_table::{Entries, Table};
 use std::alloc::{AllocError, Global};
 use std::marker::Model;
 
@@ -36,7 +36,7 @@ impl Model for LeaseTable {
     ghost use Rattle.std.specs.FinMap as fin;
     ghost use Rattle.std.specs.Ordering.{nat_cmp};
     ghost use Rattle.gs_lease.specs.declared.lease.Lease.{Lease};
-    ghost use Rattle.gs_table.specs.Slots.{live};
+    ghost use Rattle.gs_base_table.specs.Slots.{live};
     ghost use Rattle.gs_lease_table.specs.Tallies.{IsTallyOf};
 
     ghost Value = { List (ℕ × Option Lease) };

@@ -2,12 +2,12 @@
 ghost use Rattle.std.specs.Prelude.{◌≡◌, ◌<◌, ◌^◌, ℕ, length, slice_index};
 ghost use Rattle.std.specs.FinMap as fin;
 ghost use Rattle.std.specs.Ordering.{nat_cmp};
-ghost use Rattle.gs_table.specs.Slots.{live};
+ghost use Rattle.gs_base_table.specs.Slots.{live};
 ghost use Rattle.gs_lease_table.specs.Tallies.{AddsMembers, Adds, CanCount, HasCounted, HasMembers, one_primary, settled_members};
 
 use gs_base::{Handle, Members, ServerId};
+use gs_base_table::Table;
 use gs_lease::{Lease, Told};
-use gs_table::Table;
 
 /// Of how many settled views each server is a member, and how many have a primary.
 #[derive(Drop)]

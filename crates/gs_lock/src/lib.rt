@@ -1,4 +1,4 @@
-//! Locks on paths that operations read and write, after section 4.1 of the GFS paper.
+//! Locks on paths that operations read and write, after the GFS paper's locks on the namespace.
 #![tactic(auto)]
 
 mod index;

@@ -8,16 +8,16 @@ use Rattle.gs_lease.specs.declared.view.Purpose.{Purpose}
 use Rattle.gs_lease.specs.declared.view.View.{View}
 use Rattle.gs_msg.specs.declared.answer.Answer.{Answer}
 use Rattle.gs_msg.specs.declared.message.Message.{Message}
-use Rattle.gs_record.specs.Plain.{PlainEdit, PlainEntry}
-use Rattle.gs_state.specs.Beginning.{begin_at, copy_plan, create_plan, waits_from_now}
-use Rattle.gs_state.specs.Calls.{accept_plan}
-use Rattle.gs_state.specs.State.{State, answered}
-use Rattle.gs_state.specs.TakingBack.{comes_alone}
-use Rattle.gs_master.specs.Turns.{ComesWithOthers}
-use Rattle.gs_state.specs.Upgrades.{accepted_plan}
-use Rattle.gs_state.specs.Working.{begin_pending}
-use Rattle.gs_state.specs.declared.change.Change.{Change}
-use Rattle.gs_state.specs.declared.pending.Waiting.{Waiting}
+use Rattle.gs_master_record.specs.Plain.{PlainEdit, PlainEntry}
+use Rattle.gs_master_spec.specs.Beginning.{begin_at, copy_plan, create_plan, waits_from_now}
+use Rattle.gs_master_spec.specs.Calls.{accept_plan}
+use Rattle.gs_master_spec.specs.State.{State, answered}
+use Rattle.gs_master_state.specs.inner.TakingBack.{comes_alone}
+use Rattle.gs_master.specs.inner.Turns.{ComesWithOthers}
+use Rattle.gs_master_spec.specs.Upgrades.{accepted_plan}
+use Rattle.gs_master_spec.specs.Working.{begin_pending}
+use Rattle.gs_master_spec.specs.declared.change.Change.{Change}
+use Rattle.gs_master_spec.specs.declared.pending.Waiting.{Waiting}
 
 pub answered_together : (s : State) (req : ReqId) (answer : Answer) → ComesWithOthers (answered s req answer)
 answered_together s req answer = record { records = refl }

@@ -2,22 +2,22 @@
 use Rattle.std.proofs.Common.{◌≡◌, inl, inr, ◌∙◌, true, false, List, [], ◌∷◌, ◌++◌, length, take, refl, ap, subst, sym}
 use Rattle.std.specs.Prelude.{map, fold, Result, Ok, Err}
 use Rattle.std.specs.Ordering.{nat_cmp}
-use Rattle.gs_table.specs.Slots.{live}
+use Rattle.gs_base_table.specs.Slots.{live}
 use Rattle.gs_base.specs.declared.refusal.Refusal.{Refusal}
 use Rattle.gs_journal.specs.declared.version.Version.TheVariants.{Two}
-use Rattle.gs_record.specs.Encoding.{encoded}
-use Rattle.gs_record.specs.Plain.{PlainEntry, plain}
-use Rattle.gs_state.specs.Applied.{replayed}
-use Rattle.gs_state.specs.Durable.{Durable}
-use Rattle.gs_master.specs.Events.{HasComeFrom, log_behind}
-use Rattle.gs_state.specs.TakingBack.{Leads, TakeBack, all_leases_before}
-use Rattle.gs_state.specs.Plans.{fault_of, log_of}
-use Rattle.gs_state.specs.Recorded.{durable_of}
-use Rattle.gs_master.specs.StartingOver.{BeginsAt, IsBackAt, IsBegun, StartsOver}
-use Rattle.gs_state.specs.State.{Log, State, Turn, fits, first_said}
-use Rattle.gs_master.specs.Turns.{AreUnfit, GoesBack, HaveRoom, IsTurned, Steps, WhyNotTurned, state_at}
+use Rattle.gs_master_record.specs.Encoding.{encoded}
+use Rattle.gs_master_record.specs.Plain.{PlainEntry, plain}
+use Rattle.gs_master_spec.specs.Applied.{replayed}
+use Rattle.gs_master_spec.specs.Durable.{Durable}
+use Rattle.gs_master.specs.inner.Events.{HasComeFrom, log_behind}
+use Rattle.gs_master_state.specs.inner.TakingBack.{Leads, TakeBack, all_leases_before}
+use Rattle.gs_master_state.specs.inner.Plans.{fault_of, log_of}
+use Rattle.gs_master_state.specs.inner.Recorded.{durable_of}
+use Rattle.gs_master.specs.inner.StartingOver.{BeginsAt, IsBackAt, IsBegun, StartsOver}
+use Rattle.gs_master_spec.specs.State.{Log, State, Turn, fits, first_said}
+use Rattle.gs_master.specs.inner.Turns.{AreUnfit, GoesBack, HaveRoom, IsTurned, EventSteps, WhyNotTurned, state_at}
 use Rattle.gs_master.specs.declared.event.Event.{Event}
-use Rattle.gs_master.specs.declared.starting_over.Beginning.{Beginning}
+use Rattle.gs_master.specs.declared.event.Beginning.{Beginning}
 
 take_first : {A : Type 0} (xs ys : List A) → take (length xs) (xs ++ ys) ≡ xs
 take_first [] [] = refl
@@ -88,7 +88,7 @@ module _ (first back : Event) (begun : IsBegun first) (again : IsBegun back) (at
   why_from t e (inr (inl (full, none))) = inr (inl (full, subst (λ log. fits log t.records ≡ false) log_at none))
   why_from t e (inr (inr (bad, unfit))) = inr (inr (bad, subst (AreUnfit t.records) durable_at unfit))
 
-  pub steps_from : (t : Turn) (result : Result (Unit {0}) Refusal) (new : Event) → Steps t back result new → Steps t first result new
+  pub steps_from : (t : Turn) (result : Result (Unit {0}) Refusal) (new : Event) → EventSteps t back result new → EventSteps t first result new
   steps_from t (Ok done) new is = turned_from t new is
   steps_from t (Err e) new why = why_from t e why
 

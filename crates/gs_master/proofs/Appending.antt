@@ -5,11 +5,11 @@ use Rattle.std.proofs.lemmas.Bool.Decides.{nat_tests}
 use Rattle.std.proofs.lemmas.List.Sums.{sum_by-append, sum_by_more_le}
 use Rattle.gs_base.specs.declared.refusal.Refusal.{Refusal}
 use Rattle.gs_base.specs.declared.refusal.Refusal.TheVariants.{Device, Full}
-use Rattle.gs_disk.specs.Disk.{LeavesPairs}
+use Rattle.gs_journal_disk.specs.Disk.{LeavesPairs}
 use Rattle.gs_journal.specs.Journal.{State as Journal, Adds, Closes, IsWithOrWithout, Stands, append_refusal, failures_of_both, record_size}
 use Rattle.gs_journal.specs.Records.{Entry, Text}
 use Rattle.gs_master.specs.Journaled.{Breaks, Gains, IsReadyFor, StandUpTo, text_seen}
-use Rattle.gs_state.proofs.Rooms.{take_next}
+use Rattle.gs_master_state.proofs.Rooms.{take_next}
 
 -- what the disks are seen to say behind a call is one of the things that a crash in it leaves
 pub seen_behind : {D : Type 0} (seen : D → List ℕ) (may_leave : D → List ℕ → Type 0) (moment : D → ℕ) (left_since : D → ℕ → List ℕ → Type 0) (old new : Journal D) (P : List ℕ → List ℕ → Type 0) →

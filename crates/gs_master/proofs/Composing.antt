@@ -7,15 +7,15 @@ use Rattle.std.specs.Prelude.{fold, nat_le, option_and_then}
 use Rattle.std.specs.List.{AllByRecursion}
 use Rattle.gs_base.specs.declared.refusal.Refusal.{Refusal}
 use Rattle.gs_journal.specs.declared.version.Version.TheVariants.{Two}
-use Rattle.gs_record.specs.Plain.{PlainEntry, plain}
-use Rattle.gs_record.specs.Writable.{IsEntry}
-use Rattle.gs_state.specs.Applied.{applied, replayed}
-use Rattle.gs_state.specs.Durable.{Durable}
-use Rattle.gs_master.specs.Events.{log_behind}
-use Rattle.gs_state.specs.Plans.{log_of}
-use Rattle.gs_state.specs.Recorded.{durable_of}
-use Rattle.gs_state.specs.State.{State, Turn, Log, and_then, fits, first_said, for_each, joined, size_of, size_of_all, unmoved, with_record}
-use Rattle.gs_master.specs.Turns.{AreUnfit, HaveRoom, IsTurned, Steps, WhyNotTurned, state_at}
+use Rattle.gs_master_record.specs.Plain.{PlainEntry, plain}
+use Rattle.gs_master_record.specs.Writable.{IsEntry}
+use Rattle.gs_master_spec.specs.Applied.{applied, replayed}
+use Rattle.gs_master_spec.specs.Durable.{Durable}
+use Rattle.gs_master.specs.inner.Events.{log_behind}
+use Rattle.gs_master_state.specs.inner.Plans.{log_of}
+use Rattle.gs_master_state.specs.inner.Recorded.{durable_of}
+use Rattle.gs_master_spec.specs.State.{State, Turn, Log, and_then, fits, first_said, for_each, joined, size_of, size_of_all, unmoved, with_record}
+use Rattle.gs_master.specs.inner.Turns.{AreUnfit, HaveRoom, IsTurned, EventSteps, WhyNotTurned, state_at}
 use Rattle.gs_master.specs.declared.event.Event.{Event}
 
 -- ---- lists
@@ -126,13 +126,13 @@ why_not_then t next old mid e first (inr (inl full)) =
 why_not_then t next old mid e first (inr (inr unfit)) =
     inr (inr (unfit.0, unfit_back (durable_of old.recorded) (durable_of mid.recorded) t.records next.records first.replays unfit.1))
 
-pub steps_both : (t next : Turn) (old mid new : Event) (result : Result (Unit {0}) Refusal) → IsTurned t old mid → Steps next mid result new → Steps (joined t next) old result new
+pub steps_both : (t next : Turn) (old mid new : Event) (result : Result (Unit {0}) Refusal) → IsTurned t old mid → EventSteps next mid result new → EventSteps (joined t next) old result new
 steps_both t next old mid new (Ok done) first then = turned_both t next old mid new first then
 steps_both t next old mid new (Err e) first then = why_not_then t next old mid e first then
 
 -- the same of one thing, and in the state that it leaves another
-pub steps_and : (t : Turn) (next : State → Turn) (old mid new : Event) (result : Result (Unit {0}) Refusal) → IsTurned t old mid → Steps (next (state_at mid)) mid result new → Steps (and_then t next) old result new
-steps_and t next old mid new result first then = steps_both t (next t.after) old mid new result first (subst (λ s. Steps (next s) mid result new) first.after then)
+pub steps_and : (t : Turn) (next : State → Turn) (old mid new : Event) (result : Result (Unit {0}) Refusal) → IsTurned t old mid → EventSteps (next (state_at mid)) mid result new → EventSteps (and_then t next) old result new
+steps_and t next old mid new result first then = steps_both t (next t.after) old mid new result first (subst (λ s. EventSteps (next s) mid result new) first.after then)
 
 pub why_not_and : (t : Turn) (next : State → Turn) (old : Event) (e : Refusal) → WhyNotTurned t old e → WhyNotTurned (and_then t next) old e
 why_not_and t next old e why = why_not_first t (next t.after) old e why
@@ -141,7 +141,7 @@ why_not_and t next old e why = why_not_first t (next t.after) old e why
 
 -- whatever the rest comes to, the whole comes to from the start
 pub record LeadsOn (whole rest : Turn) (old mid : Event) : Type 0 where
-  pub on : (result : Result (Unit {0}) Refusal) (new : Event) → Steps rest mid result new → Steps whole old result new
+  pub on : (result : Result (Unit {0}) Refusal) (new : Event) → EventSteps rest mid result new → EventSteps whole old result new
 
 pub leads_from_start : (t : Turn) (old : Event) → LeadsOn t t old old
 leads_from_start t old = record { on = λ result new steps. steps }

@@ -18,13 +18,13 @@ use Rattle.gs_edit.specs.Table.{tabled}
 use Rattle.gs_edit.specs.View.{NamesView}
 use Rattle.gs_edit.specs.declared.edit.Edit.TheVariants as edits
 use Rattle.gs_lease.specs.declared.view.Purpose.TheVariants as purposes
-use Rattle.gs_record.specs.Plain.{Snapshot}
-use Rattle.gs_state.specs.Beginning.{all_begun, has_versions}
-use Rattle.gs_state.specs.State.{State, Turn, and_then, done, fits, refused, turned}
-use Rattle.gs_state.specs.Trying.{of_tree, refusal_of}
-use Rattle.gs_state.specs.Undoing.{edited_names, names_from}
-use Rattle.gs_state.specs.Working.{begin_pending, begins_snapshot, is_wanted_at}
-use Rattle.gs_state.specs.declared.pending.Waiting.TheVariants as waits
+use Rattle.gs_master_record.specs.Plain.{Snapshot}
+use Rattle.gs_master_spec.specs.Beginning.{all_begun, has_versions}
+use Rattle.gs_master_spec.specs.State.{State, Turn, and_then, done, fits, refused, turned}
+use Rattle.gs_master_state.specs.inner.Trying.{of_tree, refusal_of}
+use Rattle.gs_master_spec.specs.Undoing.{edited_names, names_from}
+use Rattle.gs_master_spec.specs.Working.{begin_pending, begins_snapshot, is_wanted_at}
+use Rattle.gs_master_spec.specs.declared.pending.Waiting.TheVariants as waits
 use Rattle.gs_master.proofs.Proposals.{proposals_fit}
 
 -- ---- refusals

@@ -5,16 +5,16 @@ use Rattle.std.proofs.lemmas.Bool.{false≢true, leb-true, le-leb, leb-false, lt
 use Rattle.std.specs.Prelude.{map, fold, option_and_then, unwrap_or, is_some, Option, Some, None, Result, Ok, Err}
 use Rattle.std.specs.List.{list_any}
 use Rattle.gs_base.specs.declared.refusal.Refusal.{Refusal}
-use Rattle.gs_record.specs.Plain.{PlainEntry, plain}
-use Rattle.gs_state.specs.Applied.{applied, replayed}
-use Rattle.gs_state.specs.Durable.{Durable}
-use Rattle.gs_master.specs.Events.{IsEntered, KeepsBack, IsUnfit, WhyNot, log_behind}
-use Rattle.gs_state.specs.Plans.{fault_of, log_of}
-use Rattle.gs_state.specs.Recorded.{durable_of}
-use Rattle.gs_state.specs.State.{State, Plan, Log, first_said, turned, fits, size_of, size_of_all, with_record}
-use Rattle.gs_state.specs.TakingBack.{RoomForAll, comes_alone}
-use Rattle.gs_master.specs.Turns.{AreEntered, AreUnfit, EntersAll, GoesBack, HaveRoom, IsTurned, IsUnderWay, state_at, WhyNotAll}
-use Rattle.gs_state.specs.Volatile.{all_changed}
+use Rattle.gs_master_record.specs.Plain.{PlainEntry, plain}
+use Rattle.gs_master_spec.specs.Applied.{applied, replayed}
+use Rattle.gs_master_spec.specs.Durable.{Durable}
+use Rattle.gs_master.specs.inner.Events.{IsEntered, KeepsBack, IsUnfit, WhyNot, log_behind}
+use Rattle.gs_master_state.specs.inner.Plans.{fault_of, log_of}
+use Rattle.gs_master_state.specs.inner.Recorded.{durable_of}
+use Rattle.gs_master_spec.specs.State.{State, Plan, Log, first_said, turned, fits, size_of, size_of_all, with_record}
+use Rattle.gs_master_state.specs.inner.TakingBack.{RoomForAll, comes_alone}
+use Rattle.gs_master.specs.inner.Turns.{AreEntered, AreUnfit, EntersAll, GoesBack, HaveRoom, IsTurned, IsUnderWay, state_at, WhyNotAll}
+use Rattle.gs_master_spec.specs.Volatile.{all_changed}
 use Rattle.gs_msg.specs.declared.message.Message.{Message}
 use Rattle.gs_master.specs.declared.event.Event.{Event}
 

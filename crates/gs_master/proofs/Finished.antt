@@ -6,22 +6,22 @@ use Rattle.gs_base.specs.declared.refusal.Refusal.{Refusal}
 use Rattle.gs_base.specs.declared.refusal.Refusal.TheVariants as refusals
 use Rattle.gs_journal.specs.Journal.{State as Journal}
 use Rattle.gs_journal.specs.declared.version.Version.TheVariants.{Two}
-use Rattle.gs_record.specs.Encoding.{encoded}
-use Rattle.gs_record.specs.Plain.{plain}
-use Rattle.gs_state.specs.Durable.{Durable}
-use Rattle.gs_master.specs.Events.{HasComeFrom}
+use Rattle.gs_master_record.specs.Encoding.{encoded}
+use Rattle.gs_master_record.specs.Plain.{plain}
+use Rattle.gs_master_spec.specs.Durable.{Durable}
+use Rattle.gs_master.specs.inner.Events.{HasComeFrom}
 use Rattle.gs_master.specs.Finishing.{IsAtRest, IsCutShort, IsFinished}
 use Rattle.gs_master.specs.Journaled.{AreCut, AreWritten, Breaks, Gains, IsLogOf, IsOver, stood_before}
-use Rattle.gs_master.specs.Renewing.{AreCutAnew, AreRenewed}
-use Rattle.gs_state.specs.Plans.{fault_of, log_of}
-use Rattle.gs_state.specs.Recorded.{durable_of}
-use Rattle.gs_master.specs.StartingOver.{BeginsAt, StartsOver}
-use Rattle.gs_state.specs.State.{Log, State, Turn}
-use Rattle.gs_state.specs.TakingBack.{RoomForAll}
-use Rattle.gs_state.specs.Tracked.{NowAndBefore}
-use Rattle.gs_master.specs.Turns.{GoesBack, IsTurned, IsUnderWay, state_at}
+use Rattle.gs_master.specs.inner.Renewing.{AreCutAnew, AreRenewed}
+use Rattle.gs_master_state.specs.inner.Plans.{fault_of, log_of}
+use Rattle.gs_master_state.specs.inner.Recorded.{durable_of}
+use Rattle.gs_master.specs.inner.StartingOver.{BeginsAt, StartsOver}
+use Rattle.gs_master_spec.specs.State.{Log, State, Turn}
+use Rattle.gs_master_state.specs.inner.TakingBack.{RoomForAll}
+use Rattle.gs_master_state.specs.inner.Tracked.{NowAndBefore}
+use Rattle.gs_master.specs.inner.Turns.{GoesBack, IsTurned, IsUnderWay, state_at}
 use Rattle.gs_master.specs.declared.event.Event.{Event}
-use Rattle.gs_master.specs.declared.starting_over.Beginning.{Beginning}
+use Rattle.gs_master.specs.declared.event.Beginning.{Beginning}
 use Rattle.gs_master.specs.declared.turn.Turn.{Turn as Told}
 use Rattle.gs_master.proofs.Anew.{back_at}
 use Rattle.gs_master.proofs.Ended.{comes_from_itself, gives_cut, gives_done}

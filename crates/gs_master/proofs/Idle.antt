@@ -11,11 +11,11 @@ use Rattle.gs_msg.specs.declared.call.Call.{Call}
 use Rattle.gs_msg.specs.declared.message.Message.{Message}
 use Rattle.gs_msg.specs.declared.node.NodeId.{NodeId}
 use Rattle.gs_msg.specs.declared.node.NodeId.TheVariants as nodes
-use Rattle.gs_state.specs.Calls.{is_locked, ordered}
-use Rattle.gs_state.specs.Durable.{is_rolling}
-use Rattle.gs_state.specs.Handling.{Numbered, New, Again, Older, call_turn, called_unless, from_client, from_node, handle, numbered, server_turn, taken_as}
-use Rattle.gs_state.specs.State.{State, Turn, first_of, is_failed, is_unopened, last_reply, met_by}
-use Rattle.gs_state.specs.Volatile.{is_pending}
+use Rattle.gs_master_spec.specs.Calls.{is_locked, ordered}
+use Rattle.gs_master_spec.specs.Durable.{is_rolling}
+use Rattle.gs_master_spec.specs.Handling.{Numbered, New, Again, Older, call_turn, called_unless, from_client, from_node, handle, numbered, server_turn, taken_as}
+use Rattle.gs_master_spec.specs.State.{State, Turn, first_of, is_failed, is_unopened, last_reply, met_by}
+use Rattle.gs_master_spec.specs.Volatile.{is_pending}
 
 either : (b : Bool) (t u : Turn) → t.records ≡ [] → u.records ≡ [] → (if b then t else u).records ≡ []
 either true t u one other = one

@@ -3,11 +3,11 @@ use Rattle.std.proofs.Common.{◌≡◌, ap, sym}
 use Rattle.std.specs.Prelude.{Option, Some, None}
 use Rattle.gs_base.specs.declared.refusal.Refusal.{Refusal}
 use Rattle.gs_base.specs.declared.refusal.Refusal.TheVariants as refusals
-use Rattle.gs_master.specs.Events.{HasComeFrom, KeepsBack}
+use Rattle.gs_master.specs.inner.Events.{HasComeFrom, KeepsBack}
 use Rattle.gs_master.specs.Ticking.{lacking}
-use Rattle.gs_state.specs.Durable.{Durable}
-use Rattle.gs_state.specs.State.{Log, Turn, first_said}
-use Rattle.gs_master.specs.Turns.{GoesBack, IsTurned}
+use Rattle.gs_master_spec.specs.Durable.{Durable}
+use Rattle.gs_master_spec.specs.State.{Log, Turn, first_said}
+use Rattle.gs_master.specs.inner.Turns.{GoesBack, IsTurned}
 use Rattle.gs_master.specs.declared.event.Event.{Event}
 
 -- the same event, which says something else

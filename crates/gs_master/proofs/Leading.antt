@@ -7,23 +7,23 @@ use Rattle.std.proofs.lemmas.List.Sums.{fold-append, sum_by-append, sum_by-cons}
 use Rattle.gs_journal.specs.Journal.{State as Journal, record_size}
 use Rattle.gs_journal.specs.Records.{Entry as Record}
 use Rattle.gs_journal.specs.declared.version.Version.TheVariants.{Two}
-use Rattle.gs_record.specs.Encoding.{encoded}
-use Rattle.gs_record.specs.Plain.{PlainEntry, plain}
-use Rattle.gs_record.specs.declared.entry.Entry.{Entry as Told}
+use Rattle.gs_master_record.specs.Encoding.{encoded}
+use Rattle.gs_master_record.specs.Plain.{PlainEntry, plain}
+use Rattle.gs_master_record.specs.declared.entry.Entry.{Entry as Told}
 use Rattle.std.specs.Ordering.{nat_cmp}
-use Rattle.gs_table.specs.Slots.{live}
-use Rattle.gs_state.specs.Durable.{Durable}
-use Rattle.gs_master.specs.Events.{HasComeFrom, IsEntered, IsMade, KeepsBack, log_behind}
-use Rattle.gs_state.specs.TakingBack.{Leads, StillTakeBack, TakeBack, TakesBack, TakesOneMore, all_leases_before}
+use Rattle.gs_base_table.specs.Slots.{live}
+use Rattle.gs_master_spec.specs.Durable.{Durable}
+use Rattle.gs_master.specs.inner.Events.{HasComeFrom, IsEntered, IsMade, KeepsBack, log_behind}
+use Rattle.gs_master_state.specs.inner.TakingBack.{Leads, StillTakeBack, TakeBack, TakesBack, TakesOneMore, all_leases_before}
 use Rattle.gs_master.specs.Journaled.{Gains, IsLogOf, IsReadyFor}
-use Rattle.gs_state.specs.Outcomes.{cut}
-use Rattle.gs_state.specs.Plans.{log_of}
-use Rattle.gs_state.specs.Recorded.{durable_of}
-use Rattle.gs_state.specs.State.{Failed, Fault, Log, State, fits, size_of, size_of_all, with_record}
-use Rattle.gs_state.specs.Volatile.{Volatile}
+use Rattle.gs_master_spec.specs.Outcomes.{cut}
+use Rattle.gs_master_state.specs.inner.Plans.{log_of}
+use Rattle.gs_master_state.specs.inner.Recorded.{durable_of}
+use Rattle.gs_master_spec.specs.State.{Failed, Fault, Log, State, fits, size_of, size_of_all, with_record}
+use Rattle.gs_master_spec.specs.Volatile.{Volatile}
 use Rattle.gs_master.specs.declared.event.Event.{Event}
-use Rattle.gs_state.specs.declared.undo.Undo.{Undo}
-use Rattle.gs_state.proofs.Led.{leads_more}
+use Rattle.gs_master_state.specs.declared.undo.Undo.{Undo}
+use Rattle.gs_master_state.proofs.Led.{leads_more}
 
 -- ---- the journal's room
 

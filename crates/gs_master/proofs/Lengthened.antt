@@ -8,17 +8,17 @@ use Rattle.gs_base.specs.declared.refusal.Refusal.TheVariants as refusals
 use Rattle.gs_base.specs.declared.numbers.Moment.{Moment}
 use Rattle.gs_msg.specs.declared.answer.Answer.TheVariants as answers
 use Rattle.gs_path.specs.Path.{Path}
-use Rattle.gs_record.specs.Plain.{Hide}
+use Rattle.gs_master_record.specs.Plain.{Hide}
 use Rattle.gs_tree.specs.Edits.{hidden_path, same_path}
 use Rattle.std.specs.FinMap as fin
 use Rattle.std.proofs.lemmas.Bool.{ne_eqb}
 use Rattle.gs_tree.specs.Entry.{Entry, Dir, File}
-use Rattle.gs_state.specs.Beginning.{counted_views, targets_for}
-use Rattle.gs_state.specs.Calls.{answered_with, deleted, edited_by, found_chunk, has_visible_child, location, looked_up}
-use Rattle.gs_state.specs.Chunks.{Chunk, is_wanted, members_of}
-use Rattle.gs_state.specs.Judging.{length_at}
-use Rattle.gs_state.specs.State.{State, refused}
-use Rattle.gs_state.specs.Working.{created_on, extends, replicated_to, replicates_chunk}
+use Rattle.gs_master_spec.specs.Beginning.{counted_views, targets_for}
+use Rattle.gs_master_spec.specs.Calls.{answered_with, deleted, edited_by, found_chunk, has_visible_child, location, looked_up}
+use Rattle.gs_master_spec.specs.Chunks.{Chunk, is_wanted, members_of}
+use Rattle.gs_master_state.specs.inner.Judging.{length_at}
+use Rattle.gs_master_spec.specs.State.{State, refused}
+use Rattle.gs_master_spec.specs.Working.{created_on, extends, replicated_to, replicates_chunk}
 
 -- a file has so many chunks
 found_file : (entry : Option (Entry ℕ)) (n : ℕ) → length_at entry ≡ Ok n → (chunks : List ℕ) × ((entry ≡ Some (File chunks)) × (length chunks ≡ n))

@@ -7,16 +7,16 @@ use Rattle.gs_base.specs.declared.refusal.Refusal.{Refusal}
 use Rattle.gs_base.specs.declared.refusal.Refusal.TheVariants as refusals
 use Rattle.gs_edit.specs.View.{NamesView}
 use Rattle.gs_msg.specs.declared.answer.Answer.{Answer}
-use Rattle.gs_record.specs.Plain.{Edited, PlainEdit, plain}
-use Rattle.gs_state.specs.Applied.{after_edit, applied, replayed}
-use Rattle.gs_state.specs.Calls.{accept_plan, edit_if, edited_by}
-use Rattle.gs_state.specs.Durable.{Durable}
-use Rattle.gs_state.specs.Plans.{fault_of, log_of}
-use Rattle.gs_state.specs.Recorded.{durable_of}
-use Rattle.gs_state.specs.State.{State, Turn, first_said, fits, refused, reply_to, turned}
-use Rattle.gs_state.specs.Undoing.{edited_names}
-use Rattle.gs_master.specs.Events.{IsAsBefore, IsEntered, log_behind}
-use Rattle.gs_master.specs.Turns.{AreUnfit, HaveRoom, IsTurned, Steps, WhyNotAll, state_at}
+use Rattle.gs_master_record.specs.Plain.{Edited, PlainEdit, plain}
+use Rattle.gs_master_spec.specs.Applied.{after_edit, applied, replayed}
+use Rattle.gs_master_spec.specs.Calls.{accept_plan, edit_if, edited_by}
+use Rattle.gs_master_spec.specs.Durable.{Durable}
+use Rattle.gs_master_state.specs.inner.Plans.{fault_of, log_of}
+use Rattle.gs_master_state.specs.inner.Recorded.{durable_of}
+use Rattle.gs_master_spec.specs.State.{State, Turn, first_said, fits, refused, reply_to, turned}
+use Rattle.gs_master_spec.specs.Undoing.{edited_names}
+use Rattle.gs_master.specs.inner.Events.{IsAsBefore, IsEntered, log_behind}
+use Rattle.gs_master.specs.inner.Turns.{AreUnfit, HaveRoom, IsTurned, EventSteps, WhyNotAll, state_at}
 use Rattle.gs_master.specs.declared.event.Event.{Event}
 use Rattle.gs_master.proofs.Composing.{said_as_before}
 use Rattle.gs_master.proofs.Entered.{carried, enters_behind, enters_none}
@@ -62,7 +62,7 @@ still_why t old mid e same (inl memory) = inl memory
 still_why t old mid e same (inr (inl (full, none))) = inr (inl (full, subst (λ l. fits (log_of l) t.records ≡ false) same.log none))
 still_why t old mid e same (inr (inr (bad, unfit))) = inr (inr (bad, subst (AreUnfit t.records) same.durable unfit))
 
-still_steps : (t : Turn) (old mid new : Event) (result : Result (Unit {0}) Refusal) → IsAsBefore old mid → StaysBeside old mid → Steps t mid result new → Steps t old result new
+still_steps : (t : Turn) (old mid new : Event) (result : Result (Unit {0}) Refusal) → IsAsBefore old mid → StaysBeside old mid → EventSteps t mid result new → EventSteps t old result new
 still_steps t old mid new (Err e) same beside why = still_why t old mid e same why
 still_steps t old mid new (Ok done) same beside is = record {
   after = is.after;
@@ -77,9 +77,9 @@ still_steps t old mid new (Ok done) same beside is = record {
 
 -- from there on the whole turn is done
 pub judged_steps : (old mid new : Event) (result : Result (Unit {0}) Refusal) (req : ReqId) (edit : PlainEdit) (answer : Answer) → IsAsBefore old mid → StaysBeside old mid →
-    Steps (edited_by (state_at mid) req edit answer) mid result new → Steps (edited_by (state_at old) req edit answer) old result new
+    EventSteps (edited_by (state_at mid) req edit answer) mid result new → EventSteps (edited_by (state_at old) req edit answer) old result new
 judged_steps old mid new result req edit answer same beside steps =
-    still_steps (edited_by (state_at old) req edit answer) old mid new result same beside (subst (λ s. Steps (edited_by s req edit answer) mid result new) state steps)
+    still_steps (edited_by (state_at old) req edit answer) old mid new result same beside (subst (λ s. EventSteps (edited_by s req edit answer) mid result new) state steps)
   where
     state : state_at mid ≡ state_at old
     state = λ i. record { durable = same.durable i; volatile = (beside.memory i).now; log = log_of (same.log i); fault = fault_of (beside.fault i) }

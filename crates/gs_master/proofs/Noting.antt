@@ -1,6 +1,6 @@
 -- That a file is noted for which a snapshot waits changes nothing else of an event.
 use Rattle.std.proofs.Common.{◌≡◌, [], append-nil, refl, subst, sym}
-use Rattle.gs_master.specs.Turns.{GoesBack, IsUnderWay}
+use Rattle.gs_master.specs.inner.Turns.{GoesBack, IsUnderWay}
 use Rattle.gs_master.specs.declared.event.Event.{Event}
 
 pub noted_back : (old mid : Event) → IsUnderWay old → mid ≡ record old { held_up_by = mid.held_up_by } → GoesBack old mid

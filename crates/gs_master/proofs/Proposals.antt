@@ -5,10 +5,10 @@ use Rattle.std.specs.Prelude.{nat_le, if◌then◌else◌}
 use Rattle.gs_base.specs.declared.numbers.ReqId.{ReqId}
 use Rattle.gs_lease.specs.declared.view.Purpose.{Purpose}
 use Rattle.gs_lease.specs.declared.view.Purpose.TheVariants as purposes
-use Rattle.gs_record.specs.Plain.{Propose}
-use Rattle.gs_state.specs.Beginning.{all_begun, begun, has_versions}
-use Rattle.gs_state.specs.Hearing.{made_quiet}
-use Rattle.gs_state.specs.State.{State, Turn, fits, size_of, size_of_all, unmoved}
+use Rattle.gs_master_record.specs.Plain.{Propose}
+use Rattle.gs_master_spec.specs.Beginning.{all_begun, begun, has_versions}
+use Rattle.gs_master_spec.specs.Hearing.{made_quiet}
+use Rattle.gs_master_spec.specs.State.{State, Turn, fits, size_of, size_of_all, unmoved}
 
 proposal_size : (chunk version : ℕ) → size_of (Propose chunk version) ≡ 22
 proposal_size chunk version = refl

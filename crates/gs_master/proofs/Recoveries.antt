@@ -12,25 +12,25 @@ use Rattle.gs_journal.specs.Records.{Entry as Record, Text, fresh, header_length
 use Rattle.gs_journal.specs.declared.version.Version.{Version}
 use Rattle.gs_journal.specs.declared.version.Version.TheVariants as versions
 use Rattle.gs_msg.specs.declared.message.Message.{Message}
-use Rattle.gs_record.specs.Encoding.{encoded}
-use Rattle.gs_record.specs.Plain.{PlainEntry, Whole, plain}
-use Rattle.gs_record.specs.Writable.{IsEntry}
-use Rattle.gs_record.specs.declared.entry.Entry.{Entry}
-use Rattle.gs_state.specs.Applied.{counted_behind, is_whole_entry, records_behind, replayed}
-use Rattle.gs_state.specs.Durable.{Durable, start}
-use Rattle.gs_state.specs.Handling.{answered_or, checkpoint_body, recover, recovered_from, reopened, restarted, told_again, written, written_unless}
+use Rattle.gs_master_record.specs.Encoding.{encoded}
+use Rattle.gs_master_record.specs.Plain.{PlainEntry, Whole, plain}
+use Rattle.gs_master_record.specs.Writable.{IsEntry}
+use Rattle.gs_master_record.specs.declared.entry.Entry.{Entry}
+use Rattle.gs_master_spec.specs.Applied.{counted_behind, is_whole_entry, records_behind, replayed}
+use Rattle.gs_master_spec.specs.Durable.{Durable, start}
+use Rattle.gs_master_spec.specs.Handling.{answered_or, checkpoint_body, recover, recovered_from, reopened, restarted, told_again, written, written_unless}
 use Rattle.gs_master.specs.Journaled.{IsLogOf}
-use Rattle.gs_state.specs.Plans.{log_of}
-use Rattle.gs_state.specs.Recorded.{durable_of}
-use Rattle.gs_guard.specs.Reading.{AreRecordsOf}
+use Rattle.gs_master_state.specs.inner.Plans.{log_of}
+use Rattle.gs_master_state.specs.inner.Recorded.{durable_of}
+use Rattle.gs_master_guard.specs.Reading.{AreRecordsOf}
 use Rattle.gs_master.specs.Recovering.{IsAnew, IsLeft, IsRecovered, IsRested, StaysOpen, Tells, Updates, WhyNotRecovered, log_behind_last, log_in}
-use Rattle.gs_master.specs.Renewing.{AreCutAnew, AreRenewed, BreaksLast, Renews}
-use Rattle.gs_plan.specs.Renewable.{renewal_refusal}
-use Rattle.gs_master.specs.StartingOver.{IsBegun}
-use Rattle.gs_state.specs.State.{Log, State, Turn, and_then}
-use Rattle.gs_state.specs.TakingBack.{RoomForAll}
-use Rattle.gs_master.specs.Turns.{IsUnderWay, state_at}
-use Rattle.gs_state.specs.Whole.{checkpoint_of}
+use Rattle.gs_master.specs.inner.Renewing.{AreCutAnew, AreRenewed, BreaksLast, Renews}
+use Rattle.gs_master_plan.specs.Renewable.{renewal_refusal}
+use Rattle.gs_master.specs.inner.StartingOver.{IsBegun}
+use Rattle.gs_master_spec.specs.State.{Log, State, Turn, and_then}
+use Rattle.gs_master_state.specs.inner.TakingBack.{RoomForAll}
+use Rattle.gs_master.specs.inner.Turns.{IsUnderWay, state_at}
+use Rattle.gs_master_spec.specs.Whole.{checkpoint_of}
 use Rattle.gs_master.specs.declared.event.Event.{Event}
 
 -- the records of a text, which is of that version

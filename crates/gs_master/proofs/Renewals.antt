@@ -17,21 +17,21 @@ use Rattle.gs_base.specs.declared.refusal.Refusal.TheVariants as refusals
 use Rattle.gs_journal.specs.Drafts.{draft_refusal}
 use Rattle.gs_journal.specs.Journal.{State as Journal, Closes, IsOldOrNew, Makes, Stands, checkpoint_size, checkpointed, failures_of_both, last_generation}
 use Rattle.gs_journal.specs.Records.{Text}
-use Rattle.gs_record.specs.Plain.{PlainEntry, plain}
-use Rattle.gs_state.specs.Durable.{Durable, Settled, is_listed}
-use Rattle.gs_master.specs.Events.{HasComeFrom}
-use Rattle.gs_state.specs.Handling.{checkpoint_body, still_new, tidied, unlisted, written}
+use Rattle.gs_master_record.specs.Plain.{PlainEntry, plain}
+use Rattle.gs_master_spec.specs.Durable.{Durable, Settled, is_listed}
+use Rattle.gs_master.specs.inner.Events.{HasComeFrom}
+use Rattle.gs_master_spec.specs.Handling.{checkpoint_body, still_new, tidied, unlisted, written}
 use Rattle.gs_master.specs.Journaled.{Gains, IsLogOf, text_seen}
-use Rattle.gs_state.specs.Outcomes.{cut}
-use Rattle.gs_state.specs.Plans.{fault_of, log_of}
-use Rattle.gs_state.specs.Recorded.{durable_of}
-use Rattle.gs_master.specs.Renewing.{BreaksLast, Renews, StandOrNot}
-use Rattle.gs_plan.specs.Renewable.{IsBehind, IsRenewalOf}
-use Rattle.gs_state.specs.State.{Failed, Log, State, first_of, is_failed, with_record}
-use Rattle.gs_master.specs.Turns.{state_at}
-use Rattle.gs_state.specs.Volatile.{Volatile}
+use Rattle.gs_master_spec.specs.Outcomes.{cut}
+use Rattle.gs_master_state.specs.inner.Plans.{fault_of, log_of}
+use Rattle.gs_master_state.specs.inner.Recorded.{durable_of}
+use Rattle.gs_master.specs.inner.Renewing.{BreaksLast, Renews, StandOrNot}
+use Rattle.gs_master_plan.specs.Renewable.{IsBehind, IsRenewalOf}
+use Rattle.gs_master_spec.specs.State.{Failed, Log, State, first_of, is_failed, with_record}
+use Rattle.gs_master.specs.inner.Turns.{state_at}
+use Rattle.gs_master_spec.specs.Volatile.{Volatile}
 use Rattle.gs_master.specs.declared.event.Event.{Event}
-use Rattle.gs_plan.specs.declared.renewing.Renewal.{Renewal}
+use Rattle.gs_master_plan.specs.declared.checkpoint.Renewal.{Renewal}
 use Rattle.gs_master.proofs.Leading.{log_is}
 
 -- ---- lists with one more at the end

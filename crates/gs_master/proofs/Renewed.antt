@@ -10,25 +10,25 @@ use Rattle.gs_base.specs.declared.refusal.Refusal.{Refusal}
 use Rattle.gs_base.specs.declared.refusal.Refusal.TheVariants as refusals
 use Rattle.gs_journal.specs.Journal.{State as Journal, checkpointed, failures_of_both}
 use Rattle.gs_journal.specs.declared.version.Version.TheVariants.{Two}
-use Rattle.gs_record.specs.Encoding.{encoded}
-use Rattle.gs_record.specs.Plain.{PlainEntry, Whole, plain}
-use Rattle.gs_record.specs.Writable.{IsEntry}
-use Rattle.gs_state.specs.Applied.{replayed}
-use Rattle.gs_state.specs.Durable.{Durable}
-use Rattle.gs_master.specs.Events.{log_behind}
+use Rattle.gs_master_record.specs.Encoding.{encoded}
+use Rattle.gs_master_record.specs.Plain.{PlainEntry, Whole, plain}
+use Rattle.gs_master_record.specs.Writable.{IsEntry}
+use Rattle.gs_master_spec.specs.Applied.{replayed}
+use Rattle.gs_master_spec.specs.Durable.{Durable}
+use Rattle.gs_master.specs.inner.Events.{log_behind}
 use Rattle.gs_master.specs.Finishing.{FinishesAnew, IsAtRest, IsCutShortAnew, IsFinishedAnew, and_checkpoint}
-use Rattle.gs_state.specs.Handling.{checkpoint, checkpoint_body, checkpoint_tests, due, tick, tidied, written, written_if_due, written_unless}
+use Rattle.gs_master_spec.specs.Handling.{checkpoint, checkpoint_body, checkpoint_tests, due, tick, tidied, written, written_if_due, written_unless}
 use Rattle.gs_master.specs.Journaled.{IsAsSeen, IsLogOf, text_seen}
-use Rattle.gs_master.specs.Masters.{Answers, DoubtLeaves, Holds, IsAnswered, IsAnsweredUnsure, IsHeld, IsTold, MasterOf}
-use Rattle.gs_state.specs.Outcomes.{cut}
-use Rattle.gs_state.specs.Plans.{fault_of, log_of}
-use Rattle.gs_state.specs.Recorded.{durable_of}
-use Rattle.gs_master.specs.Renewing.{AreCutAnew, AreRenewed, BreaksAnew, BreaksLast, Renews}
-use Rattle.gs_plan.specs.Renewable.{refusal_beforehand, renewal_refusal}
-use Rattle.gs_state.specs.State.{Fault, Sound, Failed, Unopened, Log, State, Turn, first_of, first_said, is_failed, joined, met_by, unmoved}
+use Rattle.gs_master.specs.Masters.{MasterAnswers, DoubtLeaves, Holds, IsAnswered, IsAnsweredUnsure, IsHeld, IsTold, MasterOf}
+use Rattle.gs_master_spec.specs.Outcomes.{cut}
+use Rattle.gs_master_state.specs.inner.Plans.{fault_of, log_of}
+use Rattle.gs_master_state.specs.inner.Recorded.{durable_of}
+use Rattle.gs_master.specs.inner.Renewing.{AreCutAnew, AreRenewed, BreaksAnew, BreaksLast, Renews}
+use Rattle.gs_master_plan.specs.Renewable.{refusal_beforehand, renewal_refusal}
+use Rattle.gs_master_spec.specs.State.{Fault, Sound, Failed, Unopened, Log, State, Turn, first_of, first_said, is_failed, joined, met_by, unmoved}
 use Rattle.gs_master.specs.Ticking.{AnswersAs, AnswersCheckpoint, AnswersTick, IsAnsweredAnew, LeavesAnew, is_written, lacking, pressed_all}
-use Rattle.gs_master.specs.Turns.{GoesBack, IsTurned, state_at}
-use Rattle.gs_state.specs.Whole.{checkpoint_of}
+use Rattle.gs_master.specs.inner.Turns.{GoesBack, IsTurned, state_at}
+use Rattle.gs_master_spec.specs.Whole.{checkpoint_of}
 use Rattle.gs_master.specs.declared.event.Event.{Event}
 use Rattle.gs_master.specs.declared.turn.Turn.{Turn as Told}
 use Rattle.gs_master.proofs.Entered.{recorded_as}
@@ -332,7 +332,7 @@ module _ {D : Type 0} (seen : D → List ℕ) (failures : D → ℕ) (moment : M
       (subst (λ t. As false t told old) (sym (failed_tick old.state moment failed))
       (inl (refused_there seen failures refusals.Device old told (λ sound. absurd (false≢true (sym sound ∙ failed))) sent said))))
 
-  pub ticks_plain : is_failed old.state.fault ≡ false → (due steps.after && is_written steps.after) ≡ false → (result : Result Told Refusal) (new : MasterOf D) → Answers seen failures None steps old result new → AnswersTick seen failures moment old result new
+  pub ticks_plain : is_failed old.state.fault ≡ false → (due steps.after && is_written steps.after) ≡ false → (result : Result Told Refusal) (new : MasterOf D) → MasterAnswers seen failures None steps old result new → AnswersTick seen failures moment old result new
   ticks_plain sound none (Ok told) new answered =
       inl (subst (λ b. As (not b && (due steps.after && is_written steps.after)) (tick old.state moment) told new) (sym sound)
       (subst (λ b. As b (tick old.state moment) told new) (sym none)
@@ -341,7 +341,7 @@ module _ {D : Type 0} (seen : D → List ℕ) (failures : D → ℕ) (moment : M
 
   -- a checkpoint is due, and memory is wanting for it
   pub ticks_short : is_failed old.state.fault ≡ false → due steps.after ≡ true → refusal_beforehand steps.after ≡ None → (result : Result Told Refusal) (new : MasterOf D) →
-      Answers seen failures None (lacking steps) old result new → AnswersTick seen failures moment old result new
+      MasterAnswers seen failures None (lacking steps) old result new → AnswersTick seen failures moment old result new
   ticks_short sound is_due none (Ok told) new answered = inr (sound, is_due, none, answered)
   ticks_short sound is_due none (Err e) new answered = answered
 

@@ -11,17 +11,17 @@ use Rattle.gs_journal.specs.Records.{generation_standing, standing}
 use Rattle.gs_journal.specs.declared.journal.Unopened.{Unopened}
 use Rattle.gs_journal.specs.declared.version.Version.{Version}
 use Rattle.gs_journal.specs.declared.version.Version.TheVariants as versions
-use Rattle.gs_record.specs.Plain.{PlainEntry}
-use Rattle.gs_state.specs.Applied.{records_behind, replayed}
-use Rattle.gs_state.specs.Durable.{Durable, start}
-use Rattle.gs_state.specs.Handling.{answered_or, checkpoint_body, checkpoint_tests, recover, recovered_from, restarted, reopened, written, written_unless}
+use Rattle.gs_master_record.specs.Plain.{PlainEntry}
+use Rattle.gs_master_spec.specs.Applied.{records_behind, replayed}
+use Rattle.gs_master_spec.specs.Durable.{Durable, start}
+use Rattle.gs_master_spec.specs.Handling.{answered_or, checkpoint_body, checkpoint_tests, recover, recovered_from, restarted, reopened, written, written_unless}
 use Rattle.gs_master.specs.Journaled.{IsAsSeen, IsLogOf}
 use Rattle.gs_master.specs.Masters.{Holds, IsHeld}
-use Rattle.gs_guard.specs.Reading.{AreRecordsOf}
+use Rattle.gs_master_guard.specs.Reading.{AreRecordsOf}
 use Rattle.gs_master.specs.Recovering.{IsLeft, IsRecovered, WhyNotRecovered, WhyNotTold, log_behind_last, log_in}
 use Rattle.gs_master.specs.Starting.{WhyUnopened, left_in}
-use Rattle.gs_state.specs.State.{Log, State, Turn, and_then, first_of}
-use Rattle.gs_master.specs.Turns.{state_at}
+use Rattle.gs_master_spec.specs.State.{Log, State, Turn, and_then, first_of}
+use Rattle.gs_master.specs.inner.Turns.{state_at}
 use Rattle.gs_master.specs.declared.event.Event.{Event}
 use Rattle.gs_master.proofs.Renewed.{tells_alone}
 

@@ -8,19 +8,19 @@ use Rattle.gs_base.specs.declared.numbers.ReqId.{ReqId}
 use Rattle.gs_base.specs.declared.refusal.Refusal.{Refusal}
 use Rattle.gs_base.specs.declared.refusal.Refusal.TheVariants as refusals
 use Rattle.gs_lease.specs.declared.view.Purpose.TheVariants as purposes
-use Rattle.gs_record.specs.Plain.{RollbackBegin}
-use Rattle.gs_state.specs.Beginning.{all_begun, has_versions}
-use Rattle.gs_master.specs.Events.{log_behind}
-use Rattle.gs_state.specs.Settling.{requests_of}
-use Rattle.gs_state.specs.State.{Plan, State, Turn, all_ended_by, and_then, done, ended_by, first_of, fits, refused, turned}
-use Rattle.gs_master.specs.StartingOver.{BeginsAt, StartsOver}
-use Rattle.gs_state.specs.TakingBack.{RoomForAll}
-use Rattle.gs_master.specs.Turns.{ComesWithOthers, IsTurned, IsUnderWay, Steps, WhyNotTurned, state_at}
-use Rattle.gs_state.specs.Upgrades.{accepted_plan, all_unquiet, begin_tests, end_tests, is_last_epoch, prepare_begin, rollback_begin, tell_all, unless}
-use Rattle.gs_state.specs.declared.change.Change.TheVariants as changes
+use Rattle.gs_master_record.specs.Plain.{RollbackBegin}
+use Rattle.gs_master_spec.specs.Beginning.{all_begun, has_versions}
+use Rattle.gs_master.specs.inner.Events.{log_behind}
+use Rattle.gs_master_spec.specs.Settling.{requests_of}
+use Rattle.gs_master_spec.specs.State.{Plan, State, Turn, all_ended_by, and_then, done, ended_by, first_of, fits, refused, turned}
+use Rattle.gs_master.specs.inner.StartingOver.{BeginsAt, StartsOver}
+use Rattle.gs_master_state.specs.inner.TakingBack.{RoomForAll}
+use Rattle.gs_master.specs.inner.Turns.{ComesWithOthers, IsTurned, IsUnderWay, EventSteps, WhyNotTurned, state_at}
+use Rattle.gs_master_spec.specs.Upgrades.{accepted_plan, all_unquiet, begin_tests, end_tests, is_last_epoch, prepare_begin, rollback_begin, tell_all, unless}
+use Rattle.gs_master_spec.specs.declared.change.Change.TheVariants as changes
 use Rattle.gs_master.specs.declared.event.Event.{Event}
-use Rattle.gs_state.specs.declared.log.Log.{Log as Journal_log}
-use Rattle.gs_master.specs.declared.starting_over.Beginning.{Beginning}
+use Rattle.gs_master_state.specs.declared.log.Log.{Log as Journal_log}
+use Rattle.gs_master.specs.declared.event.Beginning.{Beginning}
 use Rattle.gs_master.proofs.Composing.{fits_both, logged, steps_and, why_not_and}
 use Rattle.gs_master.proofs.Proposals.{proposals_fit}
 use Rattle.gs_master.proofs.Sweeps.{all_fit, more_fit}
@@ -34,8 +34,8 @@ module _ (t : Turn) (next last : State → Turn) (old : Event) where
   pub second_refused : (mid : Event) (e : Refusal) → IsTurned t old mid → WhyNotTurned (next (state_at mid)) mid e → WhyNotTurned (and_then (and_then t next) last) old e
   second_refused mid e first why = why_not_and (and_then t next) last old e (steps_and t next old mid mid (Err e) first why)
 
-  pub third_steps : (mid behind new : Event) (result : Result (Unit {0}) Refusal) → IsTurned t old mid → IsTurned (next (state_at mid)) mid behind → Steps (last (state_at behind)) behind result new
-      → Steps (and_then (and_then t next) last) old result new
+  pub third_steps : (mid behind new : Event) (result : Result (Unit {0}) Refusal) → IsTurned t old mid → IsTurned (next (state_at mid)) mid behind → EventSteps (last (state_at behind)) behind result new
+      → EventSteps (and_then (and_then t next) last) old result new
   third_steps mid behind new result first second steps = steps_and (and_then t next) last old behind new result (steps_and t next old mid behind (Ok tt) first second) steps
 
 -- ---- a rollback that begins

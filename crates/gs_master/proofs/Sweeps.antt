@@ -8,14 +8,14 @@ use Rattle.gs_base.specs.declared.refusal.Refusal.TheVariants as refusals
 use Rattle.gs_msg.specs.declared.answer.Answer.{Answer}
 use Rattle.gs_msg.specs.declared.answer.Answer.TheVariants as answers
 use Rattle.gs_path.specs.Path.{Path}
-use Rattle.gs_record.specs.Plain.{PlainEdit, PlainEntry, Edited, Said}
-use Rattle.gs_state.specs.Calls.{answered_with}
-use Rattle.gs_master.specs.Events.{log_behind}
-use Rattle.gs_state.specs.Settling.{own_request}
-use Rattle.gs_state.specs.State.{Log, Plan, State, Turn, all_ended_by, and_then, done, ended_by, fits, keeps_refusal, refused, turned}
-use Rattle.gs_state.specs.TakingBack.{comes_alone}
-use Rattle.gs_master.specs.Turns.{ComesWithOthers, IsTurned, Steps, WhyNotTurned, state_at}
-use Rattle.gs_state.specs.Working.{scan_edits, scan_plan, scanned, waiting_for}
+use Rattle.gs_master_record.specs.Plain.{PlainEdit, PlainEntry, Edited, Said}
+use Rattle.gs_master_spec.specs.Calls.{answered_with}
+use Rattle.gs_master.specs.inner.Events.{log_behind}
+use Rattle.gs_master_spec.specs.Settling.{own_request}
+use Rattle.gs_master_spec.specs.State.{Log, Plan, State, Turn, all_ended_by, and_then, done, ended_by, fits, keeps_refusal, refused, turned}
+use Rattle.gs_master_state.specs.inner.TakingBack.{comes_alone}
+use Rattle.gs_master.specs.inner.Turns.{ComesWithOthers, IsTurned, EventSteps, WhyNotTurned, state_at}
+use Rattle.gs_master_spec.specs.Working.{scan_edits, scan_plan, scanned, waiting_for}
 use Rattle.gs_master.specs.declared.event.Event.{Event}
 use Rattle.gs_master.proofs.Composing.{fits_both, fits_less, logged, steps_and, why_not_and}
 
@@ -73,11 +73,11 @@ module _ (s : State) (req : ReqId) (removed : List Path) (forgotten : List ℕ) 
       (sweep_fits s req removed forgotten (scan_plan removed forgotten) ∙ ap (λ (p : Plan). fits s.log p.records) (sym same) ∙ is)
       ∙ ap (λ p. if room then sweeps s req removed forgotten p else refused s req refusals.Full) (sym same)
 
-  pub with_room : fits s.log made.records ≡ true → (old new : Event) (result : Result (Unit {0}) Refusal) → Steps (sweeps s req removed forgotten made) old result new → Steps (scanned s req removed forgotten) old result new
-  with_room fit old new result steps = subst (λ t. Steps t old result new) (sym (by_room true fit)) steps
+  pub with_room : fits s.log made.records ≡ true → (old new : Event) (result : Result (Unit {0}) Refusal) → EventSteps (sweeps s req removed forgotten made) old result new → EventSteps (scanned s req removed forgotten) old result new
+  with_room fit old new result steps = subst (λ t. EventSteps t old result new) (sym (by_room true fit)) steps
 
-  pub without_room : fits s.log made.records ≡ false → (old new : Event) (result : Result (Unit {0}) Refusal) → Steps (refused s req refusals.Full) old result new → Steps (scanned s req removed forgotten) old result new
-  without_room none old new result steps = subst (λ t. Steps t old result new) (sym (by_room false none)) steps
+  pub without_room : fits s.log made.records ≡ false → (old new : Event) (result : Result (Unit {0}) Refusal) → EventSteps (refused s req refusals.Full) old result new → EventSteps (scanned s req removed forgotten) old result new
+  without_room none old new result steps = subst (λ t. EventSteps t old result new) (sym (by_room false none)) steps
 
   abbrev ended : State → Turn
   ended next = all_ended_by next (waiting_for s forgotten) refusals.NoReplica
@@ -93,7 +93,7 @@ module _ (s : State) (req : ReqId) (removed : List Path) (forgotten : List ℕ) 
     ends_refused mid e first why = with_room fit old old (Err e) (why_not_and (and_then (turned s made) ended) answer old e (steps_and (turned s made) ended old mid mid (Err e) first why))
 
     pub answered_last : (mid last new : Event) (result : Result (Unit {0}) Refusal) → IsTurned (turned s made) old mid → IsTurned (all_ended_by (state_at mid) (waiting_for s forgotten) refusals.NoReplica) mid last
-        → Steps (answered_with (state_at last) req (answers.Scanned (length removed) (length forgotten))) last result new → Steps (scanned s req removed forgotten) old result new
+        → EventSteps (answered_with (state_at last) req (answers.Scanned (length removed) (length forgotten))) last result new → EventSteps (scanned s req removed forgotten) old result new
     answered_last mid last new result first second steps =
         with_room fit old new result (steps_and (and_then (turned s made) ended) answer old last new result (steps_and (turned s made) ended old mid last (Ok tt) first second) steps)
 

@@ -5,17 +5,17 @@ use Rattle.gs_base.specs.declared.numbers.ReqId.{ReqId}
 use Rattle.gs_base.specs.declared.refusal.Refusal.{Refusal}
 use Rattle.gs_lease.specs.declared.view.View.{View}
 use Rattle.gs_msg.specs.declared.answer.Answer.{Answer}
-use Rattle.gs_record.specs.Plain.{PlainEntry, Edited, Said, Propose, Settle, Prepare, Finalize, RollbackBegin, RollbackCommit, Whole, Holder}
-use Rattle.gs_record.specs.declared.checkpoint.Phase.{Phase}
-use Rattle.gs_state.specs.Applied.{is_whole_entry}
-use Rattle.gs_state.specs.Chunks.{holder_records, is_holder, settling, target_of}
-use Rattle.gs_state.specs.Settling.{end_plan}
-use Rattle.gs_state.specs.State.{State, fits, keeps_refusal, refusal_plan}
-use Rattle.gs_state.specs.TakingBack.{comes_alone}
-use Rattle.gs_master.specs.Turns.{ComesWithOthers}
-use Rattle.gs_state.specs.declared.asking.Asking.{Asking}
-use Rattle.gs_state.specs.declared.asking.Prepared.{Prepared}
-use Rattle.gs_state.specs.declared.change.Change.{Change}
+use Rattle.gs_master_record.specs.Plain.{PlainEntry, Edited, Said, Propose, Settle, Prepare, Finalize, RollbackBegin, RollbackCommit, Whole, Holder}
+use Rattle.gs_master_record.specs.declared.checkpoint.Phase.{Phase}
+use Rattle.gs_master_spec.specs.Applied.{is_whole_entry}
+use Rattle.gs_master_spec.specs.Chunks.{holder_records, is_holder, settling, target_of}
+use Rattle.gs_master_spec.specs.Settling.{end_plan}
+use Rattle.gs_master_spec.specs.State.{State, fits, keeps_refusal, refusal_plan}
+use Rattle.gs_master_state.specs.inner.TakingBack.{comes_alone}
+use Rattle.gs_master.specs.inner.Turns.{ComesWithOthers}
+use Rattle.gs_master_spec.specs.declared.asking.Asking.{Asking}
+use Rattle.gs_master_spec.specs.declared.asking.Prepared.{Prepared}
+use Rattle.gs_master_spec.specs.declared.change.Change.{Change}
 
 -- ---- records
 

@@ -10,18 +10,18 @@ use Rattle.gs_base.specs.declared.refusal.Refusal.{Refusal}
 use Rattle.gs_journal.specs.Journal.{State as Journal, failures_of_both}
 use Rattle.gs_journal.specs.Records.{Text}
 use Rattle.gs_journal.specs.declared.version.Version.TheVariants.{Two}
-use Rattle.gs_record.specs.Encoding.{encoded}
-use Rattle.gs_record.specs.Plain.{PlainEntry}
-use Rattle.gs_record.specs.Writable.{IsEntry}
-use Rattle.gs_state.specs.Applied.{applied, replayed}
-use Rattle.gs_state.specs.Durable.{Durable}
-use Rattle.gs_master.specs.Events.{log_behind}
+use Rattle.gs_master_record.specs.Encoding.{encoded}
+use Rattle.gs_master_record.specs.Plain.{PlainEntry}
+use Rattle.gs_master_record.specs.Writable.{IsEntry}
+use Rattle.gs_master_spec.specs.Applied.{applied, replayed}
+use Rattle.gs_master_spec.specs.Durable.{Durable}
+use Rattle.gs_master.specs.inner.Events.{log_behind}
 use Rattle.gs_master.specs.Finishing.{Finishes, IsCutShort, IsFinished}
 use Rattle.gs_master.specs.Journaled.{Breaks, Gains, IsAsSeen, IsLogOf, StandUpTo, text_seen}
-use Rattle.gs_master.specs.Masters.{Answers, DoubtLeaves, Holds, IsAnswered, IsAnsweredUnsure, IsHeld, IsTold, LeavesText, MasterOf}
-use Rattle.gs_state.specs.Recorded.{durable_of}
-use Rattle.gs_state.specs.State.{Fault, Sound, Failed, Unopened, Log, State, Turn, is_failed}
-use Rattle.gs_master.specs.Turns.{state_at}
+use Rattle.gs_master.specs.Masters.{MasterAnswers, DoubtLeaves, Holds, IsAnswered, IsAnsweredUnsure, IsHeld, IsTold, LeavesText, MasterOf}
+use Rattle.gs_master_state.specs.inner.Recorded.{durable_of}
+use Rattle.gs_master_spec.specs.State.{Fault, Sound, Failed, Unopened, Log, State, Turn, is_failed}
+use Rattle.gs_master.specs.inner.Turns.{state_at}
 use Rattle.gs_master.specs.declared.event.Event.{Event}
 use Rattle.gs_master.specs.declared.turn.Turn.{Turn as Told}
 use Rattle.gs_master.proofs.Composing.{all_front, all_joined, replayed_both}
@@ -208,7 +208,7 @@ module _ {D : Type 0} (seen : D → List ℕ) (may_leave : D → List ℕ → Ty
         broke : (failures_of_both failures j < failures_of_both failures k) × Holds seen may_leave mid.0 log k (Failed (slice_get t.records place))
         broke = breaks (state_at begun).fault (durable_of begun.recorded) is.replays.0 mid.0 (state_at begun).log log j k t.records place held idle is.cut.within is.are_entries is.replays.1 mid.1 is.breaks
 
-    pub answers : (result : Result Told Refusal) → Finishes seen may_leave failures caller t begun j result e k → Answers seen failures caller t (at begun j) result (at e k)
+    pub answers : (result : Result Told Refusal) → Finishes seen may_leave failures caller t begun j result e k → MasterAnswers seen failures caller t (at begun j) result (at e k)
     answers (Ok told) (inl is) = inl (done told is).0
     answers (Ok told) (inr is) = inr (is.0, (short told is.0 is.1).0)
     answers (Err refusal) (why, (state, journal)) = (why, λ i. record { config = config; state = state i; journal = journal i })

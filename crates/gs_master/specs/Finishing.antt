@@ -6,24 +6,24 @@ use Rattle.gs_base.specs.declared.numbers.ReqId.{ReqId}
 use Rattle.gs_base.specs.declared.refusal.Refusal.{Refusal}
 use Rattle.gs_journal.specs.Journal.{State as Journal}
 use Rattle.gs_journal.specs.declared.version.Version.TheVariants.{Two}
-use Rattle.gs_record.specs.Encoding.{encoded}
-use Rattle.gs_record.specs.Plain.{Whole}
-use Rattle.gs_record.specs.Writable.{IsEntry}
-use Rattle.gs_state.specs.Applied.{replayed}
-use Rattle.gs_state.specs.Durable.{Durable}
-use Rattle.gs_state.specs.Handling.{checkpoint_body, due, written}
+use Rattle.gs_master_record.specs.Encoding.{encoded}
+use Rattle.gs_master_record.specs.Plain.{Whole}
+use Rattle.gs_master_record.specs.Writable.{IsEntry}
+use Rattle.gs_master_spec.specs.Applied.{replayed}
+use Rattle.gs_master_spec.specs.Durable.{Durable}
+use Rattle.gs_master_spec.specs.Handling.{checkpoint_body, due, written}
 use Rattle.gs_master.specs.Journaled.{Breaks, Gains, IsLogOf}
-use Rattle.gs_state.specs.Outcomes.{IsCut, IsDone}
-use Rattle.gs_state.specs.Plans.{fault_of, log_of}
-use Rattle.gs_state.specs.Recorded.{durable_of}
-use Rattle.gs_master.specs.Renewing.{BreaksAnew, Renews}
-use Rattle.gs_plan.specs.Renewable.{IsBehind, IsRenewalOf, refusal_beforehand, renewal_refusal}
-use Rattle.gs_master.specs.StartingOver.{IsBegun}
-use Rattle.gs_state.specs.State.{State, Turn}
-use Rattle.gs_master.specs.Turns.{WhyNotTurned, state_at}
-use Rattle.gs_state.specs.Whole.{checkpoint_of}
+use Rattle.gs_master_spec.specs.Outcomes.{IsCut, IsDone}
+use Rattle.gs_master_state.specs.inner.Plans.{fault_of, log_of}
+use Rattle.gs_master_state.specs.inner.Recorded.{durable_of}
+use Rattle.gs_master.specs.inner.Renewing.{BreaksAnew, Renews}
+use Rattle.gs_master_plan.specs.Renewable.{IsBehind, IsRenewalOf, refusal_beforehand, renewal_refusal}
+use Rattle.gs_master.specs.inner.StartingOver.{IsBegun}
+use Rattle.gs_master_spec.specs.State.{State, Turn}
+use Rattle.gs_master.specs.inner.Turns.{WhyNotTurned, state_at}
+use Rattle.gs_master_spec.specs.Whole.{checkpoint_of}
 use Rattle.gs_master.specs.declared.event.Event.{Event}
-use Rattle.gs_plan.specs.declared.renewing.Renewal.{Renewal}
+use Rattle.gs_master_plan.specs.declared.checkpoint.Renewal.{Renewal}
 use Rattle.gs_master.specs.declared.turn.Turn.{Turn as Told}
 
 -- nothing is under way, so the next event begins here

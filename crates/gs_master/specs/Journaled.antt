@@ -3,12 +3,12 @@ use Rattle.std.specs.Prelude.{◌≡◌, ◌⊎◌, ◌+◌, ◌<◌, ◌≤◌,
 use Rattle.gs_base.specs.declared.numbers.ReqId.{ReqId}
 use Rattle.gs_journal.specs.Journal.{State as Journal, Stands, counting, failures_of_both, record_size, text_size}
 use Rattle.gs_journal.specs.Records.{Entry, Text, generation_of, standing}
-use Rattle.gs_record.specs.Plain.{plain}
-use Rattle.gs_state.specs.Durable.{Durable}
-use Rattle.gs_state.specs.Outcomes.{cut, cut_refusal, unsure}
-use Rattle.gs_state.specs.Plans.{fault_of, log_of}
-use Rattle.gs_state.specs.State.{Log, State}
-use Rattle.gs_master.specs.Turns.{state_at}
+use Rattle.gs_master_record.specs.Plain.{plain}
+use Rattle.gs_master_spec.specs.Durable.{Durable}
+use Rattle.gs_master_spec.specs.Outcomes.{cut, cut_refusal, unsure}
+use Rattle.gs_master_state.specs.inner.Plans.{fault_of, log_of}
+use Rattle.gs_master_spec.specs.State.{Log, State}
+use Rattle.gs_master.specs.inner.Turns.{state_at}
 use Rattle.gs_master.specs.declared.event.Event.{Event}
 
 -- ---- what is seen of a journal

@@ -1,10 +1,7 @@
-pub mod Events
 pub mod Finishing
 pub mod Journaled
 pub mod Masters
 pub mod Recovering
-pub mod Renewing
 pub mod Starting
-pub mod StartingOver
 pub mod Ticking
-pub mod Turns
+pub mod inner

@@ -8,16 +8,16 @@ use Rattle.gs_base.specs.declared.refusal.Refusal.TheVariants as refusals
 use Rattle.gs_journal.specs.Journal.{State as Journal, Stands, failures_of_both}
 use Rattle.gs_journal.specs.Records.{Entry as Record, Text}
 use Rattle.gs_journal.specs.declared.version.Version.TheVariants.{Two}
-use Rattle.gs_record.specs.Encoding.{encoded}
-use Rattle.gs_record.specs.Plain.{PlainEntry, Whole}
-use Rattle.gs_record.specs.Writable.{IsEntry}
-use Rattle.gs_state.specs.Applied.{applied, replayed}
-use Rattle.gs_state.specs.Durable.{Durable, start}
-use Rattle.gs_state.specs.Handling.{checkpoint_body, tidied}
+use Rattle.gs_master_record.specs.Encoding.{encoded}
+use Rattle.gs_master_record.specs.Plain.{PlainEntry, Whole}
+use Rattle.gs_master_record.specs.Writable.{IsEntry}
+use Rattle.gs_master_spec.specs.Applied.{applied, replayed}
+use Rattle.gs_master_spec.specs.Durable.{Durable, start}
+use Rattle.gs_master_spec.specs.Handling.{checkpoint_body, tidied}
 use Rattle.gs_master.specs.Journaled.{IsAsSeen, IsLogOf, text_seen}
-use Rattle.gs_state.specs.Outcomes.{IsCut, IsDone}
-use Rattle.gs_state.specs.State.{Fault, Sound, Failed, Unopened, Log, State, Turn, fits, is_failed}
-use Rattle.gs_state.specs.Whole.{checkpoint_of}
+use Rattle.gs_master_spec.specs.Outcomes.{IsCut, IsDone}
+use Rattle.gs_master_spec.specs.State.{Fault, Sound, Failed, Unopened, Log, State, Turn, fits, is_failed}
+use Rattle.gs_master_spec.specs.Whole.{checkpoint_of}
 use Rattle.gs_master.specs.declared.turn.Turn.{Turn as Told}
 
 pub record MasterOf (D : Type 0) : Type 0 where
@@ -99,6 +99,6 @@ WhyNot t s e =
     ⊎ ((e ≡ refusals.BadLine) × ((replayed s.durable t.records ≡ None) ⊎ ¬ AllByRecursion (IsEntry Two) t.records)))
 
 -- The turn is done, or cut where a disk failed; or it is refused, and nothing has happened.
-abbrev pub Answers : {D : Type 0} → (D → List ℕ) → (D → ℕ) → Option ReqId → Turn → MasterOf D → Result Told Refusal → MasterOf D → Type 0
-Answers seen failures caller t old (Ok told) new = IsAnswered seen failures t old told new ⊎ ((place : ℕ) × IsAnsweredUnsure seen failures (LeavesText t.records) caller t place old told new)
-Answers seen failures caller t old (Err refusal) new = WhyNot t old.state refusal × (new ≡ old)
+abbrev pub MasterAnswers : {D : Type 0} → (D → List ℕ) → (D → ℕ) → Option ReqId → Turn → MasterOf D → Result Told Refusal → MasterOf D → Type 0
+MasterAnswers seen failures caller t old (Ok told) new = IsAnswered seen failures t old told new ⊎ ((place : ℕ) × IsAnsweredUnsure seen failures (LeavesText t.records) caller t place old told new)
+MasterAnswers seen failures caller t old (Err refusal) new = WhyNot t old.state refusal × (new ≡ old)

@@ -4,22 +4,22 @@ use Rattle.gs_base.specs.declared.config.Config.{Config}
 use Rattle.gs_base.specs.declared.refusal.Refusal.{Refusal}
 use Rattle.gs_base.specs.declared.refusal.Refusal.TheVariants as refusals
 use Rattle.gs_journal.specs.Journal.{State as Journal, Stands, Stays, checkpointed, failures_of_both}
-use Rattle.gs_guard.specs.Reading.{AreRecordsOf}
+use Rattle.gs_master_guard.specs.Reading.{AreRecordsOf}
 use Rattle.gs_journal.specs.Records.{Text, fresh}
 use Rattle.gs_journal.specs.declared.version.Version.{Version}
 use Rattle.gs_journal.specs.declared.version.Version.TheVariants as versions
-use Rattle.gs_record.specs.Plain.{PlainEntry}
-use Rattle.gs_state.specs.Applied.{records_behind, replayed}
-use Rattle.gs_state.specs.Durable.{Durable, start}
-use Rattle.gs_state.specs.Handling.{checkpoint_body, recover, restarted, written}
+use Rattle.gs_master_record.specs.Plain.{PlainEntry}
+use Rattle.gs_master_spec.specs.Applied.{records_behind, replayed}
+use Rattle.gs_master_spec.specs.Durable.{Durable, start}
+use Rattle.gs_master_spec.specs.Handling.{checkpoint_body, recover, restarted, written}
 use Rattle.gs_master.specs.Journaled.{IsLogOf}
-use Rattle.gs_state.specs.Plans.{log_of}
-use Rattle.gs_state.specs.Recorded.{durable_of}
-use Rattle.gs_master.specs.Renewing.{BreaksLast, Renews}
-use Rattle.gs_plan.specs.Renewable.{renewal_refusal}
-use Rattle.gs_master.specs.StartingOver.{IsBegun}
-use Rattle.gs_state.specs.State.{Log, Turn}
-use Rattle.gs_master.specs.Turns.{IsUnderWay, state_at}
+use Rattle.gs_master_state.specs.inner.Plans.{log_of}
+use Rattle.gs_master_state.specs.inner.Recorded.{durable_of}
+use Rattle.gs_master.specs.inner.Renewing.{BreaksLast, Renews}
+use Rattle.gs_master_plan.specs.Renewable.{renewal_refusal}
+use Rattle.gs_master.specs.inner.StartingOver.{IsBegun}
+use Rattle.gs_master_spec.specs.State.{Log, Turn}
+use Rattle.gs_master.specs.inner.Turns.{IsUnderWay, state_at}
 use Rattle.gs_master.specs.declared.event.Event.{Event}
 
 -- ---- entries

@@ -9,13 +9,13 @@ use Rattle.gs_journal.specs.declared.journal.Unopened.{Unopened}
 use Rattle.gs_journal.specs.declared.version.Version.{Version}
 use Rattle.gs_journal.specs.declared.version.Version.TheVariants as versions
 use Rattle.gs_msg.specs.declared.message.Message.{Message}
-use Rattle.gs_record.specs.Plain.{PlainEntry}
-use Rattle.gs_state.specs.Durable.{Durable}
-use Rattle.gs_state.specs.Handling.{checkpoint_body, recover}
+use Rattle.gs_master_record.specs.Plain.{PlainEntry}
+use Rattle.gs_master_spec.specs.Durable.{Durable}
+use Rattle.gs_master_spec.specs.Handling.{checkpoint_body, recover}
 use Rattle.gs_master.specs.Journaled.{IsAsSeen, IsLogOf}
 use Rattle.gs_master.specs.Masters.{MasterOf}
 use Rattle.gs_master.specs.Recovering.{Tells, WhyNotTold}
-use Rattle.gs_state.specs.State.{Log, Turn}
+use Rattle.gs_master_spec.specs.State.{Log, Turn}
 
 -- what is left of a text that tells this: one of the first version is written anew
 abbrev pub left_in : Version → Text → Durable → Text

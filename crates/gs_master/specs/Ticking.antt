@@ -7,17 +7,17 @@ use Rattle.gs_base.specs.declared.refusal.Refusal.TheVariants as refusals
 use Rattle.gs_journal.specs.Journal.{checkpointed, failures_of_both}
 use Rattle.gs_journal.specs.Records.{Text}
 use Rattle.gs_journal.specs.declared.version.Version.TheVariants.{Two}
-use Rattle.gs_record.specs.Encoding.{encoded}
-use Rattle.gs_record.specs.Plain.{Whole}
-use Rattle.gs_record.specs.Writable.{IsEntry}
-use Rattle.gs_state.specs.Applied.{replayed}
-use Rattle.gs_state.specs.Handling.{checkpoint, checkpoint_body, due, granted, pressed, proposals, tick}
+use Rattle.gs_master_record.specs.Encoding.{encoded}
+use Rattle.gs_master_record.specs.Plain.{Whole}
+use Rattle.gs_master_record.specs.Writable.{IsEntry}
+use Rattle.gs_master_spec.specs.Applied.{replayed}
+use Rattle.gs_master_spec.specs.Handling.{checkpoint, checkpoint_body, due, granted, pressed, proposals, tick}
 use Rattle.gs_master.specs.Journaled.{IsAsSeen, IsLogOf}
-use Rattle.gs_master.specs.Masters.{Answers, IsAnswered, IsAnsweredUnsure, LeavesText, MasterOf, WhyNot}
-use Rattle.gs_state.specs.Outcomes.{IsDone}
-use Rattle.gs_plan.specs.Renewable.{refusal_beforehand, renewal_refusal}
-use Rattle.gs_state.specs.State.{State, Turn, and_then, for_each, is_failed, unmoved}
-use Rattle.gs_state.specs.Whole.{checkpoint_of}
+use Rattle.gs_master.specs.Masters.{MasterAnswers, IsAnswered, IsAnsweredUnsure, LeavesText, MasterOf, WhyNot}
+use Rattle.gs_master_spec.specs.Outcomes.{IsDone}
+use Rattle.gs_master_plan.specs.Renewable.{refusal_beforehand, renewal_refusal}
+use Rattle.gs_master_spec.specs.State.{State, Turn, and_then, for_each, is_failed, unmoved}
+use Rattle.gs_master_spec.specs.Whole.{checkpoint_of}
 use Rattle.gs_master.specs.declared.turn.Turn.{Turn as Told}
 
 -- what a tick does before it writes a checkpoint
@@ -75,7 +75,7 @@ abbrev pub AnswersTick : {D : Type 0} → (D → List ℕ) → (D → ℕ) → M
 AnswersTick seen failures moment old (Ok told) new =
     let steps = pressed_all old.state moment in
     AnswersWhole seen failures moment old told new
-    ⊎ ((is_failed old.state.fault ≡ false) × (due steps.after ≡ true) × (refusal_beforehand steps.after ≡ None) × Answers seen failures None (lacking steps) old (Ok told) new)
+    ⊎ ((is_failed old.state.fault ≡ false) × (due steps.after ≡ true) × (refusal_beforehand steps.after ≡ None) × MasterAnswers seen failures None (lacking steps) old (Ok told) new)
 AnswersTick seen failures moment old (Err refusal) new = WhyNot (pressed_all old.state moment) old.state refusal × (new ≡ old)
 
 -- a checkpoint is written, or it is said why none is; or a disk failed at it; or memory is wanting, nothing is known beforehand that stands against

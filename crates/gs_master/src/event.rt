@@ -1,31 +1,40 @@
-// An event at the master, step by step.
-ghost use Rattle.std.specs.Prelude.{◌≡◌, ◌≢◌, ◌<◌, ◌≤◌, ◌++◌, ◌∷◌, [], Some, Ok, Err, true, false, OnOk, vec_len, vec_capacity};
+// An event at the master, step by step: its plans are carried out, and it may be begun anew.
+ghost use Rattle.std.specs.Prelude.{[], ◌++◌, ◌<◌, ◌∷◌, ◌≡◌, ◌≢◌, ◌≤◌, Err, false, IfErr, IfOk, map, Ok, OnOk, Some, true, vec_capacity, vec_len};
+ghost use Rattle.std.specs.List.{list_any};
 ghost use Rattle.std.specs.Ordering.{nat_cmp};
 ghost use Rattle.gs_base.specs.declared.numbers.ReqId.{ReqId};
 ghost use Rattle.gs_edit.specs.declared.edit.Edit.{Edit};
 ghost use Rattle.gs_journal.specs.Journal.{record_size};
 ghost use Rattle.gs_journal.specs.declared.version.Version.TheVariants.{Two};
-ghost use Rattle.gs_record.specs.Encoding.{encoded};
-ghost use Rattle.gs_record.specs.Plain.{plain};
-ghost use Rattle.gs_table.specs.Slots.{live};
-ghost use Rattle.gs_master.specs.Events.{Enters, EntersEdit, HasPlaces, IsAppliedOrNot, IsEncoded, KeepsBack, Makes, log_behind};
-ghost use Rattle.gs_master.specs.Turns.{IsUnderWay};
-ghost use Rattle.gs_state.specs.Plans.{log_of};
-ghost use Rattle.gs_state.specs.Recorded.{durable_of};
-ghost use Rattle.gs_state.specs.State.{fits};
-ghost use Rattle.gs_state.specs.TakingBack.{RoomForAll, StillTakeBack, all_leases_before, comes_alone};
+ghost use Rattle.gs_master.specs.inner.Events.{Enters, EntersEdit, HasPlaces, IsAppliedOrNot, IsEncoded, KeepsBack, log_behind, Makes};
+ghost use Rattle.gs_master.specs.inner.StartingOver.{BeginsAt, StartsOver};
+ghost use Rattle.gs_master.specs.inner.Turns.{ComesWithOthers, EntersAll, GoesBack, IsUnderWay, state_at, EventSteps};
+ghost use Rattle.gs_master_plan.specs.inner.Planning.{state_of};
+ghost use Rattle.gs_master_record.specs.Encoding.{encoded};
+ghost use Rattle.gs_master_record.specs.Plain.{plain};
+ghost use Rattle.gs_master_spec.specs.Applied.{is_whole_entry};
+ghost use Rattle.gs_master_state.specs.inner.Plans.{log_of, plan_of};
+ghost use Rattle.gs_master_state.specs.inner.Recorded.{durable_of};
+ghost use Rattle.gs_master_spec.specs.State.{first_said, fits, turned};
+ghost use Rattle.gs_master_state.specs.inner.TakingBack.{all_leases_before, comes_alone, RoomForAll, StillTakeBack};
+ghost use Rattle.gs_master_spec.specs.Volatile.{all_changed};
+ghost use Rattle.gs_base_table.specs.Slots.{live};
 
 use gs_base::{Refusal, ReqId};
 use gs_edit::Edit;
 use gs_journal::Record;
+use gs_master_guard::room::has_room;
+use gs_master_plan::standing::Standing;
+use gs_master_record::Entry;
+use gs_master_spec::change::Change;
+use gs_master_state::fault::Fault;
+use gs_master_state::log::Log;
+use gs_master_state::plan::Plan;
+use gs_master_state::recorded::Recorded;
+use gs_master_state::tracked::Tracked;
+use gs_master_state::undo::Undo;
 use gs_msg::Message;
 use gs_path::Path;
-use gs_record::Entry;
-use gs_state::fault::Fault;
-use gs_state::log::Log;
-use gs_state::recorded::Recorded;
-use gs_state::tracked::Tracked;
-use gs_state::undo::Undo;
 use std::alloc::{AllocError, Global};
 
 /// The master while an event lasts: what it is now, what is to be written and sent, and what takes all of it back.
@@ -61,6 +70,13 @@ impl Drop for Event {
             held_up_by: _,
         } = self;
     }
+}
+
+/// Where an event began: the journal's room, and how many messages were to be sent.
+#[derive(Clone, Copy)]
+pub(crate) struct Beginning {
+    log: Log,
+    sent: usize,
 }
 
 /// How many bytes a record takes in the journal.
@@ -197,5 +213,140 @@ impl Event {
         };
         self.keep(entry, bytes);
         Ok(None)
+    }
+
+    /// The master as the event has left it so far.
+    pub fn standing(&self) -> Standing<'_>
+        ensures { state_of result ≡ state_at self.now }
+    {
+        Standing {
+            recorded: &self.recorded,
+            memory: self.memory.memory(),
+            log: self.log,
+            fault: &self.fault,
+        }
+    }
+
+    /// Whether the journal has room for these records. None is a checkpoint.
+    pub fn fits(&self, records: &[Entry]) -> Result<bool, AllocError>
+        requires { list_any is_whole_entry (map plain records.now) ≡ false }
+        ensures { IfOk result (λ has_room. has_room ≡ fits (log_of self.now.log) (map plain records.now)) }
+    {
+        has_room(self.log, self.alloc, records)
+    }
+
+    /// Enters records, one after the other.
+    fn enter_all(&mut self, records: Vec<Entry>) -> Result<(), Refusal>
+        requires alone { list_any comes_alone (map plain records.items) ≡ false }
+        requires ready { IsUnderWay self.old }
+        ensures entered { EntersAll (map plain records.items) self.old result self.new }
+        ensures back { GoesBack self.old self.new }
+        ensures others { (self.new.memory ≡ self.old.memory) × (self.new.sent ≡ self.old.sent) × (self.new.said ≡ self.old.said) }
+    {
+        for entry in records {
+            self.enter(entry)?;
+        }
+        Ok(())
+    }
+
+    /// Makes changes, one after the other.
+    fn change_all(&mut self, changes: Vec<Change>) -> Result<(), AllocError>
+        requires ready { IsUnderWay self.old }
+        ensures changed { OnOk result (self.new.memory.now ≡ all_changed self.old.memory.now changes.items) }
+        ensures before { self.new.memory.before ≡ self.old.memory.before }
+        ensures back { GoesBack self.old self.new }
+        ensures others { self.new ≡ record self.old { memory = self.new.memory } }
+    {
+        for change in changes {
+            self.memory.change(change)?;
+        }
+        Ok(())
+    }
+
+    /// Keeps messages to be sent behind the others.
+    fn send_all(&mut self, messages: Vec<Message>) -> Result<(), AllocError>
+        ensures sent { OnOk result (self.new.sent.items ≡ self.old.sent.items ++ messages.items) }
+        ensures stays { IfErr result (λ _. self.new.sent.items ≡ self.old.sent.items) }
+        ensures others { self.new ≡ record self.old { sent = self.new.sent } }
+    {
+        let mut messages = messages;
+        self.sent.append(&mut messages)?;
+        Ok(())
+    }
+
+    /// Keeps a message to be sent behind the others.
+    pub fn send_one(&mut self, message: Message) -> Result<(), AllocError>
+        ensures sent { OnOk result (self.new.sent.items ≡ self.old.sent.items ++ message ∷ []) }
+        ensures stays { IfErr result (λ _. self.new.sent.items ≡ self.old.sent.items) }
+        ensures others { self.new ≡ record self.old { sent = self.new.sent } }
+    {
+        self.sent.push(message)?;
+        Ok(())
+    }
+
+    /// The refusal with which a message is met, unless it has met one.
+    fn say(&mut self, said: Option<Refusal>)
+        ensures { self.new ≡ record self.old { said = first_said self.old.said said } }
+    {
+        if self.said.is_none() {
+            self.said = said;
+        }
+    }
+
+    /// Does what a plan says. `Full` where the journal has no room for its records, `BadLine` where one of them doesn't fit
+    /// or can't be written. A refusal may leave it done in part, and then all of the event is taken back.
+    pub fn carry_out(&mut self, plan: Plan) -> Result<(), Refusal>
+        requires ready { IsUnderWay self.old }
+        requires together { ComesWithOthers (plan_of plan) }
+        ensures steps { EventSteps (turned (state_at self.old) (plan_of plan)) self.old result self.new }
+        ensures back { GoesBack self.old self.new }
+    {
+        let Plan {
+            records,
+            changes,
+            sent,
+            said,
+        } = plan;
+        self.enter_all(records)?;
+        self.change_all(changes)?;
+        self.send_all(sent)?;
+        self.say(said);
+        Ok(())
+    }
+}
+
+impl Beginning {
+    /// The journal's room there.
+    pub fn log(self) -> Log
+        ensures { result ≡ self.log }
+    {
+        self.log
+    }
+}
+
+impl Event {
+    /// Where it is now, to go back there.
+    pub fn beginning(&self) -> Beginning
+        ensures { BeginsAt result self.now }
+    {
+        Beginning {
+            log: self.log,
+            sent: self.sent.len(),
+        }
+    }
+
+    /// Takes back all that was done since. It takes no memory.
+    pub fn start_over(&mut self, beginning: Beginning)
+        requires { RoomForAll self.old.recorded self.old.undos.items }
+        ensures { StartsOver beginning self.old self.new }
+    {
+        let undos = std::mem::replace(&mut self.undos, Vec::new(self.alloc));
+        self.recorded.take_all_back(undos);
+        self.memory.take_back();
+        self.entries.clear();
+        self.written.clear();
+        self.sent.truncate(beginning.sent);
+        self.log = beginning.log;
+        self.said = None;
     }
 }

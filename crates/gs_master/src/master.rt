@@ -1,14 +1,16 @@
+// The whole master: messages, ticks and checkpoints.
 ghost use Rattle.std.specs.Prelude.{◌≡◌};
+ghost use Rattle.gs_journal.specs.Faults.{armed};
 ghost use Rattle.gs_journal.specs.Records.{standing};
-ghost use Rattle.gs_state.specs.Handling.{handle};
-ghost use Rattle.gs_master.specs.Masters.{Answers};
-ghost use Rattle.gs_state.specs.Outcomes.{caller_of};
+ghost use Rattle.gs_master.specs.Masters.{MasterAnswers, with_journal};
+ghost use Rattle.gs_master.specs.Ticking.{AnswersCheckpoint, AnswersTick};
+ghost use Rattle.gs_master_spec.specs.Handling.{handle};
+ghost use Rattle.gs_master_spec.specs.Outcomes.{caller_of};
 
 use crate::event::Event;
-use crate::journaled::caller_of;
-use crate::turn::Turn;
+use crate::turn::{Turn, caller_of};
 use gs_base::{Config, Moment, Refusal};
-use gs_journal::{Disk, Journal};
+use gs_journal::{Disk, FailingDisk, Fault, Journal};
 use gs_msg::Message;
 use std::marker::Model;
 
@@ -35,14 +37,14 @@ impl<D: Disk + Drop> Drop for Master<D> {
 impl<D: Disk> Model for Master<D> {
     ghost use Rattle.gs_master.specs.Finishing.{IsAtRest};
     ghost use Rattle.gs_master.specs.Masters.{MasterOf, IsHeld};
-    ghost use Rattle.gs_master.specs.Turns.{state_at};
+    ghost use Rattle.gs_master.specs.inner.Turns.{state_at};
     ghost use Rattle.std.specs.Coded.{codes};
     ghost use Rattle.std.specs.FinMap as fin;
     ghost use Rattle.gs_base.specs.contracts.numbers.ClientId as clients;
     ghost use Rattle.gs_edit.specs.View.{coded_names};
-    ghost use Rattle.gs_state.specs.Codes.{coded_volatile};
-    ghost use Rattle.gs_state.specs.contracts.asking.Prepared as prepared;
-    ghost use Rattle.gs_state.specs.contracts.reply.KeptReply as replies;
+    ghost use Rattle.gs_master_state.specs.inner.Codes.{coded_volatile};
+    ghost use Rattle.gs_master_spec.specs.contracts.asking.Prepared as prepared;
+    ghost use Rattle.gs_master_spec.specs.contracts.reply.KeptReply as replies;
 
     ghost Value = { MasterOf D };
 
@@ -60,7 +62,7 @@ impl<D: Disk> Master<D> {
     /// A refusal changes nothing: `Memory` where memory is wanting, `Full` where the journal has no room for all that is to be
     /// recorded, `BadLine` where something of it can't be.
     pub fn handle(&mut self, message: Message, moment: Moment) -> Result<Turn, Refusal>
-        ensures { Answers D.seen D.failures (caller_of message.body) (handle self.old.config self.old.state message moment) self.old result self.new }
+        ensures { MasterAnswers D.seen D.failures (caller_of message.body) (handle self.old.config self.old.state message moment) self.old result self.new }
     {
         let caller = caller_of(&message.body);
         let beginning = self.event.beginning();
@@ -80,5 +82,74 @@ impl<D: Disk> Master<D> {
             event: _,
         } = self;
         journal.into_disks()
+    }
+
+    /// A tick of the master's clock, at this moment, in seconds. A view that is proposed is settled by one yes; without a yes the call
+    /// that waits for it is refused, and the chunk moves on. Each lease is granted again; and where 4,096 records stand behind the last checkpoint another is written, if nothing
+    /// stands against it; where memory is wanting for that it says `Memory`, and all else is done. Once a disk has failed it says `Device` and
+    /// does nothing.
+    ///
+    /// A refusal changes nothing, as in `handle`.
+    pub fn tick(&mut self, moment: Moment) -> Result<Turn, Refusal>
+        ensures { AnswersTick D.seen D.failures moment self.old result self.new }
+    {
+        if self.event.fault.is_failed() {
+            return Ok(Turn::refused(self.event.alloc, Refusal::Device));
+        }
+        let beginning = self.event.beginning();
+        if let Err(refusal) = self.event.tick(moment) {
+            self.event.start_over(beginning);
+            return Err(refusal);
+        }
+        match self.event.due_renewal(&self.journal) {
+            Ok(Some(renewal)) => Ok(
+                self.event
+                    .finish_renewed(&mut self.journal, beginning, renewal),
+            ),
+            Ok(None) => self
+                .event
+                .finish(&mut self.journal, beginning, None, Ok(())),
+            Err(_) => {
+                self.event.lack();
+                self.event
+                    .finish(&mut self.journal, beginning, None, Ok(()))
+            }
+        }
+    }
+
+    /// Writes a checkpoint, which stands in the place of all records. It says `Device` once a disk has failed, `Preparing` while
+    /// an upgrade is prepared, `Exhausted` where no generation of the journal is left, `Full` where a disk has no room for it.
+    ///
+    /// `Memory` changes nothing.
+    pub fn checkpoint(&mut self) -> Result<Turn, Refusal>
+        ensures { AnswersCheckpoint D.seen D.failures self.old result self.new }
+    {
+        let beginning = self.event.beginning();
+        match self.event.standing().renewal(&self.journal) {
+            Ok(renewal) => Ok(
+                self.event
+                    .finish_renewed(&mut self.journal, beginning, renewal),
+            ),
+            Err(refusal) => match refusal {
+                Refusal::Memory => Err(refusal),
+                _ => Ok(Turn::refused(self.event.alloc, refusal)),
+            },
+        }
+    }
+}
+
+impl<D: Disk> Master<FailingDisk<D>> {
+    /// Gives the first disk of the journal a fault in place of the one that it has.
+    pub fn arm_first(&mut self, fault: Fault)
+        ensures { self.new ≡ with_journal self.old (record self.old.journal { first = armed self.old.journal.first fault }) }
+    {
+        self.journal.arm_first(fault);
+    }
+
+    /// Gives the second disk of the journal a fault in place of the one that it has.
+    pub fn arm_second(&mut self, fault: Fault)
+        ensures { self.new ≡ with_journal self.old (record self.old.journal { second = armed self.old.journal.second fault }) }
+    {
+        self.journal.arm_second(fault);
     }
 }

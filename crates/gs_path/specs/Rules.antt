@@ -33,9 +33,9 @@ abbrev pub parse_hidden : List ℕ → Result Path Refusal
 parse_hidden text = read_by is_stored text
 
 -- what a reader answers: what is expected, and Memory alone in its place
-abbrev pub Gives : {A : Type 0} → Result A Refusal → Result A Refusal → Type 0
-Gives expected (Ok x) = expected ≡ Ok x
-Gives expected (Err e) = (expected ≡ Err e) ⊎ (e ≡ Memory)
+abbrev pub ReadsAs : {A : Type 0} → Result A Refusal → Result A Refusal → Type 0
+ReadsAs expected (Ok x) = expected ≡ Ok x
+ReadsAs expected (Err e) = (expected ≡ Err e) ⊎ (e ≡ Memory)
 
 two : parse (codes "/a/b") ≡ Ok (codes "a" ∷ codes "b" ∷ [])
 two = refl

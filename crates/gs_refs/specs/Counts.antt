@@ -83,14 +83,14 @@ abbrev pub unlisted : Counts → ℕ → Result Counts Refusal
 unlisted m handle = unlisted_from m handle (fin.get m handle)
 
 -- an edit that takes no memory: what is expected, and unchanged at a refusal
-abbrev pub Follows : Result Counts Refusal → Result (Unit {0}) Refusal → Counts → Counts → Type 0
-Follows expected (Ok _) old new = expected ≡ Ok new
-Follows expected (Err e) old new = (expected ≡ Err e) × (new ≡ old)
+abbrev pub CountsDo : Result Counts Refusal → Result (Unit {0}) Refusal → Counts → Counts → Type 0
+CountsDo expected (Ok _) old new = expected ≡ Ok new
+CountsDo expected (Err e) old new = (expected ≡ Err e) × (new ≡ old)
 
 -- an edit that may be refused memory too
-abbrev pub FollowsOrMemory : Result Counts Refusal → Result (Unit {0}) Refusal → Counts → Counts → Type 0
-FollowsOrMemory expected (Ok _) old new = expected ≡ Ok new
-FollowsOrMemory expected (Err e) old new = ((expected ≡ Err e) ⊎ (e ≡ Memory)) × (new ≡ old)
+abbrev pub CountsFollow : Result Counts Refusal → Result (Unit {0}) Refusal → Counts → Counts → Type 0
+CountsFollow expected (Ok _) old new = expected ≡ Ok new
+CountsFollow expected (Err e) old new = ((expected ≡ Err e) ⊎ (e ≡ Memory)) × (new ≡ old)
 
 -- the listed handles without references, ascending
 abbrev pub without_references : List (ℕ × ℕ) → List ℕ

@@ -1,6 +1,6 @@
 ghost use Rattle.std.specs.Prelude.{◌≡◌, IfOk, IsSome, OnOk, OnErr, Some, None, Ok, MatchBool, is_none, is_ok, true};
 ghost use Rattle.std.specs.FinMap as fin;
-ghost use Rattle.gs_refs.specs.Counts.{raised, lowered, raised_listed, raised_each, lowered_each, has_count, IsCountOf, is_zero, unlisted, taken_each, put_each, is_at_zero, ascends, Follows, FollowsOrMemory, orphans, Counts};
+ghost use Rattle.gs_refs.specs.Counts.{raised, lowered, raised_listed, raised_each, lowered_each, has_count, IsCountOf, is_zero, unlisted, taken_each, put_each, is_at_zero, ascends, CountsDo, CountsFollow, orphans, Counts};
 ghost use Rattle.std.specs.List.{list_all};
 
 use gs_base::{Handle, Refusal};
@@ -53,10 +53,10 @@ impl Refs {
 
     /// One more reference to a chunk, which gets listed if it isn't. `Exhausted` after the last count.
     pub fn raise(&mut self, handle: Handle) -> Result<(), Refusal>
-        ensures edit { FollowsOrMemory (raised self.old handle) result self.old self.new }
+        ensures edit { CountsFollow (raised self.old handle) result self.old self.new }
 
         // A chunk that is listed takes no memory.
-        ensures listed { IsSome (fin.get self.old handle) → Follows (raised self.old handle) result self.old self.new }
+        ensures listed { IsSome (fin.get self.old handle) → CountsDo (raised self.old handle) result self.old self.new }
     {
         if self.count(handle).is_none() {
             self.write(handle, 1)?;
@@ -67,7 +67,7 @@ impl Refs {
 
     /// One reference less to a chunk, which stays listed. `BadLine` if it has none or isn't listed. It takes no memory.
     pub fn lower(&mut self, handle: Handle) -> Result<(), Refusal>
-        ensures edit { Follows (lowered self.old handle) result self.old self.new }
+        ensures edit { CountsDo (lowered self.old handle) result self.old self.new }
         ensures count { IfOk result (λ _. has_count (fin.get self.old handle) ≡ true) }
     {
         match self.count(handle) {
@@ -79,7 +79,7 @@ impl Refs {
 
     /// Lists a chunk of one reference no more. `BadLine` where it has another count or isn't listed. It takes no memory.
     pub fn unlist(&mut self, handle: Handle) -> Result<(), Refusal>
-        ensures { Follows (unlisted self.old handle) result self.old self.new }
+        ensures { CountsDo (unlisted self.old handle) result self.old self.new }
     {
         if self.count(handle) != Some(1) {
             return Err(Refusal::BadLine);
@@ -91,7 +91,7 @@ impl Refs {
     /// One more reference to each chunk of a list, as often as it stands there. `BadLine` where one isn't listed,
     /// `Exhausted` after the last count: what the first chunk that can't have it is refused. It takes no memory.
     pub fn raise_each(&mut self, handles: &[Handle]) -> Result<(), Refusal>
-        ensures edit { Follows (raised_each self.old handles.now) result self.old self.new }
+        ensures edit { CountsDo (raised_each self.old handles.now) result self.old self.new }
         ensures back { IfOk result (λ _. lowered_each self.new handles.now ≡ Ok self.old) }
     {
         for (index, handle) in handles.iter().enumerate() {
@@ -109,7 +109,7 @@ impl Refs {
     /// One reference less to each chunk of a list, as often as it stands there. Each stays listed. `BadLine` where one has
     /// none left or isn't listed. It takes no memory.
     pub fn lower_each(&mut self, handles: &[Handle]) -> Result<(), Refusal>
-        ensures edit { Follows (lowered_each self.old handles.now) result self.old self.new }
+        ensures edit { CountsDo (lowered_each self.old handles.now) result self.old self.new }
         ensures back { IfOk result (λ _. raised_each self.new handles.now ≡ Ok self.old) }
     {
         for (index, handle) in handles.iter().enumerate() {
@@ -127,7 +127,7 @@ impl Refs {
     /// Lists the chunks of a list no more. `BadLine` unless their handles rise and each is listed without references. It
     /// takes no memory.
     pub fn take_out_each(&mut self, handles: &[Handle]) -> Result<(), Refusal>
-        ensures { Follows (taken_each self.old handles.now) result self.old self.new }
+        ensures { CountsDo (taken_each self.old handles.now) result self.old self.new }
     {
         if !ascend(handles) || !self.each_is_at_zero(handles) {
             return Err(Refusal::BadLine);
@@ -141,7 +141,7 @@ impl Refs {
     /// Lists the chunks of a list without references. `BadLine` unless their handles rise and none is listed. It copies
     /// the counts.
     pub fn put_back_each(&mut self, alloc: Global, handles: &[Handle]) -> Result<(), Refusal>
-        ensures { FollowsOrMemory (put_each self.old handles.now) result self.old self.new }
+        ensures { CountsFollow (put_each self.old handles.now) result self.old self.new }
     {
         if !ascend(handles) || !self.lists_none(handles) {
             return Err(Refusal::BadLine);
@@ -230,7 +230,7 @@ impl Refs {
 
     /// One more reference to a listed chunk.
     fn raise_listed(&mut self, handle: Handle) -> Result<(), Refusal>
-        ensures { Follows (raised_listed self.old handle) result self.old self.new }
+        ensures { CountsDo (raised_listed self.old handle) result self.old self.new }
     {
         match self.count(handle) {
             None => return Err(Refusal::BadLine),

@@ -6,8 +6,8 @@ use Rattle.std.proofs.lemmas.List.FromFn.{length-map-range_with_len}
 use Rattle.gs_base.specs.declared.refusal.Refusal.{Refusal}
 use Rattle.gs_base.specs.declared.refusal.Refusal.TheVariants as refusals
 use Rattle.gs_block.specs.Stored.{Stored, count_of}
-use Rattle.gs_block.specs.Follows.{Follows, Does, HandsBack, Refuses}
-use Rattle.gs_block.specs.declared.refused.Refused.{Refused}
+use Rattle.gs_base.specs.Calls.{Follows, Does, HandsBack, Refuses}
+use Rattle.gs_base.specs.declared.refused.Refused.{Refused}
 use Rattle.gs_block.specs.Images.{Images, missing, byte_before, bytes_before, copies_from}
 use Rattle.gs_block.specs.Inverses as inverses
 use Rattle.gs_replica.specs.declared.live.ReplicaInverse.{ReplicaInverse}

@@ -1,6 +1,6 @@
 ghost use Rattle.std.specs.Prelude.{◌≡◌, ◌↔◌, IsTrue, IfOk};
 ghost use Rattle.gs_base.specs.declared.numbers.Stamp.{Stamp};
-ghost use Rattle.gs_block.specs.Follows.{Foretells};
+ghost use Rattle.gs_base.specs.Calls.{Foretells};
 ghost use Rattle.gs_replica.specs.Copies.{of_image, of_sealed};
 
 use crate::done::DoneTable;

@@ -4,7 +4,7 @@ ghost use Rattle.gs_base.specs.declared.numbers.Stamp.{Stamp};
 ghost use Rattle.gs_block.specs.Stored.{are_digests};
 ghost use Rattle.gs_block.specs.Edits as blocks;
 ghost use Rattle.gs_block.specs.Kept.{KeepsIntact};
-ghost use Rattle.gs_block.specs.Follows.{Follows, Does, Foretells, Answers, Makes, Refuses, HandsBack, MakesOf};
+ghost use Rattle.gs_base.specs.Calls.{Follows, Does, Foretells, Answers, Makes, Refuses, HandsBack, MakesOf};
 ghost use Rattle.gs_replica.specs.Edits.{fresh, copied, foreseen, edited};
 ghost use Rattle.gs_replica.specs.Seals.{State, with_seal, holding, seal, unseal, apply, undo, promise, damage, roll_back, sealed_at, images_of, sealed_length};
 ghost use Rattle.gs_replica.specs.Copies.{image_of, image, sealed_image, of_image, of_sealed};
@@ -18,8 +18,8 @@ use crate::prepared::PreparedSeal;
 use crate::seal::{
     Seal, apply_sealed, begin, damage_sealed, image_bytes, sealed_image, undo_sealed,
 };
-use gs_base::{ClientId, Refusal, ReqId, Stamp};
-use gs_block::{Digest, Refused, Sizes};
+use gs_base::{ClientId, Refusal, Refused, ReqId, Stamp};
+use gs_block::{Digest, Sizes};
 use std::alloc::{AllocError, Global};
 use std::marker::Model;
 

@@ -3,7 +3,7 @@ ghost use Rattle.gs_block.specs.Stored.{IsStored};
 ghost use Rattle.gs_replica.specs.Edits.{start_of, end_of};
 ghost use Rattle.gs_replica.specs.Edits as edits;
 ghost use Rattle.gs_block.specs.Kept.{KeepsIntact};
-ghost use Rattle.gs_block.specs.Follows.{Follows, Does, Makes, Refuses};
+ghost use Rattle.gs_base.specs.Calls.{Follows, Does, Makes, Refuses};
 ghost use Rattle.gs_replica.specs.Seals.{images_of, sealed_length, apply, undo, damage, holding};
 ghost use Rattle.gs_replica.specs.Copies.{sealed_image_of};
 ghost use Rattle.gs_replica.specs.View.{seen, state_of, Belongs, Seals};

@@ -11,7 +11,7 @@ use Rattle.gs_server.specs.declared.turn.KeptRefusal.{KeptRefusal}
 use Rattle.gs_server.specs.declared.turn.Turn.{Turn}
 use Rattle.gs_server.specs.Places.{Part, sending}
 use Rattle.gs_server.specs.Edits.{done, refused_once, repeated, is_known_of_all, unless_kept, unless_done}
-use Rattle.gs_server.specs.Servers.{Server, Step, Steps, step_of, here_of, place_of}
+use Rattle.gs_server.specs.Servers.{Server, Step, ServerSteps, step_of, here_of, place_of}
 use Rattle.gs_server.specs.inner.Answering.{refused_once_by, repeated_by}
 use Rattle.gs_server.specs.inner.Again.{again, again_as_refused, StepsAgain}
 
@@ -27,12 +27,12 @@ module _ (handle : ℕ) (req : ReqId) (moment : Moment) (s : Server) where
   repeat_step outcome false = refl
 
   -- one test after the other
-  met : (test : Bool) (x : Step) (y : Option Step) (p q : Part) (result : Result Turn Refusal) → x ≡ steps_of p → (StepsAgain y (Some result) s → Steps (steps_of q) result s s) →
-      StepsAgain (cond test (Some x) y) (Some result) s → Steps (steps_of (cond test p q)) result s s
-  met true x y p q result is rest steps = subst (λ step. Steps step result s s) is steps
+  met : (test : Bool) (x : Step) (y : Option Step) (p q : Part) (result : Result Turn Refusal) → x ≡ steps_of p → (StepsAgain y (Some result) s → ServerSteps (steps_of q) result s s) →
+      StepsAgain (cond test (Some x) y) (Some result) s → ServerSteps (steps_of (cond test p q)) result s s
+  met true x y p q result is rest steps = subst (λ step. ServerSteps step result s s) is steps
   met false x y p q result is rest steps = rest steps
 
-  kept_met : (kept : Option KeptRefusal) (part : Part) (result : Result Turn Refusal) → StepsAgain (again_as_refused req s kept) (Some result) s → Steps (steps_of (unless_kept (here_of s moment handle (Some req)) req kept part)) result s s
+  kept_met : (kept : Option KeptRefusal) (part : Part) (result : Result Turn Refusal) → StepsAgain (again_as_refused req s kept) (Some result) s → ServerSteps (steps_of (unless_kept (here_of s moment handle (Some req)) req kept part)) result s s
   kept_met None part result steps = elim steps [ ]
   kept_met (Some kept) part result steps =
       let h = here_of s moment handle (Some req) in
@@ -40,7 +40,7 @@ module _ (handle : ℕ) (req : ReqId) (moment : Moment) (s : Server) where
       (met (req.number == kept.number) _ None (refused_once h req kept.refusal) part result (once_step kept.refusal) (λ never. elim never [ ])) steps
 
   done_met : (kept : Option KeptRefusal) (last : Option Done) (part : Part) (result : Result Turn Refusal) → StepsAgain (again req (is_known_of_all req (place_of handle s).slot (place_of handle s).lease) s kept last) (Some result) s →
-      Steps (steps_of (unless_done (here_of s moment handle (Some req)) (place_of handle s) req last (unless_kept (here_of s moment handle (Some req)) req kept part))) result s s
+      ServerSteps (steps_of (unless_done (here_of s moment handle (Some req)) (place_of handle s) req last (unless_kept (here_of s moment handle (Some req)) req kept part))) result s s
   done_met kept None part result steps = kept_met kept part result steps
   done_met kept (Some last) part result steps =
       let h = here_of s moment handle (Some req) in
@@ -71,11 +71,11 @@ module _ (handle : ℕ) (req : ReqId) (moment : Moment) (s : Server) where
 
 pub heard_before : (handle : ℕ) (req : ReqId) (moment : Moment) (s : Server) (kept : Option KeptRefusal) (last : Option Done) (part : Part) (result : Result Turn Refusal) →
     StepsAgain (again req (is_known_of_all req (place_of handle s).slot (place_of handle s).lease) s kept last) (Some result) s →
-    Steps (step_of handle (Some req) (unless_done (here_of s moment handle (Some req)) (place_of handle s) req last (unless_kept (here_of s moment handle (Some req)) req kept part)) s) result s s
+    ServerSteps (step_of handle (Some req) (unless_done (here_of s moment handle (Some req)) (place_of handle s) req last (unless_kept (here_of s moment handle (Some req)) req kept part)) s) result s s
 heard_before handle req moment s kept last part result steps = done_met handle req moment s kept last part result steps
 
 pub not_heard : (handle : ℕ) (req : ReqId) (moment : Moment) (s : Server) (known : Bool) (kept : Option KeptRefusal) (last : Option Done) (part : Part) (result : Result Turn Refusal) (after : Server) →
-    StepsAgain (again req known s kept last) None s → Steps (step_of handle (Some req) part s) result s after →
-    Steps (step_of handle (Some req) (unless_done (here_of s moment handle (Some req)) (place_of handle s) req last (unless_kept (here_of s moment handle (Some req)) req kept part)) s) result s after
+    StepsAgain (again req known s kept last) None s → ServerSteps (step_of handle (Some req) part s) result s after →
+    ServerSteps (step_of handle (Some req) (unless_done (here_of s moment handle (Some req)) (place_of handle s) req last (unless_kept (here_of s moment handle (Some req)) req kept part)) s) result s after
 not_heard handle req moment s known kept last part result after steps does =
-    subst (λ p. Steps (step_of handle (Some req) p s) result s after) (sym (done_unmet handle req moment s known kept last part steps)) does
+    subst (λ p. ServerSteps (step_of handle (Some req) p s) result s after) (sym (done_unmet handle req moment s known kept last part steps)) does

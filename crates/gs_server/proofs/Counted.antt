@@ -24,35 +24,35 @@ use Rattle.gs_store.specs.Serving.{length_in, done_in}
 use Rattle.gs_store.specs.Serving as serving
 use Rattle.gs_store.specs.Stores.{put_slot}
 use Rattle.gs_store.specs.Whole.{LiveUnder}
-use Rattle.gs_primary.specs.Numbering.{outcome_at}
+use Rattle.gs_server_lease.specs.Numbering.{outcome_at}
 use Rattle.gs_server.specs.declared.applying.Numbered.{Numbered}
-use Rattle.gs_primary.specs.declared.lease.Open.{Open}
+use Rattle.gs_server_lease.specs.declared.lease.Open.{Open}
 use Rattle.gs_server.specs.declared.turn.Turn.{Turn}
-use Rattle.gs_primary.specs.Leases.{Lease}
+use Rattle.gs_server_lease.specs.Leases.{PrimaryLease}
 use Rattle.gs_server.specs.Places.{Part, Place, Here}
 use Rattle.gs_server.specs.Edits.{bytes_of, applied_bytes, has_bytes, opened, last_count, refused_edit, numbers, numbers_if, numbers_as}
-use Rattle.gs_server.specs.Servers.{Server, Step, Steps, step_of, here_of, place_of, store_of}
+use Rattle.gs_server.specs.Servers.{Server, Step, ServerSteps, step_of, here_of, place_of, store_of}
 use Rattle.gs_server.specs.inner.Answering.{kept_by}
 use Rattle.gs_server.specs.inner.Applying.{leaving}
 use Rattle.gs_server.specs.inner.Numbering.{opened_at, opened_by, numbered_with, numbered_by, or_exhausted, refused_at_last}
 use Rattle.gs_server.proofs.Made.{inside}
 
 -- as the definition has it, but for the test of the last count
-abbrev counted : Here → Place → Lease → ℕ → Bool → Open → Result Slot Refusal → Part
+abbrev counted : Here → Place → PrimaryLease → ℕ → Bool → Open → Result Slot Refusal → Part
 counted h p l count last edit (Err e) = refused_edit h p edit.req e
 counted h p l count last edit (Ok s) = cond last (refused_edit h p edit.req refusals.Exhausted) (numbers h s l (count + 1) edit)
 
-counted_is : (h : Here) (p : Place) (l : Lease) (count : ℕ) (last : Bool) (edit : Open) (r : Result Slot Refusal) → (count == last_count) ≡ last → counted h p l count last edit r ≡ numbers_if h p l count edit r
+counted_is : (h : Here) (p : Place) (l : PrimaryLease) (count : ℕ) (last : Bool) (edit : Open) (r : Result Slot Refusal) → (count == last_count) ≡ last → counted h p l count last edit r ≡ numbers_if h p l count edit r
 counted_is h p l count last edit (Err e) is = refl
 counted_is h p l count last edit (Ok s) is = ap (λ b. cond b (refused_edit h p edit.req refusals.Exhausted) (numbers h s l (count + 1) edit)) (sym is)
 
 -- the step of an edit that is numbered, and of one for which no number is left
-opening_step : (handle : ℕ) (l : Lease) (edit : Open) (moment : Moment) (old : Server) (count : ℕ) (r : Result Slot Refusal) →
+opening_step : (handle : ℕ) (l : PrimaryLease) (edit : Open) (moment : Moment) (old : Server) (count : ℕ) (r : Result Slot Refusal) →
     opened_by handle l (count + 1) edit (leaving edit.req (has_bytes edit.op) (put_slot handle (store_of old) r)) old ≡ step_of handle (Some edit.req) (counted (here_of old moment handle (Some edit.req)) (place_of handle old) l count false edit r) old
 opening_step handle l edit moment old count (Ok s) = refl
 opening_step handle l edit moment old count (Err e) = refl
 
-last_step : (handle : ℕ) (l : Lease) (edit : Open) (moment : Moment) (old : Server) (count : ℕ) (r : Result Slot Refusal) →
+last_step : (handle : ℕ) (l : PrimaryLease) (edit : Open) (moment : Moment) (old : Server) (count : ℕ) (r : Result Slot Refusal) →
     kept_by handle edit.req (or_exhausted r) old ≡ step_of handle (Some edit.req) (counted (here_of old moment handle (Some edit.req)) (place_of handle old) l count true edit r) old
 last_step handle l edit moment old count (Ok s) = refl
 last_step handle l edit moment old count (Err e) = refl
@@ -75,11 +75,11 @@ opened_is req op bytes live applied = λ i. record { req = req; op = op; bytes =
 abbrev number_of : Stamp → ℕ → ReqId → Op → Numbered
 number_of stamp number req op = record { stamp = stamp; number = number; req = req; op = op }
 
-abbrev applied_as : ℕ → Lease → Open → Stamp → ℕ → List ℕ → Server → Step
+abbrev applied_as : ℕ → PrimaryLease → Open → Stamp → ℕ → List ℕ → Server → Step
 applied_as handle l edit stamp number bytes old =
     opened_by handle l number edit (leaving edit.req (has_bytes edit.op) (put_slot handle (store_of old) (serving.apply stamp number edit.req (in_replica edit.op) bytes (place_of handle old).slot))) old
 
-numbered_step : (handle : ℕ) (l : Lease) (stamp : Stamp) (number : ℕ) (req : ReqId) (op : Op) (bytes : List ℕ) (live : Live) (moment : Moment) (old : Server) →
+numbered_step : (handle : ℕ) (l : PrimaryLease) (stamp : Stamp) (number : ℕ) (req : ReqId) (op : Op) (bytes : List ℕ) (live : Live) (moment : Moment) (old : Server) →
     bytes_of op None (pushed req old.dropped.buffer) ≡ Some bytes → (place_of handle old).slot.live ≡ Some live → stamp ≡ l.grant.stamp → number ≡ live.replica.held.count + 1 → (live.replica.held.count == last_count) ≡ false →
     numbered_by handle l (number_of stamp number req op) old ≡ step_of handle (Some req) (numbers_as (here_of old moment handle (Some req)) (place_of handle old) live l (opened req op bytes live)) old
 numbered_step handle l stamp number req op bytes live moment old found lives same next not_last =
@@ -116,12 +116,12 @@ same_stamp a b is =
     let version : a.version ≡ b.version = same_number a.version b.version (both_second (a.epoch == b.epoch) (a.version == b.version) is) in
     λ i. record { epoch = epoch i; version = version i }
 
-pub numbered_next : (handle : ℕ) (l : Lease) (stamp : Stamp) (number : ℕ) (req : ReqId) (op : Op) (bytes : List ℕ) (live : Live) (moment : Moment) (old after : Server) (result : Result Turn Refusal) →
+pub numbered_next : (handle : ℕ) (l : PrimaryLease) (stamp : Stamp) (number : ℕ) (req : ReqId) (op : Op) (bytes : List ℕ) (live : Live) (moment : Moment) (old after : Server) (result : Result Turn Refusal) →
     bytes_of op None (pushed req old.dropped.buffer) ≡ Some bytes → (place_of handle old).slot.live ≡ Some live → is_same stamp l.grant.stamp ≡ true → number ≡ live.replica.held.count + 1 → number < 2 ^ 64 →
-    Steps (numbered_by handle l (number_of stamp number req op) old) result old after →
-    Steps (step_of handle (Some req) (numbers_as (here_of old moment handle (Some req)) (place_of handle old) live l (opened req op bytes live)) old) result old after
+    ServerSteps (numbered_by handle l (number_of stamp number req op) old) result old after →
+    ServerSteps (step_of handle (Some req) (numbers_as (here_of old moment handle (Some req)) (place_of handle old) live l (opened req op bytes live)) old) result old after
 numbered_next handle l stamp number req op bytes live moment old after result found lives same next fits steps =
-    subst (λ step. Steps step result old after) (numbered_step handle l stamp number req op bytes live moment old found lives (same_stamp stamp l.grant.stamp same) next (not_last live.replica.held.count number next fits)) steps
+    subst (λ step. ServerSteps step result old after) (numbered_step handle l stamp number req op bytes live moment old found lives (same_stamp stamp l.grant.stamp same) next (not_last live.replica.held.count number next fits)) steps
 
 -- where none is left the chunk alone decides
 edited_step : (s : Slot) (bad : Option ℕ) (r : Held) (req : ReqId) (op : ReplicaOp) (seal : Option Sealed) (m : Result Stored Refusal) → or_exhausted (with_live s bad (with_seal seal (with_edit r req op m))) ≡ or_exhausted m
@@ -151,7 +151,7 @@ chunk_decides stamp req op bytes s live same above =
 promise_is : (promise : Stamp) (o : Option Live) (live : Live) → o ≡ Some live → LiveUnder promise o → live.replica.held.promise ≡ promise
 promise_is promise o live is under = subst (LiveUnder promise) is under
 
-exhausted_step : (handle : ℕ) (l : Lease) (req : ReqId) (op : Op) (bytes : List ℕ) (live : Live) (moment : Moment) (old : Server) →
+exhausted_step : (handle : ℕ) (l : PrimaryLease) (req : ReqId) (op : Op) (bytes : List ℕ) (live : Live) (moment : Moment) (old : Server) →
     bytes_of op None (pushed req old.dropped.buffer) ≡ Some bytes → (place_of handle old).slot.live ≡ Some live → LiveUnder (place_of handle old).slot.promise (place_of handle old).slot.live →
     is_same l.grant.stamp (place_of handle old).slot.promise ≡ true → is_old req.number (done_in (place_of handle old).slot.live req.client.0) ≡ false → (live.replica.held.count == last_count) ≡ true →
     kept_by handle req (refused_at_last op (place_of handle old).slot.live (bytes_of op None (pushed req old.dropped.buffer))) old ≡ step_of handle (Some req) (numbers_as (here_of old moment handle (Some req)) (place_of handle old) live l (opened req op bytes live)) old
@@ -173,10 +173,10 @@ exhausted_step handle l req op bytes live moment old found lives under promised 
 at_last : (count : ℕ) → count < 2 ^ 64 → (count + 1 < 2 ^ 64 → ⊥) → (count == last_count) ≡ true
 at_last count fits over = grind (arith, nat_tests)
 
-pub exhausted : (handle : ℕ) (l : Lease) (req : ReqId) (op : Op) (bytes : List ℕ) (live : Live) (moment : Moment) (old after : Server) (result : Result Turn Refusal) →
+pub exhausted : (handle : ℕ) (l : PrimaryLease) (req : ReqId) (op : Op) (bytes : List ℕ) (live : Live) (moment : Moment) (old after : Server) (result : Result Turn Refusal) →
     bytes_of op None (pushed req old.dropped.buffer) ≡ Some bytes → (place_of handle old).slot.live ≡ Some live → LiveUnder (place_of handle old).slot.promise (place_of handle old).slot.live →
     is_same l.grant.stamp (place_of handle old).slot.promise ≡ true → is_old req.number (done_in (place_of handle old).slot.live req.client.0) ≡ false → live.replica.held.count < 2 ^ 64 → (live.replica.held.count + 1 < 2 ^ 64 → ⊥) →
-    Steps (kept_by handle req (refused_at_last op (place_of handle old).slot.live (bytes_of op None (pushed req old.dropped.buffer))) old) result old after →
-    Steps (step_of handle (Some req) (numbers_as (here_of old moment handle (Some req)) (place_of handle old) live l (opened req op bytes live)) old) result old after
+    ServerSteps (kept_by handle req (refused_at_last op (place_of handle old).slot.live (bytes_of op None (pushed req old.dropped.buffer))) old) result old after →
+    ServerSteps (step_of handle (Some req) (numbers_as (here_of old moment handle (Some req)) (place_of handle old) live l (opened req op bytes live)) old) result old after
 exhausted handle l req op bytes live moment old after result found lives under promised above fits over steps =
-    subst (λ step. Steps step result old after) (exhausted_step handle l req op bytes live moment old found lives under promised above (at_last live.replica.held.count fits over)) steps
+    subst (λ step. ServerSteps step result old after) (exhausted_step handle l req op bytes live moment old found lives under promised above (at_last live.replica.held.count fits over)) steps

@@ -8,7 +8,7 @@ use Rattle.gs_base.specs.declared.numbers.ReqId.{ReqId}
 use Rattle.gs_base.specs.Stamps.{is_same}
 use Rattle.gs_base.specs.declared.refusal.Refusal.{Refusal}
 use Rattle.gs_base.specs.declared.refusal.Refusal.TheVariants as refusals
-use Rattle.gs_block.specs.Follows.{Follows}
+use Rattle.gs_base.specs.Calls.{Follows}
 use Rattle.gs_msg.specs.declared.node.NodeId.{NodeId}
 use Rattle.gs_msg.specs.declared.op.Op.{Op}
 use Rattle.gs_msg.specs.declared.body.Body.TheVariants as bodies
@@ -19,11 +19,11 @@ use Rattle.gs_store.specs.Buffers.{pushed}
 use Rattle.gs_store.specs.Serving as serving
 use Rattle.gs_store.specs.Stores.{Store, put_slot}
 use Rattle.gs_server.specs.declared.turn.Turn.{Turn}
-use Rattle.gs_primary.specs.Forwarding.{count_under}
-use Rattle.gs_primary.specs.Leases.{tell}
+use Rattle.gs_server_lease.specs.Forwarding.{count_under}
+use Rattle.gs_server_lease.specs.Leases.{tell}
 use Rattle.gs_server.specs.Places.{Part, or_else, count_or_none}
 use Rattle.gs_server.specs.Edits.{has_bytes, bytes_of, forward, acknowledges, declines, takes_if, takes_next, takes, unless_there, bytes_or_none}
-use Rattle.gs_server.specs.Servers.{Server, Step, Steps, step_of, here_of, place_of, store_of, with_store}
+use Rattle.gs_server.specs.Servers.{Server, Step, ServerSteps, step_of, here_of, place_of, store_of, with_store}
 use Rattle.gs_server.specs.inner.Answering.{declined_by}
 use Rattle.gs_server.specs.inner.Applying.{leaving, applied_with, taken_by}
 use Rattle.gs_server.proofs.Made.{wants_memory}
@@ -31,19 +31,19 @@ use Rattle.gs_server.proofs.Made.{wants_memory}
 -- the edit is applied, or it isn't
 pub taken_ok : (handle : ℕ) (from : NodeId) (stamp : Stamp) (number : ℕ) (m : Result Store Refusal) (old : Server) (new : Store) (after : Server) (turn : Turn) →
     Follows {B = Unit {0}} m (Ok tt) (store_of old) new → after ≡ with_store new old → turn.sent.items ≡ tell old.me from (bodies.About handle (chunks.Ack stamp number)) ∷ [] → turn.said ≡ None →
-    Steps (taken_by handle from stamp number m old) (Ok turn) old after
+    ServerSteps (taken_by handle from stamp number m old) (Ok turn) old after
 taken_ok handle from stamp number (Err e) old new after turn follows is sent said = elim follows [ ]
 taken_ok handle from stamp number (Ok t) old new after turn follows is sent said = (is ∙ ap (λ n. with_store n old) follows, sent, said)
 
 pub taken_err : (handle : ℕ) (from : NodeId) (stamp : Stamp) (number : ℕ) (m : Result Store Refusal) (f : Refusal) (old : Server) (new : Store) (after : Server) (result : Result Turn Refusal) →
     Follows {B = Unit {0}} m (Err f) (store_of old) new →
-    Steps (declined_by handle from stamp f (with_store new old)) result (with_store new old) after → (f ≡ refusals.Memory → result ≡ Err refusals.Memory) → (f ≡ refusals.Memory → after ≡ with_store new old) →
-    Steps (taken_by handle from stamp number m old) result old after
+    ServerSteps (declined_by handle from stamp f (with_store new old)) result (with_store new old) after → (f ≡ refusals.Memory → result ≡ Err refusals.Memory) → (f ≡ refusals.Memory → after ≡ with_store new old) →
+    ServerSteps (taken_by handle from stamp number m old) result old after
 taken_err handle from stamp number (Ok t) f old new after result follows steps lacks stays =
     wants_memory _ result old after (lacks follows.0) (stays follows.0 ∙ ap (λ n. with_store n old) follows.1)
 taken_err handle from stamp number (Err g) f old new after result follows steps lacks stays =
     elim follows.0 [
-      | inl is ↦ subst (λ r. Steps (declined_by handle from stamp r old) result old after) is (subst (λ s. Steps (declined_by handle from stamp f s) result s after) (ap (λ n. with_store n old) follows.1) steps)
+      | inl is ↦ subst (λ r. ServerSteps (declined_by handle from stamp r old) result old after) is (subst (λ s. ServerSteps (declined_by handle from stamp f s) result s after) (ap (λ n. with_store n old) follows.1) steps)
       | inr is ↦ wants_memory _ result old after (lacks is) (stays is ∙ ap (λ n. with_store n old) follows.1)
     ]
 
@@ -87,10 +87,10 @@ found_so stamp s promise count r promised counted is =
 
 -- a forward is refused by the slot
 pub forward_refused : (handle : ℕ) (from : NodeId) (stamp : Stamp) (req : ReqId) (moment : Moment) (old : Server) (o : Option Refusal) (f : Refusal) (part : Part) (result : Result Turn Refusal) (after : Server) →
-    o ≡ Some f → Steps (declined_by handle from stamp f old) result old after →
-    Steps (step_of handle (Some req) (or_else o (declines (here_of old moment handle (Some req)) (place_of handle old) from stamp) part) old) result old after
+    o ≡ Some f → ServerSteps (declined_by handle from stamp f old) result old after →
+    ServerSteps (step_of handle (Some req) (or_else o (declines (here_of old moment handle (Some req)) (place_of handle old) from stamp) part) old) result old after
 forward_refused handle from stamp req moment old o f part result after judged steps =
-    subst (λ x. Steps (step_of handle (Some req) (or_else x (declines (here_of old moment handle (Some req)) (place_of handle old) from stamp) part) old) result old after) (sym judged) steps
+    subst (λ x. ServerSteps (step_of handle (Some req) (or_else x (declines (here_of old moment handle (Some req)) (place_of handle old) from stamp) part) old) result old after) (sym judged) steps
 
 -- it is of the next edit
 abbrev is_there : Option Refusal → Type 0
@@ -105,20 +105,20 @@ not_past_next number count is = grind (arith, nat_tests)
 
 takes_of_live : (handle : ℕ) (from : NodeId) (stamp : Stamp) (number : ℕ) (req : ReqId) (op : Op) (moment : Moment) (old : Server) (bytes : Option (List ℕ)) (live : Option Live) (u : Option Refusal) (count : ℕ) (result : Result Turn Refusal) (after : Server) →
     first_of (unless_live live ∷ u ∷ []) ≡ None → count ≡ count_or_none (count_of live) → count < number → number ≤ count + 1 →
-    Steps (next_of handle from stamp number req op moment old false count bytes) result old after →
-    Steps (step_of handle (Some req) (takes (here_of old moment handle (Some req)) (place_of handle old) from stamp number req op bytes live) old) result old after
+    ServerSteps (next_of handle from stamp number req op moment old false count bytes) result old after →
+    ServerSteps (step_of handle (Some req) (takes (here_of old moment handle (Some req)) (place_of handle old) from stamp number req op bytes live) old) result old after
 takes_of_live handle from stamp number req op moment old bytes None u count result after judged same above next steps = elim (subst is_there judged tt) [ ]
 takes_of_live handle from stamp number req op moment old bytes (Some l) u count result after judged same above next steps =
-    subst (λ n. Steps (step_of handle (Some req) (cond (nat_le number n) (acknowledges (here_of old moment handle (Some req)) from stamp n) (takes_next (here_of old moment handle (Some req)) (place_of handle old) from stamp number req op bytes n)) old) result old after) same
-    (subst (λ b. Steps (step_of handle (Some req) (cond b (acknowledges (here_of old moment handle (Some req)) from stamp count) (takes_next (here_of old moment handle (Some req)) (place_of handle old) from stamp number req op bytes count)) old) result old after) (sym (above_count number count above))
-    (subst (λ g. Steps (next_of handle from stamp number req op moment old g count bytes) result old after) (sym (not_past_next number count next)) steps))
+    subst (λ n. ServerSteps (step_of handle (Some req) (cond (nat_le number n) (acknowledges (here_of old moment handle (Some req)) from stamp n) (takes_next (here_of old moment handle (Some req)) (place_of handle old) from stamp number req op bytes n)) old) result old after) same
+    (subst (λ b. ServerSteps (step_of handle (Some req) (cond b (acknowledges (here_of old moment handle (Some req)) from stamp count) (takes_next (here_of old moment handle (Some req)) (place_of handle old) from stamp number req op bytes count)) old) result old after) (sym (above_count number count above))
+    (subst (λ g. ServerSteps (next_of handle from stamp number req op moment old g count bytes) result old after) (sym (not_past_next number count next)) steps))
 
 pub forward_next : (handle : ℕ) (from : NodeId) (stamp : Stamp) (number : ℕ) (req : ReqId) (op : Op) (carried : Option (List ℕ)) (moment : Moment) (old : Server) (count : ℕ) (result : Result Turn Refusal) (after : Server) →
     check_grant stamp (place_of handle old).slot ≡ None → count ≡ count_or_none (count_of (place_of handle old).slot.live) → count < number → number ≤ count + 1 →
-    Steps (taken_by handle from stamp number (applied_with handle stamp number req op (store_of old) (bytes_of op carried (pushed req old.dropped.buffer))) old) result old after →
-    Steps (step_of handle (Some req) (forward (here_of old moment handle (Some req)) (place_of handle old) from stamp number req op carried) old) result old after
+    ServerSteps (taken_by handle from stamp number (applied_with handle stamp number req op (store_of old) (bytes_of op carried (pushed req old.dropped.buffer))) old) result old after →
+    ServerSteps (step_of handle (Some req) (forward (here_of old moment handle (Some req)) (place_of handle old) from stamp number req op carried) old) result old after
 forward_next handle from stamp number req op carried moment old count result after judged same above next steps =
     let bytes : Option (List ℕ) = bytes_of op carried (pushed req old.dropped.buffer) in
-    subst (λ x. Steps (step_of handle (Some req) (or_else x (declines (here_of old moment handle (Some req)) (place_of handle old) from stamp) (takes (here_of old moment handle (Some req)) (place_of handle old) from stamp number req op bytes (place_of handle old).slot.live)) old) result old after) (sym judged)
+    subst (λ x. ServerSteps (step_of handle (Some req) (or_else x (declines (here_of old moment handle (Some req)) (place_of handle old) from stamp) (takes (here_of old moment handle (Some req)) (place_of handle old) from stamp number req op bytes (place_of handle old).slot.live)) old) result old after) (sym judged)
     (takes_of_live handle from stamp number req op moment old bytes (place_of handle old).slot.live (unless_promised stamp (place_of handle old).slot) count result after judged same above next
-    (subst (λ step. Steps step result old after) (next_step handle from stamp number req op moment old count bytes) steps))
+    (subst (λ step. ServerSteps step result old after) (next_step handle from stamp number req op moment old count bytes) steps))

@@ -34,7 +34,7 @@ use Rattle.gs_store.specs.Calls as calls
 use Rattle.gs_store.proofs.Laws.{Holds, of_cond}
 use Rattle.gs_store.proofs.Standing.{of_live, of_trash, same_ok}
 use Rattle.gs_store.proofs.StoreLaws.{own_slot, other_slot, not_ok}
-use Rattle.gs_primary.specs.Leases.{Lease, tell}
+use Rattle.gs_server_lease.specs.Leases.{PrimaryLease, tell}
 use Rattle.gs_server.specs.Lifts.{gone_on}
 use Rattle.gs_server.specs.Places.{Place, Here, Part, SlotChange, SlotStays, SlotBecomes, SlotMarked, LeaseChange, LeaseStays, LeaseBecomes, LeaseSpent, after, slot_after, lease_after, marked_by, damaged_block, other_epoch, promising}
 use Rattle.gs_server.specs.Promises as messages
@@ -57,18 +57,18 @@ own_changed handle SlotStays t = refl
 own_changed handle (SlotBecomes slot) t = own_slot handle slot t
 own_changed handle (SlotMarked block) t = own_mark handle block t (fin.get t.slots handle) refl
 
-own_lease : (handle : ℕ) (change : LeaseChange) (leases : fin.FinMap nat_cmp Lease) → fin.get (change_lease handle change leases) handle ≡ lease_after (fin.get leases handle) change
+own_lease : (handle : ℕ) (change : LeaseChange) (leases : fin.FinMap nat_cmp PrimaryLease) → fin.get (change_lease handle change leases) handle ≡ lease_after (fin.get leases handle) change
 own_lease handle LeaseStays leases = refl
 own_lease handle (LeaseBecomes l) leases = fin.get-insert nat_cmp_total leases handle l handle ∙ ap (λ b. cond b (Some l) (fin.get leases handle)) ((eq_by_cmp_equiv nat_cmp_total).refl handle)
 own_lease handle LeaseSpent leases = fin.get-remove nat_cmp_total leases handle handle ∙ ap (λ b. cond b None (fin.get leases handle)) ((eq_by_cmp_equiv nat_cmp_total).refl handle)
 
-abbrev at_place : Slot → Option Lease → Place
+abbrev at_place : Slot → Option PrimaryLease → Place
 at_place slot lease = record { slot = slot; lease = lease }
 
 pub own_place : (handle : ℕ) (req : Option ReqId) (part : Part) (s : Server) → place_of handle (changed_by handle req part s) ≡ after (place_of handle s) part
 own_place handle req part s =
     ap (λ (x : Slot). at_place x (fin.get (change_lease handle part.lease s.dropped.leases) handle)) (used_slots req part.used (change_slot handle part.slot (store_of s)) handle ∙ own_changed handle part.slot (store_of s))
-    ∙ ap (λ (l : Option Lease). at_place (slot_after (slot_of handle (store_of s)) part.slot) l) (own_lease handle part.lease s.dropped.leases)
+    ∙ ap (λ (l : Option PrimaryLease). at_place (slot_after (slot_of handle (store_of s)) part.slot) l) (own_lease handle part.lease s.dropped.leases)
 
 -- ---- the shape of what is to be shown of an event
 
@@ -247,7 +247,7 @@ body_goes q s from (bodies.Behind epoch) moment = stays s.block s.chunk _ (place
 
 -- ---- other events
 
-lease_if : (b : Bool) (lease : Option Lease) → GoesOn lease (cond b lease None)
+lease_if : (b : Bool) (lease : Option PrimaryLease) → GoesOn lease (cond b lease None)
 lease_if true lease = same_lease lease
 lease_if false lease = tt
 

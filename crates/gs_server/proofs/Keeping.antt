@@ -16,9 +16,9 @@ use Rattle.gs_msg.specs.declared.node.NodeId.{NodeId}
 use Rattle.gs_msg.specs.Ops.{in_replica}
 use Rattle.gs_store.specs.Slots.{Live, Slot, first_of, when, unless, unless_live, unless_promised, check_grant, take_lease, is_taken}
 use Rattle.gs_store.specs.Serving.{done_in, apply}
-use Rattle.gs_primary.specs.Numbering.{numbered_op, is_passed}
+use Rattle.gs_server_lease.specs.Numbering.{numbered_op, is_passed}
 use Rattle.gs_server.specs.declared.turn.KeptRefusal.{KeptRefusal}
-use Rattle.gs_primary.specs.Leases.{Lease, renews, settled, hears, dones}
+use Rattle.gs_server_lease.specs.Leases.{PrimaryLease, renews, settled, hears, dones}
 use Rattle.gs_server.specs.Places.{Place, Here, Part, SlotChange, SlotStays, SlotBecomes, SlotMarked, marked_by, damaged_block, or_else, other_epoch, unanswered, sending, after, count_or_none}
 use Rattle.gs_server.specs.Holding.{grant, is_held, takes, goes_on, supplies_to, from_server, unless_leased}
 use Rattle.gs_server.specs.Edits.{edit, new_edit, unless_numbered, numbers_or_passes, unless_holding, unless_over, bytes_of, bytes_or_none, refused_edit, refused_once, repeated, is_known_of_all, unless_kept, unless_done, forward, declines}
@@ -30,7 +30,7 @@ use Rattle.gs_store.specs.Moves as moves
 use Rattle.gs_replica.specs.declared.op.Outcome.TheVariants.{Padded}
 use Rattle.gs_server.specs.Fetches as fetching
 use Rattle.gs_server.specs.Servers.{about_chunk}
-use Rattle.gs_primary.specs.declared.lease.Open.{Open}
+use Rattle.gs_server_lease.specs.declared.lease.Open.{Open}
 use Rattle.gs_replica.specs.Copies.{Image, SealedImage}
 use Rattle.gs_msg.specs.declared.node.NodeId.TheVariants as nodes
 use Rattle.gs_msg.specs.declared.message.Message.{Message}
@@ -96,7 +96,7 @@ true_of_not true is = refl
 true_of_not false is = elim (subst (λ (x : Bool). cond x (Unit {0}) ⊥) is tt) [ ]
 
 -- an edit is numbered under a lease
-held_for : (moment : Moment) (stamp : Stamp) (s : Slot) (lease : Option Lease) → unless_holding stamp s lease ≡ None → unless_over moment lease ≡ None → IsHeldFor moment stamp (record { slot = s; lease = lease })
+held_for : (moment : Moment) (stamp : Stamp) (s : Slot) (lease : Option PrimaryLease) → unless_holding stamp s lease ≡ None → unless_over moment lease ≡ None → IsHeldFor moment stamp (record { slot = s; lease = lease })
 held_for moment stamp s None held time = never refusals.NotPrimary (Some refusals.NotPrimary) refl held
 held_for moment stamp s (Some l) held time = record {
   lease = l;
@@ -233,11 +233,11 @@ module _ (edited : Option ReqId) where
   leaves_takes given (Ok s) = (tt, tt)
   leaves_takes given (Err e) = leaves_unanswered e
 
-  leaves_goes_on : (next : Lease → Lease) (sent : Lease → List Message) (l : Option Lease) → LeavesIfRefused edited (goes_on next sent l)
+  leaves_goes_on : (next : PrimaryLease → PrimaryLease) (sent : PrimaryLease → List Message) (l : Option PrimaryLease) → LeavesIfRefused edited (goes_on next sent l)
   leaves_goes_on next sent None = (tt, tt)
   leaves_goes_on next sent (Some l) = (tt, tt)
 
-  leaves_supplies : (h : Here) (e : Refusal) (server : ℕ) (l : Option Lease) → LeavesIfRefused edited (supplies_to h e server l)
+  leaves_supplies : (h : Here) (e : Refusal) (server : ℕ) (l : Option PrimaryLease) → LeavesIfRefused edited (supplies_to h e server l)
   leaves_supplies h e server None = (tt, tt)
   leaves_supplies h e server (Some l) = (tt, tt)
 
@@ -264,11 +264,11 @@ module _ (edited : Option ReqId) where
 leaves_edit_refused : (h : Here) (p : Place) (req : ReqId) (e : Refusal) → LeavesIfRefused (Some req) (refused_edit h p req e)
 leaves_edit_refused h p req e = ((leaves_marked e, refl, refl), refl)
 
-leaves_numbers_if : (h : Here) (p : Place) (l : Lease) (count : ℕ) (edit : Open) (m : Result Slot Refusal) → LeavesIfRefused (Some edit.req) (edits.numbers_if h p l count edit m)
+leaves_numbers_if : (h : Here) (p : Place) (l : PrimaryLease) (count : ℕ) (edit : Open) (m : Result Slot Refusal) → LeavesIfRefused (Some edit.req) (edits.numbers_if h p l count edit m)
 leaves_numbers_if h p l count edit (Err e) = leaves_edit_refused h p edit.req e
 leaves_numbers_if h p l count edit (Ok s) = leaves_either (Some edit.req) (count == edits.last_count) (refused_edit h p edit.req refusals.Exhausted) (edits.numbers h s l (count + 1) edit) (leaves_edit_refused h p edit.req refusals.Exhausted) (tt, tt)
 
-leaves_passes : (h : Here) (p : Place) (req : ReqId) (op : Op) (bytes : List ℕ) (live : Option Live) (l : Option Lease) → LeavesIfRefused (Some req) (numbers_or_passes h p req op bytes live l)
+leaves_passes : (h : Here) (p : Place) (req : ReqId) (op : Op) (bytes : List ℕ) (live : Option Live) (l : Option PrimaryLease) → LeavesIfRefused (Some req) (numbers_or_passes h p req op bytes live l)
 leaves_passes h p req op bytes None l = leaves_edit_refused h p req refusals.NoReplica
 leaves_passes h p req op bytes (Some live) None = leaves_edit_refused h p req refusals.NotPrimary
 leaves_passes h p req op bytes (Some live) (Some l) =

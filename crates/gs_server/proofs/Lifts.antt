@@ -12,7 +12,7 @@ use Rattle.gs_msg.specs.declared.node.NodeId.TheVariants as nodes
 use Rattle.gs_msg.specs.declared.body.Body.TheVariants as bodies
 use Rattle.gs_store.proofs.StoreLaws.{slot_goes}
 use Rattle.gs_store.specs.Stores as stores
-use Rattle.gs_primary.specs.Leases.{Lease, tell}
+use Rattle.gs_server_lease.specs.Leases.{PrimaryLease, tell}
 use Rattle.gs_server.specs.Lifts.{ticked, restarted, lease_at, gone_on, with_lease}
 use Rattle.gs_server.specs.Servers.{Server, Step, place_of, store_of, tick, restart, learn, learned, leases_after}
 use Rattle.gs_server.specs.inner.Learning.{next_of}
@@ -24,7 +24,7 @@ ticked_is handle s moment = ap (λ l. with_lease l (place_of handle s)) (get-sta
 pub restarted_is : (handle : ℕ) (s : Server) → place_of handle (restart s) ≡ restarted (place_of handle s)
 restarted_is handle s = ap (λ l. with_lease l (place_of handle s)) (fin.get-empty nat_cmp handle)
 
-lease_goes : (end : EpochEnd) (leases : fin.FinMap nat_cmp Lease) (handle : ℕ) → fin.get (leases_after end leases) handle ≡ lease_at end (fin.get leases handle)
+lease_goes : (end : EpochEnd) (leases : fin.FinMap nat_cmp PrimaryLease) (handle : ℕ) → fin.get (leases_after end leases) handle ≡ lease_at end (fin.get leases handle)
 lease_goes Rollback leases handle = fin.get-empty nat_cmp handle
 lease_goes Prepare leases handle = refl
 lease_goes Finalize leases handle = refl

@@ -15,13 +15,13 @@ use Rattle.gs_msg.specs.Ops.{in_replica}
 use Rattle.gs_replica.specs.Edits.{outcome_of}
 use Rattle.gs_store.specs.Slots.{Live, first_of, when, unless_live}
 use Rattle.gs_store.specs.Serving.{length_in, done_in}
-use Rattle.gs_primary.specs.Numbering.{is_too_long, numbered_op, is_passed}
+use Rattle.gs_server_lease.specs.Numbering.{is_too_long, numbered_op, is_passed}
 use Rattle.gs_server.specs.declared.numbering.NewEdit.{NewEdit}
 use Rattle.gs_server.specs.declared.turn.Turn.{Turn}
-use Rattle.gs_primary.specs.Leases.{Lease}
+use Rattle.gs_server_lease.specs.Leases.{PrimaryLease}
 use Rattle.gs_server.specs.Places.{Part, Place, Here, or_else, sending}
 use Rattle.gs_server.specs.Edits.{bytes_of, bytes_or_none, applied_bytes, has_bytes, opened, done, refused_edit, numbers_as, numbers_or_passes, new_edit, unless_numbered, unless_holding, unless_over, unless_there}
-use Rattle.gs_server.specs.Servers.{Server, Steps, step_of, here_of, place_of}
+use Rattle.gs_server.specs.Servers.{Server, ServerSteps, step_of, here_of, place_of}
 use Rattle.gs_server.specs.inner.Answering.{kept_by, repeated_by}
 use Rattle.gs_server.specs.inner.Numbering.{IsReady}
 use Rattle.gs_server.proofs.Keeping.{head_none, tail_none, not_met, first_same, second_same, never}
@@ -53,35 +53,35 @@ module _ (handle : ℕ) (req : ReqId) (stamp : Stamp) (op : Op) (moment : Moment
   p = place_of handle old
 
   abbrev Does : Part → Type 0
-  Does part = Steps (step_of handle (Some req) part old) result old after
+  Does part = ServerSteps (step_of handle (Some req) part old) result old after
 
-  refused_does : (o : Option Refusal) (e : Refusal) (part : Part) → o ≡ Some e → Steps (kept_by handle req e old) result old after → Does (or_else o (refused_edit h p req) part)
+  refused_does : (o : Option Refusal) (e : Refusal) (part : Part) → o ≡ Some e → ServerSteps (kept_by handle req e old) result old after → Does (or_else o (refused_edit h p req) part)
   refused_does o e part is steps = subst (λ x. Does (or_else x (refused_edit h p req) part)) (sym is) steps
 
-  passed_does : (part : Part) (test : Bool) → test ≡ true → Steps (repeated_by req Padded true old) result old after → Does (cond test (sending (done h req (Ok Padded) ∷ [])) part)
+  passed_does : (part : Part) (test : Bool) → test ≡ true → ServerSteps (repeated_by req Padded true old) result old after → Does (cond test (sending (done h req (Ok Padded) ∷ [])) part)
   passed_does part test is steps = subst (λ x. Does (cond x (sending (done h req (Ok Padded) ∷ [])) part)) (sym is) steps
 
   -- what is there where nothing refuses it
-  abbrev tests : Option (List ℕ) → Option Live → Option Lease → List (Option Refusal)
+  abbrev tests : Option (List ℕ) → Option Live → Option PrimaryLease → List (Option Refusal)
   tests bytes live lease = unless_live live ∷ unless_holding stamp p.slot lease ∷ unless_over moment lease ∷ unless_there bytes ∷ when (is_too_long h.chunk op) refusals.TooLong ∷ []
 
-  abbrev AllThere : Option (List ℕ) → Option Live → Option Lease → Type 0
+  abbrev AllThere : Option (List ℕ) → Option Live → Option PrimaryLease → Type 0
   AllThere bytes live lease =
-      (b : List ℕ) (v : Live) (l : Lease) → bytes ≡ Some b → live ≡ Some v → lease ≡ Some l → is_same stamp l.grant.stamp ≡ true → is_same l.grant.stamp p.slot.promise ≡ true →
+      (b : List ℕ) (v : Live) (l : PrimaryLease) → bytes ≡ Some b → live ≡ Some v → lease ≡ Some l → is_same stamp l.grant.stamp ≡ true → is_same l.grant.stamp p.slot.promise ≡ true →
       Does (cond (is_passed h.chunk (length v.replica.held.chunk.bytes) op) (sending (done h req (Ok Padded) ∷ [])) (numbers_as h p v l (opened req (numbered_op h.chunk (length v.replica.held.chunk.bytes) op) b v)))
 
-  no_live : (bytes : Option (List ℕ)) (lease : Option Lease) → first_of (tests bytes None lease) ≡ None → ⊥
+  no_live : (bytes : Option (List ℕ)) (lease : Option PrimaryLease) → first_of (tests bytes None lease) ≡ None → ⊥
   no_live bytes lease none = never refusals.NoReplica (Some refusals.NoReplica) refl none
 
   no_lease : (bytes : Option (List ℕ)) (v : Live) → first_of (tests bytes (Some v) None) ≡ None → ⊥
   no_lease bytes v none = never refusals.NotPrimary (Some refusals.NotPrimary) refl none
 
-  no_bytes : (v : Live) (l : Lease) → first_of (tests None (Some v) (Some l)) ≡ None → ⊥
+  no_bytes : (v : Live) (l : PrimaryLease) → first_of (tests None (Some v) (Some l)) ≡ None → ⊥
   no_bytes v l none =
       let behind_lease = tail_none (unless_holding stamp p.slot (Some l)) (unless_over moment (Some l) ∷ unless_there None ∷ when (is_too_long h.chunk op) refusals.TooLong ∷ []) none in
       never refusals.NoData (Some refusals.NoData) refl (tail_none (unless_over moment (Some l)) (unless_there None ∷ when (is_too_long h.chunk op) refusals.TooLong ∷ []) behind_lease)
 
-  all_there : (bytes : Option (List ℕ)) (live : Option Live) (lease : Option Lease) → first_of (tests bytes live lease) ≡ None → AllThere bytes live lease → Does (numbers_or_passes h p req op (bytes_or_none bytes) live lease)
+  all_there : (bytes : Option (List ℕ)) (live : Option Live) (lease : Option PrimaryLease) → first_of (tests bytes live lease) ≡ None → AllThere bytes live lease → Does (numbers_or_passes h p req op (bytes_or_none bytes) live lease)
   all_there bytes None lease none there = elim (no_live bytes lease none) [ ]
   all_there bytes (Some v) None none there = elim (no_lease bytes v none) [ ]
   all_there None (Some v) (Some l) none there = elim (no_bytes v l none) [ ]
@@ -96,7 +96,7 @@ module _ (handle : ℕ) (req : ReqId) (stamp : Stamp) (op : Op) (moment : Moment
       (all_there (bytes_of op None h.pushed) p.slot.live p.lease none there)
 
   -- it is passed, or it is numbered
-  passed_there : (stored : ℕ) → stored ≡ length_in p.slot.live → is_passed h.chunk stored op ≡ true → Steps (repeated_by req Padded true old) result old after → AllThere (bytes_of op None h.pushed) p.slot.live p.lease
+  passed_there : (stored : ℕ) → stored ≡ length_in p.slot.live → is_passed h.chunk stored op ≡ true → ServerSteps (repeated_by req Padded true old) result old after → AllThere (bytes_of op None h.pushed) p.slot.live p.lease
   passed_there stored same full steps = λ b v l found lives leased asked promised.
       passed_does (numbers_as h p v l (opened req (numbered_op h.chunk (length v.replica.held.chunk.bytes) op) b v)) (is_passed h.chunk (length v.replica.held.chunk.bytes) op)
       (ap (λ n. is_passed h.chunk n op) (sym (same ∙ ap length_in lives)) ∙ full) steps
@@ -105,7 +105,7 @@ module _ (handle : ℕ) (req : ReqId) (stamp : Stamp) (op : Op) (moment : Moment
   edit_of stored = record { req = req; stamp = stamp; op = numbered_op h.chunk stored op }
 
   numbered_there : (stored : ℕ) → stored ≡ length_in p.slot.live → is_passed h.chunk stored op ≡ false → is_old req.number (done_in p.slot.live req.client.0) ≡ false →
-      ((bytes : List ℕ) (v : Live) (l : Lease) → IsReady handle (edit_of stored) bytes v l old → Does (numbers_as h p v l (opened req (numbered_op h.chunk stored op) bytes v))) → AllThere (bytes_of op None h.pushed) p.slot.live p.lease
+      ((bytes : List ℕ) (v : Live) (l : PrimaryLease) → IsReady handle (edit_of stored) bytes v l old → Does (numbers_as h p v l (opened req (numbered_op h.chunk stored op) bytes v))) → AllThere (bytes_of op None h.pushed) p.slot.live p.lease
   numbered_there stored same room above does = λ b v l found lives leased asked promised.
       let long : stored ≡ length v.replica.held.chunk.bytes = same ∙ ap length_in lives in
       let new : Op = numbered_op h.chunk stored op in
@@ -115,21 +115,21 @@ module _ (handle : ℕ) (req : ReqId) (stamp : Stamp) (op : Op) (moment : Moment
       (subst (λ x. Does (cond x (sending (done h req (Ok Padded) ∷ [])) (numbers_as h p v l (opened req new b v)))) (sym room) numbered)
 
 pub new_refused : (handle : ℕ) (req : ReqId) (stamp : Stamp) (op : Op) (moment : Moment) (old after : Server) (result : Result Turn Refusal) (e : Refusal) →
-    unless_numbered (here_of old moment handle (Some req)) (place_of handle old) stamp op ≡ Some e → Steps (kept_by handle req e old) result old after →
-    Steps (step_of handle (Some req) (new_edit (here_of old moment handle (Some req)) (place_of handle old) req stamp op) old) result old after
+    unless_numbered (here_of old moment handle (Some req)) (place_of handle old) stamp op ≡ Some e → ServerSteps (kept_by handle req e old) result old after →
+    ServerSteps (step_of handle (Some req) (new_edit (here_of old moment handle (Some req)) (place_of handle old) req stamp op) old) result old after
 new_refused handle req stamp op moment old after result e is steps = refused_does handle req stamp op moment old after result (unless_numbered (here_of old moment handle (Some req)) (place_of handle old) stamp op) e _ is steps
 
 pub new_passed : (handle : ℕ) (req : ReqId) (stamp : Stamp) (op : Op) (moment : Moment) (old after : Server) (result : Result Turn Refusal) (stored : ℕ) →
-    unless_numbered (here_of old moment handle (Some req)) (place_of handle old) stamp op ≡ None → stored ≡ length_in (place_of handle old).slot.live → is_passed old.chunk stored op ≡ true → Steps (repeated_by req Padded true old) result old after →
-    Steps (step_of handle (Some req) (new_edit (here_of old moment handle (Some req)) (place_of handle old) req stamp op) old) result old after
+    unless_numbered (here_of old moment handle (Some req)) (place_of handle old) stamp op ≡ None → stored ≡ length_in (place_of handle old).slot.live → is_passed old.chunk stored op ≡ true → ServerSteps (repeated_by req Padded true old) result old after →
+    ServerSteps (step_of handle (Some req) (new_edit (here_of old moment handle (Some req)) (place_of handle old) req stamp op) old) result old after
 new_passed handle req stamp op moment old after result stored none same full steps =
     new_does handle req stamp op moment old after result none (passed_there handle req stamp op moment old after result stored same full steps)
 
 pub new_numbered : (handle : ℕ) (req : ReqId) (stamp : Stamp) (op : Op) (moment : Moment) (old after : Server) (result : Result Turn Refusal) (stored : ℕ) →
     unless_numbered (here_of old moment handle (Some req)) (place_of handle old) stamp op ≡ None → stored ≡ length_in (place_of handle old).slot.live → is_passed old.chunk stored op ≡ false →
     is_old req.number (done_in (place_of handle old).slot.live req.client.0) ≡ false →
-    ((bytes : List ℕ) (v : Live) (l : Lease) → IsReady handle (record { req = req; stamp = stamp; op = numbered_op old.chunk stored op }) bytes v l old →
-    Steps (step_of handle (Some req) (numbers_as (here_of old moment handle (Some req)) (place_of handle old) v l (opened req (numbered_op old.chunk stored op) bytes v)) old) result old after) →
-    Steps (step_of handle (Some req) (new_edit (here_of old moment handle (Some req)) (place_of handle old) req stamp op) old) result old after
+    ((bytes : List ℕ) (v : Live) (l : PrimaryLease) → IsReady handle (record { req = req; stamp = stamp; op = numbered_op old.chunk stored op }) bytes v l old →
+    ServerSteps (step_of handle (Some req) (numbers_as (here_of old moment handle (Some req)) (place_of handle old) v l (opened req (numbered_op old.chunk stored op) bytes v)) old) result old after) →
+    ServerSteps (step_of handle (Some req) (new_edit (here_of old moment handle (Some req)) (place_of handle old) req stamp op) old) result old after
 new_numbered handle req stamp op moment old after result stored none same room above does =
     new_does handle req stamp op moment old after result none (numbered_there handle req stamp op moment old after result stored same room above does)

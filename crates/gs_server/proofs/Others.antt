@@ -18,7 +18,7 @@ use Rattle.gs_store.proofs.StoreLaws.{other_slot}
 use Rattle.gs_store.proofs.Places.{same_key}
 use Rattle.gs_server.specs.declared.turn.KeptRefusal.{KeptRefusal}
 use Rattle.gs_server.specs.Laws.{LeavesTheRest, LeavesAllBut, is_of_client, is_asked_by}
-use Rattle.gs_primary.specs.Leases.{Lease}
+use Rattle.gs_server_lease.specs.Leases.{PrimaryLease}
 use Rattle.gs_server.specs.Places.{Part, SlotChange, SlotStays, SlotBecomes, SlotMarked, LeaseChange, LeaseStays, LeaseBecomes, LeaseSpent}
 use Rattle.gs_server.specs.Servers.{Server, client_cmp, place_of, store_of, change_slot, change_lease, change_buffer, keep_refusal, changed_by, with_store, copies}
 use Rattle.gs_server.specs.Promises.{Copying}
@@ -41,7 +41,7 @@ other_eq q k is = by_case (eq_by_cmp nat_cmp q k) refl
     by_case true tied = absurd (false≢true (sym is ∙ eq-eqb q k (same_key q k tied)))
     by_case false apart = refl
 
-pub other_lease : (handle other : ℕ) (change : LeaseChange) (leases : fin.FinMap nat_cmp Lease) → (other == handle) ≡ false → fin.get (change_lease handle change leases) other ≡ fin.get leases other
+pub other_lease : (handle other : ℕ) (change : LeaseChange) (leases : fin.FinMap nat_cmp PrimaryLease) → (other == handle) ≡ false → fin.get (change_lease handle change leases) other ≡ fin.get leases other
 other_lease handle other LeaseStays leases apart = refl
 other_lease handle other (LeaseBecomes l) leases apart = fin.get-insert nat_cmp_total leases handle l other ∙ ap (λ b. cond b (Some l) (fin.get leases other)) (other_eq other handle apart)
 other_lease handle other LeaseSpent leases apart = fin.get-remove nat_cmp_total leases handle other ∙ ap (λ b. cond b None (fin.get leases other)) (other_eq other handle apart)
@@ -111,7 +111,7 @@ rest_stays handle asked part s = record {
     place_same : (other : ℕ) → (other == handle) ≡ false → place_of other (changed_by handle asked part s) ≡ place_of other s
     place_same other apart =
         ap (λ (x : Slot). record { slot = x; lease = fin.get (change_lease handle part.lease s.dropped.leases) other }) (used_slots asked part.used (change_slot handle part.slot (store_of s)) other ∙ other_changed handle other part.slot (store_of s) apart)
-        ∙ ap (λ (l : Option Lease). record { slot = slot_of other (store_of s); lease = l }) (other_lease handle other part.lease s.dropped.leases apart)
+        ∙ ap (λ (l : Option PrimaryLease). record { slot = slot_of other (store_of s); lease = l }) (other_lease handle other part.lease s.dropped.leases apart)
 
 pub copy_leaves : (handle new_handle : ℕ) (copying : Copying) (s : Server) → LeavesAllBut handle new_handle s (copies handle new_handle copying s).after
 copy_leaves handle new_handle copying s =

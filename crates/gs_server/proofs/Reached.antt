@@ -25,7 +25,7 @@ use Rattle.gs_store.specs.Slots.{Live, Slot, nothing, take_lease, is_taken, taki
 use Rattle.gs_store.specs.Slots as slots
 use Rattle.gs_store.specs.Serving.{apply_to}
 use Rattle.gs_store.specs.Moves.{copied_in}
-use Rattle.gs_sealed.specs.Rollback.{later}
+use Rattle.gs_store_seal.specs.Rollback.{later}
 use Rattle.gs_store.specs.Learning.{start_of, rolled_to}
 use Rattle.gs_store.specs.Stores.{or_nothing, put_slot, learn}
 use Rattle.gs_store.specs.Stores as stores
@@ -39,7 +39,7 @@ use Rattle.gs_store.proofs.Running.{Goes, goes, keeps, never_below}
 use Rattle.gs_store.proofs.Running.{IsSpent, taken_spent, run_spent, spent_refused}
 use Rattle.gs_store.proofs.Named.{named_is}
 use Rattle.gs_server.specs.Laws as laws
-use Rattle.gs_primary.specs.Leases.{Lease}
+use Rattle.gs_server_lease.specs.Leases.{PrimaryLease}
 use Rattle.gs_server.specs.Places.{Place}
 use Rattle.gs_server.specs.Promises as messages
 use Rattle.gs_server.specs.Promises.{Copying}
@@ -149,7 +149,7 @@ epochs_rise (e ∷ events) s = up_to s.kept.epoch (behind e s).kept.epoch (behin
 -- ---- what every place keeps
 
 -- a lease that is held is of the stamp that was taken last
-abbrev pub LastOf : Option Lease → Option Stamp → Type 0
+abbrev pub LastOf : Option PrimaryLease → Option Stamp → Type 0
 LastOf None taken = Unit {0}
 LastOf (Some l) taken = taken ≡ Some l.grant.stamp
 
@@ -159,11 +159,11 @@ pub record IsSound (epoch : ℕ) (p : Place) : Type 0 where
   pub reaches : Reaches p.slot.promise p.slot.taken
   pub within : p.slot.promise.epoch ≤ epoch
 
-last_on : (old new : Option Lease) (taken : Option Stamp) → GoesOn old new → LastOf old taken → LastOf new taken
+last_on : (old new : Option PrimaryLease) (taken : Option Stamp) → GoesOn old new → LastOf old taken → LastOf new taken
 last_on old None taken on last = tt
-last_on old (Some l) taken on last = subst (λ (o : Option Lease). LastOf o taken) on.is last ∙ ap (λ (x : Stamp). Some x) (sym on.same)
+last_on old (Some l) taken on last = subst (λ (o : Option PrimaryLease). LastOf o taken) on.is last ∙ ap (λ (x : Stamp). Some x) (sym on.same)
 
-of_on : (old new : Option Lease) (promise : Stamp) → GoesOn old new → IsOf promise old → IsOf promise new
+of_on : (old new : Option PrimaryLease) (promise : Stamp) → GoesOn old new → IsOf promise old → IsOf promise new
 of_on old None promise on of = tt
 of_on old (Some l) promise on of = on.same ∙ subst (IsOf promise) on.is of
 
@@ -195,7 +195,7 @@ sound_on block chunk epoch now reseals Comes Spared p q rise (inr (inr t)) sound
     let taken = last_taken t.given.stamp p.slot q.slot t.is in
     let spent = of_ok (IsSpent t.given.stamp) (take_lease t.given.stamp p.slot) q.slot t.is (taken_spent t.given.stamp p.slot) in
     record {
-      held = subst (λ (o : Option Lease). LastOf o q.slot.taken) (sym t.lease) taken;
+      held = subst (λ (o : Option PrimaryLease). LastOf o q.slot.taken) (sym t.lease) taken;
       promised = subst (IsOf q.slot.promise) (sym t.lease) (leased_promise t.given.stamp p.slot q.slot t.is).1;
       reaches = subst (Reaches q.slot.promise) (sym taken) spent.reached;
       within = of_ok (Within now) (take_lease t.given.stamp p.slot) q.slot t.is (stays_within now block chunk (TakesLease t.given.stamp) p.slot tt (up_to p.slot.promise.epoch epoch now sound.within rise));
@@ -211,7 +211,7 @@ sound_behind_all handle (e ∷ events) s sound = sound_behind_all handle events 
 
 nothing_sound : (me block chunk handle : ℕ) → IsSound 0 (place_of handle (new me block chunk))
 nothing_sound me block chunk handle =
-    subst (λ (o : Option Lease). IsSound 0 (record { slot = slot_in handle (new me block chunk); lease = o })) (sym (fin.get-empty nat_cmp handle))
+    subst (λ (o : Option PrimaryLease). IsSound 0 (record { slot = slot_in handle (new me block chunk); lease = o })) (sym (fin.get-empty nat_cmp handle))
     (subst (λ (o : Option Slot). IsSound 0 (record { slot = or_nothing o; lease = None })) (sym (fin.get-empty nat_cmp handle))
     (record { held = tt; promised = tt; reaches = tt; within = at_most 0 0 refl }))
 
@@ -219,15 +219,15 @@ pub sound_where : (handle : ℕ) (s : Server) → IsReached s → IsSound s.kept
 sound_where handle s r =
     subst (λ (x : Server). IsSound x.kept.epoch (place_of handle x)) (sym r.is) (sound_behind_all handle r.events (new r.me r.block r.chunk) (nothing_sound r.me r.block r.chunk handle))
 
-pub held_last : (handle : ℕ) (s : Server) (l : Lease) → IsReached s → (place_of handle s).lease ≡ Some l → (slot_in handle s).taken ≡ Some l.grant.stamp
-held_last handle s l r held = subst (λ (o : Option Lease). LastOf o (slot_in handle s).taken) held (sound_where handle s r).held
+pub held_last : (handle : ℕ) (s : Server) (l : PrimaryLease) → IsReached s → (place_of handle s).lease ≡ Some l → (slot_in handle s).taken ≡ Some l.grant.stamp
+held_last handle s l r held = subst (λ (o : Option PrimaryLease). LastOf o (slot_in handle s).taken) held (sound_where handle s r).held
 
-pub held_promise : (handle : ℕ) (s : Server) (l : Lease) → IsReached s → (place_of handle s).lease ≡ Some l → l.grant.stamp ≡ (slot_in handle s).promise
+pub held_promise : (handle : ℕ) (s : Server) (l : PrimaryLease) → IsReached s → (place_of handle s).lease ≡ Some l → l.grant.stamp ≡ (slot_in handle s).promise
 held_promise handle s l r held = subst (IsOf (slot_in handle s).promise) held (sound_where handle s r).promised
 
 -- ---- a promise that changes spends the lease
 
-both_of : (p q : Place) (lease : Option Lease) → q.lease ≡ lease → q.slot.promise ≢ p.slot.promise → GoesOn p.lease lease → IsOf p.slot.promise p.lease → IsOf q.slot.promise lease → q.lease ≡ None
+both_of : (p q : Place) (lease : Option PrimaryLease) → q.lease ≡ lease → q.slot.promise ≢ p.slot.promise → GoesOn p.lease lease → IsOf p.slot.promise p.lease → IsOf q.slot.promise lease → q.lease ≡ None
 both_of p q None is changed on old new = is
 both_of p q (Some l) is changed on old new = absurd (changed (sym new ∙ of_on p.lease (Some l) p.slot.promise on old))
 
@@ -241,7 +241,7 @@ rises_spend handle e s r changed = changed_spends s.block s.chunk _ (place_of ha
 
 -- ---- a spent lease
 
-abbrev Apart : Stamp → Option Lease → Type 0
+abbrev Apart : Stamp → Option PrimaryLease → Type 0
 Apart stamp None = Unit {0}
 Apart stamp (Some l) = l.grant.stamp ≡ stamp → ⊥
 
@@ -249,7 +249,7 @@ record IsOver (stamp : Stamp) (p : Place) : Type 0 where
   spent : IsSpent stamp p.slot
   none : Apart stamp p.lease
 
-apart_on : (stamp : Stamp) (old new : Option Lease) → GoesOn old new → Apart stamp old → Apart stamp new
+apart_on : (stamp : Stamp) (old new : Option PrimaryLease) → GoesOn old new → Apart stamp old → Apart stamp new
 apart_on stamp old None on none = tt
 apart_on stamp old (Some l) on none = λ same. (subst (Apart stamp) on.is none) (sym on.same ∙ same)
 
@@ -265,7 +265,7 @@ over_behind : (handle : ℕ) (stamp : Stamp) (events : List Event) (s : Server) 
 over_behind handle stamp [] s over = over
 over_behind handle stamp (e ∷ events) s over = over_behind handle stamp events (behind e s) (over_on s.block s.chunk _ stamp (place_of handle s) (place_of handle (behind e s)) (goes_at handle e s) over)
 
-pub never_again : (handle : ℕ) (stamp : Stamp) (events : List Event) (s : Server) (l : Lease) → IsReached s → laws.IsSpent stamp (place_of handle s) → (place_of handle (behind_all events s)).lease ≡ Some l → l.grant.stamp ≡ stamp → ⊥
+pub never_again : (handle : ℕ) (stamp : Stamp) (events : List Event) (s : Server) (l : PrimaryLease) → IsReached s → laws.IsSpent stamp (place_of handle s) → (place_of handle (behind_all events s)).lease ≡ Some l → l.grant.stamp ≡ stamp → ⊥
 never_again handle stamp events s l r spent held =
     let sound = sound_where handle s r in
     let start : IsOver stamp (place_of handle s) = record {

@@ -7,12 +7,12 @@ use Rattle.std.specs.Ordering.{nat_cmp, eq_by_cmp}
 use Rattle.std.specs.Cmp.{nat_cmp_total}
 use Rattle.gs_base.specs.declared.numbers.Moment.{Moment}
 use Rattle.gs_store.proofs.Keys.{passes, any_key}
-use Rattle.gs_primary.specs.Leases.{Lease, is_over}
+use Rattle.gs_server_lease.specs.Leases.{PrimaryLease, is_over}
 use Rattle.gs_server.specs.Servers.{standing_leases, stands_at}
 use Rattle.gs_server.specs.inner.Spending.{over_of, without}
 
 abbrev Leases : Type 0
-Leases = fin.FinMap nat_cmp Lease
+Leases = fin.FinMap nat_cmp PrimaryLease
 
 one_or_other : {A : Type 0} (a b : Bool) (o : Option A) → cond b None (cond a None o) ≡ cond (a || b) None o
 one_or_other true true o = refl
@@ -29,7 +29,7 @@ turned : {A : Type 0} (b : Bool) (o : Option A) → cond b None o ≡ cond (not 
 turned true o = refl
 turned false o = refl
 
-over_or_standing : (moment : Moment) (o : Option Lease) → cond (passes (is_over moment) o) None o ≡ cond (stands_at moment o) o None
+over_or_standing : (moment : Moment) (o : Option PrimaryLease) → cond (passes (is_over moment) o) None o ≡ cond (stands_at moment o) o None
 over_or_standing moment None = refl
 over_or_standing moment (Some l) = turned (is_over moment l) (Some l)
 

@@ -19,10 +19,10 @@ use Rattle.gs_msg.specs.Ops.{in_replica}
 use Rattle.gs_msg.specs.declared.message.Message.{Message}
 use Rattle.gs_store.specs.Slots.{Live, Slot}
 use Rattle.gs_store.specs.Serving.{done_in, apply}
-use Rattle.gs_primary.specs.Numbering.{numbered_op, is_passed}
+use Rattle.gs_server_lease.specs.Numbering.{numbered_op, is_passed}
 use Rattle.gs_server.specs.declared.turn.KeptRefusal.{KeptRefusal}
-use Rattle.gs_primary.specs.declared.lease.Open.{Open}
-use Rattle.gs_primary.specs.Leases.{Lease, told_by, lacks, hears, waits, waits_for, opens_edit, is_acknowledged, done_of, dones, done_at_once, forward_of, forwards, settled}
+use Rattle.gs_server_lease.specs.declared.lease.Open.{Open}
+use Rattle.gs_server_lease.specs.Leases.{PrimaryLease, told_by, lacks, hears, waits, waits_for, opens_edit, is_acknowledged, done_of, dones, done_at_once, forward_of, forwards, settled}
 use Rattle.gs_server.specs.Places.{Place, Here, Part, SlotChange, SlotStays, SlotBecomes, SlotMarked, LeaseChange, LeaseStays, LeaseBecomes, LeaseSpent, marked_by, damaged_block, or_else, sending, unanswered, after}
 use Rattle.gs_server.specs.Holding.{unless_leased, goes_on, ack}
 use Rattle.gs_server.specs.Edits.{edit, new_edit, unless_numbered, numbers, numbers_if, numbers_as, numbers_or_passes, opened, bytes_of, bytes_or_none, last_count, done, refused_edit, refused_once, repeated, is_known_of_all, unless_kept, unless_done}
@@ -38,7 +38,7 @@ never_true is = elim (subst (λ (b : Bool). cond b ⊥ (Unit {0})) is tt) [ ]
 reached : (told number : ℕ) → not (nat_lt told number) ≡ true → number ≤ told
 reached told number is = grind (arith, nat_tests)
 
-told_by_all : (l : Lease) (number : ℕ) → is_acknowledged l number ≡ true → IsToldByAll l number
+told_by_all : (l : PrimaryLease) (number : ℕ) → is_acknowledged l number ≡ true → IsToldByAll l number
 told_by_all l number is = record {
   each = All-weaker (λ server. not (lacks l.told number server) ≡ true) (λ server. number ≤ told_by l.told server) (λ server. reached (told_by l.told server) number) l.grant.members (AllPass-from_list_all (λ server. not (lacks l.told number server)) l.grant.members is);
 }
@@ -53,7 +53,7 @@ module _ {X : Type 0} (p : X → Bool) (Q : X → Type 0) where
   all_kept [] each = All-nil Q
   all_kept (x ∷ xs) each = kept_head (p x) x (filter p xs) (All-head (λ y. p y ≡ true → Q y) x xs each) (all_kept xs (All-tail (λ y. p y ≡ true → Q y) x xs each))
 
-dones_are : (me : ℕ) (l : Lease) → All (IsDoneUnder me l) (dones me l)
+dones_are : (me : ℕ) (l : PrimaryLease) → All (IsDoneUnder me l) (dones me l)
 dones_are me l =
     All-map (IsDoneUnder me l) (done_of me) (filter (λ (e : ℕ × Open). is_acknowledged l e.0) l.outbox)
     (all_kept (λ (e : ℕ × Open). is_acknowledged l e.0) (λ e. IsDoneUnder me l (done_of me e)) l.outbox
@@ -64,7 +64,7 @@ unless_all : (P : Message → Type 0) (o : Option Refusal) (part : Part) → All
 unless_all P None part each = each
 unless_all P (Some e) part each = All-nil P
 
-pub acks_are : (h : Here) (p : Place) (server : ℕ) (stamp : Stamp) (count : ℕ) (l : Lease) → p.lease ≡ Some l → All (IsDoneUnder h.me (hears server count l)) (ack h p server stamp count).sent
+pub acks_are : (h : Here) (p : Place) (server : ℕ) (stamp : Stamp) (count : ℕ) (l : PrimaryLease) → p.lease ≡ Some l → All (IsDoneUnder h.me (hears server count l)) (ack h p server stamp count).sent
 acks_are h p server stamp count l held =
     subst (λ o. All (IsDoneUnder h.me (hears server count l)) (or_else (unless_leased stamp p.slot o) unanswered (goes_on (λ x. settled (hears server count x)) (λ x. dones h.me (hears server count x)) o)).sent) (sym held)
     (unless_all (IsDoneUnder h.me (hears server count l)) (unless_leased stamp p.slot (Some l)) _ (dones_are h.me (hears server count l)))
@@ -73,7 +73,7 @@ pub no_acks : (h : Here) (p : Place) (server : ℕ) (stamp : Stamp) (count : ℕ
 no_acks h p server stamp count none = ap (λ o. (or_else (unless_leased stamp p.slot o) unanswered (goes_on (λ x. settled (hears server count x)) (λ x. dones h.me (hears server count x)) o)).sent) none
 
 -- of a new edit
-abbrev IfLeased : (Lease → Type 0) → LeaseChange → Type 0
+abbrev IfLeased : (PrimaryLease → Type 0) → LeaseChange → Type 0
 IfLeased P LeaseStays = Unit {0}
 IfLeased P (LeaseBecomes l) = P l
 IfLeased P LeaseSpent = Unit {0}
@@ -85,7 +85,7 @@ tells_either : (n : ℕ) (test : Bool) (x y : Part) → Tells n x → Tells n y 
 tells_either n true x y first second = first
 tells_either n false x y first second = second
 
-module _ (me handle : ℕ) (l : Lease) (n : ℕ) (edit : Open) where
+module _ (me handle : ℕ) (l : PrimaryLease) (n : ℕ) (edit : Open) where
   abbrev Told : Message → Type 0
   Told m = is_yes m.body ≡ true → IsToldByAll (opens_edit me n edit l) n
 
@@ -99,11 +99,11 @@ module _ (me handle : ℕ) (l : Lease) (n : ℕ) (edit : Open) where
       (All-map Told (forward_of me handle l None (n, edit)) (filter (λ server. not (server == me)) l.grant.members) (λ k d less yes. never_true yes))
       (at_once (is_acknowledged (hears me n l) n) refl)
 
-numbers_tell : (h : Here) (p : Place) (l : Lease) (count : ℕ) (e : Open) (r : Result Slot Refusal) → Tells (count + 1) (numbers_if h p l count e r)
+numbers_tell : (h : Here) (p : Place) (l : PrimaryLease) (count : ℕ) (e : Open) (r : Result Slot Refusal) → Tells (count + 1) (numbers_if h p l count e r)
 numbers_tell h p l count e (Err f) = tt
 numbers_tell h p l count e (Ok s) = tells_either (count + 1) (count == last_count) (refused_edit h p e.req refusals.Exhausted) (numbers h s l (count + 1) e) tt (numbered_told h.me h.handle l (count + 1) e)
 
-live_tells : (n : ℕ) (h : Here) (p : Place) (req : ReqId) (op : Op) (bytes : List ℕ) (live : Option Live) (lease : Option Lease) → ((v : Live) → live ≡ Some v → v.replica.held.count + 1 ≡ n) → Tells n (numbers_or_passes h p req op bytes live lease)
+live_tells : (n : ℕ) (h : Here) (p : Place) (req : ReqId) (op : Op) (bytes : List ℕ) (live : Option Live) (lease : Option PrimaryLease) → ((v : Live) → live ≡ Some v → v.replica.held.count + 1 ≡ n) → Tells n (numbers_or_passes h p req op bytes live lease)
 live_tells n h p req op bytes None lease count = tt
 live_tells n h p req op bytes (Some v) None count = tt
 live_tells n h p req op bytes (Some v) (Some l) count =
@@ -126,7 +126,7 @@ done_tells n h p req (Some last) part tells =
     tells_either n (req.number == last.number) (repeated h p req last.outcome) _ (tells_either n (is_known_of_all req p.slot p.lease) (sending (done h req (Ok last.outcome) ∷ [])) (sending []) tt tt)
     (tells_either n (nat_lt req.number last.number) (refused_once h req refusals.Old) part tt tells)
 
-pub edits_tell : (h : Here) (p : Place) (req : ReqId) (stamp : Stamp) (op : Op) (live : Live) (l : Lease) → p.slot.live ≡ Some live → (edit h p req stamp op).lease ≡ LeaseBecomes l →
+pub edits_tell : (h : Here) (p : Place) (req : ReqId) (stamp : Stamp) (op : Op) (live : Live) (l : PrimaryLease) → p.slot.live ≡ Some live → (edit h p req stamp op).lease ≡ LeaseBecomes l →
     All (λ m. is_yes m.body ≡ true → IsToldByAll l (live.replica.held.count + 1)) (edit h p req stamp op).sent
 edits_tell h p req stamp op live l lives is =
     let n : ℕ = live.replica.held.count + 1 in
@@ -135,7 +135,7 @@ edits_tell h p req stamp op live l lives is =
     (live_tells n h p req op (bytes_or_none (bytes_of op None h.pushed)) p.slot.live p.lease (λ v found. ap (λ (x : Live). x.replica.held.count + 1) (inside v live (sym found ∙ lives)))))))
 
 -- of a repeat
-known_to_all : (req : ReqId) (s : Slot) (lease : Option Lease) → is_known_of_all req s lease ≡ true → IsKnownToAll req (record { slot = s; lease = lease })
+known_to_all : (req : ReqId) (s : Slot) (lease : Option PrimaryLease) → is_known_of_all req s lease ≡ true → IsKnownToAll req (record { slot = s; lease = lease })
 known_to_all req s None is = never_true is
 known_to_all req s (Some l) is = record {
   lease = l;
@@ -174,9 +174,9 @@ IfNumbered P part (SlotBecomes s) = P part
 IfNumbered P part (SlotMarked block) = Unit {0}
 
 -- under each lease, of each live replica, as the replica takes it
-abbrev EachNumbered : (Part → Type 0) → Here → Place → ReqId → Op → List ℕ → Option Live → Option Lease → Type 0
+abbrev EachNumbered : (Part → Type 0) → Here → Place → ReqId → Op → List ℕ → Option Live → Option PrimaryLease → Type 0
 EachNumbered P h p req op bytes live lease =
-    (v : Live) (l : Lease) → live ≡ Some v → lease ≡ Some l → (s : Slot) → (let e : Open = opened req (numbered_op h.chunk (length v.replica.held.chunk.bytes) op) bytes v in
+    (v : Live) (l : PrimaryLease) → live ≡ Some v → lease ≡ Some l → (s : Slot) → (let e : Open = opened req (numbered_op h.chunk (length v.replica.held.chunk.bytes) op) bytes v in
     apply l.grant.stamp (v.replica.held.count + 1) req (in_replica e.op) e.bytes p.slot ≡ Ok s → P (numbers h s l (v.replica.held.count + 1) e))
 
 module _ (P : Part → Type 0) where
@@ -205,12 +205,12 @@ module _ (P : Part → Type 0) where
       (numbered_either (is_known_of_all req p.slot p.lease) (sending (done h req (Ok last.outcome) ∷ [])) (sending []) tt tt)
       (numbered_either (nat_lt req.number last.number) (refused_once h req refusals.Old) part tt fact)
 
-  if_numbered : (h : Here) (p : Place) (l : Lease) (count : ℕ) (e : Open) (r : Result Slot Refusal) → ((s : Slot) → r ≡ Ok s → P (numbers h s l (count + 1) e)) → IfNumbered P (numbers_if h p l count e r) (numbers_if h p l count e r).slot
+  if_numbered : (h : Here) (p : Place) (l : PrimaryLease) (count : ℕ) (e : Open) (r : Result Slot Refusal) → ((s : Slot) → r ≡ Ok s → P (numbers h s l (count + 1) e)) → IfNumbered P (numbers_if h p l count e r) (numbers_if h p l count e r).slot
   if_numbered h p l count e (Err f) fact = marks (refused_edit h p e.req f) (damaged_block f)
   if_numbered h p l count e (Ok s) fact =
       numbered_either (count == last_count) (refused_edit h p e.req refusals.Exhausted) (numbers h s l (count + 1) e) (marks (refused_edit h p e.req refusals.Exhausted) (damaged_block refusals.Exhausted)) (fact s refl)
 
-  live_numbered : (h : Here) (p : Place) (req : ReqId) (op : Op) (bytes : List ℕ) (live : Option Live) (lease : Option Lease) → EachNumbered P h p req op bytes live lease →
+  live_numbered : (h : Here) (p : Place) (req : ReqId) (op : Op) (bytes : List ℕ) (live : Option Live) (lease : Option PrimaryLease) → EachNumbered P h p req op bytes live lease →
       IfNumbered P (numbers_or_passes h p req op bytes live lease) (numbers_or_passes h p req op bytes live lease).slot
   live_numbered h p req op bytes None lease fact = marks (refused_edit h p req refusals.NoReplica) (damaged_block refusals.NoReplica)
   live_numbered h p req op bytes (Some v) None fact = marks (refused_edit h p req refusals.NotPrimary) (damaged_block refusals.NotPrimary)
@@ -226,7 +226,7 @@ module _ (P : Part → Type 0) where
       (live_numbered h p req op (bytes_or_none (bytes_of op None h.pushed)) p.slot.live p.lease fact))))
 
 -- what is told of it at once
-tells_under : (me handle : ℕ) (l : Lease) (n : ℕ) (e : Open) → All (λ m. is_yes m.body ≡ true → IsToldUnder (Some (opens_edit me n e l)) n) (forwards me handle l (n, e) ++ done_at_once me n e l)
+tells_under : (me handle : ℕ) (l : PrimaryLease) (n : ℕ) (e : Open) → All (λ m. is_yes m.body ≡ true → IsToldUnder (Some (opens_edit me n e l)) n) (forwards me handle l (n, e) ++ done_at_once me n e l)
 tells_under me handle l n e =
     All-weaker (λ (m : Message). is_yes m.body ≡ true → IsToldByAll (opens_edit me n e l) n) (λ m. is_yes m.body ≡ true → IsToldUnder (Some (opens_edit me n e l)) n)
     (λ m told yes. record { lease = opens_edit me n e l; is = refl; told = told yes }) (forwards me handle l (n, e) ++ done_at_once me n e l) (numbered_told me handle l n e)
@@ -246,9 +246,9 @@ is_out chunk end is = grind (arith, nat_tests)
 
 module _ (P : Part → Type 0) (h : Here) (p : Place) (req : ReqId) (many : ℕ) where
   abbrev EachPad : Type 0
-  EachPad = (v : Live) (l : Lease) (t : Slot) → p.slot.live ≡ Some v → p.lease ≡ Some l → apply l.grant.stamp (v.replica.held.count + 1) req applied.Pad [] p.slot ≡ Ok t → P (numbers h t l (v.replica.held.count + 1) (padding req))
+  EachPad = (v : Live) (l : PrimaryLease) (t : Slot) → p.slot.live ≡ Some v → p.lease ≡ Some l → apply l.grant.stamp (v.replica.held.count + 1) req applied.Pad [] p.slot ≡ Ok t → P (numbers h t l (v.replica.held.count + 1) (padding req))
 
-  pad_case : (bytes : List ℕ) (v : Live) (l : Lease) (t : Slot) (test : Bool) → test ≡ true → (apply l.grant.stamp (v.replica.held.count + 1) req applied.Pad [] p.slot ≡ Ok t → P (numbers h t l (v.replica.held.count + 1) (padding req))) →
+  pad_case : (bytes : List ℕ) (v : Live) (l : PrimaryLease) (t : Slot) (test : Bool) → test ≡ true → (apply l.grant.stamp (v.replica.held.count + 1) req applied.Pad [] p.slot ≡ Ok t → P (numbers h t l (v.replica.held.count + 1) (padding req))) →
       (let e : Open = opened req (cond test Pad (Append many)) bytes v in apply l.grant.stamp (v.replica.held.count + 1) req (in_replica e.op) e.bytes p.slot ≡ Ok t → P (numbers h t l (v.replica.held.count + 1) e))
   pad_case bytes v l t true is fact = fact
   pad_case bytes v l t false is fact = never_true is
@@ -272,13 +272,13 @@ appends_pad h p req stamp many live s lives out is =
     subst (IfSlot Q) is
     (pad_numbered (λ part. IfSlot Q part.slot) h p req many stamp live s lives out is (λ v l t found leased does.
     ap (λ (x : Live). apply stamp (x.replica.held.count + 1) req applied.Pad [] p.slot) (inside live v (sym lives ∙ found))
-    ∙ ap (λ (x : Stamp). apply x (v.replica.held.count + 1) req applied.Pad [] p.slot) (same_stamp stamp held.lease.grant.stamp held.asked ∙ ap (λ (x : Lease). x.grant.stamp) (inside held.lease l (sym held.held ∙ leased)))
+    ∙ ap (λ (x : Stamp). apply x (v.replica.held.count + 1) req applied.Pad [] p.slot) (same_stamp stamp held.lease.grant.stamp held.asked ∙ ap (λ (x : PrimaryLease). x.grant.stamp) (inside held.lease l (sym held.held ∙ leased)))
     ∙ does))
 
-abbrev sends_pad : Here → ReqId → Live → Lease → List Message
+abbrev sends_pad : Here → ReqId → Live → PrimaryLease → List Message
 sends_pad h req v l = forwards h.me h.handle l (v.replica.held.count + 1, padding req) ++ done_at_once h.me (v.replica.held.count + 1) (padding req) l
 
-pub pads_sent : (h : Here) (p : Place) (req : ReqId) (stamp : Stamp) (many : ℕ) (live : Live) (l : Lease) (s : Slot) → p.slot.live ≡ Some live → p.lease ≡ Some l → h.chunk < length live.replica.held.chunk.bytes + many → (edit h p req stamp (Append many)).slot ≡ SlotBecomes s →
+pub pads_sent : (h : Here) (p : Place) (req : ReqId) (stamp : Stamp) (many : ℕ) (live : Live) (l : PrimaryLease) (s : Slot) → p.slot.live ≡ Some live → p.lease ≡ Some l → h.chunk < length live.replica.held.chunk.bytes + many → (edit h p req stamp (Append many)).slot ≡ SlotBecomes s →
     (edit h p req stamp (Append many)).sent ≡ sends_pad h req live l
 pads_sent h p req stamp many live l s lives leases out is =
     pad_numbered (λ part. part.sent ≡ sends_pad h req live l) h p req many stamp live s lives out is (λ v k t found leased does.

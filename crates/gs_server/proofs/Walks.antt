@@ -30,10 +30,10 @@ use Rattle.gs_store.specs.Calls.{Call, Creates, Advances, CopiesIn, TakesCopy, D
 use Rattle.gs_store.proofs.Laws.{Holds, of_ok, of_unless}
 use Rattle.gs_store.proofs.Standing.{of_live}
 use Rattle.gs_store.proofs.Running.{is_granted, first_none}
-use Rattle.gs_primary.specs.Numbering.{numbered_op, is_passed}
+use Rattle.gs_server_lease.specs.Numbering.{numbered_op, is_passed}
 use Rattle.gs_server.specs.declared.turn.KeptRefusal.{KeptRefusal}
-use Rattle.gs_primary.specs.declared.lease.Open.{Open}
-use Rattle.gs_primary.specs.Leases.{Lease, granted, renews, settled, hears, dones, is_acknowledged, waits_for, opens_edit}
+use Rattle.gs_server_lease.specs.declared.lease.Open.{Open}
+use Rattle.gs_server_lease.specs.Leases.{PrimaryLease, granted, renews, settled, hears, dones, is_acknowledged, waits_for, opens_edit}
 use Rattle.gs_server.specs.Places.{Place, Here, Part, LeaseStays, LeaseSpent, after, lease_after, of_promise, slot_after, marked_by, damaged_block, or_else, other_epoch, unanswered, sending}
 use Rattle.gs_server.specs.Promises as promising
 use Rattle.gs_server.specs.Holding.{takes, goes_on, supplies_to, from_server, unless_leased, is_held}
@@ -47,18 +47,18 @@ use Rattle.gs_server.proofs.Counted.{same_stamp}
 use Rattle.gs_server.proofs.Keeping.{not_met}
 
 -- a lease of a stamp
-pub record IsLeaseOf (stamp : Stamp) (lease : Option Lease) : Type 0 where
-  pub l : Lease
+pub record IsLeaseOf (stamp : Stamp) (lease : Option PrimaryLease) : Type 0 where
+  pub l : PrimaryLease
   pub is : lease ≡ Some l
   pub same : stamp ≡ l.grant.stamp
 
 -- a lease goes on under its stamp, or is gone
-abbrev pub GoesOn : Option Lease → Option Lease → Type 0
+abbrev pub GoesOn : Option PrimaryLease → Option PrimaryLease → Type 0
 GoesOn old None = Unit {0}
 GoesOn old (Some l) = IsLeaseOf l.grant.stamp old
 
 -- a lease is of the promise
-abbrev pub IsOf : Stamp → Option Lease → Type 0
+abbrev pub IsOf : Stamp → Option PrimaryLease → Type 0
 IsOf promise None = Unit {0}
 IsOf promise (Some l) = l.grant.stamp ≡ promise
 
@@ -120,34 +120,34 @@ pub record Suits (epoch : ℕ) (reseals : Bool) (Comes : Held → Type 0) (Spare
 
 -- ---- leases
 
-pub same_lease : (lease : Option Lease) → GoesOn lease lease
+pub same_lease : (lease : Option PrimaryLease) → GoesOn lease lease
 same_lease None = tt
 same_lease (Some l) = record { l = l; is = refl; same = refl }
 
-promised_or_spent : (l : Lease) (b : Bool) → GoesOn (Some l) (lease_after (Some l) (cond b LeaseStays LeaseSpent))
+promised_or_spent : (l : PrimaryLease) (b : Bool) → GoesOn (Some l) (lease_after (Some l) (cond b LeaseStays LeaseSpent))
 promised_or_spent l true = record { l = l; is = refl; same = refl }
 promised_or_spent l false = tt
 
-pub promise_lease : (promise : Stamp) (lease : Option Lease) → GoesOn lease (lease_after lease (of_promise promise lease))
+pub promise_lease : (promise : Stamp) (lease : Option PrimaryLease) → GoesOn lease (lease_after lease (of_promise promise lease))
 promise_lease promise None = tt
 promise_lease promise (Some l) = promised_or_spent l (is_same l.grant.stamp promise)
 
-of_or_spent : (promise : Stamp) (l : Lease) (b : Bool) → is_same l.grant.stamp promise ≡ b → IsOf promise (lease_after (Some l) (cond b LeaseStays LeaseSpent))
+of_or_spent : (promise : Stamp) (l : PrimaryLease) (b : Bool) → is_same l.grant.stamp promise ≡ b → IsOf promise (lease_after (Some l) (cond b LeaseStays LeaseSpent))
 of_or_spent promise l true is = same_stamp l.grant.stamp promise is
 of_or_spent promise l false is = tt
 
-pub lease_of_promise : (promise : Stamp) (lease : Option Lease) → IsOf promise (lease_after lease (of_promise promise lease))
+pub lease_of_promise : (promise : Stamp) (lease : Option PrimaryLease) → IsOf promise (lease_after lease (of_promise promise lease))
 lease_of_promise promise None = tt
 lease_of_promise promise (Some l) = of_or_spent promise l (is_same l.grant.stamp promise) refl
 
-pub of_same : (s t : Slot) (lease : Option Lease) → t.promise ≡ s.promise → IsOf s.promise lease → IsOf t.promise lease
+pub of_same : (s t : Slot) (lease : Option PrimaryLease) → t.promise ≡ s.promise → IsOf s.promise lease → IsOf t.promise lease
 of_same s t lease same of = subst (λ (x : Stamp). IsOf x lease) (sym same) of
 
-either_lease : (b : Bool) (l m : Lease) (stamp : Stamp) → l.grant.stamp ≡ stamp → m.grant.stamp ≡ stamp → (cond b l m).grant.stamp ≡ stamp
+either_lease : (b : Bool) (l m : PrimaryLease) (stamp : Stamp) → l.grant.stamp ≡ stamp → m.grant.stamp ≡ stamp → (cond b l m).grant.stamp ≡ stamp
 either_lease true l m stamp first second = first
 either_lease false l m stamp first second = second
 
-opened_stamp : (me number : ℕ) (edit : Open) (l : Lease) → (opens_edit me number edit l).grant.stamp ≡ l.grant.stamp
+opened_stamp : (me number : ℕ) (edit : Open) (l : PrimaryLease) → (opens_edit me number edit l).grant.stamp ≡ l.grant.stamp
 opened_stamp me number edit l = either_lease (is_acknowledged (hears me number l) number) (hears me number l) (waits_for number edit (hears me number l)) l.grant.stamp refl refl
 
 -- ---- promises that stay
@@ -228,11 +228,11 @@ granting : (h : Here) (chunk : Chunk) (p : Place) (given : Grant) (m : Result Sl
 granting h chunk p given (Ok s) is = inr (inr (record { given = given; is = is; lease = refl }))
 granting h chunk p given (Err e) is = nothing h chunk p
 
-going_on : (h : Here) (chunk : Chunk) (s : Slot) (lease : Option Lease) (next : Lease → Lease) (sent : Lease → List Message) → ((l : Lease) → (next l).grant.stamp ≡ l.grant.stamp) → Does h chunk (record { slot = s; lease = lease }) (goes_on next sent lease)
+going_on : (h : Here) (chunk : Chunk) (s : Slot) (lease : Option PrimaryLease) (next : PrimaryLease → PrimaryLease) (sent : PrimaryLease → List Message) → ((l : PrimaryLease) → (next l).grant.stamp ≡ l.grant.stamp) → Does h chunk (record { slot = s; lease = lease }) (goes_on next sent lease)
 going_on h chunk s None next sent same = nothing h chunk (record { slot = s; lease = None })
 going_on h chunk s (Some l) next sent same = inl (record { slot = refl; lease = record { l = l; is = refl; same = same l } })
 
-supplying : (h : Here) (chunk : Chunk) (p : Place) (e : Refusal) (server : ℕ) (l : Option Lease) → Does h chunk p (supplies_to h e server l)
+supplying : (h : Here) (chunk : Chunk) (p : Place) (e : Refusal) (server : ℕ) (l : Option PrimaryLease) → Does h chunk p (supplies_to h e server l)
 supplying h chunk p e server None = nothing h chunk p
 supplying h chunk p e server (Some l) = nothing h chunk p
 
@@ -245,7 +245,7 @@ gives h chunk p req (Err e) = marking h chunk p e
 edit_refused : (h : Here) (chunk : Chunk) (p : Place) (req : ReqId) (e : Refusal) → Does h chunk p (refused_edit h p req e)
 edit_refused h chunk p req e = marking h chunk p e
 
-numbering_if : (h : Here) (chunk : Chunk) (s : Slot) (l : Lease) (count : ℕ) (edit : Open) (m : Result Slot Refusal) → apply l.grant.stamp (count + 1) edit.req (in_replica edit.op) edit.bytes s ≡ m
+numbering_if : (h : Here) (chunk : Chunk) (s : Slot) (l : PrimaryLease) (count : ℕ) (edit : Open) (m : Result Slot Refusal) → apply l.grant.stamp (count + 1) edit.req (in_replica edit.op) edit.bytes s ≡ m
     → Does h chunk (record { slot = s; lease = Some l }) (edits.numbers_if h (record { slot = s; lease = Some l }) l count edit m)
 numbering_if h chunk s l count edit (Err e) is = edit_refused h chunk (record { slot = s; lease = Some l }) edit.req e
 numbering_if h chunk s l count edit (Ok t) is =
@@ -260,7 +260,7 @@ numbering_if h chunk s l count edit (Ok t) is =
       promised = λ of. opened_stamp h.me (count + 1) edit l ∙ of ∙ sym (applied_promise l.grant.stamp (count + 1) edit.req (in_replica edit.op) edit.bytes s t is);
     })))
 
-numbering : (h : Here) (chunk : Chunk) (s : Slot) (req : ReqId) (op : Op) (bytes : List ℕ) (live : Option Live) (lease : Option Lease)
+numbering : (h : Here) (chunk : Chunk) (s : Slot) (req : ReqId) (op : Op) (bytes : List ℕ) (live : Option Live) (lease : Option PrimaryLease)
     → Does h chunk (record { slot = s; lease = lease }) (numbers_or_passes h (record { slot = s; lease = lease }) req op bytes live lease)
 numbering h chunk s req op bytes None lease = edit_refused h chunk (record { slot = s; lease = lease }) req refusals.NoReplica
 numbering h chunk s req op bytes (Some live) None = edit_refused h chunk (record { slot = s; lease = None }) req refusals.NotPrimary

@@ -28,12 +28,12 @@ use Rattle.gs_replica.specs.Seals as replicas
 use Rattle.gs_replica.specs.Copies.{Image, SealedImage, of_sealed, sealed_there}
 use Rattle.gs_replica.specs.Whole.{HasUndone}
 use Rattle.gs_replica.proofs.Listing.{seal_ok, judged_ok}
-use Rattle.gs_sealed.specs.Trash.{trash_of}
+use Rattle.gs_store_seal.specs.Trash.{trash_of}
 use Rattle.gs_store.specs.Slots.{Live, Slot, damage_of, when, first_of, unless_live, unless_promised, if_bad, check_grant, is_taken, taking, lost, removed, risen, mark_bad, again, replaced, trash_behind, trashed_seal, seal_in, seal_of, sealed_of, take_lease}
 use Rattle.gs_store.specs.Whole.{TrashSealed, Reaches, Keeps, LiveWhole, TrashWhole, IsWholeSlot}
 use Rattle.gs_store.specs.Serving.{apply_to}
 use Rattle.gs_store.specs.Moves.{in_trash, copied_in}
-use Rattle.gs_sealed.specs.Rollback.{later}
+use Rattle.gs_store_seal.specs.Rollback.{later}
 use Rattle.gs_store.specs.Learning.{start_of, rolled_to, prepared, finalized}
 use Rattle.gs_store.specs.Calls.{Call, Creates, Advances, CopiesIn, TakesCopy, Drops, TakesLease, Loses, Damages, MarksBad, Applies, Seals, Unseals, RollsBack, called}
 use Rattle.gs_store.specs.Stores.{or_nothing}

@@ -20,10 +20,10 @@ use Rattle.gs_msg.specs.declared.body.Body.TheVariants as bodies
 use Rattle.gs_msg.specs.declared.chunk.Chunk.TheVariants as chunks
 use Rattle.gs_store.specs.Slots.{Live, Slot, first_of, when, unless_live, unless_promised, standing, dropped, empty_replica, sealed_replica}
 use Rattle.gs_store.specs.Serving.{apply, done_in}
-use Rattle.gs_primary.specs.declared.lease.Open.{Open}
+use Rattle.gs_server_lease.specs.declared.lease.Open.{Open}
 use Rattle.gs_server.specs.declared.turn.KeptRefusal.{KeptRefusal}
-use Rattle.gs_primary.specs.Leases.{Lease, tell, is_over, waits, opens_edit, done_at_once, forwards, granted, stamp_of, moment_of, request_of}
-use Rattle.gs_primary.specs.Numbering.{is_too_long, numbered_op, is_passed}
+use Rattle.gs_server_lease.specs.Leases.{PrimaryLease, tell, is_over, waits, opens_edit, done_at_once, forwards, granted, stamp_of, moment_of, request_of}
+use Rattle.gs_server_lease.specs.Numbering.{is_too_long, numbered_op, is_passed}
 use Rattle.gs_server.specs.Places.{Place, Here, SlotStays, SlotBecomes, LeaseStays, LeaseBecomes, Part, about, sending, refused, or_else, damaged_block, marked_by, tells_bad}
 use Rattle.gs_server.specs.Promises.{here, unleased}
 use Rattle.gs_server.specs.Holding.{quiet, numbering, grant_of}
@@ -80,12 +80,12 @@ refused_edit h p req refusal = record {
 }
 
 -- No edit is numbered without a lease whose stamp is asked for and is the promise.
-abbrev pub unless_holding : Stamp → Slot → Option Lease → Option Refusal
+abbrev pub unless_holding : Stamp → Slot → Option PrimaryLease → Option Refusal
 unless_holding stamp s None = Some refusals.NotPrimary
 unless_holding stamp s (Some l) = when (not (is_same stamp l.grant.stamp) || not (is_same l.grant.stamp s.promise)) (refusals.Stamp s.promise)
 
 -- nor from the lease's end on
-abbrev pub unless_over : Moment → Option Lease → Option Refusal
+abbrev pub unless_over : Moment → Option PrimaryLease → Option Refusal
 unless_over moment None = None
 unless_over moment (Some l) = when (is_over moment l) refusals.LeaseOver
 
@@ -97,7 +97,7 @@ abbrev pub opened : ReqId → Op → List ℕ → Live → Open
 opened req op bytes live = record { req = req; op = op; bytes = applied_bytes op bytes; outcome = outcome_of (in_replica op) live.replica.held.chunk }
 
 -- The edit is applied, waits for the members, and goes to the others; with one member its client is told at once.
-abbrev pub numbers : Here → Slot → Lease → ℕ → Open → Part
+abbrev pub numbers : Here → Slot → PrimaryLease → ℕ → Open → Part
 numbers h s l number edit = record {
   slot = SlotBecomes s;
   lease = LeaseBecomes (opens_edit h.me number edit l);
@@ -108,16 +108,16 @@ numbers h s l number edit = record {
 }
 
 -- The replica refuses Range and Damaged; then the count may be at its last value.
-abbrev pub numbers_if : Here → Place → Lease → ℕ → Open → Result Slot Refusal → Part
+abbrev pub numbers_if : Here → Place → PrimaryLease → ℕ → Open → Result Slot Refusal → Part
 numbers_if h p l count edit (Err refusal) = refused_edit h p edit.req refusal
 numbers_if h p l count edit (Ok s) = cond (count == last_count) (refused_edit h p edit.req refusals.Exhausted) (numbers h s l (count + 1) edit)
 
-abbrev pub numbers_as : Here → Place → Live → Lease → Open → Part
+abbrev pub numbers_as : Here → Place → Live → PrimaryLease → Open → Part
 numbers_as h p live l edit =
     numbers_if h p l live.replica.held.count edit (apply l.grant.stamp (live.replica.held.count + 1) edit.req (in_replica edit.op) edit.bytes p.slot)
 
 -- a full chunk is passed without an edit
-abbrev pub numbers_or_passes : Here → Place → ReqId → Op → List ℕ → Option Live → Option Lease → Part
+abbrev pub numbers_or_passes : Here → Place → ReqId → Op → List ℕ → Option Live → Option PrimaryLease → Part
 numbers_or_passes h p req op bytes None lease = refused_edit h p req refusals.NoReplica
 numbers_or_passes h p req op bytes (Some live) None = refused_edit h p req refusals.NotPrimary
 numbers_or_passes h p req op bytes (Some live) (Some l) =
@@ -140,7 +140,7 @@ new_edit h p req stamp op =
     (numbers_or_passes h p req op (bytes_or_none (bytes_of op None h.pushed)) p.slot.live p.lease)
 
 -- The client's last edit again: the same answer, once every member has it. That is known only under a lease of the promise.
-abbrev pub is_known_of_all : ReqId → Slot → Option Lease → Bool
+abbrev pub is_known_of_all : ReqId → Slot → Option PrimaryLease → Bool
 is_known_of_all req s None = false
 is_known_of_all req s (Some l) = is_same l.grant.stamp s.promise && not (waits req l)
 

@@ -14,7 +14,7 @@ use Rattle.gs_msg.specs.declared.chunk.Asked.TheVariants as asks
 use Rattle.gs_msg.specs.declared.chunk.Chunk.TheVariants as chunks
 use Rattle.gs_store.specs.Slots.{Slot, standing, dropped, empty_replica, sealed_replica, mark_bad}
 use Rattle.gs_store.specs.Serving.{read, text_length, digest}
-use Rattle.gs_primary.specs.Leases.{tell, stamp_of, request_of}
+use Rattle.gs_server_lease.specs.Leases.{tell, stamp_of, request_of}
 use Rattle.gs_server.specs.Places.{Place, Here, Part, sending, about, refused, or_else, other_epoch}
 use Rattle.gs_server.specs.Promises.{here, unleased}
 use Rattle.gs_server.specs.Holding.{quiet}

@@ -10,11 +10,11 @@ use Rattle.gs_msg.specs.declared.node.NodeId.{NodeId}
 use Rattle.gs_msg.specs.declared.node.NodeId.TheVariants as nodes
 use Rattle.gs_msg.specs.declared.message.Message.{Message}
 use Rattle.gs_store.specs.Slots.{Slot, first_of, when, check_grant, take_lease, taking, standing, empty_replica}
-use Rattle.gs_primary.specs.Leases.{Lease, granted, hears, settled, dones, supplies, renews, stamp_of, moment_of, waiting, two_bytes, done_of, forward_of}
+use Rattle.gs_server_lease.specs.Leases.{PrimaryLease, granted, hears, settled, dones, supplies, renews, stamp_of, moment_of, waiting, two_bytes, done_of, forward_of}
 use Rattle.gs_server.specs.Places.{Place, Here, SlotStays, SlotBecomes, LeaseBecomes, Part, after, changing, sending, unanswered, or_else, other_epoch}
 use Rattle.gs_server.specs.Promises.{here, unleased}
 
-abbrev pub is_held : Stamp → Option Lease → Bool
+abbrev pub is_held : Stamp → Option PrimaryLease → Bool
 is_held stamp None = false
 is_held stamp (Some l) = is_same l.grant.stamp stamp
 
@@ -29,16 +29,16 @@ grant h p given =
     (cond (is_held given.stamp p.lease) (sending []) (takes given (take_lease given.stamp p.slot)))
 
 -- what is said of a lease is heard under its own stamp alone
-abbrev pub unless_leased : Stamp → Slot → Option Lease → Option Refusal
+abbrev pub unless_leased : Stamp → Slot → Option PrimaryLease → Option Refusal
 unless_leased stamp s None = Some refusals.NotPrimary
 unless_leased stamp s (Some l) = when (not (is_same stamp l.grant.stamp)) (refusals.Stamp s.promise)
 
 -- a lease goes on, and some messages are sent
-abbrev pub goes_on : (Lease → Lease) → (Lease → List Message) → Option Lease → Part
+abbrev pub goes_on : (PrimaryLease → PrimaryLease) → (PrimaryLease → List Message) → Option PrimaryLease → Part
 goes_on next sent None = sending []
 goes_on next sent (Some l) = changing SlotStays (LeaseBecomes (next l)) (sent l)
 
-abbrev pub of_lease : Place → Stamp → (Lease → Lease) → (Lease → List Message) → Part
+abbrev pub of_lease : Place → Stamp → (PrimaryLease → PrimaryLease) → (PrimaryLease → List Message) → Part
 of_lease p stamp next sent = or_else (unless_leased stamp p.slot p.lease) unanswered (goes_on next sent p.lease)
 
 -- the greater end stays
@@ -54,7 +54,7 @@ abbrev pub wants_bytes : Refusal → Bool
 wants_bytes refusals.NoData = true
 wants_bytes refusal = false
 
-abbrev pub supplies_to : Here → Refusal → ℕ → Option Lease → Part
+abbrev pub supplies_to : Here → Refusal → ℕ → Option PrimaryLease → Part
 supplies_to h refusal server None = sending []
 supplies_to h refusal server (Some l) = sending (cond (wants_bytes refusal) (supplies h.me h.handle server l) [])
 

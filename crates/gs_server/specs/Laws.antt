@@ -14,8 +14,8 @@ use Rattle.gs_msg.specs.declared.op.Op.TheVariants.{Pad}
 use Rattle.gs_msg.specs.declared.message.Message.{Message}
 use Rattle.gs_msg.specs.declared.body.Body.{Body}
 use Rattle.gs_msg.specs.declared.body.Body.TheVariants as bodies
-use Rattle.gs_primary.specs.declared.lease.Open.{Open}
-use Rattle.gs_primary.specs.Leases.{Lease, is_over, told_by, done_of, waits}
+use Rattle.gs_server_lease.specs.declared.lease.Open.{Open}
+use Rattle.gs_server_lease.specs.Leases.{PrimaryLease, is_over, told_by, done_of, waits}
 use Rattle.gs_base.specs.declared.refusal.Refusal.{Refusal}
 use Rattle.gs_base.specs.declared.refusal.Refusal.TheVariants as refusals
 use Rattle.gs_msg.specs.declared.chunk.Chunk.{Chunk}
@@ -28,7 +28,7 @@ use Rattle.gs_server.specs.Places.{Place, Part, SlotChange, SlotStays, SlotBecom
 
 -- a lease of this stamp is held, which is the promise, at a moment below its end
 pub record IsHeldFor (moment : Moment) (stamp : Stamp) (p : Place) : Type 0 where
-  pub lease : Lease
+  pub lease : PrimaryLease
   pub held : p.lease ≡ Some lease
   pub asked : is_same stamp lease.grant.stamp ≡ true
   pub promised : is_same lease.grant.stamp p.slot.promise ≡ true
@@ -87,12 +87,12 @@ is_yes (bodies.Done req (Ok outcome)) = true
 is_yes body = false
 
 -- every member of a lease has told a count that reaches a number
-pub record IsToldByAll (l : Lease) (number : ℕ) : Type 0 where
+pub record IsToldByAll (l : PrimaryLease) (number : ℕ) : Type 0 where
   pub each : All (λ server. number ≤ told_by l.told server) l.grant.members
 
 -- a lease is held under which every member has
-pub record IsToldUnder (held : Option Lease) (number : ℕ) : Type 0 where
-  pub lease : Lease
+pub record IsToldUnder (held : Option PrimaryLease) (number : ℕ) : Type 0 where
+  pub lease : PrimaryLease
   pub is : held ≡ Some lease
   pub told : IsToldByAll lease number
 
@@ -101,7 +101,7 @@ abbrev pub padding : ReqId → Open
 padding req = record { req = req; op = Pad; bytes = []; outcome = Padded }
 
 -- what is told of an edit that waits under a lease, and of which every member has told
-pub record IsDoneUnder (me : ℕ) (l : Lease) (m : Message) : Type 0 where
+pub record IsDoneUnder (me : ℕ) (l : PrimaryLease) (m : Message) : Type 0 where
   pub number : ℕ
   pub edit : Open
   pub waiting : Contains l.outbox (number, edit)
@@ -110,7 +110,7 @@ pub record IsDoneUnder (me : ℕ) (l : Lease) (m : Message) : Type 0 where
 
 -- a lease of the promise is held, under which a request's edit doesn't wait
 pub record IsKnownToAll (req : ReqId) (p : Place) : Type 0 where
-  pub lease : Lease
+  pub lease : PrimaryLease
   pub held : p.lease ≡ Some lease
   pub promised : is_same lease.grant.stamp p.slot.promise ≡ true
   pub known : waits req lease ≡ false

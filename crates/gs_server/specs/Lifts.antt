@@ -4,12 +4,12 @@ use Rattle.gs_base.specs.declared.numbers.Moment.{Moment}
 use Rattle.gs_base.specs.declared.epoch.EpochEnd.{EpochEnd}
 use Rattle.gs_base.specs.declared.epoch.EpochEnd.TheVariants.{Prepare, Finalize, Rollback}
 use Rattle.gs_store.specs.Stores as stores
-use Rattle.gs_primary.specs.Leases.{Lease, moment_of}
+use Rattle.gs_server_lease.specs.Leases.{PrimaryLease, moment_of}
 use Rattle.gs_server.specs.Places.{Place}
 use Rattle.gs_server.specs.Holding.{numbering}
 use Rattle.gs_server.specs.Servers.{stands_at}
 
-abbrev pub with_lease : Option Lease → Place → Place
+abbrev pub with_lease : Option PrimaryLease → Place → Place
 with_lease lease p = record { slot = p.slot; lease = lease }
 
 -- a tick spends a lease that is over
@@ -21,7 +21,7 @@ abbrev pub restarted : Place → Place
 restarted p = with_lease None p
 
 -- and so does a rollback
-abbrev pub lease_at : EpochEnd → Option Lease → Option Lease
+abbrev pub lease_at : EpochEnd → Option PrimaryLease → Option PrimaryLease
 lease_at Rollback lease = None
 lease_at Prepare lease = lease
 lease_at Finalize lease = lease

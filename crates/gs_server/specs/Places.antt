@@ -13,12 +13,12 @@ use Rattle.gs_msg.specs.declared.chunk.Chunk.TheVariants as chunks
 use Rattle.gs_msg.specs.declared.body.Body.TheVariants as bodies
 use Rattle.gs_store.specs.Slots.{Slot, when, mark_bad, nothing}
 use Rattle.gs_server.specs.declared.turn.KeptRefusal.{KeptRefusal}
-use Rattle.gs_primary.specs.Leases.{Lease, tell}
+use Rattle.gs_server_lease.specs.Leases.{PrimaryLease, tell}
 
 -- the slot, which is kept for good, and the lease that is held
 pub record Place : Type 0 where
   pub slot : Slot
-  pub lease : Option Lease
+  pub lease : Option PrimaryLease
 
 -- Who handles a message about a chunk, and when; and what of the shared part it finds: the epoch, the edit of its client that
 -- was refused last, and the bytes that were pushed for its request.
@@ -41,7 +41,7 @@ pub data SlotChange : Type 0 where
 -- what becomes of a lease
 pub data LeaseChange : Type 0 where
   LeaseStays : LeaseChange
-  LeaseBecomes : Lease → LeaseChange
+  LeaseBecomes : PrimaryLease → LeaseChange
   LeaseSpent : LeaseChange
 
 -- What a message about a chunk comes to: what becomes of the place; the refusal of an edit that is kept from now on, if one is;
@@ -59,7 +59,7 @@ slot_after s SlotStays = s
 slot_after s (SlotBecomes new) = new
 slot_after s (SlotMarked block) = mark_bad block s
 
-abbrev pub lease_after : Option Lease → LeaseChange → Option Lease
+abbrev pub lease_after : Option PrimaryLease → LeaseChange → Option PrimaryLease
 lease_after lease LeaseStays = lease
 lease_after lease (LeaseBecomes l) = Some l
 lease_after lease LeaseSpent = None
@@ -80,7 +80,7 @@ abbrev pub sending : List Message → Part
 sending sent = changing SlotStays LeaseStays sent
 
 -- a lease whose stamp isn't the promise any more is spent
-abbrev pub of_promise : Stamp → Option Lease → LeaseChange
+abbrev pub of_promise : Stamp → Option PrimaryLease → LeaseChange
 of_promise promise None = LeaseStays
 of_promise promise (Some l) = cond (is_same l.grant.stamp promise) LeaseStays LeaseSpent
 

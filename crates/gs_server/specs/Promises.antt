@@ -11,7 +11,7 @@ use Rattle.gs_msg.specs.declared.chunk.Chunk.TheVariants as chunks
 use Rattle.gs_store.specs.Slots.{Slot, count_of, standing, dropped, empty_replica, sealed_replica, mark_bad}
 use Rattle.gs_store.specs.Slots as slots
 use Rattle.gs_store.specs.Moves as moves
-use Rattle.gs_primary.specs.Leases.{granted, stamp_of, moment_of}
+use Rattle.gs_server_lease.specs.Leases.{granted, stamp_of, moment_of}
 use Rattle.gs_server.specs.Places.{Place, Here, SlotChange, SlotStays, SlotBecomes, LeaseStays, LeaseSpent, Part, after, changing, sending, about, refused, unanswered, or_else, other_epoch, promising, damaged_block, marked_by, tells_bad, count_or_none, empty_place}
 
 -- a yes: how many edits are applied, and whether the copy of this stamp carried its sealed image

@@ -16,7 +16,7 @@ use Rattle.gs_store.specs.Slots.{Slot, is_taken}
 use Rattle.gs_store.specs.Stores.{slot_of}
 use Rattle.gs_store.specs.Standing.{struck_by_damage}
 use Rattle.gs_store.specs.Calls.{Call, called, LeadsTo}
-use Rattle.gs_primary.specs.Leases.{moment_of}
+use Rattle.gs_server_lease.specs.Leases.{moment_of}
 use Rattle.gs_server.specs.Servers.{Server, new, store_of, handle, tick, restart, lose, damage, learn}
 
 -- a message comes, time goes on, the server starts again, or what it keeps of a chunk is lost or damaged

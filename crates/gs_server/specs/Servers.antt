@@ -29,7 +29,7 @@ use Rattle.gs_msg.specs.declared.chunk.Chunk.TheVariants as chunks
 use Rattle.gs_server.specs.declared.turn.KeptRefusal.{KeptRefusal}
 use Rattle.gs_server.specs.declared.turn.Turn.{Turn}
 use Rattle.gs_server.specs.contracts.turn.KeptRefusal as kept_refusals
-use Rattle.gs_primary.specs.Leases.{Lease, coded_lease, tell, reminds, is_over}
+use Rattle.gs_server_lease.specs.Leases.{PrimaryLease, coded_lease, tell, reminds, is_over}
 use Rattle.gs_server.specs.Places.{Place, Here, Part, SlotChange, SlotStays, SlotBecomes, SlotMarked, LeaseChange, LeaseStays, LeaseBecomes, LeaseSpent, unanswered}
 use Rattle.gs_server.specs.Promises as promises
 use Rattle.gs_server.specs.Promises.{Copying}
@@ -51,7 +51,7 @@ pub record Kept : Type 0 where
 
 -- what it drops: the leases that are held, and the bytes that were pushed and are not used
 pub record Dropped : Type 0 where
-  pub leases : fin.FinMap nat_cmp Lease
+  pub leases : fin.FinMap nat_cmp PrimaryLease
   pub buffer : Pushes
 
 -- which server it is, and the sizes of a block and of a chunk
@@ -69,7 +69,7 @@ coded_kept =
     (λ k. (k.epoch, (k.slots, k.refused))) (λ p. record { epoch = p.0; slots = p.1.0; refused = p.1.1 }) (λ _. refl)
 
 abbrev pub coded_dropped : Coded Dropped
-coded_dropped = code_by (fin.FinMap nat_cmp Lease × Pushes) (coded× (fin.code coded_ℕ coded_lease) coded_pushes) (λ d. (d.leases, d.buffer)) (λ p. record { leases = p.0; buffer = p.1 }) (λ _. refl)
+coded_dropped = code_by (fin.FinMap nat_cmp PrimaryLease × Pushes) (coded× (fin.code coded_ℕ coded_lease) coded_pushes) (λ d. (d.leases, d.buffer)) (λ p. record { leases = p.0; buffer = p.1 }) (λ _. refl)
 
 abbrev pub coded_server : Coded Server
 coded_server =
@@ -95,7 +95,7 @@ with_store t s = record {
   dropped = record { leases = s.dropped.leases; buffer = t.buffer };
 }
 
-abbrev pub with_leases : fin.FinMap nat_cmp Lease → Server → Server
+abbrev pub with_leases : fin.FinMap nat_cmp PrimaryLease → Server → Server
 with_leases leases s = record { me = s.me; block = s.block; chunk = s.chunk; kept = s.kept; dropped = record { leases = leases; buffer = s.dropped.buffer } }
 
 abbrev pub with_refused : fin.FinMap client_cmp KeptRefusal → Server → Server
@@ -130,7 +130,7 @@ change_slot handle SlotStays t = t
 change_slot handle (SlotBecomes slot) t = with_slot handle slot t
 change_slot handle (SlotMarked block) t = mark_bad handle block t
 
-abbrev pub change_lease : ℕ → LeaseChange → fin.FinMap nat_cmp Lease → fin.FinMap nat_cmp Lease
+abbrev pub change_lease : ℕ → LeaseChange → fin.FinMap nat_cmp PrimaryLease → fin.FinMap nat_cmp PrimaryLease
 change_lease handle LeaseStays leases = leases
 change_lease handle (LeaseBecomes l) leases = fin.insert leases handle l
 change_lease handle LeaseSpent leases = fin.remove leases handle
@@ -159,9 +159,9 @@ pub record Step : Type 0 where
   pub said : Option Refusal
 
 -- a call of the code does what an event comes to, or it has no memory, changes nothing and sends nothing
-abbrev pub Steps : Step → Result Turn Refusal → Server → Server → Type 0
-Steps step (Ok turn) old new = (new ≡ step.after) × (turn.sent.items ≡ step.sent) × (turn.said ≡ step.said)
-Steps step (Err e) old new = (e ≡ refusals.Memory) × (new ≡ old)
+abbrev pub ServerSteps : Step → Result Turn Refusal → Server → Server → Type 0
+ServerSteps step (Ok turn) old new = (new ≡ step.after) × (turn.sent.items ≡ step.sent) × (turn.said ≡ step.said)
+ServerSteps step (Err e) old new = (e ≡ refusals.Memory) × (new ≡ old)
 
 abbrev pub step_of : ℕ → Option ReqId → Part → Server → Step
 step_of handle req part s = record { after = changed_by handle req part s; sent = part.sent; said = part.said }
@@ -207,7 +207,7 @@ abbrev pub push : Server → ReqId → List ℕ → Step
 push s req bytes = record { after = with_store (stores.push req bytes (store_of s)) s; sent = []; said = None }
 
 -- a rollback spends every lease
-abbrev pub leases_after : EpochEnd → fin.FinMap nat_cmp Lease → fin.FinMap nat_cmp Lease
+abbrev pub leases_after : EpochEnd → fin.FinMap nat_cmp PrimaryLease → fin.FinMap nat_cmp PrimaryLease
 leases_after Rollback leases = fin.empty
 leases_after Prepare leases = leases
 leases_after Finalize leases = leases
@@ -247,14 +247,14 @@ handle s message moment = handle_body s message.from message.body moment
 -- ---- other events
 
 -- leases that are over are spent, and of each other one the edits that wait are sent again
-abbrev pub stands_at : Moment → Option Lease → Bool
+abbrev pub stands_at : Moment → Option PrimaryLease → Bool
 stands_at moment None = false
 stands_at moment (Some l) = not (is_over moment l)
 
-abbrev pub standing_leases : Moment → fin.FinMap nat_cmp Lease → fin.FinMap nat_cmp Lease
+abbrev pub standing_leases : Moment → fin.FinMap nat_cmp PrimaryLease → fin.FinMap nat_cmp PrimaryLease
 standing_leases moment leases = fin.retain_keys leases (λ handle. stands_at moment (fin.get leases handle))
 
-abbrev pub reminds_all : ℕ → Moment → List (ℕ × Lease) → List Message
+abbrev pub reminds_all : ℕ → Moment → List (ℕ × PrimaryLease) → List Message
 reminds_all me moment entries = flat_map (λ e. cond (is_over moment e.1) [] (reminds me e.0 e.1)) entries
 
 abbrev pub tick : Server → Moment → Step

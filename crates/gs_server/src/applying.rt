@@ -1,7 +1,7 @@
 // An edit that a message tells, applied to a live replica.
 ghost use Rattle.std.specs.Prelude.{◌≡◌, ◌≢◌, ℕ, List, Option, Some, None, IfOk};
 ghost use Rattle.gs_msg.specs.declared.op.Op.TheVariants.{Pad};
-ghost use Rattle.gs_block.specs.Follows.{Follows};
+ghost use Rattle.gs_base.specs.Calls.{Follows};
 ghost use Rattle.gs_store.specs.Buffers.{pushed};
 ghost use Rattle.gs_server.specs.Edits.{bytes_of};
 ghost use Rattle.gs_server.specs.inner.Applying.{applied_with};

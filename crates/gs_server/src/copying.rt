@@ -1,12 +1,11 @@
 ghost use Rattle.std.specs.Prelude.{None};
-ghost use Rattle.gs_server.specs.Servers.{Steps, step_of, here_of, place_of};
+ghost use Rattle.gs_server.specs.Servers.{ServerSteps, step_of, here_of, place_of};
 ghost use Rattle.gs_server.specs.Promises.{copy_out, copy_in};
 
 use crate::sending::Sending;
 use crate::server::Server;
 use crate::turn::Turn;
-use gs_base::{Handle, Moment, Refusal, ServerId, Stamp};
-use gs_block::Refused;
+use gs_base::{Handle, Moment, Refusal, Refused, ServerId, Stamp};
 use gs_msg::{Chunk, NodeId};
 use gs_store::CopyImages;
 
@@ -20,7 +19,7 @@ impl Server {
         with_sealed: bool,
         moment: Moment,
     ) -> Result<Turn, Refusal>
-        ensures { Steps (step_of handle None (copy_out (here_of self.old moment handle None) (place_of handle self.old) stamp target with_sealed) self.old) result self.old self.new }
+        ensures { ServerSteps (step_of handle None (copy_out (here_of self.old moment handle None) (place_of handle self.old) stamp target with_sealed) self.old) result self.old self.new }
     {
         if let Err(refusal) = self.store.check_epoch(stamp.epoch) {
             return self.unpromise(handle, stamp, refusal, moment);
@@ -49,7 +48,7 @@ impl Server {
         given: CopyImages,
         moment: Moment,
     ) -> Result<Turn, Refusal>
-        ensures { Steps (step_of handle None (copy_in (here_of self.old moment handle None) (place_of handle self.old) stamp given.image given.sealed) self.old) result self.old self.new }
+        ensures { ServerSteps (step_of handle None (copy_in (here_of self.old moment handle None) (place_of handle self.old) stamp given.image given.sealed) self.old) result self.old self.new }
     {
         if let Err(refusal) = self.store.check_epoch(stamp.epoch) {
             drop(given);

@@ -5,10 +5,10 @@ ghost use Rattle.gs_msg.specs.declared.body.Body.TheVariants.{Done};
 ghost use Rattle.gs_msg.specs.declared.node.NodeId.TheVariants.{Client};
 ghost use Rattle.gs_store.specs.Serving.{done_in};
 ghost use Rattle.gs_store.specs.Stores.{slot_of};
-ghost use Rattle.gs_primary.specs.Leases.{tell};
+ghost use Rattle.gs_server_lease.specs.Leases.{tell};
 ghost use Rattle.gs_server.specs.Edits.{is_known_of_all};
 ghost use Rattle.gs_server.specs.Edits as edits;
-ghost use Rattle.gs_server.specs.Servers.{Steps, step_of, here_of, place_of, store_of};
+ghost use Rattle.gs_server.specs.Servers.{ServerSteps, step_of, here_of, place_of, store_of};
 ghost use Rattle.gs_server.specs.inner.Again.{again, again_as_refused, StepsAgain};
 ghost use Rattle.gs_server.specs.inner.Answering.{refused_once_by, kept_by, repeated_by};
 
@@ -17,8 +17,8 @@ use crate::server::Server;
 use crate::turn::{KeptRefusal, Turn};
 use gs_base::{Handle, Moment, Refusal, ReqId, Stamp};
 use gs_msg::{Body, Message, NodeId, Op};
-use gs_primary::{Recency, tell};
 use gs_replica::Outcome;
+use gs_server_lease::{Recency, tell};
 
 impl Server {
     pub(crate) fn answer_edit(&self, req: ReqId, found: Result<Outcome, Refusal>) -> Message
@@ -33,7 +33,7 @@ impl Server {
 
     /// Refuses an edit. That isn't kept.
     fn refuse_once(&self, req: ReqId, refusal: &Refusal) -> Result<Turn, Refusal>
-        ensures { Steps (refused_once_by req refusal.now self.now) result self.now self.now }
+        ensures { ServerSteps (refused_once_by req refusal.now self.now) result self.now self.now }
     {
         let told = refusal.copy(self.alloc)?;
         let said = refusal.copy(self.alloc)?;
@@ -52,7 +52,7 @@ impl Server {
         req: ReqId,
         refusal: Refusal,
     ) -> Result<Turn, Refusal>
-        ensures step { Steps (kept_by handle req refusal self.old) result self.old self.new }
+        ensures step { ServerSteps (kept_by handle req refusal self.old) result self.old self.new }
         ensures lacking { refusal ≡ Memory → result ≡ Err Memory }
         ensures unchanged { refusal ≡ Memory → self.new ≡ self.old }
     {
@@ -87,7 +87,7 @@ impl Server {
 
     /// Answers a client's last edit again, once every member has it.
     fn repeat(&self, handle: Handle, req: ReqId, outcome: Outcome) -> Result<Turn, Refusal>
-        ensures { Steps (repeated_by req outcome (is_known_of_all req (slot_of handle (store_of self.now)) (fin.get self.now.dropped.leases handle)) self.now) result self.now self.now }
+        ensures { ServerSteps (repeated_by req outcome (is_known_of_all req (slot_of handle (store_of self.now)) (fin.get self.now.dropped.leases handle)) self.now) result self.now self.now }
     {
         if !self.is_known_of_all(handle, req) {
             return Ok(Turn::silent(self.alloc));
@@ -132,7 +132,7 @@ impl Server {
         op: Op,
         moment: Moment,
     ) -> Result<Turn, Refusal>
-        ensures { Steps (step_of handle (Some req) (edits.edit (here_of self.old moment handle (Some req)) (place_of handle self.old) req stamp op) self.old) result self.old self.new }
+        ensures { ServerSteps (step_of handle (Some req) (edits.edit (here_of self.old moment handle (Some req)) (place_of handle self.old) req stamp op) self.old) result self.old self.new }
     {
         if let Some(answered) = self.answer_again(handle, req) {
             return answered;

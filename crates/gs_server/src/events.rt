@@ -1,21 +1,21 @@
 ghost use Rattle.std.specs.Prelude.{◌≡◌, IfOk, map};
-ghost use Rattle.gs_block.specs.Follows.{Does};
-ghost use Rattle.gs_server.specs.Servers.{Steps, push, lose, damage, restart, beat, reported};
+ghost use Rattle.gs_base.specs.Calls.{Does};
+ghost use Rattle.gs_server.specs.Servers.{ServerSteps, push, lose, damage, restart, beat, reported};
 ghost use Rattle.gs_store.specs.Stores.{report};
 
 use crate::server::Server;
 use crate::turn::Turn;
 use gs_base::{Handle, Refusal, ReqId};
+use gs_base_table::Table;
 use gs_msg::{Body, Bytes, Items, Message, NodeId, Reported};
-use gs_primary::tell;
+use gs_server_lease::tell;
 use gs_store::Store;
-use gs_table::Table;
 use std::alloc::{AllocError, Global};
 
 impl Server {
     /// Keeps the bytes of a request until an edit uses them.
     pub(crate) fn push(&mut self, req: ReqId, bytes: Bytes) -> Result<Turn, Refusal>
-        ensures { Steps (push self.old req bytes) result self.old self.new }
+        ensures { ServerSteps (push self.old req bytes) result self.old self.new }
     {
         self.store.push(req, bytes.into_vec())?;
         Ok(Turn::silent(self.alloc))

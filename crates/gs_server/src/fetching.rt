@@ -1,18 +1,18 @@
 ghost use Rattle.std.specs.Prelude.{◌≡◌, None, Err, Ok};
 ghost use Rattle.gs_base.specs.declared.refusal.Refusal.TheVariants.{Memory};
-ghost use Rattle.gs_block.specs.Follows.{Makes};
+ghost use Rattle.gs_base.specs.Calls.{Makes};
 ghost use Rattle.gs_store.specs.Stores.{slot_of};
 ghost use Rattle.gs_msg.specs.declared.body.Body.TheVariants.{Bytes as Told};
 ghost use Rattle.gs_msg.specs.declared.node.NodeId.TheVariants.{Client};
-ghost use Rattle.gs_primary.specs.Leases.{tell};
+ghost use Rattle.gs_server_lease.specs.Leases.{tell};
 ghost use Rattle.gs_server.specs.Fetches.{fetch, given, refuses};
-ghost use Rattle.gs_server.specs.Servers.{Steps, step_of, here_of, place_of, store_of};
+ghost use Rattle.gs_server.specs.Servers.{ServerSteps, step_of, here_of, place_of, store_of};
 
 use crate::server::Server;
 use crate::turn::Turn;
 use gs_base::{Handle, Moment, Refusal, ReqId, Stamp};
 use gs_msg::{Asked, Body, Bytes, Given, Message, NodeId};
-use gs_primary::tell;
+use gs_server_lease::tell;
 
 impl Server {
     fn answer_fetch(&self, req: ReqId, found: Result<Given, Refusal>) -> Message
@@ -51,7 +51,7 @@ impl Server {
         refusal: Refusal,
         moment: Moment,
     ) -> Result<Turn, Refusal>
-        ensures step { Steps (step_of handle None (refuses (here_of self.old moment handle None) (place_of handle self.old) req refusal) self.old) result self.old self.new }
+        ensures step { ServerSteps (step_of handle None (refuses (here_of self.old moment handle None) (place_of handle self.old) req refusal) self.old) result self.old self.new }
         ensures lacking { refusal ≡ Memory → result ≡ Err Memory }
         ensures unchanged { refusal ≡ Memory → self.new ≡ self.old }
     {
@@ -73,7 +73,7 @@ impl Server {
         asked: Asked,
         moment: Moment,
     ) -> Result<Turn, Refusal>
-        ensures { Steps (step_of handle None (fetch (here_of self.old moment handle None) (place_of handle self.old) req stamp epoch asked) self.old) result self.old self.new }
+        ensures { ServerSteps (step_of handle None (fetch (here_of self.old moment handle None) (place_of handle self.old) req stamp epoch asked) self.old) result self.old self.new }
     {
         if let Err(refusal) = self.store.check_epoch(epoch) {
             return self.refuse_fetch(handle, req, refusal, moment);

@@ -5,7 +5,7 @@ ghost use Rattle.gs_store.specs.Slots.{count_of};
 ghost use Rattle.gs_store.specs.Stores.{slot_of};
 ghost use Rattle.gs_server.specs.Places.{count_or_none};
 ghost use Rattle.gs_server.specs.Edits.{bytes_of, forward};
-ghost use Rattle.gs_server.specs.Servers.{Steps, step_of, here_of, place_of, store_of};
+ghost use Rattle.gs_server.specs.Servers.{ServerSteps, step_of, here_of, place_of, store_of};
 ghost use Rattle.gs_server.specs.inner.Answering.{declined_by};
 ghost use Rattle.gs_server.specs.inner.Applying.{applied_with, taken_by};
 
@@ -15,7 +15,7 @@ use crate::server::Server;
 use crate::turn::Turn;
 use gs_base::{Handle, Moment, Refusal, Stamp};
 use gs_msg::{Bytes, Chunk, NodeId};
-use gs_primary::{acknowledgement, count_under};
+use gs_server_lease::{acknowledgement, count_under};
 
 impl Server {
     /// How many edits the live replica has applied, and 0 where none is live.
@@ -33,7 +33,7 @@ impl Server {
         stamp: Stamp,
         refusal: Refusal,
     ) -> Result<Turn, Refusal>
-        ensures step { Steps (declined_by handle from stamp refusal self.old) result self.old self.new }
+        ensures step { ServerSteps (declined_by handle from stamp refusal self.old) result self.old self.new }
         ensures lacking { refusal ≡ Memory → result ≡ Err Memory }
         ensures unchanged { refusal ≡ Memory → self.new ≡ self.old }
     {
@@ -57,7 +57,7 @@ impl Server {
         edit: Numbered,
         carried: Option<Bytes>,
     ) -> Result<Turn, Refusal>
-        ensures { Steps (taken_by handle from edit.stamp edit.number (applied_with handle edit.stamp edit.number edit.req edit.op (store_of self.old) (bytes_of edit.op carried (pushed edit.req self.old.dropped.buffer))) self.old) result self.old self.new }
+        ensures { ServerSteps (taken_by handle from edit.stamp edit.number (applied_with handle edit.stamp edit.number edit.req edit.op (store_of self.old) (bytes_of edit.op carried (pushed edit.req self.old.dropped.buffer))) self.old) result self.old self.new }
     {
         let mut sent = Sending::with_room(self.alloc, 1)?;
         match apply(&mut self.store, handle, edit, carried) {
@@ -81,7 +81,7 @@ impl Server {
         carried: Option<Bytes>,
         moment: Moment,
     ) -> Result<Turn, Refusal>
-        ensures { Steps (step_of handle (Some edit.req) (forward (here_of self.old moment handle (Some edit.req)) (place_of handle self.old) from edit.stamp edit.number edit.req edit.op carried) self.old) result self.old self.new }
+        ensures { ServerSteps (step_of handle (Some edit.req) (forward (here_of self.old moment handle (Some edit.req)) (place_of handle self.old) from edit.stamp edit.number edit.req edit.op carried) self.old) result self.old self.new }
     {
         let promise = self.store.promised(handle);
         let count = match count_under(edit.stamp, promise, self.store.count(handle)) {

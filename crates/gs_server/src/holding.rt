@@ -1,8 +1,8 @@
 ghost use Rattle.std.specs.Prelude.{◌≡◌, None, Ok};
 ghost use Rattle.std.specs.FinMap as fin;
-ghost use Rattle.gs_block.specs.Follows.{Judges};
+ghost use Rattle.gs_base.specs.Calls.{Judges};
 ghost use Rattle.gs_store.specs.Stores.{slot_of};
-ghost use Rattle.gs_server.specs.Servers.{Steps, step_of, here_of, place_of, store_of};
+ghost use Rattle.gs_server.specs.Servers.{ServerSteps, step_of, here_of, place_of, store_of};
 ghost use Rattle.gs_server.specs.Holding.{grant, renewed, ack, nack, is_held, unless_leased, wants_bytes};
 
 use crate::leases::{renew, settle};
@@ -10,7 +10,7 @@ use crate::server::Server;
 use crate::turn::Turn;
 use gs_base::{Handle, Moment, Refusal, ServerId, Stamp};
 use gs_lease::Grant;
-use gs_primary::Lease;
+use gs_server_lease::PrimaryLease;
 
 impl Server {
     fn is_held(&self, handle: Handle, stamp: Stamp) -> bool
@@ -42,7 +42,7 @@ impl Server {
         given: Grant,
         moment: Moment,
     ) -> Result<Turn, Refusal>
-        ensures { Steps (step_of handle None (grant (here_of self.old moment handle None) (place_of handle self.old) given) self.old) result self.old self.new }
+        ensures { ServerSteps (step_of handle None (grant (here_of self.old moment handle None) (place_of handle self.old) given) self.old) result self.old self.new }
     {
         let stamp = given.stamp;
         if let Err(refusal) = self.store.check_epoch(stamp.epoch) {
@@ -61,13 +61,14 @@ impl Server {
         if let Err(refusal) = self.store.take_lease(handle, stamp) {
             return Ok(Turn::refused(self.alloc, refusal));
         }
-        self.leases.put(handle, Lease::granted(self.alloc, given));
+        self.leases
+            .put(handle, PrimaryLease::granted(self.alloc, given));
         Ok(Turn::silent(self.alloc))
     }
 
     /// Gives a lease the greater end.
     pub(crate) fn renewed(&mut self, handle: Handle, stamp: Stamp, end: Moment) -> Turn
-        ensures { Steps (step_of handle None (renewed (place_of handle self.old) stamp end) self.old) (Ok result) self.old self.new }
+        ensures { ServerSteps (step_of handle None (renewed (place_of handle self.old) stamp end) self.old) (Ok result) self.old self.new }
     {
         if let Err(refusal) = self.check_lease(handle, stamp) {
             return Turn::refused(self.alloc, refusal);
@@ -85,7 +86,7 @@ impl Server {
         count: u64,
         moment: Moment,
     ) -> Result<Turn, Refusal>
-        ensures { Steps (step_of handle None (ack (here_of self.old moment handle None) (place_of handle self.old) server stamp count) self.old) result self.old self.new }
+        ensures { ServerSteps (step_of handle None (ack (here_of self.old moment handle None) (place_of handle self.old) server stamp count) self.old) result self.old self.new }
     {
         if let Err(refusal) = self.check_lease(handle, stamp) {
             return Ok(Turn::refused(self.alloc, refusal));
@@ -108,7 +109,7 @@ impl Server {
         refusal: &Refusal,
         moment: Moment,
     ) -> Result<Turn, Refusal>
-        ensures { Steps (step_of handle None (nack (here_of self.old moment handle None) (place_of handle self.old) server stamp refusal.now) self.old) result self.old self.new }
+        ensures { ServerSteps (step_of handle None (nack (here_of self.old moment handle None) (place_of handle self.old) server stamp refusal.now) self.old) result self.old self.new }
     {
         if let Err(refusal) = self.check_lease(handle, stamp) {
             return Ok(Turn::refused(self.alloc, refusal));

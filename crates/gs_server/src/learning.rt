@@ -1,16 +1,16 @@
 ghost use Rattle.std.specs.Prelude.{◌≡◌, IfOk};
 ghost use Rattle.gs_base.specs.declared.epoch.EpochEnd.TheVariants.{Rollback};
 ghost use Rattle.gs_store.specs.Stores.{Performs, named};
-ghost use Rattle.gs_server.specs.Servers.{Steps, learn, named_at, store_of};
+ghost use Rattle.gs_server.specs.Servers.{ServerSteps, learn, named_at, store_of};
 ghost use Rattle.gs_server.specs.inner.Learning.{gone_on};
 
 use crate::sending::Sending;
 use crate::server::Server;
 use crate::turn::Turn;
 use gs_base::{EpochEnd, Handle, Refusal};
+use gs_base_table::Table;
 use gs_msg::{Body, Items, NodeId};
-use gs_primary::tell;
-use gs_table::Table;
+use gs_server_lease::tell;
 
 impl Server {
     /// Goes on to the next epoch after a rollback, which spends every lease, and gives the handles that are named of it.
@@ -41,7 +41,7 @@ impl Server {
     /// Learns how an epoch ended, and tells the master so. Of the epoch that stands it is told again; of any but the next it is
     /// told which one stands.
     pub(crate) fn learn(&mut self, epoch: u64, end: EpochEnd) -> Result<Turn, Refusal>
-        ensures { Steps (learn self.old epoch end) result self.old self.new }
+        ensures { ServerSteps (learn self.old epoch end) result self.old self.new }
     {
         let mut sent = Sending::with_room(self.alloc, 1)?;
         let (body, said) = match self.go_on(epoch, end) {

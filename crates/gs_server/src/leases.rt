@@ -2,18 +2,18 @@
 ghost use Rattle.std.specs.Prelude.{◌≡◌, Some, None, OnSome, OnOk, OnErr, IfOk, IfErr};
 ghost use Rattle.std.specs.FinMap as fin;
 ghost use Rattle.std.specs.Ordering.{nat_cmp};
-ghost use Rattle.gs_table.specs.Slots.{live, HasRoom};
+ghost use Rattle.gs_base_table.specs.Slots.{live, HasRoom};
 ghost use Rattle.gs_base.specs.declared.refusal.Refusal.TheVariants.{Memory};
-ghost use Rattle.gs_primary.specs.Leases.{Lease, settled, with_told, renews};
+ghost use Rattle.gs_server_lease.specs.Leases.{PrimaryLease, settled, with_told, renews};
 ghost use Rattle.gs_server.specs.inner.Spending.{over_of, without};
 
 use gs_base::{Handle, Moment, Refusal};
-use gs_primary::{Lease, RoomyLease, ToldCounts};
-use gs_table::Table;
+use gs_base_table::Table;
+use gs_server_lease::{PrimaryLease, RoomyLease, ToldCounts};
 use std::alloc::{AllocError, Global};
 
 /// Spends the lease of a handle. It takes no memory.
-pub(crate) fn spend(leases: &mut Table<Handle, Lease>, handle: Handle)
+pub(crate) fn spend(leases: &mut Table<Handle, PrimaryLease>, handle: Handle)
     ensures { live nat_cmp leases.new ≡ fin.remove (live nat_cmp leases.old) handle }
 {
     leases.remove(handle);
@@ -22,7 +22,7 @@ pub(crate) fn spend(leases: &mut Table<Handle, Lease>, handle: Handle)
 /// The handles whose leases are over at a moment, ascending.
 pub(crate) fn over(
     alloc: Global,
-    leases: &Table<Handle, Lease>,
+    leases: &Table<Handle, PrimaryLease>,
     moment: Moment,
 ) -> Result<Vec<Handle>, AllocError>
     ensures { IfOk result (λ handles. handles.items ≡ over_of moment (fin.entries (live nat_cmp leases.now))) }
@@ -37,7 +37,7 @@ pub(crate) fn over(
 }
 
 /// Spends the leases of these handles. It takes no memory.
-pub(crate) fn spend_each(leases: &mut Table<Handle, Lease>, handles: &[Handle])
+pub(crate) fn spend_each(leases: &mut Table<Handle, PrimaryLease>, handles: &[Handle])
     ensures { live nat_cmp leases.new ≡ without handles.now (live nat_cmp leases.old) }
 {
     for handle in handles {
@@ -46,7 +46,7 @@ pub(crate) fn spend_each(leases: &mut Table<Handle, Lease>, handles: &[Handle])
 }
 
 /// Takes the lease of a handle out, and leaves its room. It takes no memory.
-fn take_out(leases: &mut Table<Handle, Lease>, handle: Handle) -> Option<Lease>
+fn take_out(leases: &mut Table<Handle, PrimaryLease>, handle: Handle) -> Option<PrimaryLease>
     ensures value { result ≡ fin.get (live nat_cmp leases.old) handle }
     ensures taken { OnSome result (live nat_cmp leases.new ≡ fin.remove (live nat_cmp leases.old) handle) }
     ensures room { OnSome result (HasRoom nat_cmp leases.new handle) }
@@ -59,8 +59,8 @@ fn take_out(leases: &mut Table<Handle, Lease>, handle: Handle) -> Option<Lease>
 }
 
 /// Takes counts that servers have told of a handle, and gives up each edit that every member has then. It takes no memory.
-pub(crate) fn settle(leases: &mut Table<Handle, Lease>, handle: Handle, told: ToldCounts)
-    ensures { (l : Lease) → fin.get (live nat_cmp leases.old) handle ≡ Some l → live nat_cmp leases.new ≡ fin.insert (live nat_cmp leases.old) handle (settled (with_told told l)) }
+pub(crate) fn settle(leases: &mut Table<Handle, PrimaryLease>, handle: Handle, told: ToldCounts)
+    ensures { (l : PrimaryLease) → fin.get (live nat_cmp leases.old) handle ≡ Some l → live nat_cmp leases.new ≡ fin.insert (live nat_cmp leases.old) handle (settled (with_told told l)) }
 {
     if let Some(mut lease) = take_out(leases, handle) {
         lease.settle(told);
@@ -69,8 +69,8 @@ pub(crate) fn settle(leases: &mut Table<Handle, Lease>, handle: Handle, told: To
 }
 
 /// Gives the lease of a handle the greater end of the two. It takes no memory.
-pub(crate) fn renew(leases: &mut Table<Handle, Lease>, handle: Handle, end: Moment)
-    ensures { (l : Lease) → fin.get (live nat_cmp leases.old) handle ≡ Some l → live nat_cmp leases.new ≡ fin.insert (live nat_cmp leases.old) handle (renews end l) }
+pub(crate) fn renew(leases: &mut Table<Handle, PrimaryLease>, handle: Handle, end: Moment)
+    ensures { (l : PrimaryLease) → fin.get (live nat_cmp leases.old) handle ≡ Some l → live nat_cmp leases.new ≡ fin.insert (live nat_cmp leases.old) handle (renews end l) }
 {
     if let Some(lease) = take_out(leases, handle) {
         leases.put(handle, lease.renew(end));
@@ -79,13 +79,13 @@ pub(crate) fn renew(leases: &mut Table<Handle, Lease>, handle: Handle, end: Mome
 
 /// Takes the lease of a handle out, with room for one more edit, and leaves its own room. `NotPrimary` where none is held.
 pub(crate) fn take_roomy(
-    leases: &mut Table<Handle, Lease>,
+    leases: &mut Table<Handle, PrimaryLease>,
     handle: Handle,
 ) -> Result<RoomyLease, Refusal>
     ensures value { IfOk result (λ lease. fin.get (live nat_cmp leases.old) handle ≡ Some lease) }
     ensures taken { OnOk result (live nat_cmp leases.new ≡ fin.remove (live nat_cmp leases.old) handle) }
     ensures room { OnOk result (HasRoom nat_cmp leases.new handle) }
-    ensures refused { IfErr result (λ refusal. (l : Lease) → fin.get (live nat_cmp leases.old) handle ≡ Some l → refusal ≡ Memory) }
+    ensures refused { IfErr result (λ refusal. (l : PrimaryLease) → fin.get (live nat_cmp leases.old) handle ≡ Some l → refusal ≡ Memory) }
     ensures same { OnErr result (live nat_cmp leases.new ≡ live nat_cmp leases.old) }
 {
     let Some(lease) = take_out(leases, handle) else {

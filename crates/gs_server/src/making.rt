@@ -1,6 +1,6 @@
 ghost use Rattle.std.specs.Prelude.{◌≡◌, Err};
 ghost use Rattle.gs_base.specs.declared.refusal.Refusal.TheVariants.{Memory};
-ghost use Rattle.gs_server.specs.Servers.{Steps, make_copy};
+ghost use Rattle.gs_server.specs.Servers.{ServerSteps, make_copy};
 ghost use Rattle.gs_server.specs.inner.Answering.{not_copied_by};
 
 use crate::sending::Sending;
@@ -18,7 +18,7 @@ impl Server {
         stamp: Stamp,
         refusal: Refusal,
     ) -> Result<Turn, Refusal>
-        ensures step { Steps (not_copied_by handle new_handle stamp refusal self.old) result self.old self.new }
+        ensures step { ServerSteps (not_copied_by handle new_handle stamp refusal self.old) result self.old self.new }
         ensures lacking { refusal ≡ Memory → result ≡ Err Memory }
         ensures unchanged { refusal ≡ Memory → self.new ≡ self.old }
     {
@@ -43,7 +43,7 @@ impl Server {
         stamp: Stamp,
         moment: Moment,
     ) -> Result<Turn, Refusal>
-        ensures { Steps (make_copy self.old handle at new_handle stamp moment) result self.old self.new }
+        ensures { ServerSteps (make_copy self.old handle at new_handle stamp moment) result self.old self.new }
     {
         if let Err(refusal) = self.store.check_epoch(stamp.epoch) {
             return self.refuse_copy(handle, new_handle, stamp, refusal);

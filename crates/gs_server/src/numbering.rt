@@ -9,9 +9,9 @@ ghost use Rattle.gs_store.specs.Slots.{Live};
 ghost use Rattle.gs_store.specs.Serving.{done_in, length_in};
 ghost use Rattle.gs_store.specs.Stores.{slot_of};
 ghost use Rattle.gs_store.specs.Whole.{LiveUnder};
-ghost use Rattle.gs_primary.specs.Leases.{Lease};
+ghost use Rattle.gs_server_lease.specs.Leases.{PrimaryLease};
 ghost use Rattle.gs_server.specs.Edits.{bytes_of, new_edit, unless_numbered, opened, numbers_as};
-ghost use Rattle.gs_server.specs.Servers.{Steps, step_of, here_of, place_of, store_of};
+ghost use Rattle.gs_server.specs.Servers.{ServerSteps, step_of, here_of, place_of, store_of};
 ghost use Rattle.gs_server.specs.inner.Answering.{repeated_by};
 ghost use Rattle.gs_server.specs.inner.Numbering.{told_of, numbered_by, refused_at_last, IsReady};
 
@@ -21,8 +21,8 @@ use crate::server::Server;
 use crate::turn::Turn;
 use gs_base::{Handle, Moment, Refusal, ReqId, Stamp};
 use gs_msg::{Bytes, Message, Op};
-use gs_primary::{Open, is_passed, is_too_long, numbered_op, outcome_at};
 use gs_replica::Outcome;
+use gs_server_lease::{Open, is_passed, is_too_long, numbered_op, outcome_at};
 use std::alloc::AllocError;
 
 /// An edit that a client asks for.
@@ -107,7 +107,7 @@ impl Server {
 
     /// A full chunk is passed without an edit.
     fn pass(&self, req: ReqId) -> Result<Turn, Refusal>
-        ensures { Steps (repeated_by req Padded true self.now) result self.now self.now }
+        ensures { ServerSteps (repeated_by req Padded true self.now) result self.now self.now }
     {
         let mut sent = Vec::new(self.alloc);
         sent.push(self.answer_edit(req, Ok(Outcome::Padded)))?;
@@ -129,7 +129,7 @@ impl Server {
         number: u64,
         edit: &Open,
     ) -> Result<Vec<Message>, AllocError>
-        ensures { IfOk result (λ sent. (l : Lease) → fin.get self.now.dropped.leases handle ≡ Some l → sent.items ≡ told_of self.now.me handle l number edit.now) }
+        ensures { IfOk result (λ sent. (l : PrimaryLease) → fin.get self.now.dropped.leases handle ≡ Some l → sent.items ≡ told_of self.now.me handle l number edit.now) }
     {
         let mut sent = Vec::new(self.alloc);
         let Some(lease) = self.leases.get(handle) else {
@@ -143,7 +143,7 @@ impl Server {
     /// Numbers an edit: it is applied with the bytes that were pushed for it, waits for the other members, and is told. What it
     /// wants of memory is there before anything changes.
     fn number(&mut self, handle: Handle, edit: Numbered) -> Result<Turn, Refusal>
-        ensures { (l : Lease) → fin.get self.old.dropped.leases handle ≡ Some l → Steps (numbered_by handle l edit self.old) result self.old self.new }
+        ensures { (l : PrimaryLease) → fin.get self.old.dropped.leases handle ≡ Some l → ServerSteps (numbered_by handle l edit self.old) result self.old self.new }
     {
         let Numbered {
             number,
@@ -176,7 +176,7 @@ impl Server {
     /// Numbers an edit next, which stands under the lease that is held and is no pad of a full chunk. `Exhausted` where no number
     /// is left, behind what the replica refuses.
     fn number_next(&mut self, handle: Handle, edit: NewEdit) -> Result<Turn, Refusal>
-        ensures { (moment : Moment) (bytes : List ℕ) (live : Live) (l : Lease) → IsReady handle edit bytes live l self.old → Steps (step_of handle (Some edit.req) (numbers_as (here_of self.old moment handle (Some edit.req)) (place_of handle self.old) live l (opened edit.req edit.op bytes live)) self.old) result self.old self.new }
+        ensures { (moment : Moment) (bytes : List ℕ) (live : Live) (l : PrimaryLease) → IsReady handle edit bytes live l self.old → ServerSteps (step_of handle (Some edit.req) (numbers_as (here_of self.old moment handle (Some edit.req)) (place_of handle self.old) live l (opened edit.req edit.op bytes live)) self.old) result self.old self.new }
     {
         let NewEdit { req, stamp, op } = edit;
         let Some(number) = self.count(handle).checked_add(1) else {
@@ -203,7 +203,7 @@ impl Server {
     ) -> Result<Turn, Refusal>
         requires chunk { chunk ≡ self.old.chunk }
         requires above { is_old edit.req.number (done_in (slot_of handle (store_of self.old)).live edit.req.client.0) ≡ false }
-        ensures { Steps (step_of handle (Some edit.req) (new_edit (here_of self.old moment handle (Some edit.req)) (place_of handle self.old) edit.req edit.stamp edit.op) self.old) result self.old self.new }
+        ensures { ServerSteps (step_of handle (Some edit.req) (new_edit (here_of self.old moment handle (Some edit.req)) (place_of handle self.old) edit.req edit.stamp edit.op) self.old) result self.old self.new }
     {
         if let Some(refusal) = self.unless_numbered(chunk, handle, edit, moment) {
             return self.refuse_edit(handle, edit.req, refusal);

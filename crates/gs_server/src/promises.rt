@@ -18,7 +18,7 @@ ghost use Rattle.gs_msg.specs.declared.chunk.Chunk.{Chunk};
 ghost use Rattle.gs_store.specs.Slots.{Live, Slot};
 ghost use Rattle.gs_store.specs.Serving.{apply, done_in};
 ghost use Rattle.gs_store.specs.Stores as stores;
-ghost use Rattle.gs_primary.specs.Leases.{Lease, hears, forwards, done_at_once};
+ghost use Rattle.gs_server_lease.specs.Leases.{PrimaryLease, hears, forwards, done_at_once};
 ghost use Rattle.gs_server.specs.Places.{Place, Here, SlotBecomes, LeaseBecomes, after};
 ghost use Rattle.gs_server.specs.Edits.{edit, forward};
 ghost use Rattle.gs_server.specs.Holding.{grant, ack};
@@ -75,9 +75,9 @@ pub fn a_server_learns_as_its_store_does()
 /// A new edit that is numbered tells its client that it is done only where every member has told a count that reaches its number,
 /// and an acknowledgement does so of the edits that waited. A record that a full chunk passes on isn't numbered.
 pub fn edits_are_done_where_all_have_them()
-    ensures at_once { (h : Here) (p : Place) (req : ReqId) (stamp : Stamp) (op : Op) (live : Live) (l : Lease) → p.slot.live ≡ Some live → (edit h p req stamp op).lease ≡ LeaseBecomes l → All (λ m. is_yes m.body ≡ true → IsToldByAll l (live.replica.held.count + 1)) (edit h p req stamp op).sent }
+    ensures at_once { (h : Here) (p : Place) (req : ReqId) (stamp : Stamp) (op : Op) (live : Live) (l : PrimaryLease) → p.slot.live ≡ Some live → (edit h p req stamp op).lease ≡ LeaseBecomes l → All (λ m. is_yes m.body ≡ true → IsToldByAll l (live.replica.held.count + 1)) (edit h p req stamp op).sent }
     ensures numbered { (h : Here) (p : Place) (req : ReqId) (stamp : Stamp) (op : Op) (live : Live) (s : Slot) → p.slot.live ≡ Some live → (edit h p req stamp op).slot ≡ SlotBecomes s → All (λ m. is_yes m.body ≡ true → IsToldUnder (after p (edit h p req stamp op)).lease (live.replica.held.count + 1)) (edit h p req stamp op).sent }
-    ensures later { (h : Here) (p : Place) (server : ℕ) (stamp : Stamp) (count : ℕ) (l : Lease) → p.lease ≡ Some l → All (IsDoneUnder h.me (hears server count l)) (ack h p server stamp count).sent }
+    ensures later { (h : Here) (p : Place) (server : ℕ) (stamp : Stamp) (count : ℕ) (l : PrimaryLease) → p.lease ≡ Some l → All (IsDoneUnder h.me (hears server count l)) (ack h p server stamp count).sent }
     ensures unleased { (h : Here) (p : Place) (server : ℕ) (stamp : Stamp) (count : ℕ) → p.lease ≡ None → (ack h p server stamp count).sent ≡ [] }
 {}
 
@@ -90,7 +90,7 @@ pub fn repeats_are_done_where_all_have_them()
 /// An append that doesn't fit is numbered as a pad, goes to the other members as that pad, and is told its client as padded.
 pub fn an_append_that_does_not_fit_is_a_pad()
     ensures slot { (h : Here) (p : Place) (req : ReqId) (stamp : Stamp) (many : ℕ) (live : Live) (s : Slot) → p.slot.live ≡ Some live → h.chunk < length live.replica.held.chunk.bytes + many → (edit h p req stamp (Append many)).slot ≡ SlotBecomes s → apply stamp (live.replica.held.count + 1) req Pad [] p.slot ≡ Ok s }
-    ensures sent { (h : Here) (p : Place) (req : ReqId) (stamp : Stamp) (many : ℕ) (live : Live) (l : Lease) (s : Slot) → p.slot.live ≡ Some live → p.lease ≡ Some l → h.chunk < length live.replica.held.chunk.bytes + many → (edit h p req stamp (Append many)).slot ≡ SlotBecomes s → (edit h p req stamp (Append many)).sent ≡ forwards h.me h.handle l (live.replica.held.count + 1, padding req) ++ done_at_once h.me (live.replica.held.count + 1) (padding req) l }
+    ensures sent { (h : Here) (p : Place) (req : ReqId) (stamp : Stamp) (many : ℕ) (live : Live) (l : PrimaryLease) (s : Slot) → p.slot.live ≡ Some live → p.lease ≡ Some l → h.chunk < length live.replica.held.chunk.bytes + many → (edit h p req stamp (Append many)).slot ≡ SlotBecomes s → (edit h p req stamp (Append many)).sent ≡ forwards h.me h.handle l (live.replica.held.count + 1, padding req) ++ done_at_once h.me (live.replica.held.count + 1) (padding req) l }
 {}
 
 /// A message about a chunk changes what is kept of that chunk and of no other, and of the rest at most what is kept of the client
@@ -139,8 +139,8 @@ pub fn a_rollback_makes_live_what_was_sealed()
 /// chunk and is of the promise, the promise reaches the stamp that was taken last, and no promise is of an epoch above the server's. So
 /// an event that changes a promise spends the lease.
 pub fn leases_and_promises_are_in_order()
-    ensures held { (handle : ℕ) (s : Server) (l : Lease) → IsReached s → (place_of handle s).lease ≡ Some l → (slot_in handle s).taken ≡ Some l.grant.stamp }
-    ensures promised { (handle : ℕ) (s : Server) (l : Lease) → IsReached s → (place_of handle s).lease ≡ Some l → l.grant.stamp ≡ (slot_in handle s).promise }
+    ensures held { (handle : ℕ) (s : Server) (l : PrimaryLease) → IsReached s → (place_of handle s).lease ≡ Some l → (slot_in handle s).taken ≡ Some l.grant.stamp }
+    ensures promised { (handle : ℕ) (s : Server) (l : PrimaryLease) → IsReached s → (place_of handle s).lease ≡ Some l → l.grant.stamp ≡ (slot_in handle s).promise }
     ensures spent { (handle : ℕ) (e : Event) (s : Server) → IsReached s → (slot_in handle (behind e s)).promise ≢ (slot_in handle s).promise → (place_of handle (behind e s)).lease ≡ None }
     ensures reached { (handle : ℕ) (s : Server) → IsReached s → Reaches (slot_in handle s).promise (slot_in handle s).taken }
     ensures epoch { (handle : ℕ) (s : Server) → IsReached s → (slot_in handle s).promise.epoch ≤ s.kept.epoch }
@@ -148,7 +148,7 @@ pub fn leases_and_promises_are_in_order()
 
 /// A lease that is spent is never held again, whatever happens: no messages, ticks or restarts bring it back.
 pub fn a_spent_lease_is_never_held_again()
-    ensures { (handle : ℕ) (stamp : Stamp) (events : List Event) (s : Server) (l : Lease) → IsReached s → IsSpent stamp (place_of handle s) → (place_of handle (behind_all events s)).lease ≡ Some l → l.grant.stamp ≢ stamp }
+    ensures { (handle : ℕ) (stamp : Stamp) (events : List Event) (s : Server) (l : PrimaryLease) → IsReached s → IsSpent stamp (place_of handle s) → (place_of handle (behind_all events s)).lease ≡ Some l → l.grant.stamp ≢ stamp }
 {}
 
 /// Each chunk is whole at each server that began with nothing, whatever came to it: its live replica is under the promise, what is in the

@@ -1,6 +1,6 @@
 ghost use Rattle.std.specs.Prelude.{◌≡◌, None, Ok, Err};
 ghost use Rattle.gs_base.specs.declared.refusal.Refusal.TheVariants.{Memory};
-ghost use Rattle.gs_server.specs.Servers.{Steps, step_of, here_of, place_of};
+ghost use Rattle.gs_server.specs.Servers.{ServerSteps, step_of, here_of, place_of};
 ghost use Rattle.gs_server.specs.Promises.{create, advance, drop_replica, unpromised};
 
 use crate::leases::spend;
@@ -19,7 +19,7 @@ impl Server {
         refusal: Refusal,
         moment: Moment,
     ) -> Result<Turn, Refusal>
-        ensures step { Steps (step_of handle None (unpromised (here_of self.old moment handle None) (place_of handle self.old) stamp refusal) self.old) result self.old self.new }
+        ensures step { ServerSteps (step_of handle None (unpromised (here_of self.old moment handle None) (place_of handle self.old) stamp refusal) self.old) result self.old self.new }
         ensures lacking { refusal ≡ Memory → result ≡ Err Memory }
         ensures unchanged { refusal ≡ Memory → self.new ≡ self.old }
     {
@@ -42,7 +42,7 @@ impl Server {
         stamp: Stamp,
         moment: Moment,
     ) -> Result<Turn, Refusal>
-        ensures { Steps (step_of handle None (create (here_of self.old moment handle None) (place_of handle self.old) stamp) self.old) result self.old self.new }
+        ensures { ServerSteps (step_of handle None (create (here_of self.old moment handle None) (place_of handle self.old) stamp) self.old) result self.old self.new }
     {
         if let Err(refusal) = self.store.check_epoch(stamp.epoch) {
             return self.unpromise(handle, stamp, refusal, moment);
@@ -61,7 +61,7 @@ impl Server {
         stamp: Stamp,
         moment: Moment,
     ) -> Result<Turn, Refusal>
-        ensures { Steps (step_of handle None (advance (here_of self.old moment handle None) (place_of handle self.old) stamp) self.old) result self.old self.new }
+        ensures { ServerSteps (step_of handle None (advance (here_of self.old moment handle None) (place_of handle self.old) stamp) self.old) result self.old self.new }
     {
         if let Err(refusal) = self.store.check_epoch(stamp.epoch) {
             return self.unpromise(handle, stamp, refusal, moment);
@@ -81,7 +81,7 @@ impl Server {
         promise: Stamp,
         moment: Moment,
     ) -> Turn
-        ensures { Steps (step_of handle None (drop_replica (here_of self.old moment handle None) (place_of handle self.old) epoch promise) self.old) (Ok result) self.old self.new }
+        ensures { ServerSteps (step_of handle None (drop_replica (here_of self.old moment handle None) (place_of handle self.old) epoch promise) self.old) (Ok result) self.old self.new }
     {
         if let Err(refusal) = self.store.check_epoch(epoch) {
             return Turn::refused(self.alloc, refusal);

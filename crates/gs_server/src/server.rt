@@ -1,7 +1,7 @@
 ghost use Rattle.std.specs.Prelude.{◌≡◌, ◌≤◌, [], None, IfOk};
 ghost use Rattle.gs_server.specs.Places.{damaged_block, marked_by};
-ghost use Rattle.gs_server.specs.Servers.{new, Steps, store_of, with_store, change_slot};
-ghost use Rattle.gs_primary.specs.Leases.{tell};
+ghost use Rattle.gs_server.specs.Servers.{new, ServerSteps, store_of, with_store, change_slot};
+ghost use Rattle.gs_server_lease.specs.Leases.{tell};
 ghost use Rattle.gs_server.specs.inner.Answering.{refused_by, promised_by};
 ghost use Rattle.gs_msg.specs.declared.body.Body.TheVariants.{About};
 
@@ -9,11 +9,11 @@ use crate::leases::spend;
 use crate::sending::Sending;
 use crate::turn::{KeptRefusal, Turn};
 use gs_base::{ClientId, Config, Handle, Refusal, ServerId, Stamp};
+use gs_base_table::Table;
 use gs_block::Sizes;
 use gs_msg::{Body, Chunk, Message, NodeId};
-use gs_primary::{Lease, tell};
+use gs_server_lease::{PrimaryLease, tell};
 use gs_store::Store;
-use gs_table::Table;
 use std::alloc::{AllocError, Global};
 use std::marker::Model;
 
@@ -22,7 +22,7 @@ pub struct Server {
     pub(crate) alloc: Global,
     pub(crate) id: ServerId,
     pub(crate) store: Store,
-    pub(crate) leases: Table<Handle, Lease>,
+    pub(crate) leases: Table<Handle, PrimaryLease>,
     pub(crate) refused: Table<ClientId, KeptRefusal>,
 }
 
@@ -40,7 +40,7 @@ impl Drop for Server {
 
 impl Model for Server {
     ghost use Rattle.std.specs.Ordering.{nat_cmp};
-    ghost use Rattle.gs_table.specs.Slots.{live};
+    ghost use Rattle.gs_base_table.specs.Slots.{live};
     ghost use Rattle.gs_server.specs.Servers.{Server, coded_server, client_cmp};
 
     ghost Value = { Server };
@@ -79,7 +79,7 @@ impl Server {
         answer: Message,
         refusal: Refusal,
     ) -> Result<Turn, Refusal>
-        ensures { Steps (refused_by handle answer refusal self.old) result self.old self.new }
+        ensures { ServerSteps (refused_by handle answer refusal self.old) result self.old self.new }
     {
         let sent = self.refusal_told(handle, answer, &refusal)?;
         self.mark_by(handle, &refusal);

@@ -1,6 +1,6 @@
 ghost use Rattle.std.specs.Prelude.{◌≡◌, IfOk};
 ghost use Rattle.std.specs.FinMap as fin;
-ghost use Rattle.gs_server.specs.Servers.{Steps, tick, reminds_all};
+ghost use Rattle.gs_server.specs.Servers.{ServerSteps, tick, reminds_all};
 
 use crate::leases::{over, spend_each};
 use crate::server::Server;
@@ -13,7 +13,7 @@ impl Server {
     /// Sends the edits that wait under leases that aren't over again, and asks for those leases to be renewed. Leases that are
     /// over are spent.
     pub fn tick(&mut self, moment: Moment) -> Result<Turn, Refusal>
-        ensures { Steps (tick self.old moment) result self.old self.new }
+        ensures { ServerSteps (tick self.old moment) result self.old self.new }
     {
         let sent = self.reminders(moment)?;
         let handles = over(self.alloc, &self.leases, moment)?;

@@ -1,13 +1,13 @@
 -- A run, once a store has begun.
 use Rattle.std.proofs.Common.{ℕ, List, Option, Some, None, IfSome, IfErr, OnOk, Result, Ok, Err}
 use Rattle.gs_base.specs.declared.config.Config.{Config}
-use Rattle.gs_script.specs.Run.{RunFails, Writes}
-use Rattle.gs_script.specs.declared.RunFault.{RunFault}
-use Rattle.gs_script.specs.declared.RunFault.TheVariants as fault
-use Rattle.gs_desk.specs.Answering.{AnswersText}
-use Rattle.gs_desk.specs.Starting.{Starts}
+use Rattle.gs_shell_script.specs.Run.{RunFails, Writes}
+use Rattle.gs_shell_script.specs.declared.RunFault.{RunFault}
+use Rattle.gs_shell_script.specs.declared.RunFault.TheVariants as fault
+use Rattle.gs_shell_desk.specs.Answering.{AnswersText}
+use Rattle.gs_shell_desk.specs.Starting.{Starts}
 use Rattle.gs_shell.specs.Serving.{Serves, ServeFails}
-use Rattle.gs_desk.specs.declared.desk.Desk.{Desk}
+use Rattle.gs_shell_desk.specs.declared.desk.Desk.{Desk}
 
 module _ {D : Type 0} (seen : D → List ℕ) (failures : D → ℕ) (config : Config) (disks : D × D) (begun ended : Desk D) (before left old new : Option (List ℕ))
     (starts : Starts seen failures config disks begun) where

@@ -2,14 +2,14 @@
 use Rattle.std.specs.Prelude.{◌≡◌, ℕ, List, Option}
 use Rattle.gs_base.specs.declared.config.Config.{Config}
 use Rattle.gs_base.specs.declared.refusal.Refusal.{Refusal}
-use Rattle.gs_desk.specs.Answering.{AnswersText}
-use Rattle.gs_desk.specs.Starting.{Starts}
-use Rattle.gs_desk.specs.declared.desk.Desk.{Desk}
+use Rattle.gs_shell_desk.specs.Answering.{AnswersText}
+use Rattle.gs_shell_desk.specs.Starting.{Starts}
+use Rattle.gs_shell_desk.specs.declared.desk.Desk.{Desk}
 use Rattle.gs_journal.specs.declared.journal.Unopened.{Unopened}
-use Rattle.gs_script.specs.Run.{RunFails, Writes}
-use Rattle.gs_script.specs.declared.RunFault.{RunFault}
-use Rattle.gs_script.specs.declared.RunFault.TheVariants as fault
-use Rattle.gs_world.specs.Happenings.{WhyNotBegun}
+use Rattle.gs_shell_script.specs.Run.{RunFails, Writes}
+use Rattle.gs_shell_script.specs.declared.RunFault.{RunFault}
+use Rattle.gs_shell_script.specs.declared.RunFault.TheVariants as fault
+use Rattle.gs_nodes.specs.Happenings.{WhyNotBegun}
 
 -- For what is seen of a disk, how often one has failed, the configuration, and the disks of the master's journal.
 module _ {D : Type 0} (seen : D → List ℕ) (failures : D → ℕ) (config : Config) (disks : D × D) where

@@ -5,19 +5,19 @@ ghost use Rattle.std.specs.Prelude.{OnOk, IfErr, IfSome};
 ghost use Rattle.gs_shell.specs.Serving.{Serves, ServeFails};
 
 use gs_base::Config;
-use gs_desk::Desk;
 use gs_journal::Disk;
-pub use gs_script::RunFault;
+use gs_shell_desk::Desk;
+pub use gs_shell_script::RunFault;
 use std::alloc::Global;
 use std::io::{BufRead, Write};
 
 /// Begins a store over the two disks of its master's journal, with the servers and sizes of the configuration, and answers each
-/// line of the reader by one line to the writer, which is flushed as [`gs_script::run`] says: at the latest before the run may
+/// line of the reader by one line to the writer, which is flushed as [`gs_shell_script::run`] says: at the latest before the run may
 /// have to wait for input, and at its end. New disks are those of a new store.
 ///
 /// Where memory is lacking, the answer is `refused 33 Memory`, and the run goes on; something of what the line asks may be done
 /// then. Where the disks can't be opened or memory is lacking for the nodes, the fault is `Refused`, and nothing is read or
-/// written. A read or a write that fails ends the run as [`gs_script::run`] says.
+/// written. A read or a write that fails ends the run as [`gs_shell_script::run`] says.
 pub fn run<D: Disk + Drop, R: BufRead, W: Write>(
     alloc: Global,
     config: Config,
@@ -34,7 +34,7 @@ pub fn run<D: Disk + Drop, R: BufRead, W: Write>(
         Ok(desk) => desk,
         Err(unopened) => return Err(RunFault::Refused(unopened.refusal)),
     };
-    let result = gs_script::run(alloc, &mut desk, reader, writer);
+    let result = gs_shell_script::run(alloc, &mut desk, reader, writer);
     drop(desk);
     result
 }

@@ -6,7 +6,7 @@ use Rattle.gs_base.specs.declared.numbers.Stamp.{Stamp}
 use Rattle.gs_base.specs.declared.numbers.ReqId.{ReqId}
 use Rattle.gs_base.specs.declared.refusal.Refusal.{Refusal}
 use Rattle.gs_block.specs.Stored.{digests_of}
-use Rattle.gs_block.specs.Follows.{Follows, MakesOf}
+use Rattle.gs_base.specs.Calls.{Follows, MakesOf}
 use Rattle.gs_replica.specs.declared.op.Op.{Op}
 use Rattle.gs_replica.specs.Edits as edits
 use Rattle.gs_replica.specs.Seals.{State, with_seal}
@@ -14,7 +14,7 @@ use Rattle.gs_replica.specs.Seals as replicas
 use Rattle.gs_store.specs.Slots.{Live, Slot, with_live}
 use Rattle.gs_replica.specs.Copies.{Image, SealedImage, image_of, of_image, and_then}
 use Rattle.gs_base.specs.declared.refusal.Refusal.TheVariants as refusals
-use Rattle.gs_block.specs.declared.refused.Refused.{Refused}
+use Rattle.gs_base.specs.declared.refused.Refused.{Refused}
 use Rattle.gs_store.specs.Moves.{carried_in, replicas_of}
 use Rattle.gs_store.specs.Serving.{apply, apply_to}
 

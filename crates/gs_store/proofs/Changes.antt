@@ -7,8 +7,8 @@ use Rattle.std.specs.FinMap as fin
 use Rattle.std.specs.Ordering.{nat_cmp}
 use Rattle.gs_base.specs.declared.refusal.Refusal.{Refusal}
 use Rattle.gs_base.specs.declared.refusal.Refusal.TheVariants as refusals
-use Rattle.gs_block.specs.declared.refused.Refused.{Refused}
-use Rattle.gs_block.specs.Follows.{Does, Follows, FollowsOf, Refuses}
+use Rattle.gs_base.specs.declared.refused.Refused.{Refused}
+use Rattle.gs_base.specs.Calls.{Does, Follows, FollowsOf, Refuses}
 use Rattle.gs_base.specs.declared.numbers.Stamp.{Stamp}
 use Rattle.gs_base.specs.Stamps.{is_same}
 use Rattle.gs_store.specs.Slots.{Slot, nothing, first_stamp, drop_replica, when, unless, first_of}

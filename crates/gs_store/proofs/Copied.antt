@@ -9,7 +9,7 @@ use Rattle.gs_base.specs.declared.numbers.Stamp.{Stamp}
 use Rattle.gs_base.specs.Stamps.{is_before, is_same}
 use Rattle.gs_base.specs.declared.refusal.Refusal.{Refusal}
 use Rattle.gs_base.specs.declared.refusal.Refusal.TheVariants as refusals
-use Rattle.gs_block.specs.Follows.{Answers, Does, Foretells, Makes}
+use Rattle.gs_base.specs.Calls.{Answers, Does, Foretells, Makes}
 use Rattle.gs_block.specs.Edits as blocks
 use Rattle.gs_block.specs.Edits.{unless_damaged}
 use Rattle.gs_block.specs.Stored.{Stored, first_damaged}

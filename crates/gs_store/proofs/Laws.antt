@@ -16,9 +16,9 @@ use Rattle.gs_replica.specs.Copies.{and_then}
 use Rattle.gs_store.specs.Moves.{source, live_in, sound_image}
 use Rattle.gs_store.proofs.Calls.{standing_in}
 use Rattle.gs_replica.specs.Seals.{with_seal, on_seal, touch_seal, Sealed, State}
-use Rattle.gs_sealed.specs.Trash.{trash_of}
+use Rattle.gs_store_seal.specs.Trash.{trash_of}
 use Rattle.gs_store.specs.Slots.{with_live, Live, Slot, first_of, when, unless, unless_live, if_bad, again, replaced, removed, trash_behind, trashed_seal, seal_in, seal_of, sealed_of, risen, live_under, mark_bad, marked_live}
-use Rattle.gs_sealed.specs.Rollback.{later}
+use Rattle.gs_store_seal.specs.Rollback.{later}
 use Rattle.gs_store.specs.Learning.{start_of, rolled_to}
 
 -- the order of stamps

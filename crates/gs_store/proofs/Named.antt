@@ -15,7 +15,7 @@ use Rattle.gs_replica.specs.Stands.{Edit}
 use Rattle.gs_store.specs.Slots.{Slot, first_stamp, sealed_of}
 use Rattle.gs_store.specs.Whole.{IsWholeSlot}
 use Rattle.gs_store.specs.Moves.{unless_lost, sound_image}
-use Rattle.gs_sealed.specs.Rollback.{later}
+use Rattle.gs_store_seal.specs.Rollback.{later}
 use Rattle.gs_store.specs.Learning.{start_of, rolled_to, rolled_back, is_named}
 use Rattle.gs_store.specs.Stores.{Store, or_nothing, slot_of, learn, named_of}
 use Rattle.gs_store.specs.StoreCalls.{names}

@@ -12,7 +12,7 @@ use Rattle.gs_replica.specs.Whole.{HasUndone}
 use Rattle.gs_store.specs.Slots.{Live, Slot, trashed_seal, seal_in, seal_of, sealed_of}
 use Rattle.gs_store.specs.Whole.{LiveWhole, TrashWhole, IsWholeSlot}
 use Rattle.gs_store.specs.Moves.{unless_lost, sound_image}
-use Rattle.gs_sealed.specs.Rollback.{later}
+use Rattle.gs_store_seal.specs.Rollback.{later}
 use Rattle.gs_store.specs.Learning.{start_of, rolled_to, is_named}
 
 abbrev SealStored : Option Sealed → Type 0

@@ -15,7 +15,7 @@ use Rattle.gs_replica.specs.Seals as replicas
 use Rattle.gs_store.specs.Slots.{Live, Slot, take_lease, damage_of, mark_bad, when, unless, first_of, unless_live, unless_promised, if_bad, check_grant, is_taken, taking, lost, removed, risen, again, replaced, sealed_of}
 use Rattle.gs_store.specs.Serving.{apply_to}
 use Rattle.gs_store.specs.Moves.{copied_in, in_trash}
-use Rattle.gs_sealed.specs.Rollback.{later}
+use Rattle.gs_store_seal.specs.Rollback.{later}
 use Rattle.gs_store.specs.Learning.{start_of, rolled_to}
 use Rattle.gs_store.specs.Calls.{Call, Creates, Advances, CopiesIn, TakesCopy, Drops, TakesLease, Loses, Damages, MarksBad, Applies, Seals, Unseals, RollsBack, called, LeadsTo, IsNoLease}
 use Rattle.gs_store.proofs.Laws.{not_before_itself, not_both, not_below, Holds, of_ok, of_cond, of_unless, of_again, of_raised, not_old}

@@ -17,7 +17,7 @@ use Rattle.gs_replica.proofs.Stood.{damage_stood, rolled_back}
 use Rattle.gs_store.specs.Slots.{Live, Slot, damage_of, when, first_of, unless_live, unless_promised, if_bad, check_grant, is_taken, taking, removed, risen, mark_bad, again, replaced, seal_in, seal_of, sealed_of}
 use Rattle.gs_store.specs.Serving.{apply_to}
 use Rattle.gs_store.specs.Moves.{in_trash, copied_in}
-use Rattle.gs_sealed.specs.Rollback.{later}
+use Rattle.gs_store_seal.specs.Rollback.{later}
 use Rattle.gs_store.specs.Learning.{start_of, rolled_to, sealed_live, prepared}
 use Rattle.gs_store.specs.Standing.{LiveStandsFor, LiveUndamaged}
 use Rattle.gs_store.specs.Calls.{Call, Creates, Advances, CopiesIn, TakesCopy, Drops, TakesLease, Loses, Damages, MarksBad, Applies, Seals, Unseals, RollsBack, called, LeadsTo, KeepsSeal, KeepSeal}

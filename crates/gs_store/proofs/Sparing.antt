@@ -16,7 +16,7 @@ use Rattle.gs_replica.specs.Stands.{IsTouched}
 use Rattle.gs_replica.proofs.Listing.{seal_ok}
 use Rattle.gs_store.specs.Slots.{Live, Slot, damage_of, when, first_of, unless_live, unless_promised, if_bad, check_grant, is_taken, taking, removed, risen, again, replaced, seal_in, seal_of, sealed_of}
 use Rattle.gs_store.specs.Moves.{in_trash, copied_in, sound_image, unless_lost}
-use Rattle.gs_sealed.specs.Rollback.{later}
+use Rattle.gs_store_seal.specs.Rollback.{later}
 use Rattle.gs_store.specs.Learning.{start_of, rolled_to, rolled_back, sealed_live, prepared}
 use Rattle.gs_store.specs.Standing.{LiveUndamaged, struck_in}
 use Rattle.gs_store.specs.Calls.{Call, Creates, Advances, CopiesIn, TakesCopy, Drops, TakesLease, Loses, Damages, MarksBad, Applies, Seals, Unseals, RollsBack, called, LeadsSparing, IsSparing, KeepsSeal, KeepSeal}

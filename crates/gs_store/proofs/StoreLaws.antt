@@ -17,7 +17,7 @@ use Rattle.gs_replica.specs.declared.op.Op.{Op}
 use Rattle.gs_store.specs.Buffers.{without}
 use Rattle.gs_store.specs.Serving as serving
 use Rattle.gs_store.specs.Slots.{Slot, nothing, sealed_of}
-use Rattle.gs_sealed.specs.Rollback.{later}
+use Rattle.gs_store_seal.specs.Rollback.{later}
 use Rattle.gs_store.specs.Learning.{start_of}
 use Rattle.gs_store.specs.Stores.{Store, or_nothing, slot_of, with_slot, put_slot, set_slot, with_buffer, used, apply, apply_with, learn, learned, gone_on}
 use Rattle.gs_store.proofs.Maps.{get-each}

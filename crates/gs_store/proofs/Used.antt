@@ -6,7 +6,7 @@ use Rattle.gs_base.specs.declared.numbers.ReqId.{ReqId}
 use Rattle.gs_base.specs.declared.numbers.Stamp.{Stamp}
 use Rattle.gs_base.specs.declared.refusal.Refusal.{Refusal}
 use Rattle.gs_replica.specs.declared.op.Op.{Op}
-use Rattle.gs_block.specs.Follows.{Follows, Refuses}
+use Rattle.gs_base.specs.Calls.{Follows, Refuses}
 use Rattle.gs_store.specs.Serving as serving
 use Rattle.gs_store.specs.Buffers.{pushed, without}
 use Rattle.gs_store.specs.Stores.{Store, slot_of, with_buffer, used, apply, apply_with, apply_pushed, foreseen_with, foreseen_pushed}

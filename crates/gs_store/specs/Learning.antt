@@ -6,7 +6,7 @@ use Rattle.gs_base.specs.declared.refusal.Refusal.{Refusal}
 use Rattle.gs_block.specs.Stored.{count_of, are_digests}
 use Rattle.gs_replica.specs.Held.{Held}
 use Rattle.gs_replica.specs.Seals.{State, seal, unseal, roll_back_to}
-use Rattle.gs_sealed.specs.Rollback.{later}
+use Rattle.gs_store_seal.specs.Rollback.{later}
 use Rattle.gs_store.specs.Slots.{Live, Slot, sound, lost, nothing, standing, dropped, empty_replica, sealed_replica, stamp_of, sealed_of}
 
 -- at a prepare what is live is sealed, and nothing else

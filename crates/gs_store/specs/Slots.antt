@@ -10,7 +10,7 @@ use Rattle.gs_replica.specs.Held.{Held}
 use Rattle.gs_replica.specs.Edits.{fresh}
 use Rattle.gs_replica.specs.Seals.{Sealed, State, coded_state}
 use Rattle.gs_replica.specs.Seals as replicas
-use Rattle.gs_sealed.specs.Trash.{trash_of}
+use Rattle.gs_store_seal.specs.Trash.{trash_of}
 
 -- a live replica, and the block that marks it as bad
 pub record Live : Type 0 where

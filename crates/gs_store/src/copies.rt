@@ -2,7 +2,7 @@ ghost use Rattle.std.specs.Prelude.{◌≡◌, true, None, IfErr};
 ghost use Rattle.std.specs.FinMap as fin;
 ghost use Rattle.gs_base.specs.declared.refusal.Refusal.TheVariants.{Memory};
 ghost use Rattle.gs_base.specs.Stamps.{is_before};
-ghost use Rattle.gs_block.specs.Follows.{FollowsOf, Foretells, Gives, Makes};
+ghost use Rattle.gs_base.specs.Calls.{FollowsOf, Foretells, Gives, Makes};
 ghost use Rattle.gs_store.specs.Slots.{nothing};
 ghost use Rattle.gs_store.specs.Moves as moves;
 ghost use Rattle.gs_store.specs.Moves.{Prepares, copy_out};
@@ -11,8 +11,7 @@ ghost use Rattle.gs_store.specs.Stores.{Performs, slot_of, at_slot, copy_in, mak
 use crate::moves::{CopyImages, PreparedCopy};
 use crate::slot::Slot;
 use crate::store::Store;
-use gs_base::{Handle, Refusal, Stamp};
-use gs_block::Refused;
+use gs_base::{Handle, Refusal, Refused, Stamp};
 
 impl Store {
     /// What is kept of a handle, or an empty slot.

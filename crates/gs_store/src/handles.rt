@@ -1,6 +1,6 @@
 ghost use Rattle.std.specs.Prelude.{◌≡◌, None, OnOk, OnErr, IfErr};
 ghost use Rattle.std.specs.FinMap as fin;
-ghost use Rattle.gs_block.specs.Follows.{Does, Follows, Refuses};
+ghost use Rattle.gs_base.specs.Calls.{Does, Follows, Refuses};
 ghost use Rattle.gs_base.specs.declared.refusal.Refusal.TheVariants.{Memory};
 ghost use Rattle.gs_store.specs.Serving.{foreseen};
 ghost use Rattle.gs_store.specs.Stores.{Performs, slot_of, with_slot, create, advance, drop_replica, take_lease, apply, lose, damage, mark_bad};

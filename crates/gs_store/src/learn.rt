@@ -4,7 +4,7 @@ ghost use Rattle.gs_store.specs.Learning.{prepared, held_in, finalized, start_of
 use crate::slot::{LiveReplica, Slot};
 use gs_base::Stamp;
 use gs_replica::PreparedSeal;
-use gs_sealed::{is_restored, restore};
+use gs_store_seal::{is_restored, restore};
 use std::alloc::AllocError;
 use std::marker::Model;
 

@@ -1,16 +1,16 @@
 ghost use Rattle.std.specs.Prelude.{◌≡◌, ◌⊎◌, true, Ok, Err, None, IfOk, IfErr};
 ghost use Rattle.gs_base.specs.Stamps.{is_before};
 ghost use Rattle.gs_base.specs.declared.refusal.Refusal.TheVariants.{Memory};
-ghost use Rattle.gs_block.specs.Follows.{Answers, Does, FollowsOf, Foretells, Gives, Makes, MakesOf};
+ghost use Rattle.gs_base.specs.Calls.{Answers, Does, FollowsOf, Foretells, Gives, Makes, MakesOf};
 ghost use Rattle.gs_store.specs.Slots.{sealed_of};
 ghost use Rattle.gs_store.specs.Whole.{TrashSealed};
 ghost use Rattle.gs_store.specs.Moves.{source, copy_out, sound_image, carried_in, replicas_of, copy_in, copy_for, take_copy, make_copy, Prepares};
 
 use crate::slot::Slot;
-use gs_base::{Refusal, Stamp};
-use gs_block::{Refused, Sizes};
+use gs_base::{Refusal, Refused, Stamp};
+use gs_block::Sizes;
 use gs_replica::{Image, Replica, SealedImage};
-use gs_sealed::trash_with;
+use gs_store_seal::trash_with;
 use std::alloc::Global;
 use std::marker::Model;
 

@@ -1,6 +1,6 @@
 ghost use Rattle.std.specs.Prelude.{◌≡◌, Some, IfOk, OnOk, OnErr, option_map};
 ghost use Rattle.std.specs.Option.{option_copied};
-ghost use Rattle.gs_block.specs.Follows.{Follows, Refuses};
+ghost use Rattle.gs_base.specs.Calls.{Follows, Refuses};
 ghost use Rattle.gs_store.specs.Buffers.{pushed};
 ghost use Rattle.gs_store.specs.Stores.{push, take_pushed, apply_pushed, foreseen_pushed, restarted};
 

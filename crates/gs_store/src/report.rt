@@ -5,7 +5,7 @@ ghost use Rattle.gs_store.specs.Stores.{report};
 use crate::slot::Slot;
 use crate::store::Store;
 use gs_base::{Handle, Stamp};
-use gs_table::Entries;
+use gs_base_table::Entries;
 use std::marker::Model;
 
 /// What is told of a live replica.

@@ -15,7 +15,7 @@ ghost use Rattle.gs_store.specs.Slots.{Live, Slot, sound, create, advance, drop_
 ghost use Rattle.gs_store.specs.Whole.{IsWholeSlot};
 ghost use Rattle.gs_store.specs.Serving.{apply};
 ghost use Rattle.gs_store.specs.Moves.{take_copy, sound_image};
-ghost use Rattle.gs_sealed.specs.Rollback.{later};
+ghost use Rattle.gs_store_seal.specs.Rollback.{later};
 ghost use Rattle.gs_store.specs.Learning.{prepared, finalized, rolled_back, is_named, start_of};
 ghost use Rattle.gs_store.specs.Calls.{Call, LeadsTo, LeadsSparing, KeepSeal};
 ghost use Rattle.gs_store.specs.Standing.{StandsIn, StoodIn, LiveUndamaged, struck_by_damage, undone_in};

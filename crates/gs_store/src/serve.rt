@@ -1,5 +1,5 @@
 ghost use Rattle.std.specs.Prelude.{◌≡◌};
-ghost use Rattle.gs_block.specs.Follows.{Follows, Foretells, Refuses, Answers};
+ghost use Rattle.gs_base.specs.Calls.{Follows, Foretells, Refuses, Answers};
 ghost use Rattle.gs_store.specs.Serving.{apply, foreseen, edited_in, read, text_length, digest, done_in};
 
 use crate::slot::Slot;

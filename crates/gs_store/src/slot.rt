@@ -1,14 +1,14 @@
 ghost use Rattle.std.specs.Prelude.{◌≡◌, Some, None, true};
 ghost use Rattle.std.specs.Option.{option_copied};
 ghost use Rattle.gs_base.specs.Stamps.{is_before};
-ghost use Rattle.gs_block.specs.Follows.{Does, Judges};
+ghost use Rattle.gs_base.specs.Calls.{Does, Judges};
 ghost use Rattle.gs_store.specs.Slots.{nothing, removed, replaced, create, again, advance, drop_replica, check_grant, is_taken, take_lease, lose, damage, mark_bad, count_of, bad_in, lost, sealed_of, trashed_seal};
 ghost use Rattle.gs_store.specs.Whole.{IsWholeSlot};
 
 use gs_base::{Refusal, Stamp};
 use gs_block::Sizes;
 use gs_replica::Replica;
-use gs_sealed::trash_behind;
+use gs_store_seal::trash_behind;
 use std::alloc::Global;
 use std::marker::Model;
 

@@ -1,7 +1,7 @@
 ghost use Rattle.std.specs.Prelude.{◌≡◌, IfOk};
 ghost use Rattle.std.specs.Option.{option_copied};
 ghost use Rattle.std.specs.FinMap as fin;
-ghost use Rattle.gs_block.specs.Follows.{Answers, Foretells, Judges};
+ghost use Rattle.gs_base.specs.Calls.{Answers, Foretells, Judges};
 ghost use Rattle.gs_store.specs.Slots.{check_grant, is_taken, count_of, bad_in};
 ghost use Rattle.gs_store.specs.Serving.{read, text_length, digest, edited_in, done_in};
 ghost use Rattle.gs_store.specs.Stores.{new, slot_of, check_epoch};
@@ -9,9 +9,9 @@ ghost use Rattle.gs_store.specs.Stores.{new, slot_of, check_epoch};
 use crate::buffer::PushBuffer;
 use crate::slot::Slot;
 use gs_base::{ClientId, Handle, Refusal, Stamp};
+use gs_base_table::Table;
 use gs_block::{Digest, Sizes};
 use gs_replica::{Done, Op};
-use gs_table::Table;
 use std::alloc::{AllocError, Global};
 use std::marker::Model;
 
@@ -40,7 +40,7 @@ impl Drop for Store {
 
 impl Model for Store {
     ghost use Rattle.std.specs.Ordering.{nat_cmp};
-    ghost use Rattle.gs_table.specs.Slots.{live};
+    ghost use Rattle.gs_base_table.specs.Slots.{live};
     ghost use Rattle.gs_store.specs.Stores.{Store, coded_store};
     ghost use Rattle.gs_store.specs.inner.Placed.{slots_at, IsPlaced};
 

@@ -1,9 +1,9 @@
 // A store as a library: an upgrade is prepared, what is done in it goes wrong, and it is rolled back.
 use gs_base::{Config, Refusal};
 use gs_client::Client;
-use gs_desk::{Desk, Wire};
 use gs_journal::MemoryDisk;
 use gs_path::Path;
+use gs_shell_desk::{Desk, Wire};
 use std::alloc::Global;
 use std::test::Fail;
 

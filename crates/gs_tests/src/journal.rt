@@ -1,5 +1,5 @@
 use gs_base::Refusal;
-use gs_journal::{Disk, Fault, FaultyDisk, Journal, MemoryDisk, Record};
+use gs_journal::{Disk, FailingDisk, Fault, Journal, MemoryDisk, Record};
 use std::alloc::Global;
 use std::test::Fail;
 
@@ -118,8 +118,8 @@ fn added_to(alloc: Global, bytes: &[u8]) -> Result<usize, Refusal> {
 // Whether the old records or the new are left after an append to three records and a checkpoint, where the disks have these
 // faults: of what was made nothing is missing, and of what wasn't made the next may be there.
 fn is_whole(alloc: Global, on_first: Fault, on_second: Fault) -> Result<bool, Refusal> {
-    let first = FaultyDisk::new(MemoryDisk::new(THREE.to_vec(alloc)?), on_first);
-    let second = FaultyDisk::new(MemoryDisk::new(Vec::new(alloc)), on_second);
+    let first = FailingDisk::new(MemoryDisk::new(THREE.to_vec(alloc)?), on_first);
+    let second = FailingDisk::new(MemoryDisk::new(Vec::new(alloc)), on_second);
     let Edited {
         added,
         made,
@@ -168,8 +168,8 @@ fn a_call_that_fails_is_told_and_closes_the_journal(rt: HostRuntime) -> Result<(
     let alloc = rt.alloc();
     let entry = Record::new(alloc, 1, &MKDIRS)?;
     for calls in 0..6 {
-        let first = FaultyDisk::new(MemoryDisk::new(THREE.to_vec(alloc)?), Fault::Never);
-        let second = FaultyDisk::new(MemoryDisk::new(Vec::new(alloc)), Fault::Never);
+        let first = FailingDisk::new(MemoryDisk::new(THREE.to_vec(alloc)?), Fault::Never);
+        let second = FailingDisk::new(MemoryDisk::new(Vec::new(alloc)), Fault::Never);
         let Ok(mut journal) = Journal::open(alloc, first, second, 1_000) else {
             assert!(rt; false);
             return Ok(());

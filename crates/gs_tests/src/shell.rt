@@ -569,7 +569,7 @@ fn a_line_takes_many_reads(rt: HostRuntime) -> Result<(), Fail> {
 #[test]
 fn a_line_fails_as_its_read(rt: HostRuntime) -> Result<(), Fail> {
     let mut input = Input::weak(b"ls", 1);
-    let next = gs_line::next_line(rt.alloc(), &mut input);
+    let next = gs_shell_line::next_line(rt.alloc(), &mut input);
     assert!(rt;
         matches!(next, Err(e) if e.kind() == ErrorKind::BrokenPipe),
         "the kind"

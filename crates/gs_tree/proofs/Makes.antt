@@ -14,7 +14,7 @@ use Rattle.gs_tree.specs.Plain.{Plain, IsFree, Same, without, part_at}
 use Rattle.gs_tree.specs.Find.{DirsAbove}
 use Rattle.gs_tree.specs.Edits.{with_dirs, with_entry, file_above, is_file, stood, same_path, mkdirs, made}
 use Rattle.gs_tree.specs.Inverses.{row_of, first_made, below_first, after_undo, IsBlank, IsBlankRow, TakesBack}
-use Rattle.gs_tree.specs.Follows.{Follows}
+use Rattle.gs_tree.specs.Follows.{FollowsPlain}
 use Rattle.gs_tree.specs.inner.Steps.{IsSown}
 use Rattle.gs_tree.specs.declared.inverse.TreeInverse.TheVariants.{Made}
 use Rattle.gs_tree.proofs.Rows.{names_equiv}
@@ -111,11 +111,11 @@ no_file m [] above = refl
 no_file m (x ∷ p) above = ap (λ v. is_file v || file_above (λ q. m (x ∷ q)) p) above.0 ∙ no_file (λ q. m (x ∷ q)) p above.1
 
 -- mkdirs where a directory stands
-pub mkdirs_there : {I : Type 0} (i : I) (m : Plain ℕ) (p : Path) → m p ≡ Some Dir → DirsAbove m p → Follows (mkdirs m p) (Ok i) m m
+pub mkdirs_there : {I : Type 0} (i : I) (m : Plain ℕ) (p : Path) → m p ≡ Some Dir → DirsAbove m p → FollowsPlain (mkdirs m p) (Ok i) m m
 mkdirs_there i m p dir above =
     let is : mkdirs m p ≡ Ok (with_dirs p m) =
     ap (λ v. cond (is_file v) (Err Exists) (cond (file_above m p) (Err NotADirectory) (Ok (with_dirs p m)))) dir ∙ ap (λ b. cond b (Err NotADirectory) (Ok (with_dirs p m))) (no_file m p above) in
-    subst (λ (r : Result (Plain ℕ) Refusal). Follows r (Ok i) m m) (sym is) (λ q. elim (begins q p) as (λ b. begins q p ≡ b → m q ≡ cond (b && is_none (m q)) (Some Dir) (m q)) [
+    subst (λ (r : Result (Plain ℕ) Refusal). FollowsPlain r (Ok i) m m) (sym is) (λ q. elim (begins q p) as (λ b. begins q p ≡ b → m q ≡ cond (b && is_none (m q)) (Some Dir) (m q)) [
       | true ↦ λ b. sym (ap (λ s. cond s (Some Dir) (m q)) (dirs_stand m p q above (ap is_none dir) b))
       | false ↦ λ b. refl
     ] refl)

@@ -18,7 +18,7 @@ use Rattle.gs_tree.specs.Edits.{rename, move_to, placed, moved, hide, renamed_be
 use Rattle.gs_tree.specs.Listing.{IsListingOf, pairs_of}
 use Rattle.gs_tree.specs.declared.node.Listed.{Listed}
 use Rattle.gs_tree.specs.Inverses.{TakesBack}
-use Rattle.gs_tree.specs.Follows.{Follows}
+use Rattle.gs_tree.specs.Follows.{FollowsPlain}
 use Rattle.gs_tree.specs.inner.Steps.{Lands, Relocates, TestsPlace, TestsParent, TestsTarget, IsElsewhere, IsKnown}
 use Rattle.gs_tree.specs.declared.inverse.TreeInverse.TheVariants.{Moved}
 use Rattle.std.proofs.lemmas.Bool.{false≢true}
@@ -291,8 +291,8 @@ old_name-append (y ∷ []) x = refl
 old_name-append (y ∷ z ∷ p) x = old_name-append (z ∷ p) x
 
 -- a refusal that the plain tree gives
-pub refused : (I : Type 0) {r : Result (Plain ℕ) Refusal} (f : Refusal) (old : Plain ℕ) → r ≡ Err f → Follows {I = I} r (Err f) old old
-refused I f old e = subst (λ (s : Result (Plain ℕ) Refusal). Follows {I = I} s (Err f) old old) (sym e) (inl refl, λ q. refl)
+pub refused : (I : Type 0) {r : Result (Plain ℕ) Refusal} (f : Refusal) (old : Plain ℕ) → r ≡ Err f → FollowsPlain {I = I} r (Err f) old old
+refused I f old e = subst (λ (s : Result (Plain ℕ) Refusal). FollowsPlain {I = I} s (Err f) old old) (sym e) (inl refl, λ q. refl)
 
 pub snapshot-is : (deep : Bool) (m : Plain ℕ) (from to : Path) → (from ≢ []) → is_some (m from) ≡ true → snapshot (λ _. deep) m from to ≡ placed deep m from to (copied from to m)
 snapshot-is deep m [] to h g = absurd (h refl)

@@ -7,7 +7,7 @@ use Rattle.gs_tree.specs.Entry.{Dir}
 use Rattle.gs_tree.specs.Plain.{Plain, IsFree, after, with_at, without}
 use Rattle.gs_tree.specs.Edits.{moved}
 use Rattle.gs_tree.specs.Inverses.{TakesBack}
-use Rattle.gs_tree.specs.Follows.{Follows}
+use Rattle.gs_tree.specs.Follows.{FollowsPlain}
 use Rattle.gs_tree.specs.Places.{KeepsPlace, given_up, without_place, can_return, returned}
 use Rattle.gs_tree.specs.declared.inverse.TreeInverse.{TreeInverse}
 use Rattle.gs_tree.specs.declared.inverse.TreeInverse.TheVariants.{Made, Moved, Removed, Added, Changed, Copied}
@@ -29,9 +29,9 @@ has_left one node new from to free some apart now =
     }
 
 -- what is made with a place that is kept is what is made, once that is given up
-pub closed_follows : (r : Result (Plain ℕ) Refusal) (made result : Result TreeInverse Refusal) (old mid new : Plain ℕ) → result ≡ made → ((q : Path) → new q ≡ given_up made mid q) → Follows r made old (given_up made mid) → Follows r result old new
+pub closed_follows : (r : Result (Plain ℕ) Refusal) (made result : Result TreeInverse Refusal) (old mid new : Plain ℕ) → result ≡ made → ((q : Path) → new q ≡ given_up made mid q) → FollowsPlain r made old (given_up made mid) → FollowsPlain r result old new
 closed_follows r made result old mid new is same h =
-    subst (λ (n : Plain ℕ). Follows r result old n) (λ i q. sym (same q) i) (subst (λ (x : Result TreeInverse Refusal). Follows r x old (given_up made mid)) (sym is) h)
+    subst (λ (n : Plain ℕ). FollowsPlain r result old n) (λ i q. sym (same q) i) (subst (λ (x : Result TreeInverse Refusal). FollowsPlain r x old (given_up made mid)) (sym is) h)
 
 pub closed_takes : (made result : Result TreeInverse Refusal) (old mid new : Plain ℕ) → result ≡ made → ((q : Path) → new q ≡ given_up made mid q) → IfOk made (λ i. TakesBack i old (given_up made mid)) → IfOk result (λ i. TakesBack i old new)
 closed_takes made result old mid new is same h =

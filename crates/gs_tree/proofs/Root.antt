@@ -9,7 +9,7 @@ use Rattle.gs_tree.specs.Entry.{Dir, File}
 use Rattle.gs_tree.specs.Plain.{Plain, without}
 use Rattle.gs_tree.specs.Edits.{mkdirs, create, made, rename, placed, moved, hide, hidden_path, unhide, unhidden, beside, old_name, remove, snapshot, copied, with_dirs, with_entry, chunks_in, is_file, file_above, same_path, target_of, parent}
 use Rattle.gs_tree.specs.Inverses.{Fits, after_undo, first_made}
-use Rattle.gs_tree.specs.Follows.{Follows, Undoes}
+use Rattle.gs_tree.specs.Follows.{FollowsPlain, Undoes}
 use Rattle.gs_tree.specs.declared.inverse.TreeInverse.{TreeInverse}
 use Rattle.gs_tree.specs.declared.inverse.TreeInverse.TheVariants.{Made, Moved, Removed, Added, Changed, Copied}
 
@@ -18,7 +18,7 @@ abbrev pub KeepsRoot : Result (Plain ℕ) Refusal → Type 0
 KeepsRoot (Ok m) = m [] ≡ Some Dir
 KeepsRoot (Err e) = Unit {0}
 
-pub root_follows : {I : Type 0} (res : Result (Plain ℕ) Refusal) (r : Result I Refusal) (old new : Plain ℕ) → KeepsRoot res → Follows res r old new → old [] ≡ Some Dir → new [] ≡ Some Dir
+pub root_follows : {I : Type 0} (res : Result (Plain ℕ) Refusal) (r : Result I Refusal) (old new : Plain ℕ) → KeepsRoot res → FollowsPlain res r old new → old [] ≡ Some Dir → new [] ≡ Some Dir
 root_follows (Ok m) (Ok i) old new keeps h root = h [] ∙ keeps
 root_follows (Err e) (Ok i) old new keeps h root = absurd h
 root_follows (Ok m) (Err f) old new keeps h root = h.1 [] ∙ root

@@ -14,7 +14,7 @@ use Rattle.gs_tree.specs.Plain.{Plain, Same, after, part_at}
 use Rattle.gs_tree.specs.Find.{Rows, at}
 use Rattle.gs_tree.specs.Edits.{same_path, visible, snapshot, copied, placed, parent, is_file}
 use Rattle.gs_tree.specs.Inverses.{IsRemoved, removed_chunks}
-use Rattle.gs_tree.specs.Follows.{Follows}
+use Rattle.gs_tree.specs.Follows.{FollowsPlain}
 use Rattle.gs_tree.specs.declared.inverse.TreeInverse.{TreeInverse}
 use Rattle.gs_tree.specs.Chunks.{all_chunks, chunks_under, visible_chunks_under, visible_under, by_path, part_chunks}
 use Rattle.gs_tree.proofs.Splice.{begins_parts}
@@ -122,11 +122,11 @@ chunks_of_copy old new from to same =
     chunks_under-part new to rows part ∙ sym (visible_under-part old from rows (λ q. sym (same q) ∙ part q))
 
 -- what is answered where a test lets through
-past : {I : Type 0} (b : Bool) (e : Refusal) (rest : Result (Plain ℕ) Refusal) (i : I) (old new : Plain ℕ) → Follows (cond b (Err e) rest) (Ok i) old new → Follows rest (Ok i) old new
+past : {I : Type 0} (b : Bool) (e : Refusal) (rest : Result (Plain ℕ) Refusal) (i : I) (old new : Plain ℕ) → FollowsPlain (cond b (Err e) rest) (Ok i) old new → FollowsPlain rest (Ok i) old new
 past true e rest i old new h = absurd h
 past false e rest i old new h = h
 
-placed_is : {I : Type 0} (deep : Bool) (m : Plain ℕ) (from to : Path) (all : Plain ℕ) (i : I) (new : Plain ℕ) → Follows (placed deep m from to all) (Ok i) m new → Same new all
+placed_is : {I : Type 0} (deep : Bool) (m : Plain ℕ) (from to : Path) (all : Plain ℕ) (i : I) (new : Plain ℕ) → FollowsPlain (placed deep m from to all) (Ok i) m new → Same new all
 placed_is deep m from to all i new h =
     let h1 = past (same_path to from) Exists _ i m new h in
     let h2 = past (begins from to) IntoItself _ i m new h1 in
@@ -136,14 +136,14 @@ placed_is deep m from to all i new h =
     past deep BadPath (Ok all) i m new h5
 
 -- an accepted snapshot
-pub snapshot_is : {I : Type 0} (is_deep : Path → Bool) (m : Plain ℕ) (from to : Path) (i : I) (new : Plain ℕ) → Follows (snapshot is_deep m from to) (Ok i) m new → Same new (copied from to m)
+pub snapshot_is : {I : Type 0} (is_deep : Path → Bool) (m : Plain ℕ) (from to : Path) (i : I) (new : Plain ℕ) → FollowsPlain (snapshot is_deep m from to) (Ok i) m new → Same new (copied from to m)
 snapshot_is is_deep m from to i new h =
     let h1 = past (same_path from []) IsRoot _ i m new h in
     let h2 = past (is_none (m from)) NotFound _ i m new h1 in
     placed_is (is_deep to) m from to (copied from to m) i new h2
 
 -- a snapshot's copy has the chunks that were visible at its source
-pub snapshot_chunks : {I : Type 0} (r : Result I Refusal) (is_deep : Path → Bool) (old new : FinMap path_cmp (Entry ℕ)) (from to : Path) → Follows (snapshot is_deep (get old) from to) r (get old) (get new) → IfOk r (λ _. chunks_under to (entries new) ≡ visible_chunks_under from (entries old))
+pub snapshot_chunks : {I : Type 0} (r : Result I Refusal) (is_deep : Path → Bool) (old new : FinMap path_cmp (Entry ℕ)) (from to : Path) → FollowsPlain (snapshot is_deep (get old) from to) r (get old) (get new) → IfOk r (λ _. chunks_under to (entries new) ≡ visible_chunks_under from (entries old))
 snapshot_chunks (Err e) is_deep old new from to h = tt
 snapshot_chunks (Ok i) is_deep old new from to h =
     let is = snapshot_is is_deep (get old) from to i (get new) h in

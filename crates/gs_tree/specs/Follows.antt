@@ -9,11 +9,11 @@ use Rattle.gs_tree.specs.Plain.{Plain, Same, without}
 use Rattle.gs_tree.specs.Inverses.{Fits, after_undo}
 use Rattle.gs_tree.specs.declared.inverse.TreeInverse.{TreeInverse}
 
-abbrev pub Follows : {A I : Type 0} → Result (Plain A) Refusal → Result I Refusal → Plain A → Plain A → Type 0
-Follows (Ok m) (Ok i) old new = Same new m
-Follows (Err e) (Ok i) old new = ⊥
-Follows (Ok m) (Err f) old new = (f ≡ Memory) × Same new old
-Follows (Err e) (Err f) old new = ((f ≡ e) ⊎ (f ≡ Memory)) × Same new old
+abbrev pub FollowsPlain : {A I : Type 0} → Result (Plain A) Refusal → Result I Refusal → Plain A → Plain A → Type 0
+FollowsPlain (Ok m) (Ok i) old new = Same new m
+FollowsPlain (Err e) (Ok i) old new = ⊥
+FollowsPlain (Ok m) (Err f) old new = (f ≡ Memory) × Same new old
+FollowsPlain (Err e) (Err f) old new = ((f ≡ e) ⊎ (f ≡ Memory)) × Same new old
 
 -- something stands there that isn't the root, and its new place is under a directory that isn't taken out with it
 abbrev pub CanMove : Path → Path → Plain ℕ → Type 0

@@ -3,7 +3,7 @@ ghost use Rattle.std.specs.Prelude.{◌≡◌, true, IfOk};
 ghost use Rattle.gs_tree.specs.Find.{at};
 ghost use Rattle.gs_tree.specs.Edits.{add_chunk, set_chunk, is_file};
 ghost use Rattle.gs_tree.specs.Inverses.{TakesBack, IsChanged};
-ghost use Rattle.gs_tree.specs.Follows.{Follows};
+ghost use Rattle.gs_tree.specs.Follows.{FollowsPlain};
 ghost use Rattle.gs_tree.specs.inner.Steps.{SwapsChunk};
 
 use crate::inverse::TreeInverse;
@@ -19,7 +19,7 @@ pub(crate) fn add_chunk_in(
     path: &Path,
     chunk: Handle,
 ) -> Result<TreeInverse, Refusal>
-    ensures edit { Follows (add_chunk (at root.old) path.now chunk) result (at root.old) (at root.new) }
+    ensures edit { FollowsPlain (add_chunk (at root.old) path.now chunk) result (at root.old) (at root.new) }
     ensures undo { IfOk result (λ i. TakesBack i (at root.old) (at root.new)) }
     ensures inverse { IfOk result (λ i. i ≡ TreeInverse.Added path.now) }
 {
@@ -68,7 +68,7 @@ pub(crate) fn set_chunk_in(
     index: usize,
     chunk: Handle,
 ) -> Result<TreeInverse, Refusal>
-    ensures edit { Follows (set_chunk (at root.old) path.now index chunk) result (at root.old) (at root.new) }
+    ensures edit { FollowsPlain (set_chunk (at root.old) path.now index chunk) result (at root.old) (at root.new) }
     ensures undo { IfOk result (λ i. TakesBack i (at root.old) (at root.new)) }
     ensures inverse { IfOk result (λ i. IsChanged (at root.old) path.now index i) }
 {

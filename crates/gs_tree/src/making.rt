@@ -5,7 +5,7 @@ ghost use Rattle.gs_tree.specs.Edits.{mkdirs, create};
 ghost use Rattle.gs_tree.specs.inner.Steps.{MakesLeaf};
 ghost use Rattle.gs_tree.specs.inner.Sort.{entry_of_leaf};
 ghost use Rattle.gs_tree.specs.Inverses.{TakesBack, LeavesChunks, IsMade};
-ghost use Rattle.gs_tree.specs.Follows.{Follows};
+ghost use Rattle.gs_tree.specs.Follows.{FollowsPlain};
 
 use crate::inverse::TreeInverse;
 use crate::node::{Leaf, Node, Sort};
@@ -33,7 +33,7 @@ fn make(
 
 /// Makes a directory with each directory above it that is missing.
 pub(crate) fn mkdirs_in(root: &mut Node, alloc: Global, path: &Path) -> Result<TreeInverse, Refusal>
-    ensures edit { Follows (mkdirs (at root.old) path.now) result (at root.old) (at root.new) }
+    ensures edit { FollowsPlain (mkdirs (at root.old) path.now) result (at root.old) (at root.new) }
     ensures undo { IfOk result (λ i. TakesBack i (at root.old) (at root.new)) }
     ensures inverse { IfOk result (λ i. LeavesChunks i) }
     ensures kind { IfOk result (λ i. IsMade i) }
@@ -51,7 +51,7 @@ pub(crate) fn mkdirs_in(root: &mut Node, alloc: Global, path: &Path) -> Result<T
 /// What comes of making a directory where something stands: a directory is accepted.
 fn found(root: &Node, alloc: Global, path: &Path) -> Result<TreeInverse, Refusal>
     requires { is_some (at root.now path.now) ≡ true }
-    ensures edit { Follows (mkdirs (at root.now) path.now) result (at root.now) (at root.now) }
+    ensures edit { FollowsPlain (mkdirs (at root.now) path.now) result (at root.now) (at root.now) }
     ensures undo { IfOk result (λ i. TakesBack i (at root.now) (at root.now)) }
     ensures inverse { IfOk result (λ i. LeavesChunks i) }
     ensures kind { IfOk result (λ i. IsMade i) }
@@ -67,7 +67,7 @@ fn found(root: &Node, alloc: Global, path: &Path) -> Result<TreeInverse, Refusal
 
 /// Makes a file of no chunk with each directory above it that is missing.
 pub(crate) fn create_in(root: &mut Node, alloc: Global, path: &Path) -> Result<TreeInverse, Refusal>
-    ensures edit { Follows (create (at root.old) path.now) result (at root.old) (at root.new) }
+    ensures edit { FollowsPlain (create (at root.old) path.now) result (at root.old) (at root.new) }
     ensures undo { IfOk result (λ i. TakesBack i (at root.old) (at root.new)) }
     ensures inverse { IfOk result (λ i. LeavesChunks i) }
     ensures kind { IfOk result (λ i. IsMade i) }

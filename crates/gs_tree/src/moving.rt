@@ -6,7 +6,7 @@ ghost use Rattle.gs_tree.specs.Places.{KeepsPlace, given_up, returned, without_p
 ghost use Rattle.gs_tree.specs.Plain.{Plain, Same, part_at, rooted, with_at};
 ghost use Rattle.gs_tree.specs.Edits.{rename, hide, unhide, beside, renamed_beside, old_name, move_to, target_of};
 ghost use Rattle.gs_tree.specs.Inverses.{TakesBack, LeavesChunks, IsMoved};
-ghost use Rattle.gs_tree.specs.Follows.{Follows, Moves};
+ghost use Rattle.gs_tree.specs.Follows.{FollowsPlain, Moves};
 ghost use Rattle.gs_tree.specs.inner.Sort.{sort_of};
 ghost use Rattle.gs_tree.specs.inner.Steps.{TestsPlace, TestsApart, TestsParent, TestsTarget, IsElsewhere, IsKnown, IsAim, Aims};
 
@@ -121,7 +121,7 @@ fn settle(
     requires node { is_some (at node []) ≡ true }
     requires above { DirsAbove (with_at path.now (at node) (at root.old)) path.now }
     requires aim { IfOk aim (λ a. IsAim (with_at path.now (at node) (at root.old)) path.now a.source a.target a.name) }
-    ensures edit { (wanted : Result (Plain ℕ) Refusal) → Aims (with_at path.now (at node) (at root.old)) path.now wanted aim (λ a. a.target) → Follows wanted result (with_at path.now (at node) (at root.old)) (given_up result (at root.new)) }
+    ensures edit { (wanted : Result (Plain ℕ) Refusal) → Aims (with_at path.now (at node) (at root.old)) path.now wanted aim (λ a. a.target) → FollowsPlain wanted result (with_at path.now (at node) (at root.old)) (given_up result (at root.new)) }
     ensures undo { IfOk result (λ i. TakesBack i (with_at path.now (at node) (at root.old)) (given_up result (at root.new))) }
     ensures place { IfOk result (λ i. KeepsPlace i (at root.new)) }
     ensures inverse { IfOk result (λ i. LeavesChunks i) }
@@ -208,7 +208,7 @@ pub(crate) fn rename_in(
     from: &Path,
     to: &Path,
 ) -> Result<TreeInverse, Refusal>
-    ensures edit { (deep : Bool) → IsDepthTest deep (at root.old) from.now (target_of (at root.old) from.now to.now) → Follows (rename (λ _. deep) (at root.old) from.now to.now) result (at root.old) (given_up result (at root.new)) }
+    ensures edit { (deep : Bool) → IsDepthTest deep (at root.old) from.now (target_of (at root.old) from.now to.now) → FollowsPlain (rename (λ _. deep) (at root.old) from.now to.now) result (at root.old) (given_up result (at root.new)) }
     ensures undo { IfOk result (λ i. TakesBack i (at root.old) (given_up result (at root.new))) }
     ensures place { IfOk result (λ i. KeepsPlace i (at root.new)) }
     ensures inverse { IfOk result (λ i. LeavesChunks i) }
@@ -233,7 +233,7 @@ fn rename_beside(
     name: Name,
 ) -> Result<TreeInverse, Refusal>
     requires { path.now ≢ [] }
-    ensures edit { Follows (renamed_beside (at root.old) path.now name) result (at root.old) (given_up result (at root.new)) }
+    ensures edit { FollowsPlain (renamed_beside (at root.old) path.now name) result (at root.old) (given_up result (at root.new)) }
     ensures undo { IfOk result (λ i. TakesBack i (at root.old) (given_up result (at root.new))) }
     ensures place { IfOk result (λ i. KeepsPlace i (at root.new)) }
     ensures inverse { IfOk result (λ i. LeavesChunks i) }
@@ -289,7 +289,7 @@ pub(crate) fn hide_in(
     moment: Moment,
     number: u64,
 ) -> Result<TreeInverse, Refusal>
-    ensures edit { Follows (hide (at root.old) path.now moment.0 number) result (at root.old) (given_up result (at root.new)) }
+    ensures edit { FollowsPlain (hide (at root.old) path.now moment.0 number) result (at root.old) (given_up result (at root.new)) }
     ensures undo { IfOk result (λ i. TakesBack i (at root.old) (given_up result (at root.new))) }
     ensures place { IfOk result (λ i. KeepsPlace i (at root.new)) }
     ensures inverse { IfOk result (λ i. LeavesChunks i) }
@@ -304,7 +304,7 @@ pub(crate) fn hide_in(
 
 /// Moves what is hidden at a path back to its old name. An empty directory keeps its place.
 pub(crate) fn unhide_in(root: &mut Node, alloc: Global, path: &Path) -> Result<TreeInverse, Refusal>
-    ensures edit { Follows (unhide (at root.old) path.now) result (at root.old) (given_up result (at root.new)) }
+    ensures edit { FollowsPlain (unhide (at root.old) path.now) result (at root.old) (given_up result (at root.new)) }
     ensures undo { IfOk result (λ i. TakesBack i (at root.old) (given_up result (at root.new))) }
     ensures place { IfOk result (λ i. KeepsPlace i (at root.new)) }
     ensures inverse { IfOk result (λ i. LeavesChunks i) }

@@ -3,7 +3,7 @@ ghost use Rattle.std.specs.Prelude.{IfOk};
 ghost use Rattle.gs_tree.specs.Find.{at};
 ghost use Rattle.gs_tree.specs.Edits.{remove};
 ghost use Rattle.gs_tree.specs.Inverses.{TakesBack, IsRemoved};
-ghost use Rattle.gs_tree.specs.Follows.{Follows};
+ghost use Rattle.gs_tree.specs.Follows.{FollowsPlain};
 
 use crate::inverse::TreeInverse;
 use crate::moving::hidden_by;
@@ -14,7 +14,7 @@ use std::alloc::Global;
 
 /// Takes out what is hidden at a path.
 pub(crate) fn remove_in(root: &mut Node, alloc: Global, path: &Path) -> Result<TreeInverse, Refusal>
-    ensures edit { Follows (remove (at root.old) path.now) result (at root.old) (at root.new) }
+    ensures edit { FollowsPlain (remove (at root.old) path.now) result (at root.old) (at root.new) }
     ensures undo { IfOk result (λ i. TakesBack i (at root.old) (at root.new)) }
     ensures inverse { IfOk result (λ i. IsRemoved (at root.old) path.now i) }
 {

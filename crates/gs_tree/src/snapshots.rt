@@ -6,7 +6,7 @@ ghost use Rattle.gs_tree.specs.Plain.{Same, IsFree, with_at, part_at};
 ghost use Rattle.gs_tree.specs.Entry.{Dir};
 ghost use Rattle.gs_tree.specs.Edits.{snapshot, visible, parent};
 ghost use Rattle.gs_tree.specs.Inverses.{TakesBack};
-ghost use Rattle.gs_tree.specs.Follows.{Follows};
+ghost use Rattle.gs_tree.specs.Follows.{FollowsPlain};
 
 use crate::inverse::TreeInverse;
 use crate::moving::test_place;
@@ -35,7 +35,7 @@ pub(crate) fn snapshot_in(
     from: &Path,
     to: &Path,
 ) -> Result<TreeInverse, Refusal>
-    ensures edit { (deep : Bool) → IsDepthTest deep (visible (part_at from.now (at root.old))) [] to.now → Follows (snapshot (λ _. deep) (at root.old) from.now to.now) result (at root.old) (at root.new) }
+    ensures edit { (deep : Bool) → IsDepthTest deep (visible (part_at from.now (at root.old))) [] to.now → FollowsPlain (snapshot (λ _. deep) (at root.old) from.now to.now) result (at root.old) (at root.new) }
     ensures undo { IfOk result (λ i. TakesBack i (at root.old) (at root.new)) }
     ensures inverse { IfOk result (λ i. i ≡ TreeInverse.Copied to.now) }
     ensures apart { IfOk result (λ _. (begins from.now to.now ≡ false) × (begins to.now from.now ≡ false)) }
@@ -63,7 +63,7 @@ fn put_copy(root: &mut Node, alloc: Global, to: &Path, copy: Node) -> Result<Tre
     requires free { IsFree (at root.old) to.now }
     requires dir { at root.old (parent to.now) ≡ Some Dir }
     requires stands { is_some (at copy []) ≡ true }
-    ensures edit { (deep : Bool) → IsDepthTest deep (at copy) [] to.now → Follows (if deep then Err Refusal.BadPath else Ok (with_at to.now (at copy) (at root.old))) result (at root.old) (at root.new) }
+    ensures edit { (deep : Bool) → IsDepthTest deep (at copy) [] to.now → FollowsPlain (if deep then Err Refusal.BadPath else Ok (with_at to.now (at copy) (at root.old))) result (at root.old) (at root.new) }
     ensures undo { IfOk result (λ i. TakesBack i (at root.old) (at root.new)) }
     ensures inverse { IfOk result (λ i. i ≡ TreeInverse.Copied to.now) }
 {

@@ -7,7 +7,7 @@ ghost use Rattle.gs_tree.specs.Plain.{Same, part_at, rooted};
 ghost use Rattle.gs_tree.specs.Entry.{Dir};
 ghost use Rattle.gs_tree.specs.Edits.{mkdirs, create, rename, hide, unhide, remove, add_chunk, set_chunk, snapshot};
 ghost use Rattle.gs_tree.specs.Inverses.{TakesBack, LeavesChunks, IsMade, IsMoved, IsChanged, IsRemoved, takes_memory, removed_chunks};
-ghost use Rattle.gs_tree.specs.Follows.{Follows, Moves, Undoes};
+ghost use Rattle.gs_tree.specs.Follows.{FollowsPlain, Moves, Undoes};
 ghost use Rattle.gs_tree.specs.Listing.{HasVisible, HasVisibleBut, Lists, StandsAs};
 ghost use Rattle.gs_tree.specs.Chunks.{chunks_under, rows_under, visible_chunks_under};
 ghost use Rattle.std.specs.List.{list_all};
@@ -84,7 +84,7 @@ impl Tree {
     /// Makes a directory and each directory above it that is missing (Hadoop's `FileSystem`, `mkdirs`). A directory that
     /// stands there already is accepted. Exists where a file stands there, NotADirectory where a file stands above.
     pub fn mkdirs(&mut self, path: &Path) -> Result<TreeInverse, Refusal>
-        ensures edit { Follows (mkdirs (fin_map.get self.old) path.now) result (fin_map.get self.old) (fin_map.get self.new) }
+        ensures edit { FollowsPlain (mkdirs (fin_map.get self.old) path.now) result (fin_map.get self.old) (fin_map.get self.new) }
         ensures undo { IfOk result (λ i. TakesBack i (fin_map.get self.old) (fin_map.get self.new)) }
         ensures inverse { IfOk result (λ i. LeavesChunks i) }
         ensures kind { IfOk result (λ i. IsMade i) }
@@ -95,7 +95,7 @@ impl Tree {
     /// Makes a file of no chunk and each directory above it that is missing. Exists where something stands there,
     /// NotADirectory where a file stands above.
     pub fn create(&mut self, path: &Path) -> Result<TreeInverse, Refusal>
-        ensures edit { Follows (create (fin_map.get self.old) path.now) result (fin_map.get self.old) (fin_map.get self.new) }
+        ensures edit { FollowsPlain (create (fin_map.get self.old) path.now) result (fin_map.get self.old) (fin_map.get self.new) }
         ensures undo { IfOk result (λ i. TakesBack i (fin_map.get self.old) (fin_map.get self.new)) }
         ensures inverse { IfOk result (λ i. LeavesChunks i) }
         ensures kind { IfOk result (λ i. IsMade i) }
@@ -107,7 +107,7 @@ impl Tree {
     /// the target is the source's name under it. It costs the depth of the paths; only where that leaves the length of
     /// the paths open, what lies under the source is gone through.
     pub fn rename(&mut self, from: &Path, to: &Path) -> Result<TreeInverse, Refusal>
-        ensures edit { Follows (rename (is_too_deep (fin_map.entries self.old) from.now) (fin_map.get self.old) from.now to.now) result (fin_map.get self.old) (fin_map.get self.new) }
+        ensures edit { FollowsPlain (rename (is_too_deep (fin_map.entries self.old) from.now) (fin_map.get self.old) from.now to.now) result (fin_map.get self.old) (fin_map.get self.new) }
         ensures undo { IfOk result (λ i. TakesBack i (fin_map.get self.old) (fin_map.get self.new)) }
         ensures inverse { IfOk result (λ i. LeavesChunks i) }
         ensures kind { IfOk result (λ i. IsMoved i) }
@@ -119,7 +119,7 @@ impl Tree {
     /// The same, but where it is made an empty directory keeps the source's place, until `give_up_place` takes it out or
     /// `return_to_place` takes the move back. Neither takes memory.
     pub fn rename_keeping_place(&mut self, from: &Path, to: &Path) -> Result<TreeInverse, Refusal>
-        ensures edit { Follows (rename (is_too_deep (fin_map.entries self.old) from.now) (fin_map.get self.old) from.now to.now) result (fin_map.get self.old) (given_up result (fin_map.get self.new)) }
+        ensures edit { FollowsPlain (rename (is_too_deep (fin_map.entries self.old) from.now) (fin_map.get self.old) from.now to.now) result (fin_map.get self.old) (given_up result (fin_map.get self.new)) }
         ensures undo { IfOk result (λ i. TakesBack i (fin_map.get self.old) (given_up result (fin_map.get self.new))) }
         ensures place { IfOk result (λ i. KeepsPlace i (fin_map.get self.new)) }
         ensures inverse { IfOk result (λ i. LeavesChunks i) }
@@ -144,7 +144,7 @@ impl Tree {
 
     /// Moves what stands at a path to its hidden name (GFS, section 4.4), with all under it.
     pub fn hide(&mut self, path: &Path, moment: Moment, number: u64) -> Result<TreeInverse, Refusal>
-        ensures edit { Follows (hide (fin_map.get self.old) path.now moment.0 number) result (fin_map.get self.old) (fin_map.get self.new) }
+        ensures edit { FollowsPlain (hide (fin_map.get self.old) path.now moment.0 number) result (fin_map.get self.old) (fin_map.get self.new) }
         ensures undo { IfOk result (λ i. TakesBack i (fin_map.get self.old) (fin_map.get self.new)) }
         ensures inverse { IfOk result (λ i. LeavesChunks i) }
         ensures kind { IfOk result (λ i. IsMoved i) }
@@ -160,7 +160,7 @@ impl Tree {
         moment: Moment,
         number: u64,
     ) -> Result<TreeInverse, Refusal>
-        ensures edit { Follows (hide (fin_map.get self.old) path.now moment.0 number) result (fin_map.get self.old) (given_up result (fin_map.get self.new)) }
+        ensures edit { FollowsPlain (hide (fin_map.get self.old) path.now moment.0 number) result (fin_map.get self.old) (given_up result (fin_map.get self.new)) }
         ensures undo { IfOk result (λ i. TakesBack i (fin_map.get self.old) (given_up result (fin_map.get self.new))) }
         ensures place { IfOk result (λ i. KeepsPlace i (fin_map.get self.new)) }
         ensures inverse { IfOk result (λ i. LeavesChunks i) }
@@ -172,7 +172,7 @@ impl Tree {
     /// Moves what was hidden back to its old name. NotHidden where the last element of the path isn't a hidden name,
     /// Exists where something stands at the old one.
     pub fn unhide(&mut self, path: &Path) -> Result<TreeInverse, Refusal>
-        ensures edit { Follows (unhide (fin_map.get self.old) path.now) result (fin_map.get self.old) (fin_map.get self.new) }
+        ensures edit { FollowsPlain (unhide (fin_map.get self.old) path.now) result (fin_map.get self.old) (fin_map.get self.new) }
         ensures undo { IfOk result (λ i. TakesBack i (fin_map.get self.old) (fin_map.get self.new)) }
         ensures inverse { IfOk result (λ i. LeavesChunks i) }
         ensures kind { IfOk result (λ i. IsMoved i) }
@@ -183,7 +183,7 @@ impl Tree {
 
     /// The same, with an empty directory in its place (see `rename_keeping_place`).
     pub fn unhide_keeping_place(&mut self, path: &Path) -> Result<TreeInverse, Refusal>
-        ensures edit { Follows (unhide (fin_map.get self.old) path.now) result (fin_map.get self.old) (given_up result (fin_map.get self.new)) }
+        ensures edit { FollowsPlain (unhide (fin_map.get self.old) path.now) result (fin_map.get self.old) (given_up result (fin_map.get self.new)) }
         ensures undo { IfOk result (λ i. TakesBack i (fin_map.get self.old) (given_up result (fin_map.get self.new))) }
         ensures place { IfOk result (λ i. KeepsPlace i (fin_map.get self.new)) }
         ensures inverse { IfOk result (λ i. LeavesChunks i) }
@@ -210,7 +210,7 @@ impl Tree {
     /// Takes out what was hidden (GFS, section 4.4), with all under it. It costs the depth of the path; the inverse keeps
     /// what was taken out.
     pub fn remove(&mut self, path: &Path) -> Result<TreeInverse, Refusal>
-        ensures edit { Follows (remove (fin_map.get self.old) path.now) result (fin_map.get self.old) (fin_map.get self.new) }
+        ensures edit { FollowsPlain (remove (fin_map.get self.old) path.now) result (fin_map.get self.old) (fin_map.get self.new) }
         ensures undo { IfOk result (λ i. TakesBack i (fin_map.get self.old) (fin_map.get self.new)) }
         ensures inverse { IfOk result (λ i. IsRemoved (fin_map.get self.old) path.now i) }
         ensures chunks { IfOk result (λ i. removed_chunks i ≡ chunks_under path.now (fin_map.entries self.old)) }
@@ -220,7 +220,7 @@ impl Tree {
 
     /// Adds a chunk at the end of a file.
     pub fn add_chunk(&mut self, path: &Path, chunk: Handle) -> Result<TreeInverse, Refusal>
-        ensures edit { Follows (add_chunk (fin_map.get self.old) path.now chunk) result (fin_map.get self.old) (fin_map.get self.new) }
+        ensures edit { FollowsPlain (add_chunk (fin_map.get self.old) path.now chunk) result (fin_map.get self.old) (fin_map.get self.new) }
         ensures undo { IfOk result (λ i. TakesBack i (fin_map.get self.old) (fin_map.get self.new)) }
         ensures inverse { IfOk result (λ i. i ≡ TreeInverse.Added path.now) }
     {
@@ -234,7 +234,7 @@ impl Tree {
         index: usize,
         chunk: Handle,
     ) -> Result<TreeInverse, Refusal>
-        ensures edit { Follows (set_chunk (fin_map.get self.old) path.now index chunk) result (fin_map.get self.old) (fin_map.get self.new) }
+        ensures edit { FollowsPlain (set_chunk (fin_map.get self.old) path.now index chunk) result (fin_map.get self.old) (fin_map.get self.new) }
         ensures undo { IfOk result (λ i. TakesBack i (fin_map.get self.old) (fin_map.get self.new)) }
         ensures inverse { IfOk result (λ i. IsChanged (fin_map.get self.old) path.now index i) }
     {
@@ -244,7 +244,7 @@ impl Tree {
     /// Copies what stands at a path with all that is visible under it (GFS, section 3.4). A file's copy has the same
     /// chunks, and neither path begins with the other. It costs what is copied.
     pub fn snapshot(&mut self, from: &Path, to: &Path) -> Result<TreeInverse, Refusal>
-        ensures edit { Follows (snapshot (is_copied_too_deep (fin_map.entries self.old) from.now) (fin_map.get self.old) from.now to.now) result (fin_map.get self.old) (fin_map.get self.new) }
+        ensures edit { FollowsPlain (snapshot (is_copied_too_deep (fin_map.entries self.old) from.now) (fin_map.get self.old) from.now to.now) result (fin_map.get self.old) (fin_map.get self.new) }
         ensures undo { IfOk result (λ i. TakesBack i (fin_map.get self.old) (fin_map.get self.new)) }
         ensures inverse { IfOk result (λ i. i ≡ TreeInverse.Copied to.now) }
         ensures apart { IfOk result (λ _. (begins from.now to.now ≡ false) × (begins to.now from.now ≡ false)) }

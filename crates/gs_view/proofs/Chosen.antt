@@ -6,10 +6,10 @@ use Rattle.std.specs.Prelude.{◌&&◌, ◌||◌, IfSome}
 use Rattle.std.specs.Option.{option_eq}
 use Rattle.gs_base.specs.Members.{servers_where, is_member, with_member}
 use Rattle.gs_base.specs.MemberLaws.{same_servers, servers_where-none, is_member-servers_where}
-use Rattle.gs_view.specs.Choice.{Answers, answer_of, is_count, answerers, greater, greatest, Chooses}
+use Rattle.gs_view.specs.Choice.{Counts, answer_of, is_count, answerers, greater, greatest, Chooses}
 
 -- ---- the answerers among the first servers
-abbrev pub answerers_below : Answers → ℕ → ℕ → List ℕ
+abbrev pub answerers_below : Counts → ℕ → ℕ → List ℕ
 answerers_below answers count number = servers_where (λ server. ltb server number && is_count count (answer_of answers server))
 
 no_below : (s : ℕ) (b : Bool) → (ltb s 0 && b) ≡ false
@@ -54,10 +54,10 @@ option_is (Some n) count h = is_count_of (Some n) count h
 pub option_is_not : (o : Option ℕ) (count : ℕ) → option_eq eqb o (Some count) ≡ false → o ≢ Some count
 option_is_not o count h e = false≢true (sym h ∙ ap (λ x. option_eq eqb x (Some count)) e ∙ count_is (Some count) count refl)
 
-pub below_none : (answers : Answers) (count : ℕ) → [] ≡ answerers_below answers count 0
+pub below_none : (answers : Counts) (count : ℕ) → [] ≡ answerers_below answers count 0
 below_none answers count = sym (servers_where-none _ (λ s low. no_below s _))
 
-pub below_in : (answers : Answers) (count n : ℕ) → answer_of answers n ≡ Some count → with_member (answerers_below answers count n) n ≡ answerers_below answers count (n + 1)
+pub below_in : (answers : Counts) (count n : ℕ) → answer_of answers n ≡ Some count → with_member (answerers_below answers count n) n ≡ answerers_below answers count (n + 1)
 below_in answers count n is = same_servers _ _ (λ s low.
     ap (λ b. eqb s n || b) (is_member-servers_where _ s low)
     ∙ ⊎_elim
@@ -65,13 +65,13 @@ below_in answers count n is = same_servers _ _ (λ s low.
     (λ (other : s ≢ n). other_below s n (is_count count (answer_of answers s)) other)
     (cases_eq s n))
 
-pub below_out : (answers : Answers) (count n : ℕ) → answer_of answers n ≢ Some count → answerers_below answers count n ≡ answerers_below answers count (n + 1)
+pub below_out : (answers : Counts) (count n : ℕ) → answer_of answers n ≢ Some count → answerers_below answers count n ≡ answerers_below answers count (n + 1)
 below_out answers count n is = same_servers _ _ (λ s low. ⊎_elim
     (λ (here : s ≡ n). same_out s n (is_count count (answer_of answers s)) (ap (λ x. is_count count (answer_of answers x)) here ∙ count_is_not _ count is))
     (λ (other : s ≢ n). other_out s n (is_count count (answer_of answers s)) other)
     (cases_eq s n))
 
-pub below_all : (answers : Answers) (count number : ℕ) → number ≤ 16 → 16 ≤ number → answerers_below answers count number ≡ answerers answers count
+pub below_all : (answers : Counts) (count number : ℕ) → number ≤ 16 → 16 ≤ number → answerers_below answers count number ≡ answerers answers count
 below_all answers count number low high = same_servers _ _ (λ s below. all_below_by s number _ (omega arith))
   where
     all_below_by : (s n : ℕ) (b : Bool) → s < n → (ltb s n && b) ≡ b
@@ -87,7 +87,7 @@ greater-none None b e = (refl, e)
 greater-none (Some a) None e = absurd cc
 greater-none (Some a) (Some b) e = absurd cc
 
-pub nobody_answered : (answers : Answers) → greatest answers ≡ None → (server : ℕ) → answer_of answers server ≡ None
+pub nobody_answered : (answers : Counts) → greatest answers ≡ None → (server : ℕ) → answer_of answers server ≡ None
 nobody_answered [] e server = refl
 nobody_answered (a ∷ answers) e zero = (greater-none a (greatest answers) e).0
 nobody_answered (a ∷ answers) e (suc server) = nobody_answered answers (greater-none a (greatest answers) e).1 server
@@ -114,13 +114,13 @@ greater_one (Some a) (Some b) n e = ⊎_elim
     (λ (high : a ≤ b). inr (ap Some (let x = some_is (max a b) n e in let y : b ≡ n = omega arith in y)))
     (cases_lt b a)
 
-some_greatest : (answers : Answers) (server m : ℕ) → answer_of answers server ≡ Some m → (k : ℕ) × (greatest answers ≡ Some k)
+some_greatest : (answers : Counts) (server m : ℕ) → answer_of answers server ≡ Some m → (k : ℕ) × (greatest answers ≡ Some k)
 some_greatest answers server m is = ⊎_elim
     (λ (none : greatest answers ≡ None). absurd (let gone = nobody_answered answers none server in let clash : None ≡ Some m = sym gone ∙ is in cc))
     (λ (some : (k : ℕ) × (greatest answers ≡ Some k)). some)
     (option_case (greatest answers))
 
-pub greatest_bounds : (answers : Answers) (n : ℕ) → greatest answers ≡ Some n → (server m : ℕ) → answer_of answers server ≡ Some m → m ≤ n
+pub greatest_bounds : (answers : Counts) (n : ℕ) → greatest answers ≡ Some n → (server m : ℕ) → answer_of answers server ≡ Some m → m ≤ n
 greatest_bounds [] n e server m is = absurd cc
 greatest_bounds (a ∷ answers) n e zero m is = first_bound a (greatest answers) n m e is
 greatest_bounds (a ∷ answers) n e (suc server) m is =
@@ -129,14 +129,14 @@ greatest_bounds (a ∷ answers) n e (suc server) m is =
     let above : rest.0 ≤ n = other_bound a (greatest answers) n rest.0 e rest.1 in
     omega arith
 
-pub greatest_given : (answers : Answers) (n : ℕ) → greatest answers ≡ Some n → (server : ℕ) × (answer_of answers server ≡ Some n)
+pub greatest_given : (answers : Counts) (n : ℕ) → greatest answers ≡ Some n → (server : ℕ) × (answer_of answers server ≡ Some n)
 greatest_given [] n e = absurd cc
 greatest_given (a ∷ answers) n e = ⊎_elim
     (λ (here : a ≡ Some n). (0, here))
     (λ (later : greatest answers ≡ Some n). let found = greatest_given answers n later in (suc found.0, found.1))
     (greater_one a (greatest answers) n e)
 
-pub chooses : (answers : Answers) (members : List ℕ) (count : ℕ) → members ≡ answerers answers count → greatest answers ≡ Some count → Chooses answers members count
+pub chooses : (answers : Counts) (members : List ℕ) (count : ℕ) → members ≡ answerers answers count → greatest answers ≡ Some count → Chooses answers members count
 chooses answers members count who most = record {
   answered = λ server low.
       let is = ap (λ x. is_member x server) who ∙ is_member-servers_where _ server low in

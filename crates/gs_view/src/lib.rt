@@ -1,8 +1,8 @@
 //! The choice of a view's members from what servers answered to a proposal.
 #![tactic(auto)]
 
-mod answers;
+mod poll;
 mod proposal;
 
-pub use answers::Answers;
+pub use poll::Poll;
 pub use proposal::Proposal;

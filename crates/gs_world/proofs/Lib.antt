@@ -1,4 +1,8 @@
-mod Delivered
-pub mod Closing
-pub mod Finding
-pub mod Starting
+pub mod Lasting
+pub mod Losing
+pub mod Ongoing
+pub mod Posting
+pub mod Reaching
+pub mod Sending
+pub mod Serving
+pub mod Staying

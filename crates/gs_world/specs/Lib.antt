@@ -1,3 +1,4 @@
-pub mod Arming
-pub mod Happenings
-pub mod Nodes
+pub mod Histories
+pub mod Lasting
+pub mod Runs
+pub mod Sent

@@ -1,14 +1,10 @@
-//! The nodes of a store together: a master with the disks of its journal, chunkservers and clients, and what happens to them.
+//! A store with all that its nodes have ever sent, event by event.
 #![tactic(auto)]
 
-mod arming;
-mod asking;
-mod delivering;
-mod events;
-mod place;
-mod restarting;
+mod happening;
+mod posts;
+pub mod promises;
 mod world;
 
-pub use gs_master::Turn;
-pub use place::MasterPlace;
+pub use posts::Posts;
 pub use world::World;

@@ -1,105 +1,217 @@
-ghost use Rattle.std.specs.Prelude.{◌≡◌, IfOk, IfErr, Ok};
-ghost use Rattle.gs_world.specs.Nodes.{new_clients, new_nodes, new_servers, nodes_of};
-ghost use Rattle.gs_world.specs.Happenings.{Opens, WhyNotBegun};
+ghost use Rattle.std.specs.Prelude.{◌≡◌, false, IfOk, IfErr};
+ghost use Rattle.gs_msg.specs.Nodes.{as_node};
+ghost use Rattle.gs_world.specs.Histories.{arms, AtNode, Begins, DeliversAt, Happens, Tells, failures_of, history_of, is_ask, seen_of, told};
+ghost use Rattle.gs_world.specs.Runs.{HappensAll, TakesReply};
+ghost use Rattle.gs_world.specs.Sent.{Forgets};
+ghost use Rattle.gs_nodes.specs.Happenings.{Delivers, WhyNotBegun};
+ghost use Rattle.gs_nodes.specs.Nodes.{nodes_of};
 
-use crate::place::MasterPlace;
-use crate::restarting::LIMIT;
-use gs_base::{ClientId, Config, Refusal, ServerId};
-use gs_client::ClientNode;
-use gs_journal::{Disk, Unopened};
-use gs_master::{Master, Started, Turn};
-use gs_server::Server;
+use crate::happening::{ask, beat, damage, fail_disk, lose, restart, tick};
+use crate::posts::Posts;
+use gs_base::{ClientId, Config, Moment, Refusal};
+use gs_client::Reply;
+use gs_journal::{Disk, FailingDisk, Unopened};
+use gs_msg::{Event, Happening, Message, MsgId, NodeId, StoreNode};
+use gs_nodes::{Nodes, Turn};
 use std::alloc::{AllocError, Global};
 
-/// The nodes of a store.
+/// The nodes of a store, and all that they have sent: each message stays to be delivered, once, often or never, until it is
+/// forgotten. The disks of the master's journal can be made to fail.
 pub struct World<D: Disk> {
-    pub alloc: Global,
-    pub config: Config,
-    pub master: MasterPlace<D>,
-    /// The servers by their numbers.
-    pub servers: Vec<Server>,
-    /// The clients, which are numbered from 1 upwards.
-    pub clients: Vec<ClientNode>,
+    pub nodes: Nodes<FailingDisk<D>>,
+    pub sent: Posts,
 }
 
 impl<D: Disk + Drop> Drop for World<D> {
     fn drop(self) {
-        let Self {
-            alloc: _,
-            config: _,
-            master: _,
-            servers: _,
-            clients: _,
-        } = self;
+        let Self { nodes: _, sent: _ } = self;
     }
 }
 
-/// As many servers as there are, which have heard nothing.
-#[tactic(auto, using(crate::proofs::Starting::one_more_server))]
-fn new_servers(alloc: Global, config: Config) -> Result<Vec<Server>, AllocError>
-    ensures { IfOk result (λ servers. servers.items ≡ new_servers config) }
+fn named(node: &StoreNode) -> NodeId
+    ensures { result ≡ as_node node.now }
 {
-    let mut servers = Vec::new(alloc);
-    for number in 0..config.servers {
-        let id = ServerId::new(number).unwrap();
-        servers.push(Server::new(alloc, config, id)?)?;
-    }
-    Ok(servers)
+    NodeId::from(*node)
 }
 
-/// So many clients, who have asked nothing.
-#[tactic(auto, using(crate::proofs::Starting::one_more_client))]
-fn new_clients(alloc: Global, many: u32) -> Result<Vec<ClientNode>, AllocError>
-    ensures { IfOk result (λ clients. clients.items ≡ new_clients many) }
+fn same(node: &NodeId) -> NodeId
+    ensures { result ≡ node.now }
 {
-    let mut clients = Vec::new(alloc);
-    for before in 0..many {
-        clients.push(ClientNode::new(ClientId(before + 1)))?;
-    }
-    Ok(clients)
+    *node
 }
 
-/// The servers of a store and so many clients, none of which has heard anything.
-fn silent_nodes(
-    alloc: Global,
-    config: Config,
-    clients: u32,
-) -> Result<(Vec<Server>, Vec<ClientNode>), AllocError>
-    ensures { IfOk result (λ n. (n.0.items ≡ new_servers config) × (n.1.items ≡ new_clients clients)) }
+fn receiver(message: &Message) -> NodeId
+    ensures { result ≡ message.now.to }
 {
-    Ok((new_servers(alloc, config)?, new_clients(alloc, clients)?))
+    message.to
 }
 
 impl<D: Disk + Drop> World<D> {
-    /// The nodes of a store over the disks of a journal, with so many clients. New disks are those of a new store. What the
-    /// master sends first is told beside it. Where memory is wanting, or the disks can't be opened, they are handed back.
+    /// A store over the disks of a journal, with so many clients, none of which has asked anything; what the master sends at first
+    /// is sent. New disks are those of a new store. Where memory is wanting, or the disks can't be opened, they are handed back.
     pub fn new(
         alloc: Global,
         config: Config,
         clients: u32,
-        disks: (D, D),
-    ) -> Result<(World<D>, Turn), Unopened<D>>
-        ensures nodes { IfOk result (λ w. nodes_of w.0 ≡ new_nodes config clients w.0.master) }
-        ensures master { IfOk result (λ w. Opens D.seen D.failures config disks (Ok w.1) w.0.master) }
-        ensures refused { IfErr result (WhyNotBegun D.seen D.failures config disks) }
+        disks: (FailingDisk<D>, FailingDisk<D>),
+    ) -> Result<World<D>, Unopened<FailingDisk<D>>>
+        ensures begins { IfOk result (λ run. Begins (seen_of D.seen) (failures_of D.failures) arms config clients disks (history_of run)) }
+        ensures refused { IfErr result (WhyNotBegun (seen_of D.seen) (failures_of D.failures) config disks) }
     {
         let (first, second) = disks;
-        let Ok((servers, clients)) = silent_nodes(alloc, config, clients) else {
-            let refusal = Refusal::Memory;
+        let Ok(mut sent) = Posts::new(alloc, config.servers, u64::from(clients)) else {
             return Err(Unopened {
-                refusal,
+                refusal: Refusal::Memory,
                 first,
                 second,
             });
         };
-        let Started { master, sent } = Master::open(alloc, config, first, second, LIMIT)?;
-        let world = World {
-            alloc,
-            config,
-            master: MasterPlace::Standing(master),
-            servers,
-            clients,
-        };
-        Ok((world, Turn { sent, said: None }))
+        let (nodes, turn) = Nodes::new(alloc, config, clients, (first, second))?;
+        sent.post(Moment(0), NodeId::Master, turn.sent);
+        Ok(World { nodes, sent })
+    }
+
+    fn hand(&mut self, moment: Moment, message: Message) -> (NodeId, Result<Turn, Refusal>)
+        ensures sent { self.new.sent ≡ self.old.sent }
+        ensures to { result.0 ≡ message.to }
+        ensures comes { Delivers (seen_of D.seen) (failures_of D.failures) message moment (nodes_of self.old.nodes) result.1 (nodes_of self.new.nodes) }
+    {
+        let to = receiver(&message);
+        let done = self.nodes.deliver(message, moment);
+        (to, done)
+    }
+
+    /// A message that was sent comes to its receiver.
+    fn deliver(
+        &mut self,
+        moment: Moment,
+        sender: NodeId,
+        place: u64,
+    ) -> (NodeId, Result<Turn, Refusal>)
+        ensures sent { self.new.sent ≡ self.old.sent }
+        ensures comes { DeliversAt (seen_of D.seen) (failures_of D.failures) arms moment (record { sender = sender; place = place }) (history_of self.old) result.0 (told result.1) (nodes_of self.new.nodes) }
+    {
+        let by = same(&sender);
+        match self.sent.copied(self.nodes.alloc, sender, place) {
+            Ok(message) => self.hand(moment, message),
+            Err(refusal) => (by, Err(refusal)),
+        }
+    }
+
+    /// What an event is at its node, and which that is, where it isn't a client that asks.
+    fn at_store(&mut self, moment: Moment, happening: &Happening) -> (NodeId, Result<Turn, Refusal>)
+        requires { is_ask happening.now ≡ false }
+        ensures sent { self.new.sent ≡ self.old.sent }
+        ensures at { AtNode (seen_of D.seen) (failures_of D.failures) arms moment happening.now (history_of self.old) result.0 (told result.1) (nodes_of self.new.nodes) }
+    {
+        match happening {
+            Happening::Ask { .. } => unreachable!(),
+            Happening::Deliver(id) => self.deliver(moment, id.sender, id.place),
+            Happening::Tick(node) => {
+                let done = tick(&mut self.nodes, moment, *node);
+                (named(node), done)
+            }
+            Happening::Beat(server) => {
+                let done = beat(&self.nodes, *server);
+                (NodeId::Server(*server), done)
+            }
+            Happening::Restart(node) => {
+                let done = restart(&mut self.nodes, *node);
+                (named(node), done)
+            }
+            Happening::Lose { server, handle } => {
+                let done = lose(&mut self.nodes, *server, *handle);
+                (NodeId::Server(*server), done)
+            }
+            Happening::Damage {
+                server,
+                handle,
+                block,
+            } => {
+                let done = damage(&mut self.nodes, *server, *handle, *block);
+                (NodeId::Server(*server), done)
+            }
+            Happening::FailDisk { disk, call } => {
+                let done = fail_disk(&mut self.nodes, *disk, *call);
+                (NodeId::Master, done)
+            }
+        }
+    }
+
+    /// What an event is at its node, and which that is.
+    fn at_node(&mut self, moment: Moment, happening: Happening) -> (NodeId, Result<Turn, Refusal>)
+        ensures sent { self.new.sent ≡ self.old.sent }
+        ensures at { AtNode (seen_of D.seen) (failures_of D.failures) arms moment happening (history_of self.old) result.0 (told result.1) (nodes_of self.new.nodes) }
+    {
+        match happening {
+            Happening::Ask { req, request } => {
+                let by = NodeId::Client(req.client);
+                let done = ask(&mut self.nodes, req, request);
+                (by, done)
+            }
+            other => self.at_store(moment, &other),
+        }
+    }
+
+    /// What a node sends at an event stands behind what it has sent. The answer is what was said.
+    fn tell(
+        &mut self,
+        moment: Moment,
+        by: NodeId,
+        done: Result<Turn, Refusal>,
+    ) -> Result<(), Refusal>
+        ensures nodes { self.new.nodes ≡ self.old.nodes }
+        ensures tells { Tells (seen_of D.seen) (failures_of D.failures) arms moment by (told done) self.old.sent result self.new.sent }
+    {
+        let Turn { sent, said } = done?;
+        self.sent.post(moment, by, sent);
+        match said {
+            Some(refusal) => Err(refusal),
+            None => Ok(()),
+        }
+    }
+
+    /// One event: one node does what its own contract says, what it sends stands behind what it has sent, and every other node is as it
+    /// was. The answer is the refusal with which the event was met, if it was.
+    ///
+    /// Where that is `Memory`, the node is as it was, but for a tick of the master, which may have done all but write a checkpoint, and
+    /// for a restart of the master, behind which its disks wait. A message for which memory is wanting is lost. A message that was never
+    /// sent, or is forgotten, is `Range`, and so is a node of which there is none.
+    pub fn step(&mut self, event: Event) -> Result<(), Refusal>
+        ensures { Happens (seen_of D.seen) (failures_of D.failures) arms event (history_of self.old) result (history_of self.new) }
+    {
+        let Event { moment, happening } = event;
+        let (by, done) = self.at_node(moment, happening);
+        self.tell(moment, by, done)
+    }
+
+    /// One event after the other, and with what each was met. Where memory is wanting for that list, nothing happens.
+    pub fn run(&mut self, events: Vec<Event>) -> Result<Vec<Result<(), Refusal>>, AllocError>
+        ensures ok { IfOk result (λ said. HappensAll (seen_of D.seen) (failures_of D.failures) arms events.items said.items (history_of self.old) (history_of self.new)) }
+        ensures err { IfErr result (λ e. self.new ≡ self.old) }
+    {
+        let mut said = Vec::with_capacity(self.nodes.alloc, events.len())?;
+        for event in events {
+            let met = self.step(event);
+            said.push(met).unwrap();
+        }
+        Ok(said)
+    }
+
+    /// What has come back to a client since it asked, if something has. It is given once.
+    pub fn take_reply(&mut self, client: ClientId) -> Option<Reply>
+        ensures nodes { TakesReply client (nodes_of self.old.nodes) result (nodes_of self.new.nodes) }
+        ensures sent { self.new.sent ≡ self.old.sent }
+    {
+        self.nodes.take_reply(client)
+    }
+
+    /// Gives a message up: it can't be delivered any more, and its memory is free. It is no event, and the laws of runs speak of
+    /// those in which none is given up.
+    pub fn forget(&mut self, id: MsgId)
+        ensures nodes { self.new.nodes ≡ self.old.nodes }
+        ensures sent { Forgets id self.old.sent self.new.sent }
+    {
+        self.sent.forget(id.sender, id.place);
     }
 }

@@ -1,6 +1,6 @@
 -- What is kept of two disks, of which one counts.
 use Rattle.std.specs.Prelude.{◌≡◌, ◌+◌, ℕ, Bool, not, if◌then◌else◌, List, true}
-use Rattle.gs_disk.specs.Disk.{Only}
+use Rattle.gs_journal_disk.specs.Disk.{Only}
 use Rattle.gs_journal.specs.Records.{Text, is_begun, version_of, generation_of, second_counts, standing}
 use Rattle.gs_journal.specs.inner.Rest.{IsAtRest}
 use Rattle.gs_journal.specs.declared.pair.Pair.{Pair}

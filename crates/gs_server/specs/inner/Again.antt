@@ -6,7 +6,7 @@ use Rattle.gs_base.specs.declared.refusal.Refusal.TheVariants as refusals
 use Rattle.gs_replica.specs.declared.op.Done.{Done}
 use Rattle.gs_server.specs.declared.turn.KeptRefusal.{KeptRefusal}
 use Rattle.gs_server.specs.declared.turn.Turn.{Turn}
-use Rattle.gs_server.specs.Servers.{Server, Step, Steps}
+use Rattle.gs_server.specs.Servers.{Server, Step, ServerSteps}
 use Rattle.gs_server.specs.inner.Answering.{refused_once_by, repeated_by}
 
 -- by the client's edit that was refused last
@@ -26,6 +26,6 @@ again req known s kept (Some last) =
 -- it is answered so, or it wasn't heard before
 abbrev pub StepsAgain : Option Step → Option (Result Turn Refusal) → Server → Type 0
 StepsAgain None None s = Unit {0}
-StepsAgain (Some step) (Some result) s = Steps step result s s
+StepsAgain (Some step) (Some result) s = ServerSteps step result s s
 StepsAgain None (Some result) s = ⊥
 StepsAgain (Some step) None s = ⊥

@@ -12,7 +12,7 @@ use Rattle.gs_msg.specs.declared.body.Body.TheVariants as bodies
 use Rattle.gs_msg.specs.declared.chunk.Chunk.TheVariants as chunks
 use Rattle.gs_store.specs.Slots.{count_of}
 use Rattle.gs_store.specs.Stores.{slot_of}
-use Rattle.gs_primary.specs.Leases.{tell}
+use Rattle.gs_server_lease.specs.Leases.{tell}
 use Rattle.gs_server.specs.Places.{damaged_block, marked_by, of_promise, count_or_none}
 use Rattle.gs_server.specs.Servers.{Server, Step, store_of, with_store, with_leases, with_refused, change_slot, change_lease}
 

@@ -11,7 +11,7 @@ use Rattle.gs_msg.specs.declared.op.Op.{Op}
 use Rattle.gs_msg.specs.Ops.{in_replica}
 use Rattle.gs_store.specs.Stores.{Store, apply}
 use Rattle.gs_server.specs.Edits.{has_bytes}
-use Rattle.gs_primary.specs.Leases.{tell}
+use Rattle.gs_server_lease.specs.Leases.{tell}
 use Rattle.gs_server.specs.Servers.{Server, Step, with_store, change_buffer}
 use Rattle.gs_server.specs.inner.Answering.{declined_by}
 

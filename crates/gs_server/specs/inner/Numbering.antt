@@ -13,12 +13,12 @@ use Rattle.gs_msg.specs.Ops.{in_replica}
 use Rattle.gs_store.specs.Slots.{Live}
 use Rattle.gs_store.specs.Serving.{edited_in, done_in, length_in}
 use Rattle.gs_store.specs.Stores.{Store, slot_of}
-use Rattle.gs_primary.specs.declared.lease.Open.{Open}
+use Rattle.gs_server_lease.specs.declared.lease.Open.{Open}
 use Rattle.gs_server.specs.declared.applying.Numbered.{Numbered}
 use Rattle.gs_server.specs.declared.numbering.NewEdit.{NewEdit}
 use Rattle.gs_server.specs.Edits.{bytes_of, bytes_or_none}
-use Rattle.gs_primary.specs.Leases.{Lease, forwards, done_at_once, opens_edit}
-use Rattle.gs_primary.specs.Numbering.{outcome_at}
+use Rattle.gs_server_lease.specs.Leases.{PrimaryLease, forwards, done_at_once, opens_edit}
+use Rattle.gs_server_lease.specs.Numbering.{outcome_at}
 use Rattle.gs_server.specs.Servers.{Server, Step, store_of, with_store, with_leases}
 use Rattle.gs_server.specs.inner.Answering.{kept_by}
 use Rattle.gs_server.specs.inner.Applying.{applied_with}
@@ -27,11 +27,11 @@ abbrev pub opened_at : ReqId → Op → List ℕ → ℕ → Open
 opened_at req op bytes stored = record { req = req; op = op; bytes = bytes; outcome = outcome_at stored op }
 
 -- what is told of an edit that is numbered
-abbrev pub told_of : ℕ → ℕ → Lease → ℕ → Open → List Message
+abbrev pub told_of : ℕ → ℕ → PrimaryLease → ℕ → Open → List Message
 told_of me handle l number edit = forwards me handle l (number, edit) ++ done_at_once me number edit l
 
 -- it is applied, waits for the members, and is told; or it is refused
-abbrev pub opened_by : ℕ → Lease → ℕ → Open → Result Store Refusal → Server → Step
+abbrev pub opened_by : ℕ → PrimaryLease → ℕ → Open → Result Store Refusal → Server → Step
 opened_by handle l number edit (Ok t) s = record {
   after = with_leases (fin.insert s.dropped.leases handle (opens_edit s.me number edit l)) (with_store t s);
   sent = told_of s.me handle l number edit;
@@ -40,13 +40,13 @@ opened_by handle l number edit (Ok t) s = record {
 opened_by handle l number edit (Err e) s = kept_by handle edit.req e s
 
 -- with the bytes that are found for it
-abbrev pub numbered_with : ℕ → Lease → Numbered → Option (List ℕ) → Server → Step
+abbrev pub numbered_with : ℕ → PrimaryLease → Numbered → Option (List ℕ) → Server → Step
 numbered_with handle l edit bytes s =
     opened_by handle l edit.number (opened_at edit.req edit.op (bytes_or_none bytes) (length_in (slot_of handle (store_of s)).live))
     (applied_with handle edit.stamp edit.number edit.req edit.op (store_of s) bytes) s
 
 -- with those that were pushed
-abbrev pub numbered_by : ℕ → Lease → Numbered → Server → Step
+abbrev pub numbered_by : ℕ → PrimaryLease → Numbered → Server → Step
 numbered_by handle l edit s = numbered_with handle l edit (bytes_of edit.op None (pushed edit.req s.dropped.buffer)) s
 
 -- how an edit is refused that has no number left
@@ -59,7 +59,7 @@ refused_at_last op live None = refusals.NoData
 refused_at_last op live (Some bytes) = or_exhausted (edited_in (in_replica op) bytes live)
 
 -- an edit that wasn't heard before stands under a lease of the promise, and its bytes are there
-pub record IsReady (handle : ℕ) (edit : NewEdit) (bytes : List ℕ) (live : Live) (l : Lease) (s : Server) : Type 0 where
+pub record IsReady (handle : ℕ) (edit : NewEdit) (bytes : List ℕ) (live : Live) (l : PrimaryLease) (s : Server) : Type 0 where
   pub leased : fin.get s.dropped.leases handle ≡ Some l
   pub lives : (slot_of handle (store_of s)).live ≡ Some live
   pub there : bytes_of edit.op None (pushed edit.req s.dropped.buffer) ≡ Some bytes

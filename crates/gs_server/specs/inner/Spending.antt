@@ -4,13 +4,13 @@ use Rattle.std.specs.List.{filter}
 use Rattle.std.specs.FinMap as fin
 use Rattle.std.specs.Ordering.{nat_cmp}
 use Rattle.gs_base.specs.declared.numbers.Moment.{Moment}
-use Rattle.gs_primary.specs.Leases.{Lease, is_over}
+use Rattle.gs_server_lease.specs.Leases.{PrimaryLease, is_over}
 
 -- whose they are, ascending
-abbrev pub over_of : Moment → List (ℕ × Lease) → List ℕ
+abbrev pub over_of : Moment → List (ℕ × PrimaryLease) → List ℕ
 over_of moment entries = map (λ e. e.0) (filter (λ e. is_over moment e.1) entries)
 
 -- the leases without those of some handles
-abbrev pub without : List ℕ → fin.FinMap nat_cmp Lease → fin.FinMap nat_cmp Lease
+abbrev pub without : List ℕ → fin.FinMap nat_cmp PrimaryLease → fin.FinMap nat_cmp PrimaryLease
 without [] leases = leases
 without (handle ∷ handles) leases = without handles (fin.remove leases handle)

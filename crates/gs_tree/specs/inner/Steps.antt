@@ -7,7 +7,7 @@ use Rattle.gs_path.specs.Path.{Name, Path, begins}
 use Rattle.gs_tree.specs.Entry.{Entry, Dir}
 use Rattle.gs_tree.specs.Plain.{Plain, Same, IsFree, with_at}
 use Rattle.gs_tree.specs.Inverses.{first_made, TakesBack, IsMade, LeavesChunks}
-use Rattle.gs_tree.specs.Follows.{Follows}
+use Rattle.gs_tree.specs.Follows.{FollowsPlain}
 use Rattle.gs_tree.specs.declared.inverse.TreeInverse.{TreeInverse}
 use Rattle.gs_tree.specs.declared.node.Sort.{Sort}
 use Rattle.gs_tree.specs.declared.node.Sort.TheVariants as sorts
@@ -30,7 +30,7 @@ Sown m path e (Err f) left = (((f ≡ NotADirectory) × (file_above m path ≡ t
 
 -- something is made where nothing stands, and taken back by what is answered; where something stands that is told
 abbrev pub MakesLeaf : Plain ℕ → Path → Entry ℕ → Result (Option TreeInverse) Refusal → Plain ℕ → Type 0
-MakesLeaf m path e (Ok (Some i)) left = (m path ≡ None) × Follows (made m path e) (Ok i) m left × TakesBack i m left × IsMade i × LeavesChunks i
+MakesLeaf m path e (Ok (Some i)) left = (m path ≡ None) × FollowsPlain (made m path e) (Ok i) m left × TakesBack i m left × IsMade i × LeavesChunks i
 MakesLeaf m path e (Ok None) left = (is_some (m path) ≡ true) × Same left m
 MakesLeaf m path e (Err f) left = ((f ≡ Memory) ⊎ ((f ≡ NotADirectory) × (file_above m path ≡ true) × (m path ≡ None))) × Same left m
 

@@ -1,4 +1,4 @@
-use Rattle.gs_dialogue.proofs.Runs.{follows_run}
+use Rattle.gs_client_dialogue.proofs.Runs.{follows_run}
 use Rattle.gs_client.specs.Sends.{Sends}
 use Rattle.gs_client.specs.Serves.{served}
 use Rattle.gs_client.proofs.Exact.{sends_exact}

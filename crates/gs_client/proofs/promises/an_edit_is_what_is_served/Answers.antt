@@ -1,4 +1,4 @@
-use Rattle.gs_dialogue.proofs.Runs.{follows_run}
+use Rattle.gs_client_dialogue.proofs.Runs.{follows_run}
 use Rattle.gs_client.specs.Edits.{Edits}
 use Rattle.gs_client.specs.Serves.{served_edits}
 use Rattle.gs_client.proofs.Exact.{edits_exact}

@@ -1,4 +1,4 @@
-use Rattle.gs_disk.proofs.Moments.{weaker}
+use Rattle.gs_journal_disk.proofs.Moments.{weaker}
 use Rattle.gs_journal.proofs.Crash.{appended, append_leaves}
 use Rattle.gs_journal.proofs.ends.append_to.Goals as goal
 

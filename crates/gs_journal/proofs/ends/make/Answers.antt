@@ -1,5 +1,5 @@
 use Rattle.std.proofs.Common.{inl, ⊎_elim}
-use Rattle.gs_disk.proofs.Moments.{weaker}
+use Rattle.gs_journal_disk.proofs.Moments.{weaker}
 use Rattle.gs_journal.proofs.Making.{while_closing, while_opening}
 use Rattle.gs_journal.proofs.ends.make.Goals as goal
 

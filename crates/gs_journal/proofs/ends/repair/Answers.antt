@@ -1,5 +1,5 @@
 use Rattle.std.proofs.Common.{◌∙◌, arith, ◌+◌}
-use Rattle.gs_disk.proofs.Moments.{weaker}
+use Rattle.gs_journal_disk.proofs.Moments.{weaker}
 use Rattle.gs_journal.proofs.Crash.{cut_continues, closing_continues, repaired, kept_gate}
 use Rattle.gs_journal.proofs.ends.repair.Goals as goal
 

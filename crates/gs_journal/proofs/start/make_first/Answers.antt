@@ -1,6 +1,6 @@
 use Rattle.std.proofs.Common.{inl, ◌∙◌, ◌∷◌, List, ℕ, ap}
 use Rattle.gs_journal.specs.Records.{standing}
-use Rattle.gs_disk.proofs.Moments.{started, weaker}
+use Rattle.gs_journal_disk.proofs.Moments.{started, weaker}
 use Rattle.gs_journal.proofs.Opening.{making_like_first}
 use Rattle.gs_journal.proofs.start.make_first.Goals as goal
 

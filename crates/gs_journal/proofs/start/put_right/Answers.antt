@@ -1,6 +1,6 @@
 use Rattle.std.proofs.Common.{inl, subst, sym, ◌∙◌}
 use Rattle.gs_journal.specs.inner.Places.{FindsPlace}
-use Rattle.gs_disk.proofs.Moments.{weaker}
+use Rattle.gs_journal_disk.proofs.Moments.{weaker}
 use Rattle.gs_journal.proofs.Standing.{generation_counts, generation_none}
 use Rattle.gs_journal.proofs.Opening.{untouched_first, untouched_second, first_place, second_place, made_ready, second_ready, first_ready, like_first, like_second}
 use Rattle.gs_journal.proofs.start.put_right.Goals as goal

@@ -1,4 +1,4 @@
-use Rattle.gs_disk.proofs.Moments.{nothing_more, goes_on}
+use Rattle.gs_journal_disk.proofs.Moments.{nothing_more, goes_on}
 use Rattle.gs_journal.proofs.start.read_all.Goals as goal
 
 pub returns-in_err-size-clause-any_moment : goal.returns-in_err-size-clause-any_moment

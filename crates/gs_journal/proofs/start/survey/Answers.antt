@@ -1,4 +1,4 @@
-use Rattle.gs_disk.proofs.Moments.{both}
+use Rattle.gs_journal_disk.proofs.Moments.{both}
 use Rattle.gs_journal.proofs.start.survey.Goals as goal
 
 pub returns-in_err-first_bytes-clause-left_first : goal.returns-in_err-first_bytes-clause-left_first

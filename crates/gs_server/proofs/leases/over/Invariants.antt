@@ -1,7 +1,7 @@
 use Rattle.std.proofs.Common.{◌≡◌, ◌++◌}
 use Rattle.std.specs.FinMap as fin
 use Rattle.std.specs.Ordering.{nat_cmp}
-use Rattle.gs_table.specs.Slots.{live}
+use Rattle.gs_base_table.specs.Slots.{live}
 use Rattle.gs_server.specs.inner.Spending.{over_of}
 use Rattle.gs_server.proofs.leases.over.Given as goal
 

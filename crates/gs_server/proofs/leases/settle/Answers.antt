@@ -1,6 +1,6 @@
 use Rattle.std.specs.Ordering.{nat_cmp}
-use Rattle.gs_table.specs.Slots.{live}
-use Rattle.gs_primary.specs.Leases.{settled, with_told}
+use Rattle.gs_base_table.specs.Slots.{live}
+use Rattle.gs_server_lease.specs.Leases.{settled, with_told}
 use Rattle.gs_server.proofs.Made.{put_again}
 use Rattle.gs_server.proofs.leases.settle.Goals as goal
 

@@ -1,7 +1,7 @@
 use Rattle.std.proofs.Common.{sym, ap, ◌∙◌}
 use Rattle.std.specs.FinMap as fin
 use Rattle.std.specs.Ordering.{nat_cmp}
-use Rattle.gs_table.specs.Slots.{live}
+use Rattle.gs_base_table.specs.Slots.{live}
 use Rattle.gs_server.proofs.Putting.{put_back}
 use Rattle.gs_server.proofs.leases.take_roomy.Goals as goal
 

@@ -5,7 +5,7 @@ use Rattle.gs_base.specs.Stamps.{is_before}
 use Rattle.gs_replica.specs.Edits.{fresh}
 use Rattle.gs_replica.specs.Seals.{roll_back_to}
 use Rattle.gs_store.specs.Slots.{create, advance, drop_replica, take_lease, lose, lost, risen, removed, taking, first_of, when, unless_live, if_bad, unless_promised, check_grant, is_taken, sealed_of}
-use Rattle.gs_sealed.specs.Rollback.{later}
+use Rattle.gs_store_seal.specs.Rollback.{later}
 use Rattle.gs_store.specs.Learning.{start_of}
 use Rattle.gs_store.specs.Moves.{take_copy}
 use Rattle.gs_store.proofs.Laws.{of_ok, of_cond, of_unless, of_raised, not_both, not_before_itself, rolled_rises, not_old}

@@ -7,7 +7,7 @@ use Rattle.gs_tree.specs.Plain.{Plain}
 use Rattle.gs_tree.specs.Find.{at}
 use Rattle.gs_tree.specs.inner.Sort.{sort_of}
 use Rattle.gs_tree.specs.Edits.{chunks_in, with_chunks}
-use Rattle.gs_tree.specs.Follows.{Follows}
+use Rattle.gs_tree.specs.Follows.{FollowsPlain}
 use Rattle.gs_tree.specs.Inverses.{TakesBack}
 use Rattle.gs_tree.specs.declared.inverse.TreeInverse.{TreeInverse}
 use Rattle.gs_tree.specs.declared.inverse.TreeInverse.TheVariants.{Added}
@@ -19,7 +19,7 @@ returns-then-not-added-clause-edit c =
     let file = file_is (at c.args.root.now c.args.path.now) (c.in-File.ensures.sort ∙ ap (λ p. sort_of (at c.args.root.now p)) c.elements.ensures) in
     let had = c.exchange-chunks.ensures.had ∙ ap (λ p. chunks_in (at c.args.root.now p)) c.elements-2.ensures in
     let same : c.push.new.self.items ≡ c.exchange-chunks.result.items = c.push.ensures.items ∙ ap (λ b. cond b (c.exchange-chunks.result.items ++ c.args.chunk ∷ []) c.exchange-chunks.result.items) (sym c.is_ok-added.ensures.value ∙ c.if-not-added.true) in
-    subst (λ (r : Result (Plain ℕ) Refusal). Follows {I = TreeInverse} r (Err Memory) (at c.args.root.now) (at c.exchange.new.self)) (sym (add-is (at c.args.root.now) c.args.path.now c.args.chunk file)) (
+    subst (λ (r : Result (Plain ℕ) Refusal). FollowsPlain {I = TreeInverse} r (Err Memory) (at c.args.root.now) (at c.exchange.new.self)) (sym (add-is (at c.args.root.now) c.args.path.now c.args.chunk file)) (
       refl,
       chunks_restored c.args.path.now c.new.result.items c.push.new.self.items (at c.args.root.now) (at c.exchange-chunks.new.self) (at c.exchange.new.self) file
           (λ q. c.exchange-chunks.ensures.has q ∙ ap (λ p. with_chunks p c.new.result.items (at c.args.root.now) q) c.elements-2.ensures)

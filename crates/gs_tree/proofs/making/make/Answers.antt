@@ -7,7 +7,7 @@ use Rattle.gs_tree.specs.Entry.{Entry}
 use Rattle.gs_tree.specs.Plain.{Plain}
 use Rattle.gs_tree.specs.Find.{at}
 use Rattle.gs_tree.specs.Edits.{with_entry, with_dirs}
-use Rattle.gs_tree.specs.Follows.{Follows}
+use Rattle.gs_tree.specs.Follows.{FollowsPlain}
 use Rattle.gs_tree.specs.Inverses.{TakesBack}
 use Rattle.gs_tree.specs.inner.Steps.{IsSown, Sown}
 use Rattle.gs_tree.specs.inner.Sort.{entry_of_leaf}
@@ -30,7 +30,7 @@ returns c =
     let parts = some_sown m left path e c.in_ok-made.made c.if-made-eq0.false (subst (λ (p : Path). Sown m p e (Ok c.in_ok-made.made) left) c.elements.ensures c.in_ok-made.ensures) in
     let open_above = ap (λ b. cond b (Err NotADirectory) (Ok (with_entry path e (with_dirs path m)))) parts.1.no_file in (
       parts.0,
-      subst (λ (r : Result (Plain ℕ) Refusal). Follows {I = TreeInverse} r (Ok (Made c.in_ok-copy.copy (length c.elements-2.result.now - c.in_ok-made.made))) m left) (sym open_above) parts.1.tree,
+      subst (λ (r : Result (Plain ℕ) Refusal). FollowsPlain {I = TreeInverse} r (Ok (Made c.in_ok-copy.copy (length c.elements-2.result.now - c.in_ok-made.made))) m left) (sym open_above) parts.1.tree,
       subst (λ (p : Path). TakesBack (Made p (length c.elements-2.result.now - c.in_ok-made.made)) m left) (sym c.in_ok-copy.ensures)
           (takes_made m left path c.args.leaf (length c.elements-2.result.now) c.in_ok-made.made (ap length c.elements-2.ensures) parts.1),
       tt,

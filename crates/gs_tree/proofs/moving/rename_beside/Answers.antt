@@ -8,7 +8,7 @@ use Rattle.gs_tree.specs.Places.{given_up}
 use Rattle.gs_tree.specs.Find.{at, DirsAbove}
 use Rattle.gs_tree.specs.Edits.{moved, beside, renamed_beside, parent}
 use Rattle.gs_tree.specs.Inverses.{TakesBack}
-use Rattle.gs_tree.specs.Follows.{Follows}
+use Rattle.gs_tree.specs.Follows.{FollowsPlain}
 use Rattle.gs_tree.specs.inner.Steps.{IsAim, Aims}
 use Rattle.gs_tree.proofs.Moves.{lifted, beside_is, beside_taken, dir_above, parent-append}
 use Rattle.gs_tree.proofs.moving.rename_beside.Goals as goal
@@ -48,7 +48,7 @@ pub returns-clause-edit : goal.returns-clause-edit
 returns-clause-edit c =
     let l = lifted (at c.args.root.now) (at c.in-Some.node) (at c.replace.new.self) c.new.result c.args.path.now c.elements.result.now c.elements.ensures c.new.ensures c.in-Some.ensures.found (c.in-Some.ensures.above refl) c.in-Some.ensures.part c.in-Some.ensures.now in
     let wants = aims (at c.args.root.now) c.args.path.now c.args.name c.aim_beside-aim.result (λ a. a.target) l.stands c.aim_beside-aim.ensures.target c.aim_beside-aim.ensures.err in
-    subst (λ (m : Plain ℕ). Follows (renamed_beside (at c.args.root.now) c.args.path.now c.args.name) c.settle.result m (given_up c.settle.result (at c.settle.new.root))) l.back
+    subst (λ (m : Plain ℕ). FollowsPlain (renamed_beside (at c.args.root.now) c.args.path.now c.args.name) c.settle.result m (given_up c.settle.result (at c.settle.new.root))) l.back
     (c.settle.ensures.edit (renamed_beside (at c.args.root.now) c.args.path.now c.args.name) (subst (λ (m : Plain ℕ). Aims m c.args.path.now (renamed_beside (at c.args.root.now) c.args.path.now c.args.name) c.aim_beside-aim.result (λ a. a.target)) (sym l.back) wants))
 
 pub returns-clause-undo : goal.returns-clause-undo

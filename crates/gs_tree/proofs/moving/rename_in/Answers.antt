@@ -9,7 +9,7 @@ use Rattle.gs_tree.specs.Places.{given_up}
 use Rattle.gs_tree.specs.Find.{at, IsDepthTest, DirsAbove}
 use Rattle.gs_tree.specs.Edits.{move_to, target_of}
 use Rattle.gs_tree.specs.Inverses.{TakesBack}
-use Rattle.gs_tree.specs.Follows.{Follows}
+use Rattle.gs_tree.specs.Follows.{FollowsPlain}
 use Rattle.gs_tree.proofs.Moves.{lifted, rename-is, missing-is, not_empty}
 use Rattle.gs_tree.proofs.moving.rename_in.Goals as goal
 
@@ -19,7 +19,7 @@ returns-in_default-clause-edit c deep test =
     let from = c.args.from.now in
     let none : m from ≡ None = ap m (sym (ap (λ p. p ++ []) c.elements-3.ensures ∙ append-nil from)) ∙ c.in_default.ensures.part [] in
     let is = missing-is deep m from c.args.to.now (not_empty from c.elements.result.now c.is_empty.result c.elements.ensures c.is_empty.ensures c.if-is_empty.false) none in
-    subst (λ (r : Result (Plain ℕ) Refusal). Follows {I = TreeInverse} r (Err NotFound) m (at c.replace.new.self)) (sym is) (inl refl, c.in_default.ensures.now)
+    subst (λ (r : Result (Plain ℕ) Refusal). FollowsPlain {I = TreeInverse} r (Err NotFound) m (at c.replace.new.self)) (sym is) (inl refl, c.in_default.ensures.now)
 
 pub aim_at-aim-requires-clause-found : goal.aim_at-aim-requires-clause-found
 aim_at-aim-requires-clause-found c =
@@ -52,8 +52,8 @@ returns-clause-edit c deep test =
     let tested = subst (λ (k : Plain ℕ). IsDepthTest deep k from (target_of k from to)) (sym l.back) test in
     let step = c.settle.ensures.edit (move_to deep now from (target_of now from to)) (c.aim_at-aim.ensures.edit deep tested) in
     let is = rename-is deep m from to (not_empty from c.elements.result.now c.is_empty.result c.elements.ensures c.is_empty.ensures c.if-is_empty.false) l.stands in
-    subst (λ (r : Result (Plain ℕ) Refusal). Follows r c.settle.result m (given_up c.settle.result (at c.settle.new.root))) (sym is)
-    (subst (λ (k : Plain ℕ). Follows (move_to deep k from (target_of k from to)) c.settle.result k (given_up c.settle.result (at c.settle.new.root))) l.back step)
+    subst (λ (r : Result (Plain ℕ) Refusal). FollowsPlain r c.settle.result m (given_up c.settle.result (at c.settle.new.root))) (sym is)
+    (subst (λ (k : Plain ℕ). FollowsPlain (move_to deep k from (target_of k from to)) c.settle.result k (given_up c.settle.result (at c.settle.new.root))) l.back step)
 
 pub returns-clause-undo : goal.returns-clause-undo
 returns-clause-undo c =

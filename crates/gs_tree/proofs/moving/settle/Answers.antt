@@ -9,7 +9,7 @@ use Rattle.gs_tree.specs.Find.{at}
 use Rattle.gs_tree.specs.Places.{KeepsPlace}
 use Rattle.gs_tree.specs.Edits.{moved, parent}
 use Rattle.gs_tree.specs.Inverses.{TakesBack}
-use Rattle.gs_tree.specs.Follows.{Follows}
+use Rattle.gs_tree.specs.Follows.{FollowsPlain}
 use Rattle.gs_tree.specs.inner.Steps.{IsAim, Lands}
 use Rattle.gs_tree.proofs.Laws.{elsewhere, there}
 use Rattle.gs_tree.proofs.Moves.{takes_moved, parent-append, put_there}
@@ -54,7 +54,7 @@ returns-clause-edit c wanted aims =
     let none : is_some (m to) ≡ false = ap (λ p. is_some (m p)) (sym (append-nil to)) ∙ ap is_some (got.free []) in
     let told : wanted ≡ cond (is_some (m to)) (Err Exists) (Ok (moved c.args.path.now to m)) = rw c.in-Ok.is at aims in
     let is = told ∙ ap (λ b. cond b (Err Exists) (Ok (moved c.args.path.now to m))) none in
-    subst (λ (r : Result (Plain ℕ) Refusal). Follows r (Ok (Moved c.in-Ok.aim.source to)) m (without c.in-Ok.aim.source (at c.land.new.self))) (sym is)
+    subst (λ (r : Result (Plain ℕ) Refusal). FollowsPlain r (Ok (Moved c.in-Ok.aim.source to)) m (without c.in-Ok.aim.source (at c.land.new.self))) (sym is)
     (λ q. ap (λ s. without s (at c.land.new.self) q) aim.same ∙ got.left q)
 
 pub returns-clause-undo : goal.returns-clause-undo

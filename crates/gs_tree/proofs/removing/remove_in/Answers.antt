@@ -5,7 +5,7 @@ use Rattle.gs_path.specs.Path.{Path}
 use Rattle.gs_tree.specs.Plain.{Plain, without}
 use Rattle.gs_tree.specs.Find.{at, DirsAbove}
 use Rattle.gs_tree.specs.inner.Sort.{sort_of}
-use Rattle.gs_tree.specs.Follows.{Follows}
+use Rattle.gs_tree.specs.Follows.{FollowsPlain}
 use Rattle.gs_tree.specs.Inverses.{TakesBack}
 use Rattle.gs_tree.specs.declared.inverse.TreeInverse.TheVariants.{Removed}
 use Rattle.gs_tree.specs.declared.node.Sort.TheVariants as sorts
@@ -24,7 +24,7 @@ returns-in-Some c =
     let is = remove-is (at c.args.root.now) c.args.path.now (ap is_none (sym c.in_ok-hidden.ensures.old) ∙ hidden) (some_is (at c.args.root.now c.args.path.now) some) in
     let now = λ (q : Path). c.in-Some.ensures.rest q ∙ ap (λ p. without p (at c.args.root.now) q) c.elements-2.ensures in
     let part = λ (q : Path). ap (λ p. at c.args.root.now (p ++ q)) (sym c.elements-2.ensures) ∙ c.in-Some.ensures.part q in record {
-      edit = subst (λ (r : Result (Plain ℕ) Refusal). Follows r (Ok (Removed c.in_ok-source.source c.in-Some.node)) (at c.args.root.now) (at c.prune.new.self)) (sym is) now;
+      edit = subst (λ (r : Result (Plain ℕ) Refusal). FollowsPlain r (Ok (Removed c.in_ok-source.source c.in-Some.node)) (at c.args.root.now) (at c.prune.new.self)) (sym is) now;
       undo = subst (λ (s : Path). TakesBack (Removed s c.in-Some.node) (at c.args.root.now) (at c.prune.new.self)) (sym c.in_ok-source.ensures)
           (takes_removed (at c.args.root.now) (at c.prune.new.self) c.args.path.now c.in-Some.node ne above now part);
       inverse = (c.in-Some.node, (part, ap (λ s. Removed s c.in-Some.node) c.in_ok-source.ensures));

@@ -8,7 +8,7 @@ use Rattle.gs_tree.specs.inner.Sort.{sort_of}
 use Rattle.gs_tree.specs.Plain.{Plain, with_at, part_at}
 use Rattle.gs_tree.specs.Find.{at, IsDepthTest}
 use Rattle.gs_tree.specs.Edits.{copied, visible}
-use Rattle.gs_tree.specs.Follows.{Follows}
+use Rattle.gs_tree.specs.Follows.{FollowsPlain}
 use Rattle.gs_tree.proofs.Apart.{if_ok}
 use Rattle.gs_tree.proofs.Moves.{not_front, refused, snapshot-is, snapshot-missing, not_empty, stands_is, none_is}
 use Rattle.gs_tree.proofs.snapshots.snapshot_in.Goals as goal
@@ -40,8 +40,8 @@ returns c =
       edit = λ deep test.
           let is = snapshot-is deep (at c.args.root.now) c.args.from.now c.args.to.now ne some ∙ c.in-Ok.ensures.answer deep (copied c.args.from.now c.args.to.now (at c.args.root.now)) in
           let step = c.put_copy.ensures.edit deep (subst (λ (k : Plain ℕ). IsDepthTest deep k [] c.args.to.now) (sym part) test) in
-          let same = subst (λ (k : Plain ℕ). Follows (cond deep (Err BadPath) (Ok (with_at c.args.to.now k (at c.args.root.now)))) c.put_copy.result (at c.args.root.now) (at c.put_copy.new.root)) part step in
-          subst (λ (r : Result (Plain ℕ) Refusal). Follows r c.put_copy.result (at c.args.root.now) (at c.put_copy.new.root)) (sym is) same;
+          let same = subst (λ (k : Plain ℕ). FollowsPlain (cond deep (Err BadPath) (Ok (with_at c.args.to.now k (at c.args.root.now)))) c.put_copy.result (at c.args.root.now) (at c.put_copy.new.root)) part step in
+          subst (λ (r : Result (Plain ℕ) Refusal). FollowsPlain r c.put_copy.result (at c.args.root.now) (at c.put_copy.new.root)) (sym is) same;
       undo = c.put_copy.ensures.undo;
       inverse = c.put_copy.ensures.inverse;
       apart = if_ok c.put_copy.result (c.in-Ok.ensures.apart, not_front (at c.args.root.now) c.args.to.now c.args.from.now c.in-Ok.ensures.free some);

@@ -2,7 +2,7 @@ use Rattle.std.proofs.Common.{◌≡◌, ◌+◌, length, subst, sym, ap, ◌∙
 use Rattle.gs_block.specs.Chunk.{written}
 use Rattle.gs_block.specs.Stored.{Stored}
 use Rattle.gs_block.specs.Edits.{changed, is_outside}
-use Rattle.gs_block.specs.Follows.{Follows}
+use Rattle.gs_base.specs.Calls.{Follows}
 use Rattle.gs_block.specs.declared.inverse.BlockInverse.{BlockInverse}
 use Rattle.gs_block.proofs.Following.{append_follows}
 use Rattle.gs_block.proofs.blocks.Blocks.append.Goals as goal

@@ -4,7 +4,7 @@ use Rattle.std.proofs.lemmas.Bool.Decides.{nat_tests}
 use Rattle.gs_block.specs.Chunk.{written}
 use Rattle.gs_block.specs.Stored.{Stored, IsStored}
 use Rattle.gs_block.specs.Edits.{changed}
-use Rattle.gs_block.specs.Follows.{Follows}
+use Rattle.gs_base.specs.Calls.{Follows}
 use Rattle.gs_block.specs.Inverses.{undo}
 use Rattle.gs_block.specs.declared.inverse.BlockInverse.{BlockInverse}
 use Rattle.gs_block.proofs.Following.{pad_follows}

@@ -3,7 +3,7 @@ use Rattle.std.specs.Prelude.{Some, None, Ok, Err}
 use Rattle.gs_base.specs.declared.refusal.Refusal.TheVariants.{Damaged}
 use Rattle.gs_block.specs.Stored.{Stored}
 use Rattle.gs_block.specs.Edits.{damaged_between, read}
-use Rattle.gs_block.specs.Follows.{Answers}
+use Rattle.gs_base.specs.Calls.{Answers}
 use Rattle.gs_block.proofs.Following.{read_refused, read_given, asked_part}
 use Rattle.gs_block.proofs.blocks.Blocks.read.Goals as goal
 

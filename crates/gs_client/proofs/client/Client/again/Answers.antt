@@ -1,5 +1,5 @@
 use Rattle.std.proofs.Common.{◌≡◌, rules, Err, refl}
-use Rattle.gs_dialogue.proofs.Talks.{follows_both, follows_none, follows_then}
+use Rattle.gs_client_dialogue.proofs.Talks.{follows_both, follows_none, follows_then}
 use Rattle.gs_client.specs.Replies.{is_stale}
 use Rattle.gs_client.specs.Edits.{Edits}
 use Rattle.gs_client.specs.Writing.{avoided, writing_call}

@@ -1,5 +1,5 @@
 use Rattle.std.proofs.Common.{◌≡◌, ◌-◌, ◌==◌, length, rules, Err, sym}
-use Rattle.gs_dialogue.proofs.Talks.{follows_both, follows_none, follows_then, follows_else, follows_said}
+use Rattle.gs_client_dialogue.proofs.Talks.{follows_both, follows_none, follows_then, follows_else, follows_said}
 use Rattle.gs_base.specs.declared.refusal.Refusal.TheVariants.{Range}
 use Rattle.gs_client.specs.Edits.{Edits}
 use Rattle.gs_client.specs.Looking.{known_call}

@@ -1,6 +1,6 @@
 use Rattle.std.proofs.Common.{◌≡◌, rules, Err}
-use Rattle.gs_dialogue.specs.Dialogues.{Grow}
-use Rattle.gs_dialogue.proofs.Talks.{follows_both, follows_none}
+use Rattle.gs_client_dialogue.specs.Dialogues.{Grow}
+use Rattle.gs_client_dialogue.proofs.Talks.{follows_both, follows_none}
 use Rattle.gs_msg.specs.declared.call.Call.TheVariants as calls
 use Rattle.gs_client.proofs.Ones.{follows_said_on}
 use Rattle.gs_client.specs.Sends.{Sends}

@@ -1,6 +1,6 @@
 use Rattle.std.proofs.Common.{◌≡◌, rules, Ok, Err, Some, refl}
-use Rattle.gs_dialogue.specs.Dialogues.{Say}
-use Rattle.gs_dialogue.proofs.Talks.{follows_both, follows_none}
+use Rattle.gs_client_dialogue.specs.Dialogues.{Say}
+use Rattle.gs_client_dialogue.proofs.Talks.{follows_both, follows_none}
 use Rattle.gs_msg.specs.declared.chunk.Asked.TheVariants as asks
 use Rattle.gs_client.proofs.Steps.{says_err, says_ok}
 use Rattle.gs_client.specs.Sends.{Sends}

@@ -1,5 +1,5 @@
 use Rattle.std.proofs.Common.{◌≡◌, ◌+◌, rules, Err}
-use Rattle.gs_dialogue.proofs.Talks.{leads_next, leads_stop}
+use Rattle.gs_client_dialogue.proofs.Talks.{leads_next, leads_stop}
 use Rattle.gs_client.specs.Sends.{Sends}
 use Rattle.gs_client.specs.Writing.{extend_call}
 use Rattle.gs_client.proofs.Counts.{extends_next}

@@ -1,5 +1,5 @@
 use Rattle.std.proofs.Common.{◌+◌, ◌-◌}
-use Rattle.gs_dialogue.specs.Dialogues.{Leads}
+use Rattle.gs_client_dialogue.specs.Dialogues.{Leads}
 use Rattle.gs_client.specs.Sends.{Sends}
 use Rattle.gs_client.specs.Writing.{extends_call}
 use Rattle.gs_client.proofs.client.Client.extends.Given as goal

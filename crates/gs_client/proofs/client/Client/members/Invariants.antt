@@ -1,5 +1,5 @@
 use Rattle.gs_base.specs.declared.refusal.Refusal.TheVariants.{NoReplica}
-use Rattle.gs_dialogue.specs.Dialogues.{Leads}
+use Rattle.gs_client_dialogue.specs.Dialogues.{Leads}
 use Rattle.gs_client.specs.Sends.{Sends}
 use Rattle.gs_client.specs.Looking.{members_call}
 use Rattle.gs_client.proofs.client.Client.members.Given as goal

@@ -1,7 +1,7 @@
 use Rattle.std.proofs.Common.{◌≡◌, ◌+◌, ◌/◌, rules, Err, refl}
-use Rattle.gs_dialogue.proofs.Talks.{leads_next, leads_stop}
+use Rattle.gs_client_dialogue.proofs.Talks.{leads_next, leads_stop}
 use Rattle.gs_client.specs.Edits.{Edits}
-use Rattle.gs_part.specs.Writing.{part_start, part_bytes}
+use Rattle.gs_client_part.specs.Writing.{part_start, part_bytes}
 use Rattle.gs_client.specs.Writing.{write_part_call, part_op}
 use Rattle.gs_client.proofs.Counts.{parts_next, part_named}
 use Rattle.gs_client.proofs.client.Client.parts.Goals as goal

@@ -1,5 +1,5 @@
 use Rattle.std.proofs.Common.{◌-◌}
-use Rattle.gs_dialogue.specs.Dialogues.{Leads}
+use Rattle.gs_client_dialogue.specs.Dialogues.{Leads}
 use Rattle.gs_client.specs.Edits.{Edits}
 use Rattle.gs_client.specs.Writing.{parts_call}
 use Rattle.gs_client.proofs.client.Client.parts.Given as goal

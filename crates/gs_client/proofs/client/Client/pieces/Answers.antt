@@ -1,7 +1,7 @@
 use Rattle.std.proofs.Common.{◌≡◌, ◌∙◌, ◌+◌, ◌-◌, ◌/◌, ◌%◌, ◌<◌, ℕ, [], rules, Err, ap, arith}
 use Rattle.gs_base.specs.declared.refusal.Refusal.TheVariants.{Memory}
 use Rattle.gs_client.specs.Sends.{Sends}
-use Rattle.gs_part.specs.Reading.{span, piece_end}
+use Rattle.gs_client_part.specs.Reading.{span, piece_end}
 use Rattle.gs_client.proofs.Pieces.{in_bounds, pieces_begin, piece_refused, piece_unheld, piece_added, stored_named}
 use Rattle.gs_client.proofs.client.Client.pieces.Goals as goal
 

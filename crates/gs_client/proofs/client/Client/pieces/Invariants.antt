@@ -1,7 +1,7 @@
 use Rattle.std.proofs.Common.{◌+◌, ◌-◌, ◌/◌, ◌%◌, []}
-use Rattle.gs_dialogue.specs.Dialogues.{Leads}
+use Rattle.gs_client_dialogue.specs.Dialogues.{Leads}
 use Rattle.gs_client.specs.Sends.{Sends}
-use Rattle.gs_part.specs.Reading.{span}
+use Rattle.gs_client_part.specs.Reading.{span}
 use Rattle.gs_client.specs.Reading.{pieces_call}
 use Rattle.gs_client.proofs.client.Client.pieces.Given as goal
 

@@ -1,5 +1,5 @@
 use Rattle.std.proofs.Common.{◌≡◌, rules, Err}
-use Rattle.gs_dialogue.proofs.Talks.{follows_both, follows_none}
+use Rattle.gs_client_dialogue.proofs.Talks.{follows_both, follows_none}
 use Rattle.gs_client.specs.Sends.{Sends}
 use Rattle.gs_client.specs.Looking.{known_call}
 use Rattle.gs_client.specs.Reading.{end_call}

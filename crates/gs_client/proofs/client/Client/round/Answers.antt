@@ -1,6 +1,6 @@
 use Rattle.std.proofs.Common.{◌≡◌, rules, Err, refl}
 use Rattle.gs_base.specs.declared.refusal.Refusal.TheVariants.{NoReplica}
-use Rattle.gs_dialogue.proofs.Talks.{follows_both, follows_none}
+use Rattle.gs_client_dialogue.proofs.Talks.{follows_both, follows_none}
 use Rattle.gs_client.specs.Sends.{Sends}
 use Rattle.gs_client.specs.Looking.{members_call}
 use Rattle.gs_client.proofs.client.Client.round.Goals as goal

@@ -1,6 +1,6 @@
 use Rattle.std.proofs.Common.{◌≡◌, rules, Ok, Err, None, refl}
-use Rattle.gs_dialogue.specs.Dialogues.{Say, Grow, both}
-use Rattle.gs_dialogue.proofs.Talks.{follows_both, follows_none}
+use Rattle.gs_client_dialogue.specs.Dialogues.{Say, Grow, both}
+use Rattle.gs_client_dialogue.proofs.Talks.{follows_both, follows_none}
 use Rattle.gs_msg.specs.declared.call.Call.TheVariants as calls
 use Rattle.gs_client.specs.declared.reading.Stat.TheVariants as stats
 use Rattle.gs_client.proofs.Steps.{says_err, says_ok}

@@ -1,9 +1,9 @@
 use Rattle.std.proofs.Common.{◌≡◌, ◌-◌, rules, Err, sym}
-use Rattle.gs_dialogue.proofs.Talks.{follows_both, follows_none, follows_then, follows_else, follows_said}
+use Rattle.gs_client_dialogue.proofs.Talks.{follows_both, follows_none, follows_then, follows_else, follows_said}
 use Rattle.gs_base.specs.declared.refusal.Refusal.TheVariants.{Range}
 use Rattle.gs_client.specs.Edits.{Edits}
 use Rattle.gs_client.specs.Looking.{known_call}
-use Rattle.gs_part.specs.Writing.{chunks_to, is_out}
+use Rattle.gs_client_part.specs.Writing.{chunks_to, is_out}
 use Rattle.gs_client.specs.Writing.{extends_call}
 use Rattle.gs_client.proofs.Counts.{as_edits, quiet_known, quiet_extends}
 use Rattle.gs_client.proofs.client.Client.write.Goals as goal

@@ -1,5 +1,5 @@
 use Rattle.std.proofs.Common.{◌≡◌, rules, Err, refl}
-use Rattle.gs_dialogue.proofs.Talks.{follows_both, follows_none}
+use Rattle.gs_client_dialogue.proofs.Talks.{follows_both, follows_none}
 use Rattle.gs_client.specs.Edits.{Edits}
 use Rattle.gs_client.specs.Writing.{part_call}
 use Rattle.gs_client.proofs.client.Client.write_part.Goals as goal

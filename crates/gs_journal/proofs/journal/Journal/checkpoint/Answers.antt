@@ -1,6 +1,6 @@
 use Rattle.std.proofs.Common.{◌≡◌, refl, inl, inr, ◌∙◌, ap, subst}
 use Rattle.std.specs.Prelude.{Option, Some, None, Result, Ok, Err, IfSome, OnOk}
-use Rattle.gs_disk.specs.Disk.{LeavesPairs}
+use Rattle.gs_journal_disk.specs.Disk.{LeavesPairs}
 use Rattle.gs_journal.specs.Records.{standing}
 use Rattle.gs_journal.specs.Journal.{State, IsOldOrNew, Makes, checkpointed}
 use Rattle.gs_journal.specs.Drafts.{Drafted, draft_refusal}

@@ -1,5 +1,5 @@
 use Rattle.std.proofs.Common.{rules, refl, inl, subst, ◌∷◌, []}
-use Rattle.gs_disk.specs.Disk.{LeavesPairs}
+use Rattle.gs_journal_disk.specs.Disk.{LeavesPairs}
 use Rattle.gs_journal.specs.Records.{Entry, standing}
 use Rattle.gs_journal.specs.Journal.{IsOldOrNew, checkpointed}
 use Rattle.gs_journal.specs.inner.Pair.{text}

@@ -1,7 +1,7 @@
 use Rattle.std.proofs.Common.{◌∙◌, ap, subst, sym}
 use Rattle.std.specs.Ordering.{nat_cmp}
 use Rattle.std.specs.FinMap as fin
-use Rattle.gs_table.specs.Slots.{KeepsRoom, live}
+use Rattle.gs_base_table.specs.Slots.{KeepsRoom, live}
 use Rattle.gs_lease_table.proofs.Changed.{can_count, insert_removed, none_removed, with_one}
 use Rattle.gs_lease_table.proofs.table.LeaseTable.exchange.Goals as goal
 

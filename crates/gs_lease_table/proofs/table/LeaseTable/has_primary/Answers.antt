@@ -4,7 +4,7 @@ use Rattle.std.specs.FinMap as fin
 use Rattle.std.specs.List.{list_any}
 use Rattle.std.specs.Ordering.{nat_cmp}
 use Rattle.gs_lease.specs.declared.lease.Lease.{Lease}
-use Rattle.gs_table.specs.Slots.{live}
+use Rattle.gs_base_table.specs.Slots.{live}
 use Rattle.gs_lease_table.specs.Tallies.{has_primary}
 use Rattle.gs_lease_table.proofs.Changed.{has_any}
 use Rattle.gs_lease_table.proofs.table.LeaseTable.has_primary.Goals as goal

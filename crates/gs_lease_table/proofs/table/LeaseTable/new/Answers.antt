@@ -1,5 +1,5 @@
 use Rattle.std.proofs.Common.{arith, sym}
-use Rattle.gs_table.specs.Slots.{live}
+use Rattle.gs_base_table.specs.Slots.{live}
 use Rattle.std.specs.Ordering.{nat_cmp}
 use Rattle.gs_lease_table.specs.Tallies.{one_on, one_primary}
 use Rattle.gs_lease_table.proofs.Changed.{none_counted}

@@ -1,7 +1,7 @@
 use Rattle.std.proofs.Common.{subst, None, ◌≡◌}
 use Rattle.std.specs.Ordering.{nat_cmp}
 use Rattle.std.specs.FinMap as fin
-use Rattle.gs_table.specs.Slots.{GivesUpRoom, live}
+use Rattle.gs_base_table.specs.Slots.{GivesUpRoom, live}
 use Rattle.gs_lease_table.proofs.table.LeaseTable.release.Goals as goal
 
 pub returns-clause-empty : goal.returns-clause-empty

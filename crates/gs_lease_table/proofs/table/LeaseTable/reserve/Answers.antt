@@ -1,6 +1,6 @@
 use Rattle.std.proofs.Common.{subst}
 use Rattle.std.specs.Ordering.{nat_cmp}
-use Rattle.gs_table.specs.Slots.{KeepsRoom}
+use Rattle.gs_base_table.specs.Slots.{KeepsRoom}
 use Rattle.gs_lease_table.proofs.table.LeaseTable.reserve.Goals as goal
 
 pub returns-clause-keeps : goal.returns-clause-keeps

@@ -1,6 +1,6 @@
 use Rattle.std.proofs.Common.{subst}
 use Rattle.std.specs.Ordering.{nat_cmp}
-use Rattle.gs_table.specs.Slots.{KeepsRoom, live}
+use Rattle.gs_base_table.specs.Slots.{KeepsRoom, live}
 use Rattle.gs_lease_table.proofs.Changed.{has_counted, still_tally, without_one}
 use Rattle.gs_lease_table.proofs.table.LeaseTable.take.Goals as goal
 

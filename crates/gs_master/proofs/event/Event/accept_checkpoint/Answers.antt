@@ -2,9 +2,9 @@ use Rattle.std.proofs.Common.{◌∙◌, ap, refl, subst}
 use Rattle.std.specs.Prelude.{fold}
 use Rattle.std.specs.FinMap as fin
 use Rattle.gs_journal.specs.declared.version.Version.TheVariants.{Two}
-use Rattle.gs_record.specs.Writable.{IsEntry}
-use Rattle.gs_state.specs.Durable.{Durable}
-use Rattle.gs_state.specs.Recorded.{durable_of}
+use Rattle.gs_master_record.specs.Writable.{IsEntry}
+use Rattle.gs_master_spec.specs.Durable.{Durable}
+use Rattle.gs_master_state.specs.inner.Recorded.{durable_of}
 use Rattle.gs_master.proofs.Renewals.{renewed_gives}
 use Rattle.gs_master.proofs.event.Event.accept_checkpoint.Goals as goal
 

@@ -1,7 +1,7 @@
 use Rattle.std.proofs.Common.{rules}
-use Rattle.gs_state.specs.Settling.{all_go_on, goes_on}
-use Rattle.gs_master.specs.Turns.{WhyNotTurned, state_at}
-use Rattle.gs_state.specs.declared.pending.Pending.{Pending}
+use Rattle.gs_master_spec.specs.Settling.{all_go_on, goes_on}
+use Rattle.gs_master.specs.inner.Turns.{WhyNotTurned, state_at}
+use Rattle.gs_master_spec.specs.declared.pending.Pending.{Pending}
 use Rattle.gs_master.proofs.Composing.{item_further, item_refused, none_left}
 use Rattle.gs_master.proofs.Entered.{goes_back_on}
 use Rattle.gs_master.proofs.event.Event.all_go_on.Goals as goal

@@ -1,6 +1,6 @@
-use Rattle.gs_state.specs.Settling.{all_go_on, goes_on}
-use Rattle.gs_master.specs.Turns.{GoesBack, state_at}
-use Rattle.gs_state.specs.declared.pending.Pending.{Pending}
+use Rattle.gs_master_spec.specs.Settling.{all_go_on, goes_on}
+use Rattle.gs_master.specs.inner.Turns.{GoesBack, state_at}
+use Rattle.gs_master_spec.specs.declared.pending.Pending.{Pending}
 use Rattle.gs_master.proofs.Composing.{LeadsOn, rest_of}
 use Rattle.gs_master.proofs.event.Event.all_go_on.Given as goal
 

@@ -1,6 +1,6 @@
 use Rattle.std.proofs.Common.{ap, subst, sym, ◌∙◌}
-use Rattle.gs_state.specs.State.{answered}
-use Rattle.gs_master.specs.Turns.{ComesWithOthers, state_at}
+use Rattle.gs_master_spec.specs.State.{answered}
+use Rattle.gs_master.specs.inner.Turns.{ComesWithOthers, state_at}
 use Rattle.gs_master.proofs.Accepting.{answered_together}
 use Rattle.gs_master.proofs.event.Event.answer.Goals as goal
 

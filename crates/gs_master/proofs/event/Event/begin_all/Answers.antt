@@ -1,7 +1,7 @@
 use Rattle.std.proofs.Common.{rules}
 use Rattle.gs_lease.specs.declared.view.Purpose.TheVariants as purposes
-use Rattle.gs_state.specs.Beginning.{all_begun, begun}
-use Rattle.gs_master.specs.Turns.{WhyNotTurned, state_at}
+use Rattle.gs_master_spec.specs.Beginning.{all_begun, begun}
+use Rattle.gs_master.specs.inner.Turns.{WhyNotTurned, state_at}
 use Rattle.gs_master.proofs.Composing.{item_further, item_refused, none_left}
 use Rattle.gs_master.proofs.Entered.{goes_back_on}
 use Rattle.gs_master.proofs.event.Event.begin_all.Goals as goal

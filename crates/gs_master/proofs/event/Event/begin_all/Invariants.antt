@@ -1,6 +1,6 @@
 use Rattle.gs_lease.specs.declared.view.Purpose.TheVariants as purposes
-use Rattle.gs_state.specs.Beginning.{all_begun, begun}
-use Rattle.gs_master.specs.Turns.{GoesBack, state_at}
+use Rattle.gs_master_spec.specs.Beginning.{all_begun, begun}
+use Rattle.gs_master.specs.inner.Turns.{GoesBack, state_at}
 use Rattle.gs_master.proofs.Composing.{LeadsOn, rest_of}
 use Rattle.gs_master.proofs.event.Event.begin_all.Given as goal
 

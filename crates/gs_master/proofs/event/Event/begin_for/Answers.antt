@@ -1,7 +1,7 @@
 use Rattle.std.proofs.Common.{ap, subst, sym, ◌∙◌}
 use Rattle.std.specs.Prelude.{Some}
-use Rattle.gs_state.specs.Beginning.{begin_at, waits_from_now}
-use Rattle.gs_master.specs.Turns.{ComesWithOthers, state_at}
+use Rattle.gs_master_spec.specs.Beginning.{begin_at, waits_from_now}
+use Rattle.gs_master.specs.inner.Turns.{ComesWithOthers, state_at}
 use Rattle.gs_master.proofs.Accepting.{begun_together}
 use Rattle.gs_master.proofs.event.Event.begin_for.Goals as goal
 

@@ -1,5 +1,5 @@
 use Rattle.std.proofs.Common.{◌∙◌, [], append-nil, sym}
-use Rattle.gs_state.specs.Plans.{plan_of}
+use Rattle.gs_master_state.specs.inner.Plans.{plan_of}
 use Rattle.gs_master.proofs.Entered.{carried, goes_back_on, goes_back_said, goes_back_sent}
 use Rattle.gs_master.proofs.event.Event.carry_out.Goals as goal
 

@@ -1,7 +1,7 @@
 use Rattle.std.proofs.Common.{ap, map, ◌∙◌}
 use Rattle.std.specs.List.{list_any}
-use Rattle.gs_record.specs.Plain.{plain}
-use Rattle.gs_state.specs.Applied.{is_whole_entry}
+use Rattle.gs_master_record.specs.Plain.{plain}
+use Rattle.gs_master_spec.specs.Applied.{is_whole_entry}
 use Rattle.gs_master.proofs.Together.{no_checkpoint}
 use Rattle.gs_master.proofs.event.Event.carry_out_or_refuse.Goals as goal
 

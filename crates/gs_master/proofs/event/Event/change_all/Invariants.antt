@@ -1,5 +1,5 @@
 use Rattle.std.proofs.Common.{◌≡◌}
-use Rattle.gs_state.specs.Volatile.{all_changed}
+use Rattle.gs_master_spec.specs.Volatile.{all_changed}
 use Rattle.gs_master.proofs.event.Event.change_all.Given as goal
 
 abbrev pub invariant-loop-change : goal.invariant-loop-change

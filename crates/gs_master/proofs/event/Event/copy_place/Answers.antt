@@ -1,7 +1,7 @@
 use Rattle.std.proofs.Common.{ap, subst, sym, ◌∙◌}
-use Rattle.gs_state.specs.Beginning.{waits_from_now}
-use Rattle.gs_master.specs.Turns.{ComesWithOthers}
-use Rattle.gs_state.specs.declared.pending.Waiting.TheVariants as waits
+use Rattle.gs_master_spec.specs.Beginning.{waits_from_now}
+use Rattle.gs_master.specs.inner.Turns.{ComesWithOthers}
+use Rattle.gs_master_spec.specs.declared.pending.Waiting.TheVariants as waits
 use Rattle.gs_master.proofs.Accepting.{copied_together}
 use Rattle.gs_master.proofs.event.Event.copy_place.Goals as goal
 

@@ -1,13 +1,13 @@
 use Rattle.std.proofs.Common.{◌∙◌, ap, false, length, map, refl, subst, sym, take}
 use Rattle.std.specs.Prelude.{Some, option_map}
 use Rattle.std.proofs.lemmas.Option.{slice_get-map, slice_get_read}
-use Rattle.gs_record.specs.Plain.{plain}
-use Rattle.gs_state.specs.TakingBack.{Leads}
+use Rattle.gs_master_record.specs.Plain.{plain}
+use Rattle.gs_master_state.specs.inner.TakingBack.{Leads}
 use Rattle.gs_master.specs.Journaled.{stood_before}
-use Rattle.gs_state.specs.Plans.{log_of}
-use Rattle.gs_state.specs.Recorded.{durable_of}
-use Rattle.gs_state.specs.State.{Failed}
-use Rattle.gs_state.specs.Tracked.{NowAndBefore}
+use Rattle.gs_master_state.specs.inner.Plans.{log_of}
+use Rattle.gs_master_state.specs.inner.Recorded.{durable_of}
+use Rattle.gs_master_spec.specs.State.{Failed}
+use Rattle.gs_master_state.specs.inner.Tracked.{NowAndBefore}
 use Rattle.gs_master.proofs.Leading.{cut_gives, log_cut}
 use Rattle.gs_master.proofs.event.Event.cut.Goals as goal
 

@@ -1,16 +1,16 @@
 use Rattle.std.proofs.Common.{◌∙◌, ◌∷◌, [], false, ap, arith, length, length-append, map, refl, subst, sym}
 use Rattle.std.specs.Prelude.{Some, fold}
 use Rattle.std.proofs.lemmas.List.{length-map}
-use Rattle.gs_record.specs.Plain.{Whole, plain}
-use Rattle.gs_master.specs.Events.{log_behind}
-use Rattle.gs_state.specs.TakingBack.{Leads}
+use Rattle.gs_master_record.specs.Plain.{Whole, plain}
+use Rattle.gs_master.specs.inner.Events.{log_behind}
+use Rattle.gs_master_state.specs.inner.TakingBack.{Leads}
 use Rattle.gs_master.specs.Journaled.{stood_before}
-use Rattle.gs_state.specs.Plans.{log_of}
-use Rattle.gs_state.specs.Recorded.{durable_of}
-use Rattle.gs_master.specs.Renewing.{and_checkpoint}
-use Rattle.gs_state.specs.State.{Failed}
-use Rattle.gs_state.specs.Tracked.{NowAndBefore}
-use Rattle.gs_state.specs.Whole.{checkpoint_of}
+use Rattle.gs_master_state.specs.inner.Plans.{log_of}
+use Rattle.gs_master_state.specs.inner.Recorded.{durable_of}
+use Rattle.gs_master.specs.inner.Renewing.{and_checkpoint}
+use Rattle.gs_master_spec.specs.State.{Failed}
+use Rattle.gs_master_state.specs.inner.Tracked.{NowAndBefore}
+use Rattle.gs_master_spec.specs.Whole.{checkpoint_of}
 use Rattle.gs_master.proofs.Leading.{cut_gives}
 use Rattle.gs_master.proofs.Renewals.{all_before, last_of}
 use Rattle.gs_master.proofs.event.Event.doubt_checkpoint.Goals as goal

@@ -1,9 +1,9 @@
 use Rattle.std.proofs.Common.{◌≡◌, ◌≤◌, ◌∙◌, ◌++◌, ◌∷◌, [], Ok, ap, append-nil, subst, sym}
-use Rattle.gs_record.specs.Plain.{plain_edit}
-use Rattle.gs_master.specs.Events.{EntersEdit, KeepsBack}
-use Rattle.gs_master.specs.Turns.{GoesBack}
+use Rattle.gs_master_record.specs.Plain.{plain_edit}
+use Rattle.gs_master.specs.inner.Events.{EntersEdit, KeepsBack}
+use Rattle.gs_master.specs.inner.Turns.{GoesBack}
 use Rattle.gs_master.specs.declared.event.Event.{Event}
-use Rattle.gs_state.specs.TakingBack.{RoomForAll}
+use Rattle.gs_master_state.specs.inner.TakingBack.{RoomForAll}
 use Rattle.gs_master.proofs.Entered.{goes_back_on, goes_back_sent, stepped_back}
 use Rattle.gs_master.proofs.Making.{StaysBeside, entered_steps}
 use Rattle.gs_master.proofs.event.Event.edit_by.Goals as goal

@@ -1,7 +1,7 @@
 use Rattle.std.proofs.Common.{◌≡◌, ◌<◌, ap, arith, inl, inr, length, map, subst, sym}
-use Rattle.gs_record.specs.Plain.{plain}
+use Rattle.gs_master_record.specs.Plain.{plain}
 use Rattle.gs_master.specs.Journaled.{Breaks, Gains, IsReadyFor}
-use Rattle.gs_state.specs.Plans.{log_of}
+use Rattle.gs_master_state.specs.inner.Plans.{log_of}
 use Rattle.gs_master.proofs.Leading.{log_stays, ready}
 use Rattle.gs_master.proofs.event.Event.end.Goals as goal
 

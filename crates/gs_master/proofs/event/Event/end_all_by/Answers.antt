@@ -1,7 +1,7 @@
 use Rattle.std.proofs.Common.{get_or, rules, subst}
 use Rattle.gs_base.specs.declared.numbers.ReqId.{ReqId}
-use Rattle.gs_state.specs.State.{all_ended_by, ended_by}
-use Rattle.gs_master.specs.Turns.{IsTurned, WhyNotTurned, state_at}
+use Rattle.gs_master_spec.specs.State.{all_ended_by, ended_by}
+use Rattle.gs_master.specs.inner.Turns.{IsTurned, WhyNotTurned, state_at}
 use Rattle.gs_master.proofs.Composing.{none_left, one_further, one_refused}
 use Rattle.gs_master.proofs.Entered.{goes_back_on}
 use Rattle.gs_master.proofs.event.Event.end_all_by.Goals as goal

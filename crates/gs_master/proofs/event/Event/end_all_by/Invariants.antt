@@ -1,5 +1,5 @@
-use Rattle.gs_state.specs.State.{all_ended_by, ended_by}
-use Rattle.gs_master.specs.Turns.{GoesBack, state_at}
+use Rattle.gs_master_spec.specs.State.{all_ended_by, ended_by}
+use Rattle.gs_master.specs.inner.Turns.{GoesBack, state_at}
 use Rattle.gs_master.proofs.Composing.{LeadsOn, rest_of}
 use Rattle.gs_master.proofs.event.Event.end_all_by.Given as goal
 

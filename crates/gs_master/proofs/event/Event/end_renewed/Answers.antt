@@ -2,11 +2,11 @@ use Rattle.std.proofs.Common.{◌≡◌, ◌<◌, ◌∙◌, ◌∷◌, [], ap, 
 use Rattle.std.proofs.lemmas.List.{length-map}
 use Rattle.gs_journal.specs.Journal.{IsOldOrNew, checkpointed}
 use Rattle.gs_journal.specs.Records.{standing}
-use Rattle.gs_record.specs.Plain.{Whole, plain}
+use Rattle.gs_master_record.specs.Plain.{Whole, plain}
 use Rattle.gs_master.specs.Journaled.{Breaks, Gains, IsReadyFor, stood_before}
-use Rattle.gs_state.specs.Plans.{log_of}
-use Rattle.gs_state.specs.Recorded.{durable_of}
-use Rattle.gs_state.specs.Whole.{checkpoint_of}
+use Rattle.gs_master_state.specs.inner.Plans.{log_of}
+use Rattle.gs_master_state.specs.inner.Recorded.{durable_of}
+use Rattle.gs_master_spec.specs.Whole.{checkpoint_of}
 use Rattle.gs_master.proofs.Appending.{seen_behind}
 use Rattle.gs_master.proofs.Leading.{ready}
 use Rattle.gs_master.proofs.Renewals.{Stood, breaks_last, cut_before, log_renewed, renews}

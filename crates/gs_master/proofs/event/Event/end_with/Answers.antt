@@ -1,6 +1,6 @@
 use Rattle.std.proofs.Common.{ap, subst, sym, ◌∙◌}
-use Rattle.gs_state.specs.Settling.{end_plan}
-use Rattle.gs_master.specs.Turns.{ComesWithOthers, state_at}
+use Rattle.gs_master_spec.specs.Settling.{end_plan}
+use Rattle.gs_master.specs.inner.Turns.{ComesWithOthers, state_at}
 use Rattle.gs_master.proofs.Together.{ended_together}
 use Rattle.gs_master.proofs.event.Event.end_with.Goals as goal
 

@@ -2,9 +2,9 @@ use Rattle.std.proofs.Common.{◌≡◌, ◌∙◌, ◌∷◌, ap, arith, length
 use Rattle.std.proofs.lemmas.List.{nil_from_length}
 use Rattle.std.specs.Prelude.{Err, Ok, vec_len}
 use Rattle.std.specs.List.{list_any}
-use Rattle.gs_record.specs.Plain.{plain}
-use Rattle.gs_state.specs.TakingBack.{comes_alone}
-use Rattle.gs_master.specs.Turns.{AreEntered, EntersAll, WhyNotAll}
+use Rattle.gs_master_record.specs.Plain.{plain}
+use Rattle.gs_master_state.specs.inner.TakingBack.{comes_alone}
+use Rattle.gs_master.specs.inner.Turns.{AreEntered, EntersAll, WhyNotAll}
 use Rattle.gs_master.specs.declared.event.Event.{Event}
 use Rattle.gs_master.proofs.Entered.{alone_first, enters_behind, enters_none, goes_back_here, goes_back_on, stepped_back, why_not_first}
 use Rattle.gs_master.proofs.event.Event.enter_all.Goals as goal

@@ -2,9 +2,9 @@ use Rattle.std.proofs.Common.{◌≡◌, false, length}
 use Rattle.std.specs.Prelude.{map, Result}
 use Rattle.std.specs.List.{list_any}
 use Rattle.gs_base.specs.declared.refusal.Refusal.{Refusal}
-use Rattle.gs_record.specs.Plain.{plain}
-use Rattle.gs_state.specs.TakingBack.{comes_alone}
-use Rattle.gs_master.specs.Turns.{EntersAll, GoesBack}
+use Rattle.gs_master_record.specs.Plain.{plain}
+use Rattle.gs_master_state.specs.inner.TakingBack.{comes_alone}
+use Rattle.gs_master.specs.inner.Turns.{EntersAll, GoesBack}
 use Rattle.gs_master.specs.declared.event.Event.{Event}
 use Rattle.gs_master.proofs.event.Event.enter_all.Given as goal
 

@@ -1,8 +1,8 @@
 use Rattle.std.proofs.Common.{◌≢◌, inl, inr, ap, refl, subst, sym}
 use Rattle.gs_base.specs.declared.refusal.Refusal.TheVariants as refusals
-use Rattle.gs_record.specs.Plain.{Edited, plain_edit}
-use Rattle.gs_record.specs.declared.entry.Entry.{Entry}
-use Rattle.gs_master.specs.Events.{CantEnter, EntersEdit, IsAsBefore, WhyNot}
+use Rattle.gs_master_record.specs.Plain.{Edited, plain_edit}
+use Rattle.gs_master_record.specs.declared.entry.Entry.{Entry}
+use Rattle.gs_master.specs.inner.Events.{CantEnter, EntersEdit, IsAsBefore, WhyNot}
 use Rattle.gs_master.specs.declared.event.Event.{Event}
 use Rattle.gs_master.proofs.Leading.{Enter, entered_keeps, is_entered, unmade_keeps}
 use Rattle.gs_master.proofs.event.Event.enter_edit.Goals as goal

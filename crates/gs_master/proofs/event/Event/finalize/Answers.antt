@@ -1,8 +1,8 @@
 use Rattle.std.proofs.Common.{[], ◌∷◌, ◌+◌, ap, refl, subst, sym, ◌∙◌}
 use Rattle.gs_base.specs.declared.epoch.EpochEnd.TheVariants as ends
-use Rattle.gs_record.specs.Plain.{Finalize}
-use Rattle.gs_master.specs.Turns.{ComesWithOthers, state_at}
-use Rattle.gs_state.specs.Upgrades.{accepted_plan, tell_all}
+use Rattle.gs_master_record.specs.Plain.{Finalize}
+use Rattle.gs_master.specs.inner.Turns.{ComesWithOthers, state_at}
+use Rattle.gs_master_spec.specs.Upgrades.{accepted_plan, tell_all}
 use Rattle.gs_master.proofs.Accepting.{accepted_together}
 use Rattle.gs_master.proofs.event.Event.finalize.Goals as goal
 

@@ -1,8 +1,8 @@
 use Rattle.std.proofs.Common.{◌∙◌, ◌⊎◌, ℕ, ap, subst, sym}
-use Rattle.gs_master.specs.Events.{HasComeFrom}
-use Rattle.gs_state.specs.Plans.{log_of}
-use Rattle.gs_state.specs.Recorded.{durable_of}
-use Rattle.gs_master.specs.Renewing.{AreCutAnew, AreRenewed}
+use Rattle.gs_master.specs.inner.Events.{HasComeFrom}
+use Rattle.gs_master_state.specs.inner.Plans.{log_of}
+use Rattle.gs_master_state.specs.inner.Recorded.{durable_of}
+use Rattle.gs_master.specs.inner.Renewing.{AreCutAnew, AreRenewed}
 use Rattle.gs_master.proofs.Finished.{came_from, came_where, renewed_over, rests_over}
 use Rattle.gs_master.proofs.Renewed.{finished_anew}
 use Rattle.gs_master.proofs.event.Event.finish_renewed.Goals as goal

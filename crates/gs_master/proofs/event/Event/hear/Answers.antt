@@ -1,8 +1,8 @@
 use Rattle.std.proofs.Common.{rules, subst}
-use Rattle.gs_state.specs.Hearing.{ask_plan, stepped}
-use Rattle.gs_state.specs.Plans.{plan_of}
-use Rattle.gs_state.specs.State.{State, and_then, turned}
-use Rattle.gs_master.specs.Turns.{Steps, WhyNotTurned, state_at}
+use Rattle.gs_master_spec.specs.Hearing.{ask_plan, stepped}
+use Rattle.gs_master_state.specs.inner.Plans.{plan_of}
+use Rattle.gs_master_spec.specs.State.{State, and_then, turned}
+use Rattle.gs_master.specs.inner.Turns.{EventSteps, WhyNotTurned, state_at}
 use Rattle.gs_master.proofs.Composing.{steps_and, why_not_and}
 use Rattle.gs_master.proofs.Entered.{goes_back_on}
 use Rattle.gs_master.proofs.event.Event.hear.Goals as goal
@@ -19,7 +19,7 @@ pub returns-clause-steps : goal.returns-clause-steps
 returns-clause-steps c = λ known.
     let s = state_at c.args.self.now in
     let next = λ (x : State). stepped x c.args.chunk known c.args.asking.now c.args.carried c.args.moment c.args.step in
-    subst (λ p. Steps (and_then (turned s p) next) c.args.self.now c.step.result c.step.new.self) c.in_ok-plan.ensures
+    subst (λ p. EventSteps (and_then (turned s p) next) c.args.self.now c.step.result c.step.new.self) c.in_ok-plan.ensures
     (steps_and (turned s (plan_of c.in_ok-plan.plan)) next c.args.self.now c.carry_out.new.self _ _ c.in_ok-carry_out.ensures.steps (c.step.ensures.steps known))
 
 pub returns-clause-back : goal.returns-clause-back

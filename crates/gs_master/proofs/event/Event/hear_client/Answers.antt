@@ -6,14 +6,14 @@ use Rattle.gs_base.specs.declared.refusal.Refusal.TheVariants as refusals
 use Rattle.gs_msg.specs.declared.body.Body.{Body}
 use Rattle.gs_msg.specs.declared.body.Body.TheVariants as bodies
 use Rattle.gs_msg.specs.declared.call.Call.{Call}
-use Rattle.gs_state.specs.Handling.{from_client}
-use Rattle.gs_state.specs.State.{State, met_by}
-use Rattle.gs_master.specs.Turns.{Steps, state_at}
+use Rattle.gs_master_spec.specs.Handling.{from_client}
+use Rattle.gs_master_spec.specs.State.{State, met_by}
+use Rattle.gs_master.specs.inner.Turns.{EventSteps, state_at}
 use Rattle.gs_master.proofs.event.Event.hear_client.Goals as goal
 
 pub returns-in_default : goal.returns-in_default
 returns-in_default c = record {
-  steps = subst (λ t. Steps t c.args.self.now c.meet_stray.result c.meet_stray.new.self)
+  steps = subst (λ t. EventSteps t c.args.self.now c.meet_stray.result c.meet_stray.new.self)
       (sym (stray c.args.config.now (state_at c.args.self.now) c.args.moment c.args.said (λ req call is. c.in_default.not-Call req call is))) c.meet_stray.ensures.steps;
   back = c.meet_stray.ensures.back;
 }

@@ -1,6 +1,6 @@
 use Rattle.std.proofs.Common.{subst, sym}
-use Rattle.gs_record.specs.Plain.{plain_edit}
-use Rattle.gs_master.specs.Turns.{ComesWithOthers}
+use Rattle.gs_master_record.specs.Plain.{plain_edit}
+use Rattle.gs_master.specs.inner.Turns.{ComesWithOthers}
 use Rattle.gs_master.proofs.Accepting.{accept_together}
 use Rattle.gs_master.proofs.event.Event.judge_edit.Goals as goal
 

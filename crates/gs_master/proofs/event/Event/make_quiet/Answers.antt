@@ -1,7 +1,7 @@
 use Rattle.std.proofs.Common.{◌≡◌, ◌+◌, ◌*◌, true, false, length, rules, subst, sym}
 use Rattle.std.specs.Prelude.{nat_le}
-use Rattle.gs_state.specs.Beginning.{has_versions}
-use Rattle.gs_master.specs.Turns.{IsTurned, Steps, state_at}
+use Rattle.gs_master_spec.specs.Beginning.{has_versions}
+use Rattle.gs_master.specs.inner.Turns.{IsTurned, EventSteps, state_at}
 use Rattle.gs_master.proofs.Composing.{unmoved_stays}
 use Rattle.gs_master.proofs.Proposals.{quiet_with_room, quiet_without_room}
 use Rattle.gs_master.proofs.event.Event.make_quiet.Goals as goal
@@ -19,4 +19,4 @@ returns-clause-steps c =
     let many = c.args.many.now in
     let left : has_versions s.durable (length many) ≡ true = search rules in
     let room : nat_le (s.log.size + length many * 22) s.log.limit ≡ true = search rules in
-    subst (λ t. Steps t c.args.self.now c.begin_all.result c.begin_all.new.self) (sym (quiet_with_room s many left room)) c.begin_all.ensures.steps
+    subst (λ t. EventSteps t c.args.self.now c.begin_all.result c.begin_all.new.self) (sym (quiet_with_room s many left room)) c.begin_all.ensures.steps

@@ -1,7 +1,7 @@
 use Rattle.std.proofs.Common.{[], ◌∷◌, false, ap, refl, subst, sym, ◌∙◌}
-use Rattle.gs_master.specs.Turns.{ComesWithOthers, state_at}
-use Rattle.gs_state.specs.Upgrades.{accepted_plan}
-use Rattle.gs_state.specs.declared.change.Change.TheVariants as changes
+use Rattle.gs_master.specs.inner.Turns.{ComesWithOthers, state_at}
+use Rattle.gs_master_spec.specs.Upgrades.{accepted_plan}
+use Rattle.gs_master_spec.specs.declared.change.Change.TheVariants as changes
 use Rattle.gs_master.proofs.Accepting.{accepted_together}
 use Rattle.gs_master.proofs.event.Event.prepare_abort.Goals as goal
 

@@ -3,12 +3,12 @@ use Rattle.std.specs.Prelude.{List, nat_le}
 use Rattle.gs_base.specs.declared.refusal.Refusal.{Refusal}
 use Rattle.gs_base.specs.declared.refusal.Refusal.TheVariants as refusals
 use Rattle.gs_lease.specs.declared.view.Purpose.TheVariants as purposes
-use Rattle.gs_state.specs.Beginning.{all_begun, has_versions}
-use Rattle.gs_state.specs.Plans.{plan_of}
-use Rattle.gs_state.specs.State.{Plan, State, Turn, first_of, refused, turned}
-use Rattle.gs_master.specs.Turns.{ComesWithOthers, IsTurned, Steps, WhyNotTurned, state_at}
-use Rattle.gs_state.specs.Upgrades.{accepted_plan, all_unquiet, begin_tests, prepare_begin, unless}
-use Rattle.gs_state.specs.declared.change.Change.TheVariants as changes
+use Rattle.gs_master_spec.specs.Beginning.{all_begun, has_versions}
+use Rattle.gs_master_state.specs.inner.Plans.{plan_of}
+use Rattle.gs_master_spec.specs.State.{Plan, State, Turn, first_of, refused, turned}
+use Rattle.gs_master.specs.inner.Turns.{ComesWithOthers, IsTurned, EventSteps, WhyNotTurned, state_at}
+use Rattle.gs_master_spec.specs.Upgrades.{accepted_plan, all_unquiet, begin_tests, prepare_begin, unless}
+use Rattle.gs_master_spec.specs.declared.change.Change.TheVariants as changes
 use Rattle.gs_master.proofs.Accepting.{accepted_together}
 use Rattle.gs_master.proofs.Anew.{back_at, goes_back_from, steps_from}
 use Rattle.gs_master.proofs.Entered.{goes_back_on}
@@ -28,7 +28,7 @@ returns-in-Some-clause-steps c =
     let counted : c.len.result ≡ length c.in_ok-chunks.chunks.items = search rules in
     let many = counted ∙ ap length found in
     let judged : Some c.in-Some.refusal ≡ first_of (tests s (length (all_unquiet s))) = sym c.in-Some.is ∙ c.in_ok-judged.ensures ∙ (λ i. first_of (tests (c.standing-2.ensures i) (many i))) in
-    subst (λ judged. Steps (unless judged s c.args.req (begins s c.args.req)) c.args.self.now c.refuse.result c.refuse.new.self) judged c.refuse.ensures.steps
+    subst (λ judged. EventSteps (unless judged s c.args.req (begins s c.args.req)) c.args.self.now c.refuse.result c.refuse.new.self) judged c.refuse.ensures.steps
 
 pub returns-then-not-has_room_for_proposals-clause-steps : goal.returns-then-not-has_room_for_proposals-clause-steps
 returns-then-not-has_room_for_proposals-clause-steps c =
@@ -46,8 +46,8 @@ returns-then-not-has_room_for_proposals-clause-steps c =
     let none : nat_le ((all_given_up s).after.log.size + length (all_unquiet s) * 22) (all_given_up s).after.log.limit ≡ false =
     sym (λ i. nat_le ((given.after i).log.size + ((again ∙ ap length found) i) * 22) (given.after i).log.limit) ∙ sym c.has_room_for_proposals.ensures ∙ tested in
     let at = back_at c.beginning-beginning.result first mid back c.beginning-beginning.ensures c.requires.begun c.give_up_all.ensures.back c.start_over.ensures in
-    let full : Steps (refused s c.args.req refusals.Full) back c.refuse-then-not-has_room_for_proposals.result c.refuse-then-not-has_room_for_proposals.new.self = subst (λ t. Steps (refused t c.args.req refusals.Full) back c.refuse-then-not-has_room_for_proposals.result c.refuse-then-not-has_room_for_proposals.new.self) at.state c.refuse-then-not-has_room_for_proposals.ensures.steps in
-    subst (λ (t : Turn). Steps t first c.refuse-then-not-has_room_for_proposals.result c.refuse-then-not-has_room_for_proposals.new.self) (sym (prepare_by_room s c.args.req judged false none))
+    let full : EventSteps (refused s c.args.req refusals.Full) back c.refuse-then-not-has_room_for_proposals.result c.refuse-then-not-has_room_for_proposals.new.self = subst (λ t. EventSteps (refused t c.args.req refusals.Full) back c.refuse-then-not-has_room_for_proposals.result c.refuse-then-not-has_room_for_proposals.new.self) at.state c.refuse-then-not-has_room_for_proposals.ensures.steps in
+    subst (λ (t : Turn). EventSteps t first c.refuse-then-not-has_room_for_proposals.result c.refuse-then-not-has_room_for_proposals.new.self) (sym (prepare_by_room s c.args.req judged false none))
     (steps_from first back c.requires.begun c.start_over.ensures.begun at (refused s c.args.req refusals.Full) c.refuse-then-not-has_room_for_proposals.result c.refuse-then-not-has_room_for_proposals.new.self full)
 
 pub returns-then-not-has_room_for_proposals-clause-back : goal.returns-then-not-has_room_for_proposals-clause-back
@@ -102,9 +102,9 @@ returns-clause-steps c =
     let asked = subst (λ chunks. IsTurned (all_begun (state_at mid) chunks purposes.Quiet None) mid behind) (c.deref.ensures.value ∙ found) c.in_ok-begin_all.ensures.steps in
     let told : plan_of c.in_ok-told.told ≡ accepted_plan (state_at behind) c.args.req [] (changes.Prepare true ∷ []) [] s.durable.epoch =
     c.in_ok-told.ensures ∙ ap (λ t. accepted_plan t c.args.req [] (changes.Prepare true ∷ []) [] s.durable.epoch) c.standing-3.ensures in
-    let done : Steps (beginning_told s c.args.req (state_at behind)) behind c.carry_out.result c.carry_out.new.self =
-    subst (λ (p : Plan). Steps (turned (state_at behind) p) behind c.carry_out.result c.carry_out.new.self) told c.carry_out.ensures.steps in
-    subst (λ (t : Turn). Steps t first c.carry_out.result c.carry_out.new.self) (sym (prepare_by_room s c.args.req judged true room))
+    let done : EventSteps (beginning_told s c.args.req (state_at behind)) behind c.carry_out.result c.carry_out.new.self =
+    subst (λ (p : Plan). EventSteps (turned (state_at behind) p) behind c.carry_out.result c.carry_out.new.self) told c.carry_out.ensures.steps in
+    subst (λ (t : Turn). EventSteps t first c.carry_out.result c.carry_out.new.self) (sym (prepare_by_room s c.args.req judged true room))
     (third_steps (all_given_up s) (all_asked s) (beginning_told s c.args.req) first mid behind c.carry_out.new.self c.carry_out.result given asked done)
 
 pub returns-clause-back : goal.returns-clause-back

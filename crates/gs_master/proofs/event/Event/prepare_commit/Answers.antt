@@ -1,9 +1,9 @@
 use Rattle.std.proofs.Common.{[], ◌∷◌, ◌+◌, false, ap, refl, subst, sym, ◌∙◌}
 use Rattle.gs_base.specs.declared.epoch.EpochEnd.TheVariants as ends
-use Rattle.gs_record.specs.Plain.{Prepare}
-use Rattle.gs_master.specs.Turns.{ComesWithOthers, state_at}
-use Rattle.gs_state.specs.Upgrades.{accepted_plan, chunk_count, tell_all}
-use Rattle.gs_state.specs.declared.change.Change.TheVariants as changes
+use Rattle.gs_master_record.specs.Plain.{Prepare}
+use Rattle.gs_master.specs.inner.Turns.{ComesWithOthers, state_at}
+use Rattle.gs_master_spec.specs.Upgrades.{accepted_plan, chunk_count, tell_all}
+use Rattle.gs_master_spec.specs.declared.change.Change.TheVariants as changes
 use Rattle.gs_master.proofs.Accepting.{accepted_together}
 use Rattle.gs_master.proofs.event.Event.prepare_commit.Goals as goal
 

@@ -1,7 +1,7 @@
 use Rattle.std.proofs.Common.{rules}
-use Rattle.gs_state.specs.Handling.{pressed}
-use Rattle.gs_state.specs.State.{for_each}
-use Rattle.gs_master.specs.Turns.{WhyNotTurned, state_at}
+use Rattle.gs_master_spec.specs.Handling.{pressed}
+use Rattle.gs_master_spec.specs.State.{for_each}
+use Rattle.gs_master.specs.inner.Turns.{WhyNotTurned, state_at}
 use Rattle.gs_master.proofs.Composing.{item_further, item_refused, none_left}
 use Rattle.gs_master.proofs.Entered.{goes_back_on}
 use Rattle.gs_master.proofs.event.Event.press_each.Goals as goal

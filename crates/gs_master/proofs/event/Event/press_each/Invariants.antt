@@ -1,6 +1,6 @@
-use Rattle.gs_state.specs.Handling.{pressed}
-use Rattle.gs_state.specs.State.{for_each}
-use Rattle.gs_master.specs.Turns.{GoesBack, state_at}
+use Rattle.gs_master_spec.specs.Handling.{pressed}
+use Rattle.gs_master_spec.specs.State.{for_each}
+use Rattle.gs_master.specs.inner.Turns.{GoesBack, state_at}
 use Rattle.gs_master.proofs.Composing.{LeadsOn, rest_of}
 use Rattle.gs_master.proofs.event.Event.press_each.Given as goal
 

@@ -1,12 +1,12 @@
 use Rattle.std.proofs.Common.{◌≡◌, ◌∙◌, true, false, ap, map, refl, rules, subst, sym}
 use Rattle.std.specs.List.{list_any}
 use Rattle.gs_base.specs.declared.refusal.Refusal.TheVariants as refusals
-use Rattle.gs_record.specs.Plain.{plain}
-use Rattle.gs_state.specs.Applied.{is_whole_entry}
-use Rattle.gs_state.specs.Plans.{plan_of}
-use Rattle.gs_state.specs.Settling.{leased_next, replace_plan}
-use Rattle.gs_state.specs.State.{Plan, ended_by, fits, turned}
-use Rattle.gs_master.specs.Turns.{state_at}
+use Rattle.gs_master_record.specs.Plain.{plain}
+use Rattle.gs_master_spec.specs.Applied.{is_whole_entry}
+use Rattle.gs_master_state.specs.inner.Plans.{plan_of}
+use Rattle.gs_master_spec.specs.Settling.{leased_next, replace_plan}
+use Rattle.gs_master_spec.specs.State.{Plan, ended_by, fits, turned}
+use Rattle.gs_master.specs.inner.Turns.{state_at}
 use Rattle.gs_master.proofs.Composing.{steps_and, why_not_and}
 use Rattle.gs_master.proofs.Ends.{refused_with_room, steps_with_room}
 use Rattle.gs_master.proofs.Entered.{goes_back_on}

@@ -1,5 +1,5 @@
 use Rattle.std.proofs.Common.{◌∙◌, inl, inr, map, refl, subst, sym}
-use Rattle.gs_record.specs.Plain.{plain}
+use Rattle.gs_master_record.specs.Plain.{plain}
 use Rattle.gs_master.specs.Recovering.{WhyNotRecovered}
 use Rattle.gs_master.proofs.Recoveries.{IsRead, not_opened, not_rested, opened, read_of, stays_open, version_is}
 use Rattle.gs_master.proofs.event.Event.recover.Goals as goal

@@ -1,8 +1,8 @@
 use Rattle.std.proofs.Common.{ap, ◌∙◌}
-use Rattle.gs_record.specs.Plain.{Snapshot}
-use Rattle.gs_state.specs.Recorded.{durable_of}
-use Rattle.gs_state.specs.Trying.{of_tree, refusal_of}
-use Rattle.gs_state.specs.Undoing.{edited_names}
+use Rattle.gs_master_record.specs.Plain.{Snapshot}
+use Rattle.gs_master_state.specs.inner.Recorded.{durable_of}
+use Rattle.gs_master_state.specs.inner.Trying.{of_tree, refusal_of}
+use Rattle.gs_master_spec.specs.Undoing.{edited_names}
 use Rattle.gs_master.proofs.Copies.{by_tree}
 use Rattle.gs_master.proofs.event.Event.refusal_of_copy.Goals as goal
 

@@ -1,7 +1,7 @@
 use Rattle.std.proofs.Common.{[], ap, subst, sym, ◌∙◌}
 use Rattle.std.specs.Prelude.{Some}
-use Rattle.gs_state.specs.State.{refusal_plan}
-use Rattle.gs_master.specs.Turns.{ComesWithOthers, state_at}
+use Rattle.gs_master_spec.specs.State.{refusal_plan}
+use Rattle.gs_master.specs.inner.Turns.{ComesWithOthers, state_at}
 use Rattle.gs_master.proofs.Together.{refused_together}
 use Rattle.gs_master.proofs.event.Event.refuse.Goals as goal
 

@@ -2,13 +2,13 @@ use Rattle.std.proofs.Common.{◌≡◌, ◌∙◌, ◌+◌, [], None, true, fal
 use Rattle.std.specs.List.{list_any}
 use Rattle.gs_base.specs.declared.epoch.EpochEnd.TheVariants as ends
 use Rattle.gs_base.specs.declared.refusal.Refusal.TheVariants as refusals
-use Rattle.gs_record.specs.Plain.{plain}
-use Rattle.gs_state.specs.Applied.{is_whole_entry}
-use Rattle.gs_state.specs.Plans.{plan_of}
-use Rattle.gs_state.specs.Settling.{requests_of}
-use Rattle.gs_state.specs.State.{Plan, Turn, all_ended_by, first_of, fits, turned}
-use Rattle.gs_master.specs.Turns.{ComesWithOthers, IsTurned, Steps, WhyNotTurned, state_at}
-use Rattle.gs_state.specs.Upgrades.{accepted_plan, end_tests, is_last_epoch, rollback_begin, tell_all}
+use Rattle.gs_master_record.specs.Plain.{plain}
+use Rattle.gs_master_spec.specs.Applied.{is_whole_entry}
+use Rattle.gs_master_state.specs.inner.Plans.{plan_of}
+use Rattle.gs_master_spec.specs.Settling.{requests_of}
+use Rattle.gs_master_spec.specs.State.{Plan, Turn, all_ended_by, first_of, fits, turned}
+use Rattle.gs_master.specs.inner.Turns.{ComesWithOthers, IsTurned, EventSteps, WhyNotTurned, state_at}
+use Rattle.gs_master_spec.specs.Upgrades.{accepted_plan, end_tests, is_last_epoch, rollback_begin, tell_all}
 use Rattle.gs_master.proofs.Accepting.{accepted_together}
 use Rattle.gs_master.proofs.Entered.{goes_back_on}
 use Rattle.gs_master.proofs.Sparing.{all_rolled, first_refused, rollback_by_room, rollback_plan, rollback_together, rollback_told, second_refused, third_steps}
@@ -38,7 +38,7 @@ returns-then-not-branch-clause-steps c =
     let tested : c.in_ok-fits.field-0 ≡ false = search rules in
     let none : fits s.log made.records ≡ false = ap (λ records. fits s.log (map plain records)) (sym c.deref.ensures.value) ∙ sym c.in_ok-fits.ensures ∙ tested in
     let by_room = rollback_by_room config s c.args.req made same judged false none in
-    subst (λ (t : Turn). Steps t c.args.self.now c.refuse-then-not-branch.result c.refuse-then-not-branch.new.self) (sym by_room) c.refuse-then-not-branch.ensures.steps
+    subst (λ (t : Turn). EventSteps t c.args.self.now c.refuse-then-not-branch.result c.refuse-then-not-branch.new.self) (sym by_room) c.refuse-then-not-branch.ensures.steps
 
 pub returns-in_err-carry_out-clause-steps : goal.returns-in_err-carry_out-clause-steps
 returns-in_err-carry_out-clause-steps c =
@@ -102,9 +102,9 @@ returns-clause-steps c =
     let sent = tell_all config (s.durable.epoch + 1) ends.Rollback in
     let told : plan_of c.in_ok-told.told ≡ accepted_plan (state_at behind) c.args.req [] [] sent (s.durable.epoch + 1) =
     c.in_ok-told.ensures ∙ ap (λ t. accepted_plan t c.args.req [] [] sent (s.durable.epoch + 1)) c.standing-3.ensures in
-    let done : Steps (rollback_told config s c.args.req (state_at behind)) behind c.carry_out-2.result last =
-    subst (λ (p : Plan). Steps (turned (state_at behind) p) behind c.carry_out-2.result last) told c.carry_out-2.ensures.steps in
-    subst (λ (t : Turn). Steps t c.args.self.now c.carry_out-2.result last) (sym (rollback_by_room config s c.args.req made same judged true fit))
+    let done : EventSteps (rollback_told config s c.args.req (state_at behind)) behind c.carry_out-2.result last =
+    subst (λ (p : Plan). EventSteps (turned (state_at behind) p) behind c.carry_out-2.result last) told c.carry_out-2.ensures.steps in
+    subst (λ (t : Turn). EventSteps t c.args.self.now c.carry_out-2.result last) (sym (rollback_by_room config s c.args.req made same judged true fit))
     (third_steps (turned s made) (all_rolled s) (rollback_told config s c.args.req) c.args.self.now mid behind last c.carry_out-2.result c.in_ok-carry_out.ensures.steps ended done)
 
 pub returns-clause-back : goal.returns-clause-back

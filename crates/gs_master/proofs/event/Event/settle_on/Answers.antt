@@ -1,12 +1,12 @@
 use Rattle.std.proofs.Common.{◌≡◌, ◌∙◌, true, ap, map, rules, subst, sym}
 use Rattle.gs_base.specs.declared.refusal.Refusal.TheVariants as refusals
-use Rattle.gs_record.specs.Plain.{plain}
-use Rattle.gs_state.specs.Chunks.{settling}
-use Rattle.gs_state.specs.Durable.{prepared_view}
-use Rattle.gs_state.specs.Plans.{plan_of}
-use Rattle.gs_state.specs.Settling.{all_go_on, all_refused, concerned, settle_plan}
-use Rattle.gs_state.specs.State.{Plan, State, fits, turned}
-use Rattle.gs_master.specs.Turns.{Steps, state_at}
+use Rattle.gs_master_record.specs.Plain.{plain}
+use Rattle.gs_master_spec.specs.Chunks.{settling}
+use Rattle.gs_master_spec.specs.Durable.{prepared_view}
+use Rattle.gs_master_state.specs.inner.Plans.{plan_of}
+use Rattle.gs_master_spec.specs.Settling.{all_go_on, all_refused, concerned, settle_plan}
+use Rattle.gs_master_spec.specs.State.{Plan, State, fits, turned}
+use Rattle.gs_master.specs.inner.Turns.{EventSteps, state_at}
 use Rattle.gs_master.proofs.Composing.{steps_and, why_not_and}
 use Rattle.gs_master.proofs.Ends.{refused_with_room, steps_with_room}
 use Rattle.gs_master.proofs.Entered.{goes_back_on}
@@ -42,8 +42,8 @@ returns-clause-steps c =
     let room : fits s.log records ≡ true =
     ap (λ (p : Plan). fits s.log p.records) (sym same) ∙ ap (λ more. fits s.log (map plain more)) (sym c.deref.ensures.value) ∙ sym c.in_ok-fits.ensures ∙ tested in
     let calls : c.deref-2.result.now ≡ concerned s c.args.chunk asking.call = c.deref-2.ensures.value ∙ c.in_ok-calls.ensures ∙ ap (λ x. concerned x c.args.chunk asking.call) c.standing-2.ensures in
-    let then : Steps (next (state_at c.carry_out.new.self)) c.carry_out.new.self c.all_go_on.result c.all_go_on.new.self =
-    subst (λ those. Steps (all_go_on view those (state_at c.carry_out.new.self)) c.carry_out.new.self c.all_go_on.result c.all_go_on.new.self) calls c.all_go_on.ensures.steps in
+    let then : EventSteps (next (state_at c.carry_out.new.self)) c.carry_out.new.self c.all_go_on.result c.all_go_on.new.self =
+    subst (λ those. EventSteps (all_go_on view those (state_at c.carry_out.new.self)) c.carry_out.new.self c.all_go_on.result c.all_go_on.new.self) calls c.all_go_on.ensures.steps in
     steps_with_room s (plan_of c.in_ok-plan.plan) plan next (all_refused s c.args.chunk asking.call refusals.Full) same room c.args.self.now _ _
     (steps_and (turned s (plan_of c.in_ok-plan.plan)) next c.args.self.now c.carry_out.new.self _ _ c.in_ok-carry_out.ensures.steps then)
 

@@ -3,13 +3,13 @@ use Rattle.std.specs.List.{list_any}
 use Rattle.gs_base.specs.declared.refusal.Refusal.TheVariants as refusals
 use Rattle.gs_msg.specs.declared.answer.Answer.{Answer}
 use Rattle.gs_msg.specs.declared.answer.Answer.TheVariants as answers
-use Rattle.gs_record.specs.Plain.{plain}
-use Rattle.gs_state.specs.Applied.{is_whole_entry}
-use Rattle.gs_state.specs.Calls.{answered_with}
-use Rattle.gs_state.specs.Plans.{plan_of}
-use Rattle.gs_state.specs.State.{all_ended_by, fits}
-use Rattle.gs_master.specs.Turns.{ComesWithOthers, IsTurned, Steps, WhyNotTurned, state_at}
-use Rattle.gs_state.specs.Working.{scanned, waiting_for}
+use Rattle.gs_master_record.specs.Plain.{plain}
+use Rattle.gs_master_spec.specs.Applied.{is_whole_entry}
+use Rattle.gs_master_spec.specs.Calls.{answered_with}
+use Rattle.gs_master_state.specs.inner.Plans.{plan_of}
+use Rattle.gs_master_spec.specs.State.{all_ended_by, fits}
+use Rattle.gs_master.specs.inner.Turns.{ComesWithOthers, IsTurned, EventSteps, WhyNotTurned, state_at}
+use Rattle.gs_master_spec.specs.Working.{scanned, waiting_for}
 use Rattle.gs_master.proofs.Entered.{goes_back_on}
 use Rattle.gs_master.proofs.Sweeps.{answered_last, ends_refused, records_refused, scan_together, without_room}
 use Rattle.gs_master.proofs.Together.{no_checkpoint}
@@ -73,8 +73,8 @@ returns-clause-steps c =
     let ended = subst (λ calls. IsTurned (all_ended_by (state_at mid) calls refusals.NoReplica) mid last) reqs c.in_ok-end_all_by.ensures.steps in
     let many : c.len-removals.result ≡ length removed = search rules in
     let chunks : c.len-chunks.result ≡ length forgotten = search rules in
-    let done : Steps (answered_with (state_at last) c.args.req (answers.Scanned (length removed) (length forgotten))) last c.answer.result c.answer.new.self =
-    subst (λ (a : Answer). Steps (answered_with (state_at last) c.args.req a) last c.answer.result c.answer.new.self) (λ i. answers.Scanned (many i) (chunks i)) c.answer.ensures.steps in
+    let done : EventSteps (answered_with (state_at last) c.args.req (answers.Scanned (length removed) (length forgotten))) last c.answer.result c.answer.new.self =
+    subst (λ (a : Answer). EventSteps (answered_with (state_at last) c.args.req a) last c.answer.result c.answer.new.self) (λ i. answers.Scanned (many i) (chunks i)) c.answer.ensures.steps in
     answered_last s c.args.req removed forgotten made c.in_ok-plan.ensures fit c.args.self.now mid last c.answer.new.self c.answer.result c.in_ok-carry_out.ensures.steps ended done
 
 pub returns-clause-back : goal.returns-clause-back

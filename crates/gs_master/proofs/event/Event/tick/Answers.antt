@@ -1,6 +1,6 @@
-use Rattle.gs_state.specs.Handling.{granted, pressed, proposals}
-use Rattle.gs_state.specs.State.{for_each}
-use Rattle.gs_master.specs.Turns.{state_at}
+use Rattle.gs_master_spec.specs.Handling.{granted, pressed, proposals}
+use Rattle.gs_master_spec.specs.State.{for_each}
+use Rattle.gs_master.specs.inner.Turns.{state_at}
 use Rattle.gs_master.proofs.Composing.{steps_and}
 use Rattle.gs_master.proofs.Entered.{goes_back_on}
 use Rattle.gs_master.proofs.event.Event.tick.Goals as goal

@@ -1,6 +1,6 @@
 use Rattle.std.proofs.Common.{◌∙◌, ap, inl, inr, refl, sym}
-use Rattle.gs_state.specs.Recorded.{durable_of}
-use Rattle.gs_plan.specs.Renewable.{renewal_refusal}
+use Rattle.gs_master_state.specs.inner.Recorded.{durable_of}
+use Rattle.gs_master_plan.specs.Renewable.{renewal_refusal}
 use Rattle.gs_master.proofs.Ended.{comes_from_itself}
 use Rattle.gs_master.proofs.Recoveries.{cut_anew, whole_anew}
 use Rattle.gs_master.proofs.event.Event.write_anew.Goals as goal

@@ -1,10 +1,10 @@
 use Rattle.std.proofs.Common.{inl, inr, refl, subst, sym}
 use Rattle.std.specs.Prelude.{Err, Ok}
-use Rattle.gs_plan.proofs.Renewals.{none_beforehand}
-use Rattle.gs_plan.specs.Renewable.{IsRenewalOf, MakesRenewal}
-use Rattle.gs_state.specs.State.{unmoved}
+use Rattle.gs_master_plan.proofs.Renewals.{none_beforehand}
+use Rattle.gs_master_plan.specs.Renewable.{IsRenewalOf, MakesRenewal}
+use Rattle.gs_master_spec.specs.State.{unmoved}
 use Rattle.gs_master.specs.Ticking.{AnswersCheckpoint}
-use Rattle.gs_master.specs.Turns.{state_at}
+use Rattle.gs_master.specs.inner.Turns.{state_at}
 use Rattle.gs_master.proofs.Composing.{unmoved_stays}
 use Rattle.gs_master.proofs.Entered.{goes_back_here}
 use Rattle.gs_master.proofs.Finished.{ready_at_rest}

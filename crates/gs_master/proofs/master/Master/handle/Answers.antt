@@ -1,8 +1,8 @@
 use Rattle.std.proofs.Common.{subst}
-use Rattle.gs_state.specs.Handling.{handle}
-use Rattle.gs_master.specs.Masters.{Answers}
-use Rattle.gs_state.specs.Outcomes.{caller_of}
-use Rattle.gs_master.specs.Turns.{state_at}
+use Rattle.gs_master_spec.specs.Handling.{handle}
+use Rattle.gs_master.specs.Masters.{MasterAnswers}
+use Rattle.gs_master_spec.specs.Outcomes.{caller_of}
+use Rattle.gs_master.specs.inner.Turns.{state_at}
 use Rattle.gs_master.proofs.Idle.{nothing_recorded}
 use Rattle.gs_master.proofs.Turning.{answers, still_held}
 use Rattle.gs_master.proofs.master.Master.handle.Goals as goal
@@ -30,5 +30,5 @@ returns g c =
     let k = c.finish.new.journal in
     let finishes = c.finish.ensures.finishes m.event t rest c.beginning-beginning.ensures c.take-done.ensures.back c.take-done.ensures.steps in
     let answered = answers d.seen d.may_leave d.failures m.config c.caller_of-caller.result t m.event m.journal c.self.invariant.1 (nothing_recorded m.config s c.args.message c.args.moment) e k c.finish.result finishes in
-    subst (λ v. Answers d.seen d.failures (caller_of c.args.message.body) (handle v.config v.state c.args.message c.args.moment) v c.finish.result (record { config = m.config; state = state_at e; journal = k })) c.self.view_is
-    (subst (λ caller. Answers d.seen d.failures caller t (record { config = m.config; state = s; journal = m.journal }) c.finish.result (record { config = m.config; state = state_at e; journal = k })) c.caller_of-caller.ensures answered)
+    subst (λ v. MasterAnswers d.seen d.failures (caller_of c.args.message.body) (handle v.config v.state c.args.message c.args.moment) v c.finish.result (record { config = m.config; state = state_at e; journal = k })) c.self.view_is
+    (subst (λ caller. MasterAnswers d.seen d.failures caller t (record { config = m.config; state = s; journal = m.journal }) c.finish.result (record { config = m.config; state = state_at e; journal = k })) c.caller_of-caller.ensures answered)

@@ -1,7 +1,7 @@
 use Rattle.std.proofs.Common.{◌≡◌, ◌∙◌, refl, subst}
 use Rattle.std.specs.Prelude.{Ok}
 use Rattle.gs_journal.specs.Records.{Text}
-use Rattle.gs_state.specs.Handling.{recover}
+use Rattle.gs_master_spec.specs.Handling.{recover}
 use Rattle.gs_master.specs.Recovering.{Tells, log_in}
 use Rattle.gs_master.specs.Starting.{left_in}
 use Rattle.gs_master.proofs.Reopened.{closed_why, generation_left, left_of, opened_held, seen_of, untold_why}

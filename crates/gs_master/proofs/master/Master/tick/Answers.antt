@@ -2,12 +2,12 @@ use Rattle.std.proofs.Common.{◌≡◌, ◌∙◌, ◌&&◌, ap, false, subst, 
 use Rattle.std.proofs.lemmas.Bool.{false≢true}
 use Rattle.std.specs.Prelude.{None, Some, Ok, is_none}
 use Rattle.gs_base.specs.declared.refusal.Refusal.TheVariants as refusals
-use Rattle.gs_state.specs.Handling.{due}
+use Rattle.gs_master_spec.specs.Handling.{due}
 use Rattle.gs_master.specs.Finishing.{MakesDue}
 use Rattle.gs_master.specs.Masters.{IsHeld, MasterOf, WhyNot}
-use Rattle.gs_plan.specs.Renewable.{refusal_beforehand, renewal_refusal}
+use Rattle.gs_master_plan.specs.Renewable.{refusal_beforehand, renewal_refusal}
 use Rattle.gs_master.specs.Ticking.{AnswersTick, lacking, pressed_all}
-use Rattle.gs_master.specs.Turns.{GoesBack, IsTurned, state_at}
+use Rattle.gs_master.specs.inner.Turns.{GoesBack, IsTurned, state_at}
 use Rattle.gs_master.specs.declared.event.Event.{Event}
 use Rattle.gs_master.proofs.Finished.{rests_again, state_again}
 use Rattle.gs_master.proofs.Renewed.{answers_anew, held_anew, ticks_plain, ticks_anew, ticks_failed, ticks_short}

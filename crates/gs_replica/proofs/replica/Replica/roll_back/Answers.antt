@@ -3,8 +3,8 @@ use Rattle.std.specs.Prelude.{Ok, Err, Result, length}
 use Rattle.gs_base.specs.declared.refusal.Refusal.TheVariants as refusals
 use Rattle.gs_block.specs.Stored.{Stored, first_damaged}
 use Rattle.gs_block.specs.Images.{undone}
-use Rattle.gs_block.specs.Follows.{HandsBack}
-use Rattle.gs_block.specs.declared.refused.Refused.{Refused}
+use Rattle.gs_base.specs.Calls.{HandsBack}
+use Rattle.gs_base.specs.declared.refused.Refused.{Refused}
 use Rattle.gs_replica.specs.declared.seal.Seal.{Seal}
 use Rattle.gs_replica.specs.Held.{Held}
 use Rattle.gs_replica.specs.Seals.{State, lowest_damaged, roll_back}

@@ -1,7 +1,7 @@
 use Rattle.std.proofs.Common.{None, Some, Ok, cond, subst}
 use Rattle.std.specs.Prelude.{◌==◌}
 use Rattle.gs_base.specs.declared.refusal.Refusal.TheVariants as refusals
-use Rattle.gs_block.specs.Follows.{Judges}
+use Rattle.gs_base.specs.Calls.{Judges}
 use Rattle.gs_server.specs.Fetches.{given}
 use Rattle.gs_server.specs.Servers.{Server, place_of}
 use Rattle.gs_server.proofs.Made.{fetch_err}

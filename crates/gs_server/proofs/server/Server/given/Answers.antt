@@ -1,5 +1,5 @@
 use Rattle.std.proofs.Common.{Err, subst, sym}
-use Rattle.gs_block.specs.Follows.{Makes}
+use Rattle.gs_base.specs.Calls.{Makes}
 use Rattle.gs_msg.specs.declared.body.Given.TheVariants as givens
 use Rattle.gs_msg.specs.declared.chunk.Asked.{Asked}
 use Rattle.gs_store.specs.Serving.{digest}

@@ -1,7 +1,7 @@
 use Rattle.std.proofs.Common.{◌≡◌, ◌<◌, ◌+◌, ◌^◌, sym, ap, subst, ◌∙◌, rules}
 use Rattle.gs_store.specs.Slots.{count_of}
 use Rattle.gs_base.specs.declared.refusal.Refusal.{Refusal}
-use Rattle.gs_server.specs.Servers.{Steps}
+use Rattle.gs_server.specs.Servers.{ServerSteps}
 use Rattle.gs_server.specs.inner.Answering.{kept_by}
 use Rattle.gs_server.specs.Places.{count_or_none}
 use Rattle.gs_server.proofs.Counted.{numbered_next, exhausted}
@@ -13,7 +13,7 @@ returns-in_default c = λ moment bytes live l ready.
     let fits : c.count.result < 2 ^ 64 = search (rules, c.count.type_inv) in
     exhausted c.args.handle l c.args.edit.req c.args.edit.op bytes live moment c.args.self.now c.refuse_edit.new.self c.refuse_edit.result ready.there ready.lives c.check_promise.ensures ready.promised ready.above
     (subst (λ n. n < 2 ^ 64) count fits) (λ less. c.in_default.ensures (subst (λ n. n + 1 < 2 ^ 64) (sym count) less))
-    (subst (λ (refusal : Refusal). Steps (kept_by c.args.handle c.args.edit.req refusal c.args.self.now) c.refuse_edit.result c.args.self.now c.refuse_edit.new.self) c.refusal_at_last-refusal.ensures c.refuse_edit.ensures.step)
+    (subst (λ (refusal : Refusal). ServerSteps (kept_by c.args.handle c.args.edit.req refusal c.args.self.now) c.refuse_edit.result c.args.self.now c.refuse_edit.new.self) c.refusal_at_last-refusal.ensures c.refuse_edit.ensures.step)
 
 pub returns : goal.returns
 returns c = λ moment bytes live l ready.

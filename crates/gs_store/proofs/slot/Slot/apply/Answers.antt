@@ -1,6 +1,6 @@
 use Rattle.std.proofs.Common.{◌≡◌, Some, sym, ap, subst, ◌∙◌}
 use Rattle.std.specs.Prelude.{Ok}
-use Rattle.gs_block.specs.Follows.{Follows}
+use Rattle.gs_base.specs.Calls.{Follows}
 use Rattle.gs_replica.specs.declared.live.ReplicaInverse.{ReplicaInverse}
 use Rattle.gs_replica.specs.Seals.{State}
 use Rattle.gs_replica.specs.Seals as replicas

@@ -2,7 +2,7 @@ use Rattle.std.proofs.Common.{◌≡◌, true, Ok, sym, subst}
 use Rattle.std.specs.Result.{IfErr}
 use Rattle.gs_base.specs.Stamps.{is_before}
 use Rattle.gs_base.specs.declared.refusal.Refusal.TheVariants.{Memory}
-use Rattle.gs_block.specs.Follows.{FollowsOf}
+use Rattle.gs_base.specs.Calls.{FollowsOf}
 use Rattle.gs_store.specs.Moves as moves
 use Rattle.gs_store.proofs.Places.{within_reach}
 use Rattle.gs_store.proofs.Changes.{follows_of_at, absent, known, unknown, get_place}

@@ -1,5 +1,5 @@
 use Rattle.std.proofs.Common.{Ok, Err, ap, subst, ◌∙◌, length}
-use Rattle.gs_block.specs.Follows.{FollowsOf}
+use Rattle.gs_base.specs.Calls.{FollowsOf}
 use Rattle.gs_store.specs.Moves as moves
 use Rattle.gs_store.proofs.Changes.{same_room, pushed_items, grown_placed, grown_is, new_handed_back, new_of}
 use Rattle.gs_store.proofs.store.Store.copy_in_first.Goals as goal

@@ -1,7 +1,7 @@
 use Rattle.std.proofs.Common.{◌≡◌, Ok, Err, None, sym, subst}
 use Rattle.gs_base.specs.declared.refusal.Refusal.TheVariants.{Memory}
 use Rattle.std.specs.FinMap as fin
-use Rattle.gs_block.specs.Follows.{Does}
+use Rattle.gs_base.specs.Calls.{Does}
 use Rattle.gs_store.specs.Slots as slots
 use Rattle.gs_store.proofs.Places.{within_reach}
 use Rattle.gs_store.proofs.Changes.{does_at, does_performs, absent, new_refused, new_kept, if_err}

@@ -1,5 +1,5 @@
 use Rattle.std.proofs.Common.{sym, subst}
-use Rattle.gs_block.specs.Follows.{Does}
+use Rattle.gs_base.specs.Calls.{Does}
 use Rattle.gs_store.specs.Slots as slots
 use Rattle.gs_store.proofs.Places.{within_reach}
 use Rattle.gs_store.proofs.Changes.{does_at, absent, absent_does, nothing_drops}

@@ -1,7 +1,7 @@
 use Rattle.std.proofs.Common.{ap, sym, ◌∙◌, ◌++◌, ◌≤◌, length, subst}
 use Rattle.std.specs.FinMap as fin
 use Rattle.std.specs.Ordering.{nat_cmp}
-use Rattle.gs_table.specs.Slots.{live}
+use Rattle.gs_base_table.specs.Slots.{live}
 use Rattle.gs_store.specs.Stores.{named_of}
 use Rattle.gs_store.specs.inner.Placed.{entries_at}
 use Rattle.gs_store.proofs.Reporting.{named_seen, len_seen}

@@ -1,5 +1,5 @@
 use Rattle.std.proofs.Common.{Ok, Err, subst}
-use Rattle.gs_block.specs.Follows.{Does}
+use Rattle.gs_base.specs.Calls.{Does}
 use Rattle.gs_store.specs.Moves as moves
 use Rattle.gs_store.proofs.Changes.{new_refused, new_kept}
 use Rattle.gs_store.proofs.store.Store.put_first_copy.Goals as goal

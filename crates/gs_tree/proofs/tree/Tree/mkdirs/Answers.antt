@@ -4,7 +4,7 @@ use Rattle.std.specs.FinMap.{get}
 use Rattle.gs_tree.specs.Find.{at}
 use Rattle.gs_tree.specs.Plain.{Plain}
 use Rattle.gs_tree.specs.Edits.{mkdirs}
-use Rattle.gs_tree.specs.Follows.{Follows}
+use Rattle.gs_tree.specs.Follows.{FollowsPlain}
 use Rattle.gs_tree.specs.Inverses.{TakesBack}
 use Rattle.gs_tree.proofs.Moves.{seen}
 use Rattle.gs_tree.proofs.Root.{root_follows, mkdirs-root}
@@ -13,8 +13,8 @@ use Rattle.gs_tree.proofs.tree.Tree.mkdirs.Goals as goal
 pub returns-clause-edit : goal.returns-clause-edit
 returns-clause-edit c =
     let old : at c.self.inside.root ≡ get c.args.self.now = sym (seen c.self.inside.root) ∙ ap get c.self.view_is in
-    let step = subst (λ (m : Plain ℕ). Follows (mkdirs m c.args.path.now) c.mkdirs_in.result m (at c.mkdirs_in.new.root)) old c.mkdirs_in.ensures.edit in
-    subst (λ (n : Plain ℕ). Follows (mkdirs (get c.args.self.now) c.args.path.now) c.mkdirs_in.result (get c.args.self.now) n) (sym (seen c.mkdirs_in.new.root)) step
+    let step = subst (λ (m : Plain ℕ). FollowsPlain (mkdirs m c.args.path.now) c.mkdirs_in.result m (at c.mkdirs_in.new.root)) old c.mkdirs_in.ensures.edit in
+    subst (λ (n : Plain ℕ). FollowsPlain (mkdirs (get c.args.self.now) c.args.path.now) c.mkdirs_in.result (get c.args.self.now) n) (sym (seen c.mkdirs_in.new.root)) step
 
 pub returns-clause-undo : goal.returns-clause-undo
 returns-clause-undo c =

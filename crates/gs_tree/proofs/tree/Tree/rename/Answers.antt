@@ -5,7 +5,7 @@ use Rattle.gs_tree.specs.Places.{given_up}
 use Rattle.gs_tree.specs.Find.{at, is_too_deep, IsDepthTest}
 use Rattle.gs_tree.specs.Plain.{Plain}
 use Rattle.gs_tree.specs.Edits.{rename, target_of}
-use Rattle.gs_tree.specs.Follows.{Follows}
+use Rattle.gs_tree.specs.Follows.{FollowsPlain}
 use Rattle.gs_tree.specs.Inverses.{TakesBack}
 use Rattle.gs_tree.proofs.Moves.{seen}
 use Rattle.gs_tree.proofs.Places.{closed_follows, closed_takes}
@@ -24,9 +24,9 @@ returns-clause-edit c =
     let test : IsDepthTest deep (at c.self.inside.root) from (target_of (at c.self.inside.root) from to) =
     subst (λ (k : Plain ℕ). IsDepthTest deep k from (target_of k from to)) (sym old) (map_test c.args.self.now from (target_of m from to)) in
     let mid = at c.rename_in-made.new.root in
-    let step = subst (λ (k : Plain ℕ). Follows (rename (λ _. deep) k from to) c.rename_in-made.result k (given_up c.rename_in-made.result mid)) old (c.rename_in-made.ensures.edit deep test) in
+    let step = subst (λ (k : Plain ℕ). FollowsPlain (rename (λ _. deep) k from to) c.rename_in-made.result k (given_up c.rename_in-made.result mid)) old (c.rename_in-made.ensures.edit deep test) in
     let done = closed_follows (rename (λ _. deep) m from to) c.rename_in-made.result c.give_up.result m mid (at c.give_up.new.root) c.give_up.ensures.made c.give_up.ensures.now step in
-    subst (λ (n : Plain ℕ). Follows (rename (λ _. deep) m from to) c.give_up.result m n) (sym (seen c.give_up.new.root)) done
+    subst (λ (n : Plain ℕ). FollowsPlain (rename (λ _. deep) m from to) c.give_up.result m n) (sym (seen c.give_up.new.root)) done
 
 pub returns-clause-undo : goal.returns-clause-undo
 returns-clause-undo c =

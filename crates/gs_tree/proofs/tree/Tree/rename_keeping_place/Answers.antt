@@ -5,7 +5,7 @@ use Rattle.gs_tree.specs.Places.{KeepsPlace, given_up}
 use Rattle.gs_tree.specs.Find.{at, is_too_deep, IsDepthTest}
 use Rattle.gs_tree.specs.Plain.{Plain}
 use Rattle.gs_tree.specs.Edits.{rename, target_of}
-use Rattle.gs_tree.specs.Follows.{Follows}
+use Rattle.gs_tree.specs.Follows.{FollowsPlain}
 use Rattle.gs_tree.specs.Inverses.{TakesBack}
 use Rattle.gs_tree.proofs.Moves.{seen}
 use Rattle.gs_tree.proofs.Places.{root_given_up}
@@ -24,8 +24,8 @@ returns-clause-edit c =
     let test : IsDepthTest deep (at c.self.inside.root) from (target_of (at c.self.inside.root) from to) =
     subst (λ (k : Plain ℕ). IsDepthTest deep k from (target_of k from to)) (sym old) (map_test c.args.self.now from (target_of m from to)) in
     let mid = at c.rename_in.new.root in
-    let step = subst (λ (k : Plain ℕ). Follows (rename (λ _. deep) k from to) c.rename_in.result k (given_up c.rename_in.result mid)) old (c.rename_in.ensures.edit deep test) in
-    subst (λ (n : Plain ℕ). Follows (rename (λ _. deep) m from to) c.rename_in.result m (given_up c.rename_in.result n)) (sym (seen c.rename_in.new.root)) step
+    let step = subst (λ (k : Plain ℕ). FollowsPlain (rename (λ _. deep) k from to) c.rename_in.result k (given_up c.rename_in.result mid)) old (c.rename_in.ensures.edit deep test) in
+    subst (λ (n : Plain ℕ). FollowsPlain (rename (λ _. deep) m from to) c.rename_in.result m (given_up c.rename_in.result n)) (sym (seen c.rename_in.new.root)) step
 
 pub returns-clause-undo : goal.returns-clause-undo
 returns-clause-undo c =

@@ -4,7 +4,7 @@ use Rattle.std.specs.FinMap.{get, entries, from_entries}
 use Rattle.gs_tree.specs.Find.{at, is_copied_too_deep, IsDepthTest}
 use Rattle.gs_tree.specs.Plain.{Plain, part_at}
 use Rattle.gs_tree.specs.Edits.{snapshot, visible}
-use Rattle.gs_tree.specs.Follows.{Follows}
+use Rattle.gs_tree.specs.Follows.{FollowsPlain}
 use Rattle.gs_tree.specs.Inverses.{TakesBack}
 use Rattle.gs_tree.proofs.Moves.{seen}
 use Rattle.gs_tree.proofs.Depths.{copied_map_test}
@@ -22,8 +22,8 @@ returns-clause-edit c =
     let deep = is_copied_too_deep (entries c.args.self.now) from to in
     let test : IsDepthTest deep (visible (part_at from (at c.self.inside.root))) [] to =
     subst (λ (k : Plain ℕ). IsDepthTest deep (visible (part_at from k)) [] to) (sym old) (copied_map_test c.args.self.now from to) in
-    let step = subst (λ (k : Plain ℕ). Follows (snapshot (λ _. deep) k from to) c.snapshot_in.result k (at c.snapshot_in.new.root)) old (c.snapshot_in.ensures.edit deep test) in
-    subst (λ (n : Plain ℕ). Follows (snapshot (λ _. deep) m from to) c.snapshot_in.result m n) (sym (seen c.snapshot_in.new.root)) step
+    let step = subst (λ (k : Plain ℕ). FollowsPlain (snapshot (λ _. deep) k from to) c.snapshot_in.result k (at c.snapshot_in.new.root)) old (c.snapshot_in.ensures.edit deep test) in
+    subst (λ (n : Plain ℕ). FollowsPlain (snapshot (λ _. deep) m from to) c.snapshot_in.result m n) (sym (seen c.snapshot_in.new.root)) step
 
 pub returns-clause-undo : goal.returns-clause-undo
 returns-clause-undo c =

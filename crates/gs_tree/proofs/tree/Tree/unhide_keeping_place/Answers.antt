@@ -5,7 +5,7 @@ use Rattle.gs_tree.specs.Places.{KeepsPlace, given_up}
 use Rattle.gs_tree.specs.Find.{at}
 use Rattle.gs_tree.specs.Plain.{Plain}
 use Rattle.gs_tree.specs.Edits.{unhide}
-use Rattle.gs_tree.specs.Follows.{Follows}
+use Rattle.gs_tree.specs.Follows.{FollowsPlain}
 use Rattle.gs_tree.specs.Inverses.{TakesBack}
 use Rattle.gs_tree.proofs.Moves.{seen}
 use Rattle.gs_tree.proofs.Places.{root_given_up}
@@ -16,8 +16,8 @@ pub returns-clause-edit : goal.returns-clause-edit
 returns-clause-edit c =
     let old : at c.self.inside.root ≡ get c.args.self.now = sym (seen c.self.inside.root) ∙ ap get c.self.view_is in
     let mid = at c.unhide_in.new.root in
-    let step = subst (λ (m : Plain ℕ). Follows (unhide m c.args.path.now) c.unhide_in.result m (given_up c.unhide_in.result mid)) old c.unhide_in.ensures.edit in
-    subst (λ (k : Plain ℕ). Follows (unhide (get c.args.self.now) c.args.path.now) c.unhide_in.result (get c.args.self.now) (given_up c.unhide_in.result k)) (sym (seen c.unhide_in.new.root)) step
+    let step = subst (λ (m : Plain ℕ). FollowsPlain (unhide m c.args.path.now) c.unhide_in.result m (given_up c.unhide_in.result mid)) old c.unhide_in.ensures.edit in
+    subst (λ (k : Plain ℕ). FollowsPlain (unhide (get c.args.self.now) c.args.path.now) c.unhide_in.result (get c.args.self.now) (given_up c.unhide_in.result k)) (sym (seen c.unhide_in.new.root)) step
 
 pub returns-clause-undo : goal.returns-clause-undo
 returns-clause-undo c =

@@ -1,6 +1,0 @@
-use Rattle.std.proofs.Common.{◌≡◌, take}
-use Rattle.gs_state.specs.Settling.{requests_of}
-use Rattle.gs_master.proofs.concerning.requests_of.Given as goal
-
-abbrev pub invariant-loop-one : goal.invariant-loop-one
-invariant-loop-one l = l.requests.items ≡ requests_of (take l.one-index l.pending)

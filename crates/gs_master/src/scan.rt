@@ -1,0 +1,46 @@
+// Scans.
+ghost use Rattle.gs_master.specs.inner.Turns.{GoesBack, IsUnderWay, state_at, EventSteps};
+ghost use Rattle.gs_master_spec.specs.Working.{scanned, scans};
+
+use crate::event::Event;
+use gs_base::{Moment, Refusal, ReqId};
+use gs_edit::Scan;
+use gs_master_plan::scan::scan_plan;
+use gs_msg::Answer;
+
+impl Event {
+    /// What has been deleted long enough goes, then each chunk without a reference. Who waits for one is refused.
+    fn sweep(&mut self, req: ReqId, scan: Scan) -> Result<(), Refusal>
+        requires { IsUnderWay self.old }
+        ensures steps { EventSteps (scanned (state_at self.old) req scan.removed.items scan.forgotten.items) self.old result self.new }
+        ensures back { GoesBack self.old self.new }
+    {
+        let Scan { removed, forgotten } = scan;
+        let removals = removed.len() as u64;
+        let chunks = forgotten.len() as u64;
+        let requests = self.standing().waiting_for(&forgotten)?;
+        let plan = scan_plan(self.alloc, removed, forgotten)?;
+        if !self.fits(&plan.records)? {
+            return self.refuse(req, Refusal::Full);
+        }
+        self.carry_out(plan)?;
+        self.end_all_by(&requests, &Refusal::NoReplica)?;
+        self.answer(
+            req,
+            Answer::Scanned {
+                removed: removals,
+                forgotten: chunks,
+            },
+        )
+    }
+
+    /// The names are scanned.
+    pub fn scan(&mut self, req: ReqId, moment: Moment) -> Result<(), Refusal>
+        requires { IsUnderWay self.old }
+        ensures steps { EventSteps (scans (state_at self.old) req moment) self.old result self.new }
+        ensures back { GoesBack self.old self.new }
+    {
+        let scan = self.recorded.scan(moment)?;
+        self.sweep(req, scan)
+    }
+}

@@ -1,0 +1,150 @@
+// The calls of an upgrade and of a rollback.
+ghost use Rattle.std.specs.Prelude.{◌+◌, ◌<◌, ◌≡◌, IfErr, OnOk, Some};
+ghost use Rattle.gs_base.specs.declared.refusal.Refusal.TheVariants as refusals;
+ghost use Rattle.gs_master.specs.inner.StartingOver.{IsBegun};
+ghost use Rattle.gs_master.specs.inner.Turns.{GoesBack, IsTurned, IsUnderWay, state_at, EventSteps};
+ghost use Rattle.gs_master_spec.specs.Settling.{requests_of};
+ghost use Rattle.gs_master_spec.specs.State.{all_ended_by};
+ghost use Rattle.gs_master_spec.specs.Upgrades.{commit_on, finalize, prepare_abort, prepare_begin, prepare_commit, rollback_begin, rollback_commit};
+
+use crate::event::Event;
+use gs_base::{Config, Moment, Refusal, ReqId};
+use gs_edit::Names;
+use gs_master_record::Phase;
+
+impl Event {
+    /// The calls that wait for a replica are given up. What is kept of their refusals as records has its room, and fits: so
+    /// nothing but memory can be wanting.
+    fn give_up_all(&mut self) -> Result<(), Refusal>
+        requires { IsUnderWay self.old }
+        ensures given { OnOk result (IsTurned (all_ended_by (state_at self.old) (requests_of (state_at self.old).volatile.pending) refusals.Preparing) self.old self.new) }
+        ensures memory { IfErr result (λ refusal. refusal ≡ refusals.Memory) }
+        ensures back { GoesBack self.old self.new }
+    {
+        let requests = self.standing().requests()?;
+        match self.end_all_by(&requests, &Refusal::Preparing) {
+            Ok(()) => Ok(()),
+            Err(_) => Err(Refusal::Memory),
+        }
+    }
+
+    /// Preparing begins. The calls that wait for a replica are given up, and each chunk that isn't quiet is made so. Where that
+    /// finds no room nobody is given up.
+    pub fn prepare_begin(&mut self, req: ReqId) -> Result<(), Refusal>
+        requires ready { IsUnderWay self.old }
+        requires begun { IsBegun self.old }
+        ensures steps { EventSteps (prepare_begin (state_at self.old) req) self.old result self.new }
+        ensures back { GoesBack self.old self.new }
+    {
+        let chunks = self.standing().all_unquiet()?;
+        let judged = self.standing().refusal_of_begin(chunks.len() as u64)?;
+        if let Some(refusal) = judged {
+            return self.refuse(req, refusal);
+        }
+        let epoch = self.recorded.epoch;
+        let beginning = self.beginning();
+        self.give_up_all()?;
+        if !self.log.has_room_for_proposals(chunks.len()) {
+            self.start_over(beginning);
+            return self.refuse(req, Refusal::Full);
+        }
+        self.begin_all(&chunks, None)?;
+        let told = self.standing().begin_answer(req, epoch)?;
+        self.carry_out(told)
+    }
+
+    /// An upgrade is prepared, where every chunk is quiet.
+    pub fn prepare_commit(
+        &mut self,
+        config: &Config,
+        req: ReqId,
+        moment: Moment,
+    ) -> Result<(), Refusal>
+        requires { IsUnderWay self.old }
+        ensures steps { EventSteps (prepare_commit config.now (state_at self.old) req moment) self.old result self.new }
+        ensures back { GoesBack self.old self.new }
+    {
+        let unquiet = self.standing().all_unquiet()?;
+        if let Some(refusal) = self.standing().refusal_of_prepare(&unquiet) {
+            return self.refuse(req, refusal);
+        }
+        let plan = self.standing().prepare_plan(config, req, moment)?;
+        self.carry_out_or_refuse(req, plan)
+    }
+
+    /// Preparing ends, and nothing is prepared.
+    pub fn prepare_abort(&mut self, req: ReqId) -> Result<(), Refusal>
+        requires { IsUnderWay self.old }
+        ensures steps { EventSteps (prepare_abort (state_at self.old) req) self.old result self.new }
+        ensures back { GoesBack self.old self.new }
+    {
+        if !self.standing().memory.is_preparing() {
+            return self.refuse(req, Refusal::NotUpgrading);
+        }
+        let plan = self.standing().abort_plan(req)?;
+        self.carry_out(plan)
+    }
+
+    /// The upgrade that stands is finalized.
+    pub fn finalize(&mut self, config: &Config, req: ReqId) -> Result<(), Refusal>
+        requires { IsUnderWay self.old }
+        ensures steps { EventSteps (finalize config.now (state_at self.old) req) self.old result self.new }
+        ensures back { GoesBack self.old self.new }
+    {
+        if let Some(refusal) = self.recorded.refusal_of_end() {
+            return self.refuse(req, refusal);
+        }
+        let plan = self.standing().finalize_plan(config, req)?;
+        self.carry_out_or_refuse(req, plan)
+    }
+
+    /// The rollback of the upgrade that stands is begun. All calls that wait are refused.
+    pub fn rollback_begin(&mut self, config: &Config, req: ReqId) -> Result<(), Refusal>
+        requires { IsUnderWay self.old }
+        ensures steps { EventSteps (rollback_begin config.now (state_at self.old) req) self.old result self.new }
+        ensures back { GoesBack self.old self.new }
+    {
+        if let Some(refusal) = self.recorded.refusal_of_end() {
+            return self.refuse(req, refusal);
+        }
+        let epoch = self.recorded.epoch + 1;
+        let requests = self.standing().requests()?;
+        let begun = self.standing().rollback_record()?;
+        if !self.fits(&begun.records)? {
+            return self.refuse(req, Refusal::Full);
+        }
+        self.carry_out(begun)?;
+        self.end_all_by(&requests, &Refusal::RollingBack)?;
+        let told = self.standing().rollback_answer(config, req, epoch)?;
+        self.carry_out(told)
+    }
+
+    /// A rollback is done, if each chunk that needs an answer has one. These are the names of the prepare.
+    fn commit_on(&mut self, req: ReqId, names: &Names) -> Result<(), Refusal>
+        requires { IsUnderWay self.old }
+        ensures steps { EventSteps (commit_on (state_at self.old) req (Some names.now)) self.old result self.new }
+        ensures back { GoesBack self.old self.new }
+    {
+        if let Some(chunk) = self.standing().unrestored(names)? {
+            return self.refuse(req, Refusal::Unrestored(chunk));
+        }
+        let plan = self.standing().commit_plan(req, names)?;
+        self.carry_out_or_refuse(req, plan)
+    }
+
+    /// The rollback that is begun is done.
+    pub fn rollback_commit(&mut self, req: ReqId) -> Result<(), Refusal>
+        requires { IsUnderWay self.old }
+        ensures steps { EventSteps (rollback_commit (state_at self.old) req) self.old result self.new }
+        ensures back { GoesBack self.old self.new }
+    {
+        if self.recorded.phase != Phase::Rolling {
+            return self.refuse(req, Refusal::NotUpgrading);
+        }
+        match self.recorded.names_back() {
+            Ok(names) => self.commit_on(req, &names),
+            Err(Refusal::Memory) => Err(Refusal::Memory),
+            Err(_) => self.refuse(req, Refusal::BadLine),
+        }
+    }
+}

@@ -1,0 +1,2 @@
+pub mod Renewable
+pub mod inner

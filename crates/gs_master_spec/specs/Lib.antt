@@ -1,0 +1,16 @@
+pub mod Applied
+pub mod Beginning
+pub mod Calls
+pub mod Chunks
+pub mod Durable
+pub mod Handling
+pub mod Hearing
+pub mod Outcomes
+pub mod Replies
+pub mod Settling
+pub mod State
+pub mod Undoing
+pub mod Upgrades
+pub mod Volatile
+pub mod Whole
+pub mod Working

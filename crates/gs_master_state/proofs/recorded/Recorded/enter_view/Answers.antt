@@ -1,0 +1,41 @@
+use Rattle.std.proofs.Common.{refl, rules, ap, sym, subst, ◌∙◌}
+use Rattle.std.specs.Cmp.{nat_cmp_total}
+use Rattle.std.specs.FinMap as fin
+use Rattle.std.specs.Ordering.{nat_cmp}
+use Rattle.gs_base_table.specs.Slots.{live, HasRoom}
+use Rattle.gs_master_state.specs.inner.Held.{HeldView}
+use Rattle.gs_master_state.specs.inner.Recorded.{durable_of}
+use Rattle.gs_master_state.proofs.Recording.{settled_gives}
+use Rattle.gs_master_state.proofs.Before.{chunk_undone, exchanged, room_at, room_at_stays, room_where_stood, same_replies_room, same_room}
+use Rattle.gs_master_state.proofs.recorded.Recorded.enter_view.Goals as goal
+
+pub returns-clause-applied : goal.returns-clause-applied
+returns-clause-applied c =
+    settled_gives c.args.self.now c.keep_prepared.new.self c.exchange-lease.new.self c.args.settled.now _ (search rules) c.keep_prepared.ensures.value c.keep_prepared.ensures.leases c.exchange-lease.ensures.put c.restore.ensures
+
+pub returns-clause-back : goal.returns-clause-back
+returns-clause-back c =
+    let leases = ap (live nat_cmp) (sym c.keep_prepared.ensures.leases) ∙ exchanged nat_cmp_total fin.nat_cmp-IsAntisymmetric _ _ c.args.settled.now.handle _ _ c.exchange-lease.ensures.value c.exchange-lease.ensures.put in
+    record {
+      value = chunk_undone (durable_of c.args.self.now) (durable_of c.keep_prepared.new.self) (live nat_cmp c.args.self.now.leases) (live nat_cmp c.exchange-lease.new.self) c.args.settled.now.handle
+          c.exchange-lease.result c.copied-prepared.result c.keep_prepared.ensures.value refl leases (search rules);
+      leases = leases;
+      room = (
+        room_at nat_cmp _ c.args.settled.now.handle c.exchange-lease.result (c.exchange-lease.ensures.keeps.keeps c.args.settled.now.handle (subst (λ x. HasRoom nat_cmp x c.args.settled.now.handle) (sym c.keep_prepared.ensures.leases) c.requires.chunk)),
+        room_at_stays nat_cmp _ _ c.args.settled.now.handle c.copied-prepared.result (room_where_stood nat_cmp_total c.args.self.now.prepared c.args.settled.now.handle c.copied-prepared.result (search rules)) c.keep_prepared.ensures.room,
+      );
+      keeps = record {
+        leases = same_room _ _ _ c.keep_prepared.ensures.leases c.exchange-lease.ensures.keeps;
+        replies = same_replies_room _ _ c.keep_prepared.ensures.replies;
+        prepared = c.keep_prepared.ensures.room;
+        place = ap (λ (v : HeldView). v.place) c.keep_prepared.ensures.names;
+      };
+    }
+
+pub returns-clause-keeps : goal.returns-clause-keeps
+returns-clause-keeps c = record {
+  leases = same_room _ _ _ c.keep_prepared.ensures.leases c.exchange-lease.ensures.keeps;
+  replies = same_replies_room _ _ c.keep_prepared.ensures.replies;
+  prepared = c.keep_prepared.ensures.room;
+  place = ap (λ (v : HeldView). v.place) c.keep_prepared.ensures.names;
+}

@@ -1,0 +1,25 @@
+use Rattle.std.proofs.Common.{◌≡◌, ◌∙◌, Some, rules, ap}
+use Rattle.std.specs.FinMap as fin
+use Rattle.std.specs.Ordering.{nat_cmp}
+use Rattle.gs_base_table.specs.Slots.{live}
+use Rattle.gs_master_spec.specs.Applied.{view_in}
+use Rattle.gs_master_state.specs.inner.Recorded.{chunks_of}
+use Rattle.gs_master_state.proofs.Recording.{marked}
+use Rattle.gs_master_state.proofs.Before.{lease_before, moved_back, room_at}
+use Rattle.gs_master_state.proofs.recorded.Recorded.exchange_moving.Goals as goal
+
+pub returns-clause-value : goal.returns-clause-value
+returns-clause-value c = marked c.args.self.now c.exchange.new.self c.args.chunk _ c.in_ok-view.view c.args.stamp c.exchange.ensures.put c.restore.ensures (search rules)
+
+pub returns-clause-chunks : goal.returns-clause-chunks
+returns-clause-chunks c =
+    let has : Some c.in_ok-view.view ≡ view_in (fin.get (chunks_of (live nat_cmp c.args.self.now.leases)) c.args.chunk) = search rules in
+    ap chunks_of (lease_before _ _ c.args.chunk _ c.exchange.result c.in_ok-view.view c.exchange.ensures.value c.exchange.ensures.put has) ∙ moved_back (live nat_cmp c.exchange.new.self) c.args.chunk c.exchange.result
+
+pub returns-clause-leases : goal.returns-clause-leases
+returns-clause-leases c =
+    let has : Some c.in_ok-view.view ≡ view_in (fin.get (chunks_of (live nat_cmp c.args.self.now.leases)) c.args.chunk) = search rules in
+    lease_before _ _ c.args.chunk _ c.exchange.result c.in_ok-view.view c.exchange.ensures.value c.exchange.ensures.put has
+
+pub returns-clause-room : goal.returns-clause-room
+returns-clause-room c = room_at nat_cmp _ c.args.chunk c.exchange.result (c.exchange.ensures.keeps.keeps c.args.chunk c.requires)

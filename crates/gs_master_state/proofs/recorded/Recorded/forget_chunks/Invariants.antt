@@ -1,0 +1,12 @@
+use Rattle.std.proofs.Common.{◌≡◌, drop}
+use Rattle.gs_master_spec.specs.Applied.{without_chunks}
+use Rattle.gs_master_state.specs.inner.Recorded.{RoomForEach, durable_of}
+use Rattle.gs_master_state.proofs.recorded.Recorded.forget_chunks.Given as goal
+
+abbrev pub invariant-loop-chunk : goal.invariant-loop-chunk
+invariant-loop-chunk l = record {
+  value : without_chunks (durable_of l.self) (drop l.chunk-index l.chunks) ≡ without_chunks (durable_of l.fn.self) l.chunks;
+  room : RoomForEach l.self.phase l.self.prepared (drop l.chunk-index l.chunks);
+  replies : l.self.replies ≡ l.fn.self.replies;
+  inverses : l.self.inverses ≡ l.fn.self.inverses;
+}

@@ -1,0 +1,7 @@
+use Rattle.std.specs.FinMap as fin
+use Rattle.gs_master_spec.specs.Calls.{has_visible_child}
+use Rattle.gs_master_state.proofs.Listed.{has_visible_is}
+use Rattle.gs_master_state.proofs.recorded.Recorded.has_visible_child.Goals as goal
+
+pub returns : goal.returns
+returns c = has_visible_is c.args.self.now.names.names.tree c.args.path.now c.has_visible.result c.has_visible.ensures

@@ -1,0 +1,26 @@
+use Rattle.std.proofs.Common.{◌≡◌, ◌∙◌, ◌<◌, ◌+◌, ◌-◌, arith, ap, length}
+use Rattle.std.specs.FinMap as fin
+use Rattle.std.specs.Ordering.{nat_cmp}
+use Rattle.gs_base_table.specs.Slots.{live}
+use Rattle.gs_master_state.proofs.Readings.{prepared_more, prepared_none}
+use Rattle.gs_master_state.proofs.restart.told_prepared.Goals as goal
+
+pub loop-left-init : goal.loop-left-init
+loop-left-init c = record {
+  bound = omega arith;
+  views = prepared_none c.args.entries.now (length c.args.entries.now) (live nat_cmp c.new-prepared.result) (omega arith) c.new-prepared.ensures;
+}
+
+pub loop-left-preserved : goal.loop-left-preserved
+loop-left-preserved c =
+    let left = c.loop-left.left in
+    let some = c.loop-left-test.true in
+    let bound = c.loop-left.invariant.bound in
+    let x = c.index-entries-left.result in
+    let here : left - 1 < length c.args.entries.now = omega arith in
+    let one : left ≡ (left - 1) + 1 = omega arith in
+    record {
+      bound = omega arith;
+      views = prepared_more c.args.entries.now left (left - 1) x (live nat_cmp c.loop-left.prepared) (live nat_cmp c.put.new.self) here one c.index-entries-left.is
+          (c.put.ensures.put ∙ ap (λ m. fin.insert m x.settled.handle (record { view = x.settled.view; holders = x.holders })) c.reserve.ensures.same) c.loop-left.invariant.views;
+    }

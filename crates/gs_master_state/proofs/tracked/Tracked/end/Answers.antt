@@ -1,0 +1,11 @@
+use Rattle.gs_master_state.proofs.Tracking.{changed_before, rooms_stay}
+use Rattle.gs_master_state.proofs.tracked.Tracked.end.Goals as goal
+
+pub invariant_of-self : goal.invariant_of-self
+invariant_of-self c =
+    rooms_stay c.self.inside.memory c.end.new.self c.self.inside.touched.items (record { moving = c.end.ensures.keeps.moving; restored = c.end.ensures.keeps.restored; replies = c.end.ensures.keeps.replies }) c.self.invariant
+
+pub returns-clause-before : goal.returns-clause-before
+returns-clause-before c =
+    changed_before c.self.inside.memory c.self.inside.touched.items c.self.inside.calls c.keep_calls.new.self _ _ _ _ c.args.self.now.before c.self.view_is c.in_ok-keep_calls.ensures.kept c.in_ok-keep_calls.ensures.before
+    c.end.ensures.changed

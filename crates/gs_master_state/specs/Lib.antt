@@ -1,0 +1,3 @@
+pub mod Checkpoints
+pub mod Sane
+pub mod inner

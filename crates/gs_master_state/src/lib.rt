@@ -1,0 +1,25 @@
+//! What the master keeps, on record and in memory.
+#![tactic(auto)]
+
+mod answer;
+mod call;
+mod checkpoint;
+pub mod edit;
+mod entry;
+mod event;
+pub mod fault;
+pub mod file;
+pub mod held_names;
+mod inverse;
+pub mod known;
+pub mod log;
+pub mod memory;
+pub mod message;
+pub mod plan;
+pub mod recorded;
+pub mod restart;
+pub mod tracked;
+pub mod undo;
+mod upgrade;
+mod view;
+mod waiting;

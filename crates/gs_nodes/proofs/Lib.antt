@@ -1,0 +1,4 @@
+mod Delivered
+pub mod Closing
+pub mod Finding
+pub mod Starting

@@ -1,0 +1,13 @@
+use Rattle.std.proofs.Common.{◌≡◌, Ok, refl}
+use Rattle.gs_server.specs.Servers as servers
+use Rattle.gs_nodes.proofs.Finding.{nobody, somebody}
+use Rattle.gs_nodes.specs.Nodes.{nodes_of}
+use Rattle.gs_nodes.proofs.nodes.Nodes.restart_server.Goals as goal
+
+pub returns-in-Some : goal.returns-in-Some
+returns-in-Some g c =
+    somebody c.args.server (λ s result new. (result ≡ Ok tt) × (new ≡ servers.restart s)) (nodes_of c.args.self.now) c.number.result c.number.ensures.number c.in-Some.server.now c.restart.new.self (Ok tt)
+    c.in-Some.ensures.item.3.0 c.in-Some.ensures.item.1 (refl, c.restart.ensures)
+
+pub returns-in-None : goal.returns-in-None
+returns-in-None g c = nobody c.args.server (λ s result new. (result ≡ Ok tt) × (new ≡ servers.restart s)) (nodes_of c.args.self.now) c.number.result c.number.ensures.number c.in-None.ensures.item.3

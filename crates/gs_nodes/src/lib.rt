@@ -1,0 +1,14 @@
+//! The nodes of a store together: a master with the disks of its journal, chunkservers and clients, and what happens to them.
+#![tactic(auto)]
+
+mod arming;
+mod asking;
+mod delivering;
+mod events;
+mod nodes;
+mod place;
+mod restarting;
+
+pub use gs_master::Turn;
+pub use nodes::Nodes;
+pub use place::MasterPlace;

@@ -1,0 +1,85 @@
+// Restarts.
+ghost use Rattle.std.specs.Prelude.{◌≡◌, Ok};
+ghost use Rattle.gs_server.specs.Servers as servers;
+ghost use Rattle.gs_nodes.specs.Happenings.{AtServer, Opens, Reopens, disks_of};
+ghost use Rattle.gs_nodes.specs.Nodes.{nodes_of, with_master};
+
+use crate::nodes::Nodes;
+use crate::place::MasterPlace;
+use gs_base::{Config, Refusal, ServerId};
+use gs_journal::{Disk, Unopened};
+use gs_master::{Master, Started, Turn};
+use std::alloc::Global;
+use std::mem;
+
+/// The most bytes of a disk of the journal.
+pub(crate) const LIMIT: u32 = 1_073_741_824;
+
+/// Opens the disks of a journal, or hands them back.
+fn opened<D: Disk>(
+    alloc: Global,
+    config: Config,
+    disks: (D, D),
+) -> (MasterPlace<D>, Result<Turn, Refusal>)
+    ensures { Opens D.seen D.failures config disks result.1 result.0 }
+{
+    let (first, second) = disks;
+    match Master::open(alloc, config, first, second, LIMIT) {
+        Ok(started) => {
+            let Started { master, sent } = started;
+            let said = None;
+            (MasterPlace::Standing(master), Ok(Turn { sent, said }))
+        }
+        Err(unopened) => {
+            let Unopened {
+                refusal,
+                first,
+                second,
+            } = unopened;
+            (MasterPlace::Closed { first, second }, Err(refusal))
+        }
+    }
+}
+
+impl<D: Disk> MasterPlace<D> {
+    /// The disks of the master's journal, the first one first.
+    pub fn into_disks(self) -> Option<(D, D)>
+        ensures { result ≡ disks_of self }
+    {
+        match self {
+            MasterPlace::Standing(master) => Some(master.into_disks()),
+            MasterPlace::Closed { first, second } => Some((first, second)),
+            MasterPlace::Away => None,
+        }
+    }
+}
+
+impl<D: Disk + Drop> Nodes<D> {
+    /// The master loses what it keeps in memory alone: its disks are opened again. Where that is refused they wait, and each call
+    /// is `Device`, until the next restart.
+    pub fn restart_master(&mut self) -> Result<Turn, Refusal>
+        ensures others { nodes_of self.new ≡ with_master self.new.master (nodes_of self.old) }
+        ensures master { Reopens D.seen D.failures self.old.config self.old.master result self.new.master }
+    {
+        let old = mem::replace(&mut self.master, MasterPlace::Away);
+        let Some(disks) = old.into_disks() else {
+            return Err(Refusal::Device);
+        };
+        let (master, turn) = opened(self.alloc, self.config, disks);
+        drop(mem::replace(&mut self.master, master));
+        turn
+    }
+
+    /// A server drops its leases and the bytes that were pushed to it. `Range` where there is no such server.
+    pub fn restart_server(&mut self, server: ServerId) -> Result<(), Refusal>
+        ensures { AtServer server (λ s result new. (result ≡ Ok tt) × (new ≡ servers.restart s)) (nodes_of self.old) result (nodes_of self.new) }
+    {
+        match self.servers.get_mut(server.number() as usize) {
+            Some(server) => {
+                server.restart();
+                Ok(())
+            }
+            None => Err(Refusal::Range),
+        }
+    }
+}

@@ -1,5 +1,0 @@
-use Rattle.std.proofs.Common.{◌≡◌, map, take}
-use Rattle.gs_plan.proofs.judging.borrowed.Given as goal
-
-abbrev pub invariant-loop-path : goal.invariant-loop-path
-invariant-loop-path l = map (λ path. path.now) l.borrowed.items ≡ take l.path-index l.paths

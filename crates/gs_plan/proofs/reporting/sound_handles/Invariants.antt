@@ -1,6 +1,0 @@
-use Rattle.std.proofs.Common.{◌≡◌, ◌++◌, drop}
-use Rattle.gs_state.specs.Surveying.{sound_handles}
-use Rattle.gs_plan.proofs.reporting.sound_handles.Given as goal
-
-abbrev pub invariant-loop-replica : goal.invariant-loop-replica
-invariant-loop-replica l = l.sound.items ++ sound_handles (drop l.replica-index l.reported) ≡ sound_handles l.reported

@@ -1,7 +1,0 @@
-use Rattle.gs_record.specs.Plain.{Edited}
-use Rattle.gs_state.specs.Settling.{own_request}
-use Rattle.gs_state.proofs.Mapping.{if_ok_weaker, mapped_both}
-use Rattle.gs_plan.proofs.scanning.scan_records.Goals as goal
-
-pub returns : goal.returns
-returns c = if_ok_weaker _ _ (λ all is. mapped_both (Edited own_request) _ _ _ _ c.in_ok-records.ensures is) c.and_forgotten.result c.and_forgotten.ensures

@@ -1,9 +1,0 @@
-use Rattle.std.proofs.Common.{◌≡◌, ◌++◌, filter, map}
-use Rattle.gs_plan.specs.Planning.{state_of}
-use Rattle.gs_state.specs.Surveying.{has_unquiet}
-use Rattle.gs_state.proofs.ChunkSets.{key_of}
-use Rattle.gs_plan.proofs.standing.Standing.and_moving.Given as goal
-
-abbrev pub invariant-loop-chunk : goal.invariant-loop-chunk
-invariant-loop-chunk l =
-    l.unquiet.items ++ filter (has_unquiet (state_of l.self)) (map key_of l.chunk-iterator) ≡ l.initial.unquiet.items ++ filter (has_unquiet (state_of l.self)) (map key_of l.initial.chunk-iterator)

@@ -1,8 +1,0 @@
-use Rattle.std.proofs.Common.{◌≡◌, map, take}
-use Rattle.gs_state.specs.Durable.{prepared_view}
-use Rattle.gs_plan.specs.Planning.{state_of}
-use Rattle.gs_state.specs.Upgrades.{answer_for, told_of}
-use Rattle.gs_plan.proofs.standing.Standing.answers_for.Given as goal
-
-abbrev pub invariant-loop-place : goal.invariant-loop-place
-invariant-loop-place l = l.answers.items ≡ map (answer_for (prepared_view (state_of l.self).durable) (told_of (state_of l.self))) (take l.place l.listed.items)

@@ -1,6 +1,0 @@
-use Rattle.std.proofs.Common.{◌≡◌, take}
-use Rattle.gs_state.specs.Settling.{requests_of}
-use Rattle.gs_plan.proofs.standing.Standing.requests.Given as goal
-
-abbrev pub invariant-loop-pending : goal.invariant-loop-pending
-invariant-loop-pending l = l.requests.items ≡ requests_of (take l.pending-index l.pending-items)

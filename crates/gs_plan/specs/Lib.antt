@@ -1,3 +1,0 @@
-pub mod Holding
-pub mod Planning
-pub mod Renewable

@@ -1,8 +1,0 @@
-use Rattle.std.proofs.Common.{◌≡◌, ℕ}
-use Rattle.std.specs.List.{list_any}
-use Rattle.gs_primary.specs.declared.lease.Open.{Open}
-use Rattle.gs_primary.specs.Leases.{is_request, waits}
-use Rattle.gs_primary.proofs.lease.Lease.waits.Given as goal
-
-abbrev pub invariant-loop-number : goal.invariant-loop-number
-invariant-loop-number l = list_any (λ (edit : ℕ × Open). is_request l.req edit.1.req) l.number-iterator ≡ waits l.req l.self

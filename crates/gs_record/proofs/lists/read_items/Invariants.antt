@@ -1,7 +1,0 @@
-use Rattle.std.proofs.Common.{◌≡◌, ◌-◌, map}
-use Rattle.gs_record.specs.inner.Reading.{times}
-use Rattle.gs_record.proofs.Loops.{with_front}
-use Rattle.gs_record.proofs.lists.read_items.Given as goal
-
-abbrev pub invariant-loop : goal.invariant-loop
-invariant-loop g l = with_front (map g.T.Field.plain l.items.items) (times g.T.Field.reading (l.count - l.counter) l.cursor.rest.now) ≡ times g.T.Field.reading l.count l.initial.cursor.rest.now

@@ -1,4 +1,0 @@
-pub mod Histories
-pub mod Lasting
-pub mod Runs
-pub mod Sent

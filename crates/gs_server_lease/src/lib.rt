@@ -1,0 +1,12 @@
+//! The lease at its primary, with the edits that wait for its members, and the rules of an edit's number. Each stands below a server.
+#![tactic(auto)]
+
+mod forwarding;
+mod lease;
+mod numbering;
+mod recency;
+
+pub use forwarding::{acknowledgement, count_under};
+pub use lease::{Open, PrimaryLease, RoomyLease, ToldCounts, tell};
+pub use numbering::{is_passed, is_too_long, numbered_op, outcome_at};
+pub use recency::Recency;

@@ -1,0 +1,10 @@
+use Rattle.gs_shell_calls.specs.Asked.{done}
+use Rattle.gs_path.specs.Rules.{parse}
+use Rattle.gs_shell_calls.proofs.Talking.{on_answered}
+use Rattle.gs_client.specs.Sends.{Sends}
+use Rattle.gs_client.specs.Trees as trees
+use Rattle.gs_shell_calls.proofs.caller.Caller.create.Goals as goal
+
+pub returns : goal.returns
+returns g c =
+    rw c.done.ensures (on_answered (Sends g.L.Link.Carries) (parse c.args.path.now) trees.create_call done _ _ c.in-Ok.path _ c.in-Ok.ensures.answer c.create.ensures)

@@ -1,0 +1,10 @@
+use Rattle.gs_shell_calls.specs.declared.answer.Answer.TheVariants as answers
+use Rattle.gs_path.specs.Rules.{parse_hidden}
+use Rattle.gs_shell_calls.proofs.Talking.{on_answered}
+use Rattle.gs_client.specs.Sends.{Sends}
+use Rattle.gs_client.specs.Trees as trees
+use Rattle.gs_shell_calls.proofs.caller.Caller.list.Goals as goal
+
+pub returns : goal.returns
+returns g c =
+    rw c.names.ensures (on_answered (Sends g.L.Link.Carries) (parse_hidden c.args.path.now) trees.list_call answers.Names _ _ c.in-Ok.path _ c.in-Ok.ensures.answer c.list.ensures)

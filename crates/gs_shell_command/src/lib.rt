@@ -1,0 +1,44 @@
+//! What the command line of a program asks for.
+#![tactic(auto)]
+
+ghost use Rattle.std.specs.Prelude.{◌≡◌, IfErr};
+
+use gs_base::{Config, Refusal};
+use std::process::ExitCode;
+use std::rt::Env;
+use std::{env, io};
+
+/// The words of the command line, of which the first is the program's own.
+fn words(rt: &(impl Env + AllocGlobal)) -> io::Result<Vec<String>> {
+    Ok(env::args(rt)?.collect(rt.alloc())?)
+}
+
+/// Says on standard error what is wrong with words that are refused.
+fn explain(rt: &(impl Eprint + AllocGlobal), program: &str, words: &[String], refusal: &Refusal) {
+    let text = match refusal {
+        Refusal::Memory => None,
+        _ => gs_shell_options::explanation(rt.alloc(), words).ok(),
+    };
+    let _ = match text {
+        Some(text) => eprint!(rt; "{text}"),
+        None => eprintln!(rt; "{program}: {refusal}"),
+    };
+}
+
+/// The configuration that the command line asks for. Where its words can't be read or are refused, standard error says why in
+/// the name of the program, and this is the status 2, with which the program is to end.
+pub fn configured(rt: &(impl Eprint + Env + AllocGlobal), program: &str) -> Result<Config, ExitCode>
+    ensures refused { IfErr result (λ code. code.status ≡ 2) }
+{
+    let Ok(words) = words(rt) else {
+        let _ = eprintln!(rt; "{program}: the arguments can't be read");
+        return Err(ExitCode::from(2));
+    };
+    match gs_shell_options::options(rt.alloc(), &words) {
+        Ok(config) => Ok(config),
+        Err(refusal) => {
+            explain(rt, program, &words, &refusal);
+            Err(ExitCode::from(2))
+        }
+    }
+}

@@ -1,6 +1,0 @@
-use Rattle.std.proofs.Common.{◌≡◌, true, drop}
-use Rattle.gs_state.specs.Whole.{alternate}
-use Rattle.gs_state.proofs.checking.alternate.Given as goal
-
-abbrev pub invariant-loop-end : goal.invariant-loop-end
-invariant-loop-end l = alternate l.is_ordinary (drop l.end-index l.past) ≡ alternate true l.past

@@ -1,6 +1,0 @@
-use Rattle.std.proofs.Common.{◌≡◌, map, take}
-use Rattle.gs_state.specs.Whole.{reference_of}
-use Rattle.gs_state.proofs.checkpointing.references.Given as goal
-
-abbrev pub invariant-loop-entry : goal.invariant-loop-entry
-invariant-loop-entry l = l.references.items ≡ map reference_of (take l.entry-index l.entry-items)

@@ -1,6 +1,0 @@
-use Rattle.std.proofs.Common.{◌≡◌, map, take}
-use Rattle.gs_record.specs.Plain.{plain_node}
-use Rattle.gs_state.proofs.copying.copied_entries.Given as goal
-
-abbrev pub invariant-loop-entry : goal.invariant-loop-entry
-invariant-loop-entry l = map plain_node l.copies.items ≡ map plain_node (take l.entry-index l.entries)

@@ -1,6 +1,0 @@
-use Rattle.std.proofs.Common.{◌≡◌, map, take}
-use Rattle.gs_record.specs.Plain.{plain_inverse}
-use Rattle.gs_state.proofs.copying.copied_inverses.Given as goal
-
-abbrev pub invariant-loop-inverse : goal.invariant-loop-inverse
-invariant-loop-inverse l = map plain_inverse l.copies.items ≡ map plain_inverse (take l.inverse-index l.inverses)

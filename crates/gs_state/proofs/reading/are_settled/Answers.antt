@@ -1,9 +1,0 @@
-use Rattle.std.proofs.Common.{◌∙◌}
-use Rattle.gs_state.specs.Checkpoints.{have_views}
-use Rattle.gs_state.proofs.Readings.{views_settled}
-use Rattle.gs_state.proofs.reading.are_settled.Goals as goal
-
-pub returns : goal.returns
-returns c =
-    let checkpoint = c.args.checkpoint.now in
-    c.have_views.ensures ∙ (λ i. have_views (c.requires i) (c.deref.ensures.value i)) ∙ views_settled checkpoint.settled.items checkpoint.references.items

@@ -1,9 +1,0 @@
-use Rattle.std.proofs.Common.{◌≡◌, drop}
-use Rattle.std.specs.Ordering.{nat_cmp}
-use Rattle.gs_table.specs.Slots.{live}
-use Rattle.gs_state.specs.Checkpoints.{have_views}
-use Rattle.gs_state.specs.Recorded.{chunks_of}
-use Rattle.gs_state.proofs.reading.have_views.Given as goal
-
-abbrev pub invariant-loop-reference : goal.invariant-loop-reference
-invariant-loop-reference l = have_views (chunks_of (live nat_cmp l.leases)) (drop l.reference-index l.references) ≡ have_views (chunks_of (live nat_cmp l.leases)) l.references

@@ -1,8 +1,0 @@
-use Rattle.std.proofs.Common.{◌≡◌, drop}
-use Rattle.gs_state.specs.Durable.{prepared_view}
-use Rattle.gs_state.specs.Recorded.{durable_of}
-use Rattle.gs_state.specs.Whole.{are_all_prepared}
-use Rattle.gs_state.proofs.recorded.Recorded.are_all_prepared.Given as goal
-
-abbrev pub invariant-loop-entry : goal.invariant-loop-entry
-invariant-loop-entry l = are_all_prepared (prepared_view (durable_of l.self)) (drop l.entry-index l.entry-items) ≡ are_all_prepared (prepared_view (durable_of l.self)) l.entry-items

@@ -1,6 +1,0 @@
-use Rattle.gs_state.specs.Recorded.{durable_of}
-use Rattle.gs_state.proofs.ScanLists.{scan_is}
-use Rattle.gs_state.proofs.recorded.Recorded.scan.Goals as goal
-
-pub returns-in-Ok : goal.returns-in-Ok
-returns-in-Ok c = scan_is c.args.moment (durable_of c.args.self.now).names c.in-Ok.scan c.in-Ok.ensures

@@ -1,6 +1,0 @@
-use Rattle.std.proofs.Common.{◌≡◌, ◌++◌, take}
-use Rattle.gs_state.specs.Volatile.{above}
-use Rattle.gs_state.proofs.waiting.add_above.Given as goal
-
-abbrev pub invariant-loop-name : goal.invariant-loop-name
-invariant-loop-name l = (l.front ≡ take l.name-index l.path) × (l.paths.items ≡ l.initial.paths.items ++ above l.front)

@@ -1,0 +1,29 @@
+-- What a script leaves is a store that is reached, with an account.
+use Rattle.std.specs.Prelude.{◌≡◌, ℕ, Bool, List, [], ◌∷◌, true}
+use Rattle.gs_base.specs.declared.config.Config.{Config}
+use Rattle.gs_block.specs.Written.{TellsApart}
+use Rattle.gs_shell_desk.specs.Ways.{way_of}
+use Rattle.gs_shell_desk.specs.declared.desk.Desk.{Desk}
+use Rattle.gs_journal.specs.Records.{fresh, standing}
+use Rattle.gs_world.specs.Histories.{History}
+use Rattle.gs_world.specs.Runs.{Step}
+use Rattle.gs_world_laws.specs.Reached.{history, unarmed}
+use Rattle.gs_world_laws.specs.Saying.{RunsQuietly}
+use Rattle.gs_world_laws.specs.Within.{IsReachedWithin}
+use Rattle.gs_world_account.specs.Accounts.{Account}
+use Rattle.gs_world_account.specs.Running.{AreAmong, IsReached, Setup}
+
+-- the store of a script: over these disks, with one client, and no failure of a disk arranged
+abbrev pub setup_of : {D : Type 0} → (D → List ℕ) → (D → ℕ) → Config → D × D → (List ℕ → Bool) → Setup D
+setup_of seen failures config disks among = record { seen = seen; failures = failures; armed = unarmed; config = config; clients = 1; disks = disks; among = among }
+
+-- behind each step of a run the blocks that servers have are among some
+abbrev pub AreAlways : {D : Type 0} (seen : D → List ℕ) (failures : D → ℕ) → (List ℕ → Bool) → (steps : List Step) (old new : History D) → RunsQuietly seen failures unarmed steps old new → Type 0
+AreAlways seen failures among [] old new runs = Unit {0}
+AreAlways seen failures among (step ∷ steps) old new (mid, goes, quiet, rest) = AreAmong among mid.nodes × AreAlways seen failures among steps mid new rest
+
+-- A script over disks that said nothing, in no step of which one failed, leaves such a store; where different blocks that its servers ever had have different digests.
+abbrev pub EachScriptIsReached : Type 0 → Type 0
+EachScriptIsReached D = (seen : D → List ℕ) (failures : D → ℕ) (config : Config) (disks : D × D) (desk : Desk D) (r : IsReachedWithin seen failures config disks desk) → standing (seen disks.0) (seen disks.1) ≡ fresh
+    → (runs : RunsQuietly seen failures unarmed r.reached.steps r.reached.begun (history r.sent (way_of desk.wire))) (among : List ℕ → Bool) → among [] ≡ true → TellsApart among → AreAlways seen failures among r.reached.steps r.reached.begun (history r.sent (way_of desk.wire)) runs
+    → (a : Account) × IsReached (setup_of seen failures config disks among) (history r.sent (way_of desk.wire)) a

@@ -1,0 +1,169 @@
+//! What holds of the chunks of a store over every run: what their replicas stand for, which edits stay, what reads give, and what servers keep of a prepare.
+#![tactic(auto)]
+
+ghost use Rattle.std.specs.Prelude.{List, ℕ};
+ghost use Rattle.gs_base.specs.declared.config.Config.{Config};
+ghost use Rattle.gs_base.specs.declared.numbers.ReqId.{ReqId};
+ghost use Rattle.gs_world_account.specs.Running.{Setup};
+ghost use Rattle.gs_world_chunks.specs.Agreeing.{BirthsAgree, BlanksStay, ListsStayOn, MastersAgree, MastersKeepLists, ServersAgree, ServersKeepLists, StillAgree, StillKeepsLists};
+ghost use Rattle.gs_world_chunks.specs.Reached.{EachIsARun, EachLeadsOn};
+ghost use Rattle.gs_world_chunks.specs.Copying.{CopiesAreOfViews, CopiesInherit};
+ghost use Rattle.gs_world_chunks.specs.Acknowledged.{DoneStays, RepeatsAreAlike};
+ghost use Rattle.gs_world_chunks.specs.Asked.{EditsWereAsked};
+ghost use Rattle.gs_world_chunks.specs.Joining.{StoresAgreeFirst, StoresAgreeOn};
+ghost use Rattle.gs_world_chunks.specs.Reading.{BytesAreFetched, LocationsWereLookedUp, ReadsAreLegal};
+ghost use Rattle.gs_world_chunks.specs.Sealing.{RolledBackStay, SurvivorsKeepTheirText, SurvivorsName};
+ghost use Rattle.gs_world_chunks.specs.Standing.{QuietStaysStill, ReplicasStand};
+ghost use Rattle.gs_world_chunks.specs.Durables.{ToldIsHad};
+ghost use Rattle.gs_world_chunks.specs.Seeing.{EachIsSeen, EachSeesOn, StoresStayIntact};
+
+use gs_block::promises::configurations_have_sizes;
+use gs_server_laws::{a_message_edits_a_replica_by_what_it_says, an_event_calls_what_it_says};
+
+/// Each chunk of a store is a run of its machine: behind each run of a store that has begun new, in which no disk of the master fails and all that is asked is within its types, each chunk
+/// is not born yet, or a world of its machine, which is reached from its birth, shows the store as it is then: what each server keeps of it, the master's part, and all that was ever said.
+/// Copies among them. Different blocks of the run are to have different digests. From one world of a run to a later one the machine of each chunk leads on, from the same birth.
+pub fn each_chunk_of_a_store_is_a_run_of_its_machine<D>()
+    ensures reached { (x : Setup D) → EachIsARun x }
+    ensures onward { (x : Setup D) → EachLeadsOn x }
+{
+    configurations_have_sizes();
+    a_message_edits_a_replica_by_what_it_says();
+}
+
+/// What an account has of the records is what is durable at the master, as long as no disk fails.
+pub fn what_the_records_tell_is_what_the_master_has<D>()
+    ensures { (seen : D → List ℕ) → ToldIsHad seen }
+{}
+
+/// The account of a run agrees with the machine of each chunk: its lists are those of the views that stood, its counts those that were reached, what it has of a prepare is
+/// the prepared list, and what is told to be copied is a list that it has. It goes on so at each step.
+pub fn accounts_agree_with_machines<D>()
+    ensures servers { (seen : D → List ℕ) (config : Config) (bytes : ReqId → List ℕ) → ServersAgree seen config bytes }
+    ensures masters { (seen : D → List ℕ) (config : Config) (bytes : ReqId → List ℕ) → MastersAgree seen config bytes }
+    ensures still { (config : Config) (bytes : ReqId → List ℕ) → StillAgree D config bytes }
+    ensures blank { BlanksStay D }
+    ensures births { (config : Config) (bytes : ReqId → List ℕ) → BirthsAgree D config bytes }
+{
+    a_message_edits_a_replica_by_what_it_says();
+}
+
+/// What an account has of a view that stood as the machine has it, it has so behind each step, and from world to world.
+pub fn what_accounts_have_as_machines_stays<D>()
+    ensures servers { (seen : D → List ℕ) (config : Config) (bytes : ReqId → List ℕ) → ServersKeepLists seen config bytes }
+    ensures masters { (seen : D → List ℕ) (config : Config) (bytes : ReqId → List ℕ) → MastersKeepLists seen config bytes }
+    ensures still { StillKeepsLists D }
+    ensures onward { ListsStayOn }
+{
+    a_message_edits_a_replica_by_what_it_says();
+}
+
+/// The account of a run of a store agrees with the machines of all its chunks when the store begins new, and behind each step where it did so before it. A copy was born with
+/// what the account has of the view that it is a copy of.
+pub fn accounts_of_stores_agree_with_machines<D>()
+    ensures first { (x : Setup D) (bytes : ReqId → List ℕ) → StoresAgreeFirst x bytes }
+    ensures steps { (x : Setup D) (bytes : ReqId → List ℕ) → StoresAgreeOn x bytes }
+{
+    a_message_edits_a_replica_by_what_it_says();
+}
+
+/// Who survives by the account of a run, of those from whom a rollback may take a chunk, is intact in the chunk's machine, behind each step of a store at which it was so before it.
+pub fn accounts_tell_who_is_intact<D>()
+    ensures { (x : Setup D) (bytes : ReqId → List ℕ) → StoresStayIntact x bytes }
+{}
+
+/// Behind each run of a store that has begun new, in which no disk of the master fails and all that is asked is within its types, where different blocks have different digests: each chunk is not
+/// born yet, or a machine of it shows the store; the account of the run agrees with the machines, and who survives by it is intact in them. In a later world of the run each
+/// chunk that lived leads on, and what the account had of its views it has still.
+pub fn all_chunks_are_seen<D>()
+    ensures reached { (x : Setup D) → EachIsSeen x }
+    ensures onward { (x : Setup D) → EachSeesOn x }
+{
+    configurations_have_sizes();
+    a_message_edits_a_replica_by_what_it_says();
+}
+
+/// Behind each run of a store, each live replica stands for a beginning of a list: it has applied that many edits of one view's list, from the first on, has as many bytes as they leave, and each of its blocks
+/// that has its digest holds theirs. The list is the chunk's own, or, until a view of a copy is settled, that of which it is a copy. Here and below a run is one that has begun new, in which no disk of the
+/// master fails, all that is asked is within its types, and different blocks have different digests.
+pub fn replicas_stand_for_beginnings_of_lists<D>()
+    ensures { (x : Setup D) → ReplicasStand x }
+{
+    configurations_have_sizes();
+    a_message_edits_a_replica_by_what_it_says();
+}
+
+/// Behind each run each member of a quiet chunk, of which the view was settled without a primary and no other is proposed, while no rollback is going on, has as many edits as the view counts, under its stamp, if it has a live
+/// replica, and they are all that is settled. No message that was ever sent makes it take another edit.
+pub fn quiet_chunks_are_still<D>()
+    ensures { (x : Setup D) → QuietStaysStill x }
+{
+    configurations_have_sizes();
+    a_message_edits_a_replica_by_what_it_says();
+    an_event_calls_what_it_says();
+}
+
+/// Each edit in each list that the account of a run has, of whichever chunk and view, is one that was asked for: a message was sent that asks for it, and it is what is numbered for that operation behind the edits
+/// before it, with the bytes that were pushed, or a pad where its record didn't fit. All that was ever sent for its request asks for the same, and names the same chunk and the same stamp; and bytes were pushed for it,
+/// unless it is a pad. No record is longer than a quarter of a chunk.
+pub fn each_edit_was_asked_for<D>()
+    ensures { (x : Setup D) → EditsWereAsked x }
+{
+    configurations_have_sizes();
+    a_message_edits_a_replica_by_what_it_says();
+}
+
+/// An edit that a client was told done was numbered under the stamp that it was asked for under, once; or it is a record that passed a full chunk: the full text is of the view under whose stamp it was asked
+/// for, and no list of that chunk has an edit of its request, then or later. No record is longer than a quarter of a chunk. What was numbered is the edit that was asked for: of this chunk, with the bytes that
+/// were pushed, or a pad where its record didn't fit behind the edits before it. It is settled then and in each later world of the run in which a file has the chunk, or had it, at the same place, behind the
+/// same edits, unless the upgrade within which it was numbered was rolled back. Whoever is told twice that the edit of one request is done is told the same outcome.
+pub fn done_edits_stay<D>()
+    ensures stays { (x : Setup D) → DoneStays x }
+    ensures repeats { (x : Setup D) → RepeatsAreAlike x }
+{
+    configurations_have_sizes();
+    a_message_edits_a_replica_by_what_it_says();
+}
+
+/// Whatever has happened since a chunk was looked up, a member of the view that was told gives a read in that epoch the part that was asked for of the text of a beginning of the list of this view or a later one, with all
+/// edits that were settled at the look-up; or it refuses. And whatever is given at any event is given by a server that is asked for that request then, and is the
+/// part asked for of the text of a beginning of a list: nothing else is ever read. That list is the chunk's own, or, until the first view of a copy is settled, that of which it is one.
+pub fn reads_are_legal<D>()
+    ensures legal { (x : Setup D) → ReadsAreLegal x }
+    ensures fetched { (x : Setup D) → BytesAreFetched x }
+{
+    configurations_have_sizes();
+    a_message_edits_a_replica_by_what_it_says();
+}
+
+/// While an upgrade stands, and while it is rolled back, each server that survives keeps the text of the prepare: live under the stamp of then until it learns of the prepare, sealed while it knows of the upgrade, and
+/// live under the first stamp of the rollback's epoch once it has learned of that. And it names the chunk where it learns of the rollback, and where it is told so again. One that has
+/// rolled back keeps that text behind the commit too, whatever happens, until it makes a greater promise, or its replica is lost, damaged or dropped.
+pub fn survivors_keep_what_stood_at_the_prepare<D>()
+    ensures keep { (x : Setup D) → SurvivorsKeepTheirText x }
+    ensures name { (x : Setup D) → SurvivorsName x }
+    ensures stay { (x : Setup D) → RolledBackStay x }
+{
+    configurations_have_sizes();
+    a_message_edits_a_replica_by_what_it_says();
+}
+
+/// Each view of a chunk that a client was ever told was looked up in some world of the run in which the call that is answered had been sent: the records told then that a file has the chunk, or had it, that this is its
+/// settled view, and that this is the epoch; and nothing was rolled back. It needn't be where the client was first told: an answer that is kept may be sent later, when another view has been settled.
+pub fn locations_were_looked_up<D>()
+    ensures { (x : Setup D) → LocationsWereLookedUp x }
+{
+    configurations_have_sizes();
+    a_message_edits_a_replica_by_what_it_says();
+}
+
+/// A chunk that is a copy, once a view of it is settled, has settled all edits that the chunk of which it is one has under the stamp that was copied, and they stand first. It is so in each
+/// world of each run, also of a chunk that no file has any more; and of the edits that were under that stamp in an earlier world of the run in which it was a copy. That stamp is the one of a view of its source
+/// that was settled right before or right behind the step at which the chunk became a copy, and in which nobody might number; and the source has no other edits under it than it had then, among them all that it had settled in it.
+pub fn copies_inherit<D>()
+    ensures inherit { (x : Setup D) → CopiesInherit x }
+    ensures views { (x : Setup D) → CopiesAreOfViews x }
+{
+    configurations_have_sizes();
+    a_message_edits_a_replica_by_what_it_says();
+}

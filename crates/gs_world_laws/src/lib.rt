@@ -1,0 +1,139 @@
+//! The theorems over every run of the whole store.
+#![tactic(auto)]
+
+ghost use Rattle.std.specs.Prelude.{◌≡◌, ◌≤◌, ◌<◌, ◌+◌, ◌^◌, ℕ, Err, List, Option, Some, slice_get};
+ghost use Rattle.std.specs.List.{AllByRecursion};
+ghost use Rattle.gs_base.specs.Told.{IsNumber};
+ghost use Rattle.gs_base.specs.declared.config.Config.{Config};
+ghost use Rattle.gs_base.specs.declared.numbers.Moment.{Moment};
+ghost use Rattle.gs_base.specs.declared.refusal.Refusal.{Refusal};
+ghost use Rattle.gs_base.specs.declared.refusal.Refusal.TheVariants as refusals;
+ghost use Rattle.gs_shell_calls.specs.Asked.{asked_by};
+ghost use Rattle.gs_shell_calls.specs.declared.answer.Answer.{Answer};
+ghost use Rattle.gs_client.specs.declared.link.Reply.{Reply};
+ghost use Rattle.gs_client_dialogue.specs.Dialogues.{Call};
+ghost use Rattle.gs_shell_desk.specs.Answering.{AnswersText};
+ghost use Rattle.gs_shell_desk.specs.Starting.{Starts};
+ghost use Rattle.gs_shell_desk.specs.declared.desk.Desk.{Desk};
+ghost use Rattle.gs_journal.specs.Faults.{Failing};
+ghost use Rattle.gs_journal.specs.Records.{fresh, standing};
+ghost use Rattle.gs_shell_grammar.specs.Grammar.{At, Request, line_request};
+ghost use Rattle.gs_server.specs.Runs.{IsReached};
+ghost use Rattle.gs_server.specs.Servers.{Server};
+ghost use Rattle.gs_shell.specs.Serving.{Serves};
+ghost use Rattle.gs_shell_desk.specs.Ways.{way_of};
+ghost use Rattle.gs_master_laws.specs.Standing.{IsNamedBody};
+ghost use Rattle.gs_master_laws.specs.Written.{IsHeardBody, IsSteady};
+ghost use Rattle.gs_master.specs.Masters.{MasterOf};
+ghost use Rattle.gs_master.specs.Ticking.{pressed_all};
+ghost use Rattle.gs_msg.specs.declared.event.DiskId.{DiskId};
+ghost use Rattle.gs_msg.specs.declared.event.Request.{Request as Req};
+ghost use Rattle.gs_msg.specs.declared.message.Message.{Message};
+ghost use Rattle.gs_msg.specs.declared.node.NodeId.TheVariants as nodes;
+ghost use Rattle.gs_world.specs.Histories.{Begins, History, arms, failures_of, seen_of};
+ghost use Rattle.gs_world.specs.Lasting.{Lasts, StandsFirm, failures_at};
+ghost use Rattle.gs_world.specs.Runs.{RunsTo, Step};
+ghost use Rattle.gs_world.specs.Sent.{IsSent, Sent};
+ghost use Rattle.gs_master_spec.specs.Handling.{handle};
+ghost use Rattle.gs_world_laws.specs.Asking.{AllAsked, MayBeAsked};
+ghost use Rattle.gs_world_laws.specs.Enduring.{RunsForMemory};
+ghost use Rattle.gs_world_laws.specs.Reached.{Covers, IsReachedDesk, LeadsBySteps, history, unarmed};
+ghost use Rattle.gs_world_laws.specs.Refusing.{RefusesAlone};
+ghost use Rattle.gs_world_laws.specs.Saying.{IsStepWithin, KeepsTypes, MayBeSaid, RunsQuietly};
+ghost use Rattle.gs_world_laws.specs.Steady.{LastsSteady, RunsSteadily};
+ghost use Rattle.gs_world_laws.specs.Within.{IsReachedWithin};
+ghost use Rattle.gs_nodes.specs.Happenings.{MasterHears, MasterTicks};
+ghost use Rattle.gs_nodes.specs.declared.place.MasterPlace.{MasterPlace};
+ghost use Rattle.gs_nodes.specs.declared.place.MasterPlace.TheVariants.{Standing};
+
+use gs_block::promises::configurations_have_sizes;
+
+mod scripts;
+
+pub use scripts::a_script_answers_its_input;
+
+/// A desk that begins is at a store that has begun over the same disks, and each line leads on by steps of that store: events of its nodes,
+/// and answers that its client takes. All that is under way was sent by a node, and so is all that the nodes hear. What a script leaves that
+/// is read and answered to its end is a store behind such steps.
+pub fn each_script_is_a_run<D>()
+    ensures begins { (seen : D → List ℕ) (failures : D → ℕ) (config : Config) (disks : D × D) (desk : Desk D) → Starts seen failures config disks desk → IsReachedDesk seen failures config disks desk }
+    ensures line { (seen : D → List ℕ) (failures : D → ℕ) (old new : Desk D) (line text : List ℕ) (sent : Sent) → AnswersText seen failures old line text new → Covers sent (way_of old.wire) → LeadsBySteps seen failures (way_of old.wire) (way_of new.wire) sent }
+    ensures script { (seen : D → List ℕ) (failures : D → ℕ) (config : Config) (disks : D × D) (input : List ℕ) (old new : Option (List ℕ)) (s : Serves seen failures config disks input old new) → IsReachedDesk seen failures config disks s.ended }
+{}
+
+/// Each server of a store is, behind each script, one that has begun with nothing, behind events of its own. So the laws of such servers
+/// hold of it.
+pub fn each_server_of_a_script_is_reached<D>()
+    ensures { (seen : D → List ℕ) (failures : D → ℕ) (config : Config) (disks : D × D) (desk : Desk D) (id : ℕ) (s : Server) → IsReachedDesk seen failures config disks desk → slice_get desk.wire.nodes.servers.items id ≡ Some s → IsReached s }
+{
+    configurations_have_sizes();
+}
+
+/// A master that stands firm, whose log is within its limit, refuses a message and a tick for want of memory alone, or as `BadLine` where a
+/// record of it can't be written: its records fit what they meet, and have room.
+pub fn a_firm_master_refuses_for_memory<D>()
+    ensures messages { (seen : D → List ℕ) (failures : D → ℕ) (message : Message) (moment : Moment) (m : MasterOf D) (e : Refusal) (new : MasterPlace D) → StandsFirm seen m → m.state.log.size ≤ m.state.log.limit → IsNamedBody message.body × IsNumber moment.0 → MasterHears seen failures message moment (Standing m) (Err e) new → RefusesAlone (handle m.config m.state message moment) e }
+    ensures ticks { (seen : D → List ℕ) (failures : D → ℕ) (moment : Moment) (m : MasterOf D) (e : Refusal) (new : MasterPlace D) → StandsFirm seen m → m.state.log.size ≤ m.state.log.limit → MasterTicks seen failures moment (Standing m) (Err e) new → RefusesAlone (pressed_all m.state moment) e }
+{}
+
+/// Where all that such a master keeps is within its types besides, it refuses what it hears and a tick for want of memory alone, since each
+/// record can be written. What it hears is within its types too: its request, and where a call meets names, those.
+pub fn a_steady_master_refuses_for_memory_alone<D>()
+    ensures messages { (seen : D → List ℕ) (failures : D → ℕ) (message : Message) (moment : Moment) (m : MasterOf D) (e : Refusal) (new : MasterPlace D) → StandsFirm seen m → IsSteady m.state → IsNamedBody message.body × IsNumber moment.0 → IsHeardBody m.state.durable.names message.body → MasterHears seen failures message moment (Standing m) (Err e) new → e ≡ refusals.Memory }
+    ensures ticks { (seen : D → List ℕ) (failures : D → ℕ) (moment : Moment) (m : MasterOf D) (e : Refusal) (new : MasterPlace D) → StandsFirm seen m → IsSteady m.state → MasterTicks seen failures moment (Standing m) (Err e) new → e ≡ refusals.Memory }
+{}
+
+/// A master stays steady as long as no disk of it fails and what it hears is within its types: it stands firm, all that it keeps is within its
+/// types, and its log is within its limit, so that each record of it can be written. Over disks that say nothing a store begins so. Each step
+/// leaves the master so, or, where memory was wanting for a restart, disks that tell such a master. What is steady is firm.
+pub fn a_master_stays_steady_while_no_disk_fails<D>()
+    ensures begun { (seen : D → List ℕ) (failures : D → ℕ) (armed : DiskId → ℕ → MasterPlace D → MasterPlace D) (config : Config) (clients : ℕ) (disks : D × D) (new : History D) → standing (seen disks.0) (seen disks.1) ≡ fresh → Begins seen failures armed config clients disks new → LastsSteady seen new.nodes.master }
+    ensures kept { (seen : D → List ℕ) (failures : D → ℕ) (steps : List Step) (old new : History (Failing D)) → RunsSteadily (seen_of seen) (failures_of failures) arms steps old new → LastsSteady (seen_of seen) old.nodes.master → LastsSteady (seen_of seen) new.nodes.master }
+    ensures unarmed { (seen : D → List ℕ) (failures : D → ℕ) (armed : DiskId → ℕ → MasterPlace D → MasterPlace D) (steps : List Step) (old new : History D) → ((disk : DiskId) (call : ℕ) (place : MasterPlace D) → armed disk call place ≡ place) → RunsSteadily seen failures armed steps old new → LastsSteady seen old.nodes.master → LastsSteady seen new.nodes.master }
+    ensures firm { (seen : D → List ℕ) (place : MasterPlace D) → LastsSteady seen place → Lasts seen place }
+{}
+
+/// What a line asks of a store is within its types, whatever is answered on the way: each path that it names is by the rules, and a write asks
+/// for the place of no chunk that a record can't tell. A moment that a line sets is a number of 64 bits.
+pub fn each_line_asks_within_its_types()
+    ensures asked { (size : ℕ) (line : List ℕ) (request : Request) (call : Call Req Reply Answer) → line_request line ≡ Some request → asked_by size request ≡ Some call → AllAsked MayBeAsked call }
+    ensures moments { (line : List ℕ) (moment : ℕ) → line_request line ≡ Some (At moment) → IsNumber moment }
+{}
+
+/// A store that is asked within its types keeps them: all that its nodes have sent may be said to its receiver, and each server counts in 64
+/// bits. So its master hears only what is within its types.
+pub fn a_store_that_is_asked_within_its_types_keeps_them<D>()
+    ensures begun { (seen : D → List ℕ) (failures : D → ℕ) (armed : DiskId → ℕ → MasterPlace D → MasterPlace D) (config : Config) (clients : ℕ) (disks : D × D) (new : History D) → clients < 2 ^ 32 → Begins seen failures armed config clients disks new → KeepsTypes new }
+    ensures kept { (seen : D → List ℕ) (failures : D → ℕ) (armed : DiskId → ℕ → MasterPlace D → MasterPlace D) (steps : List Step) (old new : History D) → RunsTo seen failures armed steps old new → AllByRecursion IsStepWithin steps → KeepsTypes old → KeepsTypes new }
+    ensures heard { (seen : D → List ℕ) (failures : D → ℕ) (armed : DiskId → ℕ → MasterPlace D → MasterPlace D) (steps : List Step) (old new : History D) → RunsQuietly seen failures armed steps old new → AllByRecursion IsStepWithin steps → KeepsTypes old → RunsSteadily seen failures armed steps old new }
+{}
+
+/// So the master of such a store stays steady while no disk of it fails, and refuses what it is sent, and a tick, for want of memory alone.
+pub fn a_master_asked_within_its_types_stays_steady<D>()
+    ensures kept { (seen : D → List ℕ) (failures : D → ℕ) (steps : List Step) (old new : History (Failing D)) → RunsQuietly (seen_of seen) (failures_of failures) arms steps old new → AllByRecursion IsStepWithin steps → KeepsTypes old → LastsSteady (seen_of seen) old.nodes.master → LastsSteady (seen_of seen) new.nodes.master }
+    ensures unarmed { (seen : D → List ℕ) (failures : D → ℕ) (armed : DiskId → ℕ → MasterPlace D → MasterPlace D) (steps : List Step) (old new : History D) → ((disk : DiskId) (call : ℕ) (place : MasterPlace D) → armed disk call place ≡ place) → RunsQuietly seen failures armed steps old new → AllByRecursion IsStepWithin steps → KeepsTypes old → LastsSteady seen old.nodes.master → LastsSteady seen new.nodes.master }
+    ensures messages { (seen : D → List ℕ) (failures : D → ℕ) (h : History D) (message : Message) (moment : Moment) (e : Refusal) (new : MasterPlace D) → KeepsTypes h → LastsSteady seen h.nodes.master → IsSent message h.sent → message.to ≡ nodes.Master → IsNumber moment.0 → MasterHears seen failures message moment h.nodes.master (Err e) new → e ≡ refusals.Memory }
+    ensures ticks { (seen : D → List ℕ) (failures : D → ℕ) (h : History D) (moment : Moment) (e : Refusal) (new : MasterPlace D) → LastsSteady seen h.nodes.master → MasterTicks seen failures moment h.nodes.master (Err e) new → e ≡ refusals.Memory }
+    ensures refused { (seen : D → List ℕ) (failures : D → ℕ) (steps : List Step) (old new : History (Failing D)) (runs : RunsQuietly (seen_of seen) (failures_of failures) arms steps old new) → AllByRecursion IsStepWithin steps → KeepsTypes old → LastsSteady (seen_of seen) old.nodes.master → RunsForMemory (seen_of seen) (failures_of failures) arms steps old new runs }
+{}
+
+/// All that the lines of a script ask is within the types of the store that it runs over: a desk that begins, each line, and so a whole script
+/// lead on by such steps. So where the disks said nothing and none of them failed in a step, the master is steady behind each line, and in each
+/// step, whatever it refuses of what it is sent or of its ticks, it refuses for want of memory alone.
+pub fn each_script_asks_within_its_types<D>()
+    ensures begins { (seen : D → List ℕ) (failures : D → ℕ) (config : Config) (disks : D × D) (desk : Desk D) → Starts seen failures config disks desk → IsReachedWithin seen failures config disks desk }
+    ensures line { (seen : D → List ℕ) (failures : D → ℕ) (config : Config) (disks : D × D) (old new : Desk D) (line text : List ℕ) → AnswersText seen failures old line text new → IsReachedWithin seen failures config disks old → IsReachedWithin seen failures config disks new }
+    ensures script { (seen : D → List ℕ) (failures : D → ℕ) (config : Config) (disks : D × D) (input : List ℕ) (old new : Option (List ℕ)) (s : Serves seen failures config disks input old new) → IsReachedWithin seen failures config disks s.ended }
+    ensures kept { (seen : D → List ℕ) (failures : D → ℕ) (config : Config) (disks : D × D) (desk : Desk D) (r : IsReachedWithin seen failures config disks desk) → KeepsTypes (history r.sent (way_of desk.wire)) }
+    ensures waiting { (seen : D → List ℕ) (failures : D → ℕ) (config : Config) (disks : D × D) (desk : Desk D) → IsReachedWithin seen failures config disks desk → AllByRecursion (λ message. MayBeSaid message.to message.body) desk.wire.queue.items × AllByRecursion (λ message. MayBeSaid message.to message.body) desk.wire.held.items }
+    ensures heard { (seen : D → List ℕ) (failures : D → ℕ) (config : Config) (disks : D × D) (desk : Desk D) (r : IsReachedWithin seen failures config disks desk) → RunsQuietly seen failures unarmed r.reached.steps r.reached.begun (history r.sent (way_of desk.wire)) → RunsSteadily seen failures unarmed r.reached.steps r.reached.begun (history r.sent (way_of desk.wire)) }
+    ensures steady { (seen : D → List ℕ) (failures : D → ℕ) (config : Config) (disks : D × D) (desk : Desk D) (r : IsReachedWithin seen failures config disks desk) → standing (seen disks.0) (seen disks.1) ≡ fresh → RunsQuietly seen failures unarmed r.reached.steps r.reached.begun (history r.sent (way_of desk.wire)) → LastsSteady seen desk.wire.nodes.master }
+    ensures refused { (seen : D → List ℕ) (failures : D → ℕ) (config : Config) (disks : D × D) (desk : Desk D) (r : IsReachedWithin seen failures config disks desk) → standing (seen disks.0) (seen disks.1) ≡ fresh → (runs : RunsQuietly seen failures unarmed r.reached.steps r.reached.begun (history r.sent (way_of desk.wire))) → RunsForMemory seen failures unarmed r.reached.steps r.reached.begun (history r.sent (way_of desk.wire)) runs }
+{}
+
+/// Disks of the master's journal have never failed less often than before. So a script over disks that said nothing leaves a steady master where
+/// they have failed no more often in the end than at the start: in no step one failed.
+pub fn a_script_whose_disks_have_not_failed_ends_steady<D>()
+    ensures quiet { (seen : D → List ℕ) (failures : D → ℕ) (steps : List Step) (old new : History D) → RunsTo seen failures unarmed steps old new → failures_at failures new.nodes.master ≡ failures_at failures old.nodes.master → RunsQuietly seen failures unarmed steps old new }
+    ensures ended { (seen : D → List ℕ) (failures : D → ℕ) (config : Config) (disks : D × D) (desk : Desk D) → IsReachedWithin seen failures config disks desk → standing (seen disks.0) (seen disks.1) ≡ fresh → failures_at failures desk.wire.nodes.master ≡ failures disks.0 + failures disks.1 → LastsSteady seen desk.wire.nodes.master }
+{}
