@@ -3,7 +3,7 @@ use Rattle.std.proofs.Common.{◌≡◌, inl, inr, ℕ, suc, ◌+◌, ◌<◌, �
 use Rattle.gs_journal_disk.specs.Disk.{Only}
 use Rattle.gs_journal.specs.Records.{Entry, frame, entry_of, header, is_begun, version_of, generation_of, records_of, second_counts, standing, text_of}
 use Rattle.gs_journal.specs.inner.Rest.{IsAtRest, IsMaking}
-use Rattle.gs_journal.specs.Journal.{IsOldOrNew}
+use Rattle.gs_journal.specs.Journal.{IsStillOrNext}
 use Rattle.gs_journal.specs.inner.Pair.{text, IsSettled}
 use Rattle.gs_journal.specs.declared.pair.Pair.{Pair}
 use Rattle.gs_journal.specs.declared.version.Version.TheVariants.{Two}
@@ -11,7 +11,7 @@ use Rattle.gs_journal.proofs.Frames.{frame_is}
 use Rattle.gs_journal.proofs.Complete.{complete_next, at_rest}
 use Rattle.gs_journal.proofs.Opening.{header_begun, header_generation, header_complete}
 use Rattle.gs_journal.proofs.Settled.{known_first, known_second, settled_first, settled_second, grown}
-use Rattle.gs_journal.proofs.Standing.{standing_first, standing_second, second_unmade, first_unmade, second_made, first_made}
+use Rattle.gs_journal.proofs.Standing.{standing_first, standing_second, second_unmade, first_unmade, second_made, first_made, generation_first, generation_second}
 
 -- a new disk with one record
 pub record IsNew (g : ℕ) (r : Entry) (x : List ℕ) : Type 0 where
@@ -38,16 +38,24 @@ new_disk g r x fits short is =
       says = λ i. (ap version_of is i, one i);
     }
 
-module _ (a b bytes : List ℕ) (r : Entry) where
-  pub second_making : (c : List ℕ) → second_counts a b ≡ false → is_begun a ≡ true → IsNew (suc (generation_of a)) r (1 ∷ bytes) → IsMaking bytes b c → IsOldOrNew (standing a b) (Two, r ∷ []) (standing a c)
-  second_making c counts begun new (inl unmade) = inl (standing_first a c (second_unmade a b c counts unmade) begun ∙ sym (standing_first a b counts begun))
-  second_making c counts begun new (inr made) =
-      let later = second_made a b c (ap is_begun made ∙ new.begun) (ap generation_of made ∙ new.generation) in inr (standing_second a c later ∙ ap text_of made ∙ new.says)
+one_more : (n : ℕ) {m : ℕ} → m ≡ suc n → m ≡ n + 1
+one_more n is = omega (arith, is)
 
-  pub first_making : (c : List ℕ) → second_counts a b ≡ true → IsNew (suc (generation_of b)) r (1 ∷ bytes) → IsMaking bytes a c → IsOldOrNew (standing a b) (Two, r ∷ []) (standing c b)
-  first_making c counts new (inl unmade) = inl (standing_second c b (first_unmade a b c counts unmade) ∙ sym (standing_second a b counts))
+module _ (a b bytes : List ℕ) (r : Entry) where
+  pub second_making : (c : List ℕ) → second_counts a b ≡ false → is_begun a ≡ true → IsNew (suc (generation_of a)) r (1 ∷ bytes) → IsMaking bytes b c → IsStillOrNext (standing a b) (generation_of a) (Two, r ∷ []) a c
+  second_making c counts begun new (inl unmade) =
+      let still = second_unmade a b c counts unmade in inl (standing_first a c still begun ∙ sym (standing_first a b counts begun), generation_first a c still begun)
+  second_making c counts begun new (inr made) =
+      let later = second_made a b c (ap is_begun made ∙ new.begun) (ap generation_of made ∙ new.generation) in
+      inr (standing_second a c later ∙ ap text_of made ∙ new.says, one_more (generation_of a) (generation_second a c later ∙ ap generation_of made ∙ new.generation))
+
+  pub first_making : (c : List ℕ) → second_counts a b ≡ true → IsNew (suc (generation_of b)) r (1 ∷ bytes) → IsMaking bytes a c → IsStillOrNext (standing a b) (generation_of b) (Two, r ∷ []) c b
+  first_making c counts new (inl unmade) =
+      let still = first_unmade a b c counts unmade in inl (standing_second c b still ∙ sym (standing_second a b counts), generation_second c b still)
   first_making c counts new (inr made) =
-      let begun = ap is_begun made ∙ new.begun in inr (standing_first c b (first_made a b c begun (ap generation_of made ∙ new.generation)) begun ∙ ap text_of made ∙ new.says)
+      let begun = ap is_begun made ∙ new.begun in
+      let later = first_made a b c begun (ap generation_of made ∙ new.generation) in
+      inr (standing_first c b later begun ∙ ap text_of made ∙ new.says, one_more (generation_of b) (generation_first c b later begun ∙ ap generation_of made ∙ new.generation))
 
 module _ {D : Type 0} (seen : D → List ℕ) (may_leave : D → List ℕ → Type 0) where
   -- the first disk was made anew while the second counted
@@ -84,15 +92,17 @@ module _ {D : Type 0} (seen : D → List ℕ) (may_leave : D → List ℕ → Ty
 
   -- what a crash leaves in between
   pub new_while_first : (j : Pair D) (r : Entry) (bytes c : List ℕ) → IsSettled seen may_leave j → j.is_second ≡ true → j.generation + 1 < 2 ^ 64 → length r.1 < 2 ^ 32 → 1 ∷ bytes ≡ header Two (j.generation + 1) ++ 1 ∷ (frame r ++ 0 ∷ [])
-      → IsMaking bytes (seen j.first) c → IsOldOrNew (text seen j) (Two, r ∷ []) (standing c (seen j.second))
+      → IsMaking bytes (seen j.first) c → IsStillOrNext (text seen j) j.generation (Two, r ∷ []) c (seen j.second)
   new_while_first j r bytes c s is fits short made making =
       let k = known_second seen may_leave j s is in
       let same : j.generation + 1 ≡ suc (generation_of (seen j.second)) = omega (arith, k.0.generation) in
-      first_making (seen j.first) (seen j.second) bytes r c k.1 (subst (λ (n : ℕ). IsNew n r (1 ∷ bytes)) same (new_disk (j.generation + 1) r (1 ∷ bytes) fits short made)) making
+      subst (λ (g : ℕ). IsStillOrNext (text seen j) g (Two, r ∷ []) c (seen j.second)) (sym k.0.generation)
+      (first_making (seen j.first) (seen j.second) bytes r c k.1 (subst (λ (n : ℕ). IsNew n r (1 ∷ bytes)) same (new_disk (j.generation + 1) r (1 ∷ bytes) fits short made)) making)
 
   pub new_while_second : (j : Pair D) (r : Entry) (bytes c : List ℕ) → IsSettled seen may_leave j → j.is_second ≡ false → j.generation + 1 < 2 ^ 64 → length r.1 < 2 ^ 32 → 1 ∷ bytes ≡ header Two (j.generation + 1) ++ 1 ∷ (frame r ++ 0 ∷ [])
-      → IsMaking bytes (seen j.second) c → IsOldOrNew (text seen j) (Two, r ∷ []) (standing (seen j.first) c)
+      → IsMaking bytes (seen j.second) c → IsStillOrNext (text seen j) j.generation (Two, r ∷ []) (seen j.first) c
   new_while_second j r bytes c s is fits short made making =
       let k = known_first seen may_leave j s is in
       let same : j.generation + 1 ≡ suc (generation_of (seen j.first)) = omega (arith, k.0.generation) in
-      second_making (seen j.first) (seen j.second) bytes r c k.1 k.0.begun (subst (λ (n : ℕ). IsNew n r (1 ∷ bytes)) same (new_disk (j.generation + 1) r (1 ∷ bytes) fits short made)) making
+      subst (λ (g : ℕ). IsStillOrNext (text seen j) g (Two, r ∷ []) (seen j.first) c) (sym k.0.generation)
+      (second_making (seen j.first) (seen j.second) bytes r c k.1 k.0.begun (subst (λ (n : ℕ). IsNew n r (1 ∷ bytes)) same (new_disk (j.generation + 1) r (1 ∷ bytes) fits short made)) making)

@@ -1,8 +1,10 @@
+mod Behind
 mod Checkpoint
 mod Complete
 mod Crash
 mod Drafting
 mod Faults
+mod Forms
 mod Frames
 mod Making
 mod Opening

@@ -1,12 +1,12 @@
 -- What disks say while they are opened.
-use Rattle.std.proofs.Common.{◌≡◌, ◌⊎◌, inl, inr, ⊎_elim, ℕ, ◌<◌, ◌^◌, true, false, List, [], ◌∷◌, ◌++◌, refl, sym, ◌∙◌, ap, subst, arith}
+use Rattle.std.proofs.Common.{◌≡◌, ◌⊎◌, inl, inr, ⊎_elim, ℕ, ◌<◌, ◌≤◌, ◌^◌, true, false, List, [], ◌∷◌, ◌++◌, refl, sym, ◌∙◌, ap, subst, arith}
 use Rattle.std.proofs.lemmas.Bool.Decides.{nat_tests}
 use Rattle.std.specs.Prelude.{if◌then◌else◌, Bool}
 use Rattle.byteorder.specs.Numbers.{big_number-reads_back}
-use Rattle.gs_journal.specs.Records.{Text, fresh, header, is_begun, version_of, generation_of, records_of, second_counts, standing, text_of}
+use Rattle.gs_journal.specs.Records.{Text, fresh, header, is_begun, version_of, generation_of, generation_standing, records_of, second_counts, standing, text_of}
 use Rattle.gs_journal.specs.inner.Rest.{IsAtRest, Continues, IsMaking, IsComplete}
 use Rattle.gs_journal.specs.Journal.{MightHaveStood}
-use Rattle.gs_journal.specs.inner.Places.{IsPlace, IsFresh, IsReady, IsLikeFirst, IsLikeSecond}
+use Rattle.gs_journal.specs.inner.Places.{IsPlace, IsFresh, IsReady, IsLikeFirst, IsLikeSecond, SayTheSame}
 use Rattle.gs_journal.specs.declared.place.Place.{Place}
 use Rattle.gs_journal.specs.declared.version.Version.TheVariants.{Two}
 use Rattle.gs_journal_disk.specs.Disk.{Only, LeavesPairs}
@@ -34,7 +34,7 @@ fresh_text g = λ i. (Two, (fresh_rest g).1 i)
 
 pub making_like_first : (a b text c : List ℕ) → is_begun a ≡ false → second_counts a b ≡ false → 1 ∷ text ≡ header Two 1 ++ 0 ∷ [] → IsMaking text a c → IsLikeFirst a b c
 making_like_first a b text c unbegun none is making d =
-    fresh_while_made a b text c d unbegun none (ap is_begun is ∙ header_begun 1 (0 ∷ [])) (ap text_of is ∙ fresh_text 1) making
+    fresh_while_made a b text c d unbegun none (ap is_begun is ∙ header_begun 1 (0 ∷ [])) (ap text_of is ∙ fresh_text 1) (ap generation_of is ∙ header_generation 1 (0 ∷ []) (omega arith)) making
 
 -- a disk whose end is put right
 module _ (old c : List ℕ) (goes_on : Continues old (records_of old) c) where
@@ -44,16 +44,23 @@ module _ (old c : List ℕ) (goes_on : Continues old (records_of old) c) where
   same_text : text_of c ≡ text_of old
   same_text = λ i. (same.version i, goes_on.has i)
 
-  pub like_first : (d : List ℕ) → standing c d ≡ standing old d
-  like_first d =
-      ap (λ (x : Bool). if x then text_of d else (if is_begun c then text_of c else fresh)) (counts_by c old d d same.begun same.generation refl refl)
-      ∙ ap (λ (x : Bool). if second_counts old d then text_of d else (if x then text_of c else fresh)) same.begun
-      ∙ ap (λ (x : Text). if second_counts old d then text_of d else (if is_begun old then x else fresh)) same_text
+  pub like_first : (d : List ℕ) → SayTheSame c d old d
+  like_first d = (
+    ap (λ (x : Bool). if x then text_of d else (if is_begun c then text_of c else fresh)) (counts_by c old d d same.begun same.generation refl refl)
+        ∙ ap (λ (x : Bool). if second_counts old d then text_of d else (if x then text_of c else fresh)) same.begun
+        ∙ ap (λ (x : Text). if second_counts old d then text_of d else (if is_begun old then x else fresh)) same_text,
+    ap (λ (x : Bool). if x then generation_of d else (if is_begun c then generation_of c else 1)) (counts_by c old d d same.begun same.generation refl refl)
+        ∙ ap (λ (x : Bool). if second_counts old d then generation_of d else (if x then generation_of c else 1)) same.begun
+        ∙ ap (λ (g : ℕ). if second_counts old d then generation_of d else (if is_begun old then g else 1)) same.generation,
+  )
 
   pub like_second : IsLikeSecond old c
-  like_second d =
-      ap (λ (x : Bool). if x then text_of c else (if is_begun d then text_of d else fresh)) (counts_by d d c old refl refl same.begun same.generation)
-      ∙ ap (λ (x : Text). if second_counts d old then x else (if is_begun d then text_of d else fresh)) same_text
+  like_second d = (
+    ap (λ (x : Bool). if x then text_of c else (if is_begun d then text_of d else fresh)) (counts_by d d c old refl refl same.begun same.generation)
+        ∙ ap (λ (x : Text). if second_counts d old then x else (if is_begun d then text_of d else fresh)) same_text,
+    ap (λ (x : Bool). if x then generation_of c else (if is_begun d then generation_of d else 1)) (counts_by d d c old refl refl same.begun same.generation)
+        ∙ ap (λ (g : ℕ). if second_counts d old then g else (if is_begun d then generation_of d else 1)) same.generation,
+  )
 
 -- the place, by the bytes of the disk that counts
 pub ready_by : (p : Place) (a b x : List ℕ) → (if p.is_second then b else a) ≡ x → second_counts a b ≡ p.is_second → is_begun x ≡ true → IsAtRest p.end x → p.version ≡ version_of x → p.generation ≡ generation_of x → IsReady p a b
@@ -89,7 +96,7 @@ second_ready p a b b' is counts at rest goes_on =
     let place = subst (IsPlace p) (picked_second p a b is) at in
     let h = same_header b b' goes_on.same_header in (
       ready_by p a b' b' (picked_second p a b' is) (counts_by a a b' b refl refl h.begun h.generation ∙ counts) (h.begun ∙ place.begun) rest (place.version ∙ sym h.version) (place.generation ∙ sym h.generation),
-      like_second b b' goes_on a,
+      (like_second b b' goes_on a).0,
     )
 
 -- the first disk was put right
@@ -98,7 +105,7 @@ first_ready p a b a' is counts at rest goes_on =
     let place = subst (IsPlace p) (picked_first p a b is) at in
     let h = same_header a a' goes_on.same_header in (
       ready_by p a' b a' (picked_first p a' b is) (counts_by a' a b b h.begun h.generation refl refl ∙ counts) (h.begun ∙ place.begun) rest (place.version ∙ sym h.version) (place.generation ∙ sym h.generation),
-      like_first a a' goes_on b,
+      (like_first a a' goes_on b).0,
     )
 
 -- the place on the disk that is put right
@@ -111,23 +118,38 @@ first_place p a b is at = subst (IsPlace p) (picked_first p a b is) at
 -- what two disks are left as while they are opened, they might have been left as before
 pub might_have_stood : (left_a left_b : List ℕ → Type 0) (a b x y : List ℕ) → left_a a → left_b b → left_a x ⊎ IsLikeFirst a b x → left_b y ⊎ IsLikeSecond b y → MightHaveStood left_a left_b (standing x y)
 might_have_stood left_a left_b a b x y at_a at_b (inl was_x) (inl was_y) = (x, y, was_x, was_y, refl)
-might_have_stood left_a left_b a b x y at_a at_b (inl was_x) (inr like_y) = (x, b, was_x, at_b, like_y x)
+might_have_stood left_a left_b a b x y at_a at_b (inl was_x) (inr like_y) = (x, b, was_x, at_b, (like_y x).0)
 might_have_stood left_a left_b a b x y at_a at_b (inr like_x) (inl was_y) = ⊎_elim
-    (λ (e : standing x y ≡ standing a y). (a, y, at_a, was_y, e))
-    (λ (e : standing x y ≡ standing a b). (a, b, at_a, at_b, e))
+    (λ (e : SayTheSame x y a y). (a, y, at_a, was_y, e.0))
+    (λ (e : SayTheSame x y a b). (a, b, at_a, at_b, e.0))
     (like_x y)
 might_have_stood left_a left_b a b x y at_a at_b (inr like_x) (inr like_y) = ⊎_elim
-    (λ (e : standing x b ≡ standing a b). (a, b, at_a, at_b, like_y x ∙ e))
-    (λ (e : standing x b ≡ standing a b). (a, b, at_a, at_b, like_y x ∙ e))
+    (λ (e : SayTheSame x b a b). (a, b, at_a, at_b, (like_y x).0 ∙ e.0))
+    (λ (e : SayTheSame x b a b). (a, b, at_a, at_b, (like_y x).0 ∙ e.0))
     (like_x b)
 
 -- a disk that isn't touched
 module _ {D : Type 0} (seen : D → List ℕ) (may_leave : D → List ℕ → Type 0) (moment : D → ℕ) (left_since : D → ℕ → List ℕ → Type 0) (disk : D) (only : Only (seen disk) (may_leave disk)) (stays : Stays seen may_leave moment left_since disk) where
   pub untouched_first : (b : List ℕ) → LeavesOnly moment left_since disk disk (IsLikeFirst (seen disk) b)
-  untouched_first b = started moment left_since disk _ (λ x left d. inl (ap (λ (y : List ℕ). standing y d) (only x (stays x left))))
+  untouched_first b = started moment left_since disk _ (λ x left d. let same = only x (stays x left) in inl (ap (λ (y : List ℕ). standing y d) same, ap (λ (y : List ℕ). generation_standing y d) same))
 
   pub untouched_second : LeavesOnly moment left_since disk disk (IsLikeSecond (seen disk))
-  untouched_second = started moment left_since disk _ (λ x left d. ap (standing d) (only x (stays x left)))
+  untouched_second = started moment left_since disk _ (λ x left d. let same = only x (stays x left) in (ap (standing d) same, ap (generation_standing d) same))
+
+-- what disks say behind a run, in which one of them may have failed
+module _ {D : Type 0} (seen : D → List ℕ) (may_leave : D → List ℕ → Type 0) (moment : D → ℕ) (left_since : D → ℕ → List ℕ → Type 0)
+    (shows : (d : D) → may_leave d (seen d)) (counts_now : (d : D) (t : ℕ) (c : List ℕ) → t ≤ moment d → may_leave d c → left_since d t c) where
+  pub shown : (old new : D) (P : List ℕ → Type 0) → LeavesOnly moment left_since old new P → P (seen new)
+  shown old new P leaves = leaves.each (seen new) (counts_now new (moment old) (seen new) leaves.later (shows new))
+
+  pub first_told : (old new : D) (b : List ℕ) → LeavesOnly moment left_since old new (IsLikeFirst (seen old) b) → SayTheSame (seen new) b (seen old) b
+  first_told old new b leaves = ⊎_elim
+      (λ (e : SayTheSame (seen new) b (seen old) b). e)
+      (λ (e : SayTheSame (seen new) b (seen old) b). e)
+      (shown old new (IsLikeFirst (seen old) b) leaves b)
+
+  pub second_told : (old new : D) (a : List ℕ) → LeavesOnly moment left_since old new (IsLikeSecond (seen old)) → SayTheSame a (seen new) a (seen old)
+  second_told old new a leaves = shown old new (IsLikeSecond (seen old)) leaves a
 
 -- two runs that begin with what is asked of each disk
 module _ {D : Type 0} (seen : D → List ℕ) (may_leave : D → List ℕ → Type 0) (moment : D → ℕ) (left_since : D → ℕ → List ℕ → Type 0) (first second : D) (at_first : may_leave first (seen first)) (at_second : may_leave second (seen second)) where

@@ -6,6 +6,7 @@ use Rattle.std.specs.Prelude.{◌&&◌, nat_le, if◌then◌else◌}
 use Rattle.byteorder.specs.Endian.{big_number}
 use Rattle.byteorder.specs.Numbers.{big_from-take}
 use Rattle.gs_journal.specs.Records.{Entry, fresh, text_of, header_length, has_mark, is_begun, version_of, generation_of, generation_standing, second_counts, standing}
+use Rattle.gs_journal.specs.inner.Places.{SayTheSame}
 use Rattle.gs_journal.specs.inner.Rest.{Continues, IsUnmade}
 
 byte_of_front : (k n : ℕ) (bytes : List ℕ) → k < n → slice_index (take n bytes) k ≡ slice_index bytes k
@@ -81,10 +82,10 @@ standing_none a b counts begun =
     ap (λ (x : Bool). if x then text_of b else (if is_begun a then text_of a else fresh)) counts ∙ ap (λ (x : Bool). if x then text_of a else fresh) begun
 
 -- the generation of the disk that counts
-generation_second : (a b : List ℕ) → second_counts a b ≡ true → generation_standing a b ≡ generation_of b
+pub generation_second : (a b : List ℕ) → second_counts a b ≡ true → generation_standing a b ≡ generation_of b
 generation_second a b counts = ap (λ (x : Bool). if x then generation_of b else (if is_begun a then generation_of a else 1)) counts
 
-generation_first : (a b : List ℕ) → second_counts a b ≡ false → is_begun a ≡ true → generation_standing a b ≡ generation_of a
+pub generation_first : (a b : List ℕ) → second_counts a b ≡ false → is_begun a ≡ true → generation_standing a b ≡ generation_of a
 generation_first a b counts begun =
     ap (λ (x : Bool). if x then generation_of b else (if is_begun a then generation_of a else 1)) counts ∙ ap (λ (x : Bool). if x then generation_of a else 1) begun
 
@@ -176,18 +177,26 @@ module _ (a b : List ℕ) where
       (λ (begun : is_begun c ≡ false). begun)
       (either_bool (is_begun c))
 
-  pub fresh_while_made : (text c d : List ℕ) → is_begun a ≡ false → second_counts a b ≡ false → is_begun (1 ∷ text) ≡ true → text_of (1 ∷ text) ≡ fresh
-      → IsUnmade a c ⊎ (c ≡ 1 ∷ text) → (standing c d ≡ standing a d) ⊎ (standing c d ≡ standing a b)
-  fresh_while_made text c d unbegun none begun empty (inl unmade) =
+  pub fresh_while_made : (text c d : List ℕ) → is_begun a ≡ false → second_counts a b ≡ false → is_begun (1 ∷ text) ≡ true → text_of (1 ∷ text) ≡ fresh → generation_of (1 ∷ text) ≡ 1
+      → IsUnmade a c ⊎ (c ≡ 1 ∷ text) → SayTheSame c d a d ⊎ SayTheSame c d a b
+  fresh_while_made text c d unbegun none begun empty one (inl unmade) =
       let c_unbegun = unmade_unbegun c unbegun unmade in
       inl (
-      ap (λ (x : Bool). if x then text_of d else (if is_begun c then text_of c else fresh)) (first_unbegun c d c_unbegun ∙ sym (first_unbegun a d unbegun))
-      ∙ ap (λ (x : Bool). if second_counts a d then text_of d else (if x then text_of c else fresh)) c_unbegun
-      ∙ sym (ap (λ (x : Bool). if second_counts a d then text_of d else (if x then text_of a else fresh)) unbegun)
+        ap (λ (x : Bool). if x then text_of d else (if is_begun c then text_of c else fresh)) (first_unbegun c d c_unbegun ∙ sym (first_unbegun a d unbegun))
+            ∙ ap (λ (x : Bool). if second_counts a d then text_of d else (if x then text_of c else fresh)) c_unbegun
+            ∙ sym (ap (λ (x : Bool). if second_counts a d then text_of d else (if x then text_of a else fresh)) unbegun),
+        ap (λ (x : Bool). if x then generation_of d else (if is_begun c then generation_of c else 1)) (first_unbegun c d c_unbegun ∙ sym (first_unbegun a d unbegun))
+            ∙ ap (λ (x : Bool). if second_counts a d then generation_of d else (if x then generation_of c else 1)) c_unbegun
+            ∙ sym (ap (λ (x : Bool). if second_counts a d then generation_of d else (if x then generation_of a else 1)) unbegun),
       )
-  fresh_while_made text c d unbegun none begun empty (inr made) = ⊎_elim
+  fresh_while_made text c d unbegun none begun empty one (inr made) = ⊎_elim
       (λ (later : second_counts c d ≡ true).
-      inl (standing_second c d later ∙ sym (standing_second a d (first_unbegun a d unbegun ∙ second_begun c d later))))
+      let was : second_counts a d ≡ true = first_unbegun a d unbegun ∙ second_begun c d later in
+      inl (standing_second c d later ∙ sym (standing_second a d was), generation_second c d later ∙ sym (generation_second a d was)))
       (λ (not_later : second_counts c d ≡ false).
-      inr (standing_first c d not_later (ap is_begun made ∙ begun) ∙ ap text_of made ∙ empty ∙ sym (standing_none a b none unbegun)))
+      let is : is_begun c ≡ true = ap is_begun made ∙ begun in
+      inr (
+        standing_first c d not_later is ∙ ap text_of made ∙ empty ∙ sym (standing_none a b none unbegun),
+        generation_first c d not_later is ∙ ap generation_of made ∙ one ∙ sym (generation_none a b none unbegun),
+      ))
       (either_bool (second_counts c d))

@@ -1,19 +1,19 @@
 -- What contracts see of a journal, by its disks.
-use Rattle.std.proofs.Common.{◌≡◌, ℕ, ◌+◌, ◌-◌, ◌≤◌, Bool, true, false, refl, Option, Some, None, Result, Ok, List, [], ◌∷◌, ◌++◌, length, sym, ◌∙◌, ap, subst, arith, length-append}
+use Rattle.std.proofs.Common.{◌≡◌, inl, inr, ℕ, ◌+◌, ◌-◌, ◌≤◌, Bool, true, false, refl, Option, Some, None, Result, Ok, List, [], ◌∷◌, ◌++◌, length, sym, ◌∙◌, ap, subst, arith, length-append}
 use Rattle.std.specs.Prelude.{if◌then◌else◌, nat_le, IfSome, OnOk}
 use Rattle.std.proofs.lemmas.Bool.{cond-true}
 use Rattle.std.proofs.lemmas.Bool.Decides.{nat_tests}
 use Rattle.gs_base.specs.declared.refusal.Refusal.{Refusal}
 use Rattle.gs_base.specs.declared.refusal.Refusal.TheVariants.{Device, Full}
 use Rattle.gs_journal_disk.specs.Disk.{LeavesPairs}
-use Rattle.gs_journal.specs.Records.{Entry, Text, frame, generation_of, second_counts, standing}
-use Rattle.gs_journal.specs.Journal.{State, Stands, record_size, append_refusal, text_size}
+use Rattle.gs_journal.specs.Records.{Entry, Text, frame, generation_of, generation_standing, second_counts, standing}
+use Rattle.gs_journal.specs.Journal.{State, Stands, AreBoth, IsOldOrNew, IsStillOrNext, record_size, append_refusal, text_size}
 use Rattle.gs_journal.specs.inner.Pair.{text, counting, IsSettled}
 use Rattle.gs_journal.specs.declared.pair.Pair.{Pair}
 use Rattle.gs_journal.proofs.Complete.{at_rest_size}
 use Rattle.gs_journal_disk.proofs.Moments.{Stays}
 use Rattle.gs_journal.proofs.Pairs.{nothing_changed}
-use Rattle.gs_journal.proofs.Standing.{text_counts}
+use Rattle.gs_journal.proofs.Standing.{generation_counts, text_counts}
 
 module _ {D : Type 0} (seen : D → List ℕ) (may_leave : D → List ℕ → Type 0) where
   abbrev pub state_of : Pair D → ℕ → Bool → State D
@@ -49,11 +49,55 @@ module _ {D : Type 0} (seen : D → List ℕ) (may_leave : D → List ℕ → Ty
       subst (λ (w : State D). LeavesPairs moment left_since w.first w.second w.first w.second (Q w.text)) is
       (nothing_changed seen may_leave moment left_since p.first p.second (Q (text seen p)) s.first s.second (stays p.first) (stays p.second) q)
 
+  -- a reading leaves what was there
+  pub moved_as_seen : (p : Pair D) (limit : ℕ) (is_failed : Bool) (v : State D) (a b : D) → state_of seen may_leave p limit is_failed ≡ v
+      → LeavesPairs moment left_since p.first p.second a b (AreBoth (seen p.first) (seen p.second)) → LeavesPairs moment left_since v.first v.second a b (AreBoth (seen v.first) (seen v.second))
+  moved_as_seen p limit is_failed v a b is leaves = subst (λ (w : State D). LeavesPairs moment left_since w.first w.second a b (AreBoth (seen w.first) (seen w.second))) is leaves
+
+  pub same_text : (first second a b : D) → LeavesPairs moment left_since first second a b (AreBoth (seen first) (seen second))
+      → LeavesPairs moment left_since first second a b (λ x y. standing x y ≡ standing (seen first) (seen second))
+  same_text first second a b leaves = record {
+    later_first = leaves.later_first;
+    later_second = leaves.later_second;
+    each = λ x y left_x left_y. let is = leaves.each x y left_x left_y in λ i. standing (is.0 i) (is.1 i);
+  }
+
+  -- the same with the generation
+  pub moved_on : (p : Pair D) (limit : ℕ) (is_failed : Bool) (v : State D) (new : Text) (a b : D) → state_of seen may_leave p limit is_failed ≡ v
+      → LeavesPairs moment left_since p.first p.second a b (IsStillOrNext (text seen p) p.generation new) → LeavesPairs moment left_since v.first v.second a b (IsStillOrNext v.text v.generation new)
+  moved_on p limit is_failed v new a b is leaves = subst (λ (w : State D). LeavesPairs moment left_since w.first w.second a b (IsStillOrNext w.text w.generation new)) is leaves
+
+  pub still_there : (p : Pair D) (limit : ℕ) (is_failed : Bool) (v : State D) (new : Text) → state_of seen may_leave p limit is_failed ≡ v → IsSettled seen may_leave p
+      → ((d : D) → Stays seen may_leave moment left_since d) → LeavesPairs moment left_since v.first v.second v.first v.second (IsStillOrNext v.text v.generation new)
+  still_there p limit is_failed v new is s stays =
+      let same : generation_standing (seen p.first) (seen p.second) ≡ p.generation = generation_counts (seen p.first) (seen p.second) p.is_second s.counts s.begun ∙ sym s.generation in
+      subst (λ (w : State D). LeavesPairs moment left_since w.first w.second w.first w.second (IsStillOrNext w.text w.generation new)) is
+      (nothing_changed seen may_leave moment left_since p.first p.second (IsStillOrNext (text seen p) p.generation new) s.first s.second (stays p.first) (stays p.second) (inl (refl, same)))
+
+  -- the text alone
+  pub old_or_new : (first second a b : D) (old new : Text) (generation : ℕ) → LeavesPairs moment left_since first second a b (IsStillOrNext old generation new)
+      → LeavesPairs moment left_since first second a b (λ x y. IsOldOrNew old new (standing x y))
+  old_or_new first second a b old new generation leaves = record {
+    later_first = leaves.later_first;
+    later_second = leaves.later_second;
+    each = λ x y left_x left_y. text_alone x y (leaves.each x y left_x left_y);
+  }
+    where
+      text_alone : (x y : List ℕ) → IsStillOrNext old generation new x y → IsOldOrNew old new (standing x y)
+      text_alone x y (inl still) = inl still.0
+      text_alone x y (inr next) = inr next.0
+
   -- what the disks say behind a call is one of the things that a crash in it leaves
   pub comes_about : (first second a b : D) (Q : List ℕ → List ℕ → Type 0) → ((d : D) → may_leave d (seen d)) → ((d : D) (t : ℕ) (c : List ℕ) → t ≤ moment d → may_leave d c → left_since d t c)
       → LeavesPairs moment left_since first second a b Q → Q (seen a) (seen b)
   comes_about first second a b Q shows counts_now leaves =
       leaves.each (seen a) (seen b) (counts_now a (moment first) (seen a) leaves.later_first (shows a)) (counts_now b (moment second) (seen b) leaves.later_second (shows b))
+
+  -- and so is what a crash leaves behind the call
+  pub left_behind : (first second a b : D) (Q : List ℕ → List ℕ → Type 0) → ((d : D) (t : ℕ) (c : List ℕ) → t ≤ moment d → may_leave d c → left_since d t c)
+      → LeavesPairs moment left_since first second a b Q → (x y : List ℕ) → may_leave a x → may_leave b y → Q x y
+  left_behind first second a b Q counts_now leaves x y left_x left_y =
+      leaves.each x y (counts_now a (moment first) x leaves.later_first left_x) (counts_now b (moment second) y leaves.later_second left_y)
 
 -- the tests of an append
 module _ {D : Type 0} (j : State D) (r : Entry) where

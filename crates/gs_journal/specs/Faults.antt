@@ -54,3 +54,18 @@ pub record Counts {D T : Type 0} (failures : D → ℕ) (old new : Failing D) (r
 abbrev pub Tears : {D : Type 0} → (D → List ℕ) → (D → ℕ) → ℕ → List ℕ → Failing D → Failing D → Type 0
 Tears seen failures at bytes old new =
     MatchOption (torn_by old.fault) (new.disk ≡ old.disk) (λ torn. Holds (seen old.disk) at (take (length bytes) torn) (seen new.disk) ⊎ (failures old.disk < failures new.disk))
+
+-- ---- a disk that stops
+
+-- a disk of which so many calls pass, and how often it has made a call fail
+pub record Stopping (D : Type 0) : Type 0 where
+  pub disk : D
+  pub calls : ℕ
+  pub failures : ℕ
+
+-- What a call counts. While calls pass, this one is refused only where the disk below fails. Behind them it is refused `Device`, and the
+-- disk below isn't touched.
+pub record CountsDown {D T : Type 0} (failures : D → ℕ) (old new : Stopping D) (result : Result T Refusal) : Type 0 where
+  pub counted : new.calls ≡ old.calls - 1
+  pub passed : 0 < old.calls → HasCause (failures old.disk) (failures new.disk) result × (new.failures ≡ old.failures)
+  pub stopped : old.calls ≡ 0 → IsErrOf result Device × (new.failures ≡ suc old.failures) × (new.disk ≡ old.disk)

@@ -11,3 +11,11 @@ are_of_form version is_first (r ∷ rs) = is_of_form version is_first r && are_o
 
 abbrev pub is_text : Text → Bool
 is_text text = are_of_form text.0 true text.1
+
+abbrev pub is_empty : List Entry → Bool
+is_empty [] = true
+is_empty (r ∷ rs) = false
+
+-- a record is of the form of the one behind a text
+abbrev pub is_next : Text → Entry → Bool
+is_next text r = is_of_form text.0 (is_empty text.1) r

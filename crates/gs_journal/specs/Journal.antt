@@ -2,7 +2,7 @@
 use Rattle.std.specs.Prelude.{◌≡◌, ◌⊎◌, ◌+◌, ◌-◌, ◌^◌, ◌<◌, ◌≤◌, ◌++◌, ◌==◌, ℕ, Bool, not, true, false, nat_le, if◌then◌else◌, Option, Some, None, List, [], ◌∷◌, length, sum_by, refl}
 use Rattle.gs_base.specs.declared.refusal.Refusal.{Refusal}
 use Rattle.gs_base.specs.declared.refusal.Refusal.TheVariants.{BadLine, Device, Exhausted, Full, Memory}
-use Rattle.gs_journal.specs.Records.{Entry, Text, header_length, generation_of, second_counts, standing}
+use Rattle.gs_journal.specs.Records.{Entry, Text, header_length, generation_of, generation_standing, second_counts, standing}
 use Rattle.gs_journal.specs.Forms.{is_text}
 use Rattle.gs_journal.specs.declared.version.Version.TheVariants.{Two}
 
@@ -139,6 +139,16 @@ IsWithOrWithout old r t = (t ≡ old) ⊎ (t ≡ with_record old r)
 -- the text from before a call, or the one that it makes
 abbrev pub IsOldOrNew : Text → Text → Text → Type 0
 IsOldOrNew old new t = (t ≡ old) ⊎ (t ≡ new)
+
+-- the bytes of two disks are these
+abbrev pub AreBoth : List ℕ → List ℕ → List ℕ → List ℕ → Type 0
+AreBoth first second a b = (a ≡ first) × (b ≡ second)
+
+-- what two disks say: the text from before a call, with the generation of then, or the one that it makes, with the next
+abbrev pub IsStillOrNext : Text → ℕ → Text → List ℕ → List ℕ → Type 0
+IsStillOrNext old generation new first second =
+    ((standing first second ≡ old) × (generation_standing first second ≡ generation))
+    ⊎ ((standing first second ≡ new) × (generation_standing first second ≡ generation + 1))
 
 -- the first disk of a journal, or the second
 abbrev pub disk_of : {D : Type 0} → Bool → State D → D

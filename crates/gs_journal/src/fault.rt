@@ -18,7 +18,7 @@ pub enum Fault {
 }
 
 /// Counts a call, and says whether it passes.
-fn takes_call(calls: &mut u64) -> bool
+pub(crate) fn takes_call(calls: &mut u64) -> bool
     ensures counted { calls.new ≡ calls.old - 1 }
     ensures passes { result ≡ not (calls.old == 0) }
 {

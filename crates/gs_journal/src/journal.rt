@@ -1,5 +1,5 @@
 // A journal on two disks, of which one counts.
-ghost use Rattle.std.specs.Prelude.{◌≡◌, ◌≢◌, ◌⊎◌, ◌<◌, ◌≤◌, ◌^◌, ◌+◌, ◌-◌, true, false, not, length, if◌then◌else◌, Ok, Err, None, OnOk, IfOk, IfErr, IfSome, IsTrue};
+ghost use Rattle.std.specs.Prelude.{◌≡◌, ◌≢◌, ◌⊎◌, ◌<◌, ◌≤◌, ◌^◌, ◌+◌, ◌-◌, ℕ, List, true, false, not, length, if◌then◌else◌, Ok, Err, None, OnOk, IfOk, IfErr, IfSome, IsTrue};
 ghost use Rattle.gs_base.specs.declared.refusal.Refusal.TheVariants.{Device, Memory};
 ghost use Rattle.gs_journal_disk.specs.Disk.{LeavesPairs};
 ghost use Rattle.gs_journal.specs.Records.{generation_standing, standing};
@@ -72,14 +72,15 @@ pub struct Unopened<D: Disk> {
 }
 
 impl<D: Disk> Journal<D> {
-    ghost use Rattle.gs_journal.specs.Journal.{failures_of_both, Stands, Stays, Adds, Makes, Closes, Wants, append_refusal, checkpoint_refusal, checkpointed, IsWithOrWithout, IsOldOrNew, LeavesOther, LeavesCounting, WhyClosed, MightHaveStood};
+    ghost use Rattle.gs_journal.specs.Journal.{failures_of_both, Stands, Stays, Adds, Makes, Closes, Wants, append_refusal, checkpoint_refusal, checkpointed, IsWithOrWithout, IsOldOrNew, IsStillOrNext, AreBoth, LeavesOther, LeavesCounting, WhyClosed, MightHaveStood};
 
     /// Opens two disks, whatever a crash or a failure left on them. What a crash has torn behind the records is taken away.
     /// Where neither disk counts, the first is made: a new journal has no records. No disk takes more than `limit` bytes by
     /// an append or a checkpoint.
     ///
     /// The refusal is `BadLine` where a record isn't of its form, `Device` where a disk fails, and `Memory` where memory is
-    /// refused. But for `Device` the disks have the bytes that they had. The disks are handed back.
+    /// refused. But for `Device` the disks have the bytes that they had, and behind `Device` they tell the same records. The
+    /// disks are handed back.
     pub fn open(
         alloc: Global,
         mut first: D,
@@ -95,11 +96,17 @@ impl<D: Disk> Journal<D> {
         ensures refused { IfErr result (λ u. WhyClosed (standing (D.seen first) (D.seen second))
             (D.failures first + D.failures second) (D.failures u.first + D.failures u.second) u.refusal) }
         ensures unchanged { IfErr result (λ u. u.refusal ≢ Device → (D.seen u.first ≡ D.seen first) × (D.seen u.second ≡ D.seen second)) }
+        // Also where a disk fails, the disks say what they said, in the same generation.
+        ensures told { IfErr result (λ u. standing (D.seen u.first) (D.seen u.second) ≡ standing (D.seen first) (D.seen second)) }
+        ensures kept { IfErr result (λ u. generation_standing (D.seen u.first) (D.seen u.second) ≡ generation_standing (D.seen first) (D.seen second)) }
         // A crash at any moment of the call leaves what one just before it might have left.
         ensures any_moment { IfOk result (λ j. LeavesPairs D.moment D.left_since first second j.first j.second
             (λ a b. MightHaveStood (D.may_leave first) (D.may_leave second) (standing a b))) }
         ensures any_moment_refused { IfErr result (λ u. LeavesPairs D.moment D.left_since first second u.first u.second
             (λ a b. MightHaveStood (D.may_leave first) (D.may_leave second) (standing a b))) }
+        // So does one behind a refusal.
+        ensures lasts { IfErr result (λ u. (a b : List ℕ) → D.may_leave u.first a → D.may_leave u.second b
+            → MightHaveStood (D.may_leave first) (D.may_leave second) (standing a b)) }
     {
         match start(alloc, &mut first, &mut second) {
             Ok(place) => Ok(Journal {
@@ -174,6 +181,9 @@ impl<D: Disk> Journal<D> {
         // A crash at any moment of the call leaves the records.
         ensures any_moment { self.old.is_failed ≡ false → LeavesPairs D.moment D.left_since self.old.first self.old.second self.new.first self.new.second
             (λ a b. standing a b ≡ self.old.text) }
+        // It leaves all bytes of both disks.
+        ensures whole { self.old.is_failed ≡ false → LeavesPairs D.moment D.left_since self.old.first self.old.second self.new.first self.new.second
+            (AreBoth (D.seen self.old.first) (D.seen self.old.second)) }
         ensures other { LeavesOther D.seen self.old self.new }
     {
         if self.is_failed {
@@ -287,6 +297,9 @@ impl<D: Disk> Journal<D> {
         // A crash at any moment of the call leaves the records from before it, or the checkpoint alone.
         ensures any_moment { self.old.is_failed ≡ false → LeavesPairs D.moment D.left_since self.old.first self.old.second self.new.first self.new.second
             (λ a b. IsOldOrNew self.old.text (checkpointed draft.now.body) (standing a b)) }
+        // The checkpoint is of the next generation.
+        ensures next { self.old.is_failed ≡ false → LeavesPairs D.moment D.left_since self.old.first self.old.second self.new.first self.new.second
+            (IsStillOrNext self.old.text self.old.generation (checkpointed draft.now.body)) }
         ensures counting { LeavesCounting D.seen self.old self.new }
     {
         if self.is_failed {
@@ -322,6 +335,9 @@ impl<D: Disk> Journal<D> {
         // A crash at any moment of the call leaves the records from before it, or the checkpoint alone.
         ensures any_moment { self.old.is_failed ≡ false → LeavesPairs D.moment D.left_since self.old.first self.old.second self.new.first self.new.second
             (λ a b. IsOldOrNew self.old.text (checkpointed body.now) (standing a b)) }
+        // The checkpoint is of the next generation.
+        ensures next { self.old.is_failed ≡ false → LeavesPairs D.moment D.left_since self.old.first self.old.second self.new.first self.new.second
+            (IsStillOrNext self.old.text self.old.generation (checkpointed body.now)) }
         ensures counting { LeavesCounting D.seen self.old self.new }
     {
         let _ = &self.disks;

@@ -15,6 +15,7 @@ mod place;
 pub mod promises;
 mod record;
 mod start;
+mod stopping;
 mod version;
 
 pub use draft::Draft;
@@ -25,4 +26,5 @@ pub use gs_journal_disk::Disk;
 pub use journal::{Journal, Unopened};
 pub use memory::MemoryDisk;
 pub use record::{HEAD_BYTES, Record};
+pub use stopping::StoppingDisk;
 pub use version::Version;

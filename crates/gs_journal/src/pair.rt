@@ -2,7 +2,7 @@
 ghost use Rattle.std.specs.Prelude.{◌≡◌, ◌<◌, ◌^◌, ◌+◌, ◌++◌, [], ◌∷◌, OnOk, IfOk};
 ghost use Rattle.gs_journal_disk.specs.Disk.{HasCause, LeavesPairs};
 ghost use Rattle.gs_journal.specs.Records.{frame, header, header_length, standing};
-ghost use Rattle.gs_journal.specs.Journal.{record_size, with_record, IsWithOrWithout, IsOldOrNew};
+ghost use Rattle.gs_journal.specs.Journal.{record_size, with_record, IsWithOrWithout, IsStillOrNext, AreBoth};
 ghost use Rattle.gs_journal.specs.inner.Places.{ReadRefuses};
 ghost use Rattle.gs_journal.specs.declared.version.Version.TheVariants.{Two};
 
@@ -38,7 +38,7 @@ impl<D: Disk> Pair<D> {
         ensures place { KeepsPlace self.old self.new }
         ensures cause { ReadRefuses (failures_of_pair D.failures self.old) (failures_of_pair D.failures self.new) result }
         ensures any_moment { LeavesPairs D.moment D.left_since self.old.first self.old.second self.new.first self.new.second
-            (λ a b. standing a b ≡ text D.seen self.old) }
+            (AreBoth (D.seen self.old.first) (D.seen self.old.second)) }
         ensures other { LeavesOther self.old self.new }
     {
         if self.is_second {
@@ -83,7 +83,7 @@ impl<D: Disk> Pair<D> {
         ensures generation { OnOk result (self.new.generation ≡ self.old.generation + 1) }
         ensures cause { HasCause (failures_of_pair D.failures self.old) (failures_of_pair D.failures self.new) result }
         ensures any_moment { LeavesPairs D.moment D.left_since self.old.first self.old.second self.new.first self.new.second
-            (λ a b. IsOldOrNew (text D.seen self.old) (Two, entry.now ∷ []) (standing a b)) }
+            (IsStillOrNext (text D.seen self.old) self.old.generation (Two, entry.now ∷ [])) }
         ensures counting { LeavesCounting self.old self.new }
     {
         let end = HEADER + entry.bytes().len();

@@ -113,7 +113,8 @@ pub(crate) fn put_right<D: Disk>(
     requires durable_second { Only (D.seen second.old) (D.may_leave second.old) }
     ensures ready { IfOk result (λ p. IsReady p (D.seen first.new) (D.seen second.new)) }
     ensures generation { IfOk result (λ p. p.generation ≡ generation_standing (D.seen first.old) (D.seen second.old)) }
-    ensures same { OnOk result (standing (D.seen first.new) (D.seen second.new) ≡ standing (D.seen first.old) (D.seen second.old)) }
+    ensures same { standing (D.seen first.new) (D.seen second.new) ≡ standing (D.seen first.old) (D.seen second.old) }
+    ensures kept { generation_standing (D.seen first.new) (D.seen second.new) ≡ generation_standing (D.seen first.old) (D.seen second.old) }
     ensures durable_first { OnOk result (Only (D.seen first.new) (D.may_leave first.new)) }
     ensures durable_second { OnOk result (Only (D.seen second.new) (D.may_leave second.new)) }
     ensures left_first { LeavesOnly D.moment D.left_since first.old first.new (IsLikeFirst (D.seen first.old) (D.seen second.old)) }
@@ -137,7 +138,8 @@ pub(crate) fn put_right<D: Disk>(
 pub(crate) fn start<D: Disk>(alloc: Global, first: &mut D, second: &mut D) -> Result<Place, Refusal>
     ensures ready { IfOk result (λ p. IsReady p (D.seen first.new) (D.seen second.new)) }
     ensures generation { IfOk result (λ p. p.generation ≡ generation_standing (D.seen first.old) (D.seen second.old)) }
-    ensures same { OnOk result (standing (D.seen first.new) (D.seen second.new) ≡ standing (D.seen first.old) (D.seen second.old)) }
+    ensures same { standing (D.seen first.new) (D.seen second.new) ≡ standing (D.seen first.old) (D.seen second.old) }
+    ensures kept { generation_standing (D.seen first.new) (D.seen second.new) ≡ generation_standing (D.seen first.old) (D.seen second.old) }
     ensures form { OnOk result (is_text (standing (D.seen first.old) (D.seen second.old)) ≡ true) }
     ensures durable_first { OnOk result (Only (D.seen first.new) (D.may_leave first.new)) }
     ensures durable_second { OnOk result (Only (D.seen second.new) (D.may_leave second.new)) }

@@ -291,7 +291,7 @@ module _ {D : Type 0} (seen : D → List ℕ) (may_leave : D → List ℕ → Ty
           closed = broken.closed;
           text = elim broken.text [
             | inl stood ↦ inl (stood ∙ ap (λ records. (mid.text.0, records)) (append-nil mid.text.1) ∙ is.stays.text)
-            | inr made ↦ inr (entries, d, tells, made ∙ ap (λ d. checkpointed (checkpoint_body d)) durable)
+            | inr made ↦ inr (entries, d, tells, sym v, made ∙ ap (λ d. checkpointed (checkpoint_body d)) durable)
           ];
         },
       )

@@ -31,6 +31,7 @@ use Rattle.gs_master.specs.inner.Turns.{GoesBack, IsTurned, state_at}
 use Rattle.gs_master_spec.specs.Whole.{checkpoint_of}
 use Rattle.gs_master.specs.declared.event.Event.{Event}
 use Rattle.gs_master.specs.declared.turn.Turn.{Turn as Told}
+use Rattle.gs_master.proofs.Composing.{all_joined}
 use Rattle.gs_master.proofs.Entered.{recorded_as}
 use Rattle.gs_master.proofs.Finished.{IsLeft, came, records_are, stood_is}
 use Rattle.gs_master.proofs.Renewals.{all_before, cut_before, last_of}
@@ -76,6 +77,7 @@ module _ {D : Type 0} (seen : D → List ℕ) (may_leave : D → List ℕ → Ty
         };
         replays = replays;
         are_entries = turned.are_entries;
+        is_entry = subst (λ (s : State). IsEntry Two (Whole (checkpoint_of s.durable))) turned.after at.2;
         breaks = λ is. subst (λ (s : State). BreaksAnew seen failures j (map (encoded Two) steps.records) (checkpoint_body s.durable) place k) turned.after
             (subst (λ rs. BreaksAnew seen failures j rs (checkpoint_body (durable_of old.recorded)) place k) bytes (at.1 is));
       }
@@ -216,6 +218,7 @@ module _ {D : Type 0} (seen : D → List ℕ) (may_leave : D → List ℕ → Ty
           record {
             cut = is.cut;
             fit = gives.0;
+            are_entries = all_joined (IsEntry Two) steps.records (whole ∷ []) is.are_entries (is.is_entry, tt);
             left = texts.0;
             shown = texts.1;
             cause = gives.1.0;

@@ -1,5 +1,5 @@
 -- That a master which is opened is what its journal tells.
-use Rattle.std.proofs.Common.{◌≡◌, ◌≢◌, inl, inr, ◌∙◌, ◌+◌, ◌<◌, ℕ, false, List, [], refl, ap, subst, sym}
+use Rattle.std.proofs.Common.{◌≡◌, inl, inr, ◌∙◌, ◌+◌, ◌<◌, ℕ, false, List, [], refl, ap, subst, sym}
 use Rattle.std.specs.Prelude.{Option, Some, None, Result, Ok, unwrap_or}
 use Rattle.std.specs.Result.{is_ok, result_ok}
 use Rattle.std.proofs.lemmas.Bool.{false≢true}
@@ -18,7 +18,7 @@ use Rattle.gs_master_spec.specs.Handling.{answered_or, checkpoint_body, checkpoi
 use Rattle.gs_master.specs.Journaled.{IsAsSeen, IsLogOf}
 use Rattle.gs_master.specs.Masters.{Holds, IsHeld}
 use Rattle.gs_master_guard.specs.Reading.{AreRecordsOf}
-use Rattle.gs_master.specs.Recovering.{IsLeft, IsRecovered, WhyNotRecovered, WhyNotTold, log_behind_last, log_in}
+use Rattle.gs_master.specs.Recovering.{IsLeft, IsRecovered, WhyNotRecovered, WhyNotTold, TellsStill, log_behind_last, log_in}
 use Rattle.gs_master.specs.Starting.{WhyUnopened, left_in}
 use Rattle.gs_master_spec.specs.State.{Log, State, Turn, and_then, first_of}
 use Rattle.gs_master.specs.inner.Turns.{state_at}
@@ -90,6 +90,12 @@ pub generation_left : {D : Type 0} (seen : D → List ℕ) (may_leave : D → Li
 generation_left seen may_leave failures versions.One d j k is two = absurd (cc two)
 generation_left seen may_leave failures versions.Two d j k is two = is.0.generation
 
+-- and one of the first is written anew in the next
+pub generation_anew : {D : Type 0} (seen : D → List ℕ) (may_leave : D → List ℕ → Type 0) (failures : D → ℕ) (v : Version) (d : Durable) (j k : Journal D) → IsLeft seen may_leave failures v d j k
+    → v ≡ versions.One → k.generation ≡ j.generation + 1
+generation_anew seen may_leave failures versions.One d j k is one = is.made.generation
+generation_anew seen may_leave failures versions.Two d j k is one = absurd (cc one)
+
 as_seen : {D : Type 0} (seen : D → List ℕ) (may_leave : D → List ℕ → Type 0) (k : Journal D) → Stands seen may_leave k → IsAsSeen seen k
 as_seen seen may_leave k stands = record { text = stands.text; size = stands.size; generation = stands.generation; whole = stands.whole }
 
@@ -106,12 +112,10 @@ no_log bound generation = record { records = 0; size = 0; limit = bound; generat
 module _ {D : Type 0} (seen : D → List ℕ) (failures : D → ℕ) (config : Config) (bound : ℕ) (first second : D) (u : Unopened D) where
   -- the journal wasn't
   pub closed_why : WhyClosed (standing (seen first) (seen second)) (failures first + failures second) (failures u.first + failures u.second) u.refusal →
-      (u.refusal ≢ refusals.Device → (seen u.first ≡ seen first) × (seen u.second ≡ seen second)) → WhyUnopened seen failures config bound first second u
-  closed_why (inl bad) unchanged =
-      let same = unchanged (λ device. absurd (cc (bad.0, device))) in inr ((λ i. standing (same.0 i) (same.1 i)), bad.2, inl (bad.0, bad.1))
-  closed_why (inr (inl device)) unchanged = inl device
-  closed_why (inr (inr memory)) unchanged =
-      let same = unchanged (λ device. absurd (cc (memory.0, device))) in inr ((λ i. standing (same.0 i) (same.1 i)), memory.1, inr (no_log bound (generation_standing (seen first) (seen second)), refl, refl, inl memory.0))
+      standing (seen u.first) (seen u.second) ≡ standing (seen first) (seen second) → WhyUnopened seen failures config bound first second u
+  closed_why (inl bad) told = inr (told, bad.2, inl (bad.0, bad.1))
+  closed_why (inr (inl device)) told = inl ((device.0, inl told), device.1)
+  closed_why (inr (inr memory)) told = inr (told, memory.1, inr (no_log bound (generation_standing (seen first) (seen second)), refl, refl, inl memory.0))
 
   -- the journal was, and tells no master
   pub untold_why : (j k : Journal D) → j.limit ≡ bound → j.generation ≡ generation_standing (seen first) (seen second) → j.text ≡ standing (seen first) (seen second) → failures_of_both failures j ≡ failures first + failures second → u.first ≡ k.first → u.second ≡ k.second →
@@ -121,4 +125,6 @@ module _ {D : Type 0} (seen : D → List ℕ) (failures : D → ℕ) (config : C
       inr (now ∙ same.0.stays.text ∙ text, fails ∙ same.0.quiet ∙ quiet, inr (log_in j, limit, generation, subst (λ t. WhyNotTold config t (log_in j) u.refusal) text same.1))
   untold_why j k limit generation text quiet f s now (inr broken) =
       let fails : failures_of_both failures k ≡ failures u.first + failures u.second = λ i. failures (sym f i) + failures (sym s i) in
-      inl (broken.0, subst (λ n. n < failures u.first + failures u.second) quiet (subst (λ n. failures_of_both failures j < n) fails broken.1.cause))
+      let left : TellsStill j.text (standing (seen u.first) (seen u.second)) = subst (TellsStill j.text) (sym now) broken.1.text in
+      let told : TellsStill (standing (seen first) (seen second)) (standing (seen u.first) (seen u.second)) = subst (λ t. TellsStill t (standing (seen u.first) (seen u.second))) text left in
+      inl ((broken.0, told), subst (λ n. n < failures u.first + failures u.second) quiet (subst (λ n. failures_of_both failures j < n) fails broken.1.cause))

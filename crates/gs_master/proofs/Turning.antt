@@ -184,6 +184,7 @@ module _ {D : Type 0} (seen : D → List ℕ) (may_leave : D → List ℕ → Ty
       record {
         cut = is.cut;
         fit = mid.1 ∙ ap (λ (s : State). Some s.durable) (sym state);
+        are_entries = is.are_entries;
         left = texts.0;
         shown = texts.1;
         cause = broke.0;

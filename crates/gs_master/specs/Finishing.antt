@@ -69,11 +69,12 @@ pub record IsFinishedAnew {D : Type 0} (seen : D → List ℕ) (may_leave : D �
   pub fault : steps.after.fault ≡ fault_of begun.fault
   pub renews : IsLogOf (log_of begun.log) old → Renews seen may_leave failures old (checkpoint_body steps.after.durable) new × IsLogOf (log_of e.log) new
 
--- a disk failed at a record, or at the checkpoint
+-- a disk failed at a record, or at the checkpoint, which would be read again
 pub record IsCutShortAnew {D : Type 0} (seen : D → List ℕ) (failures : D → ℕ) (steps : Turn) (place : ℕ) (begun : Event) (old : Journal D) (told : Told) (e : Event) (new : Journal D) : Type 0 where
   pub cut : IsCut (state_at begun) None (and_checkpoint steps) place told.sent.items told.said (state_at e)
   pub replays : replayed (durable_of begun.recorded) steps.records ≡ Some steps.after.durable
   pub are_entries : AllByRecursion (IsEntry Two) steps.records
+  pub is_entry : IsEntry Two (Whole (checkpoint_of steps.after.durable))
   pub breaks : IsLogOf (log_of begun.log) old → BreaksAnew seen failures old (map (encoded Two) steps.records) (checkpoint_body steps.after.durable) place new
 
 abbrev pub FinishesAnew : {D : Type 0} → (D → List ℕ) → (D → List ℕ → Type 0) → (D → ℕ) → Turn → Event → Journal D → Told → Event → Journal D → Type 0

@@ -79,11 +79,12 @@ abbrev pub LeavesText : List PlainEntry → ℕ → Text → Text → Type 0
 LeavesText records place old new =
     (new ≡ (old.0, old.1 ++ map (encoded Two) (take place records))) ⊎ (new ≡ (old.0, old.1 ++ map (encoded Two) (take (place + 1) records)))
 
--- A disk failed at the record at a place. Those before it fit what they meet. So much is left of the text, and so much the disks are seen to
--- say, which the next opening goes by. The journal is closed until then.
+-- A disk failed at the record at a place. Those before it fit what they meet, and each is one that is read again. So much is left of the text,
+-- and so much the disks are seen to say, which the next opening goes by. The journal is closed until then.
 pub record IsAnsweredUnsure {D : Type 0} (seen : D → List ℕ) (failures : D → ℕ) (Leaves : ℕ → Text → Text → Type 0) (caller : Option ReqId) (t : Turn) (place : ℕ) (old : MasterOf D) (told : Told) (new : MasterOf D) : Type 0 where
   pub cut : IsCut old.state caller t place told.sent.items told.said new.state
   pub fit : replayed old.state.durable (take place t.records) ≡ Some new.state.durable
+  pub are_entries : AllByRecursion (IsEntry Two) t.records
   pub left : Leaves place old.journal.text new.journal.text
   pub shown : Leaves place old.journal.text (text_seen seen new.journal)
   pub cause : failures_of_both failures old.journal < failures_of_both failures new.journal

@@ -29,6 +29,11 @@ pub record Tells (text : Text) (entries : List PlainEntry) (d : Durable) : Type 
   pub records : AreRecordsOf text.0 text.1 entries
   pub replays : replayed start entries ≡ Some d
 
+-- what is told where a disk failed: what was told, or in the place of a text of version 1 the checkpoint of that
+abbrev pub TellsStill : Text → Text → Type 0
+TellsStill old new =
+    (new ≡ old) ⊎ ((entries : List PlainEntry) × (durable : Durable) × Tells old entries durable × (old.0 ≡ versions.One) × (new ≡ checkpointed (checkpoint_body durable)))
+
 -- ---- the room
 
 -- the journal as the master sees it; how many records stand behind its last checkpoint, they tell
@@ -119,7 +124,7 @@ pub record StaysOpen {D : Type 0} (failures : D → ℕ) (old new : Journal D) :
 pub record BreaksOff {D : Type 0} (failures : D → ℕ) (old new : Journal D) : Type 0 where
   pub cause : failures_of_both failures old < failures_of_both failures new
   pub closed : new.is_failed ≡ true
-  pub text : (new.text ≡ old.text) ⊎ ((entries : List PlainEntry) × (durable : Durable) × Tells old.text entries durable × (new.text ≡ checkpointed (checkpoint_body durable)))
+  pub text : TellsStill old.text new.text
 
 -- The records are those of no entries, or what they are doesn't let the master be opened; or memory is wanting. Then nothing was
 -- written. Or a disk failed.

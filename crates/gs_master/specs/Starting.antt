@@ -14,7 +14,7 @@ use Rattle.gs_master_spec.specs.Durable.{Durable}
 use Rattle.gs_master_spec.specs.Handling.{checkpoint_body, recover}
 use Rattle.gs_master.specs.Journaled.{IsAsSeen, IsLogOf}
 use Rattle.gs_master.specs.Masters.{MasterOf}
-use Rattle.gs_master.specs.Recovering.{Tells, WhyNotTold}
+use Rattle.gs_master.specs.Recovering.{Tells, TellsStill, WhyNotTold}
 use Rattle.gs_master_spec.specs.State.{Log, Turn}
 
 -- what is left of a text that tells this: one of the first version is written anew
@@ -23,7 +23,8 @@ left_in versions.One text d = checkpointed (checkpoint_body d)
 left_in versions.Two text d = text
 
 -- The master is what the records tell, and sends what they say. Its journal is as its disks are seen, and the master knows its room: as many
--- bytes as it was told may be written to a disk. No disk has failed. A journal of the second version keeps its generation.
+-- bytes as it was told may be written to a disk. No disk has failed. A journal of the second version keeps its generation, and one that is
+-- written anew is of the next.
 pub record IsOpened {D : Type 0} (seen : D → List ℕ) (failures : D → ℕ) (given : Config) (first second : D) (text : Text) (bound : ℕ) (m : MasterOf D) (sent : List Message) : Type 0 where
   pub entries : List PlainEntry
   pub durable : Durable
@@ -39,12 +40,15 @@ pub record IsOpened {D : Type 0} (seen : D → List ℕ) (failures : D → ℕ) 
   pub journal : IsAsSeen seen m.journal
   pub known : IsLogOf m.state.log m.journal
   pub generation : text.0 ≡ versions.Two → m.journal.generation ≡ generation_standing (seen first) (seen second)
+  pub anew : text.0 ≡ versions.One → m.journal.generation ≡ generation_standing (seen first) (seen second) + 1
   pub quiet : failures_of_both failures m.journal ≡ failures first + failures second
 
--- A disk failed; or none did, the disks say what they said, and that tells no master, or memory is wanting.
+-- A disk failed, and the disks say what they said, or where a disk failed while version 1 was written anew the checkpoint of that; or none
+-- did, they say what they said, and that tells no master, or memory is wanting.
 abbrev pub WhyUnopened : {D : Type 0} → (D → List ℕ) → (D → ℕ) → Config → ℕ → D → D → Unopened D → Type 0
 WhyUnopened seen failures config bound first second u =
-    ((u.refusal ≡ refusals.Device) × (failures first + failures second < failures u.first + failures u.second))
+    (((u.refusal ≡ refusals.Device) × TellsStill (standing (seen first) (seen second)) (standing (seen u.first) (seen u.second)))
+    × (failures first + failures second < failures u.first + failures u.second))
     ⊎ ((standing (seen u.first) (seen u.second) ≡ standing (seen first) (seen second))
     × (failures u.first + failures u.second ≡ failures first + failures second)
     × (((u.refusal ≡ refusals.BadLine) × (is_text (standing (seen first) (seen second)) ≡ false)) ⊎ ((log : Log) × (log.limit ≡ bound) × (log.generation ≡ generation_standing (seen first) (seen second)) × WhyNotTold config (standing (seen first) (seen second)) log u.refusal)))

@@ -185,8 +185,8 @@ impl<D: Disk> Master<D> {
     /// the second.
     ///
     /// The refusal is `BadLine` where the records aren't those of a store, `Device` where a disk fails, `Memory` where memory is
-    /// wanting, and where a journal of the first version can't be written anew `Exhausted` or `Full`. The disks are handed back,
-    /// and but for `Device` they say what they said.
+    /// wanting, and where a journal of the first version can't be written anew `Exhausted` or `Full`. The disks are handed back.
+    /// They say what they said, or the checkpoint of that, if a disk failed while the first version was written anew.
     pub fn open(
         alloc: Global,
         config: Config,

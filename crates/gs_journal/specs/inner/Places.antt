@@ -2,7 +2,7 @@
 use Rattle.std.specs.Prelude.{◌≡◌, ◌≢◌, ◌⊎◌, ◌+◌, ◌<◌, ◌^◌, ℕ, true, false, if◌then◌else◌, Option, Some, None, Result, Ok, Err, List, length, get_or}
 use Rattle.gs_base.specs.declared.refusal.Refusal.{Refusal}
 use Rattle.gs_base.specs.declared.refusal.Refusal.TheVariants.{Device, Memory}
-use Rattle.gs_journal.specs.Records.{header_length, is_begun, version_of, generation_of, second_counts, standing, text_of}
+use Rattle.gs_journal.specs.Records.{header_length, is_begun, version_of, generation_of, generation_standing, second_counts, standing, text_of}
 use Rattle.gs_journal.specs.Forms.{is_text}
 use Rattle.gs_journal.specs.inner.Frames.{IsEnd}
 use Rattle.gs_journal.specs.inner.Rest.{IsAtRest}
@@ -40,10 +40,14 @@ abbrev pub ReadRefuses : {T : Type 0} → ℕ → ℕ → Result T Refusal → T
 ReadRefuses before now (Ok x) = now ≡ before
 ReadRefuses before now (Err e) = ((e ≡ Device) × (before < now)) ⊎ ((e ≡ Memory) × (now ≡ before))
 
+-- two disks say what two others do, in the same generation
+abbrev pub SayTheSame : List ℕ → List ℕ → List ℕ → List ℕ → Type 0
+SayTheSame a b c d = (standing a b ≡ standing c d) × (generation_standing a b ≡ generation_standing c d)
+
 -- what a crash may leave of the first disk while it is put right, beside any second
 abbrev pub IsLikeFirst : List ℕ → List ℕ → List ℕ → Type 0
-IsLikeFirst first second c = (d : List ℕ) → (standing c d ≡ standing first d) ⊎ (standing c d ≡ standing first second)
+IsLikeFirst first second c = (d : List ℕ) → SayTheSame c d first d ⊎ SayTheSame c d first second
 
 -- what a crash may leave of the second
 abbrev pub IsLikeSecond : List ℕ → List ℕ → Type 0
-IsLikeSecond second c = (d : List ℕ) → standing d c ≡ standing d second
+IsLikeSecond second c = (d : List ℕ) → SayTheSame d c d second

@@ -73,4 +73,6 @@ AreRenewed seen may_leave failures first old old_journal new new_journal =
 
 abbrev pub AreCutAnew : {D : Type 0} → (D → List ℕ) → (D → ℕ) → Durable → Log → ℕ → Event → Journal D → Event → Journal D → Type 0
 AreCutAnew seen failures before first place old old_journal new new_journal =
-    IsCutAnew before first place old new × (IsLogOf first old_journal → BreaksAnew seen failures old_journal old.written.items (checkpoint_body (durable_of old.recorded)) place new_journal)
+    IsCutAnew before first place old new
+    × (IsLogOf first old_journal → BreaksAnew seen failures old_journal old.written.items (checkpoint_body (durable_of old.recorded)) place new_journal)
+    × IsEntry Two (Whole (checkpoint_of (durable_of old.recorded)))

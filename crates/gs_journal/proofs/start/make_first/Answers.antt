@@ -1,12 +1,12 @@
 use Rattle.std.proofs.Common.{inl, ◌∙◌, ◌∷◌, List, ℕ, ap}
-use Rattle.gs_journal.specs.Records.{standing}
+use Rattle.gs_journal.specs.Records.{generation_standing, standing}
 use Rattle.gs_journal_disk.proofs.Moments.{started, weaker}
 use Rattle.gs_journal.proofs.Opening.{making_like_first}
 use Rattle.gs_journal.proofs.start.make_first.Goals as goal
 
 pub returns-in_err-text-clause-any_moment : goal.returns-in_err-text-clause-any_moment
 returns-in_err-text-clause-any_moment g c second none =
-    started g.D.Disk.moment g.D.Disk.left_since c.args.disk.now _ (λ x left d. inl (ap (λ (y : List ℕ). standing y d) (c.requires.durable x (g.met.D.Disk.only_now c.args.disk.now x left))))
+    started g.D.Disk.moment g.D.Disk.left_since c.args.disk.now _ (λ x left d. let same = c.requires.durable x (g.met.D.Disk.only_now c.args.disk.now x left) in inl (ap (λ (y : List ℕ). standing y d) same, ap (λ (y : List ℕ). generation_standing y d) same))
 
 pub returns-in_err-make-clause-any_moment : goal.returns-in_err-make-clause-any_moment
 returns-in_err-make-clause-any_moment g c second none =

@@ -2,7 +2,7 @@ use Rattle.std.proofs.Common.{inl, subst, sym, ◌∙◌}
 use Rattle.gs_journal.specs.inner.Places.{FindsPlace}
 use Rattle.gs_journal_disk.proofs.Moments.{weaker}
 use Rattle.gs_journal.proofs.Standing.{generation_counts, generation_none}
-use Rattle.gs_journal.proofs.Opening.{untouched_first, untouched_second, first_place, second_place, made_ready, second_ready, first_ready, like_first, like_second}
+use Rattle.gs_journal.proofs.Opening.{untouched_first, untouched_second, first_place, second_place, made_ready, second_ready, first_ready, like_first, like_second, first_told, second_told}
 use Rattle.gs_journal.proofs.start.put_right.Goals as goal
 
 pub returns-in_err-place-clause-left_second : goal.returns-in_err-place-clause-left_second
@@ -43,7 +43,7 @@ returns-then-place-clause-ready g c =
 
 pub returns-then-place-clause-same : goal.returns-then-place-clause-same
 returns-then-place-clause-same g c =
-    let d = g.D.Disk in like_second (d.seen c.args.second.now) _ c.in_ok-repair.ensures.same (d.seen c.args.first.now)
+    let d = g.D.Disk in (like_second (d.seen c.args.second.now) _ c.in_ok-repair.ensures.same (d.seen c.args.first.now)).0
 
 pub returns-in_err-repair-2-clause-left_first : goal.returns-in_err-repair-2-clause-left_first
 returns-in_err-repair-2-clause-left_first g c =
@@ -69,7 +69,7 @@ returns-clause-ready g c =
 
 pub returns-clause-same : goal.returns-clause-same
 returns-clause-same g c =
-    let d = g.D.Disk in like_first (d.seen c.args.first.now) _ c.in_ok-repair-2.ensures.same (d.seen c.args.second.now)
+    let d = g.D.Disk in (like_first (d.seen c.args.first.now) _ c.in_ok-repair-2.ensures.same (d.seen c.args.second.now)).0
 
 pub make_first-requires-clause-unbegun : goal.make_first-requires-clause-unbegun
 make_first-requires-clause-unbegun g c =
@@ -148,3 +148,57 @@ returns-clause-generation g c =
     let d = g.D.Disk in
     let found = subst (λ o. FindsPlace o (d.seen c.args.first.now) (d.seen c.args.second.now)) c.in-Some.is c.requires.place in
     found.1.generation ∙ sym (generation_counts (d.seen c.args.first.now) (d.seen c.args.second.now) c.in-Some.place.is_second found.0 found.1.begun)
+
+pub returns-in_err-place-clause-same : goal.returns-in_err-place-clause-same
+returns-in_err-place-clause-same g c =
+    let d = g.D.Disk in
+    let found = subst (λ o. FindsPlace o (d.seen c.args.first.now) (d.seen c.args.second.now)) c.in_default.is c.requires.place in
+    (first_told d.seen d.may_leave d.moment d.left_since g.met.D.Disk.shows g.met.D.Disk.counts_now c.args.first.now _ (d.seen c.args.second.now) (c.make_first.ensures.any_moment (d.seen c.args.second.now) found.0)).0
+
+pub returns-in_err-repair-clause-same : goal.returns-in_err-repair-clause-same
+returns-in_err-repair-clause-same g c =
+    let d = g.D.Disk in
+    (second_told d.seen d.may_leave d.moment d.left_since g.met.D.Disk.shows g.met.D.Disk.counts_now c.args.second.now _ (d.seen c.args.first.now)
+    (weaker d.moment d.left_since _ _ _ _ c.repair.ensures.any_moment (λ x same. like_second _ x same))).0
+
+pub returns-in_err-repair-2-clause-same : goal.returns-in_err-repair-2-clause-same
+returns-in_err-repair-2-clause-same g c =
+    let d = g.D.Disk in
+    (first_told d.seen d.may_leave d.moment d.left_since g.met.D.Disk.shows g.met.D.Disk.counts_now c.args.first.now _ (d.seen c.args.second.now)
+    (weaker d.moment d.left_since _ _ _ _ c.repair-2.ensures.any_moment (λ x same d. inl (like_first _ x same d)))).0
+
+pub returns-in_err-place-clause-kept : goal.returns-in_err-place-clause-kept
+returns-in_err-place-clause-kept g c =
+    let d = g.D.Disk in
+    let found = subst (λ o. FindsPlace o (d.seen c.args.first.now) (d.seen c.args.second.now)) c.in_default.is c.requires.place in
+    (first_told d.seen d.may_leave d.moment d.left_since g.met.D.Disk.shows g.met.D.Disk.counts_now c.args.first.now _ (d.seen c.args.second.now) (c.make_first.ensures.any_moment (d.seen c.args.second.now) found.0)).1
+
+pub returns-in_default-clause-kept : goal.returns-in_default-clause-kept
+returns-in_default-clause-kept g c =
+    let d = g.D.Disk in
+    let found = subst (λ o. FindsPlace o (d.seen c.args.first.now) (d.seen c.args.second.now)) c.in_default.is c.requires.place in
+    (first_told d.seen d.may_leave d.moment d.left_since g.met.D.Disk.shows g.met.D.Disk.counts_now c.args.first.now _ (d.seen c.args.second.now) (c.make_first.ensures.any_moment (d.seen c.args.second.now) found.0)).1
+
+pub returns-in_err-repair-clause-kept : goal.returns-in_err-repair-clause-kept
+returns-in_err-repair-clause-kept g c =
+    let d = g.D.Disk in
+    (second_told d.seen d.may_leave d.moment d.left_since g.met.D.Disk.shows g.met.D.Disk.counts_now c.args.second.now _ (d.seen c.args.first.now)
+    (weaker d.moment d.left_since _ _ _ _ c.repair.ensures.any_moment (λ x same. like_second _ x same))).1
+
+pub returns-then-place-clause-kept : goal.returns-then-place-clause-kept
+returns-then-place-clause-kept g c =
+    let d = g.D.Disk in
+    (second_told d.seen d.may_leave d.moment d.left_since g.met.D.Disk.shows g.met.D.Disk.counts_now c.args.second.now _ (d.seen c.args.first.now)
+    (weaker d.moment d.left_since _ _ _ _ c.repair.ensures.any_moment (λ x same. like_second _ x same))).1
+
+pub returns-in_err-repair-2-clause-kept : goal.returns-in_err-repair-2-clause-kept
+returns-in_err-repair-2-clause-kept g c =
+    let d = g.D.Disk in
+    (first_told d.seen d.may_leave d.moment d.left_since g.met.D.Disk.shows g.met.D.Disk.counts_now c.args.first.now _ (d.seen c.args.second.now)
+    (weaker d.moment d.left_since _ _ _ _ c.repair-2.ensures.any_moment (λ x same d. inl (like_first _ x same d)))).1
+
+pub returns-clause-kept : goal.returns-clause-kept
+returns-clause-kept g c =
+    let d = g.D.Disk in
+    (first_told d.seen d.may_leave d.moment d.left_since g.met.D.Disk.shows g.met.D.Disk.counts_now c.args.first.now _ (d.seen c.args.second.now)
+    (weaker d.moment d.left_since _ _ _ _ c.repair-2.ensures.any_moment (λ x same d. inl (like_first _ x same d)))).1

@@ -2,9 +2,9 @@ use Rattle.std.proofs.Common.{◌≡◌, refl, inl, inr, ◌∙◌, ap, subst}
 use Rattle.std.specs.Prelude.{Option, Some, None, Result, Ok, Err, IfSome, OnOk}
 use Rattle.gs_journal_disk.specs.Disk.{LeavesPairs}
 use Rattle.gs_journal.specs.Records.{standing}
-use Rattle.gs_journal.specs.Journal.{State, IsOldOrNew, Makes, checkpointed}
+use Rattle.gs_journal.specs.Journal.{State, IsOldOrNew, IsStillOrNext, Makes, checkpointed}
 use Rattle.gs_journal.specs.Drafts.{Drafted, draft_refusal}
-use Rattle.gs_journal.proofs.Views.{unmoved}
+use Rattle.gs_journal.proofs.Views.{unmoved, still_there}
 use Rattle.gs_journal.proofs.Drafting.{draft_unrefused, if_err_as}
 use Rattle.gs_journal.proofs.journal.Journal.checkpoint.Goals as goal
 
@@ -49,6 +49,18 @@ returns-clause-any_moment g c is_open =
     let d = g.D.Disk in
     subst (λ (t : Drafted). LeavesPairs d.moment d.left_since c.args.self.now.first c.args.self.now.second c.write_draft.new.self.first c.write_draft.new.self.second (λ a b. IsOldOrNew c.args.self.now.text (checkpointed t.body) (standing a b)))
     c.in-Ok.ensures.made (c.write_draft.ensures.any_moment is_open)
+
+pub returns-in-Err-clause-next : goal.returns-in-Err-clause-next
+returns-in-Err-clause-next g c is_open =
+    let d = g.D.Disk in let j = c.self.inside in
+    still_there d.seen d.may_leave d.moment d.left_since j.disks j.limit j.is_failed c.args.self.now (checkpointed c.args.body.now) c.self.view_is
+    (c.self.invariant (ap (λ (v : State _). v.is_failed) c.self.view_is ∙ is_open)) g.met.D.Disk.only_now
+
+pub returns-clause-next : goal.returns-clause-next
+returns-clause-next g c is_open =
+    let d = g.D.Disk in
+    subst (λ (t : Drafted). LeavesPairs d.moment d.left_since c.args.self.now.first c.args.self.now.second c.write_draft.new.self.first c.write_draft.new.self.second (IsStillOrNext c.args.self.now.text c.args.self.now.generation (checkpointed t.body)))
+    c.in-Ok.ensures.made (c.write_draft.ensures.next is_open)
 
 pub returns-clause-judged : goal.returns-clause-judged
 returns-clause-judged g c = ok_judged _ _ _ _ c.draft.ensures.judged c.in-Ok.is

@@ -1,5 +1,5 @@
 use Rattle.std.proofs.Common.{false, refl}
-use Rattle.gs_journal.proofs.Views.{stands}
+use Rattle.gs_journal.proofs.Views.{stands, left_behind}
 use Rattle.gs_journal.proofs.journal.Journal.open.Goals as goal
 
 pub returns-in-Ok-clause-stands : goal.returns-in-Ok-clause-stands
@@ -15,3 +15,7 @@ returns-in-Ok-clause-stands g c =
       first = e.durable_first;
       second = e.durable_second;
     })
+
+pub returns-in-Err-clause-lasts : goal.returns-in-Err-clause-lasts
+returns-in-Err-clause-lasts g c =
+    let d = g.D.Disk in left_behind d.seen d.may_leave d.moment d.left_since _ _ _ _ _ g.met.D.Disk.counts_now c.start.ensures.any_moment

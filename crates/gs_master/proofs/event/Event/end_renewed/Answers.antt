@@ -2,7 +2,9 @@ use Rattle.std.proofs.Common.{◌≡◌, ◌<◌, ◌∙◌, ◌∷◌, [], ap, 
 use Rattle.std.proofs.lemmas.List.{length-map}
 use Rattle.gs_journal.specs.Journal.{IsOldOrNew, checkpointed}
 use Rattle.gs_journal.specs.Records.{standing}
+use Rattle.gs_journal.specs.declared.version.Version.TheVariants.{Two}
 use Rattle.gs_master_record.specs.Plain.{Whole, plain}
+use Rattle.gs_master_record.specs.Writable.{IsEntry}
 use Rattle.gs_master.specs.Journaled.{Breaks, Gains, IsReadyFor, stood_before}
 use Rattle.gs_master_state.specs.inner.Plans.{log_of}
 use Rattle.gs_master_state.specs.inner.Recorded.{durable_of}
@@ -43,6 +45,7 @@ returns-then-many-len-clause-ended g c = λ before has.
           subst (λ records. Breaks d.seen d.failures old records many new) c.deref.ensures.value
               (c.append_all-many.ensures.cut (subst (IsReadyFor old) (sym c.deref.ensures.value) (ready before (log_of c.args.first) e old has log)) below),
         ),
+        subst (IsEntry Two) c.requires.renewal.entry c.requires.renewal.is_entry,
       ),
     )
 
@@ -91,5 +94,6 @@ returns-in-Err-clause-ended g c = λ before has.
                   (seen_behind d.seen d.may_leave d.moment d.left_since mid c.write_draft.new.self (λ a b. IsOldOrNew mid.text (checkpointed c.args.renewal.draft.body) (standing a b)) g.met.D.Disk.shows g.met.D.Disk.counts_now
                   (c.write_draft.ensures.any_moment gains.is_open)),
             ),
+        subst (IsEntry Two) c.requires.renewal.entry c.requires.renewal.is_entry,
       ),
     )

@@ -1,16 +1,16 @@
-use Rattle.std.proofs.Common.{◌≡◌, ◌∙◌, refl, subst}
+use Rattle.std.proofs.Common.{◌≡◌, ◌∙◌, ◌+◌, ap, refl, subst}
 use Rattle.std.specs.Prelude.{Ok}
 use Rattle.gs_journal.specs.Records.{Text}
 use Rattle.gs_master_spec.specs.Handling.{recover}
 use Rattle.gs_master.specs.Recovering.{Tells, log_in}
 use Rattle.gs_master.specs.Starting.{left_in}
-use Rattle.gs_master.proofs.Reopened.{closed_why, generation_left, left_of, opened_held, seen_of, untold_why}
+use Rattle.gs_master.proofs.Reopened.{closed_why, generation_anew, generation_left, left_of, opened_held, seen_of, untold_why}
 use Rattle.gs_master.proofs.master.Master.open.Goals as goal
 
 pub returns-in-Err-clause-refused : goal.returns-in-Err-clause-refused
 returns-in-Err-clause-refused g c =
     let d = g.D.Disk in
-    closed_why d.seen d.failures c.args.config c.args.limit c.args.first c.args.second c.in-Err.unopened c.in-Err.ensures.refused c.in-Err.ensures.unchanged
+    closed_why d.seen d.failures c.args.config c.args.limit c.args.first c.args.second c.in-Err.unopened c.in-Err.ensures.refused c.in-Err.ensures.told
 
 pub invariant_of-master : goal.invariant_of-master
 invariant_of-master g c =
@@ -51,6 +51,7 @@ returns-in-Ok-recover-clause-opened g c =
       journal = seen_of d.seen d.may_leave d.failures c.in-Ok.journal.text.0 recovered.durable c.in-Ok.journal k recovered.journal;
       known = recovered.log;
       generation = λ two. generation_left d.seen d.may_leave d.failures c.in-Ok.journal.text.0 recovered.durable c.in-Ok.journal k recovered.journal ((λ i. (text i).0) ∙ two) ∙ c.in-Ok.ensures.generation;
+      anew = λ one. generation_anew d.seen d.may_leave d.failures c.in-Ok.journal.text.0 recovered.durable c.in-Ok.journal k recovered.journal ((λ i. (text i).0) ∙ one) ∙ ap (λ n. n + 1) c.in-Ok.ensures.generation;
       left = subst (λ (t : Text). k.text ≡ left_in t.0 t recovered.durable) text kept.0;
       quiet = kept.1 ∙ c.in-Ok.ensures.quiet;
     }
