@@ -9,6 +9,7 @@ use gs_base::{ClientId, Config, Refusal, ReqId};
 use gs_client_part::numbering::take_next;
 use gs_msg::{Call, Copied, Names, Phase, Request, Status};
 use gs_path::Path;
+use std::alloc::Global;
 use std::marker::Model;
 
 /// A client of a store. It numbers its requests from 1 upwards, whatever node they go to; after the last number a call that has to
@@ -16,10 +17,11 @@ use std::marker::Model;
 ///
 /// A call that changes something answers `Unsure` where no reply came, or the node that met it had no memory or no disk for it: it
 /// stands or doesn't. One that only looks answers `NoReplica` where no reply came. `Stray` is for a reply of another kind than the
-/// call waits for. All other refusals are those of the nodes. Calls that take an allocator copy paths and bytes, and answer
-/// `Memory` where it was refused; the requests that were made before it stand.
+/// call waits for. All other refusals are those of the nodes. `stat` and the calls of an open file copy paths and bytes into
+/// memory of their own, and answer `Memory` where it was refused; the requests that were made before it stand.
 #[derive(Debug)]
 pub struct Client {
+    pub(crate) alloc: Global,
     /// The last request that was sent. Number 0 is of none.
     last: ReqId,
     /// The bytes of a chunk.
@@ -28,7 +30,11 @@ pub struct Client {
 
 impl Drop for Client {
     fn drop(self) {
-        let Self { last: _, chunk: _ } = self;
+        let Self {
+            alloc: _,
+            last: _,
+            chunk: _,
+        } = self;
     }
 }
 
@@ -45,10 +51,11 @@ impl Model for Client {
 
 impl Client {
     /// A client that has sent nothing yet, of a store of these sizes.
-    pub fn new(id: ClientId, config: Config) -> Client
+    pub fn new(alloc: Global, id: ClientId, config: Config) -> Client
         ensures { result ≡ record { last = record { client = id; number = 0 }; chunk = config.chunk } }
     {
         Client {
+            alloc,
             last: ReqId {
                 client: id,
                 number: 0,

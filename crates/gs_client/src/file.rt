@@ -16,7 +16,6 @@ use gs_block::Digest;
 use gs_client_part::{Located, Write};
 use gs_msg::Bytes;
 use gs_path::Path;
-use std::alloc::Global;
 use std::marker::Model;
 
 /// What a file is open for that may be let go at any time.
@@ -66,13 +65,12 @@ impl Client {
     /// Opens a file for reading. `NotFound` where nothing stands at the path, `IsADirectory` for a directory.
     pub fn open_read<L: Link>(
         &mut self,
-        alloc: Global,
         link: &mut L,
         path: Path,
     ) -> Result<OpenFile<Reading>, Refusal>
         ensures { FollowsDialogue (Sends L.Carries) (open_call path) (self.old, link.old) result (self.new, link.new) }
     {
-        let chunks = self.chunks(alloc, link, &path)?;
+        let chunks = self.chunks(link, &path)?;
         Ok(OpenFile {
             path,
             opened: Some(chunks),
@@ -85,13 +83,12 @@ impl Client {
     /// Opens a file for writing. `NotFound` where nothing stands at the path, `IsADirectory` for a directory.
     pub fn open_write<L: Link>(
         &mut self,
-        alloc: Global,
         link: &mut L,
         path: Path,
     ) -> Result<OpenFile<Writing>, Refusal>
         ensures { FollowsDialogue (Sends L.Carries) (open_call path) (self.old, link.old) result (self.new, link.new) }
     {
-        let chunks = self.chunks(alloc, link, &path)?;
+        let chunks = self.chunks(link, &path)?;
         Ok(OpenFile {
             path,
             opened: Some(chunks),
@@ -106,7 +103,6 @@ impl OpenFile<Reading> {
     /// The bytes from an offset on, at most so many, up to the end of the file. `Range` where the offset lies behind the end.
     pub fn read<L: Link>(
         &mut self,
-        alloc: Global,
         client: &mut Client,
         link: &mut L,
         offset: u64,
@@ -120,7 +116,7 @@ impl OpenFile<Reading> {
             opened: self.opened,
             known: self.located,
         };
-        let read = client.read(alloc, link, &file, Range { offset, many });
+        let read = client.read(link, &file, Range { offset, many });
         self.opened = None;
         self.located = None;
         let (bytes, located) = read?;
@@ -131,7 +127,6 @@ impl OpenFile<Reading> {
     /// The digest of a block of a chunk. `Range` where the file has no such chunk, or the chunk no such block.
     pub fn digest<L: Link>(
         &mut self,
-        alloc: Global,
         client: &mut Client,
         link: &mut L,
         index: u64,
@@ -145,7 +140,7 @@ impl OpenFile<Reading> {
             opened: self.opened,
             known: self.located,
         };
-        let found = client.digest(alloc, link, &file, index, block);
+        let found = client.digest(link, &file, index, block);
         self.opened = None;
         self.located = None;
         let (digest, located) = found?;
@@ -159,7 +154,6 @@ impl OpenFile<Writing> {
     /// A part that is refused ends the write; the parts before it stand.
     pub fn write<L: Link>(
         &mut self,
-        alloc: Global,
         client: &mut Client,
         link: &mut L,
         offset: u64,
@@ -175,7 +169,7 @@ impl OpenFile<Writing> {
             offset,
             bytes,
         };
-        let result = client.write(alloc, link, &mut edits, &write, self.opened);
+        let result = client.write(link, &mut edits, &write, self.opened);
         self.opened = None;
         self.edits = edits;
         result
@@ -185,7 +179,6 @@ impl OpenFile<Writing> {
     /// record that is longer than a quarter of a chunk.
     pub fn append<L: Link>(
         &mut self,
-        alloc: Global,
         client: &mut Client,
         link: &mut L,
         bytes: &[u8],
@@ -199,7 +192,7 @@ impl OpenFile<Writing> {
             path: &self.path,
             bytes,
         };
-        let result = client.append(alloc, link, &mut edits, &appended, self.opened);
+        let result = client.append(link, &mut edits, &appended, self.opened);
         self.opened = None;
         self.edits = edits;
         result

@@ -1,6 +1,9 @@
+ghost use Rattle.std.specs.Prelude.{◌≡◌, IfOk};
+
 use gs_base::{Refusal, ReqId};
 use gs_msg::{Answer, Given, Request};
 use gs_replica::Outcome;
+use std::alloc::{AllocError, Global};
 
 /// What comes back for a request.
 #[derive(Debug, Drop)]
@@ -14,6 +17,21 @@ pub enum Reply {
     Refused(Refusal),
     /// Nothing came back.
     Lost,
+}
+
+impl Reply {
+    /// The same, in memory of its own.
+    pub fn copy(&self, alloc: Global) -> Result<Reply, AllocError>
+        ensures { IfOk result (λ reply. reply ≡ self.now) }
+    {
+        Ok(match self {
+            Reply::Answer(answer) => Reply::Answer(answer.copy(alloc)?),
+            Reply::Outcome(outcome) => Reply::Outcome(*outcome),
+            Reply::Given(given) => Reply::Given(given.copy(alloc)?),
+            Reply::Refused(refusal) => Reply::Refused(refusal.copy(alloc)?),
+            Reply::Lost => Reply::Lost,
+        })
+    }
 }
 
 /// What carries a client's requests to the nodes of a store, and their answers back.

@@ -16,7 +16,6 @@ use gs_client_part::Located;
 use gs_client_part::writing::MOST_CHUNKS;
 use gs_msg::{Asked, Call, ChunkStatus, Given, Request, Status};
 use gs_path::Path;
-use std::alloc::Global;
 
 /// What is asked of a chunk of a file.
 #[derive(Clone, Copy)]
@@ -49,36 +48,25 @@ fn count_of(status: Status) -> Result<u64, Refusal>
 
 impl Client {
     /// What stands at a path.
-    pub(crate) fn look<L: Link>(
-        &mut self,
-        alloc: Global,
-        link: &mut L,
-        path: &Path,
-    ) -> Result<Status, Refusal>
+    pub(crate) fn look<L: Link>(&mut self, link: &mut L, path: &Path) -> Result<Status, Refusal>
         ensures { FollowsDialogue (Sends L.Carries) (Grow (look (calls.Status path.now) status_in)) (self.old, link.old) result (self.new, link.new) }
     {
-        let request = Request::Call(Call::Status(path.copy(alloc)?));
+        let request = Request::Call(Call::Status(path.copy(self.alloc)?));
         replies::status_in(replies::looked(self.ask(link, request)))
     }
 
     /// How many chunks a file has.
-    pub(crate) fn chunks<L: Link>(
-        &mut self,
-        alloc: Global,
-        link: &mut L,
-        path: &Path,
-    ) -> Result<u64, Refusal>
+    pub(crate) fn chunks<L: Link>(&mut self, link: &mut L, path: &Path) -> Result<u64, Refusal>
         ensures is { FollowsDialogue (Sends L.Carries) (chunks_call path.now) (self.old, link.old) result (self.new, link.new) }
         ensures few { IfOk result (λ count. count ≤ 4096) }
     {
-        let status = self.look(alloc, link, path)?;
+        let status = self.look(link, path)?;
         count_of(status)
     }
 
     /// How many chunks a file has, which is asked for where it isn't known from its opening.
     pub(crate) fn known<L: Link>(
         &mut self,
-        alloc: Global,
         link: &mut L,
         path: &Path,
         opened: Option<u64>,
@@ -89,22 +77,16 @@ impl Client {
     {
         match opened {
             Some(count) => Ok(count),
-            None => self.chunks(alloc, link, path),
+            None => self.chunks(link, path),
         }
     }
 
     /// Where a chunk can be read.
-    fn find<L: Link>(
-        &mut self,
-        alloc: Global,
-        link: &mut L,
-        path: &Path,
-        index: u64,
-    ) -> Result<Located, Refusal>
+    fn find<L: Link>(&mut self, link: &mut L, path: &Path, index: u64) -> Result<Located, Refusal>
         ensures { FollowsDialogue (Sends L.Carries) (find_call path.now index) (self.old, link.old) result (self.new, link.new) }
     {
         let request = Request::Call(Call::FindForReading {
-            path: path.copy(alloc)?,
+            path: path.copy(self.alloc)?,
             index,
         });
         replies::located_in(index, replies::looked(self.ask(link, request)))
@@ -145,13 +127,12 @@ impl Client {
     /// Looks a chunk up, and asks its members.
     fn anew<L: Link>(
         &mut self,
-        alloc: Global,
         link: &mut L,
         wanted: Wanted<'_>,
     ) -> Result<(Given, Located), Refusal>
         ensures { FollowsDialogue (Sends L.Carries) (anew_call wanted.entry.path.now wanted.entry.index wanted.entry.asked) (self.old, link.old) result (self.new, link.new) }
     {
-        let located = self.find(alloc, link, wanted.path, wanted.index)?;
+        let located = self.find(link, wanted.path, wanted.index)?;
         self.round(link, &located, wanted.asked)
     }
 
@@ -159,7 +140,6 @@ impl Client {
     /// of its members answers.
     pub(crate) fn fetch<L: Link>(
         &mut self,
-        alloc: Global,
         link: &mut L,
         wanted: Wanted<'_>,
         known: Option<Located>,
@@ -167,14 +147,14 @@ impl Client {
         ensures { FollowsDialogue (Sends L.Carries) (fetch_call wanted.entry.path.now known wanted.entry.index wanted.entry.asked) (self.old, link.old) result (self.new, link.new) }
     {
         let Some(located) = known else {
-            return self.anew(alloc, link, wanted);
+            return self.anew(link, wanted);
         };
         if located.index != wanted.index {
-            return self.anew(alloc, link, wanted);
+            return self.anew(link, wanted);
         }
         match self.round(link, &located, wanted.asked) {
             Ok(found) => Ok(found),
-            Err(_) => self.anew(alloc, link, wanted),
+            Err(_) => self.anew(link, wanted),
         }
     }
 }

@@ -1,4 +1,4 @@
-ghost use Rattle.std.specs.Prelude.{◌≡◌, ◌++◌, ◌∷◌, [], OnOk, IfOk};
+ghost use Rattle.std.specs.Prelude.{◌≡◌, ◌++◌, ◌∷◌, [], OnOk, IfOk, option_copied};
 ghost use Rattle.gs_base.specs.Calls.{Does};
 ghost use Rattle.gs_client.specs.Nodes.{silent, asks, Asks, hears, given_up, tell, with_bytes, pushes, messages_of, takes};
 
@@ -129,6 +129,13 @@ impl ClientNode {
         } else {
             drop(reply);
         }
+    }
+
+    /// What came back since it asked, if something did. It stays until it is taken, or until the next request.
+    pub fn reply(&self) -> Option<&Reply>
+        ensures { option_copied result ≡ self.now.reply }
+    {
+        self.reply.as_ref()
     }
 
     /// What came back since it asked, if something did. It is given once.

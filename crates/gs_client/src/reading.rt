@@ -17,7 +17,6 @@ use gs_client_part::Located;
 use gs_client_part::reading::{add_piece, bytes_of, piece_end, span};
 use gs_msg::{Asked, Bytes, ChunkStatus, Given, Items, Status};
 use gs_path::Path;
-use std::alloc::Global;
 
 /// What stands at a path.
 #[derive(Debug, Drop)]
@@ -73,7 +72,6 @@ impl Client {
     /// How many bytes a file has.
     fn length<L: Link>(
         &mut self,
-        alloc: Global,
         link: &mut L,
         file: &Counted<'_>,
     ) -> Result<(u64, Option<Located>), Refusal>
@@ -89,7 +87,7 @@ impl Client {
             index: last,
             asked: Asked::Length,
         };
-        let (given, located) = self.fetch(alloc, link, wanted, file.known)?;
+        let (given, located) = self.fetch(link, wanted, file.known)?;
         let many = length_within(file.size, given)?;
         Ok((bytes_of(last, file.size) + many, Some(located)))
     }
@@ -97,7 +95,6 @@ impl Client {
     /// Where a read ends. No length is asked for where it ends in chunks that are full.
     fn end<L: Link>(
         &mut self,
-        alloc: Global,
         link: &mut L,
         file: &Counted<'_>,
         range: Range,
@@ -110,7 +107,7 @@ impl Client {
         if end <= full {
             return Ok((end, file.known));
         }
-        let (length, known) = self.length(alloc, link, file)?;
+        let (length, known) = self.length(link, file)?;
         if length < range.offset {
             return Err(Refusal::Range);
         }
@@ -120,7 +117,6 @@ impl Client {
     /// What a member stores of a part of a chunk.
     fn stored<L: Link>(
         &mut self,
-        alloc: Global,
         link: &mut L,
         wanted: Wanted<'_>,
         known: Option<Located>,
@@ -128,7 +124,7 @@ impl Client {
         ensures { FollowsDialogue (Sends L.Carries) (stored_call wanted.entry.path.now known wanted.entry.index wanted.entry.asked) (self.old, link.old) result (self.new, link.new) }
     {
         let asked = wanted.asked;
-        let (given, located) = self.fetch(alloc, link, wanted, known)?;
+        let (given, located) = self.fetch(link, wanted, known)?;
         let bytes = replies::bytes_in(asked, given)?;
         Ok((bytes, located))
     }
@@ -136,7 +132,6 @@ impl Client {
     /// What its chunks give of a file between two places.
     fn pieces<L: Link>(
         &mut self,
-        alloc: Global,
         link: &mut L,
         file: &Counted<'_>,
         offset: u64,
@@ -149,7 +144,7 @@ impl Client {
         let first = offset / file.size;
         let mut start = offset % file.size;
         let mut known = file.known;
-        let mut read = Vec::new(alloc);
+        let mut read = Vec::new(self.alloc);
         for i in 0..count {
             let index = first + i;
             let many = piece_end(file.size, end, index).saturating_sub(start);
@@ -161,7 +156,7 @@ impl Client {
                     length: many,
                 },
             };
-            let (bytes, located) = self.stored(alloc, link, wanted, known)?;
+            let (bytes, located) = self.stored(link, wanted, known)?;
             add_piece(&mut read, bytes, many, index + 1 == file.chunks)?;
             known = Some(located);
             start = 0;
@@ -172,7 +167,6 @@ impl Client {
     /// What is read of a file, and the location that is remembered then.
     pub(crate) fn read<L: Link>(
         &mut self,
-        alloc: Global,
         link: &mut L,
         file: &Opened<'_>,
         range: Range,
@@ -181,27 +175,26 @@ impl Client {
         ensures { FollowsDialogue (Sends L.Carries) (read_call self.old.chunk file.now.path.now file.now.opened file.now.known range.offset range.many) (self.old, link.old) result (self.new, link.new) }
     {
         let size = self.chunk();
-        let chunks = self.known(alloc, link, file.path, file.opened)?;
+        let chunks = self.known(link, file.path, file.opened)?;
         let counted = Counted {
             size,
             path: file.path,
             chunks,
             known: file.known,
         };
-        let (end, known) = self.end(alloc, link, &counted, range)?;
+        let (end, known) = self.end(link, &counted, range)?;
         let counted = Counted {
             size,
             path: file.path,
             chunks,
             known,
         };
-        self.pieces(alloc, link, &counted, range.offset, end)
+        self.pieces(link, &counted, range.offset, end)
     }
 
     /// The digest of a block of a chunk, and the location that is remembered then.
     pub(crate) fn digest<L: Link>(
         &mut self,
-        alloc: Global,
         link: &mut L,
         file: &Opened<'_>,
         index: u64,
@@ -210,28 +203,23 @@ impl Client {
         requires { IfSome file.now.opened (λ chunks. chunks ≤ 4096) }
         ensures { FollowsDialogue (Sends L.Carries) (digest_call file.now.path.now file.now.opened file.now.known index block) (self.old, link.old) result (self.new, link.new) }
     {
-        self.known(alloc, link, file.path, file.opened)?;
+        self.known(link, file.path, file.opened)?;
         let wanted = Wanted {
             path: file.path,
             index,
             asked: Asked::Digest(block),
         };
-        let (given, located) = self.fetch(alloc, link, wanted, file.known)?;
+        let (given, located) = self.fetch(link, wanted, file.known)?;
         let digest = replies::digest_in(given)?;
         Ok((digest, Some(located)))
     }
 
     /// What stands at a path. The length of a file is that of its last chunk, as a member gives it, behind full ones.
-    pub fn stat<L: Link>(
-        &mut self,
-        alloc: Global,
-        link: &mut L,
-        path: &Path,
-    ) -> Result<Stat, Refusal>
+    pub fn stat<L: Link>(&mut self, link: &mut L, path: &Path) -> Result<Stat, Refusal>
         ensures { FollowsDialogue (Sends L.Carries) (stat_call self.old.chunk path.now) (self.old, link.old) result (self.new, link.new) }
     {
         let size = self.chunk();
-        let chunks = match self.look(alloc, link, path)? {
+        let chunks = match self.look(link, path)? {
             Status::Directory => return Ok(Stat::Directory),
             Status::File(chunks) => chunks,
         };
@@ -241,7 +229,7 @@ impl Client {
             chunks: looking::count_in(chunks.as_slice())?,
             known: None,
         };
-        let (length, _) = self.length(alloc, link, &counted)?;
+        let (length, _) = self.length(link, &counted)?;
         Ok(Stat::File { length, chunks })
     }
 }

@@ -16,7 +16,6 @@ use gs_client_part::{Located, Write};
 use gs_msg::{Bytes, Call, Op, Request};
 use gs_path::Path;
 use gs_replica::Outcome;
-use std::alloc::Global;
 
 /// An edit of a chunk of a file.
 #[derive(Clone, Copy)]
@@ -60,7 +59,6 @@ impl Client {
     /// Where a chunk can be written, under another stamp than the one that was refused.
     fn find_for_writing<L: Link>(
         &mut self,
-        alloc: Global,
         link: &mut L,
         edit: &Edit<'_>,
         refused: Option<Stamp>,
@@ -68,7 +66,7 @@ impl Client {
         ensures { FollowsDialogue (Sends L.Carries) (calls.writing_call edit.now.path.now edit.now.index refused) (self.old, link.old) result (self.new, link.new) }
     {
         let request = Request::Call(Call::FindForWriting {
-            path: edit.path.copy(alloc)?,
+            path: edit.path.copy(self.alloc)?,
             index: edit.index,
             refused,
         });
@@ -78,7 +76,6 @@ impl Client {
     /// Sends an edit to where its chunk was found, and counts it if it is acknowledged.
     fn send<L: Link>(
         &mut self,
-        alloc: Global,
         link: &mut L,
         edits: &mut u64,
         located: &Located,
@@ -95,7 +92,7 @@ impl Client {
             primary: term.primary,
             stamp: located.view.stamp,
             op: edit.op,
-            bytes: Bytes::new(Vec::from_slice(alloc, edit.bytes)?),
+            bytes: Bytes::new(Vec::from_slice(self.alloc, edit.bytes)?),
         };
         let edited = replies::edited(self.ask(link, request));
         *edits = with_edit(&edited, *edits);
@@ -105,7 +102,6 @@ impl Client {
     /// Tries a refused edit once more, where that may help.
     fn again<L: Link>(
         &mut self,
-        alloc: Global,
         link: &mut L,
         edits: &mut u64,
         edit: &Edit<'_>,
@@ -117,54 +113,46 @@ impl Client {
         if !replies::is_stale(&refusal) {
             return Err(refusal);
         }
-        let located = self.find_for_writing(alloc, link, edit, avoided(&refusal, stamp))?;
-        self.send(alloc, link, edits, &located, edit)
+        let located = self.find_for_writing(link, edit, avoided(&refusal, stamp))?;
+        self.send(link, edits, &located, edit)
     }
 
     /// Looks a chunk up and edits it.
     fn part<L: Link>(
         &mut self,
-        alloc: Global,
         link: &mut L,
         edits: &mut u64,
         edit: &Edit<'_>,
     ) -> Result<Outcome, Refusal>
         ensures { FollowsDialogue (Edits L.Carries) (calls.part_call edit.now.path.now edit.now.index edit.now.op edit.now.bytes.now) (self.old, edits.old, link.old) result (self.new, edits.new, link.new) }
     {
-        let located = self.find_for_writing(alloc, link, edit, None)?;
+        let located = self.find_for_writing(link, edit, None)?;
         let stamp = located.view.stamp;
-        match self.send(alloc, link, edits, &located, edit) {
+        match self.send(link, edits, &located, edit) {
             Ok(outcome) => Ok(outcome),
-            Err(refusal) => self.again(alloc, link, edits, edit, stamp, refusal),
+            Err(refusal) => self.again(link, edits, edit, stamp, refusal),
         }
     }
 
     /// The same for a part of a write.
     fn write_part<L: Link>(
         &mut self,
-        alloc: Global,
         link: &mut L,
         edits: &mut u64,
         edit: &Edit<'_>,
     ) -> Result<(), Refusal>
         ensures { FollowsDialogue (Edits L.Carries) (calls.write_part_call edit.now.path.now edit.now.index edit.now.op edit.now.bytes.now) (self.old, edits.old, link.old) result (self.new, edits.new, link.new) }
     {
-        let outcome = self.part(alloc, link, edits, edit)?;
+        let outcome = self.part(link, edits, edit)?;
         written(outcome)
     }
 
     /// Adds a chunk to a file.
-    fn extend<L: Link>(
-        &mut self,
-        alloc: Global,
-        link: &mut L,
-        path: &Path,
-        index: u64,
-    ) -> Result<Located, Refusal>
+    fn extend<L: Link>(&mut self, link: &mut L, path: &Path, index: u64) -> Result<Located, Refusal>
         ensures { FollowsDialogue (Sends L.Carries) (calls.extend_call path.now index) (self.old, link.old) result (self.new, link.new) }
     {
         let request = Request::Call(Call::Extend {
-            path: path.copy(alloc)?,
+            path: path.copy(self.alloc)?,
             index,
         });
         replies::located_in(index, replies::changed(self.ask(link, request)))
@@ -173,7 +161,6 @@ impl Client {
     /// Adds so many chunks to a file.
     fn extends<L: Link>(
         &mut self,
-        alloc: Global,
         link: &mut L,
         path: &Path,
         from: u64,
@@ -184,7 +171,7 @@ impl Client {
         ensures { FollowsDialogue (Sends L.Carries) (calls.extends_call path.now from count) (self.old, link.old) result (self.new, link.new) }
     {
         for i in 0..count {
-            self.extend(alloc, link, path, from + i)?;
+            self.extend(link, path, from + i)?;
         }
         Ok(())
     }
@@ -192,7 +179,6 @@ impl Client {
     /// Writes the parts of a write, each to its chunk.
     fn parts<L: Link>(
         &mut self,
-        alloc: Global,
         link: &mut L,
         edits: &mut u64,
         write: &Write<'_>,
@@ -213,7 +199,7 @@ impl Client {
                 },
                 bytes,
             };
-            self.write_part(alloc, link, edits, &part)?;
+            self.write_part(link, edits, &part)?;
         }
         Ok(())
     }
@@ -221,7 +207,6 @@ impl Client {
     /// Writes bytes at a place of a file, whose missing chunks are added first.
     pub(crate) fn write<L: Link>(
         &mut self,
-        alloc: Global,
         link: &mut L,
         edits: &mut u64,
         write: &Write<'_>,
@@ -230,19 +215,18 @@ impl Client {
         requires { IfSome opened (λ chunks. chunks ≤ 4096) }
         ensures { FollowsDialogue (Edits L.Carries) (calls.write_call write.now.size write.now.path.now opened write.now.offset write.now.bytes.now) (self.old, edits.old, link.old) result (self.new, edits.new, link.new) }
     {
-        let chunks = self.known(alloc, link, write.path, opened)?;
+        let chunks = self.known(link, write.path, opened)?;
         if is_out(write) {
             return Err(Refusal::Range);
         }
         let to = chunks_to(write);
-        self.extends(alloc, link, write.path, chunks, to.saturating_sub(chunks))?;
-        self.parts(alloc, link, edits, write, part_count(write))
+        self.extends(link, write.path, chunks, to.saturating_sub(chunks))?;
+        self.parts(link, edits, write, part_count(write))
     }
 
     /// Puts a record into a chunk, or, where that is filled up, into one behind it, as far as a file may go.
     fn append_from<L: Link>(
         &mut self,
-        alloc: Global,
         link: &mut L,
         edits: &mut u64,
         appended: &Record<'_>,
@@ -260,7 +244,7 @@ impl Client {
                 },
                 bytes: appended.bytes,
             };
-            match self.part(alloc, link, edits, &part)? {
+            match self.part(link, edits, &part)? {
                 Outcome::Appended(offset) => return place(appended.size, index, offset),
                 Outcome::Written => return Err(Refusal::Stray),
                 Outcome::Padded => {}
@@ -268,7 +252,7 @@ impl Client {
             if index + 1 == MOST_CHUNKS {
                 return Err(Refusal::Range);
             }
-            self.extend(alloc, link, appended.path, index + 1)?;
+            self.extend(link, appended.path, index + 1)?;
         }
         Err(Refusal::Range)
     }
@@ -276,7 +260,6 @@ impl Client {
     /// Appends a record to a file, whose first chunk is added where it is missing, and tells where in the file it stands.
     pub(crate) fn append<L: Link>(
         &mut self,
-        alloc: Global,
         link: &mut L,
         edits: &mut u64,
         appended: &Record<'_>,
@@ -285,14 +268,14 @@ impl Client {
         requires { IfSome opened (λ chunks. chunks ≤ 4096) }
         ensures { FollowsDialogue (Edits L.Carries) (calls.append_call appended.now.size appended.now.path.now opened appended.now.bytes.now) (self.old, edits.old, link.old) result (self.new, edits.new, link.new) }
     {
-        let chunks = self.known(alloc, link, appended.path, opened)?;
+        let chunks = self.known(link, appended.path, opened)?;
         if appended.bytes.is_empty() {
             return Err(Refusal::Range);
         }
         let missing = 1u64.saturating_sub(chunks);
-        self.extends(alloc, link, appended.path, 0, missing)?;
+        self.extends(link, appended.path, 0, missing)?;
         let last = chunks.saturating_sub(1);
-        self.append_from(alloc, link, edits, appended, last)
+        self.append_from(link, edits, appended, last)
     }
 }
 

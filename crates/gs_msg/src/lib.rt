@@ -16,6 +16,7 @@ mod op;
 mod outbox;
 pub mod promises;
 mod same;
+mod sent;
 mod text;
 
 pub use answer::{Answer, ChunkStatus, Copied, Phase, Status};
@@ -29,3 +30,4 @@ pub use message::{Message, MsgId};
 pub use node::{NodeId, StoreNode};
 pub use op::Op;
 pub use outbox::{Outbox, Post};
+pub use sent::Sent;

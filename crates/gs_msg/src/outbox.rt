@@ -1,8 +1,9 @@
+ghost use Rattle.std.specs.Prelude.{◌≡◌, ◌≤◌, ◌+◌, ◌↔◌, IsTrue, ◌∷◌, [], ◌++◌, Ok, IfOk, OnOk, OnErr, length, option_copied, slice_get};
+ghost use Rattle.gs_base.specs.Calls.{FollowsOf};
 ghost use Rattle.gs_msg.specs.Posts.{posted, message_at, without_message};
-ghost use Rattle.std.specs.Prelude.{◌≡◌, ◌≤◌, ◌+◌, ◌↔◌, IsTrue, ◌∷◌, [], ◌++◌, IfOk, OnOk, OnErr, length, option_copied, slice_get};
 
 use crate::message::Message;
-use gs_base::Moment;
+use gs_base::{Moment, Refusal, Refused};
 use std::alloc::{AllocError, Global};
 use std::marker::Model;
 
@@ -106,16 +107,22 @@ impl Outbox {
     }
 
     /// Sends one more, and asks for memory where there is no room. Of what room there was it takes one at most. Where memory
-    /// is refused the message isn't sent, and the list is as it was.
-    pub fn post(&mut self, moment: Moment, message: Message) -> Result<(), AllocError>
-        ensures ok { OnOk result (self.new.posts ≡ self.old.posts ++ posted moment message ∷ []) }
-        ensures err { OnErr result (self.new.posts ≡ self.old.posts) }
+    /// is refused the message is handed back, and the list is as it was.
+    pub fn post(&mut self, moment: Moment, message: Message) -> Result<(), Refused<Message>>
+        ensures posts { FollowsOf message (Ok (self.old.posts ++ posted moment message ∷ [])) result self.old.posts self.new.posts }
         ensures full { OnErr result (self.old.room ≡ 0) }
         ensures left { self.old.room ≤ self.new.room + 1 }
     {
         let message = Some(message);
-        self.posts.push(Post { moment, message })?;
-        Ok(())
+        match self.posts.push(Post { moment, message }) {
+            Ok(()) => Ok(()),
+            Err(failed) => {
+                let Post { moment: _, message } = failed.value;
+                let given = message.unwrap();
+                let refusal = Refusal::Memory;
+                Err(Refused { refusal, given })
+            }
+        }
     }
 
     /// The post at a place, if so many were sent.

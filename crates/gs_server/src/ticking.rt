@@ -1,4 +1,5 @@
-ghost use Rattle.std.specs.Prelude.{◌≡◌, IfOk};
+ghost use Rattle.std.specs.Prelude.{◌≡◌, ◌==◌, not, length, IfOk};
+ghost use Rattle.std.specs.List.{list_any};
 ghost use Rattle.std.specs.FinMap as fin;
 ghost use Rattle.gs_server.specs.Servers.{ServerSteps, tick, reminds_all};
 
@@ -10,6 +11,19 @@ use gs_msg::Message;
 use std::alloc::AllocError;
 
 impl Server {
+    /// Whether an edit waits for members under one of its leases, which may be over.
+    pub fn is_waiting(&self) -> bool
+        ensures { result ≡ list_any (λ e. not (length e.1.outbox == 0)) (fin.entries self.now.dropped.leases) }
+    {
+        for (handle, lease) in self.leases.iter() {
+            let _handle = handle;
+            if lease.is_waiting() {
+                return true;
+            }
+        }
+        false
+    }
+
     /// Sends the edits that wait under leases that aren't over again, and asks for those leases to be renewed. Leases that are
     /// over are spent.
     pub fn tick(&mut self, moment: Moment) -> Result<Turn, Refusal>

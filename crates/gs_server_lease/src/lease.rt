@@ -1,4 +1,4 @@
-ghost use Rattle.std.specs.Prelude.{◌≡◌, ◌++◌, ℕ, not, OnOk, replicate, find, option_map, IfOk, IfErr};
+ghost use Rattle.std.specs.Prelude.{◌≡◌, ◌==◌, ◌++◌, ℕ, not, length, OnOk, replicate, find, option_map, IfOk, IfErr};
 ghost use Rattle.std.specs.List.{list_all};
 ghost use Rattle.gs_server_lease.specs.Leases.{granted, heard, with_told, lacks, is_acknowledged, settled, renews, is_over, waits, tell, done_of, dones, forward_of, forwards, forwards_again, reminds, supplies, opens_edit, done_at_once};
 
@@ -152,6 +152,13 @@ impl PrimaryLease {
             Ok(()) => Ok(RoomyLease { held, told, outbox }),
             Err(_) => Err(PrimaryLease { held, told, outbox }),
         }
+    }
+
+    /// Whether an edit waits for members.
+    pub fn is_waiting(&self) -> bool
+        ensures { result ≡ not (length self.now.outbox == 0) }
+    {
+        !self.outbox.is_empty()
     }
 
     /// Whether the edit of a request waits for members.

@@ -34,7 +34,7 @@ impl Caller {
     {
         Caller {
             alloc,
-            client: Client::new(id, config),
+            client: Client::new(alloc, id, config),
         }
     }
 

@@ -37,11 +37,11 @@ impl Caller {
     ) -> Result<(), Refusal>
         ensures { FollowsDialogue (Sends L.Carries) (with_file (write_to self.old.client.chunk offset bytes.now) path) (self.old.client, link.old) result (self.new.client, link.new) }
     {
-        let mut file = match self.client.open_write(self.alloc, link, path) {
+        let mut file = match self.client.open_write(link, path) {
             Ok(file) => file,
             Err(refusal) => return Err(refusal),
         };
-        let written = file.write(self.alloc, &mut self.client, link, offset, bytes);
+        let written = file.write(&mut self.client, link, offset, bytes);
         let _edits = file.close();
         written
     }
@@ -69,11 +69,11 @@ impl Caller {
     ) -> Result<u64, Refusal>
         ensures { FollowsDialogue (Sends L.Carries) (with_file (append_to self.old.client.chunk bytes.now) path) (self.old.client, link.old) result (self.new.client, link.new) }
     {
-        let mut file = match self.client.open_write(self.alloc, link, path) {
+        let mut file = match self.client.open_write(link, path) {
             Ok(file) => file,
             Err(refusal) => return Err(refusal),
         };
-        let appended = file.append(self.alloc, &mut self.client, link, bytes);
+        let appended = file.append(&mut self.client, link, bytes);
         let _edits = file.close();
         appended
     }
@@ -91,11 +91,11 @@ impl Caller {
             Ok(path) => path,
             Err(refusal) => return Err(refusal),
         };
-        let mut file = match self.client.open_read(self.alloc, link, path) {
+        let mut file = match self.client.open_read(link, path) {
             Ok(file) => file,
             Err(refusal) => return Err(refusal),
         };
-        answer::bytes(file.read(self.alloc, &mut self.client, link, offset, length))
+        answer::bytes(file.read(&mut self.client, link, offset, length))
     }
 
     pub(crate) fn digest<L: Link>(
@@ -111,10 +111,10 @@ impl Caller {
             Ok(path) => path,
             Err(refusal) => return Err(refusal),
         };
-        let mut file = match self.client.open_read(self.alloc, link, path) {
+        let mut file = match self.client.open_read(link, path) {
             Ok(file) => file,
             Err(refusal) => return Err(refusal),
         };
-        answer::digest(file.digest(self.alloc, &mut self.client, link, chunk, block))
+        answer::digest(file.digest(&mut self.client, link, chunk, block))
     }
 }

@@ -51,7 +51,7 @@ impl Caller {
             Ok(path) => path,
             Err(refusal) => return Err(refusal),
         };
-        answer::stat(self.client.stat(self.alloc, link, &path))
+        answer::stat(self.client.stat(link, &path))
     }
 
     pub(crate) fn rename<L: Link>(

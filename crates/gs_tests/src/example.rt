@@ -26,8 +26,8 @@ fn new_store(alloc: Global) -> Result<Desk<MemoryDisk>, Refusal> {
 /// Writes at the beginning of a file. What is open for writing has to be closed, also where a write was refused.
 fn write(client: &mut Client, link: &mut Link, path: &str, text: &str) -> Result<(), Refusal> {
     let alloc = link.alloc;
-    let mut file = client.open_write(alloc, link, Path::parse(alloc, path)?)?;
-    let written = file.write(alloc, client, link, 0, text.as_bytes());
+    let mut file = client.open_write(link, Path::parse(alloc, path)?)?;
+    let written = file.write(client, link, 0, text.as_bytes());
     let _edits = file.close();
     written
 }
@@ -35,8 +35,8 @@ fn write(client: &mut Client, link: &mut Link, path: &str, text: &str) -> Result
 /// Adds a record at the end of a file, and tells where it stands.
 fn append(client: &mut Client, link: &mut Link, path: &str, text: &str) -> Result<u64, Refusal> {
     let alloc = link.alloc;
-    let mut file = client.open_write(alloc, link, Path::parse(alloc, path)?)?;
-    let place = file.append(alloc, client, link, text.as_bytes());
+    let mut file = client.open_write(link, Path::parse(alloc, path)?)?;
+    let place = file.append(client, link, text.as_bytes());
     let _edits = file.close();
     place
 }
@@ -80,8 +80,8 @@ fn show_names(client: &mut Client, link: &mut Link, told: &mut Vec<String>) -> R
 /// Tells the first 100 bytes of a file.
 fn show_text(client: &mut Client, link: &mut Link, told: &mut Vec<String>) -> Result<(), Refusal> {
     let alloc = link.alloc;
-    let mut file = client.open_read(alloc, link, Path::parse(alloc, "/trips/alps")?)?;
-    let bytes = file.read(alloc, client, link, 0, 100)?;
+    let mut file = client.open_read(link, Path::parse(alloc, "/trips/alps")?)?;
+    let bytes = file.read(client, link, 0, 100)?;
     let text = str::from_utf8(bytes.as_slice()).unwrap_or("no text");
     told.push(format!(in alloc; "/trips/alps says: {text}")?)?;
     Ok(())
