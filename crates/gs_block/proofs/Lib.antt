@@ -14,3 +14,5 @@ pub mod Matching
 pub mod Standing
 pub mod Edited
 pub mod Telling
+pub mod Pieces
+pub mod Others

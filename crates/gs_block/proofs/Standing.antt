@@ -16,7 +16,7 @@ use Rattle.gs_block.proofs.Matching.{none_damaged, intact_none, matching, same_b
 use Rattle.gs_block.proofs.Writing.{length-written}
 
 -- two parts that are equal are so after the same write
-part_written : (low size offset : ℕ) (piece xs ys : List ℕ) → length xs ≡ length ys → take size (drop low xs) ≡ take size (drop low ys) →
+pub part_written : (low size offset : ℕ) (piece xs ys : List ℕ) → length xs ≡ length ys → take size (drop low xs) ≡ take size (drop low ys) →
     take size (drop low (written offset piece xs)) ≡ take size (drop low (written offset piece ys))
 unfolding written
 part_written low size offset piece xs ys long same = same_lists _ _ (search (rules, places)) (λ k d h.
@@ -30,7 +30,7 @@ part_behind low size xs ys a b = same_lists _ _ (search (rules, places)) (λ k d
 no_digests : (size : ℕ) → 1 ≤ size → [] ≡ digests_of size []
 no_digests size some = sym (ap (λ n. digests_from size [] 0 n) (count_none size some))
 
-same_digest : (size i : ℕ) (xs ys : List ℕ) → block_at size i xs ≡ block_at size i ys → digest_at size xs i ≡ digest_at size ys i
+pub same_digest : (size i : ℕ) (xs ys : List ℕ) → block_at size i xs ≡ block_at size i ys → digest_at size xs i ≡ digest_at size ys i
 unfolding digest_at
 same_digest size i xs ys same = rw same refl
 

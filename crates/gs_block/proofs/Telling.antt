@@ -16,7 +16,7 @@ use Rattle.gs_block.specs.Written.{WasWritten, ToldApart}
 use Rattle.gs_block.proofs.Sealed.{block_counted}
 use Rattle.gs_block.proofs.Standing.{intact_same, behind_same, verified_same}
 
-part_at : (xs : List ℕ) (size at k d : ℕ) → k < size → get_or xs (at + k) d ≡ get_or (take size (drop at xs)) k d
+pub part_at : (xs : List ℕ) (size at k d : ℕ) → k < size → get_or xs (at + k) d ≡ get_or (take size (drop at xs)) k d
 part_at xs size at k d low = grind (arith, places)
 
 -- a place within its block

@@ -1,7 +1,7 @@
--- What edits keep: a block whose bytes have its digest, and every block that an edit touches.
-use Rattle.std.specs.Prelude.{◌≡◌, ◌<◌, ◌≤◌, ℕ, true, length, take, drop, Result, Ok, Err}
+-- What edits keep: a block whose bytes have its digest, and every block that an edit touches. What damage keeps: every other block.
+use Rattle.std.specs.Prelude.{◌≡◌, ◌≢◌, ◌⊎◌, ◌<◌, ◌≤◌, ℕ, true, List, length, take, drop, Result, Ok, Err}
 use Rattle.gs_base.specs.declared.refusal.Refusal.{Refusal}
-use Rattle.gs_block.specs.Stored.{Stored, is_intact}
+use Rattle.gs_block.specs.Stored.{Stored, block_at, is_intact}
 
 abbrev pub IsIntactAt : Stored → ℕ → Type 0
 IsIntactAt s i = is_intact s.block s.bytes s.digests i ≡ true
@@ -22,3 +22,19 @@ pub record Outside (at end : ℕ) (old new : Stored) : Type 0 where
 abbrev pub KeepsOutside : {B : Type 0} → Result B Refusal → ℕ → ℕ → Stored → Stored → Type 0
 KeepsOutside (Ok b) at end old new = Outside at end old new
 KeepsOutside (Err e) at end old new = Unit {0}
+
+-- what damage of a block leaves: every other block, all digests, and how many bytes there are
+pub record Others (index : ℕ) (old new : Stored) : Type 0 where
+  pub block : new.block ≡ old.block
+  pub chunk : new.chunk ≡ old.chunk
+  pub long : length new.bytes ≡ length old.bytes
+  pub digests : new.digests ≡ old.digests
+  pub others : (k : ℕ) → k ≢ index → block_at old.block k new.bytes ≡ block_at old.block k old.bytes
+
+abbrev pub KeepsOthers : {B : Type 0} → Result B Refusal → ℕ → Stored → Stored → Type 0
+KeepsOthers (Ok b) index old new = Others index old new
+KeepsOthers (Err e) index old new = Unit {0}
+
+-- each block of a new text is as in one of two texts
+abbrev pub BlocksOf : ℕ → List ℕ → List ℕ → List ℕ → Type 0
+BlocksOf size new held old = (i : ℕ) → (block_at size i new ≡ block_at size i held) ⊎ (block_at size i new ≡ block_at size i old)

@@ -4,7 +4,7 @@ ghost use Rattle.gs_block.specs.Stored.{Stored, IsStored, empty, digests_of, fir
 ghost use Rattle.gs_block.specs.Edits.{changed, chunk_of, carried, copied, copied_bytes, is_outside, out_of_range, write, append, pad, read, digest, damage, damaged_between};
 ghost use Rattle.gs_block.specs.Inverses.{fits, undo, inverse_of};
 ghost use Rattle.gs_base.specs.Calls.{Follows, Does, Foretells, Answers, Makes, Gives, Refuses, HandsBack, MakesOf};
-ghost use Rattle.gs_block.specs.Kept.{KeepsIntact, KeepsOutside};
+ghost use Rattle.gs_block.specs.Kept.{KeepsIntact, KeepsOutside, KeepsOthers};
 ghost use Rattle.gs_block.specs.Images.{Images, AreFirst, begun, undone, touched, damage_before};
 
 use crate::digests::{
@@ -551,6 +551,7 @@ impl Blocks {
     #[tactic(auto, using(crate::proofs::Counts::starts))]
     pub fn damage(&mut self, block: u64) -> Result<(), Refusal>
         ensures damage { Does (damage self.old block) result self.old self.new }
+        ensures others { KeepsOthers result block self.old self.new }
         ensures images { (i : Images) → AreFirst i self.old → OnOk result ((undone i self.new ≡ damage_before block (touched i) (undone i self.old)) × AreFirst i self.new) }
     {
         let index = block as usize;

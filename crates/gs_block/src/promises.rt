@@ -5,6 +5,7 @@ ghost use Rattle.gs_base.specs.Configs.{is_config};
 ghost use Rattle.gs_block.specs.Chunk.{written, appended, padded};
 ghost use Rattle.gs_block.specs.Stored.{Stored, empty, block_at, is_intact, first_damaged};
 ghost use Rattle.gs_block.specs.Edits.{write, append, pad, read, damage};
+ghost use Rattle.gs_block.specs.Kept.{Others};
 ghost use Rattle.gs_block.specs.Written.{WasWritten, ToldApart, TellsApart, HasBlocks};
 
 /// The sizes of each configuration are those of chunks.
@@ -34,4 +35,9 @@ pub fn intact_blocks_hold_what_was_written()
 /// apart.
 pub fn digests_tell_blocks_apart()
     ensures { (among : List ℕ → Bool) (size : ℕ) (xs ys : List ℕ) → TellsApart among → HasBlocks size among xs → HasBlocks size among ys → ToldApart size xs ys }
+{}
+
+/// Damage of a block leaves every other block, all digests, and how many bytes there are.
+pub fn damage_leaves_the_other_blocks()
+    ensures { (s s2 : Stored) (index : ℕ) → 1 ≤ s.block → damage s index ≡ Ok s2 → Others index s s2 }
 {}

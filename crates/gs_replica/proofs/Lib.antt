@@ -14,3 +14,5 @@ pub mod Carried
 pub mod Requests
 pub mod Running
 pub mod Same
+pub mod Blocks
+pub mod BlockByBlock

@@ -3,6 +3,7 @@ use Rattle.std.specs.Prelude.{◌≡◌, ℕ, ◌+◌, ◌==◌, ◌&&◌, ◌||
 use Rattle.std.specs.FinMap as fin
 use Rattle.gs_base.specs.declared.numbers.ReqId.{ReqId}
 use Rattle.gs_block.specs.Chunk.{written, appended, padded}
+use Rattle.gs_block.specs.Stored.{block_at}
 use Rattle.gs_block.specs.Written.{WasWritten, ToldApart}
 use Rattle.gs_replica.specs.declared.op.Op.{Op}
 use Rattle.gs_replica.specs.declared.op.Op.TheVariants.{Write, Append, Pad}
@@ -81,6 +82,10 @@ pub record StandsFor (size limit : ℕ) (r : Held) (edits : List Edit) : Type 0 
 -- of a replica and what a list gives
 abbrev pub IsToldFrom : ℕ → ℕ → Held → List Edit → Type 0
 IsToldFrom size limit r edits = ToldApart size r.chunk.bytes (replica_of limit edits).bytes
+
+-- a block of a replica holds what a list gives of it
+abbrev pub HoldsBlock : ℕ → ℕ → Held → List Edit → ℕ → Type 0
+HoldsBlock size limit r edits k = block_at size k r.chunk.bytes ≡ block_at size k (replica_of limit edits).bytes
 
 -- what undoing gives, as a replica under the promise as sealed
 abbrev pub where_sealed : Sealed → Held

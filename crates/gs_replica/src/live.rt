@@ -4,14 +4,14 @@ ghost use Rattle.gs_block.specs.Stored.{Stored, IsStored, are_digests};
 ghost use Rattle.gs_block.specs.Edits as blocks;
 ghost use Rattle.gs_block.specs.Edits.{unless_damaged};
 ghost use Rattle.gs_block.specs.Inverses as inverses;
-ghost use Rattle.gs_block.specs.Kept.{KeepsIntact, KeepsOutside};
+ghost use Rattle.gs_block.specs.Kept.{KeepsIntact, KeepsOutside, KeepsOthers};
 ghost use Rattle.gs_base.specs.Calls.{Follows, Does, Foretells, Judges, Answers, Makes, Refuses, HandsBack, MakesOf};
 ghost use Rattle.gs_block.specs.Images.{Images, AreFirst, undone, touched, damage_before};
 ghost use Rattle.gs_replica.specs.Held.{Held};
 ghost use Rattle.gs_replica.specs.Edits.{fresh, promise, apply, judged, foreseen, is_outside, is_old, edited, outcome_of, with_edit, damage, held_of, copied, start_of, end_of, done_by};
 ghost use Rattle.gs_base.specs.declared.numbers.Stamp.{Stamp};
 ghost use Rattle.gs_base.specs.Stamps.{is_same};
-ghost use Rattle.gs_replica.specs.Undo.{undo};
+ghost use Rattle.gs_replica.specs.Undo.{undo, inverse_of};
 ghost use Rattle.gs_replica.specs.First.{done_before};
 ghost use Rattle.gs_replica.specs.Inside.{HasSealed, carried_of};
 ghost use Rattle.gs_replica.specs.Seals.{lowest_damaged};
@@ -223,6 +223,7 @@ impl Live {
         ensures judged { Refuses (foreseen stamp number req op bytes.now self.old) result }
         ensures undo { IfOk result (λ i. undo i self.new ≡ Ok self.old) }
         ensures intact { KeepsIntact result self.old.chunk self.new.chunk }
+        ensures inverse { IfOk result (λ i. i ≡ inverse_of req op bytes.now self.old) }
         ensures span { IfOk result (λ i. i.blocks ≡ inverses.inverse_of self.old.chunk (start_of op self.old.chunk) (end_of op bytes.now self.old.chunk)) }
         ensures outside { KeepsOutside result (start_of op self.old.chunk) (end_of op bytes.now self.old.chunk) self.old.chunk self.new.chunk }
         ensures back { IfOk result (λ i. inverses.undo i.blocks self.new.chunk ≡ Ok self.old.chunk) }
@@ -306,6 +307,7 @@ impl Live {
         requires { number ≡ self.old.count + 1 }
         ensures edit { Follows (with_edit self.old req op (edited op bytes.now self.old.chunk)) result self.old self.new }
         ensures undo { IfOk result (λ i. undo i self.new ≡ Ok self.old) }
+        ensures inverse { IfOk result (λ i. i ≡ inverse_of req op bytes.now self.old) }
         ensures intact { KeepsIntact result self.old.chunk self.new.chunk }
         ensures span { IfOk result (λ i. i.blocks ≡ inverses.inverse_of self.old.chunk (start_of op self.old.chunk) (end_of op bytes.now self.old.chunk)) }
         ensures outside { KeepsOutside result (start_of op self.old.chunk) (end_of op bytes.now self.old.chunk) self.old.chunk self.new.chunk }
@@ -461,6 +463,7 @@ impl Live {
     /// Adds 1 modulo 256 to the first byte of a block and leaves its digest. `Range` where there is no such block.
     pub(crate) fn damage(&mut self, block: u64) -> Result<(), Refusal>
         ensures damage { Does (damage block self.old) result self.old self.new }
+        ensures others { KeepsOthers result block self.old.chunk self.new.chunk }
         ensures done { self.new.done ≡ self.old.done }
         ensures images { (i : Images) → AreFirst i self.old.chunk → OnOk result ((undone i self.new.chunk ≡ damage_before block (touched i) (undone i self.old.chunk)) × AreFirst i self.new.chunk) }
     {

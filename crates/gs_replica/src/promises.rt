@@ -1,6 +1,6 @@
 //! What holds of each replica and its copies, whatever was done to them.
 
-ghost use Rattle.std.specs.Prelude.{◌≡◌, ◌≤◌, ◌<◌, ℕ, length, true, List, [], ◌∷◌, ◌++◌, take, drop, ◌+◌, is_ok, Ok, Some, None};
+ghost use Rattle.std.specs.Prelude.{◌≡◌, ◌≢◌, ◌≤◌, ◌<◌, ℕ, length, true, List, [], ◌∷◌, ◌++◌, take, drop, ◌+◌, is_ok, Ok, Some, None};
 ghost use Rattle.std.specs.FinMap as fin;
 ghost use Rattle.std.specs.Result.{result_err};
 ghost use Rattle.gs_base.specs.declared.numbers.Stamp.{Stamp};
@@ -9,6 +9,7 @@ ghost use Rattle.gs_replica.specs.declared.op.Op.{Op};
 ghost use Rattle.gs_replica.specs.declared.op.Done.{Done};
 ghost use Rattle.gs_replica.specs.declared.live.ReplicaInverse.{ReplicaInverse};
 ghost use Rattle.gs_block.specs.Edits as blocks;
+ghost use Rattle.gs_block.specs.Kept.{BlocksOf};
 ghost use Rattle.gs_block.specs.Stored.{block_at, digests_of, is_intact};
 ghost use Rattle.gs_replica.specs.Edits.{fresh, copied, is_old};
 ghost use Rattle.gs_replica.specs.Held.{Held};
@@ -16,7 +17,7 @@ ghost use Rattle.gs_replica.specs.Seals.{State, with_seal, seal, unseal, apply, 
 ghost use Rattle.gs_replica.specs.Copies.{Image, SealedImage, image_of, image, sealed_image, of_image, of_sealed, and_then, under};
 ghost use Rattle.gs_replica.specs.Whole.{IsWhole};
 ghost use Rattle.gs_replica.specs.Calls.{Call, LeadsTo, LeadsSparing};
-ghost use Rattle.gs_replica.specs.Stands.{Edit, Listed, after, StandsFor, IsToldFrom, IsTaken, SealedAt, SealToldFrom, IsTouched, replica_of};
+ghost use Rattle.gs_replica.specs.Stands.{Edit, Listed, after, StandsFor, HoldsBlock, IsToldFrom, IsTaken, SealedAt, SealToldFrom, IsTouched, replica_of};
 
 /// A replica that is made of a sealed image rolls back to what its source would have rolled back to. A source gives an image
 /// exactly where it could roll back, and is refused as that would be. What is made gives the same image again.
@@ -41,6 +42,28 @@ pub fn replicas_stand_for_their_edits()
     ensures damage { (block chunk : ℕ) (r r2 : State) (edits : List Edit) (index : ℕ) → StandsFor block chunk r.held edits → damage index r ≡ Ok r2 → StandsFor block chunk r2.held edits }
     ensures intact { (block chunk : ℕ) (r : Held) (edits : List Edit) (i : ℕ) → StandsFor block chunk r edits → IsToldFrom block chunk r edits → i < length r.chunk.digests → is_intact block r.chunk.bytes r.chunk.digests i ≡ true → block_at block i r.chunk.bytes ≡ block_at block i (replica_of chunk edits).bytes }
     ensures read { (block chunk : ℕ) (r : State) (edits : List Edit) (offset many : ℕ) (part : List ℕ) → StandsFor block chunk r.held edits → IsToldFrom block chunk r.held edits → blocks.read r.held.chunk offset many ≡ Ok part → part ≡ take many (drop offset (replica_of chunk edits).bytes) }
+{}
+
+/// Block by block, whatever other blocks are damaged: a block that holds what the replica's list gives of it holds it still behind
+/// each edit that the replica takes, and only damage of that very block changes this. Such a block has its digest, so it is read.
+/// That needs no premise on digests.
+pub fn blocks_hold_what_their_edits_give()
+    ensures new { (block chunk k : ℕ) (stamp : Stamp) → HoldsBlock block chunk (fresh block chunk stamp) [] k }
+    ensures apply { (block chunk k : ℕ) (r r2 : State) (edits : List Edit) (stamp : Stamp) (number : ℕ) (req : ReqId) (op : Op) (bytes : List ℕ) → StandsFor block chunk r.held edits → HoldsBlock block chunk r.held edits k → apply stamp number req op bytes r ≡ Ok r2 → HoldsBlock block chunk r2.held (edits ++ (record { req = req; op = op; bytes = bytes }) ∷ []) k }
+    ensures promise { (block chunk k : ℕ) (r r2 : State) (edits : List Edit) (stamp : Stamp) → HoldsBlock block chunk r.held edits k → promise stamp r ≡ Ok r2 → HoldsBlock block chunk r2.held edits k }
+    ensures damage { (block chunk k index : ℕ) (r r2 : State) (edits : List Edit) → k ≢ index → StandsFor block chunk r.held edits → HoldsBlock block chunk r.held edits k → damage index r ≡ Ok r2 → HoldsBlock block chunk r2.held edits k }
+    ensures copy { (block chunk k : ℕ) (r h : Held) (edits : List Edit) (stamp : Stamp) → HoldsBlock block chunk r edits k → copied stamp r ≡ Ok h → HoldsBlock block chunk h edits k }
+    ensures of_image { (block chunk k : ℕ) (r : State) (edits : List Edit) (stamp : Stamp) → of_image block chunk stamp (replica_of chunk edits) ≡ Ok r → HoldsBlock block chunk r.held edits k }
+    ensures intact { (block chunk k : ℕ) (r : Held) (edits : List Edit) → StandsFor block chunk r edits → k < length r.chunk.digests → HoldsBlock block chunk r edits k → is_intact block r.chunk.bytes r.chunk.digests k ≡ true }
+    ensures told { (block chunk k : ℕ) (r : Held) (edits : List Edit) → StandsFor block chunk r edits → IsToldFrom block chunk r edits → lowest_damaged r.chunk ≡ None → HoldsBlock block chunk r edits k }
+{}
+
+/// Each block of an edited replica is one of the replica before, or one of the text that the list gives with the edit. And each
+/// block of that text is one of the edited replica, or one of the text before: so where all blocks that replicas have are among
+/// some, those of texts that lists give are.
+pub fn edits_bring_blocks_of_their_text()
+    ensures held { (block chunk : ℕ) (r r2 : State) (edits : List Edit) (stamp : Stamp) (number : ℕ) (req : ReqId) (op : Op) (bytes : List ℕ) → StandsFor block chunk r.held edits → IsToldFrom block chunk r.held edits → apply stamp number req op bytes r ≡ Ok r2 → BlocksOf block r2.held.chunk.bytes r.held.chunk.bytes (replica_of chunk (edits ++ (record { req = req; op = op; bytes = bytes }) ∷ [])).bytes }
+    ensures listed { (block chunk : ℕ) (r r2 : State) (edits : List Edit) (stamp : Stamp) (number : ℕ) (req : ReqId) (op : Op) (bytes : List ℕ) → StandsFor block chunk r.held edits → IsToldFrom block chunk r.held edits → apply stamp number req op bytes r ≡ Ok r2 → BlocksOf block (replica_of chunk (edits ++ (record { req = req; op = op; bytes = bytes }) ∷ [])).bytes r2.held.chunk.bytes (replica_of chunk edits).bytes }
 {}
 
 /// An undamaged replica takes the next edit of each list that is taken, under its promise and as the next number. Then it is

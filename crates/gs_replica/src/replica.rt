@@ -3,11 +3,12 @@ ghost use Rattle.std.specs.FinMap as fin;
 ghost use Rattle.gs_base.specs.declared.numbers.Stamp.{Stamp};
 ghost use Rattle.gs_block.specs.Stored.{are_digests};
 ghost use Rattle.gs_block.specs.Edits as blocks;
-ghost use Rattle.gs_block.specs.Kept.{KeepsIntact};
+ghost use Rattle.gs_block.specs.Kept.{KeepsIntact, KeepsOthers};
 ghost use Rattle.gs_base.specs.Calls.{Follows, Does, Foretells, Answers, Makes, Refuses, HandsBack, MakesOf};
 ghost use Rattle.gs_replica.specs.Edits.{fresh, copied, foreseen, edited};
 ghost use Rattle.gs_replica.specs.Seals.{State, with_seal, holding, seal, unseal, apply, undo, promise, damage, roll_back, sealed_at, images_of, sealed_length};
 ghost use Rattle.gs_replica.specs.Copies.{image_of, image, sealed_image, of_image, of_sealed};
+ghost use Rattle.gs_replica.specs.Undo.{inverse_of};
 ghost use Rattle.gs_replica.specs.Whole.{IsWhole};
 
 use crate::done::DoneTable;
@@ -154,7 +155,8 @@ impl Replica {
     /// Applies an edit. `Stamp` with the promise where the stamp is not the promised one, `Gap` with the count where the
     /// number is not the count and 1, `Old` where the request's number is not above the client's last applied one, then
     /// `Range` and `Damaged` as the chunk decides. All but `Damaged` are answered whatever memory there is. A sealed replica
-    /// keeps what undoing gives.
+    /// keeps what undoing gives. What takes it back holds the bytes that it overwrites and the digests of the blocks that it
+    /// touches, as they were.
     pub fn apply(
         &mut self,
         stamp: Stamp,
@@ -166,6 +168,7 @@ impl Replica {
         ensures edit { Follows (apply stamp number req op bytes.now self.old) result self.old self.new }
         ensures judged { Refuses (foreseen stamp number req op bytes.now self.old.held) result }
         ensures undo { IfOk result (λ i. undo i self.new ≡ Ok (holding self.old.held self.new)) }
+        ensures inverse { IfOk result (λ i. i ≡ inverse_of req op bytes.now self.old.held) }
         ensures intact { KeepsIntact result self.old.held.chunk self.new.held.chunk }
     {
         match &mut self.seal {
@@ -366,10 +369,11 @@ impl Replica {
         self.live.is_intact()
     }
 
-    /// Adds 1 modulo 256 to the first byte of a block and leaves its digest. `Range` where there is no such block. It reaches
-    /// what undoing gives where no edit has touched the block since the seal.
+    /// Adds 1 modulo 256 to the first byte of a block and leaves its digest. `Range` where there is no such block. Every
+    /// other block stays. It reaches what undoing gives where no edit has touched the block since the seal.
     pub fn damage(&mut self, block: u64) -> Result<(), Refusal>
-        ensures { Does (damage block self.old) result self.old self.new }
+        ensures damage { Does (damage block self.old) result self.old self.new }
+        ensures others { KeepsOthers result block self.old.held.chunk self.new.held.chunk }
     {
         match &self.seal {
             Some(seal) => damage_sealed(&mut self.live, seal, block),

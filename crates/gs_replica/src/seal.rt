@@ -2,7 +2,8 @@ ghost use Rattle.std.specs.Prelude.{◌≡◌, ◌≤◌, ◌+◌, ◌==◌, ℕ
 ghost use Rattle.gs_block.specs.Stored.{IsStored};
 ghost use Rattle.gs_replica.specs.Edits.{start_of, end_of};
 ghost use Rattle.gs_replica.specs.Edits as edits;
-ghost use Rattle.gs_block.specs.Kept.{KeepsIntact};
+ghost use Rattle.gs_block.specs.Kept.{KeepsIntact, KeepsOthers};
+ghost use Rattle.gs_replica.specs.Undo.{inverse_of};
 ghost use Rattle.gs_base.specs.Calls.{Follows, Does, Makes, Refuses};
 ghost use Rattle.gs_replica.specs.Seals.{images_of, sealed_length, apply, undo, damage, holding};
 ghost use Rattle.gs_replica.specs.Copies.{sealed_image_of};
@@ -53,6 +54,7 @@ pub(crate) fn apply_sealed(
     ensures edit { Follows (apply stamp number req op bytes.now (state_of live.old seal.old)) result (state_of live.old seal.old) (state_of live.new seal.new) }
     ensures judged { Refuses (edits.foreseen stamp number req op bytes.now live.old) result }
     ensures undo { IfOk result (λ i. undo i (state_of live.new seal.new) ≡ Ok (holding live.old (state_of live.new seal.new))) }
+    ensures inverse { IfOk result (λ i. i ≡ inverse_of req op bytes.now live.old) }
     ensures intact { KeepsIntact result live.old.chunk live.new.chunk }
     ensures belongs { Belongs live.new seal.new }
 {
@@ -123,6 +125,7 @@ pub(crate) fn undo_sealed(
 pub(crate) fn damage_sealed(live: &mut Live, seal: &Seal, block: u64) -> Result<(), Refusal>
     requires belongs { Belongs live.old seal.now }
     ensures damage { Does (damage block (state_of live.old seal.now)) result (state_of live.old seal.now) (state_of live.new seal.now) }
+    ensures others { KeepsOthers result block live.old.chunk live.new.chunk }
     ensures belongs { Belongs live.new seal.now }
 {
     live.damage(block)

@@ -1,5 +1,5 @@
 -- A chunkserver: what it keeps, and what it does at each event.
-use Rattle.std.specs.Prelude.{◌≡◌, ℕ, ◌+◌, ◌==◌, not, cond, Bool, false, List, [], ◌∷◌, map, flat_map, Option, Some, None, Result, Ok, Err, refl}
+use Rattle.std.specs.Prelude.{◌≡◌, ℕ, ◌+◌, ◌==◌, not, cond, Bool, true, false, List, [], ◌∷◌, map, flat_map, Option, Some, None, Result, Ok, Err, refl}
 use Rattle.std.specs.Coded.{Coded, code_by, coded×, coded_ℕ}
 use Rattle.std.specs.FinMap as fin
 use Rattle.std.specs.Ordering.{nat_cmp, on}
@@ -243,6 +243,48 @@ handle_body s from (bodies.Behind epoch) moment = stray s
 
 abbrev pub handle : Server → Message → Moment → Step
 handle s message moment = handle_body s message.from message.body moment
+
+-- ---- messages that take no memory
+
+abbrev pub is_of_server : NodeId → Bool
+is_of_server nodes.Master = false
+is_of_server (nodes.Server server) = true
+is_of_server (nodes.Client client) = false
+
+-- whether want of memory may leave a message about a chunk unanswered: no drop, no renewal, and nothing that isn't for a server
+abbrev pub chunk_takes_memory : NodeId → Chunk → Bool
+chunk_takes_memory from (chunks.Create stamp) = true
+chunk_takes_memory from (chunks.Advance stamp) = true
+chunk_takes_memory from (chunks.Grant grant) = true
+chunk_takes_memory from (chunks.Renewed stamp end) = false
+chunk_takes_memory from (chunks.Edit req stamp op) = true
+chunk_takes_memory from (chunks.Forward stamp number req op bytes) = true
+chunk_takes_memory from (chunks.Ack stamp count) = is_of_server from
+chunk_takes_memory from (chunks.Nack stamp refusal) = is_of_server from
+chunk_takes_memory from (chunks.Fetch req stamp epoch asked) = true
+chunk_takes_memory from (chunks.CopyOut stamp target with_sealed) = true
+chunk_takes_memory from (chunks.CopyIn stamp image sealed) = true
+chunk_takes_memory from (chunks.Drop epoch promise) = false
+chunk_takes_memory from (chunks.Promised stamp count carried) = false
+chunk_takes_memory from (chunks.Unpromised stamp refusal) = false
+chunk_takes_memory from (chunks.Renew stamp) = false
+chunk_takes_memory from (chunks.Bad stamp) = false
+
+abbrev pub body_takes_memory : NodeId → Body → Bool
+body_takes_memory from (bodies.About handle chunk) = chunk_takes_memory from chunk
+body_takes_memory from (bodies.Push req bytes) = true
+body_takes_memory from (bodies.MakeCopy handle at new_handle stamp) = true
+body_takes_memory from (bodies.Epoch epoch end) = true
+body_takes_memory from (bodies.Call req call) = false
+body_takes_memory from (bodies.Reply req result) = false
+body_takes_memory from (bodies.Done req result) = false
+body_takes_memory from (bodies.Bytes req result) = false
+body_takes_memory from (bodies.Report epoch replicas) = false
+body_takes_memory from (bodies.Learned epoch handles) = false
+body_takes_memory from (bodies.Behind epoch) = false
+
+abbrev pub takes_memory : Message → Bool
+takes_memory message = body_takes_memory message.from message.body
 
 -- ---- other events
 

@@ -1,6 +1,6 @@
-ghost use Rattle.std.specs.Prelude.{◌≡◌, false, None};
+ghost use Rattle.std.specs.Prelude.{◌≡◌, true, false, None, OnErr};
 ghost use Rattle.gs_server.specs.Holding.{ack, nack, from_server};
-ghost use Rattle.gs_server.specs.Servers.{ServerSteps, step_of, here_of, place_of, handle, handle_chunk};
+ghost use Rattle.gs_server.specs.Servers.{ServerSteps, step_of, here_of, place_of, handle, handle_chunk, takes_memory, is_of_server, chunk_takes_memory};
 ghost use Rattle.gs_server.specs.inner.Kinds.{is_of_replica};
 
 use crate::applying::Numbered;
@@ -11,9 +11,11 @@ use gs_msg::{Body, Chunk, Message, NodeId};
 use gs_store::CopyImages;
 
 impl Server {
-    /// What is done about a message. Want of memory leaves the server as it was, and nothing is sent.
+    /// What is done about a message. Want of memory leaves the server as it was, and nothing is sent. A drop, a renewal and what
+    /// isn't for a server are answered whatever memory there is.
     pub fn handle(&mut self, message: Message, moment: Moment) -> Result<Turn, Refusal>
-        ensures { ServerSteps (handle self.old message moment) result self.old self.new }
+        ensures step { ServerSteps (handle self.old message moment) result self.old self.new }
+        ensures lacking { OnErr result (takes_memory message ≡ true) }
     {
         let Message { from, body, .. } = message;
         match body {
@@ -47,7 +49,8 @@ impl Server {
         chunk: Chunk,
         moment: Moment,
     ) -> Result<Turn, Refusal>
-        ensures { ServerSteps (handle_chunk self.old from handle chunk moment) result self.old self.new }
+        ensures step { ServerSteps (handle_chunk self.old from handle chunk moment) result self.old self.new }
+        ensures lacking { OnErr result (chunk_takes_memory from chunk ≡ true) }
     {
         match chunk {
             Chunk::Create(stamp) => self.create(handle, stamp, moment),
@@ -84,7 +87,8 @@ impl Server {
         moment: Moment,
     ) -> Result<Turn, Refusal>
         requires { is_of_replica chunk ≡ false }
-        ensures { ServerSteps (handle_chunk self.old from handle chunk moment) result self.old self.new }
+        ensures step { ServerSteps (handle_chunk self.old from handle chunk moment) result self.old self.new }
+        ensures lacking { OnErr result (chunk_takes_memory from chunk ≡ true) }
     {
         match chunk {
             Chunk::Grant(given) => self.grant(handle, given, moment),
@@ -123,7 +127,8 @@ impl Server {
         count: u64,
         moment: Moment,
     ) -> Result<Turn, Refusal>
-        ensures { ServerSteps (step_of handle None (from_server from (λ server. ack (here_of self.old moment handle None) (place_of handle self.old) server stamp count)) self.old) result self.old self.new }
+        ensures step { ServerSteps (step_of handle None (from_server from (λ server. ack (here_of self.old moment handle None) (place_of handle self.old) server stamp count)) self.old) result self.old self.new }
+        ensures lacking { OnErr result (is_of_server from ≡ true) }
     {
         match from {
             NodeId::Server(server) => self.ack(handle, server, stamp, count, moment),
@@ -140,7 +145,8 @@ impl Server {
         refusal: &Refusal,
         moment: Moment,
     ) -> Result<Turn, Refusal>
-        ensures { ServerSteps (step_of handle None (from_server from (λ server. nack (here_of self.old moment handle None) (place_of handle self.old) server stamp refusal.now)) self.old) result self.old self.new }
+        ensures step { ServerSteps (step_of handle None (from_server from (λ server. nack (here_of self.old moment handle None) (place_of handle self.old) server stamp refusal.now)) self.old) result self.old self.new }
+        ensures lacking { OnErr result (is_of_server from ≡ true) }
     {
         match from {
             NodeId::Server(server) => self.nack(handle, server, stamp, refusal, moment),

@@ -2,7 +2,7 @@
 ghost use Rattle.std.specs.Prelude.{◌≡◌, Some, None, OnSome, OnOk, OnErr, IfOk, IfErr};
 ghost use Rattle.std.specs.FinMap as fin;
 ghost use Rattle.std.specs.Ordering.{nat_cmp};
-ghost use Rattle.gs_base_table.specs.Slots.{live, HasRoom};
+ghost use Rattle.gs_base_table.specs.Slots.{live, GivesUpRoom, HasRoom};
 ghost use Rattle.gs_base.specs.declared.refusal.Refusal.TheVariants.{Memory};
 ghost use Rattle.gs_server_lease.specs.Leases.{PrimaryLease, settled, with_told, renews};
 ghost use Rattle.gs_server.specs.inner.Spending.{over_of, without};
@@ -12,9 +12,10 @@ use gs_base_table::Table;
 use gs_server_lease::{PrimaryLease, RoomyLease, ToldCounts};
 use std::alloc::{AllocError, Global};
 
-/// Spends the lease of a handle. It takes no memory.
+/// Spends the lease of a handle, and gives up its room. It takes no memory.
 pub(crate) fn spend(leases: &mut Table<Handle, PrimaryLease>, handle: Handle)
-    ensures { live nat_cmp leases.new ≡ fin.remove (live nat_cmp leases.old) handle }
+    ensures spent { live nat_cmp leases.new ≡ fin.remove (live nat_cmp leases.old) handle }
+    ensures room { GivesUpRoom nat_cmp leases.old leases.new handle }
 {
     leases.remove(handle);
 }

@@ -145,7 +145,7 @@ pub event_stands : (handle : ℕ) (e : Event) (s : Server) (xs : List Edit) → 
     → StandsIn s.block s.chunk (slot_in handle (behind e s)) (edits_behind handle e s xs)
 event_stands handle e s xs stands told kept live = follows s.block s.chunk xs (call_by handle e s) (slot_in handle s) (slot_in handle (behind e s)) (event_calls handle e s) kept stands told live
 
-sized : (a b c d : ℕ) (t : Slot) (xs : List Edit) → a ≡ c → b ≡ d → StandsIn a b t xs → StandsIn c d t xs
+pub sized : (a b c d : ℕ) (t : Slot) (xs : List Edit) → a ≡ c → b ≡ d → StandsIn a b t xs → StandsIn c d t xs
 sized a b c d t xs first second stands = subst (λ n. StandsIn n d t xs) first (subst (λ n. StandsIn a n t xs) second stands)
 
 pub run_stands : (handle : ℕ) (events : List Event) (s : Server) (xs : List Edit) → StandsIn s.block s.chunk (slot_in handle s) xs → AreToldBefore handle events s xs → NoneRemakes handle events s → is_some (slot_in handle (behind_all events s)).live ≡ true

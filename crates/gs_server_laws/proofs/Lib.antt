@@ -13,3 +13,4 @@ mod Accepting
 mod CountedSlots
 mod CountedParts
 pub mod CountedServers
+pub mod BlockByBlock

@@ -1,5 +1,5 @@
 -- What a live replica stands for, event by event.
-use Rattle.std.specs.Prelude.{◌≡◌, ℕ, Bool, true, false, List, [], ◌∷◌, ◌++◌, Option, Some, None, refl}
+use Rattle.std.specs.Prelude.{◌≡◌, ℕ, ◌==◌, Bool, true, false, List, [], ◌∷◌, ◌++◌, Option, Some, None, refl}
 use Rattle.gs_base.specs.Stamps.{is_before}
 use Rattle.gs_replica.specs.Stands.{Edit}
 use Rattle.gs_replica.specs.declared.op.Op.TheVariants as applied
@@ -10,7 +10,7 @@ use Rattle.gs_msg.specs.declared.body.Body.TheVariants as bodies
 use Rattle.gs_msg.specs.declared.chunk.Chunk.TheVariants as chunks
 use Rattle.gs_store.specs.Slots.{Slot, nothing, standing, empty_replica}
 use Rattle.gs_store.specs.Standing.{IsToldIn}
-use Rattle.gs_store.specs.Calls.{Call, Creates, CopiesIn, TakesCopy, Applies, RollsBack}
+use Rattle.gs_store.specs.Calls.{Call, Creates, CopiesIn, TakesCopy, Applies, Damages, RollsBack}
 use Rattle.gs_server_lease.specs.Leases.{stamp_of, moment_of, request_of}
 use Rattle.gs_server.specs.Holding.{quiet}
 use Rattle.gs_server.specs.Edits.{pushed_here}
@@ -58,6 +58,22 @@ abbrev pub NoneRemakes : ℕ → List Event → Server → Type 0
 NoneRemakes handle [] s = Unit {0}
 NoneRemakes handle (e ∷ events) s = (remakes handle e s ≡ false) × NoneRemakes handle events (behind e s)
 
+-- damage of a block
+abbrev pub damages_by : ℕ → Call → Bool
+damages_by k (Damages index) = k == index
+damages_by k c = false
+
+abbrev pub damages_in : ℕ → Option Call → Bool
+damages_in k None = false
+damages_in k (Some c) = damages_by k c
+
+abbrev pub damages : ℕ → ℕ → Event → Server → Bool
+damages handle k e s = damages_in k (call_by handle e s)
+
+abbrev pub NoneDamages : ℕ → ℕ → List Event → Server → Type 0
+NoneDamages handle k [] s = Unit {0}
+NoneDamages handle k (e ∷ events) s = (damages handle k e s ≡ false) × NoneDamages handle k events (behind e s)
+
 -- where an edit is applied, digests tell the blocks of the replica from those of its list of edits, where they differ
 abbrev pub IfEdits : Option Edit → Type 0 → Type 0
 IfEdits None P = Unit {0}
@@ -88,3 +104,9 @@ a_create_above_the_promise_does = refl
 
 a_repeated_one_does_not : remakes_by (standing (empty_replica (stamp_of 0 1))) (Creates (stamp_of 0 1)) ≡ false
 a_repeated_one_does_not = refl
+
+another_block_is_damaged : damages_by 3 (Damages 4) ≡ false
+another_block_is_damaged = refl
+
+that_block_is_damaged : damages_by 3 (Damages 3) ≡ true
+that_block_is_damaged = refl

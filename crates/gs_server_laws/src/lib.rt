@@ -24,7 +24,7 @@ ghost use Rattle.gs_msg.specs.declared.node.NodeId.TheVariants as nodes;
 ghost use Rattle.gs_msg.specs.Ops.{in_replica};
 ghost use Rattle.gs_store.specs.Slots.{Live, Slot, sealed_of, create};
 ghost use Rattle.gs_store.specs.Serving.{apply, done_in};
-ghost use Rattle.gs_store.specs.Standing.{StandsIn, IsToldIn, StoodIn, LiveUndamaged};
+ghost use Rattle.gs_store.specs.Standing.{StandsIn, HoldsIn, IsToldIn, StoodIn, LiveUndamaged};
 ghost use Rattle.gs_store.specs.Moves.{sound_image, take_copy};
 ghost use Rattle.gs_server.specs.Places.{Place, Here, SlotBecomes, after};
 ghost use Rattle.gs_server_lease.specs.declared.lease.Open.{Open};
@@ -39,7 +39,7 @@ ghost use Rattle.gs_server.specs.Servers as servers;
 ghost use Rattle.gs_server.specs.Runs.{Event, behind, behind_all, slot_in, BecomesBy, IsReached, KeepSeal, AllSpare, rolled_back};
 ghost use Rattle.gs_server_laws.specs.Calling.{call_by};
 ghost use Rattle.gs_server_laws.specs.Counted.{IsCountedServer, IsCountedBody, IsCountedMessage, GoesCounted, HearsCounted};
-ghost use Rattle.gs_server_laws.specs.Following.{IsToldBefore, AreToldBefore, remakes, NoneRemakes, edits_behind, edits_behind_all};
+ghost use Rattle.gs_server_laws.specs.Following.{IsToldBefore, AreToldBefore, remakes, NoneRemakes, damages, NoneDamages, edits_behind, edits_behind_all};
 ghost use Rattle.gs_server_laws.specs.Refusing.{LeavesBut};
 ghost use Rattle.gs_server_laws.specs.Waiting.{AreRising, AreCounted};
 ghost use Rattle.gs_server_laws.specs.Sealing.{HasSizes, IsImageOf, TakesSealed};
@@ -74,6 +74,17 @@ pub fn what_a_replica_stands_for_goes_on()
     ensures event { (handle : ℕ) (e : Event) (s : Server) (edits : List Edit) → StandsIn s.block s.chunk (slot_in handle s) edits → IsToldBefore handle e s edits → remakes handle e s ≡ false → is_some (slot_in handle (behind e s)).live ≡ true → StandsIn s.block s.chunk (slot_in handle (behind e s)) (edits_behind handle e s edits) }
     ensures run { (handle : ℕ) (events : List Event) (s : Server) (edits : List Edit) → StandsIn s.block s.chunk (slot_in handle s) edits → AreToldBefore handle events s edits → NoneRemakes handle events s → is_some (slot_in handle (behind_all events s)).live ≡ true → StandsIn s.block s.chunk (slot_in handle (behind_all events s)) (edits_behind_all handle events s edits) }
     ensures lived { (handle : ℕ) (events : List Event) (s : Server) → NoneRemakes handle events s → is_some (slot_in handle (behind_all events s)).live ≡ true → is_some (slot_in handle s).live ≡ true }
+{}
+
+/// Block by block, at a server: a block of a chunk's live replica that holds what the replica's list of edits gives of it holds it behind
+/// each event that keeps the replica, whatever other blocks are damaged, but for damage of that very block. The same over a run of events. So
+/// a block that wasn't damaged since the replica was made holds what the edits give: a create makes a replica of which each block is so, and
+/// so is each block of an undamaged one, where digests tell.
+pub fn a_block_that_is_not_damaged_holds_what_its_edits_give()
+    ensures event { (handle k : ℕ) (e : Event) (s : Server) (edits : List Edit) → StandsIn s.block s.chunk (slot_in handle s) edits → HoldsIn s.block s.chunk (slot_in handle s) edits k → remakes handle e s ≡ false → damages handle k e s ≡ false → is_some (slot_in handle (behind e s)).live ≡ true → HoldsIn s.block s.chunk (slot_in handle (behind e s)) (edits_behind handle e s edits) k }
+    ensures run { (handle k : ℕ) (events : List Event) (s : Server) (edits : List Edit) → StandsIn s.block s.chunk (slot_in handle s) edits → HoldsIn s.block s.chunk (slot_in handle s) edits k → AreToldBefore handle events s edits → NoneRemakes handle events s → NoneDamages handle k events s → is_some (slot_in handle (behind_all events s)).live ≡ true → HoldsIn s.block s.chunk (slot_in handle (behind_all events s)) (edits_behind_all handle events s edits) k }
+    ensures created { (s : Server) (from : NodeId) (handle k : ℕ) (stamp : Stamp) (moment : Moment) → is_before (slot_in handle s).promise stamp ≡ true → (handle_chunk s from handle (Create stamp) moment).said ≡ None → HoldsIn s.block s.chunk (slot_in handle (handle_chunk s from handle (Create stamp) moment).after) [] k }
+    ensures undamaged { (handle k : ℕ) (s : Server) (edits : List Edit) → StandsIn s.block s.chunk (slot_in handle s) edits → IsToldIn s.block s.chunk (slot_in handle s) edits → LiveUndamaged (slot_in handle s).live → HoldsIn s.block s.chunk (slot_in handle s) edits k }
 {}
 
 /// What is made anew of a chunk stands for what it is made of. A create that is accepted, under a stamp above the promise, makes a replica of

@@ -1,25 +1,28 @@
 -- What is live after a rollback is named.
 use Rattle.std.proofs.Common.{◌≡◌, ℕ, ◌+◌, Bool, true, false, List, [], ◌∷◌, Option, Some, None, Ok, refl, sym, ap, subst, ◌∙◌, arith}
-use Rattle.std.specs.Prelude.{is_some, not, ◌==◌, ◌&&◌, ◌||◌}
+use Rattle.std.specs.Prelude.{Contains, length, is_none, is_some, not, ◌==◌, ◌&&◌, ◌||◌}
 use Rattle.std.specs.List.{list_any}
 use Rattle.std.proofs.lemmas.Bool.{eqb-true, eq-eqb}
+use Rattle.std.proofs.lemmas.Map.Views.{Contains-from_any}
 use Rattle.std.specs.FinMap as fin
 use Rattle.std.specs.Ordering.{nat_cmp, eq_by_cmp}
 use Rattle.gs_base.specs.declared.numbers.Stamp.{Stamp}
 use Rattle.gs_base.specs.declared.epoch.EpochEnd.TheVariants.{Rollback}
 use Rattle.gs_base.specs.Stamps.{is_before, is_same}
 use Rattle.gs_block.specs.Edits.{unless_damaged}
+use Rattle.gs_block.specs.Stored.{Stored, IsStored, are_digests, count_of, first_damaged}
+use Rattle.gs_block.proofs.Back.{eq_true}
 use Rattle.gs_replica.specs.Seals.{Sealed, State, lowest_damaged, roll_back_to}
 use Rattle.gs_replica.specs.Copies.{as_sealed}
 use Rattle.gs_replica.specs.Stands.{Edit}
-use Rattle.gs_store.specs.Slots.{Slot, first_stamp, sealed_of}
-use Rattle.gs_store.specs.Whole.{IsWholeSlot}
+use Rattle.gs_store.specs.Slots.{Live, Slot, first_stamp, sealed_of}
+use Rattle.gs_store.specs.Whole.{IsWholeSlot, LiveWhole}
 use Rattle.gs_store.specs.Moves.{unless_lost, sound_image}
 use Rattle.gs_store_seal.specs.Rollback.{later}
-use Rattle.gs_store.specs.Learning.{start_of, rolled_to, rolled_back, is_named}
-use Rattle.gs_store.specs.Stores.{Store, or_nothing, slot_of, learn, named_of}
+use Rattle.gs_store.specs.Learning.{start_of, rolled_to, rolled_back, is_named, is_sound}
+use Rattle.gs_store.specs.Stores.{Store, or_nothing, slot_of, learn, named, named_of}
 use Rattle.gs_store.specs.StoreCalls.{names}
-use Rattle.gs_store.specs.Standing.{StandsIn, StoodIn, LiveUndamaged}
+use Rattle.gs_store.specs.Standing.{StandsIn, StoodIn, LiveStandsFor, LiveUndamaged}
 use Rattle.gs_store.proofs.Keys.{passes, any_key}
 use Rattle.gs_store.proofs.Places.{same_key, other_key}
 use Rattle.gs_store.proofs.Rolling.{named_whole}
@@ -55,11 +58,29 @@ named_or_nothing epoch None = sym (and_none (is_same first_stamp (start_of epoch
 named_or_nothing epoch (Some t) = refl
 
 -- a handle is named where its slot is
-names_slot : (handle epoch : ℕ) (s : Store) → names handle epoch s ≡ is_named epoch (slot_of handle s)
+pub names_slot : (handle epoch : ℕ) (s : Store) → names handle epoch s ≡ is_named epoch (slot_of handle s)
 names_slot handle epoch s =
     any_tied handle (named_of epoch (fin.entries s.slots))
     ∙ any_key fin.nat_cmp-IsAntisymmetric (is_named epoch) handle (fin.entries s.slots) (fin.entries_sorted s.slots)
     ∙ ap (passes (is_named epoch)) (sym (fin.get-entries s.slots handle)) ∙ named_or_nothing epoch (fin.get s.slots handle)
+
+pub named_there : (handle epoch : ℕ) (s : Store) → is_named epoch (slot_of handle s) ≡ true → Contains (named epoch s) handle
+named_there handle epoch s is = Contains-from_any eqb-true handle (named epoch s) (names_slot handle epoch s ∙ is)
+
+-- a chunk of which no block is damaged has the digests of its blocks
+stored_sound : (s : Stored) → IsStored s → lowest_damaged s ≡ None → are_digests s.block s.bytes s.digests ≡ true
+stored_sound s stored undamaged =
+    let counted : length s.digests ≡ count_of s.block (length s.bytes) = stored.each in
+    let none : first_damaged s.block s.bytes s.digests 0 (count_of s.block (length s.bytes)) ≡ None = subst (λ n. first_damaged s.block s.bytes s.digests 0 n ≡ None) counted undamaged in
+    ap (λ b. b && is_none (first_damaged s.block s.bytes s.digests 0 (count_of s.block (length s.bytes)))) (eq_true (length s.digests) (count_of s.block (length s.bytes)) counted) ∙ ap is_none none
+
+pub live_sound : (block chunk : ℕ) (live : Option Live) (xs : List Edit) → LiveStandsFor block chunk live xs → LiveUndamaged live → is_sound live ≡ true
+live_sound block chunk None xs stands undamaged = elim stands [ ]
+live_sound block chunk (Some l) xs stands undamaged = let w = stands.bytes in stored_sound l.replica.held.chunk w.stored undamaged
+
+pub whole_sound : (live : Option Live) → is_some live ≡ true → LiveWhole live → LiveUndamaged live → is_sound live ≡ true
+whole_sound None some whole undamaged = absurd (cc)
+whole_sound (Some l) some whole undamaged = stored_sound l.replica.held.chunk whole.stands undamaged
 
 live_at : (p : Stamp) (s : Slot) (t : Sealed) (r : State) (d : Option ℕ) → is_some (rolled_to p (unless_damaged d r) s).live ≡ is_some (unless_lost d (as_sealed t))
 live_at p s t r None = refl

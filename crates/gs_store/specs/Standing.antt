@@ -3,11 +3,12 @@ use Rattle.std.specs.Prelude.{◌≡◌, ℕ, ◌+◌, true, false, List, Option
 use Rattle.gs_base.specs.declared.numbers.Stamp.{Stamp}
 use Rattle.gs_base.specs.declared.numbers.ReqId.{ReqId}
 use Rattle.gs_base.specs.Stamps.{is_same}
+use Rattle.gs_block.specs.Kept.{Others}
 use Rattle.gs_block.specs.Stored.{Stored}
 use Rattle.gs_replica.specs.Edits.{is_old}
 use Rattle.gs_replica.specs.Seals.{Sealed, State, lowest_damaged}
 use Rattle.gs_replica.specs.Copies.{SealedImage, as_sealed}
-use Rattle.gs_replica.specs.Stands.{Edit, StandsFor, IsToldFrom, StoodFor, SealToldFrom}
+use Rattle.gs_replica.specs.Stands.{Edit, StandsFor, HoldsBlock, IsToldFrom, StoodFor, SealToldFrom}
 use Rattle.gs_store.specs.Slots.{Live, Slot, trashed_seal, sealed_of, count_of}
 use Rattle.gs_store.specs.Serving.{done_in}
 
@@ -17,6 +18,14 @@ LiveStandsFor size limit (Some l) edits = StandsFor size limit l.replica.held ed
 
 abbrev pub StandsIn : ℕ → ℕ → Slot → List Edit → Type 0
 StandsIn size limit s edits = LiveStandsFor size limit s.live edits
+
+-- a block of the live replica holds what a list gives of it
+abbrev pub LiveHoldsBlock : ℕ → ℕ → Option Live → List Edit → ℕ → Type 0
+LiveHoldsBlock size limit None edits k = ⊥
+LiveHoldsBlock size limit (Some l) edits k = HoldsBlock size limit l.replica.held edits k
+
+abbrev pub HoldsIn : ℕ → ℕ → Slot → List Edit → ℕ → Type 0
+HoldsIn size limit s edits k = LiveHoldsBlock size limit s.live edits k
 
 -- digests tell the blocks of a live replica from those that a list gives, where they differ
 abbrev pub LiveToldFrom : ℕ → ℕ → Option Live → List Edit → Type 0
@@ -67,3 +76,19 @@ struck_in (Some l) trash = l.replica.sealed
 
 abbrev pub struck_by_damage : Slot → Option Sealed
 struck_by_damage s = struck_in s.live s.trash
+
+-- Behind damage of a block, every other block is as it was: of what is live, or else of what stands in the trash.
+abbrev pub LiveOthers : ℕ → Option Live → Option Live → Type 0
+LiveOthers index None new = new ≡ None
+LiveOthers index (Some l) None = ⊥
+LiveOthers index (Some l) (Some l2) = Others index l.replica.held.chunk l2.replica.held.chunk × (l2.bad ≡ l.bad)
+
+abbrev pub TrashOthers : ℕ → Option Live → Option State → Option State → Type 0
+TrashOthers index (Some l) old new = new ≡ old
+TrashOthers index None None new = new ≡ None
+TrashOthers index None (Some r) None = ⊥
+TrashOthers index None (Some r) (Some r2) = Others index r.held.chunk r2.held.chunk
+
+pub record LeavesOthers (index : ℕ) (s s2 : Slot) : Type 0 where
+  pub live : LiveOthers index s.live s2.live
+  pub trash : TrashOthers index s.live s.trash s2.trash

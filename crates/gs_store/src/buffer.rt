@@ -1,8 +1,9 @@
-ghost use Rattle.std.specs.Prelude.{◌≡◌, [], OnOk, OnErr, IfOk, option_map};
+ghost use Rattle.std.specs.Prelude.{◌≡◌, [], Ok, IfOk, option_map};
 ghost use Rattle.std.specs.Option.{option_copied};
+ghost use Rattle.gs_base.specs.Calls.{FollowsOf};
 ghost use Rattle.gs_store.specs.Buffers.{push, pushed, without};
 
-use gs_base::ReqId;
+use gs_base::{Refusal, Refused, ReqId};
 use lru::LruCache;
 use std::alloc::{AllocError, Global};
 use std::marker::Model;
@@ -39,13 +40,19 @@ impl PushBuffer {
     }
 
     /// Puts bytes under a request, in place of those that it had, as the newest. The oldest goes where there are 65.
-    pub(crate) fn push(&mut self, req: ReqId, bytes: Vec<u8>) -> Result<(), AllocError>
-        ensures ok { OnOk result (self.new ≡ push req bytes.items self.old) }
-        ensures err { OnErr result (self.new ≡ self.old) }
+    /// Where there is no memory it hands back the bytes.
+    pub(crate) fn push(&mut self, req: ReqId, bytes: Vec<u8>) -> Result<(), Refused<Vec<u8>>>
+        ensures { FollowsOf bytes (Ok (push req bytes.items self.old)) result self.old self.new }
     {
         match self.cache.put(req, bytes) {
             Ok(_) => Ok(()),
-            Err(_) => Err(AllocError),
+            Err(failed) => {
+                let (_, given) = failed.value;
+                Err(Refused {
+                    refusal: Refusal::Memory,
+                    given,
+                })
+            }
         }
     }
 

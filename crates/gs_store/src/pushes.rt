@@ -1,20 +1,18 @@
-ghost use Rattle.std.specs.Prelude.{◌≡◌, Some, IfOk, OnOk, OnErr, option_map};
+ghost use Rattle.std.specs.Prelude.{◌≡◌, Some, Ok, IfOk, option_map};
 ghost use Rattle.std.specs.Option.{option_copied};
-ghost use Rattle.gs_base.specs.Calls.{Follows, Refuses};
+ghost use Rattle.gs_base.specs.Calls.{Follows, FollowsOf, Refuses};
 ghost use Rattle.gs_store.specs.Buffers.{pushed};
 ghost use Rattle.gs_store.specs.Stores.{push, take_pushed, apply_pushed, foreseen_pushed, restarted};
 
 use crate::store::Store;
-use gs_base::{Handle, Refusal, ReqId, Stamp};
+use gs_base::{Handle, Refusal, Refused, ReqId, Stamp};
 use gs_replica::Op;
-use std::alloc::AllocError;
 
 impl Store {
     /// Keeps the bytes of a request until an edit uses them, in place of those that it had, as the newest. Of 65 requests the
-    /// oldest one's bytes go.
-    pub fn push(&mut self, req: ReqId, bytes: Vec<u8>) -> Result<(), AllocError>
-        ensures ok { OnOk result (self.new ≡ push req bytes.items self.old) }
-        ensures err { OnErr result (self.new ≡ self.old) }
+    /// oldest one's bytes go. Where there is no memory it hands back the bytes.
+    pub fn push(&mut self, req: ReqId, bytes: Vec<u8>) -> Result<(), Refused<Vec<u8>>>
+        ensures { FollowsOf bytes (Ok (push req bytes.items self.old)) result self.old self.new }
     {
         self.buffer.push(req, bytes)
     }

@@ -1,6 +1,6 @@
 //! What holds of a store, whatever is called.
 
-ghost use Rattle.std.specs.Prelude.{◌≡◌, ◌≤◌, ℕ, ◌+◌, ◌==◌, true, false, List, length, Some, Ok, is_some};
+ghost use Rattle.std.specs.Prelude.{◌≡◌, ◌≤◌, ℕ, ◌+◌, ◌==◌, true, false, List, Contains, length, Some, Ok, is_some};
 ghost use Rattle.gs_base.specs.declared.numbers.ReqId.{ReqId};
 ghost use Rattle.gs_base.specs.declared.numbers.Stamp.{Stamp};
 ghost use Rattle.gs_replica.specs.declared.op.Op.{Op};
@@ -13,12 +13,12 @@ ghost use Rattle.gs_replica.specs.Stands.{Edit};
 ghost use Rattle.gs_store.specs.Slots.{Slot, nothing, sealed_of};
 ghost use Rattle.gs_store.specs.Whole.{IsWholeSlot};
 ghost use Rattle.gs_store.specs.Moves.{sound_image};
-ghost use Rattle.gs_store.specs.Learning.{start_of};
+ghost use Rattle.gs_store.specs.Learning.{start_of, is_named, is_sound};
 ghost use Rattle.gs_store.specs.Standing.{StandsIn, StoodIn, LiveUndamaged};
 ghost use Rattle.gs_store.specs.StoreCalls.{StoreCall, called, LeadsTo, names};
 ghost use Rattle.gs_store.specs.Told.{found_in, told};
 ghost use Rattle.gs_store.specs.Buffers as buffers;
-ghost use Rattle.gs_store.specs.Stores.{Store, slot_of, at_slot, learn, gone_on, mark_bad, apply_pushed};
+ghost use Rattle.gs_store.specs.Stores.{Store, slot_of, at_slot, learn, gone_on, mark_bad, apply_pushed, named};
 
 /// A call of one handle leaves every other one's slot, the epoch and what was pushed; one that uses pushed bytes takes these out.
 pub fn calls_change_their_own_slot()
@@ -71,4 +71,13 @@ pub fn reports_tell_what_is_live()
 pub fn the_buffer_is_bounded()
     ensures few { (req : ReqId) (bytes : List ℕ) (buffer : buffers.Pushes) → length (buffers.push req bytes buffer) ≤ 64 }
     ensures last { (req : ReqId) (bytes : List ℕ) (buffer : buffers.Pushes) → buffers.pushed req (buffers.push req bytes buffer) ≡ Some bytes }
+{}
+
+/// The handles that are named of a rollback are exactly those whose slot is named. A live replica of which no block is damaged is
+/// sound, so its slot is named of the epoch under whose first stamp it is.
+pub fn undamaged_replicas_are_named()
+    ensures names { (epoch handle : ℕ) (s : Store) → names handle epoch s ≡ is_named epoch (slot_of handle s) }
+    ensures named { (epoch handle : ℕ) (s : Store) → is_named epoch (slot_of handle s) ≡ true → Contains (named epoch s) handle }
+    ensures sound { (block chunk : ℕ) (s : Slot) (edits : List Edit) → StandsIn block chunk s edits → LiveUndamaged s.live → is_sound s.live ≡ true }
+    ensures whole { (s : Slot) → is_some s.live ≡ true → IsWholeSlot s → LiveUndamaged s.live → is_sound s.live ≡ true }
 {}

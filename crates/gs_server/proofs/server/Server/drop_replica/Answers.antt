@@ -14,7 +14,7 @@ returns-in-Ok c =
     let after : Server = the_view (record { alloc = c.self.inside.alloc; id = c.self.inside.id; store = c.drop_replica.new.self; leases = c.spend.new.leases; refused = c.self.inside.refused }) in
     subst (λ (old : Server). ServerSteps (step_of c.args.handle None (drop_replica (here_of old c.args.moment c.args.handle None) (place_of c.args.handle old) c.args.epoch c.args.promise) old) (Ok c.silent.result) old after) c.self.view_is
     (drop_ok c.args.handle v (c.args.epoch == v.kept.epoch) (refusals.Epoch v.kept.epoch) (slots.drop_replica c.args.promise (place_of c.args.handle v).slot) c.drop_replica.new.self after c.silent.result
-    c.in_default.ensures (of_does _ _ _ _ c.in-Ok.ensures) (ap (λ leases. with_leases leases (with_store c.drop_replica.new.self v)) c.spend.ensures) c.silent.ensures.sent c.silent.ensures.said)
+    c.in_default.ensures (of_does _ _ _ _ c.in-Ok.ensures) (ap (λ leases. with_leases leases (with_store c.drop_replica.new.self v)) c.spend.ensures.spent) c.silent.ensures.sent c.silent.ensures.said)
 
 pub returns-in-Err-drop_replica : goal.returns-in-Err-drop_replica
 returns-in-Err-drop_replica c =

@@ -11,7 +11,7 @@ invariant_of-self c =
       subst (λ n. n ≤ 64) (sym (sym (seen_length c.put.new.self.entries) ∙ ap length seen)) (stays_few (bytes_of c.self.inside.cache.entries) c.args.req c.args.bytes.items),
     )
 
-pub returns-in-Ok-clause-ok : goal.returns-in-Ok-clause-ok
-returns-in-Ok-clause-ok c =
+pub returns-in-Ok : goal.returns-in-Ok
+returns-in-Ok c =
     ap (λ x. bytes_of x.entries) c.in-Ok.ensures.entries
     ∙ seen_put c.self.inside.cache.entries c.self.inside.cache.cap c.args.req c.args.bytes c.self.invariant.0 c.self.invariant.1 ∙ ap (push c.args.req c.args.bytes.items) c.self.view_is
