@@ -27,26 +27,3 @@ begun first (second ∷ p) =
 pub above_next : (p : Path) (name : Name) → above (p ++ name ∷ []) ≡ above p ++ p ∷ []
 above_next [] name = refl
 above_next (first ∷ p) name = ap beginnings (parent_next (first ∷ p) name) ∙ begun first p
-
--- ---- all places
-
-pub rooms_none : (m : Memory) → HaveRoomBack m []
-rooms_none m = tt
-
--- the last place is put back, and the rest is left
-pub one_back : (m n : Memory) (touched : List Slot) (slot : Slot) → KeepsRooms (rooms_before slot m) n → HaveRoomBack m (touched ++ slot ∷ []) → volatile_of n ≡ slot_back (volatile_of m) slot →
-    HaveRoomBack n touched × (slots_back (volatile_of n) touched ≡ slots_back (volatile_of m) (touched ++ slot ∷ []))
-one_back m n touched slot keeps have is =
-    (rooms_stay (rooms_before slot m) n touched keeps (rooms_pop m touched slot have).0, ap (λ v. slots_back v touched) is ∙ sym (back_push (volatile_of m) touched slot))
-
--- where nothing is asked there is nothing to take out
-pub not_asked : (v : Volatile) (chunk : ℕ) → is_some (fin.get v.moving chunk) ≡ false → v ≡ record v { moving = fin.remove v.moving chunk }
-not_asked v chunk none = ap (λ m. record v { moving = m }) (fin.same_map nat_cmp_total fin.nat_cmp-IsAntisymmetric _ _ (λ q. at_asked q (eq_by_cmp nat_cmp q chunk) refl ∙ sym (fin.get-remove nat_cmp_total v.moving chunk q)))
-  where
-    nothing : (o : Option Asking) → is_some o ≡ false → o ≡ None
-    nothing None is = refl
-    nothing (Some asking) is = absurd (false≢true (sym is))
-
-    at_asked : (q : ℕ) (b : Bool) → eq_by_cmp nat_cmp q chunk ≡ b → fin.get v.moving q ≡ cond b None (fin.get v.moving q)
-    at_asked q true is = ap (fin.get v.moving) (fin.nat_cmp-IsAntisymmetric q chunk (is_equal (nat_cmp q chunk) is)) ∙ nothing (fin.get v.moving chunk) none
-    at_asked q false is = refl
