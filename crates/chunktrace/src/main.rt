@@ -134,7 +134,7 @@ fn serve(rt: &(impl Input + Print + AllocGlobal), config: Config) -> Result<(), 
 /// the command line are refused.
 fn main(rt: HostRuntime) -> ExitCode {
     let config = match configured(&rt, "chunktrace") {
-        Ok(config) => config,
+        Ok((config, _)) => config,
         Err(status) => return status,
     };
     match serve(&rt, config) {

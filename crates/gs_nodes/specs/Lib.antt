@@ -1,3 +1,4 @@
 pub mod Arming
 pub mod Happenings
+pub mod NewDisks
 pub mod Nodes

@@ -10,8 +10,8 @@ use gs_journal::Disk;
 use gs_master::Turn;
 use gs_msg::{Body, Message, NodeId};
 
-/// What a server does, as the master's is told.
-pub(crate) fn turn_of(turn: gs_server::Turn) -> Turn
+/// What a server does, as what the master does is told: what it sends, and the refusal that it says, if it says one.
+pub fn turn_of(turn: gs_server::Turn) -> Turn
     ensures sent { result.sent ≡ turn.sent }
     ensures said { result.said ≡ turn.said }
 {

@@ -9,6 +9,7 @@ mod nodes;
 mod place;
 mod restarting;
 
+pub use delivering::turn_of;
 pub use gs_master::Turn;
-pub use nodes::Nodes;
+pub use nodes::{Nodes, empty_disks};
 pub use place::MasterPlace;

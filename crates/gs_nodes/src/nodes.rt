@@ -1,12 +1,13 @@
 ghost use Rattle.std.specs.Prelude.{◌≡◌, IfOk, IfErr, Ok};
 ghost use Rattle.gs_nodes.specs.Nodes.{new_clients, new_nodes, new_servers, nodes_of};
 ghost use Rattle.gs_nodes.specs.Happenings.{Opens, WhyNotBegun};
+ghost use Rattle.gs_nodes.specs.NewDisks.{AreEmpty};
 
 use crate::place::MasterPlace;
 use crate::restarting::LIMIT;
 use gs_base::{ClientId, Config, Refusal, ServerId};
 use gs_client::ClientNode;
-use gs_journal::{Disk, Unopened};
+use gs_journal::{Disk, MemoryDisk, Unopened};
 use gs_master::{Master, Started, Turn};
 use gs_server::Server;
 use std::alloc::{AllocError, Global};
@@ -68,6 +69,15 @@ fn silent_nodes(
     ensures { IfOk result (λ n. (n.0.items ≡ new_servers config) × (n.1.items ≡ new_clients clients)) }
 {
     Ok((new_servers(alloc, config)?, new_clients(alloc, clients)?))
+}
+
+/// The disks in memory of a new store's journal: nothing is on them.
+pub fn empty_disks(alloc: Global) -> (MemoryDisk, MemoryDisk)
+    ensures { AreEmpty result }
+{
+    let first = MemoryDisk::new(Vec::new(alloc));
+    let second = MemoryDisk::new(Vec::new(alloc));
+    (first, second)
 }
 
 impl<D: Disk + Drop> Nodes<D> {

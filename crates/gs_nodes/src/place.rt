@@ -35,13 +35,9 @@ fn refusal_of_call(alloc: Global, body: &Body) -> Result<Vec<Message>, AllocErro
 }
 
 impl<D: Disk> MasterPlace<D> {
-    /// Hands the master a message. Where its disks aren't open, each call is refused `Device`, and all else is met by that.
-    pub(crate) fn hear(
-        &mut self,
-        alloc: Global,
-        message: Message,
-        moment: Moment,
-    ) -> Result<Turn, Refusal>
+    /// Hands the master a message, at this moment of its clock. Where its disks aren't open, each call is refused `Device`, and all
+    /// else is met by that. A refusal changes nothing, as in [`Master::handle`].
+    pub fn hear(&mut self, alloc: Global, message: Message, moment: Moment) -> Result<Turn, Refusal>
         ensures { MasterHears D.seen D.failures message moment self.old result self.new }
     {
         match self {
@@ -56,8 +52,8 @@ impl<D: Disk> MasterPlace<D> {
         }
     }
 
-    /// The master's clock ticks.
-    pub(crate) fn tick(&mut self, alloc: Global, moment: Moment) -> Result<Turn, Refusal>
+    /// The master's clock ticks. Where its disks aren't open it says `Device`. A refusal changes nothing, as in [`Master::tick`].
+    pub fn tick(&mut self, alloc: Global, moment: Moment) -> Result<Turn, Refusal>
         ensures { MasterTicks D.seen D.failures moment self.old result self.new }
     {
         match self {

@@ -92,11 +92,16 @@ abbrev pub words_options : List Text → Option Sizes
 words_options words = if is_empty (fault_of app words) then rows_options (matches_of app words) else None
 
 -- the configuration of the sizes, and Config exactly where there are none, unless memory ran out
-abbrev pub ConfiguresAs : Result Config Refusal → Option Sizes → Type 0
-ConfiguresAs (Ok c) sizes = sizes ≡ Some (sizes_of c)
-ConfiguresAs (Err refusal.Config) sizes = sizes ≡ None
-ConfiguresAs (Err refusal.Memory) sizes = Unit {0}
-ConfiguresAs (Err _) sizes = ⊥
+abbrev pub SizedAs : Result Config Refusal → Option Sizes → Type 0
+SizedAs (Ok c) sizes = sizes ≡ Some (sizes_of c)
+SizedAs (Err refusal.Config) sizes = sizes ≡ None
+SizedAs (Err refusal.Memory) sizes = Unit {0}
+SizedAs (Err _) sizes = ⊥
+
+-- So too with whether there are threads: no words that are taken ask for them.
+abbrev pub ConfiguresAs : Result (Config × Bool) Refusal → Option Sizes → Type 0
+ConfiguresAs (Ok asked) sizes = SizedAs (Ok asked.0) sizes × (asked.1 ≡ false)
+ConfiguresAs (Err e) sizes = SizedAs (Err e) sizes
 
 -- why there are no matches: a fault of the words, or memory ran out
 abbrev pub Refuses : Refusal → Kinds → Type 0

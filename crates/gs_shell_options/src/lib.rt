@@ -4,7 +4,7 @@
 ghost use Rattle.std.specs.Prelude.{◌≡◌, [], map, false, MatchResult, IfOk, string_bytes};
 ghost use Rattle.clap.specs.Words.{rule_of, rows_of, found_of, matches_of as clap_matches, app_of, with_rule};
 ghost use Rattle.clap.specs.Faults.{fault_of};
-ghost use Rattle.gs_shell_options.specs.Options.{app, named_rule, number_rule, flag_rule, number_in, flag_in, rows_sizes, words_options, ConfiguresAs, Refuses};
+ghost use Rattle.gs_shell_options.specs.Options.{app, named_rule, number_rule, flag_rule, number_in, flag_in, rows_sizes, words_options, ConfiguresAs, SizedAs, Refuses};
 
 use clap::error::ErrorKind;
 use clap::{Arg, ArgAction, ArgMatches, Command};
@@ -150,7 +150,7 @@ fn flag_in(matches: &ArgMatches<'_>, id: &str) -> bool
 /// The configuration of the sizes that clap has read.
 #[tactic(auto, unfolding(crate::specs::Options::rows_sizes))]
 fn config_in(matches: &ArgMatches<'_>) -> Result<Config, Refusal>
-    ensures { ConfiguresAs result (rows_sizes (rows_of (found_of matches.now))) }
+    ensures { SizedAs result (rows_sizes (rows_of (found_of matches.now))) }
 {
     let servers = number_in(matches, "servers").ok_or(Refusal::Config)?;
     let racks = number_in(matches, "racks").ok_or(Refusal::Config)?;
@@ -160,17 +160,18 @@ fn config_in(matches: &ArgMatches<'_>) -> Result<Config, Refusal>
     Config::new(servers, racks, replicas, block, chunk)
 }
 
-/// The configuration that the words of the command line name, of which the first is the program's own. `Config` refuses an
-/// option that isn't there, one that is given twice, a value that is no whole number or lacks, `--help`, `--threads`, and
-/// sizes of which there is no store.
-pub fn options(alloc: Global, words: &[String]) -> Result<Config, Refusal>
+/// The configuration that the words of the command line name, of which the first is the program's own, and whether the nodes
+/// run in threads. `Config` refuses an option that isn't there, one that is given twice, a value that is no whole number or
+/// lacks, `--help`, and sizes of which there is no store; and `--threads`, since there are none yet, so the flag is never set.
+pub fn options(alloc: Global, words: &[String]) -> Result<(Config, bool), Refusal>
     ensures { ConfiguresAs result (words_options (map string_bytes words.now)) }
 {
     let matches = matches_of(alloc, words)?;
     if flag_in(&matches, "threads") {
         return Err(Refusal::Config);
     }
-    config_in(&matches)
+    let config = config_in(&matches)?;
+    Ok((config, false))
 }
 
 /// What is wrong with words of which clap finds no fault, and which are refused.
