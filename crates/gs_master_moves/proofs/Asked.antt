@@ -58,7 +58,7 @@ use Rattle.gs_master_moves.proofs.Made.{events_are_chains}
 use Rattle.gs_master_moves.specs.Asked.{EachMoveAsksSo, HasNamed, IsAnswer, IsAskedFor, IsAskedSo, StartsAskedSo, StaysAskedSo, WasHeard, WasIn}
 use Rattle.gs_master_moves.specs.Laws.{heard_in, met_in}
 use Rattle.gs_master_moves.specs.Guards.{ComesOf, Heard, IsElsewhere, IsMade, IsNext, IsYes, MayBegin, MayHear, MayRestore, MaySend}
-use Rattle.gs_master_moves.specs.Moves.{Chain, Rests, Moves, Then, Alone, Beside, FromNow, Further, Move, Begins, Makes, Copies, Hears, Sends, Settles, Edits, Extends, CopiesTree, Replaces, Scans, Refuses, Poll as AnswersCall, Waits, Restores, Says, Flags, Prepares, Finalizes, BeginsRollback, TellsRollback, CommitsRollback, Checkpoints, move_turn, plan_of_make, plan_of_refusal, plan_of_rollback, plan_of_settle, with_beside}
+use Rattle.gs_master_moves.specs.Moves.{Chain, Rests, Moves, Then, Alone, Beside, FromNow, Further, Move, Begins, Makes, Copies, Hears, Sends, Settles, Edits, Extends, CopiesTree, Replaces, Scans, Refuses, Answers as AnswersCall, Waits, Restores, Says, Flags, Prepares, Finalizes, BeginsRollback, TellsRollback, CommitsRollback, Checkpoints, move_turn, plan_of_make, plan_of_refusal, plan_of_rollback, plan_of_settle, with_beside}
 
 pub asking_is : {a b : Asking} → ◌≡◌ {A = Option Asking} (Some a) (Some b) → a ≡ b
 asking_is k = cc

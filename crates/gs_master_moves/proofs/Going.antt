@@ -69,7 +69,7 @@ use Rattle.gs_master_moves.proofs.Calls.{next_is}
 use Rattle.gs_master_moves.proofs.Entries.{copied_listed, either as either_known, ended_known, settling_known, settling_names}
 use Rattle.gs_master_moves.proofs.Chains.{Chained, all_ended_chain, ended_chain, rests, test_chain, then_chain}
 use Rattle.gs_master_moves.specs.Guards.{Heard, HasCarried, IsCalled, IsMadeBy, IsNext, IsSettledOn, IsYes, May, settled_chunk}
-use Rattle.gs_master_moves.specs.Moves.{Further, Moves, Poll as AnswersCall, Begins, Copies, CopiesTree, Extends, Hears, Replaces, Sends, Settles}
+use Rattle.gs_master_moves.specs.Moves.{Further, Moves, Answers as AnswersCall, Begins, Copies, CopiesTree, Extends, Hears, Replaces, Sends, Settles}
 
 -- ---- what each step is made of
 

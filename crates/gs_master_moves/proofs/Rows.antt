@@ -49,7 +49,7 @@ use Rattle.gs_master_moves.proofs.Sharing.{view_term}
 use Rattle.gs_master_moves.specs.Epochs.{is_alone}
 use Rattle.gs_master_moves.specs.Guards.{Heard, IsMade, ask_nobody, asks_nobody, settled_chunk}
 use Rattle.gs_master_moves.specs.Moved.{is_commit, proposed_now, settled_after}
-use Rattle.gs_master_moves.specs.Moves.{Alone, FromNow, Further, Begins, BeginsRollback, Chain, Checkpoints, CommitsRollback, Copies, Finalizes, Hears, Makes, Move, Moves, Prepares, Refuses, Replaces, Restores, Rests, Says, Scans, Sends, Settles, TellsRollback, Then, Waits, Poll as AnswersCall, move_turn}
+use Rattle.gs_master_moves.specs.Moves.{Alone, FromNow, Further, Begins, BeginsRollback, Chain, Checkpoints, CommitsRollback, Copies, Finalizes, Hears, Makes, Move, Moves, Prepares, Refuses, Replaces, Restores, Rests, Says, Scans, Sends, Settles, TellsRollback, Then, Waits, Answers as AnswersCall, move_turn}
 use Rattle.gs_master_moves.specs.Rows.{CopiesAreListed, CopiesAreNew, CopiesListed, CopiesNew, EachRowGoes, EpochsLeave, ListedStay, NewAreUnled, RowGoes, RowsGoOver}
 
 same_number : (a b : ℕ) → (a == b) ≡ true → a ≡ b

@@ -65,7 +65,7 @@ use Rattle.gs_master_moves.proofs.Fitting.{split}
 use Rattle.gs_master_moves.proofs.Right.{one_fits, settled_gives}
 use Rattle.gs_master_moves.specs.Guards.{ComesOf, Heard, IsMade, IsAlone, settled_chunk}
 use Rattle.gs_master_moves.specs.Laws.{heard_in, met_in}
-use Rattle.gs_master_moves.specs.Moves.{Chain, Rests, Moves, Then, Alone, Beside, FromNow, Further, Move, Begins, Makes, Copies, Hears, Sends, Settles, Edits, Extends, CopiesTree, Replaces, Scans, Refuses, Poll as AnswersCall, Waits, Restores, Says, Flags, Prepares, Finalizes, BeginsRollback, TellsRollback, CommitsRollback, Checkpoints, move_turn, plan_of_refusal, plan_of_restore, plan_of_rollback, with_beside}
+use Rattle.gs_master_moves.specs.Moves.{Chain, Rests, Moves, Then, Alone, Beside, FromNow, Further, Move, Begins, Makes, Copies, Hears, Sends, Settles, Edits, Extends, CopiesTree, Replaces, Scans, Refuses, Answers as AnswersCall, Waits, Restores, Says, Flags, Prepares, Finalizes, BeginsRollback, TellsRollback, CommitsRollback, Checkpoints, move_turn, plan_of_refusal, plan_of_restore, plan_of_rollback, with_beside}
 use Rattle.gs_master_moves.specs.Shared.{EachMoveSharesSo, IsSharedSo, IsUnleased, StartsSharedSo, StaysSharedSo}
 
 same_number : (a b : ℕ) → (a == b) ≡ true → a ≡ b

@@ -46,7 +46,7 @@ use Rattle.gs_master_spec.specs.Volatile.{is_pending}
 use Rattle.gs_master_spec.specs.Working.{forgotten_chunks, removed_paths}
 use Rattle.gs_master_spec.specs.declared.asking.Asking.{Asking}
 use Rattle.gs_master_spec.specs.declared.reply.KeptReply.{KeptReply}
-use Rattle.gs_master_moves.specs.Moves.{Beside, FromNow, Move, Begins, Makes, Copies, Hears, Sends, Settles, Edits, Extends, CopiesTree, Replaces, Scans, Refuses, Poll as AnswersCall, Waits, Restores, Says, Flags, Prepares, Finalizes, BeginsRollback, TellsRollback, CommitsRollback, Checkpoints, move_turn}
+use Rattle.gs_master_moves.specs.Moves.{Beside, FromNow, Move, Begins, Makes, Copies, Hears, Sends, Settles, Edits, Extends, CopiesTree, Replaces, Scans, Refuses, Answers as AnswersCall, Waits, Restores, Says, Flags, Prepares, Finalizes, BeginsRollback, TellsRollback, CommitsRollback, Checkpoints, move_turn}
 
 -- what a server has said in the event, if one has, or what a client has called
 abbrev pub Heard : Type 0
