@@ -1,6 +1,6 @@
 use Rattle.std.proofs.Common.{None}
 use Rattle.gs_shell.proofs.Stopping.{breaks_off, serves}
-use Rattle.gs_shell.proofs.run_over.Goals as goal
+use Rattle.gs_shell.proofs.run.Goals as goal
 
 pub returns-clause-ok : goal.returns-clause-ok
 returns-clause-ok g c =
