@@ -1,5 +1,7 @@
-use Rattle.std.proofs.Common.{◌∙◌, ap, subst}
+use Rattle.std.proofs.Common.{rules, ◌≡◌, ◌∙◌, Err, IfErr, ap, subst, sym}
+use Rattle.gs_nodes.specs.Happenings.{WhyNotBegun}
 use Rattle.gs_msg.specs.declared.node.NodeId.TheVariants as ids
+use Rattle.gs_world.specs.Histories.{failures_of, seen_of}
 use Rattle.gs_world.specs.Sent.{IsPosted, Sent, none_sent}
 use Rattle.gs_world.proofs.world.World.new.Goals as goal
 
@@ -14,3 +16,8 @@ returns-clause-begins g c =
           subst (λ (s : Sent). IsPosted (record { 0 = 0 }) ids.Master c.in_ok-nodes.turn.sent.items s c.post.new.self)
           (c.in-Ok.ensures ∙ ap (none_sent c.args.config.servers) c.from.ensures) c.post.ensures;
     }
+
+pub returns-in_err-nodes-clause-refused : goal.returns-in_err-nodes-clause-refused
+returns-in_err-nodes-clause-refused g c =
+    let e : c.from_residual.result ≡ Err c.in_err-nodes.field-0.0 = search rules in
+    subst (λ r. IfErr r (WhyNotBegun (seen_of g.D.Disk.seen) (failures_of g.D.Disk.failures) c.args.config c.args.disks)) (sym e) c.in_err-nodes.ensures.refused
