@@ -1,17 +1,18 @@
-ghost use Rattle.std.specs.Prelude.{◌≡◌, ◌<◌, ◌^◌, OnOk, OnSome, None, ℕ, length, map};
+ghost use Rattle.std.specs.Prelude.{◌≡◌, ◌<◌, ◌^◌, IfOk, MatchResult, OnOk, OnSome, None, ℕ, length, map};
 ghost use Rattle.std.specs.Option.{option_copied};
 ghost use Rattle.std.specs.FinMap as fin;
 ghost use Rattle.std.specs.List.{list_any};
 ghost use Rattle.std.specs.List.Sorted.{IsStrictlySortedBy};
 ghost use Rattle.std.specs.Ordering.{nat_cmp};
+ghost use Rattle.gs_lease.specs.Chunks.{IsAllQuiet, RefusedFor};
 ghost use Rattle.gs_lease.specs.declared.lease.Lease.{Lease as AnyLease};
 ghost use Rattle.gs_base_table.specs.Slots.{GivesUpRoom, HasRoom, KeepsRoom, live};
 ghost use Rattle.gs_lease_table.specs.Tallies.{AreReplicas, has_primary};
 
 use crate::tally::{Tally, are_few};
-use gs_base::Handle;
+use gs_base::{Handle, Refusal};
 use gs_base_table::{Entries, Table};
-use gs_lease::Lease;
+use gs_lease::{AllQuiet, Lease};
 use std::alloc::{AllocError, Global};
 use std::marker::Model;
 
@@ -71,6 +72,14 @@ impl LeaseTable {
         ensures { result ≡ list_any (λ (e : ℕ × AnyLease). has_primary e.1) (fin.entries (live nat_cmp self.now)) }
     {
         0 < self.tally.primaries
+    }
+
+    /// This table, if every chunk of it is quiet. `NotQuiet` with the lowest that isn't. It takes no memory.
+    pub fn all_quiet(&self) -> Result<AllQuiet, Refusal>
+        ensures same { IfOk result (λ quiet. quiet ≡ live nat_cmp self.now) }
+        ensures quiet { MatchResult result (λ _. IsAllQuiet (live nat_cmp self.now)) (RefusedFor (live nat_cmp self.now)) }
+    {
+        AllQuiet::of(&self.leases)
     }
 
     /// What stands at a chunk. A chunk at which something stands has room.

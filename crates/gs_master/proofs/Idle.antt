@@ -28,7 +28,7 @@ module _ (config : Config) (s : State) (moment : Moment) (failed : is_failed s.f
   taken req call (Again result) = refl
   taken req call Older = refl
 
-  called : (req : ReqId) (call : Call) → (call_turn config s req moment call).records ≡ []
+  pub called : (req : ReqId) (call : Call) → (call_turn config s req moment call).records ≡ []
   called req call =
       let told = numbered (last_reply s req.client) req.number in
       either (is_unopened s.fault) _ _ refl (either (is_pending s.volatile.pending req) _ _ (either (is_failed s.fault) _ _ refl refl) (taken req call told))

@@ -3,12 +3,14 @@ ghost use Rattle.std.specs.Prelude.{◌≡◌, IfErr, IfOk, Some};
 ghost use Rattle.std.specs.FinMap as fin;
 ghost use Rattle.gs_base.specs.declared.refusal.Refusal.TheVariants as refusals;
 ghost use Rattle.gs_edit.specs.Plain.{unhide_target};
+ghost use Rattle.gs_master.specs.Masters.{MasterAnswers};
 ghost use Rattle.gs_master.specs.inner.StartingOver.{IsBegun};
 ghost use Rattle.gs_master.specs.inner.Turns.{ComesWithOthers, GoesBack, IsUnderWay, state_at, EventSteps};
 ghost use Rattle.gs_msg.specs.declared.answer.Answer.TheVariants as answers;
+ghost use Rattle.gs_msg.specs.declared.call.Call.TheVariants as calls;
 ghost use Rattle.gs_master_record.specs.Plain as entries;
 ghost use Rattle.gs_master_record.specs.Plain.{plain_edit};
-ghost use Rattle.gs_master_spec.specs.Calls.{answered_with, deleted, edited_by, found_chunk, has_visible_child, listing, location, looked_up, queried, status, told_phase};
+ghost use Rattle.gs_master_spec.specs.Calls.{answered_with, deleted, edited_by, found_chunk, has_visible_child, listing, location, looked_up, queried, renames, status, told_phase};
 ghost use Rattle.gs_master_spec.specs.Handling.{call_turn, called, new_call, refusal_in, replied_again, waits_still};
 ghost use Rattle.gs_master_state.specs.inner.Plans.{plan_of};
 ghost use Rattle.gs_master_state.specs.inner.Recorded.{durable_of};
@@ -18,8 +20,11 @@ ghost use Rattle.gs_master_spec.specs.Undoing.{edited_names};
 ghost use Rattle.gs_tree.specs.Edits.{old_name};
 
 use crate::event::Event;
+use crate::master::Master;
+use crate::turn::Turn;
 use gs_base::{Config, Moment, Refusal, ReqId};
 use gs_edit::Edit;
+use gs_journal::Disk;
 use gs_master_plan::call::{Numbered, accept_plan};
 use gs_master_plan::message::reply_to;
 use gs_master_record::Phase;
@@ -69,9 +74,7 @@ impl Event {
         match call {
             Call::Mkdirs(path) => self.edit_by(req, Edit::Mkdirs(path), Answer::Nothing),
             Call::Create(path) => self.edit_by(req, Edit::Create(path), Answer::Nothing),
-            Call::Rename { from, to } => {
-                self.edit_by(req, Edit::Rename(from, to), Answer::Nothing)
-            }
+            Call::Rename { from, to } => self.rename(req, from, to),
             Call::Delete { path, recursive } => self.delete(req, path, recursive, moment),
             Call::Undelete(path) => self.undelete(req, path),
             Call::Snapshot { from, to } => self.snapshot(req, from, to),
@@ -312,6 +315,16 @@ impl Event {
         self.edit_by(req, Edit::Hide(path, moment, number), Answer::Path(hidden))
     }
 
+    /// What stands at a path is moved. The record holds the target as it was resolved.
+    pub fn rename(&mut self, req: ReqId, from: Path, to: Path) -> Result<(), Refusal>
+        requires { IsUnderWay self.old }
+        ensures steps { EventSteps (renames (state_at self.old) req from to) self.old result self.new }
+        ensures back { GoesBack self.old self.new }
+    {
+        let target = self.recorded.said_target(&from, &to)?;
+        self.edit_by(req, Edit::Rename(from, target), Answer::Nothing)
+    }
+
     /// What was deleted returns to its old name.
     pub fn undelete(&mut self, req: ReqId, path: Path) -> Result<(), Refusal>
         requires { IsUnderWay self.old }
@@ -362,6 +375,35 @@ impl Event {
         let phase = told_phase(is_preparing, self.recorded.phase);
         let epoch = self.recorded.epoch;
         self.answer(req, Answer::Phase { phase, epoch })
+    }
+}
+
+impl<D: Disk> Master<D> {
+    /// Answers a client's call as `handle` answers a message that says it. The reply, for the client of the request, is among what is sent.
+    pub(crate) fn answer_call(
+        &mut self,
+        req: ReqId,
+        moment: Moment,
+        call: Call,
+    ) -> Result<Turn, Refusal>
+        ensures { MasterAnswers D.seen D.failures (Some req) (call_turn self.old.config self.old.state req moment call) self.old result self.new }
+    {
+        let beginning = self.event.beginning();
+        let done = self.event.take_call(&self.config, req, moment, call);
+        self.event
+            .finish(&mut self.journal, beginning, Some(req), done)
+    }
+
+    /// Tells the phase of the master and its epoch, at this moment, in seconds. No record is written, and nothing but a failed disk and
+    /// a journal that couldn't be opened (32) stands against it, not even a rollback that goes on.
+    ///
+    /// As every call here it answers a request of a client, exactly as `handle` does: a request that waits still isn't taken again, the last
+    /// one of the client gets its reply again, and an older one is refused 19. What is refused is said in the turn and to the client.
+    /// An `Err` changes nothing, as in `handle`.
+    pub fn query(&mut self, req: ReqId, moment: Moment) -> Result<Turn, Refusal>
+        ensures { MasterAnswers D.seen D.failures (Some req) (call_turn self.old.config self.old.state req moment calls.Query) self.old result self.new }
+    {
+        self.answer_call(req, moment, Call::Query)
     }
 }
 

@@ -1,27 +1,31 @@
 // Calls on a file's chunks, which begin views and wait for them.
 ghost use Rattle.std.specs.Prelude.{◌≡◌, Ok, Some};
 ghost use Rattle.std.specs.FinMap as fin;
+ghost use Rattle.gs_master.specs.Masters.{MasterAnswers};
 ghost use Rattle.gs_master.specs.inner.Turns.{GoesBack, IsUnderWay, state_at, EventSteps};
 ghost use Rattle.gs_master_spec.specs.Beginning.{begin_at, copy_plan, next_stamp};
 ghost use Rattle.gs_master_spec.specs.Calls.{found_chunk};
 ghost use Rattle.gs_master_spec.specs.Chunks.{chunk_at, view_of};
+ghost use Rattle.gs_master_spec.specs.Handling.{call_turn};
 ghost use Rattle.gs_master_state.specs.inner.Judging.{length_at};
 ghost use Rattle.gs_master_state.specs.inner.Knowing.{known_of};
 ghost use Rattle.gs_master_spec.specs.Working.{begins, begins_new, copied_on_write, created_on, extends, found_for_writing, leased, may_use, replicated_to, replicates, replicates_chunk};
+ghost use Rattle.gs_msg.specs.declared.call.Call.TheVariants as calls;
 ghost use Rattle.gs_master_spec.specs.declared.pending.Waiting.TheVariants as waits;
 
 use crate::event::Event;
+use crate::master::Master;
+use crate::turn::Turn;
 use gs_base::{Config, Handle, Members, Moment, Refusal, ReqId, Stamp};
+use gs_journal::Disk;
 use gs_lease::{Purpose, View};
 use gs_master_guard::writing::has_to_be_copied;
 use gs_master_plan::view::{copy_plan, create_plan};
 use gs_master_spec::pending::Waiting;
+use gs_master_state::call::MOST_CHUNKS;
 use gs_master_state::known::Known;
-use gs_msg::Answer;
+use gs_msg::{Answer, Call};
 use gs_path::Path;
-
-/// The most chunks of a file.
-const MOST_CHUNKS: u64 = 4096;
 
 /// A place of a file for which a call asks, and what stands there.
 #[derive(Drop)]
@@ -260,5 +264,18 @@ impl Event {
             Some(chunk) => self.replicate_chunk(config, req, chunk),
             None => self.answer(req, Answer::Copied(None)),
         }
+    }
+}
+
+impl<D: Disk> Master<D> {
+    /// Has the chunk that needs a replica most copied to one more server for a client's request, at this moment, in seconds, as `query` answers one. The
+    /// reply comes when the copy does, so this turn may have none. Which chunk and which server are GFS's: the one farthest from the number of
+    /// replicas that is wanted, and a rack that has none. Refused 12 while rolling back, 11 while preparing, 10 where another call moves that chunk, 17 where
+    /// no server is left for it, 31 where no version is left, 30 where the journal has no room. The answer is the chunk and
+    /// the server, or that no chunk needs one.
+    pub fn replicate(&mut self, req: ReqId, moment: Moment) -> Result<Turn, Refusal>
+        ensures { MasterAnswers D.seen D.failures (Some req) (call_turn self.old.config self.old.state req moment calls.Replicate) self.old result self.new }
+    {
+        self.answer_call(req, moment, Call::Replicate)
     }
 }

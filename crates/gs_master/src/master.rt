@@ -1,11 +1,12 @@
 // The whole master: messages, ticks and checkpoints.
-ghost use Rattle.std.specs.Prelude.{◌≡◌};
+ghost use Rattle.std.specs.Prelude.{◌≡◌, not};
 ghost use Rattle.gs_journal.specs.Faults.{armed};
 ghost use Rattle.gs_journal.specs.Records.{standing};
 ghost use Rattle.gs_master.specs.Masters.{MasterAnswers, with_journal};
 ghost use Rattle.gs_master.specs.Ticking.{AnswersCheckpoint, AnswersTick};
-ghost use Rattle.gs_master_spec.specs.Handling.{handle};
+ghost use Rattle.gs_master_spec.specs.Handling.{handle, proposals};
 ghost use Rattle.gs_master_spec.specs.Outcomes.{caller_of};
+ghost use Rattle.gs_master_spec.specs.Whole.{is_empty};
 
 use crate::event::Event;
 use crate::turn::{Turn, caller_of};
@@ -69,6 +70,14 @@ impl<D: Disk> Master<D> {
         let done = self.event.take(&self.config, message, moment);
         self.event
             .finish(&mut self.journal, beginning, caller, done)
+    }
+
+    /// Whether a view is proposed for some chunk. It takes no memory.
+    pub fn is_moving(&self) -> bool
+        ensures { result ≡ not (is_empty (proposals self.now.state)) }
+    {
+        let memory = self.event.memory.memory();
+        memory.moving.iter().next().is_some()
     }
 
     /// The disks, the first one first, to open them again.

@@ -1,16 +1,16 @@
 -- The records of each call fit what they meet, and keep what stands.
-use Rattle.std.proofs.Common.{◌≡◌, ◌&&◌, ◌||◌, Bool, true, false, not, [], ◌∷◌, refl}
-use Rattle.std.specs.Prelude.{Option, Some, None, Err, if◌then◌else◌}
+use Rattle.std.proofs.Common.{◌≡◌, ◌&&◌, ◌||◌, Bool, true, false, not, [], ◌∷◌, refl, subst}
+use Rattle.std.specs.Prelude.{Option, Some, None, Err, if◌then◌else◌, Result, Ok}
 use Rattle.std.specs.FinMap as fin
 use Rattle.std.specs.List.{list_any}
-use Rattle.std.proofs.lemmas.Bool.{true≢false}
+use Rattle.std.proofs.lemmas.Bool.{true≢false, and_parts}
 use Rattle.gs_base.specs.declared.config.Config.{Config}
 use Rattle.gs_base.specs.declared.numbers.Moment.{Moment}
 use Rattle.gs_base.specs.declared.numbers.ReqId.{ReqId}
 use Rattle.gs_base.specs.declared.refusal.Refusal.{Refusal}
 use Rattle.gs_base.specs.declared.refusal.Refusal.TheVariants as refusals
 use Rattle.gs_path.specs.Element.{is_hidden}
-use Rattle.gs_tree.specs.Edits.{old_name}
+use Rattle.gs_tree.specs.Edits.{old_name, target_of}
 use Rattle.gs_edit.specs.Plain.{unhide_target}
 use Rattle.gs_edit.specs.Edits.{edited}
 use Rattle.gs_edit.specs.declared.edit.Edit.TheVariants as edits
@@ -18,7 +18,7 @@ use Rattle.gs_msg.specs.declared.answer.Answer.TheVariants as answers
 use Rattle.gs_msg.specs.declared.call.Call.{Call}
 use Rattle.gs_msg.specs.declared.call.Call.TheVariants as calls
 use Rattle.gs_master_record.specs.Plain.{Mkdirs, Create, Rename, Unhide}
-use Rattle.gs_master_spec.specs.Calls.{found_chunk, is_always_taken, is_any_hidden, is_locked, is_work, listing, location, refused_before, status, told_phase}
+use Rattle.gs_master_spec.specs.Calls.{found_chunk, is_always_taken, is_any_hidden, is_locked, is_work, listing, location, refused_before, status, told_phase, edit_if, renames}
 use Rattle.gs_master_spec.specs.Durable.{is_rolling}
 use Rattle.gs_place.specs.Needs.{most_needed_of}
 use Rattle.gs_master_state.specs.Sane.{IsSane}
@@ -31,6 +31,13 @@ use Rattle.gs_master_laws.proofs.Accepted.{Goes, answered_goes, deleted_goes, ed
 use Rattle.gs_master_laws.proofs.AcceptedWork.{extends_goes, found_goes, most_goes, prepare_goes, snapshot_if_goes}
 use Rattle.gs_master_laws.proofs.AcceptedForgets.{scans_goes}
 use Rattle.gs_master_laws.proofs.AcceptedUpgrades.{abort_goes, begin_goes, commit_goes, finalize_goes, first_test, rolled_goes}
+use Rattle.gs_tree.proofs.Levels.{both_true}
+use Rattle.gs_edit.specs.View.{NamesView}
+use Rattle.gs_master_record.specs.Writable.{IsEdit, IsPath}
+use Rattle.gs_master_spec.specs.Applied.{is_visible, may_edit, names_well}
+use Rattle.gs_master_spec.specs.Undoing.{edited_names}
+use Rattle.gs_master_state.proofs.Renames.{resolved_does}
+use Rattle.gs_master_laws.proofs.Resolved.{resolved_told, resolved_visible}
 
 -- ---- what the tests before a call say
 
@@ -64,6 +71,29 @@ two_visible true b h = absurd (true≢false h)
 two_visible false true h = absurd (true≢false h)
 two_visible false false h = refl
 
+-- ---- a rename, whose record holds the target as it was resolved
+
+resolved_well : (s : State) (from to : Path) → (is_visible from && is_visible to) ≡ true → names_well (Rename from (target_of (fin.get s.durable.names.tree) from to)) ≡ true
+resolved_well s from to well =
+    let seen = and_parts (is_visible from) (is_visible to) well in
+    both_true (is_visible from) (is_visible (target_of (fin.get s.durable.names.tree) from to)) seen.0 (resolved_visible (fin.get s.durable.names.tree) from to seen.0 seen.1)
+
+pub resolved_may : (s : State) (from to : Path) → is_rolling s.durable.phase ≡ false → (is_visible from && is_visible to) ≡ true → may_edit s.durable (Rename from (target_of (fin.get s.durable.names.tree) from to)) ≡ true
+resolved_may s from to rolling well = may_so s.durable (Rename from (target_of (fin.get s.durable.names.tree) from to)) rolling (resolved_well s from to well) refl refl
+
+pub resolved_written : (s : State) (after : NamesView) (from to : Path) → (is_visible from && is_visible to) ≡ true → IsPath from × IsPath to → edited_names (Rename from to) s.durable.names ≡ Ok after → IsEdit (Rename from (target_of (fin.get s.durable.names.tree) from to))
+resolved_written s after from to well told is =
+    let seen = and_parts (is_visible from) (is_visible to) well in (told.0, resolved_told s.durable.names after from to told.0 told.1 seen.0 seen.1 is)
+
+renames_goes : (T : Type 0) (s : State) (req : ReqId) (from to : Path) → is_rolling s.durable.phase ≡ false → (is_visible from && is_visible to) ≡ true → (T → IsPath from × IsPath to) → Goes T s (renames s req from to)
+renames_goes T s req from to rolling well told = by_names (edited_names (Rename from to) s.durable.names) refl
+  where
+    by_names : (names : Result NamesView Refusal) → edited_names (Rename from to) s.durable.names ≡ names → Goes T s (edit_if s req (Rename from (target_of (fin.get s.durable.names.tree) from to)) answers.Nothing names)
+    by_names (Err refusal) is = refused_goes T s req refusal
+    by_names (Ok after) is =
+        subst (λ names. Goes T s (edit_if s req (Rename from (target_of (fin.get s.durable.names.tree) from to)) answers.Nothing names)) (resolved_does s.durable.names after from to is)
+        (edited_goes T s req (Rename from (target_of (fin.get s.durable.names.tree) from to)) answers.Nothing (λ names e. resolved_may s from to rolling well) (λ t. resolved_written s after from to well (told t) is))
+
 -- ---- each call
 
 called_goes : (config : Config) (s : State) (req : ReqId) (moment : Moment) (call : Call) → IsKept s.durable → IsSane s → Passes s call
@@ -75,8 +105,7 @@ called_goes config s req moment (calls.Create path) k sane p =
     edited_goes (IsToldCall s.durable moment (calls.Create path)) s req (Create path) answers.Nothing
     (λ names e. may_so s.durable (Create path) (left_false (is_rolling s.durable.phase) p.rolling) (one_visible (list_any is_hidden path) p.hidden) refl refl) (λ t. t)
 called_goes config s req moment (calls.Rename from to) k sane p =
-    edited_goes (IsToldCall s.durable moment (calls.Rename from to)) s req (Rename from to) answers.Nothing
-    (λ names e. may_so s.durable (Rename from to) (left_false (is_rolling s.durable.phase) p.rolling) (two_visible (list_any is_hidden from) (list_any is_hidden to) p.hidden) refl refl) (λ t. t)
+    renames_goes (IsToldCall s.durable moment (calls.Rename from to)) s req from to (left_false (is_rolling s.durable.phase) p.rolling) (two_visible (list_any is_hidden from) (list_any is_hidden to) p.hidden) (λ t. t)
 called_goes config s req moment (calls.Delete path recursive) k sane p =
     deleted_goes (IsToldCall s.durable moment (calls.Delete path recursive)) s req path recursive moment (left_false (is_rolling s.durable.phase) p.rolling) (one_visible (list_any is_hidden path) p.hidden) (λ t. t)
 called_goes config s req moment (calls.Undelete path) k sane p =

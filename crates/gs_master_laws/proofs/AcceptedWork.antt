@@ -28,7 +28,7 @@ use Rattle.gs_master_record.specs.Plain.{Said, Snapshot}
 use Rattle.gs_master_record.specs.Writable.{IsEdit}
 use Rattle.gs_master_spec.specs.Applied.{applied, names_well, with_reply}
 use Rattle.gs_master_spec.specs.Beginning.{all_begun, begin_at, copy_plan, counted_views, create_plan, has_versions, next_stamp, targets_for}
-use Rattle.gs_master_spec.specs.Calls.{found_chunk, is_shared, location, looked_up}
+use Rattle.gs_master_spec.specs.Calls.{found_chunk, is_shared, location, looked_up, most_chunks}
 use Rattle.gs_master_spec.specs.Chunks.{Chunk, chunk_at, has_entry, is_leased, is_quiet, is_wanted, members_of, view_of}
 use Rattle.gs_master_spec.specs.Durable.{Durable, is_ordinary, is_rolling}
 use Rattle.gs_master_spec.specs.Replies.{client_cmp}
@@ -37,7 +37,7 @@ use Rattle.gs_master_spec.specs.Settling.{is_quiet_at, requests_of, source_chunk
 use Rattle.gs_master_spec.specs.State.{State, Plan, Turn, turned, and_then, fits, if_room, with_record, refused, ended_by, all_ended_by, keeps_refusal, first_of}
 use Rattle.gs_master_spec.specs.Upgrades.{accepted_plan, all_unquiet, begin_tests, if_pending, lower_path, lowest_path, pending_paths, prepare_begin}
 use Rattle.gs_master_spec.specs.Volatile.{is_call, paths_of}
-use Rattle.gs_master_spec.specs.Working.{ascending, begin_pending, begins, begins_new, begins_snapshot, copied_on_write, created_on, extended_at, extends, found_for_writing, is_wanted_at, leased, may_use, most_chunks, need_of, needs_of, replicated_to, replicates_chunk, replicates_most, snapshot_if, unquiet, written_at}
+use Rattle.gs_master_spec.specs.Working.{ascending, begin_pending, begins, begins_new, begins_snapshot, copied_on_write, created_on, extended_at, extends, found_for_writing, is_wanted_at, leased, may_use, need_of, needs_of, replicated_to, replicates_chunk, replicates_most, snapshot_if, unquiet, written_at}
 use Rattle.gs_master_spec.specs.declared.change.Change.TheVariants as changes
 use Rattle.gs_master_spec.specs.declared.asking.Asking.{Asking}
 use Rattle.gs_master_spec.specs.declared.pending.Pending.{Pending}

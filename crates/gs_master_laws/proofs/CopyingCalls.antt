@@ -14,7 +14,7 @@ use Rattle.gs_base.specs.declared.refusal.Refusal.TheVariants as refusals
 use Rattle.gs_path.specs.Path.{Path}
 use Rattle.gs_tree.specs.Entry.{Entry, Dir, File}
 use Rattle.gs_tree.specs.Find.{Rows}
-use Rattle.gs_tree.specs.Edits.{same_path, hidden_path, old_name}
+use Rattle.gs_tree.specs.Edits.{same_path, hidden_path, old_name, target_of}
 use Rattle.gs_edit.specs.Edits.{edited}
 use Rattle.gs_edit.specs.Plain.{unhide_target}
 use Rattle.gs_edit.specs.View.{NamesView}
@@ -28,7 +28,7 @@ use Rattle.gs_msg.specs.declared.call.Call.TheVariants as calls
 use Rattle.gs_place.specs.Needs.{most_needed_of}
 use Rattle.gs_master_record.specs.Plain.{PlainEdit, Prepare, Finalize, RollbackBegin, RollbackCommit, Mkdirs, Create, Rename, Hide, Unhide, Snapshot}
 use Rattle.gs_master_spec.specs.Beginning.{next_stamp, has_versions, has_handle, begin_at, all_begun, create_plan, copy_plan, waits_from_now, targets_for, counted_views}
-use Rattle.gs_master_spec.specs.Calls.{edited_by, edit_if, accept_plan, deleted, answered_with, has_visible_child, looked_up, listing, status, location, found_chunk, refused_before, told_phase, is_shared}
+use Rattle.gs_master_spec.specs.Calls.{edited_by, edit_if, accept_plan, deleted, answered_with, has_visible_child, looked_up, listing, status, location, found_chunk, refused_before, told_phase, is_shared, most_chunks, renames}
 use Rattle.gs_master_spec.specs.Chunks.{Chunk, chunk_at, has_entry, is_leased, is_quiet, is_wanted, view_of, members_of}
 use Rattle.gs_master_spec.specs.Durable.{Settled, is_rolling, prepared_view}
 use Rattle.gs_master_spec.specs.Handling.{call_turn, called, called_unless, taken_as, numbered, replied_again, waits_still, Numbered, New, Again, Older}
@@ -41,7 +41,7 @@ use Rattle.gs_master_spec.specs.State.{State, Plan, Turn, turned, unmoved, and_t
 use Rattle.gs_master_spec.specs.Undoing.{edited_names, all_undone}
 use Rattle.gs_master_spec.specs.Upgrades.{accepted_plan, all_unquiet, begin_tests, commit_tests, end_tests, is_last_epoch, chunk_count, tell_all, answers_for, unless, prepare_begin, prepare_commit, finalize, rollback_begin, commit_on, commit_if, unrestored, told_of}
 use Rattle.gs_master_spec.specs.Volatile.{is_pending}
-use Rattle.gs_master_spec.specs.Working.{begins, begins_new, may_use, leased, copied_on_write, written_at, found_for_writing, most_chunks, created_on, extended_at, extends, unquiet, is_wanted_at, begin_pending, begins_snapshot, snapshot_if, replicated_to, replicates_chunk, replicates_most, needs_of, scanned, scan_plan, waiting_for, removed_paths, forgotten_chunks}
+use Rattle.gs_master_spec.specs.Working.{begins, begins_new, may_use, leased, copied_on_write, written_at, found_for_writing, created_on, extended_at, extends, unquiet, is_wanted_at, begin_pending, begins_snapshot, snapshot_if, replicated_to, replicates_chunk, replicates_most, needs_of, scanned, scan_plan, waiting_for, removed_paths, forgotten_chunks}
 use Rattle.gs_master_spec.specs.declared.change.Change.{Change}
 use Rattle.gs_master_spec.specs.declared.change.Change.TheVariants as changes
 use Rattle.gs_master_spec.specs.declared.pending.Waiting.{Waiting}
@@ -128,6 +128,9 @@ edit_mute s req edit answer (Err refusal) = refl
 
 edited_mute : (s : State) (req : ReqId) (edit : PlainEdit) (answer : Answer) → IsMute (edited_by s req edit answer)
 edited_mute s req edit answer = edit_mute s req edit answer (edited_names edit s.durable.names)
+
+renames_mute : (s : State) (req : ReqId) (from to : Path) → IsMute (renames s req from to)
+renames_mute s req from to = edit_mute s req (Rename from (target_of (fin.get s.durable.names.tree) from to)) answers.Nothing (edited_names (Rename from to) s.durable.names)
 
 answered_mute : (s : State) (req : ReqId) (answer : Answer) → IsMute (answered_with s req answer)
 answered_mute s req answer = refl
@@ -280,7 +283,7 @@ called_mute : (config : Config) (s : State) (req : ReqId) (moment : Moment) (cal
 unfolding is_found
 called_mute config s req moment (calls.Mkdirs path) e = edited_mute s req (Mkdirs path) answers.Nothing
 called_mute config s req moment (calls.Create path) e = edited_mute s req (Create path) answers.Nothing
-called_mute config s req moment (calls.Rename from to) e = edited_mute s req (Rename from to) answers.Nothing
+called_mute config s req moment (calls.Rename from to) e = renames_mute s req from to
 called_mute config s req moment (calls.Delete path recursive) e = deleted_mute s req path recursive moment
 called_mute config s req moment (calls.Undelete path) e = edited_mute s req (Unhide path) (answers.Path (unhide_target path (old_name path)))
 called_mute config s req moment (calls.Snapshot from to) e = snapshot_if_mute s req from to (edited (edits.Snapshot from to) (fin.entries s.durable.names.tree))

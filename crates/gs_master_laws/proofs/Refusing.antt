@@ -13,7 +13,7 @@ use Rattle.gs_base.specs.declared.refusal.Refusal.TheVariants as refusals
 use Rattle.gs_path.specs.Path.{Path}
 use Rattle.gs_tree.specs.Entry.{Entry, Dir, File}
 use Rattle.gs_tree.specs.Find.{Rows}
-use Rattle.gs_tree.specs.Edits.{same_path, hidden_path, old_name}
+use Rattle.gs_tree.specs.Edits.{same_path, hidden_path, old_name, target_of}
 use Rattle.gs_edit.specs.Edits.{edited}
 use Rattle.gs_edit.specs.Plain.{unhide_target}
 use Rattle.gs_edit.specs.View.{NamesView}
@@ -30,7 +30,7 @@ use Rattle.gs_master_spec.specs.declared.change.Change.TheVariants as changes
 use Rattle.gs_master_record.specs.Plain.{Prepare, Finalize, RollbackBegin, RollbackCommit, PlainEdit, Said, Mkdirs, Create, Rename, Hide, Unhide, Snapshot}
 use Rattle.gs_master_spec.specs.Applied.{applied, replayed, with_reply}
 use Rattle.gs_master_spec.specs.Beginning.{next_stamp, has_versions, has_handle, begin_at, begun, all_begun, create_plan, copy_plan, waits_from_now, targets_for, counted_views}
-use Rattle.gs_master_spec.specs.Calls.{edited_by, edit_if, accept_plan, deleted, answered_with, has_visible_child, looked_up, listing, status, location, found_chunk, refused_before, queried, is_shared}
+use Rattle.gs_master_spec.specs.Calls.{edited_by, edit_if, accept_plan, deleted, answered_with, has_visible_child, looked_up, listing, status, location, found_chunk, refused_before, queried, is_shared, most_chunks, renames}
 use Rattle.gs_master_spec.specs.Chunks.{Chunk, chunk_at, is_leased, is_quiet, is_wanted, view_of, members_of}
 use Rattle.gs_master_spec.specs.Durable.{is_rolling, prepared_view}
 use Rattle.gs_master_spec.specs.Handling.{call_turn, called, called_unless, taken_as, numbered, replied_again, waits_still, Numbered, New, Again, Older}
@@ -41,7 +41,7 @@ use Rattle.gs_master_spec.specs.State.{State, Plan, Turn, with_record, turned, u
 use Rattle.gs_master_spec.specs.Undoing.{edited_names, all_undone}
 use Rattle.gs_master_spec.specs.Upgrades.{accepted_plan, all_unquiet, begin_tests, commit_tests, end_tests, is_last_epoch, chunk_count, tell_all, answers_for, unless, prepare_begin, prepare_commit, prepare_abort, finalize, rollback_begin, rollback_commit, commit_on, commit_if, unrestored, told_of}
 use Rattle.gs_master_spec.specs.Volatile.{is_pending}
-use Rattle.gs_master_spec.specs.Working.{begins, begins_new, may_use, leased, copied_on_write, written_at, found_for_writing, most_chunks, created_on, extended_at, extends, unquiet, is_wanted_at, begin_pending, begins_snapshot, snapshot_if, replicated_to, replicates_chunk, replicates_most, needs_of, scanned, scan_plan, waiting_for, removed_paths, forgotten_chunks}
+use Rattle.gs_master_spec.specs.Working.{begins, begins_new, may_use, leased, copied_on_write, written_at, found_for_writing, created_on, extended_at, extends, unquiet, is_wanted_at, begin_pending, begins_snapshot, snapshot_if, replicated_to, replicates_chunk, replicates_most, needs_of, scanned, scan_plan, waiting_for, removed_paths, forgotten_chunks}
 use Rattle.gs_master_spec.specs.declared.pending.Waiting.{Waiting}
 use Rattle.gs_master_spec.specs.declared.pending.Waiting.TheVariants as waits
 
@@ -134,6 +134,9 @@ edit_leaves s req edit answer (Err refusal) = refused_leaves s req refusal
 
 edited_leaves : (s : State) (req : ReqId) (edit : PlainEdit) (answer : Answer) → Leaves s req (edited_by s req edit answer)
 edited_leaves s req edit answer = edit_leaves s req edit answer (edited_names edit s.durable.names)
+
+renames_leaves : (s : State) (req : ReqId) (from to : Path) → Leaves s req (renames s req from to)
+renames_leaves s req from to = edit_leaves s req (Rename from (target_of (fin.get s.durable.names.tree) from to)) answers.Nothing (edited_names (Rename from to) s.durable.names)
 
 answered_leaves : (s : State) (req : ReqId) (answer : Answer) → Leaves s req (answered_with s req answer)
 answered_leaves s req answer = silent_leaves s req (answered_with s req answer) refl
@@ -303,7 +306,7 @@ rolled_leaves s req =
 called_leaves : (config : Config) (s : State) (req : ReqId) (moment : Moment) (call : Call) → Leaves s req (called config s req moment call)
 called_leaves config s req moment (calls.Mkdirs path) = edited_leaves s req (Mkdirs path) answers.Nothing
 called_leaves config s req moment (calls.Create path) = edited_leaves s req (Create path) answers.Nothing
-called_leaves config s req moment (calls.Rename from to) = edited_leaves s req (Rename from to) answers.Nothing
+called_leaves config s req moment (calls.Rename from to) = renames_leaves s req from to
 called_leaves config s req moment (calls.Delete path recursive) = deleted_leaves s req path recursive moment
 called_leaves config s req moment (calls.Undelete path) = edited_leaves s req (Unhide path) (answers.Path (unhide_target path (old_name path)))
 called_leaves config s req moment (calls.Snapshot from to) = snapshot_if_leaves s req from to (edited (edits.Snapshot from to) (fin.entries s.durable.names.tree))

@@ -62,7 +62,7 @@ all_seen (x ∷ p) can utf8 =
     let rest = all_seen p a.1 b.1 in
     (both_true (is_spelled x) (list_all is_spelled p) (spell_seen x a.0 b.0) rest.0, both_true (can_spell x) (list_all can_spell p) (both_true (can_hide x) (is_utf8 x) a.0 b.0) rest.1)
 
-seen_path : (p : Path) → IsPath p → is_visible p ≡ true → (list_all is_spelled p ≡ true) × (list_all can_spell p ≡ true)
+pub seen_path : (p : Path) → IsPath p → is_visible p ≡ true → (list_all is_spelled p ≡ true) × (list_all can_spell p ≡ true)
 seen_path p h visible = all_seen p (can_hide_path p (read_path p h.1) visible) (path_utf8 p h.0.1)
 
 spell_hidden : (moment number : ℕ) (x : Name) → moment < 2 ^ 64 → number < 2 ^ 64 → can_spell x ≡ true → is_spelled (hidden_name moment number x) ≡ true

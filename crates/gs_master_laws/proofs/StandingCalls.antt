@@ -36,14 +36,14 @@ use Rattle.gs_master_record.specs.Writable.{IsEdit, IsHandle, IsPath}
 use Rattle.gs_refs.specs.Counts.{count_or_zero}
 use Rattle.gs_master_spec.specs.Applied.{chunk_of_edit, forgotten_by, is_fresh, is_visible, may_edit, names_well, view_for}
 use Rattle.gs_master_spec.specs.Beginning.{all_begun, begin_at, copy_plan, counted_views, create_plan, has_handle, has_versions, next_stamp, targets_for}
-use Rattle.gs_master_spec.specs.Calls.{answered_with, deleted, edited_by, found_chunk, has_visible_child, is_shared, location, looked_up}
+use Rattle.gs_master_spec.specs.Calls.{answered_with, deleted, edited_by, found_chunk, has_visible_child, is_shared, location, looked_up, most_chunks}
 use Rattle.gs_master_spec.specs.Chunks.{Chunk, chunk_at, has_entry, is_leased, is_quiet, is_wanted, members_of, view_of}
 use Rattle.gs_master_spec.specs.Durable.{Durable, is_listed, is_rolling}
 use Rattle.gs_master_spec.specs.Settling.{is_quiet_at, source_chunks}
 use Rattle.gs_master_spec.specs.State.{State, Turn, turned, and_then, if_room, refused}
 use Rattle.gs_master_spec.specs.Undoing.{edited_names}
 use Rattle.gs_master_spec.specs.Volatile.{Volatile}
-use Rattle.gs_master_spec.specs.Working.{ascending, begin_pending, begins, begins_new, begins_snapshot, copied_on_write, created_on, extended_at, extends, found_for_writing, is_wanted_at, leased, may_use, most_chunks, need_of, needs_of, replicated_to, replicates_chunk, replicates_most, snapshot_if, unquiet, written_at}
+use Rattle.gs_master_spec.specs.Working.{ascending, begin_pending, begins, begins_new, begins_snapshot, copied_on_write, created_on, extended_at, extends, found_for_writing, is_wanted_at, leased, may_use, need_of, needs_of, replicated_to, replicates_chunk, replicates_most, snapshot_if, unquiet, written_at}
 use Rattle.gs_master_spec.specs.declared.pending.Waiting.TheVariants as waits
 use Rattle.gs_master_laws.specs.Promises.{IsKept}
 use Rattle.gs_master_laws.specs.Standing.{CanWait}

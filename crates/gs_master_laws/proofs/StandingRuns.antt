@@ -1,6 +1,6 @@
 -- What stands is kept by every event, so over every run.
-use Rattle.std.proofs.Common.{◌≡◌, ◌∙◌, ◌&&◌, ◌||◌, ◌==◌, inr, ℕ, Bool, true, false, not, List, [], ◌∷◌, length, refl, ap, sym, arith}
-use Rattle.std.specs.Prelude.{is_some, nat_lt, Option, Some, None, Err, if◌then◌else◌}
+use Rattle.std.proofs.Common.{◌≡◌, ◌∙◌, ◌&&◌, ◌||◌, ◌==◌, inr, ℕ, Bool, true, false, not, List, [], ◌∷◌, length, refl, ap, sym, arith, subst}
+use Rattle.std.specs.Prelude.{is_some, nat_lt, Option, Some, None, Err, if◌then◌else◌, Result, Ok}
 use Rattle.std.specs.FinMap as fin
 use Rattle.std.specs.List.{AllByRecursion, list_all, list_any}
 use Rattle.std.specs.Ordering.{nat_cmp}
@@ -16,7 +16,7 @@ use Rattle.gs_base.specs.declared.refusal.Refusal.{Refusal}
 use Rattle.gs_base.specs.declared.refusal.Refusal.TheVariants as refusals
 use Rattle.gs_path.specs.Element.{is_hidden}
 use Rattle.gs_tree.proofs.Levels.{both_true}
-use Rattle.gs_tree.specs.Edits.{old_name}
+use Rattle.gs_tree.specs.Edits.{old_name, target_of}
 use Rattle.gs_edit.specs.Edits.{edited}
 use Rattle.gs_edit.specs.Plain.{unhide_target}
 use Rattle.gs_edit.specs.declared.edit.Edit.TheVariants as edits
@@ -35,7 +35,7 @@ use Rattle.gs_msg.specs.declared.node.NodeId.TheVariants as nodes
 use Rattle.gs_place.specs.Needs.{most_needed_of}
 use Rattle.gs_master_record.specs.Plain.{Mkdirs, Create, Rename, Unhide}
 use Rattle.gs_master_spec.specs.Beginning.{all_begun, has_versions}
-use Rattle.gs_master_spec.specs.Calls.{found_chunk, is_always_taken, is_work, listing, location, refused_before, status, told_phase}
+use Rattle.gs_master_spec.specs.Calls.{found_chunk, is_always_taken, is_work, listing, location, refused_before, status, told_phase, edit_if, renames}
 use Rattle.gs_master_spec.specs.Chunks.{chunk_at, has_entry, may_begin}
 use Rattle.gs_master_spec.specs.Durable.{Durable, Settled, is_listed, is_rolling}
 use Rattle.gs_master_spec.specs.Handling.{recover, recovered_from, about_turn, call_turn, called, called_unless, fresh, from_client, from_node, granted, handle, numbered, pressed, proposals, replied_again, restarted, unlisted, server_turn, taken_as, tick, unless_failed, waits_still, written_if_due, Numbered, New, Again, Older}
@@ -52,7 +52,7 @@ use Rattle.gs_master_spec.specs.declared.reply.KeptReply.{KeptReply}
 use Rattle.gs_master_laws.specs.Promises.{IsKept}
 use Rattle.gs_master_laws.specs.Standing.{RunsRecover, AreCounters, CanWait, FirmGoesOn, Event, Comes, Ticks, Renews, Restarts, EventsFit, FitsAndStands, IsFirm, IsNamed, IsNamedAbout, IsNamedBody, IsNamedCall, RunsFit, StartsFirm, run_of, turn_of, was_answered}
 use Rattle.gs_master_laws.proofs.Accepted.{may_so, unhide_well}
-use Rattle.gs_master_laws.proofs.AcceptedCalls.{Passes, left_false, one_visible, passes, two_visible}
+use Rattle.gs_master_laws.proofs.AcceptedCalls.{Passes, left_false, one_visible, passes, two_visible, resolved_may, resolved_written}
 use Rattle.gs_master_laws.proofs.AcceptedViews.{filter_holds, is_settled}
 use Rattle.gs_master_laws.specs.Numbered.{EventsKeepNumbers, RunsKeepNumbers}
 use Rattle.gs_master_laws.proofs.KeptAll.{start_kept}
@@ -65,6 +65,10 @@ use Rattle.gs_master_laws.proofs.StandingCheckpoints.{checkpoint_good, due_good,
 use Rattle.gs_master_laws.proofs.StandingTurns.{Good, Holds, answered_good, looked_good, none_good, refused_good, same_good, test_good, then_good}
 use Rattle.gs_master_laws.proofs.StandingUpgrades.{abort_good, begin_good, commit_good, finalize_good, prepare_good, rolled_good, scans_good}
 use Rattle.gs_master_laws.proofs.StandingViews.{MayBegin, all_begun_good, for_none}
+use Rattle.gs_edit.specs.View.{NamesView}
+use Rattle.gs_master_record.specs.Writable.{IsPath}
+use Rattle.gs_master_spec.specs.Undoing.{edited_names}
+use Rattle.gs_master_state.proofs.Renames.{resolved_does}
 
 -- a store that is opened: nothing is asked, and no call waits
 pub opens_firm : (d : Durable) (log : Log) → IsKept d → AreCounters d → IsFirm (restarted d log)
@@ -118,14 +122,22 @@ module _ (config : Config) (s : State) (req : ReqId) (moment : Moment) (h : Hold
     preparing = left_false s.volatile.is_preparing (ap (λ b. s.volatile.is_preparing && b) (sym work) ∙ p.preparing);
   }
 
+  renames_good : (from to : Path) → is_rolling s.durable.phase ≡ false → (is_visible from && is_visible to) ≡ true → IsPath from × IsPath to → Good true s (renames s req from to)
+  renames_good from to rolling well told = by_names (edited_names (Rename from to) s.durable.names) refl
+    where
+      by_names : (names : Result NamesView Refusal) → edited_names (Rename from to) s.durable.names ≡ names → Good true s (edit_if s req (Rename from (target_of (fin.get s.durable.names.tree) from to)) answers.Nothing names)
+      by_names (Err refusal) is = refused_good true s req refusal h
+      by_names (Ok after) is =
+          subst (λ names. Good true s (edit_if s req (Rename from (target_of (fin.get s.durable.names.tree) from to)) answers.Nothing names)) (resolved_does s.durable.names after from to is)
+          (plain_good s req (Rename from (target_of (fin.get s.durable.names.tree) from to)) answers.Nothing h (λ names e. resolved_may s from to rolling well) (resolved_written s after from to well told is) refl refl rolling)
+
   called_good : (call : Call) → Passes s call → is_pending s.volatile.pending req ≡ false → was_answered s.durable s.volatile req ≡ false → IsNamedCall call → Good true s (called config s req moment call)
   called_good (calls.Mkdirs path) p out new named =
       plain_good s req (Mkdirs path) answers.Nothing h (λ names e. may_so s.durable (Mkdirs path) (left_false (is_rolling s.durable.phase) p.rolling) (one_visible (list_any is_hidden path) p.hidden) refl refl) named refl refl (left_false (is_rolling s.durable.phase) p.rolling)
   called_good (calls.Create path) p out new named =
       plain_good s req (Create path) answers.Nothing h (λ names e. may_so s.durable (Create path) (left_false (is_rolling s.durable.phase) p.rolling) (one_visible (list_any is_hidden path) p.hidden) refl refl) named refl refl (left_false (is_rolling s.durable.phase) p.rolling)
   called_good (calls.Rename from to) p out new named =
-      plain_good s req (Rename from to) answers.Nothing h (λ names e. may_so s.durable (Rename from to) (left_false (is_rolling s.durable.phase) p.rolling) (two_visible (list_any is_hidden from) (list_any is_hidden to) p.hidden) refl refl) named refl refl
-      (left_false (is_rolling s.durable.phase) p.rolling)
+      renames_good from to (left_false (is_rolling s.durable.phase) p.rolling) (two_visible (list_any is_hidden from) (list_any is_hidden to) p.hidden) named
   called_good (calls.Delete path recursive) p out new named = deleted_good s req path recursive moment h (left_false (is_rolling s.durable.phase) p.rolling) (one_visible (list_any is_hidden path) p.hidden) named low
   called_good (calls.Undelete path) p out new named =
       plain_good s req (Unhide path) (answers.Path (unhide_target path (old_name path))) h

@@ -24,7 +24,7 @@ use Rattle.gs_path.specs.Path.{Path, path_cmp, path_total, text_cmp}
 use Rattle.gs_refs.specs.Counts.{last_count}
 use Rattle.gs_tree.specs.Entry.{Entry, Dir, File}
 use Rattle.gs_tree.specs.Find.{Rows}
-use Rattle.gs_tree.specs.Edits.{same_path, hidden_path, old_name}
+use Rattle.gs_tree.specs.Edits.{same_path, hidden_path, old_name, target_of}
 use Rattle.gs_edit.specs.Edits.{edited}
 use Rattle.gs_edit.specs.Plain.{unhide_target}
 use Rattle.gs_edit.specs.View.{NamesView}
@@ -39,7 +39,7 @@ use Rattle.gs_place.specs.Needs.{most_needed_of}
 use Rattle.gs_master_record.specs.Plain.{PlainEdit, PlainEntry, Create, Edited, Finalize, Hide, Mkdirs, Prepare, Propose, Rename, RollbackBegin, RollbackCommit, Snapshot, Unhide}
 use Rattle.gs_master_record.specs.Writable.{IsHandle, IsPath, IsRequest, IsText, IsWritable}
 use Rattle.gs_master_spec.specs.Beginning.{next_stamp, has_versions, has_handle, begin_at, all_begun, create_plan, copy_plan, waits_from_now, targets_for, counted_views}
-use Rattle.gs_master_spec.specs.Calls.{edited_by, edit_if, accept_plan, deleted, answered_with, has_visible_child, looked_up, listing, status, location, found_chunk, ordered, refused_before, told_phase, is_locked, is_shared}
+use Rattle.gs_master_spec.specs.Calls.{edited_by, edit_if, accept_plan, deleted, answered_with, has_visible_child, looked_up, listing, status, location, found_chunk, ordered, refused_before, told_phase, is_locked, is_shared, most_chunks, renames, is_any_hidden}
 use Rattle.gs_master_spec.specs.Chunks.{Chunk, asking_for, chunk_at, has_entry, is_leased, is_quiet, is_wanted, view_of, members_of}
 use Rattle.gs_master_spec.specs.Durable.{is_rolling, prepared_view}
 use Rattle.gs_master_spec.specs.Handling.{call_turn, called, called_unless, taken_as, numbered, replied_again, waits_still, Numbered, New, Again, Older}
@@ -48,7 +48,7 @@ use Rattle.gs_master_spec.specs.State.{State, Plan, Turn, turned, unmoved, and_t
 use Rattle.gs_master_spec.specs.Undoing.{edited_names, all_undone}
 use Rattle.gs_master_spec.specs.Upgrades.{accepted_plan, all_unquiet, begin_tests, commit_tests, end_tests, first_in, if_pending, if_unquiet, is_last_epoch, chunk_count, lacks_answer, lower_path, lowest_path, pending_paths, tell_all, answers_for, unless, prepare_begin, prepare_commit, prepare_abort, finalize, rollback_begin, rollback_commit, commit_on, commit_if, unrestored, told_of}
 use Rattle.gs_master_spec.specs.Volatile.{is_pending, paths_of}
-use Rattle.gs_master_spec.specs.Working.{ascending, begins, begins_new, may_use, leased, copied_on_write, written_at, found_for_writing, most_chunks, created_on, extended_at, extends, unquiet, is_wanted_at, begin_pending, begins_snapshot, snapshot_if, replicated_to, replicates_chunk, replicates_most, needs_of, put_paths, scanned, scan_plan, scan_edits, waiting_for, removed_paths, forgotten_chunks}
+use Rattle.gs_master_spec.specs.Working.{ascending, begins, begins_new, may_use, leased, copied_on_write, written_at, found_for_writing, created_on, extended_at, extends, unquiet, is_wanted_at, begin_pending, begins_snapshot, snapshot_if, replicated_to, replicates_chunk, replicates_most, needs_of, put_paths, scanned, scan_plan, scan_edits, waiting_for, removed_paths, forgotten_chunks}
 use Rattle.gs_edit.specs.Scan.{is_removed, removal_cmp}
 use Rattle.gs_tree.specs.Find.{at}
 use Rattle.gs_master_spec.specs.declared.asking.Asking.{Asking}
@@ -71,6 +71,10 @@ use Rattle.gs_master_laws.proofs.Retold.{each_found}
 use Rattle.gs_master_laws.proofs.Tellable.{IsTellable, IsTellableEdit}
 use Rattle.gs_tree.proofs.Depths.{paths_antisymmetric}
 use Rattle.gs_master_laws.proofs.Telling.{IsToldChange, Tells, all_begun_tells, all_both, all_ended_tells, all_filtered, all_requests, answer_told, bare, either_tells, plan_tells, quiet_tells, refused_tells, same_tells, test_tells, then_tells}
+use Rattle.gs_path.specs.Element.{is_hidden}
+use Rattle.gs_master_spec.specs.Applied.{is_visible}
+use Rattle.gs_master_laws.proofs.AcceptedCalls.{passes, two_visible}
+use Rattle.gs_master_laws.proofs.Resolved.{resolved_told}
 
 -- ---- texts
 
@@ -105,6 +109,13 @@ module _ (s : State) (req : ReqId) (heard : IsRequest req) where
 
   edited_tells : (edit : PlainEdit) (answer : Answer) → IsTellableEdit edit → Tells s (edited_by s req edit answer)
   edited_tells edit answer told = edit_tells edit answer (edited_names edit s.durable.names) (fair_names edit s.durable.names) told
+
+  renames_tells : (from to : Path) → IsPath from → IsPath to → is_visible from ≡ true → is_visible to ≡ true → Tells s (renames s req from to)
+  renames_tells from to a b seen_from seen_to = by_names (edited_names (Rename from to) s.durable.names) refl
+    where
+      by_names : (names : Result NamesView Refusal) → edited_names (Rename from to) s.durable.names ≡ names → Tells s (edit_if s req (Rename from (target_of (fin.get s.durable.names.tree) from to)) answers.Nothing names)
+      by_names (Ok after) is = edit_tells (Rename from (target_of (fin.get s.durable.names.tree) from to)) answers.Nothing (Ok after) (subst Fair is (fair_names (Rename from to) s.durable.names)) (a, resolved_told s.durable.names after from to a b seen_from seen_to is)
+      by_names (Err refusal) is = refused_now refusal ((subst Fair is (fair_names (Rename from to) s.durable.names)).can refusal refl)
 
   answered_tells : (answer : Answer) → Tells s (answered_with s req answer)
   answered_tells answer = plan_tells s (answered s req answer) tt (answer_told [] s req answer)
@@ -437,46 +448,47 @@ module _ (s : State) (req : ReqId) (heard : IsRequest req) (can : CanTell s) whe
       test_tells s (is_rolling s.durable.phase) (commit_on s req (all_undone s.durable.inverses s.durable.names)) (refused s req refusals.NotUpgrading)
       (λ begun. commit_on_tells begun (all_undone s.durable.inverses s.durable.names) refl) (λ _. refused_now s req heard refusals.NotUpgrading (tt, bare))
 
-  called_tells : (config : Config) (moment : Moment) (call : Call) → IsNamedCall call → IsMet s.durable.names call → IsNumber moment.0 → Tells s (called config s req moment call)
-  called_tells config moment (calls.Mkdirs path) named met low = edited_tells s req heard (Mkdirs path) answers.Nothing named
-  called_tells config moment (calls.Create path) named met low = edited_tells s req heard (Create path) answers.Nothing named
-  called_tells config moment (calls.Rename from to) named met low = edited_tells s req heard (Rename from to) answers.Nothing named
-  called_tells config moment (calls.Delete path recursive) named met low = deleted_tells s req heard path recursive moment named low
-  called_tells config moment (calls.Undelete path) named met low = edited_tells s req heard (Unhide path) (answers.Path (unhide_target path (old_name path))) named
-  called_tells config moment (calls.Snapshot from to) named met low =
+  called_tells : (config : Config) (moment : Moment) (call : Call) → is_any_hidden call ≡ false → IsNamedCall call → IsMet s.durable.names call → IsNumber moment.0 → Tells s (called config s req moment call)
+  called_tells config moment (calls.Mkdirs path) hidden named met low = edited_tells s req heard (Mkdirs path) answers.Nothing named
+  called_tells config moment (calls.Create path) hidden named met low = edited_tells s req heard (Create path) answers.Nothing named
+  called_tells config moment (calls.Rename from to) hidden named met low =
+      let seen = and_parts (is_visible from) (is_visible to) (two_visible (list_any is_hidden from) (list_any is_hidden to) hidden) in renames_tells s req heard from to named.0 named.1 seen.0 seen.1
+  called_tells config moment (calls.Delete path recursive) hidden named met low = deleted_tells s req heard path recursive moment named low
+  called_tells config moment (calls.Undelete path) hidden named met low = edited_tells s req heard (Unhide path) (answers.Path (unhide_target path (old_name path))) named
+  called_tells config moment (calls.Snapshot from to) hidden named met low =
       let rows = fin.entries s.durable.names.tree in snapshot_if_tells s req heard from to (edited (edits.Snapshot from to) rows) (fair_edited (edits.Snapshot from to) rows) named.0 named.1
-  called_tells config moment (calls.List path) named met low =
+  called_tells config moment (calls.List path) hidden named met low =
       looked_tells s req heard (listing (fin.entries s.durable.names.tree) path (fin.get s.durable.names.tree path)) (fair_listing (fin.entries s.durable.names.tree) path (fin.get s.durable.names.tree path))
-  called_tells config moment (calls.Status path) named met low = looked_tells s req heard (status s.durable (fin.get s.durable.names.tree path)) (fair_status s.durable (fin.get s.durable.names.tree path))
-  called_tells config moment (calls.FindForReading path index) named met low =
+  called_tells config moment (calls.Status path) hidden named met low = looked_tells s req heard (status s.durable (fin.get s.durable.names.tree path)) (fair_status s.durable (fin.get s.durable.names.tree path))
+  called_tells config moment (calls.FindForReading path index) hidden named met low =
       let found = found_chunk (fin.get s.durable.names.tree path) index in looked_tells s req heard (location s.durable found) (fair_location s.durable found (fair_found (fin.get s.durable.names.tree path) index))
-  called_tells config moment (calls.FindForWriting path index stamp) named met low =
+  called_tells config moment (calls.FindForWriting path index stamp) hidden named met low =
       found_tells s req heard path index stamp moment (found_chunk (fin.get s.durable.names.tree path) index) (fair_found (fin.get s.durable.names.tree path) index) named met
-  called_tells config moment (calls.Extend path index) named met low = extends_tells s req heard config path index (fin.get s.durable.names.tree path) named
-  called_tells config moment calls.Scan named met low =
+  called_tells config moment (calls.Extend path index) hidden named met low = extends_tells s req heard config path index (fin.get s.durable.names.tree path) named
+  called_tells config moment calls.Scan hidden named met low =
       let rows = fin.entries s.durable.names.tree in
       scanned_tells (removed_paths moment.0 rows) (forgotten_chunks moment.0 rows (fin.entries s.durable.names.refs)) (can.removed moment.0)
-  called_tells config moment calls.Replicate named met low = most_tells s req heard config (most_needed_of config.replicas (needs_of s))
-  called_tells config moment calls.Query named met low = answered_tells s req heard (answers.Phase (told_phase s.volatile.is_preparing s.durable.phase) s.durable.epoch)
-  called_tells config moment calls.PrepareBegin named met low = begin_tells
-  called_tells config moment calls.PrepareCommit named met low = commit_tells config moment low
-  called_tells config moment calls.PrepareAbort named met low = abort_tells
-  called_tells config moment calls.Finalize named met low = finalize_tells config
-  called_tells config moment calls.RollbackBegin named met low = rollback_tells config
-  called_tells config moment calls.RollbackCommit named met low = rolled_tells
+  called_tells config moment calls.Replicate hidden named met low = most_tells s req heard config (most_needed_of config.replicas (needs_of s))
+  called_tells config moment calls.Query hidden named met low = answered_tells s req heard (answers.Phase (told_phase s.volatile.is_preparing s.durable.phase) s.durable.epoch)
+  called_tells config moment calls.PrepareBegin hidden named met low = begin_tells
+  called_tells config moment calls.PrepareCommit hidden named met low = commit_tells config moment low
+  called_tells config moment calls.PrepareAbort hidden named met low = abort_tells
+  called_tells config moment calls.Finalize hidden named met low = finalize_tells config
+  called_tells config moment calls.RollbackBegin hidden named met low = rollback_tells config
+  called_tells config moment calls.RollbackCommit hidden named met low = rolled_tells
 
   before_fair : (call : Call) → IsFairly (refused_before s req call)
   before_fair call = first_fair (ordered (is_failed s.fault) (is_rolling s.durable.phase) s.volatile.is_preparing (is_locked s req call) call) ((tt, bare), ((tt, bare), ((tt, bare), ((tt, bare), ((tt, bare), tt)))))
 
-  unless_called : (config : Config) (moment : Moment) (call : Call) (refusal : Option Refusal) → IsFairly refusal → IsNamedCall call → IsMet s.durable.names call → IsNumber moment.0 → Tells s (called_unless config s req moment call refusal)
-  unless_called config moment call None fair named met low = called_tells config moment call named met low
-  unless_called config moment call (Some refusal) fair named met low = refused_now s req heard refusal fair
+  unless_called : (config : Config) (moment : Moment) (call : Call) (refusal : Option Refusal) → refused_before s req call ≡ refusal → IsFairly refusal → IsNamedCall call → IsMet s.durable.names call → IsNumber moment.0 → Tells s (called_unless config s req moment call refusal)
+  unless_called config moment call None is fair named met low = called_tells config moment call (passes s req call is).hidden named met low
+  unless_called config moment call (Some refusal) is fair named met low = refused_now s req heard refusal fair
 
   replied_tells : (result : Result Answer Refusal) → Tells s (replied_again s req result)
   replied_tells result = quiet_tells s (replied_again s req result) refl refl refl
 
   taken_tells : (config : Config) (moment : Moment) (call : Call) (how : Numbered) → IsNamedCall call → IsMet s.durable.names call → IsNumber moment.0 → Tells s (taken_as config s req moment call how)
-  taken_tells config moment call New named met low = unless_called config moment call (refused_before s req call) (before_fair call) named met low
+  taken_tells config moment call New named met low = unless_called config moment call (refused_before s req call) refl (before_fair call) named met low
   taken_tells config moment call (Again result) named met low = replied_tells result
   taken_tells config moment call Older named met low = replied_tells (Err refusals.Old)
 

@@ -29,7 +29,7 @@ use Rattle.gs_base.specs.declared.epoch.EpochEnd.TheVariants as ends
 use Rattle.gs_master_spec.specs.declared.change.Change.TheVariants as changes
 use Rattle.gs_master_record.specs.Plain.{Prepare, Finalize, RollbackBegin, RollbackCommit, PlainEdit, Mkdirs, Create, Rename, Hide, Unhide, Snapshot}
 use Rattle.gs_master_spec.specs.Beginning.{next_stamp, has_versions, has_handle, begin_at, all_begun, create_plan, copy_plan, waits_from_now, targets_for, counted_views}
-use Rattle.gs_master_spec.specs.Calls.{edited_by, edit_if, accept_plan, deleted, answered_with, has_visible_child, looked_up, listing, status, location, found_chunk, refused_before, queried, is_shared}
+use Rattle.gs_master_spec.specs.Calls.{edited_by, edit_if, accept_plan, deleted, answered_with, has_visible_child, looked_up, listing, status, location, found_chunk, refused_before, queried, is_shared, most_chunks, renames}
 use Rattle.gs_master_spec.specs.Chunks.{Chunk, chunk_at, is_leased, is_quiet, is_wanted, view_of, members_of}
 use Rattle.gs_master_spec.specs.Durable.{is_rolling, prepared_view}
 use Rattle.gs_master_spec.specs.Handling.{called, called_unless}
@@ -40,7 +40,7 @@ use Rattle.gs_master_spec.specs.Settling.{requests_of}
 use Rattle.gs_master_spec.specs.State.{State, Plan, Turn, turned, and_then, fits, if_room, refused, all_ended_by, first_of}
 use Rattle.gs_master_spec.specs.Undoing.{edited_names, all_undone}
 use Rattle.gs_master_spec.specs.Upgrades.{accepted_plan, all_unquiet, begin_tests, commit_tests, end_tests, is_last_epoch, chunk_count, tell_all, answers_for, unless, prepare_begin, prepare_commit, prepare_abort, finalize, rollback_begin, rollback_commit, commit_on, commit_if, unrestored, told_of}
-use Rattle.gs_master_spec.specs.Working.{begins, begins_new, may_use, leased, copied_on_write, written_at, found_for_writing, most_chunks, created_on, extended_at, extends, unquiet, is_wanted_at, begin_pending, begins_snapshot, snapshot_if, replicated_to, replicates_chunk, replicates_most, needs_of, scanned, scan_plan, waiting_for, removed_paths, forgotten_chunks}
+use Rattle.gs_master_spec.specs.Working.{begins, begins_new, may_use, leased, copied_on_write, written_at, found_for_writing, created_on, extended_at, extends, unquiet, is_wanted_at, begin_pending, begins_snapshot, snapshot_if, replicated_to, replicates_chunk, replicates_most, needs_of, scanned, scan_plan, waiting_for, removed_paths, forgotten_chunks}
 use Rattle.gs_master_spec.specs.declared.pending.Waiting.{Waiting}
 use Rattle.gs_master_spec.specs.declared.pending.Waiting.TheVariants as waits
 use Rattle.std.specs.List.{list_all}
@@ -221,6 +221,9 @@ module _ (s : State) (req : ReqId) (W : Type 0) where
 
   edited_only : (edit : PlainEdit) (answer : Answer) → lock_in (edited_names edit s.durable.names) ≡ false → Only (edited_by s req edit answer)
   edited_only edit answer free = edit_if_only edit answer (edited_names edit s.durable.names) free
+
+  renames_only : (from to : Path) → lock_in (edited_names (Rename from to) s.durable.names) ≡ false → Only (renames s req from to)
+  renames_only from to free = edit_if_only (Rename from (target_of (fin.get s.durable.names.tree) from to)) answers.Nothing (edited_names (Rename from to) s.durable.names) free
 
   deleted_only : (path : Path) (recursive : Bool) (moment : Moment) → lock_in (edited_names (Hide path moment.0 s.durable.next_hidden) s.durable.names) ≡ false → Only (deleted s req path recursive moment)
   deleted_only path recursive moment free =
@@ -403,7 +406,7 @@ module _ (config : Config) (s : State) (req : ReqId) (moment : Moment) where
   unfolding edited_names
   called_only (calls.Mkdirs path) = edited_only s req _ (Mkdirs path) answers.Nothing (edit_not _ _ _ (mkdirs_not (at rows_of) path) refl)
   called_only (calls.Create path) = edited_only s req _ (Create path) answers.Nothing (edit_not _ _ _ (create_not (at rows_of) path) refl)
-  called_only (calls.Rename from to) = edited_only s req _ (Rename from to) answers.Nothing (edit_not _ _ _ (rename_not (at rows_of) (is_too_deep rows_of from) from to) refl)
+  called_only (calls.Rename from to) = renames_only s req _ from to (edit_not _ _ _ (rename_not (at rows_of) (is_too_deep rows_of from) from to) refl)
   called_only (calls.Delete path recursive) = deleted_only s req _ path recursive moment (edit_not _ _ _ (hide_not (at rows_of) path moment.0 s.durable.next_hidden) refl)
   called_only (calls.Undelete path) = edited_only s req _ (Unhide path) (answers.Path (unhide_target path (old_name path))) (edit_not _ _ _ (unhide_not (at rows_of) path (old_name path)) refl)
   called_only (calls.Snapshot from to) =

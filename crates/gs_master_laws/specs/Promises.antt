@@ -1,5 +1,5 @@
 -- What is to hold of the definitions: of each record, of each turn, and of whatever stands.
-use Rattle.std.specs.Prelude.{◌≡◌, ◌⊎◌, ◌≤◌, ◌<◌, ◌↔◌, ◌+◌, ◌==◌, ◌&&◌, ℕ, Bool, true, false, not, List, [], ◌∷◌, map, Contains, Option, Some, None, option_map, is_some, Ok, Err, if◌then◌else◌}
+use Rattle.std.specs.Prelude.{◌≡◌, ◌⊎◌, ◌≤◌, ◌<◌, ◌↔◌, ◌+◌, ◌==◌, ◌&&◌, ℕ, Bool, true, false, not, List, [], ◌∷◌, map, Contains, Option, Some, None, option_map, is_some, Ok, Err, if◌then◌else◌, Result}
 use Rattle.std.specs.FinMap as fin
 use Rattle.std.specs.List.{list_any, list_all, AllByRecursion}
 use Rattle.gs_base.specs.declared.config.Config.{Config}
@@ -34,10 +34,10 @@ use Rattle.gs_msg.specs.declared.chunk.Chunk.TheVariants as abouts
 use Rattle.gs_msg.specs.declared.kind.Kind.{Kind}
 use Rattle.gs_msg.specs.declared.kind.Kind.TheVariants as kinds
 use Rattle.gs_msg.specs.declared.message.Message.{Message}
-use Rattle.gs_master_record.specs.Plain.{PlainEntry, Edited, Said, Propose, Settle, Prepare, Finalize, RollbackBegin, RollbackCommit, Whole, Holder}
+use Rattle.gs_master_record.specs.Plain.{PlainEntry, Edited, Said, Propose, Settle, Prepare, Finalize, RollbackBegin, RollbackCommit, Whole, Holder, Rename}
 use Rattle.gs_view.specs.Choice.{Chooses}
 use Rattle.gs_view.specs.declared.poll.Poll.{Poll}
-use Rattle.gs_master_spec.specs.Calls.{found_chunk, is_always_taken, is_locked, is_work, refused_before}
+use Rattle.gs_master_spec.specs.Calls.{found_chunk, is_always_taken, is_locked, is_work, refused_before, renames}
 use Rattle.gs_master_spec.specs.Applied.{applied, held_by, replayed, is_fresh, is_prepared_on, is_since, is_visible, is_whole_entry, with_reply}
 use Rattle.gs_master_spec.specs.Chunks.{Chunk, view_by, may_settle}
 use Rattle.gs_master_spec.specs.Durable.{Durable, Settled, start, is_given, is_ordinary, is_rolling, upgrade_epoch, has_its_primary, prepared_view, is_listed}
@@ -48,11 +48,13 @@ use Rattle.gs_master_spec.specs.Upgrades.{answers_for, chunk_count, rollback_com
 use Rattle.gs_master_spec.specs.Volatile.{paths_of}
 use Rattle.gs_master_spec.specs.Working.{is_wanted_at, needs_of, unquiet}
 use Rattle.gs_place.specs.Needs.{most_needed_of}
-use Rattle.gs_master_spec.specs.Undoing.{all_undone}
+use Rattle.gs_master_spec.specs.Undoing.{all_undone, edited_names, inverse_of}
 use Rattle.gs_master_spec.specs.Whole.{whole_of, checkpoint_of, are_ends, are_hidden_once, is_prepared_before}
 use Rattle.gs_master_spec.specs.declared.asking.Asking.{Asking}
 use Rattle.gs_master_spec.specs.declared.asking.Prepared.{Prepared}
 use Rattle.gs_master_spec.specs.declared.pending.Pending.{Pending}
+use Rattle.gs_tree.specs.Edits.{target_of}
+use Rattle.gs_path.specs.Path.{Path}
 
 -- ---- what stands
 
@@ -449,3 +451,23 @@ pub record AddsOne (s : State) (req : ReqId) (moment : Moment) (t : Turn) : Type
 
 abbrev pub PreparesByOneRecord : Type 0
 PreparesByOneRecord = (config : Config) (s : State) (req : ReqId) (moment : Moment) → AddsOne s req moment (new_call config s req moment calls.PrepareCommit)
+
+-- ---- a rename
+
+-- Where a rename is accepted, nothing stands at its resolved target; so to resolve that again changes nothing.
+abbrev pub ResolvesOnce : Type 0
+ResolvesOnce = (names after : NamesView) (from to : Path) → edited_names (Rename from to) names ≡ Ok after →
+    (fin.get names.tree (target_of (fin.get names.tree) from to) ≡ None) × (target_of (fin.get names.tree) from (target_of (fin.get names.tree) from to) ≡ target_of (fin.get names.tree) from to)
+
+-- A rename to the resolved target is accepted where the one that was asked is, and makes the same names.
+abbrev pub ResolvedMakesTheSame : Type 0
+ResolvedMakesTheSame = (names after : NamesView) (from to : Path) → edited_names (Rename from to) names ≡ Ok after → edited_names (Rename from (target_of (fin.get names.tree) from to)) names ≡ Ok after
+
+-- It is taken back alike.
+abbrev pub ResolvedGoesBackAlike : Type 0
+ResolvedGoesBackAlike = (names after : NamesView) (from to : Path) → edited_names (Rename from to) names ≡ Ok after →
+    inverse_of (Rename from (target_of (fin.get names.tree) from to)) (fin.entries names.tree) ≡ inverse_of (Rename from to) (fin.entries names.tree)
+
+-- The one record of an accepted rename holds the resolved target. A refused one is refused as it was asked, or has no room for that record.
+abbrev pub RenameRecordsResolved : Type 0
+RenameRecordsResolved = (s : State) (req : ReqId) (from to : Path) → (renames s req from to).said ≡ None → (renames s req from to).records ≡ Edited req (Rename from (target_of (fin.get s.durable.names.tree) from to)) ∷ []

@@ -13,7 +13,7 @@ ghost use Rattle.gs_master_state.specs.inner.Recorded.{SayAlone};
 ghost use Rattle.gs_master_laws.specs.Copying.{CopiesAtRest, StepsCopyAtRest};
 ghost use Rattle.gs_master_laws.specs.Counting.{CountsKnown, CountsViews, NewOrOut};
 ghost use Rattle.gs_master_laws.specs.Numbered.{EventsKeepNumbers, LeadsToNumbers, RecordsKeepNumbers, RunsKeepNumbers, TellsNumbers};
-ghost use Rattle.gs_master_laws.specs.Promises.{AllMessagesFit, AnswersExactly, BeginsWithAll, CallsFit, CallsKeep, CheckpointFits, CommitsExactly, IsToldAgain, KeepsAll, KeepsGiven, KeepsPrepared, LeadsBack, LeadsToKept, LockedElse, LockedExactly, MadeOfTheMost, MessagesFit, MessagesKeep, NothingAtTicks, NothingWhileRolling, PreparesByOneRecord, ProposesFresh, ProposesFreshAtTicks, RefusesInOrder, RefusedAtLocks, RefusedFits, RefusedLeavesAll, RollsBack, StartsWell, StepsAtTicksFit, TellsAll, TellsCounters, IsTakenUnlessFailed};
+ghost use Rattle.gs_master_laws.specs.Promises.{AllMessagesFit, AnswersExactly, BeginsWithAll, CallsFit, CallsKeep, CheckpointFits, CommitsExactly, IsToldAgain, KeepsAll, KeepsGiven, KeepsPrepared, LeadsBack, LeadsToKept, LockedElse, LockedExactly, MadeOfTheMost, MessagesFit, MessagesKeep, NothingAtTicks, NothingWhileRolling, PreparesByOneRecord, ProposesFresh, ProposesFreshAtTicks, RefusesInOrder, RefusedAtLocks, RefusedFits, RefusedLeavesAll, RenameRecordsResolved, ResolvedGoesBackAlike, ResolvedMakesTheSame, ResolvesOnce, RollsBack, StartsWell, StepsAtTicksFit, TellsAll, TellsCounters, IsTakenUnlessFailed};
 ghost use Rattle.gs_master_laws.specs.Reached.{DisksHold, OpensFirm, RecoversFirm, RollsBackThrough, RunsRecoverFromLast, SameFromLast};
 ghost use Rattle.gs_master_laws.specs.Resting.{PreparesExactly, TakesPrepares};
 ghost use Rattle.gs_master_laws.specs.Rooms.{LogsStayWithin, MessagesCopyStill, MessagesCounted, MessagesHaveRoom, OthersLeave, RestartsForget, RunsStayWithin, StepsHaveRoom, TellsAdd, TellsOf, TellsSince, TicksCopyStill, TicksCounted, TicksHaveRoom, TicksLeave};
@@ -73,6 +73,15 @@ pub fn a_call_is_locked_exactly_at_a_conflict()
     ensures exactly { LockedExactly }
     ensures taken { RefusedAtLocks }
     ensures alone { LockedElse }
+{}
+
+/// A rename is recorded with its target resolved. Where it is accepted nothing stands there, so the recorded rename makes the same names
+/// as the one that was asked, and is taken back alike.
+pub fn a_renames_record_tells_the_edit_that_was_asked()
+    ensures once { ResolvesOnce }
+    ensures names { ResolvedMakesTheSame }
+    ensures back { ResolvedGoesBackAlike }
+    ensures recorded { RenameRecordsResolved }
 {}
 
 /// The records of a call that is refused by the event that brings it fit what they meet and give what is durable afterwards, and

@@ -19,22 +19,22 @@ use Rattle.gs_path.specs.Path.{Path}
 use Rattle.gs_place.specs.Targets.{candidates, comes_before, first_candidate, is_candidate, picked_from}
 use Rattle.gs_tree.specs.Entry.{Entry, Dir, File}
 use Rattle.gs_tree.specs.Find.{Rows}
-use Rattle.gs_tree.specs.Edits.{same_path, hidden_path}
+use Rattle.gs_tree.specs.Edits.{same_path, hidden_path, target_of}
 use Rattle.gs_edit.specs.View.{NamesView}
 use Rattle.gs_lease.specs.declared.view.Purpose.TheVariants as purposes
 use Rattle.gs_lease.specs.declared.view.View.{View}
 use Rattle.gs_msg.specs.declared.answer.Answer.{Answer}
 use Rattle.gs_msg.specs.declared.answer.Answer.TheVariants as answers
-use Rattle.gs_master_record.specs.Plain.{PlainEdit, Hide, Snapshot}
+use Rattle.gs_master_record.specs.Plain.{PlainEdit, Hide, Snapshot, Rename}
 use Rattle.gs_master_spec.specs.Applied.{view_in}
 use Rattle.gs_master_spec.specs.Beginning.{next_stamp, has_versions, has_handle, all_begun, begin_at, copy_plan, create_plan, waits_from_now, targets_for, counted_views, replica_counts}
-use Rattle.gs_master_spec.specs.Calls.{answered_with, edited_by, edit_if, accept_plan, deleted, has_visible_child, looked_up, listing, status, location, location_on, found_chunk, is_shared}
+use Rattle.gs_master_spec.specs.Calls.{answered_with, edited_by, edit_if, accept_plan, deleted, has_visible_child, looked_up, listing, status, location, location_on, found_chunk, is_shared, most_chunks, renames}
 use Rattle.gs_master_spec.specs.Chunks.{Chunk, chunk_at, has_entry, is_leased, is_quiet, is_wanted, members_of, members_in, view_of}
 use Rattle.gs_master_spec.specs.Durable.{Settled, is_given, is_listed, is_rolling}
 use Rattle.gs_master_spec.specs.Settling.{is_quiet_at, source_chunks}
 use Rattle.gs_master_spec.specs.State.{State, Plan, Turn, turned, and_then, if_room, joined, refused, all_ended_by}
 use Rattle.gs_master_spec.specs.Undoing.{edited_names}
-use Rattle.gs_master_spec.specs.Working.{ascending, begins, begins_new, may_use, leased, copied_on_write, written_at, found_for_writing, most_chunks, created_on, extended_at, extends, unquiet, is_wanted_at, begin_pending, begins_snapshot, snapshot_if, replicated_to, replicates_chunk, replicates_most, scanned, scan_plan, waiting_for, removed_paths, forgotten_chunks, put_handles}
+use Rattle.gs_master_spec.specs.Working.{ascending, begins, begins_new, may_use, leased, copied_on_write, written_at, found_for_writing, created_on, extended_at, extends, unquiet, is_wanted_at, begin_pending, begins_snapshot, snapshot_if, replicated_to, replicates_chunk, replicates_most, scanned, scan_plan, waiting_for, removed_paths, forgotten_chunks, put_handles}
 use Rattle.gs_master_spec.specs.declared.pending.Waiting.{Waiting}
 use Rattle.gs_master_spec.specs.declared.pending.Waiting.TheVariants as waits
 use Rattle.std.specs.Cmp.{nat_cmp_total, tied_itself}
@@ -51,6 +51,7 @@ use Rattle.gs_master_moves.proofs.Chains.{Chained, Turned, all_begun_chain, answ
 use Rattle.gs_master_moves.specs.Epochs.{ByItself, Closes}
 use Rattle.gs_master_moves.specs.Guards.{IsCalled, Heard, IsNext, is_location, is_of_tree, is_still_for}
 use Rattle.gs_master_moves.specs.Moves.{FromNow, Moves, Then, Begins, Makes, Copies, Edits, Scans, Waits, Answers as AnswersCall}
+use Rattle.gs_master_state.proofs.Renames.{resolved_does}
 
 quiet_parts : (moving : Bool) (asked still : Bool) → (not (asked || moving) && still) ≡ true → (asked ≡ false) × ((moving ≡ false) × (still ≡ true))
 quiet_parts moving true still e = absurd (false≢true e)
@@ -396,6 +397,14 @@ module _ (config : Config) (heard : Heard) where
 
   pub edits_chain : (s : State) (req : ReqId) (edit : PlainEdit) (answer : Answer) → is_of_tree edit ≡ true → is_still_for s edit ≡ true → is_location answer ≡ false → Chained config heard s (edited_by s req edit answer)
   edits_chain s req edit answer tree still plain = edited_chain s req edit answer tree still plain
+
+  -- a rename's record holds its target as it was resolved
+  pub renames_chain : (s : State) (req : ReqId) (from to : Path) → Chained config heard s (renames s req from to)
+  renames_chain s req from to = by_names (edited_names (Rename from to) s.durable.names) refl
+    where
+      by_names : (names : Result NamesView Refusal) → edited_names (Rename from to) s.durable.names ≡ names → Chained config heard s (edit_if s req (Rename from (target_of (fin.get s.durable.names.tree) from to)) answers.Nothing names)
+      by_names (Err refusal) is = refused_chain config heard s req refusal
+      by_names (Ok after) is = edit_chain s req (Rename from (target_of (fin.get s.durable.names.tree) from to)) answers.Nothing refl refl refl (Ok after) (resolved_does s.durable.names after from to is)
 
   pub deletes_chain : (s : State) (req : ReqId) (path : Path) (recursive : Bool) (moment : Moment) → Chained config heard s (deleted s req path recursive moment)
   deletes_chain s req path recursive moment = deleted_chain s req path recursive moment

@@ -45,7 +45,7 @@ use Rattle.gs_master_laws.proofs.AcceptedUpgrades.{begin_fits, first_test, not_s
 use Rattle.gs_master_laws.proofs.AcceptedViews.{filter_holds}
 use Rattle.gs_master_laws.proofs.AcceptedWork.{all_ended_same, no_makers, pending_none}
 use Rattle.gs_master_laws.proofs.StandingTurns.{Holds, given_up}
-use Rattle.gs_master_moves.proofs.Calls.{deletes_chain, edits_chain, extends_turned, found_listed, found_turned, lists_chain, located_turned, most_chain, scans_turned, snapshot_if_chain, status_chain}
+use Rattle.gs_master_moves.proofs.Calls.{deletes_chain, edits_chain, renames_chain, extends_turned, found_listed, found_turned, lists_chain, located_turned, most_chain, scans_turned, snapshot_if_chain, status_chain}
 use Rattle.gs_master_moves.proofs.Chains.{Chained, Turned, all_begun_chain, all_ended_chain, answered_chain, closing_chain, joined_together, refused_chain, rests, room_chain, room_turned, test_chain, test_turned, then_chain, within}
 use Rattle.gs_master_moves.specs.Epochs.{ByItself, Closes}
 use Rattle.gs_master_moves.specs.Guards.{IsCalled, Heard, WasReplied}
@@ -184,7 +184,7 @@ module _ (config : Config) (heard : Heard) where
   called_chain : (s : State) (req : ReqId) → IsCalled heard s req → (moment : Moment) (call : Call) → Holds true s → refused_before s req call ≡ None → Turned config heard s (called config s req moment call)
   called_chain s req come moment (calls.Mkdirs path) h passed = within config heard (edits_chain config heard s req (Mkdirs path) answers.Nothing refl refl refl)
   called_chain s req come moment (calls.Create path) h passed = within config heard (edits_chain config heard s req (Create path) answers.Nothing refl refl refl)
-  called_chain s req come moment (calls.Rename from to) h passed = within config heard (edits_chain config heard s req (Rename from to) answers.Nothing refl refl refl)
+  called_chain s req come moment (calls.Rename from to) h passed = within config heard (renames_chain config heard s req from to)
   called_chain s req come moment (calls.Delete path recursive) h passed = within config heard (deletes_chain config heard s req path recursive moment)
   called_chain s req come moment (calls.Undelete path) h passed = within config heard (edits_chain config heard s req (Unhide path) _ refl refl refl)
   called_chain s req come moment (calls.Snapshot from to) h passed = within config heard (snapshot_if_chain config heard s req come from to (edited (edits.Snapshot from to) (fin.entries s.durable.names.tree)) h.stands.kept)

@@ -1,2 +1,3 @@
+pub mod Quieted
 pub mod Renewable
 pub mod inner

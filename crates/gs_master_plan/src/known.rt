@@ -2,6 +2,7 @@
 ghost use Rattle.std.specs.Prelude.{◌&&◌, ◌++◌, ◌≡◌, filter, IfOk, not, option_and_then, option_map};
 ghost use Rattle.std.specs.FinMap as fin;
 ghost use Rattle.std.specs.List.{list_any};
+ghost use Rattle.gs_master_plan.specs.Quieted.{TellsQuiet};
 ghost use Rattle.gs_master_plan.specs.inner.Planning.{state_of};
 ghost use Rattle.gs_master_spec.specs.Chunks.{Chunk, chunk_at, has_entry, is_quiet};
 ghost use Rattle.gs_master_state.specs.inner.Knowing.{known_of};
@@ -11,7 +12,8 @@ ghost use Rattle.gs_master_spec.specs.Upgrades.{all_unquiet, chunk_count};
 ghost use Rattle.gs_master_spec.specs.Working.{ascending, is_wanted_at, unquiet};
 
 use crate::standing::Standing;
-use gs_base::{Handle, ReqId};
+use gs_base::{Handle, Refusal, ReqId};
+use gs_lease::AllQuiet;
 use gs_master_spec::asking::Asking;
 use gs_master_state::known::{Known, chunk_set, is_settled};
 use gs_path::Path;
@@ -144,6 +146,14 @@ impl<'a> Standing<'a> {
         let settled = self.settled_unquiet()?;
         let unquiet = self.and_moving(settled)?;
         ascending(self.recorded.alloc, &unquiet)
+    }
+
+    /// The table of leases, if every chunk of it is quiet. `NotQuiet` with the lowest that isn't. What is asked in memory isn't
+    /// looked at. It takes no memory.
+    pub fn all_quiet(&self) -> Result<AllQuiet, Refusal>
+        ensures { TellsQuiet (state_of self.entry.now) result }
+    {
+        self.recorded.leases.all_quiet()
     }
 
     /// How many chunks the master knows, as far as four bytes can say.

@@ -10,10 +10,10 @@ use Rattle.gs_path.specs.Element.{is_hidden}
 use Rattle.gs_path.specs.Path.{Path}
 use Rattle.gs_refs.specs.Counts.{count_or_zero}
 use Rattle.gs_tree.specs.Entry.{Entry, Dir, File}
-use Rattle.gs_tree.specs.Find.{Rows}
+use Rattle.gs_tree.specs.Find.{Rows, at}
 use Rattle.gs_tree.specs.Lists.{made_paths, is_child}
 use Rattle.gs_tree.specs.Edits.{same_path, stood, target_of, hidden_path, old_name, chunks_in, last, is_dir}
-use Rattle.gs_edit.specs.Plain.{unhide_target}
+use Rattle.gs_edit.specs.Plain.{rename_rows, unhide_target}
 use Rattle.gs_edit.specs.View.{NamesView}
 use Rattle.gs_lease.specs.declared.view.View.{View}
 use Rattle.gs_lock.specs.Locks.{stands_in_the_way}
@@ -26,7 +26,7 @@ use Rattle.gs_msg.specs.declared.answer.Status.TheVariants as statuses
 use Rattle.gs_msg.specs.declared.call.Call.{Call}
 use Rattle.gs_msg.specs.declared.call.Call.TheVariants as calls
 use Rattle.gs_msg.specs.declared.lists.ListedName.{ListedName}
-use Rattle.gs_master_record.specs.Plain.{PlainEdit, Hide, Edited}
+use Rattle.gs_master_record.specs.Plain.{PlainEdit, Hide, Rename, Edited}
 use Rattle.gs_master_record.specs.declared.checkpoint.Phase.{Phase}
 use Rattle.gs_master_record.specs.declared.checkpoint.Phase.TheVariants.{Ordinary, Upgrade, Rolling}
 use Rattle.gs_master_spec.specs.Chunks.{members_in}
@@ -66,6 +66,16 @@ abbrev pub is_shared_in : NamesView → Option ℕ → Bool
 is_shared_in names None = false
 is_shared_in names (Some chunk) = is_shared names chunk
 
+-- the most chunks of a file
+abbrev pub most_chunks : ℕ
+most_chunks = 4096
+
+-- a file gets one chunk more at the place behind its last, while it may have another
+abbrev pub gets_chunk : Option (Entry ℕ) → ℕ → Bool
+gets_chunk None index = false
+gets_chunk (Some Dir) index = false
+gets_chunk (Some (File chunks)) index = nat_lt index most_chunks && index == length chunks
+
 -- the paths that would be made
 abbrev pub missing : NamesView → Path → List Path
 missing names path = made_paths path (stood (fin.get names.tree) path)
@@ -79,7 +89,7 @@ writes_of_call names (calls.Delete path recursive) = path ∷ []
 writes_of_call names (calls.Undelete path) = path ∷ unhide_target path (old_name path) ∷ []
 writes_of_call names (calls.Snapshot from to) = from ∷ to ∷ []
 writes_of_call names (calls.FindForWriting path index stamp) = if is_shared_in names (slice_get (chunks_at names path) index) then path ∷ [] else []
-writes_of_call names (calls.Extend path index) = if index == length (chunks_at names path) then path ∷ [] else []
+writes_of_call names (calls.Extend path index) = if gets_chunk (fin.get names.tree path) index then path ∷ [] else []
 writes_of_call names call = []
 
 abbrev pub reads_of_call : Call → List Path
@@ -135,6 +145,11 @@ edit_if s req edit answer (Err refusal) = refused s req refusal
 
 abbrev pub edited_by : State → ReqId → PlainEdit → Answer → Turn
 edited_by s req edit answer = edit_if s req edit answer (edited_names edit s.durable.names)
+
+-- A rename's record holds the target as it was resolved. It is refused as it was asked: where a directory stands at the target too,
+-- resolving that again would lead into it.
+abbrev pub renames : State → ReqId → Path → Path → Turn
+renames s req from to = edit_if s req (Rename from (target_of (fin.get s.durable.names.tree) from to)) answers.Nothing (edited_names (Rename from to) s.durable.names)
 
 -- an answer without a record
 abbrev pub answered_with : State → ReqId → Answer → Turn
@@ -262,3 +277,31 @@ behind_the_last_chunk = refl
 
 no_chunk_of_a_directory : found_chunk (Some Dir) 0 ≡ Err refusals.IsADirectory
 no_chunk_of_a_directory = refl
+
+a_chunk_behind_the_last : gets_chunk (Some (File (7 ∷ []))) 1 ≡ true
+a_chunk_behind_the_last = refl
+
+none_where_one_stands : gets_chunk (Some (File (7 ∷ []))) 0 ≡ false
+none_where_one_stands = refl
+
+a_directory_gets_no_chunk : gets_chunk (Some Dir) 0 ≡ false
+a_directory_gets_no_chunk = refl
+
+where_nothing_stands_neither : gets_chunk None 0 ≡ false
+where_nothing_stands_neither = refl
+
+a_full_file_neither : (chunks : List ℕ) → gets_chunk (Some (File chunks)) 4096 ≡ false
+a_full_file_neither chunks = refl
+
+-- /f goes into the directory /a, where a file of its name stands in these rows and not without that one
+into_a_directory : target_of (at some_rows) f (codes "a" ∷ []) ≡ codes "a" ∷ f
+into_a_directory = refl
+
+abbrev fewer_rows : Rows ℕ
+fewer_rows = ([], Dir) ∷ (codes "a" ∷ [], Dir) ∷ (f, File (7 ∷ [])) ∷ []
+
+resolved_or_not : rename_rows fewer_rows f (codes "a" ∷ []) ≡ rename_rows fewer_rows f (codes "a" ∷ f)
+resolved_or_not = refl
+
+refused_as_asked : rename_rows some_rows f (codes "a" ∷ []) ≡ Err refusals.Exists
+refused_as_asked = refl

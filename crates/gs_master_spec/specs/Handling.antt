@@ -26,10 +26,10 @@ use Rattle.gs_msg.specs.declared.message.Message.{Message}
 use Rattle.gs_msg.specs.declared.node.NodeId.{NodeId}
 use Rattle.gs_msg.specs.declared.node.NodeId.TheVariants as nodes
 use Rattle.gs_master_record.specs.Encoding.{body}
-use Rattle.gs_master_record.specs.Plain.{PlainEntry, Mkdirs, Create, Rename, Unhide, Whole}
+use Rattle.gs_master_record.specs.Plain.{PlainEntry, Mkdirs, Create, Unhide, Whole}
 use Rattle.gs_base.specs.declared.epoch.EpochEnd.TheVariants as ends
 use Rattle.gs_master_spec.specs.Applied.{replayed, records_behind}
-use Rattle.gs_master_spec.specs.Calls.{refused_before, edited_by, deleted, listing, status, location, found_chunk, looked_up, queried}
+use Rattle.gs_master_spec.specs.Calls.{refused_before, edited_by, renames, deleted, listing, status, location, found_chunk, looked_up, queried}
 use Rattle.gs_master_spec.specs.Chunks.{Chunk, chunk_at, is_leased, step_at_tick, view_of}
 use Rattle.gs_master_spec.specs.Durable.{Durable, start, is_rolling, is_listed}
 use Rattle.gs_master_spec.specs.Hearing.{promised, unpromised, renewed, reported, damaged, learned, behind, sends, stepped}
@@ -48,7 +48,7 @@ use Rattle.gs_master_spec.specs.declared.reply.KeptReply.{KeptReply}
 abbrev pub called : Config → State → ReqId → Moment → Call → Turn
 called config s req moment (calls.Mkdirs path) = edited_by s req (Mkdirs path) answers.Nothing
 called config s req moment (calls.Create path) = edited_by s req (Create path) answers.Nothing
-called config s req moment (calls.Rename from to) = edited_by s req (Rename from to) answers.Nothing
+called config s req moment (calls.Rename from to) = renames s req from to
 called config s req moment (calls.Delete path recursive) = deleted s req path recursive moment
 called config s req moment (calls.Undelete path) = edited_by s req (Unhide path) (answers.Path (unhide_target path (old_name path)))
 called config s req moment (calls.Snapshot from to) = snapshots s req from to

@@ -29,7 +29,7 @@ use Rattle.gs_place.specs.Needs.{most_needed_of}
 use Rattle.gs_place.specs.declared.need.Need.{Need}
 use Rattle.gs_master_record.specs.Plain.{PlainEdit, Remove, Snapshot, Forget, Edited}
 use Rattle.gs_master_spec.specs.Beginning.{next_stamp, has_versions, has_handle, begin_at, all_begun, create_plan, copy_plan, waits_from_now, counted_views, targets_for}
-use Rattle.gs_master_spec.specs.Calls.{answered_with, edited_by, found_chunk, is_shared, references, looked_up, location}
+use Rattle.gs_master_spec.specs.Calls.{answered_with, edited_by, found_chunk, is_shared, references, looked_up, location, most_chunks}
 use Rattle.gs_master_spec.specs.Chunks.{Chunk, chunk_at, has_entry, is_quiet, is_leased, is_wanted, view_of, members_of}
 use Rattle.gs_master_spec.specs.Durable.{Durable, Settled}
 use Rattle.gs_master_spec.specs.Settling.{own_request, source_chunks, is_quiet_at, requests_of}
@@ -92,10 +92,6 @@ found_for_writing s req path index stamp moment (Err refusal) = refused s req re
 found_for_writing s req path index stamp moment (Ok chunk) = written_at s req path index stamp moment chunk (chunk_at s chunk)
 
 -- ---- extending a file
-
--- the most chunks of a file
-abbrev pub most_chunks : ℕ
-most_chunks = 4096
 
 abbrev pub created_on : State → ReqId → Path → Option (List ℕ) → Turn
 created_on s req path None = refused s req refusals.NoServer

@@ -2,7 +2,7 @@
 ghost use Rattle.std.specs.Prelude.{[], if◌then◌else◌, ◌==◌, ◌∷◌, ◌≡◌, IfOk, length, slice_get};
 ghost use Rattle.std.specs.FinMap as fin;
 ghost use Rattle.gs_edit.specs.Plain.{unhide_target};
-ghost use Rattle.gs_master_spec.specs.Calls.{chunks_at, is_shared_in, missing, writes_of_call};
+ghost use Rattle.gs_master_spec.specs.Calls.{chunks_at, gets_chunk, is_shared_in, missing, writes_of_call};
 ghost use Rattle.gs_master_state.specs.inner.Judging.{leading};
 ghost use Rattle.gs_master_state.specs.inner.Recorded.{durable_of};
 ghost use Rattle.gs_tree.specs.Edits.{old_name, target_of};
@@ -14,6 +14,9 @@ use gs_msg::Call;
 use gs_path::Path;
 use gs_tree::{Status, made_paths};
 use std::alloc::{AllocError, Global};
+
+/// The most chunks of a file.
+pub const MOST_CHUNKS: u64 = 4096;
 
 impl Recorded {
     /// How many of these paths stand before the first that doesn't.
@@ -51,13 +54,13 @@ impl Recorded {
         }
     }
 
-    /// Whether a place is the one behind the last chunk of a file. What isn't a file has no chunk.
-    fn is_end_of(&self, path: &Path, index: u64) -> bool
-        ensures { result ≡ (index == length (chunks_at (durable_of self.now).names path.now)) }
+    /// Whether a file gets a chunk more at a place: the one behind its last, while it may have another.
+    fn gets_chunk(&self, path: &Path, index: u64) -> bool
+        ensures { result ≡ gets_chunk (fin.get (durable_of self.now).names.tree path.now) index }
     {
         match self.names.status(path) {
-            Ok(Status::File(chunks)) => index == chunks.len() as u64,
-            _ => index == 0,
+            Ok(Status::File(chunks)) => index < MOST_CHUNKS && index == chunks.len() as u64,
+            _ => false,
         }
     }
 
@@ -93,7 +96,7 @@ impl Recorded {
                 one_if(self.alloc, self.is_shared_at(path, *index), path)
             }
             Call::Extend { path, index } => {
-                one_if(self.alloc, self.is_end_of(path, *index), path)
+                one_if(self.alloc, self.gets_chunk(path, *index), path)
             }
             _ => Ok(Vec::new(self.alloc)),
         }

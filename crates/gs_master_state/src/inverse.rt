@@ -2,6 +2,7 @@
 ghost use Rattle.std.specs.Prelude.{◌≡◌, IfOk, map, option_map, Some};
 ghost use Rattle.std.specs.FinMap as fin;
 ghost use Rattle.gs_master_record.specs.Plain.{Hide, plain_edit, plain_inverse, plain_node, Remove, Rename, Unhide};
+ghost use Rattle.gs_master_state.specs.inner.Judging.{said_target};
 ghost use Rattle.gs_master_state.specs.inner.Recorded.{alone, durable_of, IsToldBack};
 ghost use Rattle.gs_master_spec.specs.Undoing.{inverse_of};
 ghost use Rattle.gs_tree.specs.Edits.{stood, target_of};
@@ -124,6 +125,18 @@ fn removed_back(alloc: Global, names: &HeldNames, path: &Path) -> Result<ListedI
 }
 
 impl Recorded {
+    /// The target that the edit of a rename says: where that puts what it moves. Where a directory stands there too the edit is
+    /// refused, and says its target as it was asked.
+    pub fn said_target(&self, from: &Path, to: &Path) -> Result<Path, AllocError>
+        ensures { IfOk result (λ target. target ≡ said_target (fin.get (durable_of self.now).names.tree) from.now to.now) }
+    {
+        let target = target_of(self.alloc, &self.names, from, to)?;
+        match self.names.status(&target) {
+            Ok(Status::Dir) => to.copy(self.alloc),
+            _ => Ok(target),
+        }
+    }
+
     /// What takes an edit back that these names allow.
     fn back(&self, edit: &Edit) -> Result<Option<ListedInverse>, AllocError>
         ensures { IfOk result (λ inverse. option_map plain_inverse inverse ≡ Some (inverse_of (plain_edit edit.now) (fin.entries (durable_of self.now).names.tree))) }

@@ -2,7 +2,7 @@
 #![tactic(auto)]
 
 mod answer;
-mod call;
+pub mod call;
 mod checkpoint;
 pub mod edit;
 mod entry;

@@ -1,5 +1,5 @@
 -- What happens to the nodes of a store: each event is one node's, and leaves the others as they were.
-use Rattle.std.specs.Prelude.{◌≡◌, ◌⊎◌, ◌-◌, ◌==◌, ℕ, List, [], ◌∷◌, if◌then◌else◌, Option, Some, None, MatchOption, Result, Ok, Err, Vec, slice_get, slice_set}
+use Rattle.std.specs.Prelude.{◌≡◌, ◌⊎◌, ◌-◌, ◌==◌, ℕ, Bool, false, not, List, [], ◌∷◌, if◌then◌else◌, Option, Some, None, MatchOption, Result, Ok, Err, Vec, slice_get, slice_set}
 use Rattle.std.specs.declared.alloc.Global.{Global}
 use Rattle.gs_base.specs.declared.config.Config.{Config}
 use Rattle.gs_base.specs.declared.numbers.ClientId.{ClientId}
@@ -22,9 +22,10 @@ use Rattle.gs_msg.specs.declared.node.NodeId.{NodeId}
 use Rattle.gs_msg.specs.declared.node.NodeId.TheVariants as nodes
 use Rattle.gs_server.specs.Servers.{Server, Step}
 use Rattle.gs_server.specs.Servers as servers
-use Rattle.gs_master_spec.specs.Handling.{handle}
+use Rattle.gs_master_spec.specs.Handling.{handle, proposals}
 use Rattle.gs_master_spec.specs.Outcomes.{caller_of}
 use Rattle.gs_master_spec.specs.State.{reply_to}
+use Rattle.gs_master_spec.specs.Whole.{is_empty}
 use Rattle.gs_nodes.specs.Nodes.{Nodes, with_master, with_servers, with_clients}
 use Rattle.gs_nodes.specs.declared.place.MasterPlace.{MasterPlace}
 use Rattle.gs_nodes.specs.declared.place.MasterPlace.TheVariants.{Standing, Closed, Away}
@@ -56,6 +57,12 @@ abbrev pub MasterTicks : {D : Type 0} → (D → List ℕ) → (D → ℕ) → M
 MasterTicks {D} seen failures moment (Standing m) result new = (after : MasterOf D) × (new ≡ Standing after) × AnswersTick seen failures moment m result after
 MasterTicks seen failures moment (Closed first second) result new = MeetsClosed [] (Closed first second) result new
 MasterTicks seen failures moment Away result new = MeetsClosed [] Away result new
+
+-- a view is proposed for some chunk, by a master that stands
+abbrev pub is_moving : {D : Type 0} → MasterPlace D → Bool
+is_moving (Standing m) = not (is_empty (proposals m.state))
+is_moving (Closed first second) = false
+is_moving Away = false
 
 -- ---- a server
 

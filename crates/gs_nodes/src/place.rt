@@ -1,6 +1,6 @@
 ghost use Rattle.std.specs.Prelude.{◌≡◌, IfOk};
 ghost use Rattle.gs_master_spec.specs.Outcomes.{caller_of};
-ghost use Rattle.gs_nodes.specs.Happenings.{MasterHears, MasterTicks, refusal_of_call};
+ghost use Rattle.gs_nodes.specs.Happenings.{MasterHears, MasterTicks, is_moving, refusal_of_call};
 
 use gs_base::{Moment, Refusal};
 use gs_journal::Disk;
@@ -62,6 +62,16 @@ impl<D: Disk> MasterPlace<D> {
                 sent: Vec::new(alloc),
                 said: Some(Refusal::Device),
             }),
+        }
+    }
+
+    /// Whether a view is proposed for some chunk, which only a master does that stands. It takes no memory.
+    pub fn is_moving(&self) -> bool
+        ensures { result ≡ is_moving self.now }
+    {
+        match self {
+            MasterPlace::Standing(master) => master.is_moving(),
+            _ => false,
         }
     }
 }

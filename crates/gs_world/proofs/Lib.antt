@@ -6,3 +6,4 @@ pub mod Reaching
 pub mod Sending
 pub mod Serving
 pub mod Staying
+pub mod Telling

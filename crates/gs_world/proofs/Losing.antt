@@ -9,7 +9,7 @@ use Rattle.gs_msg.specs.declared.node.NodeId.{NodeId}
 use Rattle.gs_msg.specs.declared.node.NodeId.TheVariants as nodes
 use Rattle.gs_msg.specs.declared.outbox.Post.{Post}
 use Rattle.gs_nodes.specs.declared.place.MasterPlace.{MasterPlace}
-use Rattle.gs_world.specs.Histories.{History, Outcome, Tells}
+use Rattle.gs_world.specs.Histories.{History, Upshot, Tells}
 use Rattle.gs_world.specs.Runs.{Goes, RunsTo, Step, Comes, Takes}
 use Rattle.gs_world.specs.Sent.{AllPosted, Appends, IsPosted, Line, Sent, lost_all, posts_of, with_line, with_posts}
 
@@ -42,7 +42,7 @@ posts_lost (Some posts) moment by messages old new (after, appends, same) lost =
     ap (λ (s : Sent). s.has_lost) same ∙ told_by by after old ∙ appended_lost moment messages (line posts old.has_lost) after appends lost
 
 module _ {D : Type 0} (seen : D → List ℕ) (failures : D → ℕ) (armed : DiskId → ℕ → MasterPlace D → MasterPlace D) where
-  telling_lost : (moment : Moment) (by : NodeId) (outcome : Outcome) (old : Sent) (said : Result (Unit {0}) Refusal) (new : Sent)
+  telling_lost : (moment : Moment) (by : NodeId) (outcome : Upshot) (old : Sent) (said : Result (Unit {0}) Refusal) (new : Sent)
       → Tells seen failures armed moment by outcome old said new → old.has_lost ≡ true → new.has_lost ≡ true
   telling_lost moment by (Ok (messages, what)) old said new (posts, is) lost = posts_lost (posts_of old by) moment by messages old new posts lost
   telling_lost moment by (Err refusal) old said new (same, is) lost = ap (λ (s : Sent). s.has_lost) same ∙ lost

@@ -9,7 +9,7 @@ use Rattle.gs_msg.specs.declared.node.NodeId.{NodeId}
 use Rattle.gs_msg.specs.declared.node.NodeId.TheVariants as nodes
 use Rattle.gs_msg.specs.declared.outbox.Post.{Post}
 use Rattle.gs_nodes.specs.declared.place.MasterPlace.{MasterPlace}
-use Rattle.gs_world.specs.Histories.{History, Outcome, Tells}
+use Rattle.gs_world.specs.Histories.{History, Upshot, Tells}
 use Rattle.gs_world.specs.Runs.{Goes, RunsTo, StaySent, Step, Comes, Takes}
 use Rattle.gs_world.specs.Sent.{Appends, IsPosted, IsSent, Line, Sent, lost_all, message_in, message_of, posts_of, with_line}
 
@@ -101,7 +101,7 @@ pub sent_still : (message : Message) (old new : Sent) → StaySent old new → I
 sent_still message old new stay (id, is) = (id, stay id message is)
 
 module _ {D : Type 0} (seen : D → List ℕ) (failures : D → ℕ) (armed : DiskId → ℕ → MasterPlace D → MasterPlace D) where
-  pub telling : (moment : Moment) (by : NodeId) (outcome : Outcome) (old : Sent) (said : Result (Unit {0}) Refusal) (new : Sent)
+  pub telling : (moment : Moment) (by : NodeId) (outcome : Upshot) (old : Sent) (said : Result (Unit {0}) Refusal) (new : Sent)
       → Tells seen failures armed moment by outcome old said new → StaySent old new
   telling moment by (Ok (messages, what)) old said new (posts, is) = posting moment by messages old new posts
   telling moment by (Err refusal) old said new (same, is) = still old new same

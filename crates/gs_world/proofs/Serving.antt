@@ -23,7 +23,7 @@ use Rattle.gs_server.specs.Servers as servers
 use Rattle.gs_nodes.specs.Happenings.{AtClient, AtServer, ClientAsks, ClientHears, Delivers, Hears as HearsAt, ServerDoes, client_in}
 use Rattle.gs_nodes.specs.Nodes.{Nodes, with_clients, with_servers}
 use Rattle.gs_nodes.specs.declared.place.MasterPlace.{MasterPlace}
-use Rattle.gs_world.specs.Histories.{AtNode, ComesTo, History, Outcome, Restarts, Ticks}
+use Rattle.gs_world.specs.Histories.{AtNode, ComesTo, History, Upshot, Restarts, Ticks}
 use Rattle.gs_world.specs.Runs as runs
 use Rattle.gs_world.specs.Runs.{Goes, GoesOn, RunsTo, StaySent, Comes, Takes, WasSent}
 use Rattle.gs_world.specs.Sent.{IsSent, Sent, message_of}
@@ -135,7 +135,7 @@ unfolding Delivers
 delivered seen failures message moment old turn new sent was hears id = heard seen failures message moment message.to old turn new sent refl was hears id
 
 module _ {D : Type 0} (seen : D → List ℕ) (failures : D → ℕ) (armed : DiskId → ℕ → MasterPlace D → MasterPlace D) where
-  came : (o : Option Message) (msg : MsgId) (moment : Moment) (old : History D) (by : NodeId) (outcome : Outcome) (new : Nodes D) → message_of old.sent msg ≡ o
+  came : (o : Option Message) (msg : MsgId) (moment : Moment) (old : History D) (by : NodeId) (outcome : Upshot) (new : Nodes D) → message_of old.sent msg ≡ o
       → MatchOption o ((outcome ≡ Err refusals.Range) × (new ≡ old.nodes)) (λ message. ComesTo seen failures armed message moment old.nodes by outcome new)
       → (id : ℕ) → Moves id old.sent old.nodes.servers new.servers
   came None msg moment old by outcome new is (refused, same) id = as_it_was id old.sent old.nodes.servers new.servers (ap (λ (n : Nodes D). n.servers) same)
@@ -144,19 +144,19 @@ module _ {D : Type 0} (seen : D → List ℕ) (failures : D → ℕ) (armed : Di
     | inr (refused, same) ↦ as_it_was id old.sent old.nodes.servers new.servers (ap (λ (n : Nodes D). n.servers) same)
   ]
 
-  ticked : (moment : Moment) (node : StoreNode) (old : Nodes D) (outcome : Outcome) (new : Nodes D) (sent : Sent) → Ticks seen failures armed moment node old outcome new
+  ticked : (moment : Moment) (node : StoreNode) (old : Nodes D) (outcome : Upshot) (new : Nodes D) (sent : Sent) → Ticks seen failures armed moment node old outcome new
       → (id : ℕ) → Moves id sent old.servers new.servers
   ticked moment keepers.Master old outcome new sent (place, turn, does, same, told) id = as_it_was id sent old.servers new.servers (ap (λ (n : Nodes D). n.servers) same)
   ticked moment (keepers.Server a) old outcome new sent (turn, at, told) id =
       one a (λ s. ServerDoes (servers.tick s moment) s) old turn new sent (λ s after done. by_step a sent s after (servers.tick s moment) turn (TicksAt moment) tt refl done) at id
 
-  restarted : (node : StoreNode) (old : Nodes D) (outcome : Outcome) (new : Nodes D) (sent : Sent) → Restarts seen failures armed node old outcome new
+  restarted : (node : StoreNode) (old : Nodes D) (outcome : Upshot) (new : Nodes D) (sent : Sent) → Restarts seen failures armed node old outcome new
       → (id : ℕ) → Moves id sent old.servers new.servers
   restarted keepers.Master old outcome new sent (place, turn, does, same, told) id = as_it_was id sent old.servers new.servers (ap (λ (n : Nodes D). n.servers) same)
   restarted (keepers.Server a) old outcome new sent (done, at, told) id =
       one a (λ s done after. (done ≡ Ok tt) × (after ≡ servers.restart s)) old done new sent (λ s after done. by_one a sent s after RestartsAt tt done.1) at id
 
-  at_node : (moment : Moment) (happening : Happening) (old : History D) (by : NodeId) (outcome : Outcome) (new : Nodes D)
+  at_node : (moment : Moment) (happening : Happening) (old : History D) (by : NodeId) (outcome : Upshot) (new : Nodes D)
       → AtNode seen failures armed moment happening old by outcome new → (id : ℕ) → Moves id old.sent old.nodes.servers new.servers
   at_node moment (happenings.Ask req request) old by outcome new (is, (out, at, told)) id =
       as_it_was id old.sent old.nodes.servers new.servers (at_client req.client (Err refusals.Range) (ClientAsks req.number request) old.nodes out new at)

@@ -20,7 +20,7 @@ use Rattle.gs_server.specs.Servers as servers
 use Rattle.gs_nodes.specs.Happenings.{AtClient, AtServer, ClientAsks, ClientHears, Delivers, Hears, ServerDoes, client_in}
 use Rattle.gs_nodes.specs.Nodes.{Nodes, with_clients, with_master, with_servers}
 use Rattle.gs_nodes.specs.declared.place.MasterPlace.{MasterPlace}
-use Rattle.gs_world.specs.Histories.{AtNode, ComesTo, History, Outcome, Restarts, Ticks}
+use Rattle.gs_world.specs.Histories.{AtNode, ComesTo, History, Upshot, Restarts, Ticks}
 use Rattle.gs_world.specs.Runs.{Goes, RunsTo, SameNodes, Step, Comes, Takes}
 use Rattle.gs_world.specs.Sent.{message_of}
 
@@ -76,7 +76,7 @@ unfolding Delivers
 delivered seen failures message moment old turn new hears = heard seen failures message moment message.to old turn new hears
 
 module _ {D : Type 0} (seen : D → List ℕ) (failures : D → ℕ) (armed : DiskId → ℕ → MasterPlace D → MasterPlace D) where
-  came : (found : Option Message) (moment : Moment) (old : Nodes D) (by : NodeId) (outcome : Outcome) (new : Nodes D)
+  came : (found : Option Message) (moment : Moment) (old : Nodes D) (by : NodeId) (outcome : Upshot) (new : Nodes D)
       → MatchOption found ((outcome ≡ Err refusals.Range) × (new ≡ old)) (λ message. ComesTo seen failures armed message moment old by outcome new) → SameNodes old new
   came None moment old by outcome new (refused, is) = same old new is
   came (Some message) moment old by outcome new comes = elim comes [
@@ -84,15 +84,15 @@ module _ {D : Type 0} (seen : D → List ℕ) (failures : D → ℕ) (armed : Di
     | inr (refused, is) ↦ same old new is
   ]
 
-  ticked : (moment : Moment) (node : StoreNode) (old : Nodes D) (outcome : Outcome) (new : Nodes D) → Ticks seen failures armed moment node old outcome new → SameNodes old new
+  ticked : (moment : Moment) (node : StoreNode) (old : Nodes D) (outcome : Upshot) (new : Nodes D) → Ticks seen failures armed moment node old outcome new → SameNodes old new
   ticked moment keepers.Master old outcome new (place, turn, does, is, told) = at_master place old new is
   ticked moment (keepers.Server id) old outcome new (turn, at, told) = at_server id (λ s. ServerDoes (servers.tick s moment) s) old turn new at
 
-  restarted : (node : StoreNode) (old : Nodes D) (outcome : Outcome) (new : Nodes D) → Restarts seen failures armed node old outcome new → SameNodes old new
+  restarted : (node : StoreNode) (old : Nodes D) (outcome : Upshot) (new : Nodes D) → Restarts seen failures armed node old outcome new → SameNodes old new
   restarted keepers.Master old outcome new (place, turn, does, is, told) = at_master place old new is
   restarted (keepers.Server id) old outcome new (done, at, told) = at_server id (λ s done after. (done ≡ Ok tt) × (after ≡ servers.restart s)) old done new at
 
-  pub at_node : (moment : Moment) (happening : Happening) (old : History D) (by : NodeId) (outcome : Outcome) (new : Nodes D)
+  pub at_node : (moment : Moment) (happening : Happening) (old : History D) (by : NodeId) (outcome : Upshot) (new : Nodes D)
       → AtNode seen failures armed moment happening old by outcome new → SameNodes old.nodes new
   at_node moment (happenings.Ask req request) old by outcome new (is, (out, at, told)) = at_client req.client (Err refusals.Range) (ClientAsks req.number request) old.nodes out new at
   at_node moment (happenings.Deliver id) old by outcome new comes = came (message_of old.sent id) moment old.nodes by outcome new comes

@@ -1,4 +1,6 @@
+pub mod Beginning
 pub mod Histories
 pub mod Lasting
+pub mod Outcomes
 pub mod Runs
 pub mod Sent

@@ -16,7 +16,8 @@ use Rattle.gs_server.specs.Runs.{behind_all}
 use Rattle.gs_nodes.specs.Happenings.{AtClient}
 use Rattle.gs_nodes.specs.Nodes.{Nodes}
 use Rattle.gs_nodes.specs.declared.place.MasterPlace.{MasterPlace}
-use Rattle.gs_world.specs.Histories.{Begins, Happens, History}
+use Rattle.gs_world.specs.Histories.{Begins, Happens, History, IsOutcome}
+use Rattle.gs_world.specs.declared.outcome.Outcome.{Outcome}
 use Rattle.gs_world.specs.Sent.{IsSent, Sent, message_of}
 
 -- an event, or a client's answer is taken out
@@ -26,6 +27,10 @@ pub data Step : Type 0 where
 
 abbrev pub all_come : List Event → List Step
 all_come events = map (λ (event : Event). Comes event) events
+
+-- what was said at each of some events
+abbrev pub all_said : List Outcome → List (Result (Unit {0}) Refusal)
+all_said outcomes = map (λ (outcome : Outcome). outcome.said) outcomes
 
 -- what has come back to a client is taken out
 abbrev pub TakesReply : {D : Type 0} → ClientId → Nodes D → Option Reply → Nodes D → Type 0
@@ -47,6 +52,13 @@ module _ {D : Type 0} (seen : D → List ℕ) (failures : D → ℕ) (armed : Di
   HappensAll (event ∷ events) said old new =
       (one : Result (Unit {0}) Refusal) × (others : List (Result (Unit {0}) Refusal)) × (mid : History D)
       × (said ≡ one ∷ others) × Happens seen failures armed event old one mid × HappensAll events others mid new
+
+  -- events, each with what is told of it
+  abbrev pub AreOutcomes : List Event → List Outcome → History D → History D → Type 0
+  AreOutcomes [] outcomes old new = (outcomes ≡ []) × (new ≡ old)
+  AreOutcomes (event ∷ events) outcomes old new =
+      (one : Outcome) × (others : List Outcome) × (mid : History D)
+      × (outcomes ≡ one ∷ others) × IsOutcome seen failures armed event old one mid × AreOutcomes events others mid new
 
   -- a store that has begun over these disks, behind some steps
   pub record IsReached (config : Config) (clients : ℕ) (disks : D × D) (now : History D) : Type 0 where

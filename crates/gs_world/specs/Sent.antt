@@ -1,5 +1,5 @@
 -- What each node has ever sent.
-use Rattle.std.specs.Prelude.{◌≡◌, ◌⊎◌, ◌++◌, ◌-◌, ◌==◌, ℕ, Bool, true, false, List, [], ◌∷◌, if◌then◌else◌, Option, Some, None, MatchOption, map, replicate, slice_get, slice_set, refl}
+use Rattle.std.specs.Prelude.{◌≡◌, ◌⊎◌, ◌++◌, ◌-◌, ◌==◌, ℕ, Bool, true, false, List, [], ◌∷◌, if◌then◌else◌, Option, Some, None, MatchOption, length, map, replicate, slice_get, slice_set, refl}
 use Rattle.std.specs.Coded.{Coded, code_by, coded×, coded_bool, coded_list}
 use Rattle.std.proofs.Common.{inl, inr}
 use Rattle.gs_base.specs.declared.numbers.Moment.{Moment}
@@ -39,6 +39,15 @@ abbrev pub posts_of : Sent → NodeId → Option (List Post)
 posts_of s nodes.Master = Some s.master
 posts_of s (nodes.Server id) = slice_get s.servers id
 posts_of s (nodes.Client id) = if id.0 == 0 then None else slice_get s.clients (id.0 - 1)
+
+-- how many messages of a list were sent, if there is a list
+abbrev pub count_in : Option (List Post) → ℕ
+count_in None = 0
+count_in (Some posts) = length posts
+
+-- how many messages a node has sent
+abbrev pub sent_by : Sent → NodeId → ℕ
+sent_by s node = count_in (posts_of s node)
 
 abbrev pub with_posts : NodeId → List Post → Sent → Sent
 with_posts nodes.Master posts s = record s { master = posts }

@@ -2,9 +2,11 @@
 #![tactic(auto)]
 
 mod happening;
+mod outcome;
 mod posts;
 pub mod promises;
 mod world;
 
+pub use outcome::Outcome;
 pub use posts::Posts;
 pub use world::World;

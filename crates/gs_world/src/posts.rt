@@ -1,9 +1,9 @@
 // What each node has sent.
-ghost use Rattle.std.specs.Prelude.{◌≡◌, ◌⊎◌, Ok, Err, IfOk, MatchOption, [], option_copied, option_map, replicate};
+ghost use Rattle.std.specs.Prelude.{◌≡◌, ◌⊎◌, Ok, Err, IfOk, MatchOption, false, [], option_copied, option_map, replicate};
 ghost use Rattle.gs_base.specs.declared.refusal.Refusal.TheVariants as refusals;
 ghost use Rattle.gs_msg.specs.Posts.{message_at};
 ghost use Rattle.gs_msg.specs.declared.node.NodeId.TheVariants as nodes;
-ghost use Rattle.gs_world.specs.Sent.{Appends, Forgets, ForgetsIn, IsPosted, IsPostedIn, all_posts, lost_all, message_of, none_sent, posts_of};
+ghost use Rattle.gs_world.specs.Sent.{Appends, Forgets, ForgetsIn, IsPosted, IsPostedIn, all_posts, lost_all, message_of, none_sent, posts_of, sent_by};
 
 use gs_base::{ClientId, Moment, Refusal, ServerId};
 use gs_msg::{Message, NodeId, Outbox};
@@ -110,6 +110,19 @@ fn standing(outbox: &Outbox, place: u64) -> Option<&Message>
 }
 
 impl Posts {
+    /// Of nodes that have sent what stands in these outboxes: the servers' by their numbers, and the clients', of whom the first is
+    /// client 1. None of it was lost.
+    pub fn of(master: Outbox, servers: Vec<Outbox>, clients: Vec<Outbox>) -> Posts
+        ensures { result ≡ record { master = master.posts; servers = all_posts servers.items; clients = all_posts clients.items; has_lost = false } }
+    {
+        Posts {
+            master,
+            servers,
+            clients,
+            has_lost: false,
+        }
+    }
+
     /// Of so many servers and clients, none of which has sent anything.
     pub(crate) fn new(alloc: Global, servers: u64, clients: u64) -> Result<Posts, AllocError>
         ensures { IfOk result (λ posts. posts ≡ none_sent servers clients) }
@@ -188,6 +201,16 @@ impl Posts {
                 }
                 self.clients.get((client.0 - 1) as usize)
             }
+        }
+    }
+
+    /// How many messages a node has sent: none where there is no such node.
+    pub fn count(&self, by: NodeId) -> u64
+        ensures { result ≡ sent_by self.now by }
+    {
+        match self.outbox(by) {
+            Some(outbox) => outbox.len() as u64,
+            None => 0,
         }
     }
 

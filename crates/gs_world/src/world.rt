@@ -1,18 +1,22 @@
 ghost use Rattle.std.specs.Prelude.{◌≡◌, false, IfOk, IfErr};
 ghost use Rattle.gs_msg.specs.Nodes.{as_node};
-ghost use Rattle.gs_world.specs.Histories.{arms, AtNode, Begins, DeliversAt, Happens, Tells, failures_of, history_of, is_ask, seen_of, told};
-ghost use Rattle.gs_world.specs.Runs.{HappensAll, TakesReply};
+ghost use Rattle.gs_world.specs.Histories.{arms, AtNode, Begins, DeliversAt, IsOutcome, Tells, failures_of, history_of, is_ask, seen_of, told};
+ghost use Rattle.gs_world.specs.Runs.{AreOutcomes, HappensAll, TakesReply, all_said};
+ghost use Rattle.gs_world.specs.Beginning.{IsNotBegun, new_disks};
 ghost use Rattle.gs_world.specs.Sent.{Forgets};
+ghost use Rattle.gs_journal.specs.Memory.{bytes_of, times_failed};
 ghost use Rattle.gs_nodes.specs.Happenings.{Delivers, WhyNotBegun};
+ghost use Rattle.gs_nodes.specs.NewDisks.{OverEmpty};
 ghost use Rattle.gs_nodes.specs.Nodes.{nodes_of};
 
 use crate::happening::{ask, beat, damage, fail_disk, lose, restart, tick};
+use crate::outcome::Outcome;
 use crate::posts::Posts;
 use gs_base::{ClientId, Config, Moment, Refusal};
 use gs_client::Reply;
-use gs_journal::{Disk, FailingDisk, Unopened};
+use gs_journal::{Disk, FailingDisk, Fault, MemoryDisk, Unopened};
 use gs_msg::{Event, Happening, Message, MsgId, NodeId, StoreNode};
-use gs_nodes::{Nodes, Turn};
+use gs_nodes::{Nodes, Turn, empty_disks};
 use std::alloc::{AllocError, Global};
 
 /// The nodes of a store, and all that they have sent: each message stays to be delivered, once, often or never, until it is
@@ -46,10 +50,27 @@ fn receiver(message: &Message) -> NodeId
     message.to
 }
 
+impl World<MemoryDisk> {
+    /// A new store with one client, who has asked nothing. The disks of its master's journal are in memory, with nothing on them, and none
+    /// is to fail. It is refused where memory is wanting, which a disk says by `Device`.
+    pub fn new(alloc: Global, config: Config) -> Result<World<MemoryDisk>, Refusal>
+        ensures begins { IfOk result (λ world. OverEmpty (λ disks. Begins (seen_of bytes_of) (failures_of times_failed) arms config 1 (new_disks disks) (history_of world))) }
+        ensures refused { IfErr result (λ refusal. OverEmpty (λ disks. IsNotBegun (seen_of bytes_of) (failures_of times_failed) config (new_disks disks) refusal)) }
+    {
+        let (first, second) = empty_disks(alloc);
+        let first = FailingDisk::new(first, Fault::Never);
+        let second = FailingDisk::new(second, Fault::Never);
+        match World::over(alloc, config, 1, (first, second)) {
+            Ok(world) => Ok(world),
+            Err(unopened) => Err(unopened.refusal),
+        }
+    }
+}
+
 impl<D: Disk + Drop> World<D> {
     /// A store over the disks of a journal, with so many clients, none of which has asked anything; what the master sends at first
     /// is sent. New disks are those of a new store. Where memory is wanting, or the disks can't be opened, they are handed back.
-    pub fn new(
+    pub fn over(
         alloc: Global,
         config: Config,
         clients: u32,
@@ -172,30 +193,39 @@ impl<D: Disk + Drop> World<D> {
     }
 
     /// One event: one node does what its own contract says, what it sends stands behind what it has sent, and every other node is as it
-    /// was. The answer is the refusal with which the event was met, if it was.
+    /// was. What is told of it says which node that was, the refusal with which the event was met, if it was, and the ids of what was sent.
     ///
-    /// Where that is `Memory`, the node is as it was, but for a tick of the master, which may have done all but write a checkpoint, and
+    /// Where the refusal is `Memory`, the node is as it was, but for a tick of the master, which may have done all but write a checkpoint, and
     /// for a restart of the master, behind which its disks wait. A message for which memory is wanting is lost. A message that was never
     /// sent, or is forgotten, is `Range`, and so is a node of which there is none.
-    pub fn step(&mut self, event: Event) -> Result<(), Refusal>
-        ensures { Happens (seen_of D.seen) (failures_of D.failures) arms event (history_of self.old) result (history_of self.new) }
+    pub fn step(&mut self, event: Event) -> Outcome
+        ensures { IsOutcome (seen_of D.seen) (failures_of D.failures) arms event (history_of self.old) result (history_of self.new) }
     {
         let Event { moment, happening } = event;
         let (by, done) = self.at_node(moment, happening);
-        self.tell(moment, by, done)
+        let first = self.sent.count(by);
+        let said = self.tell(moment, by, done);
+        let end = self.sent.count(by);
+        Outcome {
+            by,
+            said,
+            first,
+            end,
+        }
     }
 
-    /// One event after the other, and with what each was met. Where memory is wanting for that list, nothing happens.
-    pub fn run(&mut self, events: Vec<Event>) -> Result<Vec<Result<(), Refusal>>, AllocError>
-        ensures ok { IfOk result (λ said. HappensAll (seen_of D.seen) (failures_of D.failures) arms events.items said.items (history_of self.old) (history_of self.new)) }
+    /// One event after the other, and what is told of each. Where memory is wanting for that list, nothing happens.
+    pub fn run(&mut self, events: Vec<Event>) -> Result<Vec<Outcome>, AllocError>
+        ensures ok { IfOk result (λ outcomes. AreOutcomes (seen_of D.seen) (failures_of D.failures) arms events.items outcomes.items (history_of self.old) (history_of self.new)) }
+        ensures happens { IfOk result (λ outcomes. HappensAll (seen_of D.seen) (failures_of D.failures) arms events.items (all_said outcomes.items) (history_of self.old) (history_of self.new)) }
         ensures err { IfErr result (λ e. self.new ≡ self.old) }
     {
-        let mut said = Vec::with_capacity(self.nodes.alloc, events.len())?;
+        let mut outcomes = Vec::with_capacity(self.nodes.alloc, events.len())?;
         for event in events {
             let met = self.step(event);
-            said.push(met).unwrap();
+            outcomes.push(met).unwrap();
         }
-        Ok(said)
+        Ok(outcomes)
     }
 
     /// What has come back to a client since it asked, if something has. It is given once.

@@ -43,7 +43,7 @@ use Rattle.gs_msg.specs.declared.message.MsgId.{MsgId}
 use Rattle.gs_msg.specs.declared.node.NodeId.{NodeId}
 use Rattle.gs_msg.specs.declared.node.NodeId.TheVariants as nodes
 use Rattle.gs_replica.specs.Stands.{Edit}
-use Rattle.gs_world.specs.Histories.{AtNode, ComesTo, Happens, History, Outcome, told}
+use Rattle.gs_world.specs.Histories.{AtNode, ComesTo, Happens, History, Upshot, told}
 use Rattle.gs_world.specs.Sent.{message_of}
 use Rattle.gs_server.specs.Servers.{Server}
 use Rattle.gs_server.specs.Servers as servers
@@ -62,26 +62,26 @@ pub nothing_given : {Z : Type 0} (sent : List Message) (m : Message) → sent �
 nothing_given sent m none there = nil_contains m (subst (λ xs. Contains xs m) none there)
 
 -- something is sent at a delivery to a server: there is one, and it sends what it does
-pub record IsServed {D : Type 0} (now : Nodes D) (id : ℕ) (message : Message) (moment : Moment) (outcome : Outcome) : Type 0 where
+pub record IsServed {D : Type 0} (now : Nodes D) (id : ℕ) (message : Message) (moment : Moment) (outcome : Upshot) : Type 0 where
   pub server : Server
   pub found : slice_get now.servers id ≡ Some server
   pub sends : sent_at outcome ≡ (servers.handle server message moment).sent
 
 module _ {D : Type 0} (seen : D → List ℕ) (failures : D → ℕ) (armed : DiskId → ℕ → MasterPlace D → MasterPlace D) (now new : Nodes D) (message : Message) (moment : Moment) (m : Message) where
-  by_does : (id : ℕ) (s after : Server) (turn : Result Turn Refusal) (outcome : Outcome) → slice_get now.servers id ≡ Some s → ServerDoes (servers.handle s message moment) s turn after → outcome ≡ told turn → Contains (sent_at outcome) m → IsServed now id message moment outcome
+  by_does : (id : ℕ) (s after : Server) (turn : Result Turn Refusal) (outcome : Upshot) → slice_get now.servers id ≡ Some s → ServerDoes (servers.handle s message moment) s turn after → outcome ≡ told turn → Contains (sent_at outcome) m → IsServed now id message moment outcome
   by_does id s after (Ok turn) outcome found does is there = record { server = s; found = found; sends = ap sent_at is ∙ does.1 }
   by_does id s after (Err e) outcome found does is there = nothing_given (sent_at outcome) m (ap sent_at is) there
 
-  by_found : (id : ℕ) (o : Option Server) (turn : Result Turn Refusal) (outcome : Outcome) → slice_get now.servers id ≡ o
+  by_found : (id : ℕ) (o : Option Server) (turn : Result Turn Refusal) (outcome : Upshot) → slice_get now.servers id ≡ o
       → MatchOption o ((new ≡ now) × (turn ≡ Err refusals.Range)) (λ s. (after : Server) × (new ≡ with_servers (slice_set now.servers id after) now) × ServerDoes (servers.handle s message moment) s turn after) → outcome ≡ told turn → Contains (sent_at outcome) m → IsServed now id message moment outcome
   by_found id None turn outcome found refused is there = nothing_given (sent_at outcome) m (ap sent_at (is ∙ ap told refused.1)) there
   by_found id (Some s) turn outcome found does is there = by_does id s does.0 turn outcome found does.2 is there
 
-  by_delivery : (id : ℕ) (turn : Result Turn Refusal) (outcome : Outcome) → message.to ≡ nodes.Server id → Delivers seen failures message moment now turn new → outcome ≡ told turn → Contains (sent_at outcome) m → IsServed now id message moment outcome
+  by_delivery : (id : ℕ) (turn : Result Turn Refusal) (outcome : Upshot) → message.to ≡ nodes.Server id → Delivers seen failures message moment now turn new → outcome ≡ told turn → Contains (sent_at outcome) m → IsServed now id message moment outcome
   unfolding Delivers
   by_delivery id turn outcome to delivers is there = by_found id (slice_get now.servers id) turn outcome refl (subst (λ node. Hears seen failures message moment node now turn new) to delivers) is there
 
-  by_coming : (id : ℕ) (by : NodeId) (outcome : Outcome) → message.to ≡ nodes.Server id → ComesTo seen failures armed message moment now by outcome new → Contains (sent_at outcome) m → IsServed now id message moment outcome
+  by_coming : (id : ℕ) (by : NodeId) (outcome : Upshot) → message.to ≡ nodes.Server id → ComesTo seen failures armed message moment now by outcome new → Contains (sent_at outcome) m → IsServed now id message moment outcome
   by_coming id by outcome to (inl (is_by, turn, delivers, is)) there = by_delivery id turn outcome to delivers is there
   by_coming id by outcome to (inr (refused, same)) there = nothing_given (sent_at outcome) m (ap sent_at refused) there
 

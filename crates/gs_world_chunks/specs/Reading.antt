@@ -27,7 +27,7 @@ use Rattle.gs_msg.specs.declared.node.NodeId.TheVariants as nodes
 use Rattle.gs_msg.specs.declared.event.Event.{Event}
 use Rattle.gs_msg.specs.declared.event.Happening.TheVariants as happenings
 use Rattle.gs_replica.specs.Stands.{Edit}
-use Rattle.gs_world.specs.Histories.{Happens, History, Outcome}
+use Rattle.gs_world.specs.Histories.{Happens, History, Upshot}
 use Rattle.gs_master_spec.specs.Durable.{is_listed, is_rolling}
 
 -- what is asked of a text in blocks of a size: bytes from an offset on, as far as there are any, how many there are, or the digest of a block
@@ -63,7 +63,7 @@ IsFetch sent event chunk view epoch req asked =
     × (is_member view.members server ≡ true) × (message.body ≡ bodies.About chunk (chunks.Fetch req view.stamp epoch asked))
 
 -- what is sent at an event
-abbrev pub sent_at : Outcome → List Message
+abbrev pub sent_at : Upshot → List Message
 sent_at (Ok out) = out.0
 sent_at (Err refusal) = []
 

@@ -21,7 +21,7 @@ use Rattle.gs_server.specs.Servers as servers
 use Rattle.gs_nodes.specs.Happenings.{AtClient, AtServer, Delivers, Hears, ServerDoes, client_in, met_by}
 use Rattle.gs_nodes.specs.Nodes.{Nodes, with_clients, with_servers}
 use Rattle.gs_shell_desk.specs.Ways.{Ends, SendsAll, Way, counted, held_back, is_held, noted, shortened_by, under_way, with_nodes}
-use Rattle.gs_world.specs.Histories.{AtNode, Outcome, Tells, told}
+use Rattle.gs_world.specs.Histories.{AtNode, Upshot, Tells, told}
 use Rattle.gs_world.specs.Runs.{SameNodes, Comes}
 use Rattle.gs_world.specs.Sent.{Sent}
 use Rattle.gs_world.proofs.Sending.{numbered}
@@ -34,7 +34,7 @@ use Rattle.gs_world_laws.proofs.When.{StepsSo, When, when_both, when_then}
 -- ---- a node that does something has a list
 
 -- what a turn sends can be posted: there is a list of the node, or nothing is sent
-abbrev pub CanPost : Sent → NodeId → Outcome → Type 0
+abbrev pub CanPost : Sent → NodeId → Upshot → Type 0
 CanPost sent by (Ok (messages, said)) = HasList by sent ⊎ (messages ≡ [])
 CanPost sent by (Err refusal) = Unit {0}
 
@@ -142,7 +142,7 @@ noted_alike None w = as_it_is w
 noted_alike (Some refusal) w = shortened_alike refusal w
 
 -- what an event sends is under way; of a refused one nothing is
-abbrev pub IsOver : {D : Type 0} → Outcome → Way D → Way D → Type 0
+abbrev pub IsOver : {D : Type 0} → Upshot → Way D → Way D → Type 0
 IsOver {D} (Ok (messages, said)) old new = (mid : Way D) × SendsAll messages old mid × Alike mid new
 IsOver (Err refusal) old new = Alike old new
 
@@ -162,7 +162,7 @@ sent_moment {D} (message ∷ messages) w new (mid, sends_it, rest) = sent_moment
   | inr lost ↦ ap (λ (x : Way D). x.moment) lost
 ]
 
-over_moment : {D : Type 0} (outcome : Outcome) (w new : Way D) → IsOver outcome w new → new.moment ≡ w.moment
+over_moment : {D : Type 0} (outcome : Upshot) (w new : Way D) → IsOver outcome w new → new.moment ≡ w.moment
 over_moment (Ok (messages, said)) w new (mid, all, same) = same.moment ∙ sent_moment messages w mid all
 over_moment (Err refusal) w new same = same.moment
 
@@ -172,7 +172,7 @@ module _ {D : Type 0} (seen : D → List ℕ) (failures : D → ℕ) (keeps : Bo
   at_nodes sent w nodes same c =
       record { queue = c.queue; held = c.held; servers = c.servers ∙ sym same.servers; clients = c.clients ∙ sym same.clients; short = c.short }
 
-  one_step : (event : Event) (by : NodeId) (outcome : Outcome) (nodes : Nodes D) (said : Result (Unit {0}) Refusal) (old new : Way D) (sent after : Sent)
+  one_step : (event : Event) (by : NodeId) (outcome : Upshot) (nodes : Nodes D) (said : Result (Unit {0}) Refusal) (old new : Way D) (sent after : Sent)
       → AtNode seen failures unarmed event.moment event.happening (history sent old) by outcome nodes
       → Tells seen failures unarmed event.moment by outcome sent said after → new.nodes ≡ nodes → Covers after new
       → When keeps (IsStepWithin (Comes event)) → When keeps (IsNumber new.moment.0)
@@ -199,7 +199,7 @@ module _ {D : Type 0} (seen : D → List ℕ) (failures : D → ℕ) (keeps : Bo
       one_step event by (Ok (messages, said)) nodes (met_by said) old new sent p.after at (p.posts, refl) (same.nodes ∙ p.nodes) (alike_covers p.after mid new same p.covers) within small
 
   -- An event at its node, and what is sent of it, is a step.
-  pub event_leads : (happening : Happening) (by : NodeId) (outcome : Outcome) (nodes : Nodes D) (old new : Way D) (sent : Sent)
+  pub event_leads : (happening : Happening) (by : NodeId) (outcome : Upshot) (nodes : Nodes D) (old new : Way D) (sent : Sent)
       → AtNode seen failures unarmed old.moment happening (history sent old) by outcome nodes → CanPost sent by outcome → Covers sent old
       → When keeps (IsAskedWithin happening) → When keeps (IsNumber old.moment.0)
       → IsOver outcome (with_nodes nodes old) new → StepsSo seen failures keeps old new sent
@@ -214,7 +214,7 @@ module _ {D : Type 0} (seen : D → List ℕ) (failures : D → ℕ) (keeps : Bo
       small_then : new.moment ≡ old.moment → When keeps (IsNumber new.moment.0)
       small_then same = subst (λ (m : Moment). When keeps (IsNumber m.0)) (sym same) small
 
-      by_outcome : (o : Outcome) → AtNode seen failures unarmed old.moment happening (history sent old) by o nodes → CanPost sent by o → IsOver o (with_nodes nodes old) new → StepsSo seen failures keeps old new sent
+      by_outcome : (o : Upshot) → AtNode seen failures unarmed old.moment happening (history sent old) by o nodes → CanPost sent by o → IsOver o (with_nodes nodes old) new → StepsSo seen failures keeps old new sent
       by_outcome (Ok (messages, said)) at can (mid, all, same) =
           let c = at_nodes sent old nodes (at_node seen failures unarmed old.moment happening (history sent old) by (Ok (messages, said)) nodes at) covers in
           let later = small_then (over_moment (Ok (messages, said)) (with_nodes nodes old) new (mid, all, same)) in

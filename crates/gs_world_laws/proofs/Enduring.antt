@@ -19,7 +19,7 @@ use Rattle.gs_msg.specs.declared.message.MsgId.{MsgId}
 use Rattle.gs_msg.specs.declared.node.NodeId.{NodeId}
 use Rattle.gs_msg.specs.declared.node.StoreNode.TheVariants as keepers
 use Rattle.gs_msg.specs.declared.node.NodeId.TheVariants as nodes
-use Rattle.gs_world.specs.Histories.{AtMaster, AtNode, ComesTo, History, Outcome, arms, failures_of, seen_of, told}
+use Rattle.gs_world.specs.Histories.{AtMaster, AtNode, ComesTo, History, Upshot, arms, failures_of, seen_of, told}
 use Rattle.gs_world.specs.Runs.{Goes, Step, Comes, Takes}
 use Rattle.gs_world.specs.Sent.{IsSent, Sent, message_of}
 use Rattle.gs_nodes.specs.Happenings.{Delivers, Hears, MasterHears, MasterTicks}
@@ -85,7 +85,7 @@ module _ {D : Type 0} (seen : D → List ℕ) (failures : D → ℕ) where
   delivered_by message moment old new e to small may h hears = heard_by message moment message.to old new e to small may h hears
 
   module _ (armed : DiskId → ℕ → MasterPlace D → MasterPlace D) where
-    came_by : (message : Message) (moment : Moment) (old : Nodes D) (by : NodeId) (outcome : Outcome) (new : Nodes D) (e : Refusal) → outcome ≡ Err e → message.to ≡ nodes.Master → IsNumber moment.0 → MayBeHeard message.body
+    came_by : (message : Message) (moment : Moment) (old : Nodes D) (by : NodeId) (outcome : Upshot) (new : Nodes D) (e : Refusal) → outcome ≡ Err e → message.to ≡ nodes.Master → IsNumber moment.0 → MayBeHeard message.body
         → LastsSteady seen old.master → ComesTo seen failures armed message moment old by outcome new → e ≡ refusals.Memory
     came_by message moment old by outcome new e is to small may h comes = elim comes [
       | inl (at, turn, delivers, tells) ↦
@@ -93,14 +93,14 @@ module _ {D : Type 0} (seen : D → List ℕ) (failures : D → ℕ) where
       | inr (refused, same) ↦ for_memory outcome e is refused
     ]
       where
-        for_memory : (outcome : Outcome) (e : Refusal) → outcome ≡ Err e → outcome ≡ Err refusals.Memory → e ≡ refusals.Memory
+        for_memory : (outcome : Upshot) (e : Refusal) → outcome ≡ Err e → outcome ≡ Err refusals.Memory → e ≡ refusals.Memory
         for_memory outcome e is refused = cc
 
-    ticked_by : (moment : Moment) (old : Nodes D) (outcome : Outcome) (new : Nodes D) (e : Refusal) → outcome ≡ Err e → LastsSteady seen old.master → AtMaster (MasterTicks seen failures moment) old outcome new → e ≡ refusals.Memory
+    ticked_by : (moment : Moment) (old : Nodes D) (outcome : Upshot) (new : Nodes D) (e : Refusal) → outcome ≡ Err e → LastsSteady seen old.master → AtMaster (MasterTicks seen failures moment) old outcome new → e ≡ refusals.Memory
     ticked_by moment old outcome new e is h (place, turn, does, same, tells) =
         ticks_at moment old.master e place h (subst (λ (r : Result Turn Refusal). MasterTicks seen failures moment old.master r place) (told_err turn e (sym tells ∙ is)) does)
 
-    happens_for_memory : (moment : Moment) (happening : Happening) (old : History D) (by : NodeId) (outcome : Outcome) (new : Nodes D) → AtNode seen failures armed moment happening old by outcome new → IsNumber moment.0
+    happens_for_memory : (moment : Moment) (happening : Happening) (old : History D) (by : NodeId) (outcome : Upshot) (new : Nodes D) → AtNode seen failures armed moment happening old by outcome new → IsNumber moment.0
         → KeepsTypes old → LastsSteady seen old.nodes.master → IsForMemory happening old outcome
     happens_for_memory moment (happenings.Ask req request) old by outcome new at small keeps h = tt
     happens_for_memory moment (happenings.Deliver id) old by outcome new at small keeps h =

@@ -32,7 +32,7 @@ use Rattle.gs_nodes.specs.Happenings.{ClientAsks, ClientHears, Delivers, Hears, 
 use Rattle.gs_nodes.specs.Nodes.{Nodes, with_master}
 use Rattle.gs_nodes.specs.declared.place.MasterPlace.{MasterPlace}
 use Rattle.gs_nodes.specs.declared.place.MasterPlace.TheVariants.{Standing, Closed, Away}
-use Rattle.gs_world.specs.Histories.{AtNode, Begins, ComesTo, History, Outcome, Restarts, Ticks}
+use Rattle.gs_world.specs.Histories.{AtNode, Begins, ComesTo, History, Upshot, Restarts, Ticks}
 use Rattle.gs_world.specs.Lasting.{failures_at}
 use Rattle.gs_world.specs.Runs.{Goes, RunsTo, Step, Comes, Takes}
 use Rattle.gs_world.specs.Sent.{message_of}
@@ -126,7 +126,7 @@ module _ {D : Type 0} (seen : D → List ℕ) (failures : D → ℕ) where
   unfolding Delivers
   delivered message moment old turn new hear = heard message moment message.to old turn new hear
 
-  came : (found : Option Message) (moment : Moment) (old : Nodes D) (by : NodeId) (outcome : Outcome) (new : Nodes D)
+  came : (found : Option Message) (moment : Moment) (old : Nodes D) (by : NodeId) (outcome : Upshot) (new : Nodes D)
       → MatchOption found ((outcome ≡ Err refusals.Range) × (new ≡ old)) (λ message. ComesTo seen failures unarmed message moment old by outcome new) → Rises old.master new.master
   came None moment old by outcome new (refused, is) = stays old new (ap (λ (n : Nodes D). n.master) is)
   came (Some message) moment old by outcome new comes = elim comes [
@@ -134,15 +134,15 @@ module _ {D : Type 0} (seen : D → List ℕ) (failures : D → ℕ) where
     | inr (refused, is) ↦ stays old new (ap (λ (n : Nodes D). n.master) is)
   ]
 
-  ticked : (moment : Moment) (node : StoreNode) (old : Nodes D) (outcome : Outcome) (new : Nodes D) → Ticks seen failures unarmed moment node old outcome new → Rises old.master new.master
+  ticked : (moment : Moment) (node : StoreNode) (old : Nodes D) (outcome : Upshot) (new : Nodes D) → Ticks seen failures unarmed moment node old outcome new → Rises old.master new.master
   ticked moment keepers.Master old outcome new (place, turn, does, is, told) = moved place old new is (ticks moment old.master turn place does)
   ticked moment (keepers.Server id) old outcome new (turn, at, told) = stays old new (at_server id (λ s. ServerDoes (servers.tick s moment) s) old turn new at)
 
-  restarted : (node : StoreNode) (old : Nodes D) (outcome : Outcome) (new : Nodes D) → Restarts seen failures unarmed node old outcome new → Rises old.master new.master
+  restarted : (node : StoreNode) (old : Nodes D) (outcome : Upshot) (new : Nodes D) → Restarts seen failures unarmed node old outcome new → Rises old.master new.master
   restarted keepers.Master old outcome new (place, turn, does, is, told) = moved place old new is (reopens old.config old.master turn place does)
   restarted (keepers.Server id) old outcome new (done, at, told) = stays old new (at_server id (λ s done after. (done ≡ Ok tt) × (after ≡ servers.restart s)) old done new at)
 
-  at_node : (moment : Moment) (happening : Happening) (old : History D) (by : NodeId) (outcome : Outcome) (new : Nodes D) → AtNode seen failures unarmed moment happening old by outcome new → Rises old.nodes.master new.master
+  at_node : (moment : Moment) (happening : Happening) (old : History D) (by : NodeId) (outcome : Upshot) (new : Nodes D) → AtNode seen failures unarmed moment happening old by outcome new → Rises old.nodes.master new.master
   at_node moment (happenings.Ask req request) old by outcome new (is, (out, at, told)) = stays old.nodes new (at_client req.client (Err refusals.Range) (ClientAsks req.number request) old.nodes out new at)
   at_node moment (happenings.Deliver id) old by outcome new comes = came (message_of old.sent id) moment old.nodes by outcome new comes
   at_node moment (happenings.Tick node) old by outcome new (is, does) = ticked moment node old.nodes outcome new does

@@ -55,7 +55,7 @@ use Rattle.gs_nodes.specs.Nodes.{Nodes, new_clients, silent_servers, with_client
 use Rattle.gs_nodes.specs.declared.place.MasterPlace.{MasterPlace}
 use Rattle.gs_nodes.specs.declared.place.MasterPlace.TheVariants.{Standing, Closed, Away}
 use Rattle.gs_world.proofs.Sending.{numbered, same_posts}
-use Rattle.gs_world.specs.Histories.{AtNode, Befalls, Begins, ComesTo, History, Outcome, Restarts, Tells, Ticks, asked, silent, told}
+use Rattle.gs_world.specs.Histories.{AtNode, Befalls, Begins, ComesTo, History, Upshot, Restarts, Tells, Ticks, asked, silent, told}
 use Rattle.gs_world.specs.Lasting.{HearsNamed}
 use Rattle.gs_world.specs.Runs.{Goes, RunsTo, Step, Comes, Takes}
 use Rattle.gs_world.specs.Sent.{Appends, IsPosted, Line, Sent, lost_all, message_in, message_of, none_sent, posts_of, with_line}
@@ -185,7 +185,7 @@ request_well req (requests.Write handle members primary stamp op bytes) is may =
 request_well req (requests.Fetch to handle stamp epoch asked) is may = (tt, tt)
 
 -- what an event tells may be said
-abbrev TellsWell : Outcome → Type 0
+abbrev TellsWell : Upshot → Type 0
 TellsWell (Ok (messages, said)) = AreWell messages
 TellsWell (Err refusal) = Unit {0}
 
@@ -292,7 +292,7 @@ abbrev ClientsNumbered : {D : Type 0} → Nodes D → Type 0
 ClientsNumbered n = (place : ℕ) (c : Node) → slice_get n.clients place ≡ Some c → HasNumber c
 
 -- what an event leaves of the nodes, and tells
-record Leaves {D : Type 0} (outcome : Outcome) (new : Nodes D) : Type 0 where
+record Leaves {D : Type 0} (outcome : Upshot) (new : Nodes D) : Type 0 where
   says : TellsWell outcome
   servers : ServersCount new
   clients : ClientsNumbered new
@@ -305,14 +305,14 @@ module _ {D : Type 0} where
   abbrev Both : Nodes D → Type 0
   Both n = ServersCount n × ClientsNumbered n
 
-  left : (outcome : Outcome) (old new : Nodes D) → new ≡ old → TellsWell outcome → Both old → Leaves outcome new
+  left : (outcome : Upshot) (old new : Nodes D) → new ≡ old → TellsWell outcome → Both old → Leaves outcome new
   left outcome old new same says both = subst (λ n. Leaves outcome n) (sym same) (record { says = says; servers = both.0; clients = both.1 })
 
-  at_master : (outcome : Outcome) (place : MasterPlace D) (old new : Nodes D) → new ≡ with_master place old → TellsWell outcome → Both old → Leaves outcome new
+  at_master : (outcome : Upshot) (place : MasterPlace D) (old new : Nodes D) → new ≡ with_master place old → TellsWell outcome → Both old → Leaves outcome new
   at_master outcome place old new same says both = subst (λ n. Leaves outcome n) (sym same) (record { says = says; servers = both.0; clients = both.1 })
 
   -- at a server
-  found_server : {A : Type 0} (found : Option Server) (id : ℕ) (does : Server → Result A Refusal → Server → Type 0) (old : Nodes D) (result : Result A Refusal) (new : Nodes D) (outcome : Outcome)
+  found_server : {A : Type 0} (found : Option Server) (id : ℕ) (does : Server → Result A Refusal → Server → Type 0) (old : Nodes D) (result : Result A Refusal) (new : Nodes D) (outcome : Upshot)
       → MatchOption found ((new ≡ old) × (result ≡ Err refusals.Range)) (λ s. (after : Server) × (new ≡ with_servers (slice_set old.servers id after) old) × does s result after) → slice_get old.servers id ≡ found
       → (result ≡ Err refusals.Range → TellsWell outcome) → ((s after : Server) → IsCountedServer s → does s result after → IsCountedServer after × TellsWell outcome) → Both old → Leaves outcome new
   found_server None id does old result new outcome (same, refused) is none some both = left outcome old new same (none refused) both
@@ -320,12 +320,12 @@ module _ {D : Type 0} where
       let made = some s after (both.0 id s is) did in
       subst (λ n. Leaves outcome n) (sym same) (record { says = made.1; servers = λ j x at. set_one IsCountedServer old.servers id after made.0 j x (λ before. both.0 j x before) at; clients = both.1 })
 
-  at_server : {A : Type 0} (id : ℕ) (does : Server → Result A Refusal → Server → Type 0) (old : Nodes D) (result : Result A Refusal) (new : Nodes D) (outcome : Outcome) → AtServer id does old result new
+  at_server : {A : Type 0} (id : ℕ) (does : Server → Result A Refusal → Server → Type 0) (old : Nodes D) (result : Result A Refusal) (new : Nodes D) (outcome : Upshot) → AtServer id does old result new
       → (result ≡ Err refusals.Range → TellsWell outcome) → ((s after : Server) → IsCountedServer s → does s result after → IsCountedServer after × TellsWell outcome) → Both old → Leaves outcome new
   at_server id does old result new outcome at none some both = found_server (slice_get old.servers id) id does old result new outcome at refl none some both
 
   -- at a client
-  found_client : {A : Type 0} (found : Option Node) (place : ℕ) (none : A) (does : Node → A → Node → Type 0) (old : Nodes D) (result : A) (new : Nodes D) (outcome : Outcome)
+  found_client : {A : Type 0} (found : Option Node) (place : ℕ) (none : A) (does : Node → A → Node → Type 0) (old : Nodes D) (result : A) (new : Nodes D) (outcome : Upshot)
       → MatchOption found ((new ≡ old) × (result ≡ none)) (λ n. (after : Node) × (new ≡ with_clients (slice_set old.clients place after) old) × does n result after) → ((n : Node) → found ≡ Some n → HasNumber n)
       → (result ≡ none → TellsWell outcome) → ((n after : Node) → HasNumber n → does n result after → HasNumber after × TellsWell outcome) → Both old → Leaves outcome new
   found_client None place none does old result new outcome (same, refused) numbered nobody some both = left outcome old new same (nobody refused) both
@@ -333,7 +333,7 @@ module _ {D : Type 0} where
       let made = some n after (numbered n refl) did in
       subst (λ n. Leaves outcome n) (sym same) (record { says = made.1; servers = both.0; clients = λ j x at. set_one HasNumber old.clients place after made.0 j x (λ before. both.1 j x before) at })
 
-  at_client : {A : Type 0} (id : ClientId) (none : A) (does : Node → A → Node → Type 0) (old : Nodes D) (result : A) (new : Nodes D) (outcome : Outcome) → AtClient id none does old result new
+  at_client : {A : Type 0} (id : ClientId) (none : A) (does : Node → A → Node → Type 0) (old : Nodes D) (result : A) (new : Nodes D) (outcome : Upshot) → AtClient id none does old result new
       → (result ≡ none → TellsWell outcome) → ((n after : Node) → HasNumber n → does n result after → HasNumber after × TellsWell outcome) → Both old → Leaves outcome new
   at_client id none does old result new outcome at nobody some both =
       found_client (client_in old.clients id) (id.0 - 1) none does old result new outcome at (numbered_in (id.0 == 0) old.clients (id.0 - 1) both.1) nobody some both
@@ -366,7 +366,7 @@ takes_number req reply n has = by_test _
 
 hears_number : (body : Body) (n : Node) → HasNumber n → IfOk (hears body n) HasNumber
 hears_number (bodies.Reply req result) n has = takes_number req (answered replies.Answer result) n has
-hears_number (bodies.Done req result) n has = takes_number req (answered replies.Outcome result) n has
+hears_number (bodies.Done req result) n has = takes_number req (answered replies.Upshot result) n has
 hears_number (bodies.Bytes req result) n has = takes_number req (answered replies.Given result) n has
 hears_number body n has = tt
 
@@ -406,10 +406,10 @@ module _ {D : Type 0} (seen : D → List ℕ) (failures : D → ℕ) where
   delivered message moment old turn new may hear both = heard_at message moment message.to old turn new may hear both
 
   module _ (armed : DiskId → ℕ → MasterPlace D → MasterPlace D) where
-    as_told : (turn : Result Turn Refusal) (outcome : Outcome) (new : Nodes D) → outcome ≡ told turn → Leaves (told turn) new → Leaves outcome new
+    as_told : (turn : Result Turn Refusal) (outcome : Upshot) (new : Nodes D) → outcome ≡ told turn → Leaves (told turn) new → Leaves outcome new
     as_told turn outcome new is leaves = subst (λ o. Leaves o new) (sym is) leaves
 
-    came : (found : Option Message) (moment : Moment) (old : Nodes D) (by : NodeId) (outcome : Outcome) (new : Nodes D) → ((message : Message) → found ≡ Some message → MayBeSaid message.to message.body)
+    came : (found : Option Message) (moment : Moment) (old : Nodes D) (by : NodeId) (outcome : Upshot) (new : Nodes D) → ((message : Message) → found ≡ Some message → MayBeSaid message.to message.body)
         → MatchOption found ((outcome ≡ Err refusals.Range) × (new ≡ old)) (λ message. ComesTo seen failures armed message moment old by outcome new) → Both old → Leaves outcome new
     came None moment old by outcome new may (refused, same) both = left outcome old new same (subst TellsWell (sym refused) tt) both
     came (Some message) moment old by outcome new may comes both = elim comes [
@@ -417,32 +417,32 @@ module _ {D : Type 0} (seen : D → List ℕ) (failures : D → ℕ) where
       | inr (refused, same) ↦ left outcome old new same (subst TellsWell (sym refused) tt) both
     ]
 
-    ticked : (moment : Moment) (node : StoreNode) (old : Nodes D) (outcome : Outcome) (new : Nodes D) → Ticks seen failures armed moment node old outcome new → Both old → Leaves outcome new
+    ticked : (moment : Moment) (node : StoreNode) (old : Nodes D) (outcome : Upshot) (new : Nodes D) → Ticks seen failures armed moment node old outcome new → Both old → Leaves outcome new
     ticked moment keepers.Master old outcome new (place, turn, does, is, tells) both = as_told turn outcome new tells (at_master (told turn) place old new is (ticks_well seen failures moment old.master turn place does) both)
     ticked moment (keepers.Server id) old outcome new (turn, at, tells) both =
         as_told turn outcome new tells (at_server id (λ s. ServerDoes (servers.tick s moment) s) old turn new (told turn) at (refused_well turn)
         (λ s after counted does. server_does (servers.tick s moment) s turn after counted (tick_counts s moment counted) (tick_calls_nothing s moment) does) both)
 
-    befell : (id : ℕ) (does : Server → Result (Unit {0}) Refusal → Server → Type 0) (old : Nodes D) (outcome : Outcome) (new : Nodes D) → Befalls id does old outcome new
+    befell : (id : ℕ) (does : Server → Result (Unit {0}) Refusal → Server → Type 0) (old : Nodes D) (outcome : Upshot) (new : Nodes D) → Befalls id does old outcome new
         → ((s after : Server) (done : Result (Unit {0}) Refusal) → IsCountedServer s → does s done after → IsCountedServer after) → Both old → Leaves outcome new
     befell id does old outcome new (done, at, tells) some both =
         subst (λ o. Leaves o new) (sym tells) (at_server id does old done new (silent done) at (λ refused. silent_well done) (λ s after counted did. (some s after done counted did, silent_well done)) both)
 
-    restarted_at : (node : StoreNode) (old : Nodes D) (outcome : Outcome) (new : Nodes D) → Restarts seen failures armed node old outcome new → Both old → Leaves outcome new
+    restarted_at : (node : StoreNode) (old : Nodes D) (outcome : Upshot) (new : Nodes D) → Restarts seen failures armed node old outcome new → Both old → Leaves outcome new
     restarted_at keepers.Master old outcome new (place, turn, does, is, tells) both =
         as_told turn outcome new tells (at_master (told turn) place old new is (reopens_well seen failures old.config old.master turn place does) both)
     restarted_at (keepers.Server id) old outcome new befalls both =
         befell id (λ s done after. (done ≡ Ok tt) × (after ≡ servers.restart s)) old outcome new befalls (λ s after done counted did. subst IsCountedServer (sym did.1) (restart_counts s counted)) both
 
-    beat_well : (s : Server) (outcome : Outcome) → (outcome ≡ Ok (servers.beat s ∷ [], None)) ⊎ (outcome ≡ Err refusals.Memory) → TellsWell outcome
+    beat_well : (s : Server) (outcome : Upshot) → (outcome ≡ Ok (servers.beat s ∷ [], None)) ⊎ (outcome ≡ Err refusals.Memory) → TellsWell outcome
     beat_well s outcome (inl is) = subst TellsWell (sym is) (record { named = tt; heard = λ names. tt }, tt)
     beat_well s outcome (inr is) = subst TellsWell (sym is) tt
 
-    beats_well : (found : Option Server) (outcome : Outcome) → MatchOption found (outcome ≡ Err refusals.Range) (λ s. (outcome ≡ Ok (servers.beat s ∷ [], None)) ⊎ (outcome ≡ Err refusals.Memory)) → TellsWell outcome
+    beats_well : (found : Option Server) (outcome : Upshot) → MatchOption found (outcome ≡ Err refusals.Range) (λ s. (outcome ≡ Ok (servers.beat s ∷ [], None)) ⊎ (outcome ≡ Err refusals.Memory)) → TellsWell outcome
     beats_well None outcome is = subst TellsWell (sym is) tt
     beats_well (Some s) outcome told_so = beat_well s outcome told_so
 
-    at_node : (moment : Moment) (happening : Happening) (old : History D) (by : NodeId) (outcome : Outcome) (new : Nodes D) → AtNode seen failures armed moment happening old by outcome new → IsAskedWithin happening → KeepsTypes old → Leaves outcome new
+    at_node : (moment : Moment) (happening : Happening) (old : History D) (by : NodeId) (outcome : Upshot) (new : Nodes D) → AtNode seen failures armed moment happening old by outcome new → IsAskedWithin happening → KeepsTypes old → Leaves outcome new
     at_node moment (happenings.Ask req request) old by outcome new (is, (out, at, tells)) may keeps =
         subst (λ o. Leaves o new) (sym tells) (at_client req.client (Err refusals.Range) (ClientAsks req.number request) old.nodes out new (asked out) at (λ refused. subst (λ o. TellsWell (asked o)) (sym refused) tt)
         (λ n after has a. asked_well req.number request n out after may.0 may.1 has a) (keeps.servers, keeps.clients))
@@ -458,7 +458,7 @@ module _ {D : Type 0} (seen : D → List ℕ) (failures : D → ℕ) where
     at_node moment (happenings.FailDisk disk call) old by outcome new (is, (same, tells)) may keeps =
         at_master outcome (armed disk call old.nodes.master) old.nodes new same (subst TellsWell (sym tells) tt) (keeps.servers, keeps.clients)
 
-    tells_said : (moment : Moment) (by : NodeId) (outcome : Outcome) (old : Sent) (said : Result (Unit {0}) Refusal) (new : Sent) → Tells seen failures armed moment by outcome old said new → TellsWell outcome → AllSaid old → AllSaid new
+    tells_said : (moment : Moment) (by : NodeId) (outcome : Upshot) (old : Sent) (said : Result (Unit {0}) Refusal) (new : Sent) → Tells seen failures armed moment by outcome old said new → TellsWell outcome → AllSaid old → AllSaid new
     tells_said moment by (Ok (messages, what)) old said new (posts, is) well all = posted_said moment by messages old new posts all well
     tells_said moment by (Err refusal) old said new (same, is) well all = subst AllSaid (sym same) all
 

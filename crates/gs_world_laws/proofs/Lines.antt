@@ -37,7 +37,7 @@ use Rattle.gs_shell_desk.specs.Starting.{Starts, begun}
 use Rattle.gs_shell_desk.specs.Ways.{Sends, Way, shortened, way_of, with_nodes}
 use Rattle.gs_shell_desk.specs.declared.desk.Desk.{Desk}
 use Rattle.gs_shell_desk.specs.declared.wire.Wire.{Wire}
-use Rattle.gs_world.specs.Histories.{AtNode, Outcome, silent, told}
+use Rattle.gs_world.specs.Histories.{AtNode, Upshot, silent, told}
 use Rattle.gs_world.specs.Sent.{IsSent, Sent, none_sent}
 use Rattle.gs_world_laws.specs.Asking.{AllAsked, MayBeAsked}
 use Rattle.gs_world_laws.specs.Reached.{AllSent, Covers, IsReachedDesk, LeadsBySteps, history, unarmed}
@@ -153,7 +153,7 @@ module _ {D : Type 0} (seen : D → List ℕ) (failures : D → ℕ) (keeps : Bo
         (delivers_whole seen failures keeps mid new rest)
   ]
 
-  abbrev IsOutcome : Server → Outcome → Type 0
+  abbrev IsOutcome : Server → Upshot → Type 0
   IsOutcome s outcome = Ok (servers.beat s ∷ [], None) ≡ outcome
 
   -- the report is the one message that goes out

@@ -14,7 +14,7 @@ use Rattle.gs_base.specs.declared.numbers.Stamp.{Stamp}
 use Rattle.gs_base.specs.declared.refusal.Refusal.{Refusal}
 use Rattle.gs_base.specs.declared.refusal.Refusal.TheVariants as refusals
 use Rattle.gs_path.specs.Path.{Path}
-use Rattle.gs_tree.specs.Edits.{hidden_path, old_name, same_path}
+use Rattle.gs_tree.specs.Edits.{hidden_path, old_name, same_path, target_of}
 use Rattle.gs_tree.specs.Entry.{Entry, Dir, File}
 use Rattle.gs_tree.specs.Find.{Rows}
 use Rattle.gs_edit.specs.Edits.{edited}
@@ -42,7 +42,7 @@ use Rattle.gs_msg.specs.declared.node.NodeId.TheVariants as nodes
 use Rattle.gs_place.specs.Needs.{most_needed_of}
 use Rattle.gs_master_record.specs.Plain.{PlainEdit, PlainEntry, AddChunk, Cow, Create, Edited, Finalize, Hide, Mkdirs, Prepare, Rename, RollbackBegin, RollbackCommit, Snapshot, Unhide}
 use Rattle.gs_master_spec.specs.Beginning.{all_begun, begin_at, begun, copy_plan, counted_views, create_plan, has_handle, has_versions, members_at, next_stamp, targets_for, waits_from_now, waits_on}
-use Rattle.gs_master_spec.specs.Calls.{accept_plan, answered_with, deleted, edit_if, edited_by, found_chunk, has_visible_child, is_shared, listing, location, looked_up, refused_before, status, told_phase}
+use Rattle.gs_master_spec.specs.Calls.{accept_plan, answered_with, deleted, edit_if, edited_by, found_chunk, has_visible_child, is_shared, listing, location, looked_up, most_chunks, refused_before, status, told_phase}
 use Rattle.gs_master_spec.specs.Chunks.{Chunk, chunk_at, heard_no, heard_yes, hears, is_leased, is_quiet, is_target, is_wanted, may_begin, members_of, settling, step_at_tick, step_of_no, step_of_yes, view_by, view_of}
 use Rattle.gs_master_spec.specs.Durable.{Durable, is_rolling, prepared_view}
 use Rattle.gs_master_spec.specs.Handling.{Numbered, New, Again, Older, about_turn, call_turn, called, called_unless, checkpoint, checkpoint_body, checkpoint_tests, due, from_client, from_node, granted, granted_at, granted_view, handle, numbered, pressed, pressed_at, pressed_if, proposals, replied_again, server_turn, taken_as, tick, told_again, waits_still, written_if_due, written_unless}
@@ -52,7 +52,7 @@ use Rattle.gs_master_spec.specs.State.{Plan, State, Turn, about, all_ended_by, a
 use Rattle.gs_master_spec.specs.Undoing.{all_undone, edited_names}
 use Rattle.gs_master_spec.specs.Upgrades.{accepted_plan, all_unquiet, answers_for, begin_tests, chunk_count, commit_if, commit_on, commit_tests, end_tests, finalize, is_last_epoch, prepare_begin, prepare_commit, rollback_begin, tell_all, told_of, unless, unrestored}
 use Rattle.gs_master_spec.specs.Volatile.{is_pending}
-use Rattle.gs_master_spec.specs.Working.{begin_pending, begins, begins_new, begins_snapshot, copied_on_write, created_on, extended_at, extends, forgotten_chunks, found_for_writing, is_wanted_at, leased, may_use, most_chunks, needs_of, removed_paths, replicated_to, replicates_chunk, replicates_most, scan_plan, scanned, snapshot_if, unquiet, waiting_for, written_at}
+use Rattle.gs_master_spec.specs.Working.{begin_pending, begins, begins_new, begins_snapshot, copied_on_write, created_on, extended_at, extends, forgotten_chunks, found_for_writing, is_wanted_at, leased, may_use, needs_of, removed_paths, replicated_to, replicates_chunk, replicates_most, scan_plan, scanned, snapshot_if, unquiet, waiting_for, written_at}
 use Rattle.gs_master_spec.specs.declared.asking.Asking.{Asking}
 use Rattle.gs_master_spec.specs.declared.asking.Step.{Step}
 use Rattle.gs_master_spec.specs.declared.asking.Step.TheVariants as steps
@@ -306,7 +306,7 @@ module _ (Says : Message → Type 0) (kinds : EachKind Says) where
   called_said : (config : Config) (s : State) (req : ReqId) (moment : Moment) (call : Call) → Said (called config s req moment call)
   called_said config s req moment (calls.Mkdirs path) = edited_said s req (Mkdirs path) answers.Nothing
   called_said config s req moment (calls.Create path) = edited_said s req (Create path) answers.Nothing
-  called_said config s req moment (calls.Rename from to) = edited_said s req (Rename from to) answers.Nothing
+  called_said config s req moment (calls.Rename from to) = edit_said s req (Rename from (target_of (fin.get s.durable.names.tree) from to)) answers.Nothing (edited_names (Rename from to) s.durable.names)
   called_said config s req moment (calls.Delete path recursive) = deleted_said s req path recursive moment
   called_said config s req moment (calls.Undelete path) = edited_said s req (Unhide path) (answers.Path (unhide_target path (old_name path)))
   called_said config s req moment (calls.Snapshot from to) = snapshot_if_said s req from to (edited (edits.Snapshot from to) (fin.entries s.durable.names.tree))

@@ -28,7 +28,7 @@ use Rattle.gs_msg.specs.declared.node.NodeId.{NodeId}
 use Rattle.gs_msg.specs.declared.node.NodeId.TheVariants as nodes
 use Rattle.gs_msg.specs.declared.node.StoreNode.TheVariants as keepers
 use Rattle.gs_world.proofs.Staying.{at_client, at_node}
-use Rattle.gs_world.specs.Histories.{AtNode, ComesTo, History, Outcome, Tells, silent, told}
+use Rattle.gs_world.specs.Histories.{AtNode, ComesTo, History, Upshot, Tells, silent, told}
 use Rattle.gs_world.specs.Lasting.{failures_at}
 use Rattle.gs_world.specs.Runs.{Goes, SameNodes, Step, Comes, Takes}
 use Rattle.gs_world.specs.Sent.{IsSent, Sent}
@@ -73,7 +73,7 @@ module _ {D : Type 0} (seen : D → List ℕ) (failures : D → ℕ) where
   covers_there sent w there same c =
       record { queue = c.queue; held = c.held; servers = c.servers ∙ sym same.servers; clients = c.clients ∙ sym same.clients; short = c.short }
 
-  one_goes : (event : Event) (by : NodeId) (outcome : Outcome) (there : Nodes D) (said : Result (Unit {0}) Refusal) (old new : Way D) (sent after : Sent)
+  one_goes : (event : Event) (by : NodeId) (outcome : Upshot) (there : Nodes D) (said : Result (Unit {0}) Refusal) (old new : Way D) (sent after : Sent)
       → AtNode seen failures unarmed event.moment event.happening (history sent old) by outcome there
       → Tells seen failures unarmed event.moment by outcome sent said after → new.nodes ≡ there → Covers after new → Going event sent old new
   one_goes event by outcome there said old new sent after at tells is covers = record {
@@ -88,7 +88,7 @@ module _ {D : Type 0} (seen : D → List ℕ) (failures : D → ℕ) where
   posted event by messages said there old mid new sent at same p =
       one_goes event by (Ok (messages, said)) there (met_by said) old new sent p.after at (p.posts, refl) (same.nodes ∙ p.nodes) (alike_covers p.after mid new same p.covers)
 
-  event_goes : (event : Event) (by : NodeId) (outcome : Outcome) (there : Nodes D) (old new : Way D) (sent : Sent)
+  event_goes : (event : Event) (by : NodeId) (outcome : Upshot) (there : Nodes D) (old new : Way D) (sent : Sent)
       → AtNode seen failures unarmed event.moment event.happening (history sent old) by outcome there → CanPost sent by outcome → Covers sent old
       → IsOver outcome (with_nodes there old) new → Going event sent old new
   event_goes event by (Ok (messages, said)) there old new sent at can covers (mid, all, same) =
@@ -225,8 +225,8 @@ module _ {D : Type 0} (seen : D → List ℕ) (failures : D → ℕ) where
         subst (λ x. Met x) (sym same)
         (met_on (Takes client) old (with_nodes there old) w.sent w (found, takes, refl) tt (covers_there w.sent old there kept w.covers) (ap (failures_at failures) left.0) w.moment (subst (λ (x : Way D). HasMaster x.nodes) same stands))
 
-    abbrev IsOutcome : Server → Outcome → Type 0
-    IsOutcome s outcome = ◌≡◌ {A = Outcome} (Ok (servers.beat s ∷ [], None)) outcome
+    abbrev IsOutcome : Server → Upshot → Type 0
+    IsOutcome s outcome = ◌≡◌ {A = Upshot} (Ok (servers.beat s ∷ [], None)) outcome
 
     beats_on : (id : ℕ) (s : Server) (old new : Way D) → Met old → slice_get old.nodes.servers id ≡ Some s → Sends (servers.beat s) (record old { drops = 0 }) new → IsCalm failures old new → HasMaster new.nodes → Met new
     beats_on id s old new w is sent_one calm stands =

@@ -35,7 +35,7 @@ use Rattle.gs_master_record.proofs.Form.{of_form}
 use Rattle.gs_master_record.specs.Encoding.{encoded, kind}
 use Rattle.gs_master_record.specs.Plain.{PlainEntry, Edited, Finalize, Holder, Prepare, Propose, RollbackBegin, RollbackCommit, Said, Settle, Whole}
 use Rattle.gs_master_record.specs.Writable.{IsEntry}
-use Rattle.gs_world.specs.Histories.{AtNode, ComesTo, History, Outcome, Restarts, Ticks}
+use Rattle.gs_world.specs.Histories.{AtNode, ComesTo, History, Upshot, Restarts, Ticks}
 use Rattle.gs_world.specs.Lasting.{IsToldIn, StandsFirm, failures_at}
 use Rattle.gs_world.specs.Runs.{Goes, Step, Comes, Takes}
 use Rattle.gs_world.specs.Sent.{message_of}
@@ -305,7 +305,7 @@ module _ {D : Type 0} (seen : D → List ℕ) (failures : D → ℕ) where
     unfolding Delivers
     delivered message moment old turn new hear = heard message moment message.to old turn new hear
 
-    came : (found : Option Message) (moment : Moment) (old : Nodes D) (by : NodeId) (outcome : Outcome) (new : Nodes D)
+    came : (found : Option Message) (moment : Moment) (old : Nodes D) (by : NodeId) (outcome : Upshot) (new : Nodes D)
         → MatchOption found ((outcome ≡ Err refusals.Range) × (new ≡ old)) (λ message. ComesTo seen failures unarmed message moment old by outcome new) → Kept old new
     came None moment old by outcome new (refused, is) = stays old new (ap (λ (n : Nodes D). n.master) is)
     came (Some message) moment old by outcome new comes = elim comes [
@@ -313,17 +313,17 @@ module _ {D : Type 0} (seen : D → List ℕ) (failures : D → ℕ) where
       | inr (refused, is) ↦ stays old new (ap (λ (n : Nodes D). n.master) is)
     ]
 
-    tick_kept : (moment : Moment) (node : StoreNode) (old : Nodes D) (outcome : Outcome) (new : Nodes D) → Ticks seen failures unarmed moment node old outcome new → Kept old new
+    tick_kept : (moment : Moment) (node : StoreNode) (old : Nodes D) (outcome : Upshot) (new : Nodes D) → Ticks seen failures unarmed moment node old outcome new → Kept old new
     tick_kept moment keepers.Master old outcome new (place, turn, does, is, told) =
         moved place old new is (λ m at firm w same. ticks_wrote moment m turn place firm.sound w (subst (λ (p : MasterPlace D). MasterTicks seen failures moment p turn place) at does) same)
     tick_kept moment (keepers.Server id) old outcome new (turn, at, told) = stays old new (server_leaves seen failures id (λ s. ServerDoes (servers.tick s moment) s) old turn new at)
 
-    restart_kept : (node : StoreNode) (old : Nodes D) (outcome : Outcome) (new : Nodes D) → Restarts seen failures unarmed node old outcome new → Kept old new
+    restart_kept : (node : StoreNode) (old : Nodes D) (outcome : Upshot) (new : Nodes D) → Restarts seen failures unarmed node old outcome new → Kept old new
     restart_kept keepers.Master old outcome new (place, turn, does, is, told) =
         moved place old new is (λ m at firm w same. reopens_wrote old.config m turn place firm w (subst (λ (p : MasterPlace D). Reopens seen failures old.config p turn place) at does))
     restart_kept (keepers.Server id) old outcome new (done, at, told) = stays old new (server_leaves seen failures id (λ s done after. (done ≡ Ok tt) × (after ≡ servers.restart s)) old done new at)
 
-    node_kept : (moment : Moment) (happening : Happening) (old : History D) (by : NodeId) (outcome : Outcome) (new : Nodes D) → AtNode seen failures unarmed moment happening old by outcome new → Kept old.nodes new
+    node_kept : (moment : Moment) (happening : Happening) (old : History D) (by : NodeId) (outcome : Upshot) (new : Nodes D) → AtNode seen failures unarmed moment happening old by outcome new → Kept old.nodes new
     node_kept moment (happenings.Ask req request) old by outcome new (is, (out, at, told)) =
         stays old.nodes new (client_leaves seen failures req.client (Err refusals.Range) (ClientAsks req.number request) old.nodes out new at).0
     node_kept moment (happenings.Deliver id) old by outcome new comes = came (message_of old.sent id) moment old.nodes by outcome new comes

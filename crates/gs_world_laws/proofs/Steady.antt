@@ -49,7 +49,7 @@ use Rattle.gs_nodes.specs.Nodes.{Nodes, with_master}
 use Rattle.gs_nodes.specs.declared.place.MasterPlace.{MasterPlace}
 use Rattle.gs_nodes.specs.declared.place.MasterPlace.TheVariants.{Standing, Closed, Away}
 use Rattle.gs_world.proofs.Lasting.{faulty_run_lasts, opens_told, unarmed_run_lasts}
-use Rattle.gs_world.specs.Histories.{AtNode, Begins, ComesTo, History, Outcome, Restarts, Ticks, arms, seen_of, failures_of}
+use Rattle.gs_world.specs.Histories.{AtNode, Begins, ComesTo, History, Upshot, Restarts, Ticks, arms, seen_of, failures_of}
 use Rattle.gs_world.specs.Lasting.{HearsNamed, Lasts, OpensAs, RunsSoundly, StandsFirm, StepNamed, TellsAMaster, failures_at}
 use Rattle.gs_world.specs.Runs.{Goes, Step, Comes, Takes}
 use Rattle.gs_world.specs.Sent.{message_of}
@@ -292,7 +292,7 @@ module _ {D : Type 0} (seen : D → List ℕ) (failures : D → ℕ) where
 
   module _ (armed : DiskId → ℕ → MasterPlace D → MasterPlace D) (lasting : (steps : List Step) (old new : History D) → RunsSoundly seen failures armed steps old new → Lasts seen old.nodes.master → Lasts seen new.nodes.master)
       (arming : (disk : DiskId) (call : ℕ) (place : MasterPlace D) → LastsSteady seen place → Lasts seen (armed disk call place) → LastsSteady seen (armed disk call place)) where
-    came : (found : Option Message) (moment : Moment) (old : Nodes D) (by : NodeId) (outcome : Outcome) (new : Nodes D)
+    came : (found : Option Message) (moment : Moment) (old : Nodes D) (by : NodeId) (outcome : Upshot) (new : Nodes D)
         → ((message : Message) → found ≡ Some message → message.to ≡ nodes.Master → Takes_in old message moment)
         → MatchOption found ((outcome ≡ Err refusals.Range) × (new ≡ old)) (λ message. ComesTo seen failures armed message moment old by outcome new) → Kept old new
     came None moment old by outcome new within (refused, is) = stays old new (ap (λ (n : Nodes D). n.master) is)
@@ -301,15 +301,15 @@ module _ {D : Type 0} (seen : D → List ℕ) (failures : D → ℕ) where
       | inr (refused, is) ↦ stays old new (ap (λ (n : Nodes D). n.master) is)
     ]
 
-    tick_kept : (moment : Moment) (node : StoreNode) (old : Nodes D) (outcome : Outcome) (new : Nodes D) → Ticks seen failures armed moment node old outcome new → Kept old new
+    tick_kept : (moment : Moment) (node : StoreNode) (old : Nodes D) (outcome : Upshot) (new : Nodes D) → Ticks seen failures armed moment node old outcome new → Kept old new
     tick_kept moment keepers.Master old outcome new (place, turn, does, is, told) = moved place old new is (λ same h firm. ticks old.config moment old.master turn place h firm does same)
     tick_kept moment (keepers.Server id) old outcome new (turn, at, told) = stays old new (at_server id (λ s. ServerDoes (servers.tick s moment) s) old turn new at)
 
-    restart_kept : (node : StoreNode) (old : Nodes D) (outcome : Outcome) (new : Nodes D) → Restarts seen failures armed node old outcome new → Kept old new
+    restart_kept : (node : StoreNode) (old : Nodes D) (outcome : Upshot) (new : Nodes D) → Restarts seen failures armed node old outcome new → Kept old new
     restart_kept keepers.Master old outcome new (place, turn, does, is, told) = moved place old new is (λ same h firm. reopens old.config old.master turn place h does same)
     restart_kept (keepers.Server id) old outcome new (done, at, told) = stays old new (at_server id (λ s done after. (done ≡ Ok tt) × (after ≡ servers.restart s)) old done new at)
 
-    at_node : (moment : Moment) (happening : Happening) (old : History D) (by : NodeId) (outcome : Outcome) (new : Nodes D)
+    at_node : (moment : Moment) (happening : Happening) (old : History D) (by : NodeId) (outcome : Upshot) (new : Nodes D)
         → AtNode seen failures armed moment happening old by outcome new → HearsNamed moment happening old → HearsWithin happening old → Kept old.nodes new
     at_node moment (happenings.Ask req request) old by outcome new (is, (out, at, told)) named within =
         stays old.nodes new (at_client req.client (Err refusals.Range) (ClientAsks req.number request) old.nodes out new at)

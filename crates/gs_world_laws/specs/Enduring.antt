@@ -9,13 +9,13 @@ use Rattle.gs_msg.specs.declared.message.Message.{Message}
 use Rattle.gs_msg.specs.declared.node.NodeId.TheVariants as nodes
 use Rattle.gs_msg.specs.declared.node.StoreNode.TheVariants as keepers
 use Rattle.gs_nodes.specs.declared.place.MasterPlace.{MasterPlace}
-use Rattle.gs_world.specs.Histories.{History, Outcome}
+use Rattle.gs_world.specs.Histories.{History, Upshot}
 use Rattle.gs_world.specs.Runs.{Goes, Step, Comes, Takes}
 use Rattle.gs_world.specs.Sent.{message_of}
 use Rattle.gs_world_laws.specs.Saying.{RunsQuietly}
 
 -- of a message that the master is sent, and of its tick, an event is refused for want of memory alone
-abbrev pub IsForMemory : {D : Type 0} → Happening → History D → Outcome → Type 0
+abbrev pub IsForMemory : {D : Type 0} → Happening → History D → Upshot → Type 0
 IsForMemory (happenings.Deliver id) old outcome =
     (message : Message) (e : Refusal) → message_of old.sent id ≡ Some message → message.to ≡ nodes.Master → outcome ≡ Err e → e ≡ refusals.Memory
 IsForMemory (happenings.Tick keepers.Master) old outcome = (e : Refusal) → outcome ≡ Err e → e ≡ refusals.Memory

@@ -28,7 +28,7 @@ use Rattle.gs_server.specs.Servers as servers
 use Rattle.gs_nodes.specs.Happenings.{AtClient, AtServer, ClientAsks, ClientHears, Delivers, Hears as HearsAt, MasterHears, MasterTicks, Reopens, ServerDoes, client_in, met_by}
 use Rattle.gs_nodes.specs.Nodes.{Nodes, with_clients, with_master, with_servers}
 use Rattle.gs_nodes.specs.declared.place.MasterPlace.{MasterPlace}
-use Rattle.gs_world.specs.Histories.{AtNode, ComesTo, History, Outcome, Restarts as RestartsAt, Ticks as TicksAt, asked, silent, told}
+use Rattle.gs_world.specs.Histories.{AtNode, ComesTo, History, Upshot, Restarts as RestartsAt, Ticks as TicksAt, asked, silent, told}
 use Rattle.gs_world.specs.Lasting.{HearsNamed, StepNamed}
 use Rattle.gs_world.specs.Runs.{Comes, Goes, Step, Takes}
 use Rattle.gs_world.specs.Sent.{IsSent, message_of}
@@ -91,24 +91,24 @@ module _ {D : Type 0} (seen : D → List ℕ) (failures : D → ℕ) (armed : Di
   K = ClientsGo old new
 
   -- what an outcome sends is of no request
-  abbrev P : Outcome → Type 0
+  abbrev P : Upshot → Type 0
   P outcome = NoRequests (sent_by outcome)
 
-  rests : (by : NodeId) (outcome : Outcome) → new.nodes.clients ≡ old.nodes.clients → P outcome → Posts moment by (sent_by outcome) old.sent new.sent → K
+  rests : (by : NodeId) (outcome : Upshot) → new.nodes.clients ≡ old.nodes.clients → P outcome → Posts moment by (sent_by outcome) old.sent new.sent → K
   rests by outcome same none posted = Rest by (sent_by outcome) moment none same posted
 
-  nothing : (by : NodeId) (outcome : Outcome) → new.nodes ≡ old.nodes → P outcome → Posts moment by (sent_by outcome) old.sent new.sent → K
+  nothing : (by : NodeId) (outcome : Upshot) → new.nodes ≡ old.nodes → P outcome → Posts moment by (sent_by outcome) old.sent new.sent → K
   nothing by outcome same none posted = rests by outcome (ap (λ (n : Nodes D). n.clients) same) none posted
 
   -- ---- a server
 
-  one_server : {A : Type 0} (found : Option Server) (id : ℕ) (does : Server → Result A Refusal → Server → Type 0) (result : Result A Refusal) (by : NodeId) (outcome : Outcome)
+  one_server : {A : Type 0} (found : Option Server) (id : ℕ) (does : Server → Result A Refusal → Server → Type 0) (result : Result A Refusal) (by : NodeId) (outcome : Upshot)
       → MatchOption found ((new.nodes ≡ old.nodes) × (result ≡ Err refusals.Range)) (λ s. (after : Server) × (new.nodes ≡ with_servers (slice_set old.nodes.servers id after) old.nodes) × does s result after)
       → (result ≡ Err refusals.Range → P outcome) → ((s after : Server) → does s result after → P outcome) → Posts moment by (sent_by outcome) old.sent new.sent → K
   one_server None id does result by outcome (same, refused) nobody some posted = nothing by outcome same (nobody refused) posted
   one_server (Some s) id does result by outcome (after, same, did) nobody some posted = rests by outcome (ap (λ (n : Nodes D). n.clients) same) (some s after did) posted
 
-  at_server : {A : Type 0} (id : ℕ) (does : Server → Result A Refusal → Server → Type 0) (result : Result A Refusal) (by : NodeId) (outcome : Outcome) → AtServer id does old.nodes result new.nodes
+  at_server : {A : Type 0} (id : ℕ) (does : Server → Result A Refusal → Server → Type 0) (result : Result A Refusal) (by : NodeId) (outcome : Upshot) → AtServer id does old.nodes result new.nodes
       → (result ≡ Err refusals.Range → P outcome) → ((s after : Server) → does s result after → P outcome) → Posts moment by (sent_by outcome) old.sent new.sent → K
   at_server id does result by outcome at nobody some posted = one_server (slice_get old.nodes.servers id) id does result by outcome at nobody some posted
 
@@ -123,7 +123,7 @@ module _ {D : Type 0} (seen : D → List ℕ) (failures : D → ℕ) (armed : Di
   by_step step s after (Ok turn) says (is, sends, said) = subst NoRequests (sym sends) (of_servers step.sent says)
   by_step step s after (Err e) says still = tt
 
-  befalls : (id : ℕ) (by : NodeId) (does : Server → Result (Unit {0}) Refusal → Server → Type 0) (outcome : Outcome) (done : Result (Unit {0}) Refusal) → AtServer id does old.nodes done new.nodes → outcome ≡ silent done → Posts moment by (sent_by outcome) old.sent new.sent → K
+  befalls : (id : ℕ) (by : NodeId) (does : Server → Result (Unit {0}) Refusal → Server → Type 0) (outcome : Upshot) (done : Result (Unit {0}) Refusal) → AtServer id does old.nodes done new.nodes → outcome ≡ silent done → Posts moment by (sent_by outcome) old.sent new.sent → K
   befalls id by does outcome done at tells posted = at_server id does done by outcome at (λ refused. none) (λ s after did. none) posted
     where
       none : P outcome
@@ -199,10 +199,10 @@ module _ {D : Type 0} (seen : D → List ℕ) (failures : D → ℕ) (armed : Di
   unfolding Delivers
   delivered message by turn was named hears posted = heard message message.to by turn was refl named hears posted
 
-  as_told : (by : NodeId) (outcome other : Outcome) → outcome ≡ other → Posts moment by (sent_by outcome) old.sent new.sent → Posts moment by (sent_by other) old.sent new.sent
+  as_told : (by : NodeId) (outcome other : Upshot) → outcome ≡ other → Posts moment by (sent_by outcome) old.sent new.sent → Posts moment by (sent_by other) old.sent new.sent
   as_told by outcome other is posted = subst (λ o. Posts moment by (sent_by o) old.sent new.sent) is posted
 
-  came : (found : Option Message) (by : NodeId) (outcome : Outcome) → ((message : Message) → found ≡ Some message → IsSent message old.sent × (message.to ≡ ids.Master → IsNamedBody message.body × IsNumber moment.0))
+  came : (found : Option Message) (by : NodeId) (outcome : Upshot) → ((message : Message) → found ≡ Some message → IsSent message old.sent × (message.to ≡ ids.Master → IsNamedBody message.body × IsNumber moment.0))
       → MatchOption found ((outcome ≡ Err refusals.Range) × (new.nodes ≡ old.nodes)) (λ message. ComesTo seen failures armed message moment old.nodes by outcome new.nodes)
       → Posts moment by (sent_by outcome) old.sent new.sent → K
   came None by outcome was (refused, same) posted = nothing by outcome same (subst P (sym refused) tt) posted
@@ -211,16 +211,16 @@ module _ {D : Type 0} (seen : D → List ℕ) (failures : D → ℕ) (armed : Di
     | inr (refused, same) ↦ nothing by outcome same (subst P (sym refused) tt) posted
   ]
 
-  ticked : (node : StoreNode) (by : NodeId) (outcome : Outcome) → TicksAt seen failures armed moment node old.nodes outcome new.nodes → Posts moment by (sent_by outcome) old.sent new.sent → K
+  ticked : (node : StoreNode) (by : NodeId) (outcome : Upshot) → TicksAt seen failures armed moment node old.nodes outcome new.nodes → Posts moment by (sent_by outcome) old.sent new.sent → K
   ticked keepers.Master by outcome (place, turn, does, same, tells) posted = rests by outcome (ap (λ (n : Nodes D). n.clients) same) (subst P (sym tells) (ticked_master place turn does same)) posted
   ticked (keepers.Server id) by outcome (turn, at, tells) posted =
       at_server id (λ s. ServerDoes (servers.tick s moment) s) turn by (told turn) at (refused_none turn) (λ s after does. by_step (servers.tick s moment) s after turn (tick_by s moment) does) (as_told by outcome (told turn) tells posted)
 
-  restarted : (node : StoreNode) (by : NodeId) (outcome : Outcome) → RestartsAt seen failures armed node old.nodes outcome new.nodes → Posts moment by (sent_by outcome) old.sent new.sent → K
+  restarted : (node : StoreNode) (by : NodeId) (outcome : Upshot) → RestartsAt seen failures armed node old.nodes outcome new.nodes → Posts moment by (sent_by outcome) old.sent new.sent → K
   restarted keepers.Master by outcome (place, turn, does, same, tells) posted = rests by outcome (ap (λ (n : Nodes D). n.clients) same) (subst P (sym tells) (opened_master place turn does same)) posted
   restarted (keepers.Server id) by outcome (done, at, tells) posted = befalls id by (λ s d after. (d ≡ Ok tt) × (after ≡ servers.restart s)) outcome done at tells posted
 
-  beats : (found : Option Server) (by : NodeId) (outcome : Outcome) → new.nodes ≡ old.nodes
+  beats : (found : Option Server) (by : NodeId) (outcome : Upshot) → new.nodes ≡ old.nodes
       → MatchOption found (outcome ≡ Err refusals.Range) (λ s. (outcome ≡ Ok (servers.beat s ∷ [], None)) ⊎ (outcome ≡ Err refusals.Memory))
       → Posts moment by (sent_by outcome) old.sent new.sent → K
   beats None by outcome same refused posted = nothing by outcome same (subst P (sym refused) tt) posted
@@ -229,7 +229,7 @@ module _ {D : Type 0} (seen : D → List ℕ) (failures : D → ℕ) (armed : Di
     | inr refused ↦ nothing by outcome same (subst P (sym refused) tt) posted
   ]
 
-  at_node : (happening : Happening) (by : NodeId) (outcome : Outcome) → HearsNamed moment happening old → AtNode seen failures armed moment happening old by outcome new.nodes → Posts moment by (sent_by outcome) old.sent new.sent → K
+  at_node : (happening : Happening) (by : NodeId) (outcome : Upshot) → HearsNamed moment happening old → AtNode seen failures armed moment happening old by outcome new.nodes → Posts moment by (sent_by outcome) old.sent new.sent → K
   at_node (happenings.Ask req request) by outcome named (is, (out, at, tells)) posted =
       at_client req.client (Err refusals.Range) (ClientAsks req.number request) out at (λ same refused. nothing by outcome same (subst P (sym tells) (subst (λ o. P (asked o)) (sym refused) tt)) posted)
       (λ n after found clients does. asked_by req.client req.number request out n after found clients does (subst (λ n. Posts moment n (sent_by (asked out)) old.sent new.sent) is (as_told by outcome (asked out) tells posted)))

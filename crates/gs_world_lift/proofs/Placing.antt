@@ -29,7 +29,7 @@ use Rattle.gs_nodes.specs.Happenings.{AtClient, AtServer, ClientAsks, ClientHear
 use Rattle.gs_nodes.specs.Nodes.{Nodes, with_clients, with_master, with_servers}
 use Rattle.gs_nodes.specs.declared.place.MasterPlace.{MasterPlace}
 use Rattle.gs_nodes.specs.declared.place.MasterPlace.TheVariants as places
-use Rattle.gs_world.specs.Histories.{AtNode, ComesTo, History, Outcome, Restarts as RestartsAt, Tells, Ticks as TicksAt, asked, silent, told}
+use Rattle.gs_world.specs.Histories.{AtNode, ComesTo, History, Upshot, Restarts as RestartsAt, Tells, Ticks as TicksAt, asked, silent, told}
 use Rattle.gs_world.specs.Lasting.{HearsNamed, StepNamed}
 use Rattle.gs_world.specs.Runs.{Comes, Goes, Step, Takes}
 use Rattle.gs_base.specs.Told.{IsNumber}
@@ -41,12 +41,12 @@ use Rattle.gs_world_lift.specs.Going.{Beats, Damages, Elsewhere, Hears, Kind, Lo
 -- ---- what goes out
 
 -- what an outcome sends
-abbrev pub sent_by : Outcome → List Message
+abbrev pub sent_by : Upshot → List Message
 sent_by (Ok (messages, said)) = messages
 sent_by (Err refusal) = []
 
 module _ {D : Type 0} (seen : D → List ℕ) (failures : D → ℕ) (armed : DiskId → ℕ → MasterPlace D → MasterPlace D) where
-  pub posts : (moment : Moment) (by : NodeId) (outcome : Outcome) (old : Sent) (result : Result (Unit {0}) Refusal) (new : Sent) → Tells seen failures armed moment by outcome old result new → Posts moment by (sent_by outcome) old new
+  pub posts : (moment : Moment) (by : NodeId) (outcome : Upshot) (old : Sent) (result : Result (Unit {0}) Refusal) (new : Sent) → Tells seen failures armed moment by outcome old result new → Posts moment by (sent_by outcome) old new
   posts moment by (Ok (messages, said)) old result new (posted, is) = inl posted
   posts moment by (Err refusal) old result new (same, is) = inr same
 
@@ -118,7 +118,7 @@ module _ {D : Type 0} (seen : D → List ℕ) (failures : D → ℕ) (armed : Di
   Serves id s after messages = (goes : ServerGoes old.sent id s after messages) × IsMet step goes
 
   -- nothing happens at the nodes, and nothing goes out
-  nothing : (by : NodeId) (outcome : Outcome) → sent_by outcome ≡ [] → new.nodes ≡ old.nodes → Posts moment by (sent_by outcome) old.sent new.sent → K
+  nothing : (by : NodeId) (outcome : Upshot) → sent_by outcome ≡ [] → new.nodes ≡ old.nodes → Posts moment by (sent_by outcome) old.sent new.sent → K
   nothing by outcome none same posted =
       let l = left old.nodes new.nodes same in Elsewhere by [] moment tt l.servers l.master (subst (λ ms. Posts moment by ms old.sent new.sent) none posted)
 
@@ -128,7 +128,7 @@ module _ {D : Type 0} (seen : D → List ℕ) (failures : D → ℕ) (armed : Di
   goes id s after messages found g same posted = OfServer id s after messages moment found g.0 g.1 (ap (λ (n : Nodes D). n.servers) same) (ap (λ (n : Nodes D). n.master) same) posted
 
   -- it stays, and sends nothing
-  stays : (id : ℕ) (s after : Server) (outcome : Outcome) → slice_get old.nodes.servers id ≡ Some s → sent_by outcome ≡ [] → after ≡ s
+  stays : (id : ℕ) (s after : Server) (outcome : Upshot) → slice_get old.nodes.servers id ≡ Some s → sent_by outcome ≡ [] → after ≡ s
       → new.nodes ≡ with_servers (slice_set old.nodes.servers id after) old.nodes → Posts moment (ids.Server id) (sent_by outcome) old.sent new.sent → K
   stays id s after outcome found none still same posted =
       Elsewhere (ids.Server id) [] moment tt
@@ -141,7 +141,7 @@ module _ {D : Type 0} (seen : D → List ℕ) (failures : D → ℕ) (armed : Di
       set_same (y ∷ xs) zero x is = (let e : y ≡ x = cc in λ j. sym e j ∷ xs)
       set_same (y ∷ xs) (suc i) x is = ap (λ (zs : List Server). y ∷ zs) (set_same xs i x is)
 
-  one_server : {A : Type 0} (found : Option Server) (id : ℕ) (does : Server → Result A Refusal → Server → Type 0) (result : Result A Refusal) (outcome : Outcome) → slice_get old.nodes.servers id ≡ found
+  one_server : {A : Type 0} (found : Option Server) (id : ℕ) (does : Server → Result A Refusal → Server → Type 0) (result : Result A Refusal) (outcome : Upshot) → slice_get old.nodes.servers id ≡ found
       → MatchOption found ((new.nodes ≡ old.nodes) × (result ≡ Err refusals.Range)) (λ s. (after : Server) × (new.nodes ≡ with_servers (slice_set old.nodes.servers id after) old.nodes) × does s result after)
       → (result ≡ Err refusals.Range → sent_by outcome ≡ [])
       → ((s after : Server) → slice_get old.nodes.servers id ≡ Some s → does s result after → Serves id s after (sent_by outcome) ⊎ ((after ≡ s) × (sent_by outcome ≡ [])))
@@ -173,7 +173,7 @@ module _ {D : Type 0} (seen : D → List ℕ) (failures : D → ℕ) (armed : Di
   by_change id (Err refused) s after (Ok done) does make = absurd does
   by_change id (Err refused) s after (Err e) does make = inr (does.1, refl)
 
-  at_server : {A : Type 0} (id : ℕ) (does : Server → Result A Refusal → Server → Type 0) (result : Result A Refusal) (outcome : Outcome) → AtServer id does old.nodes result new.nodes
+  at_server : {A : Type 0} (id : ℕ) (does : Server → Result A Refusal → Server → Type 0) (result : Result A Refusal) (outcome : Upshot) → AtServer id does old.nodes result new.nodes
       → (result ≡ Err refusals.Range → sent_by outcome ≡ [])
       → ((s after : Server) → slice_get old.nodes.servers id ≡ Some s → does s result after → Serves id s after (sent_by outcome) ⊎ ((after ≡ s) × (sent_by outcome ≡ [])))
       → Posts moment (ids.Server id) (sent_by outcome) old.sent new.sent → K
@@ -186,7 +186,7 @@ module _ {D : Type 0} (seen : D → List ℕ) (failures : D → ℕ) (armed : Di
   at_master place messages g same posted = OfMaster place messages moment g (ap (λ (n : Nodes D). n.servers) same) (ap (λ (n : Nodes D). n.master) same) posted
 
   -- it stays, and sends nothing
-  master_stays : (place : MasterPlace D) (outcome : Outcome) → place ≡ old.nodes.master → sent_by outcome ≡ [] → new.nodes ≡ with_master place old.nodes → Posts moment ids.Master (sent_by outcome) old.sent new.sent → K
+  master_stays : (place : MasterPlace D) (outcome : Upshot) → place ≡ old.nodes.master → sent_by outcome ≡ [] → new.nodes ≡ with_master place old.nodes → Posts moment ids.Master (sent_by outcome) old.sent new.sent → K
   master_stays place outcome still none same posted =
       Elsewhere ids.Master [] moment tt (ap (λ (n : Nodes D). n.servers) same) (ap (λ (n : Nodes D). n.master) same ∙ still) (subst (λ ms. Posts moment ids.Master ms old.sent new.sent) none posted)
 
@@ -235,10 +235,10 @@ module _ {D : Type 0} (seen : D → List ℕ) (failures : D → ℕ) (armed : Di
   unfolding Delivers
   delivered message by turn it was is named hears posted = heard message message.to by turn it was refl is named hears posted
 
-  as_told : (by : NodeId) (outcome other : Outcome) → outcome ≡ other → Posts moment by (sent_by outcome) old.sent new.sent → Posts moment by (sent_by other) old.sent new.sent
+  as_told : (by : NodeId) (outcome other : Upshot) → outcome ≡ other → Posts moment by (sent_by outcome) old.sent new.sent → Posts moment by (sent_by other) old.sent new.sent
   as_told by outcome other is posted = subst (λ o. Posts moment by (sent_by o) old.sent new.sent) is posted
 
-  came : (found : Option Message) (msg : MsgId) (by : NodeId) (outcome : Outcome) → Is (happenings.Deliver msg) → message_of old.sent msg ≡ found → ((message : Message) → found ≡ Some message → message.to ≡ ids.Master → IsNamedBody message.body × IsNumber moment.0)
+  came : (found : Option Message) (msg : MsgId) (by : NodeId) (outcome : Upshot) → Is (happenings.Deliver msg) → message_of old.sent msg ≡ found → ((message : Message) → found ≡ Some message → message.to ≡ ids.Master → IsNamedBody message.body × IsNumber moment.0)
       → MatchOption found ((outcome ≡ Err refusals.Range) × (new.nodes ≡ old.nodes)) (λ message. ComesTo seen failures armed message moment old.nodes by outcome new.nodes)
       → Posts moment by (sent_by outcome) old.sent new.sent → K
   came None msg by outcome it is named (refused, same) posted = nothing by outcome (ap sent_by refused) same posted
@@ -247,7 +247,7 @@ module _ {D : Type 0} (seen : D → List ℕ) (failures : D → ℕ) (armed : Di
     | inr (refused, same) ↦ nothing by outcome (ap sent_by refused) same posted
   ]
 
-  ticked : (node : StoreNode) (by : NodeId) (outcome : Outcome) → Is (happenings.Tick node) → by ≡ as_node node → TicksAt seen failures armed moment node old.nodes outcome new.nodes → Posts moment by (sent_by outcome) old.sent new.sent → K
+  ticked : (node : StoreNode) (by : NodeId) (outcome : Upshot) → Is (happenings.Tick node) → by ≡ as_node node → TicksAt seen failures armed moment node old.nodes outcome new.nodes → Posts moment by (sent_by outcome) old.sent new.sent → K
   ticked keepers.Master by outcome it is (place, turn, does, same, tells) posted =
       ticked_master place turn does same (subst (λ n. Posts moment n (sent_by (told turn)) old.sent new.sent) is (as_told by outcome (told turn) tells posted))
   ticked (keepers.Server id) by outcome it is (turn, at, tells) posted =
@@ -255,7 +255,7 @@ module _ {D : Type 0} (seen : D → List ℕ) (failures : D → ℕ) (armed : Di
       (λ s after found does. by_step id (servers.tick s moment) s after turn does (λ a b. (Ticks moment a b, (keepers.Server id, (moment, it)))))
       (subst (λ n. Posts moment n (sent_by (told turn)) old.sent new.sent) is (as_told by outcome (told turn) tells posted))
 
-  restarted : (node : StoreNode) (by : NodeId) (outcome : Outcome) → Is (happenings.Restart node) → by ≡ as_node node → RestartsAt seen failures armed node old.nodes outcome new.nodes → Posts moment by (sent_by outcome) old.sent new.sent → K
+  restarted : (node : StoreNode) (by : NodeId) (outcome : Upshot) → Is (happenings.Restart node) → by ≡ as_node node → RestartsAt seen failures armed node old.nodes outcome new.nodes → Posts moment by (sent_by outcome) old.sent new.sent → K
   restarted keepers.Master by outcome it is (place, turn, does, same, tells) posted =
       opened_master place turn does same (subst (λ n. Posts moment n (sent_by (told turn)) old.sent new.sent) is (as_told by outcome (told turn) tells posted))
   restarted (keepers.Server id) by outcome it is (done, at, tells) posted =
@@ -263,7 +263,7 @@ module _ {D : Type 0} (seen : D → List ℕ) (failures : D → ℕ) (armed : Di
       (λ s after found does. inl (Restarts does.1 (silent_none done), (keepers.Server id, (moment, it))))
       (subst (λ n. Posts moment n (sent_by (silent done)) old.sent new.sent) is (as_told by outcome (silent done) tells posted))
 
-  befalls : (id : ℕ) (by : NodeId) (change : Server → Result Server Refusal) (outcome : Outcome) (done : Result (Unit {0}) Refusal) → by ≡ ids.Server id
+  befalls : (id : ℕ) (by : NodeId) (change : Server → Result Server Refusal) (outcome : Upshot) (done : Result (Unit {0}) Refusal) → by ≡ ids.Server id
       → AtServer id (λ s d after. Does (change s) d s after) old.nodes done new.nodes → outcome ≡ silent done
       → ((s after : Server) (messages : List Message) → after ≡ unless_refused s (change s) → messages ≡ [] → Serves id s after messages)
       → Posts moment by (sent_by outcome) old.sent new.sent → K
@@ -272,7 +272,7 @@ module _ {D : Type 0} (seen : D → List ℕ) (failures : D → ℕ) (armed : Di
       (λ s after found does. by_change id (change s) s after done does (λ a. make s after [] a refl))
       (subst (λ n. Posts moment n (sent_by (silent done)) old.sent new.sent) is (as_told by outcome (silent done) tells posted))
 
-  beats : (found : Option Server) (id : ℕ) (by : NodeId) (outcome : Outcome) → Is (happenings.Beat id) → slice_get old.nodes.servers id ≡ found → by ≡ ids.Server id → new.nodes ≡ old.nodes
+  beats : (found : Option Server) (id : ℕ) (by : NodeId) (outcome : Upshot) → Is (happenings.Beat id) → slice_get old.nodes.servers id ≡ found → by ≡ ids.Server id → new.nodes ≡ old.nodes
       → MatchOption found (outcome ≡ Err refusals.Range) (λ s. (outcome ≡ Ok (servers.beat s ∷ [], None)) ⊎ (outcome ≡ Err refusals.Memory))
       → Posts moment by (sent_by outcome) old.sent new.sent → K
   beats None id by outcome it found is same refused posted = nothing by outcome (ap sent_by refused) same posted
@@ -289,7 +289,7 @@ module _ {D : Type 0} (seen : D → List ℕ) (failures : D → ℕ) (armed : Di
       set_same (y ∷ xs) zero x is = (let e : y ≡ x = cc in λ j. sym e j ∷ xs)
       set_same (y ∷ xs) (suc i) x is = ap (λ (zs : List Server). y ∷ zs) (set_same xs i x is)
 
-  at_node : (happening : Happening) (by : NodeId) (outcome : Outcome) → Is happening → HearsNamed moment happening old → AtNode seen failures armed moment happening old by outcome new.nodes → Posts moment by (sent_by outcome) old.sent new.sent → K
+  at_node : (happening : Happening) (by : NodeId) (outcome : Upshot) → Is happening → HearsNamed moment happening old → AtNode seen failures armed moment happening old by outcome new.nodes → Posts moment by (sent_by outcome) old.sent new.sent → K
   at_node (happenings.Ask req request) by outcome it named (is, (out, at, tells)) posted =
       let l = at_client req.client (Err refusals.Range) (ClientAsks req.number request) old.nodes out new.nodes at in
       Elsewhere by (sent_by (asked out)) moment

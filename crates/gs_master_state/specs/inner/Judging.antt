@@ -1,11 +1,12 @@
 -- What the code judges of a call.
-use Rattle.std.specs.Prelude.{◌≡◌, ◌+◌, ℕ, Bool, List, [], ◌∷◌, Option, Some, None, is_none, length, Result, Ok, Err, cond, codes, refl}
+use Rattle.std.specs.Prelude.{◌≡◌, ◌+◌, ℕ, Bool, List, [], ◌∷◌, Option, Some, None, is_none, length, Result, Ok, Err, cond, codes, if◌then◌else◌, refl}
 use Rattle.std.specs.declared.cmp.Ordering.{Ordering}
 use Rattle.std.specs.declared.cmp.Ordering.TheVariants.{Less, Equal, Greater}
 use Rattle.std.specs.Cmp.Lexicographic.{slice_cmp}
 use Rattle.std.specs.Ordering.{nat_cmp}
 use Rattle.gs_base.specs.declared.refusal.Refusal.{Refusal}
 use Rattle.gs_base.specs.declared.refusal.Refusal.TheVariants as refusals
+use Rattle.gs_tree.specs.Edits.{is_dir, target_of}
 use Rattle.gs_tree.specs.Entry.{Entry, Dir, File}
 use Rattle.gs_msg.specs.declared.lists.ListedName.{ListedName}
 use Rattle.gs_path.specs.Path.{Name, Path, path_text}
@@ -40,6 +41,11 @@ lower_each (path ∷ paths) lowest = Some (lower_text (path_text path) (lower_ea
 abbrev pub leading : Plain ℕ → List Path → ℕ
 leading m [] = 0
 leading m (path ∷ paths) = cond (is_none (m path)) 0 (leading m paths + 1)
+
+-- The target that the edit of a rename says: where that puts what it moves. Where a directory stands there too the edit is refused,
+-- and says its target as it was asked.
+abbrev pub said_target : Plain ℕ → Path → Path → Path
+said_target m from to = if is_dir (m (target_of m from to)) then to else target_of m from to
 
 a_point_before_a_slash : lower_text (codes "/a/b") (Some (codes "/a.b")) ≡ codes "/a.b"
 a_point_before_a_slash = refl

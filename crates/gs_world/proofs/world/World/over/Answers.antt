@@ -3,7 +3,7 @@ use Rattle.gs_nodes.specs.Happenings.{WhyNotBegun}
 use Rattle.gs_msg.specs.declared.node.NodeId.TheVariants as ids
 use Rattle.gs_world.specs.Histories.{failures_of, seen_of}
 use Rattle.gs_world.specs.Sent.{IsPosted, Sent, none_sent}
-use Rattle.gs_world.proofs.world.World.new.Goals as goal
+use Rattle.gs_world.proofs.world.World.over.Goals as goal
 
 pub returns-clause-begins : goal.returns-clause-begins
 returns-clause-begins g c =
