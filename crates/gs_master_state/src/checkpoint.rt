@@ -2,6 +2,8 @@
 ghost use Rattle.std.specs.Prelude.{[], ◌&&◌, ◌≡◌, filter, fold, IfOk, is_some, map, option_map, string_bytes, true};
 ghost use Rattle.std.specs.FinMap as fin;
 ghost use Rattle.std.specs.List.{list_all, list_any};
+ghost use Rattle.std.specs.Ordering.{nat_cmp};
+ghost use Rattle.gs_base_table.specs.Slots.{GivesUpRoom};
 ghost use Rattle.gs_master_record.specs.Plain.{plain_checkpoint, plain_outcome, plain_reply};
 ghost use Rattle.gs_master_record.specs.declared.checkpoint.SettledEntry.{SettledEntry as AnySettledEntry};
 ghost use Rattle.gs_master_state.specs.Checkpoints.{listed_view};
@@ -344,7 +346,8 @@ impl Recorded {
 
     /// Gives a chunk up, with its room. It takes no memory.
     fn give_up(&mut self, chunk: Handle)
-        ensures { durable_of self.new ≡ record (durable_of self.old) { chunks = fin.remove (durable_of self.old).chunks chunk } }
+        ensures value { durable_of self.new ≡ record (durable_of self.old) { chunks = fin.remove (durable_of self.old).chunks chunk } }
+        ensures gives { GivesUpRoom nat_cmp self.old.leases self.new.leases chunk }
     {
         let _lease = self.leases.remove(chunk);
     }
@@ -367,13 +370,21 @@ impl Recorded {
 }
 
 impl Memory {
+    /// Asks nothing for a chunk any more, and gives up its room. It takes no memory.
+    fn ask_no_more(&mut self, chunk: Handle)
+        ensures value { volatile_of self.new ≡ record (volatile_of self.old) { moving = fin.remove (volatile_of self.old).moving chunk } }
+        ensures gives { GivesUpRoom nat_cmp self.old.moving self.new.moving chunk }
+    {
+        let _asked = self.moving.remove(chunk);
+    }
+
     /// Of the new chunks these stay, and of those that got no place nothing is asked any more; of those that a restart took out
     /// nothing is left. It takes no memory.
     pub fn keep_new(&mut self, placeless: &[Handle], awaiting: Vec<Handle>)
         ensures { volatile_of self.new ≡ record (volatile_of self.old) { moving = fold fin.remove (volatile_of self.old).moving placeless.now; unplaced = awaiting.items; taken_out = [] } }
     {
         for chunk in placeless {
-            let _asked = self.moving.remove(*chunk);
+            self.ask_no_more(*chunk);
         }
         self.unplaced = awaiting;
         self.taken_out.clear();

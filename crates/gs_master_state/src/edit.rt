@@ -8,7 +8,7 @@ ghost use Rattle.gs_master_spec.specs.Applied.{after_if, chunk_of_edit, forgotte
 ghost use Rattle.gs_master_state.specs.inner.Recorded.{durable_of, inverses_and, IsToldBack, KeepsRooms, RoomForEach, RoomToKeep, unfit};
 ghost use Rattle.gs_master_spec.specs.Replies.{answer_to, client_cmp};
 ghost use Rattle.gs_master_state.specs.inner.TakingBack.{AreItemsBefore, AreNamesBefore, Enters, IsPlaceBefore, IsUndo, RoomForChunk, RoomForChunks, RoomForReply, with_chunk_before, with_chunks_before, with_leases_before, with_reply_before};
-ghost use Rattle.gs_base_table.specs.Slots.{HasRoom, KeepsRoom, live, set_live};
+ghost use Rattle.gs_base_table.specs.Slots.{GivesUpRoom, HasRoom, KeepsRoom, live, set_live};
 
 use crate::entry::enter_reply;
 use crate::file::{hidden_path, is_visible, old_name, old_path};
@@ -174,10 +174,11 @@ impl Recorded {
         }
     }
 
-    /// A chunk is forgotten, and its prepared view kept. There is room for that.
+    /// A chunk is forgotten, with its room, and its prepared view kept. There is room for that.
     fn forget_chunk(&mut self, chunk: Handle)
         requires { RoomToKeep self.old.phase self.old.prepared chunk }
         ensures value { durable_of self.new ≡ without_chunks (durable_of self.old) (chunk ∷ []) }
+        ensures gives { GivesUpRoom nat_cmp self.old.leases self.new.leases chunk }
         ensures replies { self.new.replies ≡ self.old.replies }
         ensures inverses { self.new.inverses ≡ self.old.inverses }
         ensures room { KeepsRoom nat_cmp self.old.prepared self.new.prepared }
