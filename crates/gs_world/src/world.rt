@@ -1,8 +1,9 @@
-ghost use Rattle.std.specs.Prelude.{◌≡◌, false, IfOk, IfErr};
+ghost use Rattle.std.specs.Prelude.{◌≡◌, ◌⊎◌, false, IfOk, IfErr};
+ghost use Rattle.gs_base.specs.declared.refusal.Refusal.TheVariants as refusals;
 ghost use Rattle.gs_msg.specs.Nodes.{as_node};
 ghost use Rattle.gs_world.specs.Histories.{arms, AtNode, Begins, DeliversAt, IsOutcome, Tells, failures_of, history_of, is_ask, seen_of, told};
 ghost use Rattle.gs_world.specs.Runs.{AreOutcomes, HappensAll, TakesReply, all_said};
-ghost use Rattle.gs_world.specs.Beginning.{IsNotBegun, new_disks};
+ghost use Rattle.gs_world.specs.Beginning.{new_disks};
 ghost use Rattle.gs_world.specs.Sent.{Forgets};
 ghost use Rattle.gs_journal.specs.Memory.{bytes_of, times_failed};
 ghost use Rattle.gs_nodes.specs.Happenings.{Delivers, WhyNotBegun};
@@ -52,10 +53,10 @@ fn receiver(message: &Message) -> NodeId
 
 impl World<MemoryDisk> {
     /// A new store with one client, who has asked nothing. The disks of its master's journal are in memory, with nothing on them, and none
-    /// is to fail. It is refused where memory is wanting, which a disk says by `Device`.
+    /// is to fail. It is refused only where memory is wanting, which a disk says by `Device`, and never for its configuration.
     pub fn new(alloc: Global, config: Config) -> Result<World<MemoryDisk>, Refusal>
         ensures begins { IfOk result (λ world. OverEmpty (λ disks. Begins (seen_of bytes_of) (failures_of times_failed) arms config 1 (new_disks disks) (history_of world))) }
-        ensures refused { IfErr result (λ refusal. OverEmpty (λ disks. IsNotBegun (seen_of bytes_of) (failures_of times_failed) config (new_disks disks) refusal)) }
+        ensures refused { IfErr result (λ refusal. (refusal ≡ refusals.Memory) ⊎ (refusal ≡ refusals.Device)) }
     {
         let (first, second) = empty_disks(alloc);
         let first = FailingDisk::new(first, Fault::Never);
