@@ -1,5 +1,5 @@
 -- The ids of all that was ever sent.
-use Rattle.std.proofs.Common.{◌≡◌, ◌∙◌, ◌⊎◌, ◌++◌, ◌+◌, ◌-◌, ◌<◌, ◌≤◌, ◌==◌, inl, inr, ℕ, zero, suc, min, Bool, true, false, if◌then◌else◌, List, [], ◌∷◌, Option, Some, None, refl, sym, ap, subst, arith, slice_get, length}
+use Rattle.std.proofs.Common.{◌≡◌, ◌∙◌, ◌⊎◌, ◌++◌, ◌+◌, ◌-◌, ◌<◌, ◌≤◌, ◌==◌, inl, inr, ℕ, zero, suc, min, Bool, true, false, if◌then◌else◌, List, [], ◌∷◌, Option, Some, None, append_assoc, refl, sym, ap, subst, arith, slice_get, length}
 use Rattle.std.specs.Prelude.{Contains}
 use Rattle.std.proofs.lemmas.List.Elements.{Contains-append_left, Contains-append_right, Contains-append_cases}
 use Rattle.gs_base.specs.declared.numbers.ClientId.{ClientId}
@@ -57,7 +57,30 @@ by_one s node id has = (let h = of_listed node (sent_by s node) id has in subst 
 one_has : (s : Sent) (node : NodeId) (id : MsgId) → id.sender ≡ node → id.place < sent_by s id.sender → Contains (ids_by s node) id
 one_has s node id by inside = is_listed node (sent_by s node) id by (subst (λ (x : NodeId). id.place < sent_by s x) by inside)
 
+next : (n : ℕ) → n + 1 ≡ suc n
+next n = omega arith
+
+behind : (old before more last after : List MsgId) → before ≡ old ++ more → after ≡ before ++ last → after ≡ old ++ (more ++ last)
+behind old before more last after is then = then ∙ ap (λ (l : List MsgId). l ++ last) is ∙ append_assoc old more last
+
+-- one id more is added
+pub one_more_id : (node : NodeId) (n : ℕ) (old before after : List MsgId) → before ≡ old ++ first_ids node n → after ≡ before ++ record { sender = node; place = n } ∷ []
+    → after ≡ old ++ first_ids node (n + 1)
+one_more_id node n old before after is then =
+    behind old before (first_ids node n) _ after is then ∙ ap (λ (k : ℕ). old ++ first_ids node k) (sym (next n))
+
 -- ---- several nodes'
+
+pub one_more_server : (s : Sent) (n server : ℕ) (old before after : List MsgId) → server ≡ n → before ≡ old ++ by_servers s n → after ≡ before ++ ids_by s (nodes.Server server)
+    → after ≡ old ++ by_servers s (n + 1)
+one_more_server s n server old before after same is then =
+    behind old before (by_servers s n) _ after is (then ∙ ap (λ (k : ℕ). before ++ ids_by s (nodes.Server k)) same)
+    ∙ ap (λ (k : ℕ). old ++ by_servers s k) (sym (next n))
+
+pub one_more_client : (s : Sent) (n : ℕ) (old before after : List MsgId) → before ≡ old ++ by_clients s n → after ≡ before ++ ids_by s (nodes.Client (record { 0 = n + 1 }))
+    → after ≡ old ++ by_clients s (n + 1)
+one_more_client s n old before after is then =
+    behind old before (by_clients s n) _ after is then ∙ ap (λ (k : ℕ). old ++ by_clients s k) (sym (next n))
 
 servers_have : (s : Sent) (n i : ℕ) (id : MsgId) → i < n → id.sender ≡ nodes.Server i → id.place < sent_by s id.sender → Contains (by_servers s n) id
 servers_have s zero i id below by inside = absurd (omega (arith, below))
