@@ -41,6 +41,13 @@ impl Model for Posts {
     ghost view = { λ p. record { master = p.master.posts; servers = all_posts p.servers.items; clients = all_posts p.clients.items; has_lost = p.has_lost } };
 }
 
+/// The same node.
+pub(crate) fn same(node: &NodeId) -> NodeId
+    ensures { result ≡ node.now }
+{
+    *node
+}
+
 /// So many nodes that have sent nothing.
 fn silent(alloc: Global, many: u64) -> Result<Vec<Outbox>, AllocError>
     ensures { IfOk result (λ outboxes. all_posts outboxes.items ≡ replicate many []) }
@@ -218,7 +225,8 @@ impl Posts {
     fn list(&self, ids: &mut Vec<MsgId>, sender: NodeId) -> Result<(), AllocError>
         ensures { OnOk result (ids.new.items ≡ ids.old.items ++ ids_by self.now sender) }
     {
-        for place in 0..self.count(sender) {
+        for place in 0..self.count(same(&sender)) {
+            let sender = same(&sender);
             ids.push(MsgId { sender, place })?;
         }
         Ok(())

@@ -12,7 +12,7 @@ ghost use Rattle.gs_nodes.specs.Nodes.{nodes_of};
 
 use crate::happening::{ask, beat, damage, fail_disk, lose, restart, tick};
 use crate::outcome::Outcome;
-use crate::posts::Posts;
+use crate::posts::{Posts, same};
 use gs_base::{ClientId, Config, Moment, Refusal};
 use gs_client::Reply;
 use gs_journal::{Disk, FailingDisk, Fault, MemoryDisk, Unopened};
@@ -37,12 +37,6 @@ fn named(node: &StoreNode) -> NodeId
     ensures { result ≡ as_node node.now }
 {
     NodeId::from(*node)
-}
-
-fn same(node: &NodeId) -> NodeId
-    ensures { result ≡ node.now }
-{
-    *node
 }
 
 fn receiver(message: &Message) -> NodeId
@@ -204,9 +198,9 @@ impl<D: Disk + Drop> World<D> {
     {
         let Event { moment, happening } = event;
         let (by, done) = self.at_node(moment, happening);
-        let first = self.sent.count(by);
-        let said = self.tell(moment, by, done);
-        let end = self.sent.count(by);
+        let first = self.sent.count(same(&by));
+        let said = self.tell(moment, same(&by), done);
+        let end = self.sent.count(same(&by));
         Outcome {
             by,
             said,
