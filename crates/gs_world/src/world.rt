@@ -198,9 +198,12 @@ impl<D: Disk + Drop> World<D> {
     {
         let Event { moment, happening } = event;
         let (by, done) = self.at_node(moment, happening);
-        let first = self.sent.count(same(&by));
-        let said = self.tell(moment, same(&by), done);
-        let end = self.sent.count(same(&by));
+        let before = same(&by);
+        let sender = same(&by);
+        let behind = same(&by);
+        let first = self.sent.count(before);
+        let said = self.tell(moment, sender, done);
+        let end = self.sent.count(behind);
         Outcome {
             by,
             said,
