@@ -14,6 +14,12 @@ use Rattle.gs_master_spec.specs.Handling.{recover}
 use Rattle.gs_master_spec.specs.State.{Log}
 use Rattle.gs_nodes.specs.Happenings.{WhyNotBegun}
 
+abbrev pair : {A B : Type 0} → A → B → A × B
+pair a b = (a, b)
+
+pub both : {A B : Type 0} (a c : A) (b d : B) → a ≡ c → b ≡ d → pair a b ≡ pair c d
+both {A} {B} a c b d first second = ap (λ (x : A). pair x b) first ∙ ap (λ (y : B). pair c y) second
+
 abbrev IsOfMemory : Refusal → Type 0
 IsOfMemory e = (e ≡ refusals.Memory) ⊎ (e ≡ refusals.Device)
 
@@ -22,17 +28,14 @@ no_refusal r x e is refused = cc
 
 -- no records are those of no entries, with which a master opens
 opens : (config : Config) (log : Log) (entries : List PlainEntry) (e : Refusal) → AreRecordsOf versions.Two [] entries → recover config versions.Two entries log ≡ Err e → ⊥
+unfolding recover
 opens config log [] e records refused = no_refusal (recover config versions.Two [] log) _ e refl refused
 opens config log (entry ∷ entries) e records refused = (let written = records.written in cc)
 
 told : (config : Config) (log : Log) (e : Refusal) → WhyNotTold config fresh log e → IsOfMemory e
-told config log e why = why.[λ
-  | inl memory ↦ inl memory
-  | inr unread ↦ unread.[λ
-    | inl (bad, none) ↦ absurd (none [] (record { written = refl; are_entries = tt }))
-    | inr (entries, records, refused) ↦ absurd (opens config log entries e records refused)
-  ]
-]
+told config log e (inl memory) = inl memory
+told config log e (inr (inl (bad, none))) = absurd (none [] (record { written = refl; are_entries = tt }))
+told config log e (inr (inr (entries, records, refused))) = absurd (opens config log entries e records refused)
 
 is_fresh : (first second : List ℕ) → first ≡ [] → second ≡ [] → standing first second ≡ fresh
 is_fresh first second none nothing = ap (λ (l : List ℕ). standing l second) none ∙ ap (λ (l : List ℕ). standing [] l) nothing
@@ -43,14 +46,9 @@ bad_line text is bad = (let same = ap is_text is in cc)
 -- that none begins over them is for memory alone, which a disk says by Device
 pub of_memory : {D : Type 0} (seen : D → List ℕ) (failures : D → ℕ) (config : Config) (disks : D × D) (u : Unopened D) → seen disks.0 ≡ [] → seen disks.1 ≡ []
     → WhyNotBegun seen failures config disks u → IsOfMemory u.refusal
-of_memory seen failures config disks u none nothing why = why.[λ
-  | inl (memory, first, second) ↦ inl memory
-  | inr unopened ↦ unopened.[λ
-    | inl ((device, still), failed) ↦ inr device
-    | inr (same, quiet, untold) ↦ untold.[λ
-      | inl (bad, no_text) ↦ absurd (bad_line (standing (seen disks.0) (seen disks.1)) (is_fresh (seen disks.0) (seen disks.1) none nothing) no_text)
-      | inr (log, limit, generation, not_told) ↦
-        told config log u.refusal (subst (λ (t : Text). WhyNotTold config t log u.refusal) (is_fresh (seen disks.0) (seen disks.1) none nothing) not_told)
-    ]
-  ]
-]
+of_memory seen failures config disks u none nothing (inl (memory, first, second)) = inl memory
+of_memory seen failures config disks u none nothing (inr (inl ((device, still), failed))) = inr device
+of_memory seen failures config disks u none nothing (inr (inr (same, quiet, inl (bad, no_text)))) =
+    absurd (bad_line (standing (seen disks.0) (seen disks.1)) (is_fresh (seen disks.0) (seen disks.1) none nothing) no_text)
+of_memory seen failures config disks u none nothing (inr (inr (same, quiet, inr (log, limit, generation, not_told)))) =
+    told config log u.refusal (subst (λ (t : Text). WhyNotTold config t log u.refusal) (is_fresh (seen disks.0) (seen disks.1) none nothing) not_told)

@@ -8,10 +8,10 @@ use Rattle.gs_world.proofs.world.World.step.Goals as goal
 
 pub returns : goal.returns
 returns g c =
-    told_of (seen_of g.D.Disk.seen) (failures_of g.D.Disk.failures) arms c.args.event (history_of c.args.self.now) c.at_node.result.0 (told c.at_node.result.1) (nodes_of c.at_node.new.self.nodes)
-    c.at_node.new.self.sent c.tell-said.result c.count-first.result c.count-end.result (history_of c.tell-said.new.self) c.at_node.ensures.at c.at_node.ensures.sent
-    (subst (λ (n : NodeId). Tells (seen_of g.D.Disk.seen) (failures_of g.D.Disk.failures) arms c.args.event.moment n (told c.at_node.result.1) c.at_node.new.self.sent c.tell-said.result c.tell-said.new.self.sent)
+    told_of (seen_of g.D.Disk.seen) (failures_of g.D.Disk.failures) arms c.args.event (history_of c.args.self.now) c.at_node-by.result.0 (told c.at_node-by.result.1) (nodes_of c.at_node-by.new.self.nodes)
+    c.at_node-by.new.self.sent c.tell-said.result c.count-first.result c.count-end.result (history_of c.tell-said.new.self) c.at_node-by.ensures.at c.at_node-by.ensures.sent
+    (subst (λ (n : NodeId). Tells (seen_of g.D.Disk.seen) (failures_of g.D.Disk.failures) arms c.args.event.moment n (told c.at_node-by.result.1) c.at_node-by.new.self.sent c.tell-said.result c.tell-said.new.self.sent)
     c.same-sender.ensures c.tell-said.ensures.tells)
     (ap nodes_of c.tell-said.ensures.nodes)
-    (c.count-first.ensures ∙ ap (λ (n : NodeId). sent_by c.at_node.new.self.sent n) c.same-before.ensures)
+    (c.count-first.ensures ∙ ap (λ (n : NodeId). sent_by c.at_node-by.new.self.sent n) c.same-before.ensures)
     (c.count-end.ensures ∙ ap (λ (n : NodeId). sent_by c.tell-said.new.self.sent n) c.same-behind.ensures)
