@@ -16,7 +16,7 @@ ghost use Rattle.gs_master_laws.specs.Numbered.{EventsKeepNumbers, LeadsToNumber
 ghost use Rattle.gs_master_laws.specs.Promises.{AllMessagesFit, AnswersExactly, BeginsWithAll, CallsFit, CallsKeep, CheckpointFits, CommitsExactly, IsToldAgain, KeepsAll, KeepsGiven, KeepsPrepared, LeadsBack, LeadsToKept, LockedElse, LockedExactly, MadeOfTheMost, MessagesFit, MessagesKeep, NothingAtTicks, NothingWhileRolling, PreparesByOneRecord, ProposesFresh, ProposesFreshAtTicks, RefusesInOrder, RefusedAtLocks, RefusedFits, RefusedLeavesAll, RenameRecordsResolved, ResolvedGoesBackAlike, ResolvedMakesTheSame, ResolvesOnce, RollsBack, StartsWell, StepsAtTicksFit, TellsAll, TellsCounters, IsTakenUnlessFailed};
 ghost use Rattle.gs_master_laws.specs.Reached.{DisksHold, OpensFirm, RecoversFirm, RollsBackThrough, RunsRecoverFromLast, SameFromLast};
 ghost use Rattle.gs_master_laws.specs.Resting.{PreparesExactly, TakesPrepares};
-ghost use Rattle.gs_master_laws.specs.Rooms.{LogsStayWithin, MessagesCopyStill, MessagesCounted, MessagesHaveRoom, OthersLeave, RestartsForget, RunsStayWithin, StepsHaveRoom, TellsAdd, TellsOf, TellsSince, TicksCopyStill, TicksCounted, TicksHaveRoom, TicksLeave};
+ghost use Rattle.gs_master_laws.specs.Rooms.{LogsStayWithin, MessagesCopyStill, MessagesCounted, MessagesHaveRoom, OthersLeave, RestartsForget, RunsStayWithin, StepsHaveRoom, StepsLeave, TellsAdd, TellsOf, TellsSince, TicksCopyStill, TicksCounted, TicksHaveRoom, TicksLeave};
 ghost use Rattle.gs_master_laws.specs.Standing.{EventsFit, FirmGoesOn, RunsFit, RunsRecover, StartsFirm};
 ghost use Rattle.gs_master_laws.specs.Written.{AllStepsWritten, CheckpointsWritten, EventsWritten, MessagesWritten, RunsWritten, StartsSteady, StepsWritten};
 ghost use Rattle.gs_master_spec.specs.Undoing.{EditsAsTold};
@@ -186,13 +186,14 @@ pub fn each_record_can_be_written()
 {}
 
 /// Who has told that it has a chunk as it was sealed is who has said so in the epoch of the rollback that is begun, since it was begun: such
-/// a message adds its server for the chunks that it names. Every other message and each tick leaves who has told, but the commit of the
-/// rollback, behind which nobody has; a restart forgets it; and where no rollback is begun nobody has told of anything.
+/// a message adds its server for the chunks that it names. Every other message, each tick and a tick's steps alone leave who has told, but
+/// the commit of the rollback, behind which nobody has; a restart forgets it; and where no rollback is begun nobody has told of anything.
 pub fn who_has_told_is_who_has_learned()
     ensures added { TellsAdd }
     ensures of_each { TellsOf }
     ensures others { OthersLeave }
     ensures ticks { TicksLeave }
+    ensures steps { StepsLeave }
     ensures restarts { RestartsForget }
     ensures since { TellsSince }
 {}
