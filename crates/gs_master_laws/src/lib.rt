@@ -18,7 +18,7 @@ ghost use Rattle.gs_master_laws.specs.Reached.{DisksHold, OpensFirm, RecoversFir
 ghost use Rattle.gs_master_laws.specs.Resting.{PreparesExactly, TakesPrepares};
 ghost use Rattle.gs_master_laws.specs.Rooms.{LogsStayWithin, MessagesCopyStill, MessagesCounted, MessagesHaveRoom, OthersLeave, RestartsForget, RunsStayWithin, StepsHaveRoom, StepsLeave, TellsAdd, TellsOf, TellsSince, TicksCopyStill, TicksCounted, TicksHaveRoom, TicksLeave};
 ghost use Rattle.gs_master_laws.specs.Standing.{EventsFit, FirmGoesOn, RunsFit, RunsRecover, StartsFirm};
-ghost use Rattle.gs_master_laws.specs.Written.{AllStepsWritten, CheckpointsWritten, EventsWritten, MessagesWritten, RunsWritten, StartsSteady, StepsWritten};
+ghost use Rattle.gs_master_laws.specs.Written.{AllStepsWritten, AllStepsWrittenAtPlaces, CheckpointsWritten, EventsWritten, EventsWrittenAtPlaces, MessagesWritten, RunsWritten, StartsSteady, StepsWritten};
 ghost use Rattle.gs_master_spec.specs.Undoing.{EditsAsTold};
 
 /// While a rollback is begun and not done, no view is begun, and no replica is dropped, whatever message comes and at each
@@ -173,8 +173,9 @@ pub fn logs_count_their_records()
 
 /// Each record of each message can be written, whoever sends it, and so can each of each step of a tick, and of all its steps together, and that
 /// of a checkpoint: where the master is firm and all that it keeps is within its types, and its journal's limit has 32 bits. So it is of what is
-/// left, behind each event and each run from a new store. What comes is within its types too, and a chunk that is found for writing stands at a
-/// place in its file that 32 bits can say.
+/// left, behind each event and each run from a new store; and of the master that a restart opens on the records of an event before a place of
+/// it, whichever, also where a tick's checkpoint is wanting. What comes is within its types too, and a chunk that is found for writing stands at
+/// a place in its file that 32 bits can say.
 pub fn each_record_can_be_written()
     ensures start { StartsSteady }
     ensures messages { MessagesWritten }
@@ -182,6 +183,8 @@ pub fn each_record_can_be_written()
     ensures ticks { AllStepsWritten }
     ensures checkpoints { CheckpointsWritten }
     ensures events { EventsWritten }
+    ensures places { EventsWrittenAtPlaces }
+    ensures step_places { AllStepsWrittenAtPlaces }
     ensures runs { RunsWritten }
 {}
 
