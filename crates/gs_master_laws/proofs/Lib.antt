@@ -77,5 +77,6 @@ pub mod Spelling
 pub mod SpelledNames
 pub mod WritingCheckpoints
 pub mod WritingPlaces
+pub mod Membered
 pub mod ToldReplies
 pub mod ToldInverses

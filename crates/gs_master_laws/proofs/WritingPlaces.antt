@@ -6,6 +6,7 @@ use Rattle.std.proofs.lemmas.Bool.{false≢true}
 use Rattle.gs_base.specs.declared.config.Config.{Config}
 use Rattle.gs_base.specs.declared.numbers.Moment.{Moment}
 use Rattle.gs_base.specs.declared.refusal.Refusal.{Refusal}
+use Rattle.gs_msg.specs.declared.message.Message.{Message}
 use Rattle.gs_journal.specs.declared.version.Version.TheVariants.{Two}
 use Rattle.gs_master_record.specs.Plain.{PlainEntry, Edited, Said, Propose, Settle, Prepare, Finalize, RollbackBegin, RollbackCommit, Whole, Holder}
 use Rattle.gs_master_record.specs.Writable.{IsEntry}
@@ -53,6 +54,94 @@ one_more (suc place) (x ∷ xs) ys few = by_rest (one_more place xs ys few)
     by_rest : (take place (xs ++ ys) ≡ take place xs) ⊎ (take place (xs ++ ys) ≡ xs ++ ys) → (x ∷ take place (xs ++ ys) ≡ x ∷ take place xs) ⊎ (x ∷ take place (xs ++ ys) ≡ x ∷ xs ++ ys)
     by_rest (inl same) = inl (ap (λ l. x ∷ l) same)
     by_rest (inr all) = inr (ap (λ l. x ∷ l) all)
+
+-- ---- what is told
+
+each_told : {A : Type 0} (xs : List A) (step : A → State → Turn) → ((x : A) (s : State) → IsSteady s → WritesAll (step x s)) → ((x : A) (s : State) → IsSteady s → AllByRecursion IsTellable (step x s).records) → (s : State) → IsSteady s
+    → AllByRecursion IsTellable (for_each s xs step).records
+each_told [] step h k s y = tt
+each_told (x ∷ xs) step h k s y = all_both IsTellable (step x s).records (for_each (step x s).after xs step).records (k x s y) (each_told xs step h k (step x s).after (h x s y).steady)
+
+abbrev pub all_steps : State → Moment → Turn
+all_steps s moment = and_then (for_each s (proposals s) (pressed moment)) granted
+
+pub steps_told : (s : State) (moment : Moment) → IsSteady s → AllByRecursion IsTellable (all_steps s moment).records
+steps_told s moment y =
+    let press = for_each s (proposals s) (pressed moment) in
+    all_both IsTellable press.records []
+    (each_told (proposals s) (pressed moment) (λ proposal next k. steps_written next moment proposal k) (λ proposal next k. (pressed_tells next (can_answer next k) moment proposal).told) s y) tt
+
+pub message_told : (config : Config) (s : State) (message : Message) (moment : Moment) → IsNamed (Comes message moment) → IsHeardIn s (Comes message moment) → IsSteady s → AllByRecursion IsTellable (handle config s message moment).records
+message_told config s message moment named heard y = (message_tells s (can_tell s y) (can_answer s y) config message moment named.0 heard named.1).told
+
+-- ---- checkpoints: one record, or none
+
+unless_few : (s : State) (refusal : Option Refusal) → length (written_unless s refusal).records ≤ 1
+unless_few s None = omega arith
+unless_few s (Some refusal) = omega arith
+
+checkpoint_few : (s : State) → length (checkpoint s).records ≤ 1
+unfolding checkpoint
+checkpoint_few s = unless_few s (first_of (checkpoint_tests (is_failed s.fault) s.volatile.is_preparing s.log (checkpoint_body s.durable)))
+
+due_few : (s : State) → length (written_if_due s).records ≤ 1
+due_few s = by_test (due s)
+  where
+    by_test : (b : Bool) → length (if b then record (checkpoint s) { said = None } else unmoved s).records ≤ 1
+    by_test true = checkpoint_few s
+    by_test false = omega arith
+
+-- ---- what each such record keeps, at each place
+
+-- behind each of these records
+abbrev pub AtAll : (Durable → Type 0) → Durable → List PlainEntry → Type 0
+AtAll P d entries = (place : ℕ) (last : Durable) → replayed d (take place entries) ≡ Some last → P last
+
+module _ (P : Durable → Type 0) (next_one : (entry : PlainEntry) (d next : Durable) → IsTellable entry → IsEntry Two entry → P d → applied d entry ≡ Some next → P next) where
+  pub all_behind : (entries : List PlainEntry) (d last : Durable) → AllByRecursion IsTellable entries → AllByRecursion (IsEntry Two) entries → P d → replayed d entries ≡ Some last → P last
+  all_behind [] d last t f p e = subst P (durable_is e) p
+  all_behind (entry ∷ entries) d last t f p e = by_first (λ n now h. all_behind entries n last t.1 f.1 now h) (applied d entry) refl e
+    where
+      by_first : ((n : Durable) → P n → replayed n entries ≡ Some last → P last) → (a : Option Durable) → applied d entry ≡ a → option_and_then (λ n. replayed n entries) a ≡ Some last → P last
+      by_first rest None is h = absurd (false≢true (ap is_some h))
+      by_first rest (Some n) is h = rest n (next_one entry d n t.0 f.0 p is) h
+
+  told_at_all : (d : Durable) (entries : List PlainEntry) → AllByRecursion IsTellable entries → AllByRecursion (IsEntry Two) entries → P d → AtAll P d entries
+  told_at_all d entries t f p place last e = all_behind (take place entries) d last (some_of IsTellable place entries t) (some_of (IsEntry Two) place entries f) p e
+
+  pub steps_at_all : (s : State) (moment : Moment) → IsSteady s → P s.durable → AtAll P s.durable (all_steps s moment).records
+  steps_at_all s moment y p = told_at_all s.durable (all_steps s moment).records (steps_told s moment y) (all_steps_written s moment y).written p
+
+  none_at_all : (d : Durable) → P d → AtAll P d []
+  none_at_all d p place last e = subst P (durable_is (ap (replayed d) (sym (none_of place)) ∙ e)) p
+
+  -- where one more stands behind them, and it is so behind all
+  one_more_at_all : (d after : Durable) (xs ys : List PlainEntry) → AtAll P d xs → length ys ≤ 1 → replayed d (xs ++ ys) ≡ Some after → P after → AtAll P d (xs ++ ys)
+  one_more_at_all d after xs ys first few fits p place last e = by_place (one_more place xs ys few)
+    where
+      by_place : (take place (xs ++ ys) ≡ take place xs) ⊎ (take place (xs ++ ys) ≡ xs ++ ys) → P last
+      by_place (inl same) = first place last (ap (replayed d) (sym same) ∙ e)
+      by_place (inr all) = subst P (durable_is (sym fits ∙ ap (replayed d) (sym all) ∙ e)) p
+
+  tick_at_all : (s : State) (moment : Moment) → IsSteady s → P s.durable → AllFit s (tick s moment) → P (tick s moment).after.durable → AtAll P s.durable (tick s moment).records
+  unfolding tick
+  tick_at_all s moment y now fits p = by_test (is_failed s.fault) fits p
+    where
+      steps : Turn
+      steps = all_steps s moment
+
+      by_test : (b : Bool) → AllFit s (if b then met_by s refusals.Device else and_then steps written_if_due) → P (if b then met_by s refusals.Device else and_then steps written_if_due).after.durable
+          → AtAll P s.durable (if b then met_by s refusals.Device else and_then steps written_if_due).records
+      by_test true f after = none_at_all s.durable now
+      by_test false f after = one_more_at_all s.durable (and_then steps written_if_due).after.durable steps.records (written_if_due steps.after).records (steps_at_all s moment y now) (due_few steps.after) f after
+
+  pub event_at_all : (config : Config) (s : State) (event : Event) → IsNamed event → IsHeardIn s event → IsSteady s → P s.durable → P (turn_of config s event).after.durable → AtAll P s.durable (turn_of config s event).records
+  event_at_all config s (Comes message moment) named heard y now p =
+      told_at_all s.durable (handle config s message moment).records (message_told config s message moment named heard y) (messages_written config s message moment named heard y).written now
+  event_at_all config s (Ticks moment) named heard y now p = tick_at_all s moment y now (events_fit config s (Ticks moment) named y.firm).fits p
+  event_at_all config s Renews named heard y now p =
+      one_more_at_all s.durable (checkpoint s).after.durable [] (checkpoint s).records (none_at_all s.durable now) (checkpoint_few s) (events_fit config s Renews named y.firm).fits p
+  event_at_all config s Restarts named heard y now p = none_at_all s.durable now
 
 -- ---- what a restart can be made of
 
@@ -104,96 +193,12 @@ opens_next entry d next t f o e =
       back = keeps_back entry d next other f.0 o.kept o.spelled o.low kept spelled o.back e;
     }
 
--- and so behind many
-opens_behind : (entries : List PlainEntry) (d last : Durable) → AllByRecursion IsTellable entries → AllByRecursion (IsEntry Two) entries → Opens d → replayed d entries ≡ Some last → Opens last
-opens_behind [] d last t f o e = subst Opens (durable_is e) o
-opens_behind (entry ∷ entries) d last t f o e = by_first (λ n opens h. opens_behind entries n last t.1 f.1 opens h) (applied d entry) refl e
-  where
-    by_first : ((n : Durable) → Opens n → replayed n entries ≡ Some last → Opens last) → (a : Option Durable) → applied d entry ≡ a → option_and_then (λ n. replayed n entries) a ≡ Some last → Opens last
-    by_first rest None is h = absurd (false≢true (ap is_some h))
-    by_first rest (Some n) is h = rest n (opens_next entry d n t.0 f.0 o is) h
-
--- ---- at each place
-
-abbrev OpensAtAll : Durable → List PlainEntry → Type 0
-OpensAtAll d entries = (place : ℕ) (last : Durable) → replayed d (take place entries) ≡ Some last → Opens last
-
-told_at_all : (d : Durable) (entries : List PlainEntry) → AllByRecursion IsTellable entries → AllByRecursion (IsEntry Two) entries → Opens d → OpensAtAll d entries
-told_at_all d entries t f o place last e = opens_behind (take place entries) d last (some_of IsTellable place entries t) (some_of (IsEntry Two) place entries f) o e
-
--- where one more stands behind them, and all come to what a restart can be made of
-one_more_at_all : (d after : Durable) (xs ys : List PlainEntry) → OpensAtAll d xs → length ys ≤ 1 → replayed d (xs ++ ys) ≡ Some after → Opens after → OpensAtAll d (xs ++ ys)
-one_more_at_all d after xs ys first few fits o place last e = by_place (one_more place xs ys few)
-  where
-    by_place : (take place (xs ++ ys) ≡ take place xs) ⊎ (take place (xs ++ ys) ≡ xs ++ ys) → Opens last
-    by_place (inl same) = first place last (ap (replayed d) (sym same) ∙ e)
-    by_place (inr all) = subst Opens (durable_is (sym fits ∙ ap (replayed d) (sym all) ∙ e)) o
-
--- ---- steps of a tick
-
-each_told : {A : Type 0} (xs : List A) (step : A → State → Turn) → ((x : A) (s : State) → IsSteady s → WritesAll (step x s)) → ((x : A) (s : State) → IsSteady s → AllByRecursion IsTellable (step x s).records) → (s : State) → IsSteady s
-    → AllByRecursion IsTellable (for_each s xs step).records
-each_told [] step h k s y = tt
-each_told (x ∷ xs) step h k s y = all_both IsTellable (step x s).records (for_each (step x s).after xs step).records (k x s y) (each_told xs step h k (step x s).after (h x s y).steady)
-
-abbrev all_steps : State → Moment → Turn
-all_steps s moment = and_then (for_each s (proposals s) (pressed moment)) granted
-
-steps_told : (s : State) (moment : Moment) → IsSteady s → AllByRecursion IsTellable (all_steps s moment).records
-steps_told s moment y =
-    let press = for_each s (proposals s) (pressed moment) in
-    all_both IsTellable press.records []
-    (each_told (proposals s) (pressed moment) (λ proposal next k. steps_written next moment proposal k) (λ proposal next k. (pressed_tells next (can_answer next k) moment proposal).told) s y) tt
-
-steps_at_all : (s : State) (moment : Moment) → IsSteady s → OpensAtAll s.durable (all_steps s moment).records
-steps_at_all s moment y = told_at_all s.durable (all_steps s moment).records (steps_told s moment y) (all_steps_written s moment y).written (opens_now s y)
+-- ---- a restart
 
 pub all_steps_written_at_places : AllStepsWrittenAtPlaces
-all_steps_written_at_places s moment place d log y fit room limit = opens_steady d log (steps_at_all s moment y place d fit) room limit
-
--- ---- checkpoints
-
-unless_few : (s : State) (refusal : Option Refusal) → length (written_unless s refusal).records ≤ 1
-unless_few s None = omega arith
-unless_few s (Some refusal) = omega arith
-
-checkpoint_few : (s : State) → length (checkpoint s).records ≤ 1
-unfolding checkpoint
-checkpoint_few s = unless_few s (first_of (checkpoint_tests (is_failed s.fault) s.volatile.is_preparing s.log (checkpoint_body s.durable)))
-
-due_few : (s : State) → length (written_if_due s).records ≤ 1
-due_few s = by_test (due s)
-  where
-    by_test : (b : Bool) → length (if b then record (checkpoint s) { said = None } else unmoved s).records ≤ 1
-    by_test true = checkpoint_few s
-    by_test false = omega arith
-
--- ---- events
-
-none_at_all : (d : Durable) → Opens d → OpensAtAll d []
-none_at_all d o place last e = subst Opens (durable_is (ap (replayed d) (sym (none_of place)) ∙ e)) o
-
-tick_at_all : (s : State) (moment : Moment) → IsSteady s → AllFit s (tick s moment) → Opens (tick s moment).after.durable → OpensAtAll s.durable (tick s moment).records
-unfolding tick
-tick_at_all s moment y fits o = by_test (is_failed s.fault) fits o
-  where
-    steps : Turn
-    steps = all_steps s moment
-
-    by_test : (b : Bool) → AllFit s (if b then met_by s refusals.Device else and_then steps written_if_due) → Opens (if b then met_by s refusals.Device else and_then steps written_if_due).after.durable
-        → OpensAtAll s.durable (if b then met_by s refusals.Device else and_then steps written_if_due).records
-    by_test true f now = none_at_all s.durable (opens_now s y)
-    by_test false f now = one_more_at_all s.durable (and_then steps written_if_due).after.durable steps.records (written_if_due steps.after).records (steps_at_all s moment y) (due_few steps.after) f now
-
-event_at_all : (config : Config) (s : State) (event : Event) → IsNamed event → IsHeardIn s event → IsSteady s → AllFit s (turn_of config s event) → Opens (turn_of config s event).after.durable → OpensAtAll s.durable (turn_of config s event).records
-event_at_all config s (Comes message moment) named heard y fits o =
-    let t = handle config s message moment in
-    told_at_all s.durable t.records (message_tells s (can_tell s y) (can_answer s y) config message moment named.0 heard named.1).told (messages_written config s message moment named heard y).written (opens_now s y)
-event_at_all config s (Ticks moment) named heard y fits o = tick_at_all s moment y fits o
-event_at_all config s Renews named heard y fits o = one_more_at_all s.durable (checkpoint s).after.durable [] (checkpoint s).records (none_at_all s.durable (opens_now s y)) (checkpoint_few s) fits o
-event_at_all config s Restarts named heard y fits o = none_at_all s.durable (opens_now s y)
+all_steps_written_at_places s moment place d log y fit room limit = opens_steady d log (steps_at_all Opens opens_next s moment y (opens_now s y) place d fit) room limit
 
 pub events_written_at_places : EventsWrittenAtPlaces
 events_written_at_places config s event place d log named heard y fit room limit =
-    let t = turn_of config s event in
-    opens_steady d log (event_at_all config s event named heard y (events_fit config s event named y.firm).fits (opens_now t.after (events_written config s event named heard y).steady) place d fit) room limit
+    let after = opens_now (turn_of config s event).after (events_written config s event named heard y).steady in
+    opens_steady d log (event_at_all Opens opens_next config s event named heard y (opens_now s y) after place d fit) room limit

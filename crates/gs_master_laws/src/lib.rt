@@ -12,6 +12,7 @@ ghost use Rattle.gs_master_spec.specs.declared.reply.KeptReply.{KeptReply};
 ghost use Rattle.gs_master_state.specs.inner.Recorded.{SayAlone};
 ghost use Rattle.gs_master_laws.specs.Copying.{CopiesAtRest, StepsCopyAtRest};
 ghost use Rattle.gs_master_laws.specs.Counting.{CountsKnown, CountsViews, NewOrOut};
+ghost use Rattle.gs_master_laws.specs.Membered.{EventsKeepMembers, EventsKeepMembersAtPlaces, RecordsKeepMembers, RunsHaveMembers, SettledHaveMembers, StepsKeepMembersAtPlaces, TellsMembers};
 ghost use Rattle.gs_master_laws.specs.Numbered.{EventsKeepNumbers, LeadsToNumbers, RecordsKeepNumbers, RunsKeepNumbers, TellsNumbers};
 ghost use Rattle.gs_master_laws.specs.Promises.{AllMessagesFit, AnswersExactly, BeginsWithAll, CallsFit, CallsKeep, CheckpointFits, CommitsExactly, IsToldAgain, KeepsAll, KeepsGiven, KeepsPrepared, LeadsBack, LeadsToKept, LockedElse, LockedExactly, MadeOfTheMost, MessagesFit, MessagesKeep, NothingAtTicks, NothingWhileRolling, PreparesByOneRecord, ProposesFresh, ProposesFreshAtTicks, RefusesInOrder, RefusedAtLocks, RefusedFits, RefusedLeavesAll, RenameRecordsResolved, ResolvedGoesBackAlike, ResolvedMakesTheSame, ResolvesOnce, RollsBack, StartsWell, StepsAtTicksFit, TellsAll, TellsCounters, IsTakenUnlessFailed};
 ghost use Rattle.gs_master_laws.specs.Reached.{DisksHold, OpensFirm, RecoversFirm, RollsBackThrough, RunsRecoverFromLast, SameFromLast};
@@ -250,6 +251,19 @@ pub fn hidden_names_tell_numbers_that_were_given()
     ensures all { LeadsToNumbers }
     ensures events { EventsKeepNumbers }
     ensures runs { RunsKeepNumbers }
+{}
+
+/// Each settled view has a member, but for that of a chunk which is listed without a reference: each record keeps it, the checkpoint of what
+/// stands tells it, each event of a steady master keeps it, also its records before a place, whichever, and so it is at the end of every run from
+/// a new store. A rollback may be committed though nobody has told of a chunk without a reference, which gets none while it has no member.
+pub fn settled_chunks_have_members()
+    ensures settled { SettledHaveMembers }
+    ensures records { RecordsKeepMembers }
+    ensures checkpoints { TellsMembers }
+    ensures events { EventsKeepMembers }
+    ensures places { EventsKeepMembersAtPlaces }
+    ensures step_places { StepsKeepMembersAtPlaces }
+    ensures runs { RunsHaveMembers }
 {}
 
 /// A checkpoint of what stands tells its counters and its epoch.
