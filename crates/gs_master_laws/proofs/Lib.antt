@@ -76,5 +76,7 @@ pub mod EachNamed
 pub mod Spelling
 pub mod SpelledNames
 pub mod WritingCheckpoints
+pub mod WritingPlaces
+pub mod Membered
 pub mod ToldReplies
 pub mod ToldInverses

@@ -73,7 +73,7 @@ told_counters d next parts e =
 whole_counters : (c : PlainCheckpoint) (d next : Durable) → c ≡ checkpoint_of d → AreParts versions.Two c → applied d (Whole c) ≡ Some next → AreCounters next
 whole_counters c d next is parts e = told_counters d next (subst (AreParts versions.Two) is parts) (ap (λ x. applied d (Whole x)) (sym is) ∙ e)
 
-keeps_counters : (entry : PlainEntry) (d next : Durable) → IsOfKept entry → IsEntry versions.Two entry → AreCounters d → applied d entry ≡ Some next → AreCounters next
+pub keeps_counters : (entry : PlainEntry) (d next : Durable) → IsOfKept entry → IsEntry versions.Two entry → AreCounters d → applied d entry ≡ Some next → AreCounters next
 unfolding applied
 keeps_counters (Edited by edit) d next own written c e = edited_counters d next by edit (edited_names edit d.names) written.0.1 c e
 keeps_counters (Said to refusal) d next own written c e = same_counters d _ next (fits_gives true _ next e).1 refl refl refl c

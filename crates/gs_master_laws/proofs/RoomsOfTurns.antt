@@ -35,7 +35,7 @@ use Rattle.gs_master_spec.specs.Chunks.{Chunk, chunk_at, may_begin, hears, heard
 use Rattle.gs_master_spec.specs.Durable.{is_rolling, prepared_view}
 use Rattle.gs_master_spec.specs.Handling.{call_turn, handle, about_turn, server_turn, from_client, from_node, pressed, pressed_at, pressed_if, proposals, granted, granted_at, written_unless, written_if_due, checkpoint, checkpoint_tests, checkpoint_body, due, tick}
 use Rattle.gs_master_spec.specs.Hearing.{stepped, heard, ask_plan, send_plan, is_with_sealed, promised_for, promised_at, unpromised_for, unpromised_at, sends, next_epoch, behind, learned, drops, lost, is_lost_at, made_quiet, reported, reported_now, damaged, renewed, is_leased_under}
-use Rattle.gs_master_laws.specs.Rooms.{AllCopyStill, CommitsRollback, CopiesStill, HasRoom, IsCounted, LogsStayWithin, MessagesCopyStill, MessagesCounted, MessagesHaveRoom, NoneHasTold, OthersLeave, RestartsForget, RunsStayWithin, StepsHaveRoom, Tells, TellsAdd, TellsOf, TellsSince, TicksCopyStill, TicksCounted, TicksHaveRoom, TicksLeave, restored_in}
+use Rattle.gs_master_laws.specs.Rooms.{AllCopyStill, CommitsRollback, CopiesStill, HasRoom, IsCounted, LogsStayWithin, MessagesCopyStill, MessagesCounted, MessagesHaveRoom, NoneHasTold, OthersLeave, RestartsForget, RunsStayWithin, StepsHaveRoom, StepsLeave, Tells, TellsAdd, TellsOf, TellsSince, TicksCopyStill, TicksCounted, TicksHaveRoom, TicksLeave, restored_in}
 use Rattle.gs_master_laws.specs.Standing.{Comes, Ticks, Renews, Restarts, turn_of}
 use Rattle.gs_master_laws.proofs.Rooms.{Adds, Roomy, all_begun_adds, all_ended_roomy, answer_leaves, both_leave, both_still, each_roomy, either_roomy, ended_roomy, is_plain, leaves_told, plan_adds, plan_roomy, quiet_adds, records_add, same_roomy, test_roomy, then_roomy, tried_roomy}
 use Rattle.gs_master_laws.proofs.Kept.{is_tied}
@@ -489,6 +489,9 @@ tick_stays s moment =
 
 pub ticks_leave : TicksLeave
 ticks_leave s moment = (tick_stays s moment).restored
+
+pub steps_leave : StepsLeave
+steps_leave s moment = (steps_roomy true s moment).adds.restored refl
 
 pub restarts_forget : RestartsForget
 restarts_forget config s = refl

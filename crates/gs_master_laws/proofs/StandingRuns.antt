@@ -50,7 +50,7 @@ use Rattle.gs_master_spec.specs.declared.pending.Pending.{Pending}
 use Rattle.gs_master_spec.specs.Working.{needs_of}
 use Rattle.gs_master_spec.specs.declared.change.Change.TheVariants as changes
 use Rattle.gs_master_spec.specs.declared.reply.KeptReply.{KeptReply}
-use Rattle.gs_master_laws.specs.Promises.{IsKept}
+use Rattle.gs_master_laws.specs.Promises.{AllFit, IsKept}
 use Rattle.gs_master_laws.specs.Standing.{RunsRecover, AreCounters, CanWait, FirmGoesOn, Event, Comes, Ticks, Renews, Restarts, EventsFit, FitsAndStands, IsFirm, IsNamed, IsNamedAbout, IsNamedBody, IsNamedCall, RunsFit, StartsFirm, run_of, turn_of, was_answered}
 use Rattle.gs_master_laws.proofs.Accepted.{may_so, unhide_well}
 use Rattle.gs_master_laws.proofs.AcceptedCalls.{Passes, left_false, one_visible, passes, two_visible, resolved_may, resolved_written}
@@ -281,12 +281,18 @@ each_good : {A : Type 0} (xs : List A) (step : A → State → Turn) → ((x : A
 each_good [] step f s h = same_good true s (unmoved s) refl refl h
 each_good (x ∷ xs) step f s h = let one = f x s h in then_good true s (step x s) (λ next. for_each next xs step) one (each_good xs step f (step x s).after one.holds)
 
+-- its steps, whether a checkpoint is written behind them or not
+steps_good : (s : State) (moment : Moment) → Holds true s → Good true s (and_then (for_each s (proposals s) (pressed moment)) granted)
+steps_good s moment h =
+    let all = for_each s (proposals s) (pressed moment) in
+    let first = each_good (proposals s) (pressed moment) (λ proposal next k. pressed_good next k moment proposal) s h in
+    then_good true s all granted first (same_good true all.after (granted all.after) refl refl first.holds)
+
 tick_good : (s : State) (moment : Moment) → Holds true s → Good true s (tick s moment)
 unfolding tick
 tick_good s moment h =
     let all = for_each s (proposals s) (pressed moment) in
-    let first = each_good (proposals s) (pressed moment) (λ proposal next k. pressed_good next k moment proposal) s h in
-    let second = then_good true s all granted first (same_good true all.after (granted all.after) refl refl first.holds) in
+    let second = steps_good s moment h in
     unless_failed_good s h (and_then (and_then all granted) written_if_due)
     (then_good true s (and_then all granted) written_if_due second (due_good (and_then all granted).after second.holds))
 
@@ -303,6 +309,9 @@ event_good config (Comes message moment) s named h = message_good s h config mes
 event_good config (Ticks moment) s named h = tick_good s moment h
 event_good config Renews s named h = checkpoint_good s h
 event_good config Restarts s named h = let f = opens_firm s.durable s.log h.stands.kept h.stands.counters in record { numbers = λ n. n; fits = refl; holds = record { stands = f.stands; rolling = λ c r. f.rolling r } }
+
+pub steps_fit : (s : State) (moment : Moment) → IsFirm s → AllFit s (and_then (for_each s (proposals s) (pressed moment)) granted)
+steps_fit s moment firm = (steps_good s moment (holds_of s firm)).fits
 
 pub events_fit : EventsFit
 events_fit config s event named firm = firm_of s (turn_of config s event) (event_good config event s named (holds_of s firm))

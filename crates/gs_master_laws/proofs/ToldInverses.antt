@@ -174,7 +174,7 @@ undone_back d next epoch answers None e = absurd (false≢true (ap is_some e))
 undone_back d next epoch answers (Some names) e =
     subst AreBack (fits_gives (is_rolling d.phase && ((epoch == d.epoch) && are_answers (prepared_view d) (fin.entries names.refs) answers)) (rolled_back d answers names) next e).1 tt
 
-keeps_back : (entry : PlainEntry) (d next : Durable) → is_whole_entry entry ≡ false → AreFields Two entry → IsKept d → HasSpelled d → AreLow d → IsKept next → HasSpelled next → AreBack d → applied d entry ≡ Some next → AreBack next
+pub keeps_back : (entry : PlainEntry) (d next : Durable) → is_whole_entry entry ≡ false → AreFields Two entry → IsKept d → HasSpelled d → AreLow d → IsKept next → HasSpelled next → AreBack d → applied d entry ≡ Some next → AreBack next
 unfolding applied
 keeps_back (Edited by edit) d next other f k h low kept spelled all e = edit_back d next by edit k h low kept spelled all f.1 (edited_names edit d.names) refl e
 keeps_back (Said to refusal) d next other f k h low kept spelled all e = subst AreBack (fits_gives true _ next e).1 all

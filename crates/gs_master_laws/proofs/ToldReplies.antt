@@ -189,7 +189,7 @@ undone_replies d next epoch answers None all e = absurd (false≢true (ap is_som
 undone_replies d next epoch answers (Some names) all e =
     same_replies d (rolled_back d answers names) next all (fits_gives (is_rolling d.phase && ((epoch == d.epoch) && are_answers (prepared_view d) (fin.entries names.refs) answers)) (rolled_back d answers names) next e).1 refl
 
-keeps_replies : (entry : PlainEntry) (d next : Durable) → is_whole_entry entry ≡ false → AreFields Two entry → IsKept d → HasSpelled d → AreReplies d → applied d entry ≡ Some next → AreReplies next
+pub keeps_replies : (entry : PlainEntry) (d next : Durable) → is_whole_entry entry ≡ false → AreFields Two entry → IsKept d → HasSpelled d → AreReplies d → applied d entry ≡ Some next → AreReplies next
 unfolding applied
 keeps_replies (Edited by edit) d next other f k h all e = edit_replies d next by edit k h all f.0 f.1 (edited_names edit d.names) refl e
 keeps_replies (Said to refusal) d next other f k h all e = subst AreReplies (fits_gives true _ next e).1 (replied d.replies to (Err refusal) all f.0 f.1)
@@ -261,7 +261,7 @@ more_holders : (server : ℕ) (o : Option Prepared) (p : Prepared) → held_by s
 more_holders server None p e = absurd (false≢true (ap is_some e))
 more_holders server (Some x) p e = subst (λ (y : Prepared). AreServers y.holders) (prepared_is e) (servers_told _)
 
-keeps_holders : (entry : PlainEntry) (d next : Durable) → is_whole_entry entry ≡ false → AreHolders d → applied d entry ≡ Some next → AreHolders next
+pub keeps_holders : (entry : PlainEntry) (d next : Durable) → is_whole_entry entry ≡ false → AreHolders d → applied d entry ≡ Some next → AreHolders next
 unfolding applied
 keeps_holders (Edited by edit) d next other all e = edit_holders d next by edit all (edited_names edit d.names) e
 keeps_holders (Said to refusal) d next other all e = subst AreHolders (fits_gives true _ next e).1 all

@@ -53,7 +53,7 @@ entry_handle s y chunk known = by_listed (is_listed s.durable chunk) refl known
     by_listed true is h = listed_handle s.durable chunk y.firm.stands.kept y.within.low is
     by_listed false is h = (given_some s.durable.next_handle chunk (y.firm.stands.unplaced chunk h).0, y.within.unplaced chunk h)
 
-can_tell : (s : State) → IsSteady s → CanTell s
+pub can_tell : (s : State) → IsSteady s → CanTell s
 can_tell s y = record {
   calls = y.within.calls;
   known = entry_handle s y;
@@ -61,7 +61,7 @@ can_tell s y = record {
   removed = λ moment. removed_told s.durable.names moment y.firm.stands.kept.names y.within.spelled.now;
 }
 
-can_answer : (s : State) → IsSteady s → CanAnswer s
+pub can_answer : (s : State) → IsSteady s → CanAnswer s
 can_answer s y = record {
   calls = y.within.calls;
   asked = λ chunk asking has. (let k = y.firm.stands.asked chunk asking has in (record { low = (entry_handle s y chunk k.known).1; epoch = below_epoch asking.stamp.epoch s.durable.epoch k.epoch y.firm.stands.kept.now; version = k.number }, k.told));

@@ -1,5 +1,6 @@
 pub mod Copying
 pub mod Counting
+pub mod Membered
 pub mod Numbered
 pub mod Promises
 pub mod Reached

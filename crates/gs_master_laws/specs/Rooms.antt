@@ -99,9 +99,13 @@ abbrev pub OthersLeave : Type 0
 OthersLeave = (config : Config) (s : State) (message : Message) (moment : Moment) → ((server : ℕ) (handles : List ℕ) → Tells s message server handles → ⊥) →
     let t = handle config s message moment in (restored_in t.after ≡ restored_in s) ⊎ (CommitsRollback s t × (restored_in t.after ≡ fin.empty))
 
--- and so does each tick
+-- and so does each tick,
 abbrev pub TicksLeave : Type 0
 TicksLeave = (s : State) (moment : Moment) → restored_in (tick s moment).after ≡ restored_in s
+
+-- and its steps alone, where memory for its checkpoint is wanting.
+abbrev pub StepsLeave : Type 0
+StepsLeave = (s : State) (moment : Moment) → restored_in (and_then (for_each s (proposals s) (pressed moment)) granted).after ≡ restored_in s
 
 -- A restart forgets who has.
 abbrev pub RestartsForget : Type 0

@@ -1,5 +1,5 @@
 -- What is within its type of all that a master keeps: so each record of each turn can be written, and it is so of what is left.
-use Rattle.std.specs.Prelude.{◌≡◌, ◌≤◌, ◌<◌, ◌^◌, ◌&&◌, ℕ, Bool, true, List, [], ◌∷◌, Some, Ok, codes, is_some, length, nat_le, refl, Option, None}
+use Rattle.std.specs.Prelude.{◌≡◌, ◌≤◌, ◌<◌, ◌^◌, ◌&&◌, ℕ, Bool, true, List, [], ◌∷◌, Some, Ok, codes, is_some, length, nat_le, refl, take, Option, None}
 use Rattle.std.specs.FinMap as fin
 use Rattle.std.specs.List.{list_all, AllByRecursion}
 use Rattle.std.specs.Str.{is_utf8}
@@ -19,9 +19,10 @@ use Rattle.gs_master_record.specs.Plain.{PlainInverse, PlainNode, UndoAddChunk, 
 use Rattle.gs_master_record.specs.Writable.{AreServers, IsHandle, IsPath, IsReply, IsRequest}
 use Rattle.gs_path.specs.Element.{is_stored}
 use Rattle.gs_path.specs.Path.{Name, Path}
+use Rattle.gs_master_spec.specs.Applied.{replayed}
 use Rattle.gs_master_spec.specs.Calls.{found_chunk}
 use Rattle.gs_master_spec.specs.Durable.{Durable}
-use Rattle.gs_master_spec.specs.Handling.{checkpoint, fresh, granted, handle, pressed, proposals}
+use Rattle.gs_master_spec.specs.Handling.{checkpoint, fresh, granted, handle, pressed, proposals, restarted}
 use Rattle.gs_master_spec.specs.State.{State, Log, Turn, and_then, for_each}
 use Rattle.gs_master_spec.specs.Undoing.{all_undone}
 use Rattle.gs_master_spec.specs.Whole.{reply_of}
@@ -156,11 +157,21 @@ AllStepsWritten = (s : State) (moment : Moment) → IsSteady s → WritesAll (an
 abbrev pub CheckpointsWritten : Type 0
 CheckpointsWritten = (s : State) → IsSteady s → IsWritten (checkpoint s)
 
--- So it is of every event,
+-- So it is of every event.
 abbrev pub EventsWritten : Type 0
 EventsWritten = (config : Config) (s : State) (event : Event) → IsNamed event → IsHeardIn s event → IsSteady s → WritesAll (turn_of config s event)
 
--- and of every run.
+-- A restart on its records before a place of it, whichever, and on as many bytes as have room, finds a steady master too,
+abbrev pub EventsWrittenAtPlaces : Type 0
+EventsWrittenAtPlaces = (config : Config) (s : State) (event : Event) (place : ℕ) (d : Durable) (log : Log) → IsNamed event → IsHeardIn s event → IsSteady s → replayed s.durable (take place (turn_of config s event).records) ≡ Some d
+    → log.size ≤ log.limit → log.limit < 2 ^ 32 → IsSteady (restarted d log)
+
+-- so does one on those of all steps of a tick, where memory for its checkpoint is wanting.
+abbrev pub AllStepsWrittenAtPlaces : Type 0
+AllStepsWrittenAtPlaces = (s : State) (moment : Moment) (place : ℕ) (d : Durable) (log : Log) → IsSteady s → replayed s.durable (take place (and_then (for_each s (proposals s) (pressed moment)) granted).records) ≡ Some d
+    → log.size ≤ log.limit → log.limit < 2 ^ 32 → IsSteady (restarted d log)
+
+-- And each record of every run can be written.
 abbrev pub AreHeardIn : Config → State → List Event → Type 0
 AreHeardIn config s [] = Unit {0}
 AreHeardIn config s (event ∷ events) = IsHeardIn s event × AreHeardIn config (turn_of config s event).after events

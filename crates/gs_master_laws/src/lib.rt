@@ -12,13 +12,14 @@ ghost use Rattle.gs_master_spec.specs.declared.reply.KeptReply.{KeptReply};
 ghost use Rattle.gs_master_state.specs.inner.Recorded.{SayAlone};
 ghost use Rattle.gs_master_laws.specs.Copying.{CopiesAtRest, StepsCopyAtRest};
 ghost use Rattle.gs_master_laws.specs.Counting.{CountsKnown, CountsViews, NewOrOut};
+ghost use Rattle.gs_master_laws.specs.Membered.{EventsKeepMembers, EventsKeepMembersAtPlaces, RecordsKeepMembers, RunsHaveMembers, SettledHaveMembers, StepsKeepMembersAtPlaces, TellsMembers};
 ghost use Rattle.gs_master_laws.specs.Numbered.{EventsKeepNumbers, LeadsToNumbers, RecordsKeepNumbers, RunsKeepNumbers, TellsNumbers};
 ghost use Rattle.gs_master_laws.specs.Promises.{AllMessagesFit, AnswersExactly, BeginsWithAll, CallsFit, CallsKeep, CheckpointFits, CommitsExactly, IsToldAgain, KeepsAll, KeepsGiven, KeepsPrepared, LeadsBack, LeadsToKept, LockedElse, LockedExactly, MadeOfTheMost, MessagesFit, MessagesKeep, NothingAtTicks, NothingWhileRolling, PreparesByOneRecord, ProposesFresh, ProposesFreshAtTicks, RefusesInOrder, RefusedAtLocks, RefusedFits, RefusedLeavesAll, RenameRecordsResolved, ResolvedGoesBackAlike, ResolvedMakesTheSame, ResolvesOnce, RollsBack, StartsWell, StepsAtTicksFit, TellsAll, TellsCounters, IsTakenUnlessFailed};
 ghost use Rattle.gs_master_laws.specs.Reached.{DisksHold, OpensFirm, RecoversFirm, RollsBackThrough, RunsRecoverFromLast, SameFromLast};
 ghost use Rattle.gs_master_laws.specs.Resting.{PreparesExactly, TakesPrepares};
-ghost use Rattle.gs_master_laws.specs.Rooms.{LogsStayWithin, MessagesCopyStill, MessagesCounted, MessagesHaveRoom, OthersLeave, RestartsForget, RunsStayWithin, StepsHaveRoom, TellsAdd, TellsOf, TellsSince, TicksCopyStill, TicksCounted, TicksHaveRoom, TicksLeave};
+ghost use Rattle.gs_master_laws.specs.Rooms.{LogsStayWithin, MessagesCopyStill, MessagesCounted, MessagesHaveRoom, OthersLeave, RestartsForget, RunsStayWithin, StepsHaveRoom, StepsLeave, TellsAdd, TellsOf, TellsSince, TicksCopyStill, TicksCounted, TicksHaveRoom, TicksLeave};
 ghost use Rattle.gs_master_laws.specs.Standing.{EventsFit, FirmGoesOn, RunsFit, RunsRecover, StartsFirm};
-ghost use Rattle.gs_master_laws.specs.Written.{AllStepsWritten, CheckpointsWritten, EventsWritten, MessagesWritten, RunsWritten, StartsSteady, StepsWritten};
+ghost use Rattle.gs_master_laws.specs.Written.{AllStepsWritten, AllStepsWrittenAtPlaces, CheckpointsWritten, EventsWritten, EventsWrittenAtPlaces, MessagesWritten, RunsWritten, StartsSteady, StepsWritten};
 ghost use Rattle.gs_master_spec.specs.Undoing.{EditsAsTold};
 
 /// While a rollback is begun and not done, no view is begun, and no replica is dropped, whatever message comes and at each
@@ -173,8 +174,9 @@ pub fn logs_count_their_records()
 
 /// Each record of each message can be written, whoever sends it, and so can each of each step of a tick, and of all its steps together, and that
 /// of a checkpoint: where the master is firm and all that it keeps is within its types, and its journal's limit has 32 bits. So it is of what is
-/// left, behind each event and each run from a new store. What comes is within its types too, and a chunk that is found for writing stands at a
-/// place in its file that 32 bits can say.
+/// left, behind each event and each run from a new store; and of the master that a restart opens on the records of an event before a place of
+/// it, whichever, also where a tick's checkpoint is wanting. What comes is within its types too, and a chunk that is found for writing stands at
+/// a place in its file that 32 bits can say.
 pub fn each_record_can_be_written()
     ensures start { StartsSteady }
     ensures messages { MessagesWritten }
@@ -182,17 +184,20 @@ pub fn each_record_can_be_written()
     ensures ticks { AllStepsWritten }
     ensures checkpoints { CheckpointsWritten }
     ensures events { EventsWritten }
+    ensures places { EventsWrittenAtPlaces }
+    ensures step_places { AllStepsWrittenAtPlaces }
     ensures runs { RunsWritten }
 {}
 
 /// Who has told that it has a chunk as it was sealed is who has said so in the epoch of the rollback that is begun, since it was begun: such
-/// a message adds its server for the chunks that it names. Every other message and each tick leaves who has told, but the commit of the
-/// rollback, behind which nobody has; a restart forgets it; and where no rollback is begun nobody has told of anything.
+/// a message adds its server for the chunks that it names. Every other message, each tick and a tick's steps alone leave who has told, but
+/// the commit of the rollback, behind which nobody has; a restart forgets it; and where no rollback is begun nobody has told of anything.
 pub fn who_has_told_is_who_has_learned()
     ensures added { TellsAdd }
     ensures of_each { TellsOf }
     ensures others { OthersLeave }
     ensures ticks { TicksLeave }
+    ensures steps { StepsLeave }
     ensures restarts { RestartsForget }
     ensures since { TellsSince }
 {}
@@ -246,6 +251,19 @@ pub fn hidden_names_tell_numbers_that_were_given()
     ensures all { LeadsToNumbers }
     ensures events { EventsKeepNumbers }
     ensures runs { RunsKeepNumbers }
+{}
+
+/// Each settled view has a member, but for that of a chunk which is listed without a reference: each record keeps it, the checkpoint of what
+/// stands tells it, each event of a steady master keeps it, also its records before a place, whichever, and so it is at the end of every run from
+/// a new store. A rollback may be committed though nobody has told of a chunk without a reference, which gets none while it has no member.
+pub fn settled_chunks_have_members()
+    ensures settled { SettledHaveMembers }
+    ensures records { RecordsKeepMembers }
+    ensures checkpoints { TellsMembers }
+    ensures events { EventsKeepMembers }
+    ensures places { EventsKeepMembersAtPlaces }
+    ensures step_places { StepsKeepMembersAtPlaces }
+    ensures runs { RunsHaveMembers }
 {}
 
 /// A checkpoint of what stands tells its counters and its epoch.
