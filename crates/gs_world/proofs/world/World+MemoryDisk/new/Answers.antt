@@ -1,4 +1,4 @@
-use Rattle.std.proofs.Common.{◌≡◌, ◌∙◌, ap, subst}
+use Rattle.std.proofs.Common.{◌∙◌, ap, subst}
 use Rattle.gs_journal.specs.Faults.{Failing}
 use Rattle.gs_journal.specs.Memory.{bytes_of, times_failed}
 use Rattle.gs_journal.specs.declared.memory.MemoryDisk.{MemoryDisk}
@@ -13,7 +13,7 @@ returns-in-Ok-clause-begins c =
       disks,
       c.empty_disks-first.ensures,
       subst (λ (d : Failing MemoryDisk × Failing MemoryDisk). Begins (seen_of bytes_of) (failures_of times_failed) arms c.args.config 1 d (history_of c.in-Ok.world))
-      (both c.new-first.result (new_disk disks.0) c.new-second.result (new_disk disks.1) c.new-first.ensures c.new-second.ensures) c.in-Ok.ensures.begins,
+          (both c.new-first.result (new_disk disks.0) c.new-second.result (new_disk disks.1) c.new-first.ensures c.new-second.ensures) c.in-Ok.ensures.begins,
     )
 
 pub returns-in-Err-clause-refused : goal.returns-in-Err-clause-refused
