@@ -1,6 +1,8 @@
 pub mod Lasting
+pub mod Listing
 pub mod Losing
 pub mod Ongoing
+pub mod Opening
 pub mod Posting
 pub mod Reaching
 pub mod Sending

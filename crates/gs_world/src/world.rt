@@ -1,8 +1,9 @@
-ghost use Rattle.std.specs.Prelude.{◌≡◌, false, IfOk, IfErr};
+ghost use Rattle.std.specs.Prelude.{◌≡◌, ◌⊎◌, false, IfOk, IfErr};
+ghost use Rattle.gs_base.specs.declared.refusal.Refusal.TheVariants as refusals;
 ghost use Rattle.gs_msg.specs.Nodes.{as_node};
 ghost use Rattle.gs_world.specs.Histories.{arms, AtNode, Begins, DeliversAt, IsOutcome, Tells, failures_of, history_of, is_ask, seen_of, told};
 ghost use Rattle.gs_world.specs.Runs.{AreOutcomes, HappensAll, TakesReply, all_said};
-ghost use Rattle.gs_world.specs.Beginning.{IsNotBegun, new_disks};
+ghost use Rattle.gs_world.specs.Beginning.{new_disks};
 ghost use Rattle.gs_world.specs.Sent.{Forgets};
 ghost use Rattle.gs_journal.specs.Memory.{bytes_of, times_failed};
 ghost use Rattle.gs_nodes.specs.Happenings.{Delivers, WhyNotBegun};
@@ -11,7 +12,7 @@ ghost use Rattle.gs_nodes.specs.Nodes.{nodes_of};
 
 use crate::happening::{ask, beat, damage, fail_disk, lose, restart, tick};
 use crate::outcome::Outcome;
-use crate::posts::Posts;
+use crate::posts::{Posts, same};
 use gs_base::{ClientId, Config, Moment, Refusal};
 use gs_client::Reply;
 use gs_journal::{Disk, FailingDisk, Fault, MemoryDisk, Unopened};
@@ -38,12 +39,6 @@ fn named(node: &StoreNode) -> NodeId
     NodeId::from(*node)
 }
 
-fn same(node: &NodeId) -> NodeId
-    ensures { result ≡ node.now }
-{
-    *node
-}
-
 fn receiver(message: &Message) -> NodeId
     ensures { result ≡ message.now.to }
 {
@@ -52,10 +47,10 @@ fn receiver(message: &Message) -> NodeId
 
 impl World<MemoryDisk> {
     /// A new store with one client, who has asked nothing. The disks of its master's journal are in memory, with nothing on them, and none
-    /// is to fail. It is refused where memory is wanting, which a disk says by `Device`.
+    /// is to fail. It is refused only where memory is wanting, which a disk says by `Device`, and never for its configuration.
     pub fn new(alloc: Global, config: Config) -> Result<World<MemoryDisk>, Refusal>
         ensures begins { IfOk result (λ world. OverEmpty (λ disks. Begins (seen_of bytes_of) (failures_of times_failed) arms config 1 (new_disks disks) (history_of world))) }
-        ensures refused { IfErr result (λ refusal. OverEmpty (λ disks. IsNotBegun (seen_of bytes_of) (failures_of times_failed) config (new_disks disks) refusal)) }
+        ensures refused { IfErr result (λ refusal. (refusal ≡ refusals.Memory) ⊎ (refusal ≡ refusals.Device)) }
     {
         let (first, second) = empty_disks(alloc);
         let first = FailingDisk::new(first, Fault::Never);
@@ -203,9 +198,12 @@ impl<D: Disk + Drop> World<D> {
     {
         let Event { moment, happening } = event;
         let (by, done) = self.at_node(moment, happening);
-        let first = self.sent.count(by);
-        let said = self.tell(moment, by, done);
-        let end = self.sent.count(by);
+        let before = same(&by);
+        let sender = same(&by);
+        let behind = same(&by);
+        let first = self.sent.count(before);
+        let said = self.tell(moment, sender, done);
+        let end = self.sent.count(behind);
         Outcome {
             by,
             said,

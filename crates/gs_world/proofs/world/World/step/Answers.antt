@@ -1,11 +1,17 @@
-use Rattle.std.proofs.Common.{ap}
+use Rattle.std.proofs.Common.{◌∙◌, ap, subst}
+use Rattle.gs_msg.specs.declared.node.NodeId.{NodeId}
 use Rattle.gs_nodes.specs.Nodes.{nodes_of}
-use Rattle.gs_world.specs.Histories.{arms, failures_of, history_of, seen_of, told}
+use Rattle.gs_world.specs.Histories.{Tells, arms, failures_of, history_of, seen_of, told}
+use Rattle.gs_world.specs.Sent.{sent_by}
 use Rattle.gs_world.proofs.Telling.{told_of}
 use Rattle.gs_world.proofs.world.World.step.Goals as goal
 
 pub returns : goal.returns
 returns g c =
     told_of (seen_of g.D.Disk.seen) (failures_of g.D.Disk.failures) arms c.args.event (history_of c.args.self.now) c.at_node.result.0 (told c.at_node.result.1) (nodes_of c.at_node.new.self.nodes)
-    c.at_node.new.self.sent c.tell-said.result c.count-first.result c.count-end.result (history_of c.tell-said.new.self) c.at_node.ensures.at c.at_node.ensures.sent c.tell-said.ensures.tells
-    (ap nodes_of c.tell-said.ensures.nodes) c.count-first.ensures c.count-end.ensures
+    c.at_node.new.self.sent c.tell-said.result c.count-first.result c.count-end.result (history_of c.tell-said.new.self) c.at_node.ensures.at c.at_node.ensures.sent
+    (subst (λ (n : NodeId). Tells (seen_of g.D.Disk.seen) (failures_of g.D.Disk.failures) arms c.args.event.moment n (told c.at_node.result.1) c.at_node.new.self.sent c.tell-said.result c.tell-said.new.self.sent)
+    c.same-sender.ensures c.tell-said.ensures.tells)
+    (ap nodes_of c.tell-said.ensures.nodes)
+    (c.count-first.ensures ∙ ap (λ (n : NodeId). sent_by c.at_node.new.self.sent n) c.same-before.ensures)
+    (c.count-end.ensures ∙ ap (λ (n : NodeId). sent_by c.tell-said.new.self.sent n) c.same-behind.ensures)
