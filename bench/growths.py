@@ -21,7 +21,7 @@ import tempfile
 import beside
 
 # The growth that is refused, which is behind all that a part makes.
-OF_SCRIPTS, OF_FILES = 5_000, 1_000_000
+REFUSED = 300_000
 FILES = 1_000
 # The growth of an upgrade that it doesn't reach, however many files there are.
 UNREACHED = 201
@@ -30,68 +30,68 @@ BEHIND = 1_000
 CASE = re.compile(r"^== (\S+)\n(\w+) (\d+)$", re.MULTILINE)
 
 
-def ran(crate, refused, inputs):
+SCRIPTS = ("removed", "copied")
+
+
+class Unanswered(Exception):
+    """Not each run has ended."""
+
+
+def ran(crate, inputs):
     """Runs the program once for each input, by name, and answers by name its word, and how many growths there were behind it."""
     with tempfile.TemporaryDirectory() as folder:
-        for name, text in inputs.items():
+        for name, (part, before, behind) in inputs.items():
             with open(os.path.join(folder, name), "w") as out:
-                out.write(text)
-        words = ["rt", "try", "--steps", "1", "--seconds", "600", "--fail-alloc", str(refused), "--cases", folder]
+                out.write(f"{part} {FILES} {before} {behind}")
+        words = ["rt", "try", "--steps", "1", "--seconds", "600", "--fail-alloc", str(REFUSED), "--cases", folder]
         done = subprocess.run(words, cwd=crate, stdout=subprocess.PIPE, stderr=subprocess.STDOUT, text=True, errors="replace")
     found = {name: (word, int(left)) for name, word, left in CASE.findall(done.stdout)}
     if set(found) != set(inputs):
         missing = sorted(set(inputs) - set(found))
-        sys.exit(f"{done.stdout[-3000:]}\ngrowths: no answer for {missing[:5]}\n0 passed, 1 failed")
+        raise Unanswered(f"{done.stdout[-3000:]}\nno answer for {len(missing)} of {len(inputs)} runs, the first {missing[:1]}")
     return found
 
 
-def text_of(part, before, behind):
-    return f"{part} {FILES} {before} {behind}"
-
-
-def made_by(crate, refused, parts):
+def growths_of(crate):
     """How many growths there are before the one that is refused, and how many each part makes."""
-    found = ran(crate, refused, {part: text_of(part, 0, refused) for part in ("none", *parts)})
-    if any(word != "right" or left >= refused for word, left in found.values()):
-        sys.exit(f"growths: {found}\n0 passed, 1 failed")
+    found = ran(crate, {part: (part, 0, REFUSED) for part in ("none", *SCRIPTS, "files", "prepare")})
     room = found["none"][1]
-    return room, {part: room - found[part][1] for part in parts}
+    for part, (word, left) in found.items():
+        if word != "right" or left >= REFUSED:
+            raise Unanswered(f"{part} is {word} where no growth of it is refused, and {left} are left")
+    return room, {part: room - left for part, (_, left) in found.items()}
 
 
-def refused_in_turn(crate, refused, room, part, first, last):
-    """Refuses each of these growths of a part, and answers those at which it was wrong, and at how many memory was wanting."""
-    inputs = {f"{growth:06}": text_of(part, room + 1 - growth, BEHIND) for growth in range(first, last + 1)}
-    found = ran(crate, refused, inputs)
-    wrong = [name for name, (word, left) in found.items() if word not in ("right", "lacked") or left < BEHIND]
-    return sorted(wrong), sum(word == "lacked" for word, _ in found.values())
+def judged(found, part):
+    """Whether none of a part's runs was wrong, in each of which the growth that was meant was refused."""
+    runs = {name: came for name, came in found.items() if name.startswith(part + ".")}
+    wrong = sorted(name for name, (word, left) in runs.items() if word not in ("right", "lacked") or left < BEHIND)
+    lacked = sum(word == "lacked" for word, _ in runs.values())
+    print(f"{part}: {len(runs)} growths refused in turn, {lacked} times memory was wanting for all, wrong at {wrong or 'none'}", flush=True)
+    return bool(runs) and not wrong
 
 
-def scripts(crate):
-    """Whether each growth of each script may be refused."""
-    parts = ("removed", "copied")
-    room, made = made_by(crate, OF_SCRIPTS, parts)
-    for part in parts:
-        wrong, lacked = refused_in_turn(crate, OF_SCRIPTS, room, part, 1, made[part])
-        print(f"{part}: {made[part]} growths refused in turn, {lacked} times not run, wrong at {wrong or 'none'}", flush=True)
-        yield made[part] > 0 and not wrong
-
-
-def upgrade(crate):
-    """Whether an upgrade behind many files may lack any of its growths, and needs none behind the 200th."""
-    room, made = made_by(crate, OF_FILES, ("files", "prepare"))
-    before, many = made["files"], made["prepare"] - made["files"]
-    wrong, lacked = refused_in_turn(crate, OF_FILES, room, "prepare", before + 1, before + many)
-    print(f"prepare: behind {FILES} files {many} growths refused in turn, {lacked} times not begun, wrong at {wrong or 'none'}", flush=True)
-    yield 0 < many < UNREACHED and not wrong
-    input_of_it = {"unreached": text_of("prepare", room + 1 - before - UNREACHED, BEHIND)}
-    word, left = ran(crate, OF_FILES, input_of_it)["unreached"]
-    print(f"prepare: behind {FILES} files with growth {UNREACHED} refused: {word}, and that one met behind {left} more", flush=True)
-    yield word == "right" and left == UNREACHED - 1 - many
+def results(crate):
+    """Whether each part may lack each of its growths, and an upgrade needs none behind the 200th."""
+    room, made = growths_of(crate)
+    files, many = made["files"], made["prepare"] - made["files"]
+    growths = [(part, growth) for part in SCRIPTS for growth in range(1, made[part] + 1)]
+    growths += [("prepare", files + growth) for growth in range(1, many + 1)]
+    inputs = {f"{part}.{growth:06}": (part, room + 1 - growth, BEHIND) for part, growth in growths}
+    inputs["unreached"] = ("prepare", room + 1 - files - UNREACHED, BEHIND)
+    found = ran(crate, inputs)
+    word, left = found["unreached"]
+    print(f"prepare: behind {FILES} files {many} growths of {files + many}; with its growth {UNREACHED} refused it is {word}", flush=True)
+    is_unreached = 0 < many < UNREACHED and word == "right" and left == UNREACHED - 1 - many
+    return [*(judged(found, part) for part in (*SCRIPTS, "prepare")), is_unreached]
 
 
 def main():
-    crate = beside.placed("gs_growths")
-    are_right = [*scripts(crate), *upgrade(crate)]
+    try:
+        are_right = results(beside.placed("gs_growths"))
+    except Unanswered as why:
+        print(f"growths: {why}", flush=True)
+        are_right = [False]
     print(f"{sum(are_right)} passed, {len(are_right) - sum(are_right)} failed", flush=True)
     return 0 if all(are_right) else 1
 
