@@ -10,19 +10,24 @@ refused. An upgrade behind 1,000 files is begun where its 201st growth is refuse
 it is begun then, or memory was wanting for it.
 
 The trial run lets one growth fail, the same one in each of its runs, which have another input each. So the program makes growths of its
-own first, and as many of them that the one that fails is the part's that is meant. The last line is 'N passed, M failed'."""
+own first, and as many of them that the one that fails is the part's that is meant. How many growths the files make is counted in a trial
+run before. The last line is 'N passed, M failed'."""
 
 import os
 import re
 import subprocess
 import sys
 import tempfile
+from concurrent.futures import ThreadPoolExecutor
 
 import beside
 
-# The growth that is refused, which is behind all that a part makes.
-REFUSED = 300_000
+SCRIPTS = ("removed", "copied")
 FILES = 1_000
+# The growth that is refused in the runs of the scripts, and in those of the files, of which it is behind all that a part makes.
+OF_SCRIPTS, OF_FILES = 2_000, 150_000
+# The most growths that are tried of a script, which makes fewer.
+MOST = 1_000
 # The growth of an upgrade that it doesn't reach, however many files there are.
 UNREACHED = 201
 # How many growths are tried behind a part to see whether the one that is refused was met before.
@@ -30,20 +35,17 @@ BEHIND = 1_000
 CASE = re.compile(r"^== (\S+)\n(\w+) (\d+)$", re.MULTILINE)
 
 
-SCRIPTS = ("removed", "copied")
-
-
 class Unanswered(Exception):
-    """Not each run has ended."""
+    """Not each run has ended, or what is counted doesn't fit."""
 
 
-def ran(crate, inputs):
+def ran(crate, refused, inputs):
     """Runs the program once for each input, by name, and answers by name its word, and how many growths there were behind it."""
     with tempfile.TemporaryDirectory() as folder:
         for name, (part, before, behind) in inputs.items():
             with open(os.path.join(folder, name), "w") as out:
                 out.write(f"{part} {FILES} {before} {behind}")
-        words = ["rt", "try", "--steps", "1", "--seconds", "600", "--fail-alloc", str(REFUSED), "--cases", folder]
+        words = ["rt", "try", "--steps", "1", "--seconds", "600", "--fail-alloc", str(refused), "--cases", folder]
         done = subprocess.run(words, cwd=crate, stdout=subprocess.PIPE, stderr=subprocess.STDOUT, text=True, errors="replace")
     found = {name: (word, int(left)) for name, word, left in CASE.findall(done.stdout)}
     if set(found) != set(inputs):
@@ -52,46 +54,55 @@ def ran(crate, inputs):
     return found
 
 
-def growths_of(crate):
-    """How many growths there are before the one that is refused, and how many each part makes."""
-    found = ran(crate, {part: (part, 0, REFUSED) for part in ("none", *SCRIPTS, "files", "prepare")})
-    room = found["none"][1]
-    for part, (word, left) in found.items():
-        if word != "right" or left >= REFUSED:
-            raise Unanswered(f"{part} is {word} where no growth of it is refused, and {left} are left")
-    return room, {part: room - left for part, (_, left) in found.items()}
-
-
-def judged(found, part):
-    """Whether none of a part's runs was wrong, in each of which the growth that was meant was refused."""
-    runs = {name: came for name, came in found.items() if name.startswith(part + ".")}
+def is_right(part, runs):
+    """Whether none of these runs of a part was wrong, in each of which the growth that was meant was refused."""
     wrong = sorted(name for name, (word, left) in runs.items() if word not in ("right", "lacked") or left < BEHIND)
     lacked = sum(word == "lacked" for word, _ in runs.values())
-    print(f"{part}: {len(runs)} growths refused in turn, {lacked} times memory was wanting for all, wrong at {wrong or 'none'}", flush=True)
+    print(f"{part}: {len(runs)} growths refused in turn, {lacked} times memory was wanting for all of it, wrong at {wrong or 'none'}", flush=True)
     return bool(runs) and not wrong
 
 
-def results(crate):
-    """Whether each part may lack each of its growths, and an upgrade needs none behind the 200th."""
-    room, made = growths_of(crate)
-    files, many = made["files"], made["prepare"] - made["files"]
-    growths = [(part, growth) for part in SCRIPTS for growth in range(1, made[part] + 1)]
-    growths += [("prepare", files + growth) for growth in range(1, many + 1)]
-    inputs = {f"{part}.{growth:06}": (part, room + 1 - growth, BEHIND) for part, growth in growths}
-    inputs["unreached"] = ("prepare", room + 1 - files - UNREACHED, BEHIND)
-    found = ran(crate, inputs)
-    word, left = found["unreached"]
-    print(f"prepare: behind {FILES} files {many} growths of {files + many}; with its growth {UNREACHED} refused it is {word}", flush=True)
-    is_unreached = 0 < many < UNREACHED and word == "right" and left == UNREACHED - 1 - many
-    return [*(judged(found, part) for part in (*SCRIPTS, "prepare")), is_unreached]
+def scripts(crate):
+    """Whether each script may lack each of its growths."""
+    names = {(part, growth): f"{part}.{growth:06}" for part in SCRIPTS for growth in range(1, MOST + 1)}
+    inputs = {name: (part, OF_SCRIPTS - growth, BEHIND) for (part, growth), name in names.items()}
+    found = ran(crate, OF_SCRIPTS, {**inputs, "none": ("none", OF_SCRIPTS - 1, BEHIND)})
+    if found["none"] != ("right", 0):
+        raise Unanswered(f"growths of the program's own aren't counted: {found['none']}")
+    for part in SCRIPTS:
+        # Behind the last growth of the script the one that is refused is met, nearer with each.
+        reached = [growth for growth in range(1, MOST + 1) if found[names[part, growth]][1] == BEHIND]
+        if reached != list(range(1, len(reached) + 1)) or len(reached) == MOST:
+            raise Unanswered(f"{part} has {len(reached)} growths, of which not each is tried")
+        yield is_right(part, {names[part, growth]: found[names[part, growth]] for growth in reached})
+
+
+def upgrade(crate):
+    """Whether an upgrade behind many files may lack each of its growths, and needs none behind the 200th."""
+    made = ran(crate, OF_FILES, {part: (part, 0, OF_FILES) for part in ("files", "prepare")})
+    if any(word != "right" or left >= OF_FILES for word, left in made.values()):
+        raise Unanswered(f"files and an upgrade make other growths than are meant: {made}")
+    files, many = OF_FILES - 1 - made["files"][1], made["files"][1] - made["prepare"][1]
+    inputs = {f"prepare.{growth:06}": ("prepare", OF_FILES - files - growth, BEHIND) for growth in (*range(1, many + 1), UNREACHED)}
+    found = ran(crate, OF_FILES, inputs)
+    word, left = found.pop(f"prepare.{UNREACHED:06}")
+    print(f"prepare: {many} growths behind {FILES} files, which make {files}; with growth {UNREACHED} refused it is {word}", flush=True)
+    yield is_right("prepare", found)
+    yield many < UNREACHED and word == "right" and left == UNREACHED - 1 - many
+
+
+def judged(results, crate):
+    try:
+        return list(results(crate))
+    except Unanswered as why:
+        print(f"growths: {why}", flush=True)
+        return [False]
 
 
 def main():
-    try:
-        are_right = results(beside.placed("gs_growths"))
-    except Unanswered as why:
-        print(f"growths: {why}", flush=True)
-        are_right = [False]
+    crate = beside.placed("gs_growths")
+    with ThreadPoolExecutor() as both:
+        are_right = [one for some in both.map(judged, (scripts, upgrade), (crate, crate)) for one in some]
     print(f"{sum(are_right)} passed, {len(are_right) - sum(are_right)} failed", flush=True)
     return 0 if all(are_right) else 1
 
