@@ -3,15 +3,15 @@
 
     bench/growths.py
 
-Each growth of two scripts is refused in turn: a file that is written to, moved, deleted and removed within an upgrade, and servers that
-miss an edit of an upgrade. A script must end with an answer to each line, of which the first that differs is a refusal or tells which
-servers have a chunk; and where the lines up to the prepare and the rollback are answered as ever, what is looked up behind it is right or
-refused. An upgrade behind 1,000 files is begun where its 201st growth is refused, and each growth that it does make is refused in turn:
-it is begun then, or memory was wanting for it.
+Each growth of two scripts is refused in turn: a file that is written to, moved, deleted and removed within an upgrade, and servers
+that miss an edit of an upgrade. A script must end with an answer to each line, of which the first that differs is a refusal or tells
+which servers have a chunk; and where the lines up to the prepare and the rollback are answered as ever, what is looked up behind it is
+right or refused. An upgrade behind 1,000 files is begun where its 201st growth is refused, and each growth that it does make is refused
+in turn: it is begun then, or memory was wanting for it.
 
-The trial run lets one growth fail, the same one in each of its runs, which have another input each. So the program makes growths of its
-own first, and as many of them that the one that fails is the part's that is meant. How many growths the files make is counted in a trial
-run before. The last line is 'N passed, M failed'."""
+The trial run lets one growth fail, the same one in each of its runs, which have another input each. So the program makes growths of
+its own first, and as many of them that the one that fails is the part's that is meant. How many growths the files make is counted in a
+trial run before. The last line is 'N passed, M failed'."""
 
 import os
 import re
@@ -50,7 +50,7 @@ def ran(crate, refused, inputs):
     found = {name: (word, int(left)) for name, word, left in CASE.findall(done.stdout)}
     if set(found) != set(inputs):
         missing = sorted(set(inputs) - set(found))
-        raise Unanswered(f"{done.stdout[-3000:]}\nno answer for {len(missing)} of {len(inputs)} runs, the first {missing[:1]}")
+        raise Unanswered(f"{done.stdout[-3000:]}\nno answer for {len(missing)} runs, the first {missing[:1]}")
     return found
 
 
@@ -58,7 +58,7 @@ def is_right(part, runs):
     """Whether none of these runs of a part was wrong, in each of which the growth that was meant was refused."""
     wrong = sorted(name for name, (word, left) in runs.items() if word not in ("right", "lacked") or left < BEHIND)
     lacked = sum(word == "lacked" for word, _ in runs.values())
-    print(f"{part}: {len(runs)} growths refused in turn, {lacked} times memory was wanting for all of it, wrong at {wrong or 'none'}", flush=True)
+    print(f"{part}: {len(runs)} growths refused in turn, {lacked} times all of it lacked memory, wrong at {wrong or 'none'}", flush=True)
     return bool(runs) and not wrong
 
 
@@ -83,7 +83,8 @@ def upgrade(crate):
     if any(word != "right" or left >= OF_FILES for word, left in made.values()):
         raise Unanswered(f"files and an upgrade make other growths than are meant: {made}")
     files, many = OF_FILES - 1 - made["files"][1], made["files"][1] - made["prepare"][1]
-    inputs = {f"prepare.{growth:06}": ("prepare", OF_FILES - files - growth, BEHIND) for growth in (*range(1, many + 1), UNREACHED)}
+    growths = (*range(1, many + 1), UNREACHED)
+    inputs = {f"prepare.{growth:06}": ("prepare", OF_FILES - files - growth, BEHIND) for growth in growths}
     found = ran(crate, OF_FILES, inputs)
     word, left = found.pop(f"prepare.{UNREACHED:06}")
     print(f"prepare: {many} growths behind {FILES} files, which make {files}; with growth {UNREACHED} refused it is {word}", flush=True)
