@@ -101,7 +101,7 @@ def judged(results, crate):
 
 
 def main():
-    crate = beside.placed("gs_growths")
+    crate = beside.placed("gs_growths", ("src",))
     with ThreadPoolExecutor() as both:
         are_right = [one for some in both.map(judged, (scripts, upgrade), (crate, crate)) for one in some]
     print(f"{sum(are_right)} passed, {len(are_right) - sum(are_right)} failed", flush=True)

@@ -36,7 +36,7 @@ def is_refused(crate, name):
 
 
 def main():
-    crate = beside.placed("gs_refused")
+    crate = beside.placed("gs_refused", ("src",))
     are_refused = [is_refused(crate, name) for name in sorted(os.listdir(PIECES))]
     print(f"{sum(are_refused)} passed, {len(are_refused) - sum(are_refused)} failed", flush=True)
     return 0 if all(are_refused) else 1

@@ -19,7 +19,7 @@ RUN = ["rt", "try", "--test", "--seconds", "3600"]
 def main():
     passed, failed = 0, 1
     how = {"stdout": subprocess.PIPE, "stderr": subprocess.STDOUT, "text": True, "errors": "replace"}
-    with subprocess.Popen(RUN, cwd=beside.placed("gs_trials"), **how) as tests:
+    with subprocess.Popen(RUN, cwd=beside.placed("gs_trials", ("src",)), **how) as tests:
         for line in tests.stdout:
             print(line, end="", flush=True)
             found = COUNTED.match(line)

@@ -1,5 +1,5 @@
 -- The target of a rename as its record holds it: a path that can be told, whose elements aren't hidden.
-use Rattle.std.proofs.Common.{◌≡◌, ◌∙◌, ◌≤◌, ◌<◌, ◌+◌, ◌&&◌, ◌++◌, ℕ, Bool, true, false, cond, [], not, length, append-nil, refl, sym, ap, subst, arith, common_steps, ◌∷◌}
+use Rattle.std.proofs.Common.{◌≡◌, ◌∙◌, ◌≤◌, ◌<◌, ◌+◌, ◌&&◌, ◌++◌, ℕ, Bool, true, false, cond, [], not, length, append-nil, refl, sym, ap, subst, ◌∷◌, arith, ◌||◌}
 use Rattle.std.specs.Prelude.{nat_le, is_some, Result, Ok, MatchBool, Option, None, Some, Err, if◌then◌else◌}
 use Rattle.std.specs.FinMap as fin
 use Rattle.std.specs.List.{list_all, list_any}

@@ -15,6 +15,7 @@ use Rattle.gs_base.specs.declared.numbers.Stamp.{Stamp}
 use Rattle.gs_base.specs.declared.refusal.Refusal.{Refusal}
 use Rattle.gs_base.specs.declared.refusal.Refusal.TheVariants as refusals
 use Rattle.gs_path.specs.Element.{is_hidden}
+use Rattle.gs_path.specs.Path.{Path}
 use Rattle.gs_tree.proofs.Levels.{both_true}
 use Rattle.gs_tree.specs.Edits.{old_name, target_of}
 use Rattle.gs_edit.specs.Edits.{edited}

@@ -1,5 +1,4 @@
 pub mod Lasting
-pub mod Listing
 pub mod Losing
 pub mod Ongoing
 pub mod Opening

@@ -1,5 +1,5 @@
 -- What each node has ever sent.
-use Rattle.std.specs.Prelude.{◌≡◌, ◌⊎◌, ◌++◌, ◌+◌, ◌-◌, ◌<◌, ◌≤◌, ◌==◌, ℕ, zero, suc, min, Bool, true, false, List, [], ◌∷◌, if◌then◌else◌, Option, Some, None, MatchOption, length, map, replicate, slice_get, slice_set, refl}
+use Rattle.std.specs.Prelude.{◌≡◌, ◌⊎◌, ◌++◌, ◌-◌, ◌==◌, ℕ, Bool, true, false, List, [], ◌∷◌, if◌then◌else◌, Option, Some, None, MatchOption, length, map, replicate, slice_get, slice_set, refl}
 use Rattle.std.specs.Coded.{Coded, code_by, coded×, coded_bool, coded_list}
 use Rattle.std.proofs.Common.{inl, inr}
 use Rattle.gs_base.specs.declared.numbers.Moment.{Moment}
@@ -113,44 +113,6 @@ ForgetsIn list place old new = MatchOption (slice_get old list) (new ≡ old) (�
 abbrev pub Forgets : MsgId → Sent → Sent → Type 0
 Forgets id old new = MatchOption (posts_of old id.sender) (new ≡ old) (λ posts. new ≡ with_posts id.sender (without_message posts id.place) old)
 
--- ---- all that was ever sent
-
--- the ids of so many messages of a node
-abbrev pub first_ids : NodeId → ℕ → List MsgId
-first_ids node zero = []
-first_ids node (suc n) = first_ids node n ++ record { sender = node; place = n } ∷ []
-
--- the ids of all that a node has ever sent, also of what was given up
-abbrev pub ids_by : Sent → NodeId → List MsgId
-ids_by s node = first_ids node (sent_by s node)
-
-abbrev pub by_servers : Sent → ℕ → List MsgId
-by_servers s zero = []
-by_servers s (suc n) = by_servers s n ++ ids_by s (nodes.Server n)
-
-abbrev pub by_clients : Sent → ℕ → List MsgId
-by_clients s zero = []
-by_clients s (suc n) = by_clients s n ++ ids_by s (nodes.Client (record { 0 = n + 1 }))
-
--- A server's number is below 16, and a client's is one of 32 bits.
-abbrev pub most_clients : ℕ
-most_clients = 4294967295
-
-abbrev pub CanBeNamed : NodeId → Type 0
-CanBeNamed nodes.Master = Unit {0}
-CanBeNamed (nodes.Server id) = id < 16
-CanBeNamed (nodes.Client id) = id.0 ≤ most_clients
-
-abbrev pub ids_of_servers : Sent → List MsgId
-ids_of_servers s = by_servers s (min (length s.servers) 16)
-
-abbrev pub ids_of_clients : Sent → List MsgId
-ids_of_clients s = by_clients s (min (length s.clients) most_clients)
-
--- the ids of all that was ever sent: by the master, the servers and the clients, each in the order in which it was sent
-abbrev pub all_ids : Sent → List MsgId
-all_ids s = ids_by s nodes.Master ++ ids_of_servers s ++ ids_of_clients s
-
 -- Worked: the second of two servers sends two messages, and the first of them is given up.
 abbrev second_sent : List Post → Sent
 second_sent posts = record { master = []; servers = [] ∷ posts ∷ []; clients = [] ∷ []; has_lost = false }
@@ -180,14 +142,3 @@ no_third_is_found m a b = refl
 
 the_first_is_given_up : (m : Moment) (a b : Message) → Forgets (at_second 0) (second_sent (posted m a ∷ posted m b ∷ [])) (second_sent (record { moment = m; message = None } ∷ posted m b ∷ []))
 the_first_is_given_up m a b = refl
-
--- which leaves it among all that was ever sent
-both_are_listed : (m : Moment) (a b : Message) → all_ids (second_sent (posted m a ∷ posted m b ∷ [])) ≡ at_second 0 ∷ at_second 1 ∷ []
-both_are_listed m a b = refl
-
-both_are_listed_still : (m : Moment) (b : Message) → all_ids (second_sent (record { moment = m; message = None } ∷ posted m b ∷ [])) ≡ at_second 0 ∷ at_second 1 ∷ []
-both_are_listed_still m b = refl
-
-master_then_servers_then_clients : (p q r : Post) → all_ids (record { master = p ∷ []; servers = [] ∷ (q ∷ []) ∷ []; clients = (r ∷ []) ∷ []; has_lost = false })
-    ≡ record { sender = nodes.Master; place = 0 } ∷ record { sender = nodes.Server 1; place = 0 } ∷ record { sender = nodes.Client (record { 0 = 1 }); place = 0 } ∷ []
-master_then_servers_then_clients p q r = refl

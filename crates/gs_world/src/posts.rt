@@ -1,12 +1,12 @@
 // What each node has sent.
-ghost use Rattle.std.specs.Prelude.{◌≡◌, ◌⊎◌, ◌++◌, Ok, Err, IfOk, OnOk, MatchOption, false, [], option_copied, option_map, replicate};
+ghost use Rattle.std.specs.Prelude.{◌≡◌, ◌⊎◌, Ok, Err, IfOk, MatchOption, false, [], option_copied, option_map, replicate};
 ghost use Rattle.gs_base.specs.declared.refusal.Refusal.TheVariants as refusals;
 ghost use Rattle.gs_msg.specs.Posts.{message_at};
 ghost use Rattle.gs_msg.specs.declared.node.NodeId.TheVariants as nodes;
-ghost use Rattle.gs_world.specs.Sent.{Appends, Forgets, ForgetsIn, IsPosted, IsPostedIn, all_ids, all_posts, ids_by, ids_of_clients, ids_of_servers, lost_all, message_of, none_sent, posts_of, sent_by};
+ghost use Rattle.gs_world.specs.Sent.{Appends, Forgets, ForgetsIn, IsPosted, IsPostedIn, all_posts, lost_all, message_of, none_sent, posts_of, sent_by};
 
 use gs_base::{ClientId, Moment, Refusal, ServerId};
-use gs_msg::{Message, MsgId, NodeId, Outbox};
+use gs_msg::{Message, NodeId, Outbox};
 use std::alloc::{AllocError, Global};
 use std::marker::Model;
 
@@ -219,50 +219,6 @@ impl Posts {
             Some(outbox) => outbox.len() as u64,
             None => 0,
         }
-    }
-
-    /// Adds the ids of all that a node has ever sent.
-    fn list(&self, ids: &mut Vec<MsgId>, sender: NodeId) -> Result<(), AllocError>
-        ensures { OnOk result (ids.new.items ≡ ids.old.items ++ ids_by self.now sender) }
-    {
-        for place in 0..self.count(same(&sender)) {
-            let sender = same(&sender);
-            ids.push(MsgId { sender, place })?;
-        }
-        Ok(())
-    }
-
-    fn list_servers(&self, ids: &mut Vec<MsgId>) -> Result<(), AllocError>
-        ensures { OnOk result (ids.new.items ≡ ids.old.items ++ ids_of_servers self.now) }
-    {
-        let servers = (self.servers.len() as u64).min(16);
-        for number in 0..servers {
-            let server = ServerId::new(number).unwrap();
-            self.list(ids, NodeId::Server(server))?;
-        }
-        Ok(())
-    }
-
-    fn list_clients(&self, ids: &mut Vec<MsgId>) -> Result<(), AllocError>
-        ensures { OnOk result (ids.new.items ≡ ids.old.items ++ ids_of_clients self.now) }
-    {
-        let clients = (self.clients.len() as u64).min(4_294_967_295) as u32;
-        for before in 0..clients {
-            self.list(ids, NodeId::Client(ClientId(before + 1)))?;
-        }
-        Ok(())
-    }
-
-    /// The ids of all messages that were ever sent, also of those that were given up: of the master's, the servers' and the clients',
-    /// each in the order in which it was sent.
-    pub fn ids(&self, alloc: Global) -> Result<Vec<MsgId>, AllocError>
-        ensures { IfOk result (λ ids. ids.items ≡ all_ids self.now) }
-    {
-        let mut ids = Vec::new(alloc);
-        self.list(&mut ids, NodeId::Master)?;
-        self.list_servers(&mut ids)?;
-        self.list_clients(&mut ids)?;
-        Ok(ids)
     }
 
     /// A copy of a message that was sent. `Range` where there is no such message, or it has been given up; `Memory` where memory is

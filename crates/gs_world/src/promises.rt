@@ -1,11 +1,10 @@
 //! What holds of every run of a store.
 
-ghost use Rattle.std.specs.Prelude.{◌≡◌, ◌<◌, ◌↔◌, Contains, ℕ, true, false, List, Ok, Err, Result, Some, slice_get};
+ghost use Rattle.std.specs.Prelude.{◌≡◌, ℕ, true, false, List, Ok, Err, Result, Some, slice_get};
 ghost use Rattle.gs_base.specs.declared.numbers.Moment.{Moment};
 ghost use Rattle.gs_msg.specs.declared.message.Message.{Message};
-ghost use Rattle.gs_msg.specs.declared.message.MsgId.{MsgId};
 ghost use Rattle.gs_msg.specs.declared.node.NodeId.{NodeId};
-ghost use Rattle.gs_world.specs.Sent.{AllPosted, CanBeNamed, IsPosted, Sent, all_ids, message_of, sent_by};
+ghost use Rattle.gs_world.specs.Sent.{AllPosted, IsPosted, Sent};
 ghost use Rattle.gs_base.specs.declared.refusal.Refusal.{Refusal};
 ghost use Rattle.gs_msg.specs.declared.event.Event.{Event};
 ghost use Rattle.gs_base.specs.declared.config.Config.{Config};
@@ -39,13 +38,6 @@ pub fn what_was_sent_stays<D>()
 pub fn no_message_is_lost_unseen<D>()
     ensures sent { (moment : Moment) (by : NodeId) (messages : List Message) (old new : Sent) → IsPosted moment by messages old new → new.has_lost ≡ false → AllPosted moment by messages old new }
     ensures stays { (seen : D → List ℕ) (failures : D → ℕ) (armed : DiskId → ℕ → MasterPlace D → MasterPlace D) (steps : List Step) (old new : History D) → RunsTo seen failures armed steps old new → old.sent.has_lost ≡ true → new.sent.has_lost ≡ true }
-{}
-
-/// The ids of all that was ever sent are those of the places that a node has sent to: an id stands among them exactly where its node has sent
-/// more messages than its place. So each message that stands still has its id there.
-pub fn all_that_was_sent_is_listed()
-    ensures listed { (sent : Sent) (id : MsgId) → CanBeNamed id.sender → Contains (all_ids sent) id ↔ (id.place < sent_by sent id.sender) }
-    ensures found { (sent : Sent) (id : MsgId) (message : Message) → CanBeNamed id.sender → message_of sent id ≡ Some message → Contains (all_ids sent) id }
 {}
 
 /// Events that happen one after the other, whatever each is met by, are steps: so the laws of all steps hold of what a run makes.
