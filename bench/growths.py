@@ -22,12 +22,11 @@ from concurrent.futures import ThreadPoolExecutor
 
 import beside
 
-SCRIPTS = ("removed", "copied")
 FILES = 1_000
 # The growth that is refused in the runs of the scripts, and in those of the files, of which it is behind all that a part makes.
 OF_SCRIPTS, OF_FILES = 2_000, 150_000
 # The most growths that are tried of a script, which makes fewer.
-MOST = 1_000
+MOST = 800
 # The growth of an upgrade that it doesn't reach, however many files there are.
 UNREACHED = 201
 # How many growths are tried behind a part to see whether the one that is refused was met before.
@@ -62,22 +61,18 @@ def is_right(part, runs):
     return bool(runs) and not wrong
 
 
-def scripts(crate):
-    """Whether each script may lack each of its growths."""
-    names = {(part, growth): f"{part}.{growth:06}" for part in SCRIPTS for growth in range(1, MOST + 1)}
-    inputs = {name: (part, OF_SCRIPTS - growth, BEHIND) for (part, growth), name in names.items()}
+def script(crate, part):
+    """Whether a script may lack each of its growths. Behind its last one the growth that is refused is met, nearer with each."""
+    names = {growth: f"{part}.{growth:06}" for growth in range(1, MOST + 1)}
+    inputs = {name: (part, OF_SCRIPTS - growth, BEHIND) for growth, name in names.items()}
     found = ran(crate, OF_SCRIPTS, {**inputs, "none": ("none", OF_SCRIPTS - 1, BEHIND)})
-    if found["none"] != ("right", 0):
-        raise Unanswered(f"growths of the program's own aren't counted: {found['none']}")
-    for part in SCRIPTS:
-        # Behind the last growth of the script the one that is refused is met, nearer with each.
-        reached = [growth for growth in range(1, MOST + 1) if found[names[part, growth]][1] == BEHIND]
-        if reached != list(range(1, len(reached) + 1)) or len(reached) == MOST:
-            raise Unanswered(f"{part} has {len(reached)} growths, of which not each is tried")
-        yield is_right(part, {names[part, growth]: found[names[part, growth]] for growth in reached})
+    reached = [growth for growth in range(1, MOST + 1) if found[names[growth]][1] == BEHIND]
+    if found["none"] != ("right", 0) or reached != list(range(1, len(reached) + 1)) or len(reached) == MOST:
+        raise Unanswered(f"{part} has {len(reached)} growths, of which not each is tried")
+    yield is_right(part, {names[growth]: found[names[growth]] for growth in reached})
 
 
-def upgrade(crate):
+def upgrade(crate, _part):
     """Whether an upgrade behind many files may lack each of its growths, and needs none behind the 200th."""
     made = ran(crate, OF_FILES, {part: (part, 0, OF_FILES) for part in ("files", "prepare")})
     if any(word != "right" or left >= OF_FILES for word, left in made.values()):
@@ -92,9 +87,9 @@ def upgrade(crate):
     yield many < UNREACHED and word == "right" and left == UNREACHED - 1 - many
 
 
-def judged(results, crate):
+def judged(results, crate, part):
     try:
-        return list(results(crate))
+        return list(results(crate, part))
     except Unanswered as why:
         print(f"growths: {why}", flush=True)
         return [False]
@@ -102,8 +97,10 @@ def judged(results, crate):
 
 def main():
     crate = beside.placed("gs_growths", ("src",))
-    with ThreadPoolExecutor() as both:
-        are_right = [one for some in both.map(judged, (scripts, upgrade), (crate, crate)) for one in some]
+    with ThreadPoolExecutor() as beside_each_other:
+        parts = ((script, "removed"), (script, "copied"), (upgrade, "prepare"))
+        runs = [beside_each_other.submit(judged, results, crate, part) for results, part in parts]
+        are_right = [one for run in runs for one in run.result()]
     print(f"{sum(are_right)} passed, {len(are_right) - sum(are_right)} failed", flush=True)
     return 0 if all(are_right) else 1
 
