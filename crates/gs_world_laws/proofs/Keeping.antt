@@ -366,7 +366,7 @@ takes_number req reply n has = by_test _
 
 hears_number : (body : Body) (n : Node) → HasNumber n → IfOk (hears body n) HasNumber
 hears_number (bodies.Reply req result) n has = takes_number req (answered replies.Answer result) n has
-hears_number (bodies.Done req result) n has = takes_number req (answered replies.Upshot result) n has
+hears_number (bodies.Done req result) n has = takes_number req (answered replies.Outcome result) n has
 hears_number (bodies.Bytes req result) n has = takes_number req (answered replies.Given result) n has
 hears_number body n has = tt
 
