@@ -1,6 +1,6 @@
 -- A restart opens a firm master, of the records from the last checkpoint on.
-use Rattle.std.proofs.Common.{◌≡◌, ◌∙◌, ◌+◌, ◌&&◌, ◌||◌, ◌==◌, ◌++◌, ℕ, Bool, true, false, List, [], ◌∷◌, refl, ap, sym, subst, arith}
-use Rattle.std.specs.Prelude.{is_some, nat_lt, option_and_then, Option, Some, None, Result, Ok, Err, if◌then◌else◌}
+use Rattle.std.proofs.Common.{◌≡◌, ◌∙◌, ◌+◌, ◌&&◌, ◌||◌, ◌==◌, ◌++◌, ℕ, zero, suc, Bool, true, false, List, [], ◌∷◌, refl, ap, sym, subst, arith}
+use Rattle.std.specs.Prelude.{is_some, nat_lt, option_and_then, take, Option, Some, None, Result, Ok, Err, if◌then◌else◌}
 use Rattle.std.specs.FinMap as fin
 use Rattle.std.specs.List.{AllByRecursion, list_any}
 use Rattle.std.proofs.lemmas.Bool.{false≢true}
@@ -17,12 +17,12 @@ use Rattle.gs_master_record.specs.declared.checkpoint.Phase.TheVariants.{Ordinar
 use Rattle.gs_master_record.specs.declared.entry.Answered.{Answered}
 use Rattle.gs_master_spec.specs.Applied.{after_edit, after_if, after_undoing, applied, are_answers, are_at_rest, counted_behind, forgotten_by, held_by, is_fresh, is_next_epoch, is_whole_entry, may_be_settled, may_edit, may_propose, number_of_edit, proposed, raised, records_behind, replayed, rolled_back, with_edit, with_epoch, with_view, without_prepared}
 use Rattle.gs_master_spec.specs.Durable.{Durable, after_number, is_ordinary, is_rolling, is_upgrade, prepared_view, start, with_prepared}
-use Rattle.gs_master_spec.specs.Handling.{anew, answered_or, fresh, checkpoint_body, checkpoint_tests, recover, recovered_from, reopened, restarted}
-use Rattle.gs_master_spec.specs.State.{Log, State, Turn, and_then, first_of}
+use Rattle.gs_master_spec.specs.Handling.{anew, answered_or, fresh, checkpoint_body, checkpoint_tests, granted, pressed, proposals, recover, recovered_from, reopened, restarted}
+use Rattle.gs_master_spec.specs.State.{Log, State, Turn, and_then, first_of, for_each}
 use Rattle.gs_master_spec.specs.Undoing.{all_undone, edited_names}
 use Rattle.gs_master_spec.specs.Whole.{checkpoint_of}
 use Rattle.gs_master_laws.specs.Promises.{IsOfKept}
-use Rattle.gs_master_laws.specs.Reached.{DisksHold, OpensFirm, RecoversFirm, RunsRecoverFromLast, SameFromLast, from_last}
+use Rattle.gs_master_laws.specs.Reached.{ComesBack, DisksHold, DisksHoldAtPlaces, DisksHoldAtStepPlaces, OpensFirm, RecoversFirm, RunsRecoverFromLast, SameFromLast, from_last}
 use Rattle.gs_master_laws.specs.Standing.{AreCounters, IsFirm, run_of, turn_of}
 use Rattle.gs_master_laws.proofs.Beginnings.{fits_gives}
 use Rattle.gs_master_laws.proofs.Kept.{tells_counters}
@@ -30,7 +30,7 @@ use Rattle.gs_master_laws.proofs.KeptAll.{leads_to_kept}
 use Rattle.gs_master_laws.proofs.KeptEdits.{forgets_only}
 use Rattle.gs_master_laws.proofs.StandingCheckpoints.{written_good}
 use Rattle.gs_master_laws.proofs.StandingRecords.{number_more}
-use Rattle.gs_master_laws.proofs.StandingRuns.{events_fit, opens_firm, runs_fit, runs_recover}
+use Rattle.gs_master_laws.proofs.StandingRuns.{events_fit, opens_firm, runs_fit, runs_recover, steps_fit}
 use Rattle.gs_master_laws.proofs.StandingTurns.{Holds}
 
 -- ---- the counters that records tell are numbers
@@ -228,3 +228,30 @@ both_replayed (x ∷ xs) ys d e last a b =
 pub disks_hold : DisksHold
 disks_hold config held s event named firm holds =
     let t = turn_of config s event in from_start (held ++ t.records) t.after.durable (both_replayed held t.records start s.durable t.after.durable holds (events_fit config s event named firm).fits)
+
+-- ---- before a place
+
+-- what the records before a place make
+record GoesTo (d : Durable) (entries : List PlainEntry) : Type 0 where
+  next : Durable
+  made : replayed d entries ≡ Some next
+
+goes_to : (place : ℕ) (entries : List PlainEntry) (d last : Durable) → replayed d entries ≡ Some last → GoesTo d (take place entries)
+goes_to zero entries d last e = record { next = d; made = refl }
+goes_to (suc place) [] d last e = record { next = d; made = refl }
+goes_to (suc place) (entry ∷ entries) d last e =
+    let over = goes_over d entry entries last e in
+    let rest = goes_to place entries over.next last over.rest in
+    record { next = rest.next; made = ap (option_and_then (λ n. replayed n (take place entries))) over.first ∙ rest.made }
+
+comes_back : (held : List PlainEntry) (s : State) (place : ℕ) (entries : List PlainEntry) (last : Durable) → replayed start held ≡ Some s.durable → replayed s.durable entries ≡ Some last → ComesBack held s (take place entries)
+comes_back held s place entries last holds fits =
+    let to = goes_to place entries s.durable last fits in
+    record { durable = to.next; made = to.made; read = from_start (held ++ take place entries) to.next (both_replayed held (take place entries) start s.durable to.next holds to.made) }
+
+pub disks_hold_at_places : DisksHoldAtPlaces
+disks_hold_at_places config held s event place named firm holds = let t = turn_of config s event in comes_back held s place t.records t.after.durable holds (events_fit config s event named firm).fits
+
+pub disks_hold_at_step_places : DisksHoldAtStepPlaces
+disks_hold_at_step_places held s moment place firm holds =
+    let t = and_then (for_each s (proposals s) (pressed moment)) granted in comes_back held s place t.records t.after.durable holds (steps_fit s moment firm)

@@ -1,7 +1,8 @@
 -- What a restart makes of what is kept, of which records it reads it, and what a rollback leads back to.
-use Rattle.std.specs.Prelude.{◌≡◌, ◌⊎◌, ◌++◌, ℕ, true, List, [], ◌∷◌, Some, Ok, if◌then◌else◌, refl}
+use Rattle.std.specs.Prelude.{◌≡◌, ◌⊎◌, ◌++◌, ℕ, true, List, [], ◌∷◌, Some, Ok, if◌then◌else◌, refl, take}
 use Rattle.std.specs.List.{list_any, AllByRecursion}
 use Rattle.gs_base.specs.declared.config.Config.{Config}
+use Rattle.gs_base.specs.declared.numbers.Moment.{Moment}
 use Rattle.gs_journal.specs.declared.version.Version.{Version}
 use Rattle.gs_journal.specs.declared.version.Version.TheVariants.{Two}
 use Rattle.gs_master_record.specs.Encoding.{new_store}
@@ -9,8 +10,8 @@ use Rattle.gs_master_record.specs.Plain.{PlainEntry, Finalize, Prepare, Rollback
 use Rattle.gs_master_record.specs.Writable.{IsEntry}
 use Rattle.gs_master_spec.specs.Applied.{applied, is_whole_entry, records_behind, replayed}
 use Rattle.gs_master_spec.specs.Durable.{Durable, start}
-use Rattle.gs_master_spec.specs.Handling.{fresh, recover, reopened, restarted}
-use Rattle.gs_master_spec.specs.State.{State, Log, Turn}
+use Rattle.gs_master_spec.specs.Handling.{fresh, granted, pressed, proposals, recover, reopened, restarted}
+use Rattle.gs_master_spec.specs.State.{State, Log, Turn, and_then, for_each}
 use Rattle.gs_master_spec.specs.Whole.{checkpoint_of}
 use Rattle.gs_master_record.specs.declared.entry.Answered.{Answered}
 use Rattle.gs_master_laws.specs.Promises.{IsKept, IsOfKept, IsRolledBack, goes_on_within}
@@ -52,6 +53,20 @@ HoldsDurable held s = replayed start held ≡ Some s.durable
 
 abbrev pub DisksHold : Type 0
 DisksHold = (config : Config) (held : List PlainEntry) (s : State) (event : Event) → IsNamed event → IsFirm s → HoldsDurable held s → let t = turn_of config s event in HoldsDurable (from_last (held ++ t.records)) t.after
+
+-- And where it holds only the event's records before a place, whichever, that comes to something durable all the same, read from the last
+-- checkpoint on: to what these records make of what was durable.
+pub record ComesBack (held : List PlainEntry) (s : State) (entries : List PlainEntry) : Type 0 where
+  pub durable : Durable
+  pub made : replayed s.durable entries ≡ Some durable
+  pub read : replayed start (from_last (held ++ entries)) ≡ Some durable
+
+abbrev pub DisksHoldAtPlaces : Type 0
+DisksHoldAtPlaces = (config : Config) (held : List PlainEntry) (s : State) (event : Event) (place : ℕ) → IsNamed event → IsFirm s → HoldsDurable held s → ComesBack held s (take place (turn_of config s event).records)
+
+-- So it is of those of all steps of a tick, where memory for its checkpoint is wanting.
+abbrev pub DisksHoldAtStepPlaces : Type 0
+DisksHoldAtStepPlaces = (held : List PlainEntry) (s : State) (moment : Moment) (place : ℕ) → IsFirm s → HoldsDurable held s → ComesBack held s (take place (and_then (for_each s (proposals s) (pressed moment)) granted).records)
 
 -- ---- a rollback
 

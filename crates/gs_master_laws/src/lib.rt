@@ -15,7 +15,7 @@ ghost use Rattle.gs_master_laws.specs.Counting.{CountsKnown, CountsViews, NewOrO
 ghost use Rattle.gs_master_laws.specs.Membered.{EventsKeepMembers, EventsKeepMembersAtPlaces, RecordsKeepMembers, RunsHaveMembers, SettledHaveMembers, StepsKeepMembersAtPlaces, TellsMembers};
 ghost use Rattle.gs_master_laws.specs.Numbered.{EventsKeepNumbers, LeadsToNumbers, RecordsKeepNumbers, RunsKeepNumbers, TellsNumbers};
 ghost use Rattle.gs_master_laws.specs.Promises.{AllMessagesFit, AnswersExactly, BeginsWithAll, CallsFit, CallsKeep, CheckpointFits, CommitsExactly, IsToldAgain, KeepsAll, KeepsGiven, KeepsPrepared, LeadsBack, LeadsToKept, LockedElse, LockedExactly, MadeOfTheMost, MessagesFit, MessagesKeep, NothingAtTicks, NothingWhileRolling, PreparesByOneRecord, ProposesFresh, ProposesFreshAtTicks, RefusesInOrder, RefusedAtLocks, RefusedFits, RefusedLeavesAll, RenameRecordsResolved, ResolvedGoesBackAlike, ResolvedMakesTheSame, ResolvesOnce, RollsBack, StartsWell, StepsAtTicksFit, TellsAll, TellsCounters, IsTakenUnlessFailed};
-ghost use Rattle.gs_master_laws.specs.Reached.{DisksHold, OpensFirm, RecoversFirm, RollsBackThrough, RunsRecoverFromLast, SameFromLast};
+ghost use Rattle.gs_master_laws.specs.Reached.{DisksHold, DisksHoldAtPlaces, DisksHoldAtStepPlaces, OpensFirm, RecoversFirm, RollsBackThrough, RunsRecoverFromLast, SameFromLast};
 ghost use Rattle.gs_master_laws.specs.Resting.{PreparesExactly, TakesPrepares};
 ghost use Rattle.gs_master_laws.specs.Rooms.{LogsStayWithin, MessagesCopyStill, MessagesCounted, MessagesHaveRoom, OthersLeave, RestartsForget, RunsStayWithin, StepsHaveRoom, StepsLeave, TellsAdd, TellsOf, TellsSince, TicksCopyStill, TicksCounted, TicksHaveRoom, TicksLeave};
 ghost use Rattle.gs_master_laws.specs.Standing.{EventsFit, FirmGoesOn, RunsFit, RunsRecover, StartsFirm};
@@ -219,11 +219,14 @@ pub fn every_run_fits()
 
 /// A restart reads the records from the last checkpoint on, which is all that a disk holds, as it would read all: what it opens is the same,
 /// wherever all fit. So a restart at the end of any run from a new store opens what was durable, from these alone; and from event to event, also behind restarts,
-/// what a disk holds comes to what is durable.
+/// what a disk holds comes to what is durable. Where it holds only an event's records before a place, whichever, it comes to what these make,
+/// also where a tick's checkpoint is wanting.
 pub fn a_restart_reads_the_last_checkpoint()
     ensures alike { SameFromLast }
     ensures runs { RunsRecoverFromLast }
     ensures disks { DisksHold }
+    ensures places { DisksHoldAtPlaces }
+    ensures step_places { DisksHoldAtStepPlaces }
 {}
 
 /// The record of a checkpoint fits, and gives what stood but for chunks that stand in no file and never did.
