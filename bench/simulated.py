@@ -26,7 +26,7 @@ WRONG = {
         "Some(slot) => slot.copy_out(stamp, with_sealed),",
         "Some(slot) => slot.copy_out(stamp, with_sealed && handle.number() == 0),",
     ),
-    "a view keeps answerers of lower counts": "gs_view/wrong-bodies/a_view_keeps_answerers_of_lower_counts.edit",
+    "a view keeps answerers of lower counts": "gs_view/must-fail/a_view_keeps_answerers_of_lower_counts.edit",
     "a dropped sealed replica is deleted": "gs_store_seal/must-fail/a_dropped_sealed_replica_is_deleted.edit",
     "a repeated edit is numbered anew": "gs_server_lease/must-fail/a_repeated_edit_is_numbered_anew.edit",
     "versions go back at a rollback": (
