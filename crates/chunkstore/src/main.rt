@@ -2,17 +2,10 @@
 #![tactic(auto)]
 
 use gs_base::{Config, Refusal};
-use gs_journal::MemoryDisk;
 use gs_shell::RunFault;
 use gs_shell_command::configured;
-use std::alloc::Global;
 use std::io::{self, BufReader, BufWriter};
 use std::process::ExitCode;
-
-/// A disk in memory with nothing on it.
-fn empty_disk(alloc: Global) -> MemoryDisk {
-    MemoryDisk::new(Vec::new(alloc))
-}
 
 /// Answers standard input on standard output, by a new store whose journal is kept in memory.
 fn serve(rt: &(impl Input + Print + AllocGlobal), config: Config) -> Result<(), RunFault> {
@@ -23,8 +16,7 @@ fn serve(rt: &(impl Input + Print + AllocGlobal), config: Config) -> Result<(), 
     let Ok(mut writer) = BufWriter::new(alloc, io::writer(rt)) else {
         return Err(RunFault::Refused(Refusal::Memory));
     };
-    let disks = (empty_disk(alloc), empty_disk(alloc));
-    gs_shell::run(alloc, config, disks, &mut reader, &mut writer)
+    gs_shell::run(alloc, config, &mut reader, &mut writer)
 }
 
 /// The status is 0 at the end of the input, 1 where a read or a write fails or the run can't begin, and 2 where the words of

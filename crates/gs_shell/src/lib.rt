@@ -2,10 +2,13 @@
 #![tactic(auto)]
 
 ghost use Rattle.std.specs.Prelude.{OnOk, IfErr, IfSome};
+ghost use Rattle.gs_journal.specs.Memory.{bytes_of, times_failed};
+ghost use Rattle.gs_nodes.specs.NewDisks.{OverEmpty};
 ghost use Rattle.gs_shell.specs.Serving.{Serves, ServeFails};
 
 use gs_base::Config;
 use gs_journal::Disk;
+use gs_nodes::empty_disks;
 use gs_shell_desk::Desk;
 pub use gs_shell_script::RunFault;
 use std::alloc::Global;
@@ -18,7 +21,7 @@ use std::io::{BufRead, Write};
 /// Where memory is lacking, the answer is `refused 33 Memory`, and the run goes on; something of what the line asks may be done
 /// then. Where the disks can't be opened or memory is lacking for the nodes, the fault is `Refused`, and nothing is read or
 /// written. A read or a write that fails ends the run as [`gs_shell_script::run`] says.
-pub fn run<D: Disk + Drop, R: BufRead, W: Write>(
+pub fn run_over<D: Disk + Drop, R: BufRead, W: Write>(
     alloc: Global,
     config: Config,
     disks: (D, D),
@@ -37,4 +40,20 @@ pub fn run<D: Disk + Drop, R: BufRead, W: Write>(
     let result = gs_shell_script::run(alloc, &mut desk, reader, writer);
     drop(desk);
     result
+}
+
+/// Begins a new store, the disks of whose master's journal are in memory, and answers the lines of the reader, as [`run_over`] does.
+pub fn run<R: BufRead, W: Write>(
+    alloc: Global,
+    config: Config,
+    reader: &mut R,
+    writer: &mut W,
+) -> Result<(), RunFault>
+    ensures ok { OnOk result (IfSome (R.remaining reader.old) (λ input. OverEmpty (λ disks.
+        Serves bytes_of times_failed config disks input (W.contents writer.old) (W.contents writer.new)))) }
+    ensures err { IfErr result (λ e. OverEmpty (λ disks.
+        ServeFails bytes_of times_failed config disks e (R.remaining reader.old) (R.remaining reader.new) (W.contents writer.old) (W.contents writer.new))) }
+{
+    let disks = empty_disks(alloc);
+    run_over(alloc, config, disks, reader, writer)
 }

@@ -1,5 +1,4 @@
 use gs_base::{Config, Refusal};
-use gs_journal::MemoryDisk;
 use gs_shell::RunFault;
 use std::alloc::{AllocError, Global};
 use std::io::{self, BufRead, ErrorKind, Read, Write};
@@ -102,14 +101,6 @@ fn store_of(replicas: u64, block: u64) -> Result<Config, Refusal> {
     Config::new(3, 2, replicas, block, block.wrapping_mul(4))
 }
 
-/// The disks of a new store.
-fn new_disks(alloc: Global) -> (MemoryDisk, MemoryDisk) {
-    (
-        MemoryDisk::new(Vec::new(alloc)),
-        MemoryDisk::new(Vec::new(alloc)),
-    )
-}
-
 /// How a run ended, as its output is followed by it: nothing where it went to the end of its input.
 fn ending(ended: &Result<(), RunFault>) -> &'static str {
     match ended {
@@ -127,7 +118,7 @@ fn told(
     mut input: Input,
     mut output: Output,
 ) -> Result<String, Refusal> {
-    let ended = gs_shell::run(alloc, config, new_disks(alloc), &mut input, &mut output);
+    let ended = gs_shell::run(alloc, config, &mut input, &mut output);
     output.written.extend_from_slice(ending(&ended).as_bytes())?;
     String::from_utf8(output.written)
         .ok()
