@@ -22,6 +22,10 @@ joined_none : {V : Type 0} (b : Bool) (y : Option (Option V)) → option_flatten
 joined_none true y = refl
 joined_none false y = refl
 
+found_before : {V : Type 0} (b : Bool) (y : Option (Option V)) → is_some (cond b None y) ≡ true → is_some y ≡ true
+found_before true y h = absurd (false≢true h)
+found_before false y h = h
+
 is_equal : (r : Ordering) → is_eq r ≡ true → r ≡ Equal
 is_equal Less h = absurd (false≢true h)
 is_equal Equal h = refl
@@ -97,6 +101,7 @@ module _ {K V : Type 0} {R : K → K → Ordering} (o : IsTotalOrder R) where
   room_removed es fs k says = record {
     none = found_without es fs k says k ∙ ap (λ b. cond b None (fin.find R k es)) ((eq_by_cmp_equiv o).refl k);
     others = λ q apart room. record { slot = ap is_some (found_without es fs k says q ∙ ap (λ b. cond b None (fin.find R q es)) apart) ∙ room.slot };
+    fewer = λ q room. record { slot = found_before (eq_by_cmp R q k) (fin.find R q es) (sym (ap is_some (found_without es fs k says q)) ∙ room.slot) };
   }
 
   -- ---- in the order of the keys

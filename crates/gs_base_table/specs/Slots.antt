@@ -29,10 +29,11 @@ pub record HasRoom {K V : Type 0} (R : K → K → Ordering) (t : List (K × Opt
 pub record KeepsRoom {K V : Type 0} (R : K → K → Ordering) (old new : List (K × Option V)) : Type 0 where
   pub keeps : (key : K) → HasRoom R old key → HasRoom R new key
 
--- the key's room is given up, and no other
+-- the key's room is given up, no other is, and none is made
 pub record GivesUpRoom {K V : Type 0} (R : K → K → Ordering) (old new : List (K × Option V)) (key : K) : Type 0 where
   pub none : fin.find R key new ≡ None
   pub others : (other : K) → eq_by_cmp R other key ≡ false → HasRoom R old other → HasRoom R new other
+  pub fewer : (other : K) → HasRoom R new other → HasRoom R old other
 
 -- the slot of a key is written, and no other
 pub record IsWritten {K V : Type 0} (R : K → K → Ordering) (old new : List (K × Option V)) (key : K) (slot : Option V) : Type 0 where

@@ -255,8 +255,8 @@ impl Blocks {
 
     /// Writes a piece at an offset, with zeros before it where the offset lies past the end. `Range` for no bytes, and where
     /// the piece would end past the size of the chunk, whatever memory there is. Each stored block with a byte from the lesser of the offset and the
-    /// end on and below the end of the piece is verified first: `Damaged` names the lowest that fails. After section 5.2 of
-    /// the GFS paper, where a write verifies the first and the last block of its range; here it verifies all.
+    /// end on and below the end of the piece is verified first: `Damaged` names the lowest that fails. After the
+    /// GFS paper on data integrity, where a write verifies the first and the last block of its range; here it verifies all.
     pub fn write(&mut self, offset: u64, piece: &[u8]) -> Result<BlockInverse, Refusal>
         ensures edit { Follows (write self.old offset piece.now) result self.old self.new }
         ensures range { Refuses (out_of_range self.old offset piece.now) result }

@@ -16,7 +16,7 @@ pub struct Need {
 }
 
 /// The chunk that needs a new replica most, of those that lack one and have a reference and a member: that of the
-/// greatest shortfall, then of a visible path before others, then the lowest. After section 4.3 of the GFS paper, where
+/// greatest shortfall, then of a visible path before others, then the lowest. After the GFS paper on re-replication, where
 /// chunks are ordered by how far they are from their goal, and those of live files come first.
 pub fn most_needed(config: &Config, needs: &[Need]) -> Option<Handle>
     ensures function { result ≡ most_needed_of config.now.replicas needs.now }

@@ -6,7 +6,7 @@ use gs_base::{Config, Members, Refusal, ServerId};
 /// As many servers as are wanted for replicas of a chunk that has these members now: of a new chunk none. `replicas` says
 /// of each server how many views have it as member. They are picked one by one: a server on a rack that neither a member
 /// nor a target stands on, if there is one, then the server with the fewest replicas, then the lowest. `NoServer` where a
-/// pick finds no server that is neither member nor target. Spreading over racks is after section 4.2 of the GFS paper.
+/// pick finds no server that is neither member nor target. Spreading over racks is after the GFS paper.
 pub fn targets(
     config: &Config,
     replicas: &[u64; 16],

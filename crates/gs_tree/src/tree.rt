@@ -142,7 +142,7 @@ impl Tree {
         }
     }
 
-    /// Moves what stands at a path to its hidden name (GFS, section 4.4), with all under it.
+    /// Moves what stands at a path to its hidden name (GFS, garbage collection), with all under it.
     pub fn hide(&mut self, path: &Path, moment: Moment, number: u64) -> Result<TreeInverse, Refusal>
         ensures edit { FollowsPlain (hide (fin_map.get self.old) path.now moment.0 number) result (fin_map.get self.old) (fin_map.get self.new) }
         ensures undo { IfOk result (λ i. TakesBack i (fin_map.get self.old) (fin_map.get self.new)) }
@@ -207,7 +207,7 @@ impl Tree {
         return_to(&mut self.root, self.alloc, from, to);
     }
 
-    /// Takes out what was hidden (GFS, section 4.4), with all under it. It costs the depth of the path; the inverse keeps
+    /// Takes out what was hidden (GFS, garbage collection), with all under it. It costs the depth of the path; the inverse keeps
     /// what was taken out.
     pub fn remove(&mut self, path: &Path) -> Result<TreeInverse, Refusal>
         ensures edit { FollowsPlain (remove (fin_map.get self.old) path.now) result (fin_map.get self.old) (fin_map.get self.new) }
@@ -241,7 +241,7 @@ impl Tree {
         set_chunk_in(&mut self.root, self.alloc, path, index, chunk)
     }
 
-    /// Copies what stands at a path with all that is visible under it (GFS, section 3.4). A file's copy has the same
+    /// Copies what stands at a path with all that is visible under it (GFS, snapshots). A file's copy has the same
     /// chunks, and neither path begins with the other. It costs what is copied.
     pub fn snapshot(&mut self, from: &Path, to: &Path) -> Result<TreeInverse, Refusal>
         ensures edit { FollowsPlain (snapshot (is_copied_too_deep (fin_map.entries self.old) from.now) (fin_map.get self.old) from.now to.now) result (fin_map.get self.old) (fin_map.get self.new) }
