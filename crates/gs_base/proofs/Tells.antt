@@ -11,7 +11,7 @@ use Rattle.std.specs.Str.{all_ascii_digits}
 use Rattle.std.specs.Str.Parse.{digits_value, ParsesUnsigned}
 use Rattle.gs_base.specs.Numbers.{stamp_text}
 use Rattle.gs_base.specs.Refusals.{number_of}
-use Rattle.gs_base.specs.Told.{detail_text, IsNumber, IsStamp, IsRefusal, Tells, Told, IsNumberIn, IsStampIn}
+use Rattle.gs_base.specs.Told.{detail_text, IsNumber, IsStamp, IsRefusal, TellsRefusal, Told, IsNumberIn, IsStampIn}
 use Rattle.gs_base.specs.declared.numbers.Stamp.{Stamp as AnyStamp}
 use Rattle.gs_base.specs.declared.refusal.Refusal.{Refusal}
 use Rattle.gs_base.specs.declared.refusal.Refusal.TheVariants.{BadPath, HiddenName, NotFound, Exists, NotADirectory, IsADirectory, NotEmpty, IntoItself, IsRoot, Locked, Preparing, RollingBack, NotUpgrading, AlreadyUpgrading, NotQuiet, Unrestored, NoServer, Epoch, Old, NotPrimary, LeaseOver, Stamp, Gap, NoData, Range, TooLong, Damaged, NoReplica, Unsure, Full, Exhausted, Device, Memory, BadLine, Config, Pending, Stray, NotHidden}
@@ -157,7 +157,7 @@ no_text : (n : ℕ) → IsNumber n → decimal n ≢ []
 no_text n small e = let some : 0 < length (decimal n) = decimal_nonempty n small in let none : length (decimal n) ≡ 0 = ap length e in omega arith
 
 -- no refusal of a number that has no arm, and an empty detail
-pub none_plain : (number : ℕ) → (IsPlain number → ⊥) → number ≢ 36 → (r : Refusal) → IsRefusal r → ¬ Tells number [] r
+pub none_plain : (number : ℕ) → (IsPlain number → ⊥) → number ≢ 36 → (r : Refusal) → IsRefusal r → ¬ TellsRefusal number [] r
 none_plain number other path = by_kind _ (record {
   plain = λ r plain none is told. other (subst IsPlain told.0 plain);
   not_quiet = λ d is told. no_text d is.1 told.1;
@@ -177,7 +177,7 @@ none_plain number other path = by_kind _ (record {
     stamp_some d e = longer (decimal d.epoch) (decimal d.version) 46 e
 
 -- no refusal of a number that isn't one with a number as its detail
-pub none_numbered : (number v : ℕ) → IsNumber v → (number ≡ 15 → v ≡ 0) → (number ≡ 16 → v ≡ 0) → number ≢ 18 → number ≢ 22 → number ≢ 23 → number ≢ 27 → number ≢ 36 → (r : Refusal) → IsRefusal r → ¬ Tells number (decimal v) r
+pub none_numbered : (number v : ℕ) → IsNumber v → (number ≡ 15 → v ≡ 0) → (number ≡ 16 → v ≡ 0) → number ≢ 18 → number ≢ 22 → number ≢ 23 → number ≢ 27 → number ≢ 36 → (r : Refusal) → IsRefusal r → ¬ TellsRefusal number (decimal v) r
 none_numbered number v small quiet restored e s g d p = by_kind _ (record {
   plain = λ r plain none is told. no_text v small (sym told.1 ∙ none);
   not_quiet = λ n is told. zero_handle n is (decimal_injective n v is.1 small told.1) (quiet (sym told.0));

@@ -95,13 +95,13 @@ IsRefusal (Pending d) = ⊤
 IsRefusal Stray = ⊤
 IsRefusal NotHidden = ⊤
 
-abbrev pub Tells : ℕ → List ℕ → Refusal → Type 0
-Tells number detail r = (number_of r ≡ number) × (detail_text r ≡ detail)
+abbrev pub TellsRefusal : ℕ → List ℕ → Refusal → Type 0
+TellsRefusal number detail r = (number_of r ≡ number) × (detail_text r ≡ detail)
 
 -- the refusal of this number and this detail, and none only where there is none
 abbrev pub Told : ℕ → List ℕ → Option Refusal → Type 0
-Told number detail (Some r) = IsRefusal r × Tells number detail r
-Told number detail None = (r : Refusal) → IsRefusal r → ¬ Tells number detail r
+Told number detail (Some r) = IsRefusal r × TellsRefusal number detail r
+Told number detail None = (r : Refusal) → IsRefusal r → ¬ TellsRefusal number detail r
 
 -- the number that a text is printed for
 abbrev pub IsNumberIn : List ℕ → Option ℕ → Type 0
@@ -113,11 +113,11 @@ IsStampIn text (Some s) = IsStamp s × (stamp_text s ≡ text)
 IsStampIn text None = (s : AnyStamp) → IsStamp s → ¬ (stamp_text s ≡ text)
 
 -- what a record says of the refusals `22 Stamp 0.3`, `23 Gap 7` and `19 Old`
-a_stamp_told : Tells 22 (stamp_text (record { epoch = 0; version = 3 })) (Stamp (record { epoch = 0; version = 3 }))
+a_stamp_told : TellsRefusal 22 (stamp_text (record { epoch = 0; version = 3 })) (Stamp (record { epoch = 0; version = 3 }))
 a_stamp_told = (refl, refl)
 
-a_count_told : Tells 23 (decimal 7) (Gap 7)
+a_count_told : TellsRefusal 23 (decimal 7) (Gap 7)
 a_count_told = (refl, refl)
 
-no_detail_told : Tells 19 [] Old
+no_detail_told : TellsRefusal 19 [] Old
 no_detail_told = (refl, refl)

@@ -5,7 +5,7 @@ use Rattle.gs_base.specs.declared.refusal.Refusal.{Refusal}
 use Rattle.gs_base.specs.declared.refusal.Refusal.TheVariants as refusals
 use Rattle.gs_path.specs.Path.{Path}
 use Rattle.gs_lease.specs.declared.view.Term.{Term}
-use Rattle.gs_replica.specs.declared.op.Outcome.{Outcome}
+use Rattle.gs_replica.specs.declared.op.EditOutcome.{EditOutcome}
 use Rattle.gs_client_dialogue.specs.Dialogues.{Dialogue, Say, Ask, Grow, FollowsDialogue, upon, both, onward, otherwise}
 use Rattle.gs_client_dialogue.proofs.Talks.{follows_upon}
 use Rattle.gs_msg.specs.declared.answer.Answer.{Answer}
@@ -63,7 +63,7 @@ quiet_extends path index (suc count) =
     (λ reply n. refl, λ reply. quiet_onward (λ l. extends_call path (index + 1) count) (λ l. quiet_extends path (index + 1) count) (and_then (located_in index) (changed reply)))
 
 -- an edit is sent
-pub edit_sent : {L : Type 0} (carries : L → ReqId → Request → Reply → L → Type 0) (l : Located) (term : Term) (op : Op) (bytes : List ℕ) (old new : Client) (n m : ℕ) (from to : L) (reply : Reply) (result : Result Outcome Refusal)
+pub edit_sent : {L : Type 0} (carries : L → ReqId → Request → Reply → L → Type 0) (l : Located) (term : Term) (op : Op) (bytes : List ℕ) (old new : Client) (n m : ℕ) (from to : L) (reply : Reply) (result : Result EditOutcome Refusal)
     → l.view.term ≡ Some term → Sends carries (old, from) (requests.Write l.handle l.view.members term.primary l.view.stamp op bytes) reply (new, to)
     → result ≡ edited reply → m ≡ with_edit result n → FollowsDialogue (Edits carries) (edit_call l op bytes) (old, n, from) result (new, m, to)
 edit_sent carries l term op bytes old new n m from to reply result known sent is count =
@@ -91,12 +91,12 @@ follows_other carries (Grow rest) go old mid new first result ends follows after
 ]
 
 -- a part that was done at once, and one that wasn't
-pub edit_done : {S : Type 0} (carries : S → Request → Reply → S → Type 0) (path : Path) (index : ℕ) (l : Located) (op : Op) (bytes : List ℕ) (old new : S) (outcome : Outcome)
+pub edit_done : {S : Type 0} (carries : S → Request → Reply → S → Type 0) (path : Path) (index : ℕ) (l : Located) (op : Op) (bytes : List ℕ) (old new : S) (outcome : EditOutcome)
     → FollowsDialogue carries (edit_call l op bytes) old (Ok outcome) new → FollowsDialogue carries (upon (edit_call l op bytes) (otherwise (again_call path index l.view.stamp op bytes))) old (Ok outcome) new
 edit_done carries path index l op bytes old new outcome follows =
     follows_upon carries (edit_call l op bytes) (otherwise (again_call path index l.view.stamp op bytes)) old new new (Ok outcome) (Ok outcome) (λ e. cc) follows (refl, refl)
 
-pub edit_again : {S : Type 0} (carries : S → Request → Reply → S → Type 0) (path : Path) (index : ℕ) (l : Located) (op : Op) (bytes : List ℕ) (old mid new : S) (refusal : Refusal) (result : Result Outcome Refusal)
+pub edit_again : {S : Type 0} (carries : S → Request → Reply → S → Type 0) (path : Path) (index : ℕ) (l : Located) (op : Op) (bytes : List ℕ) (old mid new : S) (refusal : Refusal) (result : Result EditOutcome Refusal)
     → FollowsDialogue carries (edit_call l op bytes) old (Err refusal) mid → FollowsDialogue carries (again_call path index l.view.stamp op bytes refusal) mid result new
     → FollowsDialogue carries (upon (edit_call l op bytes) (otherwise (again_call path index l.view.stamp op bytes))) old result new
 edit_again carries path index l op bytes old mid new refusal result follows after =

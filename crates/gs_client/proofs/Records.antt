@@ -3,8 +3,8 @@ use Rattle.std.proofs.Common.{◌≡◌, ◌<◌, ◌+◌, ◌-◌, ℕ, zero, s
 use Rattle.gs_base.specs.declared.refusal.Refusal.{Refusal}
 use Rattle.gs_base.specs.declared.refusal.Refusal.TheVariants as refusals
 use Rattle.gs_path.specs.Path.{Path}
-use Rattle.gs_replica.specs.declared.op.Outcome.{Outcome}
-use Rattle.gs_replica.specs.declared.op.Outcome.TheVariants as outcomes
+use Rattle.gs_replica.specs.declared.op.EditOutcome.{EditOutcome}
+use Rattle.gs_replica.specs.declared.op.EditOutcome.TheVariants as outcomes
 use Rattle.gs_client_dialogue.specs.Dialogues.{Say, FollowsDialogue, Leads, both}
 use Rattle.gs_client_dialogue.proofs.Talks.{leads_next, leads_stop}
 use Rattle.gs_msg.specs.declared.op.Op.TheVariants as ops
@@ -33,7 +33,7 @@ module _ {S : Type 0} (carries : S → Request → Reply → S → Type 0) (size
   pub record_refused : (refusal : Refusal) → FollowsDialogue carries (part_call path index (ops.Append (length bytes)) bytes) now (Err refusal) mid → FollowsDialogue carries whole old (Err refusal) mid
   record_refused refusal follows = leads_stop carries whole (part_call path index (ops.Append (length bytes)) bytes) _ old now mid refusal next follows
 
-  came : (outcome : Outcome) → FollowsDialogue carries (part_call path index (ops.Append (length bytes)) bytes) now (Ok outcome) mid
+  came : (outcome : EditOutcome) → FollowsDialogue carries (part_call path index (ops.Append (length bytes)) bytes) now (Ok outcome) mid
       → Leads carries whole old (landed size index (onward_from size path bytes index (4095 - index)) outcome) mid
   came outcome follows =
       leads_next carries whole (part_call path index (ops.Append (length bytes)) bytes) (landed size index (onward_from size path bytes index (4095 - index))) old now mid outcome next follows

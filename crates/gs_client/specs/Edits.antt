@@ -2,8 +2,8 @@
 use Rattle.std.specs.Prelude.{◌≡◌, ◌+◌, ℕ, min, Result, Ok, Err, refl}
 use Rattle.gs_base.specs.declared.numbers.ReqId.{ReqId}
 use Rattle.gs_base.specs.declared.refusal.Refusal.{Refusal}
-use Rattle.gs_replica.specs.declared.op.Outcome.{Outcome}
-use Rattle.gs_replica.specs.declared.op.Outcome.TheVariants as outcomes
+use Rattle.gs_replica.specs.declared.op.EditOutcome.{EditOutcome}
+use Rattle.gs_replica.specs.declared.op.EditOutcome.TheVariants as outcomes
 use Rattle.gs_msg.specs.declared.event.Request.{Request}
 use Rattle.gs_msg.specs.declared.event.Request.TheVariants as requests
 use Rattle.gs_client.specs.declared.client.Client.{Client}
@@ -13,7 +13,7 @@ use Rattle.gs_client.specs.Replies.{edited}
 use Rattle.gs_client.specs.Sends.{Sends, last_number}
 
 -- an edit counts where it is answered that its bytes stand; a chunk that was filled up has none of them
-abbrev pub with_edit : Result Outcome Refusal → ℕ → ℕ
+abbrev pub with_edit : Result EditOutcome Refusal → ℕ → ℕ
 with_edit (Ok outcomes.Written) edits = min (edits + 1) last_number
 with_edit (Ok (outcomes.Appended offset)) edits = min (edits + 1) last_number
 with_edit (Ok outcomes.Padded) edits = edits

@@ -3,7 +3,7 @@ use Rattle.std.specs.Prelude.{◌≡◌, ℕ, List, Bool, true, false, Option, S
 use Rattle.gs_base.specs.declared.refusal.Refusal.{Refusal}
 use Rattle.gs_base.specs.declared.refusal.Refusal.TheVariants as refusals
 use Rattle.gs_path.specs.Path.{Path}
-use Rattle.gs_replica.specs.declared.op.Outcome.{Outcome}
+use Rattle.gs_replica.specs.declared.op.EditOutcome.{EditOutcome}
 use Rattle.gs_msg.specs.declared.answer.Answer.{Answer}
 use Rattle.gs_msg.specs.declared.answer.Answer.TheVariants as answers
 use Rattle.gs_msg.specs.declared.answer.Status.{Status}
@@ -92,7 +92,7 @@ phase_in (answers.Phase phase epoch) = Ok (phase, epoch)
 phase_in answer = Err refusals.Stray
 
 -- what an edit came to
-abbrev pub edited : Reply → Result Outcome Refusal
+abbrev pub edited : Reply → Result EditOutcome Refusal
 edited (replies.Outcome outcome) = Ok outcome
 edited reply = Err (unsettled reply)
 

@@ -5,8 +5,8 @@ use Rattle.gs_base.specs.declared.refusal.Refusal.TheVariants as refusals
 use Rattle.gs_base.specs.declared.numbers.Stamp.{Stamp}
 use Rattle.gs_path.specs.Path.{Path}
 use Rattle.gs_lease.specs.declared.view.Term.{Term}
-use Rattle.gs_replica.specs.declared.op.Outcome.{Outcome}
-use Rattle.gs_replica.specs.declared.op.Outcome.TheVariants as outcomes
+use Rattle.gs_replica.specs.declared.op.EditOutcome.{EditOutcome}
+use Rattle.gs_replica.specs.declared.op.EditOutcome.TheVariants as outcomes
 use Rattle.gs_client_dialogue.specs.Dialogues.{Say, Grow, upon, both, ask, otherwise}
 use Rattle.gs_msg.specs.declared.call.Call.TheVariants as calls
 use Rattle.gs_msg.specs.declared.op.Op.{Op}
@@ -23,29 +23,29 @@ abbrev pub writing_call : Path → ℕ → Option Stamp → Call Located
 writing_call path index refused = Grow (look (calls.FindForWriting path index refused) (located_in index))
 
 -- The bytes go to each member, and the edit to the primary, under one number. A location without a primary is nobody's answer.
-abbrev pub send_call : Located → Option Term → Op → List ℕ → Call Outcome
+abbrev pub send_call : Located → Option Term → Op → List ℕ → Call EditOutcome
 send_call l None op bytes = Say (Err refusals.Stray)
 send_call l (Some term) op bytes = Grow (ask (requests.Write l.handle l.view.members term.primary l.view.stamp op bytes) edited)
 
-abbrev pub edit_call : Located → Op → List ℕ → Call Outcome
+abbrev pub edit_call : Located → Op → List ℕ → Call EditOutcome
 edit_call l op bytes = send_call l l.view.term op bytes
 
 -- the stamp that the next look-up avoids
 abbrev pub avoided : Refusal → Stamp → Option Stamp
 avoided refusal stamp = if is_location_good refusal then None else Some stamp
 
-abbrev pub again_call : Path → ℕ → Stamp → Op → List ℕ → Refusal → Call Outcome
+abbrev pub again_call : Path → ℕ → Stamp → Op → List ℕ → Refusal → Call EditOutcome
 again_call path index stamp op bytes refusal =
     if is_stale refusal then both (writing_call path index (avoided refusal stamp)) (λ l. edit_call l op bytes)
     else Say (Err refusal)
 
 -- one part: the chunk is looked up, and once more where that may help
-abbrev pub part_call : Path → ℕ → Op → List ℕ → Call Outcome
+abbrev pub part_call : Path → ℕ → Op → List ℕ → Call EditOutcome
 part_call path index op bytes =
     both (writing_call path index None) (λ l. upon (edit_call l op bytes) (otherwise (again_call path index l.view.stamp op bytes)))
 
 -- a write is answered as written; another outcome is nobody's answer
-abbrev pub written : Outcome → Result (Unit {0}) Refusal
+abbrev pub written : EditOutcome → Result (Unit {0}) Refusal
 written outcomes.Written = Ok tt
 written outcome = Err refusals.Stray
 
@@ -83,7 +83,7 @@ write_call size path opened offset bytes =
     parts_call size path offset bytes 0 (part_count size offset bytes)))
 
 -- A record stands at a place of its chunk, or the chunk was filled up and the record goes on.
-abbrev pub landed : ℕ → ℕ → Call ℕ → Outcome → Call ℕ
+abbrev pub landed : ℕ → ℕ → Call ℕ → EditOutcome → Call ℕ
 landed size index next (outcomes.Appended offset) = Say (placed size index offset)
 landed size index next outcomes.Padded = next
 landed size index next outcomes.Written = Say (Err refusals.Stray)

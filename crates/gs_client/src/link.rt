@@ -2,7 +2,7 @@ ghost use Rattle.std.specs.Prelude.{◌≡◌, IfOk};
 
 use gs_base::{Refusal, ReqId};
 use gs_msg::{Answer, Given, Request};
-use gs_replica::Outcome;
+use gs_replica::EditOutcome;
 use std::alloc::{AllocError, Global};
 
 /// What comes back for a request.
@@ -11,7 +11,7 @@ pub enum Reply {
     /// What the master answers to a call.
     Answer(Answer),
     /// What an edit answers.
-    Outcome(Outcome),
+    EditOutcome(EditOutcome),
     /// What a fetch gives.
     Given(Given),
     Refused(Refusal),

@@ -9,7 +9,7 @@ use gs_block::Digest;
 use gs_client_part::Located;
 use gs_msg::{Answer, Asked, Bytes, ChunkStatus, Copied, Given, Items, Names, Phase, Status};
 use gs_path::Path;
-use gs_replica::Outcome;
+use gs_replica::EditOutcome;
 
 /// The refusal of a request that may have changed something.
 fn unsure_or(refusal: Refusal) -> Refusal
@@ -166,7 +166,7 @@ pub(crate) fn phase_in(answer: Result<Answer, Refusal>) -> Result<(Phase, u64), 
 }
 
 /// What an edit came to.
-pub(crate) fn edited(reply: Reply) -> Result<Outcome, Refusal>
+pub(crate) fn edited(reply: Reply) -> Result<EditOutcome, Refusal>
     ensures { result ≡ says.edited reply }
 {
     match reply {

@@ -15,7 +15,7 @@ use gs_client_part::writing::{
 use gs_client_part::{Located, Write};
 use gs_msg::{Bytes, Call, Op, Request};
 use gs_path::Path;
-use gs_replica::Outcome;
+use gs_replica::EditOutcome;
 
 /// An edit of a chunk of a file.
 #[derive(Clone, Copy)]
@@ -36,11 +36,11 @@ pub(crate) struct Record<'r> {
 }
 
 /// How many edits are acknowledged behind one that came to this.
-fn with_edit(edited: &Result<Outcome, Refusal>, edits: u64) -> u64
+fn with_edit(edited: &Result<EditOutcome, Refusal>, edits: u64) -> u64
     ensures { result ≡ with_edit edited.now edits }
 {
     match edited {
-        Ok(Outcome::Written | Outcome::Appended(_)) => edits.saturating_add(1),
+        Ok(EditOutcome::Written | EditOutcome::Appended(_)) => edits.saturating_add(1),
         _ => edits,
     }
 }
@@ -80,7 +80,7 @@ impl Client {
         edits: &mut u64,
         located: &Located,
         edit: &Edit<'_>,
-    ) -> Result<Outcome, Refusal>
+    ) -> Result<EditOutcome, Refusal>
         ensures { FollowsDialogue (Edits L.Carries) (calls.edit_call located.now edit.now.op edit.now.bytes.now) (self.old, edits.old, link.old) result (self.new, edits.new, link.new) }
     {
         let Some(term) = located.view.term else {
@@ -107,7 +107,7 @@ impl Client {
         edit: &Edit<'_>,
         stamp: Stamp,
         refusal: Refusal,
-    ) -> Result<Outcome, Refusal>
+    ) -> Result<EditOutcome, Refusal>
         ensures { FollowsDialogue (Edits L.Carries) (calls.again_call edit.now.path.now edit.now.index stamp edit.now.op edit.now.bytes.now refusal) (self.old, edits.old, link.old) result (self.new, edits.new, link.new) }
     {
         if !replies::is_stale(&refusal) {
@@ -123,7 +123,7 @@ impl Client {
         link: &mut L,
         edits: &mut u64,
         edit: &Edit<'_>,
-    ) -> Result<Outcome, Refusal>
+    ) -> Result<EditOutcome, Refusal>
         ensures { FollowsDialogue (Edits L.Carries) (calls.part_call edit.now.path.now edit.now.index edit.now.op edit.now.bytes.now) (self.old, edits.old, link.old) result (self.new, edits.new, link.new) }
     {
         let located = self.find_for_writing(link, edit, None)?;
@@ -245,9 +245,9 @@ impl Client {
                 bytes: appended.bytes,
             };
             match self.part(link, edits, &part)? {
-                Outcome::Appended(offset) => return place(appended.size, index, offset),
-                Outcome::Written => return Err(Refusal::Stray),
-                Outcome::Padded => {}
+                EditOutcome::Appended(offset) => return place(appended.size, index, offset),
+                EditOutcome::Written => return Err(Refusal::Stray),
+                EditOutcome::Padded => {}
             }
             if index + 1 == MOST_CHUNKS {
                 return Err(Refusal::Range);
@@ -280,11 +280,11 @@ impl Client {
 }
 
 /// Whether a part was written.
-fn written(outcome: Outcome) -> Result<(), Refusal>
+fn written(outcome: EditOutcome) -> Result<(), Refusal>
     ensures { result ≡ calls.written outcome }
 {
     match outcome {
-        Outcome::Written => Ok(()),
+        EditOutcome::Written => Ok(()),
         _ => Err(Refusal::Stray),
     }
 }

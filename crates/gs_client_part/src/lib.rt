@@ -1,4 +1,5 @@
 //! The parts of a client's calls: under which number and to which member a request goes, and which bytes of a file it is of.
+//! It is a crate of its own for the checker's time alone: so its wrong bodies are tried in seconds.
 #![tactic(auto)]
 
 mod located;

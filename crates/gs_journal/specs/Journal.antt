@@ -105,7 +105,7 @@ pub record Adds {D : Type 0} (old : State D) (r : Entry) (new : State D) : Type 
   pub generation : new.generation ≡ old.generation
 
 -- the journal has the checkpoint alone, on the disk of the next generation, and its length is within the limit
-pub record Makes {D : Type 0} (old : State D) (body : List ℕ) (new : State D) : Type 0 where
+pub record MakesCheckpoint {D : Type 0} (old : State D) (body : List ℕ) (new : State D) : Type 0 where
   pub text : new.text ≡ checkpointed body
   pub size : new.size ≡ checkpoint_size body
   pub fits : new.size ≤ new.limit

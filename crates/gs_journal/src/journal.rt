@@ -72,7 +72,7 @@ pub struct Unopened<D: Disk> {
 }
 
 impl<D: Disk> Journal<D> {
-    ghost use Rattle.gs_journal.specs.Journal.{failures_of_both, Stands, Stays, Adds, Makes, Closes, Wants, append_refusal, checkpoint_refusal, checkpointed, IsWithOrWithout, IsOldOrNew, IsStillOrNext, AreBoth, LeavesOther, LeavesCounting, WhyClosed, MightHaveStood};
+    ghost use Rattle.gs_journal.specs.Journal.{failures_of_both, Stands, Stays, Adds, MakesCheckpoint, Closes, Wants, append_refusal, checkpoint_refusal, checkpointed, IsWithOrWithout, IsOldOrNew, IsStillOrNext, AreBoth, LeavesOther, LeavesCounting, WhyClosed, MightHaveStood};
 
     /// Opens two disks, whatever a crash or a failure left on them. What a crash has torn behind the records is taken away.
     /// Where neither disk counts, the first is made: a new journal has no records. No disk takes more than `limit` bytes by
@@ -289,7 +289,7 @@ impl<D: Disk> Journal<D> {
     /// a disk fails now: the checkpoint stands, or the records from before do, once the disks are opened again.
     pub fn write_draft(&mut self, draft: &Draft) -> Result<(), Refusal>
         ensures judged { IfSome (draft_refusal self.old draft.now) (λ e. (result ≡ Err e) × (self.new ≡ self.old)) }
-        ensures made { OnOk result (Makes self.old draft.now.body self.new) }
+        ensures made { OnOk result (MakesCheckpoint self.old draft.now.body self.new) }
         ensures stands { OnOk result (Stands D.seen D.may_leave self.new) }
         ensures quiet { OnOk result (failures_of_both D.failures self.new ≡ failures_of_both D.failures self.old) }
         ensures failed { IfErr result (λ e. draft_refusal self.old draft.now ≡ None → Closes D.failures self.old self.new e) }
@@ -326,7 +326,7 @@ impl<D: Disk> Journal<D> {
     /// disks are opened again.
     pub fn checkpoint(&mut self, alloc: Global, body: &[u8]) -> Result<(), Refusal>
         ensures judged { IfSome (checkpoint_refusal self.old body.now) (λ e. (result ≡ Err e) × (self.new ≡ self.old)) }
-        ensures made { OnOk result (Makes self.old body.now self.new) }
+        ensures made { OnOk result (MakesCheckpoint self.old body.now self.new) }
         ensures stands { OnOk result (Stands D.seen D.may_leave self.new) }
         ensures quiet { OnOk result (failures_of_both D.failures self.new ≡ failures_of_both D.failures self.old) }
         ensures failed { IfErr result (λ e. checkpoint_refusal self.old body.now ≡ None →

@@ -1,4 +1,5 @@
 //! A disk as a journal sees it, and the steps by which bytes are put onto it: what a crash may leave of each.
+//! It is a crate of its own for the checker's time alone: so its wrong bodies are tried in seconds.
 #![tactic(auto)]
 
 mod disk;

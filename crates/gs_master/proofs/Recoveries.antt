@@ -23,7 +23,7 @@ use Rattle.gs_master.specs.Journaled.{IsLogOf}
 use Rattle.gs_master_state.specs.inner.Plans.{log_of}
 use Rattle.gs_master_state.specs.inner.Recorded.{durable_of}
 use Rattle.gs_master_guard.specs.Reading.{AreRecordsOf}
-use Rattle.gs_master.specs.Recovering.{IsAnew, IsLeft, IsRecovered, IsRested, StaysOpen, Tells, Updates, WhyNotRecovered, log_behind_last, log_in}
+use Rattle.gs_master.specs.Recovering.{IsAnew, IsLeft, IsRecovered, IsRested, StaysOpen, TellsDurable, Updates, WhyNotRecovered, log_behind_last, log_in}
 use Rattle.gs_master.specs.inner.Renewing.{AreCutAnew, AreRenewed, BreaksLast, Renews}
 use Rattle.gs_master_plan.specs.Renewable.{renewal_refusal}
 use Rattle.gs_master.specs.inner.StartingOver.{IsBegun}
@@ -215,7 +215,7 @@ module _ {D : Type 0} (seen : D → List ℕ) (may_leave : D → List ℕ → Ty
       durable : durable_of e.recorded ≡ d
       durable = ap (λ (s : State). s.durable) rest.state
 
-      tells : Tells old.text entries d
+      tells : TellsDurable old.text entries d
       tells = record { records = are; replays = rest.replays }
 
       knows : IsLogOf (log_of e.log) mid

@@ -15,7 +15,7 @@ use Rattle.std.proofs.Math.Seq.{get_or-append_seam, take-append_seam}
 use Rattle.gs_base.specs.declared.refusal.Refusal.{Refusal}
 use Rattle.gs_base.specs.declared.refusal.Refusal.TheVariants as refusals
 use Rattle.gs_journal.specs.Drafts.{draft_refusal}
-use Rattle.gs_journal.specs.Journal.{State as Journal, Closes, IsOldOrNew, Makes, Stands, checkpoint_size, checkpointed, failures_of_both, last_generation}
+use Rattle.gs_journal.specs.Journal.{State as Journal, Closes, IsOldOrNew, MakesCheckpoint, Stands, checkpoint_size, checkpointed, failures_of_both, last_generation}
 use Rattle.gs_journal.specs.Records.{Text}
 use Rattle.gs_master_record.specs.Plain.{PlainEntry, plain}
 use Rattle.gs_master_spec.specs.Durable.{Durable, Settled, is_listed}
@@ -175,7 +175,7 @@ module _ {D : Type 0} {seen : D → List ℕ} {may_leave : D → List ℕ → Ty
       same n m is = grind (arith, nat_tests)
 
   -- it is written
-  pub renews : (new : Journal D) → Makes mid r.draft.body new → Stands seen may_leave new → failures_of_both failures new ≡ failures_of_both failures mid → Renews seen may_leave failures old (checkpoint_body (durable_of e.recorded)) new
+  pub renews : (new : Journal D) → MakesCheckpoint mid r.draft.body new → Stands seen may_leave new → failures_of_both failures new ≡ failures_of_both failures mid → Renews seen may_leave failures old (checkpoint_body (durable_of e.recorded)) new
   renews new makes stands quiet = record {
     made = record {
       text = makes.text ∙ ap checkpointed s.renewal.body;

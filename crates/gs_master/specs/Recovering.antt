@@ -25,14 +25,14 @@ use Rattle.gs_master.specs.declared.event.Event.{Event}
 -- ---- entries
 
 -- what the records of a text come to
-pub record Tells (text : Text) (entries : List PlainEntry) (d : Durable) : Type 0 where
+pub record TellsDurable (text : Text) (entries : List PlainEntry) (d : Durable) : Type 0 where
   pub records : AreRecordsOf text.0 text.1 entries
   pub replays : replayed start entries ≡ Some d
 
 -- what is told where a disk failed: what was told, or in the place of a text of version 1 the checkpoint of that
 abbrev pub TellsStill : Text → Text → Type 0
 TellsStill old new =
-    (new ≡ old) ⊎ ((entries : List PlainEntry) × (durable : Durable) × Tells old entries durable × (old.0 ≡ versions.One) × (new ≡ checkpointed (checkpoint_body durable)))
+    (new ≡ old) ⊎ ((entries : List PlainEntry) × (durable : Durable) × TellsDurable old entries durable × (old.0 ≡ versions.One) × (new ≡ checkpointed (checkpoint_body durable)))
 
 -- ---- the room
 
@@ -104,7 +104,7 @@ IsLeft seen may_leave failures versions.Two d old new = Stays old new × (Stands
 pub record IsRecovered {D : Type 0} (seen : D → List ℕ) (may_leave : D → List ℕ → Type 0) (failures : D → ℕ) (config : Config) (old new : Journal D) (e : Event) : Type 0 where
   pub entries : List PlainEntry
   pub durable : Durable
-  pub tells : Tells old.text entries durable
+  pub tells : TellsDurable old.text entries durable
   pub turn : Turn
   pub recovers : recover config old.text.0 entries (log_in old) ≡ Ok turn
   pub after : state_at e ≡ turn.after
@@ -144,5 +144,5 @@ Recovers seen may_leave failures config old new (Err e) = WhyNotRecovered failur
 
 -- ---- examples
 
-a_new_store : Tells fresh [] start
+a_new_store : TellsDurable fresh [] start
 a_new_store = record { records = record { written = refl; are_entries = tt }; replays = refl }

@@ -14,7 +14,7 @@ use Rattle.gs_master_spec.specs.Durable.{Durable}
 use Rattle.gs_master_spec.specs.Handling.{checkpoint_body, recover}
 use Rattle.gs_master.specs.Journaled.{IsAsSeen, IsLogOf}
 use Rattle.gs_master.specs.Masters.{MasterOf}
-use Rattle.gs_master.specs.Recovering.{Tells, TellsStill, WhyNotTold}
+use Rattle.gs_master.specs.Recovering.{TellsDurable, TellsStill, WhyNotTold}
 use Rattle.gs_master_spec.specs.State.{Log, Turn}
 
 -- what is left of a text that tells this: one of the first version is written anew
@@ -28,7 +28,7 @@ left_in versions.Two text d = text
 pub record IsOpened {D : Type 0} (seen : D → List ℕ) (failures : D → ℕ) (given : Config) (first second : D) (text : Text) (bound : ℕ) (m : MasterOf D) (sent : List Message) : Type 0 where
   pub entries : List PlainEntry
   pub durable : Durable
-  pub tells : Tells text entries durable
+  pub tells : TellsDurable text entries durable
   pub log : Log
   pub turn : Turn
   pub recovers : recover given text.0 entries log ≡ Ok turn

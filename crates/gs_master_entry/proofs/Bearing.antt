@@ -53,7 +53,7 @@ use Rattle.gs_master_entry.proofs.Sending.{IsLed, Stays, leads_on, masters_on, t
 use Rattle.gs_master_entry.proofs.Stamps.{number_at}
 use Rattle.gs_master_entry.specs.Births.{Anything, Brings, CopiesAreBirths, IsBorn, IsBornOn, MakesAreBirths, ProposalsAreBirths}
 use Rattle.gs_master_entry.specs.Showing.{IsPast, ShowsDurable, ShowsEntry}
-use Rattle.gs_master_entry.specs.Telling.{Says, Shows, Tells}
+use Rattle.gs_master_entry.specs.Telling.{Says, Shows, MastersTell}
 
 -- how each epoch began
 how_by : List EpochEnd → ℕ → EpochEnd
@@ -350,7 +350,7 @@ module _ (s u : State) (origin : List Edit) (numbered : IsNumbered origin) (kept
       known = or_right (is_listed u.durable it) (is_member u.volatile.unplaced it) (ap (λ xs. is_member xs it) e.unplaced ∙ entered s.volatile.unplaced it)
 
   -- the messages that make it
-  creates_tell : (v : ChunkWorld) (js : List ℕ) → AllByRecursion (λ j. WasTold v j (Create number)) js → AllByRecursion (Tells s.durable.epoch it v) (to_each js (about it (abouts.Create (next_stamp s.durable)))) × AllByRecursion (Brings s.durable.epoch it origin v) (to_each js (about it (abouts.Create (next_stamp s.durable))))
+  creates_tell : (v : ChunkWorld) (js : List ℕ) → AllByRecursion (λ j. WasTold v j (Create number)) js → AllByRecursion (MastersTell s.durable.epoch it v) (to_each js (about it (abouts.Create (next_stamp s.durable)))) × AllByRecursion (Brings s.durable.epoch it origin v) (to_each js (about it (abouts.Create (next_stamp s.durable))))
   creates_tell v [] told = (tt, tt)
   creates_tell v (j ∷ js) told =
       let rest = creates_tell v js told.1 in
@@ -358,13 +358,13 @@ module _ (s u : State) (origin : List Edit) (numbered : IsNumbered origin) (kept
 
   -- and those that copy it
   copies_tell : (v : ChunkWorld) (old : ℕ) (at : Stamp) (js : List ℕ) → AllByRecursion (λ j. WasTold v j (CopyIn number origin None)) js
-      → let messages = to_each js (λ server. post (nodes.Server server) (bodies.MakeCopy old at it (next_stamp s.durable))) in AllByRecursion (Tells s.durable.epoch it v) messages × AllByRecursion (Brings s.durable.epoch it origin v) messages
+      → let messages = to_each js (λ server. post (nodes.Server server) (bodies.MakeCopy old at it (next_stamp s.durable))) in AllByRecursion (MastersTell s.durable.epoch it v) messages × AllByRecursion (Brings s.durable.epoch it origin v) messages
   copies_tell v old at [] told = (tt, tt)
   copies_tell v old at (j ∷ js) told =
       let rest = copies_tell v old at js told.1 in
       ((tt, rest.0), (λ same. (number, stamp_is, subst (λ n. s.durable.epoch ≤ n) (sym (its_epoch s.durable.epoch s.durable.next_version counter)) (omega arith), told.0), rest.1))
 
-  is_born : (copy : Bool) (messages : List Message) → (copy ≡ false → origin ≡ []) → IsEntered → ((v : ChunkWorld) → AllByRecursion (λ j. WasTold v j (first_told copy first)) targets → AllByRecursion (Tells s.durable.epoch it v) messages × AllByRecursion (Brings s.durable.epoch it origin v) messages)
+  is_born : (copy : Bool) (messages : List Message) → (copy ≡ false → origin ≡ []) → IsEntered → ((v : ChunkWorld) → AllByRecursion (λ j. WasTold v j (first_told copy first)) targets → AllByRecursion (MastersTell s.durable.epoch it v) messages × AllByRecursion (Brings s.durable.epoch it origin v) messages)
       → IsBorn it origin u messages
   is_born copy messages list e tell = record {
     birth = birth s.durable u.durable origin numbered kept counter new fit;

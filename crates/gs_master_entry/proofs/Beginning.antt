@@ -42,7 +42,7 @@ use Rattle.gs_chunk.specs.Events.{Asks, Can, Goes as Happens, Proposes, Rests, i
 use Rattle.gs_master_entry.specs.Proposals.{ProposalsFollow, is_proposal}
 use Rattle.gs_master_entry.specs.Showing.{ShowsDurable, ShowsEntry}
 use Rattle.gs_master_entry.specs.Single.{FollowsAs, IsUnmoved}
-use Rattle.gs_master_entry.specs.Telling.{Says, Shows, Tells}
+use Rattle.gs_master_entry.specs.Telling.{Says, Shows, MastersTell}
 use Rattle.gs_master_entry.proofs.Marking.{same_epoch}
 use Rattle.gs_master_entry.proofs.Leaving.{LeavesDurable, SameMemory, changes_leave, inserted, leaves_entry, leaves_memory}
 use Rattle.gs_master_entry.proofs.Moving.{shown_by, unmoved_by}
@@ -107,14 +107,14 @@ new_other chunk d next none given fit = by_key (d.next_handle == chunk) refl
 -- ---- messages
 
 -- they say nothing of the chunk
-nothing_sent : (born chunk : ℕ) (w : ChunkWorld) (messages : List Message) → AllByRecursion (Tells born chunk w) messages → SendsAll born chunk w messages
+nothing_sent : (born chunk : ℕ) (w : ChunkWorld) (messages : List Message) → AllByRecursion (MastersTell born chunk w) messages → SendsAll born chunk w messages
 nothing_sent born chunk w messages tells = record { world = w; leads = Rests; masters = tt; entry = refl; known = refl; members = refl; stays = λ x there. there; tells = tells }
 
-about_other : (born chunk : ℕ) (w : ChunkWorld) (q : ℕ) (said : About) (servers : List ℕ) → not (q == chunk) ≡ true → AllByRecursion (Tells born chunk w) (to_each servers (about q said))
+about_other : (born chunk : ℕ) (w : ChunkWorld) (q : ℕ) (said : About) (servers : List ℕ) → not (q == chunk) ≡ true → AllByRecursion (MastersTell born chunk w) (to_each servers (about q said))
 about_other born chunk w q said [] other = tt
 about_other born chunk w q said (j ∷ servers) other = (λ same. absurd (other_number q chunk (not_true (q == chunk) other) same), about_other born chunk w q said servers other)
 
-copies_other : (born chunk : ℕ) (w : ChunkWorld) (old : ℕ) (at : Stamp) (new : ℕ) (stamp : Stamp) (servers : List ℕ) → AllByRecursion (Tells born chunk w) (to_each servers (λ server. post (nodes.Server server) (bodies.MakeCopy old at new stamp)))
+copies_other : (born chunk : ℕ) (w : ChunkWorld) (old : ℕ) (at : Stamp) (new : ℕ) (stamp : Stamp) (servers : List ℕ) → AllByRecursion (MastersTell born chunk w) (to_each servers (λ server. post (nodes.Server server) (bodies.MakeCopy old at new stamp)))
 copies_other born chunk w old at new stamp [] = tt
 copies_other born chunk w old at new stamp (j ∷ servers) = (tt, copies_other born chunk w old at new stamp servers)
 
@@ -180,11 +180,11 @@ module _ (born chunk : ℕ) (whole : ℕ → Bool) (config : Config) (heard : He
 
   -- a view of another chunk is proposed
   others_follow : (move : Move) (plan : Plan) (q : ℕ) → move_turn config s move ≡ turned s plan → plan.records ≡ Propose q (s.durable.next_version) ∷ [] → not (q == chunk) ≡ true → list_all (leaves_memory chunk) plan.changes ≡ true
-      → ((v : ChunkWorld) → AllByRecursion (Tells born chunk v) plan.sent) → IsMade config heard s move → Goes move
+      → ((v : ChunkWorld) → AllByRecursion (MastersTell born chunk v) plan.sent) → IsMade config heard s move → Goes move
   others_follow move plan q is records other leaves tells made =
       shown_by born chunk whole config heard s move w w k was made Rests tt (λ j. inl refl) (same_epoch whole w w refl) (λ x there. there)
       (leaves_entry chunk s u w.entry (other_proposed chunk s.durable u.durable q other one) listed (subst (λ v. SameMemory chunk s.volatile v) (sym (ap (λ (t : Turn). t.after.volatile) is)) (changes_leave chunk plan.changes s.volatile leaves)) k.entry)
-      (λ shown now. nothing_sent born chunk w (move_turn config s move).sent (subst (AllByRecursion (Tells born chunk w)) (sym (ap (λ (t : Turn). t.sent) is)) (tells w))) (IsUnmoved w) (unmoved_by w w refl)
+      (λ shown now. nothing_sent born chunk w (move_turn config s move).sent (subst (AllByRecursion (MastersTell born chunk w)) (sym (ap (λ (t : Turn). t.sent) is)) (tells w))) (IsUnmoved w) (unmoved_by w w refl)
     where
       u : State
       u = (move_turn config s move).after
@@ -200,7 +200,7 @@ module _ (born chunk : ℕ) (whole : ℕ → Bool) (config : Config) (heard : He
       let plan = begin_at s q purpose call in
       let same = beside_same plan beside in
       others_follow (Begins q purpose call beside) (plan_of_begin s q purpose call beside) q refl same.0 other (beside_leaves chunk plan beside (ap (λ b. b && true) other))
-      (λ v. subst (AllByRecursion (Tells born chunk v)) (sym same.1) (about_other born chunk v q (abouts.Advance (next_stamp s.durable)) (members_at (chunk_at s q)) other)) made
+      (λ v. subst (AllByRecursion (MastersTell born chunk v)) (sym same.1) (about_other born chunk v q (abouts.Advance (next_stamp s.durable)) (members_at (chunk_at s q)) other)) made
 
   makes_follow : (targets : List ℕ) (req : ReqId) (path : Path) → IsMade config heard s (Makes targets req path) → Goes (Makes targets req path)
   makes_follow targets req path made =
@@ -217,7 +217,7 @@ module _ (born chunk : ℕ) (whole : ℕ → Bool) (config : Config) (heard : He
       let u = (move_turn config s (Copies old view req beside)).after in
       let other = new_other chunk s.durable u.durable made.may.0.fresh k.entry.durable.given (one_fits s.durable u.durable (Propose new (s.durable.next_version)) (ap (replayed s.durable) (sym same.0) ∙ made.fits)) in
       others_follow (Copies old view req beside) (plan_of_copy s old view req beside) new refl same.0 other (beside_leaves chunk plan beside (ap (λ b. b && (b && true)) other))
-      (λ v. subst (AllByRecursion (Tells born chunk v)) (sym same.1) (copies_other born chunk v old view.stamp new (next_stamp s.durable) view.members)) made
+      (λ v. subst (AllByRecursion (MastersTell born chunk v)) (sym same.1) (copies_other born chunk v old view.stamp new (next_stamp s.durable) view.members)) made
 
   -- ---- a view of the chunk
 

@@ -55,7 +55,7 @@ use Rattle.gs_master_entry.specs.Bearing.{ChainsGoUnborn, EventsCutGoUnborn, Eve
 use Rattle.gs_master_entry.specs.Births.{Brings, BringsBody, BringsTo, IsBorn}
 use Rattle.gs_master_entry.specs.Chains.{AreLive}
 use Rattle.gs_server_member.specs.Messages.{TellsEpochTo}
-use Rattle.gs_master_entry.specs.Telling.{IsSameMember, Says, Shows, Tells, TellsBody}
+use Rattle.gs_master_entry.specs.Telling.{IsSameMember, Says, Shows, MastersTell, TellsBody}
 use Rattle.gs_master_entry.specs.Unborn.{GoesUnborn, IsUnborn, SaysNothing, SaysNothingIn, StaysUnborn, silent}
 
 pub all_append : (P : Message → Type 0) (xs ys : List Message) → AllByRecursion P xs → AllByRecursion P ys → AllByRecursion P (xs ++ ys)
@@ -87,7 +87,7 @@ quiet_brings : (chunk born : ℕ) (origin : List Edit) (w : ChunkWorld) (to : No
 quiet_brings chunk born origin w to (bodies.MakeCopy old at new stamp) k = λ same. absurd (k.1 same)
 quiet_brings chunk born origin w to body k = tt
 
-pub all_quiet : (chunk born : ℕ) (origin : List Edit) (w : ChunkWorld) (messages : List Message) → AllByRecursion (SaysNothing chunk born) messages → AllByRecursion (Tells born chunk w) messages × AllByRecursion (Brings born chunk origin w) messages
+pub all_quiet : (chunk born : ℕ) (origin : List Edit) (w : ChunkWorld) (messages : List Message) → AllByRecursion (SaysNothing chunk born) messages → AllByRecursion (MastersTell born chunk w) messages × AllByRecursion (Brings born chunk origin w) messages
 all_quiet chunk born origin w [] k = (tt, tt)
 all_quiet chunk born origin w (m ∷ messages) k =
     let rest = all_quiet chunk born origin w messages k.1 in ((quiet_tells chunk born w m.to m.body k.0, rest.0), (quiet_brings chunk born origin w m.to m.body k.0, rest.1))
@@ -234,7 +234,7 @@ behind_quiet chunk first now origin u quiet messages rises nothing b =
       members = b.members;
       shows = b.shows;
       fresh = λ top past. b.fresh top (past_rises first now rises top past);
-      tells = all_append (Tells b.birth.epoch chunk b.world) quiet messages all.0 b.tells;
+      tells = all_append (MastersTell b.birth.epoch chunk b.world) quiet messages all.0 b.tells;
       brings = all_append (Brings b.birth.epoch chunk origin b.world) quiet messages all.1 b.brings;
     }
 
@@ -255,7 +255,7 @@ born_on chunk first origin config heard u messages t was chain b =
       members = λ j. same_blank b.birth.epoch (b.world.members j) (f.world.members j) (b.members j) (f.members j);
       shows = f.shows;
       fresh = λ top past. stays_behind b.world f.world top (b.birth, b.leads) f.leads (b.fresh top past);
-      tells = all_append (Tells b.birth.epoch chunk f.world) messages t.sent (tells_more chunk b.world f.world f.stays b.birth.epoch messages b.tells) f.tells;
+      tells = all_append (MastersTell b.birth.epoch chunk f.world) messages t.sent (tells_more chunk b.world f.world f.stays b.birth.epoch messages b.tells) f.tells;
       brings = all_append (Brings b.birth.epoch chunk origin f.world) messages t.sent (brings_more b.birth.epoch chunk origin b.world f.world f.stays messages b.brings) (chain_brings b.birth.epoch chunk origin f.world config heard u t b.world chain b.shows now live);
     }
 

@@ -11,7 +11,7 @@ use Rattle.gs_master_moves.specs.Moves.{Chain, Rests, Moves, Then, Move, move_tu
 use Rattle.gs_chunk.specs.Machine.{Member, ChunkWorld}
 use Rattle.gs_chunk.specs.Events.{Rests as Stands_still, marked}
 use Rattle.gs_master_entry.specs.Chains.{AreLive}
-use Rattle.gs_master_entry.specs.Telling.{FollowsMaster, IsSameMember, Says, Shows, Tells}
+use Rattle.gs_master_entry.specs.Telling.{FollowsMaster, IsSameMember, Says, Shows, MastersTell}
 use Rattle.gs_master_entry.proofs.Marking.{marks_both, same_epoch}
 use Rattle.gs_master_entry.proofs.Sending.{heard_more, leads_on, masters_on, tells_more}
 
@@ -43,7 +43,7 @@ both_follow born chunk whole w u v first next f g = record {
   marks = marks_both whole w f.world g.world g.leads f.members g.members f.marks g.marks;
   stays = λ x there. g.stays x (f.stays x there);
   shows = g.shows;
-  tells = all_both (Tells born chunk g.world) first next (tells_more chunk f.world g.world g.stays born first f.tells) g.tells;
+  tells = all_both (MastersTell born chunk g.world) first next (tells_more chunk f.world g.world g.stays born first f.tells) g.tells;
 }
 
 module _ (born chunk : ℕ) (whole : ℕ → Bool) (config : Config) (heard : Heard) (P : State → Move → Type 0) where

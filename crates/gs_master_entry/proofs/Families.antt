@@ -61,7 +61,7 @@ use Rattle.gs_master_entry.specs.Births.{Anything, Brings, BringsTo, IsBorn}
 use Rattle.gs_master_entry.specs.Families.{Alive, BornBare, BornFrom, ComesFrom, CopiesTo, CopiesOf, FamiliesCut, FamiliesGo, FamilyLists, StartsUnborn, WrittenFamiliesGo, Family, FamilyGoes, Goes, HeardOf, IsAlive, IsCopyOf, IsFixed, Life, ListsFrom, MarksOf, Unborn, birth_of, is_kept}
 use Rattle.gs_master_entry.specs.Showing.{ShowsSettled, primary_of}
 use Rattle.gs_master_entry.specs.Single.{AsOf}
-use Rattle.gs_master_entry.specs.Telling.{FollowsMaster, IsSameMember, Says, Shows, Tells}
+use Rattle.gs_master_entry.specs.Telling.{FollowsMaster, IsSameMember, Says, Shows, MastersTell}
 use Rattle.gs_master_entry.specs.Unborn.{GoesUnborn, IsUnborn, SaysNothing, StaysUnborn, silent}
 
 -- ---- the old chunk of a copy
@@ -518,7 +518,7 @@ goes_both chunk whole s u v first next (Unborn b) (Unborn c) (Alive d) live f g 
   masters = g.masters;
   members = g.members;
   fresh = λ top past. g.fresh top (past_rises s.durable u.durable f.rises top past);
-  tells = all_append (Tells (birth_of d) chunk d.world) first next (all_quiet chunk (birth_of d) [] d.world first (all_later chunk u.durable.epoch (birth_of d) g.later first f.says)).0 g.tells;
+  tells = all_append (MastersTell (birth_of d) chunk d.world) first next (all_quiet chunk (birth_of d) [] d.world first (all_later chunk u.durable.epoch (birth_of d) g.later first f.says)).0 g.tells;
 }
 goes_both chunk whole s u v first next (Unborn b) (Alive c) (Unborn d) live f g = absurd g
 goes_both chunk whole s u v first next (Unborn b) (Alive c) (Alive d) live f g =
@@ -530,7 +530,7 @@ goes_both chunk whole s u v first next (Unborn b) (Alive c) (Alive d) live f g =
       masters = led.masters;
       fresh = λ top past. stays_behind c.world d.world top c.reached g.leads (f.fresh top past);
       members = λ j. same_blank (birth_of d) (c.world.members j) (d.world.members j) (f.members j ∙ ap no_member (sym same)) (subst (λ b. IsSameMember (c.world.members j) b (d.world.members j)) (live j) (g.members j));
-      tells = all_append (Tells (birth_of d) chunk d.world) first next (subst (λ e. AllByRecursion (Tells e chunk d.world) first) (sym same) (tells_more chunk c.world d.world g.stays (birth_of c) first f.tells)) g.tells;
+      tells = all_append (MastersTell (birth_of d) chunk d.world) first next (subst (λ e. AllByRecursion (MastersTell e chunk d.world) first) (sym same) (tells_more chunk c.world d.world g.stays (birth_of c) first f.tells)) g.tells;
     }
 goes_both chunk whole s u v first next (Alive a) (Unborn c) n live f g = absurd f
 goes_both chunk whole s u v first next (Alive a) (Alive c) (Unborn d) live f g = absurd g
@@ -543,7 +543,7 @@ goes_both chunk whole s u v first next (Alive a) (Alive c) (Alive d) live f g =
       members = λ j. same_twice (a.world.members j) (c.world.members j) (d.world.members j) (whole j) (f.members j) (g.members j);
       marks = marks_both whole a.world c.world d.world g.leads f.members g.members f.marks g.marks;
       stays = λ x there. g.stays x (f.stays x there);
-      tells = all_append (Tells (birth_of d) chunk d.world) first next (subst (λ e. AllByRecursion (Tells e chunk d.world) first) (sym same) (tells_more chunk c.world d.world g.stays (birth_of c) first f.tells)) g.tells;
+      tells = all_append (MastersTell (birth_of d) chunk d.world) first next (subst (λ e. AllByRecursion (MastersTell e chunk d.world) first) (sym same) (tells_more chunk c.world d.world g.stays (birth_of c) first f.tells)) g.tells;
     }
 
 -- what was copied stays so

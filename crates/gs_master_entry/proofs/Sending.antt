@@ -38,7 +38,7 @@ use Rattle.gs_master_entry.proofs.Stamps.{of_member, other_number, same_number}
 use Rattle.gs_master_entry.specs.Laws.{is_plain, is_plain_about, is_plain_message}
 use Rattle.gs_chunk.specs.Mastering.{AreOfMaster}
 use Rattle.gs_server_member.specs.Messages.{SaysOf, ReportsIt, NamesIt, TellsServer, TellsEpochTo}
-use Rattle.gs_master_entry.specs.Telling.{Says, TellsTo, TellsBody, Tells, Shows}
+use Rattle.gs_master_entry.specs.Telling.{Says, TellsTo, TellsBody, MastersTell, Shows}
 
 pub first_contains : {X : Type 0} (x : X) (xs : List X) → Contains (x ∷ xs) x
 first_contains x xs = (0, omega arith, refl)
@@ -105,7 +105,7 @@ module _ (chunk : ℕ) (w v : ChunkWorld) (stays : Stays w v) where
   tells_body born to (bodies.Epoch epoch end) k = tells_epoch born to epoch end k
   tells_body born to body k = k
 
-  pub tells_more : (born : ℕ) (messages : List Message) → AllByRecursion (Tells born chunk w) messages → AllByRecursion (Tells born chunk v) messages
+  pub tells_more : (born : ℕ) (messages : List Message) → AllByRecursion (MastersTell born chunk w) messages → AllByRecursion (MastersTell born chunk v) messages
   tells_more born [] k = k
   tells_more born (m ∷ messages) k = (tells_body born m.to m.body k.0, tells_more born messages k.1)
 
@@ -293,7 +293,7 @@ pub record SendsAll (born chunk : ℕ) (w : ChunkWorld) (messages : List Message
   pub known : world.known ≡ w.known
   pub members : world.members ≡ w.members
   pub stays : Stays w world
-  pub tells : AllByRecursion (Tells born chunk world) messages
+  pub tells : AllByRecursion (MastersTell born chunk world) messages
 
 pub all_sent : (born chunk : ℕ) (heard : Heard) (u : State) (messages : List Message) (w : ChunkWorld) → Shows chunk u w → WasHeard (Says chunk w) heard → list_all is_plain_message messages ≡ true → AreRight heard u messages → SendsAll born chunk w messages
 all_sent born chunk heard u [] w k was plain right = record { world = w; leads = Rests; masters = tt; entry = refl; known = refl; members = refl; stays = λ x there. there; tells = tt }

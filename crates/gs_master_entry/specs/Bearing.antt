@@ -23,7 +23,7 @@ use Rattle.gs_chunk.specs.Events.{Leads, no_member}
 use Rattle.gs_chunk.specs.Numbering.{IsBehind}
 use Rattle.gs_master_entry.specs.Births.{Brings}
 use Rattle.gs_master_entry.specs.Showing.{IsPast, Rises}
-use Rattle.gs_master_entry.specs.Telling.{Says, Shows, Tells}
+use Rattle.gs_master_entry.specs.Telling.{Says, Shows, MastersTell}
 use Rattle.gs_master_entry.specs.Unborn.{IsUnborn, StaysUnborn, silent}
 
 -- A machine is born with these edits, in the epoch of what was durable or a later one, and events lead to where the state is shown, and all is told that is sent. No
@@ -38,7 +38,7 @@ pub record IsBornWithin (chunk : ℕ) (origin : List Edit) (first : Durable) (u 
   pub members : (j : ℕ) → world.members j ≡ no_member birth.epoch
   pub shows : Shows chunk u world
   pub fresh : (top : ℕ) → IsPast first top → IsBehind top world.known
-  pub tells : AllByRecursion (Tells birth.epoch chunk world) messages
+  pub tells : AllByRecursion (MastersTell birth.epoch chunk world) messages
   pub brings : AllByRecursion (Brings birth.epoch chunk origin world) messages
 
 -- It is copied from an old one, behind some moves, with whatever edits it is given: they are to be those of the old one by its view there.

@@ -30,7 +30,7 @@ use Rattle.gs_chunk.specs.Machine.{ChunkWorld, WasTold, CopyIn}
 use Rattle.gs_chunk.specs.Events.{Leads, no_member}
 use Rattle.gs_chunk.specs.Numbering.{IsBehind}
 use Rattle.gs_master_entry.specs.Showing.{IsPast, ShowsDurable}
-use Rattle.gs_master_entry.specs.Telling.{Shows, Tells}
+use Rattle.gs_master_entry.specs.Telling.{Shows, MastersTell}
 
 -- Who is told to make the chunk as a copy of another is told in the machine that it has the edits of that one.
 abbrev pub BringsTo : ℕ → List Edit → ChunkWorld → NodeId → Stamp → Type 0
@@ -57,7 +57,7 @@ pub record IsBorn (chunk : ℕ) (origin : List Edit) (u : State) (messages : Lis
   pub members : (j : ℕ) → world.members j ≡ no_member birth.epoch
   pub shows : Shows chunk u world
   pub fresh : (top : ℕ) → IsPast u.durable top → IsBehind top world.known
-  pub tells : AllByRecursion (Tells birth.epoch chunk world) messages
+  pub tells : AllByRecursion (MastersTell birth.epoch chunk world) messages
   pub brings : AllByRecursion (Brings birth.epoch chunk origin world) messages
 
 -- and where its first record alone stands what is durable is shown

@@ -25,7 +25,7 @@ use Rattle.gs_chunk.specs.Machine.{Sent, ChunkWorld, WasTold, CopyIn}
 use Rattle.gs_chunk.specs.Events.{Leads, no_member}
 use Rattle.gs_chunk.specs.Numbering.{IsBehind}
 use Rattle.gs_master_entry.specs.Showing.{IsPast, Rises}
-use Rattle.gs_master_entry.specs.Telling.{IsSameMember, Marks, Says, Shows, Tells}
+use Rattle.gs_master_entry.specs.Telling.{IsSameMember, Marks, Says, Shows, MastersTell}
 use Rattle.gs_master_entry.specs.Unborn.{IsUnborn, SaysNothing, silent}
 
 -- ---- one chunk
@@ -63,7 +63,7 @@ pub record GoesAlive (chunk : ℕ) (whole : ℕ → Bool) (s u : State) (message
   pub members : (j : ℕ) → IsSameMember (a.world.members j) (whole j) (b.world.members j)
   pub marks : Marks whole a.world b.world
   pub stays : (x : Sent) → Contains a.world.sent x → Contains b.world.sent x
-  pub tells : AllByRecursion (Tells (birth_of b) chunk b.world) messages
+  pub tells : AllByRecursion (MastersTell (birth_of b) chunk b.world) messages
 
 -- it is born: no server has anything, and no view of it is of a stamp below one that was given before
 pub record GoesBorn (chunk : ℕ) (s u : State) (messages : List Message) (b : IsAlive chunk u) : Type 0 where
@@ -72,7 +72,7 @@ pub record GoesBorn (chunk : ℕ) (s u : State) (messages : List Message) (b : I
   pub masters : AreOfMaster (world_of b.reached.0) b.world leads
   pub members : (j : ℕ) → b.world.members j ≡ no_member (birth_of b)
   pub fresh : (top : ℕ) → IsPast s.durable top → IsBehind top b.world.known
-  pub tells : AllByRecursion (Tells (birth_of b) chunk b.world) messages
+  pub tells : AllByRecursion (MastersTell (birth_of b) chunk b.world) messages
 
 -- it isn't born yet: nothing is said of it
 pub record GoesSilent (chunk : ℕ) (s u : State) (messages : List Message) : Type 0 where

@@ -40,8 +40,8 @@ TellsBody born chunk w to (bodies.Epoch epoch end) = TellsEpochTo born w to epoc
 TellsBody born chunk w to body = Unit {0}
 
 -- what a message of the master says of the chunk is among what is said in the machine
-abbrev pub Tells : ℕ → ℕ → ChunkWorld → Message → Type 0
-Tells born chunk w m = TellsBody born chunk w m.to m.body
+abbrev pub MastersTell : ℕ → ℕ → ChunkWorld → Message → Type 0
+MastersTell born chunk w m = TellsBody born chunk w m.to m.body
 
 -- ---- a state, and how the machine goes on
 
@@ -75,4 +75,4 @@ pub record FollowsMaster (born chunk : ℕ) (whole : ℕ → Bool) (w : ChunkWor
   pub marks : Marks whole w world
   pub stays : (x : Sent) → Contains w.sent x → Contains world.sent x
   pub shows : Shows chunk u world
-  pub tells : AllByRecursion (Tells born chunk world) messages
+  pub tells : AllByRecursion (MastersTell born chunk world) messages

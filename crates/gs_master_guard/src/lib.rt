@@ -1,4 +1,5 @@
 //! The guards of the master: what has to hold before it does something, and what it may not leave out. Each is a function by itself.
+//! It is a crate of its own for the checker's time alone: so its wrong bodies are tried in seconds.
 #![tactic(auto)]
 
 pub mod keeping;

@@ -35,7 +35,7 @@ use Rattle.gs_master_spec.specs.Chunks.{Chunk, chunk_at, may_begin, hears, heard
 use Rattle.gs_master_spec.specs.Durable.{is_rolling, prepared_view}
 use Rattle.gs_master_spec.specs.Handling.{call_turn, handle, about_turn, server_turn, from_client, from_node, pressed, pressed_at, pressed_if, proposals, granted, granted_at, written_unless, written_if_due, checkpoint, checkpoint_tests, checkpoint_body, due, tick}
 use Rattle.gs_master_spec.specs.Hearing.{stepped, heard, ask_plan, send_plan, is_with_sealed, promised_for, promised_at, unpromised_for, unpromised_at, sends, next_epoch, behind, learned, drops, lost, is_lost_at, made_quiet, reported, reported_now, damaged, renewed, is_leased_under}
-use Rattle.gs_master_laws.specs.Rooms.{AllCopyStill, CommitsRollback, CopiesStill, HasRoom, IsCounted, LogsStayWithin, MessagesCopyStill, MessagesCounted, MessagesHaveRoom, NoneHasTold, OthersLeave, RestartsForget, RunsStayWithin, StepsHaveRoom, StepsLeave, Tells, TellsAdd, TellsOf, TellsSince, TicksCopyStill, TicksCounted, TicksHaveRoom, TicksLeave, restored_in}
+use Rattle.gs_master_laws.specs.Rooms.{AllCopyStill, CommitsRollback, CopiesStill, HasRoom, IsCounted, LogsStayWithin, MessagesCopyStill, MessagesCounted, MessagesHaveRoom, NoneHasTold, OthersLeave, RestartsForget, RunsStayWithin, StepsHaveRoom, StepsLeave, TellsHandles, TellsAdd, TellsOf, TellsSince, TicksCopyStill, TicksCounted, TicksHaveRoom, TicksLeave, restored_in}
 use Rattle.gs_master_laws.specs.Standing.{Comes, Ticks, Renews, Restarts, turn_of}
 use Rattle.gs_master_laws.proofs.Rooms.{Adds, Roomy, all_begun_adds, all_ended_roomy, answer_leaves, both_leave, both_still, each_roomy, either_roomy, ended_roomy, is_plain, leaves_told, plan_adds, plan_roomy, quiet_adds, records_add, same_roomy, test_roomy, then_roomy, tried_roomy}
 use Rattle.gs_master_laws.proofs.Kept.{is_tied}
@@ -257,7 +257,7 @@ module _ (told : Bool) where
 -- It leaves who has told; or a server tells; or the rollback is committed.
 data Came (s : State) (message : Message) (t : Turn) : Type 0 where
   Same : Roomy true s t → Came s message t
-  Told : (server : ℕ) (handles : List ℕ) → Tells s message server handles → Roomy false s t → restored_in t.after ≡ fold (with_restored server) (restored_in s) handles → t.after.durable ≡ s.durable → Came s message t
+  Told : (server : ℕ) (handles : List ℕ) → TellsHandles s message server handles → Roomy false s t → restored_in t.after ≡ fold (with_restored server) (restored_in s) handles → t.after.durable ≡ s.durable → Came s message t
   Done : Roomy false s t → CommitsRollback s t → restored_in t.after ≡ fin.empty → Came s message t
 
 came_of : (s : State) (message : Message) (t : Turn) → Leaves s t → Came s message t
@@ -454,7 +454,7 @@ pub tells_of : TellsOf
 tells_of config s message moment server handles chunk other t low =
     ap (λ (r : fin.FinMap nat_cmp (List ℕ)). is_member (servers_or_none (fin.get r chunk)) other) (tells_add config s message moment server handles t) ∙ told_more server handles (restored_in s) chunk other low
 
-others_by : (s : State) (message : Message) (t : Turn) → ((server : ℕ) (handles : List ℕ) → Tells s message server handles → ⊥) → Came s message t → (restored_in t.after ≡ restored_in s) ⊎ (CommitsRollback s t × (restored_in t.after ≡ fin.empty))
+others_by : (s : State) (message : Message) (t : Turn) → ((server : ℕ) (handles : List ℕ) → TellsHandles s message server handles → ⊥) → Came s message t → (restored_in t.after ≡ restored_in s) ⊎ (CommitsRollback s t × (restored_in t.after ≡ fin.empty))
 others_by s message t other (Same r) = inl (r.adds.restored refl)
 others_by s message t other (Told server handles tells r now still) = absurd (other server handles tells)
 others_by s message t other (Done r commits none) = inr (commits, none)

@@ -177,20 +177,20 @@ changes_left records (c ∷ cs) v t = both_left records v (changed v c) (all_cha
 -- ---- turns
 
 -- each record tells what it can; so it is of the calls that wait then; and a new chunk was new, or is proposed
-pub record Tells (s : State) (t : Turn) : Type 0 where
+pub record TellsTurn (s : State) (t : Turn) : Type 0 where
   pub told : AllByRecursion IsTellable t.records
   pub calls : AllByRecursion IsTaken s.volatile.pending → AllByRecursion IsTaken t.after.volatile.pending
   pub unplaced : (c : ℕ) → is_member t.after.volatile.unplaced c ≡ true → (is_member s.volatile.unplaced c || proposes c t.records) ≡ true
 
 -- nothing is recorded, and no call and no new chunk comes
-pub quiet_tells : (s : State) (t : Turn) → t.records ≡ [] → t.after.volatile.pending ≡ s.volatile.pending → t.after.volatile.unplaced ≡ s.volatile.unplaced → Tells s t
+pub quiet_tells : (s : State) (t : Turn) → t.records ≡ [] → t.after.volatile.pending ≡ s.volatile.pending → t.after.volatile.unplaced ≡ s.volatile.unplaced → TellsTurn s t
 quiet_tells s t none pending unplaced =
     let l = same_left t.records s.volatile t.after.volatile pending unplaced in record { told = subst (AllByRecursion IsTellable) (sym none) tt; calls = l.calls; unplaced = l.unplaced }
 
-pub same_tells : (s : State) → Tells s (unmoved s)
+pub same_tells : (s : State) → TellsTurn s (unmoved s)
 same_tells s = quiet_tells s (unmoved s) refl refl refl
 
-pub then_tells : (s : State) (t : Turn) (f : State → Turn) → Tells s t → Tells t.after (f t.after) → Tells s (and_then t f)
+pub then_tells : (s : State) (t : Turn) (f : State → Turn) → TellsTurn s t → TellsTurn t.after (f t.after) → TellsTurn s (and_then t f)
 then_tells s t f a b = record {
   told = all_both IsTellable t.records (f t.after).records a.told b.told;
   calls = λ all. b.calls (a.calls all);
@@ -204,20 +204,20 @@ then_tells s t f a b = record {
     or_three false true false q h g = absurd (false≢true (g refl))
     or_three false false false q h g = h
 
-pub each_tells : {A : Type 0} (P : A → Type 0) (xs : List A) (step : A → State → Turn) → AllByRecursion P xs → ((x : A) (s : State) → P x → Tells s (step x s)) → (s : State) → Tells s (for_each s xs step)
+pub each_tells : {A : Type 0} (P : A → Type 0) (xs : List A) (step : A → State → Turn) → AllByRecursion P xs → ((x : A) (s : State) → P x → TellsTurn s (step x s)) → (s : State) → TellsTurn s (for_each s xs step)
 each_tells P [] step all h s = same_tells s
 each_tells P (x ∷ xs) step all h s = then_tells s (step x s) (λ next. for_each next xs step) (h x s all.0) (each_tells P xs step all.1 h (step x s).after)
 
-pub test_tells : (s : State) (b : Bool) (t u : Turn) → (b ≡ true → Tells s t) → (b ≡ false → Tells s u) → Tells s (if b then t else u)
+pub test_tells : (s : State) (b : Bool) (t u : Turn) → (b ≡ true → TellsTurn s t) → (b ≡ false → TellsTurn s u) → TellsTurn s (if b then t else u)
 test_tells s true t u f g = f refl
 test_tells s false t u f g = g refl
 
-pub either_tells : (s : State) (b : Bool) (t u : Turn) → Tells s t → Tells s u → Tells s (if b then t else u)
+pub either_tells : (s : State) (b : Bool) (t u : Turn) → TellsTurn s t → TellsTurn s u → TellsTurn s (if b then t else u)
 either_tells s b t u f g = test_tells s b t u (λ is. f) (λ is. g)
 
 -- ---- plans
 
-pub plan_tells : (s : State) (plan : Plan) → AllByRecursion IsTellable plan.records → AllByRecursion (IsToldChange plan.records) plan.changes → Tells s (turned s plan)
+pub plan_tells : (s : State) (plan : Plan) → AllByRecursion IsTellable plan.records → AllByRecursion (IsToldChange plan.records) plan.changes → TellsTurn s (turned s plan)
 plan_tells s plan told cs = let l = changes_left plan.records plan.changes s.volatile cs in record { told = told; calls = l.calls; unplaced = l.unplaced }
 
 -- ---- refusals
@@ -239,7 +239,7 @@ answer_told records s req answer = by_test (is_later (last_reply s req.client) r
     by_test true = (tt, tt)
     by_test false = tt
 
-refusal_tells : (s : State) (req : ReqId) (refusal : Refusal) (further : List Change) (said : Option Refusal) → IsRequest req → IsWritable refusal → ((records : List PlainEntry) → AllByRecursion (IsToldChange records) further) → Tells s (turned s (refusal_plan s req refusal further said))
+refusal_tells : (s : State) (req : ReqId) (refusal : Refusal) (further : List Change) (said : Option Refusal) → IsRequest req → IsWritable refusal → ((records : List PlainEntry) → AllByRecursion (IsToldChange records) further) → TellsTurn s (turned s (refusal_plan s req refusal further said))
 refusal_tells s req refusal further said heard can cs =
     plan_tells s (refusal_plan s req refusal further said) (recorded (keeps_refusal s req refusal && fits s.log (Said req refusal ∷ [])))
     (all_both (IsToldChange (said_records (keeps_refusal s req refusal) s.log req refusal)) (said_changes (keeps_refusal s req refusal) s.log req refusal) further
@@ -253,20 +253,20 @@ refusal_tells s req refusal further said heard can cs =
     kept records true = (tt, tt)
     kept records false = tt
 
-pub refused_tells : (req : ReqId) (refusal : Refusal) (s : State) → IsRequest req → IsWritable refusal → Tells s (refused s req refusal)
+pub refused_tells : (req : ReqId) (refusal : Refusal) (s : State) → IsRequest req → IsWritable refusal → TellsTurn s (refused s req refusal)
 refused_tells req refusal s heard can = refusal_tells s req refusal [] (Some refusal) heard can (λ records. tt)
 
-pub ended_tells : (req : ReqId) (refusal : Refusal) (s : State) → IsRequest req → IsWritable refusal → Tells s (ended_by s req refusal)
+pub ended_tells : (req : ReqId) (refusal : Refusal) (s : State) → IsRequest req → IsWritable refusal → TellsTurn s (ended_by s req refusal)
 ended_tells req refusal s heard can =
     refusal_tells s req refusal (end_changes s req) None heard can
     (λ records. all_both (IsToldChange records) (let_go s.volatile req) (changes.End req ∷ []) (let_go_told records req s.volatile.unplaced (fin.entries s.volatile.moving)) (tt, tt))
 
-pub all_ended_tells : (reqs : List ReqId) (refusal : Refusal) (s : State) → AllByRecursion IsRequest reqs → IsWritable refusal → Tells s (all_ended_by s reqs refusal)
+pub all_ended_tells : (reqs : List ReqId) (refusal : Refusal) (s : State) → AllByRecursion IsRequest reqs → IsWritable refusal → TellsTurn s (all_ended_by s reqs refusal)
 all_ended_tells reqs refusal s heard can = each_tells IsRequest reqs (λ req next. ended_by next req refusal) heard (λ req next own. ended_tells req refusal next own can) s
 
 -- ---- what is begun
 
-pub all_begun_tells : (many : List ℕ) (purpose : Purpose) (call : Option ReqId) (s : State) → Tells s (all_begun s many purpose call)
+pub all_begun_tells : (many : List ℕ) (purpose : Purpose) (call : Option ReqId) (s : State) → TellsTurn s (all_begun s many purpose call)
 all_begun_tells [] purpose call s = same_tells s
 all_begun_tells (chunk ∷ many) purpose call s =
     then_tells s (begun s chunk purpose call) (λ next. all_begun next many purpose call) (plan_tells s (begin_at s chunk purpose call) (tt, tt) (tt, tt)) (all_begun_tells many purpose call (begun s chunk purpose call).after)

@@ -70,7 +70,7 @@ use Rattle.gs_master_laws.proofs.Fair.{Fair, IsFairTest, IsFairly, fair_edited, 
 use Rattle.gs_master_laws.proofs.Retold.{each_found}
 use Rattle.gs_master_laws.proofs.Tellable.{IsTellable, IsTellableEdit}
 use Rattle.gs_tree.proofs.Depths.{paths_antisymmetric}
-use Rattle.gs_master_laws.proofs.Telling.{IsToldChange, Tells, all_begun_tells, all_both, all_ended_tells, all_filtered, all_requests, answer_told, bare, either_tells, plan_tells, quiet_tells, refused_tells, same_tells, test_tells, then_tells}
+use Rattle.gs_master_laws.proofs.Telling.{IsToldChange, TellsTurn, all_begun_tells, all_both, all_ended_tells, all_filtered, all_requests, answer_told, bare, either_tells, plan_tells, quiet_tells, refused_tells, same_tells, test_tells, then_tells}
 use Rattle.gs_path.specs.Element.{is_hidden}
 use Rattle.gs_master_spec.specs.Applied.{is_visible}
 use Rattle.gs_master_laws.proofs.AcceptedCalls.{passes, two_visible}
@@ -95,36 +95,36 @@ new_fine chunk version asking = (or_left (chunk == chunk) (eqb_itself chunk), (t
     or_left false h = h
 
 module _ (s : State) (req : ReqId) (heard : IsRequest req) where
-  refused_now : (refusal : Refusal) → IsWritable refusal → Tells s (refused s req refusal)
+  refused_now : (refusal : Refusal) → IsWritable refusal → TellsTurn s (refused s req refusal)
   refused_now refusal can = refused_tells req refusal s heard can
 
-  room_tells : (t : Turn) → Tells s t → Tells s (if_room s t (refused s req refusals.Full))
+  room_tells : (t : Turn) → TellsTurn s t → TellsTurn s (if_room s t (refused s req refusals.Full))
   room_tells t a = either_tells s (fits s.log t.records) t (refused s req refusals.Full) a (refused_now refusals.Full (tt, bare))
 
   -- ---- calls of the tree
 
-  edit_tells : (edit : PlainEdit) (answer : Answer) (names : Result NamesView Refusal) → Fair names → IsTellableEdit edit → Tells s (edit_if s req edit answer names)
+  edit_tells : (edit : PlainEdit) (answer : Answer) (names : Result NamesView Refusal) → Fair names → IsTellableEdit edit → TellsTurn s (edit_if s req edit answer names)
   edit_tells edit answer (Ok names) fair told = room_tells (turned s (accept_plan req edit answer)) (plan_tells s (accept_plan req edit answer) ((heard, told), tt) tt)
   edit_tells edit answer (Err refusal) fair told = refused_now refusal (fair.can refusal refl)
 
-  edited_tells : (edit : PlainEdit) (answer : Answer) → IsTellableEdit edit → Tells s (edited_by s req edit answer)
+  edited_tells : (edit : PlainEdit) (answer : Answer) → IsTellableEdit edit → TellsTurn s (edited_by s req edit answer)
   edited_tells edit answer told = edit_tells edit answer (edited_names edit s.durable.names) (fair_names edit s.durable.names) told
 
-  renames_tells : (from to : Path) → IsPath from → IsPath to → is_visible from ≡ true → is_visible to ≡ true → Tells s (renames s req from to)
+  renames_tells : (from to : Path) → IsPath from → IsPath to → is_visible from ≡ true → is_visible to ≡ true → TellsTurn s (renames s req from to)
   renames_tells from to a b seen_from seen_to = by_names (edited_names (Rename from to) s.durable.names) refl
     where
-      by_names : (names : Result NamesView Refusal) → edited_names (Rename from to) s.durable.names ≡ names → Tells s (edit_if s req (Rename from (target_of (fin.get s.durable.names.tree) from to)) answers.Nothing names)
+      by_names : (names : Result NamesView Refusal) → edited_names (Rename from to) s.durable.names ≡ names → TellsTurn s (edit_if s req (Rename from (target_of (fin.get s.durable.names.tree) from to)) answers.Nothing names)
       by_names (Ok after) is = edit_tells (Rename from (target_of (fin.get s.durable.names.tree) from to)) answers.Nothing (Ok after) (subst Fair is (fair_names (Rename from to) s.durable.names)) (a, resolved_told s.durable.names after from to a b seen_from seen_to is)
       by_names (Err refusal) is = refused_now refusal ((subst Fair is (fair_names (Rename from to) s.durable.names)).can refusal refl)
 
-  answered_tells : (answer : Answer) → Tells s (answered_with s req answer)
+  answered_tells : (answer : Answer) → TellsTurn s (answered_with s req answer)
   answered_tells answer = plan_tells s (answered s req answer) tt (answer_told [] s req answer)
 
-  looked_tells : (result : Result Answer Refusal) → Fair result → Tells s (looked_up s req result)
+  looked_tells : (result : Result Answer Refusal) → Fair result → TellsTurn s (looked_up s req result)
   looked_tells (Ok answer) fair = answered_tells answer
   looked_tells (Err refusal) fair = refused_now refusal (fair.can refusal refl)
 
-  deleted_tells : (path : Path) (recursive : Bool) (moment : Moment) → IsPath path → IsNumber moment.0 → Tells s (deleted s req path recursive moment)
+  deleted_tells : (path : Path) (recursive : Bool) (moment : Moment) → IsPath path → IsNumber moment.0 → TellsTurn s (deleted s req path recursive moment)
   deleted_tells path recursive moment told low =
       let hides = edited_by s req (Hide path moment.0 s.durable.next_hidden) (answers.Path (hidden_path path moment.0 s.durable.next_hidden)) in
       let third = if s.durable.next_hidden == 0 then refused s req refusals.Exhausted else hides in
@@ -138,17 +138,17 @@ module _ (s : State) (req : ReqId) (heard : IsRequest req) where
 
   -- ---- calls that begin views
 
-  begins_tells : (plan : Plan) (waiting : Waiting) → IsFine plan → IsTakenWaiting waiting → Tells s (begins s req plan waiting)
+  begins_tells : (plan : Plan) (waiting : Waiting) → IsFine plan → IsTakenWaiting waiting → TellsTurn s (begins s req plan waiting)
   begins_tells plan waiting fine taken =
       let whole = waits_from_now plan req waiting in
       either_tells s (not (has_versions s.durable 1)) (refused s req refusals.Exhausted) (if_room s (turned s whole) (refused s req refusals.Full)) (refused_now refusals.Exhausted (tt, bare))
       (room_tells (turned s whole) (plan_tells s whole fine.0 (all_both (IsToldChange plan.records) plan.changes (changes.Begin (record { req = req; waits = waiting }) ∷ []) fine.1 ((heard, taken), tt))))
 
-  begins_new_tells : (plan : Plan) (waiting : Waiting) → IsFine plan → IsTakenWaiting waiting → Tells s (begins_new s req plan waiting)
+  begins_new_tells : (plan : Plan) (waiting : Waiting) → IsFine plan → IsTakenWaiting waiting → TellsTurn s (begins_new s req plan waiting)
   begins_new_tells plan waiting fine taken =
       either_tells s (not (has_handle s.durable)) (refused s req refusals.Exhausted) (begins s req plan waiting) (refused_now refusals.Exhausted (tt, bare)) (begins_tells plan waiting fine taken)
 
-  leased_tells : (path : Path) (index : ℕ) (stamp : Option Stamp) (moment : Moment) (chunk : ℕ) (c : Chunk) → IsPath path → IsIndex index → Tells s (leased s req path index stamp moment chunk c)
+  leased_tells : (path : Path) (index : ℕ) (stamp : Option Stamp) (moment : Moment) (chunk : ℕ) (c : Chunk) → IsPath path → IsIndex index → TellsTurn s (leased s req path index stamp moment chunk c)
   leased_tells path index stamp moment chunk c told low =
       let begin = begins s req (begin_at s chunk purposes.Lease (Some req)) (waits.Lease path index chunk) in
       either_tells s (is_leased c && may_use stamp moment (view_of c)) (looked_up s req (location s.durable (Ok chunk))) (if is_wanted c then refused s req refusals.Locked else begin)
@@ -156,7 +156,7 @@ module _ (s : State) (req : ReqId) (heard : IsRequest req) where
       (either_tells s (is_wanted c) (refused s req refusals.Locked) begin (refused_now refusals.Locked (tt, bare))
       (begins_tells (begin_at s chunk purposes.Lease (Some req)) (waits.Lease path index chunk) ((tt, tt), (tt, tt)) (told, low)))
 
-  copied_tells : (path : Path) (index chunk : ℕ) (c : Chunk) (view : Option View) → IsPath path → IsIndex index → Tells s (copied_on_write s req path index chunk c view)
+  copied_tells : (path : Path) (index chunk : ℕ) (c : Chunk) (view : Option View) → IsPath path → IsIndex index → TellsTurn s (copied_on_write s req path index chunk c view)
   copied_tells path index chunk c None told low = refused_now refusals.NoReplica (tt, bare)
   copied_tells path index chunk c (Some view) told low =
       let new = s.durable.next_handle in
@@ -168,23 +168,23 @@ module _ (s : State) (req : ReqId) (heard : IsRequest req) where
       (begins_new_tells copy (waits.Copy path index chunk new) ((tt, tt), new_fine new s.durable.next_version (asking_for (next_stamp s.durable) purposes.Quiet view.members (Some req))) (told, low))
       (begins_tells (begin_at s chunk purposes.Quiet (Some req)) (waits.Quiet path index chunk) ((tt, tt), (tt, tt)) (told, low)))
 
-  written_tells : (path : Path) (index : ℕ) (stamp : Option Stamp) (moment : Moment) (chunk : ℕ) (c : Option Chunk) → IsPath path → IsIndex index → Tells s (written_at s req path index stamp moment chunk c)
+  written_tells : (path : Path) (index : ℕ) (stamp : Option Stamp) (moment : Moment) (chunk : ℕ) (c : Option Chunk) → IsPath path → IsIndex index → TellsTurn s (written_at s req path index stamp moment chunk c)
   written_tells path index stamp moment chunk None told low = refused_now refusals.NoReplica (tt, bare)
   written_tells path index stamp moment chunk (Some c) told low =
       either_tells s (is_shared s.durable.names chunk) (copied_on_write s req path index chunk c (view_of c)) (leased s req path index stamp moment chunk c)
       (copied_tells path index chunk c (view_of c) told low) (leased_tells path index stamp moment chunk c told low)
 
   -- a place at which a chunk stands is one of a file's
-  found_tells : (path : Path) (index : ℕ) (stamp : Option Stamp) (moment : Moment) (chunk : Result ℕ Refusal) → Fair chunk → IsPath path → ((c : ℕ) → chunk ≡ Ok c → IsIndex index) → Tells s (found_for_writing s req path index stamp moment chunk)
+  found_tells : (path : Path) (index : ℕ) (stamp : Option Stamp) (moment : Moment) (chunk : Result ℕ Refusal) → Fair chunk → IsPath path → ((c : ℕ) → chunk ≡ Ok c → IsIndex index) → TellsTurn s (found_for_writing s req path index stamp moment chunk)
   found_tells path index stamp moment (Ok chunk) fair told low = written_tells path index stamp moment chunk (chunk_at s chunk) told (low chunk refl)
   found_tells path index stamp moment (Err refusal) fair told low = refused_now refusal (fair.can refusal refl)
 
-  created_tells : (path : Path) (targets : Option (List ℕ)) → IsPath path → Tells s (created_on s req path targets)
+  created_tells : (path : Path) (targets : Option (List ℕ)) → IsPath path → TellsTurn s (created_on s req path targets)
   created_tells path None told = refused_now refusals.NoServer (tt, bare)
   created_tells path (Some targets) told =
       let new = s.durable.next_handle in begins_new_tells (create_plan (next_stamp s.durable) new targets req) (waits.Extend path new) ((tt, tt), new_fine new s.durable.next_version (asking_for (next_stamp s.durable) purposes.Quiet targets (Some req))) told
 
-  extended_tells : (config : Config) (path : Path) (chunks : List ℕ) (index : ℕ) → IsPath path → Tells s (extended_at config s req path chunks index)
+  extended_tells : (config : Config) (path : Path) (chunks : List ℕ) (index : ℕ) → IsPath path → TellsTurn s (extended_at config s req path chunks index)
   extended_tells config path chunks index told =
       let makes = created_on s req path (targets_for config (counted_views s) [] config.replicas) in
       let found = found_chunk (Some (File chunks)) index in
@@ -192,12 +192,12 @@ module _ (s : State) (req : ReqId) (heard : IsRequest req) where
       (looked_tells (location s.durable found) (fair_location s.durable found (fair_found (Some (File chunks)) index)))
       (either_tells s (nat_lt (length chunks) index || nat_le most_chunks index) (refused s req refusals.Range) makes (refused_now refusals.Range (tt, bare)) (created_tells path (targets_for config (counted_views s) [] config.replicas) told))
 
-  extends_tells : (config : Config) (path : Path) (index : ℕ) (entry : Option (Entry ℕ)) → IsPath path → Tells s (extends config s req path index entry)
+  extends_tells : (config : Config) (path : Path) (index : ℕ) (entry : Option (Entry ℕ)) → IsPath path → TellsTurn s (extends config s req path index entry)
   extends_tells config path index None told = refused_now refusals.NotFound (tt, bare)
   extends_tells config path index (Some Dir) told = refused_now refusals.IsADirectory (tt, bare)
   extends_tells config path index (Some (File chunks)) told = extended_tells config path chunks index told
 
-  snapshot_tells : (from to : Path) (many : List ℕ) → IsPath from → IsPath to → Tells s (begins_snapshot s req from to many)
+  snapshot_tells : (from to : Path) (many : List ℕ) → IsPath from → IsPath to → TellsTurn s (begins_snapshot s req from to many)
   snapshot_tells from to [] a b = edited_tells (Snapshot from to) answers.Nothing (a, b)
   snapshot_tells from to (chunk ∷ chunks) a b =
       let wait = turned s (begin_pending req (waits.Snapshot from to)) in
@@ -207,22 +207,22 @@ module _ (s : State) (req : ReqId) (heard : IsRequest req) where
       (either_tells s (not (has_versions s.durable (length (chunk ∷ chunks)))) (refused s req refusals.Exhausted) all (refused_now refusals.Exhausted (tt, bare))
       (room_tells (and_then wait begin) (then_tells s wait begin (plan_tells s (begin_pending req (waits.Snapshot from to)) tt ((heard, (a, b)), tt)) (all_begun_tells (chunk ∷ chunks) purposes.Quiet (Some req) wait.after))))
 
-  snapshot_if_tells : (from to : Path) (rows : Result (Rows ℕ) Refusal) → Fair rows → IsPath from → IsPath to → Tells s (snapshot_if s req from to rows)
+  snapshot_if_tells : (from to : Path) (rows : Result (Rows ℕ) Refusal) → Fair rows → IsPath from → IsPath to → TellsTurn s (snapshot_if s req from to rows)
   snapshot_if_tells from to (Ok rows) fair a b = snapshot_tells from to (unquiet s from) a b
   snapshot_if_tells from to (Err refusal) fair a b = refused_now refusal (fair.can refusal refl)
 
-  replicated_tells : (chunk : ℕ) (targets : Option (List ℕ)) → Tells s (replicated_to s req chunk targets)
+  replicated_tells : (chunk : ℕ) (targets : Option (List ℕ)) → TellsTurn s (replicated_to s req chunk targets)
   replicated_tells chunk None = refused_now refusals.NoServer (tt, bare)
   replicated_tells chunk (Some []) = refused_now refusals.NoServer (tt, bare)
   replicated_tells chunk (Some (target ∷ targets)) = begins_tells (begin_at s chunk (purposes.Copy target) (Some req)) (waits.Replicate chunk target) ((tt, tt), (tt, tt)) tt
 
-  replicates_tells : (config : Config) (chunk : ℕ) (c : Option Chunk) → Tells s (replicates_chunk config s req chunk c)
+  replicates_tells : (config : Config) (chunk : ℕ) (c : Option Chunk) → TellsTurn s (replicates_chunk config s req chunk c)
   replicates_tells config chunk None = refused_now refusals.NoReplica (tt, bare)
   replicates_tells config chunk (Some c) =
       either_tells s (is_wanted c) (refused s req refusals.Locked) (replicated_to s req chunk (targets_for config (counted_views s) (members_of c) 1)) (refused_now refusals.Locked (tt, bare))
       (replicated_tells chunk (targets_for config (counted_views s) (members_of c) 1))
 
-  most_tells : (config : Config) (chunk : Option ℕ) → Tells s (replicates_most config s req chunk)
+  most_tells : (config : Config) (chunk : Option ℕ) → TellsTurn s (replicates_most config s req chunk)
   most_tells config None = answered_tells (answers.Copied None)
   most_tells config (Some chunk) = replicates_tells config chunk (chunk_at s chunk)
 
@@ -357,7 +357,7 @@ pub record CanTell (s : State) : Type 0 where
   pub removed : (moment : ℕ) → AllByRecursion IsPath (removed_paths moment (fin.entries s.durable.names.tree))
 
 module _ (s : State) (req : ReqId) (heard : IsRequest req) (can : CanTell s) where
-  scanned_tells : (removed : List Path) (forgotten : List ℕ) → AllByRecursion IsPath removed → Tells s (scanned s req removed forgotten)
+  scanned_tells : (removed : List Path) (forgotten : List ℕ) → AllByRecursion IsPath removed → TellsTurn s (scanned s req removed forgotten)
   scanned_tells removed forgotten told =
       let scan = turned s (scan_plan removed forgotten) in
       let ended : State → Turn = λ next. all_ended_by next (waiting_for s forgotten) refusals.NoReplica in
@@ -368,14 +368,14 @@ module _ (s : State) (req : ReqId) (heard : IsRequest req) (can : CanTell s) whe
       (all_ended_tells (waiting_for s forgotten) refusals.NoReplica scan.after (all_requests _ (all_filtered IsTaken _ s.volatile.pending can.calls)) (tt, bare)))
       (answered_tells (and_then scan ended).after req heard (answers.Scanned (length removed) (length forgotten))))
 
-  unless_tells : (refusal : Option Refusal) (t : Turn) → IsFairly refusal → Tells s t → Tells s (unless refusal s req t)
+  unless_tells : (refusal : Option Refusal) (t : Turn) → IsFairly refusal → TellsTurn s t → TellsTurn s (unless refusal s req t)
   unless_tells None t fair a = room_tells s req heard t a
   unless_tells (Some refusal) t fair a = refused_now s req heard refusal fair
 
   accepted_told : (records : List PlainEntry) (next : State) (before : List Change) (epoch : ℕ) → AllByRecursion (IsToldChange records) before → AllByRecursion (IsToldChange records) (before ++ answer_changes next req (answers.Epoch epoch))
   accepted_told records next before epoch t = all_both (IsToldChange records) before (answer_changes next req (answers.Epoch epoch)) t (answer_told records next req (answers.Epoch epoch))
 
-  begin_tells : Tells s (prepare_begin s req)
+  begin_tells : TellsTurn s (prepare_begin s req)
   begin_tells =
       let many = all_unquiet s in
       let reqs = requests_of s.volatile.pending in
@@ -396,7 +396,7 @@ module _ (s : State) (req : ReqId) (heard : IsRequest req) (can : CanTell s) whe
   few : (n : ℕ) → min n last_count < 2 ^ 32
   few n = omega arith
 
-  commit_tells : (config : Config) (moment : Moment) → IsNumber moment.0 → Tells s (prepare_commit config s req moment)
+  commit_tells : (config : Config) (moment : Moment) → IsNumber moment.0 → TellsTurn s (prepare_commit config s req moment)
   commit_tells config moment low =
       let plan : Plan = accepted_plan s req (Prepare (s.durable.epoch + 1) moment.0 (chunk_count s) ∷ []) (changes.Prepare false ∷ []) (tell_all config (s.durable.epoch + 1) ends.Prepare) (s.durable.epoch + 1) in
       let tests = commit_tests s.durable.phase s.volatile.is_preparing (all_unquiet s) (is_last_epoch s.durable) in
@@ -407,7 +407,7 @@ module _ (s : State) (req : ReqId) (heard : IsRequest req) (can : CanTell s) whe
       by_first None known = ((tt, bare), tt)
       by_first (Some chunk) known = let handle = can.known chunk (and_parts (has_entry s chunk) (not (is_quiet_at s chunk)) (known chunk refl)).0 in ((handle, number_text chunk handle.1), ((tt, bare), tt))
 
-  abort_tells : Tells s (prepare_abort s req)
+  abort_tells : TellsTurn s (prepare_abort s req)
   abort_tells =
       let plan : Plan = accepted_plan s req [] (changes.Prepare false ∷ []) [] s.durable.epoch in
       either_tells s s.volatile.is_preparing (turned s plan) (refused s req refusals.NotUpgrading) (plan_tells s plan tt (accepted_told [] s (changes.Prepare false ∷ []) s.durable.epoch (tt, tt))) (refused_now s req heard refusals.NotUpgrading (tt, bare))
@@ -415,12 +415,12 @@ module _ (s : State) (req : ReqId) (heard : IsRequest req) (can : CanTell s) whe
   end_fair : IsFairly (first_of (end_tests s.durable.phase (is_last_epoch s.durable)))
   end_fair = first_fair (end_tests s.durable.phase (is_last_epoch s.durable)) ((tt, bare), ((tt, bare), tt))
 
-  finalize_tells : (config : Config) → Tells s (finalize config s req)
+  finalize_tells : (config : Config) → TellsTurn s (finalize config s req)
   finalize_tells config =
       let plan : Plan = accepted_plan s req (Finalize (s.durable.epoch + 1) ∷ []) [] (tell_all config (s.durable.epoch + 1) ends.Finalize) (s.durable.epoch + 1) in
       unless_tells (first_of (end_tests s.durable.phase (is_last_epoch s.durable))) (turned s plan) end_fair (plan_tells s plan (tt, tt) (accepted_told plan.records s [] (s.durable.epoch + 1) tt))
 
-  rollback_tells : (config : Config) → Tells s (rollback_begin config s req)
+  rollback_tells : (config : Config) → TellsTurn s (rollback_begin config s req)
   rollback_tells config =
       let plan : Plan = record { records = RollbackBegin (s.durable.epoch + 1) ∷ []; changes = []; sent = []; said = None } in
       let ended : State → Turn = λ next. all_ended_by next (requests_of s.volatile.pending) refusals.RollingBack in
@@ -430,25 +430,25 @@ module _ (s : State) (req : ReqId) (heard : IsRequest req) (can : CanTell s) whe
       (then_tells s both accept (then_tells s (turned s plan) ended (plan_tells s plan (tt, tt) tt) (all_ended_tells (requests_of s.volatile.pending) refusals.RollingBack (turned s plan).after (all_requests s.volatile.pending can.calls) (tt, bare)))
       (plan_tells both.after (accepted_plan both.after req [] [] (tell_all config (s.durable.epoch + 1) ends.Rollback) (s.durable.epoch + 1)) tt (accepted_told [] both.after [] (s.durable.epoch + 1) tt)))
 
-  commit_if_tells : (names : NamesView) (lacking : Option ℕ) → ((chunk : ℕ) → lacking ≡ Some chunk → IsHandle chunk) → Tells s (commit_if s req names lacking)
+  commit_if_tells : (names : NamesView) (lacking : Option ℕ) → ((chunk : ℕ) → lacking ≡ Some chunk → IsHandle chunk) → TellsTurn s (commit_if s req names lacking)
   commit_if_tells names (Some chunk) known = let handle = known chunk refl in refused_now s req heard (refusals.Unrestored chunk) (handle, number_text chunk handle.1)
   commit_if_tells names None known =
       let all = answers_for (prepared_view s.durable) (told_of s) (fin.entries names.refs) in
       let plan : Plan = accepted_plan s req (RollbackCommit s.durable.epoch all ∷ []) (changes.RolledBack ∷ []) [] s.durable.epoch in
       room_tells s req heard (turned s plan) (plan_tells s plan (answers_told (prepared_view s.durable) (told_of s) (fin.entries names.refs), tt) (accepted_told plan.records s (changes.RolledBack ∷ []) s.durable.epoch (tt, tt)))
 
-  commit_on_tells : is_rolling s.durable.phase ≡ true → (names : Option NamesView) → all_undone s.durable.inverses s.durable.names ≡ names → Tells s (commit_on s req names)
+  commit_on_tells : is_rolling s.durable.phase ≡ true → (names : Option NamesView) → all_undone s.durable.inverses s.durable.names ≡ names → TellsTurn s (commit_on s req names)
   commit_on_tells begun None back = refused_now s req heard refusals.BadLine (tt, bare)
   commit_on_tells begun (Some names) back =
       commit_if_tells names (unrestored (prepared_view s.durable) (told_of s) (fin.entries names.refs))
       (λ chunk is. can.before names chunk begun back (ap is_some (fin.get-entries names.refs chunk) ∙ first_key (lacks_answer (prepared_view s.durable) (told_of s)) (fin.entries names.refs) chunk is))
 
-  rolled_tells : Tells s (rollback_commit s req)
+  rolled_tells : TellsTurn s (rollback_commit s req)
   rolled_tells =
       test_tells s (is_rolling s.durable.phase) (commit_on s req (all_undone s.durable.inverses s.durable.names)) (refused s req refusals.NotUpgrading)
       (λ begun. commit_on_tells begun (all_undone s.durable.inverses s.durable.names) refl) (λ _. refused_now s req heard refusals.NotUpgrading (tt, bare))
 
-  called_tells : (config : Config) (moment : Moment) (call : Call) → is_any_hidden call ≡ false → IsNamedCall call → IsMet s.durable.names call → IsNumber moment.0 → Tells s (called config s req moment call)
+  called_tells : (config : Config) (moment : Moment) (call : Call) → is_any_hidden call ≡ false → IsNamedCall call → IsMet s.durable.names call → IsNumber moment.0 → TellsTurn s (called config s req moment call)
   called_tells config moment (calls.Mkdirs path) hidden named met low = edited_tells s req heard (Mkdirs path) answers.Nothing named
   called_tells config moment (calls.Create path) hidden named met low = edited_tells s req heard (Create path) answers.Nothing named
   called_tells config moment (calls.Rename from to) hidden named met low =
@@ -480,19 +480,19 @@ module _ (s : State) (req : ReqId) (heard : IsRequest req) (can : CanTell s) whe
   before_fair : (call : Call) → IsFairly (refused_before s req call)
   before_fair call = first_fair (ordered (is_failed s.fault) (is_rolling s.durable.phase) s.volatile.is_preparing (is_locked s req call) call) ((tt, bare), ((tt, bare), ((tt, bare), ((tt, bare), ((tt, bare), tt)))))
 
-  unless_called : (config : Config) (moment : Moment) (call : Call) (refusal : Option Refusal) → refused_before s req call ≡ refusal → IsFairly refusal → IsNamedCall call → IsMet s.durable.names call → IsNumber moment.0 → Tells s (called_unless config s req moment call refusal)
+  unless_called : (config : Config) (moment : Moment) (call : Call) (refusal : Option Refusal) → refused_before s req call ≡ refusal → IsFairly refusal → IsNamedCall call → IsMet s.durable.names call → IsNumber moment.0 → TellsTurn s (called_unless config s req moment call refusal)
   unless_called config moment call None is fair named met low = called_tells config moment call (passes s req call is).hidden named met low
   unless_called config moment call (Some refusal) is fair named met low = refused_now s req heard refusal fair
 
-  replied_tells : (result : Result Answer Refusal) → Tells s (replied_again s req result)
+  replied_tells : (result : Result Answer Refusal) → TellsTurn s (replied_again s req result)
   replied_tells result = quiet_tells s (replied_again s req result) refl refl refl
 
-  taken_tells : (config : Config) (moment : Moment) (call : Call) (how : Numbered) → IsNamedCall call → IsMet s.durable.names call → IsNumber moment.0 → Tells s (taken_as config s req moment call how)
+  taken_tells : (config : Config) (moment : Moment) (call : Call) (how : Numbered) → IsNamedCall call → IsMet s.durable.names call → IsNumber moment.0 → TellsTurn s (taken_as config s req moment call how)
   taken_tells config moment call New named met low = unless_called config moment call (refused_before s req call) refl (before_fair call) named met low
   taken_tells config moment call (Again result) named met low = replied_tells result
   taken_tells config moment call Older named met low = replied_tells (Err refusals.Old)
 
-  pub call_tells : (config : Config) (moment : Moment) (call : Call) → IsNamedCall call → IsMet s.durable.names call → IsNumber moment.0 → Tells s (call_turn config s req moment call)
+  pub call_tells : (config : Config) (moment : Moment) (call : Call) → IsNamedCall call → IsMet s.durable.names call → IsNumber moment.0 → TellsTurn s (call_turn config s req moment call)
   call_tells config moment call named met low =
       let taken = taken_as config s req moment call (numbered (last_reply s req.client) req.number) in
       let device = replied_tells (Err refusals.Device) in

@@ -32,7 +32,7 @@ use Rattle.gs_master_laws.proofs.StandingAnswers.{pressed_good}
 use Rattle.gs_master_laws.proofs.StandingRuns.{events_fit, starts_firm}
 use Rattle.gs_master_laws.proofs.StandingTurns.{Holds}
 use Rattle.gs_master_laws.proofs.Tellable.{all_written, given_some, listed_handle, viewed_handle}
-use Rattle.gs_master_laws.proofs.Telling.{Tells, all_both, fewer_member, is_for, proposes}
+use Rattle.gs_master_laws.proofs.Telling.{TellsTurn, all_both, fewer_member, is_for, proposes}
 use Rattle.gs_master_laws.proofs.TellingCalls.{CanTell, removed_told}
 use Rattle.gs_master_laws.proofs.ToldInverses.{all_keep_back}
 use Rattle.gs_master_laws.proofs.WritingCheckpoints.{checkpoints_written}
@@ -103,7 +103,7 @@ record Wrote (t : Turn) : Type 0 where
   written : IsWritten t
   within : IsWithin t.after
 
-wrote : (s : State) (t : Turn) → IsSteady s → AllFit s t → IsFirm t.after → HasRoom s t → Tells s t → Wrote t
+wrote : (s : State) (t : Turn) → IsSteady s → AllFit s t → IsFirm t.after → HasRoom s t → TellsTurn s t → Wrote t
 wrote s t y fit firm room tells = record {
   written = all.0;
   within = record {

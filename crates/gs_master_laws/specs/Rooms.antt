@@ -71,7 +71,7 @@ TicksCounted = (s : State) (moment : Moment) → IsCounted s (and_then (for_each
 -- ---- who has told of a chunk
 
 -- a server tells which chunks it has as they were sealed, in the epoch of the rollback that is begun
-pub record Tells (s : State) (message : Message) (server : ℕ) (handles : List ℕ) : Type 0 where
+pub record TellsHandles (s : State) (message : Message) (server : ℕ) (handles : List ℕ) : Type 0 where
   pub from : message.from ≡ nodes.Server server
   pub said : message.body ≡ bodies.Learned s.durable.epoch handles
   pub begun : is_rolling s.durable.phase ≡ true
@@ -82,12 +82,12 @@ restored_in s = s.volatile.restored
 
 -- Then it is added for those.
 abbrev pub TellsAdd : Type 0
-TellsAdd = (config : Config) (s : State) (message : Message) (moment : Moment) (server : ℕ) (handles : List ℕ) → Tells s message server handles →
+TellsAdd = (config : Config) (s : State) (message : Message) (moment : Moment) (server : ℕ) (handles : List ℕ) → TellsHandles s message server handles →
     restored_in (handle config s message moment).after ≡ fold (with_restored server) (restored_in s) handles
 
 -- So who has told of a chunk is who had, and this server, where it names the chunk.
 abbrev pub TellsOf : Type 0
-TellsOf = (config : Config) (s : State) (message : Message) (moment : Moment) (server : ℕ) (handles : List ℕ) (chunk other : ℕ) → Tells s message server handles → other < 16 →
+TellsOf = (config : Config) (s : State) (message : Message) (moment : Moment) (server : ℕ) (handles : List ℕ) (chunk other : ℕ) → TellsHandles s message server handles → other < 16 →
     is_member (told_of (handle config s message moment).after chunk) other ≡ (is_member (told_of s chunk) other || ((other == server) && is_member handles chunk))
 
 -- the commit of the rollback is recorded
@@ -96,7 +96,7 @@ CommitsRollback s t = (answers : List Answered) × (t.records ≡ RollbackCommit
 
 -- Any other message leaves who has told, but the commit of the rollback, behind which nobody has.
 abbrev pub OthersLeave : Type 0
-OthersLeave = (config : Config) (s : State) (message : Message) (moment : Moment) → ((server : ℕ) (handles : List ℕ) → Tells s message server handles → ⊥) →
+OthersLeave = (config : Config) (s : State) (message : Message) (moment : Moment) → ((server : ℕ) (handles : List ℕ) → TellsHandles s message server handles → ⊥) →
     let t = handle config s message moment in (restored_in t.after ≡ restored_in s) ⊎ (CommitsRollback s t × (restored_in t.after ≡ fin.empty))
 
 -- and so does each tick,

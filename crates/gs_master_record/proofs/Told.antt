@@ -12,7 +12,7 @@ use Rattle.std.specs.Str.Parse.{digits_value}
 use Rattle.gs_base.proofs.Tells.{digits}
 use Rattle.gs_base.specs.Numbers.{stamp_text}
 use Rattle.gs_base.specs.Refusals.{number_of}
-use Rattle.gs_base.specs.Told.{detail_text, IsStamp, IsRefusal, Tells, Told}
+use Rattle.gs_base.specs.Told.{detail_text, IsStamp, IsRefusal, TellsRefusal, Told}
 use Rattle.gs_base.specs.declared.numbers.Stamp.{Stamp as AnyStamp}
 use Rattle.gs_base.specs.declared.refusal.Refusal.{Refusal}
 use Rattle.gs_base.specs.declared.refusal.Refusal.TheVariants.{BadPath, HiddenName, NotFound, Exists, NotADirectory, IsADirectory, NotEmpty, IntoItself, IsRoot, Locked, Preparing, RollingBack, NotUpgrading, AlreadyUpgrading, NotQuiet, Unrestored, NoServer, Epoch, Old, NotPrimary, LeaseOver, Stamp, Gap, NoData, Range, TooLong, Damaged, NoReplica, Unsure, Full, Exhausted, Device, Memory, BadLine, Config, Pending, Stray, NotHidden}
@@ -185,14 +185,14 @@ same_bytes : (x : List ℕ) → bytes_eq x x ≡ true
 same_bytes x = (bytes_eq-Decides x x).1 refl
 
 -- what is found is told so, and what is told so is found
-found : (number : ℕ) (text : List ℕ) (m r : Refusal) → cond (is_told_by number text m) (Some m) None ≡ Some r → IsRefusal r × Tells number text r
+found : (number : ℕ) (text : List ℕ) (m r : Refusal) → cond (is_told_by number text m) (Some m) None ≡ Some r → IsRefusal r × TellsRefusal number text r
 found number text m r e =
     let k = if_some (is_told_by number text m) m r e in
     let one = and_parts (eqb (number_of m) number) (bytes_eq (detail_text m) text && is_in_range m) k.0 in
     let two = and_parts (bytes_eq (detail_text m) text) (is_in_range m) one.1 in
-    subst (λ (x : Refusal). IsRefusal x × Tells number text x) k.1 (is_range m two.1, (eqb-true _ _ one.0, (bytes_eq-Decides (detail_text m) text).0 two.0))
+    subst (λ (x : Refusal). IsRefusal x × TellsRefusal number text x) k.1 (is_range m two.1, (eqb-true _ _ one.0, (bytes_eq-Decides (detail_text m) text).0 two.0))
 
-pub told_tells : (number : ℕ) (text : List ℕ) (r : Refusal) → told number text ≡ Some r → IsRefusal r × Tells number text r
+pub told_tells : (number : ℕ) (text : List ℕ) (r : Refusal) → told number text ≡ Some r → IsRefusal r × TellsRefusal number text r
 unfolding told
 told_tells number text r e = found number text (may_be number text) r e
 

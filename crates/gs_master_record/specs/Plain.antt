@@ -11,8 +11,8 @@ use Rattle.gs_edit.specs.declared.listed.ListedInverse.TheVariants as inverses
 use Rattle.gs_tree.specs.declared.entry.TreeEntry.{TreeEntry}
 use Rattle.gs_tree.specs.declared.entry.TreeEntry.TheVariants as nodes
 use Rattle.gs_master_record.specs.declared.checkpoint.Checkpoint.{Checkpoint}
-use Rattle.gs_master_record.specs.declared.checkpoint.Outcome.{Outcome}
-use Rattle.gs_master_record.specs.declared.checkpoint.Outcome.TheVariants as outcomes
+use Rattle.gs_master_record.specs.declared.checkpoint.KeptOutcome.{KeptOutcome}
+use Rattle.gs_master_record.specs.declared.checkpoint.KeptOutcome.TheVariants as outcomes
 use Rattle.gs_master_record.specs.declared.checkpoint.Phase.{Phase}
 use Rattle.gs_master_record.specs.declared.checkpoint.PreparedView.{PreparedView}
 use Rattle.gs_master_record.specs.declared.checkpoint.Reference.{Reference}
@@ -84,7 +84,7 @@ pub data PlainOutcome : Type 0 where
   Accepted : List ℕ → PlainOutcome
   Refused : Refusal → PlainOutcome
 
-abbrev pub plain_outcome : Outcome → PlainOutcome
+abbrev pub plain_outcome : KeptOutcome → PlainOutcome
 plain_outcome (outcomes.Accepted answer) = Accepted (string_bytes answer)
 plain_outcome (outcomes.Refused refusal) = Refused refusal
 

@@ -29,7 +29,7 @@ pub struct SettledEntry {
 
 /// How a request was answered.
 #[derive(Drop)]
-pub enum Outcome {
+pub enum KeptOutcome {
     /// It was accepted, with this text as its answer.
     Accepted(String),
     Refused(Refusal),
@@ -39,7 +39,7 @@ pub enum Outcome {
 #[derive(Drop)]
 pub struct Reply {
     pub to: ReqId,
-    pub outcome: Outcome,
+    pub outcome: KeptOutcome,
 }
 
 /// The view of a chunk as it stood at prepare, and who holds a copy with its sealed image since.

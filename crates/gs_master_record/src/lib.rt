@@ -18,6 +18,8 @@ mod state;
 mod undoing;
 mod views;
 
-pub use checkpoint::{Checkpoint, Outcome, Phase, PreparedView, Reference, Reply, SettledEntry};
+pub use checkpoint::{
+    Checkpoint, KeptOutcome, Phase, PreparedView, Reference, Reply, SettledEntry,
+};
 pub use entry::{Answered, Entry, SettledView};
 pub use extended::Extended;

@@ -1,5 +1,5 @@
 // The small parts of a checkpoint.
-use crate::checkpoint::{Outcome, Phase, PreparedView, Reference, Reply, SettledEntry};
+use crate::checkpoint::{KeptOutcome, Phase, PreparedView, Reference, Reply, SettledEntry};
 use crate::entry::SettledView;
 use crate::fault::Fault;
 use crate::field::{Cursor, Field};
@@ -170,7 +170,7 @@ impl Field for SettledEntry {
     }
 }
 
-impl Field for Outcome {
+impl Field for KeptOutcome {
     ghost use Rattle.gs_master_record.specs.Plain.{PlainOutcome, plain_outcome};
     ghost use Rattle.gs_master_record.specs.Encoding.{outcome};
     ghost use Rattle.gs_master_record.specs.Writable.{IsOutcome};
@@ -187,25 +187,25 @@ impl Field for Outcome {
     ghost reading = { outcome_at };
 
     #[tactic(auto, unfolding(crate::specs::inner::Reading::outcome_at))]
-    fn read(alloc: Global, cursor: &mut Cursor<'_>) -> Result<Outcome, Fault> {
+    fn read(alloc: Global, cursor: &mut Cursor<'_>) -> Result<KeptOutcome, Fault> {
         let number = u8::read(alloc, cursor)?;
         let text = read_text(cursor)?;
         if number == 0 {
-            return Ok(Outcome::Accepted(String::from_str(alloc, text)?));
+            return Ok(KeptOutcome::Accepted(String::from_str(alloc, text)?));
         }
         match Refusal::told(alloc, number, text)? {
-            Some(refusal) => Ok(Outcome::Refused(refusal)),
+            Some(refusal) => Ok(KeptOutcome::Refused(refusal)),
             None => Err(Fault::Form),
         }
     }
 
     fn put(&self, alloc: Global, out: &mut Vec<u8>) -> Result<(), Fault> {
         match self {
-            Outcome::Accepted(answer) => {
+            KeptOutcome::Accepted(answer) => {
                 out.push(0)?;
                 put_text(out, answer)
             }
-            Outcome::Refused(refusal) => refusal.put(alloc, out),
+            KeptOutcome::Refused(refusal) => refusal.put(alloc, out),
         }
     }
 }
@@ -229,7 +229,7 @@ impl Field for Reply {
     #[tactic(auto, unfolding(crate::specs::inner::Reading::reply_at))]
     fn read(alloc: Global, cursor: &mut Cursor<'_>) -> Result<Reply, Fault> {
         let to = ReqId::read(alloc, cursor)?;
-        let outcome = Outcome::read(alloc, cursor)?;
+        let outcome = KeptOutcome::read(alloc, cursor)?;
         Ok(Reply { to, outcome })
     }
 

@@ -13,7 +13,7 @@ use crate::checkpoint::answer_text;
 use gs_base::{ClientId, Handle, Members, Moment, Refusal, ServerId, Stamp};
 use gs_base_table::Table;
 use gs_lease::{Term, View};
-use gs_master_record::{Outcome, Reply};
+use gs_master_record::{KeptOutcome, Reply};
 use gs_master_spec::reply::KeptReply;
 use gs_msg::Answer;
 use gs_path::Path;
@@ -172,16 +172,16 @@ fn told_answer(alloc: Global, text: &str) -> Result<Option<Answer>, AllocError>
 /// The reply of an outcome, if its text is that of an answer.
 fn told_result(
     alloc: Global,
-    outcome: &Outcome,
+    outcome: &KeptOutcome,
 ) -> Result<Option<Result<Answer, Refusal>>, AllocError>
     ensures { IfOk result (λ told. told ≡ told_result (plain_outcome outcome.now)) }
 {
     match outcome {
-        Outcome::Accepted(text) => match told_answer(alloc, text.as_str())? {
+        KeptOutcome::Accepted(text) => match told_answer(alloc, text.as_str())? {
             Some(answer) => Ok(Some(Ok(answer))),
             None => Ok(None),
         },
-        Outcome::Refused(refusal) => Ok(Some(Err(refusal.copy(alloc)?))),
+        KeptOutcome::Refused(refusal) => Ok(Some(Err(refusal.copy(alloc)?))),
     }
 }
 

@@ -23,7 +23,8 @@ use gs_base::{ClientId, EpochEnd, Handle, Refusal, ReqId};
 use gs_lease::{Lease, Told, View};
 use gs_master_order::by_text;
 use gs_master_record::{
-    Checkpoint, Extended, Outcome, Phase, PreparedView, Reference, Reply, SettledEntry, SettledView,
+    Checkpoint, Extended, KeptOutcome, Phase, PreparedView, Reference, Reply, SettledEntry,
+    SettledView,
 };
 use gs_master_spec::reply::KeptReply;
 use gs_msg::Answer;
@@ -68,12 +69,12 @@ pub fn answer_text(alloc: Global, answer: &Answer) -> Result<String, AllocError>
     }
 }
 
-fn outcome(alloc: Global, kept: &Result<Answer, Refusal>) -> Result<Outcome, AllocError>
+fn outcome(alloc: Global, kept: &Result<Answer, Refusal>) -> Result<KeptOutcome, AllocError>
     ensures { IfOk result (λ outcome. plain_outcome outcome ≡ outcome_of kept.now) }
 {
     match kept {
-        Ok(answer) => Ok(Outcome::Accepted(answer_text(alloc, answer)?)),
-        Err(refusal) => Ok(Outcome::Refused(refusal.copy(alloc)?)),
+        Ok(answer) => Ok(KeptOutcome::Accepted(answer_text(alloc, answer)?)),
+        Err(refusal) => Ok(KeptOutcome::Refused(refusal.copy(alloc)?)),
     }
 }
 

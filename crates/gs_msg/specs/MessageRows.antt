@@ -11,7 +11,7 @@ use Rattle.gs_base.specs.declared.refusal.Refusal.TheVariants as refusals
 use Rattle.gs_lease.specs.declared.view.View.{View}
 use Rattle.gs_path.specs.Path.{Path}
 use Rattle.gs_replica.specs.Copies.{Image}
-use Rattle.gs_replica.specs.declared.op.Outcome.TheVariants as outcomes
+use Rattle.gs_replica.specs.declared.op.EditOutcome.TheVariants as outcomes
 use Rattle.gs_msg.specs.MessageTexts.{message_text}
 use Rattle.gs_msg.specs.declared.answer.Answer.TheVariants as answers
 use Rattle.gs_msg.specs.declared.answer.Status.TheVariants as statuses

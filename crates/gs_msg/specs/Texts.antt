@@ -10,8 +10,8 @@ use Rattle.gs_lease.specs.declared.view.Term.{Term}
 use Rattle.gs_lease.specs.declared.view.View.{View}
 use Rattle.gs_path.specs.Path.{path_text}
 use Rattle.gs_replica.specs.Copies.{Image, SealedImage}
-use Rattle.gs_replica.specs.declared.op.Outcome.{Outcome}
-use Rattle.gs_replica.specs.declared.op.Outcome.TheVariants as outcomes
+use Rattle.gs_replica.specs.declared.op.EditOutcome.{EditOutcome}
+use Rattle.gs_replica.specs.declared.op.EditOutcome.TheVariants as outcomes
 use Rattle.gs_msg.specs.declared.answer.ChunkStatus.{ChunkStatus}
 use Rattle.gs_msg.specs.declared.answer.Copied.{Copied}
 use Rattle.gs_msg.specs.declared.answer.Phase.{Phase}
@@ -53,7 +53,7 @@ asked_text (asked.Bytes offset length) = codes "bytes " ++ (decimal offset ++ (c
 asked_text asked.Length = codes "length"
 asked_text (asked.Digest block) = codes "digest " ++ decimal block
 
-abbrev pub outcome_text : Outcome → List ℕ
+abbrev pub outcome_text : EditOutcome → List ℕ
 outcome_text outcomes.Written = codes "written"
 outcome_text (outcomes.Appended offset) = codes "appended " ++ decimal offset
 outcome_text outcomes.Padded = codes "padded"

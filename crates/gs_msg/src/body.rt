@@ -9,7 +9,7 @@ use crate::lists::{Bytes, Items};
 use gs_base::promises::are_same;
 use gs_base::{EpochEnd, Handle, Refusal, ReqId, Stamp};
 use gs_block::Digest;
-use gs_replica::Outcome;
+use gs_replica::EditOutcome;
 use std::alloc::{AllocError, Global};
 
 /// What a server tells of one of its live replicas.
@@ -84,7 +84,7 @@ pub enum Body {
     /// What an edit answered.
     Done {
         req: ReqId,
-        result: Result<Outcome, Refusal>,
+        result: Result<EditOutcome, Refusal>,
     },
     /// What a fetch gives.
     Bytes {
@@ -292,8 +292,8 @@ fn copied_answer(
 
 fn copied_outcome(
     alloc: Global,
-    told: &Result<Outcome, Refusal>,
-) -> Result<Result<Outcome, Refusal>, AllocError>
+    told: &Result<EditOutcome, Refusal>,
+) -> Result<Result<EditOutcome, Refusal>, AllocError>
     ensures { IfOk result (λ copy. copy ≡ told.now) }
 {
     Ok(match told {
@@ -330,7 +330,7 @@ fn same_answer(left: &Result<Answer, Refusal>, right: &Result<Answer, Refusal>) 
     }
 }
 
-fn same_outcome(left: &Result<Outcome, Refusal>, right: &Result<Outcome, Refusal>) -> bool
+fn same_outcome(left: &Result<EditOutcome, Refusal>, right: &Result<EditOutcome, Refusal>) -> bool
     ensures { IsTrue result ↔ (left.now ≡ right.now) }
 {
     match (left, right) {

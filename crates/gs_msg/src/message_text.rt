@@ -6,7 +6,7 @@ use crate::message::Message;
 use crate::op::Op;
 use crate::text::{Hex, ImageText, SealedText};
 use gs_base::{Handle, Refusal};
-use gs_replica::Outcome;
+use gs_replica::EditOutcome;
 use std::fmt;
 
 impl fmt::Display for Op {
@@ -59,7 +59,7 @@ impl fmt::Display for Given {
 
 /// What an edit answered, or the line of the refusal.
 #[derive(Drop)]
-struct Edited<'a>(&'a Result<Outcome, Refusal>);
+struct Edited<'a>(&'a Result<EditOutcome, Refusal>);
 
 impl fmt::Display for Edited<'_> {
     ghost use Rattle.std.specs.Prelude.{Some};
@@ -69,9 +69,9 @@ impl fmt::Display for Edited<'_> {
 
     fn fmt<W: fmt::Write>(&self, f: &mut fmt::Formatter<W>) -> fmt::Result {
         match self.0 {
-            Ok(Outcome::Written) => f.write_str("written"),
-            Ok(Outcome::Appended(offset)) => write!(f, "appended {offset}"),
-            Ok(Outcome::Padded) => f.write_str("padded"),
+            Ok(EditOutcome::Written) => f.write_str("written"),
+            Ok(EditOutcome::Appended(offset)) => write!(f, "appended {offset}"),
+            Ok(EditOutcome::Padded) => f.write_str("padded"),
             Err(refusal) => write!(f, "{refusal}"),
         }
     }

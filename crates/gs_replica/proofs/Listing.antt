@@ -11,7 +11,7 @@ use Rattle.gs_block.specs.Stored.{Stored}
 use Rattle.gs_replica.specs.declared.op.Op.{Op}
 use Rattle.gs_replica.specs.declared.op.Op.TheVariants.{Write, Append, Pad}
 use Rattle.gs_replica.specs.declared.op.Done.{Done}
-use Rattle.gs_replica.specs.declared.op.Outcome.{Outcome}
+use Rattle.gs_replica.specs.declared.op.EditOutcome.{EditOutcome}
 use Rattle.gs_replica.specs.Held.{Held}
 use Rattle.gs_base.specs.Stamps.{is_same}
 use Rattle.gs_replica.specs.Edits as edits
@@ -92,7 +92,7 @@ edit_stands req op bytes r r2 (Ok s) xs stands told new is e =
         count = (let l = length_last xs edit in omega arith);
         done =
             ap (λ (t : fin.FinMap nat_cmp Done). fin.insert t client (edits.done_by req.number op r.chunk)) stands.done
-            ∙ ap (λ (o : Outcome). (let done : Done = record { number = req.number; outcome = o } in fin.insert text.done client done)) (outcome_same op r.chunk text.bytes w.long)
+            ∙ ap (λ (o : EditOutcome). (let done : Done = record { number = req.number; outcome = o } in fin.insert text.done client done)) (outcome_same op r.chunk text.bytes w.long)
             ∙ ap (λ (i : Image). i.done) (sym last)
             ∙ ap (λ n. (replica_of n (xs ++ edit ∷ [])).done) (sym d.chunk);
         bytes = subst (λ n. WasWritten s (replica_of n (xs ++ edit ∷ [])).bytes) (sym d.chunk) (subst (λ (i : Image). WasWritten s i.bytes) (sym last) d.bytes);

@@ -3,17 +3,17 @@ use Rattle.std.proofs.Common.{◌≡◌, ℕ, Bool, true, false, Decides, refl, 
 use Rattle.std.specs.Prelude.{◌&&◌, ◌==◌}
 use Rattle.std.proofs.lemmas.Bool.Decides.{Decides-eqb}
 use Rattle.gs_replica.specs.declared.op.Done.{Done}
-use Rattle.gs_replica.specs.declared.op.Outcome.{Outcome}
-use Rattle.gs_replica.specs.declared.op.Outcome.TheVariants.{Written, Appended, Padded}
+use Rattle.gs_replica.specs.declared.op.EditOutcome.{EditOutcome}
+use Rattle.gs_replica.specs.declared.op.EditOutcome.TheVariants.{Written, Appended, Padded}
 use Rattle.gs_replica.specs.contracts.op.DonePartialEq.TheImpl as done
 use Rattle.gs_replica.specs.contracts.op.OutcomePartialEq.TheImpl as outcome
 
-number_of : Outcome → ℕ → ℕ
+number_of : EditOutcome → ℕ → ℕ
 number_of (Appended n) old = n
 number_of Written old = old
 number_of Padded old = old
 
-pub same_outcome : (a b : Outcome) → Decides (outcome.ghosts.eq a b) (a ≡ b)
+pub same_outcome : (a b : EditOutcome) → Decides (outcome.ghosts.eq a b) (a ≡ b)
 unfolding number_of
 same_outcome Written Written = (λ _. refl, λ _. refl)
 same_outcome Written (Appended n) = (λ h. absurd (cc), λ h. absurd (cc))

@@ -11,8 +11,8 @@ use Rattle.gs_block.specs.Stored.{Stored, empty}
 use Rattle.gs_block.specs.Edits as blocks
 use Rattle.gs_replica.specs.declared.op.Op.{Op}
 use Rattle.gs_replica.specs.declared.op.Op.TheVariants.{Write, Append, Pad}
-use Rattle.gs_replica.specs.declared.op.Outcome.{Outcome}
-use Rattle.gs_replica.specs.declared.op.Outcome.TheVariants.{Written, Appended, Padded}
+use Rattle.gs_replica.specs.declared.op.EditOutcome.{EditOutcome}
+use Rattle.gs_replica.specs.declared.op.EditOutcome.TheVariants.{Written, Appended, Padded}
 use Rattle.gs_replica.specs.declared.op.Done.{Done}
 use Rattle.gs_replica.specs.Held.{Held}
 
@@ -41,7 +41,7 @@ end_of (Write offset) bytes s = offset + length bytes
 end_of Append bytes s = length s.bytes + length bytes
 end_of Pad bytes s = s.chunk
 
-abbrev pub outcome_of : Op → Stored → Outcome
+abbrev pub outcome_of : Op → Stored → EditOutcome
 outcome_of (Write offset) s = Written
 outcome_of Append s = Appended (length s.bytes)
 outcome_of Pad s = Padded

@@ -8,8 +8,8 @@ use Rattle.gs_block.specs.Written.{WasWritten, ToldApart}
 use Rattle.gs_replica.specs.declared.op.Op.{Op}
 use Rattle.gs_replica.specs.declared.op.Op.TheVariants.{Write, Append, Pad}
 use Rattle.gs_replica.specs.declared.op.Done.{Done}
-use Rattle.gs_replica.specs.declared.op.Outcome.{Outcome}
-use Rattle.gs_replica.specs.declared.op.Outcome.TheVariants.{Written, Appended, Padded}
+use Rattle.gs_replica.specs.declared.op.EditOutcome.{EditOutcome}
+use Rattle.gs_replica.specs.declared.op.EditOutcome.TheVariants.{Written, Appended, Padded}
 use Rattle.gs_replica.specs.Held.{Held}
 use Rattle.gs_replica.specs.Edits.{is_old}
 use Rattle.gs_replica.specs.Seals.{Sealed, State}
@@ -27,7 +27,7 @@ edited_bytes chunk (Write offset) piece bytes = written offset piece bytes
 edited_bytes chunk Append piece bytes = appended piece bytes
 edited_bytes chunk Pad piece bytes = padded chunk bytes
 
-abbrev pub outcome_at : Op → ℕ → Outcome
+abbrev pub outcome_at : Op → ℕ → EditOutcome
 outcome_at (Write offset) long = Written
 outcome_at Append long = Appended long
 outcome_at Pad long = Padded

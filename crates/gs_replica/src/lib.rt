@@ -14,6 +14,6 @@ mod seal;
 pub use done::DoneTable;
 pub use image::{Image, SealedImage};
 pub use live::ReplicaInverse;
-pub use op::{Done, Op, Outcome};
+pub use op::{Done, EditOutcome, Op};
 pub use prepared::PreparedSeal;
 pub use replica::Replica;

@@ -20,7 +20,7 @@ ghost use Rattle.gs_replica.specs.Copies.{SealedImage, image_of};
 use crate::done::DoneTable;
 use crate::first::FirstEntries;
 use crate::image::{Image, SealedImage};
-use crate::op::{Done, Op, Outcome};
+use crate::op::{Done, EditOutcome, Op};
 use gs_base::{ClientId, Refusal, Refused, ReqId, Stamp};
 use gs_block::{BlockInverse, BlockParts, Blocks, Digest, Images, Sizes};
 use std::alloc::Global;
@@ -496,13 +496,13 @@ fn is_old(number: u64, last: Option<Done>) -> bool
     }
 }
 
-fn outcome_of(op: Op, len: u64) -> Outcome
+fn outcome_of(op: Op, len: u64) -> EditOutcome
     ensures { (s : Stored) → len ≡ length s.bytes → result ≡ outcome_of op s }
 {
     match op {
-        Op::Write(_) => Outcome::Written,
-        Op::Append => Outcome::Appended(len),
-        Op::Pad => Outcome::Padded,
+        Op::Write(_) => EditOutcome::Written,
+        Op::Append => EditOutcome::Appended(len),
+        Op::Pad => EditOutcome::Padded,
     }
 }
 

@@ -11,7 +11,7 @@ pub enum Op {
 
 /// What an edit answered.
 #[derive(Clone, Copy, Debug, PartialEq, Eq)]
-pub enum Outcome {
+pub enum EditOutcome {
     Written,
     /// The offset of the chunk at which the bytes stand.
     Appended(u64),
@@ -22,5 +22,5 @@ pub enum Outcome {
 #[derive(Clone, Copy, Debug, PartialEq, Eq)]
 pub struct Done {
     pub number: u64,
-    pub outcome: Outcome,
+    pub outcome: EditOutcome,
 }

@@ -5,7 +5,7 @@ use Rattle.gs_base.specs.declared.numbers.Moment.{Moment}
 use Rattle.gs_base.specs.declared.numbers.ReqId.{ReqId}
 use Rattle.gs_base.specs.declared.refusal.Refusal.{Refusal}
 use Rattle.gs_base.specs.declared.refusal.Refusal.TheVariants as refusals
-use Rattle.gs_replica.specs.declared.op.Outcome.{Outcome}
+use Rattle.gs_replica.specs.declared.op.EditOutcome.{EditOutcome}
 use Rattle.gs_replica.specs.declared.op.Done.{Done}
 use Rattle.gs_server.specs.declared.turn.KeptRefusal.{KeptRefusal}
 use Rattle.gs_server.specs.declared.turn.Turn.{Turn}
@@ -22,7 +22,7 @@ module _ (handle : ℕ) (req : ReqId) (moment : Moment) (s : Server) where
   once_step : (e : Refusal) → refused_once_by req e s ≡ steps_of (refused_once (here_of s moment handle (Some req)) req e)
   once_step e = refl
 
-  repeat_step : (outcome : Outcome) (known : Bool) → repeated_by req outcome known s ≡ steps_of (cond known (sending (done (here_of s moment handle (Some req)) req (Ok outcome) ∷ [])) (sending []))
+  repeat_step : (outcome : EditOutcome) (known : Bool) → repeated_by req outcome known s ≡ steps_of (cond known (sending (done (here_of s moment handle (Some req)) req (Ok outcome) ∷ [])) (sending []))
   repeat_step outcome true = refl
   repeat_step outcome false = refl
 

@@ -9,7 +9,7 @@ use Rattle.gs_base.specs.Stamps.{is_same}
 use Rattle.gs_base.specs.declared.refusal.Refusal.{Refusal}
 use Rattle.gs_base.specs.declared.refusal.Refusal.TheVariants as refusals
 use Rattle.gs_lease.specs.declared.held.Grant.{Grant}
-use Rattle.gs_replica.specs.declared.op.Outcome.{Outcome}
+use Rattle.gs_replica.specs.declared.op.EditOutcome.{EditOutcome}
 use Rattle.gs_replica.specs.declared.op.Done.{Done}
 use Rattle.gs_msg.specs.declared.op.Op.{Op}
 use Rattle.gs_msg.specs.declared.node.NodeId.{NodeId}
@@ -27,7 +27,7 @@ use Rattle.gs_server.specs.Promises as promising
 use Rattle.gs_server.specs.Holding as holding
 use Rattle.gs_store.specs.Slots as slots
 use Rattle.gs_store.specs.Moves as moves
-use Rattle.gs_replica.specs.declared.op.Outcome.TheVariants.{Padded}
+use Rattle.gs_replica.specs.declared.op.EditOutcome.TheVariants.{Padded}
 use Rattle.gs_server.specs.Fetches as fetching
 use Rattle.gs_server.specs.Servers.{about_chunk}
 use Rattle.gs_server_lease.specs.declared.lease.Open.{Open}
@@ -120,7 +120,7 @@ kept_is : (P : Type 0) (h : Here) (req : ReqId) (kept : Option KeptRefusal) (par
 kept_is P h req None part fact = fact
 kept_is P h req (Some kept) part fact = either P (nat_lt req.number kept.number) _ _ (λ _. tt) (λ _. either P (req.number == kept.number) _ _ (λ _. tt) (λ _. fact))
 
-repeated_is : (P : Type 0) (h : Here) (p : Place) (req : ReqId) (outcome : Outcome) → IfBecomes P (repeated h p req outcome).slot
+repeated_is : (P : Type 0) (h : Here) (p : Place) (req : ReqId) (outcome : EditOutcome) → IfBecomes P (repeated h p req outcome).slot
 repeated_is P h p req outcome = either P (is_known_of_all req p.slot p.lease) _ _ (λ _. tt) (λ _. tt)
 
 done_is : (P : Type 0) (h : Here) (p : Place) (req : ReqId) (last : Option Done) (part : Part) → IfBecomes P part.slot → IfBecomes P (unless_done h p req last part).slot

@@ -10,7 +10,7 @@ use Rattle.gs_base.specs.declared.numbers.ReqId.{ReqId}
 use Rattle.gs_base.specs.Stamps.{is_same}
 use Rattle.gs_base.specs.declared.refusal.Refusal.{Refusal}
 use Rattle.gs_base.specs.declared.refusal.Refusal.TheVariants as refusals
-use Rattle.gs_replica.specs.declared.op.Outcome.TheVariants.{Padded}
+use Rattle.gs_replica.specs.declared.op.EditOutcome.TheVariants.{Padded}
 use Rattle.gs_replica.specs.declared.op.Op.TheVariants as applied
 use Rattle.gs_replica.specs.declared.op.Done.{Done}
 use Rattle.gs_msg.specs.declared.op.Op.{Op}
@@ -78,10 +78,10 @@ IfLeased P LeaseStays = Unit {0}
 IfLeased P (LeaseBecomes l) = P l
 IfLeased P LeaseSpent = Unit {0}
 
-abbrev Tells : ℕ → Part → Type 0
-Tells n part = IfLeased (λ l. All (λ m. is_yes m.body ≡ true → IsToldByAll l n) part.sent) part.lease
+abbrev TellsPart : ℕ → Part → Type 0
+TellsPart n part = IfLeased (λ l. All (λ m. is_yes m.body ≡ true → IsToldByAll l n) part.sent) part.lease
 
-tells_either : (n : ℕ) (test : Bool) (x y : Part) → Tells n x → Tells n y → Tells n (cond test x y)
+tells_either : (n : ℕ) (test : Bool) (x y : Part) → TellsPart n x → TellsPart n y → TellsPart n (cond test x y)
 tells_either n true x y first second = first
 tells_either n false x y first second = second
 
@@ -99,28 +99,28 @@ module _ (me handle : ℕ) (l : PrimaryLease) (n : ℕ) (edit : Open) where
       (All-map Told (forward_of me handle l None (n, edit)) (filter (λ server. not (server == me)) l.grant.members) (λ k d less yes. never_true yes))
       (at_once (is_acknowledged (hears me n l) n) refl)
 
-numbers_tell : (h : Here) (p : Place) (l : PrimaryLease) (count : ℕ) (e : Open) (r : Result Slot Refusal) → Tells (count + 1) (numbers_if h p l count e r)
+numbers_tell : (h : Here) (p : Place) (l : PrimaryLease) (count : ℕ) (e : Open) (r : Result Slot Refusal) → TellsPart (count + 1) (numbers_if h p l count e r)
 numbers_tell h p l count e (Err f) = tt
 numbers_tell h p l count e (Ok s) = tells_either (count + 1) (count == last_count) (refused_edit h p e.req refusals.Exhausted) (numbers h s l (count + 1) e) tt (numbered_told h.me h.handle l (count + 1) e)
 
-live_tells : (n : ℕ) (h : Here) (p : Place) (req : ReqId) (op : Op) (bytes : List ℕ) (live : Option Live) (lease : Option PrimaryLease) → ((v : Live) → live ≡ Some v → v.replica.held.count + 1 ≡ n) → Tells n (numbers_or_passes h p req op bytes live lease)
+live_tells : (n : ℕ) (h : Here) (p : Place) (req : ReqId) (op : Op) (bytes : List ℕ) (live : Option Live) (lease : Option PrimaryLease) → ((v : Live) → live ≡ Some v → v.replica.held.count + 1 ≡ n) → TellsPart n (numbers_or_passes h p req op bytes live lease)
 live_tells n h p req op bytes None lease count = tt
 live_tells n h p req op bytes (Some v) None count = tt
 live_tells n h p req op bytes (Some v) (Some l) count =
     tells_either n (is_passed h.chunk (length v.replica.held.chunk.bytes) op) (sending (done h req (Ok Padded) ∷ [])) (numbers_as h p v l (opened req (numbered_op h.chunk (length v.replica.held.chunk.bytes) op) bytes v)) tt
-    (subst (λ k. Tells k (numbers_as h p v l (opened req (numbered_op h.chunk (length v.replica.held.chunk.bytes) op) bytes v))) (count v refl)
+    (subst (λ k. TellsPart k (numbers_as h p v l (opened req (numbered_op h.chunk (length v.replica.held.chunk.bytes) op) bytes v))) (count v refl)
     (numbers_tell h p l v.replica.held.count (opened req (numbered_op h.chunk (length v.replica.held.chunk.bytes) op) bytes v) _))
 
-or_tells : (n : ℕ) (o : Option Refusal) (h : Here) (p : Place) (req : ReqId) (part : Part) → Tells n part → Tells n (or_else o (refused_edit h p req) part)
+or_tells : (n : ℕ) (o : Option Refusal) (h : Here) (p : Place) (req : ReqId) (part : Part) → TellsPart n part → TellsPart n (or_else o (refused_edit h p req) part)
 or_tells n None h p req part tells = tells
 or_tells n (Some e) h p req part tells = tt
 
-kept_tells : (n : ℕ) (h : Here) (req : ReqId) (kept : Option KeptRefusal) (part : Part) → Tells n part → Tells n (unless_kept h req kept part)
+kept_tells : (n : ℕ) (h : Here) (req : ReqId) (kept : Option KeptRefusal) (part : Part) → TellsPart n part → TellsPart n (unless_kept h req kept part)
 kept_tells n h req None part tells = tells
 kept_tells n h req (Some kept) part tells =
     tells_either n (nat_lt req.number kept.number) (refused_once h req refusals.Old) _ tt (tells_either n (req.number == kept.number) (refused_once h req kept.refusal) part tt tells)
 
-done_tells : (n : ℕ) (h : Here) (p : Place) (req : ReqId) (last : Option Done) (part : Part) → Tells n part → Tells n (unless_done h p req last part)
+done_tells : (n : ℕ) (h : Here) (p : Place) (req : ReqId) (last : Option Done) (part : Part) → TellsPart n part → TellsPart n (unless_done h p req last part)
 done_tells n h p req None part tells = tells
 done_tells n h p req (Some last) part tells =
     tells_either n (req.number == last.number) (repeated h p req last.outcome) _ (tells_either n (is_known_of_all req p.slot p.lease) (sending (done h req (Ok last.outcome) ∷ [])) (sending []) tt tt)

@@ -6,8 +6,8 @@ use Rattle.gs_base.specs.declared.numbers.ReqId.{ReqId}
 use Rattle.gs_base.specs.Stamps.{is_same}
 use Rattle.gs_base.specs.declared.refusal.Refusal.{Refusal}
 use Rattle.gs_base.specs.declared.refusal.Refusal.TheVariants as refusals
-use Rattle.gs_replica.specs.declared.op.Outcome.{Outcome}
-use Rattle.gs_replica.specs.declared.op.Outcome.TheVariants.{Appended, Padded}
+use Rattle.gs_replica.specs.declared.op.EditOutcome.{EditOutcome}
+use Rattle.gs_replica.specs.declared.op.EditOutcome.TheVariants.{Appended, Padded}
 use Rattle.gs_replica.specs.declared.op.Done.{Done}
 use Rattle.gs_replica.specs.Edits.{outcome_of}
 use Rattle.gs_msg.specs.declared.op.Op.{Op}
@@ -61,7 +61,7 @@ abbrev pub applied_bytes : Op → List ℕ → List ℕ
 applied_bytes op bytes = cond (has_bytes op) bytes []
 
 -- the client is told of its edit
-abbrev pub done : Here → ReqId → Result Outcome Refusal → Message
+abbrev pub done : Here → ReqId → Result EditOutcome Refusal → Message
 done h req result = tell h.me (nodes.Client req.client) (bodies.Done req result)
 
 -- A refusal that isn't kept.
@@ -144,7 +144,7 @@ abbrev pub is_known_of_all : ReqId → Slot → Option PrimaryLease → Bool
 is_known_of_all req s None = false
 is_known_of_all req s (Some l) = is_same l.grant.stamp s.promise && not (waits req l)
 
-abbrev pub repeated : Here → Place → ReqId → Outcome → Part
+abbrev pub repeated : Here → Place → ReqId → EditOutcome → Part
 repeated h p req outcome = cond (is_known_of_all req p.slot p.lease) (sending (done h req (Ok outcome) ∷ [])) (sending [])
 
 -- What is kept of a client's edits that were refused: a lower number is old, and the same is refused again in the same way.

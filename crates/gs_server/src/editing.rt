@@ -17,11 +17,11 @@ use crate::server::Server;
 use crate::turn::{KeptRefusal, Turn};
 use gs_base::{Handle, Moment, Refusal, ReqId, Stamp};
 use gs_msg::{Body, Message, NodeId, Op};
-use gs_replica::Outcome;
+use gs_replica::EditOutcome;
 use gs_server_lease::{Recency, tell};
 
 impl Server {
-    pub(crate) fn answer_edit(&self, req: ReqId, found: Result<Outcome, Refusal>) -> Message
+    pub(crate) fn answer_edit(&self, req: ReqId, found: Result<EditOutcome, Refusal>) -> Message
         ensures { result ≡ tell self.now.me (Client req.client) (Done req found) }
     {
         tell(
@@ -86,7 +86,7 @@ impl Server {
     }
 
     /// Answers a client's last edit again, once every member has it.
-    fn repeat(&self, handle: Handle, req: ReqId, outcome: Outcome) -> Result<Turn, Refusal>
+    fn repeat(&self, handle: Handle, req: ReqId, outcome: EditOutcome) -> Result<Turn, Refusal>
         ensures { ServerSteps (repeated_by req outcome (is_known_of_all req (slot_of handle (store_of self.now)) (fin.get self.now.dropped.leases handle)) self.now) result self.now self.now }
     {
         if !self.is_known_of_all(handle, req) {

@@ -3,7 +3,7 @@ ghost use Rattle.std.specs.Option.{option_copied};
 ghost use Rattle.std.specs.FinMap as fin;
 ghost use Rattle.gs_base.specs.declared.numbers.Moment.{Moment};
 ghost use Rattle.gs_replica.specs.Edits.{is_old};
-ghost use Rattle.gs_replica.specs.declared.op.Outcome.TheVariants.{Padded};
+ghost use Rattle.gs_replica.specs.declared.op.EditOutcome.TheVariants.{Padded};
 ghost use Rattle.gs_store.specs.Buffers.{pushed};
 ghost use Rattle.gs_store.specs.Slots.{Live};
 ghost use Rattle.gs_store.specs.Serving.{done_in, length_in};
@@ -21,7 +21,7 @@ use crate::server::Server;
 use crate::turn::Turn;
 use gs_base::{Handle, Moment, Refusal, ReqId, Stamp};
 use gs_msg::{Bytes, Message, Op};
-use gs_replica::Outcome;
+use gs_replica::EditOutcome;
 use gs_server_lease::{Open, is_passed, is_too_long, numbered_op, outcome_at};
 use std::alloc::AllocError;
 
@@ -110,7 +110,7 @@ impl Server {
         ensures { ServerSteps (repeated_by req Padded true self.now) result self.now self.now }
     {
         let mut sent = Vec::new(self.alloc);
-        sent.push(self.answer_edit(req, Ok(Outcome::Padded)))?;
+        sent.push(self.answer_edit(req, Ok(EditOutcome::Padded)))?;
         Ok(Turn { sent, said: None })
     }
 

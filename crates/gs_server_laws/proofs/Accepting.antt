@@ -8,7 +8,7 @@ use Rattle.gs_base.specs.Stamps.{is_same}
 use Rattle.gs_base.specs.declared.refusal.Refusal.{Refusal}
 use Rattle.gs_base.specs.declared.refusal.Refusal.TheVariants as refusals
 use Rattle.gs_replica.specs.declared.op.Done.{Done}
-use Rattle.gs_replica.specs.declared.op.Outcome.TheVariants.{Padded}
+use Rattle.gs_replica.specs.declared.op.EditOutcome.TheVariants.{Padded}
 use Rattle.gs_msg.specs.declared.op.Op.{Op}
 use Rattle.gs_msg.specs.Ops.{in_replica}
 use Rattle.gs_msg.specs.declared.node.NodeId.{NodeId}

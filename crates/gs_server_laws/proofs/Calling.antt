@@ -15,7 +15,7 @@ use Rattle.gs_lease.specs.declared.held.Grant.{Grant}
 use Rattle.gs_replica.specs.Copies.{Image, SealedImage, and_then}
 use Rattle.gs_replica.specs.Held.{Held}
 use Rattle.gs_replica.specs.declared.op.Done.{Done}
-use Rattle.gs_replica.specs.declared.op.Outcome.TheVariants.{Padded}
+use Rattle.gs_replica.specs.declared.op.EditOutcome.TheVariants.{Padded}
 use Rattle.gs_msg.specs.declared.op.Op.{Op}
 use Rattle.gs_msg.specs.Ops.{in_replica}
 use Rattle.gs_msg.specs.declared.node.NodeId.{NodeId}

@@ -8,7 +8,7 @@ use Rattle.gs_base.specs.declared.numbers.ReqId.{ReqId}
 use Rattle.gs_lease.specs.declared.held.Grant.{Grant}
 use Rattle.gs_lease.specs.contracts.held.Grant as grants
 use Rattle.gs_lease.specs.Primary.{renewed}
-use Rattle.gs_replica.specs.declared.op.Outcome.TheVariants.{Appended}
+use Rattle.gs_replica.specs.declared.op.EditOutcome.TheVariants.{Appended}
 use Rattle.gs_msg.specs.declared.op.Op.TheVariants.{Append}
 use Rattle.gs_msg.specs.declared.node.NodeId.{NodeId}
 use Rattle.gs_msg.specs.declared.node.NodeId.TheVariants as nodes

@@ -1,12 +1,12 @@
 -- The edit that a primary numbers, and what it answers.
 use Rattle.std.specs.Prelude.{◌≡◌, ℕ, ◌+◌, ◌/◌, ◌==◌, ◌&&◌, nat_lt, cond, Bool, true, false, refl}
-use Rattle.gs_replica.specs.declared.op.Outcome.{Outcome}
-use Rattle.gs_replica.specs.declared.op.Outcome.TheVariants.{Written, Appended, Padded}
+use Rattle.gs_replica.specs.declared.op.EditOutcome.{EditOutcome}
+use Rattle.gs_replica.specs.declared.op.EditOutcome.TheVariants.{Written, Appended, Padded}
 use Rattle.gs_msg.specs.declared.op.Op.{Op}
 use Rattle.gs_msg.specs.declared.op.Op.TheVariants.{Write, Append, Pad}
 
 -- what an edit answers where so many bytes are stored
-abbrev pub outcome_at : ℕ → Op → Outcome
+abbrev pub outcome_at : ℕ → Op → EditOutcome
 outcome_at stored (Write offset many) = Written
 outcome_at stored (Append many) = Appended stored
 outcome_at stored Pad = Padded

@@ -5,7 +5,7 @@ ghost use Rattle.gs_server_lease.specs.Leases.{granted, heard, with_told, lacks,
 use gs_base::{Handle, Members, Moment, ReqId, ServerId, Stamp};
 use gs_lease::{Grant, Held};
 use gs_msg::{Body, Bytes, Chunk, Message, NodeId, Op};
-use gs_replica::Outcome;
+use gs_replica::EditOutcome;
 use indexmap::IndexMap;
 use std::alloc::{AllocError, Global};
 use std::marker::Model;
@@ -19,7 +19,7 @@ pub struct Open {
     /// Its bytes, for a member that hasn't them.
     pub bytes: Bytes,
     /// What its client is told once every member has it.
-    pub outcome: Outcome,
+    pub outcome: EditOutcome,
 }
 
 /// The greatest count that each server has told since a lease was granted.

@@ -1,4 +1,5 @@
 //! The lease at its primary, with the edits that wait for its members, and the rules of an edit's number. Each stands below a server.
+//! It is a crate of its own for the checker's time alone: so its wrong bodies are tried in seconds.
 #![tactic(auto)]
 
 mod forwarding;

@@ -3,16 +3,16 @@ ghost use Rattle.std.specs.Prelude.{◌≡◌, ◌+◌, not, nat_lt};
 ghost use Rattle.gs_server_lease.specs.Numbering.{outcome_at, is_too_long, numbered_op, is_passed};
 
 use gs_msg::Op;
-use gs_replica::Outcome;
+use gs_replica::EditOutcome;
 
 /// What an edit answers at a chunk in which so many bytes are stored before it.
-pub fn outcome_at(stored: u64, op: Op) -> Outcome
+pub fn outcome_at(stored: u64, op: Op) -> EditOutcome
     ensures { result ≡ outcome_at stored op }
 {
     match op {
-        Op::Write { .. } => Outcome::Written,
-        Op::Append { .. } => Outcome::Appended(stored),
-        Op::Pad => Outcome::Padded,
+        Op::Write { .. } => EditOutcome::Written,
+        Op::Append { .. } => EditOutcome::Appended(stored),
+        Op::Pad => EditOutcome::Padded,
     }
 }
 

@@ -15,7 +15,7 @@ use Rattle.gs_server.specs.Servers.{about_chunk, request_in}
 use Rattle.gs_chunk.specs.Machine.{ChunkWorld}
 use Rattle.gs_server_member.specs.Showing.{setting_at}
 use Rattle.gs_server_member.specs.Telling.{SaysOf, TellsServer}
-use Rattle.gs_server_member.specs.Moving.{IsHere, IsToldApart, LeadsWhole, Outcome, Answering}
+use Rattle.gs_server_member.specs.Moving.{IsHere, IsToldApart, LeadsWhole, FollowsPart, Answering}
 use Rattle.gs_server_member.specs.Causes.{Calm, cause_of}
 use Rattle.gs_server_member.proofs.Promising.{or_outcome, nothing_happens, refused_outcome, create_outcome, advance_outcome}
 use Rattle.gs_server_member.proofs.Copying.{copy_out_outcome, copy_in_outcome}
@@ -27,15 +27,15 @@ use Rattle.gs_server_member.proofs.Edited.{edit_answering}
 use Rattle.gs_server_member.proofs.Elsewhere.{may_answer, chunk_says, quiet_sent, quiet_answers}
 
 module _ (bytes : ReqId → List ℕ) (born : ℕ) (w : ChunkWorld) (h : Here) (p : Place) where
-  quiet_part : IsHere bytes born w h p → (e : Refusal) → Outcome bytes born w h p (unanswered e)
+  quiet_part : IsHere bytes born w h p → (e : Refusal) → FollowsPart bytes born w h p (unanswered e)
   quiet_part here e = nothing_happens bytes born w h p here.shows [] tt
 
-  gives_outcome : IsHere bytes born w h p → (req : ReqId) (m : Result Given Refusal) → Outcome bytes born w h p (gives h p req m)
+  gives_outcome : IsHere bytes born w h p → (req : ReqId) (m : Result Given Refusal) → FollowsPart bytes born w h p (gives h p req m)
   gives_outcome here req (Ok found) = nothing_happens bytes born w h p here.shows (fetching.bytes h req (Ok found) ∷ []) (tt, tt)
   gives_outcome here req (Err e) = refused_outcome bytes born w h p here.shows (fetching.bytes h req (Err e)) e tt
 
   -- a message at which no edit is done
-  quiet_outcome : (from : NodeId) (chunk : Chunk) → may_answer chunk ≡ false → Outcome bytes born w h p (about_chunk h p from chunk) → Answering Calm bytes born w h p (about_chunk h p from chunk)
+  quiet_outcome : (from : NodeId) (chunk : Chunk) → may_answer chunk ≡ false → FollowsPart bytes born w h p (about_chunk h p from chunk) → Answering Calm bytes born w h p (about_chunk h p from chunk)
   quiet_outcome from chunk quiet f = record {
     follows = f;
     answers = quiet_answers Calm (setting_at bytes born h) f.moved.world h.me (about_chunk h p from chunk).sent (quiet_sent h.handle (about_chunk h p from chunk).sent (chunk_says h false p from chunk (λ may. absurd (cc))));

@@ -20,7 +20,7 @@ use Rattle.gs_chunk.specs.Machine.{Open, MemberLease, Member, Sent, ChunkWorld, 
 use Rattle.gs_chunk.specs.Events.{IsCovered, one}
 use Rattle.gs_chunk.specs.Events as machine
 use Rattle.gs_server_member.specs.Showing.{Setting, setting_at, Waits, ShowsLeaseAt}
-use Rattle.gs_server_member.specs.Telling.{SaysOf, Tells}
+use Rattle.gs_server_member.specs.Telling.{SaysOf, ServersTell}
 use Rattle.gs_server_member.specs.Moving.{Moved, IsHere, Answering}
 use Rattle.gs_server_member.specs.Answering.{AnswersEdit}
 use Rattle.gs_server_member.specs.Causes.{Calm}
@@ -109,7 +109,7 @@ module _ (bytes : ReqId → List ℕ) (born : ℕ) (w : ChunkWorld) (h : Here) (
           intact = λ spared whole. whole;
           gains = same_promise (w.members h.me) (record m { lease = Some closing.lease }) refl;
           shows = leased_shows c w h.me h.epoch p (Some closing.lease) ([] ++ (all.sends ++ [])) (Some (settled l2)) here.shows moved (lease_grown c w.known moved.world.known g (settled l2) closing.lease (settled_shows c w.known.list l2 heard closing.lease shows2 closing.is));
-          tells = all_mapped (Tells c h.handle moved.world) (done_of h.me) (filter test l2.outbox) (λ e there. tt);
+          tells = all_mapped (ServersTell c h.handle moved.world) (done_of h.me) (filter test l2.outbox) (λ e there. tt);
         };
         answers = all_mapped (AnswersEdit Calm c moved.world h.me) (done_of h.me) (filter test l2.outbox) (λ e there.
             let k = all.told e there in

@@ -31,7 +31,7 @@ use Rattle.gs_chunk.proofs.Resting.{leases_rest, members_learned, none_ahead}
 use Rattle.gs_chunk.proofs.Acting.{others_stay}
 use Rattle.gs_server_member.specs.Showing.{Setting, SealUndamaged, SealCounts, LiveCounts, ShowsPlace, ShowsMember}
 use Rattle.gs_server_member.specs.Messages.{ReportsIt, NamesIt, TellsEpochTo}
-use Rattle.gs_server_member.specs.Telling.{SaysOf, TellsServer, TellsTo, ReportsAll, NamesAll, TellsBody, Tells}
+use Rattle.gs_server_member.specs.Telling.{SaysOf, TellsServer, TellsTo, ReportsAll, NamesAll, TellsBody, ServersTell}
 use Rattle.gs_server_member.specs.Beside.{IsSameMember, IsWholeAt, MayBeWhole, HasPrepared}
 use Rattle.gs_server_member.proofs.Prepared.{only_prepares}
 use Rattle.gs_server_member.proofs.Places.{lease_at_longer}
@@ -280,7 +280,7 @@ module _ (c : Setting) (chunk : ℕ) (w last : ChunkWorld) (stays : (x : Sent) �
   body_still from to (bodies.Bytes req result) x = tt
   body_still from to (bodies.Behind epoch) x = tt
 
-  pub tells_still : (m : Message) → Tells c chunk w m → Tells c chunk last m
+  pub tells_still : (m : Message) → ServersTell c chunk w m → ServersTell c chunk last m
   tells_still m told = body_still m.from m.to m.body told
 
 -- a replica that is whole is live in the machine

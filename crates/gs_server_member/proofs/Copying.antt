@@ -28,7 +28,7 @@ use Rattle.gs_chunk.specs.Machine.{Member, ChunkWorld, WasTold, CopyIn}
 use Rattle.gs_chunk.specs.Events.{SendsCopy, one}
 use Rattle.gs_server_member.specs.Showing.{Setting, setting_at, ShowsImage, SealUndamaged, ShowsPlace}
 use Rattle.gs_server_member.specs.Telling.{IsImage, AreImages, TellsServer}
-use Rattle.gs_server_member.specs.Moving.{IsHere, IsToldApart, Outcome}
+use Rattle.gs_server_member.specs.Moving.{IsHere, IsToldApart, FollowsPart}
 use Rattle.gs_server_member.proofs.Stamps.{stamp_number, same_stamp}
 use Rattle.gs_server_member.proofs.Engine.{said_one, moves_so, same_promise}
 use Rattle.gs_server_member.proofs.Places.{grows_by, place_grown}
@@ -115,7 +115,7 @@ module _ (bytes : ReqId → List ℕ) (born : ℕ) (w : ChunkWorld) (h : Here) (
   stands_taken (Some l) edits stands = stands.taken
 
   sent_outcome : IsHere bytes born w h p → IsToldApart h.block h.chunk p.slot (w.members h.me) → (stamp : Stamp) (target : ℕ) (flag : Bool) → TellsServer c w h.me (chunks.CopyOut stamp target flag) → stamp.epoch ≡ h.epoch → (copy : Image × Option SealedImage) → Copies stamp flag copy
-      → Outcome bytes born w h p (sending (about h (nodes.Server target) (chunks.CopyIn stamp copy.0 copy.1) ∷ []))
+      → FollowsPart bytes born w h p (sending (about h (nodes.Server target) (chunks.CopyIn stamp copy.0 copy.1) ∷ []))
   sent_outcome here told stamp target flag tells epoch copy made =
       let m : Member = w.members h.me in
       let t : ℕ = tells.0 in
@@ -143,11 +143,11 @@ module _ (bytes : ReqId → List ℕ) (born : ℕ) (w : ChunkWorld) (h : Here) (
       }
 
   sends_outcome : IsHere bytes born w h p → IsToldApart h.block h.chunk p.slot (w.members h.me) → (stamp : Stamp) (target : ℕ) (flag : Bool) → TellsServer c w h.me (chunks.CopyOut stamp target flag) → stamp.epoch ≡ h.epoch → (m : Result (Image × Option SealedImage) Refusal) → moves.copy_out stamp flag p.slot ≡ m
-      → Outcome bytes born w h p (sends_copy h p stamp target m)
+      → FollowsPart bytes born w h p (sends_copy h p stamp target m)
   sends_outcome here told stamp target flag tells epoch (Ok copy) is = sent_outcome here told stamp target flag tells epoch copy (copies stamp flag copy is)
   sends_outcome here told stamp target flag tells epoch (Err e) is = unpromised_outcome bytes born w h p here.shows stamp e
 
-  pub copy_out_outcome : IsHere bytes born w h p → IsToldApart h.block h.chunk p.slot (w.members h.me) → (stamp : Stamp) (target : ℕ) (flag : Bool) → TellsServer c w h.me (chunks.CopyOut stamp target flag) → Outcome bytes born w h p (messages.copy_out h p stamp target flag)
+  pub copy_out_outcome : IsHere bytes born w h p → IsToldApart h.block h.chunk p.slot (w.members h.me) → (stamp : Stamp) (target : ℕ) (flag : Bool) → TellsServer c w h.me (chunks.CopyOut stamp target flag) → FollowsPart bytes born w h p (messages.copy_out h p stamp target flag)
   copy_out_outcome here told stamp target flag tells =
       or_outcome bytes born w h p (other_epoch h stamp.epoch) (unpromised h p stamp) (sends_copy h p stamp target (moves.copy_out stamp flag p.slot)) (unpromised_outcome bytes born w h p here.shows stamp)
       (λ none. sends_outcome here told stamp target flag tells (of_epoch h stamp.epoch none) (moves.copy_out stamp flag p.slot) refl)
@@ -199,13 +199,13 @@ module _ (bytes : ReqId → List ℕ) (born : ℕ) (w : ChunkWorld) (h : Here) (
           let a = of_ok (λ x. ArrivesSealed h.block h.chunk e t (sealed_of x)) (copied_in h.block h.chunk stamp i (Some t) p.slot) s made (arrived_sealed h.block h.chunk stamp i t p.slot e here.some_block here.block_fits here.chunk_fits are.0.taken are.0.is are.1) in
           (a.0, sound_undamaged (sealed_of s) t a.1)
 
-  pub copy_in_outcome : IsHere bytes born w h p → (stamp : Stamp) (i : Image) (o : Option SealedImage) → TellsServer c w h.me (chunks.CopyIn stamp i o) → Outcome bytes born w h p (messages.copy_in h p stamp i o)
+  pub copy_in_outcome : IsHere bytes born w h p → (stamp : Stamp) (i : Image) (o : Option SealedImage) → TellsServer c w h.me (chunks.CopyIn stamp i o) → FollowsPart bytes born w h p (messages.copy_in h p stamp i o)
   copy_in_outcome here stamp i o tells =
       let t : ℕ = tells.0 in
       let edits : List Edit = tells.1 in
       let old : Option (List Edit) = tells.2 in
       let is : stamp ≡ stamp_at t = tells.3 in
-      let P : Slot → Type 0 = λ s. Outcome bytes born w h p (promising s p (promised h stamp s ∷ [])) in
+      let P : Slot → Type 0 = λ s. FollowsPart bytes born w h p (promising s p (promised h stamp s ∷ [])) in
       or_outcome bytes born w h p (other_epoch h stamp.epoch) (unpromised h p stamp) (promises h p stamp (copy_in h.block h.chunk stamp i o p.slot)) (unpromised_outcome bytes born w h p here.shows stamp)
       (λ none. promises_outcome bytes born w h p here.shows stamp (copy_in h.block h.chunk stamp i o p.slot)
       (of_cond P (is_before p.slot.promise stamp) (copied_in h.block h.chunk stamp i o p.slot) (again stamp p.slot)

@@ -10,8 +10,8 @@ use Rattle.gs_base.specs.declared.numbers.ReqId.{ReqId}
 use Rattle.gs_base.specs.declared.refusal.Refusal.{Refusal}
 use Rattle.gs_base.specs.declared.refusal.Refusal.TheVariants as refusals
 use Rattle.gs_replica.specs.declared.op.Done.{Done as Last}
-use Rattle.gs_replica.specs.declared.op.Outcome.{Outcome as Answer}
-use Rattle.gs_replica.specs.declared.op.Outcome.TheVariants.{Padded}
+use Rattle.gs_replica.specs.declared.op.EditOutcome.{EditOutcome as Answer}
+use Rattle.gs_replica.specs.declared.op.EditOutcome.TheVariants.{Padded}
 use Rattle.gs_replica.specs.Edits.{is_old}
 use Rattle.gs_replica.specs.Stands.{Edit, StandsFor, replica_of}
 use Rattle.gs_msg.specs.declared.body.Body.{Body}

@@ -9,7 +9,7 @@ use Rattle.gs_base.specs.declared.refusal.Refusal.TheVariants as refusals
 use Rattle.gs_lease.specs.declared.held.Grant.{Grant}
 use Rattle.gs_replica.specs.Copies.{Image, SealedImage}
 use Rattle.gs_replica.specs.declared.op.Done.{Done}
-use Rattle.gs_replica.specs.declared.op.Outcome.TheVariants.{Padded}
+use Rattle.gs_replica.specs.declared.op.EditOutcome.TheVariants.{Padded}
 use Rattle.gs_msg.specs.Ops.{in_replica}
 use Rattle.gs_msg.specs.declared.body.Body.{Body}
 use Rattle.gs_msg.specs.declared.body.Body.TheVariants as bodies
@@ -38,7 +38,7 @@ use Rattle.gs_server.specs.Promises as messages
 use Rattle.gs_server.specs.Servers.{about_chunk}
 use Rattle.gs_chunk.specs.Machine.{ChunkWorld}
 use Rattle.gs_server_member.specs.Showing.{Setting}
-use Rattle.gs_server_member.specs.Telling.{Tells, TellsBody}
+use Rattle.gs_server_member.specs.Telling.{ServersTell, TellsBody}
 use Rattle.gs_server_member.specs.Causes.{Cause}
 use Rattle.gs_server_member.specs.Answering.{NoYes, AnswersBody, AnswersEdit, IsByServer, AnswersOf, IsByServerAbout}
 
@@ -256,7 +256,7 @@ body_tells c chunk w from to handle (bodies.Done req (Err e)) tells apart is = t
 body_tells c chunk w from to handle (bodies.Bytes req result) tells apart is = tt
 body_tells c chunk w from to handle (bodies.Behind epoch) tells apart is = tt
 
-pub elsewhere : (c : Setting) (chunk : ℕ) (w : ChunkWorld) (handle : ℕ) (tells : Bool) (sent : List Message) → (handle ≡ chunk → ⊥) → AllByRecursion (λ (m : Message). IsOf tells handle m.body) sent → AllByRecursion (Tells c chunk w) sent
+pub elsewhere : (c : Setting) (chunk : ℕ) (w : ChunkWorld) (handle : ℕ) (tells : Bool) (sent : List Message) → (handle ≡ chunk → ⊥) → AllByRecursion (λ (m : Message). IsOf tells handle m.body) sent → AllByRecursion (ServersTell c chunk w) sent
 elsewhere c chunk w handle tells [] apart all = tt
 elsewhere c chunk w handle tells (m ∷ sent) apart all = (body_tells c chunk w m.from m.to handle m.body tells apart all.0, elsewhere c chunk w handle tells sent apart all.1)
 

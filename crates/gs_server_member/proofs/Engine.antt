@@ -11,7 +11,7 @@ use Rattle.std.specs.List.{AllByRecursion}
 use Rattle.gs_msg.specs.declared.message.Message.{Message as Told}
 use Rattle.gs_server.specs.Places.{Place}
 use Rattle.gs_server_member.specs.Showing.{Setting, ShowsPlace}
-use Rattle.gs_server_member.specs.Telling.{Tells}
+use Rattle.gs_server_member.specs.Telling.{ServersTell}
 use Rattle.gs_server_member.specs.Moving.{Moved, MadeIntact, FollowsServer}
 use Rattle.gs_server_member.specs.Causes.{Calm}
 
@@ -158,7 +158,7 @@ pub same_promise : (m n : Member) → n.promise ≡ m.promise → MadeIntact m n
 same_promise m n same = record { brought = λ up. absurd (omega arith); rolled = λ next up. absurd (omega arith) }
 
 -- nothing happens in the machine, and what is sent says nothing to it
-pub stays_put : (c : Setting) (chunk : ℕ) (w : ChunkWorld) (me epoch : ℕ) (p : Place) (sent : List Told) → ShowsPlace c w.known epoch p (w.members me) → AllByRecursion (Tells c chunk w) sent → FollowsServer Calm c chunk w me epoch p sent
+pub stays_put : (c : Setting) (chunk : ℕ) (w : ChunkWorld) (me epoch : ℕ) (p : Place) (sent : List Told) → ShowsPlace c w.known epoch p (w.members me) → AllByRecursion (ServersTell c chunk w) sent → FollowsServer Calm c chunk w me epoch p sent
 unfolding rests
 stays_put c chunk w me epoch p sent shows tells = record { member = w.members me; sends = []; moved = rests w me; lists = λ t. inl refl; numbers = λ t. refl; intact = λ spared whole. whole; gains = same_promise (w.members me) (w.members me) refl; shows = shows; tells = tells }
 

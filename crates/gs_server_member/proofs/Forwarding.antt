@@ -36,7 +36,7 @@ use Rattle.gs_chunk.specs.Machine.{Member, Sent, ChunkWorld, WasTold, Forward, A
 use Rattle.gs_chunk.specs.Events.{Applies, Acknowledges, one}
 use Rattle.gs_server_member.specs.Showing.{Setting, setting_at, ShowsImage, ShowsTaken, Says, SealUndamaged, ShowsPlace}
 use Rattle.gs_server_member.specs.Telling.{CarriesBytes, TellsServer, TellsTo}
-use Rattle.gs_server_member.specs.Moving.{Moved, IsHere, Outcome}
+use Rattle.gs_server_member.specs.Moving.{Moved, IsHere, FollowsPart}
 use Rattle.gs_server_member.specs.Blocks.{HoldsBlocks}
 use Rattle.gs_server_member.proofs.Blocks.{edit_holds}
 use Rattle.gs_server_member.proofs.Stamps.{same_stamp, stamp_number}
@@ -163,10 +163,10 @@ module _ (bytes : ReqId → List ℕ) (born : ℕ) (w : ChunkWorld) (h : Here) (
   abbrev c : Setting
   c = setting_at bytes born h
 
-  pub declines_outcome : IsHere bytes born w h p → (from : NodeId) (stamp : Stamp) (e : Refusal) → Outcome bytes born w h p (declines h p from stamp e)
+  pub declines_outcome : IsHere bytes born w h p → (from : NodeId) (stamp : Stamp) (e : Refusal) → FollowsPart bytes born w h p (declines h p from stamp e)
   declines_outcome here from stamp e = refused_outcome bytes born w h p here.shows (about h from (chunks.Nack stamp e)) e (λ _. (tt, tells_nack c w from stamp e))
 
-  acknowledges_outcome : IsHere bytes born w h p → (from : NodeId) (stamp : Stamp) (l : Live) → p.slot.live ≡ Some l → is_same stamp p.slot.promise ≡ true → Outcome bytes born w h p (acknowledges h from stamp l.replica.held.count)
+  acknowledges_outcome : IsHere bytes born w h p → (from : NodeId) (stamp : Stamp) (l : Live) → p.slot.live ≡ Some l → is_same stamp p.slot.promise ≡ true → FollowsPart bytes born w h p (acknowledges h from stamp l.replica.held.count)
   acknowledges_outcome here from stamp l is same =
       let m : Member = w.members h.me in
       let x = lives c p.slot m.live here.shows.live (ap is_some is) in
@@ -207,7 +207,7 @@ module _ (bytes : ReqId → List ℕ) (born : ℕ) (w : ChunkWorld) (h : Here) (
   taken : IsHere bytes born w h p → (from : NodeId) (stamp : Stamp) (number : ℕ) (req : ReqId) (op : Op) (carried : Option (List ℕ)) (found : List ℕ) (l : Live) → p.slot.live ≡ Some l → is_same stamp p.slot.promise ≡ true
       → TellsServer c w h.me (chunks.Forward stamp number req op carried) → ((b : List ℕ) → h.pushed ≡ Some b → b ≡ bytes req) → ((xs : List Edit) → (w.members h.me).live ≡ Some xs → IsToldIn h.block h.chunk p.slot xs)
       → bytes_of op carried h.pushed ≡ Some found → (s : Slot) → apply stamp number req (in_replica op) found p.slot ≡ Ok s
-      → Outcome bytes born w h p (record { slot = SlotBecomes s; lease = LeaseStays; kept = None; used = has_bytes op; sent = about h from (chunks.Ack stamp number) ∷ []; said = None })
+      → FollowsPart bytes born w h p (record { slot = SlotBecomes s; lease = LeaseStays; kept = None; used = has_bytes op; sent = about h from (chunks.Ack stamp number) ∷ []; said = None })
   taken here from stamp number req op carried found l is same tells right told there s applied =
       let m : Member = w.members h.me in
       let t : ℕ = tells.0 in
@@ -255,17 +255,17 @@ module _ (bytes : ReqId → List ℕ) (born : ℕ) (w : ChunkWorld) (h : Here) (
   there_is (Some b) none = refl
 
   pub forward_outcome : IsHere bytes born w h p → ((xs : List Edit) → (w.members h.me).live ≡ Some xs → IsToldIn h.block h.chunk p.slot xs) → (from : NodeId) (stamp : Stamp) (number : ℕ) (req : ReqId) (op : Op) (carried : Option (List ℕ)) → ((b : List ℕ) → h.pushed ≡ Some b → b ≡ bytes req)
-      → TellsServer c w h.me (chunks.Forward stamp number req op carried) → Outcome bytes born w h p (forward h p from stamp number req op carried)
+      → TellsServer c w h.me (chunks.Forward stamp number req op carried) → FollowsPart bytes born w h p (forward h p from stamp number req op carried)
   forward_outcome here told from stamp number req op carried right tells =
       or_outcome bytes born w h p (first_of (unless_live p.slot.live ∷ unless_promised stamp p.slot ∷ [])) (declines h p from stamp) (takes h p from stamp number req op (bytes_of op carried h.pushed) p.slot.live) (declines_outcome here from stamp)
       (λ none. by_live p.slot.live refl (met_not (is_same stamp p.slot.promise) (refusals.Stamp p.slot.promise) (head_none (unless_promised stamp p.slot) [] (tail_none (unless_live p.slot.live) (unless_promised stamp p.slot ∷ []) none))))
     where
       by_apply : (found : Option (List ℕ)) → bytes_of op carried h.pushed ≡ found → unless_there found ≡ None → (l : Live) → p.slot.live ≡ Some l → is_same stamp p.slot.promise ≡ true → (m : Result Slot Refusal) → apply stamp number req (in_replica op) (bytes_or_none found) p.slot ≡ m
-          → Outcome bytes born w h p (takes_if h p from stamp number op m)
+          → FollowsPart bytes born w h p (takes_if h p from stamp number op m)
       by_apply found are there l is same (Err e) applied = declines_outcome here from stamp e
       by_apply found are there l is same (Ok s) applied = taken here from stamp number req op carried (bytes_or_none found) l is same tells right told (are ∙ there_is found there) s applied
 
-      by_live : (o : Option Live) → p.slot.live ≡ o → is_same stamp p.slot.promise ≡ true → Outcome bytes born w h p (takes h p from stamp number req op (bytes_of op carried h.pushed) o)
+      by_live : (o : Option Live) → p.slot.live ≡ o → is_same stamp p.slot.promise ≡ true → FollowsPart bytes born w h p (takes h p from stamp number req op (bytes_of op carried h.pushed) o)
       by_live None is same = declines_outcome here from stamp refusals.NoReplica
       by_live (Some l) is same =
           let found : Option (List ℕ) = bytes_of op carried h.pushed in

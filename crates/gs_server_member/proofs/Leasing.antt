@@ -27,7 +27,7 @@ use Rattle.gs_chunk.specs.Machine.{Member, MemberLease, Known, ChunkWorld, WasTo
 use Rattle.gs_chunk.specs.Events.{TakesLease, Drops, new_lease}
 use Rattle.gs_server_member.specs.Showing.{Setting, setting_at, ShowsTaken, ShowsLease, ShowsLeaseAt, SealUndamaged, ShowsPlace}
 use Rattle.gs_server_member.specs.Telling.{TellsServer}
-use Rattle.gs_server_member.specs.Moving.{IsHere, Outcome}
+use Rattle.gs_server_member.specs.Moving.{IsHere, FollowsPart}
 use Rattle.gs_server_member.proofs.Stamps.{is_itself, same_stamp, stamp_number}
 use Rattle.gs_server_member.proofs.Tests.{head_none, tail_none, not_met, met_not, live_there, never_both, zeros}
 use Rattle.gs_server_member.proofs.Engine.{stays_put, none_contains, moves_so, same_promise}
@@ -55,7 +55,7 @@ module _ (bytes : ReqId → List ℕ) (born : ℕ) (w : ChunkWorld) (h : Here) (
   abbrev c : Setting
   c = setting_at bytes born h
 
-  quiet_part : IsHere bytes born w h p → (e : Refusal) → Outcome bytes born w h p (unanswered e)
+  quiet_part : IsHere bytes born w h p → (e : Refusal) → FollowsPart bytes born w h p (unanswered e)
   quiet_part here e = nothing_happens bytes born w h p here.shows [] tt
 
   -- ---- a lease that is taken
@@ -75,7 +75,7 @@ module _ (bytes : ReqId → List ℕ) (born : ℕ) (w : ChunkWorld) (h : Here) (
   }
 
   take : IsHere bytes born w h p → (given : Grant) → TellsServer c w h.me (chunks.Grant given) → first_of (check_grant given.stamp p.slot ∷ when (is_taken given.stamp p.slot.taken) refusals.Old ∷ []) ≡ None
-      → Outcome bytes born w h p (changing (SlotBecomes (taking given.stamp p.slot)) (LeaseBecomes (granted given)) [])
+      → FollowsPart bytes born w h p (changing (SlotBecomes (taking given.stamp p.slot)) (LeaseBecomes (granted given)) [])
   take here given tells none =
       let m : Member = w.members h.me in
       let t : ℕ = tells.0 in
@@ -114,17 +114,17 @@ module _ (bytes : ReqId → List ℕ) (born : ℕ) (w : ChunkWorld) (h : Here) (
         tells = tt;
       }
 
-  takes_outcome : IsHere bytes born w h p → (given : Grant) → (m : Result Slot Refusal) → Holds (λ s. Outcome bytes born w h p (changing (SlotBecomes s) (LeaseBecomes (granted given)) [])) m → Outcome bytes born w h p (takes given m)
+  takes_outcome : IsHere bytes born w h p → (given : Grant) → (m : Result Slot Refusal) → Holds (λ s. FollowsPart bytes born w h p (changing (SlotBecomes s) (LeaseBecomes (granted given)) [])) m → FollowsPart bytes born w h p (takes given m)
   takes_outcome here given (Ok s) holds = holds
   takes_outcome here given (Err e) holds = quiet_part here e
 
-  pub grant_outcome : IsHere bytes born w h p → (given : Grant) → TellsServer c w h.me (chunks.Grant given) → Outcome bytes born w h p (holding.grant h p given)
+  pub grant_outcome : IsHere bytes born w h p → (given : Grant) → TellsServer c w h.me (chunks.Grant given) → FollowsPart bytes born w h p (holding.grant h p given)
   grant_outcome here given tells =
       or_outcome bytes born w h p (first_of (other_epoch h given.stamp.epoch ∷ check_grant given.stamp p.slot ∷ [])) unanswered (cond (is_held given.stamp p.lease) (sending []) (takes given (take_lease given.stamp p.slot))) (quiet_part here)
       (λ none. either_outcome bytes born w h p (is_held given.stamp p.lease) (sending []) (takes given (take_lease given.stamp p.slot))
       (λ held. nothing_happens bytes born w h p here.shows [] tt)
       (λ free. takes_outcome here given (take_lease given.stamp p.slot)
-      (of_unless (λ s. Outcome bytes born w h p (changing (SlotBecomes s) (LeaseBecomes (granted given)) [])) (first_of (check_grant given.stamp p.slot ∷ when (is_taken given.stamp p.slot.taken) refusals.Old ∷ [])) (taking given.stamp p.slot)
+      (of_unless (λ s. FollowsPart bytes born w h p (changing (SlotBecomes s) (LeaseBecomes (granted given)) [])) (first_of (check_grant given.stamp p.slot ∷ when (is_taken given.stamp p.slot.taken) refusals.Old ∷ [])) (taking given.stamp p.slot)
       (λ fits. take here given tells fits))))
 
   -- ---- one that goes on
@@ -133,7 +133,7 @@ module _ (bytes : ReqId → List ℕ) (born : ℕ) (w : ChunkWorld) (h : Here) (
   renewed_shows list end l None is = is
   renewed_shows list end l (Some m) is = record { stamp = is.stamp; members = is.members; told = is.told; waits = is.waits; opens = is.opens }
 
-  renewed_place : IsHere bytes born w h p → (end : Moment) (l : primary.PrimaryLease) → p.lease ≡ Some l → Outcome bytes born w h p (changing SlotStays (LeaseBecomes (renews end l)) [])
+  renewed_place : IsHere bytes born w h p → (end : Moment) (l : primary.PrimaryLease) → p.lease ≡ Some l → FollowsPart bytes born w h p (changing SlotStays (LeaseBecomes (renews end l)) [])
   renewed_place here end l is = stays_put c h.handle w h.me h.epoch (record { slot = p.slot; lease = Some (renews end l) }) [] (record {
     epoch_is = here.shows.epoch_is;
     early = here.shows.early;
@@ -147,17 +147,17 @@ module _ (bytes : ReqId → List ℕ) (born : ℕ) (w : ChunkWorld) (h : Here) (
     intact = here.shows.intact;
   }) tt
 
-  pub renewed_outcome : IsHere bytes born w h p → (stamp : Stamp) (end : Moment) → Outcome bytes born w h p (holding.renewed p stamp end)
+  pub renewed_outcome : IsHere bytes born w h p → (stamp : Stamp) (end : Moment) → FollowsPart bytes born w h p (holding.renewed p stamp end)
   renewed_outcome here stamp end = or_outcome bytes born w h p (unless_leased stamp p.slot p.lease) unanswered (goes_on (renews end) (λ l. []) p.lease) (quiet_part here) (λ none. by_case p.lease refl)
     where
-      by_case : (o : Option primary.PrimaryLease) → p.lease ≡ o → Outcome bytes born w h p (goes_on (renews end) (λ l. []) o)
+      by_case : (o : Option primary.PrimaryLease) → p.lease ≡ o → FollowsPart bytes born w h p (goes_on (renews end) (λ l. []) o)
       by_case None is = nothing_happens bytes born w h p here.shows [] tt
       by_case (Some l) is = renewed_place here end l is
 
   -- ---- a drop
 
   drop_it : IsHere bytes born w h p → (epoch : ℕ) (promise : Stamp) → TellsServer c w h.me (chunks.Drop epoch promise) → epoch ≡ h.epoch → first_of (unless_promised promise p.slot ∷ unless_live p.slot.live ∷ []) ≡ None
-      → Outcome bytes born w h p (changing (SlotBecomes (removed p.slot)) LeaseSpent [])
+      → FollowsPart bytes born w h p (changing (SlotBecomes (removed p.slot)) LeaseSpent [])
   drop_it here epoch promise tells epoch_is none =
       let m : Member = w.members h.me in
       let t : ℕ = tells.0 in
@@ -192,12 +192,12 @@ module _ (bytes : ReqId → List ℕ) (born : ℕ) (w : ChunkWorld) (h : Here) (
         tells = tt;
       }
 
-  drops_outcome : IsHere bytes born w h p → (m : Result Slot Refusal) → Holds (λ s. Outcome bytes born w h p (changing (SlotBecomes s) LeaseSpent [])) m → Outcome bytes born w h p (drops m)
+  drops_outcome : IsHere bytes born w h p → (m : Result Slot Refusal) → Holds (λ s. FollowsPart bytes born w h p (changing (SlotBecomes s) LeaseSpent [])) m → FollowsPart bytes born w h p (drops m)
   drops_outcome here (Ok s) holds = holds
   drops_outcome here (Err e) holds = quiet_part here e
 
-  pub drop_outcome : IsHere bytes born w h p → (epoch : ℕ) (promise : Stamp) → TellsServer c w h.me (chunks.Drop epoch promise) → Outcome bytes born w h p (messages.drop_replica h p epoch promise)
+  pub drop_outcome : IsHere bytes born w h p → (epoch : ℕ) (promise : Stamp) → TellsServer c w h.me (chunks.Drop epoch promise) → FollowsPart bytes born w h p (messages.drop_replica h p epoch promise)
   drop_outcome here epoch promise tells =
       or_outcome bytes born w h p (other_epoch h epoch) unanswered (drops (slots.drop_replica promise p.slot)) (quiet_part here)
       (λ none. drops_outcome here (slots.drop_replica promise p.slot)
-      (of_unless (λ s. Outcome bytes born w h p (changing (SlotBecomes s) LeaseSpent [])) (first_of (unless_promised promise p.slot ∷ unless_live p.slot.live ∷ [])) (removed p.slot) (λ fits. drop_it here epoch promise tells (of_epoch h epoch none) fits)))
+      (of_unless (λ s. FollowsPart bytes born w h p (changing (SlotBecomes s) LeaseSpent [])) (first_of (unless_promised promise p.slot ∷ unless_live p.slot.live ∷ [])) (removed p.slot) (λ fits. drop_it here epoch promise tells (of_epoch h epoch none) fits)))

@@ -11,7 +11,7 @@ use Rattle.gs_replica.specs.Edits.{is_old, outcome_of}
 use Rattle.gs_replica.specs.Seals as replicas
 use Rattle.gs_replica.specs.declared.op.Op.{Op as Applied}
 use Rattle.gs_replica.specs.declared.op.Done.{Done as Last}
-use Rattle.gs_replica.specs.declared.op.Outcome.TheVariants.{Appended}
+use Rattle.gs_replica.specs.declared.op.EditOutcome.TheVariants.{Appended}
 use Rattle.gs_replica.specs.Stands.{Edit, IsTaken, StandsFor, replica_of, outcome_at}
 use Rattle.gs_replica.proofs.Requests.{taken_once}
 use Rattle.gs_msg.specs.declared.op.Op.{Op}
@@ -33,7 +33,7 @@ use Rattle.gs_chunk.specs.Machine.{Open, MemberLease, Member, Sent, ChunkWorld, 
 use Rattle.gs_chunk.specs.Events.{Numbers, IsNew, IsCovered, Step}
 use Rattle.gs_chunk.specs.Events as machine
 use Rattle.gs_server_member.specs.Showing.{Setting, setting_at, ShowsTaken, Says, Waits, ShowsLease, ShowsLeaseAt, ShowsPlace}
-use Rattle.gs_server_member.specs.Telling.{Tells}
+use Rattle.gs_server_member.specs.Telling.{ServersTell}
 use Rattle.gs_server_member.specs.Moving.{Moved, FollowsServer, IsHere, LeadsWhole, Answering}
 use Rattle.gs_server_member.specs.Blocks.{HoldsBlocks, GoesOn}
 use Rattle.gs_server_member.proofs.Stamps.{stamp_number}
@@ -210,11 +210,11 @@ module _ (bytes : ReqId → List ℕ) (born : ℕ) (w : ChunkWorld) (h : Here) (
 
   -- the forwards to the others
   sent_tells : (v : ChunkWorld) (l : primary.PrimaryLease) (ml : MemberLease) (xs : List Edit) (x : Waiting) (e : Edit) (lease : primary.PrimaryLease) → l.grant.stamp ≡ stamp_at ml.stamp → Says c x.req x.op e → ((to : ℕ) → Contains l.grant.members to → WasTold v to (Forward ml.stamp (length xs) e))
-      → AllByRecursion (Tells c h.handle v) (forwards h.me h.handle l (length xs + 1, x) ++ done_at_once h.me (length xs + 1) x l)
+      → AllByRecursion (ServersTell c h.handle v) (forwards h.me h.handle l (length xs + 1, x) ++ done_at_once h.me (length xs + 1) x l)
   sent_tells v l ml xs x e lease stamp says told =
-      all_append (Tells c h.handle v) (forwards h.me h.handle l (length xs + 1, x)) (done_at_once h.me (length xs + 1) x l)
-      (all_mapped (Tells c h.handle v) (forward_of h.me h.handle l None (length xs + 1, x)) (filter (λ server. not (server == h.me)) l.grant.members) (λ to member. λ _. (tt, (ml.stamp, length xs, e, stamp, refl, says, tt, told to (in_filter (λ server. not (server == h.me)) l.grant.members to member)))))
-      (either_sent (Tells c h.handle v) (is_acknowledged (hears h.me (length xs + 1) l) (length xs + 1)) (done_of h.me (length xs + 1, x) ∷ []) [] (tt, tt) tt)
+      all_append (ServersTell c h.handle v) (forwards h.me h.handle l (length xs + 1, x)) (done_at_once h.me (length xs + 1) x l)
+      (all_mapped (ServersTell c h.handle v) (forward_of h.me h.handle l None (length xs + 1, x)) (filter (λ server. not (server == h.me)) l.grant.members) (λ to member. λ _. (tt, (ml.stamp, length xs, e, stamp, refl, says, tt, told to (in_filter (λ server. not (server == h.me)) l.grant.members to member)))))
+      (either_sent (ServersTell c h.handle v) (is_acknowledged (hears h.me (length xs + 1) l) (length xs + 1)) (done_of h.me (length xs + 1, x) ∷ []) [] (tt, tt) tt)
 
   module _ (here : IsHere bytes born w h p) (op : Op) (l : primary.PrimaryLease) (ml : MemberLease) (xs : List Edit) (x : Waiting) (e : Edit) (s : Slot) (led : IsLed op l ml xs x e s) where
     abbrev n : MemberLease → Member

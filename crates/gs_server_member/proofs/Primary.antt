@@ -11,7 +11,7 @@ use Rattle.gs_chunk.specs.Machine.{Open, MemberLease, Member, Sent, ChunkWorld, 
 use Rattle.gs_chunk.specs.Events.{Forwards, Hears, Closes, one, is_of, IsCovered, closed}
 use Rattle.gs_chunk.specs.Events as machine
 use Rattle.gs_server_member.specs.Showing.{Setting, ShowsLease}
-use Rattle.gs_server_member.specs.Telling.{CarriesBytes, Tells}
+use Rattle.gs_server_member.specs.Telling.{CarriesBytes, ServersTell}
 use Rattle.gs_server_member.specs.Moving.{Moved}
 use Rattle.gs_server_member.proofs.Lists.{cons_cases, cons_more, cons_first, nil_contains, in_filter, of_filter, into_filter, any_of, from_any_eq, all_of, set_same, set_other}
 use Rattle.gs_server_member.proofs.Engine.{Stays, moves_so, rests_so, and_then, then_list, first_contains}
@@ -70,7 +70,7 @@ all_forwarded w me m l is lease = rows w me m l is lease l.waiting (λ o there. 
 
 -- so each forward of an edit that waits is told
 pub forward_tells : (c : Setting) (handle : ℕ) (v : ChunkWorld) (list : ℕ → List Edit) (me : ℕ) (l : primary.PrimaryLease) (m : MemberLease) → ShowsLease c list l m → ((o : Open) → Contains m.waiting o → (to : ℕ) → Contains m.members to → WasTold v to (Forward m.stamp o.place o.edit))
-    → (number : ℕ) (x : Waiting) → Contains l.outbox (number, x) → (to : ℕ) → Contains l.grant.members to → (carried : Option (List ℕ)) → ((b : List ℕ) → carried ≡ Some b → b ≡ x.bytes) → Tells c handle v (forward_of me handle l carried (number, x) to)
+    → (number : ℕ) (x : Waiting) → Contains l.outbox (number, x) → (to : ℕ) → Contains l.grant.members to → (carried : Option (List ℕ)) → ((b : List ℕ) → carried ≡ Some b → b ≡ x.bytes) → ServersTell c handle v (forward_of me handle l carried (number, x) to)
 forward_tells c handle v list me l m shows told number x there to member carried right =
     let q = shows.waits number x there in
     let o : Open = q.0 in

@@ -27,8 +27,8 @@ use Rattle.gs_chunk.specs.Stamps.{epoch_of, stamp_at}
 use Rattle.gs_chunk.specs.Machine.{Member, ChunkWorld, WasTold, Create, Advance, Promised}
 use Rattle.gs_chunk.specs.Events.{Raises, Rises, Promises, Brings, AsksAgain, one, raised, or_image}
 use Rattle.gs_server_member.specs.Showing.{Setting, setting_at, ShowsLive, ShowsImage, ShowsTaken, ShowsLeaseAt, SealUndamaged, SealCounts, ShowsPlace, LiveCounts}
-use Rattle.gs_server_member.specs.Telling.{TellsServer, Tells}
-use Rattle.gs_server_member.specs.Moving.{FollowsServer, IsHere, Outcome}
+use Rattle.gs_server_member.specs.Telling.{TellsServer, ServersTell}
+use Rattle.gs_server_member.specs.Moving.{FollowsServer, IsHere, FollowsPart}
 use Rattle.gs_server_member.specs.Causes.{Calm}
 use Rattle.gs_server_member.proofs.Stamps.{is_itself, epoch_rises, stamp_number, before_less, same_stamp, neither_same, before_other, never_same, epoch_is}
 use Rattle.gs_server_member.proofs.Engine.{stays_put, said_one, moves_so, Stays, same_promise}
@@ -80,7 +80,7 @@ module _ (bytes : ReqId → List ℕ) (born : ℕ) (w : ChunkWorld) (h : Here) (
   c = setting_at bytes born h
 
   abbrev Comes : Part → Type 0
-  Comes part = Outcome bytes born w h p part
+  Comes part = FollowsPart bytes born w h p part
 
   pub or_outcome : (o : Option Refusal) (refuses : Refusal → Part) (part : Part) → ((e : Refusal) → Comes (refuses e)) → (o ≡ None → Comes part) → Comes (or_else o refuses part)
   or_outcome None refuses part each then = then refl
@@ -91,7 +91,7 @@ module _ (bytes : ReqId → List ℕ) (born : ℕ) (w : ChunkWorld) (h : Here) (
   either_outcome false x y first second = second refl
 
   -- nothing happens in the machine, and what is sent says nothing to it
-  pub nothing_happens : ShowsPlace c w.known h.epoch p (w.members h.me) → (sent : List Message) → AllByRecursion (Tells c h.handle w) sent → FollowsServer Calm c h.handle w h.me h.epoch p sent
+  pub nothing_happens : ShowsPlace c w.known h.epoch p (w.members h.me) → (sent : List Message) → AllByRecursion (ServersTell c h.handle w) sent → FollowsServer Calm c h.handle w h.me h.epoch p sent
   nothing_happens shows sent tells = stays_put c h.handle w h.me h.epoch p sent shows tells
 
   -- ---- a promise that is raised
@@ -193,7 +193,7 @@ module _ (bytes : ReqId → List ℕ) (born : ℕ) (w : ChunkWorld) (h : Here) (
 
   -- ---- refusals
 
-  pub refused_outcome : ShowsPlace c w.known h.epoch p (w.members h.me) → (answer : Message) (e : Refusal) → Tells c h.handle w answer → Comes (refused h p.slot answer e)
+  pub refused_outcome : ShowsPlace c w.known h.epoch p (w.members h.me) → (answer : Message) (e : Refusal) → ServersTell c h.handle w answer → Comes (refused h p.slot answer e)
   refused_outcome shows answer e tells = by_case (damaged_block e)
     where
       by_case : (o : Option ℕ)

@@ -11,7 +11,7 @@ use Rattle.gs_base.specs.declared.refusal.Refusal.TheVariants as refusals
 use Rattle.gs_base.specs.Stamps.{is_before}
 use Rattle.gs_block.specs.Edits as blocks
 use Rattle.gs_replica.specs.Stands.{Edit, replica_of}
-use Rattle.gs_replica.specs.declared.op.Outcome.{Outcome as Answer}
+use Rattle.gs_replica.specs.declared.op.EditOutcome.{EditOutcome as Answer}
 use Rattle.gs_msg.specs.declared.node.NodeId.{NodeId}
 use Rattle.gs_msg.specs.declared.body.Given.{Given}
 use Rattle.gs_msg.specs.declared.body.Given.TheVariants as givens

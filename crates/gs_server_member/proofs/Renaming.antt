@@ -36,11 +36,11 @@ use Rattle.gs_server.proofs.Walks.{of_epoch}
 use Rattle.gs_chunk.specs.Stamps.{epoch_of, stamp_at}
 use Rattle.gs_chunk.specs.Machine.{ChunkWorld, WasTold, CopyIn}
 use Rattle.gs_server_member.specs.Showing.{Setting, setting_of, ShowsPlace}
-use Rattle.gs_server_member.specs.Telling.{Tells, TellsBody, BringsCopy}
+use Rattle.gs_server_member.specs.Telling.{ServersTell, TellsBody, BringsCopy}
 use Rattle.gs_msg.specs.declared.node.NodeId.{NodeId}
 use Rattle.gs_msg.specs.declared.body.Body.{Body}
 use Rattle.gs_server_member.specs.Answering.{handle_in}
-use Rattle.gs_server_member.specs.Moving.{IsShown, IsSteps, Outcome}
+use Rattle.gs_server_member.specs.Moving.{IsShown, IsSteps, FollowsPart}
 use Rattle.gs_server_member.specs.Causes.{Calm, cause_in}
 use Rattle.gs_server_member.proofs.Stamps.{same_stamp}
 use Rattle.gs_server_member.proofs.Tests.{head_none, tail_none, met_not, live_there, unless_none}
@@ -89,7 +89,7 @@ module _ (bytes : ReqId → List ℕ) (born chunk : ℕ) (w : ChunkWorld) (s : S
 
   -- it is taken by this chunk
   own_copy : (handle : ℕ) (at stamp : Stamp) (moment : Moment) → Brought handle at stamp → stamp.epoch ≡ s.kept.epoch → (t : Slot) → moves.make_copy at stamp (slot_in handle s) (slot_in chunk s) ≡ Ok t
-      → Outcome bytes born w (here_of s moment chunk None) (place_of chunk s) (promising t (place_of chunk s) (promised (here_of s moment chunk None) stamp t ∷ []))
+      → FollowsPart bytes born w (here_of s moment chunk None) (place_of chunk s) (promising t (place_of chunk s) (promised (here_of s moment chunk None) stamp t ∷ []))
   own_copy handle at stamp moment brought epoch t made =
       let h : Here = here_of s moment chunk None in
       let p : Place = place_of chunk s in
@@ -98,7 +98,7 @@ module _ (bytes : ReqId → List ℕ) (born chunk : ℕ) (w : ChunkWorld) (s : S
       let k = copied s.block s.chunk at stamp (slot_in handle s) held a.made in
       let xs : List Edit = brought.1 in
       let stands = k.stands xs (brought.5 k.same k.live) in
-      let P : Slot → Type 0 = λ y. Outcome bytes born w h p (promising y p (promised h stamp y ∷ [])) in
+      let P : Slot → Type 0 = λ y. FollowsPart bytes born w h p (promising y p (promised h stamp y ∷ [])) in
       let raised : IsRaised bytes born w h p stamp xs None (replaced held.promise false (record { held = held; sealed = None }) p.slot) = record {
         promise = k.promise;
         carried = refl;
@@ -134,7 +134,7 @@ module _ (bytes : ReqId → List ℕ) (born chunk : ℕ) (w : ChunkWorld) (s : S
   abbrev marking : Option ℕ → Part
   marking o = record { slot = marked_by o; lease = LeaseStays; kept = None; used = false; sent = []; said = None }
 
-  bad_tells : (h : Here) (slot : Slot) (o : Option ℕ) → AllByRecursion (Tells c chunk w) (tells_bad h slot o)
+  bad_tells : (h : Here) (slot : Slot) (o : Option ℕ) → AllByRecursion (ServersTell c chunk w) (tells_bad h slot o)
   bad_tells h slot None = tt
   bad_tells h slot (Some block) = ((λ _. (tt, tt)), tt)
 
@@ -146,7 +146,7 @@ module _ (bytes : ReqId → List ℕ) (born chunk : ℕ) (w : ChunkWorld) (s : S
   bad_quiet h slot None = tt
   bad_quiet h slot (Some block) = (tt, tt)
 
-  marked_steps : (handle : ℕ) (o : Option ℕ) (sent : List Message) → AllByRecursion (Tells c chunk w) sent → ByServer sent → NoYeses sent → IsSteps Calm c chunk w s.me None (changed_by handle None (marking o) s) sent
+  marked_steps : (handle : ℕ) (o : Option ℕ) (sent : List Message) → AllByRecursion (ServersTell c chunk w) sent → ByServer sent → NoYeses sent → IsSteps Calm c chunk w s.me None (changed_by handle None (marking o) s) sent
   marked_steps handle o sent tells by quiet = by_case (chunk == handle) refl
     where
       shown : (o : Option ℕ) → ShowsPlace c w.known s.kept.epoch (after (place_of chunk s) (marking o)) (w.members s.me)
@@ -193,5 +193,5 @@ module _ (bytes : ReqId → List ℕ) (born chunk : ℕ) (w : ChunkWorld) (s : S
   all_steps from (bodies.Learned epoch handles) moment tells brings = body_steps bytes born chunk w s x from (bodies.Learned epoch handles) moment tt tells
   all_steps from (bodies.Behind epoch) moment tells brings = body_steps bytes born chunk w s x from (bodies.Behind epoch) moment tt tells
 
-  pub message_steps : (message : Message) (moment : Moment) → message.to ≡ nodes.Server s.me → Tells c chunk w message → BringsCopy c chunk w s message.body → IsSteps (cause_in chunk message.body) c chunk w s.me (handle_in message.body) (servers.handle s message moment).after (servers.handle s message moment).sent
+  pub message_steps : (message : Message) (moment : Moment) → message.to ≡ nodes.Server s.me → ServersTell c chunk w message → BringsCopy c chunk w s message.body → IsSteps (cause_in chunk message.body) c chunk w s.me (handle_in message.body) (servers.handle s message moment).after (servers.handle s message moment).sent
   message_steps message moment to tells brings = all_steps message.from message.body moment (subst (λ n. TellsBody c chunk w message.from n message.body) to tells) brings

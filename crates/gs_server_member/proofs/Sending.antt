@@ -20,8 +20,8 @@ use Rattle.gs_chunk.specs.Stamps.{stamp_at}
 use Rattle.gs_chunk.specs.Machine.{MemberLease, Member, Sent, ChunkWorld}
 use Rattle.gs_chunk.specs.Events.{IsCovered}
 use Rattle.gs_server_member.specs.Showing.{Setting, setting_at, Waits, ShowsLease, ShowsLeaseAt, ShowsPlace}
-use Rattle.gs_server_member.specs.Telling.{Tells}
-use Rattle.gs_server_member.specs.Moving.{Moved, FollowsServer, IsHere, Outcome}
+use Rattle.gs_server_member.specs.Telling.{ServersTell}
+use Rattle.gs_server_member.specs.Moving.{Moved, FollowsServer, IsHere, FollowsPart}
 use Rattle.gs_server_member.specs.Causes.{Calm}
 use Rattle.gs_server_member.proofs.Engine.{same_promise}
 use Rattle.gs_server_member.proofs.Tests.{never_both}
@@ -109,16 +109,16 @@ module _ (bytes : ReqId → List ℕ) (born : ℕ) (w : ChunkWorld) (h : Here) (
   abbrev c : Setting
   c = setting_at bytes born h
 
-  quiet_part : IsHere bytes born w h p → (e : Refusal) → Outcome bytes born w h p (unanswered e)
+  quiet_part : IsHere bytes born w h p → (e : Refusal) → FollowsPart bytes born w h p (unanswered e)
   quiet_part here e = nothing_happens bytes born w h p here.shows [] tt
 
   -- ---- edits that are sent again
 
   -- each forward of an edit that waits, to a member, is told
   abbrev Forwarded : ChunkWorld → primary.PrimaryLease → Type 0
-  Forwarded v l = (number : ℕ) (x : Waiting) → Contains l.outbox (number, x) → (to : ℕ) → Contains l.grant.members to → (carried : Option (List ℕ)) → ((b : List ℕ) → carried ≡ Some b → b ≡ x.bytes) → Tells c h.handle v (forward_of h.me h.handle l carried (number, x) to)
+  Forwarded v l = (number : ℕ) (x : Waiting) → Contains l.outbox (number, x) → (to : ℕ) → Contains l.grant.members to → (carried : Option (List ℕ)) → ((b : List ℕ) → carried ≡ Some b → b ≡ x.bytes) → ServersTell c h.handle v (forward_of h.me h.handle l carried (number, x) to)
 
-  pub sends_again : ShowsPlace c w.known h.epoch p (w.members h.me) → (l : primary.PrimaryLease) → p.lease ≡ Some l → (sent : List Message) → ((v : ChunkWorld) → Forwarded v l → AllByRecursion (Tells c h.handle v) sent) → FollowsServer Calm c h.handle w h.me h.epoch p sent
+  pub sends_again : ShowsPlace c w.known h.epoch p (w.members h.me) → (l : primary.PrimaryLease) → p.lease ≡ Some l → (sent : List Message) → ((v : ChunkWorld) → Forwarded v l → AllByRecursion (ServersTell c h.handle v) sent) → FollowsServer Calm c h.handle w h.me h.epoch p sent
   sends_again shows l is sent each =
       let m : Member = w.members h.me in
       let x = lease_there c w.known.list l m.lease (subst (λ o. ShowsLeaseAt c w.known.list o m.lease) is shows.lease) in
@@ -134,33 +134,33 @@ module _ (bytes : ReqId → List ℕ) (born : ℕ) (w : ChunkWorld) (h : Here) (
         tells = each all.moved.world (forward_tells c h.handle all.moved.world w.known.list h.me l x.0 x.2 all.told);
       }
 
-  supplied : (v : ChunkWorld) (l : primary.PrimaryLease) (server : ℕ) → Forwarded v l → Contains l.grant.members server → (o : Option (ℕ × Waiting)) → ((e : ℕ × Waiting) → o ≡ Some e → Contains l.outbox e) → AllByRecursion (Tells c h.handle v) (with_bytes h.me h.handle l server o)
+  supplied : (v : ChunkWorld) (l : primary.PrimaryLease) (server : ℕ) → Forwarded v l → Contains l.grant.members server → (o : Option (ℕ × Waiting)) → ((e : ℕ × Waiting) → o ≡ Some e → Contains l.outbox e) → AllByRecursion (ServersTell c h.handle v) (with_bytes h.me h.handle l server o)
   supplied v l server each member None found = tt
   supplied v l server each member (Some e) found = (each e.0 e.1 (found e refl) server member (Some e.1.bytes) (λ b is. cc), tt)
 
-  supplies_tell : (v : ChunkWorld) (l : primary.PrimaryLease) (server : ℕ) → Forwarded v l → AllByRecursion (Tells c h.handle v) (supplies h.me h.handle server l)
+  supplies_tell : (v : ChunkWorld) (l : primary.PrimaryLease) (server : ℕ) → Forwarded v l → AllByRecursion (ServersTell c h.handle v) (supplies h.me h.handle server l)
   supplies_tell v l server each = by_case (list_any (λ member. member == server) l.grant.members) refl
     where
-      by_case : (b : Bool) → list_any (λ member. member == server) l.grant.members ≡ b → AllByRecursion (Tells c h.handle v) (cond b (with_bytes h.me h.handle l server (find (λ edit. lacks l.told edit.0 server) l.outbox)) [])
+      by_case : (b : Bool) → list_any (λ member. member == server) l.grant.members ≡ b → AllByRecursion (ServersTell c h.handle v) (cond b (with_bytes h.me h.handle l server (find (λ edit. lacks l.told edit.0 server) l.outbox)) [])
       by_case true is = supplied v l server each (from_any l.grant.members server is) (find (λ edit. lacks l.told edit.0 server) l.outbox) (λ e found. find_of (λ edit. lacks l.told edit.0 server) l.outbox e found)
       by_case false is = tt
 
-  pub nack_outcome : IsHere bytes born w h p → (from : NodeId) (stamp : Stamp) (refusal : Refusal) → Outcome bytes born w h p (from_server from (λ server. holding.nack h p server stamp refusal))
+  pub nack_outcome : IsHere bytes born w h p → (from : NodeId) (stamp : Stamp) (refusal : Refusal) → FollowsPart bytes born w h p (from_server from (λ server. holding.nack h p server stamp refusal))
   nack_outcome here nodes.Master stamp refusal = quiet_part here refusals.Stray
   nack_outcome here (nodes.Client client) stamp refusal = quiet_part here refusals.Stray
   nack_outcome here (nodes.Server server) stamp refusal = or_outcome bytes born w h p (unless_leased stamp p.slot p.lease) unanswered (supplies_to h refusal server p.lease) (quiet_part here) (λ none. by_lease p.lease refl)
     where
-      by_lease : (o : Option primary.PrimaryLease) → p.lease ≡ o → Outcome bytes born w h p (supplies_to h refusal server o)
+      by_lease : (o : Option primary.PrimaryLease) → p.lease ≡ o → FollowsPart bytes born w h p (supplies_to h refusal server o)
       by_lease None is = nothing_happens bytes born w h p here.shows [] tt
-      by_lease (Some l) is = sends_again here.shows l is (cond (wants_bytes refusal) (supplies h.me h.handle server l) []) (λ v each. either_sent (Tells c h.handle v) (wants_bytes refusal) (supplies h.me h.handle server l) [] (supplies_tell v l server each) tt)
+      by_lease (Some l) is = sends_again here.shows l is (cond (wants_bytes refusal) (supplies h.me h.handle server l) []) (λ v each. either_sent (ServersTell c h.handle v) (wants_bytes refusal) (supplies h.me h.handle server l) [] (supplies_tell v l server each) tt)
 
   -- at a tick
-  pub reminds_tell : (v : ChunkWorld) (l : primary.PrimaryLease) → Forwarded v l → AllByRecursion (Tells c h.handle v) (reminds h.me h.handle l)
+  pub reminds_tell : (v : ChunkWorld) (l : primary.PrimaryLease) → Forwarded v l → AllByRecursion (ServersTell c h.handle v) (reminds h.me h.handle l)
   reminds_tell v l each = by_case l.outbox (λ e there. there)
     where
-      again : (e : ℕ × Waiting) → Contains l.outbox e → AllByRecursion (Tells c h.handle v) (forwards_again h.me h.handle l e)
-      again e there = all_mapped (Tells c h.handle v) (forward_of h.me h.handle l None e) (filter (lacks l.told e.0) l.grant.members) (λ to member. each e.0 e.1 there to (in_filter (lacks l.told e.0) l.grant.members to member) None (λ b none. absurd (cc)))
+      again : (e : ℕ × Waiting) → Contains l.outbox e → AllByRecursion (ServersTell c h.handle v) (forwards_again h.me h.handle l e)
+      again e there = all_mapped (ServersTell c h.handle v) (forward_of h.me h.handle l None e) (filter (lacks l.told e.0) l.grant.members) (λ to member. each e.0 e.1 there to (in_filter (lacks l.told e.0) l.grant.members to member) None (λ b none. absurd (cc)))
 
-      by_case : (es : List (ℕ × Waiting)) → ((e : ℕ × Waiting) → Contains es e → Contains l.outbox e) → AllByRecursion (Tells c h.handle v) (reminds_of h.me h.handle l es)
+      by_case : (es : List (ℕ × Waiting)) → ((e : ℕ × Waiting) → Contains es e → Contains l.outbox e) → AllByRecursion (ServersTell c h.handle v) (reminds_of h.me h.handle l es)
       by_case [] inside = tt
-      by_case (e ∷ es) inside = ((λ _. (tt, tt)), all_flat (Tells c h.handle v) (forwards_again h.me h.handle l) (e ∷ es) (λ x there. again x (inside x there)))
+      by_case (e ∷ es) inside = ((λ _. (tt, tt)), all_flat (ServersTell c h.handle v) (forwards_again h.me h.handle l) (e ∷ es) (λ x there. again x (inside x there)))

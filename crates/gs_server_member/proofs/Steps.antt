@@ -40,7 +40,7 @@ use Rattle.gs_server.proofs.Reached.{held_last, held_promise, sound_where}
 use Rattle.gs_chunk.specs.Machine.{ChunkWorld, WasTold, Epoch, Member}
 use Rattle.gs_server_member.specs.Showing.{Setting, setting_of, ShowsPlace, BuffersRight}
 use Rattle.gs_server_member.specs.Messages.{TellsEpochTo}
-use Rattle.gs_server_member.specs.Telling.{SaysOf, TellsServer, Tells, TellsBody}
+use Rattle.gs_server_member.specs.Telling.{SaysOf, TellsServer, ServersTell, TellsBody}
 use Rattle.gs_server_member.specs.Answering.{handle_in, AnswersOf}
 use Rattle.gs_server_member.specs.Moving.{CarriesMore, FollowsServer, IsHere, IsNext, IsShown, IsSteps, MadeIntact, Spares}
 use Rattle.gs_server_member.specs.Blocks.{GoesOn}
@@ -188,7 +188,7 @@ module _ (c : Setting) (chunk : ℕ) (w : ChunkWorld) where
   }
 
   -- nothing of the chunk changes, and nothing is said of it
-  pub passes : (s after : Server) (sent : List Message) (about : Option ℕ) → IsShown c chunk w s → after.me ≡ s.me → after.block ≡ c.block → after.chunk ≡ c.size → after.kept.epoch ≡ s.kept.epoch → place_of chunk after ≡ place_of chunk s → BuffersRight c after → AllByRecursion (Tells c chunk w) sent → ((v : ChunkWorld) → AllByRecursion (AnswersOf Calm c chunk v s.me about) sent) → IsSteps Calm c chunk w s.me about after sent
+  pub passes : (s after : Server) (sent : List Message) (about : Option ℕ) → IsShown c chunk w s → after.me ≡ s.me → after.block ≡ c.block → after.chunk ≡ c.size → after.kept.epoch ≡ s.kept.epoch → place_of chunk after ≡ place_of chunk s → BuffersRight c after → AllByRecursion (ServersTell c chunk w) sent → ((v : ChunkWorld) → AllByRecursion (AnswersOf Calm c chunk v s.me about) sent) → IsSteps Calm c chunk w s.me about after sent
   passes s after sent about x me block size epoch place right tells answers =
       let f = stays_put c chunk w s.me s.kept.epoch (place_of chunk s) sent x.shows tells in
       from_follows Calm s.me s.kept.epoch (place_of chunk s) sent about after f me block size epoch place right (answers f.moved.world)

@@ -16,7 +16,7 @@ use Rattle.gs_chunk.proofs.Lasting.{sent_stays}
 use Rattle.gs_server_member.specs.Showing.{Setting, setting_of, ShowsMember}
 use Rattle.gs_server_member.specs.Unborn.{SaysNothing, IsTimely, IsUnbornAt}
 use Rattle.gs_server_member.proofs.Unborn.{born_shows, nothing_tells}
-use Rattle.gs_server_member.specs.Telling.{Tells}
+use Rattle.gs_server_member.specs.Telling.{ServersTell}
 use Rattle.gs_server_member.specs.Moving.{IsShown, IsSteps}
 use Rattle.gs_server_member.specs.Among.{KeepsAmong, ListsAmong}
 use Rattle.gs_server_member.specs.Servers.{with_server, LeavesMembers, IsStore}
@@ -31,7 +31,7 @@ module _ (among : List ℕ → Bool) (c : Setting) (chunk : ℕ) (w : ChunkWorld
   pub store_shown : (id : ℕ) (s : Server) → servers id ≡ Some s → TellsApart among → KeepsAmong among c.block (slot_in chunk s) → IsShown (setting_of c.bytes c.born s) chunk w s
   store_shown id s there tells keeps = server_shown c chunk w id s store.reached (store.servers_are id s there) (apart_among among c w id (slot_in chunk s) tells store.reached store.lists keeps)
 
-  all_still : (last : ChunkWorld) → ((x : Sent) → Contains w.sent x → Contains last.sent x) → (ms : List Message) → AllByRecursion (Tells c chunk w) ms → AllByRecursion (Tells c chunk last) ms
+  all_still : (last : ChunkWorld) → ((x : Sent) → Contains w.sent x → Contains last.sent x) → (ms : List Message) → AllByRecursion (ServersTell c chunk w) ms → AllByRecursion (ServersTell c chunk last) ms
   all_still last stays [] all = tt
   all_still last stays (m ∷ ms) all = (tells_still c chunk w last stays m all.0, all_still last stays ms all.1)
 
@@ -43,26 +43,26 @@ module _ (among : List ℕ → Bool) (c : Setting) (chunk : ℕ) (w : ChunkWorld
         reached = (store.reached.0, leads_then _ w steps.world store.reached.1 steps.leads);
         servers_are = stepped_servers c chunk w store.reached servers store.servers_are cause id s after about new there steps begun;
         tells =
-            all_append (Tells c chunk steps.world) sent new (all_still steps.world steps.stays sent store.tells)
-            (subst (λ k. AllByRecursion (Tells k chunk steps.world) new) (sym same) steps.tells);
+            all_append (ServersTell c chunk steps.world) sent new (all_still steps.world steps.stays sent store.tells)
+            (subst (λ k. AllByRecursion (ServersTell k chunk steps.world) new) (sym same) steps.tells);
         lists = subst (λ k. ListsAmong among k steps.world) (sym same) (steps_among among (setting_of c.bytes c.born s) cause chunk w s.me about after new steps (subst (λ k. ListsAmong among k w) same store.lists) (subst (λ k. KeepsAmong among k.block (slot_in chunk after)) same keeps));
       }
 
   -- and the master's, at which this is sent
-  pub store_led : (last : ChunkWorld) (whole : ℕ → Bool) (new : List Message) → Leads w last → LeavesMembers chunk w whole last servers → ListsAreOld w last → AllByRecursion (Tells c chunk last) new → IsStore among c chunk last servers (sent ++ new)
+  pub store_led : (last : ChunkWorld) (whole : ℕ → Bool) (new : List Message) → Leads w last → LeavesMembers chunk w whole last servers → ListsAreOld w last → AllByRecursion (ServersTell c chunk last) new → IsStore among c chunk last servers (sent ++ new)
   store_led last whole new leads leaves old tells = record {
     reached = (store.reached.0, leads_then _ w last store.reached.1 leads);
     servers_are = led_servers c chunk w store.reached servers store.servers_are last whole leads leaves;
-    tells = all_append (Tells c chunk last) sent new (all_still last (λ x there. sent_stays w last leads x there) sent store.tells) tells;
+    tells = all_append (ServersTell c chunk last) sent new (all_still last (λ x there. sent_stays w last leads x there) sent store.tells) tells;
     lists = old_among among c w last old store.lists;
   }
 
   -- what clients send
-  pub store_told : (new : List Message) → AllByRecursion (Tells c chunk w) new → IsStore among c chunk w servers (sent ++ new)
+  pub store_told : (new : List Message) → AllByRecursion (ServersTell c chunk w) new → IsStore among c chunk w servers (sent ++ new)
   store_told new tells = record {
     reached = store.reached;
     servers_are = store.servers_are;
-    tells = all_append (Tells c chunk w) sent new store.tells tells;
+    tells = all_append (ServersTell c chunk w) sent new store.tells tells;
     lists = store.lists;
   }
 
@@ -85,6 +85,6 @@ store_born among c chunk b servers sent at unborn nothing lists = record {
   lists = lists;
 }
   where
-    none_told : (ms : List Message) → AllByRecursion (λ (m : Message). SaysNothing chunk m.body × IsTimely c m.body) ms → AllByRecursion (Tells c chunk (world_of b)) ms
+    none_told : (ms : List Message) → AllByRecursion (λ (m : Message). SaysNothing chunk m.body × IsTimely c m.body) ms → AllByRecursion (ServersTell c chunk (world_of b)) ms
     none_told [] all = tt
     none_told (m ∷ ms) all = (nothing_tells c chunk (world_of b) m all.0.0 all.0.1, none_told ms all.1)

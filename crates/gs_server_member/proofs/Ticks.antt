@@ -23,7 +23,7 @@ use Rattle.gs_server_laws.specs.Calling.{if_done}
 use Rattle.gs_chunk.specs.Machine.{ChunkWorld}
 use Rattle.gs_server_member.specs.Showing.{Setting, setting_of}
 use Rattle.gs_msg.specs.declared.message.Message.{Message}
-use Rattle.gs_server_member.specs.Telling.{Tells}
+use Rattle.gs_server_member.specs.Telling.{ServersTell}
 use Rattle.gs_server_member.specs.Answering.{NoYes, IsByServer}
 use Rattle.gs_server_member.specs.Moving.{FollowsServer, IsShown, IsSteps}
 use Rattle.gs_server_member.specs.Causes.{Strikes, Calm, struck_by, cause_by}
@@ -87,24 +87,24 @@ module _ (bytes : ReqId → List ℕ) (born chunk : ℕ) (w : ChunkWorld) (s : S
         ap (λ l. with_lease l (place_of chunk s)) (fin.get-retain_keys s.dropped.leases test chunk (λ y e. ap test (sym (fin.nat_cmp-IsAntisymmetric chunk y e))))
 
     abbrev Forwarded : ChunkWorld → primary.PrimaryLease → Type 0
-    Forwarded v l = (number : ℕ) (y : Waiting) → Contains l.outbox (number, y) → (to : ℕ) → Contains l.grant.members to → (carried : Option (List ℕ)) → ((b : List ℕ) → carried ≡ Some b → b ≡ y.bytes) → Tells c chunk v (forward_of s.me chunk l carried (number, y) to)
+    Forwarded v l = (number : ℕ) (y : Waiting) → Contains l.outbox (number, y) → (to : ℕ) → Contains l.grant.members to → (carried : Option (List ℕ)) → ((b : List ℕ) → carried ≡ Some b → b ≡ y.bytes) → ServersTell c chunk v (forward_of s.me chunk l carried (number, y) to)
 
-    entry_tells : (v : ChunkWorld) (e : ℕ × primary.PrimaryLease) → fin.get s.dropped.leases e.0 ≡ Some e.1 → ((l : primary.PrimaryLease) → (place_of chunk s).lease ≡ Some l → is_over moment l ≡ false → Forwarded v l) → AllByRecursion (Tells c chunk v) (cond (is_over moment e.1) [] (reminds s.me e.0 e.1))
+    entry_tells : (v : ChunkWorld) (e : ℕ × primary.PrimaryLease) → fin.get s.dropped.leases e.0 ≡ Some e.1 → ((l : primary.PrimaryLease) → (place_of chunk s).lease ≡ Some l → is_over moment l ≡ false → Forwarded v l) → AllByRecursion (ServersTell c chunk v) (cond (is_over moment e.1) [] (reminds s.me e.0 e.1))
     entry_tells v e got each = by_case (is_over moment e.1) refl
       where
-        by_handle : (b : Bool) → (chunk == e.0) ≡ b → is_over moment e.1 ≡ false → AllByRecursion (Tells c chunk v) (reminds s.me e.0 e.1)
+        by_handle : (b : Bool) → (chunk == e.0) ≡ b → is_over moment e.1 ≡ false → AllByRecursion (ServersTell c chunk v) (reminds s.me e.0 e.1)
         by_handle true is stands =
             let same : e.0 ≡ chunk = eq_same chunk e.0 is in
-            subst (λ k. AllByRecursion (Tells c chunk v) (reminds s.me k e.1)) (sym same) (reminds_tell bytes born w (here_of s moment chunk None) (place_of chunk s) v e.1 (each e.1 (subst (λ k. fin.get s.dropped.leases k ≡ Some e.1) same got) stands))
+            subst (λ k. AllByRecursion (ServersTell c chunk v) (reminds s.me k e.1)) (sym same) (reminds_tell bytes born w (here_of s moment chunk None) (place_of chunk s) v e.1 (each e.1 (subst (λ k. fin.get s.dropped.leases k ≡ Some e.1) same got) stands))
         by_handle false is stands = elsewhere c chunk v e.0 false (reminds s.me e.0 e.1) (apart_of chunk e.0 is) (reminds_sent (here_of s moment e.0 None) false e.1 e.1.outbox)
 
-        by_case : (b : Bool) → is_over moment e.1 ≡ b → AllByRecursion (Tells c chunk v) (cond b [] (reminds s.me e.0 e.1))
+        by_case : (b : Bool) → is_over moment e.1 ≡ b → AllByRecursion (ServersTell c chunk v) (cond b [] (reminds s.me e.0 e.1))
         by_case true over = tt
         by_case false stands = by_handle (chunk == e.0) refl stands
 
-    tick_tells : (v : ChunkWorld) → ((l : primary.PrimaryLease) → (place_of chunk s).lease ≡ Some l → is_over moment l ≡ false → Forwarded v l) → AllByRecursion (Tells c chunk v) (tick s moment).sent
+    tick_tells : (v : ChunkWorld) → ((l : primary.PrimaryLease) → (place_of chunk s).lease ≡ Some l → is_over moment l ≡ false → Forwarded v l) → AllByRecursion (ServersTell c chunk v) (tick s moment).sent
     tick_tells v each =
-        all_flat (Tells c chunk v) (λ (e : ℕ × primary.PrimaryLease). cond (is_over moment e.1) [] (reminds s.me e.0 e.1)) (fin.entries s.dropped.leases)
+        all_flat (ServersTell c chunk v) (λ (e : ℕ × primary.PrimaryLease). cond (is_over moment e.1) [] (reminds s.me e.0 e.1)) (fin.entries s.dropped.leases)
         (λ e there. entry_tells v e (fin.get-entries s.dropped.leases e.0 ∙ one_of_all (λ (y : ℕ × primary.PrimaryLease). fin.find nat_cmp y.0 (fin.entries s.dropped.leases) ≡ Some y.1) (fin.entries s.dropped.leases) e (found_each (fin.entries s.dropped.leases) (fin.entries_sorted s.dropped.leases)) there) each)
 
     tick_quiet : NoYeses (tick s moment).sent

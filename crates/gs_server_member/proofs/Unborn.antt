@@ -39,7 +39,7 @@ use Rattle.gs_chunk.specs.Events.{born, no_member}
 use Rattle.gs_replica.specs.Stands.{Edit}
 use Rattle.gs_server_member.specs.Showing.{Setting, ShowsPlace, ShowsMember}
 use Rattle.gs_server_member.specs.Messages.{TellsEpochTo, ReportsIt, NamesIt}
-use Rattle.gs_server_member.specs.Telling.{ReportsAll, NamesAll, TellsBody, Tells}
+use Rattle.gs_server_member.specs.Telling.{ReportsAll, NamesAll, TellsBody, ServersTell}
 use Rattle.gs_server_member.specs.Unborn.{KeepsNothing, SaysNothing, StaysUnborn, IsTimely}
 use Rattle.gs_server_member.proofs.Lists.{cons_cases, nil_contains, all_flat}
 use Rattle.gs_server_member.proofs.Entries.{found_each, names_all, reports_all}
@@ -292,5 +292,5 @@ module _ (c : Setting) (chunk : ℕ) (w : ChunkWorld) where
   body_nothing from to (bodies.Bytes req result) says timely = tt
   body_nothing from to (bodies.Behind epoch) says timely = tt
 
-  pub nothing_tells : (m : Message) → SaysNothing chunk m.body → IsTimely c m.body → Tells c chunk w m
+  pub nothing_tells : (m : Message) → SaysNothing chunk m.body → IsTimely c m.body → ServersTell c chunk w m
   nothing_tells m says timely = body_nothing m.from m.to m.body says timely

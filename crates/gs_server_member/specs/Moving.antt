@@ -16,7 +16,7 @@ use Rattle.gs_chunk.specs.Machine.{MemberLease, Member, Known, Sent, ChunkWorld,
 use Rattle.gs_chunk.specs.Events.{Leads}
 use Rattle.gs_chunk.specs.Stamps.{epoch_of}
 use Rattle.gs_server_member.specs.Showing.{Setting, setting_at, IsLaterOne, LiveIsLater, ShowsPlace, ShowsMember, BuffersRight}
-use Rattle.gs_server_member.specs.Telling.{Tells}
+use Rattle.gs_server_member.specs.Telling.{ServersTell}
 use Rattle.gs_server_member.specs.Answering.{AnswersEdit, AnswersOf, IsLed}
 use Rattle.gs_server_member.specs.Blocks.{GoesOn}
 use Rattle.gs_server_member.specs.Causes.{Cause, Calm, spares, Numbers}
@@ -63,7 +63,7 @@ pub record FollowsServer (cause : Cause) (c : Setting) (chunk : ℕ) (w : ChunkW
   pub intact : Spares cause w.known (w.members me).epoch p.slot → (w.members me).intact ≡ true → member.intact ≡ true
   pub gains : MadeIntact (w.members me) member
   pub shows : ShowsPlace c moved.world.known epoch p member
-  pub tells : AllByRecursion (Tells c chunk moved.world) sent
+  pub tells : AllByRecursion (ServersTell c chunk moved.world) sent
 
 -- What is known where a message about a chunk comes to a server: what the server keeps of the chunk is shown; a lease that it holds is of
 -- the promise, and so is its live replica; and its sizes are such as configurations have.
@@ -97,8 +97,8 @@ pub record IsNext (c : Setting) (w : ChunkWorld) (me : ℕ) (p : Place) (epoch :
   pub known : EpochsAreKnown w
 
 -- what a message about the chunk comes to is some events of the machine
-abbrev pub Outcome : (ReqId → List ℕ) → ℕ → ChunkWorld → Here → Place → Part → Type 0
-Outcome bytes born w h p part = FollowsServer Calm (setting_at bytes born h) h.handle w h.me h.epoch (after p part) part.sent
+abbrev pub FollowsPart : (ReqId → List ℕ) → ℕ → ChunkWorld → Here → Place → Part → Type 0
+FollowsPart bytes born w h p part = FollowsServer Calm (setting_at bytes born h) h.handle w h.me h.epoch (after p part) part.sent
 
 -- a part that is some events of the machine, where each edit that is done is answered
 pub record Answering (cause : Cause) (bytes : ReqId → List ℕ) (born : ℕ) (w : ChunkWorld) (h : Here) (p : Place) (part : Part) : Type 0 where
@@ -125,7 +125,7 @@ pub record IsSteps (cause : Cause) (c : Setting) (chunk : ℕ) (w : ChunkWorld) 
   pub same : (after.me ≡ me) × (after.block ≡ c.block) × (after.chunk ≡ c.size)
   pub shows : ShowsMember c chunk world after
   pub buffers : BuffersRight c after
-  pub tells : AllByRecursion (Tells c chunk world) sent
+  pub tells : AllByRecursion (ServersTell c chunk world) sent
   pub answers : AllByRecursion (AnswersOf cause c chunk world me about) sent
 
 -- What is known of a server whenever something happens to it: it has begun with nothing; it is shown, and so are the bytes that were pushed

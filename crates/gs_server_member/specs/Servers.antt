@@ -12,7 +12,7 @@ use Rattle.gs_chunk.specs.Laws.{is_member, IsReached}
 use Rattle.gs_server_member.specs.Showing.{Setting, ShowsMember, BuffersRight}
 use Rattle.gs_server_member.specs.Beside.{IsSameMember, MayBeWhole, HasPrepared}
 use Rattle.gs_chunk.specs.Events.{marked}
-use Rattle.gs_server_member.specs.Telling.{Tells}
+use Rattle.gs_server_member.specs.Telling.{ServersTell}
 use Rattle.gs_server_member.specs.Among.{ListsAmong}
 
 -- A server of the store, with its sizes, is shown as the member of its number; and the bytes that were pushed to it are those of their
@@ -57,5 +57,5 @@ LeavesMembers chunk w whole last servers = (id : ℕ) → IsSameMember (w.member
 pub record IsStore (among : List ℕ → Bool) (c : Setting) (chunk : ℕ) (w : ChunkWorld) (servers : ℕ → Option Server) (sent : List Message) : Type 0 where
   pub reached : IsReached w
   pub servers_are : AreServersOf c chunk w servers
-  pub tells : AllByRecursion (Tells c chunk w) sent
+  pub tells : AllByRecursion (ServersTell c chunk w) sent
   pub lists : ListsAmong among c w

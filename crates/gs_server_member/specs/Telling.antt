@@ -73,8 +73,8 @@ TellsBody c chunk w from to (bodies.Learned epoch handles) = NamesAll chunk w fr
 TellsBody c chunk w from to (bodies.Epoch epoch end) = TellsEpochTo c.born w to epoch end
 TellsBody c chunk w from to body = Unit {0}
 
-abbrev pub Tells : Setting → ℕ → ChunkWorld → Message → Type 0
-Tells c chunk w m = TellsBody c chunk w m.from m.to m.body
+abbrev pub ServersTell : Setting → ℕ → ChunkWorld → Message → Type 0
+ServersTell c chunk w m = TellsBody c chunk w m.from m.to m.body
 
 -- What a copy under a new handle brings to this chunk, if it is the new one: the list for which the old one's replica stands at the
 -- server, if there is one of the stamp that is copied.

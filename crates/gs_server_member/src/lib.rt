@@ -13,7 +13,7 @@ ghost use Rattle.gs_msg.specs.declared.node.NodeId.TheVariants.{Master};
 ghost use Rattle.gs_base.specs.declared.numbers.Stamp.{Stamp};
 ghost use Rattle.gs_msg.specs.declared.chunk.Chunk.{Chunk};
 ghost use Rattle.gs_msg.specs.declared.chunk.Chunk.TheVariants as chunks;
-ghost use Rattle.gs_replica.specs.declared.op.Outcome.{Outcome as Told};
+ghost use Rattle.gs_replica.specs.declared.op.EditOutcome.{EditOutcome as Told};
 ghost use Rattle.gs_msg.specs.declared.chunk.Asked.{Asked as Wanted};
 ghost use Rattle.gs_store.specs.Stores.{named};
 ghost use Rattle.gs_msg.specs.declared.body.Given.{Given};
@@ -61,7 +61,7 @@ ghost use Rattle.gs_server.specs.Runs.{Event as Happening, IsReached as HasBegun
 ghost use Rattle.gs_server_member.specs.Servers.{IsServerOf, AreServersOf, with_server, whole_among, LeavesMembers, IsStore};
 ghost use Rattle.gs_server_member.specs.Showing.{Setting, setting_of, setting_at, ShowsPlace, ShowsMember};
 ghost use Rattle.gs_server_member.specs.Beside.{IsSameMember, IsWholeAt, MayBeWhole, IsCopyOf, HasPrepared};
-ghost use Rattle.gs_server_member.specs.Telling.{SaysOf, TellsServer, Tells, BringsCopy};
+ghost use Rattle.gs_server_member.specs.Telling.{SaysOf, TellsServer, ServersTell, BringsCopy};
 ghost use Rattle.gs_server_member.specs.Moving.{IsHere, IsToldApart, IsNext, IsShown, IsSteps, LeadsWhole, EpochsAreKnown, FollowsServer, Answering};
 
 /// A message about a chunk is some events of the chunk's machine. Where a server hears it that is shown as a member of the machine, and what
@@ -98,7 +98,7 @@ pub fn what_happens_without_a_message_is_a_step_of_the_chunk()
 /// chunk is no event. A copy of another chunk under the handle of this one brings the list for which that
 /// one's replica stands at the server.
 pub fn what_a_server_does_is_steps_of_each_chunk()
-    ensures heard { (bytes : ReqId → List ℕ) (born : ℕ) (chunk : ℕ) (w : ChunkWorld) (s : Server) (message : Message) (moment : Moment) → IsShown (setting_of bytes born s) chunk w s → message.to ≡ nodes.Server s.me → Tells (setting_of bytes born s) chunk w message → BringsCopy (setting_of bytes born s) chunk w s message.body → IsSteps (cause_in chunk message.body) (setting_of bytes born s) chunk w s.me (handle_in message.body) (handle s message moment).after (handle s message moment).sent }
+    ensures heard { (bytes : ReqId → List ℕ) (born : ℕ) (chunk : ℕ) (w : ChunkWorld) (s : Server) (message : Message) (moment : Moment) → IsShown (setting_of bytes born s) chunk w s → message.to ≡ nodes.Server s.me → ServersTell (setting_of bytes born s) chunk w message → BringsCopy (setting_of bytes born s) chunk w s message.body → IsSteps (cause_in chunk message.body) (setting_of bytes born s) chunk w s.me (handle_in message.body) (handle s message moment).after (handle s message moment).sent }
     ensures restarted { (bytes : ReqId → List ℕ) (born : ℕ) (chunk : ℕ) (w : ChunkWorld) (s : Server) → IsShown (setting_of bytes born s) chunk w s → IsSteps Calm (setting_of bytes born s) chunk w s.me None (restart s) [] }
     ensures beats { (bytes : ReqId → List ℕ) (born : ℕ) (chunk : ℕ) (w : ChunkWorld) (s : Server) → IsShown (setting_of bytes born s) chunk w s → IsSteps Calm (setting_of bytes born s) chunk w s.me None s (beat s ∷ []) }
     ensures ticked { (bytes : ReqId → List ℕ) (born : ℕ) (chunk : ℕ) (w : ChunkWorld) (s : Server) (moment : Moment) → IsShown (setting_of bytes born s) chunk w s → IsSteps Calm (setting_of bytes born s) chunk w s.me None (tick s moment).after (tick s moment).sent }
@@ -156,8 +156,8 @@ pub fn servers_are_members_throughout()
 pub fn stores_go_on()
     ensures shown { (among : List ℕ → Bool) (c : Setting) (chunk : ℕ) (w : ChunkWorld) (servers : ℕ → Option Server) (sent : List Message) (id : ℕ) (s : Server) → IsStore among c chunk w servers sent → servers id ≡ Some s → TellsApart among → KeepsAmong among c.block (slot_in chunk s) → IsShown (setting_of c.bytes c.born s) chunk w s }
     ensures steps { (among : List ℕ → Bool) (c : Setting) (chunk : ℕ) (w : ChunkWorld) (servers : ℕ → Option Server) (sent : List Message) (cause : Cause) (id : ℕ) (s after : Server) (about : Option ℕ) (new : List Message) → IsStore among c chunk w servers sent → servers id ≡ Some s → (steps : IsSteps cause (setting_of c.bytes c.born s) chunk w s.me about after new) → HasBegun after → KeepsAmong among c.block (slot_in chunk after) → IsStore among c chunk steps.world (with_server servers id after) (sent ++ new) }
-    ensures led { (among : List ℕ → Bool) (c : Setting) (chunk : ℕ) (w last : ChunkWorld) (servers : ℕ → Option Server) (sent : List Message) (whole : ℕ → Bool) (new : List Message) → IsStore among c chunk w servers sent → Leads w last → LeavesMembers chunk w whole last servers → ListsAreOld w last → AllByRecursion (Tells c chunk last) new → IsStore among c chunk last servers (sent ++ new) }
-    ensures told { (among : List ℕ → Bool) (c : Setting) (chunk : ℕ) (w : ChunkWorld) (servers : ℕ → Option Server) (sent : List Message) (new : List Message) → IsStore among c chunk w servers sent → AllByRecursion (Tells c chunk w) new → IsStore among c chunk w servers (sent ++ new) }
+    ensures led { (among : List ℕ → Bool) (c : Setting) (chunk : ℕ) (w last : ChunkWorld) (servers : ℕ → Option Server) (sent : List Message) (whole : ℕ → Bool) (new : List Message) → IsStore among c chunk w servers sent → Leads w last → LeavesMembers chunk w whole last servers → ListsAreOld w last → AllByRecursion (ServersTell c chunk last) new → IsStore among c chunk last servers (sent ++ new) }
+    ensures told { (among : List ℕ → Bool) (c : Setting) (chunk : ℕ) (w : ChunkWorld) (servers : ℕ → Option Server) (sent : List Message) (new : List Message) → IsStore among c chunk w servers sent → AllByRecursion (ServersTell c chunk w) new → IsStore among c chunk w servers (sent ++ new) }
     ensures born { (among : List ℕ → Bool) (c : Setting) (chunk : ℕ) (b : Birth) (servers : ℕ → Option Server) (sent : List Message) → c.born ≡ b.epoch → ((id : ℕ) (s : Server) → servers id ≡ Some s → IsUnbornAt c chunk id s) → AllByRecursion (λ (m : Message). SaysNothing chunk m.body × IsTimely c m.body) sent → ListsAmong among c (world_of b) → IsStore among c chunk (world_of b) servers sent }
 {}
 
@@ -172,7 +172,7 @@ pub fn a_chunk_that_is_unborn_is_nothing_at_a_server()
     ensures lost { (chunk : ℕ) (s : Server) (handle : ℕ) → KeepsNothing chunk s → StaysUnborn chunk (behind (Loses handle) s) [] }
     ensures damaged { (chunk : ℕ) (s : Server) (handle : ℕ) (block : ℕ) → KeepsNothing chunk s → StaysUnborn chunk (behind (Damages handle block) s) [] }
     ensures born { (c : Setting) (chunk : ℕ) (how : ℕ → EpochEnd) (origin : List Edit) (s : Server) → KeepsNothing chunk s → s.kept.epoch ≤ c.born → ShowsMember c chunk (born c.born how origin) s }
-    ensures told { (c : Setting) (chunk : ℕ) (w : ChunkWorld) (m : Message) → SaysNothing chunk m.body → IsTimely c m.body → Tells c chunk w m }
+    ensures told { (c : Setting) (chunk : ℕ) (w : ChunkWorld) (m : Message) → SaysNothing chunk m.body → IsTimely c m.body → ServersTell c chunk w m }
 {}
 
 /// Edits that every member has are answered in the machine. Where an acknowledgement tells clients that their edits are done, each of them is done
@@ -205,7 +205,7 @@ pub fn a_server_to_which_nothing_happens_is_shown_still()
     ensures beside { (c : Setting) (chunk : ℕ) (w last : ChunkWorld) (s : Server) → IsReached w → Leads w last → last.members s.me ≡ w.members s.me → (HasPrepared w last → (w.members s.me).intact ≡ true → LiveUndamaged (slot_in chunk s).live) → ShowsMember c chunk w s → ShowsMember c chunk last s }
     ensures marked { (c : Setting) (chunk : ℕ) (w last : ChunkWorld) (s : Server) (whole : Bool) → IsReached w → Leads w last → IsSameMember (w.members s.me) whole (last.members s.me) → (HasPrepared w last → last.members s.me ≡ marked (w.members s.me) whole) → (whole ≡ true → MayBeWhole chunk last s) → ShowsMember c chunk w s → ShowsMember c chunk last s }
     ensures live { (c : Setting) (chunk : ℕ) (w : ChunkWorld) (s : Server) → ShowsMember c chunk w s → IsWholeAt chunk w s → is_some (w.members s.me).live ≡ true }
-    ensures told { (c : Setting) (chunk : ℕ) (w last : ChunkWorld) (m : Message) → ((x : Sent) → Contains w.sent x → Contains last.sent x) → Tells c chunk w m → Tells c chunk last m }
+    ensures told { (c : Setting) (chunk : ℕ) (w last : ChunkWorld) (m : Message) → ((x : Sent) → Contains w.sent x → Contains last.sent x) → ServersTell c chunk w m → ServersTell c chunk last m }
 {}
 
 /// Each block of the text that a list of edits gives was a block of a replica. An accepted edit of a replica that stands for a list leaves each

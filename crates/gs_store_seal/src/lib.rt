@@ -1,4 +1,5 @@
 //! What becomes of a replica that was sealed: what a handle keeps of it in its trash, and what a rollback makes of it.
+//! It is a crate of its own for the checker's time alone: so its wrong bodies are tried in seconds.
 #![tactic(auto)]
 
 mod rollback;

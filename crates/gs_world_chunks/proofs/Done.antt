@@ -44,7 +44,7 @@ use Rattle.gs_server_member.specs.Showing.{Setting}
 use Rattle.gs_server_lease.specs.Numbering.{is_passed, is_too_long}
 use Rattle.gs_master_record.specs.declared.checkpoint.Phase.{Phase}
 use Rattle.gs_replica.specs.Stands.{Edit, outcome_at}
-use Rattle.gs_replica.specs.declared.op.Outcome.{Outcome}
+use Rattle.gs_replica.specs.declared.op.EditOutcome.{EditOutcome}
 use Rattle.gs_world.proofs.Sending.{sent_still}
 use Rattle.gs_world.specs.Histories.{History}
 use Rattle.gs_world.specs.Runs.{StaySent}
@@ -90,7 +90,7 @@ ends_long past epoch phase is = (let same = (both_true (length past == epoch) _ 
 
 -- ---- what the machine has done
 
-module _ {D : Type 0} (x : Setup D) (bytes : ReqId → List ℕ) (chunk : ℕ) (now : History D) (a : Account) (first : IsSeen x bytes chunk now a) (outcome : Outcome) where
+module _ {D : Type 0} (x : Setup D) (bytes : ReqId → List ℕ) (chunk : ℕ) (now : History D) (a : Account) (first : IsSeen x bytes chunk now a) (outcome : EditOutcome) where
   abbrev w : ChunkWorld
   w = first.alive.world
 
@@ -342,7 +342,7 @@ module _ {D : Type 0} (x : Setup D) (bytes : ReqId → List ℕ) (chunk : ℕ) (
 
 -- ---- what was passed, later
 
-module _ {D : Type 0} (x : Setup D) (bytes : ReqId → List ℕ) (asked : ℕ → Asked) (chunk : ℕ) (req : ReqId) (outcome : Outcome) (now later : History D) (a b : Account)
+module _ {D : Type 0} (x : Setup D) (bytes : ReqId → List ℕ) (asked : ℕ → Asked) (chunk : ℕ) (req : ReqId) (outcome : EditOutcome) (now later : History D) (a b : Account)
     (first : IsSeen x bytes chunk now a) (last : IsSeen x bytes chunk later b) (on : SeenOn x bytes chunk now a later b first last) (stays : StaySent now.sent later.sent) where
   passed_still : HasPassed asked chunk now.sent (setting x.config bytes first.alive.reached.0.epoch) first.alive.world req outcome → HasPassed asked chunk later.sent (setting x.config bytes last.alive.reached.0.epoch) last.alive.world req outcome
   passed_still has = subst (λ epoch. HasPassed asked chunk later.sent (setting x.config bytes epoch) last.alive.world req outcome) (sym (ap (λ (z : Birth). z.epoch) on.same)) (record {

@@ -35,7 +35,7 @@ use Rattle.gs_server_member.specs.Requests.{Asked, IsOfOneEdit, bytes_in}
 use Rattle.gs_master_moves.specs.Epochs.{Begun, Committed, EpochGoes, Finalized, Prepared, Stays, prepares}
 use Rattle.gs_msg.specs.declared.body.Body.TheVariants as bodies
 use Rattle.gs_replica.specs.Stands.{Edit, outcome_at}
-use Rattle.gs_replica.specs.declared.op.Outcome.{Outcome}
+use Rattle.gs_replica.specs.declared.op.EditOutcome.{EditOutcome}
 use Rattle.gs_master_record.specs.declared.checkpoint.Phase.{Phase}
 use Rattle.gs_master_record.specs.declared.checkpoint.Phase.TheVariants.{Ordinary, Rolling, Upgrade}
 use Rattle.gs_world.proofs.Reaching.{HaveSizes}
@@ -94,7 +94,7 @@ view_told (Some y) view is = refl
 -- ---- one request is numbered once
 
 -- under one stamp, since no list of a lower one has its edit
-numbered_under : (size : ℕ) (sent : Sent) (a : Account) (chunk : ℕ) (req : ReqId) (one other : Outcome) (p : IsNumbered size sent a chunk req one) (q : IsNumbered size sent a chunk req other) → q.stamp ≡ p.stamp
+numbered_under : (size : ℕ) (sent : Sent) (a : Account) (chunk : ℕ) (req : ReqId) (one other : EditOutcome) (p : IsNumbered size sent a chunk req one) (q : IsNumbered size sent a chunk req other) → q.stamp ≡ p.stamp
 numbered_under size sent a chunk req one other p q = by_order (is_before p.stamp q.stamp) (is_before q.stamp p.stamp) refl refl
   where
     by_order : (first second : Bool) → is_before p.stamp q.stamp ≡ first → is_before q.stamp p.stamp ≡ second → q.stamp ≡ p.stamp
@@ -106,7 +106,7 @@ same_edit : (one other : Edit) → Some one ≡ Some other → one ≡ other
 same_edit one other is = cc
 
 -- at one place, with one outcome
-numbered_alike : (size : ℕ) (sent : Sent) (a : Account) (chunk : ℕ) (req : ReqId) (one other : Outcome) → IsNumbered size sent a chunk req one → IsNumbered size sent a chunk req other → one ≡ other
+numbered_alike : (size : ℕ) (sent : Sent) (a : Account) (chunk : ℕ) (req : ReqId) (one other : EditOutcome) → IsNumbered size sent a chunk req one → IsNumbered size sent a chunk req other → one ≡ other
 numbered_alike size sent a chunk req one other p q =
     let under : q.stamp ≡ p.stamp = numbered_under size sent a chunk req one other p q in
     let stands : slice_get (a.list chunk p.stamp) q.place ≡ Some q.once.edit = subst (λ s. slice_get (a.list chunk s) q.place ≡ Some q.once.edit) under q.once.stands in
@@ -158,12 +158,12 @@ module _ (sizes : HaveSizes) (law : AreNumbered) {D : Type 0} (x : Setup D) wher
       seen_inherits x (bytes_in sees.asked) chunk source at now later a b view seen.first seen.last seen.on copied told
 
   -- what a client was told done was numbered, and stays settled, of a chunk for which its request asks; or it passed that chunk, which was full
-  abbrev DoneIn : (asked : ℕ → Asked) → Sent → Sent → Account → Account → ReqId → Outcome → Type 0
+  abbrev DoneIn : (asked : ℕ → Asked) → Sent → Sent → Account → Account → ReqId → EditOutcome → Type 0
   DoneIn asked sent then a b req outcome = (chunk : ℕ) × AsksFor asked chunk req × ((PassedFull x.config.chunk sent a chunk req outcome × PassedFull x.config.chunk then b chunk req outcome)
       ⊎ ((numbered : IsNumbered x.config.chunk sent a chunk req outcome)
       × (is_listed b.durable chunk ≡ true → is_undone b.durable numbered.stamp ≡ false → IsSettledStill a b chunk req numbered.stamp numbered.place)))
 
-  done_in : (now later : History D) (a b : Account) (req : ReqId) (outcome : Outcome) → TellsApart x.among → (sees : SeesBoth x now a later b) → StaySent now.sent later.sent → ((chunk : ℕ) → WerePushed now.sent a chunk) → WasDone now.sent req outcome → DoneIn sees.asked now.sent later.sent a b req outcome
+  done_in : (now later : History D) (a b : Account) (req : ReqId) (outcome : EditOutcome) → TellsApart x.among → (sees : SeesBoth x now a later b) → StaySent now.sent later.sent → ((chunk : ℕ) → WerePushed now.sent a chunk) → WasDone now.sent req outcome → DoneIn sees.asked now.sent later.sent a b req outcome
   done_in now later a b req outcome apart sees stays pushed (message, (id, is), says) = by_done (subst (HasDoneBody x.seen x.config (bytes_in sees.asked) sees.asked now sees.first.lives.life) says (sees.first.tells.dones id message is))
     where
       by_life : (chunk : ℕ) → AsksFor sees.asked chunk req → (life : Life x.seen x.config (bytes_in sees.asked) chunk now) → sees.first.lives.life chunk ≡ life → HasDone x.seen x.config (bytes_in sees.asked) sees.asked chunk now life req outcome → DoneIn sees.asked now.sent later.sent a b req outcome
@@ -195,7 +195,7 @@ module _ (sizes : HaveSizes) (law : AreNumbered) {D : Type 0} (x : Setup D) wher
       (done.0, done.2)
 
   -- a full chunk that was passed has no edit of the request
-  done_alike : (sent : Sent) (a : Account) (chunk : ℕ) (req : ReqId) (one other : Outcome) → PassedFull x.config.chunk sent a chunk req one ⊎ IsNumbered x.config.chunk sent a chunk req one → PassedFull x.config.chunk sent a chunk req other ⊎ IsNumbered x.config.chunk sent a chunk req other → one ≡ other
+  done_alike : (sent : Sent) (a : Account) (chunk : ℕ) (req : ReqId) (one other : EditOutcome) → PassedFull x.config.chunk sent a chunk req one ⊎ IsNumbered x.config.chunk sent a chunk req one → PassedFull x.config.chunk sent a chunk req other ⊎ IsNumbered x.config.chunk sent a chunk req other → one ≡ other
   done_alike sent a chunk req one other (inl p) (inl q) = p.padded ∙ sym q.padded
   done_alike sent a chunk req one other (inl p) (inr q) = absurd (p.none q.stamp q.place q.once.edit q.once.stands q.once.is)
   done_alike sent a chunk req one other (inr p) (inl q) = absurd (q.none p.stamp p.place p.once.edit p.once.stands p.once.is)

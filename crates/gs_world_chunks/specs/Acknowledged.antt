@@ -18,13 +18,13 @@ use Rattle.gs_msg.specs.declared.body.Body.TheVariants as bodies
 use Rattle.gs_base.specs.declared.epoch.EpochEnd.TheVariants as ends
 use Rattle.gs_replica.specs.declared.op.Op.{Op as Applied}
 use Rattle.gs_replica.specs.declared.op.Op.TheVariants as applied
-use Rattle.gs_replica.specs.declared.op.Outcome.{Outcome}
-use Rattle.gs_replica.specs.declared.op.Outcome.TheVariants as outcomes
+use Rattle.gs_replica.specs.declared.op.EditOutcome.{EditOutcome}
+use Rattle.gs_replica.specs.declared.op.EditOutcome.TheVariants as outcomes
 use Rattle.gs_replica.specs.Stands.{Edit, outcome_at}
 use Rattle.gs_world.specs.Histories.{History}
 
 -- a client was told that the edit of its request is done
-abbrev pub WasDone : Sent → ReqId → Outcome → Type 0
+abbrev pub WasDone : Sent → ReqId → EditOutcome → Type 0
 WasDone sent req outcome = (message : Message) × IsSent message sent × (message.body ≡ bodies.Done req (Ok outcome))
 
 -- bytes were pushed for a request
@@ -54,7 +54,7 @@ pub record IsAskedHere (size : ℕ) (sent : Sent) (chunk : ℕ) (req : ReqId) (s
 
 -- The edit was numbered under this stamp, which is the one under which it was asked for: it stands in the list of this one, at one place, and in that of no
 -- lower one. It is the one that was asked for. An append was answered with how many bytes stood before it.
-pub record IsNumbered (size : ℕ) (sent : Sent) (a : Account) (chunk : ℕ) (req : ReqId) (outcome : Outcome) : Type 0 where
+pub record IsNumbered (size : ℕ) (sent : Sent) (a : Account) (chunk : ℕ) (req : ReqId) (outcome : EditOutcome) : Type 0 where
   pub stamp : Stamp
   pub place : ℕ
   pub once : StandsOnce (a.list chunk stamp) req place
@@ -64,7 +64,7 @@ pub record IsNumbered (size : ℕ) (sent : Sent) (a : Account) (chunk : ℕ) (re
 
 -- A record passed the chunk, whose text was full: no list of the chunk has an edit of its request. A message was sent that asks for the edit of this request under this stamp, and each
 -- that was ever sent asks to append a record of some bytes, no longer than a quarter of a chunk, in this chunk, under this stamp. The full text is that of the first edits of the chunk's list under it.
-pub record PassedFull (size : ℕ) (sent : Sent) (a : Account) (chunk : ℕ) (req : ReqId) (outcome : Outcome) : Type 0 where
+pub record PassedFull (size : ℕ) (sent : Sent) (a : Account) (chunk : ℕ) (req : ReqId) (outcome : EditOutcome) : Type 0 where
   pub padded : outcome ≡ outcomes.Padded
   pub stamp : Stamp
   pub was : (message : Message) × (op : Op) × IsSent message sent × (message.body ≡ bodies.About chunk (chunks.Edit req stamp op))
@@ -91,14 +91,14 @@ module _ {D : Type 0} (x : Setup D) where
   -- An edit that a client was told done was numbered, once; or it passed a chunk that is full under the stamp of its request, and has no edit of it, in this world and in each later one. What was numbered is settled in this world and in each later one in which a file has
   -- the chunk, unless the upgrade within which it was numbered was rolled back.
   abbrev pub DoneStays : Type 0
-  DoneStays = (now later : History D) (a b : Account) (steps : List Step) (req : ReqId) (outcome : Outcome) → IsReached x now a → Runs x steps now a later b → WasDone now.sent req outcome →
+  DoneStays = (now later : History D) (a b : Account) (steps : List Step) (req : ReqId) (outcome : EditOutcome) → IsReached x now a → Runs x steps now a later b → WasDone now.sent req outcome →
       (chunk : ℕ) × ((PassedFull x.config.chunk now.sent a chunk req outcome × PassedFull x.config.chunk later.sent b chunk req outcome)
       ⊎ ((numbered : IsNumbered x.config.chunk now.sent a chunk req outcome)
       × (is_listed b.durable chunk ≡ true → is_undone b.durable numbered.stamp ≡ false → IsSettledStill a b chunk req numbered.stamp numbered.place)))
 
   -- Whoever is told twice that the edit of one request is done is told the same outcome. Of refusals before or behind it nothing is said.
   abbrev pub RepeatsAreAlike : Type 0
-  RepeatsAreAlike = (now : History D) (a : Account) (req : ReqId) (one other : Outcome) → IsReached x now a → WasDone now.sent req one → WasDone now.sent req other → one ≡ other
+  RepeatsAreAlike = (now : History D) (a : Account) (req : ReqId) (one other : EditOutcome) → IsReached x now a → WasDone now.sent req one → WasDone now.sent req other → one ≡ other
 
 -- ---- Worked
 no_epoch_has_ended : (stamp : Stamp) → is_undone start stamp ≡ false

@@ -17,7 +17,7 @@ use Rattle.gs_server_member.specs.Answering.{IsAnswered}
 use Rattle.gs_server_member.specs.Requests.{Asked, IsOfOneEdit}
 use Rattle.gs_replica.specs.Stands.{Edit}
 use Rattle.gs_replica.specs.declared.op.Op.TheVariants as applied
-use Rattle.gs_replica.specs.declared.op.Outcome.{Outcome}
+use Rattle.gs_replica.specs.declared.op.EditOutcome.{EditOutcome}
 use Rattle.gs_world.specs.Histories.{History}
 use Rattle.gs_world.specs.Runs.{StaySent}
 use Rattle.gs_world.specs.Sent.{Sent}
@@ -32,7 +32,7 @@ WerePushed sent a chunk = (under : Stamp) (place : ℕ) (edit : Edit) → slice_
 -- What a chunk's machine has done, of a request for this chunk, where edits that were asked for stand first in the views of their stamps, all that was sent for a request is of its one edit, and a message was sent for each edit, and bytes pushed for it: it was numbered, once, or passed a
 -- chunk that is full under the stamp of its request, and has no edit of it, now and later; and what was numbered is settled in each later world in which a file has the chunk, unless the upgrade within which it was numbered was rolled back.
 abbrev pub SeenDonesStay : {D : Type 0} → Setup D → (ReqId → List ℕ) → Type 0
-SeenDonesStay {D} x bytes = (asked : ℕ → Asked) (chunk me : ℕ) (req : ReqId) (outcome : Outcome) (now later : History D) (a b : Account)
+SeenDonesStay {D} x bytes = (asked : ℕ → Asked) (chunk me : ℕ) (req : ReqId) (outcome : EditOutcome) (now later : History D) (a b : Account)
     → (first : IsSeen x bytes chunk now a) (last : IsSeen x bytes chunk later b) → SeenOn x bytes chunk now a later b first last → StaySent now.sent later.sent → EditsStandFirst x.seen x.config bytes asked first.alive.world.known chunk → EditsStandFirst x.seen x.config bytes asked last.alive.world.known chunk → AllSent (PushRight bytes) now.sent → AllSent (IsOfOneEdit asked) now.sent → AllSent (IsOfOneEdit asked) later.sent → AreOwn (λ before edit. WasAskedFor now.sent edit) first.alive.world.known → WerePushed now.sent a chunk → AsksFor asked chunk req → IsKept b.durable
     → IsAnswered (setting x.config bytes first.alive.reached.0.epoch) first.alive.world me req outcome ⊎ HasPassed asked chunk now.sent (setting x.config bytes first.alive.reached.0.epoch) first.alive.world req outcome
     → (PassedFull x.config.chunk now.sent a chunk req outcome × PassedFull x.config.chunk later.sent b chunk req outcome)

@@ -41,8 +41,8 @@ use Rattle.gs_msg.specs.declared.op.Op.TheVariants as ops
 use Rattle.gs_path.specs.Path.{Path}
 use Rattle.gs_path.specs.Rules.{parse, parse_hidden}
 use Rattle.gs_master_record.specs.Writable.{IsPath}
-use Rattle.gs_replica.specs.declared.op.Outcome.{Outcome}
-use Rattle.gs_replica.specs.declared.op.Outcome.TheVariants as outcomes
+use Rattle.gs_replica.specs.declared.op.EditOutcome.{EditOutcome}
+use Rattle.gs_replica.specs.declared.op.EditOutcome.TheVariants as outcomes
 use Rattle.gs_world_laws.specs.Asking.{AllAsked, Asks, MayBeAsked}
 use Rattle.gs_world_laws.proofs.Words.{IsSpoken, line_spoken, stored_path, visible_path}
 
@@ -265,7 +265,7 @@ module _ (path : Path) (is : IsPath path) where
           parts_well size offset bytes 0 (part_count size offset bytes)
           (counted (offset / size) ((offset + length bytes - 1) / size) (first_before size offset (length bytes) (some_size size offset (length bytes) both_are.0 both_are.1) both_are.0) (last_below size offset (length bytes) both_are.0 both_are.1)))
 
-  landed_well : (size index : ℕ) (next : Call ℕ) → Well next → (outcome : Outcome) → Well (landed size index next outcome)
+  landed_well : (size index : ℕ) (next : Call ℕ) → Well next → (outcome : EditOutcome) → Well (landed size index next outcome)
   landed_well size index next asked (outcomes.Appended offset) = tt
   landed_well size index next asked outcomes.Padded = asked
   landed_well size index next asked outcomes.Written = tt

@@ -12,7 +12,7 @@ use Rattle.gs_base.specs.declared.refusal.Refusal.TheVariants as refusals
 use Rattle.gs_lease.specs.declared.held.Grant.{Grant}
 use Rattle.gs_replica.specs.Copies.{Image, SealedImage}
 use Rattle.gs_replica.specs.declared.op.Done.{Done}
-use Rattle.gs_replica.specs.declared.op.Outcome.TheVariants.{Padded}
+use Rattle.gs_replica.specs.declared.op.EditOutcome.TheVariants.{Padded}
 use Rattle.gs_msg.specs.Ops.{in_replica}
 use Rattle.gs_msg.specs.declared.body.Body.{Body}
 use Rattle.gs_msg.specs.declared.body.Body.TheVariants as bodies

@@ -10,7 +10,7 @@ use Rattle.gs_base.specs.declared.numbers.ReqId.{ReqId}
 use Rattle.gs_base.specs.declared.numbers.Stamp.{Stamp}
 use Rattle.gs_base.specs.declared.refusal.Refusal.{Refusal}
 use Rattle.gs_base.specs.declared.refusal.Refusal.TheVariants as refusals
-use Rattle.gs_replica.specs.declared.op.Outcome.{Outcome}
+use Rattle.gs_replica.specs.declared.op.EditOutcome.{EditOutcome}
 use Rattle.gs_msg.specs.declared.body.Body.{Body}
 use Rattle.gs_msg.specs.declared.body.Body.TheVariants as bodies
 use Rattle.gs_msg.specs.declared.chunk.Chunk.{Chunk}
@@ -212,7 +212,7 @@ goes_asked asked chunk sent id s after messages one (Restarts is sends) about = 
 goes_asked asked chunk sent id s after messages one (Loses handle is sends) about = absurd (cc)
 goes_asked asked chunk sent id s after messages one (Damages handle block is sends) about = absurd (cc)
 
-heard_passed : (asked : ℕ → Asked) (chunk : ℕ) (old new : Sent) → StaySent old new → (c : Setting) (w : ChunkWorld) (cause : Cause) (req : ReqId) (outcome : Outcome) → IsAskedBy asked old chunk cause → PassesHeard cause c w req outcome → HasPassed asked chunk new c w req outcome
+heard_passed : (asked : ℕ → Asked) (chunk : ℕ) (old new : Sent) → StaySent old new → (c : Setting) (w : ChunkWorld) (cause : Cause) (req : ReqId) (outcome : EditOutcome) → IsAskedBy asked old chunk cause → PassesHeard cause c w req outcome → HasPassed asked chunk new c w req outcome
 heard_passed asked chunk old new stays c w (Edits under other op) req outcome heard (same, passed) = record {
   members = heard.members;
   primary = heard.primary;
@@ -244,7 +244,7 @@ module _ {D : Type 0} (seen : D → List ℕ) (failures : D → ℕ) (armed : Di
   IsDone m = HasDoneBody seen config bytes asked new behind m.body
 
   -- what was done is done still
-  done_on : (chunk : ℕ) (req : ReqId) (outcome : Outcome) → HasDone seen config bytes asked chunk old (before chunk) req outcome → HasDone seen config bytes asked chunk new (behind chunk) req outcome
+  done_on : (chunk : ℕ) (req : ReqId) (outcome : EditOutcome) → HasDone seen config bytes asked chunk old (before chunk) req outcome → HasDone seen config bytes asked chunk new (behind chunk) req outcome
   done_on chunk req outcome has = by_lives (before chunk) (behind chunk) (each chunk) has
     where
       by_lives : (l : Life seen config bytes chunk old) (m : Life seen config bytes chunk new) → GoesOn seen config bytes chunk step (heard_in seen failures armed kind) old new l m → HasDone seen config bytes asked chunk old l req outcome → HasDone seen config bytes asked chunk new m req outcome

@@ -10,7 +10,7 @@ use Rattle.gs_msg.specs.declared.node.NodeId.{NodeId}
 use Rattle.gs_msg.specs.declared.node.NodeId.TheVariants as ids
 use Rattle.gs_chunk.specs.Machine.{ChunkWorld}
 use Rattle.gs_server_member.specs.Showing.{Setting}
-use Rattle.gs_server_member.specs.Telling.{SaysOf, Tells, TellsBody, TellsTo}
+use Rattle.gs_server_member.specs.Telling.{SaysOf, ServersTell, TellsBody, TellsTo}
 use Rattle.gs_world_lift.specs.Saying.{AreOfClient, IsOfClient, IsOfClientAbout, PushRight}
 
 pub client_says : (c : Setting) (w : ChunkWorld) (from : NodeId) (said : Chunk) → IsOfClientAbout said → SaysOf c w from said
@@ -28,7 +28,7 @@ client_tells c w (ids.Server server) (chunks.Fetch req stamp epoch asked) is = t
 client_tells c w (ids.Server server) said is = absurd is
 
 -- where what is pushed are the bytes of the request
-pub of_client : (c : Setting) (chunk : ℕ) (w : ChunkWorld) (message : Message) → IsOfClient message.body → PushRight c.bytes message → Tells c chunk w message
+pub of_client : (c : Setting) (chunk : ℕ) (w : ChunkWorld) (message : Message) → IsOfClient message.body → PushRight c.bytes message → ServersTell c chunk w message
 of_client c chunk w message is right = by_body message.body is right
   where
     IsRight : Body → Type 0
@@ -40,6 +40,6 @@ of_client c chunk w message is right = by_body message.body is right
     by_body (bodies.Call req call) is right = tt
     by_body body is right = absurd is
 
-pub all_of_client : (c : Setting) (chunk : ℕ) (w : ChunkWorld) (messages : List Message) → AreOfClient messages → AllByRecursion (λ (m : Message). PushRight c.bytes m → Tells c chunk w m) messages
+pub all_of_client : (c : Setting) (chunk : ℕ) (w : ChunkWorld) (messages : List Message) → AreOfClient messages → AllByRecursion (λ (m : Message). PushRight c.bytes m → ServersTell c chunk w m) messages
 all_of_client c chunk w [] are = tt
 all_of_client c chunk w (m ∷ messages) are = (of_client c chunk w m are.0, all_of_client c chunk w messages are.1)

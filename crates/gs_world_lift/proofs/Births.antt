@@ -23,7 +23,7 @@ use Rattle.gs_world.specs.Sent.{IsSent}
 use Rattle.gs_chunk.specs.Events as events
 use Rattle.gs_chunk.specs.Laws.{Birth, world_of}
 use Rattle.gs_server_member.specs.Showing.{Setting}
-use Rattle.gs_server_member.specs.Telling.{Tells}
+use Rattle.gs_server_member.specs.Telling.{ServersTell}
 use Rattle.gs_server_member.proofs.Beside.{place_beside}
 use Rattle.gs_server_member.proofs.Unborn.{born_shows}
 use Rattle.gs_master_entry.specs.Families as families
@@ -125,9 +125,9 @@ module _ (config : Config) (bytes : ReqId → List ℕ) (chunk : ℕ) {D : Type 
         c = setting config bytes birth.epoch
 
         Told : Message → Type 0
-        Told message = PushRight bytes message → Tells (setting config bytes b.reached.0.epoch) chunk b.world message
+        Told message = PushRight bytes message → ServersTell (setting config bytes b.reached.0.epoch) chunk b.world message
 
-        without : (ms : List Message) → AllByRecursion (Tells (setting config bytes b.reached.0.epoch) chunk b.world) ms → AllByRecursion Told ms
+        without : (ms : List Message) → AllByRecursion (ServersTell (setting config bytes b.reached.0.epoch) chunk b.world) ms → AllByRecursion Told ms
         without [] t = tt
         without (message ∷ ms) t = ((λ right. t.0), without ms t.1)
 

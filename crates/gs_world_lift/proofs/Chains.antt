@@ -33,7 +33,7 @@ use Rattle.gs_chunk.specs.Events as events
 use Rattle.gs_chunk.specs.Laws.{Birth}
 use Rattle.gs_chunk.specs.Mastering.{AreOfMaster}
 use Rattle.gs_server_member.specs.Showing.{Setting}
-use Rattle.gs_server_member.specs.Telling.{Tells}
+use Rattle.gs_server_member.specs.Telling.{ServersTell}
 use Rattle.gs_master_entry.specs.Families.{ComesFrom, CopiesOf, CopiesTo as CopiesThere, FamilyGoes, HeardOf, IsCopiedTo, IsCopyOf, ListsFrom, MarksOf, is_kept}
 use Rattle.gs_master_entry.specs.Families as families
 use Rattle.gs_master_entry.specs.Laws.{Reaches, StaysKnownSo}
@@ -250,9 +250,9 @@ module _ {D : Type 0} (seen : D → List ℕ) (config : Config) (bytes : ReqId �
         shown = record {
           members = λ id x found. members_then config bytes a.reached.0.epoch chunk seen old a.world a.reached a.shows t.after.durable d.world leads d.shows.entry.durable members marks id x (subst (λ xs. slice_get xs id ≡ Some x) servers found);
           master = subst (λ place. ShowsMaster seen chunk place d.world) (sym master) (subst (λ x. Shows chunk x d.world) (sym state) d.shows);
-          sent = posted_all (Tells set chunk d.world) moment ids.Master messages old.sent new.sent posted
-              (sent_then (Tells set chunk a.world) (Tells set chunk d.world) old.sent (λ message tells. body_grown set chunk a.world d.world stays message.from message.to message.body tells) a.shows.sent)
-              (subst (AllByRecursion (Tells set chunk d.world)) (sym sends)
+          sent = posted_all (ServersTell set chunk d.world) moment ids.Master messages old.sent new.sent posted
+              (sent_then (ServersTell set chunk a.world) (ServersTell set chunk d.world) old.sent (λ message tells. body_grown set chunk a.world d.world stays message.from message.to message.body tells) a.shows.sent)
+              (subst (AllByRecursion (ServersTell set chunk d.world)) (sym sends)
               (all_of_master set chunk d.world t.sent (chain_of_master by_config heard s t chain) (subst (λ (b : Birth). AllByRecursion (entry.Tells b.epoch chunk d.world) t.sent) same goes.tells)));
         }
 

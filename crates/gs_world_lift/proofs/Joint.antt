@@ -17,7 +17,7 @@ use Rattle.gs_master_spec.specs.State.{State, Turn}
 use Rattle.gs_chunk.specs.Machine.{Sent, ChunkWorld}
 use Rattle.gs_server_member.specs.Showing.{Setting}
 use Rattle.gs_server_member.specs.Messages.{ReportsIt, NamesIt, TellsEpochTo}
-use Rattle.gs_server_member.specs.Telling.{SaysOf, TellsServer, TellsTo, ReportsAll, NamesAll, TellsBody, Tells}
+use Rattle.gs_server_member.specs.Telling.{SaysOf, TellsServer, TellsTo, ReportsAll, NamesAll, TellsBody, ServersTell}
 use Rattle.gs_master_entry.specs.Telling as entry
 use Rattle.gs_server_member.specs.Messages as messages
 use Rattle.gs_master_moves.specs.Guards.{Heard, AreRight, IsRight, IsRightAbout}
@@ -75,7 +75,7 @@ tells_of_master c chunk w from to (bodies.MakeCopy handle at new_handle stamp) i
 tells_of_master c chunk w from to (bodies.Reply req result) is tells = tt
 tells_of_master c chunk w from to body is tells = absurd is
 
-pub all_of_master : (c : Setting) (chunk : ℕ) (w : ChunkWorld) (messages : List Message) → AreOfMaster messages → AllByRecursion (entry.Tells c.born chunk w) messages → AllByRecursion (Tells c chunk w) messages
+pub all_of_master : (c : Setting) (chunk : ℕ) (w : ChunkWorld) (messages : List Message) → AreOfMaster messages → AllByRecursion (entry.Tells c.born chunk w) messages → AllByRecursion (ServersTell c chunk w) messages
 all_of_master c chunk w [] is tells = tt
 all_of_master c chunk w (m ∷ messages) is tells = (tells_of_master c chunk w m.from m.to m.body is.0 tells.0, all_of_master c chunk w messages is.1 tells.1)
 

@@ -28,7 +28,7 @@ use Rattle.gs_chunk.specs.Laws.{Birth, IsReached}
 use Rattle.gs_chunk.proofs.Lasting.{sent_stays}
 use Rattle.gs_server_member.specs.Answering.{IsByServer}
 use Rattle.gs_server_member.specs.Showing.{Setting, ShowsLive, setting_of}
-use Rattle.gs_server_member.specs.Telling.{BringsCopy, Tells}
+use Rattle.gs_server_member.specs.Telling.{BringsCopy, ServersTell}
 use Rattle.gs_server_member.specs.Unborn.{KeepsNothing}
 use Rattle.gs_server_member.proofs.Stamps.{stamp_number}
 use Rattle.gs_master_entry.specs.Families.{IsCopiedTo}
@@ -260,8 +260,8 @@ module _ {D : Type 0} (seen : D → List ℕ) (config : Config) (bytes : ReqId �
       }
       left chunk (inr a) texts =
           let c = setting config bytes a.reached.0.epoch in
-          let all = posted_all (λ (m : Message). PushRight bytes m → Tells c chunk a.world m) moment by messages old.sent new.sent posted
-          (sent_then (Tells c chunk a.world) (λ (m : Message). PushRight bytes m → Tells c chunk a.world m) old.sent (λ m tells right. tells) a.shows.sent) (all_of_client c chunk a.world messages are) in
+          let all = posted_all (λ (m : Message). PushRight bytes m → ServersTell c chunk a.world m) moment by messages old.sent new.sent posted
+          (sent_then (ServersTell c chunk a.world) (λ (m : Message). PushRight bytes m → ServersTell c chunk a.world m) old.sent (λ m tells right. tells) a.shows.sent) (all_of_client c chunk a.world messages are) in
           goes_next chunk a texts (record {
             world = a.world;
             leads = events.Rests;

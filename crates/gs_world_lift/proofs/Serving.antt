@@ -20,7 +20,7 @@ use Rattle.gs_chunk.specs.Machine.{ChunkWorld}
 use Rattle.gs_chunk.specs.Machine as machine
 use Rattle.gs_chunk.specs.Laws.{IsReached}
 use Rattle.gs_server_member.specs.Showing.{Setting, ShowsPlace, setting_of}
-use Rattle.gs_server_member.specs.Telling.{BringsCopy, Tells}
+use Rattle.gs_server_member.specs.Telling.{BringsCopy, ServersTell}
 use Rattle.gs_server_member.specs.Answering.{AnswersOf, IsByServer, handle_in}
 use Rattle.gs_server_member.specs.Causes.{Calm, Cause, cause_by, cause_in}
 use Rattle.gs_server_member.specs.Moving.{IsShown, IsSteps, IsToldApart}
@@ -101,8 +101,8 @@ module _ {D : Type 0} (seen : D → List ℕ) (config : Config) (bytes : ReqId �
         }
 
     -- what was told is told to it
-    pub was_told : (id : ℕ) (s : Server) → slice_get old.nodes.servers id ≡ Some s → (message : Message) → IsSent message old.sent → Tells (setting_of bytes born s) chunk w message
-    was_told id s found message was = subst (λ c. Tells c chunk w message) (sym (setting_same born id s (keeps.servers id s found))) (shows.sent was.0 message was.1)
+    pub was_told : (id : ℕ) (s : Server) → slice_get old.nodes.servers id ≡ Some s → (message : Message) → IsSent message old.sent → ServersTell (setting_of bytes born s) chunk w message
+    was_told id s found message was = subst (λ c. ServersTell c chunk w message) (sym (setting_same born id s (keeps.servers id s found))) (shows.sent was.0 message was.1)
 
     -- what happens at it is some events of the machine
     pub steps_at : (id : ℕ) (s after : Server) (messages : List Message) → slice_get old.nodes.servers id ≡ Some s → (goes : ServerGoes old.sent id s after messages)
@@ -130,8 +130,8 @@ module _ {D : Type 0} (seen : D → List ℕ) (config : Config) (bytes : ReqId �
       shows = record {
         members = λ j x at. by_place j x (set_cases old.nodes.servers id j after x (subst (λ xs. slice_get xs j ≡ Some x) servers at));
         master = subst (λ place. ShowsMaster seen chunk place v) (sym master) (master_same seen chunk old.nodes.master w v steps.stays steps.entry known);
-        sent = posted_all (Tells c chunk v) moment (ids.Server id) messages old.sent new.sent posted
-            (sent_then (Tells c chunk w) (Tells c chunk v) old.sent (λ message tells. body_grown c chunk w v steps.stays message.from message.to message.body tells) shows.sent) steps.tells;
+        sent = posted_all (ServersTell c chunk v) moment (ids.Server id) messages old.sent new.sent posted
+            (sent_then (ServersTell c chunk w) (ServersTell c chunk v) old.sent (λ message tells. body_grown c chunk w v steps.stays message.from message.to message.body tells) shows.sent) steps.tells;
       };
       by = AtServer (record { id = id; server = s; after = after; messages = messages; moment = moment; found = found; goes = goes; met = met; servers = servers; master = master; posted = posted; steps = steps; world = refl });
       heard = refl;

@@ -21,7 +21,7 @@ use Rattle.gs_world.proofs.Lasting.{run_lasts}
 use Rattle.gs_chunk.specs.Machine.{ChunkWorld}
 use Rattle.gs_chunk.specs.Events as events
 use Rattle.gs_server_member.specs.Showing.{Setting}
-use Rattle.gs_server_member.specs.Telling.{Tells}
+use Rattle.gs_server_member.specs.Telling.{ServersTell}
 use Rattle.gs_master_entry.proofs.Marking.{same_epoch}
 use Rattle.gs_master_entry.specs.Rows.{AreCopiedSince, CopiesSince}
 use Rattle.gs_world_lift.specs.Copying.{MakesOther}
@@ -59,11 +59,11 @@ module _ {D : Type 0} (seen : D → List ℕ) (config : Config) (bytes : ReqId �
 
   module _ (before behind : Durable) (same : behind ≡ before) (had : HasDurable seen old.nodes.master before) (has : HasDurable seen new.nodes.master behind) (replies : AllByRecursion (λ (m : Message). IsReply m.body) messages)
       (shown : (chunk : ℕ) (w : ChunkWorld) → ShowsMaster seen chunk old.nodes.master w → ShowsMaster seen chunk new.nodes.master w) (unknown : (chunk epoch : ℕ) → IsUnknown seen chunk epoch old.nodes.master → IsUnknown seen chunk epoch new.nodes.master) where
-    reply_tells : (c : Setting) (chunk : ℕ) (w : ChunkWorld) (ms : List Message) → AllByRecursion (λ (m : Message). IsReply m.body) ms → AllByRecursion (Tells c chunk w) ms
+    reply_tells : (c : Setting) (chunk : ℕ) (w : ChunkWorld) (ms : List Message) → AllByRecursion (λ (m : Message). IsReply m.body) ms → AllByRecursion (ServersTell c chunk w) ms
     reply_tells c chunk w [] all = tt
     reply_tells c chunk w (m ∷ ms) all = (by_body m.body all.0, reply_tells c chunk w ms all.1)
       where
-        by_body : (body : Body) → IsReply body → Tells c chunk w (record { from = m.from; to = m.to; body = body })
+        by_body : (body : Body) → IsReply body → ServersTell c chunk w (record { from = m.from; to = m.to; body = body })
         by_body (bodies.Reply req result) is = tt
         by_body body is = absurd is
 
@@ -107,7 +107,7 @@ module _ {D : Type 0} (seen : D → List ℕ) (config : Config) (bytes : ReqId �
           shows = record {
             members = λ id x found. a.shows.members id x (subst (λ xs. slice_get xs id ≡ Some x) servers found);
             master = there;
-            sent = posted_all (Tells c chunk a.world) moment ids.Master messages old.sent new.sent posted a.shows.sent (reply_tells c chunk a.world messages replies);
+            sent = posted_all (ServersTell c chunk a.world) moment ids.Master messages old.sent new.sent posted a.shows.sent (reply_tells c chunk a.world messages replies);
           };
           by = AtMaster (record {
             before = before;

@@ -23,7 +23,7 @@ use Rattle.gs_chunk.proofs.Facts.{reached_world}
 use Rattle.gs_server_member.specs.Answering.{IsByServer}
 use Rattle.gs_server_member.specs.Moving.{IsSteps}
 use Rattle.gs_server_member.specs.Showing.{Setting, ShowsPlace, setting_of}
-use Rattle.gs_server_member.specs.Telling.{BringsCopy, Tells, TellsBody}
+use Rattle.gs_server_member.specs.Telling.{BringsCopy, ServersTell, TellsBody}
 use Rattle.gs_server_member.specs.Unborn as member
 use Rattle.gs_server_member.specs.Unborn.{KeepsNothing, StaysUnborn}
 use Rattle.gs_server_member.proofs.Ticks.{apart_of, eq_same}
@@ -37,7 +37,7 @@ use Rattle.gs_world_lift.proofs.Refusing.{asked_unborn, copied_unborn}
 use Rattle.gs_world_lift.proofs.Serving.{by_server, steps_at}
 
 -- what was said before the birth tells nothing
-pub before_tells : (c : Setting) (chunk : ℕ) (w : ChunkWorld) (m : Message) → IsBefore chunk c.born m → PushRight c.bytes m → Tells c chunk w m
+pub before_tells : (c : Setting) (chunk : ℕ) (w : ChunkWorld) (m : Message) → IsBefore chunk c.born m → PushRight c.bytes m → ServersTell c chunk w m
 before_tells c chunk w m before right = by_body m.body before.0 before.1 right
   where
     IsRight : Body → Type 0

@@ -5,7 +5,7 @@ use Rattle.gs_base.specs.declared.config.Config.{Config}
 use Rattle.gs_base.specs.declared.numbers.ReqId.{ReqId}
 use Rattle.gs_base.specs.declared.numbers.Stamp.{Stamp}
 use Rattle.gs_journal.specs.Records.{fresh, standing}
-use Rattle.gs_replica.specs.declared.op.Outcome.{Outcome}
+use Rattle.gs_replica.specs.declared.op.EditOutcome.{EditOutcome}
 use Rattle.gs_msg.specs.declared.body.Body.{Body}
 use Rattle.gs_msg.specs.declared.body.Body.TheVariants as bodies
 use Rattle.gs_msg.specs.declared.chunk.Chunk.TheVariants as chunks
@@ -30,7 +30,7 @@ use Rattle.gs_world_lift.specs.Waiting.{AllWaitAsked, AsksFor}
 -- ---- what was told
 
 -- a full chunk has passed on the edit for which a request asks, of this chunk, by a message that was sent
-pub record HasPassed (asked : ℕ → Asked) (chunk : ℕ) (sent : Sent) (c : Setting) (w : ChunkWorld) (req : ReqId) (outcome : Outcome) : Type 0 where
+pub record HasPassed (asked : ℕ → Asked) (chunk : ℕ) (sent : Sent) (c : Setting) (w : ChunkWorld) (req : ReqId) (outcome : EditOutcome) : Type 0 where
   pub members : List ℕ
   pub primary : ℕ
   pub under : Stamp
@@ -48,7 +48,7 @@ module _ {D : Type 0} (seen : D → List ℕ) (config : Config) (bytes : ReqId �
   LivesOf h = (chunk : ℕ) → Life seen config bytes chunk h
 
   -- the machine of a chunk has done the edit of a request, or a full chunk has passed it on
-  abbrev pub HasDone : (ℕ → Asked) → (chunk : ℕ) (h : History D) → Life seen config bytes chunk h → ReqId → Outcome → Type 0
+  abbrev pub HasDone : (ℕ → Asked) → (chunk : ℕ) (h : History D) → Life seen config bytes chunk h → ReqId → EditOutcome → Type 0
   HasDone asked chunk h (inl unborn) req outcome = ⊥
   HasDone asked chunk h (inr alive) req outcome =
       (me : ℕ) × (IsAnswered (setting config bytes alive.reached.0.epoch) alive.world me req outcome ⊎ HasPassed asked chunk h.sent (setting config bytes alive.reached.0.epoch) alive.world req outcome)

@@ -3,7 +3,7 @@ use Rattle.std.specs.Prelude.{◌≡◌, ◌≢◌, ℕ, List, Some, slice_get}
 use Rattle.gs_base.specs.declared.config.Config.{Config}
 use Rattle.gs_base.specs.declared.numbers.ReqId.{ReqId}
 use Rattle.gs_replica.specs.Stands.{Edit}
-use Rattle.gs_replica.specs.declared.op.Outcome.{Outcome}
+use Rattle.gs_replica.specs.declared.op.EditOutcome.{EditOutcome}
 use Rattle.gs_world.specs.Sent.{Sent}
 use Rattle.gs_chunk.specs.Machine.{ChunkWorld}
 use Rattle.gs_server_member.specs.Requests.{Asked}
@@ -14,5 +14,5 @@ use Rattle.gs_world_lift.specs.Telling.{EditsStandFirst}
 -- Where a full chunk has passed on the edit for which a request asks, no list of a view has an edit of the request: it would stand in the list of the view under whose
 -- stamp it was asked for, behind edits that fill the chunk, and so it would have been passed.
 abbrev pub PassedHasNone : {D : Type 0} → (D → List ℕ) → Config → (ReqId → List ℕ) → (ℕ → Asked) → Type 0
-PassedHasNone {D} seen config bytes asked = (born chunk : ℕ) (sent : Sent) (w : ChunkWorld) (req : ReqId) (outcome : Outcome) → EditsStandFirst seen config bytes asked w.known chunk → HasPassed asked chunk sent (setting config bytes born) w req outcome
+PassedHasNone {D} seen config bytes asked = (born chunk : ℕ) (sent : Sent) (w : ChunkWorld) (req : ReqId) (outcome : EditOutcome) → EditsStandFirst seen config bytes asked w.known chunk → HasPassed asked chunk sent (setting config bytes born) w req outcome
     → (t place : ℕ) (edit : Edit) → slice_get (w.known.list t) place ≡ Some edit → edit.req ≢ req

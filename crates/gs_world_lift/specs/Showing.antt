@@ -20,7 +20,7 @@ use Rattle.gs_world.specs.Lasting.{IsToldIn}
 use Rattle.gs_chunk.specs.Machine.{ChunkWorld}
 use Rattle.gs_chunk.specs.Laws.{IsReached}
 use Rattle.gs_server_member.specs.Showing.{Setting, ShowsPlace}
-use Rattle.gs_server_member.specs.Telling.{Tells}
+use Rattle.gs_server_member.specs.Telling.{ServersTell}
 use Rattle.gs_server_member.specs.Moving.{IsToldApart}
 use Rattle.gs_master_entry.specs.Showing.{ShowsDurable}
 use Rattle.gs_master_entry.specs.Telling as entry
@@ -104,7 +104,7 @@ AreToldApart chunk h w = (id : ℕ) (s : Server) → slice_get h.nodes.servers i
 -- what each server keeps of the chunk is shown, and all that was ever sent says what was said in the machine
 pub record ShowsNodes {D : Type 0} (config : Config) (bytes : ReqId → List ℕ) (born chunk : ℕ) (h : History D) (w : ChunkWorld) : Type 0 where
   pub members : (id : ℕ) (s : Server) → slice_get h.nodes.servers id ≡ Some s → ShowsPlace (setting config bytes born) w.known s.kept.epoch (place_of chunk s) (w.members id)
-  pub sent : AllSent (Tells (setting config bytes born) chunk w) h.sent
+  pub sent : AllSent (ServersTell (setting config bytes born) chunk w) h.sent
 
 module _ {D : Type 0} (seen : D → List ℕ) (config : Config) (bytes : ReqId → List ℕ) where
   -- ---- a chunk
@@ -113,7 +113,7 @@ module _ {D : Type 0} (seen : D → List ℕ) (config : Config) (bytes : ReqId �
   pub record ShowsStore (born chunk : ℕ) (h : History D) (w : ChunkWorld) : Type 0 where
     pub members : (id : ℕ) (s : Server) → slice_get h.nodes.servers id ≡ Some s → ShowsPlace (setting config bytes born) w.known s.kept.epoch (place_of chunk s) (w.members id)
     pub master : ShowsMaster seen chunk h.nodes.master w
-    pub sent : AllSent (Tells (setting config bytes born) chunk w) h.sent
+    pub sent : AllSent (ServersTell (setting config bytes born) chunk w) h.sent
 
   -- a world of the machine, reached from the chunk's birth, shows the store
   pub record IsAlive (chunk : ℕ) (h : History D) : Type 0 where

@@ -1,7 +1,7 @@
 -- What a checkpoint behind the records of an event makes of the master and of its journal, and what is left of both where a disk
 -- fails.
 use Rattle.std.specs.Prelude.{◌≡◌, ◌⊎◌, ◌+◌, ◌<◌, ◌++◌, ℕ, true, false, List, [], ◌∷◌, length, map, Some, None}
-use Rattle.gs_journal.specs.Journal.{State as Journal, Makes, Stands, checkpointed, failures_of_both}
+use Rattle.gs_journal.specs.Journal.{State as Journal, MakesCheckpoint, Stands, checkpointed, failures_of_both}
 use Rattle.gs_journal.specs.Records.{Entry, Text}
 use Rattle.gs_journal.specs.declared.version.Version.TheVariants.{Two}
 use Rattle.gs_master_record.specs.Plain.{PlainEntry, Whole, plain}
@@ -43,7 +43,7 @@ pub record IsCutAnew (before : Durable) (first : Log) (place : ℕ) (old new : E
 
 -- the checkpoint stands alone
 pub record Renews {D : Type 0} (seen : D → List ℕ) (may_leave : D → List ℕ → Type 0) (failures : D → ℕ) (old : Journal D) (body : List ℕ) (new : Journal D) : Type 0 where
-  pub made : Makes old body new
+  pub made : MakesCheckpoint old body new
   pub is_open : new.is_failed ≡ false
   pub quiet : failures_of_both failures new ≡ failures_of_both failures old
   pub stands : Stands seen may_leave new

@@ -4,7 +4,7 @@ use Rattle.std.specs.FinMap as fin
 use Rattle.gs_base.specs.declared.numbers.Stamp.{Stamp}
 use Rattle.gs_base.specs.declared.numbers.ReqId.{ReqId}
 use Rattle.gs_base.specs.declared.refusal.Refusal.{Refusal}
-use Rattle.gs_replica.specs.declared.op.Outcome.{Outcome}
+use Rattle.gs_replica.specs.declared.op.EditOutcome.{EditOutcome}
 use Rattle.gs_msg.specs.declared.node.NodeId.{NodeId}
 use Rattle.gs_msg.specs.declared.node.NodeId.TheVariants as nodes
 use Rattle.gs_msg.specs.declared.message.Message.{Message}
@@ -57,5 +57,5 @@ kept_by handle req refusal s = record {
 }
 
 -- a client's last edit again
-abbrev pub repeated_by : ReqId → Outcome → Bool → Server → Step
+abbrev pub repeated_by : ReqId → EditOutcome → Bool → Server → Step
 repeated_by req outcome known s = record { after = s; sent = cond known (tell s.me (nodes.Client req.client) (bodies.Done req (Ok outcome)) ∷ []) []; said = None }

@@ -2,7 +2,7 @@ use Rattle.std.proofs.Common.{◌≡◌, refl, inl, inr, ◌∙◌, ap, subst}
 use Rattle.std.specs.Prelude.{Option, Some, None, Result, Ok, Err, IfSome, OnOk}
 use Rattle.gs_journal_disk.specs.Disk.{LeavesPairs}
 use Rattle.gs_journal.specs.Records.{standing}
-use Rattle.gs_journal.specs.Journal.{State, IsOldOrNew, IsStillOrNext, Makes, checkpointed}
+use Rattle.gs_journal.specs.Journal.{State, IsOldOrNew, IsStillOrNext, MakesCheckpoint, checkpointed}
 use Rattle.gs_journal.specs.Drafts.{Drafted, draft_refusal}
 use Rattle.gs_journal.proofs.Views.{unmoved, still_there}
 use Rattle.gs_journal.proofs.Drafting.{draft_unrefused, if_err_as}
@@ -66,7 +66,7 @@ pub returns-clause-judged : goal.returns-clause-judged
 returns-clause-judged g c = ok_judged _ _ _ _ c.draft.ensures.judged c.in-Ok.is
 
 pub returns-clause-made : goal.returns-clause-made
-returns-clause-made g c = subst (λ (t : Drafted). OnOk c.write_draft.result (Makes c.args.self.now t.body c.write_draft.new.self)) c.in-Ok.ensures.made c.write_draft.ensures.made
+returns-clause-made g c = subst (λ (t : Drafted). OnOk c.write_draft.result (MakesCheckpoint c.args.self.now t.body c.write_draft.new.self)) c.in-Ok.ensures.made c.write_draft.ensures.made
 
 pub returns-clause-stands : goal.returns-clause-stands
 returns-clause-stands g c = c.write_draft.ensures.stands

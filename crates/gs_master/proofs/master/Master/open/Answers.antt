@@ -2,7 +2,7 @@ use Rattle.std.proofs.Common.{◌≡◌, ◌∙◌, ◌+◌, ap, refl, subst}
 use Rattle.std.specs.Prelude.{Ok}
 use Rattle.gs_journal.specs.Records.{Text}
 use Rattle.gs_master_spec.specs.Handling.{recover}
-use Rattle.gs_master.specs.Recovering.{Tells, log_in}
+use Rattle.gs_master.specs.Recovering.{TellsDurable, log_in}
 use Rattle.gs_master.specs.Starting.{left_in}
 use Rattle.gs_master.proofs.Reopened.{closed_why, generation_anew, generation_left, left_of, opened_held, seen_of, untold_why}
 use Rattle.gs_master.proofs.master.Master.open.Goals as goal
@@ -40,7 +40,7 @@ returns-in-Ok-recover-clause-opened g c =
     let log = log_in c.in-Ok.journal in record {
       entries = recovered.entries;
       durable = recovered.durable;
-      tells = subst (λ t. Tells t recovered.entries recovered.durable) text recovered.tells;
+      tells = subst (λ t. TellsDurable t recovered.entries recovered.durable) text recovered.tells;
       log = log;
       turn = recovered.turn;
       recovers = subst (λ (t : Text). recover c.args.config t.0 recovered.entries log ≡ Ok recovered.turn) text recovered.recovers;

@@ -3,7 +3,7 @@ use Rattle.std.specs.Prelude.{Ok}
 use Rattle.std.specs.FinMap as fin
 use Rattle.std.specs.Ordering.{nat_cmp}
 use Rattle.gs_base_table.specs.Slots.{live}
-use Rattle.gs_replica.specs.declared.op.Outcome.{Outcome}
+use Rattle.gs_replica.specs.declared.op.EditOutcome.{EditOutcome}
 use Rattle.gs_store.specs.Serving.{length_in}
 use Rattle.gs_store.specs.Stores.{slot_of}
 use Rattle.gs_server_lease.specs.Numbering.{outcome_at}
@@ -23,7 +23,7 @@ returns-in-Ok c =
     let v : Server = the_view c.self.inside in
     let edit : Numbered = c.args.edit in
     let stored : ℕ = length_in (slot_of c.args.handle (store_of v)).live in
-    let open_of : Outcome → Open = λ outcome. record { req = edit.req; op = edit.op; bytes = c.in-Ok.bytes; outcome = outcome } in
+    let open_of : EditOutcome → Open = λ outcome. record { req = edit.req; op = edit.op; bytes = c.in-Ok.bytes; outcome = outcome } in
     let outcome : c.outcome_at-outcome.result ≡ outcome_at stored edit.op =
     c.outcome_at-outcome.ensures ∙ ap (λ many. outcome_at many edit.op) (subst (λ (s : Server). c.stored.result ≡ length_in (slot_of c.args.handle (store_of s)).live) (sym c.self.view_is) c.stored.ensures) in
     subst (λ (old : Server). (l : PrimaryLease) → fin.get old.dropped.leases c.args.handle ≡ Some l → ServerSteps (numbered_by c.args.handle l edit old) (Ok (record { sent = c.in_ok-sent.sent; said = None })) old
