@@ -70,7 +70,7 @@ pub record IsOver (e : Event) : Type 0 where
   pub undos : e.undos.items ≡ []
   pub entries : e.entries.items ≡ []
   pub written : e.written.items ≡ []
-  pub memory : e.memory ≡ record { now = e.memory.now; before = e.memory.now; keeps_calls = false }
+  pub memory : e.memory ≡ record (e.memory) { before = e.memory.now; keeps_calls = false; asked = [] }
 
 -- all its records are written
 pub record IsWhole (old new : Event) : Type 0 where

@@ -1,12 +1,11 @@
 -- That records lead on from one another, and what stands once the last of them are taken back.
-use Rattle.std.proofs.Common.{◌≡◌, ◌∙◌, ◌+◌, ◌≤◌, ℕ, suc, List, [], ◌∷◌, ◌++◌, length, take, refl, ap, subst, sym, arith, min, take-take, take_all, length-append, length-take}
+use Rattle.std.proofs.Common.{◌≡◌, ◌∙◌, ◌≤◌, ℕ, suc, List, [], ◌∷◌, ◌++◌, length, take, refl, ap, subst, sym, arith, min, take-take, take_all, length-append, length-take}
 use Rattle.std.specs.Prelude.{Some}
 use Rattle.std.proofs.lemmas.List.{take_min}
 use Rattle.gs_master_record.specs.Plain.{PlainEntry}
 use Rattle.gs_master_spec.specs.Applied.{applied}
 use Rattle.gs_master_spec.specs.Durable.{Durable}
 use Rattle.gs_master_state.specs.inner.TakingBack.{Leads, TakesBack}
-use Rattle.gs_master_spec.specs.Outcomes.{cut}
 use Rattle.gs_master_state.specs.declared.undo.Undo.{Undo}
 
 -- one more

@@ -16,6 +16,7 @@ pub mod Mapping
 pub mod Opened
 pub mod Readings
 pub mod Recording
+pub mod Releasing
 pub mod Renames
 pub mod Reversals
 pub mod Rooms

@@ -1,7 +1,7 @@
 -- That what an event has touched stands there again once it is put back.
 use Rattle.std.proofs.Common.{◌≡◌, ℕ, Bool, true, false, cond, List, [], ◌∷◌, ◌++◌, Option, Some, None, refl, sym, ap, subst, ◌∙◌}
 use Rattle.std.proofs.lemmas.Bool.{false≢true}
-use Rattle.std.specs.Prelude.{is_some, map}
+use Rattle.std.specs.Prelude.{is_some}
 use Rattle.std.specs.declared.cmp.Ordering.{Ordering}
 use Rattle.std.specs.declared.cmp.Ordering.TheVariants.{Less, Equal, Greater}
 use Rattle.std.specs.Ordering.{eq_by_cmp, is_eq, nat_cmp}
@@ -9,7 +9,6 @@ use Rattle.std.specs.Cmp.{IsTotalOrder, nat_cmp_total, on_total}
 use Rattle.std.specs.FinMap as fin
 use Rattle.gs_base.specs.declared.numbers.ClientId.{ClientId}
 use Rattle.gs_lock.specs.declared.lock.Lock.{Lock}
-use Rattle.gs_path.specs.Path.{Name, Path}
 use Rattle.gs_base_table.specs.Slots.{KeepsRoom, set_live}
 use Rattle.gs_master_state.specs.inner.Memories.{KeepsRooms, volatile_of}
 use Rattle.gs_master_spec.specs.Replies.{client_cmp}
@@ -131,14 +130,14 @@ pub calls_keep : (calls : Calls) (v : Volatile) (touched : List Slot) → calls.
 calls_keep calls v touched pending locks unplaced =
     (λ i. with_calls (slots_back v touched) (pending i) (locks i) (unplaced i)) ∙ sym (slots_calls v touched v.pending v.locks v.unplaced)
 
-pub changed_before : (m : Memory) (ss : List Slot) (calls : Option Calls) (kept : NowAndBefore) (v3 : Volatile) (pending : List Pending) (locks : List Lock) (unplaced : List ℕ) (before : Volatile) → tracked_of m ss calls ≡ kept →
+pub changed_before : {asked : List ℕ} (m : Memory) (ss : List Slot) (calls : Option Calls) (kept : NowAndBefore) (v3 : Volatile) (pending : List Pending) (locks : List Lock) (unplaced : List ℕ) (before : Volatile) → tracked_of m ss calls asked ≡ kept →
     kept.keeps_calls ≡ true → kept.before ≡ before → v3 ≡ with_calls (volatile_of m) pending locks unplaced → calls_back calls (slots_back v3 ss) ≡ before
 changed_before m ss calls kept v3 pending locks unplaced before view keeps same is =
     ap (λ v. calls_back calls (slots_back v ss)) is ∙ calls_kept calls (volatile_of m) ss pending locks unplaced (ap (λ (x : NowAndBefore). x.keeps_calls) view ∙ keeps)
     ∙ ap (λ (x : NowAndBefore). x.before) view ∙ same
 
 -- what was asked and told is put back, and the chunks that were new are kept with the calls
-pub rolled_before : (m : Memory) (ss reserved items : List Slot) (calls : Option Calls) (kept : NowAndBefore) (v3 : Volatile) (slot : Slot) (before : Volatile) → tracked_of m ss calls ≡ kept → kept.keeps_calls ≡ true → kept.before ≡ before →
+pub rolled_before : {asked : List ℕ} (m : Memory) (ss reserved items : List Slot) (calls : Option Calls) (kept : NowAndBefore) (v3 : Volatile) (slot : Slot) (before : Volatile) → tracked_of m ss calls asked ≡ kept → kept.keeps_calls ≡ true → kept.before ≡ before →
     reserved ≡ ss → items ≡ reserved ++ slot ∷ [] → slot_back v3 slot ≡ record (volatile_of m) { unplaced = [] } → calls_back calls (slots_back v3 items) ≡ before
 rolled_before m ss reserved items calls kept v3 slot before view keeps is same more back =
     ap (λ xs. calls_back calls (slots_back v3 xs)) (more ∙ ap (λ xs. xs ++ slot ∷ []) same) ∙ ap (calls_back calls) (back_push v3 ss slot)

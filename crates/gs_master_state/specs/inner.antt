@@ -8,6 +8,7 @@ pub mod Leases
 pub mod Memories
 pub mod Plans
 pub mod Recorded
+pub mod Released
 pub mod Replaying
 pub mod Reversing
 pub mod Room

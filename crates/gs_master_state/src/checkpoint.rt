@@ -11,6 +11,7 @@ ghost use Rattle.gs_master_spec.specs.Durable.{has_its_primary, is_listed, upgra
 ghost use Rattle.gs_master_spec.specs.Handling.{unlisted};
 ghost use Rattle.gs_master_state.specs.inner.Memories.{volatile_of};
 ghost use Rattle.gs_master_state.specs.inner.Recorded.{durable_of, settled_by};
+ghost use Rattle.gs_master_state.specs.inner.Released.{GivesUpEach};
 ghost use Rattle.gs_master_spec.specs.Replies.{answer_text, outcome_of};
 ghost use Rattle.gs_master_spec.specs.Whole.{alternate, are_ends, are_hidden_once, are_prepared, checkpoint_of, has_upgrade, is_hidden_twice, is_phase_behind, is_prepared_before, is_view_given, prepared_entry, reference_of, reply_of, settled_of};
 
@@ -353,9 +354,10 @@ impl Recorded {
         let _lease = self.leases.remove(chunk);
     }
 
-    /// Gives chunks up. It takes no memory.
+    /// Gives chunks up, with their room. It takes no memory.
     pub fn tidy(&mut self, chunks: &[Handle])
-        ensures { durable_of self.new ≡ record (durable_of self.old) { chunks = fold fin.remove (durable_of self.old).chunks chunks.now } }
+        ensures value { durable_of self.new ≡ record (durable_of self.old) { chunks = fold fin.remove (durable_of self.old).chunks chunks.now } }
+        ensures gives { GivesUpEach self.old.leases self.new.leases chunks.now }
     {
         for chunk in chunks {
             self.give_up(*chunk);
@@ -379,10 +381,11 @@ impl Memory {
         let _asked = self.moving.remove(chunk);
     }
 
-    /// Of the new chunks these stay, and of those that got no place nothing is asked any more; of those that a restart took out
-    /// nothing is left. It takes no memory.
+    /// Of the new chunks these stay, and of those that got no place nothing is asked any more, and their room is given up; of
+    /// those that a restart took out nothing is left. It takes no memory.
     pub fn keep_new(&mut self, placeless: &[Handle], awaiting: Vec<Handle>)
-        ensures { volatile_of self.new ≡ record (volatile_of self.old) { moving = fold fin.remove (volatile_of self.old).moving placeless.now; unplaced = awaiting.items; taken_out = [] } }
+        ensures value { volatile_of self.new ≡ record (volatile_of self.old) { moving = fold fin.remove (volatile_of self.old).moving placeless.now; unplaced = awaiting.items; taken_out = [] } }
+        ensures gives { GivesUpEach self.old.moving self.new.moving placeless.now }
     {
         for chunk in placeless {
             self.ask_no_more(*chunk);

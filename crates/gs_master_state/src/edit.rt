@@ -6,6 +6,7 @@ ghost use Rattle.gs_master_record.specs.Plain as entries;
 ghost use Rattle.gs_master_record.specs.Plain.{plain_edit, plain_inverse};
 ghost use Rattle.gs_master_spec.specs.Applied.{after_if, chunk_of_edit, forgotten_by, may_edit, names_well, number_of_edit, view_for, with_answer, without_chunks};
 ghost use Rattle.gs_master_state.specs.inner.Recorded.{durable_of, inverses_and, IsToldBack, KeepsRooms, RoomForEach, RoomToKeep, unfit};
+ghost use Rattle.gs_master_state.specs.inner.Released.{GivesUpEach};
 ghost use Rattle.gs_master_spec.specs.Replies.{answer_to, client_cmp};
 ghost use Rattle.gs_master_state.specs.inner.TakingBack.{AreItemsBefore, AreNamesBefore, Enters, IsPlaceBefore, IsUndo, RoomForChunk, RoomForChunks, RoomForReply, with_chunk_before, with_chunks_before, with_leases_before, with_reply_before};
 ghost use Rattle.gs_base_table.specs.Slots.{GivesUpRoom, HasRoom, KeepsRoom, live, set_live};
@@ -187,10 +188,11 @@ impl Recorded {
         let _forgotten = self.leases.remove(chunk);
     }
 
-    /// Chunks are forgotten, and their prepared views kept. There is room for those.
+    /// Chunks are forgotten, with their room, and their prepared views kept. There is room for those.
     fn forget_chunks(&mut self, chunks: &[Handle])
         requires { RoomForEach self.old.phase self.old.prepared chunks.now }
         ensures value { durable_of self.new ≡ without_chunks (durable_of self.old) chunks.now }
+        ensures gives { GivesUpEach self.old.leases self.new.leases chunks.now }
         ensures replies { self.new.replies ≡ self.old.replies }
         ensures inverses { self.new.inverses ≡ self.old.inverses }
     {

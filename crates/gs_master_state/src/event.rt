@@ -4,6 +4,7 @@ ghost use Rattle.std.specs.Ordering.{nat_cmp};
 ghost use Rattle.gs_master_record.specs.Plain.{plain, PlainEntry};
 ghost use Rattle.gs_master_spec.specs.Durable.{Durable};
 ghost use Rattle.gs_master_state.specs.inner.Recorded.{durable_of, KeepsRooms};
+ghost use Rattle.gs_master_state.specs.inner.Released.{all_forgotten, chunks_in, forgotten_in, ReleasesEach};
 ghost use Rattle.gs_master_state.specs.inner.TakingBack.{all_leases_before, all_rooms_before, comes_alone, Enters, IsRefused, IsToldFor, Leads, RoomForAll, StillTakeBack, TakeBack, TakesBack, TakesOneMore};
 ghost use Rattle.gs_base_table.specs.Slots.{live};
 
@@ -14,6 +15,16 @@ use gs_base::Refusal;
 use gs_edit::ListedInverse;
 use gs_master_record::Entry;
 use std::alloc::AllocError;
+
+/// The chunks that a record forgot, as they stood.
+fn forgotten_in(undo: &Undo) -> &[ChunkBefore]
+    ensures { result.now ≡ forgotten_in undo.now }
+{
+    match undo {
+        Undo::Edit(before) => &before.forgotten,
+        _ => &[],
+    }
+}
 
 impl Recorded {
     /// What takes an entry back, if it is an edit and an upgrade stands.
@@ -85,6 +96,7 @@ impl Recorded {
         ensures value { durable_of self.new ≡ durable_of self.old }
         ensures leases { live nat_cmp self.new.leases ≡ live nat_cmp self.old.leases }
         ensures names { self.new.names ≡ self.old.names }
+        ensures room { ReleasesEach self.old.leases self.new.leases (chunks_in forgotten.now) }
     {
         for stood in forgotten {
             self.leases.release(stood.chunk);
@@ -96,16 +108,9 @@ impl Recorded {
     pub fn let_go(&mut self, undo: Undo)
         ensures value { durable_of self.new ≡ durable_of self.old }
         ensures leases { live nat_cmp self.new.leases ≡ live nat_cmp self.old.leases }
+        ensures room { ReleasesEach self.old.leases self.new.leases (chunks_in (forgotten_in undo)) }
     {
-        let before = match undo {
-            Undo::Edit(before) => before,
-            other => {
-                drop(other);
-                return;
-            }
-        };
-        self.release_each(&before.forgotten);
-        drop(before);
+        self.release_each(forgotten_in(&undo));
     }
 
     /// The same of the last record. Names that were kept as they stood before its edit follow it, and stand by for a later one;
@@ -114,6 +119,7 @@ impl Recorded {
         requires { (before : Durable) × TakesBack undo before (durable_of self.old) }
         ensures value { durable_of self.new ≡ durable_of self.old }
         ensures leases { live nat_cmp self.new.leases ≡ live nat_cmp self.old.leases }
+        ensures room { ReleasesEach self.old.leases self.new.leases (chunks_in (forgotten_in undo)) }
     {
         let before = match undo {
             Undo::Edit(before) => before,
@@ -135,13 +141,14 @@ impl Recorded {
     }
 
     /// All records of an event stand, which are those that lead to what stands now. They are taken back no more, and no
-    /// place is kept.
+    /// place is kept. The chunks that they forgot have no room any more.
     pub fn let_all_stand(&mut self, undos: &mut Vec<Undo>)
         requires { (entries : List PlainEntry) × ((before : Durable) × Leads entries undos.old.items before (durable_of self.old)) }
         ensures none { undos.new.items ≡ [] }
         ensures value { durable_of self.new ≡ durable_of self.old }
         ensures leases { live nat_cmp self.new.leases ≡ live nat_cmp self.old.leases }
         ensures place { self.new.names.place ≡ None }
+        ensures room { ReleasesEach self.old.leases self.new.leases (all_forgotten undos.old.items) }
     {
         if let Some(undo) = undos.pop() {
             self.let_last_go(undo);
@@ -155,6 +162,7 @@ impl Recorded {
         ensures value { durable_of self.new ≡ durable_of self.old }
         ensures leases { live nat_cmp self.new.leases ≡ live nat_cmp self.old.leases }
         ensures place { self.new.names.place ≡ None }
+        ensures room { ReleasesEach self.old.leases self.new.leases (all_forgotten undos.old.items) }
     {
         while let Some(undo) = undos.pop() {
             self.let_go(undo);

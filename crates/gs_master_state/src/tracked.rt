@@ -1,10 +1,11 @@
 // What is kept in memory alone while an event lasts, with what takes each change of it back.
-ghost use Rattle.std.specs.Prelude.{◌≡◌, OnOk, fold, is_some, true, false, []};
+ghost use Rattle.std.specs.Prelude.{◌≡◌, ◌++◌, ◌∷◌, OnOk, fold, is_some, true, false, []};
 ghost use Rattle.std.specs.FinMap as fin;
 ghost use Rattle.std.specs.Ordering.{nat_cmp};
 ghost use Rattle.gs_base_table.specs.Slots.{HasRoom};
 ghost use Rattle.gs_master_state.specs.inner.Memories.{KeepsRooms, volatile_of};
 ghost use Rattle.gs_master_spec.specs.Replies.{client_cmp};
+ghost use Rattle.gs_master_state.specs.inner.Released.{GivesUpEach, HaveNoFreeRoom, ReleasesEach};
 ghost use Rattle.gs_master_state.specs.inner.Tracked.{HasRoomBack, HaveRoomBack, rooms_before, slot_back, slots_back};
 ghost use Rattle.gs_master_spec.specs.Volatile.{behind_restart, changed, with_restored};
 ghost use Rattle.gs_master_spec.specs.declared.change.Change.TheVariants as changes;
@@ -46,6 +47,8 @@ pub struct Tracked {
     memory: Memory,
     touched: Vec<Slot>,
     calls: Option<Calls>,
+    /// The chunks for which an event asks, or asks no more. Their room stays until it is over.
+    asked: Vec<Handle>,
 }
 
 impl Drop for Tracked {
@@ -54,6 +57,7 @@ impl Drop for Tracked {
             memory: _,
             touched: _,
             calls: _,
+            asked: _,
         } = self;
     }
 }
@@ -65,7 +69,7 @@ impl Model for Tracked {
 
     ghost coded = { coded_now_and_before };
 
-    ghost view = { λ t. tracked_of t.memory t.touched.items t.calls };
+    ghost view = { λ t. tracked_of t.memory t.touched.items t.calls t.asked.items };
 
     ghost invariant = { λ t. HaveRoomBack t.memory t.touched.items };
 }
@@ -139,26 +143,26 @@ fn put_all_back(memory: &mut Memory, touched: &mut Vec<Slot>)
     }
 }
 
-/// Gives up the room of the chunks for which nothing is asked any more.
-fn release_all(memory: &mut Memory, touched: Vec<Slot>)
-    ensures { volatile_of memory.new ≡ volatile_of memory.old }
+/// Gives up the room of those of these chunks for which nothing is asked.
+fn release_all(memory: &mut Memory, chunks: &[Handle])
+    ensures value { volatile_of memory.new ≡ volatile_of memory.old }
+    ensures room { ReleasesEach memory.old.moving memory.new.moving chunks.now }
 {
-    for slot in touched {
-        if let Slot::Asked(chunk, _) = slot {
-            memory.moving.release(chunk);
-        }
+    for chunk in chunks {
+        memory.moving.release(*chunk);
     }
 }
 
 impl Tracked {
     /// As a restart leaves it that takes these chunks out.
     pub fn new(alloc: Global, taken_out: Vec<Handle>) -> Tracked
-        ensures { result ≡ record { now = behind_restart taken_out.items; before = behind_restart taken_out.items; keeps_calls = false } }
+        ensures { result ≡ record { now = behind_restart taken_out.items; before = behind_restart taken_out.items; keeps_calls = false; rooms = result.rooms; asked = [] } }
     {
         Tracked {
             memory: Memory::new(alloc, taken_out),
             touched: Vec::new(alloc),
             calls: None,
+            asked: Vec::new(alloc),
         }
     }
 
@@ -190,7 +194,9 @@ impl Tracked {
     fn ask(&mut self, chunk: Handle, asking: Asking) -> Result<(), AllocError>
         ensures now { OnOk result (self.new.now ≡ changed self.old.now (changes.Ask chunk asking)) }
         ensures before { self.new.before ≡ self.old.before }
+        ensures asked { OnOk result (self.new.asked ≡ self.old.asked ++ chunk ∷ []) }
     {
+        self.asked.push(chunk)?;
         self.memory.moving.reserve(chunk)?;
         self.touched.reserve(1)?;
         let asked = self.memory.moving.take(chunk);
@@ -212,10 +218,12 @@ impl Tracked {
         ensures now { OnOk result (self.new.now ≡ changed self.old.now (changes.Settled chunk)) }
         ensures before { self.new.before ≡ self.old.before }
         ensures calls { self.new.keeps_calls ≡ self.old.keeps_calls }
+        ensures asked { is_some (fin.get self.old.now.moving chunk) ≡ true → OnOk result (self.new.asked ≡ self.old.asked ++ chunk ∷ []) }
     {
         if !self.is_asked(chunk) {
             return Ok(());
         }
+        self.asked.push(chunk)?;
         self.memory.moving.reserve(chunk)?;
         self.touched.reserve(1)?;
         let asked = self.memory.moving.take(chunk);
@@ -387,10 +395,10 @@ impl Tracked {
         }
     }
 
-    /// Takes all changes of the event back. It takes no memory.
-    #[tactic(auto, using(crate::proofs::Tracking::rooms_none))]
+    /// Takes all changes of the event back, and gives up the room that was made to ask for chunks. It takes no memory.
     pub fn take_back(&mut self)
-        ensures { self.new ≡ record { now = self.old.before; before = self.old.before; keeps_calls = false } }
+        ensures stood { self.new ≡ record { now = self.old.before; before = self.old.before; keeps_calls = false; rooms = self.new.rooms; asked = [] } }
+        ensures room { HaveNoFreeRoom self.new.rooms self.old.asked }
     {
         put_all_back(&mut self.memory, &mut self.touched);
         if let Some(calls) = self.calls.take() {
@@ -398,31 +406,35 @@ impl Tracked {
             self.memory.locks = calls.locks;
             self.memory.unplaced = calls.unplaced;
         }
+        self.accept();
     }
 
     /// The event is over: its changes stay. It gives up the room of the chunks for which nothing is asked any more.
     #[tactic(auto, using(crate::proofs::Tracking::rooms_none))]
     pub fn accept(&mut self)
-        ensures { self.new ≡ record { now = self.old.now; before = self.old.now; keeps_calls = false } }
+        ensures stays { self.new ≡ record { now = self.old.now; before = self.old.now; keeps_calls = false; rooms = self.new.rooms; asked = [] } }
+        ensures room { ReleasesEach self.old.rooms self.new.rooms self.old.asked }
     {
         self.calls = None;
-        if self.touched.is_empty() {
-            return;
-        }
-        let touched = mem::replace(&mut self.touched, Vec::new(self.memory.alloc));
-        release_all(&mut self.memory, touched);
+        self.touched = Vec::new(self.memory.alloc);
+        release_all(&mut self.memory, &self.asked);
+        self.asked = Vec::new(self.memory.alloc);
     }
 
     /// The same, behind which a checkpoint is written: of the new chunks these stay, of those that got no place nothing is asked
     /// any more, and of those that a restart took out nothing is left. It takes no memory.
+    #[tactic(auto, using(crate::proofs::Tracking::rooms_none))]
     pub fn accept_new(&mut self, placeless: &[Handle], awaiting: Vec<Handle>)
         ensures before { self.new.before ≡ self.new.now }
         ensures calls { self.new.keeps_calls ≡ false }
+        ensures asked { self.new.asked ≡ [] }
         ensures now { self.new.now ≡ record self.old.now { moving = fold fin.remove self.old.now.moving placeless.now; unplaced = awaiting.items; taken_out = [] } }
+        ensures room { HaveNoFreeRoom self.new.rooms self.old.asked }
+        ensures gives { GivesUpEach self.old.rooms self.new.rooms placeless.now }
     {
         self.calls = None;
-        let accepted = mem::replace(&mut self.touched, Vec::new(self.memory.alloc));
-        release_all(&mut self.memory, accepted);
+        self.touched.clear();
         self.memory.keep_new(placeless, awaiting);
+        self.accept();
     }
 }

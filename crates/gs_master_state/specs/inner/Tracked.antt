@@ -1,28 +1,34 @@
 -- What is kept in memory alone while an event lasts: as it is now, and as it was before, to which want of memory leads back.
 use Rattle.std.specs.Prelude.{◌≡◌, ℕ, Bool, true, false, List, [], ◌∷◌, Option, Some, None, is_some, refl}
-use Rattle.std.specs.Coded.{Coded, code_by, coded×, coded_bool}
+use Rattle.std.specs.Coded.{Coded, code_by, coded×, coded_bool, coded_list, coded_option, coded_ℕ}
 use Rattle.std.specs.Ordering.{nat_cmp}
 use Rattle.gs_base_table.specs.Slots.{HasRoom, live, set_live}
 use Rattle.gs_master_state.specs.inner.Codes.{coded_volatile}
 use Rattle.gs_master_state.specs.inner.Memories.{volatile_of}
 use Rattle.gs_master_spec.specs.Replies.{client_cmp}
 use Rattle.gs_master_spec.specs.Volatile.{Volatile, nothing}
+use Rattle.gs_master_spec.specs.contracts.asking.Asking as asking
 use Rattle.gs_master_spec.specs.declared.asking.Asking.{Asking}
 use Rattle.gs_master_state.specs.declared.memory.Memory.{Memory}
 use Rattle.gs_master_state.specs.declared.tracked.Calls.{Calls}
 use Rattle.gs_master_state.specs.declared.tracked.Slot.{Slot}
 use Rattle.gs_master_state.specs.declared.tracked.Slot.TheVariants as slots
 
--- and whether the calls that waited before are kept
+-- and whether the calls that waited before are kept; the room of chunks for what is asked, and those for which the event asked or
+-- asks no more
 pub record NowAndBefore : Type 0 where
   pub now : Volatile
   pub before : Volatile
   pub keeps_calls : Bool
+  pub rooms : List (ℕ × Option Asking)
+  pub asked : List ℕ
 
 abbrev pub coded_now_and_before : Coded NowAndBefore
 coded_now_and_before =
-    code_by (Volatile × (Volatile × Bool)) (coded× coded_volatile (coded× coded_volatile coded_bool)) (λ v. (v.now, (v.before, v.keeps_calls)))
-    (λ p. record { now = p.0; before = p.1.0; keeps_calls = p.1.1 }) (λ _. refl)
+    code_by (Volatile × (Volatile × (Bool × (List (ℕ × Option Asking) × List ℕ))))
+    (coded× coded_volatile (coded× coded_volatile (coded× coded_bool (coded× (coded_list (coded× coded_ℕ (coded_option asking.the_row.coded))) (coded_list coded_ℕ)))))
+    (λ v. (v.now, (v.before, (v.keeps_calls, (v.rooms, v.asked)))))
+    (λ p. record { now = p.0; before = p.1.0; keeps_calls = p.1.1.0; rooms = p.1.1.1.0; asked = p.1.1.1.1 }) (λ _. refl)
 
 -- what stood at a place stands there again
 abbrev pub slot_back : Volatile → Slot → Volatile
@@ -42,9 +48,14 @@ abbrev pub calls_back : Option Calls → Volatile → Volatile
 calls_back None v = v
 calls_back (Some calls) v = record v { unplaced = calls.unplaced.items; pending = calls.pending.items; locks = calls.locks }
 
-abbrev pub tracked_of : Memory → List Slot → Option Calls → NowAndBefore
-tracked_of memory touched calls =
-    record { now = volatile_of memory; before = calls_back calls (slots_back (volatile_of memory) touched); keeps_calls = is_some calls }
+abbrev pub tracked_of : Memory → List Slot → Option Calls → List ℕ → NowAndBefore
+tracked_of memory touched calls asked = record {
+  now = volatile_of memory;
+  before = calls_back calls (slots_back (volatile_of memory) touched);
+  keeps_calls = is_some calls;
+  rooms = memory.moving;
+  asked = asked;
+}
 
 -- ---- room, so that taking back wants no memory
 

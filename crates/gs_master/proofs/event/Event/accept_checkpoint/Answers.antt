@@ -16,10 +16,10 @@ returns-clause-renewed c =
         undos = c.let_all_go.ensures.none;
         entries = c.clear.ensures.items;
         written = c.clear-2.ensures.items;
-        memory = λ i. record { now = c.accept_new.new.self.now; before = m.before i; keeps_calls = m.calls i };
+        memory = λ i. record (c.accept_new.new.self) { before = m.before i; keeps_calls = m.calls i; asked = m.asked i };
       };
       after = renewed_gives c.args.self.now c.args.renewal (durable_of c.tidy.new.self) c.accept_new.new.self.now c.deref.result.now c.deref-2.result.now c.requires
-          (c.tidy.ensures ∙ ap (λ (d : Durable). record d { chunks = fold fin.remove d.chunks c.deref.result.now }) c.let_all_go.ensures.value) c.deref.ensures.value m.now c.deref-2.ensures.value;
+          (c.tidy.ensures.value ∙ ap (λ (d : Durable). record d { chunks = fold fin.remove d.chunks c.deref.result.now }) c.let_all_go.ensures.value) c.deref.ensures.value m.now c.deref-2.ensures.value;
       is_entry = subst (IsEntry Two) c.requires.entry c.requires.is_entry;
       sends = refl;
       says = refl;

@@ -1,4 +1,4 @@
-use Rattle.std.proofs.Common.{◌∙◌, ap, false, length, map, refl, subst, sym, take}
+use Rattle.std.proofs.Common.{◌∙◌, [], ap, false, length, map, refl, subst, sym, take}
 use Rattle.std.specs.Prelude.{Some, option_map}
 use Rattle.std.proofs.lemmas.Option.{slice_get-map, slice_get_read}
 use Rattle.gs_master_record.specs.Plain.{plain}
@@ -16,13 +16,13 @@ returns-clause-cut c = λ before has.
     let e = c.args.self.now in
     let es = map plain e.entries.items in
     let left = c.take_back_to.new.undos.items in
-    let back = c.take_back.ensures in
+    let back = c.take_back.ensures.stood in
     record {
       over = record {
         undos = c.let_all_go.ensures.none;
         entries = c.clear.ensures.items;
         written = c.clear-2.ensures.items;
-        memory = back ∙ sym (ap (λ (m : NowAndBefore). record { now = m.now; before = m.now; keeps_calls = false }) back);
+        memory = back ∙ sym (ap (λ (m : NowAndBefore). record m { before = m.now; keeps_calls = false; asked = [] }) back);
       };
       within = c.requires.within;
       after = cut_gives (stood_before before (log_of c.args.first) e) es left c.args.place (durable_of c.let_all_go.new.self) c.take_back.new.self.now (log_of c.log_behind-self.result)

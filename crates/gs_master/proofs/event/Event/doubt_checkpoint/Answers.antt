@@ -23,13 +23,13 @@ returns-clause-cut c = λ before first has.
     let place = length e.entries.items in
     let many = sym (length-map e.entries.items plain) in
     let front = all_before es whole place many in
-    let back = c.take_back.ensures in
+    let back = c.take_back.ensures.stood in
     record {
       over = record {
         undos = c.let_all_go.ensures.none;
         entries = c.clear.ensures.items;
         written = c.clear-2.ensures.items;
-        memory = back ∙ sym (ap (λ (m : NowAndBefore). record { now = m.now; before = m.now; keeps_calls = false }) back);
+        memory = back ∙ sym (ap (λ (m : NowAndBefore). record m { before = m.now; keeps_calls = false; asked = [] }) back);
       };
       within = let more = length-append es (whole ∷ []) in omega (arith, more, many);
       after = cut_gives (stood_before before first e) (and_checkpoint e) e.undos.items place (durable_of c.let_all_go.new.self) c.take_back.new.self.now (log_of e.log) (Failed (Some (plain c.args.entry)))

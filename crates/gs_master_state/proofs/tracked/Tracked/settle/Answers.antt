@@ -7,8 +7,8 @@ use Rattle.gs_master_state.specs.declared.tracked.Slot.TheVariants as slots
 use Rattle.gs_master_state.proofs.Tracking.{take_before, rooms_stay, rooms_pushed}
 use Rattle.gs_master_state.proofs.tracked.Tracked.settle.Goals as goal
 
-pub invariant_of-self : goal.invariant_of-self
-invariant_of-self c = rooms_stay c.self.inside.memory _ c.self.inside.touched.items (record { moving = c.reserve.ensures.keeps; restored = record { keeps = λ key room. room }; replies = record { keeps = λ key room. room } }) c.self.invariant
+pub invariant_of-self-in_err-reserve : goal.invariant_of-self-in_err-reserve
+invariant_of-self-in_err-reserve c = rooms_stay c.self.inside.memory _ c.self.inside.touched.items (record { moving = c.reserve.ensures.keeps; restored = record { keeps = λ key room. room }; replies = record { keeps = λ key room. room } }) c.self.invariant
 
 pub invariant_of-self-in_err-reserve-2 : goal.invariant_of-self-in_err-reserve-2
 invariant_of-self-in_err-reserve-2 c =
