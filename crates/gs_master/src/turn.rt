@@ -14,6 +14,7 @@ ghost use Rattle.gs_master_spec.specs.Durable.{Durable};
 ghost use Rattle.gs_master_spec.specs.Outcomes.{caller_of, cut_refusal, unsure};
 ghost use Rattle.gs_master_state.specs.inner.Plans.{log_of};
 ghost use Rattle.gs_master_state.specs.inner.Recorded.{durable_of};
+ghost use Rattle.gs_master_state.specs.inner.Released.{all_forgotten, HaveNoFreeRoom, ReleasesEach};
 ghost use Rattle.gs_master_spec.specs.State.{Turn as Turn_of};
 ghost use Rattle.gs_master_state.specs.inner.TakingBack.{Leads, RoomForAll};
 
@@ -138,11 +139,13 @@ fn cut_refusal(caller: Option<ReqId>) -> Refusal
 }
 
 impl Event {
-    /// All its records are written, and nothing of it is taken back any more.
+    /// All its records are written, and nothing of it is taken back any more. What it forgot or asks no more has no room.
     fn accept(&mut self)
         requires { (entries : List PlainEntry) × ((before : Durable) × Leads entries self.old.undos.items before (durable_of self.old.recorded)) }
         ensures whole { IsWhole self.old self.new }
         ensures log { self.new.log ≡ self.old.log }
+        ensures leases { ReleasesEach self.old.recorded.leases self.new.recorded.leases (all_forgotten self.old.undos.items) }
+        ensures room { HaveNoFreeRoom self.new.memory.rooms self.old.memory.asked }
     {
         self.recorded.let_all_stand(&mut self.undos);
         self.memory.accept();
