@@ -1,5 +1,5 @@
 -- What a lease more or less does to the counts of servers.
-use Rattle.std.proofs.Common.{◌≡◌, ◌+◌, ◌<◌, ◌≤◌, ◌^◌, ℕ, suc, Bool, true, false, cond, List, [], ◌∷◌, length, Some, None, refl, ap, sym, subst, ◌∙◌, arith}
+use Rattle.std.proofs.Common.{◌≡◌, ◌+◌, ◌<◌, ◌≤◌, ◌^◌, ℕ, suc, Bool, true, false, cond, List, [], ◌∷◌, length, Option, Some, None, refl, ap, sym, subst, ◌∙◌, arith}
 use Rattle.std.specs.Prelude.{slice_index, if◌then◌else◌, nat_lt, ◌||◌}
 use Rattle.std.specs.List.{list_any}
 use Rattle.std.specs.declared.cmp.Ordering.{Ordering}
@@ -11,6 +11,7 @@ use Rattle.std.proofs.lemmas.Bool.{false≢true}
 use Rattle.std.proofs.lemmas.Cmp.{nat_cmp_total}
 use Rattle.gs_base.specs.Members.{is_member}
 use Rattle.gs_lease.specs.declared.lease.Lease.{Lease}
+use Rattle.gs_lease_table.specs.Settlings.{EachTellsSettled, MayTellSettled, tells_settled}
 use Rattle.gs_lease_table.specs.declared.tally.Tally.{Tally}
 use Rattle.gs_lease_table.specs.Tallies.{Adds, CanCount, HasCounted, IsTallyOf, has_primary, one_on, one_primary, replicas, settled_members, tally}
 
@@ -167,3 +168,42 @@ any_primary (e ∷ es) = one_or_more (has_primary e.1) (tally one_primary es) �
 
 pub has_any : (es : List (ℕ × Lease)) (t : Tally) → IsTallyOf es t → nat_lt 0 t.primaries ≡ list_any (λ (e : ℕ × Lease). has_primary e.1) es
 has_any es t are = ap (nat_lt 0) are.primaries ∙ any_primary es
+
+-- ---- each tells a settled view
+
+either_tells : (b : Bool) (x y : Option Lease) → MayTellSettled x → MayTellSettled y → MayTellSettled (cond b x y)
+either_tells true x y here there = here
+either_tells false x y here there = there
+
+one_tells : (x : Option Lease) (lease : Lease) → MayTellSettled x → x ≡ Some lease → tells_settled lease ≡ true
+one_tells x lease tells is = subst MayTellSettled is tells
+
+pub at_one : (m : Leases) (chunk : ℕ) → EachTellsSettled m → MayTellSettled (fin.get m chunk)
+at_one m chunk all = by_lease (fin.get m chunk) refl
+  where
+    by_lease : (x : Option Lease) → fin.get m chunk ≡ x → MayTellSettled x
+    by_lease None is = tt
+    by_lease (Some lease) is = all.each chunk lease is
+
+pub no_lease_tells : (m : Leases) → m ≡ fin.empty → EachTellsSettled m
+no_lease_tells m is = record {
+  each = λ chunk lease found. one_tells None lease tt (sym (fin.get-empty nat_cmp chunk) ∙ ap (λ n. fin.get n chunk) (sym is) ∙ found);
+}
+
+pub fewer_tell : (m n : Leases) (chunk : ℕ) → n ≡ fin.remove m chunk → EachTellsSettled m → EachTellsSettled n
+fewer_tell m n chunk is all = record {
+  each = λ q lease found.
+      one_tells _ lease (either_tells (eq_by_cmp nat_cmp q chunk) None (fin.get m q) tt (at_one m q all)) (sym (ap (λ l. fin.get l q) is ∙ fin.get-remove nat_cmp_total m chunk q) ∙ found);
+}
+
+pub one_more_tells : (m n : Leases) (chunk : ℕ) (put : Lease) → n ≡ fin.insert m chunk put → tells_settled put ≡ true → EachTellsSettled m → EachTellsSettled n
+one_more_tells m n chunk put is tells all = record {
+  each = λ q lease found.
+      one_tells _ lease (either_tells (eq_by_cmp nat_cmp q chunk) (Some put) (fin.get m q) tells (at_one m q all)) (sym (ap (λ l. fin.get l q) is ∙ fin.get-insert nat_cmp_total m chunk put q) ∙ found);
+}
+
+pub same_tell : (m n : Leases) → n ≡ m → EachTellsSettled m → EachTellsSettled n
+same_tell m n is all = subst EachTellsSettled (sym is) all
+
+pub the_taken_tells : (m : Leases) (chunk : ℕ) (before : Option Lease) → before ≡ fin.get m chunk → EachTellsSettled m → MayTellSettled before
+the_taken_tells m chunk before is all = subst MayTellSettled (sym is) (at_one m chunk all)

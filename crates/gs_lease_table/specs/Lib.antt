@@ -1,1 +1,2 @@
+pub mod Settlings
 pub mod Tallies

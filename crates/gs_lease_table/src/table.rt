@@ -1,4 +1,4 @@
-ghost use Rattle.std.specs.Prelude.{◌≡◌, ◌<◌, ◌^◌, IfOk, MatchResult, OnOk, OnSome, None, ℕ, length, map};
+ghost use Rattle.std.specs.Prelude.{◌≡◌, ◌<◌, ◌^◌, IfOk, MatchResult, OnOk, OnSome, None, true, ℕ, length, map};
 ghost use Rattle.std.specs.Option.{option_copied};
 ghost use Rattle.std.specs.FinMap as fin;
 ghost use Rattle.std.specs.List.{list_any};
@@ -7,6 +7,7 @@ ghost use Rattle.std.specs.Ordering.{nat_cmp};
 ghost use Rattle.gs_lease.specs.Chunks.{IsAllQuiet, RefusedFor};
 ghost use Rattle.gs_lease.specs.declared.lease.Lease.{Lease as AnyLease};
 ghost use Rattle.gs_base_table.specs.Slots.{GivesUpRoom, HasRoom, KeepsRoom, live};
+ghost use Rattle.gs_lease_table.specs.Settlings.{EachTellsSettled, MayTellSettled, tells_settled};
 ghost use Rattle.gs_lease_table.specs.Tallies.{AreReplicas, has_primary};
 
 use crate::tally::{Tally, are_few};
@@ -16,8 +17,9 @@ use gs_lease::{AllQuiet, Lease};
 use std::alloc::{AllocError, Global};
 use std::marker::Model;
 
-/// The leases of a master's chunks: a [`Table`] that keeps count of the settled views of which each server is a member, and of
-/// those that have a primary. A change costs what a table's costs and a look at each server; none looks at another chunk.
+/// The leases of a master's chunks, each of which tells a settled view: a [`Table`] that keeps count of the settled views of which
+/// each server is a member, and of those that have a primary. A change costs what a table's costs and a look at each server; none
+/// looks at another chunk.
 pub struct LeaseTable {
     leases: Table<Handle, Lease>,
     tally: Tally,
@@ -38,13 +40,14 @@ impl Model for LeaseTable {
     ghost use Rattle.std.specs.Ordering.{nat_cmp};
     ghost use Rattle.gs_lease.specs.declared.lease.Lease.{Lease};
     ghost use Rattle.gs_base_table.specs.Slots.{live};
+    ghost use Rattle.gs_lease_table.specs.Settlings.{EachTellsSettled};
     ghost use Rattle.gs_lease_table.specs.Tallies.{IsTallyOf};
 
     ghost Value = { List (ℕ × Option Lease) };
 
     ghost view = { λ t. t.leases };
 
-    ghost invariant = { λ t. IsTallyOf (fin.entries (live nat_cmp t.leases)) t.tally };
+    ghost invariant = { λ t. IsTallyOf (fin.entries (live nat_cmp t.leases)) t.tally × EachTellsSettled (live nat_cmp t.leases) };
 }
 
 impl LeaseTable {
@@ -78,6 +81,7 @@ impl LeaseTable {
     pub fn all_quiet(&self) -> Result<AllQuiet, Refusal>
         ensures same { IfOk result (λ quiet. quiet ≡ live nat_cmp self.now) }
         ensures quiet { MatchResult result (λ _. IsAllQuiet (live nat_cmp self.now)) (RefusedFor (live nat_cmp self.now)) }
+        ensures settled { EachTellsSettled (live nat_cmp self.now) }
     {
         AllQuiet::of(&self.leases)
     }
@@ -110,8 +114,10 @@ impl LeaseTable {
 
     /// Puts a lease at a chunk that has room, and answers what stood there. It takes no memory.
     pub fn exchange(&mut self, chunk: Handle, lease: Lease) -> Option<Lease>
-        requires { HasRoom nat_cmp self.old chunk }
+        requires room { HasRoom nat_cmp self.old chunk }
+        requires settled { tells_settled lease ≡ true }
         ensures value { result ≡ fin.get (live nat_cmp self.old) chunk }
+        ensures stood { MayTellSettled result }
         ensures put { live nat_cmp self.new ≡ fin.insert (live nat_cmp self.old) chunk lease }
         ensures keeps { KeepsRoom nat_cmp self.old self.new }
     {
@@ -124,7 +130,8 @@ impl LeaseTable {
 
     /// The same, where what stood there isn't wanted any more.
     pub fn put(&mut self, chunk: Handle, lease: Lease)
-        requires { HasRoom nat_cmp self.old chunk }
+        requires room { HasRoom nat_cmp self.old chunk }
+        requires settled { tells_settled lease ≡ true }
         ensures put { live nat_cmp self.new ≡ fin.insert (live nat_cmp self.old) chunk lease }
         ensures keeps { KeepsRoom nat_cmp self.old self.new }
     {
@@ -134,6 +141,7 @@ impl LeaseTable {
     /// Takes out what stands at a chunk, and leaves its room. It takes no memory.
     pub fn take(&mut self, chunk: Handle) -> Option<Lease>
         ensures value { result ≡ fin.get (live nat_cmp self.old) chunk }
+        ensures stood { MayTellSettled result }
         ensures taken { live nat_cmp self.new ≡ fin.remove (live nat_cmp self.old) chunk }
         ensures keeps { KeepsRoom nat_cmp self.old self.new }
     {

@@ -14,8 +14,12 @@ use Rattle.gs_base.specs.declared.refusal.Refusal.TheVariants.{BadLine, Memory}
 use Rattle.gs_edit.specs.Names.{FitsTree, Undoes, counts_after, takes_memory}
 use Rattle.gs_edit.specs.View.{NamesView, names_of}
 use Rattle.gs_edit.specs.declared.edit.Inverse.{Inverse}
+use Rattle.gs_lease.specs.Transitions.{restored}
 use Rattle.gs_lease.specs.declared.lease.Lease.{Lease}
+use Rattle.gs_lease.specs.declared.view.Term.{Term}
 use Rattle.gs_lease.specs.declared.view.View.{View}
+use Rattle.gs_base.specs.declared.numbers.Stamp.{Stamp}
+use Rattle.gs_lease_table.specs.Settlings.{MayTellSettled, tells_settled}
 use Rattle.gs_path.specs.Path.{path_total}
 use Rattle.gs_master_record.specs.Plain.{PlainEntry, PlainInverse, plain_inverse}
 use Rattle.gs_base.specs.declared.epoch.EpochEnd.{EpochEnd}
@@ -27,7 +31,7 @@ use Rattle.gs_master_spec.specs.Applied.{view_in, with_epoch}
 use Rattle.gs_master_spec.specs.Durable.{Durable, kept_before, prepared_view, with_prepared}
 use Rattle.gs_master_state.specs.inner.Recorded.{Applies, KeepsRooms, chunks_of, settled_by}
 use Rattle.gs_master_spec.specs.Replies.{client_cmp}
-use Rattle.gs_master_state.specs.inner.TakingBack.{AreNamesBefore, Enters, HasPlaceBack, IsEditBefore, TakeBack, TakesBack, RoomAt, RoomBack, RoomForAll, RoomForChunk, RoomForChunks, RoomForReply, all_leases_before, all_rooms_before, leases_before, rooms_before, with_chunk_before, with_chunks_before, with_leases_before, with_moved_before, with_proposed_before, with_reply_before, with_settled_before}
+use Rattle.gs_master_state.specs.inner.TakingBack.{AreNamesBefore, Enters, HasPlaceBack, IsEditBefore, LeaseAt, TakeBack, TakesBack, RoomAt, RoomBack, RoomForAll, RoomForChunk, RoomForChunks, RoomForReply, all_leases_before, all_rooms_before, leases_before, rooms_before, with_chunk_before, with_chunks_before, with_leases_before, with_moved_before, with_proposed_before, with_reply_before, with_settled_before}
 use Rattle.gs_master_spec.specs.declared.asking.Prepared.{Prepared}
 use Rattle.gs_master_state.specs.declared.recorded.Recorded.{Recorded}
 use Rattle.gs_master_spec.specs.declared.reply.KeptReply.{KeptReply}
@@ -97,13 +101,35 @@ pub room_where_stood : {K V : Type 0} {R : K → K → Ordering} (o : IsTotalOrd
 room_where_stood o slots k None is = tt
 room_where_stood {R = R} o slots k (Some v) is = record { slot = held_room (fin.find R k slots) v (is ∙ get-live o slots k) }
 
+-- ---- leases that stood
+
+pub lease_at : (slots : List (ℕ × Option Lease)) (k : ℕ) (before : Option Lease) → HasRoom nat_cmp slots k → MayTellSettled before → LeaseAt slots k before
+lease_at slots k None room tells = tt
+lease_at slots k (Some lease) room tells = (room, tells)
+
+pub lease_at_stays : (slots more : List (ℕ × Option Lease)) (k : ℕ) (before : Option Lease) → LeaseAt slots k before → KeepsRoom nat_cmp slots more → LeaseAt more k before
+lease_at_stays slots more k None room keeps = tt
+lease_at_stays slots more k (Some lease) room keeps = (keeps.keeps k room.0, room.1)
+
+pub lease_where_stood : (slots : List (ℕ × Option Lease)) (k : ℕ) (before : Option Lease) → before ≡ fin.get (live nat_cmp slots) k → MayTellSettled before → LeaseAt slots k before
+lease_where_stood slots k None is tells = tt
+lease_where_stood slots k (Some lease) is tells = (room_where_stood nat_cmp_total slots k (Some lease) is, tells)
+
+pub restored_tells : (view : View) (stamp : Option Stamp) → tells_settled (restored view stamp) ≡ true
+restored_tells view (Some stamp) = refl
+restored_tells view None = by_term view.stamp view.count view.members view.term
+  where
+    by_term : (stamp : Stamp) (count : ℕ) (members : List ℕ) (term : Option Term) → tells_settled (restored (record { stamp = stamp; count = count; members = members; term = term }) None) ≡ true
+    by_term stamp count members None = refl
+    by_term stamp count members (Some term) = refl
+
 room_for_reply_stays : (slots more : List (ClientId × Option KeptReply)) (before : Option ReplyBefore) → RoomForReply slots before → KeepsRoom client_cmp slots more → RoomForReply more before
 room_for_reply_stays slots more None room keeps = tt
 room_for_reply_stays slots more (Some before) room keeps = room_at_stays client_cmp slots more before.client before.reply room keeps
 
 pub room_for_chunk_stays : (r s : Recorded) (before : ChunkBefore) → RoomForChunk r before → KeepsRooms r s → RoomForChunk s before
 room_for_chunk_stays r s before room keeps =
-    (room_at_stays nat_cmp r.leases s.leases before.chunk before.lease room.0 keeps.leases, room_at_stays nat_cmp r.prepared s.prepared before.chunk before.prepared room.1 keeps.prepared)
+    (lease_at_stays r.leases s.leases before.chunk before.lease room.0 keeps.leases, room_at_stays nat_cmp r.prepared s.prepared before.chunk before.prepared room.1 keeps.prepared)
 
 pub room_for_chunks_stays : (r s : Recorded) (chunks : List ChunkBefore) → RoomForChunks r chunks → KeepsRooms r s → RoomForChunks s chunks
 room_for_chunks_stays r s [] room keeps = tt
@@ -112,7 +138,7 @@ room_for_chunks_stays r s (before ∷ more) room keeps = (room_for_chunk_stays r
 -- what taking a record back wants is still there once others were entered or taken back
 pub room_back_stays : (r s : Recorded) (undo : Undo) → RoomBack r undo → KeepsRooms r s → RoomBack s undo
 room_back_stays r s (undos.Said reply) room keeps = room_for_reply_stays r.replies s.replies reply room keeps.replies
-room_back_stays r s (undos.Propose p) room keeps = room_at_stays nat_cmp r.leases s.leases p.chunk p.lease room keeps.leases
+room_back_stays r s (undos.Propose p) room keeps = lease_at_stays r.leases s.leases p.chunk p.lease room keeps.leases
 room_back_stays r s (undos.Settle chunk) room keeps = room_for_chunk_stays r s chunk room keeps
 room_back_stays r s (undos.Holder chunk prepared) room keeps = room_at_stays nat_cmp r.prepared s.prepared chunk prepared room keeps.prepared
 room_back_stays r s (undos.RollbackBegin epoch) room keeps = tt

@@ -9,7 +9,7 @@ ghost use Rattle.gs_master_record.specs.Plain.{plain, plain_edit};
 ghost use Rattle.gs_master_spec.specs.Applied.{with_proposal, with_reply};
 ghost use Rattle.gs_master_state.specs.inner.Recorded.{Applies, durable_of, KeepsRooms, RoomFor, RoomForEach, RoomToKeep};
 ghost use Rattle.gs_master_spec.specs.Replies.{client_cmp};
-ghost use Rattle.gs_master_state.specs.inner.TakingBack.{comes_alone, Enters, IsRefused, IsToldFor, IsUndo, RoomAt, RoomForReply, with_moved_before, with_proposed_before, with_reply_before};
+ghost use Rattle.gs_master_state.specs.inner.TakingBack.{comes_alone, Enters, IsRefused, IsToldFor, IsUndo, LeaseAt, RoomForReply, with_moved_before, with_proposed_before, with_reply_before};
 ghost use Rattle.gs_base_table.specs.Slots.{HasRoom, KeepsRoom, live};
 
 use crate::edit::forgotten_by;
@@ -172,7 +172,7 @@ impl Recorded {
         ensures value { durable_of self.new ≡ record (durable_of self.old) { chunks = with_proposal (durable_of self.old) chunk (fin.get (durable_of self.old).chunks chunk) } }
         ensures chunks { (durable_of self.old).chunks ≡ with_proposed_before chunk result (durable_of self.new).chunks }
         ensures leases { live nat_cmp self.old.leases ≡ with_moved_before chunk result (live nat_cmp self.new.leases) }
-        ensures room { RoomAt nat_cmp self.new.leases chunk result }
+        ensures room { LeaseAt self.new.leases chunk result }
         ensures keeps { KeepsRooms self.old self.new }
     {
         let view = self.view(chunk)?;

@@ -24,7 +24,7 @@ use std::alloc::Global;
 pub struct Recorded {
     pub alloc: Global,
     pub names: HeldNames,
-    /// The chunks that the master knows, by their states. A new one moves and has no settled view.
+    /// The chunks that were settled, by their states. A new one isn't there before it is.
     pub leases: LeaseTable,
     /// The handle of the next chunk, or 0 where none is left. The other counters go the same way.
     pub next_handle: u64,

@@ -7,7 +7,7 @@ ghost use Rattle.gs_master_record.specs.Plain.{plain_inverse, PlainInverse};
 ghost use Rattle.gs_master_spec.specs.Durable.{Durable};
 ghost use Rattle.gs_master_state.specs.inner.Recorded.{durable_of, KeepsRooms};
 ghost use Rattle.gs_master_spec.specs.Replies.{client_cmp};
-ghost use Rattle.gs_master_state.specs.inner.TakingBack.{AreItemsBefore, AreNamesBefore, HasPlaceBack, IsEditBefore, leases_before, place_before, RoomAt, RoomBack, RoomForChunk, RoomForChunks, RoomForReply, rooms_before, TakesBack, with_chunk_before, with_chunks_before, with_leases_before, with_moved_before, with_proposed_before, with_reply_before};
+ghost use Rattle.gs_master_state.specs.inner.TakingBack.{AreItemsBefore, AreNamesBefore, HasPlaceBack, IsEditBefore, LeaseAt, leases_before, place_before, RoomAt, RoomBack, RoomForChunk, RoomForChunks, RoomForReply, rooms_before, TakesBack, with_chunk_before, with_chunks_before, with_leases_before, with_moved_before, with_proposed_before, with_reply_before};
 ghost use Rattle.gs_base_table.specs.Slots.{HasRoom, KeepsRoom, live, set_live};
 
 use crate::held_names::HeldNames;
@@ -162,7 +162,7 @@ fn put_back<K: Key + Drop, V: Drop>(table: &mut Table<K, V>, key: K, before: Opt
 
 /// What stood at a chunk stands there again, or nothing.
 fn put_lease_back(leases: &mut LeaseTable, chunk: Handle, before: Option<Lease>)
-    requires { RoomAt nat_cmp leases.old chunk before }
+    requires { LeaseAt leases.old chunk before }
     ensures put { live nat_cmp leases.new ≡ set_live chunk before (live nat_cmp leases.old) }
     ensures keeps { KeepsRoom nat_cmp leases.old leases.new }
 {
@@ -187,7 +187,7 @@ fn put_reply_back(replies: &mut Table<ClientId, KeptReply>, before: Option<Reply
 
 /// The lease of a chunk stands again that moves since, if it was settled.
 fn put_moved_back(leases: &mut LeaseTable, chunk: Handle, before: Option<Lease>)
-    requires { RoomAt nat_cmp leases.old chunk before }
+    requires { LeaseAt leases.old chunk before }
     ensures put { live nat_cmp leases.new ≡ with_moved_before chunk before (live nat_cmp leases.old) }
     ensures keeps { KeepsRoom nat_cmp leases.old leases.new }
 {
@@ -217,7 +217,7 @@ fn put_inverses_back(inverses: &mut Vec<ListedInverse>, was_put: bool)
 impl Recorded {
     /// A proposal is taken back.
     fn take_proposal_back(&mut self, before: ProposalBefore)
-        requires { RoomAt nat_cmp self.old.leases before.chunk before.lease }
+        requires { LeaseAt self.old.leases before.chunk before.lease }
         ensures value { durable_of self.new ≡ record (durable_of self.old) { chunks = with_proposed_before before.chunk before.lease (durable_of self.old).chunks; next_handle = before.next_handle; next_version = before.next_version } }
         ensures leases { live nat_cmp self.new.leases ≡ with_moved_before before.chunk before.lease (live nat_cmp self.old.leases) }
         ensures keeps { KeepsRooms self.old self.new }

@@ -13,6 +13,7 @@ use Rattle.gs_path.specs.Path.{Path}
 use Rattle.gs_tree.specs.declared.inverse.TreeInverse.TheVariants.{Moved}
 use Rattle.gs_edit.specs.declared.listed.ListedInverse.{ListedInverse}
 use Rattle.gs_lease.specs.declared.lease.Lease.{Lease}
+use Rattle.gs_lease_table.specs.Settlings.{tells_settled}
 use Rattle.gs_master_record.specs.Encoding.{new_store}
 use Rattle.gs_master_record.specs.Plain.{plain_inverse, PlainEdit, Mkdirs, Create, Rename, Hide, Unhide, Remove, AddChunk, Cow, Snapshot, Forget, PlainEntry, Edited, Propose, Prepare, Whole}
 use Rattle.gs_master_record.specs.declared.checkpoint.Phase.TheVariants.{Rolling, Upgrade}
@@ -193,12 +194,17 @@ abbrev pub RoomAt : {K V : Type 0} → (K → K → Ordering) → List (K × Opt
 RoomAt R slots key None = Unit {0}
 RoomAt R slots key (Some value) = HasRoom R slots key
 
+-- and so can a lease, which tells a settled view
+abbrev pub LeaseAt : List (ℕ × Option Lease) → ℕ → Option Lease → Type 0
+LeaseAt slots chunk None = Unit {0}
+LeaseAt slots chunk (Some lease) = HasRoom nat_cmp slots chunk × (tells_settled lease ≡ true)
+
 abbrev pub RoomForReply : List (ClientId × Option KeptReply) → Option ReplyBefore → Type 0
 RoomForReply slots None = Unit {0}
 RoomForReply slots (Some before) = RoomAt client_cmp slots before.client before.reply
 
 abbrev pub RoomForChunk : Recorded → ChunkBefore → Type 0
-RoomForChunk r before = RoomAt nat_cmp r.leases before.chunk before.lease × RoomAt nat_cmp r.prepared before.chunk before.prepared
+RoomForChunk r before = LeaseAt r.leases before.chunk before.lease × RoomAt nat_cmp r.prepared before.chunk before.prepared
 
 abbrev pub RoomForChunks : Recorded → List ChunkBefore → Type 0
 RoomForChunks r [] = Unit {0}
@@ -223,7 +229,7 @@ all_rooms_before (undo ∷ undos) r = rooms_before undo (all_rooms_before undos 
 -- what taking a record back wants, so that it takes no memory
 abbrev pub RoomBack : Recorded → Undo → Type 0
 RoomBack r (undos.Said reply) = RoomForReply r.replies reply
-RoomBack r (undos.Propose p) = RoomAt nat_cmp r.leases p.chunk p.lease
+RoomBack r (undos.Propose p) = LeaseAt r.leases p.chunk p.lease
 RoomBack r (undos.Settle chunk) = RoomForChunk r chunk
 RoomBack r (undos.Holder chunk prepared) = RoomAt nat_cmp r.prepared chunk prepared
 RoomBack r (undos.RollbackBegin epoch) = Unit {0}

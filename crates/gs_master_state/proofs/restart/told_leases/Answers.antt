@@ -1,7 +1,9 @@
-use Rattle.std.proofs.Common.{◌≡◌, ◌∙◌, ◌<◌, ◌+◌, ◌-◌, arith, ap, length}
+use Rattle.std.proofs.Common.{if◌then◌else◌, Some, None, ◌≡◌, ◌∙◌, ◌<◌, ◌+◌, ◌-◌, arith, ap, subst, sym, true, length}
 use Rattle.std.specs.FinMap as fin
 use Rattle.std.specs.Ordering.{nat_cmp}
 use Rattle.gs_base_table.specs.Slots.{live}
+use Rattle.gs_lease_table.specs.Settlings.{tells_settled}
+use Rattle.gs_master_state.proofs.Before.{restored_tells}
 use Rattle.gs_master_state.proofs.Readings.{leases_more, leases_none}
 use Rattle.gs_master_state.proofs.restart.told_leases.Goals as goal
 
@@ -10,6 +12,11 @@ loop-left-init c = record {
   bound = omega arith;
   chunks = leases_none c.args.entries.now (length c.args.entries.now) (live nat_cmp c.new-leases.result) (omega arith) c.new-leases.ensures;
 }
+
+pub put-requires-clause-settled : goal.put-requires-clause-settled
+put-requires-clause-settled c =
+    let x = c.index-entries-left.result in
+    subst (λ lease. tells_settled lease ≡ true) (sym c.lease_of.ensures) (restored_tells x.settled.view (if x.is_moving then Some x.settled.view.stamp else None))
 
 pub loop-left-preserved : goal.loop-left-preserved
 loop-left-preserved c =

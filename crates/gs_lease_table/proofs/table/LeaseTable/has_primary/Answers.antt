@@ -10,4 +10,4 @@ use Rattle.gs_lease_table.proofs.Changed.{has_any}
 use Rattle.gs_lease_table.proofs.table.LeaseTable.has_primary.Goals as goal
 
 pub returns : goal.returns
-returns c = has_any (fin.entries (live nat_cmp c.self.inside.leases)) c.self.inside.tally c.self.invariant ∙ ap (λ t. list_any (λ (e : ℕ × Lease). has_primary e.1) (fin.entries (live nat_cmp t))) c.self.view_is
+returns c = has_any (fin.entries (live nat_cmp c.self.inside.leases)) c.self.inside.tally c.self.invariant.0 ∙ ap (λ t. list_any (λ (e : ℕ × Lease). has_primary e.1) (fin.entries (live nat_cmp t))) c.self.view_is

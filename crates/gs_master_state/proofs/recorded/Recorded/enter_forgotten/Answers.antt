@@ -6,7 +6,7 @@ use Rattle.gs_base_table.specs.Slots.{live}
 use Rattle.gs_master_state.specs.inner.Held.{HeldView}
 use Rattle.gs_master_state.specs.inner.Recorded.{chunks_of, durable_of}
 use Rattle.gs_master_state.proofs.Recording.{chunks_remove, with_others}
-use Rattle.gs_master_state.proofs.Before.{chunk_undone, room_at_stays, room_where_stood, same_replies_room, same_room, taken_out}
+use Rattle.gs_master_state.proofs.Before.{chunk_undone, lease_at_stays, lease_where_stood, room_at_stays, room_where_stood, same_replies_room, same_room, taken_out}
 use Rattle.gs_master_state.proofs.recorded.Recorded.enter_forgotten.Goals as goal
 
 pub returns-clause-value : goal.returns-clause-value
@@ -27,7 +27,7 @@ returns-clause-leases c =
 
 pub returns-clause-room : goal.returns-clause-room
 returns-clause-room c = (
-  room_at_stays nat_cmp _ _ c.args.chunk c.take-lease.result (room_where_stood nat_cmp_total c.keep_prepared.new.self.leases c.args.chunk c.take-lease.result c.take-lease.ensures.value) c.take-lease.ensures.keeps,
+  lease_at_stays _ _ c.args.chunk c.take-lease.result (lease_where_stood c.keep_prepared.new.self.leases c.args.chunk c.take-lease.result c.take-lease.ensures.value c.take-lease.ensures.stood) c.take-lease.ensures.keeps,
   room_at_stays nat_cmp _ _ c.args.chunk c.copied-prepared.result (room_where_stood nat_cmp_total c.args.self.now.prepared c.args.chunk c.copied-prepared.result (search rules)) c.keep_prepared.ensures.room,
 )
 

@@ -1,11 +1,12 @@
-use Rattle.std.proofs.Common.{◌≡◌, ◌∙◌, Some, rules, ap}
+use Rattle.std.proofs.Common.{◌≡◌, ◌∙◌, Some, rules, ap, subst, sym, true}
 use Rattle.std.specs.FinMap as fin
 use Rattle.std.specs.Ordering.{nat_cmp}
 use Rattle.gs_base_table.specs.Slots.{live}
+use Rattle.gs_lease_table.specs.Settlings.{tells_settled}
 use Rattle.gs_master_spec.specs.Applied.{view_in}
 use Rattle.gs_master_state.specs.inner.Recorded.{chunks_of}
 use Rattle.gs_master_state.proofs.Recording.{marked}
-use Rattle.gs_master_state.proofs.Before.{lease_before, moved_back, room_at}
+use Rattle.gs_master_state.proofs.Before.{lease_at, lease_before, moved_back, restored_tells}
 use Rattle.gs_master_state.proofs.recorded.Recorded.exchange_moving.Goals as goal
 
 pub returns-clause-value : goal.returns-clause-value
@@ -22,4 +23,7 @@ returns-clause-leases c =
     lease_before _ _ c.args.chunk _ c.exchange.result c.in_ok-view.view c.exchange.ensures.value c.exchange.ensures.put has
 
 pub returns-clause-room : goal.returns-clause-room
-returns-clause-room c = room_at nat_cmp _ c.args.chunk c.exchange.result (c.exchange.ensures.keeps.keeps c.args.chunk c.requires)
+returns-clause-room c = lease_at _ c.args.chunk c.exchange.result (c.exchange.ensures.keeps.keeps c.args.chunk c.requires) c.exchange.ensures.stood
+
+pub exchange-requires-clause-settled : goal.exchange-requires-clause-settled
+exchange-requires-clause-settled c = subst (λ lease. tells_settled lease ≡ true) (sym c.restore.ensures) (restored_tells c.in_ok-view.view (Some c.args.stamp))

@@ -1,8 +1,10 @@
-use Rattle.std.proofs.Common.{rules, ◌≡◌, ◌∙◌, ◌<◌, ◌+◌, ◌-◌, arith, ap, refl, drop, length}
+use Rattle.std.proofs.Common.{rules, ◌≡◌, ◌∙◌, ◌<◌, ◌+◌, ◌-◌, arith, ap, refl, subst, sym, true, drop, length, None}
 use Rattle.std.specs.FinMap as fin
 use Rattle.std.specs.Ordering.{nat_cmp}
 use Rattle.gs_base_table.specs.Slots.{live}
+use Rattle.gs_lease_table.specs.Settlings.{tells_settled}
 use Rattle.gs_master_state.specs.inner.Recorded.{durable_of, restored_chunks}
+use Rattle.gs_master_state.proofs.Before.{restored_tells}
 use Rattle.gs_master_state.proofs.Recording.{none_restored, one_restored}
 use Rattle.gs_master_state.proofs.recorded.Recorded.restored.Goals as goal
 
@@ -11,6 +13,9 @@ loop-left-init c = record {
   bound = omega arith;
   chunks = none_restored (durable_of c.args.self.now) c.args.answered.now (length c.args.answered.now) (live nat_cmp c.new-leases.result) refl c.new-leases.ensures;
 }
+
+pub put-requires-clause-settled : goal.put-requires-clause-settled
+put-requires-clause-settled c = subst (λ lease. tells_settled lease ≡ true) (sym c.restore.ensures) (restored_tells c.restored_view-view.result None)
 
 pub loop-left-preserved-in-Some : goal.loop-left-preserved-in-Some
 loop-left-preserved-in-Some c =
