@@ -1,6 +1,7 @@
 mod Counting
 pub mod Granting
 mod HeldUp
+mod Quieting
 pub mod Renewals
 pub mod Targets
 pub mod Waits

@@ -1,3 +1,2 @@
-pub mod Quieted
 pub mod Renewable
 pub mod inner

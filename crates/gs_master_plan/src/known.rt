@@ -2,10 +2,10 @@
 ghost use Rattle.std.specs.Prelude.{◌&&◌, ◌++◌, ◌≡◌, filter, IfOk, not, option_and_then, option_map};
 ghost use Rattle.std.specs.FinMap as fin;
 ghost use Rattle.std.specs.List.{list_any};
-ghost use Rattle.gs_master_plan.specs.Quieted.{TellsQuiet};
 ghost use Rattle.gs_master_plan.specs.inner.Planning.{state_of};
 ghost use Rattle.gs_master_spec.specs.Chunks.{Chunk, chunk_at, has_entry, is_quiet};
 ghost use Rattle.gs_master_state.specs.inner.Knowing.{known_of};
+ghost use Rattle.gs_master_spec.specs.Quieted.{TellsQuiet};
 ghost use Rattle.gs_master_spec.specs.Settling.{is_quiet_at, requests_of};
 ghost use Rattle.gs_master_state.specs.inner.Surveying.{chunk_set, has_unquiet};
 ghost use Rattle.gs_master_spec.specs.Upgrades.{all_unquiet, chunk_count};

@@ -1,5 +1,5 @@
 use Rattle.std.proofs.Common.{subst}
-use Rattle.gs_master_plan.specs.Quieted.{TellsQuiet}
+use Rattle.gs_master_spec.specs.Quieted.{TellsQuiet}
 use Rattle.gs_master_spec.specs.State.{State}
 use Rattle.gs_master.specs.Masters.{MasterOf}
 use Rattle.gs_master.proofs.master.Master.all_quiet.Goals as goal
