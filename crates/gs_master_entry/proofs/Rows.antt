@@ -84,12 +84,17 @@ module _ (config : Config) (heard : Heard) (s : State) (move : Move) (well : IsM
   late_alone chunk messages (Unborn k) (Unborn n) left = tt
 
 -- a commit by itself
-rows_committed : (chunk : ℕ) (whole : ℕ → Bool) (config : Config) (s : State) (move : Move) (u : State) (messages : List Message) (l : Life chunk s) (n : Life chunk u) → EpochGoes s.durable u.durable → rolls_back s.durable u.durable ≡ true → is_commit move ≡ true
+rows_committed : (chunk : ℕ) (whole : ℕ → Bool) (config : Config) (s : State) (move : Move) (u : State) (messages : List Message) (l : Life chunk s) (n : Life chunk u) → EpochGoes s.durable u.durable → rolls_back s.durable u.durable ≡ true → u.volatile.unplaced ≡ [] → is_commit move ≡ true
     → Goes chunk whole s u messages l n → AloneIn chunk move s u messages l n → RowsIn chunk s u messages l n
-rows_committed chunk whole config s (CommitsRollback req names) u messages (Alive a) (Alive b) epochs back is goes left = (rows_back chunk s u a.world b.world goes.leads goes.masters a.reached a.shows b.shows epochs back left.0, left.1)
-rows_committed chunk whole config s move u messages (Alive a) (Alive b) epochs back is goes left = absurd (false≢true is)
-rows_committed chunk whole config s move u messages (Unborn k) (Alive b) epochs back is goes left = absurd left
-rows_committed chunk whole config s move u messages life (Unborn k) epochs back is goes left = tt
+rows_committed chunk whole config s (CommitsRollback req names) u messages (Alive a) (Alive b) epochs back bare is goes left = (rows_back chunk s u a.world b.world goes.leads goes.masters a.reached a.shows b.shows epochs back bare left.0, left.1)
+rows_committed chunk whole config s move u messages (Alive a) (Alive b) epochs back bare is goes left = absurd (false≢true is)
+rows_committed chunk whole config s move u messages (Unborn k) (Alive b) epochs back bare is goes left = absurd left
+rows_committed chunk whole config s move u messages life (Unborn k) epochs back bare is goes left = tt
+
+-- behind which no chunk waits for its place
+bare_commit : (config : Config) (s : State) (move : Move) → is_commit move ≡ true → (move_turn config s move).after.volatile.unplaced ≡ []
+bare_commit config s (CommitsRollback req names) is = refl
+bare_commit config s move is = absurd (false≢true is)
 
 -- ---- all of them
 
@@ -122,7 +127,7 @@ module _ (keeps : ℕ → Bool) (whole : ℕ → ℕ → Bool) (config : Config)
             let f = families_alone keeps whole config heard s move family hears marks well alone in
             record {
               goes = f.goes;
-              rows = λ chunk. rows_committed chunk (whole chunk) config s move behind sent (family chunk) (f.goes.last chunk) (epochs_go config heard s (one None) (ByItself s move None well alone)) (commits_by config heard s move well.made alone ∙ is) is (f.goes.goes chunk) (f.alone chunk);
+              rows = λ chunk. rows_committed chunk (whole chunk) config s move behind sent (family chunk) (f.goes.last chunk) (epochs_go config heard s (one None) (ByItself s move None well alone)) (commits_by config heard s move well.made alone ∙ is) (bare_commit config s move is) is (f.goes.goes chunk) (f.alone chunk);
             }
         by_commit false other =
             let f = families_alone keeps whole config heard s move family hears marks well alone in
