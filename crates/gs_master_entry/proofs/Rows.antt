@@ -19,6 +19,10 @@ use Rattle.gs_chunk.proofs.Facts.{reached_world}
 use Rattle.gs_chunk.proofs.Lasting.{agrees}
 use Rattle.gs_chunk.specs.Laws.{IsReached, world_of}
 use Rattle.gs_chunk.specs.Machine.{ChunkWorld}
+use Rattle.gs_master_spec.specs.Volatile.{changed}
+use Rattle.gs_master_spec.specs.declared.change.Change.TheVariants as changes
+use Rattle.gs_msg.specs.declared.answer.Answer.TheVariants as answers
+use Rattle.gs_master_entry.proofs.Ending.{answer_both}
 use Rattle.gs_master_entry.proofs.Calm.{AloneIn, CalmGoes, CalmIn, calm_both, each_closing, each_made, families_alone, families_calm, families_close, none_commits, unmoved_unled}
 use Rattle.gs_master_entry.proofs.Families.{families_both, family_hears, family_marks}
 use Rattle.gs_master_entry.proofs.Rowing.{rows_back, rows_born, rows_go}
@@ -93,7 +97,7 @@ rows_committed chunk whole config s move u messages life (Unborn k) epochs back 
 
 -- behind which no chunk waits for its place
 bare_commit : (config : Config) (s : State) (move : Move) → is_commit move ≡ true → (move_turn config s move).after.volatile.unplaced ≡ []
-bare_commit config s (CommitsRollback req names) is = refl
+bare_commit config s (CommitsRollback req names) is = (answer_both 0 s (changed s.volatile changes.RolledBack) req (answers.Epoch s.durable.epoch)).1
 bare_commit config s move is = absurd (false≢true is)
 
 -- ---- all of them

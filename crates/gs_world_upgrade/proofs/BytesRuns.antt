@@ -27,7 +27,7 @@ use Rattle.gs_world_chunks.proofs.Edits.{AreNumbered}
 use Rattle.gs_world_chunks.proofs.Holding.{SinceSeen, given_there, lives_on, prepared_reached, reach_more, runs_of, runs_then, since_seen}
 use Rattle.gs_world_chunks.proofs.Intact.{told_same}
 use Rattle.gs_world_chunks.proofs.Reached.{run_stays}
-use Rattle.gs_world_chunks.proofs.Runs.{seen_of}
+use Rattle.gs_world_chunks.proofs.Runs.{keeps_told, seen_of}
 use Rattle.gs_world_chunks.proofs.Seeing.{SeesNext, SeesTo, each_sees_on, sees_run, sees_step}
 use Rattle.gs_world_chunks.specs.Joined.{IsSeen, SeenSince}
 use Rattle.gs_world_chunks.specs.Seeing.{Sees, SeesBoth}
@@ -42,7 +42,7 @@ use Rattle.gs_world_lift.specs.Living.{GoesOn, LivesOn}
 use Rattle.gs_world_lift.specs.Saying.{PushRight}
 use Rattle.gs_world_lift.specs.Showing.{IsAlive, Life}
 use Rattle.gs_world_upgrade.proofs.Bytes.{calm_back, free_back, free_prepared, list_back, settled_there, text_there}
-use Rattle.gs_world_upgrade.specs.Back.{HasBytes, IsMemberAt}
+use Rattle.gs_world_upgrade.specs.Back.{GivesSettledBack, HasBytes, IsMemberAt}
 
 never_both : (phase : Phase) → (is_rolling phase && is_ordinary phase) ≡ false
 never_both Ordinary = refl
@@ -192,3 +192,16 @@ module _ (sizes : HaveSizes) (law : AreNumbered) {D : Type 0} (x : Setup D) (pre
           ∙ ap (text_of x.config.chunk) (same_list ∙ ap seen_back.since.first.alive.world.known.list (sym (prepared_view seen_back.since.first)))
           ∙ sym (text_there x seen_back.bytes chunk prepared first seen_back.since.first (upgrade_calm first.durable.phase seen_back.since.begun) (free_prepared x seen_back.bytes chunk prepared first now after seen_back.since listed) id former.0 old.s old.live former.1 former.2 old.there old.lives old.whole)
           ∙ old.is
+
+-- ---- over runs
+
+view_there : (o : Option Settled) → is_some o ≡ true → (view : View) × (view_in o ≡ Some view)
+view_there None some = absurd (false≢true some)
+view_there (Some y) some = (y.view, refl)
+
+pub gives_settled_back : HaveSizes → AreNumbered → {D : Type 0} (x : Setup D) → GivesSettledBack x
+gives_settled_back sizes law x prepared now back first after last chunk r listed row =
+    let s = sees sizes law x prepared now back first after last r.step r.upgrade r.moves r.accepted in
+    let view = view_there (fin.get last.durable.chunks chunk) row in
+    let former = view_there (fin.get first.durable.chunks chunk) ((keeps_told x s.asked prepared first s.first).settled chunk listed) in
+    settled_back sizes law x prepared now back first after last r.step r.upgrade r.moves r.accepted chunk listed row view.0 view.1 former.0 former.1

@@ -1,7 +1,7 @@
 -- What an accepted rollback gives back.
 use Rattle.gs_base.specs.Stamps.{is_before}
 use Rattle.gs_block.specs.Written.{TellsApart}
-use Rattle.std.specs.Prelude.{[], ◌∷◌, ◌≡◌, List, None, Some, false, slice_get, true, ℕ}
+use Rattle.std.specs.Prelude.{[], ◌∷◌, ◌≡◌, List, None, Some, false, is_some, slice_get, true, ℕ}
 use Rattle.gs_base.specs.Members.{is_member}
 use Rattle.gs_lease.specs.declared.view.View.{View}
 use Rattle.gs_world_account.specs.Accounts.{Account, settled_edits, view_at}
@@ -9,7 +9,7 @@ use Rattle.gs_master_moves.specs.Epochs.{prepares, rolls_back}
 use Rattle.gs_world_account.specs.Running.{IsGiven, Moves, Runs, RunsBare, Setup, StepsWithin}
 use Rattle.gs_replica.specs.Seals.{lowest_damaged}
 use Rattle.gs_server.specs.Servers.{Server}
-use Rattle.gs_master_spec.specs.Durable.{Durable, Settled, is_ordinary}
+use Rattle.gs_master_spec.specs.Durable.{Durable, Settled, is_listed, is_ordinary}
 use Rattle.gs_master_spec.specs.State.{is_failed}
 use Rattle.gs_world_chunks.specs.Sealing.{HasText, IsLiveWith}
 use Rattle.gs_world_chunks.specs.Upgrading.{IsUpgrading, RunsUpgraded, Spare}
@@ -31,6 +31,11 @@ module _ {D : Type 0} (x : Setup D) where
     pub step : Step
     pub moves : Moves x step now after back last
     pub accepted : rolls_back after.durable last.durable ≡ true
+
+  -- What is settled of a chunk that a file had at the prepare, and that is given back, is what was settled then.
+  abbrev pub GivesSettledBack : Type 0
+  GivesSettledBack = (prepared now back : History D) (before after last : Account) (chunk : ℕ) → IsRolledBack prepared before now after back last → is_listed before.durable chunk ≡ true → is_some (fin.get last.durable.chunks chunk) ≡ true →
+      settled_edits last chunk ≡ settled_edits before chunk
 
   -- A member of a view behind it had the chunk, so that it would name it, in a world on the way, and nothing of it was lost or damaged since.
   pub record IsUnharmed (prepared : History D) (before : Account) (now : History D) (after : Account) (chunk id : ℕ) : Type 0 where

@@ -2,12 +2,15 @@
 #![tactic(auto)]
 
 ghost use Rattle.gs_world_account.specs.Running.{Setup};
-ghost use Rattle.gs_world_upgrade.specs.Back.{GivesBytesBack, GivesNamesBack, KeepsBytes};
+ghost use Rattle.gs_world_upgrade.specs.Back.{GivesSettledBack};
 
-/// An accepted rollback gives back what stood at the last accepted prepare, by what the nodes have alone: the names are those of the prepare, and of each chunk what a sound replica
-/// of a member had right behind the prepare is what each sound replica of a member has behind the rollback.
-pub fn a_rollback_gives_back_names_and_bytes<D>()
-    ensures names { (x : Setup D) → GivesNamesBack x }
-    ensures bytes { (x : Setup D) → GivesBytesBack x }
-    ensures kept { (x : Setup D) → KeepsBytes x }
-{}
+use gs_block::promises::configurations_have_sizes;
+use gs_server_laws::a_message_edits_a_replica_by_what_it_says;
+
+/// What is settled of each chunk behind the commit of a rollback is what was settled of it right behind the prepare.
+pub fn a_rollback_gives_back_what_was_settled<D>()
+    ensures { (x : Setup D) → GivesSettledBack x }
+{
+    configurations_have_sizes();
+    a_message_edits_a_replica_by_what_it_says();
+}
