@@ -1,0 +1,3 @@
+mod Well
+mod Became
+mod Standing

@@ -4,6 +4,12 @@
 ghost use Rattle.gs_world_account.specs.Running.{Setup};
 ghost use Rattle.gs_world_upgrade.specs.Back.{GivesBytesBack, GivesNamesBack, KeepsBytes};
 
+/// An accepted rollback gives back the names of the last accepted prepare: the tree with the handles of its files, and how often each stands there; whatever has happened between, at whichever nodes. No more is
+/// asked of a run than that no disk of the master fails in it, and all that is asked is within its types.
+pub fn an_accepted_rollback_gives_the_names_back<D>()
+    ensures { (x : Setup D) → GivesNamesBack x }
+{}
+
 /// An accepted rollback gives back what stood at the last accepted prepare, by what the nodes have alone: the names are those of the prepare, and of each chunk what a sound replica
 /// of a member had right behind the prepare is what each sound replica of a member has behind the rollback.
 pub fn a_rollback_gives_back_names_and_bytes<D>()
