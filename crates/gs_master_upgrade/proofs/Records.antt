@@ -150,3 +150,11 @@ module _ (config : Config) (heard : Heard) where
       Goes s (joined (record first { said = said }) next)
       (Then s (record first { said = said }) next (Moves s move said (made, is_followed_within move is))
       (mapped config (λ u move. IsMade config heard u move × (closes move ≡ true)) (λ u move. IsMade config heard u move × (is_bound move ≡ false)) (λ u move made. (made.0, ends_calls move made.1)) first.after next chain))
+
+  -- the records of such a turn fit
+  pub turn_fits : (s : State) (t : Turn) → EndsOnce config (IsMade config heard) s t → AllByRecursion (IsEntry Two) t.records → AllFit s t
+  turn_fits s t turn written = fits_so s t (paced s t turn) written
+    where
+      fits_so : (s : State) (t : Turn) → Paced s t → AllByRecursion (IsEntry Two) t.records → AllFit s t
+      fits_so s t (Goes u next chain) written = (chain_within u next chain written).1
+      fits_so s t (Turns u move said made bound) written = made.fits

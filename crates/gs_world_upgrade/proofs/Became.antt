@@ -13,9 +13,11 @@ use Rattle.gs_base.specs.Calls.{Does}
 use Rattle.gs_client.specs.Nodes.{Node, given_up}
 use Rattle.gs_journal.specs.Journal.{failures_of_both}
 use Rattle.gs_journal.specs.Records.{standing}
+use Rattle.gs_master_laws.proofs.RoomsOfTurns.{steps_leave, ticks_leave}
 use Rattle.gs_master_laws.proofs.StandingRuns.{steps_fit}
 use Rattle.gs_master_laws.proofs.Writing.{all_steps_written, events_written}
 use Rattle.gs_master_laws.specs.Promises.{IsWritten}
+use Rattle.gs_master_laws.specs.Rooms.{restored_in}
 use Rattle.gs_master_laws.specs.Standing.{Comes as HearsAt, IsNamedBody, Ticks as TicksAt}
 use Rattle.gs_master_laws.specs.Written.{IsHeardBody}
 use Rattle.gs_master.specs.Masters.{MasterAnswers, MasterOf, with_journal}
@@ -69,9 +71,9 @@ has_one seen Away d e p q = absurd p
 
 -- ---- what becomes of it
 
--- The turn is that of the message that is heard at the step, or the master acts by itself, and hears none.
+-- The turn is that of the message that is heard at the step; or the master acts by itself, hears none, and leaves who has told of chunks.
 pub data IsHearing (step : Step) (sent : Sent) (said : Result (Unit {0}) Refusal) (config : Config) (s : State) (heard : Heard) (t : Turn) : Type 0 where
-  ByItself : heard ≡ None → heard_by_master step sent ≡ None → IsHearing step sent said config s heard t
+  ByItself : heard ≡ None → heard_by_master step sent ≡ None → restored_in t.after ≡ restored_in s → IsHearing step sent said config s heard t
   ByMessage : (message : Message) (moment : Moment) → heard_by_master step sent ≡ Some message → heard ≡ said_from message.from message.body → t ≡ handle config s message moment → said ≡ met_by t.said → IsHearing step sent said config s heard t
 
 -- It is as it was, but perhaps for a failure that is arranged, and refuses what it hears for want of memory. Or it has done a turn. Or it is opened on what it had.
@@ -80,7 +82,7 @@ pub data Became {D : Type 0} (seen : D → List ℕ) (step : Step) (sent : Sent)
   Stays : (m after : MasterOf D) → old ≡ Standing m → new ≡ Standing after → after.state ≡ m.state → ((message : Message) → heard_by_master step sent ≡ Some message → said ≡ Err refusals.Memory) → restarts_master step ≡ false → Became seen step sent said old new
   Turns : (m after : MasterOf D) (heard : Heard) (t : Turn) → old ≡ Standing m → new ≡ Standing after → EndsOnce m.config (IsMade m.config heard) m.state t → IsWritten t → after.state ≡ t.after → IsHearing step sent said m.config m.state heard t
       → restarts_master step ≡ false → Became seen step sent said old new
-  Opened : (after : MasterOf D) (d : Durable) (log : Log) → HasDurable seen old d → new ≡ Standing after → after.state ≡ restarted d log → heard_by_master step sent ≡ None → Became seen step sent said old new
+  Opened : (after : MasterOf D) (d : Durable) (log : Log) → HasDurable seen old d → new ≡ Standing after → after.state ≡ restarted d log → heard_by_master step sent ≡ None → restarts_master step ≡ true → Became seen step sent said old new
   Waits : ((m : MasterOf D) → new ≡ Standing m → ⊥) → ((d : Durable) → HasDurable seen old d → HasDurable seen new d) → ((m : MasterOf D) → old ≡ Standing m → heard_by_master step sent ≡ None) → Became seen step sent said old new
 
 -- a message to the master is heard by it, and no other
@@ -158,16 +160,16 @@ module _ {D : Type 0} (x : Setup D) (given : IsGiven x) (step : Step) (sent : Se
   whole_ticked : (moment : Moment) (m after : MasterOf D) (turn : Told) (b : Bool) (new : MasterPlace D) → AnswersAs x.seen x.failures b (tick m.state moment) (pressed_all m.state moment) m turn after → new ≡ Standing after → restarts_master step ≡ false
       → heard_by_master step sent ≡ None → StandsSteady x.seen m → failures_of_both x.failures after.journal ≡ failures_of_both x.failures m.journal → B (Standing m) new
   whole_ticked moment m after turn true new (inl done) at calm none h same =
-      Turns m after None (tick m.state moment) refl at (events_end_once m.config m.state (TicksAt moment) tt h.steady.firm) (events_written m.config m.state (TicksAt moment) tt tt h.steady).written done.done.after (ByItself refl none) calm
+      Turns m after None (tick m.state moment) refl at (events_end_once m.config m.state (TicksAt moment) tt h.steady.firm) (events_written m.config m.state (TicksAt moment) tt tt h.steady).written done.done.after (ByItself refl none (ticks_leave m.state moment)) calm
   whole_ticked moment m after turn false new (inl done) at calm none h same =
-      Turns m after None (tick m.state moment) refl at (events_end_once m.config m.state (TicksAt moment) tt h.steady.firm) (events_written m.config m.state (TicksAt moment) tt tt h.steady).written done.done.after (ByItself refl none) calm
+      Turns m after None (tick m.state moment) refl at (events_end_once m.config m.state (TicksAt moment) tt h.steady.firm) (events_written m.config m.state (TicksAt moment) tt tt h.steady).written done.done.after (ByItself refl none (ticks_leave m.state moment)) calm
   whole_ticked moment m after turn true new (inr (place, cut)) at calm none h same = absurd (never (failures_of_both x.failures m.journal) (failures_of_both x.failures after.journal) cut.cause same)
   whole_ticked moment m after turn false new (inr (place, cut)) at calm none h same = absurd (never (failures_of_both x.failures m.journal) (failures_of_both x.failures after.journal) cut.cause same)
 
   lacks : (moment : Moment) (m after : MasterOf D) (turn : Told) (new : MasterPlace D) → MasterAnswers x.seen x.failures None (lacking (pressed_all m.state moment)) m (Ok turn) after → new ≡ Standing after → restarts_master step ≡ false
       → heard_by_master step sent ≡ None → StandsSteady x.seen m → failures_of_both x.failures after.journal ≡ failures_of_both x.failures m.journal → B (Standing m) new
   lacks moment m after turn new (inl done) at calm none h same =
-      Turns m after None (pressed_all m.state moment) refl at (ticks_end_once m.config m.state moment h.steady.firm (steps_fit m.state moment h.steady.firm)) (all_steps_written m.state moment h.steady).written done.done.after (ByItself refl none) calm
+      Turns m after None (pressed_all m.state moment) refl at (ticks_end_once m.config m.state moment h.steady.firm (steps_fit m.state moment h.steady.firm)) (all_steps_written m.state moment h.steady).written done.done.after (ByItself refl none (steps_leave m.state moment)) calm
   lacks moment m after turn new (inr (place, cut)) at calm none h same = absurd (never (failures_of_both x.failures m.journal) (failures_of_both x.failures after.journal) cut.cause same)
 
   ticks : (moment : Moment) (old : MasterPlace D) (result : Result Told Refusal) (new : MasterPlace D) → restarts_master step ≡ false → heard_by_master step sent ≡ None → LastsSteady x.seen old → MasterTicks x.seen x.failures moment old result new
@@ -182,23 +184,23 @@ module _ {D : Type 0} (x : Setup D) (given : IsGiven x) (step : Step) (sent : Se
   -- ---- it is started again
 
   opens : (config : Config) (first second : D) (result : Result Told Refusal) (old new : MasterPlace D) (d : Durable) → HasDurable x.seen old d → IsToldIn (standing (x.seen first) (x.seen second)) d → ((turn : Told) → result ≡ Ok turn → OpensAs x.seen d new)
-      → heard_by_master step sent ≡ None → Opens x.seen x.failures config (first, second) result new → failures_at x.failures new ≡ x.failures first + x.failures second → B old new
-  opens config first second (Ok turn) old new d has told found none opening same = (let o = opened_state x config first second d turn new told (found turn refl) opening in Opened o.0 d o.2.0 has o.1 o.2.1 none)
-  opens config first second (Err e) old new d has told found none (u, is, refusal, inl (device, more)) same =
+      → heard_by_master step sent ≡ None → restarts_master step ≡ true → Opens x.seen x.failures config (first, second) result new → failures_at x.failures new ≡ x.failures first + x.failures second → B old new
+  opens config first second (Ok turn) old new d has told found none again opening same = (let o = opened_state x config first second d turn new told (found turn refl) opening in Opened o.0 d o.2.0 has o.1 o.2.1 none again)
+  opens config first second (Err e) old new d has told found none again (u, is, refusal, inl (device, more)) same =
       absurd (never (x.failures first + x.failures second) (x.failures u.first + x.failures u.second) more (sym (ap (failures_at x.failures) is) ∙ same))
-  opens config first second (Err e) old new d has told found none (u, is, refusal, inr why) same =
+  opens config first second (Err e) old new d has told found none again (u, is, refusal, inr why) same =
       Waits (λ m standing_so. closed_not u.first u.second m (sym is ∙ standing_so))
       (λ e had. subst (λ p. HasDurable x.seen p e) (sym is) (subst (λ t. IsToldIn t e) (sym why.0) (subst (IsToldIn (standing (x.seen first) (x.seen second))) (has_one x.seen old d e has had) told))) (λ m at. none)
 
-  reopens : (config : Config) (old : MasterPlace D) (result : Result Told Refusal) (new : MasterPlace D) → heard_by_master step sent ≡ None → LastsSteady x.seen old → Reopens x.seen x.failures config old result new → failures_at x.failures new ≡ failures_at x.failures old → B old new
-  reopens config (Standing m) result new none h opening same =
+  reopens : (config : Config) (old : MasterPlace D) (result : Result Told Refusal) (new : MasterPlace D) → heard_by_master step sent ≡ None → restarts_master step ≡ true → LastsSteady x.seen old → Reopens x.seen x.failures config old result new → failures_at x.failures new ≡ failures_at x.failures old → B old new
+  reopens config (Standing m) result new none again h opening same =
       opens config m.journal.first m.journal.second result (Standing m) new m.state.durable refl (subst (λ t. IsToldIn t m.state.durable) (sym h.firm.as_seen.text) h.firm.told)
-      (λ turn is. opens_again x.seen x.failures config m turn new h.firm (subst (λ r. Reopens x.seen x.failures config (Standing m) r new) is opening)) none opening same
-  reopens config (Closed first second) result new none h opening same =
+      (λ turn is. opens_again x.seen x.failures config m turn new h.firm (subst (λ r. Reopens x.seen x.failures config (Standing m) r new) is opening)) none again opening same
+  reopens config (Closed first second) result new none again h opening same =
       let k = lasts x.seen x.failures (Closed first second) h in
       opens config first second result (Closed first second) new k.durable k.told k.told
-      (λ turn is. opens_told x.seen x.failures config first second k.durable turn new k.kept k.counters k.told (subst (λ r. Opens x.seen x.failures config (first, second) r new) is opening)) none opening same
-  reopens config Away result new none h opening same = absurd h
+      (λ turn is. opens_told x.seen x.failures config first second k.durable turn new k.kept k.counters k.told (subst (λ r. Opens x.seen x.failures config (first, second) r new) is opening)) none again opening same
+  reopens config Away result new none again h opening same = absurd h
 
   -- ---- the other nodes
 
@@ -250,7 +252,7 @@ module _ {D : Type 0} (x : Setup D) (given : IsGiven x) (step : Step) (sent : Se
   unfolding Delivers
   delivered message moment old turn new calm within none is hear = heard message moment message.to old turn new calm within none refl is hear
 
-calm_of : (event : Event) (h : Happening) → event.happening ≡ h → restarts_master (Comes (record { moment = event.moment; happening = h })) ≡ false → restarts_master (Comes event) ≡ false
+calm_of : (event : Event) (h : Happening) → event.happening ≡ h → {b : Bool} → restarts_master (Comes (record { moment = event.moment; happening = h })) ≡ b → restarts_master (Comes event) ≡ b
 calm_of event h is calm = ap (λ k. restarts_master (Comes (record { moment = event.moment; happening = k }))) is ∙ calm
 
 heard_as : (event : Event) (sent : Sent) (h : Happening) → event.happening ≡ h → heard_by_master (Comes event) sent ≡ heard_by_master (Comes (record { moment = event.moment; happening = h })) sent
@@ -297,7 +299,7 @@ module _ {D : Type 0} (x : Setup D) (given : IsGiven x) where
     at_node (happenings.Beat id) is by outcome (by_is, (same, told)) tells within = elsewhere (happenings.Beat id) is refl refl (ap (λ (n : Nodes D). n.master) same)
     at_node (happenings.Restart keepers.Master) is by outcome (by_is, (place, turn, does, at, told)) tells within =
         moved x given (Comes event) old.sent said place old.nodes new.nodes at
-        (λ h same. reopens x given (Comes event) old.sent said old.nodes.config old.nodes.master turn place (heard_as event old.sent (happenings.Restart keepers.Master) is) h does same)
+        (λ h same. reopens x given (Comes event) old.sent said old.nodes.config old.nodes.master turn place (heard_as event old.sent (happenings.Restart keepers.Master) is) (calm_of event (happenings.Restart keepers.Master) is refl) h does same)
     at_node (happenings.Restart (keepers.Server id)) is by outcome (by_is, (done, at, told)) tells within =
         elsewhere (happenings.Restart (keepers.Server id)) is refl refl (at_server x given (Comes event) old.sent said id (λ s done after. (done ≡ Ok tt) × (after ≡ servers.restart s)) old.nodes done new.nodes at)
     at_node (happenings.Lose id handle) is by outcome (by_is, (done, at, told)) tells within =

@@ -1,3 +1,5 @@
 mod Well
 mod Became
 mod Standing
+mod Going
+mod Telling

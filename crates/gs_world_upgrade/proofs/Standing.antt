@@ -8,7 +8,7 @@ use Rattle.gs_master_spec.specs.State.{State, Turn}
 use Rattle.gs_master_record.specs.declared.checkpoint.Phase.{Phase}
 use Rattle.gs_master_record.specs.declared.checkpoint.Phase.TheVariants.{Ordinary, Upgrade, Rolling}
 use Rattle.gs_master_upgrade.proofs.Since.{turns_begin, turns_lead}
-use Rattle.gs_master_upgrade.specs.Since.{AreRestored, IsSince, Leads}
+use Rattle.gs_master_upgrade.specs.Since.{AreRestored, IsSince, LeadsBack}
 use Rattle.gs_nodes.specs.declared.place.MasterPlace.{MasterPlace}
 use Rattle.gs_nodes.specs.declared.place.MasterPlace.TheVariants.{Standing, Closed, Away}
 use Rattle.gs_world.specs.Histories.{History}
@@ -44,7 +44,7 @@ module _ {D : Type 0} (x : Setup D) where
   stays_led : (place : MasterPlace D) (prepared d e : Durable) → IsSince prepared e → PlaceLeads place prepared d e
   stays_led place prepared d e k = record { since = λ off. k; names = λ r o. absurd (false≢true (sym k.stands ∙ o)); restored = λ r o. absurd (false≢true (sym k.stands ∙ o)) }
 
-  led : (place : MasterPlace D) (m : MasterOf D) (prepared d e n : Durable) → place ≡ Standing m → d ≡ m.state.durable → e ≡ n → Leads m.state prepared n → PlaceLeads place prepared d e
+  led : (place : MasterPlace D) (m : MasterOf D) (prepared d e n : Durable) → place ≡ Standing m → d ≡ m.state.durable → e ≡ n → LeadsBack m.state prepared n → PlaceLeads place prepared d e
   led place m prepared d e n at dm en lead = record {
     since = λ off. subst (IsSince prepared) (sym en) (lead.since (sym (ap (λ (z : Durable). is_ordinary z.phase) en) ∙ off));
     names = λ r o. ap (λ (z : Durable). z.names) en ∙ lead.names (rolling r) (ordinary o);
@@ -63,7 +63,7 @@ module _ {D : Type 0} (x : Setup D) where
   leads step sent said place new prepared d e (Turns m after heard t at to turn written is hears calm) dk ek s =
       let dm = has_at place m d at dk in
       led place m prepared d e t.after.durable at dm (has_at new after e to ek ∙ ap (λ (z : State). z.durable) is) (turns_lead m.config heard m.state t prepared turn written (subst (IsSince prepared) dm s))
-  leads step sent said place new prepared d e (Opened after f log has to is none) dk ek s =
+  leads step sent said place new prepared d e (Opened after f log has to is none again) dk ek s =
       stays_led place prepared d e (subst (IsSince prepared) (has_one x.seen place d f dk has ∙ sym (ap (λ (z : State). z.durable) is) ∙ sym (has_at new after e to ek)) s)
   leads step sent said place new prepared d e (Waits none f unheard) dk ek s = stays_led place prepared d e (subst (IsSince prepared) (has_one x.seen new d e (f d dk) ek) s)
 
@@ -81,7 +81,7 @@ module _ {D : Type 0} (x : Setup D) where
       by_case : Became x.seen step sent said place new → IsSince prepared e
       by_case (Stays m after at to is refused calm) = at_master after to
       by_case (Turns m after heard t at to turn written is hears calm) = at_master after to
-      by_case (Opened after f log has to is none) = at_master after to
+      by_case (Opened after f log has to is none again) = at_master after to
       by_case (Waits none f unheard) = subst (IsSince prepared) (has_one x.seen new d e (f d dk) ek) s
 
   -- a prepare
@@ -99,7 +99,7 @@ module _ {D : Type 0} (x : Setup D) where
           subst (λ z. IsSince z z) (sym en)
           (turns_begin m.config heard m.state t turn written (steady_at place m at h).steady.firm.stands.kept (sym (ap (λ (z : Durable). is_ordinary z.phase) (has_at place m d at dk)) ∙ ordinary)
           (sym (ap (λ (z : Durable). is_ordinary z.phase) en) ∙ other)).1
-      by_case (Opened after f log has to is none) = not_same (has_at new after e to ek ∙ ap (λ (z : State). z.durable) is ∙ has_one x.seen place f d has dk)
+      by_case (Opened after f log has to is none again) = not_same (has_at new after e to ek ∙ ap (λ (z : State). z.durable) is ∙ has_one x.seen place f d has dk)
       by_case (Waits none f unheard) = not_same (has_one x.seen new e d ek (f d dk))
 
   -- a sound master has what it keeps

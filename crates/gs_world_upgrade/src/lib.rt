@@ -2,12 +2,18 @@
 #![tactic(auto)]
 
 ghost use Rattle.gs_world_account.specs.Running.{Setup};
+ghost use Rattle.gs_world_upgrade.specs.Accepting.{NoneGoesBackUnnamed};
 ghost use Rattle.gs_world_upgrade.specs.Back.{GivesBytesBack, GivesNamesBack, KeepsBytes};
 
 /// An accepted rollback gives back the names of the last accepted prepare: the tree with the handles of its files, and how often each stands there; whatever has happened between, at whichever nodes. No more is
 /// asked of a run than that no disk of the master fails in it, and all that is asked is within its types.
 pub fn an_accepted_rollback_gives_the_names_back<D>()
     ensures { (x : Setup D) → GivesNamesBack x }
+{}
+
+/// No rollback is done unless each chunk that stood in a file at the prepare was named, since the master was restarted last, by a server that had it then or was sent it since with its sealed image.
+pub fn no_rollback_is_done_unnamed<D>()
+    ensures { (x : Setup D) → NoneGoesBackUnnamed x }
 {}
 
 /// An accepted rollback gives back what stood at the last accepted prepare, by what the nodes have alone: the names are those of the prepare, and of each chunk what a sound replica
