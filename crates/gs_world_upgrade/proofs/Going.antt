@@ -48,7 +48,7 @@ pub record RisesTo (d e : Durable) : Type 0 where
   pub rises : d.epoch ≤ e.epoch
   pub stays : d.epoch ≡ e.epoch → e.phase ≡ d.phase
 
-same_rises : (d e : Durable) → e ≡ d → RisesTo d e
+pub same_rises : (d e : Durable) → e ≡ d → RisesTo d e
 same_rises d e same = (let epoch = ap (λ (x : Durable). x.epoch) same in record { rises = omega arith; stays = λ at. ap (λ (x : Durable). x.phase) same })
 
 rises : (d e : Durable) → EpochGoes d e → is_ordinary d.phase ≡ false → is_ordinary e.phase ≡ false → RisesTo d e
@@ -58,7 +58,7 @@ rises d e (Finalized epoch before phase end) was is = absurd (true≢false (sym 
 rises d e (Begun epoch before phase end) was is = record { rises = omega arith; stays = λ at. absurd (omega arith) }
 rises d e (Committed epoch before phase) was is = absurd (true≢false (sym (ap is_ordinary phase) ∙ is))
 
-then_rises : (d e f : Durable) → RisesTo d e → RisesTo e f → RisesTo d f
+pub then_rises : (d e f : Durable) → RisesTo d e → RisesTo e f → RisesTo d f
 then_rises d e f a b = (let one = a.rises in let two = b.rises in record { rises = omega arith; stays = λ at. b.stays (omega arith) ∙ a.stays (omega arith) })
 
 module _ {D : Type 0} (x : Setup D) where

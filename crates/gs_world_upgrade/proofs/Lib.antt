@@ -3,3 +3,5 @@ mod Became
 mod Standing
 mod Going
 mod Telling
+mod Counted
+mod Deciding

@@ -9,6 +9,7 @@ use Rattle.gs_base.specs.declared.numbers.ClientId.{ClientId}
 use Rattle.gs_base.specs.declared.numbers.Moment.{Moment}
 use Rattle.gs_base.specs.declared.refusal.Refusal.{Refusal}
 use Rattle.gs_base.specs.declared.refusal.Refusal.TheVariants as refusals
+use Rattle.gs_journal.specs.Records.{standing}
 use Rattle.gs_master_laws.proofs.KeptAll.{start_kept}
 use Rattle.gs_master_laws.specs.Promises.{HasTold}
 use Rattle.gs_master_laws.specs.Standing.{AreCounters}
@@ -216,7 +217,7 @@ module _ {D : Type 0} (x : Setup D) (given : IsGiven x) where
       counters : AreCounters start
       counters = record { handle = omega arith; version = omega arith; hidden = omega arith }
 
-      told : IsToldIn _ start
+      told : IsToldIn (standing (x.seen x.disks.0) (x.seen x.disks.1)) start
       told = subst (λ t. IsToldIn t start) (sym given.new) (record { entries = []; records = refl; are_entries = tt; replays = refl })
 
       by_opens : (place : MasterPlace D) (turn : Told) → Opens x.seen x.failures x.config x.disks (Ok turn) place → (m : MasterOf D) → place ≡ Standing m → (chunk : ℕ) → IsAskedSo (Only Anything) m.state chunk
