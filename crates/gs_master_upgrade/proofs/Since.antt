@@ -1,54 +1,46 @@
--- What stands of a prepare, through each event until its rollback has ended.
-use Rattle.std.proofs.Common.{arith, ◌≡◌, ◌⊎◌, inl, inr, ◌∙◌, ◌&&◌, ◌==◌, ◌<◌, ◌+◌, ◌++◌, ℕ, zero, suc, Bool, true, false, cond, List, [], ◌∷◌, length, nat_lt, refl, sym, ap, subst}
+-- What stands of a prepare, through each turn until its rollback has ended.
+use Rattle.std.proofs.Common.{arith, ◌≡◌, ◌⊎◌, inl, inr, ◌∙◌, ◌&&◌, ◌==◌, ◌<◌, ℕ, zero, suc, Bool, true, false, cond, List, [], ◌∷◌, length, nat_lt, refl, sym, ap, subst}
 use Rattle.std.specs.Prelude.{Option, Some, None, is_some, option_map, option_and_then, slice_get, take, Result, Ok, Err, if◌then◌else◌}
-use Rattle.std.specs.List.{AllByRecursion, list_all}
 use Rattle.std.specs.FinMap as fin
 use Rattle.std.proofs.lemmas.Bool.{false≢true, true≢false, and_parts}
 use Rattle.gs_base.specs.declared.config.Config.{Config}
 use Rattle.gs_base.specs.declared.epoch.EpochEnd.TheVariants as ends
-use Rattle.gs_base.specs.declared.numbers.Moment.{Moment}
 use Rattle.gs_base.specs.declared.numbers.ReqId.{ReqId}
 use Rattle.gs_base.specs.declared.refusal.Refusal.{Refusal}
 use Rattle.gs_base.specs.declared.refusal.Refusal.TheVariants as refusals
 use Rattle.gs_edit.specs.View.{NamesView}
 use Rattle.gs_journal.specs.declared.version.Version.TheVariants.{Two}
-use Rattle.gs_lease.specs.declared.view.View.{View}
 use Rattle.gs_master_record.specs.Plain.{PlainEdit, PlainEntry, Edited, Said, Propose, Settle, Prepare, Finalize, RollbackBegin, RollbackCommit, Whole, Holder}
 use Rattle.gs_master_record.specs.Writable.{IsEntry}
 use Rattle.gs_master_record.specs.declared.checkpoint.Phase.{Phase}
 use Rattle.gs_master_record.specs.declared.checkpoint.Phase.TheVariants.{Ordinary, Upgrade, Rolling}
 use Rattle.gs_master_record.specs.declared.entry.Answered.{Answered}
 use Rattle.gs_master_spec.specs.Applied.{after_edit, after_undoing, applied, are_answers, are_at_rest, forgotten_by, held_by, is_next_epoch, is_whole_entry, may_be_settled, may_edit, may_propose, proposed, replayed, rolled_back, view_in, with_edit, with_epoch, with_view, without_prepared}
-use Rattle.gs_master_spec.specs.Durable.{Durable, Settled, is_listed, is_ordinary, is_rolling, is_upgrade, prepared_of, prepared_view, upgrade_epoch, with_prepared}
-use Rattle.gs_master_spec.specs.Handling.{granted, pressed, proposals, tidied}
-use Rattle.gs_master_spec.specs.State.{State, Turn, and_then, fits, for_each, if_room, refused, turned}
+use Rattle.gs_master_spec.specs.Durable.{Durable, Settled, if_before, is_listed, is_ordinary, is_rolling, is_upgrade, prepared_of, prepared_view, upgrade_epoch, with_prepared}
+use Rattle.gs_master_spec.specs.Handling.{tidied}
+use Rattle.gs_master_spec.specs.State.{State, Turn, fits, if_room, refused, turned}
 use Rattle.gs_master_spec.specs.Undoing.{all_undone, edited_names}
 use Rattle.gs_master_spec.specs.Upgrades.{accepted_plan, answers_for, commit_if, commit_on, rollback_commit, told_of, unrestored}
 use Rattle.gs_master_spec.specs.Whole.{checkpoint_of}
 use Rattle.gs_master_spec.specs.declared.asking.Prepared.{Prepared}
 use Rattle.gs_master_spec.specs.declared.change.Change.TheVariants as changes
-use Rattle.gs_master_laws.specs.Promises.{AllFit, CanCommit, IsKept, IsStillThere, IsWritten, goes_on_within, prepared_from}
+use Rattle.gs_master_laws.specs.Promises.{AllFit, CanCommit, IsKept, IsStillThere, IsWritten, goes_on_within}
 use Rattle.gs_master_laws.specs.Reached.{GoWithin}
-use Rattle.gs_master_laws.specs.Standing.{Event, Comes, Ticks, Renews, Restarts, IsNamed, turn_of}
-use Rattle.gs_master_laws.specs.Written.{IsHeardIn, IsSteady}
-use Rattle.gs_master_laws.proofs.Beginnings.{begins_with_all, fits_gives}
+use Rattle.gs_master_laws.proofs.Beginnings.{fits_gives}
 use Rattle.gs_master_laws.proofs.Committing.{commits_exactly}
 use Rattle.gs_master_laws.proofs.Kept.{keeps_views}
 use Rattle.gs_master_laws.proofs.KeptAll.{keeps_all, tidied_kept}
 use Rattle.gs_master_laws.proofs.KeptEdits.{forgets_only}
-use Rattle.gs_master_laws.proofs.KeptEpochs.{prepare_kept}
 use Rattle.gs_master_laws.proofs.LedBack.{leads_back}
-use Rattle.gs_master_laws.proofs.StandingRuns.{events_fit}
 use Rattle.gs_master_laws.proofs.ToldAgain.{get_tidied, tells_all}
-use Rattle.gs_master_laws.proofs.Writing.{all_steps_written, events_written}
-use Rattle.gs_master_moves.proofs.Fitting.{chain_leaves, split}
-use Rattle.gs_master_moves.proofs.Made.{events_are_paced, steps_are_within}
+use Rattle.gs_master_moves.proofs.Epochs.{epochs_go}
 use Rattle.gs_master_moves.proofs.Right.{one_fits}
-use Rattle.gs_master_moves.specs.Guards.{Heard, IsMade, IsMadeWithin}
-use Rattle.gs_master_moves.specs.Laws.{heard_in}
-use Rattle.gs_master_moves.specs.Moves.{Chain, Move, Goes, Paced, Turns, Writes, Prepares, Finalizes, CommitsRollback, Checkpoints, move_turn}
-use Rattle.gs_master_upgrade.proofs.Records.{chain_within, within_records}
-use Rattle.gs_master_upgrade.specs.Since.{AreRestored, CutsLead, EventsLead, IsSince, Leads, LeadsOn, PreparesBegin, StepsLead, StepsStay}
+use Rattle.gs_master_moves.proofs.Stands.{once_stands}
+use Rattle.gs_master_moves.specs.Epochs.{Begun, Committed, EpochGoes, Finalized, Prepared as Prepares_so, Stays}
+use Rattle.gs_master_moves.specs.Guards.{Heard, IsMade}
+use Rattle.gs_master_moves.specs.Moves.{Move, Prepares, Finalizes, CommitsRollback, move_turn}
+use Rattle.gs_master_upgrade.proofs.Records.{Goes, Paced, Turns, chain_within, is_bound, paced}
+use Rattle.gs_master_upgrade.specs.Since.{AreRestored, CutsLead, IsSince, LeadsBack, LeadsBackAt, TurnsBegin, TurnsLead}
 
 durable_is : {a b : Durable} → ◌≡◌ {A = Option Durable} (Some a) (Some b) → a ≡ b
 durable_is h = cc
@@ -58,10 +50,6 @@ names_is h = cc
 
 entry_is : {a b : PlainEntry} → ◌≡◌ {A = Option PlainEntry} (Some a) (Some b) → a ≡ b
 entry_is h = cc
-
-both_of : (xs ys : List PlainEntry) → AllByRecursion (IsEntry Two) (xs ++ ys) → AllByRecursion (IsEntry Two) xs × AllByRecursion (IsEntry Two) ys
-both_of [] ys all = (tt, all)
-both_of (x ∷ xs) ys all = (let rest = both_of xs ys all.1 in ((all.0, rest.0), rest.1))
 
 -- ---- phases
 
@@ -120,16 +108,6 @@ phase_within (Whole c) d next within e = absurd (false≢true within)
 phase_within (Holder chunk server) d next within e =
     as_phase d (record d { prepared = with_prepared d chunk (held_by server (prepared_view d chunk)) }) next
     (fits_gives (is_upgrade d.phase && (nat_lt server 16 && is_some (prepared_view d chunk))) (record d { prepared = with_prepared d chunk (held_by server (prepared_view d chunk)) }) next e).1 refl
-
-phase_all : (entries : List PlainEntry) (d last : Durable) → list_all goes_on_within entries ≡ true → replayed d entries ≡ Some last → SamePhase d last
-phase_all [] d last within fit = as_phase d d last (durable_is fit) refl
-phase_all (entry ∷ entries) d last within fit =
-    let parts = and_parts (goes_on_within entry) (list_all goes_on_within entries) within in
-    by_first (applied d entry) refl fit (λ n is h. phase_all entries n last parts.1 h ∙ phase_within entry d n parts.0 is)
-  where
-    by_first : (o : Option Durable) → applied d entry ≡ o → option_and_then (λ n. replayed n entries) o ≡ Some last → ((n : Durable) → applied d entry ≡ Some n → replayed n entries ≡ Some last → SamePhase d last) → SamePhase d last
-    by_first None is h rest = absurd (false≢true (ap is_some h))
-    by_first (Some n) is h rest = rest n is h
 
 -- ---- since a prepare
 
@@ -193,19 +171,8 @@ module _ (prepared : Durable) where
       each None is all h = absurd (false≢true (ap is_some h))
       each (Some n) is all h = all n is h
 
--- ---- which records are such
-
-go_within : (now : Durable) (entries : List PlainEntry) → list_all goes_on_within entries ≡ true → AllByRecursion (IsEntry Two) entries → GoWithin now entries
-go_within now [] e written = tt
-go_within now (entry ∷ entries) e written = let parts = and_parts (goes_on_within entry) (list_all goes_on_within entries) e in (inl (parts.0, written.0), λ next is. go_within next entries parts.1 written.1)
-
-go_within_then : (now mid : Durable) (first : List PlainEntry) → list_all goes_on_within first ≡ true → AllByRecursion (IsEntry Two) first → replayed now first ≡ Some mid → GoWithin now (first ++ Whole (checkpoint_of mid) ∷ [])
-go_within_then now mid [] e written fit = (inr (ap (λ d. Whole (checkpoint_of d)) (sym (durable_is fit))), λ next is. tt)
-go_within_then now mid (entry ∷ first) e written fit =
-    let parts = and_parts (goes_on_within entry) (list_all goes_on_within first) e in (inl (parts.0, written.0), λ next is. go_within_then next mid first parts.1 written.1 (sym (ap (option_and_then (λ n. replayed n first)) is) ∙ fit))
-
 -- what stands is led on
-still : (s : State) (prepared next : Durable) → IsSince prepared next → Leads s prepared next
+still : (s : State) (prepared next : Durable) → IsSince prepared next → LeadsBack s prepared next
 still s prepared next k = record { since = λ off. k; names = λ r o. absurd (false≢true (sym k.stands ∙ o)); restored = λ r o. absurd (false≢true (sym k.stands ∙ o)) }
 
 -- ---- one record that begins or ends an upgrade
@@ -218,7 +185,7 @@ module _ (s : State) (prepared : Durable) (k : IsSince prepared s.durable) where
       let is = fits_gives (is_ordinary d.phase && (is_next_epoch d.epoch epoch && are_at_rest d)) (without_prepared (with_epoch d ends.Prepare Upgrade)) next e in
       false≢true (sym k.stands ∙ (and_parts (is_ordinary d.phase) (is_next_epoch d.epoch epoch && are_at_rest d) is.0).0)
 
-  finalize_leads : (epoch : ℕ) (next : Durable) → applied s.durable (Finalize epoch) ≡ Some next → Leads s prepared next
+  finalize_leads : (epoch : ℕ) (next : Durable) → applied s.durable (Finalize epoch) ≡ Some next → LeadsBack s prepared next
   unfolding applied
   finalize_leads epoch next e =
       let d = s.durable in
@@ -244,7 +211,7 @@ module _ (s : State) (prepared : Durable) (k : IsSince prepared s.durable) where
       by_room false = inr refl
 
   commit_leads : (req : ReqId) (names : NamesView) (epoch : ℕ) (answers : List Answered) (next : Durable) → is_rolling s.durable.phase ≡ true → all_undone s.durable.inverses s.durable.names ≡ Some names
-      → unrestored (prepared_view s.durable) (told_of s) (fin.entries names.refs) ≡ None → applied s.durable (RollbackCommit epoch answers) ≡ Some next → Leads s prepared next
+      → unrestored (prepared_view s.durable) (told_of s) (fin.entries names.refs) ≡ None → applied s.durable (RollbackCommit epoch answers) ≡ Some next → LeadsBack s prepared next
   unfolding applied
   commit_leads req names epoch answers next rolling back none e =
       let d = s.durable in
@@ -256,132 +223,77 @@ module _ (s : State) (prepared : Durable) (k : IsSince prepared s.durable) where
         restored = λ r o chunk count has more. can.restored chunk count (ap (λ (n : NamesView). fin.get n.refs chunk) same ∙ has) more;
       }
 
--- ---- the records of an event
+-- ---- the records of a turn
 
 -- they go on within the upgrade, or are one that begins or ends one
 abbrev Paces : State → Durable → List PlainEntry → Type 0
-Paces s prepared records = GoWithin s.durable records ⊎ ((entry : PlainEntry) × (records ≡ entry ∷ []) × ((next : Durable) → applied s.durable entry ≡ Some next → Leads s prepared next))
+Paces s prepared records = GoWithin s.durable records ⊎ ((entry : PlainEntry) × (records ≡ entry ∷ []) × ((next : Durable) → applied s.durable entry ≡ Some next → LeadsBack s prepared next))
 
 module _ (config : Config) (heard : Heard) where
-  may_within : (s : State) (move : Move) → IsMadeWithin config heard s move → IsMade config heard s move
-  may_within s move m = m.1
-
-  -- the records of a chain within an upgrade fit
-  first_fits : (s : State) (first : Turn) (more : List PlainEntry) (last : Durable) → Chain config (IsMadeWithin config heard) s first → replayed s.durable (first.records ++ more) ≡ Some last → replayed s.durable first.records ≡ Some first.after.durable
-  first_fits s first more last a fit =
-      let parts = split first.records more s.durable last fit in
-      parts.first ∙ ap Some (sym (chain_leaves config heard (IsMadeWithin config heard) (λ u move m. m.1.may) s first parts.mid a parts.first))
-
-  paces : (prepared : Durable) (s : State) (t : Turn) → Paced config (IsMadeWithin config heard) (IsMade config heard) s t → AllFit s t → IsWritten t → IsSince prepared s.durable → Paces s prepared t.records
-  paces prepared s t (Goes u next a) fit written k = inl (go_within u.durable next.records (chain_within config heard u next a) written)
-  paces prepared s t (Turns u move said made) fit written k = by_move move made written
+  paces : (prepared : Durable) (s : State) (t : Turn) → Paced config heard s t → IsWritten t → IsSince prepared s.durable → Paces s prepared t.records × AllFit s t
+  paces prepared s t (Goes u next chain) written k = (let parts = chain_within config heard u next chain written in (inl parts.0, parts.1))
+  paces prepared s t (Turns u move said made bound) written k = (by_move move made bound, made.fits)
     where
-      by_move : (move : Move) → IsMade config heard u move → AllByRecursion (IsEntry Two) (move_turn config u move).records → Paces u prepared (move_turn config u move).records
-      by_move (Prepares req moment) m w = inr (_, refl, λ next e. absurd (no_prepare u prepared k _ _ _ next e))
-      by_move (Finalizes req) m w = inr (_, refl, λ next e. finalize_leads u prepared k _ next e)
-      by_move (CommitsRollback req names) m w = inr (_, refl, λ next e. commit_leads u prepared k req names _ _ next m.may.rolling m.may.back m.may.restored e)
-      by_move Checkpoints m w = inl (inr refl, λ next is. tt)
-      by_move other m w = inl (go_within u.durable (move_turn config u other).records (within_records config u other refl) w)
-  paces prepared s t (Writes u first said a made) fit written k =
-      inl (go_within_then u.durable first.after.durable first.records (chain_within config heard u first a) (both_of first.records _ written).0 (first_fits u first _ _ a fit))
+      by_move : (move : Move) → IsMade config heard u move → is_bound move ≡ true → Paces u prepared (move_turn config u move).records
+      by_move (Prepares req moment) m bound = inr (_, refl, λ next e. absurd (no_prepare u prepared k _ _ _ next e))
+      by_move (Finalizes req) m bound = inr (_, refl, λ next e. finalize_leads u prepared k _ next e)
+      by_move (CommitsRollback req names) m bound = inr (_, refl, λ next e. commit_leads u prepared k req names _ _ next m.may.rolling m.may.back m.may.restored e)
+      by_move other m bound = absurd (false≢true bound)
 
-  lead : (prepared : Durable) (s : State) (records : List PlainEntry) (next : Durable) → Paces s prepared records → replayed s.durable records ≡ Some next → IsSince prepared s.durable → Leads s prepared next
-  lead prepared s records next (inl within) fit k = still s prepared next (since_all prepared s.durable next records k within fit)
-  lead prepared s records next (inr (entry, is, f)) fit k = f next (one_fits s.durable next entry (ap (replayed s.durable) (sym is) ∙ fit))
+lead : (prepared : Durable) (s : State) (records : List PlainEntry) (next : Durable) → Paces s prepared records → replayed s.durable records ≡ Some next → IsSince prepared s.durable → LeadsBack s prepared next
+lead prepared s records next (inl within) fit k = still s prepared next (since_all prepared s.durable next records k within fit)
+lead prepared s records next (inr (entry, is, f)) fit k = f next (one_fits s.durable next entry (ap (replayed s.durable) (sym is) ∙ fit))
 
-  cut_alone : (prepared : Durable) (s : State) (entry : PlainEntry) (place : ℕ) (d : Durable) → IsSince prepared s.durable → ((next : Durable) → applied s.durable entry ≡ Some next → Leads s prepared next) → place < 1 → replayed s.durable (take place (entry ∷ [])) ≡ Some d → LeadsOn s prepared (entry ∷ []) place d
-  cut_alone prepared s entry zero d k f within fit =
-      record { since = subst (IsSince prepared) (durable_is fit) k; doubt = λ x next at e. f next (ap (applied s.durable) (entry_is at) ∙ ap (λ m. applied m x) (durable_is fit) ∙ e) }
-  cut_alone prepared s entry (suc place) d k f within fit = absurd (omega arith)
+cut_alone : (prepared : Durable) (s : State) (entry : PlainEntry) (place : ℕ) (d : Durable) → IsSince prepared s.durable → ((next : Durable) → applied s.durable entry ≡ Some next → LeadsBack s prepared next) → place < 1 → replayed s.durable (take place (entry ∷ [])) ≡ Some d
+    → LeadsBackAt s prepared (entry ∷ []) place d
+cut_alone prepared s entry zero d k f within fit =
+    record { since = subst (IsSince prepared) (durable_is fit) k; doubt = λ x next at e. f next (ap (applied s.durable) (entry_is at) ∙ ap (λ m. applied m x) (durable_is fit) ∙ e) }
+cut_alone prepared s entry (suc place) d k f within fit = absurd (omega arith)
 
-  cut_leads : (prepared : Durable) (s : State) (records : List PlainEntry) (place : ℕ) (d : Durable) → Paces s prepared records → IsSince prepared s.durable → place < length records → replayed s.durable (take place records) ≡ Some d → LeadsOn s prepared records place d
-  cut_leads prepared s records place d (inl within) k low fit =
-      let c = cut_within prepared s.durable d records place k within fit in record { since = c.0; doubt = λ entry next at e. still s prepared next (c.1 entry next at e) }
-  cut_leads prepared s records place d (inr (entry, is, f)) k low fit =
-      subst (λ r. place < length r → replayed s.durable (take place r) ≡ Some d → LeadsOn s prepared r place d) (sym is) (λ l t. cut_alone prepared s entry place d k f l t) low fit
+cut_leads : (prepared : Durable) (s : State) (records : List PlainEntry) (place : ℕ) (d : Durable) → Paces s prepared records → IsSince prepared s.durable → place < length records → replayed s.durable (take place records) ≡ Some d → LeadsBackAt s prepared records place d
+cut_leads prepared s records place d (inl within) k low fit =
+    let c = cut_within prepared s.durable d records place k within fit in record { since = c.0; doubt = λ entry next at e. still s prepared next (c.1 entry next at e) }
+cut_leads prepared s records place d (inr (entry, is, f)) k low fit =
+    subst (λ r. place < length r → replayed s.durable (take place r) ≡ Some d → LeadsBackAt s prepared r place d) (sym is) (λ l t. cut_alone prepared s entry place d k f l t) low fit
 
-pub events_lead : EventsLead
-events_lead config s (Comes message moment) prepared named heard y k =
-    let event = Comes message moment in let t = turn_of config s event in let fit = (events_fit config s event named y.firm).fits in
-    lead config (heard_in event) prepared s t.records t.after.durable (paces config (heard_in event) prepared s t (events_are_paced config s event named y.firm) fit (events_written config s event named heard y).written k) fit k
-events_lead config s (Ticks moment) prepared named heard y k =
-    let event = Ticks moment in let t = turn_of config s event in let fit = (events_fit config s event named y.firm).fits in
-    lead config (heard_in event) prepared s t.records t.after.durable (paces config (heard_in event) prepared s t (events_are_paced config s event named y.firm) fit (events_written config s event named heard y).written k) fit k
-events_lead config s Renews prepared named heard y k =
-    let event = Renews in let t = turn_of config s event in let fit = (events_fit config s event named y.firm).fits in
-    lead config (heard_in event) prepared s t.records t.after.durable (paces config (heard_in event) prepared s t (events_are_paced config s event named y.firm) fit (events_written config s event named heard y).written k) fit k
-events_lead config s Restarts prepared named heard y k = still s prepared s.durable k
+pub turns_lead : TurnsLead
+turns_lead config heard s t prepared turn written k =
+    let parts = paces config heard prepared s t (paced config heard s t turn) written k in lead prepared s t.records t.after.durable parts.0 parts.1 k
 
 pub cuts_lead : CutsLead
-cuts_lead config s (Comes message moment) prepared place d named heard y k low fit =
-    let event = Comes message moment in let t = turn_of config s event in
-    cut_leads config (heard_in event) prepared s t.records place d (paces config (heard_in event) prepared s t (events_are_paced config s event named y.firm) (events_fit config s event named y.firm).fits (events_written config s event named heard y).written k) k low fit
-cuts_lead config s (Ticks moment) prepared place d named heard y k low fit =
-    let event = Ticks moment in let t = turn_of config s event in
-    cut_leads config (heard_in event) prepared s t.records place d (paces config (heard_in event) prepared s t (events_are_paced config s event named y.firm) (events_fit config s event named y.firm).fits (events_written config s event named heard y).written k) k low fit
-cuts_lead config s Renews prepared place d named heard y k low fit =
-    let event = Renews in let t = turn_of config s event in
-    cut_leads config (heard_in event) prepared s t.records place d (paces config (heard_in event) prepared s t (events_are_paced config s event named y.firm) (events_fit config s event named y.firm).fits (events_written config s event named heard y).written k) k low fit
-cuts_lead config s Restarts prepared place d named heard y k low fit = absurd (omega arith)
-
-pub steps_lead : StepsLead
-steps_lead config s moment prepared y k =
-    let t = and_then (for_each s (proposals s) (pressed moment)) granted in
-    let steps = steps_are_within config s moment y.firm in
-    since_all prepared s.durable t.after.durable t.records k (go_within s.durable t.records (chain_within config None s t steps.0) (all_steps_written s moment y).written) steps.1
+cuts_lead config heard s t prepared place d turn written k low fit =
+    cut_leads prepared s t.records place d (paces config heard prepared s t (paced config heard s t turn) written k).0 k low fit
 
 -- ---- a prepare
 
-begun : (d next : Durable) (epoch moment chunks : ℕ) → IsKept d → applied d (Prepare epoch moment chunks) ≡ Some next → (is_upgrade next.phase ≡ true) × IsSince next next
-unfolding applied
-begun d next epoch moment chunks kept e =
-    let is = fits_gives (is_ordinary d.phase && (is_next_epoch d.epoch epoch && are_at_rest d)) (without_prepared (with_epoch d ends.Prepare Upgrade)) next e in
-    let all = begins_with_all d next epoch moment chunks kept e in (
-      ap (λ (x : Durable). is_upgrade x.phase) (sym is.1),
-      record {
-        kept = prepare_kept d next epoch moment chunks kept e;
-        stands = ap (λ (x : Durable). is_ordinary x.phase) (sym is.1);
-        back = all.0 ∙ ap (λ (x : Durable). Some x.names) is.1;
-        views = λ chunk listed. ap (option_map (λ (p : Prepared). p.view)) (all.1 chunk) ∙ from (fin.get d.chunks chunk) ∙ ap (λ (x : Durable). view_in (fin.get x.chunks chunk)) is.1;
-      },
-    )
+-- a view from before the upgrade is kept as it is settled
+view_before : (epoch : ℕ) (o : Option Settled) → is_some (if_before epoch o) ≡ true → option_map (λ (p : Prepared). p.view) (if_before epoch o) ≡ view_in o
+view_before epoch None some = absurd (false≢true some)
+view_before epoch (Some y) some = by_case (nat_lt y.view.stamp.epoch epoch) some
   where
-    from : (o : Option Settled) → option_map (λ (p : Prepared). p.view) (option_map prepared_from o) ≡ view_in o
-    from None = refl
-    from (Some x) = refl
+    own : Prepared
+    own = record { view = y.view; holders = [] }
 
-module _ (config : Config) (heard : Heard) where
-  no_end : (u : State) → is_ordinary u.durable.phase ≡ true → (epoch : ℕ) (next : Durable) → applied u.durable (Finalize epoch) ≡ Some next → ⊥
-  unfolding applied
-  no_end u ordinary epoch next e =
-      let d = u.durable in
-      let is = fits_gives (is_upgrade d.phase && is_next_epoch d.epoch epoch) (without_prepared (with_epoch d ends.Finalize Ordinary)) next e in
-      false≢true (upgrade_stands d.phase (and_parts (is_upgrade d.phase) (is_next_epoch d.epoch epoch) is.0).0 ∙ ordinary)
+    by_case : (b : Bool) → is_some (if b then Some own else None) ≡ true → option_map (λ (p : Prepared). p.view) (if b then Some own else None) ≡ Some y.view
+    by_case false some = absurd (false≢true some)
+    by_case true some = refl
 
-  begins : (s : State) (t : Turn) → Paced config (IsMadeWithin config heard) (IsMade config heard) s t → AllFit s t → IsKept s.durable → is_ordinary s.durable.phase ≡ true → is_ordinary t.after.durable.phase ≡ false →
-      (is_upgrade t.after.durable.phase ≡ true) × IsSince t.after.durable t.after.durable
-  begins s t (Goes u next a) fit kept ordinary off = absurd (true≢false (sym (phase_all next.records u.durable next.after.durable (chain_within config heard u next a) fit ∙ ordinary) ∙ off))
-  begins s t (Turns u move said made) fit kept ordinary off = by_move move made off
-    where
-      by_move : (move : Move) → IsMade config heard u move → is_ordinary (move_turn config u move).after.durable.phase ≡ false →
-          (is_upgrade (move_turn config u move).after.durable.phase ≡ true) × IsSince (move_turn config u move).after.durable (move_turn config u move).after.durable
-      by_move (Prepares req moment) m off = begun u.durable (move_turn config u (Prepares req moment)).after.durable _ _ _ kept (one_fits u.durable (move_turn config u (Prepares req moment)).after.durable _ m.fits)
-      by_move (Finalizes req) m off = absurd (no_end u ordinary _ (move_turn config u (Finalizes req)).after.durable (one_fits u.durable (move_turn config u (Finalizes req)).after.durable _ m.fits))
-      by_move (CommitsRollback req names) m off = absurd (rolling_stands u.durable.phase m.may.rolling ordinary)
-      by_move Checkpoints m off = absurd (true≢false (sym ordinary ∙ off))
-      by_move other m off = absurd (true≢false (sym (phase_all (move_turn config u other).records u.durable (move_turn config u other).after.durable (within_records config u other refl) m.fits ∙ ordinary) ∙ off))
-  begins s t (Writes u first said a made) fit kept ordinary off = absurd (true≢false (sym (phase_all first.records u.durable first.after.durable (chain_within config heard u first a) (first_fits config heard u first _ _ a fit) ∙ ordinary) ∙ off))
+begun : (d e : Durable) → EpochGoes d e → IsKept e → is_ordinary d.phase ≡ true → is_ordinary e.phase ≡ false → (is_upgrade e.phase ≡ true) × IsSince e e
+begun d e (Stays epoch phase) kept ordinary off = absurd (true≢false (sym (ap is_ordinary phase ∙ ordinary) ∙ off))
+begun d e (Finalized epoch was phase end) kept ordinary off = absurd (false≢true (sym (ap is_ordinary was) ∙ ordinary))
+begun d e (Begun epoch was phase end) kept ordinary off = absurd (false≢true (sym (ap is_ordinary was) ∙ ordinary))
+begun d e (Committed epoch was phase) kept ordinary off = absurd (false≢true (sym (ap is_ordinary was) ∙ ordinary))
+begun d e (Prepares_so epoch was phase unchanged none) kept ordinary off = (ap is_upgrade phase, record { kept = kept; stands = off; back = back; views = views })
+  where
+    back : all_undone e.inverses e.names ≡ Some e.names
+    back = ap (λ inverses. all_undone inverses e.names) unchanged
 
-pub prepares_begin : PreparesBegin
-prepares_begin config s (Comes message moment) named heard y ordinary off =
-    let event = Comes message moment in begins config (heard_in event) s (turn_of config s event) (events_are_paced config s event named y.firm) (events_fit config s event named y.firm).fits y.firm.stands.kept ordinary off
-prepares_begin config s (Ticks moment) named heard y ordinary off =
-    let event = Ticks moment in begins config (heard_in event) s (turn_of config s event) (events_are_paced config s event named y.firm) (events_fit config s event named y.firm).fits y.firm.stands.kept ordinary off
-prepares_begin config s Renews named heard y ordinary off =
-    let event = Renews in begins config (heard_in event) s (turn_of config s event) (events_are_paced config s event named y.firm) (events_fit config s event named y.firm).fits y.firm.stands.kept ordinary off
-prepares_begin config s Restarts named heard y ordinary off = absurd (true≢false (sym ordinary ∙ off))
+    views : (chunk : ℕ) → is_listed e chunk ≡ true → option_map (λ (p : Prepared). p.view) (prepared_view e chunk) ≡ view_in (fin.get e.chunks chunk)
+    views chunk listed =
+        let settled = fin.get e.chunks chunk in
+        let view : prepared_view e chunk ≡ if_before e.epoch settled = ap (λ phase. prepared_of (upgrade_epoch phase e.epoch) (fin.get e.prepared chunk) settled) phase ∙ ap (λ o. prepared_of (Some e.epoch) o settled) (none chunk) in
+        ap (option_map (λ (p : Prepared). p.view)) view ∙ view_before e.epoch settled (ap is_some (sym view) ∙ kept.restored e.names chunk back off listed)
 
-pub steps_stay : StepsStay
-steps_stay config s moment y ordinary =
-    let t = and_then (for_each s (proposals s) (pressed moment)) granted in
-    let steps = steps_are_within config s moment y.firm in phase_all t.records s.durable t.after.durable (chain_within config None s t steps.0) steps.1 ∙ ordinary
+pub turns_begin : TurnsBegin
+turns_begin config heard s t turn written kept ordinary off =
+    let well = once_stands config heard s t turn written kept in begun s.durable t.after.durable (epochs_go config heard s t well.turn) well.behind ordinary off

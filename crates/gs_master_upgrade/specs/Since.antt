@@ -2,60 +2,50 @@
 use Rattle.std.specs.Prelude.{◌≡◌, ◌<◌, ℕ, true, false, List, Some, option_map, slice_get, take, length}
 use Rattle.std.specs.FinMap as fin
 use Rattle.gs_base.specs.declared.config.Config.{Config}
-use Rattle.gs_base.specs.declared.numbers.Moment.{Moment}
 use Rattle.gs_master_record.specs.Plain.{PlainEntry}
 use Rattle.gs_master_spec.specs.Applied.{applied, replayed, view_in}
 use Rattle.gs_master_spec.specs.Durable.{Durable, is_listed, is_ordinary, is_rolling, is_upgrade, prepared_view}
-use Rattle.gs_master_spec.specs.Handling.{granted, pressed, proposals}
-use Rattle.gs_master_spec.specs.State.{State, and_then, for_each}
+use Rattle.gs_master_spec.specs.State.{State, Turn}
 use Rattle.gs_master_spec.specs.Undoing.{all_undone}
 use Rattle.gs_master_spec.specs.declared.asking.Prepared.{Prepared}
-use Rattle.gs_master_laws.specs.Promises.{IsKept, IsRestored}
-use Rattle.gs_master_laws.specs.Standing.{Event, IsNamed, turn_of}
-use Rattle.gs_master_laws.specs.Written.{IsHeardIn, IsSteady}
+use Rattle.gs_master_laws.specs.Promises.{IsKept, IsRestored, IsWritten}
+use Rattle.gs_master_moves.specs.Epochs.{EndsOnce}
+use Rattle.gs_master_moves.specs.Guards.{Heard, IsMade}
 
--- Since a prepare, behind whose record this was durable: an upgrade stands, or is rolled back. What takes edits back leads to the names of then, and each
--- chunk that was listed then has the view of then as its prepared one.
+-- Since a prepare, behind whose record this was durable: its upgrade stands, or is rolled back. Taking back the edits since leads to the names of then, and of each
+-- chunk that a file had then, or before, the prepared view is the one of then.
 pub record IsSince (prepared now : Durable) : Type 0 where
   pub kept : IsKept now
   pub stands : is_ordinary now.phase ≡ false
   pub back : all_undone now.inverses now.names ≡ Some prepared.names
   pub views : (chunk : ℕ) → is_listed prepared chunk ≡ true → option_map (λ (p : Prepared). p.view) (prepared_view now chunk) ≡ view_in (fin.get prepared.chunks chunk)
 
--- each chunk with a reference at the prepare was told of by a server that had it then, or was sent it since with its sealed image
+-- of each chunk that stood in a file at the prepare a server that had it then, or was sent it since with its sealed image, has told
 abbrev pub AreRestored : State → Durable → Type 0
 AreRestored s prepared = (chunk count : ℕ) → fin.get prepared.names.refs chunk ≡ Some count → 0 < count → IsRestored s chunk
 
--- So it goes on: what is durable next is so too. But where a rollback ends, the names are those of the prepare, and all was told of.
-pub record Leads (s : State) (prepared next : Durable) : Type 0 where
+-- So it goes on: what is durable next is so too. But where a rollback ends, the names are those of the prepare, and servers had told of all chunks.
+pub record LeadsBack (s : State) (prepared next : Durable) : Type 0 where
   pub since : is_ordinary next.phase ≡ false → IsSince prepared next
   pub names : is_rolling s.durable.phase ≡ true → is_ordinary next.phase ≡ true → next.names ≡ prepared.names
   pub restored : is_rolling s.durable.phase ≡ true → is_ordinary next.phase ≡ true → AreRestored s prepared
 
--- ---- what is to hold
+-- ---- what is to hold, of turns of which each record can be written; as are each event of a steady master, and what a tick does before its checkpoint
 
--- Where an event leads from an ordinary phase to another, it was a prepare: so it is right behind it.
-abbrev pub PreparesBegin : Type 0
-PreparesBegin = (config : Config) (s : State) (event : Event) → IsNamed event → IsHeardIn s event → IsSteady s → is_ordinary s.durable.phase ≡ true →
-    let next = (turn_of config s event).after.durable in is_ordinary next.phase ≡ false → (is_upgrade next.phase ≡ true) × IsSince next next
+-- Where one leads from an ordinary phase to another, it was a prepare: so it is right behind it.
+abbrev pub TurnsBegin : Type 0
+TurnsBegin = (config : Config) (heard : Heard) (s : State) (t : Turn) → EndsOnce config (IsMade config heard) s t → IsWritten t → IsKept s.durable → is_ordinary s.durable.phase ≡ true → is_ordinary t.after.durable.phase ≡ false
+    → (is_upgrade t.after.durable.phase ≡ true) × IsSince t.after.durable t.after.durable
 
--- The steps of a tick begin none.
-abbrev pub StepsStay : Type 0
-StepsStay = (config : Config) (s : State) (moment : Moment) → IsSteady s → is_ordinary s.durable.phase ≡ true → is_ordinary (and_then (for_each s (proposals s) (pressed moment)) granted).after.durable.phase ≡ true
-
--- And so it goes on over each event,
-abbrev pub EventsLead : Type 0
-EventsLead = (config : Config) (s : State) (event : Event) (prepared : Durable) → IsNamed event → IsHeardIn s event → IsSteady s → IsSince prepared s.durable → Leads s prepared (turn_of config s event).after.durable
-
--- over the steps of a tick without its checkpoint,
-abbrev pub StepsLead : Type 0
-StepsLead = (config : Config) (s : State) (moment : Moment) (prepared : Durable) → IsSteady s → IsSince prepared s.durable → IsSince prepared (and_then (for_each s (proposals s) (pressed moment)) granted).after.durable
+-- And so it goes on over each,
+abbrev pub TurnsLead : Type 0
+TurnsLead = (config : Config) (heard : Heard) (s : State) (t : Turn) (prepared : Durable) → EndsOnce config (IsMade config heard) s t → IsWritten t → IsSince prepared s.durable → LeadsBack s prepared t.after.durable
 
 -- and where the append of a record fails: behind those before it, and if it stands too.
-pub record LeadsOn (s : State) (prepared : Durable) (records : List PlainEntry) (place : ℕ) (d : Durable) : Type 0 where
+pub record LeadsBackAt (s : State) (prepared : Durable) (records : List PlainEntry) (place : ℕ) (d : Durable) : Type 0 where
   pub since : IsSince prepared d
-  pub doubt : (entry : PlainEntry) (next : Durable) → slice_get records place ≡ Some entry → applied d entry ≡ Some next → Leads s prepared next
+  pub doubt : (entry : PlainEntry) (next : Durable) → slice_get records place ≡ Some entry → applied d entry ≡ Some next → LeadsBack s prepared next
 
 abbrev pub CutsLead : Type 0
-CutsLead = (config : Config) (s : State) (event : Event) (prepared : Durable) (place : ℕ) (d : Durable) → IsNamed event → IsHeardIn s event → IsSteady s → IsSince prepared s.durable →
-    let t = turn_of config s event in place < length t.records → replayed s.durable (take place t.records) ≡ Some d → LeadsOn s prepared t.records place d
+CutsLead = (config : Config) (heard : Heard) (s : State) (t : Turn) (prepared : Durable) (place : ℕ) (d : Durable) → EndsOnce config (IsMade config heard) s t → IsWritten t → IsSince prepared s.durable
+    → place < length t.records → replayed s.durable (take place t.records) ≡ Some d → LeadsBackAt s prepared t.records place d

@@ -135,7 +135,7 @@ settled_there x bytes chunk h a seen free view told =
 
 -- ---- the commit
 
-rolls : (d e : Durable) → rolls_back d e ≡ true → (is_rolling d.phase ≡ true) × (is_rolling e.phase ≡ false)
+pub rolls : (d e : Durable) → rolls_back d e ≡ true → (is_rolling d.phase ≡ true) × (is_rolling e.phase ≡ false)
 rolls d e is = (let parts = both (is_rolling d.phase) (is_ordinary e.phase) is in (parts.0, calm e.phase parts.1))
   where
     calm : (phase : Phase) → is_ordinary phase ≡ true → is_rolling phase ≡ false

@@ -5,6 +5,7 @@ use Rattle.std.proofs.lemmas.Bool.{false≢true}
 use Rattle.std.specs.FinMap as fin
 use Rattle.gs_base.specs.Members.{is_member}
 use Rattle.gs_base.specs.declared.numbers.ReqId.{ReqId}
+use Rattle.gs_chunk.proofs.Committed.{masters_commit}
 use Rattle.gs_chunk.proofs.Facts.{reached_world}
 use Rattle.gs_chunk.proofs.Lasting.{agrees}
 use Rattle.gs_chunk.specs.Machine.{ChunkWorld}
@@ -27,7 +28,7 @@ use Rattle.gs_world_chunks.proofs.Edits.{AreNumbered}
 use Rattle.gs_world_chunks.proofs.Holding.{SinceSeen, given_there, lives_on, prepared_reached, reach_more, runs_of, runs_then, since_seen}
 use Rattle.gs_world_chunks.proofs.Intact.{told_same}
 use Rattle.gs_world_chunks.proofs.Reached.{run_stays}
-use Rattle.gs_world_chunks.proofs.Runs.{keeps_told, seen_of}
+use Rattle.gs_world_chunks.proofs.Runs.{keeps_told, living_told, seen_of}
 use Rattle.gs_world_chunks.proofs.Seeing.{SeesNext, SeesTo, each_sees_on, sees_run, sees_step}
 use Rattle.gs_world_chunks.specs.Joined.{IsSeen, SeenSince}
 use Rattle.gs_world_chunks.specs.Seeing.{Sees, SeesBoth}
@@ -41,7 +42,7 @@ use Rattle.gs_world_lift.specs.Joint.{AtMaster, AtServer, ByMaster, Elsewhere, G
 use Rattle.gs_world_lift.specs.Living.{GoesOn, LivesOn}
 use Rattle.gs_world_lift.specs.Saying.{PushRight}
 use Rattle.gs_world_lift.specs.Showing.{IsAlive, Life}
-use Rattle.gs_world_upgrade.proofs.Bytes.{calm_back, free_back, free_prepared, list_back, settled_there, text_there}
+use Rattle.gs_world_upgrade.proofs.Bytes.{calm_back, free_back, free_prepared, list_back, rolls as rolls_on, settled_there, text_there}
 use Rattle.gs_world_upgrade.specs.Back.{GivesSettledBack, HasBytes, IsMemberAt}
 
 never_both : (phase : Phase) → (is_rolling phase && is_ordinary phase) ≡ false
@@ -124,6 +125,35 @@ module _ (sizes : HaveSizes) (law : AreNumbered) {D : Type 0} (x : Setup D) (pre
   not_same master chunk =
       let same = told_same x bytes chunk step now back after last moves here.last.lives here.last.agrees.told next.goes.last master in
       false≢true (sym (never_both after.durable.phase) ∙ ap (λ (d : Durable). is_rolling after.durable.phase && is_ordinary d.phase) same ∙ committed)
+
+  -- ---- a chunk of which a view is told behind the commit is one that a file has
+
+  rolls : (is_rolling after.durable.phase ≡ true) × (is_rolling last.durable.phase ≡ false)
+  rolls = rolls_on after.durable last.durable committed
+
+  module _ (chunk : ℕ) (row : is_some (fin.get last.durable.chunks chunk) ≡ true) where
+    told_by : (m : IsAlive x.seen x.config bytes chunk back) (l : IsAlive x.seen x.config bytes chunk now) → ByMaster x.seen x.config bytes l.reached.0.epoch chunk step now back l.world m.world → is_listed last.durable chunk ≡ true
+    told_by m l by =
+        let had : by.before ≡ after.durable = told_is_had x.seen now.nodes.master after.durable by.before here.last.lives.lasts here.last.agrees.told by.had in
+        let has : by.behind ≡ last.durable = told_is_had x.seen back.nodes.master last.durable by.behind next.goes.last.lasts moves.told by.has in
+        let over = masters_commit l.world m.world by.leads l.reached by.masters (by.shown.rolling ∙ ap (λ (d : Durable). is_rolling d.phase) had ∙ rolls.0) (by.shows.rolling ∙ ap (λ (d : Durable). is_rolling d.phase) has ∙ rolls.1) in
+        ap (λ (d : Durable). is_listed d chunk) (sym has) ∙ by.rows.listed over (ap (λ (d : Durable). is_some (fin.get d.chunks chunk)) has ∙ row)
+
+    told_at : (m : IsAlive x.seen x.config bytes chunk back) (l : IsAlive x.seen x.config bytes chunk now) → GoesBy x.seen x.config bytes l.reached.0.epoch chunk step now back l.world m.world → is_listed last.durable chunk ≡ true
+    told_at m l (AtServer by) = absurd (not_same by.master chunk)
+    told_at m l (AtMaster by) = told_by m l by
+    told_at m l (Elsewhere still servers master node messages moment are posted) = absurd (not_same master chunk)
+
+    listed_by : (heard : Option ℕ) (m : IsAlive x.seen x.config bytes chunk back) (life : Life x.seen x.config bytes chunk now) → GoesOn x.seen x.config bytes chunk step heard now back life (inr m) → is_listed last.durable chunk ≡ true
+    listed_by heard m (inl unborn) comes =
+        absurd (false≢true (sym comes.calm ∙ ap (λ (d : Durable). is_rolling d.phase) (told_is_had x.seen now.nodes.master after.durable comes.before here.last.lives.lasts here.last.agrees.told comes.had) ∙ rolls.0))
+    listed_by heard m (inr l) goes = told_at m l goes.by
+
+    pub listed_there : is_listed last.durable chunk ≡ true
+    listed_there =
+        let living = living_told x asked back last then chunk row in
+        listed_by (heard_in x.seen x.failures x.armed next.goes.kind) living.0 (here.last.lives.life chunk)
+        (subst (λ life. GoesOn x.seen x.config bytes chunk step (heard_in x.seen x.failures x.armed next.goes.kind) now back (here.last.lives.life chunk) life) living.1 (next.goes.goes chunk))
 
   module _ (chunk : ℕ) (listed : is_listed first.durable chunk ≡ true) where
     since : SinceSeen sizes law x prepared now first after up asked here.last chunk
