@@ -99,7 +99,7 @@ closed_not : {D : Type 0} (first second : D) (m : MasterOf D) → ◌≡◌ {A =
 closed_not first second m e = absurd (cc)
 
 module _ {D : Type 0} (x : Setup D) where
-  opened_state : (config : Config) (first second : D) (d : Durable) (turn : Told) (place : MasterPlace D) → IsToldIn (standing (x.seen first) (x.seen second)) d → OpensAs x.seen d place → Opens x.seen x.failures config (first, second) (Ok turn) place
+  pub opened_state : (config : Config) (first second : D) (d : Durable) (turn : Told) (place : MasterPlace D) → IsToldIn (standing (x.seen first) (x.seen second)) d → OpensAs x.seen d place → Opens x.seen x.failures config (first, second) (Ok turn) place
       → (after : MasterOf D) × (place ≡ Standing after) × ((log : Log) × (after.state ≡ restarted d log))
   opened_state config first second d turn place told found (after, is, opening, said) =
       let same = standing_is found.0 after (sym found.1 ∙ is) in

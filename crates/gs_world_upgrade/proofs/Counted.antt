@@ -252,7 +252,7 @@ module _ {D : Type 0} (x : Setup D) where
     where
       by_hearing : IsHearing step sent said m.config m.state heard t → is_member (told_of t.after chunk) server ≡ true
       by_hearing (ByItself alone unheard left) = as_told m.state t.after chunk server left (has m at)
-      by_hearing (ByMessage message moment found as same says) =
+      by_hearing (ByMessage message moment found hearing same says) =
           subst (λ (u : Turn). is_member (told_of u.after chunk) server ≡ true) (sym same)
           (stays_heard m message moment chunk server low (subst (AllFit m.state) same (turn_fits m.config heard m.state t turn written))
           (subst (λ (u : Turn). is_ordinary u.after.durable.phase ≡ false) same (sym (ap (λ (z : Durable). is_ordinary z.phase) (has_at x new after e to ek ∙ ap (λ (z : State). z.durable) is)) ∙ going)) (has m at))
@@ -282,7 +282,7 @@ module _ {D : Type 0} (x : Setup D) where
 
       by_hearing : IsHearing step old.sent (met_at x step old new goes) m.config m.state heard t → is_member (told_of t.after chunk) server ≡ true
       by_hearing (ByItself alone unheard left) = absurd (false≢true (ap is_some (sym unheard ∙ found)))
-      by_hearing (ByMessage heard_one moment there as is_turn says) =
+      by_hearing (ByMessage heard_one moment there hearing is_turn says) =
           subst (λ (u : Turn). is_member (told_of u.after chunk) server ≡ true) (sym (is_turn ∙ ap (λ one. handle m.config m.state one moment) (message_is (sym there ∙ found))))
           (tells_of m.config m.state message moment server names.learned.handles chunk server tells low
           ∙ or_second (is_member (told_of m.state chunk) server) ((server == server) && is_member names.learned.handles chunk) (ap (λ b. (server == server) && b) names.named ∙ itself server))

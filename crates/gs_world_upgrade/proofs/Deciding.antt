@@ -201,7 +201,7 @@ decided sizes law {D} x prepared now next before after back step upgrade moves a
     at_turn : (after_m : MasterOf D) (heard : Heard) (t : Turn) → next.nodes.master ≡ Standing after_m → AllFit m.state t → after_m.state ≡ t.after → IsHearing step now.sent (met_at x step now next moves.steps.goes) m.config m.state heard t
         → IsDecided x prepared before now after upgrade (met_at x step now next moves.steps.goes) back
     at_turn after_m heard t to fit is (ByItself alone unheard left) = absurd (false≢true (ap is_some (sym unheard ∙ asks.heard)))
-    at_turn after_m heard t to fit is (ByMessage message moment found as is_turn says) =
+    at_turn after_m heard t to fit is (ByMessage message moment found hearing is_turn says) =
         let one = message_is (sym found ∙ asks.heard) in
         let turn : t ≡ rollback_commit m.state asks.req = is_turn ∙ ap (λ it. handle m.config m.state it moment) one ∙ judged m.config m.state asks.message moment asks.req asks.client asks.from asks.asks steady.firm.sound none_waits asks.new in
         let there = has_at x next.nodes.master after_m back.durable to (told_has x next back.durable (step_well x n.given step now next n.well moves.steps) moves.told) ∙ ap (λ (s : State). s.durable) is ∙ ap (λ (u : Turn). u.after.durable) turn in

@@ -76,7 +76,7 @@ module _ {D : Type 0} (x : Setup D) where
   upgraded_on : (steps : List Step) (old mid new : History D) (a b c : Account) (step : Step) → RunsUpgraded x steps old a mid b → Moves x step mid b new c → is_ordinary c.durable.phase ≡ false → RunsUpgraded x (steps ++ step ∷ []) old a new c
   upgraded_on [] old mid new a b c step (is, same) moves going =
       (new, c, subst (λ h. Moves x step h a new c) is (subst (λ k. Moves x step mid k new c) same moves), going, (refl, refl))
-  upgraded_on (first ∷ steps) old mid new a b c step (then, k, one, stands, rest) moves going = (then, k, one, stands, upgraded_on steps then mid new k b c step rest moves going)
+  upgraded_on (first ∷ steps) old mid new a b c step (next, k, one, stands, rest) moves going = (next, k, one, stands, upgraded_on steps next mid new k b c step rest moves going)
 
   pub upgrading_on : (prepared mid new : History D) (before b c : Account) (step : Step) → IsUpgrading x prepared before mid b → Moves x step mid b new c → is_ordinary c.durable.phase ≡ false → IsUpgrading x prepared before new c
   upgrading_on prepared mid new before b c step up moves going = record {
