@@ -168,8 +168,8 @@ module _ (sizes : HaveSizes) (law : AreNumbered) {D : Type 0} (x : Setup D) wher
       let w = k.last.alive.world in
       let ok : WorldOk w = reached_world w k.last.alive.reached in
       let c = setting x.config (bytes_in (sees_there sizes law x prepared old before a up).asked) k.last.alive.reached.0.epoch in
-      let tells = tells_names c chunk w message epoch server names.learned.handles names.learned.from names.learned.says (k.last.alive.shows.sent id message sent) in
-      let restored : Restored w.known epoch server = said w ok server (Learned epoch) (named_in chunk w server epoch names.learned.handles tells names.named) in
+      let tells = tells_names c chunk w message epoch server names.handles names.from names.says (k.last.alive.shows.sent id message sent) in
+      let restored : Restored w.known epoch server = said w ok server (Learned epoch) (named_in chunk w server epoch names.handles tells names.named) in
       let within = restored.within in
       let now = (ok.entry).epoch in
       let shown = k.last.told.epoch in
@@ -269,10 +269,10 @@ module _ {D : Type 0} (x : Setup D) where
       dm : d ≡ m.state.durable
       dm = has_at x old.nodes.master m d at dk
 
-      tells : TellsHandles m.state message server names.learned.handles
+      tells : TellsHandles m.state message server names.handles
       tells = record {
-        from = names.learned.from;
-        said = names.learned.says ∙ ap (λ e. bodies.Learned e names.learned.handles) (sym same ∙ ap (λ (z : Durable). z.epoch) dm);
+        from = names.from;
+        said = names.says ∙ ap (λ e. bodies.Learned e names.handles) (sym same ∙ ap (λ (z : Durable). z.epoch) dm);
         begun = sym (ap (λ (z : Durable). is_rolling z.phase) dm) ∙ rolling;
         sound = (steady_at x old.nodes.master m at h).firm.sound;
       }
@@ -281,8 +281,8 @@ module _ {D : Type 0} (x : Setup D) where
       by_hearing (ByItself alone unheard left) = absurd (false≢true (ap is_some (sym unheard ∙ found)))
       by_hearing (ByMessage heard_one moment there hearing is_turn says) =
           subst (λ (u : Turn). is_member (told_of u.after chunk) server ≡ true) (sym (is_turn ∙ ap (λ one. handle m.config m.state one moment) (message_is (sym there ∙ found))))
-          (tells_of m.config m.state message moment server names.learned.handles chunk server tells low
-          ∙ or_second (is_member (told_of m.state chunk) server) ((server == server) && is_member names.learned.handles chunk) (ap (λ b. (server == server) && b) names.named ∙ itself server))
+          (tells_of m.config m.state message moment server names.handles chunk server tells low
+          ∙ or_second (is_member (told_of m.state chunk) server) ((server == server) && is_member names.handles chunk) (ap (λ b. (server == server) && b) names.named ∙ itself server))
         where
           itself : (n : ℕ) → ((n == n) && true) ≡ true
           itself n = grind (arith, nat_tests)

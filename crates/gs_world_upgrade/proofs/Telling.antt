@@ -344,7 +344,7 @@ now_so {D = D} x prepared now before after upgrade = record { given = b.given; w
           server,
           current before after chunk server t.prepared listed kept view t.has_it,
           has_more x b.given (Says server m.state.durable.epoch n.handles) (NamesChunk after.durable.epoch chunk server)
-              (λ message s. record { learned = record { handles = n.handles; from = s.0; says = s.1 ∙ ap (λ (d : Durable). bodies.Learned (d.epoch) n.handles) (sym same) }; named = n.named }) upgrade.steps prepared before now after upgrade.runs taken,
+              (λ message s. record { handles = n.handles; from = s.0; says = s.1 ∙ ap (λ (d : Durable). bodies.Learned (d.epoch) n.handles) (sym same); named = n.named }) upgrade.steps prepared before now after upgrade.runs taken,
         )
 
 -- ---- a rollback that is done

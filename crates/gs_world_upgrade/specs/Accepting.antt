@@ -36,16 +36,12 @@ abbrev pub met_at : {D : Type 0} (x : Setup D) (step : Step) (old new : History 
 met_at x (Comes event) old new (said, happens) = said
 met_at x (Takes client) old new goes = Ok tt
 
--- a server tells that it has learned of this epoch
-pub record SaysLearned (epoch server : ℕ) (message : Message) : Type 0 where
+-- a server tells that it has learned of this epoch, and names the chunk
+pub record NamesChunk (epoch chunk server : ℕ) (message : Message) : Type 0 where
   pub handles : List ℕ
   pub from : message.from ≡ nodes.Server server
   pub says : message.body ≡ bodies.Learned epoch handles
-
--- and names the chunk
-pub record NamesChunk (epoch chunk server : ℕ) (message : Message) : Type 0 where
-  pub learned : SaysLearned epoch server message
-  pub named : is_member learned.handles chunk ≡ true
+  pub named : is_member handles chunk ≡ true
 
 -- the master takes such a message at a step
 abbrev pub TakesSuch : {D : Type 0} (x : Setup D) → (Message → Type 0) → (step : Step) (old new : History D) → Goes x.seen x.failures x.armed step old new → Type 0
