@@ -9,7 +9,7 @@ use Rattle.gs_base.specs.declared.refusal.Refusal.{Refusal}
 use Rattle.gs_journal.specs.declared.version.Version.TheVariants.{Two}
 use Rattle.gs_lease.specs.declared.view.View.{View}
 use Rattle.gs_path.specs.Path.{Path}
-use Rattle.gs_master_record.specs.Plain.{PlainEntry, Edited, Holder, Remove, Said, Settle}
+use Rattle.gs_master_record.specs.Plain.{PlainEntry, Edited, Remove, Said, Settle}
 use Rattle.gs_master_record.specs.Writable.{IsEntry}
 use Rattle.gs_master_spec.specs.Applied.{applied, replayed}
 use Rattle.gs_master_spec.specs.Chunks.{holder_records, is_holder, target_of}

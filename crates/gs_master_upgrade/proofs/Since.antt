@@ -40,7 +40,7 @@ use Rattle.gs_master_moves.specs.Epochs.{Begun, Committed, EpochGoes, Finalized,
 use Rattle.gs_master_moves.specs.Guards.{Heard, IsMade}
 use Rattle.gs_master_moves.specs.Moves.{Move, Prepares, Finalizes, CommitsRollback, move_turn}
 use Rattle.gs_master_upgrade.proofs.Records.{Goes, Paced, Turns, chain_within, is_bound, paced}
-use Rattle.gs_master_upgrade.specs.Since.{AreRestored, CutsLead, IsSince, LeadsBack, LeadsBackAt, TurnsBegin, TurnsLead}
+use Rattle.gs_master_upgrade.specs.Since.{CutsLead, IsSince, LeadsBack, LeadsBackAt, TurnsBegin, TurnsLead}
 
 durable_is : {a b : Durable} → ◌≡◌ {A = Option Durable} (Some a) (Some b) → a ≡ b
 durable_is h = cc

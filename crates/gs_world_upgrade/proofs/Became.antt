@@ -1,12 +1,11 @@
 -- What becomes of the master in a step.
-use Rattle.std.proofs.Common.{◌≡◌, ◌∙◌, inl, inr, ◌-◌, ◌<◌, ◌+◌, ℕ, Bool, true, false, List, [], ◌∷◌, Option, Some, None, MatchOption, Result, Ok, Err, refl, ap, subst, sym, slice_get, slice_set}
+use Rattle.std.proofs.Common.{◌≡◌, ◌∙◌, inl, inr, ◌-◌, ◌+◌, ℕ, Bool, true, false, List, Option, Some, None, MatchOption, Result, Ok, Err, refl, ap, subst, sym, slice_get, slice_set}
 use Rattle.std.specs.Prelude.{is_some}
 use Rattle.std.proofs.lemmas.Bool.{false≢true}
 use Rattle.gs_base.specs.Told.{IsNumber}
 use Rattle.gs_base.specs.declared.config.Config.{Config}
 use Rattle.gs_base.specs.declared.numbers.ClientId.{ClientId}
 use Rattle.gs_base.specs.declared.numbers.Moment.{Moment}
-use Rattle.gs_base.specs.declared.numbers.ReqId.{ReqId}
 use Rattle.gs_base.specs.declared.refusal.Refusal.{Refusal}
 use Rattle.gs_base.specs.declared.refusal.Refusal.TheVariants as refusals
 use Rattle.gs_base.specs.Calls.{Does}
@@ -27,7 +26,6 @@ use Rattle.gs_master_moves.proofs.Made.{events_end_once, ticks_end_once}
 use Rattle.gs_master_moves.specs.Epochs.{EndsOnce}
 use Rattle.gs_master_moves.specs.Guards.{Heard, IsMade}
 use Rattle.gs_master_moves.specs.Laws.{said_from}
-use Rattle.gs_msg.specs.declared.event.DiskId.{DiskId}
 use Rattle.gs_msg.specs.declared.event.Event.{Event}
 use Rattle.gs_msg.specs.declared.event.Happening.{Happening}
 use Rattle.gs_msg.specs.declared.event.Happening.TheVariants as happenings
@@ -39,7 +37,7 @@ use Rattle.gs_msg.specs.declared.node.StoreNode.TheVariants as keepers
 use Rattle.gs_world_account.proofs.Once.{told_once}
 use Rattle.gs_world_account.specs.Running.{IsArmed, IsGiven, Setup, StepsWithin}
 use Rattle.gs_world.proofs.Lasting.{opens_again, opens_told}
-use Rattle.gs_world.specs.Histories.{AtNode, Begins, ComesTo, Happens, History, Upshot, Restarts, Tells, Ticks, told as told_of_turn}
+use Rattle.gs_world.specs.Histories.{AtNode, ComesTo, History, Upshot, Tells, told as told_of_turn}
 use Rattle.gs_world.specs.Lasting.{HearsNamed, IsToldIn, OpensAs, failures_at}
 use Rattle.gs_world.specs.Runs.{Comes, Goes, Step, Takes}
 use Rattle.gs_world.specs.Sent.{Sent, message_of}
@@ -52,9 +50,8 @@ use Rattle.gs_server.specs.Servers.{Server}
 use Rattle.gs_server.specs.Servers as servers
 use Rattle.gs_master_spec.specs.Durable.{Durable}
 use Rattle.gs_master_spec.specs.Handling.{handle, restarted, tick}
-use Rattle.gs_master_spec.specs.Outcomes.{caller_of}
 use Rattle.gs_master_spec.specs.State.{Log, State, Turn}
-use Rattle.gs_nodes.specs.Happenings.{AtClient, AtServer, ClientAsks, ClientHears, Delivers, Hears, MasterHears, MasterTicks, Opens, Reopens, ServerDoes, client_in, limit, met_by}
+use Rattle.gs_nodes.specs.Happenings.{AtClient, AtServer, ClientAsks, ClientHears, Delivers, Hears, MasterHears, MasterTicks, Opens, Reopens, ServerDoes, client_in, met_by}
 use Rattle.gs_nodes.specs.Nodes.{Nodes, with_clients, with_master, with_servers}
 use Rattle.gs_nodes.specs.declared.place.MasterPlace.{MasterPlace}
 use Rattle.gs_nodes.specs.declared.place.MasterPlace.TheVariants.{Standing, Closed, Away}

@@ -1,12 +1,12 @@
 -- What a server has named, and the master took, is counted: while the master isn't restarted the server has told of it in memory.
 use Rattle.std.proofs.Common.{arith, ◌≡◌, ◌∙◌, inl, inr, ◌⊎◌, ◌<◌, ◌≤◌, ◌&&◌, ◌==◌, ◌||◌, ℕ, Bool, true, false, List, [], ◌∷◌, Option, Some, None, Result, Ok, Err, refl, ap, subst, sym, nat_lt}
-use Rattle.std.specs.Prelude.{is_some, option_and_then, option_map, if◌then◌else◌}
+use Rattle.std.specs.Prelude.{is_some, option_map, if◌then◌else◌}
 use Rattle.std.specs.FinMap as fin
 use Rattle.std.specs.List.{AllByRecursion, list_all}
 use Rattle.std.specs.Ordering.{nat_cmp}
 use Rattle.std.proofs.lemmas.Bool.{false≢true, true≢false, and_parts, or_cases}
 use Rattle.std.proofs.lemmas.Bool.Decides.{nat_tests}
-use Rattle.gs_base.specs.Members.{is_member, servers_where}
+use Rattle.gs_base.specs.Members.{is_member}
 use Rattle.gs_base.specs.declared.numbers.Moment.{Moment}
 use Rattle.gs_base.specs.declared.refusal.Refusal.{Refusal}
 use Rattle.gs_base.specs.declared.refusal.Refusal.TheVariants as refusals
@@ -16,12 +16,12 @@ use Rattle.gs_chunk.proofs.Worlds.{WorldOk, said}
 use Rattle.gs_chunk.specs.Machine.{ChunkWorld, Learned, WasTold}
 use Rattle.gs_master_laws.proofs.RoomsOfTurns.{others_leave, tells_of}
 use Rattle.gs_master_laws.proofs.ServersTold.{low_servers}
-use Rattle.gs_master_laws.specs.Promises.{AllFit, HasTold, IsKept, IsRestored}
-use Rattle.gs_master_laws.specs.Rooms.{CommitsRollback, TellsHandles, restored_in}
+use Rattle.gs_master_laws.specs.Promises.{AllFit, IsKept, IsRestored}
+use Rattle.gs_master_laws.specs.Rooms.{TellsHandles, restored_in}
 use Rattle.gs_master_laws.specs.Written.{AreHolders}
-use Rattle.gs_master_record.specs.Plain.{PlainEntry, RollbackCommit}
+use Rattle.gs_master_record.specs.Plain.{RollbackCommit}
 use Rattle.gs_master_record.specs.Writable.{AreServers}
-use Rattle.gs_master_spec.specs.Applied.{applied, is_prepared_on, replayed}
+use Rattle.gs_master_spec.specs.Applied.{is_prepared_on, replayed}
 use Rattle.gs_master_spec.specs.Chunks.{members_in}
 use Rattle.gs_master_spec.specs.Durable.{Durable, Settled, is_listed, is_ordinary, is_rolling, prepared_of, prepared_view, upgrade_epoch}
 use Rattle.gs_master_spec.specs.Handling.{handle}
@@ -33,14 +33,11 @@ use Rattle.gs_master_upgrade.proofs.Records.{turn_fits}
 use Rattle.gs_master_upgrade.specs.Since.{IsSince}
 use Rattle.gs_master.specs.Masters.{MasterOf}
 use Rattle.gs_master_moves.proofs.Right.{one_fits}
-use Rattle.gs_master_moves.specs.Guards.{Heard}
 use Rattle.gs_msg.specs.declared.body.Body.{Body}
 use Rattle.gs_msg.specs.declared.body.Body.TheVariants as bodies
-use Rattle.gs_msg.specs.declared.event.Event.{Event}
 use Rattle.gs_msg.specs.declared.event.Happening.{Happening}
 use Rattle.gs_msg.specs.declared.event.Happening.TheVariants as happenings
 use Rattle.gs_msg.specs.declared.message.Message.{Message}
-use Rattle.gs_msg.specs.declared.message.MsgId.{MsgId}
 use Rattle.gs_msg.specs.declared.node.NodeId.{NodeId}
 use Rattle.gs_msg.specs.declared.node.NodeId.TheVariants as nodes
 use Rattle.gs_nodes.specs.declared.place.MasterPlace.{MasterPlace}
@@ -57,7 +54,7 @@ use Rattle.gs_world_account.specs.Accounts.{Account, view_at}
 use Rattle.gs_world_account.specs.Running.{IsGiven, Setup}
 use Rattle.gs_world_chunks.proofs.Edits.{AreNumbered}
 use Rattle.gs_world_chunks.proofs.Holding.{seen_since, sees_there}
-use Rattle.gs_world_chunks.specs.Upgrading.{IsUpgrading, RunsUpgraded, is_current, is_holder}
+use Rattle.gs_world_chunks.specs.Upgrading.{IsUpgrading, RunsUpgraded, is_holder}
 use Rattle.gs_world_laws.specs.Steady.{LastsSteady}
 use Rattle.gs_world_lift.specs.Doing.{HasDurable}
 use Rattle.gs_world_lift.specs.Showing.{setting}
@@ -171,8 +168,8 @@ module _ (sizes : HaveSizes) (law : AreNumbered) {D : Type 0} (x : Setup D) wher
       let w = k.last.alive.world in
       let ok : WorldOk w = reached_world w k.last.alive.reached in
       let c = setting x.config (bytes_in (sees_there sizes law x prepared old before a up).asked) k.last.alive.reached.0.epoch in
-      let tells = tells_names c chunk w message epoch server names.learned.handles names.learned.from names.learned.says (k.last.alive.shows.sent id message sent) in
-      let restored : Restored w.known epoch server = said w ok server (Learned epoch) (named_in chunk w server epoch names.learned.handles tells names.named) in
+      let tells = tells_names c chunk w message epoch server names.handles names.from names.says (k.last.alive.shows.sent id message sent) in
+      let restored : Restored w.known epoch server = said w ok server (Learned epoch) (named_in chunk w server epoch names.handles tells names.named) in
       let within = restored.within in
       let now = (ok.entry).epoch in
       let shown = k.last.told.epoch in
@@ -272,10 +269,10 @@ module _ {D : Type 0} (x : Setup D) where
       dm : d ≡ m.state.durable
       dm = has_at x old.nodes.master m d at dk
 
-      tells : TellsHandles m.state message server names.learned.handles
+      tells : TellsHandles m.state message server names.handles
       tells = record {
-        from = names.learned.from;
-        said = names.learned.says ∙ ap (λ e. bodies.Learned e names.learned.handles) (sym same ∙ ap (λ (z : Durable). z.epoch) dm);
+        from = names.from;
+        said = names.says ∙ ap (λ e. bodies.Learned e names.handles) (sym same ∙ ap (λ (z : Durable). z.epoch) dm);
         begun = sym (ap (λ (z : Durable). is_rolling z.phase) dm) ∙ rolling;
         sound = (steady_at x old.nodes.master m at h).firm.sound;
       }
@@ -284,8 +281,8 @@ module _ {D : Type 0} (x : Setup D) where
       by_hearing (ByItself alone unheard left) = absurd (false≢true (ap is_some (sym unheard ∙ found)))
       by_hearing (ByMessage heard_one moment there hearing is_turn says) =
           subst (λ (u : Turn). is_member (told_of u.after chunk) server ≡ true) (sym (is_turn ∙ ap (λ one. handle m.config m.state one moment) (message_is (sym there ∙ found))))
-          (tells_of m.config m.state message moment server names.learned.handles chunk server tells low
-          ∙ or_second (is_member (told_of m.state chunk) server) ((server == server) && is_member names.learned.handles chunk) (ap (λ b. (server == server) && b) names.named ∙ itself server))
+          (tells_of m.config m.state message moment server names.handles chunk server tells low
+          ∙ or_second (is_member (told_of m.state chunk) server) ((server == server) && is_member names.handles chunk) (ap (λ b. (server == server) && b) names.named ∙ itself server))
         where
           itself : (n : ℕ) → ((n == n) && true) ≡ true
           itself n = grind (arith, nat_tests)

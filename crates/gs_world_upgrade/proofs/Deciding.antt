@@ -35,12 +35,8 @@ use Rattle.gs_nodes.specs.Happenings.{met_by}
 use Rattle.gs_nodes.specs.declared.place.MasterPlace.TheVariants.{Standing}
 use Rattle.gs_refs.specs.Counts.{count_or_zero}
 use Rattle.gs_world.proofs.Reaching.{HaveSizes}
-use Rattle.gs_world.specs.Histories.{History}
-use Rattle.gs_world.specs.Runs.{Step}
-use Rattle.gs_world_account.specs.Accounts.{Account}
-use Rattle.gs_world_account.specs.Running.{Moves, Setup}
+use Rattle.gs_world_account.specs.Running.{Setup}
 use Rattle.gs_world_chunks.proofs.Edits.{AreNumbered}
-use Rattle.gs_world_chunks.specs.Upgrading.{IsUpgrading}
 use Rattle.gs_world_laws.specs.Steady.{StandsSteady}
 use Rattle.gs_world_upgrade.proofs.Became.{Became, ByItself, ByMessage, IsHearing, Opened, Stays, Turns, Waits, became}
 use Rattle.gs_world_upgrade.proofs.Counted.{named_restored}
@@ -48,8 +44,7 @@ use Rattle.gs_world_upgrade.proofs.Going.{committed_ordinary}
 use Rattle.gs_world_upgrade.proofs.Standing.{has_at, steady_at}
 use Rattle.gs_world_upgrade.proofs.Telling.{NowSo, none_unnamed, now_so, same_master, told_has}
 use Rattle.gs_world_upgrade.proofs.Well.{step_well}
-use Rattle.gs_world_upgrade.specs.Accepting.{AsksToCommit, CommitsAreDecided, IsDecided, WasNamed, met_at, references_then}
-use Rattle.gs_world_upgrade.specs.Hearing.{heard_by_master}
+use Rattle.gs_world_upgrade.specs.Accepting.{CommitsAreDecided, IsDecided, WasNamed, met_at, references_then}
 
 -- ---- the call comes to its own tests
 

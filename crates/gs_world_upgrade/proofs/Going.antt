@@ -1,11 +1,10 @@
 -- How epochs go on within an upgrade, and how one is continued by a step.
-use Rattle.std.proofs.Common.{◌≡◌, ◌∙◌, ◌++◌, ◌+◌, ◌≤◌, ◌&&◌, ◌==◌, ℕ, Bool, true, false, List, [], ◌∷◌, Option, Some, None, Result, refl, sym, ap, subst, arith}
-use Rattle.std.specs.Prelude.{is_some, if◌then◌else◌}
+use Rattle.std.proofs.Common.{◌≡◌, ◌∙◌, ◌++◌, ◌≤◌, ◌&&◌, ◌==◌, ℕ, true, false, List, [], ◌∷◌, Option, Some, None, Result, refl, sym, ap, subst, arith}
+use Rattle.std.specs.Prelude.{is_some}
 use Rattle.std.specs.FinMap as fin
 use Rattle.std.proofs.lemmas.Bool.{false≢true, true≢false}
 use Rattle.gs_base.specs.declared.refusal.Refusal.{Refusal}
 use Rattle.gs_edit.specs.View.{NamesView}
-use Rattle.gs_master.specs.Masters.{MasterOf}
 use Rattle.gs_master_laws.proofs.Beginnings.{fits_gives}
 use Rattle.gs_master_moves.proofs.Epochs.{epochs_go}
 use Rattle.gs_master_moves.proofs.Stands.{once_stands}
@@ -14,10 +13,9 @@ use Rattle.gs_master_record.specs.Plain.{RollbackCommit}
 use Rattle.gs_master_record.specs.declared.entry.Answered.{Answered}
 use Rattle.gs_master_spec.specs.Applied.{after_undoing, applied, are_answers, rolled_back}
 use Rattle.gs_master_spec.specs.Durable.{Durable, is_ordinary, is_rolling, prepared_view}
-use Rattle.gs_master_spec.specs.State.{State, Turn}
+use Rattle.gs_master_spec.specs.State.{State}
 use Rattle.gs_master_spec.specs.Undoing.{all_undone}
 use Rattle.gs_nodes.specs.declared.place.MasterPlace.{MasterPlace}
-use Rattle.gs_nodes.specs.declared.place.MasterPlace.TheVariants.{Standing}
 use Rattle.gs_world.specs.Histories.{History}
 use Rattle.gs_world.specs.Runs.{Step}
 use Rattle.gs_world.specs.Sent.{Sent}

@@ -1,13 +1,11 @@
 -- Who has told of a chunk in memory has told of it since the master was started last.
-use Rattle.std.proofs.Common.{◌≡◌, ◌∙◌, inl, inr, ◌⊎◌, ◌<◌, ◌&&◌, ◌==◌, ◌||◌, ℕ, Bool, true, false, List, [], ◌∷◌, Option, Some, None, Result, Ok, Err, refl, ap, subst, sym, arith, nat_lt}
+use Rattle.std.proofs.Common.{◌≡◌, ◌∙◌, inl, inr, ◌⊎◌, ◌<◌, ◌&&◌, ◌==◌, ◌||◌, ℕ, Bool, true, false, List, [], ◌∷◌, Option, Some, None, Ok, refl, ap, subst, sym, arith, nat_lt}
 use Rattle.std.specs.Prelude.{is_some, option_map, unwrap_or, if◌then◌else◌}
 use Rattle.std.specs.FinMap as fin
-use Rattle.std.proofs.lemmas.Bool.{false≢true, true≢false, and_parts}
+use Rattle.std.proofs.lemmas.Bool.{false≢true, and_parts}
 use Rattle.gs_base.specs.Members.{is_member}
 use Rattle.gs_base.specs.declared.config.Config.{Config}
-use Rattle.gs_base.specs.declared.numbers.ClientId.{ClientId}
 use Rattle.gs_base.specs.declared.numbers.Moment.{Moment}
-use Rattle.gs_base.specs.declared.refusal.Refusal.{Refusal}
 use Rattle.gs_base.specs.declared.refusal.Refusal.TheVariants as refusals
 use Rattle.gs_journal.specs.Records.{standing}
 use Rattle.gs_master_laws.proofs.KeptAll.{start_kept}
@@ -20,20 +18,18 @@ use Rattle.gs_master_moves.proofs.Fitting.{once_chain}
 use Rattle.gs_master_moves.specs.Asked.{HasNamed, IsAskedSo}
 use Rattle.gs_master_moves.specs.Guards.{Heard, IsMade}
 use Rattle.gs_master_moves.specs.Laws.{said_from}
-use Rattle.gs_master_moves.specs.Epochs.{prepares, rolls_back}
 use Rattle.gs_master_record.specs.declared.checkpoint.Phase.{Phase}
 use Rattle.gs_master_record.specs.declared.checkpoint.Phase.TheVariants.{Ordinary, Upgrade, Rolling}
 use Rattle.gs_master_spec.specs.Chunks.{members_in}
 use Rattle.gs_master_spec.specs.Durable.{Durable, is_listed, is_ordinary, is_rolling, is_upgrade, prepared_view, start}
 use Rattle.gs_master_spec.specs.Handling.{from_node, handle, restarted}
 use Rattle.gs_master_spec.specs.Hearing.{learned, next_epoch, sends}
-use Rattle.gs_master_spec.specs.State.{Log, State, Turn, is_failed, met_by, turned, unmoved}
+use Rattle.gs_master_spec.specs.State.{State, Turn, is_failed, met_by, turned, unmoved}
 use Rattle.gs_master_spec.specs.declared.asking.Prepared.{Prepared}
 use Rattle.gs_master_spec.specs.declared.change.Change.TheVariants as changes
 use Rattle.gs_master_upgrade.specs.Since.{AreRestored, IsSince}
 use Rattle.gs_msg.specs.declared.body.Body.{Body}
 use Rattle.gs_msg.specs.declared.body.Body.TheVariants as bodies
-use Rattle.gs_msg.specs.declared.chunk.Chunk.TheVariants as abouts
 use Rattle.gs_msg.specs.declared.message.Message.{Message}
 use Rattle.gs_msg.specs.declared.node.NodeId.{NodeId}
 use Rattle.gs_msg.specs.declared.node.NodeId.TheVariants as nodes
@@ -46,7 +42,6 @@ use Rattle.gs_world.proofs.Lasting.{opens_told}
 use Rattle.gs_world.specs.Histories.{Begins, History}
 use Rattle.gs_world.specs.Lasting.{IsToldIn}
 use Rattle.gs_world.specs.Runs.{Goes, Step}
-use Rattle.gs_world.specs.Sent.{Sent}
 use Rattle.gs_world_account.specs.Accounts.{Account, view_at}
 use Rattle.gs_world_account.specs.Running.{IsGiven, IsToldAt, Moves, Runs, Setup, StepsWithin}
 use Rattle.gs_world_chunks.proofs.Durables.{told_is_had}
@@ -183,7 +178,7 @@ module _ {D : Type 0} (x : Setup D) (given : IsGiven x) where
       let last = told_since (Next x step old mid goes P) prepared steps mid c new b rest (stands_next prepared step old mid a c moves going s) (asks_on x P step old mid goes s.well.steady (became x given step old mid s.well moves.steps) asked) in (
         last.0,
         asked_more (λ server epoch handles. (Next x step old mid goes P server epoch handles × NoRestart steps) ⊎ HasTaken x (Says server epoch handles) steps mid c new b rest)
-        (λ server epoch handles. (P server epoch handles × NoRestart (step ∷ steps)) ⊎ HasTaken x (Says server epoch handles) (step ∷ steps) old a new b (mid, c, moves, going, rest)) (λ server epoch handles p. joined server epoch handles p) new.nodes.master last.1,
+            (λ server epoch handles. (P server epoch handles × NoRestart (step ∷ steps)) ⊎ HasTaken x (Says server epoch handles) (step ∷ steps) old a new b (mid, c, moves, going, rest)) (λ server epoch handles p. joined server epoch handles p) new.nodes.master last.1,
       )
     where
       joined : (server epoch : ℕ) (handles : List ℕ) → (Next x step old mid moves.steps.goes P server epoch handles × NoRestart steps) ⊎ HasTaken x (Says server epoch handles) steps mid c new b rest
@@ -349,7 +344,7 @@ now_so {D = D} x prepared now before after upgrade = record { given = b.given; w
           server,
           current before after chunk server t.prepared listed kept view t.has_it,
           has_more x b.given (Says server m.state.durable.epoch n.handles) (NamesChunk after.durable.epoch chunk server)
-          (λ message s. record { learned = record { handles = n.handles; from = s.0; says = s.1 ∙ ap (λ (d : Durable). bodies.Learned (d.epoch) n.handles) (sym same) }; named = n.named }) upgrade.steps prepared before now after upgrade.runs taken,
+              (λ message s. record { handles = n.handles; from = s.0; says = s.1 ∙ ap (λ (d : Durable). bodies.Learned (d.epoch) n.handles) (sym same); named = n.named }) upgrade.steps prepared before now after upgrade.runs taken,
         )
 
 -- ---- a rollback that is done

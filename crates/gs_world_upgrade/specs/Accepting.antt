@@ -25,7 +25,7 @@ use Rattle.gs_world.specs.Histories.{History}
 use Rattle.gs_world.specs.Runs.{Comes, Goes, Step, Takes}
 use Rattle.gs_world_account.specs.Accounts.{Account}
 use Rattle.gs_world_account.specs.Running.{Moves, Setup}
-use Rattle.gs_world_chunks.specs.Upgrading.{IsUpgrading, RunsUpgraded, Survives, is_current}
+use Rattle.gs_world_chunks.specs.Upgrading.{IsUpgrading, RunsUpgraded, is_current}
 use Rattle.gs_world_upgrade.specs.Hearing.{heard_by_master}
 use Rattle.std.specs.FinMap as fin
 
@@ -36,16 +36,12 @@ abbrev pub met_at : {D : Type 0} (x : Setup D) (step : Step) (old new : History 
 met_at x (Comes event) old new (said, happens) = said
 met_at x (Takes client) old new goes = Ok tt
 
--- a server tells that it has learned of this epoch
-pub record SaysLearned (epoch server : ℕ) (message : Message) : Type 0 where
+-- a server tells that it has learned of this epoch, and names the chunk
+pub record NamesChunk (epoch chunk server : ℕ) (message : Message) : Type 0 where
   pub handles : List ℕ
   pub from : message.from ≡ nodes.Server server
   pub says : message.body ≡ bodies.Learned epoch handles
-
--- and names the chunk
-pub record NamesChunk (epoch chunk server : ℕ) (message : Message) : Type 0 where
-  pub learned : SaysLearned epoch server message
-  pub named : is_member learned.handles chunk ≡ true
+  pub named : is_member handles chunk ≡ true
 
 -- the master takes such a message at a step
 abbrev pub TakesSuch : {D : Type 0} (x : Setup D) → (Message → Type 0) → (step : Step) (old new : History D) → Goes x.seen x.failures x.armed step old new → Type 0
@@ -116,15 +112,6 @@ module _ {D : Type 0} (x : Setup D) where
   abbrev pub NoneGoesBackUnnamed : Type 0
   NoneGoesBackUnnamed = (prepared now next : History D) (before after back : Account) (step : Step) (upgrade : IsUpgrading x prepared before now after) → Moves x step now after next back →
       rolls_back after.durable back.durable ≡ true → AllWereNamed prepared before now after upgrade
-
-  -- For each chunk one survivor that has answered is enough: it has named the chunk.
-  abbrev pub HasAnswered : (prepared : History D) (before : Account) (now : History D) (after : Account) → IsUpgrading x prepared before now after → ℕ → Type 0
-  HasAnswered prepared before now after upgrade chunk =
-      (server : ℕ) × Survives before after chunk server × HasTaken x (SaysLearned after.durable.epoch server) upgrade.steps prepared before now after upgrade.runs
-
-  abbrev pub OneSurvivorIsEnough : Type 0
-  OneSurvivorIsEnough = (prepared now : History D) (before after : Account) (upgrade : IsUpgrading x prepared before now after) → is_rolling after.durable.phase ≡ true →
-      ((chunk : ℕ) → 0 < references_then before chunk → HasAnswered prepared before now after upgrade chunk) → AllWereNamed prepared before now after upgrade
 
 -- ---- Worked
 what_a_client_takes_is_no_restart : (client : ClientId) → restarts_master (Takes client) ≡ false
