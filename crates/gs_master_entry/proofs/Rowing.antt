@@ -1,15 +1,16 @@
 -- What a turn of the master makes of the rows of one chunk, with its machine.
 use Rattle.std.proofs.Common.{◌≡◌, ◌≢◌, ◌∙◌, ◌&&◌, ◌+◌, ◌<◌, ◌≤◌, ◌⊎◌, ℕ, inl, inr, Bool, true, false, List, [], ◌∷◌, Option, Some, None, refl, sym, ap, arith}
-use Rattle.std.specs.Prelude.{is_some, slice_get}
+use Rattle.std.specs.Prelude.{◌||◌, is_some, slice_get}
 use Rattle.std.specs.FinMap as fin
 use Rattle.std.proofs.lemmas.Bool.{and_parts, cases_lt, eq-eqb, false≢true, true≢false}
+use Rattle.gs_base.specs.Members.{is_member}
 use Rattle.gs_base.specs.declared.epoch.EpochEnd.{EpochEnd}
 use Rattle.gs_base.specs.declared.epoch.EpochEnd.TheVariants as ends
 use Rattle.gs_master_record.specs.declared.checkpoint.Phase.{Phase}
 use Rattle.gs_master_record.specs.declared.checkpoint.Phase.TheVariants.{Ordinary, Upgrade, Rolling}
 use Rattle.gs_master_spec.specs.Applied.{view_in}
 use Rattle.gs_master_spec.specs.Chunks.{has_entry, is_quiet}
-use Rattle.gs_master_spec.specs.Durable.{Durable, Settled, is_ordinary, is_rolling, is_upgrade}
+use Rattle.gs_master_spec.specs.Durable.{Durable, Settled, is_listed, is_ordinary, is_rolling, is_upgrade}
 use Rattle.gs_master_spec.specs.State.{State}
 use Rattle.gs_master_spec.specs.declared.asking.Asking.{Asking}
 use Rattle.gs_master_moves.proofs.Epochs.{ordinary_is, rolling_is}
@@ -39,6 +40,11 @@ use Rattle.gs_master_entry.specs.Unborn.{IsUngiven}
 -- ---- epochs
 
 -- where a rollback is committed the epoch stays
+-- an entry without a place that isn't listed has none
+listed_of : (chunk : ℕ) (b : Bool) (unplaced : List ℕ) → unplaced ≡ [] → (b || is_member unplaced chunk) ≡ true → b ≡ true
+listed_of chunk true unplaced none either = refl
+listed_of chunk false unplaced none either = absurd (false≢true (sym (ap (λ xs. is_member xs chunk) none) ∙ either))
+
 commit_is : (d e : Durable) → EpochGoes d e → rolls_back d e ≡ true → (e.epoch ≡ d.epoch) × (d.phase ≡ Rolling) × (e.phase ≡ Ordinary)
 commit_is d e goes back = (by_goes goes, rolling_is d.phase parts.0, ordinary_is e.phase parts.1)
   where
@@ -291,13 +297,14 @@ module _ (chunk : ℕ) (s u : State) (w v : ChunkWorld) (leads : Leads w v) (mas
         back = λ above. absurd (never above);
         given = λ above. absurd (never above);
         returned = λ above. absurd (never above);
+        listed = λ above. absurd (never above);
         unprepared = none_prepares goes;
         prepared = λ here. row_prepared goes never (may here) here;
       }
 
   -- over one that does
-  pub rows_back : EpochGoes s.durable u.durable → rolls_back s.durable u.durable ≡ true → IsCommitted chunk u w v → RowsGo chunk s.durable u.durable w v
-  rows_back goes back made = (let is = commit_is s.durable u.durable goes back in let above = over is in record {
+  pub rows_back : EpochGoes s.durable u.durable → rolls_back s.durable u.durable ≡ true → u.volatile.unplaced ≡ [] → IsCommitted chunk u w v → RowsGo chunk s.durable u.durable w v
+  rows_back goes back bare made = (let is = commit_is s.durable u.durable goes back in let above = over is in record {
     epochs = goes;
     appears = λ y none has. within above;
     first = λ first known none. absurd (true≢false (sym known ∙ made.row ∙ ap is_some none));
@@ -305,6 +312,7 @@ module _ (chunk : ℕ) (s u : State) (w v : ChunkWorld) (leads : Leads w v) (mas
     back = λ above. (back, same is.0, made.back);
     given = λ above stood. sym made.row ∙ sym made.given ∙ stood;
     returned = λ above some. made.given ∙ made.row ∙ some;
+    listed = λ above some. listed_of chunk (is_listed u.durable chunk) u.volatile.unplaced bare (sym shows.entry.memory.known ∙ made.row ∙ some);
     unprepared = λ none e above least how. absurd (let a = shown.entry.durable.epoch in let b = shows.entry.durable.epoch in let c = is.0 in omega arith);
     prepared = λ here. absurd (true≢false (sym here ∙ not_prepares s.durable u.durable (ap is_ordinary is.1)));
   })
@@ -359,6 +367,7 @@ module _ (chunk : ℕ) (d : Durable) (u : State) (b : Birth) (v : ChunkWorld) (l
       back = λ above. absurd (never above);
       given = λ above. absurd (never above);
       returned = λ above. absurd (never above);
+      listed = λ above. absurd (never above);
       unprepared = λ still e above within how. absurd (let at = same_epoch in omega arith);
       prepared = λ here. absurd (true≢false (sym here ∙ apart));
     },

@@ -1,5 +1,5 @@
 -- All chunks together over a turn that ends one epoch at most, with their rows.
-use Rattle.std.proofs.Common.{◌≡◌, ◌∙◌, ◌&&◌, ◌<◌, ◌≤◌, ◌++◌, ℕ, Bool, true, false, List, Option, None, refl, sym, ap, arith}
+use Rattle.std.proofs.Common.{◌≡◌, ◌∙◌, ◌&&◌, ◌<◌, ◌≤◌, ◌++◌, ℕ, Bool, true, false, List, [], Option, None, refl, sym, ap, arith}
 use Rattle.std.proofs.lemmas.Bool.{false≢true, true≢false}
 use Rattle.gs_base.specs.declared.config.Config.{Config}
 use Rattle.gs_base.specs.declared.refusal.Refusal.{Refusal}
@@ -19,6 +19,10 @@ use Rattle.gs_chunk.proofs.Facts.{reached_world}
 use Rattle.gs_chunk.proofs.Lasting.{agrees}
 use Rattle.gs_chunk.specs.Laws.{IsReached, world_of}
 use Rattle.gs_chunk.specs.Machine.{ChunkWorld}
+use Rattle.gs_master_spec.specs.Volatile.{changed}
+use Rattle.gs_master_spec.specs.declared.change.Change.TheVariants as changes
+use Rattle.gs_msg.specs.declared.answer.Answer.TheVariants as answers
+use Rattle.gs_master_entry.proofs.Ending.{answer_both}
 use Rattle.gs_master_entry.proofs.Calm.{AloneIn, CalmGoes, CalmIn, calm_both, each_closing, each_made, families_alone, families_calm, families_close, none_commits, unmoved_unled}
 use Rattle.gs_master_entry.proofs.Families.{families_both, family_hears, family_marks}
 use Rattle.gs_master_entry.proofs.Rowing.{rows_back, rows_born, rows_go}
@@ -84,12 +88,17 @@ module _ (config : Config) (heard : Heard) (s : State) (move : Move) (well : IsM
   late_alone chunk messages (Unborn k) (Unborn n) left = tt
 
 -- a commit by itself
-rows_committed : (chunk : ℕ) (whole : ℕ → Bool) (config : Config) (s : State) (move : Move) (u : State) (messages : List Message) (l : Life chunk s) (n : Life chunk u) → EpochGoes s.durable u.durable → rolls_back s.durable u.durable ≡ true → is_commit move ≡ true
+rows_committed : (chunk : ℕ) (whole : ℕ → Bool) (config : Config) (s : State) (move : Move) (u : State) (messages : List Message) (l : Life chunk s) (n : Life chunk u) → EpochGoes s.durable u.durable → rolls_back s.durable u.durable ≡ true → u.volatile.unplaced ≡ [] → is_commit move ≡ true
     → Goes chunk whole s u messages l n → AloneIn chunk move s u messages l n → RowsIn chunk s u messages l n
-rows_committed chunk whole config s (CommitsRollback req names) u messages (Alive a) (Alive b) epochs back is goes left = (rows_back chunk s u a.world b.world goes.leads goes.masters a.reached a.shows b.shows epochs back left.0, left.1)
-rows_committed chunk whole config s move u messages (Alive a) (Alive b) epochs back is goes left = absurd (false≢true is)
-rows_committed chunk whole config s move u messages (Unborn k) (Alive b) epochs back is goes left = absurd left
-rows_committed chunk whole config s move u messages life (Unborn k) epochs back is goes left = tt
+rows_committed chunk whole config s (CommitsRollback req names) u messages (Alive a) (Alive b) epochs back bare is goes left = (rows_back chunk s u a.world b.world goes.leads goes.masters a.reached a.shows b.shows epochs back bare left.0, left.1)
+rows_committed chunk whole config s move u messages (Alive a) (Alive b) epochs back bare is goes left = absurd (false≢true is)
+rows_committed chunk whole config s move u messages (Unborn k) (Alive b) epochs back bare is goes left = absurd left
+rows_committed chunk whole config s move u messages life (Unborn k) epochs back bare is goes left = tt
+
+-- behind which no chunk waits for its place
+bare_commit : (config : Config) (s : State) (move : Move) → is_commit move ≡ true → (move_turn config s move).after.volatile.unplaced ≡ []
+bare_commit config s (CommitsRollback req names) is = (answer_both 0 s (changed s.volatile changes.RolledBack) req (answers.Epoch s.durable.epoch)).1
+bare_commit config s move is = absurd (false≢true is)
 
 -- ---- all of them
 
@@ -122,7 +131,7 @@ module _ (keeps : ℕ → Bool) (whole : ℕ → ℕ → Bool) (config : Config)
             let f = families_alone keeps whole config heard s move family hears marks well alone in
             record {
               goes = f.goes;
-              rows = λ chunk. rows_committed chunk (whole chunk) config s move behind sent (family chunk) (f.goes.last chunk) (epochs_go config heard s (one None) (ByItself s move None well alone)) (commits_by config heard s move well.made alone ∙ is) is (f.goes.goes chunk) (f.alone chunk);
+              rows = λ chunk. rows_committed chunk (whole chunk) config s move behind sent (family chunk) (f.goes.last chunk) (epochs_go config heard s (one None) (ByItself s move None well alone)) (commits_by config heard s move well.made alone ∙ is) (bare_commit config s move is) is (f.goes.goes chunk) (f.alone chunk);
             }
         by_commit false other =
             let f = families_alone keeps whole config heard s move family hears marks well alone in

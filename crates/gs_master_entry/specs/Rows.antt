@@ -24,7 +24,7 @@ IsFirst chunk d w = w.entry.is_known ≡ true → fin.get d.chunks chunk ≡ Non
 
 -- What a step of the master makes of what the records tell of a chunk. A view that appears where none was told is a later one. One that is settled, of a chunk that is forgotten then, is
 -- one in which nobody may number. Where a rollback is committed it is accepted at this step, within the epoch, and nothing is settled beside; and each view that it gives back is told, and
--- no other. An epoch begins by a prepare where one is accepted alone: then nothing is settled beside, and of each chunk that was known a view is told.
+-- no other, of a chunk that a file has then. An epoch begins by a prepare where one is accepted alone: then nothing is settled beside, and of each chunk that was known a view is told.
 pub record RowsGo (chunk : ℕ) (d e : Durable) (w v : ChunkWorld) : Type 0 where
   pub epochs : EpochGoes d e
   pub appears : (y : Settled) → fin.get d.chunks chunk ≡ None → fin.get e.chunks chunk ≡ Some y → w.known.view < v.known.view
@@ -33,6 +33,7 @@ pub record RowsGo (chunk : ℕ) (d e : Durable) (w v : ChunkWorld) : Type 0 wher
   pub back : w.known.top < v.known.view → (rolls_back d e ≡ true) × (v.known.current ≡ w.known.current) × ((w.known.view ≡ w.known.top) ⊎ (v.known.stood w.known.top ≡ false))
   pub given : w.known.top < v.known.view → v.known.stood v.known.view ≡ true → is_some (fin.get e.chunks chunk) ≡ true
   pub returned : w.known.top < v.known.view → is_some (fin.get e.chunks chunk) ≡ true → v.known.stood v.known.view ≡ true
+  pub listed : w.known.top < v.known.view → is_some (fin.get e.chunks chunk) ≡ true → is_listed e chunk ≡ true
   pub unprepared : prepares d e ≡ false → NonePrepared w v
   pub prepared : prepares d e ≡ true → v.entry.was_known ≡ true → (is_some (fin.get d.chunks chunk) ≡ true) × (w.entry.is_known ≡ true) × (v.entry.prepared.stamp ≡ w.known.view) × (v.known.view ≡ w.known.view)
 

@@ -116,7 +116,7 @@ module _ {D : Type 0} (x : Setup D) (bytes : ReqId → List ℕ) (chunk : ℕ) (
   ok : WorldOk w
   ok = reached_world w k.last.alive.reached
 
-  begun : IsUpgrading p e
+  pub begun : IsUpgrading p e
   begun = inl (sym k.first.told.epoch, ap p.entry.how (sym k.first.told.epoch) ∙ k.first.told.upgrade k.begun)
 
   pub still : IsUpgrading w e
@@ -171,10 +171,10 @@ module _ {D : Type 0} (x : Setup D) (bytes : ReqId → List ℕ) (chunk : ℕ) (
     pub stamp_then : w.entry.prepared.stamp ≡ p.entry.view.stamp
     stamp_then = prepared_last.stamp ∙ same_view
 
-    free : p.known.holder p.entry.view.stamp ≡ None
+    pub free : p.known.holder p.entry.view.stamp ≡ None
     free = (let rests : PreparedRests p = prepared_rests p pok e begun was in ap p.known.holder (sym stamp) ∙ rests.free)
 
-    list_then : prepared_list w ≡ p.known.list p.entry.view.stamp
+    pub list_then : prepared_list w ≡ p.known.list p.entry.view.stamp
     list_then = ap w.known.list stamp_then ∙ stays.quiet p.entry.view.stamp (omega arith) free
 
     view_shown : (view : View) → view_at before chunk ≡ Some view → ShowsView view p.entry.view

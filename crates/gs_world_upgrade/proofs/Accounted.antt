@@ -1,0 +1,117 @@
+-- What is said by the nodes alone, from what is said with accounts.
+use Rattle.std.proofs.Common.{refl, sym, ap, subst, ◌∙◌, ◌≡◌, ◌&&◌, [], ◌∷◌, Bool, List, false, true, ℕ}
+use Rattle.std.specs.Prelude.{MatchBool, is_some}
+use Rattle.std.specs.FinMap as fin
+use Rattle.gs_master.specs.Journaled.{text_seen}
+use Rattle.gs_master_moves.specs.Epochs.{prepares, rolls_back}
+use Rattle.gs_master_spec.specs.Durable.{Durable, is_listed, is_ordinary, is_rolling, is_upgrade}
+use Rattle.gs_master_spec.specs.State.{is_failed}
+use Rattle.gs_nodes.specs.declared.place.MasterPlace.{MasterPlace}
+use Rattle.gs_nodes.specs.declared.place.MasterPlace.TheVariants.{Away, Closed, Standing}
+use Rattle.gs_world.proofs.Reaching.{HaveSizes}
+use Rattle.gs_world.specs.Histories.{History}
+use Rattle.gs_world.specs.Lasting.{IsToldIn, Lasts}
+use Rattle.gs_world.specs.Runs.{Step}
+use Rattle.gs_world_account.proofs.Told.{have_accounts}
+use Rattle.gs_world_account.specs.Accounts.{Account}
+use Rattle.gs_world_account.specs.Moving.{account_behind}
+use Rattle.gs_world_account.specs.Running.{IsGiven, IsNew, IsReached, IsToldAt, Moves, Runs, Setup, StepsWithin}
+use Rattle.gs_world_chunks.proofs.Durables.{told_is_had}
+use Rattle.gs_world_chunks.proofs.Edits.{AreNumbered}
+use Rattle.gs_world_chunks.proofs.Holding.{runs_of}
+use Rattle.gs_world_chunks.specs.Upgrading.{IsUpgrading, RunsUpgraded}
+use Rattle.gs_world_lift.proofs.Durable.{has_durable}
+use Rattle.gs_world_lift.proofs.Mastering.{both}
+use Rattle.gs_world_lift.specs.Doing.{HasDurable}
+use Rattle.gs_world_upgrade.proofs.BytesRuns.{bytes_back, listed_there}
+use Rattle.gs_world_upgrade.proofs.Became.{became}
+use Rattle.gs_world_upgrade.proofs.Standing.{StandsSo, gives_names_back, keeps_has, stands_prepared, within_so}
+use Rattle.gs_world_upgrade.proofs.Well.{IsWell, bare_well, begins_well, step_well, well_lasts}
+use Rattle.gs_world_upgrade.specs.Back.{GivesBytesBack, GoesBack, IsRolledBack, RunsWithin}
+
+module _ {D : Type 0} (x : Setup D) where
+  -- what a sound master has is told
+  has_told : (place : MasterPlace D) (d : Durable) → Lasts x.seen place → HasDurable x.seen place d → IsToldAt x.seen place d
+  has_told (Standing m) d lasts has = by_fault (is_failed m.state.fault) lasts.sound
+    where
+      by_fault : (failed : Bool) → failed ≡ false → MatchBool failed (IsToldIn (text_seen x.seen m.journal) d) (d ≡ m.state.durable)
+      by_fault true sound = absurd (cc)
+      by_fault false sound = sym has
+  has_told (Closed first second) d lasts has = has
+  has_told Away d lasts has = absurd lasts
+
+  runs_told : (steps : List Step) (old new : History D) (a b : Account) → IsToldAt x.seen old.nodes.master a.durable → Runs x steps old a new b → IsToldAt x.seen new.nodes.master b.durable
+  runs_told [] old new a b told runs = subst (λ (h : History D). IsToldAt x.seen h.nodes.master b.durable) (sym runs.0) (subst (λ (c : Account). IsToldAt x.seen old.nodes.master c.durable) (sym runs.1) told)
+  runs_told (step ∷ steps) old new a b told (mid, c, moves, rest) = runs_told steps mid new c b moves.told rest
+
+  module _ (given : IsGiven x) where
+    moves_on : (step : Step) (old new : History D) (a : Account) (d : Durable) → IsWell x new → StepsWithin x step old new → HasDurable x.seen new.nodes.master d → Moves x step old a new (account_behind step old a new d)
+    moves_on step old new a d well one has = record { steps = one; told = has_told new.nodes.master d (well_lasts x new well) has; account = refl }
+
+    -- steps behind none of which a master stands that keeps no upgrade, with their accounts
+    within_accounts : (prepared : Durable) (steps : List Step) (old new : History D) (a : Account) → RunsWithin x steps old new → StandsSo x prepared old → (b : Account) × RunsUpgraded x steps old a new b
+    within_accounts prepared [] old new a is s = (a, is, refl)
+    within_accounts prepared (step ∷ steps) old new a (mid, one, going, rest) s =
+        let there = within_so x given prepared (step ∷ []) old mid (mid, one, going, refl) s in
+        let has = has_durable x.seen mid.nodes.master (well_lasts x mid there.well) in
+        let more = within_accounts prepared steps mid new (account_behind step old a mid has.0) rest there in
+        (more.0, (mid, account_behind step old a mid has.0, moves_on step old mid a has.0 there.well one has.1, (there.since has.0 has.1).stands, more.1))
+
+-- an accepted rollback has accounts
+pub record RolledBackSo {D : Type 0} (x : Setup D) (prepared back : History D) (before last : Durable) (now : History D) : Type 0 where
+  pub first : Account
+  pub after : Account
+  pub behind : Account
+  pub is_first : first.durable ≡ before
+  pub is_behind : behind.durable ≡ last
+  pub rolled : IsRolledBack x prepared first now after back behind
+
+pub rolled_back_so : {D : Type 0} (x : Setup D) (prepared back : History D) (before last : Durable) → (goes : GoesBack x prepared back before last) → RolledBackSo x prepared back before last goes.now
+rolled_back_so x prepared back before last goes =
+    let given = goes.given in
+    let old_well = bare_well x given goes.first goes.begun goes.old goes.runs (begins_well x given goes.begun goes.begins) in
+    let well = step_well x given goes.step goes.old prepared old_well goes.steps in
+    let accounts = have_accounts x goes.begun goes.old goes.first given goes.begins goes.runs in
+    let a : Account = accounts.1.0 in
+    let new : IsNew x goes.begun accounts.0 = accounts.2.0 in
+    let runs : Runs x goes.first goes.begun accounts.0 goes.old a = accounts.2.1 in
+    let was : goes.ordinary ≡ a.durable = told_is_had x.seen goes.old.nodes.master a.durable goes.ordinary (well_lasts x goes.old old_well) (runs_told x goes.first goes.begun goes.old accounts.0 a new.told runs) (keeps_has x goes.old.nodes.master goes.ordinary goes.stood) in
+    let first = account_behind goes.step goes.old a prepared before in
+    let moves = moves_on x given goes.step goes.old prepared a before well goes.steps (keeps_has x prepared.nodes.master before goes.keeps) in
+    let begun = stands_prepared x prepared back before last goes in
+    let on = within_accounts x given before goes.between prepared goes.now first goes.rest begun in
+    let there = within_so x given before goes.between prepared goes.now goes.rest begun in
+    let rolling : goes.rolling ≡ on.0.durable = told_is_had x.seen goes.now.nodes.master on.0.durable goes.rolling (well_lasts x goes.now there.well) (runs_told x goes.between prepared goes.now first on.0 moves.told (runs_of x goes.between prepared goes.now first on.0 on.1)) (keeps_has x goes.now.nodes.master goes.rolling goes.rolls) in
+    let back_well = step_well x given goes.commit goes.now back there.well goes.commits in
+    record {
+      first = first;
+      after = on.0;
+      behind = account_behind goes.commit goes.now on.0 back last;
+      is_first = refl;
+      is_behind = refl;
+      rolled = record {
+        upgrade = record {
+          old = goes.old;
+          first = a;
+          reached = record { apart = goes.apart; begun = goes.begun; first = accounts.0; steps = goes.first; begins = new; runs = runs };
+          step = goes.step;
+          moves = moves;
+          accepted = ap (λ d. prepares d before) (sym was) ∙ goes.accepted;
+          steps = goes.between;
+          runs = on.1;
+        };
+        step = goes.commit;
+        moves = moves_on x given goes.commit goes.now back on.0 last back_well goes.commits (keeps_has x back.nodes.master last goes.ended);
+        accepted = ap (λ d. rolls_back d last) (sym rolling) ∙ goes.done;
+      };
+    }
+
+pub gives_bytes_back : HaveSizes → AreNumbered → {D : Type 0} (x : Setup D) → GivesBytesBack x
+gives_bytes_back sizes law x prepared back before last chunk id other had has goes member old among new =
+    let so = rolled_back_so x prepared back before last goes in
+    let r = so.rolled in
+    let row : is_some (fin.get so.behind.durable.chunks chunk) ≡ true = ap (λ (d : Durable). is_some (fin.get d.chunks chunk)) so.is_behind ∙ ap is_some among.told in
+    let listed : is_listed so.first.durable chunk ≡ true =
+    ap (λ (d : Durable). is_listed d chunk) so.is_first ∙ ap (λ names. is_some (fin.get names.refs chunk)) (sym (gives_names_back x prepared back before last goes))
+    ∙ ap (λ (d : Durable). is_listed d chunk) (sym so.is_behind) ∙ listed_there sizes law x prepared goes.now back so.first so.after so.behind r.step r.upgrade r.moves r.accepted chunk row in
+    bytes_back sizes law x prepared goes.now back so.first so.after so.behind r.step r.upgrade r.moves r.accepted chunk listed row id other had has member old among new

@@ -1,0 +1,317 @@
+-- What becomes of the master in a step.
+use Rattle.std.proofs.Common.{◌≡◌, ◌∙◌, inl, inr, ◌-◌, ◌+◌, ℕ, Bool, true, false, List, Option, Some, None, MatchOption, Result, Ok, Err, refl, ap, subst, sym, slice_get, slice_set}
+use Rattle.std.specs.Prelude.{is_some}
+use Rattle.std.proofs.lemmas.Bool.{false≢true}
+use Rattle.gs_base.specs.Told.{IsNumber}
+use Rattle.gs_base.specs.declared.config.Config.{Config}
+use Rattle.gs_base.specs.declared.numbers.ClientId.{ClientId}
+use Rattle.gs_base.specs.declared.numbers.Moment.{Moment}
+use Rattle.gs_base.specs.declared.refusal.Refusal.{Refusal}
+use Rattle.gs_base.specs.declared.refusal.Refusal.TheVariants as refusals
+use Rattle.gs_base.specs.Calls.{Does}
+use Rattle.gs_client.specs.Nodes.{Node, given_up}
+use Rattle.gs_journal.specs.Journal.{failures_of_both}
+use Rattle.gs_journal.specs.Records.{standing}
+use Rattle.gs_master_laws.proofs.RoomsOfTurns.{steps_leave, ticks_leave}
+use Rattle.gs_master_laws.proofs.StandingRuns.{steps_fit}
+use Rattle.gs_master_laws.proofs.Writing.{all_steps_written, events_written}
+use Rattle.gs_master_laws.specs.Promises.{IsWritten}
+use Rattle.gs_master_laws.specs.Rooms.{restored_in}
+use Rattle.gs_master_laws.specs.Standing.{Comes as HearsAt, IsNamedBody, Ticks as TicksAt}
+use Rattle.gs_master_laws.specs.Written.{IsHeardBody}
+use Rattle.gs_master.specs.Masters.{MasterAnswers, MasterOf, with_journal}
+use Rattle.gs_master.specs.Ticking.{AnswersAs, lacking, pressed_all, writes_one}
+use Rattle.gs_master.specs.declared.turn.Turn.{Turn as Told}
+use Rattle.gs_master_moves.proofs.Made.{events_end_once, ticks_end_once}
+use Rattle.gs_master_moves.specs.Epochs.{EndsOnce}
+use Rattle.gs_master_moves.specs.Guards.{Heard, IsMade}
+use Rattle.gs_master_moves.specs.Laws.{said_from}
+use Rattle.gs_msg.specs.declared.event.Event.{Event}
+use Rattle.gs_msg.specs.declared.event.Happening.{Happening}
+use Rattle.gs_msg.specs.declared.event.Happening.TheVariants as happenings
+use Rattle.gs_msg.specs.declared.message.Message.{Message}
+use Rattle.gs_msg.specs.declared.message.MsgId.{MsgId}
+use Rattle.gs_msg.specs.declared.node.NodeId.{NodeId}
+use Rattle.gs_msg.specs.declared.node.NodeId.TheVariants as nodes
+use Rattle.gs_msg.specs.declared.node.StoreNode.TheVariants as keepers
+use Rattle.gs_world_account.proofs.Once.{told_once}
+use Rattle.gs_world_account.specs.Running.{IsArmed, IsGiven, Setup, StepsWithin}
+use Rattle.gs_world.proofs.Lasting.{opens_again, opens_told}
+use Rattle.gs_world.specs.Histories.{AtNode, ComesTo, History, Upshot, Tells, told as told_of_turn}
+use Rattle.gs_world.specs.Lasting.{HearsNamed, IsToldIn, OpensAs, failures_at}
+use Rattle.gs_world.specs.Runs.{Comes, Goes, Step, Takes}
+use Rattle.gs_world.specs.Sent.{Sent, message_of}
+use Rattle.gs_world_laws.proofs.Refusing.{message_refused_for_memory}
+use Rattle.gs_world_laws.proofs.Steady.{lasts}
+use Rattle.gs_world_laws.specs.Steady.{HearsWithin, IsHeardAt, LastsSteady, StandsSteady, StepWithin}
+use Rattle.gs_world_lift.proofs.Reopening.{never, standing_is, started}
+use Rattle.gs_world_lift.specs.Doing.{HasDurable}
+use Rattle.gs_server.specs.Servers.{Server}
+use Rattle.gs_server.specs.Servers as servers
+use Rattle.gs_master_spec.specs.Durable.{Durable}
+use Rattle.gs_master_spec.specs.Handling.{handle, restarted, tick}
+use Rattle.gs_master_spec.specs.State.{Log, State, Turn}
+use Rattle.gs_nodes.specs.Happenings.{AtClient, AtServer, ClientAsks, ClientHears, Delivers, Hears, MasterHears, MasterTicks, Opens, Reopens, ServerDoes, client_in, met_by}
+use Rattle.gs_nodes.specs.Nodes.{Nodes, with_clients, with_master, with_servers}
+use Rattle.gs_nodes.specs.declared.place.MasterPlace.{MasterPlace}
+use Rattle.gs_nodes.specs.declared.place.MasterPlace.TheVariants.{Standing, Closed, Away}
+use Rattle.gs_world_upgrade.proofs.Well.{IsWell, step_within}
+use Rattle.gs_world_upgrade.specs.Accepting.{met_at, restarts_master}
+use Rattle.gs_world_upgrade.specs.Hearing.{heard_by_master, to_master}
+
+-- ---- what is durable is one
+
+pub has_one : {D : Type 0} (seen : D → List ℕ) (place : MasterPlace D) (d e : Durable) → HasDurable seen place d → HasDurable seen place e → d ≡ e
+has_one seen (Standing m) d e p q = sym p ∙ q
+has_one seen (Closed first second) d e p q = told_once (standing (seen first) (seen second)) d e p q
+has_one seen Away d e p q = absurd p
+
+-- ---- what becomes of it
+
+-- The turn is that of the message that is heard at the step; or the master acts by itself, hears none, and leaves who has told of chunks.
+pub data IsHearing (step : Step) (sent : Sent) (said : Result (Unit {0}) Refusal) (config : Config) (s : State) (heard : Heard) (t : Turn) : Type 0 where
+  ByItself : heard ≡ None → heard_by_master step sent ≡ None → restored_in t.after ≡ restored_in s → IsHearing step sent said config s heard t
+  ByMessage : (message : Message) (moment : Moment) → heard_by_master step sent ≡ Some message → heard ≡ said_from message.from message.body → t ≡ handle config s message moment → said ≡ met_by t.said → IsHearing step sent said config s heard t
+
+-- It is as it was, but perhaps for a failure that is arranged, and refuses what it hears for want of memory. Or it has done a turn. Or it is opened on what it had.
+-- Or its disks wait, and tell that.
+pub data Became {D : Type 0} (seen : D → List ℕ) (step : Step) (sent : Sent) (said : Result (Unit {0}) Refusal) (old new : MasterPlace D) : Type 0 where
+  Stays : (m after : MasterOf D) → old ≡ Standing m → new ≡ Standing after → after.state ≡ m.state → ((message : Message) → heard_by_master step sent ≡ Some message → said ≡ Err refusals.Memory) → restarts_master step ≡ false → Became seen step sent said old new
+  Turns : (m after : MasterOf D) (heard : Heard) (t : Turn) → old ≡ Standing m → new ≡ Standing after → EndsOnce m.config (IsMade m.config heard) m.state t → IsWritten t → after.state ≡ t.after → IsHearing step sent said m.config m.state heard t
+      → restarts_master step ≡ false → Became seen step sent said old new
+  Opened : (after : MasterOf D) (d : Durable) (log : Log) → HasDurable seen old d → new ≡ Standing after → after.state ≡ restarted d log → heard_by_master step sent ≡ None → restarts_master step ≡ true → Became seen step sent said old new
+  Waits : ((m : MasterOf D) → new ≡ Standing m → ⊥) → ((d : Durable) → HasDurable seen old d → HasDurable seen new d) → ((m : MasterOf D) → old ≡ Standing m → heard_by_master step sent ≡ None) → Became seen step sent said old new
+
+-- a message to the master is heard by it, and no other
+to_it : (message : Message) → message.to ≡ nodes.Master → to_master (Some message) ≡ Some message
+to_it message h = rw h refl
+
+to_server : (message : Message) (id : ℕ) → message.to ≡ nodes.Server id → to_master (Some message) ≡ None
+to_server message id h = rw h refl
+
+to_client : (message : Message) (id : ClientId) → message.to ≡ nodes.Client id → to_master (Some message) ≡ None
+to_client message id h = rw h refl
+
+closed_not : {D : Type 0} (first second : D) (m : MasterOf D) → ◌≡◌ {A = MasterPlace D} (Closed first second) (Standing m) → ⊥
+closed_not first second m e = absurd (cc)
+
+module _ {D : Type 0} (x : Setup D) where
+  pub opened_state : (config : Config) (first second : D) (d : Durable) (turn : Told) (place : MasterPlace D) → IsToldIn (standing (x.seen first) (x.seen second)) d → OpensAs x.seen d place → Opens x.seen x.failures config (first, second) (Ok turn) place
+      → (after : MasterOf D) × (place ≡ Standing after) × ((log : Log) × (after.state ≡ restarted d log))
+  opened_state config first second d turn place told found (after, is, opening, said) =
+      let same = standing_is found.0 after (sym found.1 ∙ is) in
+      let start = started x.seen x.failures config first second d after turn.sent.items told (subst (λ (y : MasterOf D). y.state.durable ≡ d) same found.2) opening in (after, is, (start.log, start.state))
+
+module _ {D : Type 0} (x : Setup D) (given : IsGiven x) (step : Step) (sent : Sent) (said : Result (Unit {0}) Refusal) where
+  abbrev B : MasterPlace D → MasterPlace D → Type 0
+  B old new = Became x.seen step sent said old new
+
+  abbrev Refused : Type 0
+  Refused = (message : Message) → heard_by_master step sent ≡ Some message → said ≡ Err refusals.Memory
+
+  -- what hears nothing refuses nothing
+  unheard : heard_by_master step sent ≡ None → Refused
+  unheard none message found = absurd (false≢true (ap is_some (sym none ∙ found)))
+
+  -- ---- the master stays where it is
+
+  kept_there : (old new : MasterPlace D) → new ≡ old → restarts_master step ≡ false → Refused → LastsSteady x.seen old → B old new
+  kept_there (Standing m) new is calm none h = Stays m m refl is refl none calm
+  kept_there (Closed first second) new is calm none h =
+      Waits (λ m same. closed_not first second m (sym is ∙ same)) (λ d k. subst (λ p. HasDurable x.seen p d) (sym is) k) (λ m at. absurd (closed_not first second m at))
+  kept_there Away new is calm none h = absurd h
+
+  armed_there : (old new : MasterPlace D) → IsArmed x.seen old new → restarts_master step ≡ false → Refused → LastsSteady x.seen old → B old new
+  armed_there (Standing m) new (j, is, alike) calm none h = Stays m (with_journal m j) refl is refl none calm
+  armed_there (Closed first second) new (other, another, is, one, two) calm none h =
+      Waits (λ m same. closed_not other another m (sym is ∙ same))
+      (λ d k. subst (λ p. HasDurable x.seen p d) (sym is) (subst (λ t. IsToldIn t d) (sym (ap (λ s. standing s (x.seen another)) one ∙ ap (standing (x.seen first)) two)) k)) (λ m at. absurd (closed_not first second m at))
+  armed_there Away new is calm none h = absurd h
+
+  -- ---- it hears something
+
+  -- what is said of a turn
+  abbrev Says : Result Told Refusal → Type 0
+  Says (Ok turn) = said ≡ met_by turn.said
+  Says (Err refusal) = said ≡ Err refusal
+
+  hears : (message : Message) (moment : Moment) (old : MasterPlace D) (result : Result Told Refusal) (new : MasterPlace D) → heard_by_master step sent ≡ Some message → restarts_master step ≡ false
+      → IsNamedBody message.body × IsNumber moment.0 → ((m : MasterOf D) → old ≡ Standing m → IsHeardBody m.state.durable.names message.body) → Says result → LastsSteady x.seen old
+      → MasterHears x.seen x.failures message moment old result new → failures_at x.failures new ≡ failures_at x.failures old → B old new
+  hears message moment (Standing m) (Ok turn) new found calm named low is h (after, at, inl done) same =
+      let t = handle m.config m.state message moment in
+      Turns m after (said_from message.from message.body) t refl at (events_end_once m.config m.state (HearsAt message moment) named h.steady.firm) done.are_entries done.done.after
+      (ByMessage message moment found refl refl (is ∙ ap met_by done.done.says)) calm
+  hears message moment (Standing m) (Ok turn) new found calm named low is h (after, at, inr (place, cut)) same =
+      absurd (never (failures_of_both x.failures m.journal) (failures_of_both x.failures after.journal) cut.cause (sym (ap (failures_at x.failures) at) ∙ same))
+  hears message moment (Standing m) (Err e) new found calm named low is h (after, at, (why, still)) same =
+      Stays m after refl at (ap (λ (k : MasterOf D). k.state) still) (λ other heard. is ∙ ap Err (message_refused_for_memory x.seen x.failures moment m e new h.firm h.steady message named (low m refl) (after, at, (why, still)))) calm
+  hears message moment (Closed first second) (Ok turn) new found calm named low is h meets same =
+      Waits (λ m other. closed_not first second m (sym meets.0 ∙ other)) (λ d k. subst (λ p. HasDurable x.seen p d) (sym meets.0) k) (λ m at. absurd (closed_not first second m at))
+  hears message moment (Closed first second) (Err e) new found calm named low is h meets same =
+      Waits (λ m other. closed_not first second m (sym meets.0 ∙ other)) (λ d k. subst (λ p. HasDurable x.seen p d) (sym meets.0) k) (λ m at. absurd (closed_not first second m at))
+  hears message moment Away result new found calm named low is h meets same = absurd h
+
+  -- ---- it ticks
+
+  whole_ticked : (moment : Moment) (m after : MasterOf D) (turn : Told) (b : Bool) (new : MasterPlace D) → AnswersAs x.seen x.failures b (tick m.state moment) (pressed_all m.state moment) m turn after → new ≡ Standing after → restarts_master step ≡ false
+      → heard_by_master step sent ≡ None → StandsSteady x.seen m → failures_of_both x.failures after.journal ≡ failures_of_both x.failures m.journal → B (Standing m) new
+  whole_ticked moment m after turn true new (inl done) at calm none h same =
+      Turns m after None (tick m.state moment) refl at (events_end_once m.config m.state (TicksAt moment) tt h.steady.firm) (events_written m.config m.state (TicksAt moment) tt tt h.steady).written done.done.after (ByItself refl none (ticks_leave m.state moment)) calm
+  whole_ticked moment m after turn false new (inl done) at calm none h same =
+      Turns m after None (tick m.state moment) refl at (events_end_once m.config m.state (TicksAt moment) tt h.steady.firm) (events_written m.config m.state (TicksAt moment) tt tt h.steady).written done.done.after (ByItself refl none (ticks_leave m.state moment)) calm
+  whole_ticked moment m after turn true new (inr (place, cut)) at calm none h same = absurd (never (failures_of_both x.failures m.journal) (failures_of_both x.failures after.journal) cut.cause same)
+  whole_ticked moment m after turn false new (inr (place, cut)) at calm none h same = absurd (never (failures_of_both x.failures m.journal) (failures_of_both x.failures after.journal) cut.cause same)
+
+  lacks : (moment : Moment) (m after : MasterOf D) (turn : Told) (new : MasterPlace D) → MasterAnswers x.seen x.failures None (lacking (pressed_all m.state moment)) m (Ok turn) after → new ≡ Standing after → restarts_master step ≡ false
+      → heard_by_master step sent ≡ None → StandsSteady x.seen m → failures_of_both x.failures after.journal ≡ failures_of_both x.failures m.journal → B (Standing m) new
+  lacks moment m after turn new (inl done) at calm none h same =
+      Turns m after None (pressed_all m.state moment) refl at (ticks_end_once m.config m.state moment h.steady.firm (steps_fit m.state moment h.steady.firm)) (all_steps_written m.state moment h.steady).written done.done.after (ByItself refl none (steps_leave m.state moment)) calm
+  lacks moment m after turn new (inr (place, cut)) at calm none h same = absurd (never (failures_of_both x.failures m.journal) (failures_of_both x.failures after.journal) cut.cause same)
+
+  ticks : (moment : Moment) (old : MasterPlace D) (result : Result Told Refusal) (new : MasterPlace D) → restarts_master step ≡ false → heard_by_master step sent ≡ None → LastsSteady x.seen old → MasterTicks x.seen x.failures moment old result new
+      → failures_at x.failures new ≡ failures_at x.failures old → B old new
+  ticks moment (Standing m) (Ok turn) new calm none h (after, at, inl whole) same = whole_ticked moment m after turn (writes_one m.state (pressed_all m.state moment)) new whole at calm none h (sym (ap (failures_at x.failures) at) ∙ same)
+  ticks moment (Standing m) (Ok turn) new calm none h (after, at, inr (sound, is_due, wanting, done)) same = lacks moment m after turn new done at calm none h (sym (ap (failures_at x.failures) at) ∙ same)
+  ticks moment (Standing m) (Err e) new calm none h (after, at, (why, still)) same = Stays m after refl at (ap (λ (k : MasterOf D). k.state) still) (unheard none) calm
+  ticks moment (Closed first second) (Ok turn) new calm none h meets same = kept_there (Closed first second) new meets.0 calm (unheard none) h
+  ticks moment (Closed first second) (Err e) new calm none h meets same = kept_there (Closed first second) new meets.0 calm (unheard none) h
+  ticks moment Away result new calm none h meets same = absurd h
+
+  -- ---- it is started again
+
+  opens : (config : Config) (first second : D) (result : Result Told Refusal) (old new : MasterPlace D) (d : Durable) → HasDurable x.seen old d → IsToldIn (standing (x.seen first) (x.seen second)) d → ((turn : Told) → result ≡ Ok turn → OpensAs x.seen d new)
+      → heard_by_master step sent ≡ None → restarts_master step ≡ true → Opens x.seen x.failures config (first, second) result new → failures_at x.failures new ≡ x.failures first + x.failures second → B old new
+  opens config first second (Ok turn) old new d has told found none again opening same = (let o = opened_state x config first second d turn new told (found turn refl) opening in Opened o.0 d o.2.0 has o.1 o.2.1 none again)
+  opens config first second (Err e) old new d has told found none again (u, is, refusal, inl (device, more)) same =
+      absurd (never (x.failures first + x.failures second) (x.failures u.first + x.failures u.second) more (sym (ap (failures_at x.failures) is) ∙ same))
+  opens config first second (Err e) old new d has told found none again (u, is, refusal, inr why) same =
+      Waits (λ m standing_so. closed_not u.first u.second m (sym is ∙ standing_so))
+      (λ e had. subst (λ p. HasDurable x.seen p e) (sym is) (subst (λ t. IsToldIn t e) (sym why.0) (subst (IsToldIn (standing (x.seen first) (x.seen second))) (has_one x.seen old d e has had) told))) (λ m at. none)
+
+  reopens : (config : Config) (old : MasterPlace D) (result : Result Told Refusal) (new : MasterPlace D) → heard_by_master step sent ≡ None → restarts_master step ≡ true → LastsSteady x.seen old → Reopens x.seen x.failures config old result new → failures_at x.failures new ≡ failures_at x.failures old → B old new
+  reopens config (Standing m) result new none again h opening same =
+      opens config m.journal.first m.journal.second result (Standing m) new m.state.durable refl (subst (λ t. IsToldIn t m.state.durable) (sym h.firm.as_seen.text) h.firm.told)
+      (λ turn is. opens_again x.seen x.failures config m turn new h.firm (subst (λ r. Reopens x.seen x.failures config (Standing m) r new) is opening)) none again opening same
+  reopens config (Closed first second) result new none again h opening same =
+      let k = lasts x.seen x.failures (Closed first second) h in
+      opens config first second result (Closed first second) new k.durable k.told k.told
+      (λ turn is. opens_told x.seen x.failures config first second k.durable turn new k.kept k.counters k.told (subst (λ r. Opens x.seen x.failures config (first, second) r new) is opening)) none again opening same
+  reopens config Away result new none again h opening same = absurd h
+
+  -- ---- the other nodes
+
+  server_leaves : {A : Type 0} (found : Option Server) (id : ℕ) (does : Server → Result A Refusal → Server → Type 0) (old : Nodes D) (result : Result A Refusal) (new : Nodes D)
+      → MatchOption found ((new ≡ old) × (result ≡ Err refusals.Range)) (λ s. (after : Server) × (new ≡ with_servers (slice_set old.servers id after) old) × does s result after) → new.master ≡ old.master
+  server_leaves None id does old result new (is, refused) = ap (λ (n : Nodes D). n.master) is
+  server_leaves (Some s) id does old result new (after, is, done) = ap (λ (n : Nodes D). n.master) is
+
+  at_server : {A : Type 0} (id : ℕ) (does : Server → Result A Refusal → Server → Type 0) (old : Nodes D) (result : Result A Refusal) (new : Nodes D) → AtServer id does old result new → new.master ≡ old.master
+  at_server id does old result new at = server_leaves (slice_get old.servers id) id does old result new at
+
+  client_leaves : {A : Type 0} (found : Option Node) (id : ClientId) (none : A) (does : Node → A → Node → Type 0) (old : Nodes D) (result : A) (new : Nodes D)
+      → MatchOption found ((new ≡ old) × (result ≡ none)) (λ n. (after : Node) × (new ≡ with_clients (slice_set old.clients (id.0 - 1) after) old) × does n result after) → new.master ≡ old.master
+  client_leaves None id none does old result new (is, refused) = ap (λ (n : Nodes D). n.master) is
+  client_leaves (Some n) id none does old result new (after, is, done) = ap (λ (n : Nodes D). n.master) is
+
+  at_client : {A : Type 0} (id : ClientId) (none : A) (does : Node → A → Node → Type 0) (old : Nodes D) (result : A) (new : Nodes D) → AtClient id none does old result new → new.master ≡ old.master
+  at_client id none does old result new at = client_leaves (client_in old.clients id) id none does old result new at
+
+  -- ---- an event
+
+  abbrev Becomes : Nodes D → Nodes D → Type 0
+  Becomes old new = LastsSteady x.seen old.master → failures_at x.failures new.master ≡ failures_at x.failures old.master → B old.master new.master
+
+  leaves : (old new : Nodes D) → restarts_master step ≡ false → Refused → new.master ≡ old.master → Becomes old new
+  leaves old new calm none is h same = kept_there old.master new.master is calm none h
+
+  moved : (place : MasterPlace D) (old new : Nodes D) → new ≡ with_master place old → (LastsSteady x.seen old.master → failures_at x.failures place ≡ failures_at x.failures old.master → B old.master place) → Becomes old new
+  moved place old new is f h same =
+      let at = ap (λ (n : Nodes D). n.master) is in subst (B old.master) (sym at) (f h (sym (ap (failures_at x.failures) at) ∙ same))
+
+  -- what a message to the master is
+  pub record IsToMaster (message : Message) (moment : Moment) (old : Nodes D) : Type 0 where
+    pub found : heard_by_master step sent ≡ Some message
+    pub named : IsNamedBody message.body × IsNumber moment.0
+    pub low : (m : MasterOf D) → old.master ≡ Standing m → IsHeardBody m.state.durable.names message.body
+
+  heard : (message : Message) (moment : Moment) (to : NodeId) (old : Nodes D) (turn : Result Told Refusal) (new : Nodes D) → restarts_master step ≡ false → (to ≡ nodes.Master → IsToMaster message moment old) → (to_master (Some message) ≡ None → Refused) → message.to ≡ to
+      → Says turn → Hears x.seen x.failures message moment to old turn new → Becomes old new
+  heard message moment nodes.Master old turn new calm within none to is (place, at, hear) =
+      moved place old new at (λ h same. (let k = within refl in hears message moment old.master turn place k.found calm k.named k.low is h hear same))
+  heard message moment (nodes.Server id) old turn new calm within none to is at =
+      leaves old new calm (none (to_server message id to)) (at_server id (λ s. ServerDoes (servers.handle s message moment) s) old turn new at)
+  heard message moment (nodes.Client id) old turn new calm within none to is (what, at, says) =
+      leaves old new calm (none (to_client message id to)) (at_client id None (ClientHears message.body) old what new at)
+
+  delivered : (message : Message) (moment : Moment) (old : Nodes D) (turn : Result Told Refusal) (new : Nodes D) → restarts_master step ≡ false → (message.to ≡ nodes.Master → IsToMaster message moment old) → (to_master (Some message) ≡ None → Refused)
+      → Says turn → Delivers x.seen x.failures message moment old turn new → Becomes old new
+  unfolding Delivers
+  delivered message moment old turn new calm within none is hear = heard message moment message.to old turn new calm within none refl is hear
+
+calm_of : (event : Event) (h : Happening) → event.happening ≡ h → {b : Bool} → restarts_master (Comes (record { moment = event.moment; happening = h })) ≡ b → restarts_master (Comes event) ≡ b
+calm_of event h is calm = ap (λ k. restarts_master (Comes (record { moment = event.moment; happening = k }))) is ∙ calm
+
+heard_as : (event : Event) (sent : Sent) (h : Happening) → event.happening ≡ h → heard_by_master (Comes event) sent ≡ heard_by_master (Comes (record { moment = event.moment; happening = h })) sent
+heard_as event sent h is = ap (λ k. heard_by_master (Comes (record { moment = event.moment; happening = k })) sent) is
+
+module _ {D : Type 0} (x : Setup D) (given : IsGiven x) where
+  told_so : (moment : Moment) (by : NodeId) (old : Sent) (said : Result (Unit {0}) Refusal) (new : Sent) (step : Step) (sent : Sent) (result : Result Told Refusal) → Tells x.seen x.failures x.armed moment by (told_of_turn result) old said new → Says x given step sent said result
+  told_so moment by old said new step sent (Ok turn) t = t.1
+  told_so moment by old said new step sent (Err refusal) t = t.1
+
+  module _ (event : Event) (old new : History D) (said : Result (Unit {0}) Refusal) where
+    abbrev Next : Type 0
+    Next = Becomes x given (Comes event) old.sent said old.nodes new.nodes
+
+    -- something elsewhere, of which the master hears nothing
+    elsewhere : (h : Happening) → event.happening ≡ h → restarts_master (Comes (record { moment = event.moment; happening = h })) ≡ false → heard_by_master (Comes (record { moment = event.moment; happening = h })) old.sent ≡ None → new.nodes.master ≡ old.nodes.master → Next
+    elsewhere h is calm none same = leaves x given (Comes event) old.sent said old.nodes new.nodes (calm_of event h is calm) (unheard x given (Comes event) old.sent said (heard_as event old.sent h is ∙ none)) same
+
+    came : (id : MsgId) → event.happening ≡ happenings.Deliver id → (by : NodeId) (outcome : Upshot) → Tells x.seen x.failures x.armed event.moment by outcome old.sent said new.sent → HearsNamed event.moment (happenings.Deliver id) old × HearsWithin (happenings.Deliver id) old
+        → (found : Option Message) → message_of old.sent id ≡ found → MatchOption found ((outcome ≡ Err refusals.Range) × (new.nodes ≡ old.nodes)) (λ message. ComesTo x.seen x.failures x.armed message event.moment old.nodes by outcome new.nodes) → Next
+    came id is by outcome tells within None found (refused, same) = elsewhere (happenings.Deliver id) is refl (ap to_master found) (ap (λ (n : Nodes D). n.master) same)
+    came id is by outcome tells within (Some message) found (inl (by_is, turn, delivers, told)) =
+        delivered x given (Comes event) old.sent said message event.moment old.nodes turn new.nodes (calm_of event (happenings.Deliver id) is refl)
+        (λ to. record {
+          found = heard_as event old.sent (happenings.Deliver id) is ∙ ap to_master found ∙ to_it message to;
+          named = within.0 message found to;
+          low = λ m at. subst (λ p. IsHeardAt p message.body) at (within.1 message found to);
+        })
+        (λ none. unheard x given (Comes event) old.sent said (heard_as event old.sent (happenings.Deliver id) is ∙ ap to_master found ∙ none))
+        (told_so event.moment by old.sent said new.sent (Comes event) old.sent turn (subst (λ o. Tells x.seen x.failures x.armed event.moment by o old.sent said new.sent) told tells)) delivers
+    came id is by outcome tells within (Some message) found (inr (refused, same)) =
+        leaves x given (Comes event) old.sent said old.nodes new.nodes (calm_of event (happenings.Deliver id) is refl) (λ other heard. (subst (λ o. Tells x.seen x.failures x.armed event.moment by o old.sent said new.sent) refused tells).1) (ap (λ (n : Nodes D). n.master) same)
+
+    at_node : (happening : Happening) → event.happening ≡ happening → (by : NodeId) (outcome : Upshot) → AtNode x.seen x.failures x.armed event.moment happening old by outcome new.nodes → Tells x.seen x.failures x.armed event.moment by outcome old.sent said new.sent
+        → HearsNamed event.moment happening old × HearsWithin happening old → Next
+    at_node (happenings.Ask req request) is by outcome (by_is, (out, at, told)) tells within =
+        elsewhere (happenings.Ask req request) is refl refl (at_client x given (Comes event) old.sent said req.client (Err refusals.Range) (ClientAsks req.number request) old.nodes out new.nodes at)
+    at_node (happenings.Deliver id) is by outcome comes tells within = came id is by outcome tells within (message_of old.sent id) refl comes
+    at_node (happenings.Tick keepers.Master) is by outcome (by_is, (place, turn, does, at, told)) tells within =
+        moved x given (Comes event) old.sent said place old.nodes new.nodes at
+        (λ h same. ticks x given (Comes event) old.sent said event.moment old.nodes.master turn place (calm_of event (happenings.Tick keepers.Master) is refl) (heard_as event old.sent (happenings.Tick keepers.Master) is) h does same)
+    at_node (happenings.Tick (keepers.Server id)) is by outcome (by_is, (turn, at, told)) tells within =
+        elsewhere (happenings.Tick (keepers.Server id)) is refl refl (at_server x given (Comes event) old.sent said id (λ s. ServerDoes (servers.tick s event.moment) s) old.nodes turn new.nodes at)
+    at_node (happenings.Beat id) is by outcome (by_is, (same, told)) tells within = elsewhere (happenings.Beat id) is refl refl (ap (λ (n : Nodes D). n.master) same)
+    at_node (happenings.Restart keepers.Master) is by outcome (by_is, (place, turn, does, at, told)) tells within =
+        moved x given (Comes event) old.sent said place old.nodes new.nodes at
+        (λ h same. reopens x given (Comes event) old.sent said old.nodes.config old.nodes.master turn place (heard_as event old.sent (happenings.Restart keepers.Master) is) (calm_of event (happenings.Restart keepers.Master) is refl) h does same)
+    at_node (happenings.Restart (keepers.Server id)) is by outcome (by_is, (done, at, told)) tells within =
+        elsewhere (happenings.Restart (keepers.Server id)) is refl refl (at_server x given (Comes event) old.sent said id (λ s done after. (done ≡ Ok tt) × (after ≡ servers.restart s)) old.nodes done new.nodes at)
+    at_node (happenings.Lose id handle) is by outcome (by_is, (done, at, told)) tells within =
+        elsewhere (happenings.Lose id handle) is refl refl (at_server x given (Comes event) old.sent said id (λ s done after. Does (servers.lose handle s) done s after) old.nodes done new.nodes at)
+    at_node (happenings.Damage id handle block) is by outcome (by_is, (done, at, told)) tells within =
+        elsewhere (happenings.Damage id handle block) is refl refl (at_server x given (Comes event) old.sent said id (λ s done after. Does (servers.damage handle block s) done s after) old.nodes done new.nodes at)
+    at_node (happenings.FailDisk disk call) is by outcome (by_is, (with, told)) tells within =
+        moved x given (Comes event) old.sent said (x.armed disk call old.nodes.master) old.nodes new.nodes with
+        (λ h same. armed_there x given (Comes event) old.sent said old.nodes.master (x.armed disk call old.nodes.master) (given.armed disk call old.nodes.master) (calm_of event (happenings.FailDisk disk call) is refl)
+        (unheard x given (Comes event) old.sent said (heard_as event old.sent (happenings.FailDisk disk call) is)) h)
+
+  became_within : (step : Step) (old new : History D) → IsWell x old → StepWithin step old → (goes : Goes x.seen x.failures x.armed step old new) → failures_at x.failures new.nodes.master ≡ failures_at x.failures old.nodes.master → Became x.seen step old.sent (met_at x step old new goes) old.nodes.master new.nodes.master
+  became_within (Comes event) old new well within (said, h) sound = at_node event old new said event.happening refl h.by h.outcome h.at h.tells within well.steady sound
+  became_within (Takes client) old new well within (found, takes, same) sound =
+      leaves x given (Takes client) old.sent (Ok tt) old.nodes new.nodes refl (unheard x given (Takes client) old.sent (Ok tt) refl) (at_client x given (Takes client) old.sent (Ok tt) client None (λ n reply after. (reply ≡ n.reply) × (after ≡ given_up n)) old.nodes found new.nodes takes) well.steady sound
+
+  pub became : (step : Step) (old new : History D) → IsWell x old → (one : StepsWithin x step old new) → Became x.seen step old.sent (met_at x step old new one.goes) old.nodes.master new.nodes.master
+  became step old new well one = became_within step old new well (step_within x given step old new well one) one.goes one.sound

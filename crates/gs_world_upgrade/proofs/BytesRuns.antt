@@ -1,0 +1,237 @@
+-- What sound replicas of members have, right behind a prepare and right behind the commit of its rollback, over runs with their accounts.
+use Rattle.std.proofs.Common.{inl, inr, ap, refl, subst, sym, ◌++◌, ◌&&◌, ◌≡◌, ◌∙◌, [], ◌∷◌, Bool, List, None, Option, Some, false, true, ℕ}
+use Rattle.std.specs.Prelude.{is_some, slice_get}
+use Rattle.std.proofs.lemmas.Bool.{false≢true}
+use Rattle.std.specs.FinMap as fin
+use Rattle.gs_base.specs.Members.{is_member}
+use Rattle.gs_base.specs.declared.numbers.ReqId.{ReqId}
+use Rattle.gs_chunk.proofs.Committed.{masters_commit}
+use Rattle.gs_chunk.proofs.Facts.{reached_world}
+use Rattle.gs_chunk.proofs.Lasting.{agrees}
+use Rattle.gs_chunk.specs.Machine.{ChunkWorld}
+use Rattle.gs_lease.specs.declared.view.View.{View}
+use Rattle.gs_master_moves.specs.Epochs.{rolls_back}
+use Rattle.gs_master_record.specs.declared.checkpoint.Phase.{Phase}
+use Rattle.gs_master_record.specs.declared.checkpoint.Phase.TheVariants.{Ordinary, Rolling, Upgrade}
+use Rattle.gs_master_spec.specs.Applied.{view_in}
+use Rattle.gs_master_spec.specs.Durable.{Durable, Settled, is_listed, is_ordinary, is_rolling, is_upgrade}
+use Rattle.gs_server.specs.Runs.{slot_in}
+use Rattle.gs_server_member.specs.Requests.{Asked, IsOfOneEdit, bytes_in}
+use Rattle.gs_world.proofs.Reaching.{HaveSizes}
+use Rattle.gs_world.specs.Histories.{History}
+use Rattle.gs_world.specs.Runs.{Step}
+use Rattle.gs_world_account.proofs.Told.{reached_sound}
+use Rattle.gs_world_account.specs.Accounts.{Account, settled_edits, text_of, view_at}
+use Rattle.gs_world_account.specs.Running.{IsGiven, IsReached, Moves, Runs, Setup}
+use Rattle.gs_world_chunks.proofs.Durables.{told_is_had}
+use Rattle.gs_world_chunks.proofs.Edits.{AreNumbered}
+use Rattle.gs_world_chunks.proofs.Holding.{SinceSeen, given_there, lives_on, prepared_reached, reach_more, runs_of, runs_then, since_seen}
+use Rattle.gs_world_chunks.proofs.Intact.{told_same}
+use Rattle.gs_world_chunks.proofs.Reached.{run_stays}
+use Rattle.gs_world_chunks.proofs.Runs.{keeps_told, living_told, seen_of}
+use Rattle.gs_world_chunks.proofs.Seeing.{SeesNext, SeesTo, each_sees_on, sees_run, sees_step}
+use Rattle.gs_world_chunks.specs.Joined.{IsSeen, SeenSince}
+use Rattle.gs_world_chunks.specs.Seeing.{Sees, SeesBoth}
+use Rattle.gs_world_chunks.specs.Upgrading.{IsUpgrading}
+use Rattle.gs_world_lift.proofs.AskingRuns.{of_one_edit, pushes_right}
+use Rattle.gs_world_lift.proofs.Mastering.{both}
+use Rattle.gs_world_lift.proofs.Running.{before}
+use Rattle.gs_world_lift.specs.Doing.{HasDurable}
+use Rattle.gs_world_lift.specs.Going.{AllSent, heard_in}
+use Rattle.gs_world_lift.specs.Joint.{AtMaster, AtServer, ByMaster, Elsewhere, GoesBy}
+use Rattle.gs_world_lift.specs.Living.{GoesOn, LivesOn}
+use Rattle.gs_world_lift.specs.Saying.{PushRight}
+use Rattle.gs_world_lift.specs.Showing.{IsAlive, Life}
+use Rattle.gs_world_upgrade.proofs.Bytes.{calm_back, free_back, free_prepared, list_back, rolls as rolls_on, settled_there, text_there}
+use Rattle.gs_world_upgrade.specs.Back.{GivesSettledBack, HasBytes, IsMemberAt}
+
+never_both : (phase : Phase) → (is_rolling phase && is_ordinary phase) ≡ false
+never_both Ordinary = refl
+never_both Upgrade = refl
+never_both Rolling = refl
+
+upgrade_calm : (phase : Phase) → is_upgrade phase ≡ true → is_rolling phase ≡ false
+upgrade_calm Ordinary is = refl
+upgrade_calm Upgrade is = refl
+upgrade_calm Rolling is = absurd (false≢true is)
+
+-- a member of the view that the records tell
+viewed : (d : Durable) (chunk id : ℕ) → IsMemberAt d chunk id → (view : View) × (view_in (fin.get d.chunks chunk) ≡ Some view) × (is_member view.members id ≡ true)
+viewed d chunk id m = (m.settled.view, ap view_in m.told, m.among)
+
+row_there : (d : Durable) (chunk id : ℕ) → IsMemberAt d chunk id → is_some (fin.get d.chunks chunk) ≡ true
+row_there d chunk id m = ap is_some m.told
+
+-- the view that a machine knows is that of its entry
+prepared_view : {D : Type 0} {x : Setup D} {bytes : ReqId → List ℕ} {chunk : ℕ} {h : History D} {a : Account} (seen : IsSeen x bytes chunk h a) → seen.alive.world.known.view ≡ seen.alive.world.entry.view.stamp
+prepared_view seen = (agrees seen.alive.world (reached_world seen.alive.world seen.alive.reached)).view
+
+-- A chunk that a file had at the prepare, and of which a view is told behind the commit, is seen at both and between, and the commit is the master's.
+record IsSeenBack {D : Type 0} (x : Setup D) (step : Step) (chunk : ℕ) (prepared now back : History D) (first after last : Account) : Type 0 where
+  pub bytes : ReqId → List ℕ
+  pub since : SeenSince x bytes chunk prepared first now after
+  pub seen : IsSeen x bytes chunk back last
+  pub born : ℕ
+  pub by : ByMaster x.seen x.config bytes born chunk step now back since.last.alive.world seen.alive.world
+  pub had : by.before ≡ after.durable
+  pub has : by.behind ≡ last.durable
+
+module _ (sizes : HaveSizes) (law : AreNumbered) {D : Type 0} (x : Setup D) (prepared now back : History D) (first after last : Account) (step : Step) (up : IsUpgrading x prepared first now after) (moves : Moves x step now after back last)
+    (committed : rolls_back after.durable last.durable ≡ true) where
+  commit : Runs x (step ∷ []) now after back last
+  commit = (back, last, moves, (refl, refl))
+
+  upgraded : Runs x up.steps prepared first now after
+  upgraded = runs_of x up.steps prepared now first after up.runs
+
+  reached : IsReached x prepared first
+  reached = prepared_reached sizes law x prepared now first after up
+
+  given : IsGiven x
+  given = given_there sizes law x prepared now first after up
+
+  sees : SeesBoth x prepared first back last
+  sees = each_sees_on sizes law x prepared back first last (up.steps ++ step ∷ []) reached (runs_then x up.steps (step ∷ []) prepared now back first after last upgraded commit)
+
+  abbrev asked : ℕ → Asked
+  asked = sees.asked
+
+  abbrev bytes : ReqId → List ℕ
+  bytes = bytes_in asked
+
+  right : AllSent (PushRight bytes) back.sent
+  right = pushes_right asked back sees.are
+
+  one : AllSent (IsOfOneEdit asked) back.sent
+  one = of_one_edit asked back sees.are
+
+  right_now : AllSent (PushRight bytes) now.sent
+  right_now = before x.seen x.failures x.armed (PushRight bytes) now.sent back.sent (run_stays x asked given (step ∷ []) now back after last commit) right
+
+  one_now : AllSent (IsOfOneEdit asked) now.sent
+  one_now = before x.seen x.failures x.armed (IsOfOneEdit asked) now.sent back.sent (run_stays x asked given (step ∷ []) now back after last commit) one
+
+  here : SeesTo x asked given law prepared now first after sees.first
+  here = sees_run x asked given law up.reached.apart up.steps prepared now first after sees.first (reached_sound x prepared first reached).types upgraded right_now one_now
+
+  next : SeesNext x asked given law step now back after last here.last
+  next = sees_step x asked given law up.reached.apart step now back after last here.last (reached_sound x now after (reach_more x prepared now first after up.steps reached upgraded)).types moves right one
+
+  then : Sees x asked back last
+  then = record { lives = next.goes.last; tells = next.tells; agrees = next.agrees; intact = next.intact }
+
+  -- the master isn't as it was
+  not_same : back.nodes.master ≡ now.nodes.master → (chunk : ℕ) → ⊥
+  not_same master chunk =
+      let same = told_same x bytes chunk step now back after last moves here.last.lives here.last.agrees.told next.goes.last master in
+      false≢true (sym (never_both after.durable.phase) ∙ ap (λ (d : Durable). is_rolling after.durable.phase && is_ordinary d.phase) same ∙ committed)
+
+  -- ---- a chunk of which a view is told behind the commit is one that a file has
+
+  rolls : (is_rolling after.durable.phase ≡ true) × (is_rolling last.durable.phase ≡ false)
+  rolls = rolls_on after.durable last.durable committed
+
+  module _ (chunk : ℕ) (row : is_some (fin.get last.durable.chunks chunk) ≡ true) where
+    told_by : (m : IsAlive x.seen x.config bytes chunk back) (l : IsAlive x.seen x.config bytes chunk now) → ByMaster x.seen x.config bytes l.reached.0.epoch chunk step now back l.world m.world → is_listed last.durable chunk ≡ true
+    told_by m l by =
+        let had : by.before ≡ after.durable = told_is_had x.seen now.nodes.master after.durable by.before here.last.lives.lasts here.last.agrees.told by.had in
+        let has : by.behind ≡ last.durable = told_is_had x.seen back.nodes.master last.durable by.behind next.goes.last.lasts moves.told by.has in
+        let over = masters_commit l.world m.world by.leads l.reached by.masters (by.shown.rolling ∙ ap (λ (d : Durable). is_rolling d.phase) had ∙ rolls.0) (by.shows.rolling ∙ ap (λ (d : Durable). is_rolling d.phase) has ∙ rolls.1) in
+        ap (λ (d : Durable). is_listed d chunk) (sym has) ∙ by.rows.listed over (ap (λ (d : Durable). is_some (fin.get d.chunks chunk)) has ∙ row)
+
+    told_at : (m : IsAlive x.seen x.config bytes chunk back) (l : IsAlive x.seen x.config bytes chunk now) → GoesBy x.seen x.config bytes l.reached.0.epoch chunk step now back l.world m.world → is_listed last.durable chunk ≡ true
+    told_at m l (AtServer by) = absurd (not_same by.master chunk)
+    told_at m l (AtMaster by) = told_by m l by
+    told_at m l (Elsewhere still servers master node messages moment are posted) = absurd (not_same master chunk)
+
+    listed_by : (heard : Option ℕ) (m : IsAlive x.seen x.config bytes chunk back) (life : Life x.seen x.config bytes chunk now) → GoesOn x.seen x.config bytes chunk step heard now back life (inr m) → is_listed last.durable chunk ≡ true
+    listed_by heard m (inl unborn) comes =
+        absurd (false≢true (sym comes.calm ∙ ap (λ (d : Durable). is_rolling d.phase) (told_is_had x.seen now.nodes.master after.durable comes.before here.last.lives.lasts here.last.agrees.told comes.had) ∙ rolls.0))
+    listed_by heard m (inr l) goes = told_at m l goes.by
+
+    pub listed_there : is_listed last.durable chunk ≡ true
+    listed_there =
+        let living = living_told x asked back last then chunk row in
+        listed_by (heard_in x.seen x.failures x.armed next.goes.kind) living.0 (here.last.lives.life chunk)
+        (subst (λ life. GoesOn x.seen x.config bytes chunk step (heard_in x.seen x.failures x.armed next.goes.kind) now back (here.last.lives.life chunk) life) living.1 (next.goes.goes chunk))
+
+  module _ (chunk : ℕ) (listed : is_listed first.durable chunk ≡ true) where
+    since : SinceSeen sizes law x prepared now first after up asked here.last chunk
+    since = since_seen sizes law x prepared now first after up asked right_now one_now sees.first here.last here.on chunk listed
+
+    abbrev l : IsAlive x.seen x.config bytes chunk now
+    l = since.since.last.alive
+
+    living : (m : IsAlive x.seen x.config bytes chunk back) × (next.goes.last.life chunk ≡ inr m)
+    living = lives_on law x asked given step now back after last moves here.last next chunk l since.lives
+
+    goes : LivesOn x.seen x.config bytes chunk step (heard_in x.seen x.failures x.armed next.goes.kind) now back l living.0
+    goes = subst (λ life. GoesOn x.seen x.config bytes chunk step (heard_in x.seen x.failures x.armed next.goes.kind) now back (inr l) life) living.1
+        (subst (λ life. GoesOn x.seen x.config bytes chunk step (heard_in x.seen x.failures x.armed next.goes.kind) now back life (next.goes.last.life chunk)) since.lives (next.goes.goes chunk))
+
+    there : (seen : IsSeen x bytes chunk back last) × (seen.alive ≡ living.0)
+    there = seen_of x asked back last then up.reached.apart chunk living.0 living.1
+
+    abbrev By : ChunkWorld → Type 0
+    By v = ByMaster x.seen x.config bytes l.reached.0.epoch chunk step now back l.world v
+
+    by_master : GoesBy x.seen x.config bytes l.reached.0.epoch chunk step now back l.world living.0.world → By living.0.world
+    by_master (AtServer by) = absurd (not_same by.master chunk)
+    by_master (AtMaster by) = by
+    by_master (Elsewhere still servers master node messages moment are posted) = absurd (not_same master chunk)
+
+    by_there : By there.0.alive.world
+    by_there = subst (λ (z : IsAlive x.seen x.config bytes chunk back). By z.world) (sym there.1) (by_master goes.by)
+
+    seen_back : IsSeenBack x step chunk prepared now back first after last
+    seen_back = record {
+      bytes = bytes;
+      since = since.since;
+      seen = there.0;
+      born = l.reached.0.epoch;
+      by = by_there;
+      had = told_is_had x.seen now.nodes.master after.durable by_there.before here.last.lives.lasts here.last.agrees.told by_there.had;
+      has = told_is_had x.seen back.nodes.master last.durable by_there.behind next.goes.last.lasts moves.told by_there.has;
+    }
+
+    module _ (row : is_some (fin.get last.durable.chunks chunk) ≡ true) where
+      free_then : seen_back.seen.alive.world.entry.view.holder ≡ None
+      free_then = free_back x bytes chunk prepared first now after seen_back.since listed step back last seen_back.seen seen_back.born seen_back.by seen_back.had seen_back.has committed row
+
+      calm_then : is_rolling last.durable.phase ≡ false
+      calm_then = calm_back x bytes chunk prepared first now after seen_back.since listed step back last seen_back.seen seen_back.born seen_back.by seen_back.had seen_back.has committed row
+
+      same_list : seen_back.seen.alive.world.known.list seen_back.seen.alive.world.known.view ≡ seen_back.since.first.alive.world.known.list seen_back.since.first.alive.world.entry.view.stamp
+      same_list = list_back x bytes chunk prepared first now after seen_back.since listed step back last seen_back.seen seen_back.born seen_back.by seen_back.had seen_back.has committed row
+
+      -- what is settled behind the commit is what was settled at the prepare
+      pub settled_back : (view : View) → view_in (fin.get last.durable.chunks chunk) ≡ Some view → (former : View) → view_at first chunk ≡ Some former → settled_edits last chunk ≡ settled_edits first chunk
+      settled_back view told former was =
+          settled_there x seen_back.bytes chunk back last seen_back.seen free_then view told
+          ∙ same_list
+          ∙ ap seen_back.since.first.alive.world.known.list (sym (prepared_view seen_back.since.first))
+          ∙ sym (settled_there x seen_back.bytes chunk prepared first seen_back.since.first (free_prepared x seen_back.bytes chunk prepared first now after seen_back.since listed) former was)
+
+      -- and the bytes of sound replicas of members are the same
+      pub bytes_back : (id other : ℕ) (had has : List ℕ) → IsMemberAt first.durable chunk id → HasBytes prepared id chunk had → IsMemberAt last.durable chunk other → HasBytes back other chunk has → has ≡ had
+      bytes_back id other had has member old among new =
+          let former = viewed first.durable chunk id member in
+          let view = viewed last.durable chunk other among in
+          sym new.is
+          ∙ text_there x seen_back.bytes chunk back last seen_back.seen calm_then free_then other view.0 new.s new.live view.1 view.2 new.there new.lives new.whole
+          ∙ ap (text_of x.config.chunk) (same_list ∙ ap seen_back.since.first.alive.world.known.list (sym (prepared_view seen_back.since.first)))
+          ∙ sym (text_there x seen_back.bytes chunk prepared first seen_back.since.first (upgrade_calm first.durable.phase seen_back.since.begun) (free_prepared x seen_back.bytes chunk prepared first now after seen_back.since listed) id former.0 old.s old.live former.1 former.2 old.there old.lives old.whole)
+          ∙ old.is
+
+-- ---- over runs
+
+view_there : (o : Option Settled) → is_some o ≡ true → (view : View) × (view_in o ≡ Some view)
+view_there None some = absurd (false≢true some)
+view_there (Some y) some = (y.view, refl)
+
+pub gives_settled_back : HaveSizes → AreNumbered → {D : Type 0} (x : Setup D) → GivesSettledBack x
+gives_settled_back sizes law x prepared now back first after last chunk r listed row =
+    let s = sees sizes law x prepared now back first after last r.step r.upgrade r.moves r.accepted in
+    let view = view_there (fin.get last.durable.chunks chunk) row in
+    let former = view_there (fin.get first.durable.chunks chunk) ((keeps_told x s.asked prepared first s.first).settled chunk listed) in
+    settled_back sizes law x prepared now back first after last r.step r.upgrade r.moves r.accepted chunk listed row view.0 view.1 former.0 former.1

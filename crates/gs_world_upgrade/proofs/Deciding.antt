@@ -1,0 +1,211 @@
+-- What a client's call to commit a rollback is answered.
+use Rattle.std.proofs.Common.{arith, ◌≡◌, ◌∙◌, inl, inr, ◌⊎◌, ◌<◌, ◌&&◌, ℕ, Bool, true, false, List, [], ◌∷◌, Option, Some, None, Result, Ok, Err, refl, ap, subst, sym}
+use Rattle.std.specs.Prelude.{is_some, if◌then◌else◌}
+use Rattle.std.specs.FinMap as fin
+use Rattle.std.proofs.lemmas.Bool.{false≢true, true≢false}
+use Rattle.gs_base.specs.declared.config.Config.{Config}
+use Rattle.gs_base.specs.declared.numbers.ClientId.{ClientId}
+use Rattle.gs_base.specs.declared.numbers.Moment.{Moment}
+use Rattle.gs_base.specs.declared.numbers.ReqId.{ReqId}
+use Rattle.gs_base.specs.declared.refusal.Refusal.{Refusal}
+use Rattle.gs_base.specs.declared.refusal.Refusal.TheVariants as refusals
+use Rattle.gs_edit.specs.View.{NamesView}
+use Rattle.gs_master_laws.proofs.Committing.{refuses_in_order, taken_unless_failed}
+use Rattle.gs_master_laws.specs.Promises.{AllFit, CommitsInOrder, IsFirstUnrestored, commit_record}
+use Rattle.gs_master.specs.Masters.{MasterOf}
+use Rattle.gs_master_moves.proofs.Right.{one_fits}
+use Rattle.gs_master_moves.specs.Guards.{Heard}
+use Rattle.gs_master_record.specs.Plain.{RollbackCommit}
+use Rattle.gs_master_spec.specs.Durable.{Durable, is_ordinary, is_rolling, prepared_view}
+use Rattle.gs_master_spec.specs.Applied.{replayed}
+use Rattle.gs_master_spec.specs.Handling.{New, from_client, from_node, handle, numbered, replied_again, taken_as, waits_still}
+use Rattle.gs_master_spec.specs.State.{Failed, Fault, Sound, State, Turn, Unopened, fits, is_failed, is_unopened, last_reply, refused, turned}
+use Rattle.gs_master_spec.specs.Undoing.{all_undone}
+use Rattle.gs_master_spec.specs.Upgrades.{accepted_plan, answers_for, commit_if, commit_on, rollback_commit, told_of, unrestored}
+use Rattle.gs_master_spec.specs.Volatile.{is_pending}
+use Rattle.gs_master_spec.specs.declared.change.Change.TheVariants as changes
+use Rattle.gs_master_spec.specs.declared.pending.Pending.{Pending}
+use Rattle.gs_master_upgrade.proofs.Records.{turn_fits}
+use Rattle.gs_master_upgrade.specs.Since.{IsSince}
+use Rattle.gs_msg.specs.declared.body.Body.TheVariants as bodies
+use Rattle.gs_msg.specs.declared.call.Call.TheVariants as calls
+use Rattle.gs_msg.specs.declared.message.Message.{Message}
+use Rattle.gs_msg.specs.declared.node.NodeId.TheVariants as nodes
+use Rattle.gs_nodes.specs.Happenings.{met_by}
+use Rattle.gs_nodes.specs.declared.place.MasterPlace.TheVariants.{Standing}
+use Rattle.gs_refs.specs.Counts.{count_or_zero}
+use Rattle.gs_world.proofs.Reaching.{HaveSizes}
+use Rattle.gs_world_account.specs.Running.{Setup}
+use Rattle.gs_world_chunks.proofs.Edits.{AreNumbered}
+use Rattle.gs_world_laws.specs.Steady.{StandsSteady}
+use Rattle.gs_world_upgrade.proofs.Became.{Became, ByItself, ByMessage, IsHearing, Opened, Stays, Turns, Waits, became}
+use Rattle.gs_world_upgrade.proofs.Counted.{named_restored}
+use Rattle.gs_world_upgrade.proofs.Going.{committed_ordinary}
+use Rattle.gs_world_upgrade.proofs.Standing.{has_at, steady_at}
+use Rattle.gs_world_upgrade.proofs.Telling.{NowSo, none_unnamed, now_so, same_master, told_has}
+use Rattle.gs_world_upgrade.proofs.Well.{step_well}
+use Rattle.gs_world_upgrade.specs.Accepting.{CommitsAreDecided, IsDecided, WasNamed, met_at, references_then}
+
+-- ---- the call comes to its own tests
+
+not_unopened : (f : Fault) → is_failed f ≡ false → is_unopened f ≡ false
+not_unopened Sound h = refl
+not_unopened (Failed doubt) h = refl
+not_unopened (Unopened doubt) h = absurd (true≢false h)
+
+judged : (config : Config) (s : State) (message : Message) (moment : Moment) (req : ReqId) (client : ClientId) → message.from ≡ nodes.Client client → message.body ≡ bodies.Call req calls.RollbackCommit → is_failed s.fault ≡ false
+    → is_pending s.volatile.pending req ≡ false → numbered (last_reply s req.client) req.number ≡ New → handle config s message moment ≡ rollback_commit s req
+unfolding handle
+judged config s message moment req client from body sound none new =
+    ap (λ f. from_node config s moment message.body f) from ∙ ap (λ b. from_client config s moment b) body
+    ∙ ap (λ b. if b then replied_again s req (Err refusals.Device) else (if is_pending s.volatile.pending req then waits_still s req else taken_as config s req moment calls.RollbackCommit (numbered (last_reply s req.client) req.number))) (not_unopened s.fault sound)
+    ∙ ap (λ b. if b then waits_still s req else taken_as config s req moment calls.RollbackCommit (numbered (last_reply s req.client) req.number)) none
+    ∙ ap (taken_as config s req moment calls.RollbackCommit) new ∙ taken_unless_failed config s req moment ∙ ap (λ b. if b then refused s req refusals.Device else rollback_commit s req) sound
+
+-- ---- what it says
+
+abbrev SaysSo : Option Refusal → Type 0
+SaysSo said = (said ≡ None) ⊎ ((chunk : ℕ) × (said ≡ Some (refusals.Unrestored chunk))) ⊎ (said ≡ Some refusals.Full)
+
+names_is : {a b : NamesView} → ◌≡◌ {A = Option NamesView} (Some a) (Some b) → a ≡ b
+names_is h = cc
+
+commit_says : (s : State) (req : ReqId) (names : NamesView) → is_rolling s.durable.phase ≡ true → all_undone s.durable.inverses s.durable.names ≡ Some names → SaysSo (rollback_commit s req).said
+commit_says s req names rolling back = subst (λ (t : Turn). SaysSo t.said) (sym is) (by_lacking (unrestored (prepared_view s.durable) (told_of s) (fin.entries names.refs)))
+  where
+    is : rollback_commit s req ≡ commit_if s req names (unrestored (prepared_view s.durable) (told_of s) (fin.entries names.refs))
+    is = ap (λ b. if b then commit_on s req (all_undone s.durable.inverses s.durable.names) else refused s req refusals.NotUpgrading) rolling ∙ ap (commit_on s req) back
+
+    done : Turn
+    done = turned s (accepted_plan s req (RollbackCommit s.durable.epoch (answers_for (prepared_view s.durable) (told_of s) (fin.entries names.refs)) ∷ []) (changes.RolledBack ∷ []) [] s.durable.epoch)
+
+    by_room : (b : Bool) → SaysSo (if b then done else refused s req refusals.Full).said
+    by_room true = inl refl
+    by_room false = inr (inr refl)
+
+    by_lacking : (o : Option ℕ) → SaysSo (commit_if s req names o).said
+    by_lacking (Some chunk) = inr (inl (chunk, refl))
+    by_lacking None = by_room (fits s.log done.records)
+
+ok_not : (e : Refusal) → ◌≡◌ {A = Result (Unit {0}) Refusal} (Ok tt) (Err e) → ⊥
+ok_not e h = absurd (cc)
+
+err_is : {a b : Refusal} → ◌≡◌ {A = Result (Unit {0}) Refusal} (Err a) (Err b) → a ≡ b
+err_is h = cc
+
+not_full : (chunk : ℕ) → refusals.Unrestored chunk ≡ refusals.Full → ⊥
+not_full chunk h = absurd (cc)
+
+not_memory : (chunk : ℕ) → refusals.Unrestored chunk ≡ refusals.Memory → ⊥
+not_memory chunk h = absurd (cc)
+
+message_is : {a b : Message} → ◌≡◌ {A = Option Message} (Some a) (Some b) → a ≡ b
+message_is e = cc
+
+both_true : (a b : Bool) → a ≡ true → b ≡ true → (a && b) ≡ true
+both_true true b p q = q
+both_true false b p q = absurd (false≢true p)
+
+pub decided : HaveSizes → AreNumbered → {D : Type 0} (x : Setup D) → CommitsAreDecided x
+decided sizes law {D} x prepared now next before after back step upgrade moves asks = by_case (became x n.given step now next n.well moves.steps)
+  where
+    n : NowSo x prepared now before after upgrade
+    n = now_so x prepared now before after upgrade
+
+    m : MasterOf D
+    m = asks.master
+
+    steady : StandsSteady x.seen m
+    steady = steady_at x now.nodes.master m asks.there n.well.steady
+
+    same : after.durable ≡ m.state.durable
+    same = has_at x now.nodes.master m after.durable asks.there n.has
+
+    since : IsSince before.durable m.state.durable
+    since = subst (IsSince before.durable) same n.since
+
+    rolling : is_rolling after.durable.phase ≡ true
+    rolling = ap (λ (d : Durable). is_rolling d.phase) same ∙ asks.rolling
+
+    -- while a rollback is going on no call waits
+    none_waits : is_pending m.state.volatile.pending asks.req ≡ false
+    none_waits = ap (λ (pending : List Pending). is_pending pending asks.req) (steady.steady.firm.rolling asks.rolling)
+
+    order : CommitsInOrder m.state (rollback_commit m.state asks.req)
+    order = refuses_in_order m.state asks.req
+
+    -- it is refused, but for no chunk
+    other : (refusal : Refusal) → met_at x step now next moves.steps.goes ≡ Err refusal → ((chunk : ℕ) → refusals.Unrestored chunk ≡ refusal → ⊥) → (met_at x step now next moves.steps.goes ≡ Err refusals.Full) ⊎ (met_at x step now next moves.steps.goes ≡ Err refusals.Memory)
+        → IsDecided x prepared before now after upgrade (met_at x step now next moves.steps.goes) back
+    other refusal so none which = record {
+      accepted = λ ok. absurd (ok_not refusal (sym ok ∙ so));
+      refused = λ chunk e. absurd (none chunk (err_is (sym e ∙ so)));
+      either = inr (inr which);
+    }
+
+    -- ---- it is refused for a chunk
+
+    referred_so : (chunk : ℕ) → IsFirstUnrestored m.state chunk → 0 < references_then x before chunk
+    referred_so chunk f = subst (λ (o : Option ℕ). 0 < count_or_zero o) (sym (ap (λ (names : NamesView). fin.get names.refs chunk) (names_is (sym since.back ∙ f.back)) ∙ f.found)) f.referred
+
+    lower_so : (chunk : ℕ) → IsFirstUnrestored m.state chunk → (less : ℕ) → less < chunk → 0 < references_then x before less → WasNamed x prepared before now after upgrade less
+    lower_so chunk f less lt more = by_count (fin.get before.durable.names.refs less) refl more
+      where
+        by_count : (o : Option ℕ) → fin.get before.durable.names.refs less ≡ o → 0 < count_or_zero o → WasNamed x prepared before now after upgrade less
+        by_count None has few = absurd (omega arith)
+        by_count (Some count) has few =
+            let told = f.lower less count lt (ap (λ (names : NamesView). fin.get names.refs less) (names_is (sym f.back ∙ since.back)) ∙ has) few in n.named m asks.there less told.0 (ap is_some has) told.1
+
+    refused_for : (chunk : ℕ) → (rollback_commit m.state asks.req).said ≡ Some (refusals.Unrestored chunk) → met_at x step now next moves.steps.goes ≡ Err (refusals.Unrestored chunk) → IsDecided x prepared before now after upgrade (met_at x step now next moves.steps.goes) back
+    refused_for chunk t so = record {
+      accepted = λ ok. absurd (ok_not (refusals.Unrestored chunk) (sym ok ∙ so));
+      refused = λ c e.
+          (let f = (order.unrestored c).0 (t ∙ ap Some (err_is (sym so ∙ e))) in record {
+            referred = referred_so c f;
+            unnamed = λ named. f.lacks (named_restored sizes law x prepared now before after upgrade m c asks.there same n.well.steady n.since rolling named);
+            lower = λ less lt more. lower_so c f less lt more;
+          });
+      either = inr (inl (chunk, so));
+    }
+
+    -- ---- it is accepted
+
+    ordinary : AllFit m.state (rollback_commit m.state asks.req) → (rollback_commit m.state asks.req).said ≡ None → is_ordinary (rollback_commit m.state asks.req).after.durable.phase ≡ true
+    ordinary fit none =
+        let can = (order.done.0 none).0 in
+        let t = rollback_commit m.state asks.req in
+        committed_ordinary m.state.durable t.after.durable m.state.durable.epoch _ (one_fits m.state.durable t.after.durable (commit_record m.state can.names) (subst (λ records. replayed m.state.durable records ≡ Some t.after.durable) (order.records can none) fit))
+
+    accepted_so : AllFit m.state (rollback_commit m.state asks.req) → (rollback_commit m.state asks.req).said ≡ None → met_at x step now next moves.steps.goes ≡ Ok tt → back.durable ≡ (rollback_commit m.state asks.req).after.durable
+        → IsDecided x prepared before now after upgrade (met_at x step now next moves.steps.goes) back
+    accepted_so fit none ok there =
+        let rolled = both_true (is_rolling after.durable.phase) (is_ordinary back.durable.phase) rolling (ap (λ (d : Durable). is_ordinary d.phase) there ∙ ordinary fit none) in record {
+          accepted = λ k. (none_unnamed x prepared now next before after back step upgrade moves rolled, rolled);
+          refused = λ c e. absurd (ok_not (refusals.Unrestored c) (sym ok ∙ e));
+          either = inl ok;
+        }
+
+    -- ---- what was said
+
+    by_said : AllFit m.state (rollback_commit m.state asks.req) → SaysSo (rollback_commit m.state asks.req).said → met_at x step now next moves.steps.goes ≡ met_by (rollback_commit m.state asks.req).said → back.durable ≡ (rollback_commit m.state asks.req).after.durable
+        → IsDecided x prepared before now after upgrade (met_at x step now next moves.steps.goes) back
+    by_said fit (inl none) so there = accepted_so fit none (so ∙ ap met_by none) there
+    by_said fit (inr (inl (chunk, t))) so there = refused_for chunk t (so ∙ ap met_by t)
+    by_said fit (inr (inr full)) so there = other refusals.Full (so ∙ ap met_by full) not_full (inl (so ∙ ap met_by full))
+
+    at_turn : (after_m : MasterOf D) (heard : Heard) (t : Turn) → next.nodes.master ≡ Standing after_m → AllFit m.state t → after_m.state ≡ t.after → IsHearing step now.sent (met_at x step now next moves.steps.goes) m.config m.state heard t
+        → IsDecided x prepared before now after upgrade (met_at x step now next moves.steps.goes) back
+    at_turn after_m heard t to fit is (ByItself alone unheard left) = absurd (false≢true (ap is_some (sym unheard ∙ asks.heard)))
+    at_turn after_m heard t to fit is (ByMessage message moment found hearing is_turn says) =
+        let one = message_is (sym found ∙ asks.heard) in
+        let turn : t ≡ rollback_commit m.state asks.req = is_turn ∙ ap (λ it. handle m.config m.state it moment) one ∙ judged m.config m.state asks.message moment asks.req asks.client asks.from asks.asks steady.firm.sound none_waits asks.new in
+        let there = has_at x next.nodes.master after_m back.durable to (told_has x next back.durable (step_well x n.given step now next n.well moves.steps) moves.told) ∙ ap (λ (s : State). s.durable) is ∙ ap (λ (u : Turn). u.after.durable) turn in
+        by_said (subst (AllFit m.state) turn fit) (commit_says m.state asks.req before.durable.names asks.rolling since.back) (says ∙ ap (λ (u : Turn). met_by u.said) turn) there
+
+    by_case : Became x.seen step now.sent (met_at x step now next moves.steps.goes) now.nodes.master next.nodes.master → IsDecided x prepared before now after upgrade (met_at x step now next moves.steps.goes) back
+    by_case (Stays here after_m at to is refused calm) = (let memory = refused asks.message asks.heard in other refusals.Memory memory not_memory (inr memory))
+    by_case (Turns here after_m heard t at to turn written is hears calm) =
+        let master = same_master now.nodes.master here m at asks.there in
+        at_turn after_m heard t to (subst (λ (z : MasterOf D). AllFit z.state t) master (turn_fits here.config heard here.state t turn written)) is (subst (λ (z : MasterOf D). IsHearing step now.sent (met_at x step now next moves.steps.goes) z.config z.state heard t) master hears)
+    by_case (Opened after_m d log had to is unheard again) = absurd (false≢true (ap is_some (sym unheard ∙ asks.heard)))
+    by_case (Waits none f unheard) = absurd (false≢true (ap is_some (sym (unheard m asks.there) ∙ asks.heard)))

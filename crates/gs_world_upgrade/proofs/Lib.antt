@@ -1,0 +1,10 @@
+mod Well
+mod Became
+mod Standing
+mod Going
+mod Telling
+mod Counted
+mod Deciding
+mod Bytes
+mod BytesRuns
+mod Accounted

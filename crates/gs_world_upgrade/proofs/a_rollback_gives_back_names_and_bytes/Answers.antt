@@ -1,0 +1,9 @@
+use Rattle.gs_world_upgrade.proofs.Accounted.{gives_bytes_back}
+use Rattle.gs_world_upgrade.proofs.Standing.{gives_names_back}
+use Rattle.gs_world_upgrade.proofs.a_rollback_gives_back_names_and_bytes.Goals as goal
+
+pub returns-clause-names : goal.returns-clause-names
+returns-clause-names g c x = gives_names_back x
+
+pub returns-clause-bytes : goal.returns-clause-bytes
+returns-clause-bytes g c x = gives_bytes_back c.configurations_have_sizes.ensures c.a_message_edits_a_replica_by_what_it_says.ensures.edit x
