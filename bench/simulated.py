@@ -14,7 +14,6 @@ import subprocess
 import sys
 
 import beside
-import simulate
 
 FOUND = re.compile(r"^seed (\d+), event (\d+): (.*)$", re.M)
 # A wrong body by its name: the file of a crate with its edit, or the file and the lines that are turned.
@@ -73,9 +72,8 @@ def turn(wrong):
 
 def found(seeds, steps):
     """The step at which something was found, and what was said."""
-    crate = os.path.join(beside.COPY, "crates", "chunksim")
-    words = simulate.command(["--seed", "1", "--seeds", str(seeds), "--steps", str(steps)])
-    run = subprocess.run(words, cwd=crate, capture_output=True, text=True)
+    words = ["--seed", "1", "--seeds", str(seeds), "--steps", str(steps)]
+    run = subprocess.run([beside.native("chunksim"), *words], capture_output=True, text=True)
     said = FOUND.search(run.stdout)
     if said:
         return (int(said[1]) - 1) * steps + int(said[2]), said[0]
