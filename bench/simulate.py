@@ -8,7 +8,7 @@
 draws what happens to a store by its seed alone, and looks behind each event at what a user believes of it. The status is 1 where that
 doesn't hold, with the seed, the number of the event and both sides on standard output. What isn't said is drawn, but for 1 seed of 2,000
 steps and 4 clients. --tell prints each event and what came of it. Where standard error is a terminal, a line there says once a second how
-far it is. --landing runs 20 seeds of 2,000 steps, and ends with the line 'N passed, M failed': a seed passes where all that is believed
+far it is. --landing runs 100 seeds of 2,000 steps, and ends with the line 'N passed, M failed': a seed passes where all that is believed
 holds, and each thing that is counted, a kind of event or what came of them, does where there was one over the seeds. See bench/README.md."""
 
 import re
@@ -17,7 +17,7 @@ import sys
 
 import beside
 
-LANDING_SEEDS = 20
+LANDING_SEEDS = 100
 # What has to be counted, beside how often each kind of event was drawn.
 NEEDED = (
     "edits acknowledged",
