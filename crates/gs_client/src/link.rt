@@ -11,7 +11,7 @@ pub enum Reply {
     /// What the master answers to a call.
     Answer(Answer),
     /// What an edit answers.
-    EditOutcome(EditOutcome),
+    Outcome(EditOutcome),
     /// What a fetch gives.
     Given(Given),
     Refused(Refusal),

@@ -6,6 +6,7 @@ pub mod Durable
 pub mod Handling
 pub mod Hearing
 pub mod Outcomes
+pub mod Quieted
 pub mod Replies
 pub mod Settling
 pub mod State

@@ -6,7 +6,7 @@ use Rattle.gs_replica.specs.declared.op.Done.{Done}
 use Rattle.gs_replica.specs.declared.op.EditOutcome.{EditOutcome}
 use Rattle.gs_replica.specs.declared.op.EditOutcome.TheVariants.{Written, Appended, Padded}
 use Rattle.gs_replica.specs.contracts.op.DonePartialEq.TheImpl as done
-use Rattle.gs_replica.specs.contracts.op.OutcomePartialEq.TheImpl as outcome
+use Rattle.gs_replica.specs.contracts.op.EditOutcomePartialEq.TheImpl as outcome
 
 number_of : EditOutcome → ℕ → ℕ
 number_of (Appended n) old = n
