@@ -29,28 +29,30 @@ LACKED = "upgrades not begun"
 SECONDS = 20
 # At the end it says whether the growth was reached, and how many there were.
 LIBRARY = """
-#define _GNU_SOURCE
-#include <dlfcn.h>
-#include <errno.h>
-#include <stdio.h>
-#include <stdlib.h>
-#include <unistd.h>
+extern void *dlsym(void *, const char *);
+extern int *__errno_location(void);
+extern char *getenv(const char *);
+extern long atol(const char *);
+extern int snprintf(char *, unsigned long, const char *, ...);
+extern long write(int, const void *, unsigned long);
+extern void _exit(int);
 static long calls, refused = -1;
 static int is_refused(void) {
     if (refused < 0) refused = getenv("REFUSED") ? atol(getenv("REFUSED")) : 0;
-    return ++calls == refused;
+    if (++calls != refused) return 0;
+    *__errno_location() = 12;
+    return 1;
 }
-void *malloc(size_t size) {
-    static void *(*next)(size_t);
-    if (!next) next = dlsym(RTLD_NEXT, "malloc");
-    if (is_refused()) { errno = ENOMEM; return 0; }
-    return next(size);
+static void *behind(const char *name) { return dlsym((void *)-1L, name); }
+void *malloc(unsigned long size) {
+    static void *(*next)(unsigned long);
+    if (!next) next = behind("malloc");
+    return is_refused() ? 0 : next(size);
 }
-void *realloc(void *old, size_t size) {
-    static void *(*next)(void *, size_t);
-    if (!next) next = dlsym(RTLD_NEXT, "realloc");
-    if (is_refused()) { errno = ENOMEM; return 0; }
-    return next(old, size);
+void *realloc(void *old, unsigned long size) {
+    static void *(*next)(void *, unsigned long);
+    if (!next) next = behind("realloc");
+    return is_refused() ? 0 : next(old, size);
 }
 __attribute__((destructor)) static void tell(void) {
     char text[64];
@@ -61,10 +63,14 @@ __attribute__((destructor)) static void tell(void) {
 
 
 def library(folder):
-    source, made = os.path.join(folder, "refuse.c"), os.path.join(folder, "refuse.so")
+    """Compiles the library by the kit's own tools, which have no headers."""
+    source, compiled, made = (os.path.join(folder, name) for name in ("refuse.c", "refuse.o", "refuse.so"))
+    tools = os.path.join(beside.KIT, "toolchain", "bin")
     with open(source, "w") as out:
         out.write(LIBRARY)
-    subprocess.run(["cc", "-O2", "-shared", "-fPIC", "-o", made, source, "-ldl"], check=True)
+    words = [f"--target={beside.TARGET}", "--no-default-config", "-O2", "-fPIC", "-c", source, "-o", compiled]
+    subprocess.run([os.path.join(tools, "clang"), *words], check=True)
+    subprocess.run([os.path.join(tools, "ld.lld"), "-shared", "-o", made, compiled], check=True)
     return made
 
 

@@ -1,11 +1,11 @@
 #!/usr/bin/env python3
-"""Tries whether the simulator finds what is wrong: makes one wrong body at a time in a copy, and runs bench/chunksim there, unproved.
+"""Tries whether the simulator finds what is wrong: makes wrong bodies in a copy, and runs bench/chunksim there with one of them at a time.
 
     bench/simulated.py [--seeds N] [--steps N] [--only WORD]
 
-prints for each wrong body the number of steps at which it was found, over all seeds, and what was said. The status is 1 where one isn't
-found within the seeds, which are 100 of 2,000 steps if nothing is said: 200,000 steps. Each run takes as long as the simulator takes to be
-built."""
+prints for each wrong body the number of steps at which it was found, over all seeds, and what was said. The simulator is built once, with
+all of them: a run has the one whose number it is given, and else what stands. The last line is 'N passed, M failed': each is to be found
+within the seeds, which are 100 of 2,000 steps if nothing is said, 200,000 steps, and without any of them nothing may be found."""
 
 import argparse
 import os
@@ -14,17 +14,16 @@ import subprocess
 import sys
 
 import beside
-import simulate
 
 FOUND = re.compile(r"^seed (\d+), event (\d+): (.*)$", re.M)
-# A wrong body by its name: the file of a crate with its edit, or the file and the lines that are turned.
+# A wrong body by its name: the file of a crate with its edit, or the file and what is turned there.
 WRONG = {
     "a server seals after the first edit": "gs_replica/must-fail/a_seal_after_the_first_edit.edit",
     "a copy carries no image": (
         "gs_store",
         "src/copies.rt",
-        "Some(slot) => slot.copy_out(stamp, with_sealed),",
-        "Some(slot) => slot.copy_out(stamp, with_sealed && handle.number() == 0),",
+        "slot.copy_out(stamp, with_sealed)",
+        "slot.copy_out(stamp, with_sealed && handle.number() == 0)",
     ),
     "a view keeps answerers of lower counts": "gs_view/must-fail/a_view_keeps_answerers_of_lower_counts.edit",
     "a dropped sealed replica is deleted": "gs_store_seal/must-fail/a_dropped_sealed_replica_is_deleted.edit",
@@ -32,15 +31,33 @@ WRONG = {
     "versions go back at a rollback": (
         "gs_master_state",
         "src/upgrade.rt",
-        "        self.phase = Phase::Ordinary;\n        RollbackBefore {",
-        "        self.phase = Phase::Ordinary;\n        self.next_version = 1;\n        RollbackBefore {",
+        "self.phase = Phase::Ordinary;\n        RollbackBefore {",
+        "self.phase = Phase::Ordinary;\n        self.next_version = 1;\n        RollbackBefore {",
     ),
     "a snapshot raises no count": "gs_edit/must-fail/a_snapshot_raises_no_count.edit",
-    "a commit with one chunk unanswered": "gs_master_guard/must-fail/a_commit_with_a_prepared_chunk_unanswered.edit",
+    "a commit with one chunk unanswered": (
+        "gs_master_guard",
+        "src/restoring.rt",
+        "told.contains(server) && is_prepared_on(prepared, server)",
+        "(told.contains(server) || told.is_empty()) && is_prepared_on(prepared, server)",
+    ),
+    "a commit that can't be recorded has no answer": "gs_master_guard/must-fail/a_commit_with_a_prepared_chunk_unanswered.edit",
     "promises go back at a rollback": "gs_store_seal/must-fail/promises_go_back_at_a_rollback.edit",
     "a secondary skips a number": "gs_replica/must-fail/a_secondary_skips_a_number.edit",
     "a client is told before every member has its edit": "gs_server_lease/must-fail/a_client_is_told_before_every_member_has_its_edit.edit",
 }
+# The lowest crate tells all others which wrong body a run has.
+LOWEST = "gs_base"
+ASKED = """// Which wrong body a run has.
+
+unsafe extern "C" {
+    safe fn wrong_body() -> u64;
+}
+
+pub fn is_wrong(number: u64) -> bool {
+    wrong_body() == number
+}
+"""
 
 
 def edits(wrong):
@@ -57,25 +74,70 @@ def edits(wrong):
     return crate, file, list(zip(olds, news))
 
 
-def turn(wrong):
-    """Makes a wrong body in the copy."""
-    crate, file, turned = edits(wrong)
-    path = os.path.join(beside.COPY, "crates", crate, file)
+def inserted(old, new):
+    """The statement that the new text has and the old one hasn't, with what stands before it and behind it, if that is all."""
+    before = os.path.commonprefix([old, new])
+    more = new[len(before) : len(new) - len(old) + len(before)]
+    if before + more + old[len(before) :] == new and more.rstrip().endswith(";"):
+        return before, more, old[len(before) :]
+    return None
+
+
+def either(number, old, new):
+    """Code that is the new where the run has the wrong body of this number, and else the old."""
+    asked = f"{LOWEST}::is_wrong({number})"
+    old, new = old.strip(), new.strip()
+    parts = inserted(old, new)
+    if parts:
+        before, more, behind = parts
+        return f"{before}if {asked} {{ {more.strip()} }}\n{behind}"
+    bound = re.match(r"let \w+ = ", old)
+    if bound:
+        front = bound[0]
+        return f"{front}if {asked} {{ {new.removeprefix(front)[:-1]} }} else {{ {old.removeprefix(front)[:-1]} }};"
+    if old.startswith("if "):
+        return f"if (if {asked} {{ {new[3:-2]} }} else {{ {old[3:-2]} }}) {{"
+    if old.startswith("return "):
+        return f"if {asked} {{ {new} }}\n{old}"
+    return f"(if {asked} {{ {new} }} else {{ {old} }})"
+
+
+def replaced(path, old, new):
     with open(path) as text:
         code = text.read()
-    for old, new in turned:
-        if code.count(old) != 1:
-            sys.exit(f"{crate}/{file} has this {code.count(old)} times, and not once: {old}")
-        code = code.replace(old, new)
+    if code.count(old) != 1:
+        sys.exit(f"{path} has this {code.count(old)} times, and not once: {old}")
     with open(path, "w") as text:
-        text.write(code)
+        text.write(code.replace(old, new))
 
 
-def found(seeds, steps):
+def turn(number, wrong):
+    """Makes a wrong body in the copy, under its number."""
+    crate, file, turned = edits(wrong)
+    for old, new in turned:
+        replaced(os.path.join(beside.COPY, "crates", crate, file), old.strip(), either(number, old, new))
+
+
+def built():
+    """Builds the simulator with all wrong bodies, and answers its path."""
+    beside.placed("chunksim", ("src",))
+    lowest = os.path.join(beside.COPY, "crates", LOWEST, "src")
+    with open(os.path.join(lowest, "wrong.rt"), "w") as file:
+        file.write(ASKED)
+    replaced(os.path.join(lowest, "lib.rt"), "mod config;\n", "mod config;\nmod wrong;\n\npub use wrong::is_wrong;\n")
+    for number, wrong in enumerate(WRONG.values(), 1):
+        turn(number, wrong)
+    try:
+        return beside.native("chunksim", "chunksim-wrong")
+    finally:
+        beside.placed("chunksim", ("src",))
+
+
+def found(program, number, seeds, steps):
     """The step at which something was found, and what was said."""
-    crate = os.path.join(beside.COPY, "crates", "chunksim")
-    words = simulate.command(["--seed", "1", "--seeds", str(seeds), "--steps", str(steps)])
-    run = subprocess.run(words, cwd=crate, capture_output=True, text=True)
+    words = ["--seed", "1", "--seeds", str(seeds), "--steps", str(steps)]
+    how = {"env": {**os.environ, "WRONG_BODY": str(number)}, "capture_output": True, "text": True}
+    run = subprocess.run([program, *words], **how)
     said = FOUND.search(run.stdout)
     if said:
         return (int(said[1]) - 1) * steps + int(said[2]), said[0]
@@ -90,21 +152,18 @@ def main():
     words.add_argument("--steps", type=int, default=2000)
     words.add_argument("--only", default="")
     asked = words.parse_args()
-    missed = 0
-    for name, wrong in WRONG.items():
-        if asked.only not in name:
+    program, steps = built(), asked.seeds * asked.steps
+    passed = failed = 0
+    for number, name in enumerate(("what stands", *WRONG)):
+        if number > 0 and asked.only not in name:
             continue
-        beside.placed("chunksim", ("src",))
-        turn(wrong)
-        step, said = found(asked.seeds, asked.steps)
-        if step is None:
-            missed += 1
-            print(f"{name}: not found in {asked.seeds * asked.steps} steps", flush=True)
-        else:
-            print(f"{name}: found at step {step} ({said})", flush=True)
-    beside.placed("chunksim", ("src",))
-    sys.exit(1 if missed else 0)
+        step, said = found(program, number, asked.seeds, asked.steps)
+        print(f"{name}: {f'not found in {steps} steps' if step is None else f'found at step {step} ({said})'}", flush=True)
+        is_right = (step is None) == (number == 0)
+        passed, failed = passed + is_right, failed + (not is_right)
+    print(f"{passed} passed, {failed} failed", flush=True)
+    return 1 if failed else 0
 
 
 if __name__ == "__main__":
-    main()
+    sys.exit(main())
