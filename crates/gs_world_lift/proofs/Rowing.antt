@@ -34,6 +34,7 @@ rows_still chunk d e w reached same = subst (λ (x : Durable). RowsGo chunk d x 
   back = λ later. absurd (none later);
   given = λ later. absurd (none later);
   returned = λ later. absurd (none later);
+  listed = λ later. absurd (none later);
   unprepared = λ none epoch before within prepared. absurd (omega arith);
   prepared = λ is. absurd (none_prepared d is);
 })
@@ -51,6 +52,7 @@ rows_readied chunk d e w c v k epoch rows = record {
   back = λ later. (let b = rows.back (above later) in (b.0, b.1 ∙ k.current, by_top b.2));
   given = λ later. rows.given (above later);
   returned = λ later. rows.returned (above later);
+  listed = λ later. rows.listed (above later);
   unprepared = λ none x before within prepared. rows.unprepared none x (let same = epoch in omega arith) within prepared;
   prepared = λ is was. (let p = rows.prepared is was in (p.0, k.came p.1, p.2 ∙ k.view, p.3 ∙ k.view));
 }
