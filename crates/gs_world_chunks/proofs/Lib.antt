@@ -13,7 +13,7 @@ pub mod Upgraded
 pub mod Intact
 pub mod Standing
 mod Joining
-mod Reached
+pub mod Reached
 pub mod Seeing
 pub mod Quiet
 pub mod Surviving

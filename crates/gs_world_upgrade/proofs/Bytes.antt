@@ -149,32 +149,32 @@ module _ {D : Type 0} (x : Setup D) (bytes : ReqId → List ℕ) (chunk : ℕ) (
   abbrev p : ChunkWorld
   p = k.first.alive.world
 
-  abbrev w : ChunkWorld
-  w = k.last.alive.world
+  abbrev u : ChunkWorld
+  u = k.last.alive.world
 
   abbrev v : ChunkWorld
   v = m.alive.world
 
-  ok : WorldOk w
-  ok = reached_world w k.last.alive.reached
+  oku : WorldOk u
+  oku = reached_world u k.last.alive.reached
 
   okv : WorldOk v
-  okv = leads_world w v by.leads ok
+  okv = leads_world u v by.leads oku
 
-  rolling : w.entry.is_rolling ≡ true
+  rolling : u.entry.is_rolling ≡ true
   rolling = k.last.told.rolling ∙ (rolls after.durable last.durable committed).0
 
   pub calm_back : is_rolling last.durable.phase ≡ false
   calm_back = (rolls after.durable last.durable committed).1
 
-  over : w.known.top < v.known.view
-  over = masters_commit w v by.leads k.last.alive.reached by.masters rolling (m.told.rolling ∙ calm_back)
+  over : u.known.top < v.known.view
+  over = masters_commit u v by.leads k.last.alive.reached by.masters rolling (m.told.rolling ∙ calm_back)
 
-  restored : IsRestored w v
-  restored = by_once (masters_settle_once w v by.leads k.last.alive.reached by.masters)
+  restored : IsRestored u v
+  restored = by_once (masters_settle_once u v by.leads k.last.alive.reached by.masters)
     where
-      by_once : SettlesOnce w v → IsRestored w v
-      by_once (inl k) = absurd (let view = k.view in let above = over in let top = (ok.known).viewtop in omega arith)
+      by_once : SettlesOnce u v → IsRestored u v
+      by_once (inl k) = absurd (let view = k.view in let above = over in let top = (oku.known).viewtop in omega arith)
       by_once (inr (inl k)) = absurd (let view = k.view in let above = over in omega arith)
       by_once (inr (inr r)) = r.exact (by.rows.back over).1
 
@@ -182,35 +182,35 @@ module _ {D : Type 0} (x : Setup D) (bytes : ReqId → List ℕ) (chunk : ℕ) (
   stood = by.rows.returned over (ap (λ (d : Durable). is_some (fin.get d.chunks chunk)) has ∙ row)
 
   -- the upgrade that is rolled back is that of the prepare
-  epoch_is : w.known.current - 1 ≡ before.durable.epoch
+  epoch_is : u.known.current - 1 ≡ before.durable.epoch
   epoch_is = elim (still x bytes chunk prepared before now after k) [
     | inl stands ↦ absurd (never stands.0 stands.1)
-    | inr next ↦ (let one = next.0 in let current = (agrees w ok).epoch in omega arith)
+    | inr next ↦ (let one = next.0 in let current = (agrees u oku).epoch in omega arith)
   ]
     where
-      never : before.durable.epoch ≡ w.entry.epoch → w.entry.how w.entry.epoch ≡ Prepare → ⊥
+      never : before.durable.epoch ≡ u.entry.epoch → u.entry.how u.entry.epoch ≡ Prepare → ⊥
       never same how =
-          let r = (ok.entry).rolling rolling in
-          let at : r.e + 1 ≡ w.entry.epoch = sym r.next ∙ (agrees w ok).epoch in
-          let other : w.entry.how w.entry.epoch ≡ Rollback = ap w.entry.how (sym at) ∙ (ok.entry).how (r.e + 1) ∙ r.how in
+          let r = (oku.entry).rolling rolling in
+          let at : r.e + 1 ≡ u.entry.epoch = sym r.next ∙ (agrees u oku).epoch in
+          let other : u.entry.how u.entry.epoch ≡ Rollback = ap u.entry.how (sym at) ∙ (oku.entry).how (r.e + 1) ∙ r.how in
           cc
 
   -- its list is the prepared one
   pub list_back : v.known.list v.known.view ≡ p.known.list p.entry.view.stamp
   list_back = elim restored.here [
     | inl some ↦
-        ap v.known.list restored.view ∙ some.0 ∙ ap (λ e. w.known.list (w.known.prepared e)) epoch_is
-        ∙ ap w.known.list (sym (prepared_last x bytes chunk prepared before now after k listed).stamp) ∙ list_then x bytes chunk prepared before now after k listed
+        ap v.known.list restored.view ∙ some.0 ∙ ap (λ e. u.known.list (u.known.prepared e)) epoch_is
+        ∙ ap u.known.list (sym (prepared_last x bytes chunk prepared before now after k listed).stamp) ∙ list_then x bytes chunk prepared before now after k listed
     | inr none ↦ absurd (true≢false (sym stood ∙ ap v.known.stood restored.view ∙ none.1))
   ]
 
   -- in which nobody may number
   pub free_back : v.entry.view.holder ≡ None
   free_back =
-      let r = (ok.entry).rolling rolling in
-      let later : Later w.known v.known = leads_later w v by.leads ok in
-      let how : v.known.how w.known.current ≡ Rollback = later.how w.known.current (omega arith) ∙ ap w.known.how r.next ∙ r.how in
-      let held : v.known.holder (start_of w.known.current) ≡ None = (okv.known).unheld w.known.current later.current how (let view = restored.view in omega arith) in
+      let r = (oku.entry).rolling rolling in
+      let later : Later u.known v.known = leads_later u v by.leads oku in
+      let how : v.known.how u.known.current ≡ Rollback = later.how u.known.current (omega arith) ∙ ap u.known.how r.next ∙ r.how in
+      let held : v.known.holder (start_of u.known.current) ≡ None = (okv.known).unheld u.known.current later.current how (let view = restored.view in omega arith) in
       sym (agrees v okv).holder ∙ ap v.known.holder (sym (agrees v okv).view ∙ restored.view) ∙ held
 
 -- right behind the prepare nobody may number either
