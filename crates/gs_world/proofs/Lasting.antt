@@ -116,7 +116,7 @@ nothing (Some x) is = absurd (false≢true is)
 module _ {D : Type 0} (seen : D → List ℕ) (failures : D → ℕ) where
   -- what is opened is what the disks tell
   opened : (config : Config) (first second : D) (d : Durable) (m : MasterOf D) (sent : List Message) → IsKept d → AreCounters d → IsToldIn (standing (seen first) (seen second)) d →
-      IsOpened seen failures config first second (standing (seen first) (seen second)) limit m sent → StandsFirm seen m × (m.state.durable ≡ d)
+      IsOpened seen failures config first second (standing (seen first) (seen second)) limit m sent → StandsFirm seen m × (m.state ≡ restarted d m.state.log)
   opened config first second d m sent kept counters told is = (
     record {
       sound = ap (λ (s : State). is_failed s.fault) state;
@@ -130,7 +130,7 @@ module _ {D : Type 0} (seen : D → List ℕ) (failures : D → ℕ) where
         replays = told.replays ∙ ap (λ (s : State). Some s.durable) (sym state);
       };
     },
-    ap (λ (s : State). s.durable) state,
+    state ∙ ap (λ (s : State). restarted d s.log) (sym state),
   )
     where
       log : Log
@@ -324,13 +324,13 @@ module _ {D : Type 0} (seen : D → List ℕ) (failures : D → ℕ) where
   delivered message moment old turn new named hear = heard message moment message.to old turn new named hear
 
   module _ (armed : DiskId → ℕ → MasterPlace D → MasterPlace D) (arming : (disk : DiskId) (call : ℕ) (place : MasterPlace D) → Lasts seen place → Lasts seen (armed disk call place)) where
-    came : (found : Option Message) (moment : Moment) (old : Nodes D) (by : NodeId) (outcome : Upshot) (new : Nodes D)
+    came : (found : Option Message) (sender : NodeId) (moment : Moment) (old : Nodes D) (by : NodeId) (outcome : Upshot) (new : Nodes D)
         → ((message : Message) → found ≡ Some message → message.to ≡ nodes.Master → IsNamedBody message.body × IsNumber moment.0)
-        → MatchOption found ((outcome ≡ Err refusals.Range) × (new ≡ old)) (λ message. ComesTo seen failures armed message moment old by outcome new) → Kept old new
-    came None moment old by outcome new named (refused, is) = stays old new (ap (λ (n : Nodes D). n.master) is)
-    came (Some message) moment old by outcome new named comes = elim comes [
+        → MatchOption found ((outcome ≡ Err refusals.Range) × (new ≡ old) × (by ≡ sender)) (λ message. ComesTo seen failures armed sender message moment old by outcome new) → Kept old new
+    came None sender moment old by outcome new named (refused, is, from) = stays old new (ap (λ (n : Nodes D). n.master) is)
+    came (Some message) sender moment old by outcome new named comes = elim comes [
       | inl (is, turn, delivers, told) ↦ delivered message moment old turn new (named message refl) delivers
-      | inr (refused, is) ↦ stays old new (ap (λ (n : Nodes D). n.master) is)
+      | inr (refused, is, from) ↦ stays old new (ap (λ (n : Nodes D). n.master) is)
     ]
 
     tick_kept : (moment : Moment) (node : StoreNode) (old : Nodes D) (outcome : Upshot) (new : Nodes D) → Ticks seen failures armed moment node old outcome new → Kept old new
@@ -345,7 +345,7 @@ module _ {D : Type 0} (seen : D → List ℕ) (failures : D → ℕ) where
         → AtNode seen failures armed moment happening old by outcome new → HearsNamed moment happening old → Kept old.nodes new
     at_node moment (happenings.Ask req request) old by outcome new (is, (out, at, told)) named =
         stays old.nodes new (at_client req.client (Err refusals.Range) (ClientAsks req.number request) old.nodes out new at)
-    at_node moment (happenings.Deliver id) old by outcome new comes named = came (message_of old.sent id) moment old.nodes by outcome new named comes
+    at_node moment (happenings.Deliver id) old by outcome new comes named = came (message_of old.sent id) id.sender moment old.nodes by outcome new named comes
     at_node moment (happenings.Tick node) old by outcome new (is, does) named = tick_kept moment node old.nodes outcome new does
     at_node moment (happenings.Beat id) old by outcome new (is, (still, told)) named = stays old.nodes new (ap (λ (n : Nodes D). n.master) still)
     at_node moment (happenings.Restart node) old by outcome new (is, does) named = restart_kept node old.nodes outcome new does

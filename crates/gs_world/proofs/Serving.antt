@@ -136,12 +136,12 @@ delivered seen failures message moment old turn new sent was hears id = heard se
 
 module _ {D : Type 0} (seen : D → List ℕ) (failures : D → ℕ) (armed : DiskId → ℕ → MasterPlace D → MasterPlace D) where
   came : (o : Option Message) (msg : MsgId) (moment : Moment) (old : History D) (by : NodeId) (outcome : Upshot) (new : Nodes D) → message_of old.sent msg ≡ o
-      → MatchOption o ((outcome ≡ Err refusals.Range) × (new ≡ old.nodes)) (λ message. ComesTo seen failures armed message moment old.nodes by outcome new)
+      → MatchOption o ((outcome ≡ Err refusals.Range) × (new ≡ old.nodes) × (by ≡ msg.sender)) (λ message. ComesTo seen failures armed msg.sender message moment old.nodes by outcome new)
       → (id : ℕ) → Moves id old.sent old.nodes.servers new.servers
-  came None msg moment old by outcome new is (refused, same) id = as_it_was id old.sent old.nodes.servers new.servers (ap (λ (n : Nodes D). n.servers) same)
+  came None msg moment old by outcome new is (refused, same, from) id = as_it_was id old.sent old.nodes.servers new.servers (ap (λ (n : Nodes D). n.servers) same)
   came (Some message) msg moment old by outcome new is comes id = elim comes [
     | inl (to, turn, delivers, told) ↦ delivered seen failures message moment old.nodes turn new old.sent (msg, is) delivers id
-    | inr (refused, same) ↦ as_it_was id old.sent old.nodes.servers new.servers (ap (λ (n : Nodes D). n.servers) same)
+    | inr (refused, same, from) ↦ as_it_was id old.sent old.nodes.servers new.servers (ap (λ (n : Nodes D). n.servers) same)
   ]
 
   ticked : (moment : Moment) (node : StoreNode) (old : Nodes D) (outcome : Upshot) (new : Nodes D) (sent : Sent) → Ticks seen failures armed moment node old outcome new

@@ -76,12 +76,12 @@ unfolding Delivers
 delivered seen failures message moment old turn new hears = heard seen failures message moment message.to old turn new hears
 
 module _ {D : Type 0} (seen : D → List ℕ) (failures : D → ℕ) (armed : DiskId → ℕ → MasterPlace D → MasterPlace D) where
-  came : (found : Option Message) (moment : Moment) (old : Nodes D) (by : NodeId) (outcome : Upshot) (new : Nodes D)
-      → MatchOption found ((outcome ≡ Err refusals.Range) × (new ≡ old)) (λ message. ComesTo seen failures armed message moment old by outcome new) → SameNodes old new
-  came None moment old by outcome new (refused, is) = same old new is
-  came (Some message) moment old by outcome new comes = elim comes [
+  came : (found : Option Message) (sender : NodeId) (moment : Moment) (old : Nodes D) (by : NodeId) (outcome : Upshot) (new : Nodes D)
+      → MatchOption found ((outcome ≡ Err refusals.Range) × (new ≡ old) × (by ≡ sender)) (λ message. ComesTo seen failures armed sender message moment old by outcome new) → SameNodes old new
+  came None sender moment old by outcome new (refused, is, from) = same old new is
+  came (Some message) sender moment old by outcome new comes = elim comes [
     | inl (is, turn, delivers, told) ↦ delivered seen failures message moment old turn new delivers
-    | inr (refused, is) ↦ same old new is
+    | inr (refused, is, from) ↦ same old new is
   ]
 
   ticked : (moment : Moment) (node : StoreNode) (old : Nodes D) (outcome : Upshot) (new : Nodes D) → Ticks seen failures armed moment node old outcome new → SameNodes old new
@@ -95,7 +95,7 @@ module _ {D : Type 0} (seen : D → List ℕ) (failures : D → ℕ) (armed : Di
   pub at_node : (moment : Moment) (happening : Happening) (old : History D) (by : NodeId) (outcome : Upshot) (new : Nodes D)
       → AtNode seen failures armed moment happening old by outcome new → SameNodes old.nodes new
   at_node moment (happenings.Ask req request) old by outcome new (is, (out, at, told)) = at_client req.client (Err refusals.Range) (ClientAsks req.number request) old.nodes out new at
-  at_node moment (happenings.Deliver id) old by outcome new comes = came (message_of old.sent id) moment old.nodes by outcome new comes
+  at_node moment (happenings.Deliver id) old by outcome new comes = came (message_of old.sent id) id.sender moment old.nodes by outcome new comes
   at_node moment (happenings.Tick node) old by outcome new (is, ticks) = ticked moment node old.nodes outcome new ticks
   at_node moment (happenings.Beat id) old by outcome new (is, (still, told)) = same old.nodes new still
   at_node moment (happenings.Restart node) old by outcome new (is, restarts) = restarted node old.nodes outcome new restarts

@@ -110,16 +110,16 @@ AtOne id step old outcome new = (turn : Result Turn Refusal) × AtServer id (λ 
 
 -- For what is seen of a disk, how often one has failed, and the master with a disk of a coming failure.
 module _ {D : Type 0} (seen : D → List ℕ) (failures : D → ℕ) (armed : DiskId → ℕ → MasterPlace D → MasterPlace D) where
-  -- a message comes to its receiver; or memory is wanting for its copy, and nothing happens
-  abbrev pub ComesTo : Message → Moment → Nodes D → NodeId → Upshot → Nodes D → Type 0
-  ComesTo message moment old by outcome new =
+  -- A message comes to its receiver; or memory is wanting for its copy, and nothing happens: that is told of the sender that was named.
+  abbrev pub ComesTo : NodeId → Message → Moment → Nodes D → NodeId → Upshot → Nodes D → Type 0
+  ComesTo sender message moment old by outcome new =
       ((by ≡ message.to) × (turn : Result Turn Refusal) × Delivers seen failures message moment old turn new × (outcome ≡ told turn))
-      ⊎ ((outcome ≡ Err refusals.Memory) × (new ≡ old))
+      ⊎ ((outcome ≡ Err refusals.Memory) × (new ≡ old) × (by ≡ sender))
 
-  -- a message of which there is none comes to nobody
+  -- a message of which there is none comes to nobody, which is told of the sender too
   abbrev pub DeliversAt : Moment → MsgId → History D → NodeId → Upshot → Nodes D → Type 0
   DeliversAt moment id old by outcome new =
-      MatchOption (message_of old.sent id) ((outcome ≡ Err refusals.Range) × (new ≡ old.nodes)) (λ message. ComesTo message moment old.nodes by outcome new)
+      MatchOption (message_of old.sent id) ((outcome ≡ Err refusals.Range) × (new ≡ old.nodes) × (by ≡ id.sender)) (λ message. ComesTo id.sender message moment old.nodes by outcome new)
 
   abbrev pub Ticks : Moment → StoreNode → Nodes D → Upshot → Nodes D → Type 0
   Ticks moment keepers.Master old outcome new = AtMaster (MasterTicks seen failures moment) old outcome new

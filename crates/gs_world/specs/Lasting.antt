@@ -20,6 +20,7 @@ use Rattle.gs_master_record.specs.Plain.{PlainEntry}
 use Rattle.gs_master_record.specs.Writable.{IsEntry}
 use Rattle.gs_master_spec.specs.Applied.{replayed}
 use Rattle.gs_master_spec.specs.Durable.{Durable, start}
+use Rattle.gs_master_spec.specs.Handling.{restarted}
 use Rattle.gs_master_spec.specs.State.{is_failed}
 use Rattle.gs_nodes.specs.declared.place.MasterPlace.{MasterPlace}
 use Rattle.gs_nodes.specs.declared.place.MasterPlace.TheVariants.{Standing, Closed, Away}
@@ -60,9 +61,9 @@ module _ {D : Type 0} (seen : D → List ℕ) where
   Lasts (Closed first second) = TellsAMaster (standing (seen first) (seen second))
   Lasts Away = ⊥
 
-  -- a master stands firm on this
+  -- a master stands firm, as a restart leaves it on this: nothing is asked, and no call waits
   abbrev pub OpensAs : Durable → MasterPlace D → Type 0
-  OpensAs d new = (after : MasterOf D) × (new ≡ Standing after) × (after.state.durable ≡ d) × StandsFirm after
+  OpensAs d new = (after : MasterOf D) × (new ≡ Standing after) × (after.state ≡ restarted d after.state.log) × StandsFirm after
 
   -- disks wait that tell this
   abbrev pub WaitsAs : Durable → MasterPlace D → Type 0

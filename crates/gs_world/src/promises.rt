@@ -69,8 +69,8 @@ pub fn a_master_stays_firm_while_no_disk_fails<D>()
     ensures unarmed { (seen : D → List ℕ) (failures : D → ℕ) (armed : DiskId → ℕ → MasterPlace D → MasterPlace D) (steps : List Step) (old new : History D) → ((disk : DiskId) (call : ℕ) (place : MasterPlace D) → armed disk call place ≡ place) → RunsSoundly seen failures armed steps old new → Lasts seen old.nodes.master → Lasts seen new.nodes.master }
 {}
 
-/// A restart of a master that stands firm opens what stood. Where it isn't opened and no disk has failed, its disks wait and tell what stood;
-/// and a restart of disks that wait opens what they tell.
+/// A restart of a master that stands firm opens what stood, and no more: nothing that was in memory alone is left. Where it isn't opened and no
+/// disk has failed, its disks wait and tell what stood; and a restart of disks that wait opens what they tell.
 pub fn a_restart_opens_what_stood<D>()
     ensures opened { (seen : D → List ℕ) (failures : D → ℕ) (config : Config) (m : MasterOf D) (turn : Turn) (new : MasterPlace D) → StandsFirm seen m → Reopens seen failures config (Standing m) (Ok turn) new → OpensAs seen m.state.durable new }
     ensures waits { (seen : D → List ℕ) (failures : D → ℕ) (config : Config) (m : MasterOf D) (e : Refusal) (new : MasterPlace D) → StandsFirm seen m → Reopens seen failures config (Standing m) (Err e) new → failures_at failures new ≡ failures_at failures (Standing m) → WaitsAs seen m.state.durable new }

@@ -178,7 +178,7 @@ module _ (sizes : HaveSizes) (law : AreNumbered) {D : Type 0} (x : Setup D) (now
   by_delivery at message turn is found by named_so delivers told_it = by_receiver at message message.to turn is found refl by named_so delivers told_it
 
   by_message : (at : MsgId) (o : Option Message) → event.happening ≡ happenings.Deliver at → message_of now.sent at ≡ o → HearsNamed event.moment (happenings.Deliver at) now
-      → MatchOption o ((happens.outcome ≡ Err refusals.Range) × (next.nodes ≡ now.nodes)) (λ message. ComesTo x.seen x.failures x.armed message event.moment now.nodes happens.by happens.outcome next.nodes) → Fetched
+      → MatchOption o ((happens.outcome ≡ Err refusals.Range) × (next.nodes ≡ now.nodes) × (happens.by ≡ at.sender)) (λ message. ComesTo x.seen x.failures x.armed at.sender message event.moment now.nodes happens.by happens.outcome next.nodes) → Fetched
   by_message at None is found named_so refused = nothing (ap sent_at refused.0)
   by_message at (Some message) is found named_so (inl (by, turn, delivers, told_it)) = by_delivery at message turn is found by named_so delivers told_it
   by_message at (Some message) is found named_so (inr refused) = nothing (ap sent_at refused.0)

@@ -81,16 +81,16 @@ module _ {D : Type 0} (seen : D → List ℕ) (failures : D → ℕ) (armed : Di
   unfolding Delivers
   by_delivery id turn outcome to delivers is there = by_found id (slice_get now.servers id) turn outcome refl (subst (λ node. Hears seen failures message moment node now turn new) to delivers) is there
 
-  by_coming : (id : ℕ) (by : NodeId) (outcome : Upshot) → message.to ≡ nodes.Server id → ComesTo seen failures armed message moment now by outcome new → Contains (sent_at outcome) m → IsServed now id message moment outcome
-  by_coming id by outcome to (inl (is_by, turn, delivers, is)) there = by_delivery id turn outcome to delivers is there
-  by_coming id by outcome to (inr (refused, same)) there = nothing_given (sent_at outcome) m (ap sent_at refused) there
+  by_coming : (sender : NodeId) (id : ℕ) (by : NodeId) (outcome : Upshot) → message.to ≡ nodes.Server id → ComesTo seen failures armed sender message moment now by outcome new → Contains (sent_at outcome) m → IsServed now id message moment outcome
+  by_coming sender id by outcome to (inl (is_by, turn, delivers, is)) there = by_delivery id turn outcome to delivers is there
+  by_coming sender id by outcome to (inr (refused, same, from)) there = nothing_given (sent_at outcome) m (ap sent_at refused) there
 
 -- an event at which a message is delivered to a server
 pub served : {D : Type 0} (seen : D → List ℕ) (failures : D → ℕ) (armed : DiskId → ℕ → MasterPlace D → MasterPlace D) (event : Event) (now next : History D) (said : Result (Unit {0}) Refusal) (happens : Happens seen failures armed event now said next) (at : MsgId) (message : Message) (id : ℕ) (m : Message)
     → event.happening ≡ happenings.Deliver at → message_of now.sent at ≡ Some message → message.to ≡ nodes.Server id → Contains (sent_at happens.outcome) m → IsServed now.nodes id message event.moment happens.outcome
 served seen failures armed event now next said happens at message id m is found to there =
-    by_coming seen failures armed now.nodes next.nodes message event.moment m id happens.by happens.outcome to
-    (subst (λ o. MatchOption o ((happens.outcome ≡ Err refusals.Range) × (next.nodes ≡ now.nodes)) (λ message. ComesTo seen failures armed message event.moment now.nodes happens.by happens.outcome next.nodes)) found
+    by_coming seen failures armed now.nodes next.nodes message event.moment m at.sender id happens.by happens.outcome to
+    (subst (λ o. MatchOption o ((happens.outcome ≡ Err refusals.Range) × (next.nodes ≡ now.nodes) × (happens.by ≡ at.sender)) (λ message. ComesTo seen failures armed at.sender message event.moment now.nodes happens.by happens.outcome next.nodes)) found
     (subst (λ h. AtNode seen failures armed event.moment h now happens.by happens.outcome next.nodes) is happens.at)) there
 
 -- ---- stamps

@@ -9,6 +9,7 @@ use Rattle.gs_world.specs.Lasting.{Lasts, OpensAs}
 use Rattle.gs_world.specs.Runs.{Step}
 use Rattle.gs_server.specs.Places.{Place}
 use Rattle.gs_master_spec.specs.Durable.{Durable, is_given, is_rolling, start}
+use Rattle.gs_master_spec.specs.State.{State}
 use Rattle.gs_nodes.specs.declared.place.MasterPlace.{MasterPlace}
 use Rattle.gs_nodes.specs.declared.place.MasterPlace.TheVariants.{Standing, Closed, Away}
 use Rattle.gs_chunk.specs.Machine.{ChunkWorld}
@@ -201,7 +202,7 @@ module _ {D : Type 0} (x : Setup D) (bytes : ReqId → List ℕ) where
   none_shown : (chunk : ℕ) (place : MasterPlace D) (w : ChunkWorld) → OpensAs x.seen start place → ShowsMaster x.seen chunk place w → ⊥
   none_shown chunk place w (after, is, begins, firm) shows =
       let there : ShowsMaster x.seen chunk (Standing after) w = subst (λ p. ShowsMaster x.seen chunk p w) is shows in
-      false≢true (sym (not_given chunk) ∙ ap (λ (d : Durable). is_given d.next_handle chunk) (sym begins) ∙ there.entry.durable.given)
+      false≢true (sym (not_given chunk) ∙ ap (λ (s : State). is_given s.durable.next_handle chunk) (sym begins) ∙ there.entry.durable.given)
 
   pub stores_agree_first : StoresAgreeFirst x bytes
   stores_agree_first begun a lives new = record {

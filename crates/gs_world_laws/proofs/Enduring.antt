@@ -85,12 +85,12 @@ module _ {D : Type 0} (seen : D → List ℕ) (failures : D → ℕ) where
   delivered_by message moment old new e to small may h hears = heard_by message moment message.to old new e to small may h hears
 
   module _ (armed : DiskId → ℕ → MasterPlace D → MasterPlace D) where
-    came_by : (message : Message) (moment : Moment) (old : Nodes D) (by : NodeId) (outcome : Upshot) (new : Nodes D) (e : Refusal) → outcome ≡ Err e → message.to ≡ nodes.Master → IsNumber moment.0 → MayBeHeard message.body
-        → LastsSteady seen old.master → ComesTo seen failures armed message moment old by outcome new → e ≡ refusals.Memory
-    came_by message moment old by outcome new e is to small may h comes = elim comes [
+    came_by : (sender : NodeId) (message : Message) (moment : Moment) (old : Nodes D) (by : NodeId) (outcome : Upshot) (new : Nodes D) (e : Refusal) → outcome ≡ Err e → message.to ≡ nodes.Master → IsNumber moment.0 → MayBeHeard message.body
+        → LastsSteady seen old.master → ComesTo seen failures armed sender message moment old by outcome new → e ≡ refusals.Memory
+    came_by sender message moment old by outcome new e is to small may h comes = elim comes [
       | inl (at, turn, delivers, tells) ↦
           delivered_by message moment old new e to small may h (subst (λ (r : Result Turn Refusal). Delivers seen failures message moment old r new) (told_err turn e (sym tells ∙ is)) delivers)
-      | inr (refused, same) ↦ for_memory outcome e is refused
+      | inr (refused, same, from) ↦ for_memory outcome e is refused
     ]
       where
         for_memory : (outcome : Upshot) (e : Refusal) → outcome ≡ Err e → outcome ≡ Err refusals.Memory → e ≡ refusals.Memory
@@ -104,8 +104,8 @@ module _ {D : Type 0} (seen : D → List ℕ) (failures : D → ℕ) where
         → KeepsTypes old → LastsSteady seen old.nodes.master → IsForMemory happening old outcome
     happens_for_memory moment (happenings.Ask req request) old by outcome new at small keeps h = tt
     happens_for_memory moment (happenings.Deliver id) old by outcome new at small keeps h =
-        λ message e found to is. came_by message moment old.nodes by outcome new e is to small (to_master seen failures armed old keeps id message found to) h (subst
-        (λ (o : Option Message). MatchOption o ((outcome ≡ Err refusals.Range) × (new ≡ old.nodes)) (λ m. ComesTo seen failures armed m moment old.nodes by outcome new)) found at)
+        λ message e found to is. came_by id.sender message moment old.nodes by outcome new e is to small (to_master seen failures armed old keeps id message found to) h (subst
+        (λ (o : Option Message). MatchOption o ((outcome ≡ Err refusals.Range) × (new ≡ old.nodes) × (by ≡ id.sender)) (λ m. ComesTo seen failures armed id.sender m moment old.nodes by outcome new)) found at)
     happens_for_memory moment (happenings.Tick keepers.Master) old by outcome new at small keeps h = λ e is. ticked_by moment old.nodes outcome new e is h at.1
     happens_for_memory moment (happenings.Tick (keepers.Server id)) old by outcome new at small keeps h = tt
     happens_for_memory moment (happenings.Beat id) old by outcome new at small keeps h = tt

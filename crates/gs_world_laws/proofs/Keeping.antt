@@ -409,12 +409,12 @@ module _ {D : Type 0} (seen : D → List ℕ) (failures : D → ℕ) where
     as_told : (turn : Result Turn Refusal) (outcome : Upshot) (new : Nodes D) → outcome ≡ told turn → Leaves (told turn) new → Leaves outcome new
     as_told turn outcome new is leaves = subst (λ o. Leaves o new) (sym is) leaves
 
-    came : (found : Option Message) (moment : Moment) (old : Nodes D) (by : NodeId) (outcome : Upshot) (new : Nodes D) → ((message : Message) → found ≡ Some message → MayBeSaid message.to message.body)
-        → MatchOption found ((outcome ≡ Err refusals.Range) × (new ≡ old)) (λ message. ComesTo seen failures armed message moment old by outcome new) → Both old → Leaves outcome new
-    came None moment old by outcome new may (refused, same) both = left outcome old new same (subst TellsWell (sym refused) tt) both
-    came (Some message) moment old by outcome new may comes both = elim comes [
+    came : (found : Option Message) (sender : NodeId) (moment : Moment) (old : Nodes D) (by : NodeId) (outcome : Upshot) (new : Nodes D) → ((message : Message) → found ≡ Some message → MayBeSaid message.to message.body)
+        → MatchOption found ((outcome ≡ Err refusals.Range) × (new ≡ old) × (by ≡ sender)) (λ message. ComesTo seen failures armed sender message moment old by outcome new) → Both old → Leaves outcome new
+    came None sender moment old by outcome new may (refused, same, from) both = left outcome old new same (subst TellsWell (sym refused) tt) both
+    came (Some message) sender moment old by outcome new may comes both = elim comes [
       | inl (is, turn, delivers, tells) ↦ as_told turn outcome new tells (delivered message moment old turn new (may message refl) delivers both)
-      | inr (refused, same) ↦ left outcome old new same (subst TellsWell (sym refused) tt) both
+      | inr (refused, same, from) ↦ left outcome old new same (subst TellsWell (sym refused) tt) both
     ]
 
     ticked : (moment : Moment) (node : StoreNode) (old : Nodes D) (outcome : Upshot) (new : Nodes D) → Ticks seen failures armed moment node old outcome new → Both old → Leaves outcome new
@@ -446,7 +446,7 @@ module _ {D : Type 0} (seen : D → List ℕ) (failures : D → ℕ) where
     at_node moment (happenings.Ask req request) old by outcome new (is, (out, at, tells)) may keeps =
         subst (λ o. Leaves o new) (sym tells) (at_client req.client (Err refusals.Range) (ClientAsks req.number request) old.nodes out new (asked out) at (λ refused. subst (λ o. TellsWell (asked o)) (sym refused) tt)
         (λ n after has a. asked_well req.number request n out after may.0 may.1 has a) (keeps.servers, keeps.clients))
-    at_node moment (happenings.Deliver id) old by outcome new comes may keeps = came (message_of old.sent id) moment old.nodes by outcome new (keeps.sent id) comes (keeps.servers, keeps.clients)
+    at_node moment (happenings.Deliver id) old by outcome new comes may keeps = came (message_of old.sent id) id.sender moment old.nodes by outcome new (keeps.sent id) comes (keeps.servers, keeps.clients)
     at_node moment (happenings.Tick node) old by outcome new (is, does) may keeps = ticked moment node old.nodes outcome new does (keeps.servers, keeps.clients)
     at_node moment (happenings.Beat id) old by outcome new (is, (same, tells)) may keeps = left outcome old.nodes new same (beats_well (slice_get old.nodes.servers id) outcome tells) (keeps.servers, keeps.clients)
     at_node moment (happenings.Restart node) old by outcome new (is, does) may keeps = restarted_at node old.nodes outcome new does (keeps.servers, keeps.clients)

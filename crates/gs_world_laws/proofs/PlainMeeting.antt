@@ -177,7 +177,7 @@ module _ {D : Type 0} (seen : D → List ℕ) (failures : D → ℕ) where
         event_on (record { moment = before.moment; happening = happenings.Deliver id }) before new b.met
         (event_goes (record { moment = before.moment; happening = happenings.Deliver id }) message.to (told d.turn) d.nodes before new sent
         (subst
-        (λ (o : Option Message). MatchOption o ((told d.turn ≡ Err refusals.Range) × (d.nodes ≡ before.nodes)) (λ m. ComesTo seen failures unarmed m before.moment before.nodes message.to (told d.turn) d.nodes))
+        (λ (o : Option Message). MatchOption o ((told d.turn ≡ Err refusals.Range) × (d.nodes ≡ before.nodes) × (message.to ≡ id.sender)) (λ m. ComesTo seen failures unarmed id.sender m before.moment before.nodes message.to (told d.turn) d.nodes))
         (sym is) (inl (refl, d.turn, d.delivers, refl)))
         (delivered_posts seen failures message before.moment sent before.nodes d.turn d.nodes b.met.covers.servers d.delivers) b.met.covers (ended d.turn (with_nodes d.nodes before) said new d.ends))
         refl (end_stays d.turn (with_nodes d.nodes before) said new d.ends).moment tt calm.sound stands

@@ -305,12 +305,12 @@ module _ {D : Type 0} (seen : D → List ℕ) (failures : D → ℕ) where
     unfolding Delivers
     delivered message moment old turn new hear = heard message moment message.to old turn new hear
 
-    came : (found : Option Message) (moment : Moment) (old : Nodes D) (by : NodeId) (outcome : Upshot) (new : Nodes D)
-        → MatchOption found ((outcome ≡ Err refusals.Range) × (new ≡ old)) (λ message. ComesTo seen failures unarmed message moment old by outcome new) → Kept old new
-    came None moment old by outcome new (refused, is) = stays old new (ap (λ (n : Nodes D). n.master) is)
-    came (Some message) moment old by outcome new comes = elim comes [
+    came : (found : Option Message) (sender : NodeId) (moment : Moment) (old : Nodes D) (by : NodeId) (outcome : Upshot) (new : Nodes D)
+        → MatchOption found ((outcome ≡ Err refusals.Range) × (new ≡ old) × (by ≡ sender)) (λ message. ComesTo seen failures unarmed sender message moment old by outcome new) → Kept old new
+    came None sender moment old by outcome new (refused, is, from) = stays old new (ap (λ (n : Nodes D). n.master) is)
+    came (Some message) sender moment old by outcome new comes = elim comes [
       | inl (is, turn, delivers, told) ↦ delivered message moment old turn new delivers
-      | inr (refused, is) ↦ stays old new (ap (λ (n : Nodes D). n.master) is)
+      | inr (refused, is, from) ↦ stays old new (ap (λ (n : Nodes D). n.master) is)
     ]
 
     tick_kept : (moment : Moment) (node : StoreNode) (old : Nodes D) (outcome : Upshot) (new : Nodes D) → Ticks seen failures unarmed moment node old outcome new → Kept old new
@@ -326,7 +326,7 @@ module _ {D : Type 0} (seen : D → List ℕ) (failures : D → ℕ) where
     node_kept : (moment : Moment) (happening : Happening) (old : History D) (by : NodeId) (outcome : Upshot) (new : Nodes D) → AtNode seen failures unarmed moment happening old by outcome new → Kept old.nodes new
     node_kept moment (happenings.Ask req request) old by outcome new (is, (out, at, told)) =
         stays old.nodes new (client_leaves seen failures req.client (Err refusals.Range) (ClientAsks req.number request) old.nodes out new at).0
-    node_kept moment (happenings.Deliver id) old by outcome new comes = came (message_of old.sent id) moment old.nodes by outcome new comes
+    node_kept moment (happenings.Deliver id) old by outcome new comes = came (message_of old.sent id) id.sender moment old.nodes by outcome new comes
     node_kept moment (happenings.Tick node) old by outcome new (is, does) = tick_kept moment node old.nodes outcome new does
     node_kept moment (happenings.Beat id) old by outcome new (is, (still, told)) = stays old.nodes new (ap (λ (n : Nodes D). n.master) still)
     node_kept moment (happenings.Restart node) old by outcome new (is, does) = restart_kept node old.nodes outcome new does

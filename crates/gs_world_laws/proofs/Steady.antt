@@ -150,9 +150,9 @@ module _ {D : Type 0} (seen : D → List ℕ) (failures : D → ℕ) where
       text = subst (λ (t : Text). m.journal.text ≡ left_in t.0 t is.durable) h.told.records is.left ∙ sym h.told.records
 
       by_firm : OpensAs seen h.durable (Standing m) → StandsSteady seen m
-      by_firm (after, same, durable, firm) =
+      by_firm (after, same, rested, firm) =
           let it : m ≡ after = cc in
-          let d : is.durable ≡ h.durable = sym (ap (λ (s : State). s.durable) state) ∙ ap (λ (x : MasterOf D). x.state.durable) it ∙ durable in
+          let d : is.durable ≡ h.durable = sym (ap (λ (s : State). s.durable) state) ∙ ap (λ (x : MasterOf D). x.state.durable) it ∙ ap (λ (s : State). s.durable) rested in
           let room = has_room log.size (text_size (standing (seen first) (seen second))) log.limit limit (sym (ap (λ (s : State). s.log.size) state) ∙ is.known.size ∙ is.journal.whole ∙ ap text_size text) h.within is.limit in
           record {
             firm = subst (StandsFirm seen) (sym it) firm;
@@ -292,13 +292,13 @@ module _ {D : Type 0} (seen : D → List ℕ) (failures : D → ℕ) where
 
   module _ (armed : DiskId → ℕ → MasterPlace D → MasterPlace D) (lasting : (steps : List Step) (old new : History D) → RunsSoundly seen failures armed steps old new → Lasts seen old.nodes.master → Lasts seen new.nodes.master)
       (arming : (disk : DiskId) (call : ℕ) (place : MasterPlace D) → LastsSteady seen place → Lasts seen (armed disk call place) → LastsSteady seen (armed disk call place)) where
-    came : (found : Option Message) (moment : Moment) (old : Nodes D) (by : NodeId) (outcome : Upshot) (new : Nodes D)
+    came : (found : Option Message) (sender : NodeId) (moment : Moment) (old : Nodes D) (by : NodeId) (outcome : Upshot) (new : Nodes D)
         → ((message : Message) → found ≡ Some message → message.to ≡ nodes.Master → Takes_in old message moment)
-        → MatchOption found ((outcome ≡ Err refusals.Range) × (new ≡ old)) (λ message. ComesTo seen failures armed message moment old by outcome new) → Kept old new
-    came None moment old by outcome new within (refused, is) = stays old new (ap (λ (n : Nodes D). n.master) is)
-    came (Some message) moment old by outcome new within comes = elim comes [
+        → MatchOption found ((outcome ≡ Err refusals.Range) × (new ≡ old) × (by ≡ sender)) (λ message. ComesTo seen failures armed sender message moment old by outcome new) → Kept old new
+    came None sender moment old by outcome new within (refused, is, from) = stays old new (ap (λ (n : Nodes D). n.master) is)
+    came (Some message) sender moment old by outcome new within comes = elim comes [
       | inl (is, turn, delivers, told) ↦ delivered message moment old turn new (within message refl) delivers
-      | inr (refused, is) ↦ stays old new (ap (λ (n : Nodes D). n.master) is)
+      | inr (refused, is, from) ↦ stays old new (ap (λ (n : Nodes D). n.master) is)
     ]
 
     tick_kept : (moment : Moment) (node : StoreNode) (old : Nodes D) (outcome : Upshot) (new : Nodes D) → Ticks seen failures armed moment node old outcome new → Kept old new
@@ -314,7 +314,7 @@ module _ {D : Type 0} (seen : D → List ℕ) (failures : D → ℕ) where
     at_node moment (happenings.Ask req request) old by outcome new (is, (out, at, told)) named within =
         stays old.nodes new (at_client req.client (Err refusals.Range) (ClientAsks req.number request) old.nodes out new at)
     at_node moment (happenings.Deliver id) old by outcome new comes named within =
-        came (message_of old.sent id) moment old.nodes by outcome new (λ message found to. (named message found to, within message found to)) comes
+        came (message_of old.sent id) id.sender moment old.nodes by outcome new (λ message found to. (named message found to, within message found to)) comes
     at_node moment (happenings.Tick node) old by outcome new (is, does) named within = tick_kept moment node old.nodes outcome new does
     at_node moment (happenings.Beat id) old by outcome new (is, (still, told)) named within = stays old.nodes new (ap (λ (n : Nodes D). n.master) still)
     at_node moment (happenings.Restart node) old by outcome new (is, does) named within = restart_kept node old.nodes outcome new does

@@ -75,7 +75,7 @@ module _ {D : Type 0} (seen : D → List ℕ) (failures : D → ℕ) (keeps : Bo
   delivers_one message old said new sent d (id, is) covers small =
       event_leads seen failures keeps (happenings.Deliver id) message.to (told d.turn) d.nodes old new sent
       (subst
-      (λ (o : Option Message). MatchOption o ((told d.turn ≡ Err refusals.Range) × (d.nodes ≡ old.nodes)) (λ m. ComesTo seen failures unarmed m old.moment old.nodes message.to (told d.turn) d.nodes))
+      (λ (o : Option Message). MatchOption o ((told d.turn ≡ Err refusals.Range) × (d.nodes ≡ old.nodes) × (message.to ≡ id.sender)) (λ m. ComesTo seen failures unarmed id.sender m old.moment old.nodes message.to (told d.turn) d.nodes))
       (sym is) (inl (refl, d.turn, d.delivers, refl)))
       (delivered_posts seen failures message old.moment sent old.nodes d.turn d.nodes covers.servers d.delivers) covers (when keeps tt) small (ended d.turn (with_nodes d.nodes old) said new d.ends)
 

@@ -202,13 +202,13 @@ module _ {D : Type 0} (seen : D → List ℕ) (failures : D → ℕ) (armed : Di
   as_told : (by : NodeId) (outcome other : Upshot) → outcome ≡ other → Posts moment by (sent_by outcome) old.sent new.sent → Posts moment by (sent_by other) old.sent new.sent
   as_told by outcome other is posted = subst (λ o. Posts moment by (sent_by o) old.sent new.sent) is posted
 
-  came : (found : Option Message) (by : NodeId) (outcome : Upshot) → ((message : Message) → found ≡ Some message → IsSent message old.sent × (message.to ≡ ids.Master → IsNamedBody message.body × IsNumber moment.0))
-      → MatchOption found ((outcome ≡ Err refusals.Range) × (new.nodes ≡ old.nodes)) (λ message. ComesTo seen failures armed message moment old.nodes by outcome new.nodes)
+  came : (found : Option Message) (sender : NodeId) (by : NodeId) (outcome : Upshot) → ((message : Message) → found ≡ Some message → IsSent message old.sent × (message.to ≡ ids.Master → IsNamedBody message.body × IsNumber moment.0))
+      → MatchOption found ((outcome ≡ Err refusals.Range) × (new.nodes ≡ old.nodes) × (by ≡ sender)) (λ message. ComesTo seen failures armed sender message moment old.nodes by outcome new.nodes)
       → Posts moment by (sent_by outcome) old.sent new.sent → K
-  came None by outcome was (refused, same) posted = nothing by outcome same (subst P (sym refused) tt) posted
-  came (Some message) by outcome was comes posted = elim comes [
+  came None sender by outcome was (refused, same, from) posted = nothing by outcome same (subst P (sym refused) tt) posted
+  came (Some message) sender by outcome was comes posted = elim comes [
     | inl (to, turn, delivers, tells) ↦ (let w = was message refl in delivered message by turn w.0 w.1 delivers (as_told by outcome (told turn) tells posted))
-    | inr (refused, same) ↦ nothing by outcome same (subst P (sym refused) tt) posted
+    | inr (refused, same, from) ↦ nothing by outcome same (subst P (sym refused) tt) posted
   ]
 
   ticked : (node : StoreNode) (by : NodeId) (outcome : Upshot) → TicksAt seen failures armed moment node old.nodes outcome new.nodes → Posts moment by (sent_by outcome) old.sent new.sent → K
@@ -233,7 +233,7 @@ module _ {D : Type 0} (seen : D → List ℕ) (failures : D → ℕ) (armed : Di
   at_node (happenings.Ask req request) by outcome named (is, (out, at, tells)) posted =
       at_client req.client (Err refusals.Range) (ClientAsks req.number request) out at (λ same refused. nothing by outcome same (subst P (sym tells) (subst (λ o. P (asked o)) (sym refused) tt)) posted)
       (λ n after found clients does. asked_by req.client req.number request out n after found clients does (subst (λ n. Posts moment n (sent_by (asked out)) old.sent new.sent) is (as_told by outcome (asked out) tells posted)))
-  at_node (happenings.Deliver id) by outcome named comes posted = came (message_of old.sent id) by outcome (λ message is. ((id, is), named message is)) comes posted
+  at_node (happenings.Deliver id) by outcome named comes posted = came (message_of old.sent id) id.sender by outcome (λ message is. ((id, is), named message is)) comes posted
   at_node (happenings.Tick node) by outcome named (is, does) posted = ticked node by outcome does posted
   at_node (happenings.Beat id) by outcome named (is, (same, told_so)) posted = beats (slice_get old.nodes.servers id) by outcome same told_so posted
   at_node (happenings.Restart node) by outcome named (is, does) posted = restarted node by outcome does posted

@@ -146,7 +146,7 @@ begins_restarted {D} seen failures armed config clients disks new none begun = b
     by_opening (after, is, opened, said) =
         let found : OpensAs seen start begun.place = opens_told seen failures config disks.0 disks.1 start begun.turn begun.place start_kept.0 start_kept.1 told (after, is, opened, said) in
         let same = standing_is found.0 after (sym found.1 ∙ is) in
-        let x = started seen failures config disks.0 disks.1 start after begun.turn.sent.items told (subst (λ (m : MasterOf D). m.state.durable ≡ start) same found.2) opened in
+        let x = started seen failures config disks.0 disks.1 start after begun.turn.sent.items told (subst (λ (m : MasterOf D). m.state.durable ≡ start) same (ap (λ (s : State). s.durable) found.2)) opened in
         (x.log, after, ap (λ (n : Nodes D). n.master) begun.nodes ∙ is, x.state)
 
 -- and it has said nothing then
@@ -161,7 +161,7 @@ begins_silent {D} seen failures armed config clients disks new none begun = by_o
     by_opening (after, is, opened, said) =
         let found : OpensAs seen start begun.place = opens_told seen failures config disks.0 disks.1 start begun.turn begun.place start_kept.0 start_kept.1 told (after, is, opened, said) in
         let same = standing_is found.0 after (sym found.1 ∙ is) in
-        let x = started seen failures config disks.0 disks.1 start after begun.turn.sent.items told (subst (λ (m : MasterOf D). m.state.durable ≡ start) same found.2) opened in
+        let x = started seen failures config disks.0 disks.1 start after begun.turn.sent.items told (subst (λ (m : MasterOf D). m.state.durable ≡ start) same (ap (λ (s : State). s.durable) found.2)) opened in
         x.sends
 
 module _ {D : Type 0} (seen : D → List ℕ) (failures : D → ℕ) (armed : DiskId → ℕ → MasterPlace D → MasterPlace D) (sizes : HaveSizes) (config : Config) (bytes : ReqId → List ℕ) (clients : ℕ) (disks : D × D) (new : History D)
@@ -191,7 +191,7 @@ module _ {D : Type 0} (seen : D → List ℕ) (failures : D → ℕ) (armed : Di
       by_opening (after, is, opened, said) =
           let found : OpensAs seen start begun.place = opens_told seen failures config disks.0 disks.1 start begun.turn begun.place start_kept.0 start_kept.1 told (after, is, opened, said) in
           let same = standing_is found.0 after (sym found.1 ∙ is) in
-          let x = started seen failures config disks.0 disks.1 start after begun.turn.sent.items told (subst (λ (m : MasterOf D). m.state.durable ≡ start) same found.2) opened in
+          let x = started seen failures config disks.0 disks.1 start after begun.turn.sent.items told (subst (λ (m : MasterOf D). m.state.durable ≡ start) same (ap (λ (s : State). s.durable) found.2)) opened in
           record {
             epoch = 0;
             servers = λ id s at. (let y = found_new id s at in subst (λ (z : Server). KeepsNothing chunk z × (z.kept.epoch ≤ 0)) (sym y) (keeps_nothing chunk id config.block config.chunk, omega arith));

@@ -112,11 +112,11 @@ module _ {D : Type 0} (seen : D → List ℕ) (failures : D → ℕ) (armed : Di
       let found : OpensAs seen m.state.durable place = opens_again seen failures config m turn place lasts (after, is, opened, said) in
       let same = standing_is found.0 after (sym found.1 ∙ is) in
       started_does config m.journal.first m.journal.second m.state.durable after turn (subst (λ place. HasDurable seen place m.state.durable) (sym at) refl) lasts.firm.stands.kept lasts.firm.stands.counters
-      (subst (λ t. IsToldIn t m.state.durable) (sym lasts.as_seen.text) lasts.told) (subst (λ (y : MasterOf D). y.state.durable ≡ m.state.durable) same found.2) opened (master ∙ is) sends
+      (subst (λ t. IsToldIn t m.state.durable) (sym lasts.as_seen.text) lasts.told) (subst (λ (y : MasterOf D). y.state.durable ≡ m.state.durable) same (ap (λ (s : State). s.durable) found.2)) opened (master ∙ is) sends
   opened_does config (Closed one two) place turn at master k (after, is, opened, said) sends =
       let found : OpensAs seen k.durable place = opens_told seen failures config one two k.durable turn place k.kept k.counters k.told (after, is, opened, said) in
       let same = standing_is found.0 after (sym found.1 ∙ is) in
-      started_does config one two k.durable after turn (subst (λ place. HasDurable seen place k.durable) (sym at) k.told) k.kept k.counters k.told (subst (λ (y : MasterOf D). y.state.durable ≡ k.durable) same found.2) opened (master ∙ is) sends
+      started_does config one two k.durable after turn (subst (λ place. HasDurable seen place k.durable) (sym at) k.told) k.kept k.counters k.told (subst (λ (y : MasterOf D). y.state.durable ≡ k.durable) same (ap (λ (s : State). s.durable) found.2)) opened (master ∙ is) sends
   opened_does config Away place turn at master lasts opens sends = absurd lasts
 
   unopened_does : (config : Config) (there place : MasterPlace D) (e : Refusal) → old ≡ there → new ≡ place → Lasts seen there → failures_at failures place ≡ failures_at failures there → Reopens seen failures config there (Err e) place → messages ≡ [] → X

@@ -239,12 +239,12 @@ module _ {D : Type 0} (seen : D → List ℕ) (failures : D → ℕ) (armed : Di
   as_told by outcome other is posted = subst (λ o. Posts moment by (sent_by o) old.sent new.sent) is posted
 
   came : (found : Option Message) (msg : MsgId) (by : NodeId) (outcome : Upshot) → Is (happenings.Deliver msg) → message_of old.sent msg ≡ found → ((message : Message) → found ≡ Some message → message.to ≡ ids.Master → IsNamedBody message.body × IsNumber moment.0)
-      → MatchOption found ((outcome ≡ Err refusals.Range) × (new.nodes ≡ old.nodes)) (λ message. ComesTo seen failures armed message moment old.nodes by outcome new.nodes)
+      → MatchOption found ((outcome ≡ Err refusals.Range) × (new.nodes ≡ old.nodes) × (by ≡ msg.sender)) (λ message. ComesTo seen failures armed msg.sender message moment old.nodes by outcome new.nodes)
       → Posts moment by (sent_by outcome) old.sent new.sent → K
-  came None msg by outcome it is named (refused, same) posted = nothing by outcome (ap sent_by refused) same posted
+  came None msg by outcome it is named (refused, same, from) posted = nothing by outcome (ap sent_by refused) same posted
   came (Some message) msg by outcome it is named comes posted = elim comes [
     | inl (to, turn, delivers, tells) ↦ delivered message by turn (msg, is, it) (msg, is) to (named message refl) delivers (as_told by outcome (told turn) tells posted)
-    | inr (refused, same) ↦ nothing by outcome (ap sent_by refused) same posted
+    | inr (refused, same, from) ↦ nothing by outcome (ap sent_by refused) same posted
   ]
 
   ticked : (node : StoreNode) (by : NodeId) (outcome : Upshot) → Is (happenings.Tick node) → by ≡ as_node node → TicksAt seen failures armed moment node old.nodes outcome new.nodes → Posts moment by (sent_by outcome) old.sent new.sent → K
