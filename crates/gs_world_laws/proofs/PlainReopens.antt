@@ -106,7 +106,7 @@ module _ {D : Type 0} (seen : D → List ℕ) (failures : D → ℕ) where
     durable : is.durable ≡ d
     durable =
         let found = opens_told seen failures config first second d turn (Standing m) kept counters told (m, refl, is, said) in
-        ap (λ (s : State). s.durable) (sym state) ∙ ap (λ (place : MasterPlace D). durable_at place) found.1 ∙ found.2
+        ap (λ (s : State). s.durable) (sym state) ∙ ap (λ (place : MasterPlace D). durable_at place) found.1 ∙ ap (λ (s : State). s.durable) found.2
 
     text : m.journal.text ≡ standing (seen first) (seen second)
     text = is.left ∙ ap (λ (v : Version). left_in v (standing (seen first) (seen second)) is.durable) (ap (λ (t : Text). t.0) told.records)
