@@ -184,7 +184,7 @@ module _ {D : Type 0} (x : Setup D) (bytes : ReqId → List ℕ) (chunk : ℕ) (
   -- the upgrade that is rolled back is that of the prepare
   epoch_is : u.known.current - 1 ≡ before.durable.epoch
   epoch_is = elim (still x bytes chunk prepared before now after k) [
-    | inl stands ↦ absurd (never stands.0 stands.1)
+    | inl stands ↦ absurd (never stands.0 (ap u.entry.how (sym stands.0) ∙ stands.1))
     | inr next ↦ (let one = next.0 in let current = (agrees u oku).epoch in omega arith)
   ]
     where

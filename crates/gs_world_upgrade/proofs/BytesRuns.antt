@@ -111,13 +111,13 @@ module _ (sizes : HaveSizes) (law : AreNumbered) {D : Type 0} (x : Setup D) (pre
   one_now : AllSent (IsOfOneEdit asked) now.sent
   one_now = before x.seen x.failures x.armed (IsOfOneEdit asked) now.sent back.sent (run_stays x asked given (step ∷ []) now back after last commit) one
 
-  here : SeesTo x asked given law prepared now first after sees.first
+  abbrev here : SeesTo x asked given law prepared now first after sees.first
   here = sees_run x asked given law up.reached.apart up.steps prepared now first after sees.first (reached_sound x prepared first reached).types upgraded right_now one_now
 
-  next : SeesNext x asked given law step now back after last here.last
+  abbrev next : SeesNext x asked given law step now back after last here.last
   next = sees_step x asked given law up.reached.apart step now back after last here.last (reached_sound x now after (reach_more x prepared now first after up.steps reached upgraded)).types moves right one
 
-  then : Sees x asked back last
+  abbrev then : Sees x asked back last
   then = record { lives = next.goes.last; tells = next.tells; agrees = next.agrees; intact = next.intact }
 
   -- the master isn't as it was
@@ -196,13 +196,13 @@ module _ (sizes : HaveSizes) (law : AreNumbered) {D : Type 0} (x : Setup D) (pre
 
     module _ (row : is_some (fin.get last.durable.chunks chunk) ≡ true) where
       free_then : seen_back.seen.alive.world.entry.view.holder ≡ None
-      free_then = free_back x bytes chunk prepared first now after seen_back.since listed step back last seen_back.seen seen_back.born seen_back.by seen_back.had seen_back.has committed row
+      free_then = free_back x seen_back.bytes chunk prepared first now after seen_back.since listed step back last seen_back.seen seen_back.born seen_back.by seen_back.had seen_back.has committed row
 
       calm_then : is_rolling last.durable.phase ≡ false
-      calm_then = calm_back x bytes chunk prepared first now after seen_back.since listed step back last seen_back.seen seen_back.born seen_back.by seen_back.had seen_back.has committed row
+      calm_then = calm_back x seen_back.bytes chunk prepared first now after seen_back.since listed step back last seen_back.seen seen_back.born seen_back.by seen_back.had seen_back.has committed row
 
       same_list : seen_back.seen.alive.world.known.list seen_back.seen.alive.world.known.view ≡ seen_back.since.first.alive.world.known.list seen_back.since.first.alive.world.entry.view.stamp
-      same_list = list_back x bytes chunk prepared first now after seen_back.since listed step back last seen_back.seen seen_back.born seen_back.by seen_back.had seen_back.has committed row
+      same_list = list_back x seen_back.bytes chunk prepared first now after seen_back.since listed step back last seen_back.seen seen_back.born seen_back.by seen_back.had seen_back.has committed row
 
       -- what is settled behind the commit is what was settled at the prepare
       pub settled_back : (view : View) → view_in (fin.get last.durable.chunks chunk) ≡ Some view → (former : View) → view_at first chunk ≡ Some former → settled_edits last chunk ≡ settled_edits first chunk
