@@ -1,10 +1,10 @@
 -- What is said by the nodes alone, from what is said with accounts.
-use Rattle.std.proofs.Common.{refl, sym, ap, subst, ◌∙◌, ◌≡◌, ◌&&◌, [], ◌∷◌, Bool, List, false, true, ℕ}
+use Rattle.std.proofs.Common.{refl, sym, ap, subst, ◌∙◌, ◌≡◌, [], ◌∷◌, Bool, List, false, true}
 use Rattle.std.specs.Prelude.{MatchBool, is_some}
 use Rattle.std.specs.FinMap as fin
 use Rattle.gs_master.specs.Journaled.{text_seen}
 use Rattle.gs_master_moves.specs.Epochs.{prepares, rolls_back}
-use Rattle.gs_master_spec.specs.Durable.{Durable, is_listed, is_ordinary, is_rolling, is_upgrade}
+use Rattle.gs_master_spec.specs.Durable.{Durable, is_listed}
 use Rattle.gs_master_spec.specs.State.{is_failed}
 use Rattle.gs_nodes.specs.declared.place.MasterPlace.{MasterPlace}
 use Rattle.gs_nodes.specs.declared.place.MasterPlace.TheVariants.{Away, Closed, Standing}
@@ -15,16 +15,14 @@ use Rattle.gs_world.specs.Runs.{Step}
 use Rattle.gs_world_account.proofs.Told.{have_accounts}
 use Rattle.gs_world_account.specs.Accounts.{Account}
 use Rattle.gs_world_account.specs.Moving.{account_behind}
-use Rattle.gs_world_account.specs.Running.{IsGiven, IsNew, IsReached, IsToldAt, Moves, Runs, Setup, StepsWithin}
+use Rattle.gs_world_account.specs.Running.{IsGiven, IsNew, IsToldAt, Moves, Runs, Setup, StepsWithin}
 use Rattle.gs_world_chunks.proofs.Durables.{told_is_had}
 use Rattle.gs_world_chunks.proofs.Edits.{AreNumbered}
 use Rattle.gs_world_chunks.proofs.Holding.{runs_of}
-use Rattle.gs_world_chunks.specs.Upgrading.{IsUpgrading, RunsUpgraded}
+use Rattle.gs_world_chunks.specs.Upgrading.{RunsUpgraded}
 use Rattle.gs_world_lift.proofs.Durable.{has_durable}
-use Rattle.gs_world_lift.proofs.Mastering.{both}
 use Rattle.gs_world_lift.specs.Doing.{HasDurable}
 use Rattle.gs_world_upgrade.proofs.BytesRuns.{bytes_back, listed_there}
-use Rattle.gs_world_upgrade.proofs.Became.{became}
 use Rattle.gs_world_upgrade.proofs.Standing.{StandsSo, gives_names_back, keeps_has, stands_prepared, within_so}
 use Rattle.gs_world_upgrade.proofs.Well.{IsWell, bare_well, begins_well, step_well, well_lasts}
 use Rattle.gs_world_upgrade.specs.Back.{GivesBytesBack, GoesBack, IsMemberAt, IsRolledBack, RunsWithin}
@@ -49,7 +47,7 @@ module _ {D : Type 0} (x : Setup D) where
     moves_on step old new a d well one has = record { steps = one; told = has_told new.nodes.master d (well_lasts x new well) has; account = refl }
 
     -- steps behind none of which a master stands that keeps no upgrade, with their accounts
-    within_accounts : (prepared : Durable) (steps : List Step) (old new : History D) (a : Account) → RunsWithin x steps old new → StandsSo x prepared old → (b : Account) × RunsUpgraded x steps old a new b
+    pub within_accounts : (prepared : Durable) (steps : List Step) (old new : History D) (a : Account) → RunsWithin x steps old new → StandsSo x prepared old → (b : Account) × RunsUpgraded x steps old a new b
     within_accounts prepared [] old new a is s = (a, (is, refl))
     within_accounts prepared (step ∷ steps) old new a (mid, one, going, rest) s =
         let there = within_so x given prepared (step ∷ []) old mid (mid, one, going, refl) s in
