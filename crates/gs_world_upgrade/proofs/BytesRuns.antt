@@ -1,6 +1,6 @@
 -- What sound replicas of members have, right behind a prepare and right behind the commit of its rollback, over runs with their accounts.
-use Rattle.std.proofs.Common.{inl, inr, ap, refl, subst, sym, ◌++◌, ◌&&◌, ◌≡◌, ◌∙◌, [], ◌∷◌, Bool, List, None, Option, Some, false, true, ℕ}
-use Rattle.std.specs.Prelude.{is_some, slice_get}
+use Rattle.std.proofs.Common.{inl, inr, ap, refl, subst, sym, ◌++◌, ◌&&◌, ◌≡◌, ◌∙◌, [], ◌∷◌, List, None, Option, Some, false, true, ℕ}
+use Rattle.std.specs.Prelude.{is_some}
 use Rattle.std.proofs.lemmas.Bool.{false≢true}
 use Rattle.std.specs.FinMap as fin
 use Rattle.gs_base.specs.Members.{is_member}
@@ -15,7 +15,6 @@ use Rattle.gs_master_record.specs.declared.checkpoint.Phase.{Phase}
 use Rattle.gs_master_record.specs.declared.checkpoint.Phase.TheVariants.{Ordinary, Rolling, Upgrade}
 use Rattle.gs_master_spec.specs.Applied.{view_in}
 use Rattle.gs_master_spec.specs.Durable.{Durable, Settled, is_listed, is_ordinary, is_rolling, is_upgrade}
-use Rattle.gs_server.specs.Runs.{slot_in}
 use Rattle.gs_server_member.specs.Requests.{Asked, IsOfOneEdit, bytes_in}
 use Rattle.gs_world.proofs.Reaching.{HaveSizes}
 use Rattle.gs_world.specs.Histories.{History}
@@ -34,9 +33,7 @@ use Rattle.gs_world_chunks.specs.Joined.{IsSeen, SeenSince}
 use Rattle.gs_world_chunks.specs.Seeing.{Sees, SeesBoth}
 use Rattle.gs_world_chunks.specs.Upgrading.{IsUpgrading}
 use Rattle.gs_world_lift.proofs.AskingRuns.{of_one_edit, pushes_right}
-use Rattle.gs_world_lift.proofs.Mastering.{both}
 use Rattle.gs_world_lift.proofs.Running.{before}
-use Rattle.gs_world_lift.specs.Doing.{HasDurable}
 use Rattle.gs_world_lift.specs.Going.{AllSent, heard_in}
 use Rattle.gs_world_lift.specs.Joint.{AtMaster, AtServer, ByMaster, Elsewhere, GoesBy}
 use Rattle.gs_world_lift.specs.Living.{GoesOn, LivesOn}
