@@ -1,10 +1,10 @@
 -- What is said by the nodes alone, from what is said with accounts.
-use Rattle.std.proofs.Common.{refl, sym, ap, subst, ◌∙◌, ◌≡◌, ◌&&◌, [], ◌∷◌, Bool, List, false, true, ℕ}
+use Rattle.std.proofs.Common.{refl, sym, ap, subst, ◌∙◌, ◌≡◌, [], ◌∷◌, Bool, List, false, true}
 use Rattle.std.specs.Prelude.{MatchBool, is_some}
 use Rattle.std.specs.FinMap as fin
 use Rattle.gs_master.specs.Journaled.{text_seen}
 use Rattle.gs_master_moves.specs.Epochs.{prepares, rolls_back}
-use Rattle.gs_master_spec.specs.Durable.{Durable, is_listed, is_ordinary, is_rolling, is_upgrade}
+use Rattle.gs_master_spec.specs.Durable.{Durable, is_listed}
 use Rattle.gs_master_spec.specs.State.{is_failed}
 use Rattle.gs_nodes.specs.declared.place.MasterPlace.{MasterPlace}
 use Rattle.gs_nodes.specs.declared.place.MasterPlace.TheVariants.{Away, Closed, Standing}
@@ -15,19 +15,17 @@ use Rattle.gs_world.specs.Runs.{Step}
 use Rattle.gs_world_account.proofs.Told.{have_accounts}
 use Rattle.gs_world_account.specs.Accounts.{Account}
 use Rattle.gs_world_account.specs.Moving.{account_behind}
-use Rattle.gs_world_account.specs.Running.{IsGiven, IsNew, IsReached, IsToldAt, Moves, Runs, Setup, StepsWithin}
+use Rattle.gs_world_account.specs.Running.{IsGiven, IsNew, IsToldAt, Moves, Runs, Setup, StepsWithin}
 use Rattle.gs_world_chunks.proofs.Durables.{told_is_had}
 use Rattle.gs_world_chunks.proofs.Edits.{AreNumbered}
 use Rattle.gs_world_chunks.proofs.Holding.{runs_of}
-use Rattle.gs_world_chunks.specs.Upgrading.{IsUpgrading, RunsUpgraded}
+use Rattle.gs_world_chunks.specs.Upgrading.{RunsUpgraded}
 use Rattle.gs_world_lift.proofs.Durable.{has_durable}
-use Rattle.gs_world_lift.proofs.Mastering.{both}
 use Rattle.gs_world_lift.specs.Doing.{HasDurable}
 use Rattle.gs_world_upgrade.proofs.BytesRuns.{bytes_back, listed_there}
-use Rattle.gs_world_upgrade.proofs.Became.{became}
 use Rattle.gs_world_upgrade.proofs.Standing.{StandsSo, gives_names_back, keeps_has, stands_prepared, within_so}
 use Rattle.gs_world_upgrade.proofs.Well.{IsWell, bare_well, begins_well, step_well, well_lasts}
-use Rattle.gs_world_upgrade.specs.Back.{GivesBytesBack, GoesBack, IsRolledBack, RunsWithin}
+use Rattle.gs_world_upgrade.specs.Back.{GivesBytesBack, GoesBack, IsMemberAt, IsRolledBack, RunsWithin}
 
 module _ {D : Type 0} (x : Setup D) where
   -- what a sound master has is told
@@ -49,8 +47,8 @@ module _ {D : Type 0} (x : Setup D) where
     moves_on step old new a d well one has = record { steps = one; told = has_told new.nodes.master d (well_lasts x new well) has; account = refl }
 
     -- steps behind none of which a master stands that keeps no upgrade, with their accounts
-    within_accounts : (prepared : Durable) (steps : List Step) (old new : History D) (a : Account) → RunsWithin x steps old new → StandsSo x prepared old → (b : Account) × RunsUpgraded x steps old a new b
-    within_accounts prepared [] old new a is s = (a, is, refl)
+    pub within_accounts : (prepared : Durable) (steps : List Step) (old new : History D) (a : Account) → RunsWithin x steps old new → StandsSo x prepared old → (b : Account) × RunsUpgraded x steps old a new b
+    within_accounts prepared [] old new a is s = (a, (is, refl))
     within_accounts prepared (step ∷ steps) old new a (mid, one, going, rest) s =
         let there = within_so x given prepared (step ∷ []) old mid (mid, one, going, refl) s in
         let has = has_durable x.seen mid.nodes.master (well_lasts x mid there.well) in
@@ -72,9 +70,9 @@ rolled_back_so x prepared back before last goes =
     let old_well = bare_well x given goes.first goes.begun goes.old goes.runs (begins_well x given goes.begun goes.begins) in
     let well = step_well x given goes.step goes.old prepared old_well goes.steps in
     let accounts = have_accounts x goes.begun goes.old goes.first given goes.begins goes.runs in
-    let a : Account = accounts.1.0 in
-    let new : IsNew x goes.begun accounts.0 = accounts.2.0 in
-    let runs : Runs x goes.first goes.begun accounts.0 goes.old a = accounts.2.1 in
+    let a : Account = accounts.1 in
+    let new : IsNew x goes.begun accounts.0 = accounts.2 in
+    let runs : Runs x goes.first goes.begun accounts.0 goes.old a = accounts.3 in
     let was : goes.ordinary ≡ a.durable = told_is_had x.seen goes.old.nodes.master a.durable goes.ordinary (well_lasts x goes.old old_well) (runs_told x goes.first goes.begun goes.old accounts.0 a new.told runs) (keeps_has x goes.old.nodes.master goes.ordinary goes.stood) in
     let first = account_behind goes.step goes.old a prepared before in
     let moves = moves_on x given goes.step goes.old prepared a before well goes.steps (keeps_has x prepared.nodes.master before goes.keeps) in
@@ -114,4 +112,5 @@ gives_bytes_back sizes law x prepared back before last chunk id other had has go
     let listed : is_listed so.first.durable chunk ≡ true =
     ap (λ (d : Durable). is_listed d chunk) so.is_first ∙ ap (λ names. is_some (fin.get names.refs chunk)) (sym (gives_names_back x prepared back before last goes))
     ∙ ap (λ (d : Durable). is_listed d chunk) (sym so.is_behind) ∙ listed_there sizes law x prepared goes.now back so.first so.after so.behind r.step r.upgrade r.moves r.accepted chunk row in
-    bytes_back sizes law x prepared goes.now back so.first so.after so.behind r.step r.upgrade r.moves r.accepted chunk listed row id other had has member old among new
+    bytes_back sizes law x prepared goes.now back so.first so.after so.behind r.step r.upgrade r.moves r.accepted chunk listed row id other had has
+    (subst (λ d. IsMemberAt d chunk id) (sym so.is_first) member) old (subst (λ d. IsMemberAt d chunk other) (sym so.is_behind) among) new

@@ -1,5 +1,5 @@
 -- What a sound replica of a member has: right behind a prepare the text that was prepared, and right behind the commit of its rollback the same.
-use Rattle.std.proofs.Common.{arith, inl, inr, ap, refl, subst, sym, ◌+◌, ◌-◌, ◌<◌, ◌≤◌, ◌≡◌, ◌∙◌, ◌⊎◌, Bool, List, None, Option, Some, false, length, true, ℕ}
+use Rattle.std.proofs.Common.{arith, inl, inr, ap, refl, subst, sym, ◌+◌, ◌-◌, ◌<◌, ◌≤◌, ◌≡◌, ◌∙◌, List, None, Option, Some, false, length, true, ℕ}
 use Rattle.std.specs.Prelude.{is_some, slice_get}
 use Rattle.std.proofs.lemmas.Bool.{cases_lt, false≢true, true≢false}
 use Rattle.std.proofs.lemmas.List.{take_all}
@@ -8,7 +8,6 @@ use Rattle.gs_base.specs.Members.{is_member}
 use Rattle.gs_base.specs.declared.epoch.EpochEnd.TheVariants.{Prepare, Rollback}
 use Rattle.gs_base.specs.declared.numbers.ReqId.{ReqId}
 use Rattle.gs_chunk.proofs.Committed.{masters_commit}
-use Rattle.gs_chunk.proofs.Entries.{EntryOk}
 use Rattle.gs_chunk.proofs.Facts.{reached_world}
 use Rattle.gs_chunk.proofs.Known.{Later, Prefix}
 use Rattle.gs_chunk.proofs.Lasting.{agrees}
@@ -19,7 +18,7 @@ use Rattle.gs_chunk.specs.Events.{is_of}
 use Rattle.gs_chunk.specs.Laws as machine
 use Rattle.gs_chunk.specs.Laws.{Agrees as AgreesKnown, IsReached, prepared_list}
 use Rattle.gs_chunk.specs.Machine.{ChunkWorld}
-use Rattle.gs_chunk.specs.Mastering.{IsRestored, KeepsLists, RestoresList, SettlesList, SettlesOnce}
+use Rattle.gs_chunk.specs.Mastering.{IsRestored, SettlesOnce}
 use Rattle.gs_chunk.specs.Resting.{PromisesRest}
 use Rattle.gs_chunk.specs.Stamps.{start_of}
 use Rattle.gs_lease.specs.declared.view.View.{View}
@@ -28,7 +27,7 @@ use Rattle.gs_master_entry.specs.Showing.{ShowsView}
 use Rattle.gs_master_moves.specs.Epochs.{rolls_back}
 use Rattle.gs_master_record.specs.declared.checkpoint.Phase.{Phase}
 use Rattle.gs_master_record.specs.declared.checkpoint.Phase.TheVariants.{Ordinary, Rolling, Upgrade}
-use Rattle.gs_master_spec.specs.Durable.{Durable, Settled, is_listed, is_ordinary, is_rolling}
+use Rattle.gs_master_spec.specs.Durable.{Durable, is_listed, is_ordinary, is_rolling}
 use Rattle.gs_replica.specs.Seals.{lowest_damaged}
 use Rattle.gs_replica.specs.Stands.{Edit}
 use Rattle.gs_server.specs.Runs.{slot_in}
@@ -42,7 +41,7 @@ use Rattle.gs_world.specs.Histories.{History}
 use Rattle.gs_world.specs.Runs.{Step}
 use Rattle.gs_world_account.specs.Accounts.{Account, settled_edits, settled_in, text_of, view_at}
 use Rattle.gs_world_account.specs.Running.{Setup}
-use Rattle.gs_world_chunks.proofs.Surviving.{begun, free, list_then, live_text, prepared_last, still, text_then, was_then}
+use Rattle.gs_world_chunks.proofs.Surviving.{free, list_then, live_text, prepared_last, still}
 use Rattle.gs_world_chunks.proofs.Viewing.{told_view}
 use Rattle.gs_world_chunks.specs.Joined.{IsSeen, SeenSince}
 use Rattle.gs_world_chunks.specs.Sealing.{IsLiveWith}
@@ -184,7 +183,7 @@ module _ {D : Type 0} (x : Setup D) (bytes : ReqId → List ℕ) (chunk : ℕ) (
   -- the upgrade that is rolled back is that of the prepare
   epoch_is : u.known.current - 1 ≡ before.durable.epoch
   epoch_is = elim (still x bytes chunk prepared before now after k) [
-    | inl stands ↦ absurd (never stands.0 stands.1)
+    | inl stands ↦ absurd (never stands.0 (ap u.entry.how (sym stands.0) ∙ stands.1))
     | inr next ↦ (let one = next.0 in let current = (agrees u oku).epoch in omega arith)
   ]
     where

@@ -1,6 +1,6 @@
 -- What sound replicas of members have, right behind a prepare and right behind the commit of its rollback, over runs with their accounts.
-use Rattle.std.proofs.Common.{inl, inr, ap, refl, subst, sym, ◌++◌, ◌&&◌, ◌≡◌, ◌∙◌, [], ◌∷◌, Bool, List, None, Option, Some, false, true, ℕ}
-use Rattle.std.specs.Prelude.{is_some, slice_get}
+use Rattle.std.proofs.Common.{inl, inr, ap, refl, subst, sym, ◌++◌, ◌&&◌, ◌≡◌, ◌∙◌, [], ◌∷◌, List, None, Option, Some, false, true, ℕ}
+use Rattle.std.specs.Prelude.{is_some}
 use Rattle.std.proofs.lemmas.Bool.{false≢true}
 use Rattle.std.specs.FinMap as fin
 use Rattle.gs_base.specs.Members.{is_member}
@@ -15,7 +15,6 @@ use Rattle.gs_master_record.specs.declared.checkpoint.Phase.{Phase}
 use Rattle.gs_master_record.specs.declared.checkpoint.Phase.TheVariants.{Ordinary, Rolling, Upgrade}
 use Rattle.gs_master_spec.specs.Applied.{view_in}
 use Rattle.gs_master_spec.specs.Durable.{Durable, Settled, is_listed, is_ordinary, is_rolling, is_upgrade}
-use Rattle.gs_server.specs.Runs.{slot_in}
 use Rattle.gs_server_member.specs.Requests.{Asked, IsOfOneEdit, bytes_in}
 use Rattle.gs_world.proofs.Reaching.{HaveSizes}
 use Rattle.gs_world.specs.Histories.{History}
@@ -34,9 +33,7 @@ use Rattle.gs_world_chunks.specs.Joined.{IsSeen, SeenSince}
 use Rattle.gs_world_chunks.specs.Seeing.{Sees, SeesBoth}
 use Rattle.gs_world_chunks.specs.Upgrading.{IsUpgrading}
 use Rattle.gs_world_lift.proofs.AskingRuns.{of_one_edit, pushes_right}
-use Rattle.gs_world_lift.proofs.Mastering.{both}
 use Rattle.gs_world_lift.proofs.Running.{before}
-use Rattle.gs_world_lift.specs.Doing.{HasDurable}
 use Rattle.gs_world_lift.specs.Going.{AllSent, heard_in}
 use Rattle.gs_world_lift.specs.Joint.{AtMaster, AtServer, ByMaster, Elsewhere, GoesBy}
 use Rattle.gs_world_lift.specs.Living.{GoesOn, LivesOn}
@@ -111,13 +108,13 @@ module _ (sizes : HaveSizes) (law : AreNumbered) {D : Type 0} (x : Setup D) (pre
   one_now : AllSent (IsOfOneEdit asked) now.sent
   one_now = before x.seen x.failures x.armed (IsOfOneEdit asked) now.sent back.sent (run_stays x asked given (step ∷ []) now back after last commit) one
 
-  here : SeesTo x asked given law prepared now first after sees.first
+  abbrev here : SeesTo x asked given law prepared now first after sees.first
   here = sees_run x asked given law up.reached.apart up.steps prepared now first after sees.first (reached_sound x prepared first reached).types upgraded right_now one_now
 
-  next : SeesNext x asked given law step now back after last here.last
+  abbrev next : SeesNext x asked given law step now back after last here.last
   next = sees_step x asked given law up.reached.apart step now back after last here.last (reached_sound x now after (reach_more x prepared now first after up.steps reached upgraded)).types moves right one
 
-  then : Sees x asked back last
+  abbrev then : Sees x asked back last
   then = record { lives = next.goes.last; tells = next.tells; agrees = next.agrees; intact = next.intact }
 
   -- the master isn't as it was
@@ -196,13 +193,13 @@ module _ (sizes : HaveSizes) (law : AreNumbered) {D : Type 0} (x : Setup D) (pre
 
     module _ (row : is_some (fin.get last.durable.chunks chunk) ≡ true) where
       free_then : seen_back.seen.alive.world.entry.view.holder ≡ None
-      free_then = free_back x bytes chunk prepared first now after seen_back.since listed step back last seen_back.seen seen_back.born seen_back.by seen_back.had seen_back.has committed row
+      free_then = free_back x seen_back.bytes chunk prepared first now after seen_back.since listed step back last seen_back.seen seen_back.born seen_back.by seen_back.had seen_back.has committed row
 
       calm_then : is_rolling last.durable.phase ≡ false
-      calm_then = calm_back x bytes chunk prepared first now after seen_back.since listed step back last seen_back.seen seen_back.born seen_back.by seen_back.had seen_back.has committed row
+      calm_then = calm_back x seen_back.bytes chunk prepared first now after seen_back.since listed step back last seen_back.seen seen_back.born seen_back.by seen_back.had seen_back.has committed row
 
       same_list : seen_back.seen.alive.world.known.list seen_back.seen.alive.world.known.view ≡ seen_back.since.first.alive.world.known.list seen_back.since.first.alive.world.entry.view.stamp
-      same_list = list_back x bytes chunk prepared first now after seen_back.since listed step back last seen_back.seen seen_back.born seen_back.by seen_back.had seen_back.has committed row
+      same_list = list_back x seen_back.bytes chunk prepared first now after seen_back.since listed step back last seen_back.seen seen_back.born seen_back.by seen_back.had seen_back.has committed row
 
       -- what is settled behind the commit is what was settled at the prepare
       pub settled_back : (view : View) → view_in (fin.get last.durable.chunks chunk) ≡ Some view → (former : View) → view_at first chunk ≡ Some former → settled_edits last chunk ≡ settled_edits first chunk

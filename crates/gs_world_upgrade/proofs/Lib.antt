@@ -8,3 +8,6 @@ mod Deciding
 mod Bytes
 mod BytesRuns
 mod Accounted
+mod Keeping
+mod KeepingRuns
+mod KeepingBack

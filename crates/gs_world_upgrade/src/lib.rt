@@ -3,7 +3,7 @@
 
 ghost use Rattle.gs_world_account.specs.Running.{Setup};
 ghost use Rattle.gs_world_upgrade.specs.Accepting.{CommitsAreDecided, NoneGoesBackUnnamed};
-ghost use Rattle.gs_world_upgrade.specs.Back.{GivesBytesBack, GivesNamesBack, GivesSettledBack};
+ghost use Rattle.gs_world_upgrade.specs.Back.{GivesBytesBack, GivesNamesBack, GivesSettledBack, KeepsBytes};
 
 use gs_block::promises::configurations_have_sizes;
 use gs_server_laws::a_message_edits_a_replica_by_what_it_says;
@@ -37,10 +37,12 @@ pub fn a_rollback_gives_back_what_was_settled<D>()
 }
 
 /// An accepted rollback gives back what stood at the last accepted prepare, by what the nodes have alone: the names are those of the prepare, and of each chunk what a sound replica of a member had right behind
-/// the prepare is what each sound replica of a member has behind the rollback; whatever has happened between.
+/// the prepare is what each sound replica of a member has behind the rollback; whatever has happened between. And each member has it, live, whose server would have named the chunk on the way, and of which nothing
+/// was lost or damaged since.
 pub fn a_rollback_gives_back_names_and_bytes<D>()
     ensures names { (x : Setup D) → GivesNamesBack x }
     ensures bytes { (x : Setup D) → GivesBytesBack x }
+    ensures kept { (x : Setup D) → KeepsBytes x }
 {
     configurations_have_sizes();
     a_message_edits_a_replica_by_what_it_says();

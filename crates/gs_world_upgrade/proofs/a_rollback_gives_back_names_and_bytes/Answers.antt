@@ -1,4 +1,5 @@
 use Rattle.gs_world_upgrade.proofs.Accounted.{gives_bytes_back}
+use Rattle.gs_world_upgrade.proofs.KeepingBack.{keeps_bytes}
 use Rattle.gs_world_upgrade.proofs.Standing.{gives_names_back}
 use Rattle.gs_world_upgrade.proofs.a_rollback_gives_back_names_and_bytes.Goals as goal
 
@@ -7,3 +8,6 @@ returns-clause-names g c x = gives_names_back x
 
 pub returns-clause-bytes : goal.returns-clause-bytes
 returns-clause-bytes g c x = gives_bytes_back c.configurations_have_sizes.ensures c.a_message_edits_a_replica_by_what_it_says.ensures.edit x
+
+pub returns-clause-kept : goal.returns-clause-kept
+returns-clause-kept g c x = keeps_bytes c.configurations_have_sizes.ensures c.a_message_edits_a_replica_by_what_it_says.ensures.edit x
