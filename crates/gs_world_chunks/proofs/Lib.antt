@@ -36,3 +36,16 @@ pub mod Runs
 pub mod Holding
 pub mod Locating
 pub mod Returning
+mod Well
+mod Became
+mod Leading
+mod Going
+mod Telling
+mod Counted
+mod Deciding
+mod Bytes
+mod BytesRuns
+mod Accounted
+mod Keeping
+mod KeepingRuns
+mod KeepingBack

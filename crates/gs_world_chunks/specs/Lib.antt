@@ -15,3 +15,6 @@ pub mod Reached
 pub mod Seeing
 pub mod Locating
 pub mod Copying
+pub mod Accepting
+pub mod Back
+pub mod Hearing

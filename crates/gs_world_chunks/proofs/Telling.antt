@@ -50,11 +50,11 @@ use Rattle.gs_world_laws.specs.Steady.{LastsSteady}
 use Rattle.gs_world_lift.proofs.Durable.{has_durable}
 use Rattle.gs_world_lift.proofs.Reopening.{standing_is}
 use Rattle.gs_world_lift.specs.Doing.{HasDurable}
-use Rattle.gs_world_upgrade.proofs.Became.{Became, ByItself, ByMessage, IsHearing, Opened, Stays, Turns, Waits, became, has_one, opened_state}
-use Rattle.gs_world_upgrade.proofs.Standing.{PlaceLeads, StandsSo, begins, has_at, leads, steady_at, upgrade_stands}
-use Rattle.gs_world_upgrade.proofs.Well.{IsWell, begins_well, step_well, well_lasts}
-use Rattle.gs_world_upgrade.specs.Accepting.{AllWereNamed, HasTaken, NamesChunk, NoneGoesBackUnnamed, NoRestart, TakesSuch, WasNamed, met_at, restarts_master}
-use Rattle.gs_world_upgrade.specs.Hearing.{heard_by_master}
+use Rattle.gs_world_chunks.proofs.Became.{Became, ByItself, ByMessage, IsHearing, Opened, Stays, Turns, Waits, became, has_one, opened_state}
+use Rattle.gs_world_chunks.proofs.Leading.{PlaceLeads, StandsSo, begins, has_at, leads, steady_at, upgrade_stands}
+use Rattle.gs_world_chunks.proofs.Well.{IsWell, begins_well, step_well, well_lasts}
+use Rattle.gs_world_chunks.specs.Accepting.{AllWereNamed, HasTaken, NamesChunk, NoneGoesBackUnnamed, NoRestart, TakesSuch, WasNamed, met_at, restarts_master}
+use Rattle.gs_world_chunks.specs.Hearing.{heard_by_master}
 
 -- ---- what servers have told
 

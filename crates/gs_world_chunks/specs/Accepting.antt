@@ -26,7 +26,7 @@ use Rattle.gs_world.specs.Runs.{Comes, Goes, Step, Takes}
 use Rattle.gs_world_account.specs.Accounts.{Account}
 use Rattle.gs_world_account.specs.Running.{Moves, Setup}
 use Rattle.gs_world_chunks.specs.Upgrading.{IsUpgrading, RunsUpgraded, is_current}
-use Rattle.gs_world_upgrade.specs.Hearing.{heard_by_master}
+use Rattle.gs_world_chunks.specs.Hearing.{heard_by_master}
 use Rattle.std.specs.FinMap as fin
 
 -- ---- who has told

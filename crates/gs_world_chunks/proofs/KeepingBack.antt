@@ -38,11 +38,11 @@ use Rattle.gs_world_lift.proofs.Placing.{kind_of}
 use Rattle.gs_world_lift.specs.Doing.{HasDurable}
 use Rattle.gs_world_lift.specs.Going.{Elsewhere, Kind, OfMaster, OfServer}
 use Rattle.gs_world_lift.specs.Showing.{IsAlive, Life}
-use Rattle.gs_world_upgrade.proofs.Accounted.{gives_bytes_back, rolled_back_so, within_accounts}
-use Rattle.gs_world_upgrade.proofs.KeepingRuns.{still_live}
-use Rattle.gs_world_upgrade.proofs.Standing.{keeps_has, stands_prepared, within_so}
-use Rattle.gs_world_upgrade.proofs.Well.{IsWell}
-use Rattle.gs_world_upgrade.specs.Back.{GoesBack, HasBytes, KeepsAt, KeepsBytes}
+use Rattle.gs_world_chunks.proofs.Accounted.{gives_bytes_back, rolled_back_so, within_accounts}
+use Rattle.gs_world_chunks.proofs.KeepingRuns.{still_live}
+use Rattle.gs_world_chunks.proofs.Leading.{keeps_has, stands_prepared, within_so}
+use Rattle.gs_world_chunks.proofs.Well.{IsWell}
+use Rattle.gs_world_chunks.specs.Back.{GoesBack, HasBytes, KeepsAt, KeepsBytes}
 
 -- ---- from a world in which a server would name the chunk
 

@@ -58,12 +58,12 @@ use Rattle.gs_world_chunks.specs.Upgrading.{IsUpgrading, RunsUpgraded, is_holder
 use Rattle.gs_world_laws.specs.Steady.{LastsSteady}
 use Rattle.gs_world_lift.specs.Doing.{HasDurable}
 use Rattle.gs_world_lift.specs.Showing.{setting}
-use Rattle.gs_world_upgrade.proofs.Became.{Became, ByItself, ByMessage, IsHearing, Opened, Stays, Turns, Waits, became}
-use Rattle.gs_world_upgrade.proofs.Going.{RisesTo, committed_ordinary, place_rises, same_rises, then_rises, upgrading_on}
-use Rattle.gs_world_upgrade.proofs.Standing.{StandsSo, has_at, steady_at}
-use Rattle.gs_world_upgrade.proofs.Telling.{BeginsSo, begins_so, same_master, stands_next, told_has}
-use Rattle.gs_world_upgrade.specs.Accepting.{HasTaken, NamesChunk, NoRestart, TakesSuch, WasNamed, met_at, restarts_master}
-use Rattle.gs_world_upgrade.specs.Hearing.{heard_by_master, to_master}
+use Rattle.gs_world_chunks.proofs.Became.{Became, ByItself, ByMessage, IsHearing, Opened, Stays, Turns, Waits, became}
+use Rattle.gs_world_chunks.proofs.Going.{RisesTo, committed_ordinary, place_rises, same_rises, then_rises, upgrading_on}
+use Rattle.gs_world_chunks.proofs.Leading.{StandsSo, has_at, steady_at}
+use Rattle.gs_world_chunks.proofs.Telling.{BeginsSo, begins_so, same_master, stands_next, told_has}
+use Rattle.gs_world_chunks.specs.Accepting.{HasTaken, NamesChunk, NoRestart, TakesSuch, WasNamed, met_at, restarts_master}
+use Rattle.gs_world_chunks.specs.Hearing.{heard_by_master, to_master}
 
 -- ---- servers are numbered below 16
 

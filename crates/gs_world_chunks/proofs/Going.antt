@@ -24,8 +24,8 @@ use Rattle.gs_world_account.specs.Running.{Moves, Setup}
 use Rattle.gs_world_chunks.specs.Upgrading.{IsUpgrading, RunsUpgraded}
 use Rattle.gs_world_laws.specs.Steady.{LastsSteady}
 use Rattle.gs_world_lift.specs.Doing.{HasDurable}
-use Rattle.gs_world_upgrade.proofs.Became.{Became, Opened, Stays, Turns, Waits, has_one}
-use Rattle.gs_world_upgrade.proofs.Standing.{has_at, steady_at}
+use Rattle.gs_world_chunks.proofs.Became.{Became, Opened, Stays, Turns, Waits, has_one}
+use Rattle.gs_world_chunks.proofs.Leading.{has_at, steady_at}
 
 -- ---- the commit of a rollback
 

@@ -18,10 +18,10 @@ use Rattle.gs_world_account.specs.Running.{IsGiven, Setup}
 use Rattle.gs_world_laws.specs.Steady.{LastsSteady, StandsSteady}
 use Rattle.gs_world_lift.specs.Doing.{HasDurable}
 use Rattle.gs_world_lift.proofs.Durable.{has_durable}
-use Rattle.gs_world_upgrade.proofs.Became.{Became, Opened, Stays, Turns, Waits, became, has_one}
-use Rattle.gs_world_upgrade.proofs.Well.{IsWell, bare_well, begins_well, step_well, well_lasts}
-use Rattle.gs_world_upgrade.specs.Accepting.{met_at}
-use Rattle.gs_world_upgrade.specs.Back.{GivesNamesBack, GoesBack, KeepsAt, RunsWithin}
+use Rattle.gs_world_chunks.proofs.Became.{Became, Opened, Stays, Turns, Waits, became, has_one}
+use Rattle.gs_world_chunks.proofs.Well.{IsWell, bare_well, begins_well, step_well, well_lasts}
+use Rattle.gs_world_chunks.specs.Accepting.{met_at}
+use Rattle.gs_world_chunks.specs.Back.{GivesNamesBack, GoesBack, KeepsAt, RunsWithin}
 
 pub upgrade_stands : (phase : Phase) → is_upgrade phase ≡ true → is_ordinary phase ≡ false
 upgrade_stands Ordinary h = absurd (false≢true h)

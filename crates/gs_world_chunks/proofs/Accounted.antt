@@ -22,10 +22,10 @@ use Rattle.gs_world_chunks.proofs.Holding.{runs_of}
 use Rattle.gs_world_chunks.specs.Upgrading.{RunsUpgraded}
 use Rattle.gs_world_lift.proofs.Durable.{has_durable}
 use Rattle.gs_world_lift.specs.Doing.{HasDurable}
-use Rattle.gs_world_upgrade.proofs.BytesRuns.{bytes_back, listed_there}
-use Rattle.gs_world_upgrade.proofs.Standing.{StandsSo, gives_names_back, keeps_has, stands_prepared, within_so}
-use Rattle.gs_world_upgrade.proofs.Well.{IsWell, bare_well, begins_well, step_well, well_lasts}
-use Rattle.gs_world_upgrade.specs.Back.{GivesBytesBack, GoesBack, IsMemberAt, IsRolledBack, RunsWithin}
+use Rattle.gs_world_chunks.proofs.BytesRuns.{bytes_back, listed_there}
+use Rattle.gs_world_chunks.proofs.Leading.{StandsSo, gives_names_back, keeps_has, stands_prepared, within_so}
+use Rattle.gs_world_chunks.proofs.Well.{IsWell, bare_well, begins_well, step_well, well_lasts}
+use Rattle.gs_world_chunks.specs.Back.{GivesBytesBack, GoesBack, IsMemberAt, IsRolledBack, RunsWithin}
 
 module _ {D : Type 0} (x : Setup D) where
   -- what a sound master has is told

@@ -39,8 +39,8 @@ use Rattle.gs_world_lift.specs.Joint.{AtMaster, AtServer, ByMaster, Elsewhere, G
 use Rattle.gs_world_lift.specs.Living.{GoesOn, LivesOn}
 use Rattle.gs_world_lift.specs.Saying.{PushRight}
 use Rattle.gs_world_lift.specs.Showing.{IsAlive, Life}
-use Rattle.gs_world_upgrade.proofs.Bytes.{calm_back, free_back, free_prepared, list_back, rolls as rolls_on, settled_there, text_there}
-use Rattle.gs_world_upgrade.specs.Back.{GivesSettledBack, HasBytes, IsMemberAt}
+use Rattle.gs_world_chunks.proofs.Bytes.{calm_back, free_back, free_prepared, list_back, rolls as rolls_on, settled_there, text_there}
+use Rattle.gs_world_chunks.specs.Back.{GivesSettledBack, HasBytes, IsMemberAt}
 
 never_both : (phase : Phase) → (is_rolling phase && is_ordinary phase) ≡ false
 never_both Ordinary = refl

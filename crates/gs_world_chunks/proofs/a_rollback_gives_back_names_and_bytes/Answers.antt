@@ -1,7 +1,7 @@
-use Rattle.gs_world_upgrade.proofs.Accounted.{gives_bytes_back}
-use Rattle.gs_world_upgrade.proofs.KeepingBack.{keeps_bytes}
-use Rattle.gs_world_upgrade.proofs.Standing.{gives_names_back}
-use Rattle.gs_world_upgrade.proofs.a_rollback_gives_back_names_and_bytes.Goals as goal
+use Rattle.gs_world_chunks.proofs.Accounted.{gives_bytes_back}
+use Rattle.gs_world_chunks.proofs.KeepingBack.{keeps_bytes}
+use Rattle.gs_world_chunks.proofs.Leading.{gives_names_back}
+use Rattle.gs_world_chunks.proofs.a_rollback_gives_back_names_and_bytes.Goals as goal
 
 pub returns-clause-names : goal.returns-clause-names
 returns-clause-names g c x = gives_names_back x

@@ -38,13 +38,13 @@ use Rattle.gs_world.proofs.Reaching.{HaveSizes}
 use Rattle.gs_world_account.specs.Running.{Setup}
 use Rattle.gs_world_chunks.proofs.Edits.{AreNumbered}
 use Rattle.gs_world_laws.specs.Steady.{StandsSteady}
-use Rattle.gs_world_upgrade.proofs.Became.{Became, ByItself, ByMessage, IsHearing, Opened, Stays, Turns, Waits, became}
-use Rattle.gs_world_upgrade.proofs.Counted.{named_restored}
-use Rattle.gs_world_upgrade.proofs.Going.{committed_ordinary}
-use Rattle.gs_world_upgrade.proofs.Standing.{has_at, steady_at}
-use Rattle.gs_world_upgrade.proofs.Telling.{NowSo, none_unnamed, now_so, same_master, told_has}
-use Rattle.gs_world_upgrade.proofs.Well.{step_well}
-use Rattle.gs_world_upgrade.specs.Accepting.{CommitsAreDecided, IsDecided, WasNamed, met_at, references_then}
+use Rattle.gs_world_chunks.proofs.Became.{Became, ByItself, ByMessage, IsHearing, Opened, Stays, Turns, Waits, became}
+use Rattle.gs_world_chunks.proofs.Counted.{named_restored}
+use Rattle.gs_world_chunks.proofs.Going.{committed_ordinary}
+use Rattle.gs_world_chunks.proofs.Leading.{has_at, steady_at}
+use Rattle.gs_world_chunks.proofs.Telling.{NowSo, none_unnamed, now_so, same_master, told_has}
+use Rattle.gs_world_chunks.proofs.Well.{step_well}
+use Rattle.gs_world_chunks.specs.Accepting.{CommitsAreDecided, IsDecided, WasNamed, met_at, references_then}
 
 -- ---- the call comes to its own tests
 

@@ -55,9 +55,9 @@ use Rattle.gs_nodes.specs.Happenings.{AtClient, AtServer, ClientAsks, ClientHear
 use Rattle.gs_nodes.specs.Nodes.{Nodes, with_clients, with_master, with_servers}
 use Rattle.gs_nodes.specs.declared.place.MasterPlace.{MasterPlace}
 use Rattle.gs_nodes.specs.declared.place.MasterPlace.TheVariants.{Standing, Closed, Away}
-use Rattle.gs_world_upgrade.proofs.Well.{IsWell, step_within}
-use Rattle.gs_world_upgrade.specs.Accepting.{met_at, restarts_master}
-use Rattle.gs_world_upgrade.specs.Hearing.{heard_by_master, to_master}
+use Rattle.gs_world_chunks.proofs.Well.{IsWell, step_within}
+use Rattle.gs_world_chunks.specs.Accepting.{met_at, restarts_master}
+use Rattle.gs_world_chunks.specs.Hearing.{heard_by_master, to_master}
 
 -- ---- what is durable is one
 

@@ -50,7 +50,7 @@ use Rattle.gs_world_lift.proofs.Running.{before}
 use Rattle.gs_world_lift.specs.Going.{AllSent}
 use Rattle.gs_world_lift.specs.Saying.{PushRight}
 use Rattle.gs_world_lift.specs.Showing.{setting}
-use Rattle.gs_world_upgrade.proofs.Keeping.{IsRollingAt, rolling_at, step_keeps}
+use Rattle.gs_world_chunks.proofs.Keeping.{IsRollingAt, rolling_at, step_keeps}
 
 -- ---- what is named
 
