@@ -100,7 +100,7 @@ module _ {D : Type 0} (x : Setup D) where
       → (after : MasterOf D) × (place ≡ Standing after) × ((log : Log) × (after.state ≡ restarted d log))
   opened_state config first second d turn place told found (after, is, opening, said) =
       let same = standing_is found.0 after (sym found.1 ∙ is) in
-      let start = started x.seen x.failures config first second d after turn.sent.items told (subst (λ (y : MasterOf D). y.state.durable ≡ d) same found.2) opening in (after, is, (start.log, start.state))
+      let start = started x.seen x.failures config first second d after turn.sent.items told (subst (λ (y : MasterOf D). y.state.durable ≡ d) same (ap (λ (s : State). s.durable) found.2)) opening in (after, is, (start.log, start.state))
 
 module _ {D : Type 0} (x : Setup D) (given : IsGiven x) (step : Step) (sent : Sent) (said : Result (Unit {0}) Refusal) where
   abbrev B : MasterPlace D → MasterPlace D → Type 0
@@ -269,8 +269,8 @@ module _ {D : Type 0} (x : Setup D) (given : IsGiven x) where
     elsewhere h is calm none same = leaves x given (Comes event) old.sent said old.nodes new.nodes (calm_of event h is calm) (unheard x given (Comes event) old.sent said (heard_as event old.sent h is ∙ none)) same
 
     came : (id : MsgId) → event.happening ≡ happenings.Deliver id → (by : NodeId) (outcome : Upshot) → Tells x.seen x.failures x.armed event.moment by outcome old.sent said new.sent → HearsNamed event.moment (happenings.Deliver id) old × HearsWithin (happenings.Deliver id) old
-        → (found : Option Message) → message_of old.sent id ≡ found → MatchOption found ((outcome ≡ Err refusals.Range) × (new.nodes ≡ old.nodes)) (λ message. ComesTo x.seen x.failures x.armed message event.moment old.nodes by outcome new.nodes) → Next
-    came id is by outcome tells within None found (refused, same) = elsewhere (happenings.Deliver id) is refl (ap to_master found) (ap (λ (n : Nodes D). n.master) same)
+        → (found : Option Message) → message_of old.sent id ≡ found → MatchOption found ((outcome ≡ Err refusals.Range) × (new.nodes ≡ old.nodes) × (by ≡ id.sender)) (λ message. ComesTo x.seen x.failures x.armed id.sender message event.moment old.nodes by outcome new.nodes) → Next
+    came id is by outcome tells within None found (refused, same, from) = elsewhere (happenings.Deliver id) is refl (ap to_master found) (ap (λ (n : Nodes D). n.master) same)
     came id is by outcome tells within (Some message) found (inl (by_is, turn, delivers, told)) =
         delivered x given (Comes event) old.sent said message event.moment old.nodes turn new.nodes (calm_of event (happenings.Deliver id) is refl)
         (λ to. record {
@@ -280,7 +280,7 @@ module _ {D : Type 0} (x : Setup D) (given : IsGiven x) where
         })
         (λ none. unheard x given (Comes event) old.sent said (heard_as event old.sent (happenings.Deliver id) is ∙ ap to_master found ∙ none))
         (told_so event.moment by old.sent said new.sent (Comes event) old.sent turn (subst (λ o. Tells x.seen x.failures x.armed event.moment by o old.sent said new.sent) told tells)) delivers
-    came id is by outcome tells within (Some message) found (inr (refused, same)) =
+    came id is by outcome tells within (Some message) found (inr (refused, same, from)) =
         leaves x given (Comes event) old.sent said old.nodes new.nodes (calm_of event (happenings.Deliver id) is refl) (λ other heard. (subst (λ o. Tells x.seen x.failures x.armed event.moment by o old.sent said new.sent) refused tells).1) (ap (λ (n : Nodes D). n.master) same)
 
     at_node : (happening : Happening) → event.happening ≡ happening → (by : NodeId) (outcome : Upshot) → AtNode x.seen x.failures x.armed event.moment happening old by outcome new.nodes → Tells x.seen x.failures x.armed event.moment by outcome old.sent said new.sent
