@@ -43,7 +43,6 @@ WRONG = {
     ),
     "a commit that can't be recorded has no answer": "gs_master_guard/must-fail/a_commit_with_a_prepared_chunk_unanswered.edit",
     "promises go back at a rollback": "gs_store_seal/must-fail/promises_go_back_at_a_rollback.edit",
-    "a secondary skips a number": "gs_replica/must-fail/a_secondary_skips_a_number.edit",
     "a client is told before every member has its edit": "gs_server_lease/must-fail/a_client_is_told_before_every_member_has_its_edit.edit",
 }
 # The lowest crate tells all others which wrong body a run has.
