@@ -20,6 +20,12 @@ KINDS = ("proof", "edits")
 OTHER = "everything else"
 
 
+def anew():
+    """The word by which `rt ci` proves all from nothing, where the kit keeps what it has passed."""
+    keeps = "--anew" in subprocess.run(["rt", "help"], capture_output=True, text=True).stderr
+    return ["--anew"] if keeps else []
+
+
 def descendants(top):
     """The processes below one, itself not among them."""
     parents = collections.defaultdict(list)
@@ -71,7 +77,7 @@ def run(log):
     spent = {}
     begin = time.perf_counter()
     with open(log, "w") as out:
-        gate = subprocess.Popen(["rt", "ci", "--anew"], cwd=ROOT, stdin=subprocess.DEVNULL, stdout=out, stderr=subprocess.STDOUT)
+        gate = subprocess.Popen(["rt", "ci", *anew()], cwd=ROOT, stdin=subprocess.DEVNULL, stdout=out, stderr=subprocess.STDOUT)
         while gate.poll() is None:
             look(gate.pid, spent)
             time.sleep(0.5)
