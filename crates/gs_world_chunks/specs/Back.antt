@@ -1,18 +1,15 @@
 -- What an accepted rollback gives back.
-use Rattle.gs_base.specs.Stamps.{is_before}
 use Rattle.gs_block.specs.Written.{TellsApart}
 use Rattle.std.specs.Prelude.{[], ◌∷◌, ◌≡◌, List, None, Some, false, is_some, slice_get, true, ℕ}
 use Rattle.gs_base.specs.Members.{is_member}
-use Rattle.gs_lease.specs.declared.view.View.{View}
-use Rattle.gs_world_account.specs.Accounts.{Account, settled_edits, view_at}
+use Rattle.gs_world_account.specs.Accounts.{Account, settled_edits}
 use Rattle.gs_master_moves.specs.Epochs.{prepares, rolls_back}
-use Rattle.gs_world_account.specs.Running.{IsGiven, Moves, Runs, RunsBare, Setup, StepsWithin}
+use Rattle.gs_world_account.specs.Running.{IsGiven, Moves, RunsBare, Setup, StepsWithin}
 use Rattle.gs_replica.specs.Seals.{lowest_damaged}
 use Rattle.gs_server.specs.Servers.{Server}
 use Rattle.gs_master_spec.specs.Durable.{Durable, Settled, is_listed, is_ordinary}
 use Rattle.gs_master_spec.specs.State.{is_failed}
-use Rattle.gs_world_chunks.specs.Sealing.{HasText, IsLiveWith}
-use Rattle.gs_world_chunks.specs.Upgrading.{IsUpgrading, RunsUpgraded, Spare}
+use Rattle.gs_world_chunks.specs.Upgrading.{IsUpgrading, Spare}
 use Rattle.gs_nodes.specs.declared.place.MasterPlace.{MasterPlace}
 use Rattle.std.specs.FinMap as fin
 use Rattle.gs_server.specs.Runs.{slot_in}
@@ -36,31 +33,6 @@ module _ {D : Type 0} (x : Setup D) where
   abbrev pub GivesSettledBack : Type 0
   GivesSettledBack = (prepared now back : History D) (before after last : Account) (chunk : ℕ) → IsRolledBack prepared before now after back last → is_listed before.durable chunk ≡ true → is_some (fin.get last.durable.chunks chunk) ≡ true →
       settled_edits last chunk ≡ settled_edits before chunk
-
-  -- A member of a view behind it had the chunk, so that it would name it, in a world on the way, and nothing of it was lost or damaged since.
-  pub record IsUnharmed (prepared : History D) (before : Account) (now : History D) (after : Account) (chunk id : ℕ) : Type 0 where
-    pub mid : History D
-    pub told : Account
-    pub first : IsUpgrading x prepared before mid told
-    pub s : Server
-    pub there : slice_get mid.nodes.servers id ≡ Some s
-    pub learned : s.kept.epoch ≡ after.durable.epoch
-    pub named : is_named after.durable.epoch (slot_in chunk s) ≡ true
-    pub steps : List Step
-    pub rest : RunsUpgraded x steps mid told now after
-    pub spared : Spare chunk id steps
-
-  -- then its replica has just the text of the prepare
-  abbrev pub GivesReplicasBack : Type 0
-  GivesReplicasBack = (prepared now back : History D) (before after last : Account) (chunk id : ℕ) (view : View) (s : Server) → IsRolledBack prepared before now after back last →
-      view_at last chunk ≡ Some view → is_member view.members id ≡ true → slice_get back.nodes.servers id ≡ Some s → IsUnharmed prepared before now after chunk id →
-      IsLiveWith x.config.chunk view.stamp (settled_edits before chunk) (slot_in chunk s)
-
-  -- And whatever has happened, then and later: a member's replica that has made no greater promise, and of which no block is damaged, has no other text.
-  abbrev pub NoOtherText : Type 0
-  NoOtherText = (prepared now back later : History D) (before after last c : Account) (steps : List Step) (chunk id : ℕ) (view : View) (s : Server) (l : Live) → IsRolledBack prepared before now after back last →
-      view_at last chunk ≡ Some view → is_member view.members id ≡ true → Runs x steps back last later c → slice_get later.nodes.servers id ≡ Some s → is_before view.stamp (slot_in chunk s).promise ≡ false →
-      (slot_in chunk s).live ≡ Some l → lowest_damaged l.replica.held.chunk ≡ None → HasText x.config.chunk (settled_edits before chunk) l.replica.held.chunk l.replica.held.count
 
 -- ---- by the nodes alone
 
