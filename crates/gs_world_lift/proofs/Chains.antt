@@ -253,7 +253,7 @@ module _ {D : Type 0} (seen : D → List ℕ) (config : Config) (bytes : ReqId �
           sent = posted_all (ServersTell set chunk d.world) moment ids.Master messages old.sent new.sent posted
               (sent_then (ServersTell set chunk a.world) (ServersTell set chunk d.world) old.sent (λ message tells. body_grown set chunk a.world d.world stays message.from message.to message.body tells) a.shows.sent)
               (subst (AllByRecursion (ServersTell set chunk d.world)) (sym sends)
-              (all_of_master set chunk d.world t.sent (chain_of_master by_config heard s t chain) (subst (λ (b : Birth). AllByRecursion (entry.Tells b.epoch chunk d.world) t.sent) same goes.tells)));
+              (all_of_master set chunk d.world t.sent (chain_of_master by_config heard s t chain) (subst (λ (b : Birth). AllByRecursion (entry.MastersTell b.epoch chunk d.world) t.sent) same goes.tells)));
         }
 
     -- one is born

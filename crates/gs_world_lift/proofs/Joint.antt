@@ -75,7 +75,7 @@ tells_of_master c chunk w from to (bodies.MakeCopy handle at new_handle stamp) i
 tells_of_master c chunk w from to (bodies.Reply req result) is tells = tt
 tells_of_master c chunk w from to body is tells = absurd is
 
-pub all_of_master : (c : Setting) (chunk : ℕ) (w : ChunkWorld) (messages : List Message) → AreOfMaster messages → AllByRecursion (entry.Tells c.born chunk w) messages → AllByRecursion (ServersTell c chunk w) messages
+pub all_of_master : (c : Setting) (chunk : ℕ) (w : ChunkWorld) (messages : List Message) → AreOfMaster messages → AllByRecursion (entry.MastersTell c.born chunk w) messages → AllByRecursion (ServersTell c chunk w) messages
 all_of_master c chunk w [] is tells = tt
 all_of_master c chunk w (m ∷ messages) is tells = (tells_of_master c chunk w m.from m.to m.body is.0 tells.0, all_of_master c chunk w messages is.1 tells.1)
 
