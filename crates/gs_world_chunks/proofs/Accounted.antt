@@ -2,6 +2,7 @@
 use Rattle.std.proofs.Common.{refl, sym, ap, subst, ◌∙◌, ◌≡◌, [], ◌∷◌, Bool, List, false, true}
 use Rattle.std.specs.Prelude.{MatchBool, is_some}
 use Rattle.std.specs.FinMap as fin
+use Rattle.gs_block.specs.Written.{TellsApart}
 use Rattle.gs_master.specs.Journaled.{text_seen}
 use Rattle.gs_master_moves.specs.Epochs.{prepares, rolls_back}
 use Rattle.gs_master_spec.specs.Durable.{Durable, is_listed}
@@ -64,8 +65,8 @@ pub record RolledBackSo {D : Type 0} (x : Setup D) (prepared back : History D) (
   pub is_behind : behind.durable ≡ last
   pub rolled : IsRolledBack x prepared first now after back behind
 
-pub rolled_back_so : {D : Type 0} (x : Setup D) (prepared back : History D) (before last : Durable) → (goes : GoesBack x prepared back before last) → RolledBackSo x prepared back before last goes.now
-rolled_back_so x prepared back before last goes =
+pub rolled_back_so : {D : Type 0} (x : Setup D) (prepared back : History D) (before last : Durable) → TellsApart x.among → (goes : GoesBack x prepared back before last) → RolledBackSo x prepared back before last goes.now
+rolled_back_so x prepared back before last apart goes =
     let given = goes.given in
     let old_well = bare_well x given goes.first goes.begun goes.old goes.runs (begins_well x given goes.begun goes.begins) in
     let well = step_well x given goes.step goes.old prepared old_well goes.steps in
@@ -91,7 +92,7 @@ rolled_back_so x prepared back before last goes =
         upgrade = record {
           old = goes.old;
           first = a;
-          reached = record { apart = goes.apart; begun = goes.begun; first = accounts.0; steps = goes.first; begins = new; runs = runs };
+          reached = record { apart = apart; begun = goes.begun; first = accounts.0; steps = goes.first; begins = new; runs = runs };
           step = goes.step;
           moves = moves;
           accepted = ap (λ d. prepares d before) (sym was) ∙ goes.accepted;
@@ -105,8 +106,8 @@ rolled_back_so x prepared back before last goes =
     }
 
 pub gives_bytes_back : HaveSizes → AreNumbered → {D : Type 0} (x : Setup D) → GivesBytesBack x
-gives_bytes_back sizes law x prepared back before last chunk id other had has goes member old among new =
-    let so = rolled_back_so x prepared back before last goes in
+gives_bytes_back sizes law x prepared back before last chunk id other had has apart goes member old among new =
+    let so = rolled_back_so x prepared back before last apart goes in
     let r = so.rolled in
     let row : is_some (fin.get so.behind.durable.chunks chunk) ≡ true = ap (λ (d : Durable). is_some (fin.get d.chunks chunk)) so.is_behind ∙ ap is_some among.told in
     let listed : is_listed so.first.durable chunk ≡ true =

@@ -10,6 +10,7 @@ use Rattle.gs_chunk.proofs.Facts.{reached_world}
 use Rattle.gs_chunk.proofs.Lasting.{agrees}
 use Rattle.gs_chunk.specs.Machine.{ChunkWorld}
 use Rattle.gs_lease.specs.declared.view.View.{View}
+use Rattle.gs_master_laws.specs.Promises.{IsKept}
 use Rattle.gs_master_moves.specs.Epochs.{rolls_back}
 use Rattle.gs_master_record.specs.declared.checkpoint.Phase.{Phase}
 use Rattle.gs_master_record.specs.declared.checkpoint.Phase.TheVariants.{Ordinary, Rolling, Upgrade}
@@ -40,7 +41,7 @@ use Rattle.gs_world_lift.specs.Living.{GoesOn, LivesOn}
 use Rattle.gs_world_lift.specs.Saying.{PushRight}
 use Rattle.gs_world_lift.specs.Showing.{IsAlive, Life}
 use Rattle.gs_world_chunks.proofs.Bytes.{calm_back, free_back, free_prepared, list_back, rolls as rolls_on, settled_there, text_there}
-use Rattle.gs_world_chunks.specs.Back.{GivesSettledBack, HasBytes, IsMemberAt}
+use Rattle.gs_world_chunks.specs.Back.{HasBytes, IsMemberAt}
 
 never_both : (phase : Phase) → (is_rolling phase && is_ordinary phase) ≡ false
 never_both Ordinary = refl
@@ -87,7 +88,7 @@ module _ (sizes : HaveSizes) (law : AreNumbered) {D : Type 0} (x : Setup D) (pre
   given : IsGiven x
   given = given_there sizes law x prepared now first after up
 
-  sees : SeesBoth x prepared first back last
+  pub sees : SeesBoth x prepared first back last
   sees = each_sees_on sizes law x prepared back first last (up.steps ++ step ∷ []) reached (runs_then x up.steps (step ∷ []) prepared now back first after last upgraded commit)
 
   abbrev asked : ℕ → Asked
@@ -116,6 +117,10 @@ module _ (sizes : HaveSizes) (law : AreNumbered) {D : Type 0} (x : Setup D) (pre
 
   abbrev then : Sees x asked back last
   then = record { lives = next.goes.last; tells = next.tells; agrees = next.agrees; intact = next.intact }
+
+  -- what the records tell behind the commit is such as is kept
+  pub kept_back : IsKept last.durable
+  kept_back = keeps_told x asked back last then
 
   -- the master isn't as it was
   not_same : back.nodes.master ≡ now.nodes.master → (chunk : ℕ) → ⊥
@@ -219,16 +224,3 @@ module _ (sizes : HaveSizes) (law : AreNumbered) {D : Type 0} (x : Setup D) (pre
           ∙ ap (text_of x.config.chunk) (same_list ∙ ap seen_back.since.first.alive.world.known.list (sym (prepared_view seen_back.since.first)))
           ∙ sym (text_there x seen_back.bytes chunk prepared first seen_back.since.first (upgrade_calm first.durable.phase seen_back.since.begun) (free_prepared x seen_back.bytes chunk prepared first now after seen_back.since listed) id former.0 old.s old.live former.1 former.2 old.there old.lives old.whole)
           ∙ old.is
-
--- ---- over runs
-
-view_there : (o : Option Settled) → is_some o ≡ true → (view : View) × (view_in o ≡ Some view)
-view_there None some = absurd (false≢true some)
-view_there (Some y) some = (y.view, refl)
-
-pub gives_settled_back : HaveSizes → AreNumbered → {D : Type 0} (x : Setup D) → GivesSettledBack x
-gives_settled_back sizes law x prepared now back first after last chunk r listed row =
-    let s = sees sizes law x prepared now back first after last r.step r.upgrade r.moves r.accepted in
-    let view = view_there (fin.get last.durable.chunks chunk) row in
-    let former = view_there (fin.get first.durable.chunks chunk) ((keeps_told x s.asked prepared first s.first).settled chunk listed) in
-    settled_back sizes law x prepared now back first after last r.step r.upgrade r.moves r.accepted chunk listed row view.0 view.1 former.0 former.1

@@ -11,14 +11,15 @@ use Rattle.gs_base.specs.declared.refusal.Refusal.{Refusal}
 use Rattle.gs_base.specs.declared.refusal.Refusal.TheVariants as refusals
 use Rattle.gs_edit.specs.View.{NamesView}
 use Rattle.gs_master_laws.proofs.Committing.{refuses_in_order, taken_unless_failed}
-use Rattle.gs_master_laws.specs.Promises.{AllFit, CommitsInOrder, IsFirstUnrestored, commit_record}
+use Rattle.gs_master_laws.proofs.Refusing.{refused_leaves_all}
+use Rattle.gs_master_laws.specs.Promises.{AllFit, CommitsInOrder, IsFirstUnrestored, LeavesAll, commit_record, with_kept, with_said}
 use Rattle.gs_master.specs.Masters.{MasterOf}
 use Rattle.gs_master_moves.proofs.Right.{one_fits}
 use Rattle.gs_master_moves.specs.Guards.{Heard}
-use Rattle.gs_master_record.specs.Plain.{RollbackCommit}
+use Rattle.gs_master_record.specs.Plain.{RollbackCommit, Said}
 use Rattle.gs_master_spec.specs.Durable.{Durable, is_ordinary, is_rolling, prepared_view}
 use Rattle.gs_master_spec.specs.Applied.{replayed}
-use Rattle.gs_master_spec.specs.Handling.{New, from_client, from_node, handle, numbered, replied_again, taken_as, waits_still}
+use Rattle.gs_master_spec.specs.Handling.{New, call_turn, from_client, from_node, handle, numbered, replied_again, taken_as, waits_still}
 use Rattle.gs_master_spec.specs.State.{Failed, Fault, Sound, State, Turn, Unopened, fits, is_failed, is_unopened, last_reply, refused, turned}
 use Rattle.gs_master_spec.specs.Undoing.{all_undone}
 use Rattle.gs_master_spec.specs.Upgrades.{accepted_plan, answers_for, commit_if, commit_on, rollback_commit, told_of, unrestored}
@@ -44,7 +45,7 @@ use Rattle.gs_world_chunks.proofs.Going.{committed_ordinary}
 use Rattle.gs_world_chunks.proofs.Leading.{has_at, steady_at}
 use Rattle.gs_world_chunks.proofs.Telling.{NowSo, none_unnamed, now_so, same_master, told_has}
 use Rattle.gs_world_chunks.proofs.Well.{step_well}
-use Rattle.gs_world_chunks.specs.Accepting.{CommitsAreDecided, IsDecided, WasNamed, met_at, references_then}
+use Rattle.gs_world_chunks.specs.Accepting.{CommitsAreDecided, IsAsItWas, IsDecided, WasNamed, met_at, references_then}
 
 -- ---- the call comes to its own tests
 
@@ -52,6 +53,19 @@ not_unopened : (f : Fault) → is_failed f ≡ false → is_unopened f ≡ false
 not_unopened Sound h = refl
 not_unopened (Failed doubt) h = refl
 not_unopened (Unopened doubt) h = absurd (true≢false h)
+
+called : (config : Config) (s : State) (message : Message) (moment : Moment) (req : ReqId) (client : ClientId) → message.from ≡ nodes.Client client → message.body ≡ bodies.Call req calls.RollbackCommit → handle config s message moment ≡ call_turn config s req moment calls.RollbackCommit
+unfolding handle
+called config s message moment req client from body = ap (λ f. from_node config s moment message.body f) from ∙ ap (λ b. from_client config s moment b) body
+
+-- a refused call leaves what is durable as it was, but for the answers
+left_as_was : (s : State) (req : ReqId) (refusal : Refusal) (t : Turn) → LeavesAll s req refusal t → IsAsItWas s.durable t.after.durable
+left_as_was s req refusal t l = by_way l.left
+  where
+    by_way : ((t.after ≡ s) × (t.records ≡ [])) ⊎ (((t.after ≡ with_said s req refusal) × (t.records ≡ Said req refusal ∷ [])) ⊎ ((t.after ≡ with_kept s req refusal) × (t.records ≡ []))) → IsAsItWas s.durable t.after.durable
+    by_way (inl (same, none)) = subst (λ (z : State). IsAsItWas s.durable z.durable) (sym same) refl
+    by_way (inr (inl (same, one))) = subst (λ (z : State). IsAsItWas s.durable z.durable) (sym same) refl
+    by_way (inr (inr (same, none))) = subst (λ (z : State). IsAsItWas s.durable z.durable) (sym same) refl
 
 judged : (config : Config) (s : State) (message : Message) (moment : Moment) (req : ReqId) (client : ClientId) → message.from ≡ nodes.Client client → message.body ≡ bodies.Call req calls.RollbackCommit → is_failed s.fault ≡ false
     → is_pending s.volatile.pending req ≡ false → numbered (last_reply s req.client) req.number ≡ New → handle config s message moment ≡ rollback_commit s req
@@ -86,6 +100,9 @@ commit_says s req names rolling back = subst (λ (t : Turn). SaysSo t.said) (sym
     by_lacking : (o : Option ℕ) → SaysSo (commit_if s req names o).said
     by_lacking (Some chunk) = inr (inl (chunk, refl))
     by_lacking None = by_room (fits s.log done.records)
+
+abbrev LeavesSo : State → ReqId → Type 0
+LeavesSo s req = (refusal : Refusal) → (rollback_commit s req).said ≡ Some refusal → LeavesAll s req refusal (rollback_commit s req)
 
 ok_not : (e : Refusal) → ◌≡◌ {A = Result (Unit {0}) Refusal} (Ok tt) (Err e) → ⊥
 ok_not e h = absurd (cc)
@@ -135,11 +152,12 @@ decided sizes law {D} x prepared now next before after back step upgrade moves a
     order = refuses_in_order m.state asks.req
 
     -- it is refused, but for no chunk
-    other : (refusal : Refusal) → met_at x step now next moves.steps.goes ≡ Err refusal → ((chunk : ℕ) → refusals.Unrestored chunk ≡ refusal → ⊥) → (met_at x step now next moves.steps.goes ≡ Err refusals.Full) ⊎ (met_at x step now next moves.steps.goes ≡ Err refusals.Memory)
+    other : (refusal : Refusal) → met_at x step now next moves.steps.goes ≡ Err refusal → IsAsItWas after.durable back.durable → ((chunk : ℕ) → refusals.Unrestored chunk ≡ refusal → ⊥) → (met_at x step now next moves.steps.goes ≡ Err refusals.Full) ⊎ (met_at x step now next moves.steps.goes ≡ Err refusals.Memory)
         → IsDecided x prepared before now after upgrade (met_at x step now next moves.steps.goes) back
-    other refusal so none which = record {
+    other refusal so kept none which = record {
       accepted = λ ok. absurd (ok_not refusal (sym ok ∙ so));
       refused = λ chunk e. absurd (none chunk (err_is (sym e ∙ so)));
+      kept = λ other e. kept;
       either = inr (inr which);
     }
 
@@ -156,8 +174,8 @@ decided sizes law {D} x prepared now next before after back step upgrade moves a
         by_count (Some count) has few =
             let told = f.lower less count lt (ap (λ (names : NamesView). fin.get names.refs less) (names_is (sym f.back ∙ since.back)) ∙ has) few in n.named m asks.there less told.0 (ap is_some has) told.1
 
-    refused_for : (chunk : ℕ) → (rollback_commit m.state asks.req).said ≡ Some (refusals.Unrestored chunk) → met_at x step now next moves.steps.goes ≡ Err (refusals.Unrestored chunk) → IsDecided x prepared before now after upgrade (met_at x step now next moves.steps.goes) back
-    refused_for chunk t so = record {
+    refused_for : (chunk : ℕ) → IsAsItWas after.durable back.durable → (rollback_commit m.state asks.req).said ≡ Some (refusals.Unrestored chunk) → met_at x step now next moves.steps.goes ≡ Err (refusals.Unrestored chunk) → IsDecided x prepared before now after upgrade (met_at x step now next moves.steps.goes) back
+    refused_for chunk kept t so = record {
       accepted = λ ok. absurd (ok_not (refusals.Unrestored chunk) (sym ok ∙ so));
       refused = λ c e.
           (let f = (order.unrestored c).0 (t ∙ ap Some (err_is (sym so ∙ e))) in record {
@@ -165,6 +183,7 @@ decided sizes law {D} x prepared now next before after back step upgrade moves a
             unnamed = λ named. f.lacks (named_restored sizes law x prepared now before after upgrade m c asks.there same n.well.steady n.since rolling named);
             lower = λ less lt more. lower_so c f less lt more;
           });
+      kept = λ other e. kept;
       either = inr (inl (chunk, so));
     }
 
@@ -182,28 +201,39 @@ decided sizes law {D} x prepared now next before after back step upgrade moves a
         let rolled = both_true (is_rolling after.durable.phase) (is_ordinary back.durable.phase) rolling (ap (λ (d : Durable). is_ordinary d.phase) there ∙ ordinary fit none) in record {
           accepted = λ k. (none_unnamed x prepared now next before after back step upgrade moves rolled, rolled);
           refused = λ c e. absurd (ok_not (refusals.Unrestored c) (sym ok ∙ e));
+          kept = λ refusal e. absurd (ok_not refusal (sym ok ∙ e));
           either = inl ok;
         }
 
     -- ---- what was said
 
-    by_said : AllFit m.state (rollback_commit m.state asks.req) → SaysSo (rollback_commit m.state asks.req).said → met_at x step now next moves.steps.goes ≡ met_by (rollback_commit m.state asks.req).said → back.durable ≡ (rollback_commit m.state asks.req).after.durable
+    kept_so : (refusal : Refusal) → LeavesSo m.state asks.req → (rollback_commit m.state asks.req).said ≡ Some refusal → back.durable ≡ (rollback_commit m.state asks.req).after.durable → IsAsItWas after.durable back.durable
+    kept_so refusal leaves t there = subst (λ (d : Durable). IsAsItWas d back.durable) (sym same) (subst (IsAsItWas m.state.durable) (sym there) (left_as_was m.state asks.req refusal (rollback_commit m.state asks.req) (leaves refusal t)))
+
+    by_said : AllFit m.state (rollback_commit m.state asks.req) → LeavesSo m.state asks.req → SaysSo (rollback_commit m.state asks.req).said → met_at x step now next moves.steps.goes ≡ met_by (rollback_commit m.state asks.req).said → back.durable ≡ (rollback_commit m.state asks.req).after.durable
         → IsDecided x prepared before now after upgrade (met_at x step now next moves.steps.goes) back
-    by_said fit (inl none) so there = accepted_so fit none (so ∙ ap met_by none) there
-    by_said fit (inr (inl (chunk, t))) so there = refused_for chunk t (so ∙ ap met_by t)
-    by_said fit (inr (inr full)) so there = other refusals.Full (so ∙ ap met_by full) not_full (inl (so ∙ ap met_by full))
+    by_said fit leaves (inl none) so there = accepted_so fit none (so ∙ ap met_by none) there
+    by_said fit leaves (inr (inl (chunk, t))) so there = refused_for chunk (kept_so (refusals.Unrestored chunk) leaves t there) t (so ∙ ap met_by t)
+    by_said fit leaves (inr (inr full)) so there = other refusals.Full (so ∙ ap met_by full) (kept_so refusals.Full leaves full there) not_full (inl (so ∙ ap met_by full))
 
     at_turn : (after_m : MasterOf D) (heard : Heard) (t : Turn) → next.nodes.master ≡ Standing after_m → AllFit m.state t → after_m.state ≡ t.after → IsHearing step now.sent (met_at x step now next moves.steps.goes) m.config m.state heard t
         → IsDecided x prepared before now after upgrade (met_at x step now next moves.steps.goes) back
     at_turn after_m heard t to fit is (ByItself alone unheard left) = absurd (false≢true (ap is_some (sym unheard ∙ asks.heard)))
     at_turn after_m heard t to fit is (ByMessage message moment found hearing is_turn says) =
         let one = message_is (sym found ∙ asks.heard) in
-        let turn : t ≡ rollback_commit m.state asks.req = is_turn ∙ ap (λ it. handle m.config m.state it moment) one ∙ judged m.config m.state asks.message moment asks.req asks.client asks.from asks.asks steady.firm.sound none_waits asks.new in
+        let judgement = judged m.config m.state asks.message moment asks.req asks.client asks.from asks.asks steady.firm.sound none_waits asks.new in
+        let turn : t ≡ rollback_commit m.state asks.req = is_turn ∙ ap (λ it. handle m.config m.state it moment) one ∙ judgement in
+        let call : call_turn m.config m.state asks.req moment calls.RollbackCommit ≡ rollback_commit m.state asks.req = sym (called m.config m.state asks.message moment asks.req asks.client asks.from asks.asks) ∙ judgement in
+        let leaves : LeavesSo m.state asks.req = subst (λ (u : Turn). (refusal : Refusal) → u.said ≡ Some refusal → LeavesAll m.state asks.req refusal u) call (refused_leaves_all m.config m.state asks.req moment calls.RollbackCommit) in
         let there = has_at x next.nodes.master after_m back.durable to (told_has x next back.durable (step_well x n.given step now next n.well moves.steps) moves.told) ∙ ap (λ (s : State). s.durable) is ∙ ap (λ (u : Turn). u.after.durable) turn in
-        by_said (subst (AllFit m.state) turn fit) (commit_says m.state asks.req before.durable.names asks.rolling since.back) (says ∙ ap (λ (u : Turn). met_by u.said) turn) there
+        by_said (subst (AllFit m.state) turn fit) leaves (commit_says m.state asks.req before.durable.names asks.rolling since.back) (says ∙ ap (λ (u : Turn). met_by u.said) turn) there
 
     by_case : Became x.seen step now.sent (met_at x step now next moves.steps.goes) now.nodes.master next.nodes.master → IsDecided x prepared before now after upgrade (met_at x step now next moves.steps.goes) back
-    by_case (Stays here after_m at to is refused calm) = (let memory = refused asks.message asks.heard in other refusals.Memory memory not_memory (inr memory))
+    by_case (Stays here after_m at to is low calm) =
+        let memory = low asks.message asks.heard in
+        let there : back.durable ≡ here.state.durable = has_at x next.nodes.master after_m back.durable to (told_has x next back.durable (step_well x n.given step now next n.well moves.steps) moves.told) ∙ ap (λ (s : State). s.durable) is in
+        let was : after.durable ≡ here.state.durable = has_at x now.nodes.master here after.durable at n.has in
+        other refusals.Memory memory (subst (IsAsItWas after.durable) (was ∙ sym there) refl) not_memory (inr memory)
     by_case (Turns here after_m heard t at to turn written is hears calm) =
         let master = same_master now.nodes.master here m at asks.there in
         at_turn after_m heard t to (subst (λ (z : MasterOf D). AllFit z.state t) master (turn_fits here.config heard here.state t turn written)) is (subst (λ (z : MasterOf D). IsHearing step now.sent (met_at x step now next moves.steps.goes) z.config z.state heard t) master hears)

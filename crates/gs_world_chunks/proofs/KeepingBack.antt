@@ -130,9 +130,9 @@ with_bytes : {D : Type 0} (h : History D) (id chunk : ℕ) (had : List ℕ) → 
 with_bytes h id chunk had (bytes, has) same = subst (HasBytes h id chunk) (same bytes has) has
 
 pub keeps_bytes : HaveSizes → AreNumbered → {D : Type 0} (x : Setup D) → KeepsBytes x
-keeps_bytes sizes law x prepared back before last chunk id other had goes member old among was =
+keeps_bytes sizes law x prepared back before last chunk id other had apart goes member old among was =
     let given = goes.given in
-    let so = rolled_back_so x prepared back before last goes in
+    let so = rolled_back_so x prepared back before last apart goes in
     let begun = stands_prepared x prepared back before last goes in
     let stands = within_so x given before was.first prepared was.mid was.way begun in
     let way = within_accounts x given before was.first prepared was.mid so.first was.way begun in
@@ -142,4 +142,4 @@ keeps_bytes sizes law x prepared back before last chunk id other had goes member
     let now = whole_now sizes law x was.mid goes.now way.0 rest.0 was.steps reached (runs_of x was.steps was.mid goes.now way.0 rest.0 rest.1) goes.rolling (keeps_has x goes.now.nodes.master goes.rolling goes.rolls) rolling chunk other was.s was.there was.learned was.named was.spared in
     let well = (within_so x given before goes.between prepared goes.now goes.rest begun).well in
     with_bytes back other chunk had (bytes_there goes.now back other chunk (servers_stay x prepared back before last goes well) now)
-    (λ has new. gives_bytes_back sizes law x prepared back before last chunk id other had has goes member old among new)
+    (λ has new. gives_bytes_back sizes law x prepared back before last chunk id other had has apart goes member old among new)

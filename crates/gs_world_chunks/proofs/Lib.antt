@@ -45,6 +45,7 @@ mod Counted
 mod Deciding
 mod Bytes
 mod BytesRuns
+mod Settled
 mod Accounted
 mod Keeping
 mod KeepingRuns

@@ -27,6 +27,7 @@ use Rattle.gs_master_spec.specs.Hearing.{learned, next_epoch, sends}
 use Rattle.gs_master_spec.specs.State.{State, Turn, is_failed, met_by, turned, unmoved}
 use Rattle.gs_master_spec.specs.declared.asking.Prepared.{Prepared}
 use Rattle.gs_master_spec.specs.declared.change.Change.TheVariants as changes
+use Rattle.gs_master_moves.specs.Epochs.{rolls_back}
 use Rattle.gs_master_upgrade.specs.Since.{AreRestored, IsSince}
 use Rattle.gs_msg.specs.declared.body.Body.{Body}
 use Rattle.gs_msg.specs.declared.body.Body.TheVariants as bodies
@@ -349,6 +350,21 @@ now_so {D = D} x prepared now before after upgrade = record { given = b.given; w
 
 -- ---- a rollback that is done
 
+-- and how a step leads on from there
+lead_next : {D : Type 0} (x : Setup D) (prepared now next : History D) (before after back : Account) (step : Step) (upgrade : IsUpgrading x prepared before now after) → Moves x step now after next back → PlaceLeads now.nodes.master before.durable after.durable back.durable
+lead_next {D = D} x prepared now next before after back step upgrade moves =
+    leads x step now.sent (met_at x step now next moves.steps.goes) now.nodes.master next.nodes.master before.durable after.durable back.durable (became x n.given step now next n.well moves.steps) n.has
+    (told_has x next back.durable (step_well x n.given step now next n.well moves.steps) moves.told) n.since
+  where
+    n : NowSo x prepared now before after upgrade
+    n = now_so x prepared now before after upgrade
+
+-- where a rollback is done, the names are those of the prepare
+pub names_back : {D : Type 0} (x : Setup D) (prepared now next : History D) (before after back : Account) (step : Step) (upgrade : IsUpgrading x prepared before now after) → Moves x step now after next back → rolls_back after.durable back.durable ≡ true
+    → back.durable.names ≡ before.durable.names
+names_back x prepared now next before after back step upgrade moves rolled =
+    let ends = and_parts (is_rolling after.durable.phase) (is_ordinary back.durable.phase) rolled in (lead_next x prepared now next before after back step upgrade moves).names ends.0 ends.1
+
 pub none_unnamed : {D : Type 0} (x : Setup D) → NoneGoesBackUnnamed x
 none_unnamed {D = D} x prepared now next before after back step upgrade moves rolled = all_named
   where
@@ -356,9 +372,7 @@ none_unnamed {D = D} x prepared now next before after back step upgrade moves ro
     n = now_so x prepared now before after upgrade
 
     lead : PlaceLeads now.nodes.master before.durable after.durable back.durable
-    lead =
-        leads x step now.sent (met_at x step now next moves.steps.goes) now.nodes.master next.nodes.master before.durable after.durable back.durable (became x n.given step now next n.well moves.steps) n.has
-        (told_has x next back.durable (step_well x n.given step now next n.well moves.steps) moves.told) n.since
+    lead = lead_next x prepared now next before after back step upgrade moves
 
     ends : (is_rolling after.durable.phase ≡ true) × (is_ordinary back.durable.phase ≡ true)
     ends = and_parts (is_rolling after.durable.phase) (is_ordinary back.durable.phase) rolled

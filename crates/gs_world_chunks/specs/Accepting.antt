@@ -9,7 +9,7 @@ use Rattle.gs_base.specs.declared.refusal.Refusal.{Refusal}
 use Rattle.gs_base.specs.declared.refusal.Refusal.TheVariants as refusals
 use Rattle.gs_master.specs.Masters.{MasterOf}
 use Rattle.gs_master_moves.specs.Epochs.{rolls_back}
-use Rattle.gs_master_spec.specs.Durable.{is_rolling}
+use Rattle.gs_master_spec.specs.Durable.{Durable, is_rolling}
 use Rattle.gs_master_spec.specs.Handling.{New, numbered}
 use Rattle.gs_master_spec.specs.State.{last_reply}
 use Rattle.gs_msg.specs.declared.body.Body.TheVariants as bodies
@@ -65,6 +65,10 @@ HasTaken x Such [] old a new b runs = ⊥
 HasTaken x Such (step ∷ steps) old a new b (mid, c, moves, going, rest) =
     (TakesSuch x Such step old mid moves.steps.goes × NoRestart steps) ⊎ HasTaken x Such steps mid c new b rest
 
+-- what is durable is as it was, but for the answers that are kept
+abbrev pub IsAsItWas : Durable → Durable → Type 0
+IsAsItWas old new = new ≡ record old { replies = new.replies }
+
 module _ {D : Type 0} (x : Setup D) where
   -- a server that has the chunk by its view at the prepare, or is a holder of it, has named it in the epoch that stands
   abbrev pub WasNamed : (prepared : History D) (before : Account) (now : History D) (after : Account) → IsUpgrading x prepared before now after → ℕ → Type 0
@@ -85,10 +89,12 @@ module _ {D : Type 0} (x : Setup D) where
 
   -- ---- what is to hold
 
-  -- A commit is accepted only where all is named, and the rollback is done then. It is refused for a chunk where that isn't named, the lowest such; and else for want of room in the journal, or of memory.
+  -- A commit is accepted only where all is named, and the rollback is done then. It is refused for a chunk where that isn't named, the lowest such; and else for want of room in the journal, or of memory; and then
+  -- the rollback goes on as it was.
   pub record IsDecided (prepared : History D) (before : Account) (now : History D) (after : Account) (upgrade : IsUpgrading x prepared before now after) (said : Result (Unit {0}) Refusal) (back : Account) : Type 0 where
     pub accepted : said ≡ Ok tt → AllWereNamed prepared before now after upgrade × (rolls_back after.durable back.durable ≡ true)
     pub refused : (chunk : ℕ) → said ≡ Err (refusals.Unrestored chunk) → IsLowestUnnamed prepared before now after upgrade chunk
+    pub kept : (refusal : Refusal) → said ≡ Err refusal → IsAsItWas after.durable back.durable
     pub either : (said ≡ Ok tt) ⊎ ((chunk : ℕ) × (said ≡ Err (refusals.Unrestored chunk))) ⊎ (said ≡ Err refusals.Full) ⊎ (said ≡ Err refusals.Memory)
 
   -- a client's call to commit comes to a master that rolls back, and its number is above that of the last answer which is kept of the client

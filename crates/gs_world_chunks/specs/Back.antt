@@ -29,10 +29,14 @@ module _ {D : Type 0} (x : Setup D) where
     pub moves : Moves x step now after back last
     pub accepted : rolls_back after.durable last.durable ≡ true
 
-  -- What is settled of a chunk that a file had at the prepare, and that is given back, is what was settled then.
+  -- Each chunk that a file had at the prepare has a settled view behind the rollback, and what is settled of it is what was settled then;
   abbrev pub GivesSettledBack : Type 0
-  GivesSettledBack = (prepared now back : History D) (before after last : Account) (chunk : ℕ) → IsRolledBack prepared before now after back last → is_listed before.durable chunk ≡ true → is_some (fin.get last.durable.chunks chunk) ≡ true →
-      settled_edits last chunk ≡ settled_edits before chunk
+  GivesSettledBack = (prepared now back : History D) (before after last : Account) (chunk : ℕ) → IsRolledBack prepared before now after back last → is_listed before.durable chunk ≡ true →
+      (is_some (fin.get last.durable.chunks chunk) ≡ true) × (settled_edits last chunk ≡ settled_edits before chunk)
+
+  -- and no other chunk has one.
+  abbrev pub GivesNoOtherBack : Type 0
+  GivesNoOtherBack = (prepared now back : History D) (before after last : Account) (chunk : ℕ) → IsRolledBack prepared before now after back last → is_some (fin.get last.durable.chunks chunk) ≡ true → is_listed before.durable chunk ≡ true
 
 -- ---- by the nodes alone
 
@@ -66,7 +70,6 @@ module _ {D : Type 0} (x : Setup D) where
   -- A store that has begun comes to a step at which a prepare is accepted, and then to one at which a rollback is; no upgrade is ended between.
   pub record GoesBack (prepared back : History D) (before last : Durable) : Type 0 where
     pub given : IsGiven x
-    pub apart : TellsApart x.among
     pub begun : History D
     pub begins : Begins x.seen x.failures x.armed x.config x.clients x.disks begun
     pub first : List Step
@@ -92,10 +95,10 @@ module _ {D : Type 0} (x : Setup D) where
   abbrev pub GivesNamesBack : Type 0
   GivesNamesBack = (prepared back : History D) (before last : Durable) → GoesBack prepared back before last → last.names ≡ before.names
 
-  -- Where a member of a chunk's view had these bytes right behind the prepare, each block with its digest, each member of its view behind the rollback has
-  -- just these, if each block of it has its digest.
+  -- Where digests tell blocks apart, and a member of a chunk's view had these bytes right behind the prepare, each block with its digest, each member of its view
+  -- behind the rollback has just these, if each block of it has its digest.
   abbrev pub GivesBytesBack : Type 0
-  GivesBytesBack = (prepared back : History D) (before last : Durable) (chunk id other : ℕ) (had has : List ℕ) → GoesBack prepared back before last →
+  GivesBytesBack = (prepared back : History D) (before last : Durable) (chunk id other : ℕ) (had has : List ℕ) → TellsApart x.among → GoesBack prepared back before last →
       IsMemberAt before chunk id → HasBytes prepared id chunk had → IsMemberAt last chunk other → HasBytes back other chunk has → has ≡ had
 
   -- And it has them, where in a world on the way it would have named the chunk, and nothing of it was lost or damaged since.
@@ -112,5 +115,5 @@ module _ {D : Type 0} (x : Setup D) where
     pub spared : Spare chunk id steps
 
   abbrev pub KeepsBytes : Type 0
-  KeepsBytes = (prepared back : History D) (before last : Durable) (chunk id other : ℕ) (had : List ℕ) → (goes : GoesBack prepared back before last) →
+  KeepsBytes = (prepared back : History D) (before last : Durable) (chunk id other : ℕ) (had : List ℕ) → TellsApart x.among → (goes : GoesBack prepared back before last) →
       IsMemberAt before chunk id → HasBytes prepared id chunk had → IsMemberAt last chunk other → WasUnharmed prepared goes.now goes.rolling chunk other → HasBytes back other chunk had

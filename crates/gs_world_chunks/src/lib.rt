@@ -18,7 +18,7 @@ ghost use Rattle.gs_world_chunks.specs.Standing.{QuietStaysStill, ReplicasStand}
 ghost use Rattle.gs_world_chunks.specs.Durables.{ToldIsHad};
 ghost use Rattle.gs_world_chunks.specs.Seeing.{EachIsSeen, EachSeesOn, StoresStayIntact};
 ghost use Rattle.gs_world_chunks.specs.Accepting.{CommitsAreDecided, NoneGoesBackUnnamed};
-ghost use Rattle.gs_world_chunks.specs.Back.{GivesBytesBack, GivesNamesBack, GivesSettledBack, KeepsBytes};
+ghost use Rattle.gs_world_chunks.specs.Back.{GivesBytesBack, GivesNamesBack, GivesNoOtherBack, GivesSettledBack, KeepsBytes};
 
 use gs_block::promises::configurations_have_sizes;
 use gs_server_laws::{a_message_edits_a_replica_by_what_it_says, an_event_calls_what_it_says};
@@ -183,7 +183,7 @@ pub fn no_rollback_is_done_unnamed<D>()
 {}
 
 /// A client's new call to commit a rollback is accepted only where each chunk that stood in a file at the prepare was named, and the rollback is done then. Else it is refused for the lowest such chunk that
-/// wasn't named, or for want of room in the journal or of memory.
+/// wasn't named, or for want of room in the journal or of memory; and the rollback goes on as it was, with nothing else durable than the answer.
 pub fn a_commit_is_decided_by_what_was_named<D>()
     ensures { (x : Setup D) → CommitsAreDecided x }
 {
@@ -191,15 +191,16 @@ pub fn a_commit_is_decided_by_what_was_named<D>()
     a_message_edits_a_replica_by_what_it_says();
 }
 
-/// What is settled of each chunk behind the commit of a rollback is what was settled of it right behind the prepare.
+/// Each chunk that a file had at the prepare has a settled view behind the commit of a rollback, no other chunk has one, and what is settled of it is what was settled of it right behind the prepare.
 pub fn a_rollback_gives_back_what_was_settled<D>()
-    ensures { (x : Setup D) → GivesSettledBack x }
+    ensures settled { (x : Setup D) → GivesSettledBack x }
+    ensures others { (x : Setup D) → GivesNoOtherBack x }
 {
     configurations_have_sizes();
     a_message_edits_a_replica_by_what_it_says();
 }
 
-/// An accepted rollback gives back what stood at the last accepted prepare, by what the nodes have alone: the names are those of the prepare, and of each chunk what a sound replica of a member had right behind
+/// An accepted rollback gives back what stood at the last accepted prepare, by what the nodes have alone: the names are those of the prepare; and where digests tell blocks apart, of each chunk what a sound replica of a member had right behind
 /// the prepare is what each sound replica of a member has behind the rollback; whatever has happened between. And each member has it, live, whose server would have named the chunk on the way, and of which nothing
 /// was lost or damaged since.
 pub fn a_rollback_gives_back_names_and_bytes<D>()

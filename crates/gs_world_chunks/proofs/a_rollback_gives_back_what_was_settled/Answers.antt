@@ -1,5 +1,8 @@
-use Rattle.gs_world_chunks.proofs.BytesRuns.{gives_settled_back}
+use Rattle.gs_world_chunks.proofs.Settled.{gives_no_other_back, gives_settled_back}
 use Rattle.gs_world_chunks.proofs.a_rollback_gives_back_what_was_settled.Goals as goal
 
-pub returns : goal.returns
-returns g c x = gives_settled_back c.configurations_have_sizes.ensures c.a_message_edits_a_replica_by_what_it_says.ensures.edit x
+pub returns-clause-settled : goal.returns-clause-settled
+returns-clause-settled g c x = gives_settled_back c.configurations_have_sizes.ensures c.a_message_edits_a_replica_by_what_it_says.ensures.edit x
+
+pub returns-clause-others : goal.returns-clause-others
+returns-clause-others g c x = gives_no_other_back c.configurations_have_sizes.ensures c.a_message_edits_a_replica_by_what_it_says.ensures.edit x
