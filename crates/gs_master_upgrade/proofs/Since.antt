@@ -40,7 +40,7 @@ use Rattle.gs_master_moves.specs.Epochs.{Begun, Committed, EpochGoes, Finalized,
 use Rattle.gs_master_moves.specs.Guards.{Heard, IsMade}
 use Rattle.gs_master_moves.specs.Moves.{Move, Prepares, Finalizes, CommitsRollback, move_turn}
 use Rattle.gs_master_upgrade.proofs.Records.{Goes, Paced, Turns, chain_within, is_bound, paced}
-use Rattle.gs_master_upgrade.specs.Since.{CutsLead, IsSince, LeadsBack, LeadsBackAt, TurnsBegin, TurnsLead}
+use Rattle.gs_master_upgrade.specs.Since.{CutsLead, IsSince, GoesOnSince, GoesOnSinceAt, TurnsBegin, TurnsLead}
 
 durable_is : {a b : Durable} → ◌≡◌ {A = Option Durable} (Some a) (Some b) → a ≡ b
 durable_is h = cc
@@ -172,7 +172,7 @@ module _ (prepared : Durable) where
       each (Some n) is all h = all n is h
 
 -- what stands is led on
-still : (s : State) (prepared next : Durable) → IsSince prepared next → LeadsBack s prepared next
+still : (s : State) (prepared next : Durable) → IsSince prepared next → GoesOnSince s prepared next
 still s prepared next k = record { since = λ off. k; names = λ r o. absurd (false≢true (sym k.stands ∙ o)); restored = λ r o. absurd (false≢true (sym k.stands ∙ o)) }
 
 -- ---- one record that begins or ends an upgrade
@@ -185,7 +185,7 @@ module _ (s : State) (prepared : Durable) (k : IsSince prepared s.durable) where
       let is = fits_gives (is_ordinary d.phase && (is_next_epoch d.epoch epoch && are_at_rest d)) (without_prepared (with_epoch d ends.Prepare Upgrade)) next e in
       false≢true (sym k.stands ∙ (and_parts (is_ordinary d.phase) (is_next_epoch d.epoch epoch && are_at_rest d) is.0).0)
 
-  finalize_leads : (epoch : ℕ) (next : Durable) → applied s.durable (Finalize epoch) ≡ Some next → LeadsBack s prepared next
+  finalize_leads : (epoch : ℕ) (next : Durable) → applied s.durable (Finalize epoch) ≡ Some next → GoesOnSince s prepared next
   unfolding applied
   finalize_leads epoch next e =
       let d = s.durable in
@@ -211,7 +211,7 @@ module _ (s : State) (prepared : Durable) (k : IsSince prepared s.durable) where
       by_room false = inr refl
 
   commit_leads : (req : ReqId) (names : NamesView) (epoch : ℕ) (answers : List Answered) (next : Durable) → is_rolling s.durable.phase ≡ true → all_undone s.durable.inverses s.durable.names ≡ Some names
-      → unrestored (prepared_view s.durable) (told_of s) (fin.entries names.refs) ≡ None → applied s.durable (RollbackCommit epoch answers) ≡ Some next → LeadsBack s prepared next
+      → unrestored (prepared_view s.durable) (told_of s) (fin.entries names.refs) ≡ None → applied s.durable (RollbackCommit epoch answers) ≡ Some next → GoesOnSince s prepared next
   unfolding applied
   commit_leads req names epoch answers next rolling back none e =
       let d = s.durable in
@@ -227,7 +227,7 @@ module _ (s : State) (prepared : Durable) (k : IsSince prepared s.durable) where
 
 -- they go on within the upgrade, or are one that begins or ends one
 abbrev Paces : State → Durable → List PlainEntry → Type 0
-Paces s prepared records = GoWithin s.durable records ⊎ ((entry : PlainEntry) × (records ≡ entry ∷ []) × ((next : Durable) → applied s.durable entry ≡ Some next → LeadsBack s prepared next))
+Paces s prepared records = GoWithin s.durable records ⊎ ((entry : PlainEntry) × (records ≡ entry ∷ []) × ((next : Durable) → applied s.durable entry ≡ Some next → GoesOnSince s prepared next))
 
 module _ (config : Config) (heard : Heard) where
   paces : (prepared : Durable) (s : State) (t : Turn) → Paced config heard s t → IsWritten t → IsSince prepared s.durable → Paces s prepared t.records × AllFit s t
@@ -240,21 +240,21 @@ module _ (config : Config) (heard : Heard) where
       by_move (CommitsRollback req names) m bound = inr (_, refl, λ next e. commit_leads u prepared k req names _ _ next m.may.rolling m.may.back m.may.restored e)
       by_move other m bound = absurd (false≢true bound)
 
-lead : (prepared : Durable) (s : State) (records : List PlainEntry) (next : Durable) → Paces s prepared records → replayed s.durable records ≡ Some next → IsSince prepared s.durable → LeadsBack s prepared next
+lead : (prepared : Durable) (s : State) (records : List PlainEntry) (next : Durable) → Paces s prepared records → replayed s.durable records ≡ Some next → IsSince prepared s.durable → GoesOnSince s prepared next
 lead prepared s records next (inl within) fit k = still s prepared next (since_all prepared s.durable next records k within fit)
 lead prepared s records next (inr (entry, is, f)) fit k = f next (one_fits s.durable next entry (ap (replayed s.durable) (sym is) ∙ fit))
 
-cut_alone : (prepared : Durable) (s : State) (entry : PlainEntry) (place : ℕ) (d : Durable) → IsSince prepared s.durable → ((next : Durable) → applied s.durable entry ≡ Some next → LeadsBack s prepared next) → place < 1 → replayed s.durable (take place (entry ∷ [])) ≡ Some d
-    → LeadsBackAt s prepared (entry ∷ []) place d
+cut_alone : (prepared : Durable) (s : State) (entry : PlainEntry) (place : ℕ) (d : Durable) → IsSince prepared s.durable → ((next : Durable) → applied s.durable entry ≡ Some next → GoesOnSince s prepared next) → place < 1 → replayed s.durable (take place (entry ∷ [])) ≡ Some d
+    → GoesOnSinceAt s prepared (entry ∷ []) place d
 cut_alone prepared s entry zero d k f within fit =
     record { since = subst (IsSince prepared) (durable_is fit) k; doubt = λ x next at e. f next (ap (applied s.durable) (entry_is at) ∙ ap (λ m. applied m x) (durable_is fit) ∙ e) }
 cut_alone prepared s entry (suc place) d k f within fit = absurd (omega arith)
 
-cut_leads : (prepared : Durable) (s : State) (records : List PlainEntry) (place : ℕ) (d : Durable) → Paces s prepared records → IsSince prepared s.durable → place < length records → replayed s.durable (take place records) ≡ Some d → LeadsBackAt s prepared records place d
+cut_leads : (prepared : Durable) (s : State) (records : List PlainEntry) (place : ℕ) (d : Durable) → Paces s prepared records → IsSince prepared s.durable → place < length records → replayed s.durable (take place records) ≡ Some d → GoesOnSinceAt s prepared records place d
 cut_leads prepared s records place d (inl within) k low fit =
     let c = cut_within prepared s.durable d records place k within fit in record { since = c.0; doubt = λ entry next at e. still s prepared next (c.1 entry next at e) }
 cut_leads prepared s records place d (inr (entry, is, f)) k low fit =
-    subst (λ r. place < length r → replayed s.durable (take place r) ≡ Some d → LeadsBackAt s prepared r place d) (sym is) (λ l t. cut_alone prepared s entry place d k f l t) low fit
+    subst (λ r. place < length r → replayed s.durable (take place r) ≡ Some d → GoesOnSinceAt s prepared r place d) (sym is) (λ l t. cut_alone prepared s entry place d k f l t) low fit
 
 pub turns_lead : TurnsLead
 turns_lead config heard s t prepared turn written k =

@@ -25,7 +25,7 @@ abbrev pub AreRestored : State → Durable → Type 0
 AreRestored s prepared = (chunk count : ℕ) → fin.get prepared.names.refs chunk ≡ Some count → 0 < count → IsRestored s chunk
 
 -- So it goes on: what is durable next is so too. But where a rollback ends, the names are those of the prepare, and servers had told of all chunks.
-pub record LeadsBack (s : State) (prepared next : Durable) : Type 0 where
+pub record GoesOnSince (s : State) (prepared next : Durable) : Type 0 where
   pub since : is_ordinary next.phase ≡ false → IsSince prepared next
   pub names : is_rolling s.durable.phase ≡ true → is_ordinary next.phase ≡ true → next.names ≡ prepared.names
   pub restored : is_rolling s.durable.phase ≡ true → is_ordinary next.phase ≡ true → AreRestored s prepared
@@ -39,13 +39,13 @@ TurnsBegin = (config : Config) (heard : Heard) (s : State) (t : Turn) → EndsOn
 
 -- And so it goes on over each,
 abbrev pub TurnsLead : Type 0
-TurnsLead = (config : Config) (heard : Heard) (s : State) (t : Turn) (prepared : Durable) → EndsOnce config (IsMade config heard) s t → IsWritten t → IsSince prepared s.durable → LeadsBack s prepared t.after.durable
+TurnsLead = (config : Config) (heard : Heard) (s : State) (t : Turn) (prepared : Durable) → EndsOnce config (IsMade config heard) s t → IsWritten t → IsSince prepared s.durable → GoesOnSince s prepared t.after.durable
 
 -- and where the append of a record fails: behind those before it, and if it stands too.
-pub record LeadsBackAt (s : State) (prepared : Durable) (records : List PlainEntry) (place : ℕ) (d : Durable) : Type 0 where
+pub record GoesOnSinceAt (s : State) (prepared : Durable) (records : List PlainEntry) (place : ℕ) (d : Durable) : Type 0 where
   pub since : IsSince prepared d
-  pub doubt : (entry : PlainEntry) (next : Durable) → slice_get records place ≡ Some entry → applied d entry ≡ Some next → LeadsBack s prepared next
+  pub doubt : (entry : PlainEntry) (next : Durable) → slice_get records place ≡ Some entry → applied d entry ≡ Some next → GoesOnSince s prepared next
 
 abbrev pub CutsLead : Type 0
 CutsLead = (config : Config) (heard : Heard) (s : State) (t : Turn) (prepared : Durable) (place : ℕ) (d : Durable) → EndsOnce config (IsMade config heard) s t → IsWritten t → IsSince prepared s.durable
-    → place < length t.records → replayed s.durable (take place t.records) ≡ Some d → LeadsBackAt s prepared t.records place d
+    → place < length t.records → replayed s.durable (take place t.records) ≡ Some d → GoesOnSinceAt s prepared t.records place d

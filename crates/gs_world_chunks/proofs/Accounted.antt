@@ -26,7 +26,7 @@ use Rattle.gs_world_lift.specs.Doing.{HasDurable}
 use Rattle.gs_world_chunks.proofs.BytesRuns.{bytes_back, listed_there}
 use Rattle.gs_world_chunks.proofs.Leading.{StandsSo, gives_names_back, keeps_has, stands_prepared, within_so}
 use Rattle.gs_world_chunks.proofs.Well.{IsWell, bare_well, begins_well, step_well, well_lasts}
-use Rattle.gs_world_chunks.specs.Back.{GivesBytesBack, GoesBack, IsMemberAt, IsRolledBack, RunsWithin}
+use Rattle.gs_world_chunks.specs.Back.{GivesBytesBack, GoesBack, IsMemberAt, HasRolledBack, RunsWithin}
 
 module _ {D : Type 0} (x : Setup D) where
   -- what a sound master has is told
@@ -39,7 +39,7 @@ module _ {D : Type 0} (x : Setup D) where
   has_told (Closed first second) d lasts has = has
   has_told Away d lasts has = absurd lasts
 
-  runs_told : (steps : List Step) (old new : History D) (a b : Account) → IsToldAt x.seen old.nodes.master a.durable → Runs x steps old a new b → IsToldAt x.seen new.nodes.master b.durable
+  pub runs_told : (steps : List Step) (old new : History D) (a b : Account) → IsToldAt x.seen old.nodes.master a.durable → Runs x steps old a new b → IsToldAt x.seen new.nodes.master b.durable
   runs_told [] old new a b told runs = subst (λ (h : History D). IsToldAt x.seen h.nodes.master b.durable) (sym runs.0) (subst (λ (c : Account). IsToldAt x.seen old.nodes.master c.durable) (sym runs.1) told)
   runs_told (step ∷ steps) old new a b told (mid, c, moves, rest) = runs_told steps mid new c b moves.told rest
 
@@ -63,7 +63,7 @@ pub record RolledBackSo {D : Type 0} (x : Setup D) (prepared back : History D) (
   pub behind : Account
   pub is_first : first.durable ≡ before
   pub is_behind : behind.durable ≡ last
-  pub rolled : IsRolledBack x prepared first now after back behind
+  pub rolled : HasRolledBack x prepared first now after back behind
 
 pub rolled_back_so : {D : Type 0} (x : Setup D) (prepared back : History D) (before last : Durable) → TellsApart x.among → (goes : GoesBack x prepared back before last) → RolledBackSo x prepared back before last goes.now
 rolled_back_so x prepared back before last apart goes =

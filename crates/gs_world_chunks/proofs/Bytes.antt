@@ -177,6 +177,10 @@ module _ {D : Type 0} (x : Setup D) (bytes : ReqId → List ℕ) (chunk : ℕ) (
       by_once (inr (inl k)) = absurd (let view = k.view in let above = over in omega arith)
       by_once (inr (inr r)) = r.exact (by.rows.back over).1
 
+  -- under the first stamp of the epoch
+  pub stamp_back : v.entry.view.stamp ≡ start_of after.durable.epoch
+  stamp_back = sym (agrees v okv).view ∙ restored.view ∙ ap start_of (sym (oku.entry).epoch ∙ k.last.told.epoch)
+
   stood : v.known.stood v.known.view ≡ true
   stood = by.rows.returned over (ap (λ (d : Durable). is_some (fin.get d.chunks chunk)) has ∙ row)
 

@@ -9,14 +9,18 @@ use Rattle.gs_chunk.proofs.Committed.{masters_commit}
 use Rattle.gs_chunk.proofs.Facts.{reached_world}
 use Rattle.gs_chunk.proofs.Lasting.{agrees}
 use Rattle.gs_chunk.specs.Machine.{ChunkWorld}
+use Rattle.gs_chunk.specs.Stamps.{stamp_at}
 use Rattle.gs_lease.specs.declared.view.View.{View}
+use Rattle.gs_master_entry.specs.Showing.{primary_of}
 use Rattle.gs_master_laws.specs.Promises.{IsKept}
 use Rattle.gs_master_moves.specs.Epochs.{rolls_back}
 use Rattle.gs_master_record.specs.declared.checkpoint.Phase.{Phase}
 use Rattle.gs_master_record.specs.declared.checkpoint.Phase.TheVariants.{Ordinary, Rolling, Upgrade}
 use Rattle.gs_master_spec.specs.Applied.{view_in}
 use Rattle.gs_master_spec.specs.Durable.{Durable, Settled, is_listed, is_ordinary, is_rolling, is_upgrade}
+use Rattle.gs_server_member.proofs.Stamps.{start_stamp}
 use Rattle.gs_server_member.specs.Requests.{Asked, IsOfOneEdit, bytes_in}
+use Rattle.gs_store.specs.Learning.{start_of}
 use Rattle.gs_world.proofs.Reaching.{HaveSizes}
 use Rattle.gs_world.specs.Histories.{History}
 use Rattle.gs_world.specs.Runs.{Step}
@@ -30,6 +34,7 @@ use Rattle.gs_world_chunks.proofs.Intact.{told_same}
 use Rattle.gs_world_chunks.proofs.Reached.{run_stays}
 use Rattle.gs_world_chunks.proofs.Runs.{keeps_told, living_told, seen_of}
 use Rattle.gs_world_chunks.proofs.Seeing.{SeesNext, SeesTo, each_sees_on, sees_run, sees_step}
+use Rattle.gs_world_chunks.proofs.Viewing.{told_view}
 use Rattle.gs_world_chunks.specs.Joined.{IsSeen, SeenSince}
 use Rattle.gs_world_chunks.specs.Seeing.{Sees, SeesBoth}
 use Rattle.gs_world_chunks.specs.Upgrading.{IsUpgrading}
@@ -40,7 +45,7 @@ use Rattle.gs_world_lift.specs.Joint.{AtMaster, AtServer, ByMaster, Elsewhere, G
 use Rattle.gs_world_lift.specs.Living.{GoesOn, LivesOn}
 use Rattle.gs_world_lift.specs.Saying.{PushRight}
 use Rattle.gs_world_lift.specs.Showing.{IsAlive, Life}
-use Rattle.gs_world_chunks.proofs.Bytes.{calm_back, free_back, free_prepared, list_back, rolls as rolls_on, settled_there, text_there}
+use Rattle.gs_world_chunks.proofs.Bytes.{calm_back, free_back, free_prepared, list_back, rolls as rolls_on, settled_there, stamp_back, text_there}
 use Rattle.gs_world_chunks.specs.Back.{HasBytes, IsMemberAt}
 
 never_both : (phase : Phase) → (is_rolling phase && is_ordinary phase) ≡ false
@@ -205,6 +210,17 @@ module _ (sizes : HaveSizes) (law : AreNumbered) {D : Type 0} (x : Setup D) (pre
 
       same_list : seen_back.seen.alive.world.known.list seen_back.seen.alive.world.known.view ≡ seen_back.since.first.alive.world.known.list seen_back.since.first.alive.world.entry.view.stamp
       same_list = list_back x seen_back.bytes chunk prepared first now after seen_back.since listed step back last seen_back.seen seen_back.born seen_back.by seen_back.had seen_back.has committed row
+
+      -- nobody leads the view behind the commit
+      pub unled_back : (view : View) → view_in (fin.get last.durable.chunks chunk) ≡ Some view → primary_of view.term ≡ None
+      unled_back view told = sym (told_view x seen_back.bytes chunk back last seen_back.seen view told).shows.holder ∙ free_then
+
+      -- it has the first stamp of the epoch
+      pub stamp_then : (view : View) → view_in (fin.get last.durable.chunks chunk) ≡ Some view → view.stamp ≡ start_of after.durable.epoch
+      stamp_then view told =
+          (told_view x seen_back.bytes chunk back last seen_back.seen view told).shows.stamp
+          ∙ ap stamp_at (stamp_back x seen_back.bytes chunk prepared first now after seen_back.since listed step back last seen_back.seen seen_back.born seen_back.by seen_back.had seen_back.has committed row)
+          ∙ start_stamp after.durable.epoch
 
       -- what is settled behind the commit is what was settled at the prepare
       pub settled_back : (view : View) → view_in (fin.get last.durable.chunks chunk) ≡ Some view → (former : View) → view_at first chunk ≡ Some former → settled_edits last chunk ≡ settled_edits first chunk

@@ -9,8 +9,6 @@ use Rattle.gs_master_moves.specs.Epochs.{rolls_back}
 use Rattle.gs_master_record.specs.declared.checkpoint.Phase.{Phase}
 use Rattle.gs_master_record.specs.declared.checkpoint.Phase.TheVariants.{Ordinary, Rolling, Upgrade}
 use Rattle.gs_master_spec.specs.Durable.{Durable, is_ordinary, is_rolling}
-use Rattle.gs_nodes.specs.declared.place.MasterPlace.{MasterPlace}
-use Rattle.gs_nodes.specs.declared.place.MasterPlace.TheVariants.{Away, Closed, Standing}
 use Rattle.gs_server.specs.Runs.{slot_in}
 use Rattle.gs_server.specs.Servers.{Server}
 use Rattle.gs_server_member.specs.Requests.{Asked, bytes_in}
@@ -22,7 +20,7 @@ use Rattle.gs_world.specs.Histories.{History}
 use Rattle.gs_world.specs.Runs.{Step}
 use Rattle.gs_world_account.proofs.Told.{named}
 use Rattle.gs_world_account.specs.Accounts.{Account}
-use Rattle.gs_world_account.specs.Running.{IsReached, Runs, Setup}
+use Rattle.gs_world_account.specs.Running.{IsReached, Runs, Setup, StepsWithin}
 use Rattle.gs_world_chunks.proofs.Durables.{told_is_had}
 use Rattle.gs_world_chunks.proofs.Edits.{AreNumbered}
 use Rattle.gs_world_chunks.proofs.Holding.{prepared_reached, reach_more, runs_of}
@@ -39,18 +37,23 @@ use Rattle.gs_world_lift.specs.Doing.{HasDurable}
 use Rattle.gs_world_lift.specs.Going.{Elsewhere, Kind, OfMaster, OfServer}
 use Rattle.gs_world_lift.specs.Showing.{IsAlive, Life}
 use Rattle.gs_world_chunks.proofs.Accounted.{gives_bytes_back, rolled_back_so, within_accounts}
+use Rattle.gs_world_chunks.proofs.Became.{has_one}
 use Rattle.gs_world_chunks.proofs.KeepingRuns.{still_live}
 use Rattle.gs_world_chunks.proofs.Leading.{keeps_has, stands_prepared, within_so}
 use Rattle.gs_world_chunks.proofs.Well.{IsWell}
-use Rattle.gs_world_chunks.specs.Back.{GoesBack, HasBytes, KeepsAt, KeepsBytes}
+use Rattle.gs_world_chunks.specs.Back.{HasBytes, KeepsBytes}
 
 -- ---- from a world in which a server would name the chunk
 
--- a server has a live replica of a chunk, each block of which has its digest
-pub record HasWhole {D : Type 0} (h : History D) (id chunk : ℕ) : Type 0 where
+-- a server has a live replica of a chunk, each block of which has its digest, under the first stamp of an epoch
+pub record HasWhole {D : Type 0} (h : History D) (id chunk epoch : ℕ) : Type 0 where
   pub s : Server
   pub there : slice_get h.nodes.servers id ≡ Some s
   pub still : StillLive (slot_in chunk s)
+  pub promise : (slot_in chunk s).promise ≡ start_of epoch
+
+whole_of : {D : Type 0} (h : History D) (id chunk e epoch : ℕ) → epoch ≡ e + 1 → (t : Server) × (slice_get h.nodes.servers id ≡ Some t) × StillLive (slot_in chunk t) × ((slot_in chunk t).promise ≡ start_of (e + 1)) → HasWhole h id chunk epoch
+whole_of h id chunk e epoch same (t, there, still, promise) = record { s = t; there = there; still = still; promise = promise ∙ ap start_of (sym same) }
 
 named_lives : (epoch : ℕ) (slot : Slot) → is_named epoch slot ≡ true → slot.live ≡ None → ⊥
 named_lives epoch slot is none = false≢true (sym (ap is_sound none) ∙ (both (is_same slot.promise (start_of epoch)) (is_sound slot.live) is).1)
@@ -66,7 +69,7 @@ module _ (sizes : HaveSizes) (law : AreNumbered) {D : Type 0} (x : Setup D) (mid
   durable_is : d ≡ after.durable
   durable_is = told_is_had x.seen now.nodes.master after.durable d sees.last.lives.lasts sees.last.agrees.told has
 
-  at_life : (l : IsAlive x.seen x.config (bytes_in asked) chunk mid) → sees.first.lives.life chunk ≡ inr l → HasWhole now id chunk
+  at_life : (l : IsAlive x.seen x.config (bytes_in asked) chunk mid) → sees.first.lives.life chunk ≡ inr l → HasWhole now id chunk d.epoch
   at_life l is =
       let seen = both_seen x asked mid now told after sees.first sees.last r.apart chunk (sees.on chunk) l is in
       let v : ChunkWorld = seen.last.alive.world in
@@ -76,48 +79,42 @@ module _ (sizes : HaveSizes) (law : AreNumbered) {D : Type 0} (x : Setup D) (mid
       let epoch : after.durable.epoch ≡ goes.e + 1 = sym seen.last.told.epoch ∙ (ok.entry).epoch ∙ goes.next in
       let same : d.epoch ≡ goes.e + 1 = ap (λ (z : Durable). z.epoch) durable_is ∙ epoch in
       let lives : sees.first.lives.life chunk ≡ inr seen.first.alive = is ∙ ap (λ (z : IsAlive x.seen x.config (bytes_in asked) chunk mid). (let life : Life x.seen x.config (bytes_in asked) chunk mid = inr z in life)) (sym seen.is_first) in
-      let live = still_live law x asked r.begins.given r.apart chunk id goes.e now after still_rolling epoch (pushes_right asked now sees.are) (of_one_edit asked now sees.are) steps mid told sees.first r runs seen.first lives s there (learned ∙ same)
-      (subst (λ n. is_named n (slot_in chunk s) ≡ true) same named) spared in
-      record { s = live.0; there = live.1; still = live.2 }
+      whole_of now id chunk goes.e d.epoch same
+      (still_live law x asked r.begins.given r.apart chunk id goes.e now after still_rolling epoch (pushes_right asked now sees.are) (of_one_edit asked now sees.are) steps mid told sees.first r runs seen.first lives s there (learned ∙ same)
+      (subst (λ n. is_named n (slot_in chunk s) ≡ true) same named) spared)
 
-  pub whole_now : HasWhole now id chunk
+  pub whole_now : HasWhole now id chunk d.epoch
   whole_now = by_life (sees.first.lives.life chunk) refl
     where
-      by_life : (life : Life x.seen x.config (bytes_in asked) chunk mid) → sees.first.lives.life chunk ≡ life → HasWhole now id chunk
+      by_life : (life : Life x.seen x.config (bytes_in asked) chunk mid) → sees.first.lives.life chunk ≡ life → HasWhole now id chunk d.epoch
       by_life (inl unborn) is = absurd (named_lives d.epoch (slot_in chunk s) named (unborn_none x.seen mid id chunk s unborn there))
       by_life (inr l) is = at_life l is
 
 -- ---- the commit is the master's, and leaves each server as it is
-
-keeps_one : {D : Type 0} (place : MasterPlace D) (d e : Durable) → KeepsAt place d → KeepsAt place e → d ≡ e
-keeps_one (Standing m) d e one other = sym one.1 ∙ other.1
-keeps_one (Closed first second) d e one other = absurd one
-keeps_one Away d e one other = absurd one
 
 never_both : (phase : Phase) → (is_rolling phase && is_ordinary phase) ≡ false
 never_both Ordinary = refl
 never_both Upgrade = refl
 never_both Rolling = refl
 
-module _ {D : Type 0} (x : Setup D) (prepared back : History D) (before last : Durable) (goes : GoesBack x prepared back before last) (well : IsWell x goes.now) where
-  servers_stay : back.nodes.servers ≡ goes.now.nodes.servers
-  servers_stay = by_kind (kind_of x.seen x.failures x.armed goes.commit goes.now back goes.commits.goes (named x goes.commit goes.now goes.commits.within well.types))
-    where
-      moved : back.nodes.master ≡ goes.now.nodes.master → ⊥
-      moved same =
-          let one : last ≡ goes.rolling = keeps_one goes.now.nodes.master last goes.rolling (subst (λ place. KeepsAt place last) same goes.ended) goes.rolls in
-          false≢true (sym (never_both goes.rolling.phase) ∙ ap (rolls_back goes.rolling) (sym one) ∙ goes.done)
+pub servers_stay : {D : Type 0} (x : Setup D) (step : Step) (now back : History D) (d e : Durable) → IsWell x now → StepsWithin x step now back → HasDurable x.seen now.nodes.master d → HasDurable x.seen back.nodes.master e → rolls_back d e ≡ true → back.nodes.servers ≡ now.nodes.servers
+servers_stay x step now back d e well one had has done = by_kind (kind_of x.seen x.failures x.armed step now back one.goes (named x step now one.within well.types))
+  where
+    moved : back.nodes.master ≡ now.nodes.master → ⊥
+    moved same =
+        let still : d ≡ e = has_one x.seen now.nodes.master d e had (subst (λ place. HasDurable x.seen place e) same has) in
+        false≢true (sym (never_both d.phase) ∙ ap (rolls_back d) still ∙ done)
 
-      by_kind : Kind x.seen x.failures x.armed goes.commit goes.now back → back.nodes.servers ≡ goes.now.nodes.servers
-      by_kind (OfServer id s after messages moment found at met servers master posted) = absurd (moved master)
-      by_kind (OfMaster place messages moment at servers master posted) = servers
-      by_kind (Elsewhere by messages moment are servers master posted) = servers
+    by_kind : Kind x.seen x.failures x.armed step now back → back.nodes.servers ≡ now.nodes.servers
+    by_kind (OfServer id s after messages moment found at met servers master posted) = absurd (moved master)
+    by_kind (OfMaster place messages moment at servers master posted) = servers
+    by_kind (Elsewhere by messages moment are servers master posted) = servers
 
 -- ---- over runs
 
 -- a live replica that is whole has some bytes, and it has them behind a step that leaves each server as it is
-bytes_there : {D : Type 0} (old new : History D) (id chunk : ℕ) → new.nodes.servers ≡ old.nodes.servers → HasWhole old id chunk → (bytes : List ℕ) × HasBytes new id chunk bytes
-bytes_there old new id chunk servers h = by_live (slot_in chunk h.s).live refl h.still.live h.still.whole
+bytes_there : {D : Type 0} (old new : History D) (id chunk epoch : ℕ) → new.nodes.servers ≡ old.nodes.servers → HasWhole old id chunk epoch → (bytes : List ℕ) × HasBytes new id chunk bytes
+bytes_there old new id chunk epoch servers h = by_live (slot_in chunk h.s).live refl h.still.live h.still.whole
   where
     there : slice_get new.nodes.servers id ≡ Some h.s
     there = ap (λ xs. slice_get xs id) servers ∙ h.there
@@ -141,5 +138,6 @@ keeps_bytes sizes law x prepared back before last chunk id other had apart goes 
     let rolling = (and_parts (is_rolling goes.rolling.phase) (is_ordinary last.phase) goes.done).0 in
     let now = whole_now sizes law x was.mid goes.now way.0 rest.0 was.steps reached (runs_of x was.steps was.mid goes.now way.0 rest.0 rest.1) goes.rolling (keeps_has x goes.now.nodes.master goes.rolling goes.rolls) rolling chunk other was.s was.there was.learned was.named was.spared in
     let well = (within_so x given before goes.between prepared goes.now goes.rest begun).well in
-    with_bytes back other chunk had (bytes_there goes.now back other chunk (servers_stay x prepared back before last goes well) now)
+    let servers = servers_stay x goes.commit goes.now back goes.rolling last well goes.commits (keeps_has x goes.now.nodes.master goes.rolling goes.rolls) (keeps_has x back.nodes.master last goes.ended) goes.done in
+    with_bytes back other chunk had (bytes_there goes.now back other chunk goes.rolling.epoch servers now)
     (λ has new. gives_bytes_back sizes law x prepared back before last chunk id other had has apart goes member old among new)

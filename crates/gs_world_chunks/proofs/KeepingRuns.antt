@@ -186,7 +186,7 @@ module _ (law : AreNumbered) {D : Type 0} (x : Setup D) (asked : ℕ → Asked) 
     promised : (t : Server) → slice_get new.nodes.servers id ≡ Some t → (slot_in chunk t).promise ≡ start_of (e + 1)
     promised t there = (last.0.alive.shows.members id t there).promise ∙ ap stamp_at (held.promise ∙ promise_is) ∙ start_stamp (e + 1)
 
-    pub still_live : Spare chunk id steps → (t : Server) × (slice_get new.nodes.servers id ≡ Some t) × StillLive (slot_in chunk t)
+    pub still_live : Spare chunk id steps → (t : Server) × (slice_get new.nodes.servers id ≡ Some t) × StillLive (slot_in chunk t) × ((slot_in chunk t).promise ≡ start_of (e + 1))
     still_live spared =
         let drops = drops_none steps old a first r runs seen is (let here = epoch_is in omega arith) in
         let ends = staying_on law x asked given chunk id e apart steps old new a b first (reached_sound x old a r).types runs right one seen.alive is s stays_first spared drops in (
@@ -196,4 +196,5 @@ module _ (law : AreNumbered) {D : Type 0} (x : Setup D) (asked : ℕ → Asked) 
             | inl above ↦ absurd (false≢true (sym (not_before_itself (start_of (e + 1))) ∙ sym (ap (is_before (start_of (e + 1))) (promised ends.0 ends.1)) ∙ above))
             | inr still ↦ still
           ],
+          promised ends.0 ends.1,
         )

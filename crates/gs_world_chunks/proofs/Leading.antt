@@ -8,7 +8,7 @@ use Rattle.gs_master_spec.specs.State.{State}
 use Rattle.gs_master_record.specs.declared.checkpoint.Phase.{Phase}
 use Rattle.gs_master_record.specs.declared.checkpoint.Phase.TheVariants.{Ordinary, Upgrade, Rolling}
 use Rattle.gs_master_upgrade.proofs.Since.{turns_begin, turns_lead}
-use Rattle.gs_master_upgrade.specs.Since.{AreRestored, IsSince, LeadsBack}
+use Rattle.gs_master_upgrade.specs.Since.{AreRestored, IsSince, GoesOnSince}
 use Rattle.gs_nodes.specs.declared.place.MasterPlace.{MasterPlace}
 use Rattle.gs_nodes.specs.declared.place.MasterPlace.TheVariants.{Standing, Closed, Away}
 use Rattle.gs_world.specs.Histories.{History}
@@ -21,7 +21,7 @@ use Rattle.gs_world_lift.proofs.Durable.{has_durable}
 use Rattle.gs_world_chunks.proofs.Became.{Became, Opened, Stays, Turns, Waits, became, has_one}
 use Rattle.gs_world_chunks.proofs.Well.{IsWell, bare_well, begins_well, step_well, well_lasts}
 use Rattle.gs_world_chunks.specs.Accepting.{met_at}
-use Rattle.gs_world_chunks.specs.Back.{GivesNamesBack, GoesBack, KeepsAt, RunsWithin}
+use Rattle.gs_world_chunks.specs.Back.{GivesNamesBack, GoesBack, MasterKeeps, RunsWithin}
 
 pub upgrade_stands : (phase : Phase) → is_upgrade phase ≡ true → is_ordinary phase ≡ false
 upgrade_stands Ordinary h = absurd (false≢true h)
@@ -44,7 +44,7 @@ module _ {D : Type 0} (x : Setup D) where
   stays_led : (place : MasterPlace D) (prepared d e : Durable) → IsSince prepared e → PlaceLeads place prepared d e
   stays_led place prepared d e k = record { since = λ off. k; names = λ r o. absurd (false≢true (sym k.stands ∙ o)); restored = λ r o. absurd (false≢true (sym k.stands ∙ o)) }
 
-  led : (place : MasterPlace D) (m : MasterOf D) (prepared d e n : Durable) → place ≡ Standing m → d ≡ m.state.durable → e ≡ n → LeadsBack m.state prepared n → PlaceLeads place prepared d e
+  led : (place : MasterPlace D) (m : MasterOf D) (prepared d e n : Durable) → place ≡ Standing m → d ≡ m.state.durable → e ≡ n → GoesOnSince m.state prepared n → PlaceLeads place prepared d e
   led place m prepared d e n at dm en lead = record {
     since = λ off. subst (IsSince prepared) (sym en) (lead.since (sym (ap (λ (z : Durable). is_ordinary z.phase) en) ∙ off));
     names = λ r o. ap (λ (z : Durable). z.names) en ∙ lead.names (rolling r) (ordinary o);
@@ -69,14 +69,14 @@ module _ {D : Type 0} (x : Setup D) where
 
   -- and where no master stands behind it that keeps no upgrade, it stands on
   stands_on : (step : Step) (sent : Sent) (said : Result (Unit {0}) Refusal) (place new : MasterPlace D) (prepared d e : Durable) → LastsSteady x.seen new → Became x.seen step sent said place new → HasDurable x.seen place d → HasDurable x.seen new e
-      → IsSince prepared d → ((f : Durable) → KeepsAt new f → is_ordinary f.phase ≡ false) → IsSince prepared e
+      → IsSince prepared d → ((f : Durable) → MasterKeeps new f → is_ordinary f.phase ≡ false) → IsSince prepared e
   stands_on step sent said place new prepared d e h b dk ek s going = by_case b
     where
       at_master : (after : MasterOf D) → new ≡ Standing after → IsSince prepared e
       at_master after to =
           let same = has_at new after e to ek in
           (leads step sent said place new prepared d e b dk ek s).since
-          (ap (λ (z : Durable). is_ordinary z.phase) same ∙ going after.state.durable (subst (λ p. KeepsAt p after.state.durable) (sym to) ((steady_at new after to h).firm.sound, refl)))
+          (ap (λ (z : Durable). is_ordinary z.phase) same ∙ going after.state.durable (subst (λ p. MasterKeeps p after.state.durable) (sym to) ((steady_at new after to h).firm.sound, refl)))
 
       by_case : Became x.seen step sent said place new → IsSince prepared e
       by_case (Stays m after at to is refused calm) = at_master after to
@@ -103,7 +103,7 @@ module _ {D : Type 0} (x : Setup D) where
       by_case (Waits none f unheard) = not_same (has_one x.seen new e d ek (f d dk))
 
   -- a sound master has what it keeps
-  pub keeps_has : (place : MasterPlace D) (d : Durable) → KeepsAt place d → HasDurable x.seen place d
+  pub keeps_has : (place : MasterPlace D) (d : Durable) → MasterKeeps place d → HasDurable x.seen place d
   keeps_has (Standing m) d (sound, is) = is
   keeps_has (Closed first second) d k = absurd k
   keeps_has Away d k = absurd k

@@ -50,3 +50,5 @@ mod Accounted
 mod Keeping
 mod KeepingRuns
 mod KeepingBack
+mod KeepingTexts
+mod KeepingReplicas

@@ -14,13 +14,13 @@ use Rattle.gs_world_chunks.proofs.BytesRuns.{kept_back, listed_there, sees, sett
 use Rattle.gs_world_chunks.proofs.Edits.{AreNumbered}
 use Rattle.gs_world_chunks.proofs.Runs.{keeps_told}
 use Rattle.gs_world_chunks.proofs.Telling.{names_back}
-use Rattle.gs_world_chunks.specs.Back.{GivesNoOtherBack, GivesSettledBack, IsRolledBack}
+use Rattle.gs_world_chunks.specs.Back.{GivesNoOtherBack, GivesSettledBack, HasRolledBack}
 
 view_there : (o : Option Settled) → is_some o ≡ true → (view : View) × (view_in o ≡ Some view)
 view_there None some = absurd (false≢true some)
 view_there (Some y) some = (y.view, refl)
 
-module _ {D : Type 0} (x : Setup D) (prepared now back : History D) (before after last : Account) (r : IsRolledBack x prepared before now after back last) (chunk : ℕ) where
+module _ {D : Type 0} (x : Setup D) (prepared now back : History D) (before after last : Account) (r : HasRolledBack x prepared before now after back last) (chunk : ℕ) where
   -- a file has the same chunks as at the prepare
   listed_same : is_listed last.durable chunk ≡ is_listed before.durable chunk
   listed_same = ap (λ names. is_some (fin.get names.refs chunk)) (names_back x prepared now back before after last r.step r.upgrade r.moves r.accepted)

@@ -1,15 +1,18 @@
 -- What an accepted rollback gives back.
+use Rattle.gs_base.specs.Stamps.{is_before}
 use Rattle.gs_block.specs.Written.{TellsApart}
 use Rattle.std.specs.Prelude.{[], ◌∷◌, ◌≡◌, List, None, Some, false, is_some, slice_get, true, ℕ}
 use Rattle.gs_base.specs.Members.{is_member}
-use Rattle.gs_world_account.specs.Accounts.{Account, settled_edits}
+use Rattle.gs_lease.specs.declared.view.View.{View}
+use Rattle.gs_world_account.specs.Accounts.{Account, settled_edits, view_at}
 use Rattle.gs_master_moves.specs.Epochs.{prepares, rolls_back}
-use Rattle.gs_world_account.specs.Running.{IsGiven, Moves, RunsBare, Setup, StepsWithin}
+use Rattle.gs_world_account.specs.Running.{IsGiven, Moves, Runs, RunsBare, Setup, StepsWithin}
 use Rattle.gs_replica.specs.Seals.{lowest_damaged}
 use Rattle.gs_server.specs.Servers.{Server}
 use Rattle.gs_master_spec.specs.Durable.{Durable, Settled, is_listed, is_ordinary}
 use Rattle.gs_master_spec.specs.State.{is_failed}
-use Rattle.gs_world_chunks.specs.Upgrading.{IsUpgrading, Spare}
+use Rattle.gs_world_chunks.specs.Sealing.{HasText, IsLiveWith}
+use Rattle.gs_world_chunks.specs.Upgrading.{IsUpgrading, RunsUpgraded, Spare}
 use Rattle.gs_nodes.specs.declared.place.MasterPlace.{MasterPlace}
 use Rattle.std.specs.FinMap as fin
 use Rattle.gs_server.specs.Runs.{slot_in}
@@ -23,7 +26,7 @@ use Rattle.gs_nodes.specs.declared.place.MasterPlace.TheVariants.{Standing}
 
 module _ {D : Type 0} (x : Setup D) where
   -- a rollback is accepted at a step, within an upgrade
-  pub record IsRolledBack (prepared : History D) (before : Account) (now : History D) (after : Account) (back : History D) (last : Account) : Type 0 where
+  pub record HasRolledBack (prepared : History D) (before : Account) (now : History D) (after : Account) (back : History D) (last : Account) : Type 0 where
     pub upgrade : IsUpgrading x prepared before now after
     pub step : Step
     pub moves : Moves x step now after back last
@@ -31,19 +34,44 @@ module _ {D : Type 0} (x : Setup D) where
 
   -- Each chunk that a file had at the prepare has a settled view behind the rollback, and what is settled of it is what was settled then;
   abbrev pub GivesSettledBack : Type 0
-  GivesSettledBack = (prepared now back : History D) (before after last : Account) (chunk : ℕ) → IsRolledBack prepared before now after back last → is_listed before.durable chunk ≡ true →
+  GivesSettledBack = (prepared now back : History D) (before after last : Account) (chunk : ℕ) → HasRolledBack prepared before now after back last → is_listed before.durable chunk ≡ true →
       (is_some (fin.get last.durable.chunks chunk) ≡ true) × (settled_edits last chunk ≡ settled_edits before chunk)
 
   -- and no other chunk has one.
   abbrev pub GivesNoOtherBack : Type 0
-  GivesNoOtherBack = (prepared now back : History D) (before after last : Account) (chunk : ℕ) → IsRolledBack prepared before now after back last → is_some (fin.get last.durable.chunks chunk) ≡ true → is_listed before.durable chunk ≡ true
+  GivesNoOtherBack = (prepared now back : History D) (before after last : Account) (chunk : ℕ) → HasRolledBack prepared before now after back last → is_some (fin.get last.durable.chunks chunk) ≡ true → is_listed before.durable chunk ≡ true
+
+  -- A member of a view behind it had the chunk, so that it would name it, in a world on the way, and nothing of it was lost or damaged since.
+  pub record IsUnharmed (prepared : History D) (before : Account) (now : History D) (after : Account) (chunk id : ℕ) : Type 0 where
+    pub mid : History D
+    pub told : Account
+    pub first : IsUpgrading x prepared before mid told
+    pub s : Server
+    pub there : slice_get mid.nodes.servers id ≡ Some s
+    pub learned : s.kept.epoch ≡ after.durable.epoch
+    pub named : is_named after.durable.epoch (slot_in chunk s) ≡ true
+    pub steps : List Step
+    pub rest : RunsUpgraded x steps mid told now after
+    pub spared : Spare chunk id steps
+
+  -- then its replica has just the text of the prepare
+  abbrev pub GivesReplicasBack : Type 0
+  GivesReplicasBack = (prepared now back : History D) (before after last : Account) (chunk id : ℕ) (view : View) (s : Server) → HasRolledBack prepared before now after back last →
+      view_at last chunk ≡ Some view → is_member view.members id ≡ true → slice_get back.nodes.servers id ≡ Some s → IsUnharmed prepared before now after chunk id →
+      IsLiveWith x.config.chunk view.stamp (settled_edits before chunk) (slot_in chunk s)
+
+  -- And whatever has happened, then and later: a member's replica that has made no greater promise, and of which no block is damaged, has no other text.
+  abbrev pub NoOtherText : Type 0
+  NoOtherText = (prepared now back later : History D) (before after last c : Account) (steps : List Step) (chunk id : ℕ) (view : View) (s : Server) (l : Live) → HasRolledBack prepared before now after back last →
+      view_at last chunk ≡ Some view → is_member view.members id ≡ true → Runs x steps back last later c → slice_get later.nodes.servers id ≡ Some s → is_before view.stamp (slot_in chunk s).promise ≡ false →
+      (slot_in chunk s).live ≡ Some l → lowest_damaged l.replica.held.chunk ≡ None → HasText x.config.chunk (settled_edits before chunk) l.replica.held.chunk l.replica.held.count
 
 -- ---- by the nodes alone
 
 -- a master stands of which no disk has failed, and keeps this
-abbrev pub KeepsAt : {D : Type 0} → MasterPlace D → Durable → Type 0
-KeepsAt (Standing m) d = (is_failed m.state.fault ≡ false) × (m.state.durable ≡ d)
-KeepsAt place d = ⊥
+abbrev pub MasterKeeps : {D : Type 0} → MasterPlace D → Durable → Type 0
+MasterKeeps (Standing m) d = (is_failed m.state.fault ≡ false) × (m.state.durable ≡ d)
+MasterKeeps place d = ⊥
 
 -- a live replica of a server, each block of which has its digest, has these bytes
 pub record HasBytes {D : Type 0} (h : History D) (id chunk : ℕ) (bytes : List ℕ) : Type 0 where
@@ -65,7 +93,7 @@ module _ {D : Type 0} (x : Setup D) where
   abbrev pub RunsWithin : List Step → History D → History D → Type 0
   RunsWithin [] old new = new ≡ old
   RunsWithin (step ∷ steps) old new =
-      (mid : History D) × StepsWithin x step old mid × ((d : Durable) → KeepsAt mid.nodes.master d → is_ordinary d.phase ≡ false) × RunsWithin steps mid new
+      (mid : History D) × StepsWithin x step old mid × ((d : Durable) → MasterKeeps mid.nodes.master d → is_ordinary d.phase ≡ false) × RunsWithin steps mid new
 
   -- A store that has begun comes to a step at which a prepare is accepted, and then to one at which a rollback is; no upgrade is ended between.
   pub record GoesBack (prepared back : History D) (before last : Durable) : Type 0 where
@@ -76,19 +104,19 @@ module _ {D : Type 0} (x : Setup D) where
     pub old : History D
     pub runs : RunsBare x first begun old
     pub ordinary : Durable
-    pub stood : KeepsAt old.nodes.master ordinary
+    pub stood : MasterKeeps old.nodes.master ordinary
     pub step : Step
     pub steps : StepsWithin x step old prepared
-    pub keeps : KeepsAt prepared.nodes.master before
+    pub keeps : MasterKeeps prepared.nodes.master before
     pub accepted : prepares ordinary before ≡ true
     pub between : List Step
     pub now : History D
     pub rest : RunsWithin between prepared now
     pub rolling : Durable
-    pub rolls : KeepsAt now.nodes.master rolling
+    pub rolls : MasterKeeps now.nodes.master rolling
     pub commit : Step
     pub commits : StepsWithin x commit now back
-    pub ended : KeepsAt back.nodes.master last
+    pub ended : MasterKeeps back.nodes.master last
     pub done : rolls_back rolling last ≡ true
 
   -- the tree with the handles of its files, and how often each stands there, are those of the prepare

@@ -18,7 +18,7 @@ ghost use Rattle.gs_world_chunks.specs.Standing.{QuietStaysStill, ReplicasStand}
 ghost use Rattle.gs_world_chunks.specs.Durables.{ToldIsHad};
 ghost use Rattle.gs_world_chunks.specs.Seeing.{EachIsSeen, EachSeesOn, StoresStayIntact};
 ghost use Rattle.gs_world_chunks.specs.Accepting.{CommitsAreDecided, NoneGoesBackUnnamed};
-ghost use Rattle.gs_world_chunks.specs.Back.{GivesBytesBack, GivesNamesBack, GivesNoOtherBack, GivesSettledBack, KeepsBytes};
+ghost use Rattle.gs_world_chunks.specs.Back.{GivesBytesBack, GivesNamesBack, GivesNoOtherBack, GivesReplicasBack, GivesSettledBack, KeepsBytes, NoOtherText};
 
 use gs_block::promises::configurations_have_sizes;
 use gs_server_laws::{a_message_edits_a_replica_by_what_it_says, an_event_calls_what_it_says};
@@ -191,10 +191,14 @@ pub fn a_commit_is_decided_by_what_was_named<D>()
     a_message_edits_a_replica_by_what_it_says();
 }
 
-/// Each chunk that a file had at the prepare has a settled view behind the commit of a rollback, no other chunk has one, and what is settled of it is what was settled of it right behind the prepare.
+/// Each chunk that a file had at the prepare has a settled view behind the commit of a rollback, no other chunk has one, and what is settled of it is what was settled of it right behind the prepare. And then and
+/// later, whatever happens, a replica of a member of that view that is live, each block with its digest, has just the text of that, until its server makes a greater promise. And each member has such a
+/// replica right behind the commit that would have named the chunk on the way, and of which nothing was lost or damaged since.
 pub fn a_rollback_gives_back_what_was_settled<D>()
     ensures settled { (x : Setup D) → GivesSettledBack x }
     ensures others { (x : Setup D) → GivesNoOtherBack x }
+    ensures text { (x : Setup D) → NoOtherText x }
+    ensures replicas { (x : Setup D) → GivesReplicasBack x }
 {
     configurations_have_sizes();
     a_message_edits_a_replica_by_what_it_says();
