@@ -77,6 +77,15 @@ NAMES = [
     ("gs_view", "declared.answers.Answers", "Answers", "Poll"),
     ("gs_world", "declared.world.World", "World", "Nodes"),
     ("gs_run", "declared.run.Run", "Run", "World"),
+    ("gs_replica", "declared.op.Outcome", "Outcome", "EditOutcome"),
+    ("gs_record", "declared.checkpoint.Outcome", "Outcome", "KeptOutcome"),
+    ("gs_journal", "Journal", "Makes", "MakesCheckpoint"),
+    ("gs_base", "Told", "Tells", "TellsRefusal"),
+    ("gs_master", "Recovering", "Tells", "TellsDurable"),
+    ("gs_laws", "Rooms", "Tells", "TellsHandles"),
+    ("gs_entry", "Telling", "Tells", "MastersTell"),
+    ("gs_member", "Telling", "Tells", "ServersTell"),
+    ("gs_member", "Moving", "Outcome", "FollowsPart"),
 ]
 
 SPEC = "Applied Beginning Calls Chunks Durable Handling Hearing Outcomes Replies Settling State Undoing Upgrades Volatile Whole Working"
@@ -150,6 +159,7 @@ FILES = {
 # types of Rust
 TYPES = [("gs_view", "answers", "poll", "Answers", "Poll"), ("gs_primary", "lease", "lease", "Lease", "PrimaryLease")]
 TYPES += [("gs_world", "world", "nodes", "World", "Nodes"), ("gs_run", "run", "world", "Run", "World"), ("gs_journal", "faulty", "failing", "FaultyDisk", "FailingDisk")]
+TYPES += [("gs_replica", "op", "op", "Outcome", "EditOutcome"), ("gs_record", "checkpoint", "checkpoint", "Outcome", "KeptOutcome")]
 
 ROOT = r"(specs\.declared|specs\.contracts|proofs)"
 
