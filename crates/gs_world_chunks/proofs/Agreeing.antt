@@ -61,7 +61,7 @@ use Rattle.gs_master_record.specs.declared.checkpoint.Phase.{Phase}
 use Rattle.gs_master_record.specs.declared.checkpoint.Phase.TheVariants.{Ordinary, Rolling, Upgrade}
 use Rattle.gs_server_laws.specs.Following.{edit_in, lengthened}
 use Rattle.gs_master_spec.specs.Applied.{view_in}
-use Rattle.gs_master_spec.specs.Durable.{Durable, Settled, is_ordinary, is_rolling, is_upgrade}
+use Rattle.gs_master_spec.specs.Durable.{Durable, Settled, is_ordinary, is_upgrade}
 use Rattle.std.specs.FinMap as fin
 use Rattle.gs_msg.specs.declared.node.NodeId.{NodeId}
 

@@ -17,7 +17,7 @@ use Rattle.gs_master_moves.specs.Epochs.{rolls_back}
 use Rattle.gs_master_record.specs.declared.checkpoint.Phase.{Phase}
 use Rattle.gs_master_record.specs.declared.checkpoint.Phase.TheVariants.{Ordinary, Rolling, Upgrade}
 use Rattle.gs_master_spec.specs.Applied.{view_in}
-use Rattle.gs_master_spec.specs.Durable.{Durable, Settled, is_listed, is_ordinary, is_rolling, is_upgrade}
+use Rattle.gs_master_spec.specs.Durable.{Durable, is_listed, is_ordinary, is_rolling, is_upgrade}
 use Rattle.gs_server_member.proofs.Stamps.{start_stamp}
 use Rattle.gs_server_member.specs.Requests.{Asked, IsOfOneEdit, bytes_in}
 use Rattle.gs_store.specs.Learning.{start_of}

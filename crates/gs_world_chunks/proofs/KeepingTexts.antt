@@ -20,7 +20,7 @@ use Rattle.gs_lease.specs.declared.view.View.{View}
 use Rattle.gs_master_entry.proofs.Stamps.{of_member}
 use Rattle.gs_master_entry.specs.Showing.{ShowsView, primary_of}
 use Rattle.gs_master_spec.specs.Applied.{view_in}
-use Rattle.gs_master_spec.specs.Durable.{Settled, is_listed}
+use Rattle.gs_master_spec.specs.Durable.{Settled}
 use Rattle.gs_replica.specs.Seals.{lowest_damaged}
 use Rattle.gs_replica.specs.Stands.{Edit}
 use Rattle.gs_server.specs.Runs.{slot_in}
@@ -46,7 +46,7 @@ use Rattle.gs_world_lift.specs.Showing.{IsServer, setting}
 use Rattle.gs_world_chunks.proofs.Bytes.{settled_there}
 use Rattle.gs_world_chunks.proofs.BytesRuns.{unled_back}
 use Rattle.gs_world_chunks.proofs.Settled.{gives_no_other_back, gives_settled_back}
-use Rattle.gs_world_chunks.specs.Back.{HasRolledBack, NoOtherText}
+use Rattle.gs_world_chunks.specs.Back.{NoOtherText}
 
 some_live : (l m : Live) (o : Option Live) → o ≡ Some l → o ≡ Some m → m ≡ l
 some_live l m o one other = cc
