@@ -40,7 +40,7 @@ CRATES = {
     "gs_entry": "gs_master_entry",
     "gs_member": "gs_server_member",
     "gs_lift": "gs_world_lift",
-    "gs_account": "gs_world_account",
+    "gs_account": "gs_world_chunks",
     "gs_chunks": "gs_world_chunks",
 }
 

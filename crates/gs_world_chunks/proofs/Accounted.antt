@@ -13,10 +13,10 @@ use Rattle.gs_world.proofs.Reaching.{HaveSizes}
 use Rattle.gs_world.specs.Histories.{History}
 use Rattle.gs_world.specs.Lasting.{IsToldIn, Lasts}
 use Rattle.gs_world.specs.Runs.{Step}
-use Rattle.gs_world_account.proofs.Told.{have_accounts}
-use Rattle.gs_world_account.specs.Accounts.{Account}
-use Rattle.gs_world_account.specs.Moving.{account_behind}
-use Rattle.gs_world_account.specs.Running.{IsGiven, IsNew, IsToldAt, Moves, Runs, Setup, StepsWithin}
+use Rattle.gs_world_chunks.proofs.Told.{have_accounts}
+use Rattle.gs_world_chunks.specs.Accounts.{Account}
+use Rattle.gs_world_chunks.specs.Moving.{account_behind}
+use Rattle.gs_world_chunks.specs.Running.{IsGiven, IsNew, IsToldAt, Moves, Runs, Setup, StepsWithin}
 use Rattle.gs_world_chunks.proofs.Durables.{told_is_had}
 use Rattle.gs_world_chunks.proofs.Edits.{AreNumbered}
 use Rattle.gs_world_chunks.proofs.Holding.{runs_of}

@@ -7,8 +7,8 @@ use Rattle.gs_base.specs.Stamps.{is_same}
 use Rattle.gs_base.specs.declared.numbers.Moment.{Moment}
 use Rattle.gs_base.specs.declared.numbers.ReqId.{ReqId}
 use Rattle.gs_base.specs.declared.numbers.Stamp.{Stamp}
-use Rattle.gs_world_account.specs.Accounts.{Account, edits_in, view_at}
-use Rattle.gs_world_account.specs.Moving.{account_behind, edit_under, has_more, is_edit, list_behind, numbered, numbered_by, numbered_of, numbers, reached_behind, server_of}
+use Rattle.gs_world_chunks.specs.Accounts.{Account, edits_in, view_at}
+use Rattle.gs_world_chunks.specs.Moving.{account_behind, edit_under, has_more, is_edit, list_behind, numbered, numbered_by, numbered_of, numbers, reached_behind, server_of}
 use Rattle.gs_master_moves.specs.Epochs.{prepares}
 use Rattle.gs_chunk.specs.Stamps.{stamp_at}
 use Rattle.gs_chunk.specs.Machine.{Entry, Member, ChunkWorld}

@@ -4,8 +4,8 @@ use Rattle.std.specs.Prelude.{◌==◌, length, slice_get}
 use Rattle.std.proofs.lemmas.Bool.Decides.{nat_tests}
 use Rattle.gs_base.specs.declared.numbers.ReqId.{ReqId}
 use Rattle.gs_base.specs.declared.numbers.Stamp.{Stamp}
-use Rattle.gs_world_account.specs.Accounts.{Account, text_of}
-use Rattle.gs_world_account.specs.Running.{Setup}
+use Rattle.gs_world_chunks.specs.Accounts.{Account, text_of}
+use Rattle.gs_world_chunks.specs.Running.{Setup}
 use Rattle.gs_chunk.specs.Owning.{AreOwn}
 use Rattle.gs_world_lift.proofs.AskingRuns.{right_of}
 use Rattle.gs_world_lift.specs.Asking.{AreAskedIn}

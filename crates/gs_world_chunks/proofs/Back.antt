@@ -5,8 +5,8 @@ use Rattle.gs_base.specs.Stamps.{is_before}
 use Rattle.gs_base.specs.declared.epoch.EpochEnd.TheVariants.{Rollback}
 use Rattle.gs_base.specs.declared.numbers.ReqId.{ReqId}
 use Rattle.gs_base.specs.declared.numbers.Stamp.{Stamp}
-use Rattle.gs_world_account.specs.Accounts.{Account, settled_edits, view_at}
-use Rattle.gs_world_account.specs.Running.{Setup}
+use Rattle.gs_world_chunks.specs.Accounts.{Account, settled_edits, view_at}
+use Rattle.gs_world_chunks.specs.Running.{Setup}
 use Rattle.gs_chunk.proofs.Facts.{reached_world}
 use Rattle.gs_chunk.proofs.Known.{Fit, IsPrepared, Later}
 use Rattle.gs_chunk.proofs.Lasting.{stays_known}

@@ -34,8 +34,8 @@ use Rattle.gs_msg.specs.declared.message.MsgId.{MsgId}
 use Rattle.gs_msg.specs.declared.node.NodeId.{NodeId}
 use Rattle.gs_msg.specs.declared.node.NodeId.TheVariants as nodes
 use Rattle.gs_msg.specs.declared.node.StoreNode.TheVariants as keepers
-use Rattle.gs_world_account.proofs.Once.{told_once}
-use Rattle.gs_world_account.specs.Running.{IsArmed, IsGiven, Setup, StepsWithin}
+use Rattle.gs_world_chunks.proofs.Once.{told_once}
+use Rattle.gs_world_chunks.specs.Running.{IsArmed, IsGiven, Setup, StepsWithin}
 use Rattle.gs_world.proofs.Lasting.{opens_again, opens_told}
 use Rattle.gs_world.specs.Histories.{AtNode, ComesTo, History, Upshot, Tells, told as told_of_turn}
 use Rattle.gs_world.specs.Lasting.{HearsNamed, IsToldIn, OpensAs, failures_at}

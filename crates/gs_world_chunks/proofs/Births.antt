@@ -7,8 +7,8 @@ use Rattle.gs_base.specs.declared.config.Config.{Config}
 use Rattle.gs_base.specs.declared.numbers.Moment.{Moment}
 use Rattle.gs_base.specs.declared.numbers.ReqId.{ReqId}
 use Rattle.gs_base.specs.declared.numbers.Stamp.{Stamp}
-use Rattle.gs_world_account.specs.Accounts.{Account}
-use Rattle.gs_world_account.specs.Moving.{account_behind, list_behind}
+use Rattle.gs_world_chunks.specs.Accounts.{Account}
+use Rattle.gs_world_chunks.specs.Moving.{account_behind, list_behind}
 use Rattle.gs_chunk.specs.Stamps.{stamp_at, start_of}
 use Rattle.gs_chunk.specs.Machine.{ChunkWorld}
 use Rattle.gs_chunk.specs.Events.{Leads, Rests}

@@ -39,8 +39,8 @@ use Rattle.gs_store.specs.Slots.{Live}
 use Rattle.gs_store.specs.Standing.{LiveUndamaged, StandsIn}
 use Rattle.gs_world.specs.Histories.{History}
 use Rattle.gs_world.specs.Runs.{Step}
-use Rattle.gs_world_account.specs.Accounts.{Account, settled_edits, settled_in, text_of, view_at}
-use Rattle.gs_world_account.specs.Running.{Setup}
+use Rattle.gs_world_chunks.specs.Accounts.{Account, settled_edits, settled_in, text_of, view_at}
+use Rattle.gs_world_chunks.specs.Running.{Setup}
 use Rattle.gs_world_chunks.proofs.Surviving.{free, list_then, live_text, prepared_last, still}
 use Rattle.gs_world_chunks.proofs.Viewing.{told_view}
 use Rattle.gs_world_chunks.specs.Joined.{IsSeen, SeenSince}

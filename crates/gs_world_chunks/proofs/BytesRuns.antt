@@ -24,9 +24,9 @@ use Rattle.gs_store.specs.Learning.{start_of}
 use Rattle.gs_world.proofs.Reaching.{HaveSizes}
 use Rattle.gs_world.specs.Histories.{History}
 use Rattle.gs_world.specs.Runs.{Step}
-use Rattle.gs_world_account.proofs.Told.{reached_sound}
-use Rattle.gs_world_account.specs.Accounts.{Account, settled_edits, text_of, view_at}
-use Rattle.gs_world_account.specs.Running.{IsGiven, IsReached, Moves, Runs, Setup}
+use Rattle.gs_world_chunks.proofs.Told.{reached_sound}
+use Rattle.gs_world_chunks.specs.Accounts.{Account, settled_edits, text_of, view_at}
+use Rattle.gs_world_chunks.specs.Running.{IsGiven, IsReached, Moves, Runs, Setup}
 use Rattle.gs_world_chunks.proofs.Durables.{told_is_had}
 use Rattle.gs_world_chunks.proofs.Edits.{AreNumbered}
 use Rattle.gs_world_chunks.proofs.Holding.{SinceSeen, given_there, lives_on, prepared_reached, reach_more, runs_of, runs_then, since_seen}

@@ -7,8 +7,8 @@ use Rattle.std.proofs.lemmas.Bool.{cases_eq, cases_lt, false≢true, true≢fals
 use Rattle.gs_base.specs.declared.numbers.Moment.{Moment}
 use Rattle.gs_base.specs.declared.numbers.ReqId.{ReqId}
 use Rattle.gs_base.specs.declared.numbers.Stamp.{Stamp}
-use Rattle.gs_world_account.specs.Accounts.{Account, view_at}
-use Rattle.gs_world_account.specs.Running.{IsGiven, IsReached, Moves, Runs, Setup}
+use Rattle.gs_world_chunks.specs.Accounts.{Account, view_at}
+use Rattle.gs_world_chunks.specs.Running.{IsGiven, IsReached, Moves, Runs, Setup}
 use Rattle.gs_block.specs.Written.{TellsApart}
 use Rattle.gs_chunk.proofs.Facts.{reached_world}
 use Rattle.gs_chunk.proofs.Lasting.{agrees}
@@ -58,7 +58,7 @@ use Rattle.gs_msg.specs.declared.body.Body.TheVariants as bodies
 use Rattle.gs_msg.specs.declared.message.Message.{Message}
 use Rattle.gs_msg.specs.declared.node.NodeId.{NodeId}
 use Rattle.gs_msg.specs.declared.node.NodeId.TheVariants as nodes
-use Rattle.gs_world_account.proofs.Told.{arming, reached_sound}
+use Rattle.gs_world_chunks.proofs.Told.{arming, reached_sound}
 use Rattle.gs_world.proofs.Reaching.{HaveSizes}
 use Rattle.gs_world.specs.Histories.{History}
 use Rattle.gs_world.specs.Runs.{Step}

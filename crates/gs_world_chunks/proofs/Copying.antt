@@ -2,8 +2,8 @@
 use Rattle.std.proofs.Common.{◌≡◌, ◌∙◌, ℕ, zero, suc, ◌+◌, ◌++◌, inl, inr, List, length, take, drop, append_assoc, Some, true, refl, sym, ap, subst, arith}
 use Rattle.std.specs.Prelude.{slice_get}
 use Rattle.std.proofs.lemmas.List.{take_all, take-append-drop, take-take}
-use Rattle.gs_world_account.specs.Accounts.{Account, settled_edits, settled_in, view_at}
-use Rattle.gs_world_account.specs.Running.{Setup}
+use Rattle.gs_world_chunks.specs.Accounts.{Account, settled_edits, settled_in, view_at}
+use Rattle.gs_world_chunks.specs.Running.{Setup}
 use Rattle.gs_base.specs.declared.numbers.ReqId.{ReqId}
 use Rattle.gs_base.specs.declared.numbers.Stamp.{Stamp}
 use Rattle.gs_chunk.proofs.Facts.{reached_world}

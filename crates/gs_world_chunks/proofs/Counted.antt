@@ -50,8 +50,8 @@ use Rattle.gs_world.proofs.Reaching.{HaveSizes}
 use Rattle.gs_world.specs.Histories.{History}
 use Rattle.gs_world.specs.Runs.{Comes, Goes, Step, Takes}
 use Rattle.gs_world.specs.Sent.{IsSent, Sent, message_of}
-use Rattle.gs_world_account.specs.Accounts.{Account, view_at}
-use Rattle.gs_world_account.specs.Running.{IsGiven, Setup}
+use Rattle.gs_world_chunks.specs.Accounts.{Account, view_at}
+use Rattle.gs_world_chunks.specs.Running.{IsGiven, Setup}
 use Rattle.gs_world_chunks.proofs.Edits.{AreNumbered}
 use Rattle.gs_world_chunks.proofs.Holding.{seen_since, sees_there}
 use Rattle.gs_world_chunks.specs.Upgrading.{IsUpgrading, RunsUpgraded, is_holder}

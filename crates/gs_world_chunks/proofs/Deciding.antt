@@ -36,7 +36,7 @@ use Rattle.gs_nodes.specs.Happenings.{met_by}
 use Rattle.gs_nodes.specs.declared.place.MasterPlace.TheVariants.{Standing}
 use Rattle.gs_refs.specs.Counts.{count_or_zero}
 use Rattle.gs_world.proofs.Reaching.{HaveSizes}
-use Rattle.gs_world_account.specs.Running.{Setup}
+use Rattle.gs_world_chunks.specs.Running.{Setup}
 use Rattle.gs_world_chunks.proofs.Edits.{AreNumbered}
 use Rattle.gs_world_laws.specs.Steady.{StandsSteady}
 use Rattle.gs_world_chunks.proofs.Became.{Became, ByItself, ByMessage, IsHearing, Opened, Stays, Turns, Waits, became}

@@ -11,8 +11,8 @@ use Rattle.gs_base.specs.declared.epoch.EpochEnd.{EpochEnd}
 use Rattle.gs_base.specs.declared.epoch.EpochEnd.TheVariants.{Prepare, Rollback}
 use Rattle.gs_base.specs.declared.numbers.ReqId.{ReqId}
 use Rattle.gs_base.specs.declared.numbers.Stamp.{Stamp}
-use Rattle.gs_world_account.specs.Accounts.{Account, settled_edits, settled_in, text_of, view_at}
-use Rattle.gs_world_account.specs.Running.{Setup}
+use Rattle.gs_world_chunks.specs.Accounts.{Account, settled_edits, settled_in, text_of, view_at}
+use Rattle.gs_world_chunks.specs.Running.{Setup}
 use Rattle.gs_chunk.proofs.Facts.{reached_world}
 use Rattle.gs_chunk.proofs.Known.{IsPrepared, Later, Settled}
 use Rattle.gs_chunk.proofs.Lists.{at_end, at_front, take_at, take_from, take_within, there}

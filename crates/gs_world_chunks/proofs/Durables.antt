@@ -1,7 +1,7 @@
 -- What the records tell is what the master has.
 use Rattle.std.proofs.Common.{◌≡◌, ◌∙◌, ℕ, Bool, true, false, List, sym}
 use Rattle.std.specs.Prelude.{MatchBool}
-use Rattle.gs_world_account.proofs.Once.{told_once}
+use Rattle.gs_world_chunks.proofs.Once.{told_once}
 use Rattle.gs_world_chunks.specs.Durables.{ToldIsHad}
 use Rattle.gs_journal.specs.Records.{standing}
 use Rattle.gs_master.specs.Journaled.{text_seen}

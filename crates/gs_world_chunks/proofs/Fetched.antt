@@ -7,9 +7,9 @@ use Rattle.gs_base.specs.declared.numbers.ReqId.{ReqId}
 use Rattle.gs_base.specs.declared.numbers.Stamp.{Stamp}
 use Rattle.gs_base.specs.declared.refusal.Refusal.{Refusal}
 use Rattle.gs_base.specs.declared.refusal.Refusal.TheVariants as refusals
-use Rattle.gs_world_account.proofs.Told.{named, reached_sound}
-use Rattle.gs_world_account.specs.Accounts.{Account}
-use Rattle.gs_world_account.specs.Running.{IsReached, Moves, Setup}
+use Rattle.gs_world_chunks.proofs.Told.{named, reached_sound}
+use Rattle.gs_world_chunks.specs.Accounts.{Account}
+use Rattle.gs_world_chunks.specs.Running.{IsReached, Moves, Setup}
 use Rattle.gs_client.specs.Nodes.{Asks, Node}
 use Rattle.gs_client.specs.Nodes as client
 use Rattle.gs_world_lift.proofs.AskingRuns.{does_say}

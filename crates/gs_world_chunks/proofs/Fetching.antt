@@ -10,8 +10,8 @@ use Rattle.gs_base.specs.declared.numbers.Moment.{Moment}
 use Rattle.gs_base.specs.declared.numbers.ReqId.{ReqId}
 use Rattle.gs_base.specs.declared.refusal.Refusal.{Refusal}
 use Rattle.gs_base.specs.declared.refusal.Refusal.TheVariants as refusals
-use Rattle.gs_world_account.specs.Accounts.{Account, text_of}
-use Rattle.gs_world_account.specs.Running.{Setup}
+use Rattle.gs_world_chunks.specs.Accounts.{Account, text_of}
+use Rattle.gs_world_chunks.specs.Running.{Setup}
 use Rattle.gs_chunk.proofs.Facts.{reached_world}
 use Rattle.gs_chunk.proofs.Lasting.{agrees}
 use Rattle.gs_chunk.proofs.Known.{Later}

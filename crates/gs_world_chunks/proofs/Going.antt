@@ -19,8 +19,8 @@ use Rattle.gs_nodes.specs.declared.place.MasterPlace.{MasterPlace}
 use Rattle.gs_world.specs.Histories.{History}
 use Rattle.gs_world.specs.Runs.{Step}
 use Rattle.gs_world.specs.Sent.{Sent}
-use Rattle.gs_world_account.specs.Accounts.{Account}
-use Rattle.gs_world_account.specs.Running.{Moves, Setup}
+use Rattle.gs_world_chunks.specs.Accounts.{Account}
+use Rattle.gs_world_chunks.specs.Running.{Moves, Setup}
 use Rattle.gs_world_chunks.specs.Upgrading.{IsUpgrading, RunsUpgraded}
 use Rattle.gs_world_laws.specs.Steady.{LastsSteady}
 use Rattle.gs_world_lift.specs.Doing.{HasDurable}

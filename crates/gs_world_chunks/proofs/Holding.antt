@@ -7,9 +7,9 @@ use Rattle.gs_base.specs.Members.{is_member}
 use Rattle.gs_base.specs.Stamps.{is_before}
 use Rattle.gs_base.specs.declared.numbers.ReqId.{ReqId}
 use Rattle.gs_base.specs.declared.numbers.Stamp.{Stamp}
-use Rattle.gs_world_account.specs.Accounts.{Account, text_of, view_at}
-use Rattle.gs_world_account.specs.Running.{IsGiven, IsReached, Moves, Runs, Setup}
-use Rattle.gs_world_account.proofs.Told.{reached_sound}
+use Rattle.gs_world_chunks.specs.Accounts.{Account, text_of, view_at}
+use Rattle.gs_world_chunks.specs.Running.{IsGiven, IsReached, Moves, Runs, Setup}
+use Rattle.gs_world_chunks.proofs.Told.{reached_sound}
 use Rattle.gs_block.specs.Written.{TellsApart}
 use Rattle.gs_chunk.specs.Owning.{AreOwn}
 use Rattle.gs_lease.specs.declared.view.View.{View}

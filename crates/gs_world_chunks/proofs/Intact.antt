@@ -5,9 +5,9 @@ use Rattle.std.proofs.lemmas.Bool.{cases_eq, eqb-true, false≢true}
 use Rattle.std.proofs.lemmas.Bool.Decides.{nat_tests}
 use Rattle.gs_base.specs.declared.epoch.EpochEnd.TheVariants.{Prepare}
 use Rattle.gs_base.specs.declared.numbers.ReqId.{ReqId}
-use Rattle.gs_world_account.specs.Accounts.{Account}
-use Rattle.gs_world_account.specs.Moving.{call_in, comes_to, event_at, is_server, server_of}
-use Rattle.gs_world_account.specs.Running.{IsToldAt, Moves, Setup}
+use Rattle.gs_world_chunks.specs.Accounts.{Account}
+use Rattle.gs_world_chunks.specs.Moving.{call_in, comes_to, event_at, is_server, server_of}
+use Rattle.gs_world_chunks.specs.Running.{IsToldAt, Moves, Setup}
 use Rattle.gs_chunk.specs.Events.{Leads, Rests}
 use Rattle.gs_chunk.specs.Laws.{IsReached, IsUpgrading, is_member, world_of}
 use Rattle.gs_chunk.specs.Machine.{Entry, Member, ChunkWorld}

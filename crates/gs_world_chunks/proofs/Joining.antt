@@ -19,9 +19,9 @@ use Rattle.gs_world_lift.specs.Joint.{AtMaster, AtServer, Elsewhere, GoesBy}
 use Rattle.gs_world_lift.specs.Living.{ComesAlive, GoesOn, StoreLives}
 use Rattle.gs_world_lift.specs.Showing.{IsAlive, ShowsMaster, ShowsNodes, ShowsStore}
 use Rattle.gs_world_lift.specs.Unborn.{IsUnborn, IsUnknown}
-use Rattle.gs_world_account.specs.Accounts.{Account}
-use Rattle.gs_world_account.specs.Moving.{account_behind}
-use Rattle.gs_world_account.specs.Running.{IsToldAt, Moves, Setup}
+use Rattle.gs_world_chunks.specs.Accounts.{Account}
+use Rattle.gs_world_chunks.specs.Moving.{account_behind}
+use Rattle.gs_world_chunks.specs.Running.{IsToldAt, Moves, Setup}
 use Rattle.gs_world_chunks.specs.Agreeing.{Agrees, CopiesNone, CopyShows, IsBlank, OriginShows}
 use Rattle.gs_world_chunks.specs.Joining.{AgreesAt, Life, StoresAgreeFirst, StoresAgreeOn}
 use Rattle.gs_world_chunks.proofs.Agreeing.{master_copied, masters_agree, server_copied, servers_agree, still_agrees, still_copied}

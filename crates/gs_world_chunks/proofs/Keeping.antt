@@ -47,9 +47,9 @@ use Rattle.gs_store.specs.Slots.{Live, Slot, first_of, removed, unless, unless_l
 use Rattle.gs_world.specs.Histories.{History}
 use Rattle.gs_world.specs.Runs.{Comes, Step, Takes}
 use Rattle.gs_world.specs.Sent.{message_of}
-use Rattle.gs_world_account.specs.Accounts.{Account}
-use Rattle.gs_world_account.specs.Moving.{call_in, comes_to, event_at, happens_at, is_server, server_of}
-use Rattle.gs_world_account.specs.Running.{Setup}
+use Rattle.gs_world_chunks.specs.Accounts.{Account}
+use Rattle.gs_world_chunks.specs.Moving.{call_in, comes_to, event_at, happens_at, is_server, server_of}
+use Rattle.gs_world_chunks.specs.Running.{Setup}
 use Rattle.gs_world_chunks.specs.Joined.{IsSeen}
 use Rattle.gs_world_chunks.specs.Upgrading.{is_drop}
 use Rattle.gs_world_lift.specs.Showing.{setting}

@@ -18,9 +18,9 @@ use Rattle.gs_store.specs.Standing.{LiveUndamaged}
 use Rattle.gs_world.proofs.Reaching.{HaveSizes}
 use Rattle.gs_world.specs.Histories.{History}
 use Rattle.gs_world.specs.Runs.{Step}
-use Rattle.gs_world_account.proofs.Told.{named}
-use Rattle.gs_world_account.specs.Accounts.{Account}
-use Rattle.gs_world_account.specs.Running.{IsReached, Runs, Setup, StepsWithin}
+use Rattle.gs_world_chunks.proofs.Told.{named}
+use Rattle.gs_world_chunks.specs.Accounts.{Account}
+use Rattle.gs_world_chunks.specs.Running.{IsReached, Runs, Setup, StepsWithin}
 use Rattle.gs_world_chunks.proofs.Durables.{told_is_had}
 use Rattle.gs_world_chunks.proofs.Edits.{AreNumbered}
 use Rattle.gs_world_chunks.proofs.Holding.{prepared_reached, reach_more, runs_of}

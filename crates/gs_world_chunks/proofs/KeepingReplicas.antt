@@ -14,8 +14,8 @@ use Rattle.gs_store.proofs.Laws.{not_before_itself}
 use Rattle.gs_store.specs.Slots.{Live, Slot}
 use Rattle.gs_store.specs.Standing.{LiveUndamaged}
 use Rattle.gs_world.proofs.Reaching.{HaveSizes}
-use Rattle.gs_world_account.specs.Accounts.{settled_edits}
-use Rattle.gs_world_account.specs.Running.{IsReached, Setup}
+use Rattle.gs_world_chunks.specs.Accounts.{settled_edits}
+use Rattle.gs_world_chunks.specs.Running.{IsReached, Setup}
 use Rattle.gs_world_chunks.proofs.Edits.{AreNumbered}
 use Rattle.gs_world_chunks.proofs.Holding.{prepared_reached, reach_more, runs_of}
 use Rattle.gs_world_chunks.proofs.Spared.{StillLive}

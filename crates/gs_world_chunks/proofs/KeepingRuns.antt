@@ -33,9 +33,9 @@ use Rattle.gs_world.proofs.Sending.{step_stays}
 use Rattle.gs_world.specs.Histories.{History}
 use Rattle.gs_world.specs.Runs.{StaySent, Step}
 use Rattle.gs_world.specs.Sent.{message_of}
-use Rattle.gs_world_account.proofs.Told.{reached_sound}
-use Rattle.gs_world_account.specs.Accounts.{Account}
-use Rattle.gs_world_account.specs.Running.{IsGiven, IsReached, Runs, Setup}
+use Rattle.gs_world_chunks.proofs.Told.{reached_sound}
+use Rattle.gs_world_chunks.specs.Accounts.{Account}
+use Rattle.gs_world_chunks.specs.Running.{IsGiven, IsReached, Runs, Setup}
 use Rattle.gs_world_chunks.proofs.Edits.{AreNumbered}
 use Rattle.gs_world_chunks.proofs.Holding.{reach_more}
 use Rattle.gs_world_chunks.proofs.Runs.{seen_next}

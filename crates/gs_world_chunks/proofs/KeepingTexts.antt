@@ -32,8 +32,8 @@ use Rattle.gs_store.specs.Slots.{Live}
 use Rattle.gs_store.specs.Standing.{IsToldIn, LiveUndamaged, StandsIn}
 use Rattle.gs_world.proofs.Reaching.{HaveSizes}
 use Rattle.gs_world.specs.Histories.{History}
-use Rattle.gs_world_account.specs.Accounts.{Account, settled_edits, view_at}
-use Rattle.gs_world_account.specs.Running.{IsReached, Setup}
+use Rattle.gs_world_chunks.specs.Accounts.{Account, settled_edits, view_at}
+use Rattle.gs_world_chunks.specs.Running.{IsReached, Setup}
 use Rattle.gs_world_chunks.proofs.Edits.{AreNumbered}
 use Rattle.gs_world_chunks.proofs.Holding.{prepared_reached, reach_more, runs_of}
 use Rattle.gs_world_chunks.proofs.Runs.{both_seen, living_told}

@@ -14,7 +14,7 @@ use Rattle.gs_nodes.specs.declared.place.MasterPlace.TheVariants.{Standing, Clos
 use Rattle.gs_world.specs.Histories.{History}
 use Rattle.gs_world.specs.Runs.{Step}
 use Rattle.gs_world.specs.Sent.{Sent}
-use Rattle.gs_world_account.specs.Running.{IsGiven, Setup}
+use Rattle.gs_world_chunks.specs.Running.{IsGiven, Setup}
 use Rattle.gs_world_laws.specs.Steady.{LastsSteady, StandsSteady}
 use Rattle.gs_world_lift.specs.Doing.{HasDurable}
 use Rattle.gs_world_lift.proofs.Durable.{has_durable}

@@ -1,3 +1,7 @@
+pub mod Blocks
+pub mod Once
+pub mod Told
+pub mod Scripts
 pub mod Edits
 pub mod Serving
 pub mod Still

@@ -58,10 +58,10 @@ use Rattle.gs_world_lift.specs.Going.{AllSent, Beats, Damages, Elsewhere, Hears,
 use Rattle.gs_world_lift.specs.Living.{StoreLives}
 use Rattle.gs_world_lift.specs.Saying.{AreOfClient, IsOfClient}
 use Rattle.gs_world_lift.specs.Showing.{whole_in}
-use Rattle.gs_world_account.proofs.Once.{told_once}
-use Rattle.gs_world_account.proofs.Told.{named, one_lasts, reached_sound}
-use Rattle.gs_world_account.specs.Accounts.{Account}
-use Rattle.gs_world_account.specs.Running.{IsArmed, IsNew, IsReached, Moves, Runs, Setup}
+use Rattle.gs_world_chunks.proofs.Once.{told_once}
+use Rattle.gs_world_chunks.proofs.Told.{named, one_lasts, reached_sound}
+use Rattle.gs_world_chunks.specs.Accounts.{Account}
+use Rattle.gs_world_chunks.specs.Running.{IsArmed, IsNew, IsReached, Moves, Runs, Setup}
 use Rattle.gs_world_chunks.proofs.Durables.{told_is_had}
 use Rattle.gs_world_chunks.proofs.Edits.{AreNumbered}
 use Rattle.gs_world_chunks.proofs.Seeing.{each_is_a_run}

@@ -7,8 +7,8 @@ use Rattle.std.proofs.lemmas.Bool.Decides.{nat_tests}
 use Rattle.std.proofs.lemmas.List.{take-append-drop}
 use Rattle.gs_base.specs.Stamps.{is_same}
 use Rattle.gs_base.specs.declared.numbers.Stamp.{Stamp}
-use Rattle.gs_world_account.specs.Accounts.{Account, edits_in, view_at}
-use Rattle.gs_world_account.specs.Moving.{begun, continued, edits_of, is_under, list_behind}
+use Rattle.gs_world_chunks.specs.Accounts.{Account, edits_in, view_at}
+use Rattle.gs_world_chunks.specs.Moving.{begun, continued, edits_of, is_under, list_behind}
 use Rattle.gs_world_lift.specs.Copying.{copied_from}
 use Rattle.gs_master_moves.specs.Epochs.{prepares, rolls_back}
 use Rattle.gs_chunk.specs.Stamps.{stamp_at, start_of}

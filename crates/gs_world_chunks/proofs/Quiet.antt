@@ -9,8 +9,8 @@ use Rattle.gs_base.specs.declared.epoch.EpochEnd.TheVariants as ends
 use Rattle.gs_base.specs.declared.numbers.Moment.{Moment}
 use Rattle.gs_base.specs.declared.numbers.ReqId.{ReqId}
 use Rattle.gs_base.specs.declared.refusal.Refusal.{Refusal}
-use Rattle.gs_world_account.specs.Accounts.{Account, settled_edits, settled_in, text_of, view_at}
-use Rattle.gs_world_account.specs.Running.{Setup}
+use Rattle.gs_world_chunks.specs.Accounts.{Account, settled_edits, settled_in, text_of, view_at}
+use Rattle.gs_world_chunks.specs.Running.{Setup}
 use Rattle.gs_chunk.proofs.Exact.{quiet_is_settled}
 use Rattle.gs_chunk.proofs.Facts.{quiet_is_still, reached_world}
 use Rattle.gs_chunk.proofs.Resting.{promises_rest}

@@ -21,10 +21,10 @@ use Rattle.gs_world_lift.specs.Running.{LastsArmed, UnknownArmed}
 use Rattle.gs_world_lift.specs.Living.{ShowsArmed}
 use Rattle.gs_world_lift.specs.Showing.{ShowsMaster}
 use Rattle.gs_world_lift.specs.Unborn.{IsUnknown}
-use Rattle.gs_world_account.specs.Accounts.{Account}
-use Rattle.gs_world_account.specs.Running.{AreAmong, IsArmed, IsGiven, ReplicaAmong, Runs, Setup, replica_in}
-use Rattle.gs_world_account.proofs.Blocks.{blocks_have}
-use Rattle.gs_world_account.proofs.Told.{arming}
+use Rattle.gs_world_chunks.specs.Accounts.{Account}
+use Rattle.gs_world_chunks.specs.Running.{AreAmong, IsArmed, IsGiven, ReplicaAmong, Runs, Setup, replica_in}
+use Rattle.gs_world_chunks.proofs.Blocks.{blocks_have}
+use Rattle.gs_world_chunks.proofs.Told.{arming}
 use Rattle.gs_world_chunks.specs.Reached.{Shows}
 use Rattle.gs_world_lift.specs.Going.{AllSent}
 use Rattle.gs_world_lift.specs.Saying.{PushRight}
@@ -39,7 +39,7 @@ use Rattle.gs_world.specs.Sent.{message_of}
 use Rattle.gs_server.specs.Servers as servers
 use Rattle.gs_store.specs.Stores.{or_nothing}
 use Rattle.gs_nodes.specs.Nodes.{Nodes}
-use Rattle.gs_world_account.specs.Running.{BlocksAmong, IsNew, SealAmong}
+use Rattle.gs_world_chunks.specs.Running.{BlocksAmong, IsNew, SealAmong}
 use Rattle.gs_base.specs.declared.numbers.ReqId.{ReqId}
 use Rattle.gs_chunk.specs.Machine.{ChunkWorld}
 use Rattle.gs_store.specs.Slots.{seal_in, seal_of, trashed_seal}

@@ -6,9 +6,9 @@ use Rattle.std.specs.FinMap as fin
 use Rattle.gs_base.specs.Stamps.{is_before}
 use Rattle.gs_base.specs.declared.epoch.EpochEnd.TheVariants.{Prepare, Rollback}
 use Rattle.gs_base.specs.declared.numbers.Stamp.{Stamp}
-use Rattle.gs_world_account.proofs.Told.{reached_sound}
-use Rattle.gs_world_account.specs.Accounts.{Account, settled_edits, view_at}
-use Rattle.gs_world_account.specs.Running.{Setup}
+use Rattle.gs_world_chunks.proofs.Told.{reached_sound}
+use Rattle.gs_world_chunks.specs.Accounts.{Account, settled_edits, view_at}
+use Rattle.gs_world_chunks.specs.Running.{Setup}
 use Rattle.gs_chunk.proofs.Facts.{reached_world}
 use Rattle.gs_chunk.proofs.Resting.{none_ahead}
 use Rattle.gs_chunk.proofs.Worlds.{WorldOk}

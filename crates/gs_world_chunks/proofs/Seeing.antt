@@ -2,10 +2,10 @@
 use Rattle.std.proofs.Common.{◌≡◌, ◌∙◌, ℕ, List, [], ◌∷◌, refl, sym, ap, subst, inl, inr}
 use Rattle.std.proofs.lemmas.Bool.{false≢true}
 use Rattle.gs_base.specs.declared.numbers.ReqId.{ReqId}
-use Rattle.gs_world_account.specs.Accounts.{Account}
-use Rattle.gs_world_account.specs.Moving.{account_behind}
-use Rattle.gs_world_account.specs.Running.{IsGiven, IsNew, IsReached, Moves, Runs, Setup}
-use Rattle.gs_world_account.proofs.Told.{arming, named, one_lasts, reached_sound, runs_sound}
+use Rattle.gs_world_chunks.specs.Accounts.{Account}
+use Rattle.gs_world_chunks.specs.Moving.{account_behind}
+use Rattle.gs_world_chunks.specs.Running.{IsGiven, IsNew, IsReached, Moves, Runs, Setup}
+use Rattle.gs_world_chunks.proofs.Told.{arming, named, one_lasts, reached_sound, runs_sound}
 use Rattle.gs_block.specs.Written.{TellsApart}
 use Rattle.gs_chunk.specs.Events.{Rests}
 use Rattle.gs_chunk.specs.Laws.{Birth}

@@ -7,8 +7,8 @@ use Rattle.gs_base.specs.Stamps.{is_same}
 use Rattle.gs_base.specs.declared.numbers.Moment.{Moment}
 use Rattle.gs_base.specs.declared.numbers.ReqId.{ReqId}
 use Rattle.gs_base.specs.declared.numbers.Stamp.{Stamp}
-use Rattle.gs_world_account.specs.Accounts.{Account, view_at}
-use Rattle.gs_world_account.specs.Moving.{edit_under, has_more, is_edit, list_behind, reached_behind}
+use Rattle.gs_world_chunks.specs.Accounts.{Account, view_at}
+use Rattle.gs_world_chunks.specs.Moving.{edit_under, has_more, is_edit, list_behind, reached_behind}
 use Rattle.gs_chunk.specs.Stamps.{stamp_at}
 use Rattle.gs_chunk.specs.Machine.{Member, ChunkWorld}
 use Rattle.gs_chunk.specs.Events.{Leads}

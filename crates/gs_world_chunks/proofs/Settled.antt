@@ -8,8 +8,8 @@ use Rattle.gs_master_spec.specs.Applied.{view_in}
 use Rattle.gs_master_spec.specs.Durable.{Settled, is_listed}
 use Rattle.gs_world.proofs.Reaching.{HaveSizes}
 use Rattle.gs_world.specs.Histories.{History}
-use Rattle.gs_world_account.specs.Accounts.{Account}
-use Rattle.gs_world_account.specs.Running.{Setup}
+use Rattle.gs_world_chunks.specs.Accounts.{Account}
+use Rattle.gs_world_chunks.specs.Running.{Setup}
 use Rattle.gs_world_chunks.proofs.BytesRuns.{kept_back, listed_there, sees, settled_back}
 use Rattle.gs_world_chunks.proofs.Edits.{AreNumbered}
 use Rattle.gs_world_chunks.proofs.Runs.{keeps_told}

@@ -3,13 +3,13 @@ use Rattle.std.proofs.Common.{◌≡◌, ◌∙◌, ◌++◌, ◌⊎◌, append_
 use Rattle.std.specs.Prelude.{is_some}
 use Rattle.std.proofs.lemmas.Bool.{cases_lt}
 use Rattle.gs_base.specs.declared.numbers.ReqId.{ReqId}
-use Rattle.gs_world_account.specs.Accounts.{Account, text_of, view_at}
+use Rattle.gs_world_chunks.specs.Accounts.{Account, text_of, view_at}
 use Rattle.gs_base.specs.declared.numbers.Stamp.{Stamp}
 use Rattle.gs_world.specs.Histories.{History}
 use Rattle.gs_world.specs.Sent.{Sent}
 use Rattle.gs_lease.specs.declared.view.View.{View}
 use Rattle.gs_world_lift.specs.Copying.{copied_from}
-use Rattle.gs_world_account.specs.Running.{Setup}
+use Rattle.gs_world_chunks.specs.Running.{Setup}
 use Rattle.gs_block.proofs.Standing.{behind_same, intact_same}
 use Rattle.gs_block.specs.Stored.{Stored}
 use Rattle.gs_block.specs.Written.{ToldApart, WasWritten}

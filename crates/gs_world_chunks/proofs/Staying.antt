@@ -10,9 +10,9 @@ use Rattle.gs_base.specs.declared.numbers.Moment.{Moment}
 use Rattle.gs_base.specs.declared.numbers.ReqId.{ReqId}
 use Rattle.gs_base.specs.declared.numbers.Stamp.{Stamp}
 use Rattle.gs_base.specs.declared.refusal.Refusal.{Refusal}
-use Rattle.gs_world_account.specs.Accounts.{Account}
-use Rattle.gs_world_account.specs.Moving.{call_in, event_at}
-use Rattle.gs_world_account.specs.Running.{IsGiven, Runs, Setup}
+use Rattle.gs_world_chunks.specs.Accounts.{Account}
+use Rattle.gs_world_chunks.specs.Moving.{call_in, event_at}
+use Rattle.gs_world_chunks.specs.Running.{IsGiven, Runs, Setup}
 use Rattle.gs_block.specs.Written.{TellsApart}
 use Rattle.gs_chunk.proofs.Facts.{reached_world}
 use Rattle.gs_chunk.proofs.Known.{Later}

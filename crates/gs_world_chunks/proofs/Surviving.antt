@@ -6,9 +6,9 @@ use Rattle.std.specs.FinMap as fin
 use Rattle.gs_base.specs.Members.{is_member}
 use Rattle.gs_base.specs.declared.numbers.ReqId.{ReqId}
 use Rattle.gs_base.specs.declared.numbers.Stamp.{Stamp}
-use Rattle.gs_world_account.specs.Accounts.{Account, least, settled_edits, settled_in, text_of, view_at}
+use Rattle.gs_world_chunks.specs.Accounts.{Account, least, settled_edits, settled_in, text_of, view_at}
 use Rattle.gs_world_lift.specs.Copying.{copied_from}
-use Rattle.gs_world_account.specs.Running.{Setup}
+use Rattle.gs_world_chunks.specs.Running.{Setup}
 use Rattle.gs_block.proofs.Telling.{whole_same}
 use Rattle.gs_block.specs.Written.{ToldApart}
 use Rattle.gs_chunk.proofs.Entries.{IsCurrent, SameView}

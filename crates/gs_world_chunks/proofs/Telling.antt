@@ -43,8 +43,8 @@ use Rattle.gs_world.proofs.Lasting.{opens_told}
 use Rattle.gs_world.specs.Histories.{Begins, History}
 use Rattle.gs_world.specs.Lasting.{IsToldIn}
 use Rattle.gs_world.specs.Runs.{Goes, Step}
-use Rattle.gs_world_account.specs.Accounts.{Account, view_at}
-use Rattle.gs_world_account.specs.Running.{IsGiven, IsToldAt, Moves, Runs, Setup, StepsWithin}
+use Rattle.gs_world_chunks.specs.Accounts.{Account, view_at}
+use Rattle.gs_world_chunks.specs.Running.{IsGiven, IsToldAt, Moves, Runs, Setup, StepsWithin}
 use Rattle.gs_world_chunks.proofs.Durables.{told_is_had}
 use Rattle.gs_world_chunks.specs.Upgrading.{IsUpgrading, RunsUpgraded, is_current, is_holder}
 use Rattle.gs_world_laws.specs.Steady.{LastsSteady}

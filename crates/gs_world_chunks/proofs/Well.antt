@@ -1,8 +1,8 @@
 -- A store stays well: its master is steady, or its disks wait and tell such a one; and all that is sent is within its types.
 use Rattle.std.proofs.Common.{◌∙◌, ℕ, List, [], ◌∷◌, refl, ap, sym, subst}
 use Rattle.gs_journal.specs.Records.{standing}
-use Rattle.gs_world_account.proofs.Told.{arming}
-use Rattle.gs_world_account.specs.Running.{IsArmed, IsGiven, RunsBare, Setup, StepsWithin}
+use Rattle.gs_world_chunks.proofs.Told.{arming}
+use Rattle.gs_world_chunks.specs.Running.{IsArmed, IsGiven, RunsBare, Setup, StepsWithin}
 use Rattle.gs_world.proofs.Lasting.{run_lasts}
 use Rattle.gs_world.specs.Histories.{Begins, History}
 use Rattle.gs_world.specs.Lasting.{Lasts, RunsSoundly}

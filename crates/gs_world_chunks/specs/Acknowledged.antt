@@ -8,8 +8,8 @@ use Rattle.gs_msg.specs.declared.chunk.Chunk.TheVariants as chunks
 use Rattle.gs_msg.specs.declared.message.Message.{Message}
 use Rattle.gs_msg.specs.declared.op.Op.{Op}
 use Rattle.gs_server_lease.specs.Numbering.{is_passed, is_too_long}
-use Rattle.gs_world_account.specs.Accounts.{Account, settled_edits, text_of}
-use Rattle.gs_world_account.specs.Running.{IsReached, Runs, Setup}
+use Rattle.gs_world_chunks.specs.Accounts.{Account, settled_edits, text_of}
+use Rattle.gs_world_chunks.specs.Running.{IsReached, Runs, Setup}
 use Rattle.gs_world_lift.specs.Owning.{IsNumberedOp}
 use Rattle.gs_world.specs.Runs.{Step}
 use Rattle.gs_world.specs.Sent.{IsSent, Sent}

@@ -1,8 +1,8 @@
 -- Each edit in each list of a store is one that was asked for.
 use Rattle.std.specs.Prelude.{◌≡◌, ℕ, Some, slice_get, take}
 use Rattle.gs_base.specs.declared.numbers.Stamp.{Stamp}
-use Rattle.gs_world_account.specs.Accounts.{Account}
-use Rattle.gs_world_account.specs.Running.{IsReached, Setup}
+use Rattle.gs_world_chunks.specs.Accounts.{Account}
+use Rattle.gs_world_chunks.specs.Running.{IsReached, Setup}
 use Rattle.gs_replica.specs.Stands.{Edit}
 use Rattle.gs_world.specs.Histories.{History}
 use Rattle.gs_world_chunks.specs.Acknowledged.{IsAskedHere}

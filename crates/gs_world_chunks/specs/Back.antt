@@ -4,9 +4,9 @@ use Rattle.gs_block.specs.Written.{TellsApart}
 use Rattle.std.specs.Prelude.{[], ◌∷◌, ◌≡◌, List, None, Some, false, is_some, slice_get, true, ℕ}
 use Rattle.gs_base.specs.Members.{is_member}
 use Rattle.gs_lease.specs.declared.view.View.{View}
-use Rattle.gs_world_account.specs.Accounts.{Account, settled_edits, view_at}
+use Rattle.gs_world_chunks.specs.Accounts.{Account, settled_edits, view_at}
 use Rattle.gs_master_moves.specs.Epochs.{prepares, rolls_back}
-use Rattle.gs_world_account.specs.Running.{IsGiven, Moves, Runs, RunsBare, Setup, StepsWithin}
+use Rattle.gs_world_chunks.specs.Running.{IsGiven, Moves, Runs, RunsBare, Setup, StepsWithin}
 use Rattle.gs_replica.specs.Seals.{lowest_damaged}
 use Rattle.gs_server.specs.Servers.{Server}
 use Rattle.gs_master_spec.specs.Durable.{Durable, Settled, is_listed, is_ordinary}

@@ -1,8 +1,8 @@
 -- What a copy has of the chunk of which it is one.
 use Rattle.std.specs.Prelude.{[], ◌∷◌, ◌≡◌, ◌⊎◌, List, None, Some, length, refl, take, ℕ}
 use Rattle.gs_base.specs.declared.numbers.Stamp.{Stamp}
-use Rattle.gs_world_account.specs.Accounts.{Account, settled_edits, view_at}
-use Rattle.gs_world_account.specs.Running.{IsReached, Moves, Runs, Setup}
+use Rattle.gs_world_chunks.specs.Accounts.{Account, settled_edits, view_at}
+use Rattle.gs_world_chunks.specs.Running.{IsReached, Moves, Runs, Setup}
 use Rattle.gs_lease.specs.declared.view.View.{View}
 use Rattle.gs_world_lift.specs.Copying.{copied_from}
 use Rattle.gs_replica.specs.Stands.{Edit}

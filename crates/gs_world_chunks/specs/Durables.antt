@@ -1,6 +1,6 @@
 -- That an account has of the records what the master has.
 use Rattle.std.specs.Prelude.{◌≡◌, ℕ, List}
-use Rattle.gs_world_account.specs.Running.{IsToldAt}
+use Rattle.gs_world_chunks.specs.Running.{IsToldAt}
 use Rattle.gs_world_lift.specs.Doing.{HasDurable}
 use Rattle.gs_world.specs.Lasting.{Lasts}
 use Rattle.gs_master_spec.specs.Durable.{Durable}

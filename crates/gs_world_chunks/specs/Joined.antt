@@ -7,8 +7,8 @@ use Rattle.gs_chunk.specs.Events.{Leads}
 use Rattle.gs_chunk.specs.Laws.{IsUpgrading}
 use Rattle.gs_master_entry.specs.Showing.{ShowsDurable}
 use Rattle.gs_world_lift.specs.Showing.{AreToldApart, IsAlive, Keeps}
-use Rattle.gs_world_account.specs.Accounts.{Account}
-use Rattle.gs_world_account.specs.Running.{Setup}
+use Rattle.gs_world_chunks.specs.Accounts.{Account}
+use Rattle.gs_world_chunks.specs.Running.{Setup}
 use Rattle.gs_master_spec.specs.Durable.{Durable, is_listed, is_upgrade, upgrade_epoch}
 use Rattle.gs_world_chunks.specs.Agreeing.{Agrees, ListsStay}
 

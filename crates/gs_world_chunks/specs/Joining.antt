@@ -6,8 +6,8 @@ use Rattle.gs_world.specs.Histories.{History}
 use Rattle.gs_world.specs.Runs.{Step}
 use Rattle.gs_world_lift.specs.Living.{StoreGoes, StoreLives}
 use Rattle.gs_world_lift.specs.Showing as showing
-use Rattle.gs_world_account.specs.Accounts.{Account}
-use Rattle.gs_world_account.specs.Running.{IsNew, IsToldAt, Moves, Setup}
+use Rattle.gs_world_chunks.specs.Accounts.{Account}
+use Rattle.gs_world_chunks.specs.Running.{IsNew, IsToldAt, Moves, Setup}
 use Rattle.gs_world_chunks.specs.Agreeing.{Agrees, IsBlank}
 
 module _ {D : Type 0} (x : Setup D) (bytes : ReqId → List ℕ) where

@@ -1,3 +1,7 @@
+pub mod Accounts
+pub mod Moving
+pub mod Running
+pub mod Scripts
 pub mod Standing
 pub mod Joined
 pub mod Seen

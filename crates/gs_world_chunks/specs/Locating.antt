@@ -17,8 +17,8 @@ use Rattle.gs_master_moves.specs.Locations as replies
 use Rattle.gs_master_entry.specs.Locating.{IsLookedUpIn}
 use Rattle.gs_world_lift.specs.Doing.{HasDurable}
 use Rattle.gs_world_lift.specs.Going.{AllSent}
-use Rattle.gs_world_account.specs.Accounts.{Account}
-use Rattle.gs_world_account.specs.Running.{Setup}
+use Rattle.gs_world_chunks.specs.Accounts.{Account}
+use Rattle.gs_world_chunks.specs.Running.{Setup}
 use Rattle.gs_world_chunks.specs.Reading.{WasCalled, WasLookedUp}
 
 -- ---- the master

@@ -6,8 +6,8 @@ use Rattle.gs_server_member.specs.Requests.{Asked, bytes_in}
 use Rattle.gs_world_lift.specs.Asking.{AreAskedIn}
 use Rattle.gs_world_lift.specs.Living.{LeadsOn, StoreLives}
 use Rattle.gs_world_lift.specs.Telling.{StoreTells}
-use Rattle.gs_world_account.specs.Accounts.{Account}
-use Rattle.gs_world_account.specs.Running.{IsReached, Runs, Setup}
+use Rattle.gs_world_chunks.specs.Accounts.{Account}
+use Rattle.gs_world_chunks.specs.Running.{IsReached, Runs, Setup}
 
 module _ {D : Type 0} (x : Setup D) where
   -- Each chunk of a store is not born yet, or a machine of it that is reached from its birth shows the store: its servers, its master, and all that was ever sent. So it is for what

@@ -9,8 +9,8 @@ use Rattle.gs_block.specs.Stored.{digest_at}
 use Rattle.gs_lease.specs.declared.view.View.{View}
 use Rattle.gs_msg.specs.declared.message.Message.{Message}
 use Rattle.gs_msg.specs.declared.message.MsgId.{MsgId}
-use Rattle.gs_world_account.specs.Accounts.{Account, settled_count, text_of, view_at}
-use Rattle.gs_world_account.specs.Running.{IsReached, Moves, Runs, Setup}
+use Rattle.gs_world_chunks.specs.Accounts.{Account, settled_count, text_of, view_at}
+use Rattle.gs_world_chunks.specs.Running.{IsReached, Moves, Runs, Setup}
 use Rattle.gs_world.specs.Runs.{Comes, Step}
 use Rattle.gs_world.specs.Sent.{IsSent, Sent, message_of}
 use Rattle.gs_msg.specs.declared.answer.Answer.TheVariants as answers

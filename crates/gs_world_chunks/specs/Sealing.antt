@@ -5,8 +5,8 @@ use Rattle.gs_base.specs.Stamps.{is_before}
 use Rattle.gs_base.specs.declared.numbers.Stamp.{Stamp}
 use Rattle.gs_block.specs.Stored.{Stored}
 use Rattle.gs_lease.specs.declared.view.View.{View}
-use Rattle.gs_world_account.specs.Accounts.{Account, settled_edits, text_of, view_at}
-use Rattle.gs_world_account.specs.Running.{Runs, Setup}
+use Rattle.gs_world_chunks.specs.Accounts.{Account, settled_edits, text_of, view_at}
+use Rattle.gs_world_chunks.specs.Running.{Runs, Setup}
 use Rattle.gs_replica.specs.Seals.{Sealed, lowest_damaged}
 use Rattle.gs_master_spec.specs.Durable.{is_rolling}
 use Rattle.gs_store.specs.Learning.{start_of}

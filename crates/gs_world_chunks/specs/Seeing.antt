@@ -9,8 +9,8 @@ use Rattle.gs_world_lift.specs.Asking.{AreAskedIn}
 use Rattle.gs_world_lift.specs.Living.{StoreGoes, StoreLives}
 use Rattle.gs_world_lift.specs.Telling.{StoreTells}
 use Rattle.gs_server_member.specs.Requests.{Asked, bytes_in}
-use Rattle.gs_world_account.specs.Accounts.{Account}
-use Rattle.gs_world_account.specs.Running.{IsReached, Moves, Runs, Setup}
+use Rattle.gs_world_chunks.specs.Accounts.{Account}
+use Rattle.gs_world_chunks.specs.Running.{IsReached, Moves, Runs, Setup}
 use Rattle.gs_world_chunks.specs.Joined.{IsIntact}
 use Rattle.gs_world_chunks.specs.Agreeing.{ListsStay}
 use Rattle.gs_world_chunks.specs.Joining.{Life, StoreAgrees}

@@ -4,8 +4,8 @@ use Rattle.std.specs.FinMap as fin
 use Rattle.gs_base.specs.Members.{is_member}
 use Rattle.gs_base.specs.Stamps.{is_before}
 use Rattle.gs_base.specs.declared.numbers.ReqId.{ReqId}
-use Rattle.gs_world_account.specs.Accounts.{Account, settled_edits, view_at}
-use Rattle.gs_world_account.specs.Running.{Setup}
+use Rattle.gs_world_chunks.specs.Accounts.{Account, settled_edits, view_at}
+use Rattle.gs_world_chunks.specs.Running.{Setup}
 use Rattle.gs_chunk.specs.Machine.{Entry}
 use Rattle.gs_master_entry.specs.Showing.{ShowsDurable}
 use Rattle.gs_master_laws.specs.Promises.{IsKept}

@@ -7,8 +7,8 @@ use Rattle.gs_base.specs.declared.numbers.Stamp.{Stamp}
 use Rattle.gs_block.specs.Stored.{Stored, block_at, is_intact}
 use Rattle.gs_lease.specs.declared.view.View.{View}
 use Rattle.gs_msg.specs.declared.message.Message.{Message}
-use Rattle.gs_world_account.specs.Accounts.{Account, settled_edits, text_of, view_at}
-use Rattle.gs_world_account.specs.Running.{IsReached, Setup}
+use Rattle.gs_world_chunks.specs.Accounts.{Account, settled_edits, text_of, view_at}
+use Rattle.gs_world_chunks.specs.Running.{IsReached, Setup}
 use Rattle.gs_world.specs.Sent.{IsSent, Sent}
 use Rattle.gs_server.specs.Servers.{Server}
 use Rattle.gs_server_laws.specs.Calling.{call_by}

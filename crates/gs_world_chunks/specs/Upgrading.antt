@@ -4,10 +4,10 @@ use Rattle.std.specs.List.{AllByRecursion}
 use Rattle.gs_base.specs.Members.{is_member}
 use Rattle.gs_base.specs.declared.numbers.ClientId.{ClientId}
 use Rattle.gs_base.specs.declared.numbers.Moment.{Moment}
-use Rattle.gs_world_account.specs.Accounts.{Account, view_at}
-use Rattle.gs_world_account.specs.Moving.{call_in, event_at}
+use Rattle.gs_world_chunks.specs.Accounts.{Account, view_at}
+use Rattle.gs_world_chunks.specs.Moving.{call_in, event_at}
 use Rattle.gs_master_moves.specs.Epochs.{prepares}
-use Rattle.gs_world_account.specs.Running.{IsReached, Moves, Runs, Setup}
+use Rattle.gs_world_chunks.specs.Running.{IsReached, Moves, Runs, Setup}
 use Rattle.gs_master_spec.specs.Chunks.{members_in}
 use Rattle.gs_store.specs.Calls as calls
 use Rattle.gs_store.specs.Calls.{Call}

@@ -1,11 +1,12 @@
-//! What holds of the chunks of a store over every run: what their replicas stand for, which edits stay, what reads give, and what servers keep of a prepare; and what an upgrade promises, of the names
-//! too: an accepted rollback gives back what stood at the last accepted prepare.
+//! What goes along with a run of a store beside its nodes: which edits its chunks have in each view, which of them are settled, and what of a prepare stands unharmed (an account). Then what holds of its chunks
+//! over every run: what their replicas stand for, which edits stay, what reads give, and what servers keep of a prepare; and what an upgrade promises, of the names too: an accepted rollback gives
+//! back what stood at the last accepted prepare.
 #![tactic(auto)]
 
-ghost use Rattle.std.specs.Prelude.{List, ℕ};
+ghost use Rattle.std.specs.Prelude.{List, ℕ, ◌≡◌, Bool, [], true};
 ghost use Rattle.gs_base.specs.declared.config.Config.{Config};
 ghost use Rattle.gs_base.specs.declared.numbers.ReqId.{ReqId};
-ghost use Rattle.gs_world_account.specs.Running.{Setup};
+ghost use Rattle.gs_world_chunks.specs.Running.{Setup, BlocksAmong, FirstIsOne, HaveAccounts, NextIsOne, ReachedStaySound};
 ghost use Rattle.gs_world_chunks.specs.Agreeing.{BirthsAgree, BlanksStay, ListsStayOn, MastersAgree, MastersKeepLists, ServersAgree, ServersKeepLists, StillAgree, StillKeepsLists};
 ghost use Rattle.gs_world_chunks.specs.Reached.{EachIsARun, EachLeadsOn};
 ghost use Rattle.gs_world_chunks.specs.Copying.{CopiesAreOfViews, CopiesInherit};
@@ -19,9 +20,35 @@ ghost use Rattle.gs_world_chunks.specs.Durables.{ToldIsHad};
 ghost use Rattle.gs_world_chunks.specs.Seeing.{EachIsSeen, EachSeesOn, StoresStayIntact};
 ghost use Rattle.gs_world_chunks.specs.Accepting.{CommitsAreDecided, NoneGoesBackUnnamed};
 ghost use Rattle.gs_world_chunks.specs.Back.{GivesBytesBack, GivesNamesBack, GivesNoOtherBack, GivesReplicasBack, GivesSettledBack, KeepsBytes, NoOtherText};
+ghost use Rattle.gs_block.specs.Written.{HasBlocks};
+ghost use Rattle.gs_world_chunks.specs.Scripts.{EachScriptIsReached};
 
 use gs_block::promises::configurations_have_sizes;
 use gs_server_laws::{a_message_edits_a_replica_by_what_it_says, an_event_calls_what_it_says};
+
+/// Each run of a store has an account: what its records tell, and beside that which edits its chunks have in each view, and which of them are settled. There
+/// is one alone.
+pub fn runs_have_accounts<D>()
+    ensures some { (x : Setup D) → HaveAccounts x }
+    ensures first { (x : Setup D) → FirstIsOne x }
+    ensures next { (x : Setup D) → NextIsOne x }
+{}
+
+/// Behind each run the master stands firm, or its disks wait and tell one; all that was sent keeps to its types; and the run is one in which no disk fails.
+pub fn runs_stay_sound<D>()
+    ensures { (x : Setup D) → ReachedStaySound x }
+{}
+
+/// What a script leaves is a store that is reached by such a run: over disks that said nothing, where in no step one failed. So what holds of each store that is reached holds of what a
+/// script leaves, where different blocks that its servers ever had have different digests.
+pub fn each_script_is_reached<D>()
+    ensures { EachScriptIsReached D }
+{}
+
+/// Where the empty block is among some, and each block of a text up to its end, so is whatever is cut out at any place of a block.
+pub fn blocks_that_stand_are_all_blocks()
+    ensures { (size : ℕ) (among : List ℕ → Bool) (bytes : List ℕ) → among [] ≡ true → BlocksAmong size among bytes → HasBlocks size among bytes }
+{}
 
 /// Each chunk of a store is a run of its machine: behind each run of a store that has begun new, in which no disk of the master fails and all that is asked is within its types, each chunk
 /// is not born yet, or a world of its machine, which is reached from its birth, shows the store as it is then: what each server keeps of it, the master's part, and all that was ever said.

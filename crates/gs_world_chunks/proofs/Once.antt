@@ -5,9 +5,9 @@ use Rattle.std.specs.List.{AllByRecursion}
 use Rattle.gs_journal.specs.Records.{Entry as Record, Text, standing}
 use Rattle.gs_journal.specs.declared.version.Version.TheVariants.{Two}
 use Rattle.gs_master.specs.Journaled.{text_seen}
-use Rattle.gs_world_account.specs.Accounts.{first_account}
-use Rattle.gs_world_account.specs.Moving.{account_behind}
-use Rattle.gs_world_account.specs.Running.{FirstIsOne, IsToldAt, NextIsOne, Setup}
+use Rattle.gs_world_chunks.specs.Accounts.{first_account}
+use Rattle.gs_world_chunks.specs.Moving.{account_behind}
+use Rattle.gs_world_chunks.specs.Running.{FirstIsOne, IsToldAt, NextIsOne, Setup}
 use Rattle.gs_master_record.proofs.Whole.{one_entry}
 use Rattle.gs_master_record.specs.Encoding.{encoded}
 use Rattle.gs_master_record.specs.Plain.{PlainEntry}

@@ -1,6 +1,6 @@
-use Rattle.gs_world_account.proofs.Once.{first_is_one, next_is_one}
-use Rattle.gs_world_account.proofs.Told.{have_accounts}
-use Rattle.gs_world_account.proofs.runs_have_accounts.Goals as goal
+use Rattle.gs_world_chunks.proofs.Once.{first_is_one, next_is_one}
+use Rattle.gs_world_chunks.proofs.Told.{have_accounts}
+use Rattle.gs_world_chunks.proofs.runs_have_accounts.Goals as goal
 
 pub returns-clause-some : goal.returns-clause-some
 returns-clause-some c s = have_accounts

@@ -8,7 +8,7 @@ use Rattle.gs_lease.specs.declared.view.View.{View}
 use Rattle.gs_msg.specs.declared.body.Body.{Body}
 use Rattle.gs_msg.specs.declared.message.Message.{Message}
 use Rattle.gs_msg.specs.declared.node.NodeId.{NodeId}
-use Rattle.gs_world_account.specs.Accounts.{Account, edits_in, first_account, view_at}
+use Rattle.gs_world_chunks.specs.Accounts.{Account, edits_in, first_account, view_at}
 use Rattle.gs_world.specs.Histories.{History}
 use Rattle.gs_world.specs.Runs.{Comes, Step, Takes}
 use Rattle.gs_world.specs.Sent.{Sent, message_of, none_sent}

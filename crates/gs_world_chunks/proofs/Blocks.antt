@@ -2,7 +2,7 @@
 use Rattle.std.proofs.Common.{◌≡◌, ◌∙◌, ◌≤◌, ◌*◌, ℕ, zero, suc, Bool, true, List, [], length, take, refl, ap, inl, inr}
 use Rattle.std.proofs.lemmas.Bool.{cases_lt}
 use Rattle.std.proofs.lemmas.List.{drop_all}
-use Rattle.gs_world_account.specs.Running.{BlocksAmong}
+use Rattle.gs_world_chunks.specs.Running.{BlocksAmong}
 use Rattle.gs_block.specs.Stored.{block_at}
 use Rattle.gs_block.specs.Written.{HasBlocks}
 

@@ -10,9 +10,9 @@ use Rattle.gs_world_laws.specs.Reached.{history, unarmed}
 use Rattle.gs_world_laws.specs.Saying.{IsStepWithin, RunsQuietly}
 use Rattle.gs_nodes.specs.declared.place.MasterPlace.{MasterPlace}
 use Rattle.gs_nodes.specs.declared.place.MasterPlace.TheVariants.{Standing, Closed, Away}
-use Rattle.gs_world_account.proofs.Told.{have_accounts}
-use Rattle.gs_world_account.specs.Running.{IsArmed, IsGiven, RunsBare}
-use Rattle.gs_world_account.specs.Scripts.{AreAlways, EachScriptIsReached, setup_of}
+use Rattle.gs_world_chunks.proofs.Told.{have_accounts}
+use Rattle.gs_world_chunks.specs.Running.{IsArmed, IsGiven, RunsBare}
+use Rattle.gs_world_chunks.specs.Scripts.{AreAlways, EachScriptIsReached, setup_of}
 
 module _ {D : Type 0} (seen : D → List ℕ) (failures : D → ℕ) (config : Config) (disks : D × D) (among : List ℕ → Bool) where
   -- no failure is arranged

@@ -4,9 +4,9 @@ use Rattle.std.specs.Prelude.{ℕ}
 use Rattle.gs_journal.specs.Journal.{State as Journal, counting, text_size}
 use Rattle.gs_journal.specs.Records.{Text, generation_of, standing}
 use Rattle.gs_master.specs.Masters.{MasterOf, with_journal}
-use Rattle.gs_world_account.specs.Accounts.{Account, first_account}
-use Rattle.gs_world_account.specs.Moving.{account_behind}
-use Rattle.gs_world_account.specs.Running.{HaveAccounts, IsArmed, IsGiven, IsSeenAlike, IsToldAt, ReachedStaySound, Runs, RunsBare, Setup, StaysSound, StepsWithin}
+use Rattle.gs_world_chunks.specs.Accounts.{Account, first_account}
+use Rattle.gs_world_chunks.specs.Moving.{account_behind}
+use Rattle.gs_world_chunks.specs.Running.{HaveAccounts, IsArmed, IsGiven, IsSeenAlike, IsToldAt, ReachedStaySound, Runs, RunsBare, Setup, StaysSound, StepsWithin}
 use Rattle.gs_world.proofs.Lasting.{begins_firm, run_lasts}
 use Rattle.gs_world.specs.Histories.{History}
 use Rattle.gs_world.specs.Lasting.{HearsNamed, IsToldIn, Lasts, StandsFirm, StepNamed, TellsAMaster}

@@ -10,8 +10,8 @@ use Rattle.gs_world.specs.Runs.{Step}
 use Rattle.gs_world_laws.specs.Reached.{history, unarmed}
 use Rattle.gs_world_laws.specs.Saying.{RunsQuietly}
 use Rattle.gs_world_laws.specs.Within.{IsReachedWithin}
-use Rattle.gs_world_account.specs.Accounts.{Account}
-use Rattle.gs_world_account.specs.Running.{AreAmong, IsReached, Setup}
+use Rattle.gs_world_chunks.specs.Accounts.{Account}
+use Rattle.gs_world_chunks.specs.Running.{AreAmong, IsReached, Setup}
 
 -- the store of a script: over these disks, with one client, and no failure of a disk arranged
 abbrev pub setup_of : {D : Type 0} → (D → List ℕ) → (D → ℕ) → Config → D × D → (List ℕ → Bool) → Setup D

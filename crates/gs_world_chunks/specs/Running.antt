@@ -6,8 +6,8 @@ use Rattle.gs_block.specs.Written.{TellsApart}
 use Rattle.gs_master.specs.Journaled.{text_seen}
 use Rattle.gs_master.specs.Masters.{with_journal}
 use Rattle.gs_msg.specs.declared.event.DiskId.{DiskId}
-use Rattle.gs_world_account.specs.Accounts.{Account, first_account}
-use Rattle.gs_world_account.specs.Moving.{account_behind}
+use Rattle.gs_world_chunks.specs.Accounts.{Account, first_account}
+use Rattle.gs_world_chunks.specs.Moving.{account_behind}
 use Rattle.gs_replica.specs.Seals.{Sealed}
 use Rattle.gs_world.specs.Runs.{Goes, Step}
 use Rattle.gs_server.specs.Runs.{slot_in}

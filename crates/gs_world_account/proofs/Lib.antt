@@ -1,4 +1,0 @@
-pub mod Blocks
-pub mod Once
-pub mod Told
-pub mod Scripts

@@ -1,5 +1,0 @@
-use Rattle.gs_world_account.proofs.Scripts.{each_script_is_reached}
-use Rattle.gs_world_account.proofs.each_script_is_reached.Goals as goal
-
-pub returns : goal.returns
-returns g c = each_script_is_reached _

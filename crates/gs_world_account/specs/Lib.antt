@@ -1,4 +1,0 @@
-pub mod Accounts
-pub mod Moving
-pub mod Running
-pub mod Scripts
