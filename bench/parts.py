@@ -133,8 +133,8 @@ def show_master(n):
         print(f"{part}: {1e6 * few:.2f} microseconds behind 100 files of one chunk, {1e6 * many:.2f} behind 100,000; ratio {judged(part, many / few, 2)}", flush=True)
     file, both = ((peak(part, 4 * n) - peak(part, 2 * n)) / (2 * n) for part in ("calls", "files"))
     print(f"bytes in memory, with the journal's: {file:,.0f} for a file, {both - file:,.0f} for its chunk", flush=True)
-    growth = peak("forgotten", 10) / peak("forgotten", 1)
-    print(f"peak memory of 100,000 chunks made and forgotten ten times, beside once: {judged('chunks forgotten', growth, 1.1)}", flush=True)
+    growth = peak("forgotten", 10) / peak("forgotten", 2)
+    print(f"peak memory of 100,000 chunks made and forgotten ten times, beside twice: {judged('chunks forgotten', growth, 1.1)}", flush=True)
 
 
 # What can be shown, each with what it is shown for, of n.
