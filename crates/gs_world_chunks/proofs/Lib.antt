@@ -52,3 +52,4 @@ mod KeepingRuns
 mod KeepingBack
 mod KeepingTexts
 mod KeepingReplicas
+mod SurvivedOn
