@@ -252,3 +252,160 @@ module _ {D : Type 0} (x : Setup D) (step : Step) (old new : History D) (well : 
 
 pub learned_at : {D : Type 0} (x : Setup D) (step : Step) (old new : History D) → IsWell x old → AreOwn old → StepsWithin x step old new → (message : Message) (id epoch : ℕ) (handles : List ℕ) → IsSent message new.sent → SaysLearned message id epoch handles → IsSent message old.sent ⊎ HasLearned old new id epoch handles
 learned_at x step old new well own one message id epoch handles sent said = all_said x step old new well own one (kind_of x.seen x.failures x.armed step old new one.goes (named x step old one.within well.types)) sent.0 message sent.1 id epoch handles said
+
+-- ---- neither its number nor its epoch falls
+
+-- the same server, which has learned no less
+record GoesUp (s after : Server) : Type 0 where
+  me : after.me ≡ s.me
+  epoch : s.kept.epoch ≤ after.kept.epoch
+
+still_up : (s after : Server) → after.me ≡ s.me → after.kept.epoch ≡ s.kept.epoch → GoesUp s after
+still_up s after me epoch = record { me = me; epoch = omega arith }
+
+set_epoch : (handle : ℕ) (t : Store) (o : Option Slot) → (set_slot handle t o).epoch ≡ t.epoch
+set_epoch handle t None = refl
+set_epoch handle t (Some slot) = refl
+
+slot_epoch : (handle : ℕ) (change : SlotChange) (t : Store) → (change_slot handle change t).epoch ≡ t.epoch
+slot_epoch handle SlotStays t = refl
+slot_epoch handle (SlotBecomes slot) t = refl
+slot_epoch handle (SlotMarked block) t = set_epoch handle t (option_map (slots.mark_bad block) (fin.get t.slots handle))
+
+used_epoch : (req : ReqId) (used : Bool) (t : Store) → (change_buffer (Some req) used t).epoch ≡ t.epoch
+used_epoch req true t = refl
+used_epoch req false t = refl
+
+buffer_epoch : (req : Option ReqId) (used : Bool) (t : Store) → (change_buffer req used t).epoch ≡ t.epoch
+buffer_epoch None used t = refl
+buffer_epoch (Some req) used t = used_epoch req used t
+
+about_up : (s : Server) (from : NodeId) (handle : ℕ) (said : Chunk) (moment : Moment) → GoesUp s (handle_body s from (bodies.About handle said) moment).after
+about_up s from handle said moment =
+    let part : Part = about_chunk (here_of s moment handle (request_in said)) (place_of handle s) from said in
+    still_up s (handle_body s from (bodies.About handle said) moment).after refl (buffer_epoch (request_in said) part.used (change_slot handle part.slot (store_of s)) ∙ slot_epoch handle part.slot (store_of s))
+
+make_up : (s : Server) (handle new_handle : ℕ) (copying : Copying) → GoesUp s (servers.copies handle new_handle copying s).after
+make_up s handle new_handle copying =
+    still_up s (servers.copies handle new_handle copying s).after refl (slot_epoch new_handle copying.target.slot (store_of (with_store (change_slot handle copying.source (store_of s)) s)) ∙ slot_epoch handle copying.source (store_of s))
+
+learn_up : (s : Server) (epoch : ℕ) (end : EpochEnd) → GoesUp s (servers.learn s epoch end).after
+learn_up s epoch end = by_case (epoch == s.kept.epoch) (epoch == s.kept.epoch + 1) refl
+  where
+    by_case : (a b : Bool) → (epoch == s.kept.epoch + 1) ≡ b → GoesUp s (comes_to s epoch end a b).after
+    by_case true b next = still_up s s refl refl
+    by_case false true next = (let is : epoch ≡ s.kept.epoch + 1 = eqb-true epoch (s.kept.epoch + 1) next in record { me = refl; epoch = omega arith })
+    by_case false false next = still_up s s refl refl
+
+body_up : (s : Server) (from : NodeId) (body : Body) (moment : Moment) → GoesUp s (handle_body s from body moment).after
+body_up s from (bodies.About handle said) moment = about_up s from handle said moment
+body_up s from (bodies.MakeCopy handle at new_handle stamp) moment = make_up s handle new_handle (make_copy (here_of s moment handle None) (place_of handle s) at (here_of s moment new_handle None) (place_of new_handle s) stamp)
+body_up s from (bodies.Epoch epoch end) moment = learn_up s epoch end
+body_up s from (bodies.Push req bytes) moment = still_up s (handle_body s from (bodies.Push req bytes) moment).after refl refl
+body_up s from (bodies.Call req call) moment = still_up s s refl refl
+body_up s from (bodies.Reply req result) moment = still_up s s refl refl
+body_up s from (bodies.Done req result) moment = still_up s s refl refl
+body_up s from (bodies.Bytes req result) moment = still_up s s refl refl
+body_up s from (bodies.Report epoch replicas) moment = still_up s s refl refl
+body_up s from (bodies.Learned epoch handles) moment = still_up s s refl refl
+body_up s from (bodies.Behind epoch) moment = still_up s s refl refl
+
+put_up : (s : Server) (handle : ℕ) (m : Result Slot Refusal) → GoesUp s (unless_refused s (servers.in_store s (stores.put_slot handle (store_of s) m)))
+put_up s handle (Ok slot) = still_up s (unless_refused s (servers.in_store s (stores.put_slot handle (store_of s) (Ok slot)))) refl refl
+put_up s handle (Err e) = still_up s s refl refl
+
+goes_up : (sent : Sent) (id : ℕ) (s after : Server) (messages : List Message) → ServerGoes sent id s after messages → GoesUp s after
+goes_up sent id s after messages (Hears message moment was to is sends) = subst (GoesUp s) (sym is) (body_up s message.from message.body moment)
+goes_up sent id s after messages (Ticks moment is sends) = subst (GoesUp s) (sym is) (still_up s (servers.tick s moment).after refl refl)
+goes_up sent id s after messages (Beats is sends) = subst (GoesUp s) (sym is) (still_up s s refl refl)
+goes_up sent id s after messages (Restarts is sends) = subst (GoesUp s) (sym is) (still_up s (servers.restart s) refl refl)
+goes_up sent id s after messages (Loses handle is sends) = subst (GoesUp s) (sym is) (put_up s handle (slots.lose (slot_in handle s)))
+goes_up sent id s after messages (Damages handle block is sends) = subst (GoesUp s) (sym is) (put_up s handle (slots.damage block (slot_in handle s)))
+
+-- ---- so it is over a step
+
+module _ {D : Type 0} (x : Setup D) (step : Step) (old new : History D) where
+  own_on : AreOwn old → Kind x.seen x.failures x.armed step old new → AreOwn new
+  own_on own (OfServer id s after messages moment found goes met servers master posted) j t at = elim (set_cases old.nodes.servers id j after t (subst (λ xs. slice_get xs j ≡ Some t) servers at)) [
+    | inl here ↦ ap (λ (k : Server). k.me) here.1 ∙ (goes_up old.sent id s after messages goes).me ∙ own id s found ∙ sym here.0
+    | inr there ↦ own j t there.1
+  ]
+  own_on own (OfMaster place messages moment goes servers master posted) j t at = own j t (subst (λ xs. slice_get xs j ≡ Some t) servers at)
+  own_on own (Elsewhere by messages moment are servers master posted) j t at = own j t (subst (λ xs. slice_get xs j ≡ Some t) servers at)
+
+  -- each server is there still, and has learned no less
+  abbrev IsUp : ℕ → Server → Type 0
+  IsUp id s = (t : Server) × (slice_get new.nodes.servers id ≡ Some t) × (s.kept.epoch ≤ t.kept.epoch)
+
+  same_up : (id : ℕ) (s : Server) → new.nodes.servers ≡ old.nodes.servers → slice_get old.nodes.servers id ≡ Some s → IsUp id s
+  same_up id s servers at = (s, subst (λ xs. slice_get xs id ≡ Some s) (sym servers) at, omega arith)
+
+  up_on : Kind x.seen x.failures x.armed step old new → (id : ℕ) (s : Server) → slice_get old.nodes.servers id ≡ Some s → IsUp id s
+  up_on (OfServer id s after messages moment found goes met servers master posted) j t at = by_place (nat_eq j id) refl
+    where
+      by_place : (b : Bool) → nat_eq j id ≡ b → IsUp j t
+      by_place true is =
+          let same : j ≡ id = eqb-true j id is in
+          let one : s ≡ t = (let both : ◌≡◌ {A = Option Server} (Some s) (Some t) = sym found ∙ subst (λ n. slice_get old.nodes.servers n ≡ Some t) same at in cc) in (
+            after,
+            ap (λ xs. slice_get xs j) servers ∙ subst (λ n. slice_get (slice_set old.nodes.servers id after) n ≡ Some after) (sym same) (set_found old.nodes.servers id s after found),
+            subst (λ (k : Server). k.kept.epoch ≤ after.kept.epoch) one (goes_up old.sent id s after messages goes).epoch,
+          )
+      by_place false is = (
+        t,
+        ap (λ xs. slice_get xs j) servers ∙ set_other old.nodes.servers id j after (λ same. false≢true (sym is ∙ eq-eqb j id same)) ∙ at,
+        omega arith,
+      )
+  up_on (OfMaster place messages moment goes servers master posted) j t at = same_up j t servers at
+  up_on (Elsewhere by messages moment are servers master posted) j t at = same_up j t servers at
+
+-- ---- over runs
+
+-- whatever a server has said that it has learned, it has learned no less
+abbrev pub LearnedBelow : {D : Type 0} → History D → Type 0
+LearnedBelow h = (message : Message) (id epoch : ℕ) (handles : List ℕ) → IsSent message h.sent → SaysLearned message id epoch handles → (s : Server) × (slice_get h.nodes.servers id ≡ Some s) × (epoch ≤ s.kept.epoch)
+
+-- what stands of a store on the way
+pub record IsLearned {D : Type 0} (x : Setup D) (h : History D) : Type 0 where
+  pub well : IsWell x h
+  pub own : AreOwn h
+  pub below : LearnedBelow h
+
+module _ {D : Type 0} (x : Setup D) (given : IsGiven x) where
+  below_on : (step : Step) (old new : History D) → IsLearned x old → StepsWithin x step old new → LearnedBelow new
+  below_on step old new l one message id epoch handles sent said = elim (learned_at x step old new l.well l.own one message id epoch handles sent said) [
+    | inl before ↦ (
+      let had = l.below message id epoch handles before said in
+      let now = up_on x step old new (kind_of x.seen x.failures x.armed step old new one.goes (named x step old one.within l.well.types)) id had.0 had.1 in
+      let least = had.2 in
+      let up = now.2 in (now.0, now.1, omega arith)
+    )
+    | inr newly ↦ (let is = newly.epoch_is in (newly.after, newly.there, omega arith))
+  ]
+
+  pub step_learned : (step : Step) (old new : History D) → IsLearned x old → StepsWithin x step old new → IsLearned x new
+  step_learned step old new l one = record {
+    well = step_well x given step old new l.well one;
+    own = own_on x step old new l.own (kind_of x.seen x.failures x.armed step old new one.goes (named x step old one.within l.well.types));
+    below = below_on step old new l one;
+  }
+
+  pub runs_learned : (steps : List Step) (old : History D) (a : Account) (new : History D) (b : Account) → Runs x steps old a new b → IsLearned x old → IsLearned x new
+  runs_learned [] old a new b (is, same) l = subst (IsLearned x) (sym is) l
+  runs_learned (step ∷ steps) old a new b (mid, c, moves, rest) l = runs_learned steps mid c new b rest (step_learned step old mid l moves.steps)
+
+  pub begins_learned : (begun : History D) → Begins x.seen x.failures x.armed x.config x.clients x.disks begun → IsLearned x begun
+  begins_learned begun begins = record { well = begins_well x given begun begins; own = own_first; below = λ message id epoch handles sent said. absurd (none_sent_yet sent.0 message sent.1) }
+    where
+      none_sent_yet : AllSent (λ (m : Message). ⊥) begun.sent
+      none_sent_yet = posted_all (λ (m : Message). ⊥) (record { 0 = 0 }) nodes.Master begins.turn.sent.items (none_sent x.config.servers x.clients) begun.sent (inl begins.sent) (none_of (λ (m : Message). ⊥) x.config.servers x.clients)
+          (subst (AllByRecursion (λ (m : Message). ⊥)) (sym (begins_silent x.seen x.failures x.armed x.config x.clients x.disks begun given.new begins)) tt)
+
+      own_first : AreOwn begun
+      own_first id s at = ap (λ (t : Server). t.me) (silent_at x.config x.config.servers id s (subst (λ (n : Nodes D). slice_get n.servers id ≡ Some s) begins.nodes at))
+
+pub reached_learned : {D : Type 0} (x : Setup D) (h : History D) (a : Account) → IsReached x h a → IsLearned x h
+reached_learned x h a r = let given = r.begins.given in runs_learned x given r.steps r.begun r.first h a r.runs (begins_learned x given r.begun r.begins.begins)
+
+pub learned_below : {D : Type 0} (x : Setup D) (h : History D) (a : Account) → IsReached x h a → LearnedBelow h
+learned_below x h a r = (reached_learned x h a r).below
