@@ -1,6 +1,6 @@
--- Whatever a server has said that it has learned of it heard of, it had learned it then, and has learned no less since.
+-- A server says that it has learned of an epoch where it has heard of it, and then names what it has; and it has learned no less since.
 use Rattle.std.proofs.Common.{◌≡◌, ◌∙◌, ◌≤◌, ◌+◌, inl, inr, ◌⊎◌, ℕ, Bool, true, false, cond, List, [], ◌∷◌, Option, Some, None, Result, Ok, Err, refl, sym, ap, subst, slice_get, slice_set, arith}
-use Rattle.std.specs.Prelude.{◌==◌, ◌≢◌, nat_eq, option_map}
+use Rattle.std.specs.Prelude.{◌==◌, nat_eq, option_map}
 use Rattle.std.specs.FinMap as fin
 use Rattle.std.specs.List.{AllByRecursion}
 use Rattle.std.proofs.lemmas.Bool.{eqb-true, eq-eqb, false≢true}
@@ -375,11 +375,11 @@ module _ {D : Type 0} (x : Setup D) (given : IsGiven x) where
   below_on : (step : Step) (old new : History D) → IsLearned x old → StepsWithin x step old new → LearnedBelow new
   below_on step old new l one message id epoch handles sent said = elim (learned_at x step old new l.well l.own one message id epoch handles sent said) [
     | inl before ↦ (
-      let had = l.below message id epoch handles before said in
-      let now = up_on x step old new (kind_of x.seen x.failures x.armed step old new one.goes (named x step old one.within l.well.types)) id had.0 had.1 in
-      let least = had.2 in
-      let up = now.2 in (now.0, now.1, omega arith)
-    )
+        let had = l.below message id epoch handles before said in
+        let now = up_on x step old new (kind_of x.seen x.failures x.armed step old new one.goes (named x step old one.within l.well.types)) id had.0 had.1 in
+        let least = had.2 in
+        let up = now.2 in (now.0, now.1, omega arith)
+        )
     | inr newly ↦ (let is = newly.epoch_is in (newly.after, newly.there, omega arith))
   ]
 
