@@ -41,6 +41,7 @@ mod Became
 mod Leading
 mod Going
 mod Telling
+mod LearnedSent
 mod Counted
 mod Deciding
 mod Bytes
