@@ -54,3 +54,4 @@ mod KeepingBack
 mod KeepingTexts
 mod KeepingReplicas
 mod SurvivedOn
+mod Answering
