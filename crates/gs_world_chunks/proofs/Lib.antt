@@ -45,6 +45,7 @@ mod Became
 mod Leading
 mod Going
 mod Telling
+mod LearnedSent
 mod Counted
 mod Deciding
 mod Bytes
@@ -56,3 +57,5 @@ mod KeepingRuns
 mod KeepingBack
 mod KeepingTexts
 mod KeepingReplicas
+mod SurvivedOn
+mod Answering

@@ -1,5 +1,5 @@
 -- What a script leaves is a store that is reached, with an account.
-use Rattle.std.proofs.Common.{◌≡◌, ◌<◌, ◌^◌, ℕ, Bool, List, [], ◌∷◌, refl, arith}
+use Rattle.std.proofs.Common.{◌<◌, ◌^◌, ℕ, Bool, List, [], ◌∷◌, refl, arith}
 use Rattle.std.specs.List.{AllByRecursion}
 use Rattle.gs_base.specs.declared.config.Config.{Config}
 use Rattle.gs_shell_desk.specs.Ways.{way_of}

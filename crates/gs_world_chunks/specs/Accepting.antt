@@ -25,7 +25,7 @@ use Rattle.gs_world.specs.Histories.{History}
 use Rattle.gs_world.specs.Runs.{Comes, Goes, Step, Takes}
 use Rattle.gs_world_chunks.specs.Accounts.{Account}
 use Rattle.gs_world_chunks.specs.Running.{Moves, Setup}
-use Rattle.gs_world_chunks.specs.Upgrading.{IsUpgrading, RunsUpgraded, is_current}
+use Rattle.gs_world_chunks.specs.Upgrading.{IsUpgrading, RunsUpgraded, Survives, is_current}
 use Rattle.gs_world_chunks.specs.Hearing.{heard_by_master}
 use Rattle.std.specs.FinMap as fin
 
@@ -42,6 +42,12 @@ pub record NamesChunk (epoch chunk server : ℕ) (message : Message) : Type 0 wh
   pub from : message.from ≡ nodes.Server server
   pub says : message.body ≡ bodies.Learned epoch handles
   pub named : is_member handles chunk ≡ true
+
+-- it tells so, whatever it names
+pub record Answers (epoch server : ℕ) (message : Message) : Type 0 where
+  pub handles : List ℕ
+  pub from : message.from ≡ nodes.Server server
+  pub says : message.body ≡ bodies.Learned epoch handles
 
 -- the master takes such a message at a step
 abbrev pub TakesSuch : {D : Type 0} (x : Setup D) → (Message → Type 0) → (step : Step) (old new : History D) → Goes x.seen x.failures x.armed step old new → Type 0
@@ -118,6 +124,15 @@ module _ {D : Type 0} (x : Setup D) where
   abbrev pub NoneGoesBackUnnamed : Type 0
   NoneGoesBackUnnamed = (prepared now next : History D) (before after back : Account) (step : Step) (upgrade : IsUpgrading x prepared before now after) → Moves x step now after next back →
       rolls_back after.durable back.durable ≡ true → AllWereNamed prepared before now after upgrade
+
+  -- a survivor of a chunk has answered in the epoch that stands, and the master wasn't restarted since it took that
+  abbrev pub HasAnswered : (prepared : History D) (before : Account) (now : History D) (after : Account) → IsUpgrading x prepared before now after → ℕ → Type 0
+  HasAnswered prepared before now after upgrade chunk = (server : ℕ) × Survives before after chunk server × HasTaken x (Answers after.durable.epoch server) upgrade.steps prepared before now after upgrade.runs
+
+  -- For each chunk one survivor that has answered is enough: it has named the chunk.
+  abbrev pub OneSurvivorIsEnough : Type 0
+  OneSurvivorIsEnough = (prepared now : History D) (before after : Account) (upgrade : IsUpgrading x prepared before now after) → is_rolling after.durable.phase ≡ true →
+      ((chunk : ℕ) → 0 < references_then before chunk → HasAnswered prepared before now after upgrade chunk) → AllWereNamed prepared before now after upgrade
 
 -- ---- Worked
 what_a_client_takes_is_no_restart : (client : ClientId) → restarts_master (Takes client) ≡ false

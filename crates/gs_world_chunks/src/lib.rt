@@ -18,7 +18,7 @@ ghost use Rattle.gs_world_chunks.specs.Sealing.{RolledBackStay, SurvivorsKeepThe
 ghost use Rattle.gs_world_chunks.specs.Standing.{QuietStaysStill, ReplicasStand};
 ghost use Rattle.gs_world_chunks.specs.Durables.{ToldIsHad};
 ghost use Rattle.gs_world_chunks.specs.Seeing.{EachIsSeen, EachSeesOn, StoresStayIntact};
-ghost use Rattle.gs_world_chunks.specs.Accepting.{CommitsAreDecided, NoneGoesBackUnnamed};
+ghost use Rattle.gs_world_chunks.specs.Accepting.{CommitsAreDecided, NoneGoesBackUnnamed, OneSurvivorIsEnough};
 ghost use Rattle.gs_world_chunks.specs.Back.{GivesBytesBack, GivesNamesBack, GivesNoOtherBack, GivesReplicasBack, GivesSettledBack, KeepsBytes, NoOtherText};
 ghost use Rattle.gs_block.specs.Written.{HasBlocks};
 ghost use Rattle.gs_world_chunks.specs.Scripts.{EachScriptIsReached};
@@ -213,6 +213,15 @@ pub fn no_rollback_is_done_unnamed<D>()
 /// wasn't named, or for want of room in the journal or of memory; and the rollback goes on as it was, with nothing else durable than the answer.
 pub fn a_commit_is_decided_by_what_was_named<D>()
     ensures { (x : Setup D) → CommitsAreDecided x }
+{
+    configurations_have_sizes();
+    a_message_edits_a_replica_by_what_it_says();
+}
+
+/// While a rollback goes on one survivor that has answered is enough for a chunk: what a survivor of the chunk has told that it has learned of the rollback, in a message that the master took, names the chunk, whenever
+/// it was sent, if the master wasn't restarted since it took that. So where each chunk that stood in a file at the prepare has such a survivor, all were named, as a commit asks for.
+pub fn one_survivor_is_enough<D>()
+    ensures { (x : Setup D) → OneSurvivorIsEnough x }
 {
     configurations_have_sizes();
     a_message_edits_a_replica_by_what_it_says();
