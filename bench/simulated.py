@@ -5,7 +5,8 @@
 
 prints for each wrong body the number of steps at which it was found, over all seeds, and what was said. The simulator is built once, with
 all of them: a run has the one whose number it is given, and else what stands. The last line is 'N passed, M failed': each is to be found
-within the seeds, which are 100 of 2,000 steps if nothing is said, 200,000 steps, and without any of them nothing may be found."""
+within the seeds, which are 100 of 2,000 steps if nothing is said, 200,000 steps, and without any of them nothing may be found. A run that
+crashes or takes too long fails by itself."""
 
 import argparse
 import os
@@ -14,8 +15,12 @@ import subprocess
 import sys
 
 import beside
+import simulate
 
 FOUND = re.compile(r"^seed (\d+), event (\d+): (.*)$", re.M)
+# What a run may take at most: so long, and for each so many steps a second more.
+LEAST_SECONDS = 120
+STEPS_A_SECOND = 1000
 # A wrong body by its name: the file of a crate with its edit, or the file and what is turned there.
 WRONG = {
     "a server seals after the first edit": "gs_replica/must-fail/a_seal_after_the_first_edit.edit",
@@ -133,16 +138,21 @@ def built():
 
 
 def found(program, number, seeds, steps):
-    """The step at which something was found, and what was said."""
+    """Whether something was found, or None where the run didn't come to its end, and what is told of that."""
     words = ["--seed", "1", "--seeds", str(seeds), "--steps", str(steps)]
-    how = {"env": {**os.environ, "WRONG_BODY": str(number)}, "capture_output": True, "text": True}
-    run = subprocess.run([program, *words], **how)
+    seconds = LEAST_SECONDS + seeds * steps // STEPS_A_SECOND
+    how = {"env": {**os.environ, "WRONG_BODY": str(number)}, "capture_output": True, "text": True, "errors": "replace", "timeout": seconds}
+    try:
+        run = subprocess.run([program, *words], **how)
+    except subprocess.TimeoutExpired:
+        return None, f"not over in {seconds} seconds"
     said = FOUND.search(run.stdout)
     if said:
-        return (int(said[1]) - 1) * steps + int(said[2]), said[0]
-    if "edits acknowledged" not in run.stdout:
-        sys.exit(f"the simulator didn't run:\n{run.stdout}{run.stderr}")
-    return None, ""
+        return True, f"found at step {(int(said[1]) - 1) * steps + int(said[2])} ({said[0]})"
+    if run.returncode or not simulate.ENDED.search(run.stdout):
+        last = (run.stdout + run.stderr).splitlines() or [""]
+        return None, f"ended with status {run.returncode} ({last[-1]})"
+    return False, f"not found in {seeds * steps} steps"
 
 
 def main():
@@ -151,14 +161,14 @@ def main():
     words.add_argument("--steps", type=int, default=2000)
     words.add_argument("--only", default="")
     asked = words.parse_args()
-    program, steps = built(), asked.seeds * asked.steps
+    program = built()
     passed = failed = 0
     for number, name in enumerate(("what stands", *WRONG)):
         if number > 0 and asked.only not in name:
             continue
-        step, said = found(program, number, asked.seeds, asked.steps)
-        print(f"{name}: {f'not found in {steps} steps' if step is None else f'found at step {step} ({said})'}", flush=True)
-        is_right = (step is None) == (number == 0)
+        is_found, told = found(program, number, asked.seeds, asked.steps)
+        print(f"{name}: {told}", flush=True)
+        is_right = is_found == (number > 0)
         passed, failed = passed + is_right, failed + (not is_right)
     print(f"{passed} passed, {failed} failed", flush=True)
     return 1 if failed else 0
