@@ -59,3 +59,4 @@ mod KeepingTexts
 mod KeepingReplicas
 mod SurvivedOn
 mod Answering
+mod Accepted

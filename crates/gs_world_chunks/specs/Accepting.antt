@@ -134,6 +134,12 @@ module _ {D : Type 0} (x : Setup D) where
   OneSurvivorIsEnough = (prepared now : History D) (before after : Account) (upgrade : IsUpgrading x prepared before now after) → is_rolling after.durable.phase ≡ true →
       ((chunk : ℕ) → 0 < references_then before chunk → HasAnswered prepared before now after upgrade chunk) → AllWereNamed prepared before now after upgrade
 
+  -- So a client's new call to commit is accepted then, but for want of room in the journal or of memory.
+  abbrev pub SurvivorsAreAccepted : Type 0
+  SurvivorsAreAccepted = (prepared now next : History D) (before after back : Account) (step : Step) (upgrade : IsUpgrading x prepared before now after) (moves : Moves x step now after next back) → AsksToCommit now step →
+      ((chunk : ℕ) → 0 < references_then before chunk → HasAnswered prepared before now after upgrade chunk) →
+      (met_at x step now next moves.steps.goes ≡ Ok tt) ⊎ (met_at x step now next moves.steps.goes ≡ Err refusals.Full) ⊎ (met_at x step now next moves.steps.goes ≡ Err refusals.Memory)
+
 -- ---- Worked
 what_a_client_takes_is_no_restart : (client : ClientId) → restarts_master (Takes client) ≡ false
 what_a_client_takes_is_no_restart client = refl

@@ -18,7 +18,7 @@ ghost use Rattle.gs_world_chunks.specs.Sealing.{RolledBackStay, SurvivorsKeepThe
 ghost use Rattle.gs_world_chunks.specs.Standing.{QuietStaysStill, ReplicasStand};
 ghost use Rattle.gs_world_chunks.specs.Durables.{ToldIsHad};
 ghost use Rattle.gs_world_chunks.specs.Seeing.{EachIsSeen, EachSeesOn, StoresStayIntact};
-ghost use Rattle.gs_world_chunks.specs.Accepting.{CommitsAreDecided, NoneGoesBackUnnamed, OneSurvivorIsEnough};
+ghost use Rattle.gs_world_chunks.specs.Accepting.{CommitsAreDecided, NoneGoesBackUnnamed, OneSurvivorIsEnough, SurvivorsAreAccepted};
 ghost use Rattle.gs_world_chunks.specs.Back.{GivesBytesBack, GivesNamesBack, GivesNoOtherBack, GivesReplicasBack, GivesSettledBack, KeepsBytes, NoOtherText};
 ghost use Rattle.gs_block.specs.Written.{HasBlocks};
 ghost use Rattle.gs_world_chunks.specs.Scripts.{EachScriptIsReached};
@@ -219,9 +219,11 @@ pub fn a_commit_is_decided_by_what_was_named<D>()
 }
 
 /// While a rollback goes on one survivor that has answered is enough for a chunk: what a survivor of the chunk has told that it has learned of the rollback, in a message that the master took, names the chunk, whenever
-/// it was sent, if the master wasn't restarted since it took that. So where each chunk that stood in a file at the prepare has such a survivor, all were named, as a commit asks for.
+/// it was sent, if the master wasn't restarted since it took that. So where each chunk that stood in a file at the prepare has such a survivor, all were named, as a commit asks for; and a client's new
+/// call to commit is accepted, but for want of room in the journal or of memory.
 pub fn one_survivor_is_enough<D>()
-    ensures { (x : Setup D) → OneSurvivorIsEnough x }
+    ensures named { (x : Setup D) → OneSurvivorIsEnough x }
+    ensures accepted { (x : Setup D) → SurvivorsAreAccepted x }
 {
     configurations_have_sizes();
     a_message_edits_a_replica_by_what_it_says();

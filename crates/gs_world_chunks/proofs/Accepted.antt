@@ -1,0 +1,29 @@
+-- A commit is accepted where for each chunk one survivor has answered, but for want of room or of memory.
+use Rattle.std.proofs.Common.{◌≡◌, ◌∙◌, inl, inr, ◌⊎◌, ℕ, true, Ok, Err, ap}
+use Rattle.gs_base.specs.declared.refusal.Refusal.TheVariants as refusals
+use Rattle.gs_master_spec.specs.Durable.{Durable, is_rolling}
+use Rattle.gs_world.proofs.Reaching.{HaveSizes}
+use Rattle.gs_world_chunks.proofs.Answering.{one_survivor_is_enough}
+use Rattle.gs_world_chunks.proofs.Deciding.{decided}
+use Rattle.gs_world_chunks.proofs.Edits.{AreNumbered}
+use Rattle.gs_world_chunks.proofs.Leading.{has_at}
+use Rattle.gs_world_chunks.proofs.Telling.{now_so}
+use Rattle.gs_world_chunks.specs.Accepting.{IsDecided, SurvivorsAreAccepted, met_at}
+use Rattle.gs_world_chunks.specs.Running.{Setup}
+
+pub survivors_are_accepted : HaveSizes → AreNumbered → {D : Type 0} (x : Setup D) → SurvivorsAreAccepted x
+survivors_are_accepted sizes law {D} x prepared now next before after back step upgrade moves asks answered = by_case d.either
+  where
+    d : IsDecided x prepared before now after upgrade (met_at x step now next moves.steps.goes) back
+    d = decided sizes law x prepared now next before after back step upgrade moves asks
+
+    rolling : is_rolling after.durable.phase ≡ true
+    rolling = ap (λ (z : Durable). is_rolling z.phase) (has_at x now.nodes.master asks.master after.durable asks.there (now_so x prepared now before after upgrade).has) ∙ asks.rolling
+
+    by_case : (met_at x step now next moves.steps.goes ≡ Ok tt) ⊎ ((chunk : ℕ) × (met_at x step now next moves.steps.goes ≡ Err (refusals.Unrestored chunk))) ⊎ (met_at x step now next moves.steps.goes ≡ Err refusals.Full) ⊎ (met_at x step now next moves.steps.goes ≡ Err refusals.Memory)
+        → (met_at x step now next moves.steps.goes ≡ Ok tt) ⊎ (met_at x step now next moves.steps.goes ≡ Err refusals.Full) ⊎ (met_at x step now next moves.steps.goes ≡ Err refusals.Memory)
+    by_case (inl ok) = inl ok
+    by_case (inr (inl (chunk, refused))) =
+        let lowest = d.refused chunk refused in
+        absurd (lowest.unnamed (one_survivor_is_enough sizes law x prepared now before after upgrade rolling answered chunk lowest.referred))
+    by_case (inr (inr which)) = inr which
