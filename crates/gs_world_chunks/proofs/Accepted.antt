@@ -14,7 +14,7 @@ use Rattle.gs_world_chunks.specs.Running.{Setup}
 pub survivors_are_accepted : HaveSizes → AreNumbered → {D : Type 0} (x : Setup D) → SurvivorsAreAccepted x
 survivors_are_accepted sizes law {D} x prepared now next before after back step upgrade moves asks answered = by_case d.either
   where
-    d : IsDecided x prepared before now after upgrade (met_at x step now next moves.steps.goes) back
+    d : IsDecided x prepared before now after upgrade asks.req (met_at x step now next moves.steps.goes) back
     d = decided sizes law x prepared now next before after back step upgrade moves asks
 
     rolling : is_rolling after.durable.phase ≡ true

@@ -58,14 +58,14 @@ called : (config : Config) (s : State) (message : Message) (moment : Moment) (re
 unfolding handle
 called config s message moment req client from body = ap (λ f. from_node config s moment message.body f) from ∙ ap (λ b. from_client config s moment b) body
 
--- a refused call leaves what is durable as it was, but for the answers
-left_as_was : (s : State) (req : ReqId) (refusal : Refusal) (t : Turn) → LeavesAll s req refusal t → IsAsItWas s.durable t.after.durable
+-- a refused call leaves what is durable as it was, or its refusal is kept
+left_as_was : (s : State) (req : ReqId) (refusal : Refusal) (t : Turn) → LeavesAll s req refusal t → IsAsItWas req refusal s.durable t.after.durable
 left_as_was s req refusal t l = by_way l.left
   where
-    by_way : ((t.after ≡ s) × (t.records ≡ [])) ⊎ (((t.after ≡ with_said s req refusal) × (t.records ≡ Said req refusal ∷ [])) ⊎ ((t.after ≡ with_kept s req refusal) × (t.records ≡ []))) → IsAsItWas s.durable t.after.durable
-    by_way (inl (same, none)) = subst (λ (z : State). IsAsItWas s.durable z.durable) (sym same) refl
-    by_way (inr (inl (same, one))) = subst (λ (z : State). IsAsItWas s.durable z.durable) (sym same) refl
-    by_way (inr (inr (same, none))) = subst (λ (z : State). IsAsItWas s.durable z.durable) (sym same) refl
+    by_way : ((t.after ≡ s) × (t.records ≡ [])) ⊎ (((t.after ≡ with_said s req refusal) × (t.records ≡ Said req refusal ∷ [])) ⊎ ((t.after ≡ with_kept s req refusal) × (t.records ≡ []))) → IsAsItWas req refusal s.durable t.after.durable
+    by_way (inl (same, none)) = inl (ap (λ (z : State). z.durable) same)
+    by_way (inr (inl (same, one))) = inr (ap (λ (z : State). z.durable) same)
+    by_way (inr (inr (same, none))) = inl (ap (λ (z : State). z.durable) same)
 
 judged : (config : Config) (s : State) (message : Message) (moment : Moment) (req : ReqId) (client : ClientId) → message.from ≡ nodes.Client client → message.body ≡ bodies.Call req calls.RollbackCommit → is_failed s.fault ≡ false
     → is_pending s.volatile.pending req ≡ false → numbered (last_reply s req.client) req.number ≡ New → handle config s message moment ≡ rollback_commit s req
@@ -152,12 +152,12 @@ decided sizes law {D} x prepared now next before after back step upgrade moves a
     order = refuses_in_order m.state asks.req
 
     -- it is refused, but for no chunk
-    other : (refusal : Refusal) → met_at x step now next moves.steps.goes ≡ Err refusal → IsAsItWas after.durable back.durable → ((chunk : ℕ) → refusals.Unrestored chunk ≡ refusal → ⊥) → (met_at x step now next moves.steps.goes ≡ Err refusals.Full) ⊎ (met_at x step now next moves.steps.goes ≡ Err refusals.Memory)
-        → IsDecided x prepared before now after upgrade (met_at x step now next moves.steps.goes) back
+    other : (refusal : Refusal) → met_at x step now next moves.steps.goes ≡ Err refusal → IsAsItWas asks.req refusal after.durable back.durable → ((chunk : ℕ) → refusals.Unrestored chunk ≡ refusal → ⊥) → (met_at x step now next moves.steps.goes ≡ Err refusals.Full) ⊎ (met_at x step now next moves.steps.goes ≡ Err refusals.Memory)
+        → IsDecided x prepared before now after upgrade asks.req (met_at x step now next moves.steps.goes) back
     other refusal so kept none which = record {
       accepted = λ ok. absurd (ok_not refusal (sym ok ∙ so));
       refused = λ chunk e. absurd (none chunk (err_is (sym e ∙ so)));
-      kept = λ other e. kept;
+      kept = λ other e. subst (λ r. IsAsItWas asks.req r after.durable back.durable) (err_is (sym so ∙ e)) kept;
       either = inr (inr which);
     }
 
@@ -174,7 +174,7 @@ decided sizes law {D} x prepared now next before after back step upgrade moves a
         by_count (Some count) has few =
             let told = f.lower less count lt (ap (λ (names : NamesView). fin.get names.refs less) (names_is (sym f.back ∙ since.back)) ∙ has) few in n.named m asks.there less told.0 (ap is_some has) told.1
 
-    refused_for : (chunk : ℕ) → IsAsItWas after.durable back.durable → (rollback_commit m.state asks.req).said ≡ Some (refusals.Unrestored chunk) → met_at x step now next moves.steps.goes ≡ Err (refusals.Unrestored chunk) → IsDecided x prepared before now after upgrade (met_at x step now next moves.steps.goes) back
+    refused_for : (chunk : ℕ) → IsAsItWas asks.req (refusals.Unrestored chunk) after.durable back.durable → (rollback_commit m.state asks.req).said ≡ Some (refusals.Unrestored chunk) → met_at x step now next moves.steps.goes ≡ Err (refusals.Unrestored chunk) → IsDecided x prepared before now after upgrade asks.req (met_at x step now next moves.steps.goes) back
     refused_for chunk kept t so = record {
       accepted = λ ok. absurd (ok_not (refusals.Unrestored chunk) (sym ok ∙ so));
       refused = λ c e.
@@ -183,7 +183,7 @@ decided sizes law {D} x prepared now next before after back step upgrade moves a
             unnamed = λ named. f.lacks (named_restored sizes law x prepared now before after upgrade m c asks.there same n.well.steady n.since rolling named);
             lower = λ less lt more. lower_so c f less lt more;
           });
-      kept = λ other e. kept;
+      kept = λ other e. subst (λ r. IsAsItWas asks.req r after.durable back.durable) (err_is (sym so ∙ e)) kept;
       either = inr (inl (chunk, so));
     }
 
@@ -196,7 +196,7 @@ decided sizes law {D} x prepared now next before after back step upgrade moves a
         committed_ordinary m.state.durable t.after.durable m.state.durable.epoch _ (one_fits m.state.durable t.after.durable (commit_record m.state can.names) (subst (λ records. replayed m.state.durable records ≡ Some t.after.durable) (order.records can none) fit))
 
     accepted_so : AllFit m.state (rollback_commit m.state asks.req) → (rollback_commit m.state asks.req).said ≡ None → met_at x step now next moves.steps.goes ≡ Ok tt → back.durable ≡ (rollback_commit m.state asks.req).after.durable
-        → IsDecided x prepared before now after upgrade (met_at x step now next moves.steps.goes) back
+        → IsDecided x prepared before now after upgrade asks.req (met_at x step now next moves.steps.goes) back
     accepted_so fit none ok there =
         let rolled = both_true (is_rolling after.durable.phase) (is_ordinary back.durable.phase) rolling (ap (λ (d : Durable). is_ordinary d.phase) there ∙ ordinary fit none) in record {
           accepted = λ k. (none_unnamed x prepared now next before after back step upgrade moves rolled, rolled);
@@ -207,17 +207,17 @@ decided sizes law {D} x prepared now next before after back step upgrade moves a
 
     -- ---- what was said
 
-    kept_so : (refusal : Refusal) → LeavesSo m.state asks.req → (rollback_commit m.state asks.req).said ≡ Some refusal → back.durable ≡ (rollback_commit m.state asks.req).after.durable → IsAsItWas after.durable back.durable
-    kept_so refusal leaves t there = subst (λ (d : Durable). IsAsItWas d back.durable) (sym same) (subst (IsAsItWas m.state.durable) (sym there) (left_as_was m.state asks.req refusal (rollback_commit m.state asks.req) (leaves refusal t)))
+    kept_so : (refusal : Refusal) → LeavesSo m.state asks.req → (rollback_commit m.state asks.req).said ≡ Some refusal → back.durable ≡ (rollback_commit m.state asks.req).after.durable → IsAsItWas asks.req refusal after.durable back.durable
+    kept_so refusal leaves t there = subst (λ (d : Durable). IsAsItWas asks.req refusal d back.durable) (sym same) (subst (IsAsItWas asks.req refusal m.state.durable) (sym there) (left_as_was m.state asks.req refusal (rollback_commit m.state asks.req) (leaves refusal t)))
 
     by_said : AllFit m.state (rollback_commit m.state asks.req) → LeavesSo m.state asks.req → SaysSo (rollback_commit m.state asks.req).said → met_at x step now next moves.steps.goes ≡ met_by (rollback_commit m.state asks.req).said → back.durable ≡ (rollback_commit m.state asks.req).after.durable
-        → IsDecided x prepared before now after upgrade (met_at x step now next moves.steps.goes) back
+        → IsDecided x prepared before now after upgrade asks.req (met_at x step now next moves.steps.goes) back
     by_said fit leaves (inl none) so there = accepted_so fit none (so ∙ ap met_by none) there
     by_said fit leaves (inr (inl (chunk, t))) so there = refused_for chunk (kept_so (refusals.Unrestored chunk) leaves t there) t (so ∙ ap met_by t)
     by_said fit leaves (inr (inr full)) so there = other refusals.Full (so ∙ ap met_by full) (kept_so refusals.Full leaves full there) not_full (inl (so ∙ ap met_by full))
 
     at_turn : (after_m : MasterOf D) (heard : Heard) (t : Turn) → next.nodes.master ≡ Standing after_m → AllFit m.state t → after_m.state ≡ t.after → IsHearing step now.sent (met_at x step now next moves.steps.goes) m.config m.state heard t
-        → IsDecided x prepared before now after upgrade (met_at x step now next moves.steps.goes) back
+        → IsDecided x prepared before now after upgrade asks.req (met_at x step now next moves.steps.goes) back
     at_turn after_m heard t to fit is (ByItself alone unheard left) = absurd (false≢true (ap is_some (sym unheard ∙ asks.heard)))
     at_turn after_m heard t to fit is (ByMessage message moment found hearing is_turn says) =
         let one = message_is (sym found ∙ asks.heard) in
@@ -228,12 +228,12 @@ decided sizes law {D} x prepared now next before after back step upgrade moves a
         let there = has_at x next.nodes.master after_m back.durable to (told_has x next back.durable (step_well x n.given step now next n.well moves.steps) moves.told) ∙ ap (λ (s : State). s.durable) is ∙ ap (λ (u : Turn). u.after.durable) turn in
         by_said (subst (AllFit m.state) turn fit) leaves (commit_says m.state asks.req before.durable.names asks.rolling since.back) (says ∙ ap (λ (u : Turn). met_by u.said) turn) there
 
-    by_case : Became x.seen step now.sent (met_at x step now next moves.steps.goes) now.nodes.master next.nodes.master → IsDecided x prepared before now after upgrade (met_at x step now next moves.steps.goes) back
+    by_case : Became x.seen step now.sent (met_at x step now next moves.steps.goes) now.nodes.master next.nodes.master → IsDecided x prepared before now after upgrade asks.req (met_at x step now next moves.steps.goes) back
     by_case (Stays here after_m at to is low calm) =
         let memory = low asks.message asks.heard in
         let there : back.durable ≡ here.state.durable = has_at x next.nodes.master after_m back.durable to (told_has x next back.durable (step_well x n.given step now next n.well moves.steps) moves.told) ∙ ap (λ (s : State). s.durable) is in
         let was : after.durable ≡ here.state.durable = has_at x now.nodes.master here after.durable at n.has in
-        other refusals.Memory memory (subst (IsAsItWas after.durable) (was ∙ sym there) refl) not_memory (inr memory)
+        other refusals.Memory memory (inl (there ∙ sym was)) not_memory (inr memory)
     by_case (Turns here after_m heard t at to turn written is hears calm) =
         let master = same_master now.nodes.master here m at asks.there in
         at_turn after_m heard t to (subst (λ (z : MasterOf D). AllFit z.state t) master (turn_fits here.config heard here.state t turn written)) is (subst (λ (z : MasterOf D). IsHearing step now.sent (met_at x step now next moves.steps.goes) z.config z.state heard t) master hears)

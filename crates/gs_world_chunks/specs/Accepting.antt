@@ -9,6 +9,7 @@ use Rattle.gs_base.specs.declared.refusal.Refusal.{Refusal}
 use Rattle.gs_base.specs.declared.refusal.Refusal.TheVariants as refusals
 use Rattle.gs_master.specs.Masters.{MasterOf}
 use Rattle.gs_master_moves.specs.Epochs.{rolls_back}
+use Rattle.gs_master_spec.specs.Applied.{with_reply}
 use Rattle.gs_master_spec.specs.Durable.{Durable, is_rolling}
 use Rattle.gs_master_spec.specs.Handling.{New, numbered}
 use Rattle.gs_master_spec.specs.State.{last_reply}
@@ -71,9 +72,9 @@ HasTaken x Such [] old a new b runs = ⊥
 HasTaken x Such (step ∷ steps) old a new b (mid, c, moves, going, rest) =
     (TakesSuch x Such step old mid moves.steps.goes × NoRestart steps) ⊎ HasTaken x Such steps mid c new b rest
 
--- what is durable is as it was, but for the answers that are kept
-abbrev pub IsAsItWas : Durable → Durable → Type 0
-IsAsItWas old new = new ≡ record old { replies = new.replies }
+-- what is durable is as it was, or the refusal of this request is kept beside it
+abbrev pub IsAsItWas : ReqId → Refusal → Durable → Durable → Type 0
+IsAsItWas req refusal old new = (new ≡ old) ⊎ (new ≡ record old { replies = with_reply old.replies req (Err refusal) })
 
 module _ {D : Type 0} (x : Setup D) where
   -- a server that has the chunk by its view at the prepare, or is a holder of it, has named it in the epoch that stands
@@ -97,10 +98,10 @@ module _ {D : Type 0} (x : Setup D) where
 
   -- A commit is accepted only where all is named, and the rollback is done then. It is refused for a chunk where that isn't named, the lowest such; and else for want of room in the journal, or of memory; and then
   -- the rollback goes on as it was.
-  pub record IsDecided (prepared : History D) (before : Account) (now : History D) (after : Account) (upgrade : IsUpgrading x prepared before now after) (said : Result (Unit {0}) Refusal) (back : Account) : Type 0 where
+  pub record IsDecided (prepared : History D) (before : Account) (now : History D) (after : Account) (upgrade : IsUpgrading x prepared before now after) (req : ReqId) (said : Result (Unit {0}) Refusal) (back : Account) : Type 0 where
     pub accepted : said ≡ Ok tt → AllWereNamed prepared before now after upgrade × (rolls_back after.durable back.durable ≡ true)
     pub refused : (chunk : ℕ) → said ≡ Err (refusals.Unrestored chunk) → IsLowestUnnamed prepared before now after upgrade chunk
-    pub kept : (refusal : Refusal) → said ≡ Err refusal → IsAsItWas after.durable back.durable
+    pub kept : (refusal : Refusal) → said ≡ Err refusal → IsAsItWas req refusal after.durable back.durable
     pub either : (said ≡ Ok tt) ⊎ ((chunk : ℕ) × (said ≡ Err (refusals.Unrestored chunk))) ⊎ (said ≡ Err refusals.Full) ⊎ (said ≡ Err refusals.Memory)
 
   -- a client's call to commit comes to a master that rolls back, and its number is above that of the last answer which is kept of the client
@@ -117,8 +118,8 @@ module _ {D : Type 0} (x : Setup D) where
     pub rolling : is_rolling master.state.durable.phase ≡ true
 
   abbrev pub CommitsAreDecided : Type 0
-  CommitsAreDecided = (prepared now next : History D) (before after back : Account) (step : Step) (upgrade : IsUpgrading x prepared before now after) (moves : Moves x step now after next back) → AsksToCommit now step →
-      IsDecided prepared before now after upgrade (met_at x step now next moves.steps.goes) back
+  CommitsAreDecided = (prepared now next : History D) (before after back : Account) (step : Step) (upgrade : IsUpgrading x prepared before now after) (moves : Moves x step now after next back) (asks : AsksToCommit now step) →
+      IsDecided prepared before now after upgrade asks.req (met_at x step now next moves.steps.goes) back
 
   -- no rollback is done without it
   abbrev pub NoneGoesBackUnnamed : Type 0

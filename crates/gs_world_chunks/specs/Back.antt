@@ -32,7 +32,7 @@ module _ {D : Type 0} (x : Setup D) where
     pub moves : Moves x step now after back last
     pub accepted : rolls_back after.durable last.durable ≡ true
 
-  -- Each chunk that a file had at the prepare has a settled view behind the rollback, and what is settled of it is what was settled then;
+  -- Each chunk that a file had at the prepare, or before, has a settled view behind the rollback, and what is settled of it is what was settled then;
   abbrev pub GivesSettledBack : Type 0
   GivesSettledBack = (prepared now back : History D) (before after last : Account) (chunk : ℕ) → HasRolledBack prepared before now after back last → is_listed before.durable chunk ≡ true →
       (is_some (fin.get last.durable.chunks chunk) ≡ true) × (settled_edits last chunk ≡ settled_edits before chunk)
@@ -129,7 +129,7 @@ module _ {D : Type 0} (x : Setup D) where
   GivesBytesBack = (prepared back : History D) (before last : Durable) (chunk id other : ℕ) (had has : List ℕ) → TellsApart x.among → GoesBack prepared back before last →
       IsMemberAt before chunk id → HasBytes prepared id chunk had → IsMemberAt last chunk other → HasBytes back other chunk has → has ≡ had
 
-  -- And it has them, where in a world on the way it would have named the chunk, and nothing of it was lost or damaged since.
+  -- And it has them, where in a world of some run from the prepare to the commit it would have named the chunk, and nothing of it was lost or damaged since. It may be marked as bad there, from before.
   pub record WasUnharmed (prepared now : History D) (rolling : Durable) (chunk id : ℕ) : Type 0 where
     pub first : List Step
     pub mid : History D

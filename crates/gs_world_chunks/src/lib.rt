@@ -204,13 +204,13 @@ pub fn an_accepted_rollback_gives_the_names_back<D>()
     ensures { (x : Setup D) → GivesNamesBack x }
 {}
 
-/// No rollback is done unless each chunk that stood in a file at the prepare was named, since the master was restarted last, by a server that had it then or was sent it since with its sealed image.
+/// No rollback is done unless each chunk that stood in a file at the prepare was named, since the master was restarted last, by a server that had it by its view of then or was recorded as a holder since.
 pub fn no_rollback_is_done_unnamed<D>()
     ensures { (x : Setup D) → NoneGoesBackUnnamed x }
 {}
 
 /// A client's new call to commit a rollback is accepted only where each chunk that stood in a file at the prepare was named, and the rollback is done then. Else it is refused for the lowest such chunk that
-/// wasn't named, or for want of room in the journal or of memory; and the rollback goes on as it was, with nothing else durable than the answer.
+/// wasn't named, or for want of room in the journal or of memory; and the rollback goes on as it was, with nothing else durable than the refusal of this request, where that is kept.
 pub fn a_commit_is_decided_by_what_was_named<D>()
     ensures { (x : Setup D) → CommitsAreDecided x }
 {
@@ -229,7 +229,7 @@ pub fn one_survivor_is_enough<D>()
     a_message_edits_a_replica_by_what_it_says();
 }
 
-/// Each chunk that a file had at the prepare has a settled view behind the commit of a rollback, no other chunk has one, and what is settled of it is what was settled of it right behind the prepare. And then and
+/// Each chunk that a file had at the prepare, or before, has a settled view behind the commit of a rollback, no other chunk has one, and what is settled of it is what was settled of it right behind the prepare. And then and
 /// later, whatever happens, a replica of a member of that view that is live, each block with its digest, has just the text of that, until its server makes a greater promise. And each member has such a
 /// replica right behind the commit that would have named the chunk on the way, and of which nothing was lost or damaged since.
 pub fn a_rollback_gives_back_what_was_settled<D>()
