@@ -84,23 +84,27 @@ module _ {D : Type 0} (x : Setup D) where
       by_case (Opened after f log has to is none again) = at_master after to
       by_case (Waits none f unheard) = subst (IsSince prepared) (has_one x.seen new d e (f d dk) ek) s
 
-  -- a prepare
-  pub begins : (step : Step) (sent : Sent) (said : Result (Unit {0}) Refusal) (place new : MasterPlace D) (d e : Durable) → LastsSteady x.seen place → Became x.seen step sent said place new → HasDurable x.seen place d → HasDurable x.seen new e
-      → is_ordinary d.phase ≡ true → is_ordinary e.phase ≡ false → IsSince e e
-  begins step sent said place new d e h b dk ek ordinary other = by_case b
+  -- what leads from an ordinary phase to another is a prepare
+  pub begins_upgrade : (step : Step) (sent : Sent) (said : Result (Unit {0}) Refusal) (place new : MasterPlace D) (d e : Durable) → LastsSteady x.seen place → Became x.seen step sent said place new → HasDurable x.seen place d → HasDurable x.seen new e
+      → is_ordinary d.phase ≡ true → is_ordinary e.phase ≡ false → (is_upgrade e.phase ≡ true) × IsSince e e
+  begins_upgrade step sent said place new d e h b dk ek ordinary other = by_case b
     where
-      not_same : e ≡ d → IsSince e e
+      not_same : e ≡ d → (is_upgrade e.phase ≡ true) × IsSince e e
       not_same same = absurd (true≢false (sym ordinary ∙ sym (ap (λ (z : Durable). is_ordinary z.phase) same) ∙ other))
 
-      by_case : Became x.seen step sent said place new → IsSince e e
+      by_case : Became x.seen step sent said place new → (is_upgrade e.phase ≡ true) × IsSince e e
       by_case (Stays m after at to is refused calm) = not_same (has_at new after e to ek ∙ ap (λ (z : State). z.durable) is ∙ sym (has_at place m d at dk))
       by_case (Turns m after heard t at to turn written is hears calm) =
           let en : e ≡ t.after.durable = has_at new after e to ek ∙ ap (λ (z : State). z.durable) is in
-          subst (λ z. IsSince z z) (sym en)
+          subst (λ (z : Durable). (is_upgrade z.phase ≡ true) × IsSince z z) (sym en)
           (turns_begin m.config heard m.state t turn written (steady_at place m at h).steady.firm.stands.kept (sym (ap (λ (z : Durable). is_ordinary z.phase) (has_at place m d at dk)) ∙ ordinary)
-          (sym (ap (λ (z : Durable). is_ordinary z.phase) en) ∙ other)).1
+          (sym (ap (λ (z : Durable). is_ordinary z.phase) en) ∙ other))
       by_case (Opened after f log has to is none again) = not_same (has_at new after e to ek ∙ ap (λ (z : State). z.durable) is ∙ has_one x.seen place f d has dk)
       by_case (Waits none f unheard) = not_same (has_one x.seen new e d ek (f d dk))
+
+  pub begins : (step : Step) (sent : Sent) (said : Result (Unit {0}) Refusal) (place new : MasterPlace D) (d e : Durable) → LastsSteady x.seen place → Became x.seen step sent said place new → HasDurable x.seen place d → HasDurable x.seen new e
+      → is_ordinary d.phase ≡ true → is_ordinary e.phase ≡ false → IsSince e e
+  begins step sent said place new d e h b dk ek ordinary other = (begins_upgrade step sent said place new d e h b dk ek ordinary other).1
 
   -- a sound master has what it keeps
   pub keeps_has : (place : MasterPlace D) (d : Durable) → MasterKeeps place d → HasDurable x.seen place d

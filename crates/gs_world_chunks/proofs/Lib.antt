@@ -51,6 +51,7 @@ mod Deciding
 mod Bytes
 mod BytesRuns
 mod Settled
+mod Begun
 mod Accounted
 mod Keeping
 mod KeepingRuns

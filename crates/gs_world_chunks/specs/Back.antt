@@ -6,7 +6,7 @@ use Rattle.gs_base.specs.Members.{is_member}
 use Rattle.gs_lease.specs.declared.view.View.{View}
 use Rattle.gs_world_chunks.specs.Accounts.{Account, settled_edits, view_at}
 use Rattle.gs_master_moves.specs.Epochs.{prepares, rolls_back}
-use Rattle.gs_world_chunks.specs.Running.{IsGiven, Moves, Runs, RunsBare, Setup, StepsWithin}
+use Rattle.gs_world_chunks.specs.Running.{IsGiven, IsReached, Moves, Runs, RunsBare, Setup, StepsWithin}
 use Rattle.gs_replica.specs.Seals.{lowest_damaged}
 use Rattle.gs_server.specs.Servers.{Server}
 use Rattle.gs_master_spec.specs.Durable.{Durable, Settled, is_listed, is_ordinary}
@@ -65,6 +65,11 @@ module _ {D : Type 0} (x : Setup D) where
   NoOtherText = (prepared now back later : History D) (before after last c : Account) (steps : List Step) (chunk id : ℕ) (view : View) (s : Server) (l : Live) → HasRolledBack prepared before now after back last →
       view_at last chunk ≡ Some view → is_member view.members id ≡ true → Runs x steps back last later c → slice_get later.nodes.servers id ≡ Some s → is_before view.stamp (slot_in chunk s).promise ≡ false →
       (slot_in chunk s).live ≡ Some l → lowest_damaged l.replica.held.chunk ≡ None → HasText x.config.chunk (settled_edits before chunk) l.replica.held.chunk l.replica.held.count
+
+  -- A rollback that is done, in whatever run, is that of an upgrade whose prepare was accepted in it, and which wasn't ended between.
+  abbrev pub EachIsOfAPrepare : Type 0
+  EachIsOfAPrepare = (now back : History D) (after last : Account) (step : Step) → IsReached x now after → Moves x step now after back last → rolls_back after.durable last.durable ≡ true →
+      (prepared : History D) × (before : Account) × HasRolledBack prepared before now after back last
 
 -- ---- by the nodes alone
 

@@ -19,7 +19,7 @@ ghost use Rattle.gs_world_chunks.specs.Standing.{QuietStaysStill, ReplicasStand}
 ghost use Rattle.gs_world_chunks.specs.Durables.{ToldIsHad};
 ghost use Rattle.gs_world_chunks.specs.Seeing.{EachIsSeen, EachSeesOn, StoresStayIntact};
 ghost use Rattle.gs_world_chunks.specs.Accepting.{CommitsAreDecided, NoneGoesBackUnnamed, OneSurvivorIsEnough, SurvivorsAreAccepted};
-ghost use Rattle.gs_world_chunks.specs.Back.{GivesBytesBack, GivesNamesBack, GivesNoOtherBack, GivesReplicasBack, GivesSettledBack, KeepsBytes, NoOtherText};
+ghost use Rattle.gs_world_chunks.specs.Back.{EachIsOfAPrepare, GivesBytesBack, GivesNamesBack, GivesNoOtherBack, GivesReplicasBack, GivesSettledBack, KeepsBytes, NoOtherText};
 ghost use Rattle.gs_block.specs.Written.{HasBlocks};
 ghost use Rattle.gs_world_chunks.specs.Scripts.{EachScriptIsReached};
 
@@ -228,6 +228,11 @@ pub fn one_survivor_is_enough<D>()
     configurations_have_sizes();
     a_message_edits_a_replica_by_what_it_says();
 }
+
+/// Each rollback that is done in a run is one of an upgrade whose prepare was accepted earlier in it, with no upgrade ended between. So what holds of rollbacks of prepared upgrades holds of each that is done.
+pub fn each_rollback_is_of_a_prepare<D>()
+    ensures { (x : Setup D) → EachIsOfAPrepare x }
+{}
 
 /// Each chunk that a file had at the prepare, or before, has a settled view behind the commit of a rollback, no other chunk has one, and what is settled of it is what was settled of it right behind the prepare. And then and
 /// later, whatever happens, a replica of a member of that view that is live, each block with its digest, has just the text of that, until its server makes a greater promise. And each member has such a
