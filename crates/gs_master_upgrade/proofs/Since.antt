@@ -1,7 +1,10 @@
 -- What stands of a prepare, through each turn until its rollback has ended.
 use Rattle.std.proofs.Common.{arith, ◌≡◌, ◌⊎◌, inl, inr, ◌∙◌, ◌&&◌, ◌==◌, ◌<◌, ℕ, zero, suc, Bool, true, false, cond, List, [], ◌∷◌, length, nat_lt, refl, sym, ap, subst}
-use Rattle.std.specs.Prelude.{Option, Some, None, is_some, option_map, option_and_then, slice_get, take, Result, Ok, Err, if◌then◌else◌}
+use Rattle.std.specs.Prelude.{Option, Some, None, filter_map, is_some, option_map, option_and_then, slice_get, take, Result, Ok, Err, if◌then◌else◌}
+use Rattle.std.specs.Cmp.{nat_cmp_total}
 use Rattle.std.specs.FinMap as fin
+use Rattle.std.specs.List.{cons_option}
+use Rattle.std.specs.Ordering.{eq_by_cmp, nat_cmp}
 use Rattle.std.proofs.lemmas.Bool.{false≢true, true≢false, and_parts}
 use Rattle.gs_base.specs.declared.config.Config.{Config}
 use Rattle.gs_base.specs.declared.epoch.EpochEnd.TheVariants as ends
@@ -14,23 +17,23 @@ use Rattle.gs_master_record.specs.Plain.{PlainEdit, PlainEntry, Edited, Said, Pr
 use Rattle.gs_master_record.specs.Writable.{IsEntry}
 use Rattle.gs_master_record.specs.declared.checkpoint.Phase.{Phase}
 use Rattle.gs_master_record.specs.declared.checkpoint.Phase.TheVariants.{Ordinary, Upgrade, Rolling}
-use Rattle.gs_master_record.specs.declared.entry.Answered.{Answered}
-use Rattle.gs_master_spec.specs.Applied.{after_edit, after_undoing, applied, are_answers, are_at_rest, forgotten_by, held_by, is_next_epoch, is_whole_entry, may_be_settled, may_edit, may_propose, proposed, replayed, rolled_back, view_in, with_edit, with_epoch, with_view, without_prepared}
+use Rattle.gs_master_spec.specs.Applied.{after_edit, after_undoing, applied, are_answers, are_at_rest, forgotten_by, held_by, is_next_epoch, is_whole_entry, may_be_settled, may_edit, may_propose, proposed, replayed, restored_chunk, restored_view, rolled_back, view_in, with_edit, with_epoch, with_view, without_prepared}
 use Rattle.gs_master_spec.specs.Durable.{Durable, Settled, if_before, is_listed, is_ordinary, is_rolling, is_upgrade, prepared_of, prepared_view, upgrade_epoch, with_prepared}
 use Rattle.gs_master_spec.specs.Handling.{tidied}
 use Rattle.gs_master_spec.specs.State.{State, Turn, fits, if_room, refused, turned}
 use Rattle.gs_master_spec.specs.Undoing.{all_undone, edited_names}
-use Rattle.gs_master_spec.specs.Upgrades.{accepted_plan, answers_for, commit_if, commit_on, rollback_commit, told_of, unrestored}
+use Rattle.gs_master_spec.specs.Upgrades.{accepted_plan, answers_for, commit_if, commit_on, restored_on, rollback_commit, told_of, unrestored}
 use Rattle.gs_master_spec.specs.Whole.{checkpoint_of}
 use Rattle.gs_master_spec.specs.declared.asking.Prepared.{Prepared}
 use Rattle.gs_master_spec.specs.declared.change.Change.TheVariants as changes
-use Rattle.gs_master_laws.specs.Promises.{AllFit, CanCommit, IsKept, IsStillThere, IsWritten, goes_on_within}
+use Rattle.gs_master_laws.specs.Promises.{AllFit, CanCommit, IsKept, IsStillThere, IsWritten, answers_of, goes_on_within, members_for}
 use Rattle.gs_master_laws.specs.Reached.{GoWithin}
 use Rattle.gs_master_laws.proofs.Beginnings.{fits_gives}
-use Rattle.gs_master_laws.proofs.Committing.{commits_exactly}
-use Rattle.gs_master_laws.proofs.Kept.{keeps_views}
+use Rattle.gs_master_laws.proofs.Committing.{answers_exactly, commits_exactly}
+use Rattle.gs_master_laws.proofs.Kept.{is_tied, keeps_views}
 use Rattle.gs_master_laws.proofs.KeptAll.{keeps_all, tidied_kept}
 use Rattle.gs_master_laws.proofs.KeptEdits.{forgets_only}
+use Rattle.gs_master_laws.proofs.KeptViews.{same_key}
 use Rattle.gs_master_laws.proofs.LedBack.{leads_back}
 use Rattle.gs_master_laws.proofs.ToldAgain.{get_tidied, tells_all}
 use Rattle.gs_master_moves.proofs.Epochs.{epochs_go}
@@ -40,7 +43,7 @@ use Rattle.gs_master_moves.specs.Epochs.{Begun, Committed, EpochGoes, Finalized,
 use Rattle.gs_master_moves.specs.Guards.{Heard, IsMade}
 use Rattle.gs_master_moves.specs.Moves.{Move, Prepares, Finalizes, CommitsRollback, move_turn}
 use Rattle.gs_master_upgrade.proofs.Records.{Goes, Paced, Turns, chain_within, is_bound, paced}
-use Rattle.gs_master_upgrade.specs.Since.{CutsLead, IsSince, GoesOnSince, GoesOnSinceAt, TurnsBegin, TurnsLead}
+use Rattle.gs_master_upgrade.specs.Since.{CutsLead, IsGivenBack, IsSince, GoesOnSince, GoesOnSinceAt, TurnsBegin, TurnsLead}
 
 durable_is : {a b : Durable} → ◌≡◌ {A = Option Durable} (Some a) (Some b) → a ≡ b
 durable_is h = cc
@@ -173,7 +176,34 @@ module _ (prepared : Durable) where
 
 -- what stands is led on
 still : (s : State) (prepared next : Durable) → IsSince prepared next → GoesOnSince s prepared next
-still s prepared next k = record { since = λ off. k; names = λ r o. absurd (false≢true (sym k.stands ∙ o)); restored = λ r o. absurd (false≢true (sym k.stands ∙ o)) }
+still s prepared next k = record { since = λ off. k; names = λ r o. absurd (false≢true (sym k.stands ∙ o)); restored = λ r o. absurd (false≢true (sym k.stands ∙ o)); given = λ r o. absurd (false≢true (sym k.stands ∙ o)) }
+
+-- ---- what a commit makes of a chunk
+
+prepared_is : {a b : Prepared} → ◌≡◌ {A = Option Prepared} (Some a) (Some b) → a ≡ b
+prepared_is h = cc
+
+found_back : (d : Durable) (told : ℕ → List ℕ) (refs : List (ℕ × ℕ)) (q count : ℕ) (p : Prepared) → prepared_view d q ≡ Some p → fin.find nat_cmp q refs ≡ Some count
+    → fin.find nat_cmp q (filter_map (restored_chunk d) (answers_for (prepared_view d) told refs)) ≡ Some (restored_view d.epoch p (members_for (answers_for (prepared_view d) told refs) q))
+found_back d told [] q count p view found = absurd (false≢true (ap is_some found))
+found_back d told (e ∷ refs) q count p view found =
+    by_key (λ has. found_back d told refs q count p view has) (prepared_view d e.0) refl (eq_by_cmp nat_cmp q e.0) refl found
+    ∙ ap (λ b. Some (restored_view d.epoch p (if b then members else members_for (answers_for (prepared_view d) told refs) q))) (is_tied q e.0)
+  where
+    members : List ℕ
+    members = restored_on (prepared_view d e.0) (told e.0)
+
+    rest : List (ℕ × Settled)
+    rest = filter_map (restored_chunk d) (answers_for (prepared_view d) told refs)
+
+    by_key : (fin.find nat_cmp q refs ≡ Some count → fin.find nat_cmp q rest ≡ Some (restored_view d.epoch p (members_for (answers_for (prepared_view d) told refs) q))) → (o : Option Prepared) → prepared_view d e.0 ≡ o → (b : Bool) → eq_by_cmp nat_cmp q e.0 ≡ b → cond b (Some e.1) (fin.find nat_cmp q refs) ≡ Some count
+        → fin.find nat_cmp q (cons_option (option_map (λ (r : Prepared). (e.0, restored_view d.epoch r members)) o) rest) ≡ Some (restored_view d.epoch p (if b then members else members_for (answers_for (prepared_view d) told refs) q))
+    by_key later None is true key has = absurd (false≢true (ap is_some (sym is ∙ ap (prepared_view d) (sym (same_key q e.0 key)) ∙ view)))
+    by_key later None is false key has = later has
+    by_key later (Some r) is true key has =
+        ap (λ b. cond b (Some (restored_view d.epoch r members)) (fin.find nat_cmp q rest)) key
+        ∙ ap (λ z. Some (restored_view d.epoch z members)) (prepared_is (sym is ∙ ap (prepared_view d) (sym (same_key q e.0 key)) ∙ view))
+    by_key later (Some r) is false key has = ap (λ b. cond b (Some (restored_view d.epoch r members)) (fin.find nat_cmp q rest)) key ∙ later has
 
 -- ---- one record that begins or ends an upgrade
 
@@ -194,6 +224,7 @@ module _ (s : State) (prepared : Durable) (k : IsSince prepared s.durable) where
         since = λ off. absurd (true≢false (ap (λ (x : Durable). is_ordinary x.phase) is.1 ∙ off));
         names = λ r o. absurd (not_both d.phase up r);
         restored = λ r o. absurd (not_both d.phase up r);
+        given = λ r o. absurd (not_both d.phase up r);
       }
 
   -- a commit that may be done is one that all is restored for
@@ -210,17 +241,34 @@ module _ (s : State) (prepared : Durable) (k : IsSince prepared s.durable) where
       by_room true = inl refl
       by_room false = inr refl
 
-  commit_leads : (req : ReqId) (names : NamesView) (epoch : ℕ) (answers : List Answered) (next : Durable) → is_rolling s.durable.phase ≡ true → all_undone s.durable.inverses s.durable.names ≡ Some names
-      → unrestored (prepared_view s.durable) (told_of s) (fin.entries names.refs) ≡ None → applied s.durable (RollbackCommit epoch answers) ≡ Some next → GoesOnSince s prepared next
+  -- a chunk whose prepared view is kept is given to those that have told
+  given_back : (names : NamesView) (chunk count : ℕ) → fin.get names.refs chunk ≡ Some count → (next : Durable) → fin.get next.chunks chunk ≡ fin.get (rolled_back s.durable (answers_of s names) names).chunks chunk
+      → (o : Option Prepared) → prepared_view s.durable chunk ≡ o → is_some o ≡ true → IsGivenBack s next chunk
+  given_back names chunk count has next is None view some = absurd (false≢true some)
+  given_back names chunk count has next is (Some p) view some = record {
+    settled = restored_view s.durable.epoch p (members_for (answers_of s names) chunk);
+    here = is ∙ fin.get-from_entries nat_cmp_total (filter_map (restored_chunk s.durable) (answers_of s names)) chunk
+        ∙ found_back s.durable (told_of s) (fin.entries names.refs) chunk count p view (sym (fin.get-entries names.refs chunk) ∙ has);
+    still = refl;
+    unled = refl;
+    stamp = refl;
+    members = λ server. answers_exactly s names chunk server (ap is_some has);
+  }
+
+  commit_leads : (req : ReqId) (names : NamesView) (epoch : ℕ) (next : Durable) → is_rolling s.durable.phase ≡ true → all_undone s.durable.inverses s.durable.names ≡ Some names
+      → unrestored (prepared_view s.durable) (told_of s) (fin.entries names.refs) ≡ None → applied s.durable (RollbackCommit epoch (answers_of s names)) ≡ Some next → GoesOnSince s prepared next
   unfolding applied
-  commit_leads req names epoch answers next rolling back none e =
+  commit_leads req names epoch next rolling back none e =
       let d = s.durable in
+      let answers = answers_of s names in
       let is = fits_gives (is_rolling d.phase && ((epoch == d.epoch) && are_answers (prepared_view d) (fin.entries prepared.names.refs) answers)) (rolled_back d answers prepared.names) next (ap (after_undoing d epoch answers) (sym k.back) ∙ e) in
       let can = can_commit req names rolling back none in
       let same = names_is (sym can.back ∙ k.back) in record {
         since = λ off. absurd (true≢false (ap (λ (x : Durable). is_ordinary x.phase) is.1 ∙ off));
         names = λ r o. ap (λ (x : Durable). x.names) (sym is.1);
         restored = λ r o chunk count has more. can.restored chunk count (ap (λ (n : NamesView). fin.get n.refs chunk) same ∙ has) more;
+        given = λ r o chunk count has. given_back names chunk count (ap (λ (n : NamesView). fin.get n.refs chunk) (names_is (sym back ∙ k.back)) ∙ has) next
+            (ap (λ (x : Durable). fin.get x.chunks chunk) (sym is.1)) (prepared_view d chunk) refl (k.kept.restored prepared.names chunk k.back k.stands (ap is_some has));
       }
 
 -- ---- the records of a turn
@@ -237,7 +285,7 @@ module _ (config : Config) (heard : Heard) where
       by_move : (move : Move) → IsMade config heard u move → is_bound move ≡ true → Paces u prepared (move_turn config u move).records
       by_move (Prepares req moment) m bound = inr (_, refl, λ next e. absurd (no_prepare u prepared k _ _ _ next e))
       by_move (Finalizes req) m bound = inr (_, refl, λ next e. finalize_leads u prepared k _ next e)
-      by_move (CommitsRollback req names) m bound = inr (_, refl, λ next e. commit_leads u prepared k req names _ _ next m.may.rolling m.may.back m.may.restored e)
+      by_move (CommitsRollback req names) m bound = inr (_, refl, λ next e. commit_leads u prepared k req names _ next m.may.rolling m.may.back m.may.restored e)
       by_move other m bound = absurd (false≢true bound)
 
 lead : (prepared : Durable) (s : State) (records : List PlainEntry) (next : Durable) → Paces s prepared records → replayed s.durable records ≡ Some next → IsSince prepared s.durable → GoesOnSince s prepared next

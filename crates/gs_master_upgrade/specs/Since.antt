@@ -1,14 +1,15 @@
 -- What stands of a prepare while its upgrade stands and while it is rolled back, and what the commit of the rollback leaves.
-use Rattle.std.specs.Prelude.{◌≡◌, ◌<◌, ℕ, true, false, List, Some, option_map, slice_get, take, length}
+use Rattle.std.specs.Prelude.{◌≡◌, ◌<◌, ◌↔◌, ℕ, true, false, List, None, Some, option_map, slice_get, take, length}
 use Rattle.std.specs.FinMap as fin
+use Rattle.gs_base.specs.Members.{is_member}
 use Rattle.gs_base.specs.declared.config.Config.{Config}
 use Rattle.gs_master_record.specs.Plain.{PlainEntry}
 use Rattle.gs_master_spec.specs.Applied.{applied, replayed, view_in}
-use Rattle.gs_master_spec.specs.Durable.{Durable, is_listed, is_ordinary, is_rolling, is_upgrade, prepared_view}
+use Rattle.gs_master_spec.specs.Durable.{Durable, Settled, is_listed, is_ordinary, is_rolling, is_upgrade, prepared_view}
 use Rattle.gs_master_spec.specs.State.{State, Turn}
 use Rattle.gs_master_spec.specs.Undoing.{all_undone}
 use Rattle.gs_master_spec.specs.declared.asking.Prepared.{Prepared}
-use Rattle.gs_master_laws.specs.Promises.{IsKept, IsRestored, IsWritten}
+use Rattle.gs_master_laws.specs.Promises.{HasTold, IsKept, IsRestored, IsWritten}
 use Rattle.gs_master_moves.specs.Epochs.{EndsOnce}
 use Rattle.gs_master_moves.specs.Guards.{Heard, IsMade}
 
@@ -24,11 +25,25 @@ pub record IsSince (prepared now : Durable) : Type 0 where
 abbrev pub AreRestored : State → Durable → Type 0
 AreRestored s prepared = (chunk count : ℕ) → fin.get prepared.names.refs chunk ≡ Some count → 0 < count → IsRestored s chunk
 
--- So it goes on: what is durable next is so too. But where a rollback ends, the names are those of the prepare, and servers had told of all chunks.
+-- Behind a rollback a chunk is settled: nobody leads its view, which has the first stamp of the epoch, and whose members are just those that have told of the chunk.
+pub record IsGivenBack (s : State) (next : Durable) (chunk : ℕ) : Type 0 where
+  pub settled : Settled
+  pub here : fin.get next.chunks chunk ≡ Some settled
+  pub still : settled.is_moving ≡ false
+  pub unled : settled.view.term ≡ None
+  pub stamp : settled.view.stamp ≡ record { epoch = s.durable.epoch; version = 0 }
+  pub members : (server : ℕ) → (is_member settled.view.members server ≡ true) ↔ HasTold s chunk server
+
+-- so it is of each chunk that stood in a file at the prepare, or before
+abbrev pub AreGiven : State → Durable → Durable → Type 0
+AreGiven s prepared next = (chunk count : ℕ) → fin.get prepared.names.refs chunk ≡ Some count → IsGivenBack s next chunk
+
+-- So it goes on: what is durable next is so too. But where a rollback ends, the names are those of the prepare, servers had told of all chunks, and those are the members behind it.
 pub record GoesOnSince (s : State) (prepared next : Durable) : Type 0 where
   pub since : is_ordinary next.phase ≡ false → IsSince prepared next
   pub names : is_rolling s.durable.phase ≡ true → is_ordinary next.phase ≡ true → next.names ≡ prepared.names
   pub restored : is_rolling s.durable.phase ≡ true → is_ordinary next.phase ≡ true → AreRestored s prepared
+  pub given : is_rolling s.durable.phase ≡ true → is_ordinary next.phase ≡ true → AreGiven s prepared next
 
 -- ---- what is to hold, of turns of which each record can be written; as are each event of a steady master, and what a tick does before its checkpoint
 

@@ -10,7 +10,8 @@ pub fn an_upgrade_begins_with_what_stands()
 
 /// While an upgrade stands, and while it is rolled back, each event leaves what leads back to the prepare: the names to which the edits since are taken back, and
 /// the prepared view of each chunk that was listed then; whatever comes, also through checkpoints, and where the append of a record fails. The event that
-/// ends a rollback leaves the names of the prepare; and of each chunk that stood in a file then a server that may give it back had told, as the event met it.
+/// ends a rollback leaves the names of the prepare; and of each chunk that stood in a file then a server that may give it back had told, as the event met it. Each
+/// chunk that stood in a file then, or before, has a view behind it that nobody leads, whose members are just those servers that had told.
 pub fn what_was_prepared_stays_until_it_is_back()
     ensures turns { TurnsLead }
     ensures cuts { CutsLead }

@@ -8,7 +8,7 @@ use Rattle.gs_master_spec.specs.State.{State}
 use Rattle.gs_master_record.specs.declared.checkpoint.Phase.{Phase}
 use Rattle.gs_master_record.specs.declared.checkpoint.Phase.TheVariants.{Ordinary, Upgrade, Rolling}
 use Rattle.gs_master_upgrade.proofs.Since.{turns_begin, turns_lead}
-use Rattle.gs_master_upgrade.specs.Since.{AreRestored, IsSince, GoesOnSince}
+use Rattle.gs_master_upgrade.specs.Since.{AreGiven, AreRestored, IsSince, GoesOnSince}
 use Rattle.gs_nodes.specs.declared.place.MasterPlace.{MasterPlace}
 use Rattle.gs_nodes.specs.declared.place.MasterPlace.TheVariants.{Standing, Closed, Away}
 use Rattle.gs_world.specs.Histories.{History}
@@ -32,7 +32,7 @@ upgrade_stands Rolling h = refl
 pub record PlaceLeads {D : Type 0} (place : MasterPlace D) (prepared d e : Durable) : Type 0 where
   pub since : is_ordinary e.phase ≡ false → IsSince prepared e
   pub names : is_rolling d.phase ≡ true → is_ordinary e.phase ≡ true → e.names ≡ prepared.names
-  pub restored : is_rolling d.phase ≡ true → is_ordinary e.phase ≡ true → (m : MasterOf D) × (place ≡ Standing m) × AreRestored m.state prepared
+  pub restored : is_rolling d.phase ≡ true → is_ordinary e.phase ≡ true → (m : MasterOf D) × (place ≡ Standing m) × AreRestored m.state prepared × AreGiven m.state prepared e
 
 module _ {D : Type 0} (x : Setup D) where
   pub steady_at : (place : MasterPlace D) (m : MasterOf D) → place ≡ Standing m → LastsSteady x.seen place → StandsSteady x.seen m
@@ -48,7 +48,7 @@ module _ {D : Type 0} (x : Setup D) where
   led place m prepared d e n at dm en lead = record {
     since = λ off. subst (IsSince prepared) (sym en) (lead.since (sym (ap (λ (z : Durable). is_ordinary z.phase) en) ∙ off));
     names = λ r o. ap (λ (z : Durable). z.names) en ∙ lead.names (rolling r) (ordinary o);
-    restored = λ r o. (m, at, lead.restored (rolling r) (ordinary o));
+    restored = λ r o. (m, at, lead.restored (rolling r) (ordinary o), subst (AreGiven m.state prepared) (sym en) (lead.given (rolling r) (ordinary o)));
   }
     where
       rolling : is_rolling d.phase ≡ true → is_rolling m.state.durable.phase ≡ true

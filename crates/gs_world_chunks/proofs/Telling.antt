@@ -28,7 +28,7 @@ use Rattle.gs_master_spec.specs.State.{State, Turn, is_failed, met_by, turned, u
 use Rattle.gs_master_spec.specs.declared.asking.Prepared.{Prepared}
 use Rattle.gs_master_spec.specs.declared.change.Change.TheVariants as changes
 use Rattle.gs_master_moves.specs.Epochs.{rolls_back}
-use Rattle.gs_master_upgrade.specs.Since.{AreRestored, IsSince}
+use Rattle.gs_master_upgrade.specs.Since.{AreGiven, AreRestored, IsSince}
 use Rattle.gs_msg.specs.declared.body.Body.{Body}
 use Rattle.gs_msg.specs.declared.body.Body.TheVariants as bodies
 use Rattle.gs_msg.specs.declared.message.Message.{Message}
@@ -54,7 +54,7 @@ use Rattle.gs_world_lift.specs.Doing.{HasDurable}
 use Rattle.gs_world_chunks.proofs.Became.{Became, ByItself, ByMessage, IsHearing, Opened, Stays, Turns, Waits, became, has_one, opened_state}
 use Rattle.gs_world_chunks.proofs.Leading.{PlaceLeads, StandsSo, begins, has_at, leads, steady_at, upgrade_stands}
 use Rattle.gs_world_chunks.proofs.Well.{IsWell, begins_well, step_well, well_lasts}
-use Rattle.gs_world_chunks.specs.Accepting.{AllWereNamed, HasTaken, NamesChunk, NoneGoesBackUnnamed, NoRestart, TakesSuch, WasNamed, met_at, restarts_master}
+use Rattle.gs_world_chunks.specs.Accepting.{AllWereNamed, HasTaken, IsGivenTo, MembersHaveNamed, NamesChunk, NoneGoesBackUnnamed, NoRestart, TakesSuch, WasNamed, met_at, restarts_master}
 use Rattle.gs_world_chunks.specs.Hearing.{heard_by_master}
 
 -- ---- what servers have told
@@ -301,16 +301,22 @@ begins_so {D = D} x prepared now before after upgrade = record { given = given; 
     nothing_told : AskedAt Nothing prepared.nodes.master
     nothing_told m at chunk = nobody_told x given Nothing m.state chunk (sym (ap (λ (d : Durable). is_rolling d.phase) (has_at x prepared.nodes.master m before.durable at has_before)) ∙ upgrade_calm before.durable.phase phases.1) (first_asks.asked m at chunk)
 
+-- this server has the chunk by its view at the prepare, or is a holder of it, and has named it
+abbrev NamedBy : {D : Type 0} (x : Setup D) (prepared now : History D) (before after : Account) (upgrade : IsUpgrading x prepared before now after) (chunk server : ℕ) → Type 0
+NamedBy x prepared now before after upgrade chunk server =
+    (is_current before after chunk server ≡ true) × HasTaken x (NamesChunk after.durable.epoch chunk server) upgrade.steps prepared before now after upgrade.runs
+
 -- And later what was prepared stands, and who has told in memory has named the chunk.
 pub record NowSo {D : Type 0} (x : Setup D) (prepared now : History D) (before after : Account) (upgrade : IsUpgrading x prepared before now after) : Type 0 where
   pub given : IsGiven x
   pub well : IsWell x now
   pub has : HasDurable x.seen now.nodes.master after.durable
   pub since : IsSince before.durable after.durable
+  pub named_by : (m : MasterOf D) → now.nodes.master ≡ Standing m → (chunk server : ℕ) → is_listed before.durable chunk ≡ true → HasTold m.state chunk server → NamedBy x prepared now before after upgrade chunk server
   pub named : (m : MasterOf D) → now.nodes.master ≡ Standing m → (chunk server : ℕ) → is_listed before.durable chunk ≡ true → HasTold m.state chunk server → WasNamed x prepared before now after upgrade chunk
 
 pub now_so : {D : Type 0} (x : Setup D) (prepared now : History D) (before after : Account) (upgrade : IsUpgrading x prepared before now after) → NowSo x prepared now before after upgrade
-now_so {D = D} x prepared now before after upgrade = record { given = b.given; well = last.0.well; has = has_after; since = since; named = named_by }
+now_so {D = D} x prepared now before after upgrade = record { given = b.given; well = last.0.well; has = has_after; since = since; named_by = named_by; named = λ m at chunk server listed t. (let k = named_by m at chunk server listed t in (server, k.0, k.1)) }
   where
     b : BeginsSo x prepared now before after upgrade
     b = begins_so x prepared now before after upgrade
@@ -324,7 +330,7 @@ now_so {D = D} x prepared now before after upgrade = record { given = b.given; w
     since : IsSince before.durable after.durable
     since = last.0.since after.durable has_after
 
-    named_by : (m : MasterOf D) → now.nodes.master ≡ Standing m → (chunk server : ℕ) → is_listed before.durable chunk ≡ true → HasTold m.state chunk server → WasNamed x prepared before now after upgrade chunk
+    named_by : (m : MasterOf D) → now.nodes.master ≡ Standing m → (chunk server : ℕ) → is_listed before.durable chunk ≡ true → HasTold m.state chunk server → NamedBy x prepared now before after upgrade chunk server
     named_by m at chunk server listed t = by_said n.said
       where
         n : HasNamed (Only (λ server epoch handles. (Nothing server epoch handles × NoRestart upgrade.steps) ⊎ HasTaken x (Says server epoch handles) upgrade.steps prepared before now after upgrade.runs)) m.state chunk server
@@ -339,10 +345,9 @@ now_so {D = D} x prepared now before after upgrade = record { given = b.given; w
         view : Some t.prepared.view ≡ view_at before chunk
         view = sym (ap (option_map (λ (p : Prepared). p.view)) kept) ∙ since.views chunk listed
 
-        by_said : (Nothing server m.state.durable.epoch n.handles × NoRestart upgrade.steps) ⊎ HasTaken x (Says server m.state.durable.epoch n.handles) upgrade.steps prepared before now after upgrade.runs → WasNamed x prepared before now after upgrade chunk
+        by_said : (Nothing server m.state.durable.epoch n.handles × NoRestart upgrade.steps) ⊎ HasTaken x (Says server m.state.durable.epoch n.handles) upgrade.steps prepared before now after upgrade.runs → NamedBy x prepared now before after upgrade chunk server
         by_said (inl (none, others)) = absurd none
         by_said (inr taken) = (
-          server,
           current before after chunk server t.prepared listed kept view t.has_it,
           has_more x b.given (Says server m.state.durable.epoch n.handles) (NamesChunk after.durable.epoch chunk server)
               (λ message s. record { handles = n.handles; from = s.0; says = s.1 ∙ ap (λ (d : Durable). bodies.Learned (d.epoch) n.handles) (sym same); named = n.named }) upgrade.steps prepared before now after upgrade.runs taken,
@@ -380,9 +385,36 @@ none_unnamed {D = D} x prepared now next before after back step upgrade moves ro
     all_named : AllWereNamed x prepared before now after upgrade
     all_named chunk more = by_place (lead.restored ends.0 ends.1)
       where
-        by_place : (m : MasterOf D) × (now.nodes.master ≡ Standing m) × AreRestored m.state before.durable → WasNamed x prepared before now after upgrade chunk
-        by_place (m, at, restored) = by_count (fin.get before.durable.names.refs chunk) refl more
+        by_place : (m : MasterOf D) × (now.nodes.master ≡ Standing m) × AreRestored m.state before.durable × AreGiven m.state before.durable back.durable → WasNamed x prepared before now after upgrade chunk
+        by_place (m, at, restored, given) = by_count (fin.get before.durable.names.refs chunk) refl more
           where
             by_count : (o : Option ℕ) → fin.get before.durable.names.refs chunk ≡ o → 0 < count_or_zero o → WasNamed x prepared before now after upgrade chunk
             by_count None has few = absurd (omega arith)
             by_count (Some count) has few = (let r = restored chunk count has few in n.named m at chunk r.0 (ap is_some has) r.1)
+
+-- and each member behind it is a server that has named the chunk
+pub members_have_named : {D : Type 0} (x : Setup D) → MembersHaveNamed x
+members_have_named {D = D} x prepared now next before after back step upgrade moves rolled chunk more = by_place ((lead_next x prepared now next before after back step upgrade moves).restored ends.0 ends.1)
+  where
+    n : NowSo x prepared now before after upgrade
+    n = now_so x prepared now before after upgrade
+
+    ends : (is_rolling after.durable.phase ≡ true) × (is_ordinary back.durable.phase ≡ true)
+    ends = and_parts (is_rolling after.durable.phase) (is_ordinary back.durable.phase) rolled
+
+    by_place : (m : MasterOf D) × (now.nodes.master ≡ Standing m) × AreRestored m.state before.durable × AreGiven m.state before.durable back.durable → IsGivenTo x prepared before now after upgrade back chunk
+    by_place (m, at, restored, given) = by_count (fin.get before.durable.names.refs chunk) refl more
+      where
+        by_count : (o : Option ℕ) → fin.get before.durable.names.refs chunk ≡ o → 0 < count_or_zero o → IsGivenTo x prepared before now after upgrade back chunk
+        by_count None has few = absurd (omega arith)
+        by_count (Some count) has few =
+            let r = restored chunk count has few in
+            let g = given chunk count has in record {
+              settled = g.settled;
+              told = g.here;
+              still = g.still;
+              unled = g.unled;
+              first = g.stamp ∙ ap (λ (d : Durable). record { epoch = d.epoch; version = 0 }) (sym (has_at x now.nodes.master m after.durable at n.has));
+              some = (r.0, (g.members r.0).1 r.1);
+              named = λ server among. n.named_by m at chunk server (ap is_some has) ((g.members server).0 among);
+            }

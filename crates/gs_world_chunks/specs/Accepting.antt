@@ -1,5 +1,5 @@
 -- When a rollback is accepted.
-use Rattle.std.specs.Prelude.{[], ◌<◌, ◌∷◌, ◌≡◌, ◌⊎◌, Bool, Err, List, Ok, Result, Some, false, refl, true, ℕ}
+use Rattle.std.specs.Prelude.{[], ◌<◌, ◌∷◌, ◌≡◌, ◌⊎◌, Bool, Err, List, None, Ok, Result, Some, false, refl, true, ℕ}
 use Rattle.std.specs.List.{AllByRecursion}
 use Rattle.gs_base.specs.Members.{is_member}
 use Rattle.gs_base.specs.declared.numbers.ClientId.{ClientId}
@@ -10,7 +10,7 @@ use Rattle.gs_base.specs.declared.refusal.Refusal.TheVariants as refusals
 use Rattle.gs_master.specs.Masters.{MasterOf}
 use Rattle.gs_master_moves.specs.Epochs.{rolls_back}
 use Rattle.gs_master_spec.specs.Applied.{with_reply}
-use Rattle.gs_master_spec.specs.Durable.{Durable, is_rolling}
+use Rattle.gs_master_spec.specs.Durable.{Durable, Settled, is_rolling}
 use Rattle.gs_master_spec.specs.Handling.{New, numbered}
 use Rattle.gs_master_spec.specs.State.{last_reply}
 use Rattle.gs_msg.specs.declared.body.Body.TheVariants as bodies
@@ -140,6 +140,20 @@ module _ {D : Type 0} (x : Setup D) where
   SurvivorsAreAccepted = (prepared now next : History D) (before after back : Account) (step : Step) (upgrade : IsUpgrading x prepared before now after) (moves : Moves x step now after next back) → AsksToCommit now step →
       ((chunk : ℕ) → 0 < references_then before chunk → HasAnswered prepared before now after upgrade chunk) →
       (met_at x step now next moves.steps.goes ≡ Ok tt) ⊎ (met_at x step now next moves.steps.goes ≡ Err refusals.Full) ⊎ (met_at x step now next moves.steps.goes ≡ Err refusals.Memory)
+
+  -- Behind a rollback each chunk that stood in a file at the prepare has a member, and each member is one that had it then or was recorded as a holder since, and has named it; nobody leads the view, and it has the first stamp of the epoch.
+  pub record IsGivenTo (prepared : History D) (before : Account) (now : History D) (after : Account) (upgrade : IsUpgrading x prepared before now after) (last : Account) (chunk : ℕ) : Type 0 where
+    pub settled : Settled
+    pub told : fin.get last.durable.chunks chunk ≡ Some settled
+    pub still : settled.is_moving ≡ false
+    pub unled : settled.view.term ≡ None
+    pub first : settled.view.stamp ≡ record { epoch = after.durable.epoch; version = 0 }
+    pub some : (server : ℕ) × (is_member settled.view.members server ≡ true)
+    pub named : (server : ℕ) → is_member settled.view.members server ≡ true → (is_current before after chunk server ≡ true) × HasTaken x (NamesChunk after.durable.epoch chunk server) upgrade.steps prepared before now after upgrade.runs
+
+  abbrev pub MembersHaveNamed : Type 0
+  MembersHaveNamed = (prepared now next : History D) (before after back : Account) (step : Step) (upgrade : IsUpgrading x prepared before now after) → Moves x step now after next back → rolls_back after.durable back.durable ≡ true →
+      (chunk : ℕ) → 0 < references_then before chunk → IsGivenTo prepared before now after upgrade back chunk
 
 -- ---- Worked
 what_a_client_takes_is_no_restart : (client : ClientId) → restarts_master (Takes client) ≡ false

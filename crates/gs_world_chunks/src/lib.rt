@@ -18,7 +18,7 @@ ghost use Rattle.gs_world_chunks.specs.Sealing.{RolledBackStay, SurvivorsKeepThe
 ghost use Rattle.gs_world_chunks.specs.Standing.{QuietStaysStill, ReplicasStand};
 ghost use Rattle.gs_world_chunks.specs.Durables.{ToldIsHad};
 ghost use Rattle.gs_world_chunks.specs.Seeing.{EachIsSeen, EachSeesOn, StoresStayIntact};
-ghost use Rattle.gs_world_chunks.specs.Accepting.{CommitsAreDecided, NoneGoesBackUnnamed, OneSurvivorIsEnough, SurvivorsAreAccepted};
+ghost use Rattle.gs_world_chunks.specs.Accepting.{CommitsAreDecided, MembersHaveNamed, NoneGoesBackUnnamed, OneSurvivorIsEnough, SurvivorsAreAccepted};
 ghost use Rattle.gs_world_chunks.specs.Back.{EachIsOfAPrepare, GivesBytesBack, GivesNamesBack, GivesNoOtherBack, GivesReplicasBack, GivesSettledBack, KeepsBytes, NoOtherText};
 ghost use Rattle.gs_block.specs.Written.{HasBlocks};
 ghost use Rattle.gs_world_chunks.specs.Scripts.{EachScriptIsReached};
@@ -205,8 +205,10 @@ pub fn an_accepted_rollback_gives_the_names_back<D>()
 {}
 
 /// No rollback is done unless each chunk that stood in a file at the prepare was named, since the master was restarted last, by a server that had it by its view of then or was recorded as a holder since.
+/// Behind one each such chunk has a member, and each member is a server that has named it so; nobody leads its view, which has the first stamp of the epoch.
 pub fn no_rollback_is_done_unnamed<D>()
-    ensures { (x : Setup D) → NoneGoesBackUnnamed x }
+    ensures named { (x : Setup D) → NoneGoesBackUnnamed x }
+    ensures members { (x : Setup D) → MembersHaveNamed x }
 {}
 
 /// A client's new call to commit a rollback is accepted only where each chunk that stood in a file at the prepare was named, and the rollback is done then. Else it is refused for the lowest such chunk that
