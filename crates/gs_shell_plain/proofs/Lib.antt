@@ -1,0 +1,4 @@
+mod Settled
+mod Delivering
+mod Telling
+mod Serving
