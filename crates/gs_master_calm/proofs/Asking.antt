@@ -1,9 +1,8 @@
 -- What the calls of an upgrade meet where no chunk is settled: nothing is unquiet, and the phase is told by whether a copy is kept.
-use Rattle.std.proofs.Common.{arith, ◌≡◌, ◌⊎◌, inl, inr, ◌∙◌, ◌++◌, ◌+◌, ◌&&◌, ◌==◌, ◌≤◌, ◌<◌, ℕ, zero, suc, Bool, true, false, not, cond, List, [], ◌∷◌, length, map, refl, sym, ap, subst}
-use Rattle.std.specs.Prelude.{Option, Some, None, option_map, Result, Ok, Err, filter, if◌then◌else◌}
+use Rattle.std.proofs.Common.{arith, ◌≡◌, ◌∙◌, ◌++◌, ◌&&◌, ℕ, Bool, false, not, List, [], ◌∷◌, length, map, refl, sym, ap, subst}
+use Rattle.std.specs.Prelude.{Option, Some, None, Ok, filter}
 use Rattle.std.specs.FinMap as fin
 use Rattle.std.specs.Ordering.{nat_cmp}
-use Rattle.std.proofs.lemmas.Bool.{false≢true}
 use Rattle.gs_base.specs.Told.{IsNumber}
 use Rattle.gs_base.specs.declared.config.Config.{Config}
 use Rattle.gs_base.specs.declared.numbers.Moment.{Moment}
@@ -17,13 +16,13 @@ use Rattle.gs_msg.specs.declared.call.Call.{Call}
 use Rattle.gs_msg.specs.declared.call.Call.TheVariants as calls
 use Rattle.gs_master_laws.specs.Standing.{FitsAndStands, IsNamedCall}
 use Rattle.gs_master_plain.specs.Commands.{Texts}
-use Rattle.gs_master_plain.specs.Records.{kept_in, machine_of}
+use Rattle.gs_master_plain.specs.Records.{kept_in}
 use Rattle.gs_master_record.specs.declared.checkpoint.Phase.{Phase}
 use Rattle.gs_master_record.specs.declared.checkpoint.Phase.TheVariants.{Ordinary, Upgrade, Rolling}
-use Rattle.gs_master_spec.specs.Calls.{answered_with, is_always_taken, is_any_hidden, is_work, refused_before, told_phase}
+use Rattle.gs_master_spec.specs.Calls.{is_always_taken, is_any_hidden, is_work, told_phase}
 use Rattle.gs_master_spec.specs.Chunks.{has_entry}
 use Rattle.gs_master_spec.specs.Durable.{Settled, is_rolling}
-use Rattle.gs_master_spec.specs.Handling.{call_turn, called, called_unless, new_call}
+use Rattle.gs_master_spec.specs.Handling.{call_turn, called, called_unless}
 use Rattle.gs_master_spec.specs.Settling.{is_quiet_at}
 use Rattle.gs_master_spec.specs.State.{State, Turn}
 use Rattle.gs_master_spec.specs.Undoing.{all_undone}
@@ -33,7 +32,7 @@ use Rattle.gs_master_spec.specs.declared.asking.Asking.{Asking}
 use Rattle.gs_master_calm.proofs.Answered.{is_new}
 use Rattle.gs_master_calm.proofs.Going.{answered_went}
 use Rattle.gs_master_calm.proofs.Trees.{call_fits, is_new_call, refused_so, tests_left}
-use Rattle.gs_master_calm.specs.Calm.{Asked, IsStill, QueriesGo, WentTo, bare, phase_of, turn_for}
+use Rattle.gs_master_calm.specs.Calm.{Asked, IsStill, QueriesGo, WentTo, bare, phase_of}
 
 -- ---- nothing is unquiet
 

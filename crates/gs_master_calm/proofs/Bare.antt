@@ -1,5 +1,5 @@
 -- Where no chunk is settled no file has one: no chunk is listed, and the source of a snapshot has none.
-use Rattle.std.proofs.Common.{arith, ◌≡◌, ◌∙◌, ◌++◌, ◌+◌, ◌&&◌, ℕ, zero, suc, Bool, true, false, cond, not, List, [], ◌∷◌, refl, sym, ap, subst}
+use Rattle.std.proofs.Common.{arith, ◌≡◌, ◌∙◌, ◌++◌, ◌+◌, ℕ, Bool, true, false, cond, not, List, [], ◌∷◌, refl, sym, ap}
 use Rattle.std.specs.Prelude.{Option, Some, None, filter, is_some}
 use Rattle.std.specs.Cmp.{nat_cmp_total, tied_itself}
 use Rattle.std.specs.FinMap as fin
@@ -15,7 +15,7 @@ use Rattle.gs_tree.specs.Edits.{chunks_in}
 use Rattle.gs_tree.specs.Entry.{Entry}
 use Rattle.gs_tree.specs.Find.{Rows}
 use Rattle.gs_master_laws.specs.Promises.{IsKept}
-use Rattle.gs_master_spec.specs.Durable.{Durable, Settled, is_listed}
+use Rattle.gs_master_spec.specs.Durable.{Durable, Settled}
 use Rattle.gs_master_spec.specs.State.{State}
 use Rattle.gs_master_spec.specs.Settling.{is_quiet_at}
 use Rattle.gs_master_spec.specs.Working.{ascending, unquiet}

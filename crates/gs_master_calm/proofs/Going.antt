@@ -1,9 +1,7 @@
 -- What a turn of a call leaves: where it is refused, where it is answered without a record, and where an edit is recorded.
-use Rattle.std.proofs.Common.{arith, ◌≡◌, ◌⊎◌, inl, inr, ◌∙◌, ◌++◌, ◌+◌, ◌&&◌, ◌==◌, ◌≤◌, ◌<◌, ℕ, zero, suc, Bool, true, false, not, cond, List, [], ◌∷◌, refl, sym, ap, subst}
-use Rattle.std.specs.Prelude.{Option, Some, None, option_and_then, Result, Ok, Err, fold, if◌then◌else◌}
+use Rattle.std.proofs.Common.{◌≡◌, ◌⊎◌, ◌∙◌, ◌++◌, ◌&&◌, ℕ, Bool, true, false, not, List, [], ◌∷◌, refl, sym, ap, subst}
+use Rattle.std.specs.Prelude.{Option, Some, None, option_and_then, Result, Ok, Err, if◌then◌else◌}
 use Rattle.std.specs.FinMap as fin
-use Rattle.std.proofs.lemmas.Bool.{false≢true}
-use Rattle.gs_base.specs.Numbers.{last_number}
 use Rattle.gs_base.specs.declared.numbers.ReqId.{ReqId}
 use Rattle.gs_base.specs.declared.refusal.Refusal.{Refusal}
 use Rattle.gs_edit.specs.Machine.{Plain}
@@ -11,7 +9,6 @@ use Rattle.gs_edit.specs.View.{NamesView}
 use Rattle.gs_msg.specs.declared.answer.Answer.{Answer}
 use Rattle.gs_master_laws.proofs.Beginnings.{fits_gives}
 use Rattle.gs_master_laws.proofs.LedBack.{leads_back}
-use Rattle.gs_master_laws.specs.Promises.{IsKept}
 use Rattle.gs_master_laws.specs.Standing.{FitsAndStands}
 use Rattle.gs_master_plain.specs.Edits.{shown}
 use Rattle.gs_master_plain.specs.Records.{kept_in, machine_of}
@@ -20,13 +17,12 @@ use Rattle.gs_master_record.specs.declared.checkpoint.Phase.{Phase}
 use Rattle.gs_master_record.specs.declared.checkpoint.Phase.TheVariants.{Ordinary, Upgrade, Rolling}
 use Rattle.gs_master_spec.specs.Applied.{after_edit, after_if, applied, chunk_of_edit, forgotten_by, may_edit, number_of_edit, replayed, view_for, with_edit, without_chunks}
 use Rattle.gs_master_spec.specs.Calls.{accept_plan, answered_with}
-use Rattle.gs_master_spec.specs.Durable.{Durable, after_number, is_ordinary, is_rolling}
+use Rattle.gs_master_spec.specs.Durable.{Durable, is_ordinary, is_rolling}
 use Rattle.gs_master_spec.specs.Replies.{answer_to, is_later}
-use Rattle.gs_master_spec.specs.State.{State, Turn, answer_changes, fits, keeps_refusal, kept_in_memory, last_reply, refused, reply_to, turned}
+use Rattle.gs_master_spec.specs.State.{State, Turn, fits, keeps_refusal, kept_in_memory, last_reply, refused, reply_to, turned}
 use Rattle.gs_master_spec.specs.Undoing.{all_undone, edited_names}
-use Rattle.gs_master_spec.specs.declared.change.Change.{Change}
 use Rattle.gs_master_calm.proofs.Answered.{answer_up, insert_up, more, reply_up}
-use Rattle.gs_master_calm.specs.Calm.{AnsweredUpTo, Asked, IsStill, IsUpTo, Shows, WentTo, bare}
+use Rattle.gs_master_calm.specs.Calm.{Asked, IsUpTo, WentTo, bare}
 
 -- ---- refused
 

@@ -1,43 +1,35 @@
 -- A prepare and a finalize at a master of which no chunk is settled.
-use Rattle.std.proofs.Common.{arith, ◌≡◌, ◌⊎◌, inl, inr, ◌∙◌, ◌++◌, ◌+◌, ◌&&◌, ◌||◌, ◌==◌, ◌≤◌, ◌<◌, ℕ, zero, suc, Bool, true, false, not, cond, List, [], ◌∷◌, length, map, refl, sym, ap, subst}
-use Rattle.std.specs.Prelude.{Option, Some, None, option_map, Result, Ok, Err, filter, if◌then◌else◌}
+use Rattle.std.proofs.Common.{◌≡◌, ◌⊎◌, inl, inr, ◌∙◌, ◌++◌, ◌+◌, ◌&&◌, ℕ, Bool, true, false, not, List, [], ◌∷◌, length, refl, sym, ap, subst}
+use Rattle.std.specs.Prelude.{Some, None, Ok, Err, if◌then◌else◌}
 use Rattle.std.specs.FinMap as fin
-use Rattle.std.proofs.lemmas.Bool.{false≢true}
 use Rattle.gs_base.specs.declared.config.Config.{Config}
 use Rattle.gs_base.specs.declared.epoch.EpochEnd.TheVariants as ends
 use Rattle.gs_base.specs.declared.numbers.Moment.{Moment}
 use Rattle.gs_base.specs.declared.numbers.ReqId.{ReqId}
-use Rattle.gs_base.specs.declared.refusal.Refusal.{Refusal}
 use Rattle.gs_base.specs.declared.refusal.Refusal.TheVariants as refusals
 use Rattle.gs_edit.specs.Machine.{Plain, prepared, finalized}
-use Rattle.gs_edit.specs.Mapped.{mapped_rows}
-use Rattle.gs_edit.specs.View.{NamesView}
 use Rattle.gs_lease.specs.declared.view.Purpose.TheVariants as purposes
-use Rattle.gs_msg.specs.declared.answer.Answer.{Answer}
 use Rattle.gs_msg.specs.declared.answer.Answer.TheVariants as answers
 use Rattle.gs_msg.specs.declared.call.Call.TheVariants as calls
 use Rattle.gs_msg.specs.declared.message.Message.{Message}
 use Rattle.gs_master_laws.proofs.Beginnings.{fits_gives}
 use Rattle.gs_master_laws.specs.Standing.{FitsAndStands}
-use Rattle.gs_master_plain.specs.Commands.{Texts}
-use Rattle.gs_master_plain.specs.Records.{kept_in, machine_of}
+use Rattle.gs_master_plain.specs.Records.{machine_of}
 use Rattle.gs_master_record.specs.Plain.{PlainEntry, Finalize, Prepare}
 use Rattle.gs_master_record.specs.declared.checkpoint.Phase.{Phase}
 use Rattle.gs_master_record.specs.declared.checkpoint.Phase.TheVariants.{Ordinary, Upgrade, Rolling}
 use Rattle.gs_master_spec.specs.Applied.{applied, are_at_rest, is_next_epoch, with_epoch, without_prepared}
 use Rattle.gs_master_spec.specs.Beginning.{all_begun, has_versions}
 use Rattle.gs_master_spec.specs.Durable.{Durable, is_ordinary, is_rolling, is_upgrade}
-use Rattle.gs_master_spec.specs.Handling.{call_turn, called}
 use Rattle.gs_master_spec.specs.Replies.{is_later}
 use Rattle.gs_master_spec.specs.Settling.{requests_of}
-use Rattle.gs_master_spec.specs.State.{State, Turn, all_ended_by, and_then, answer_changes, first_of, fits, kept_in_memory, last_reply, refused, reply_to, turned}
-use Rattle.gs_master_spec.specs.Undoing.{all_undone}
-use Rattle.gs_master_spec.specs.Upgrades.{accepted_plan, all_unquiet, begin_tests, chunk_count, commit_tests, end_tests, finalize, is_last_epoch, prepare_begin, prepare_commit, tell_all, unless}
+use Rattle.gs_master_spec.specs.State.{State, Turn, all_ended_by, and_then, first_of, fits, kept_in_memory, last_reply, refused, reply_to, turned}
+use Rattle.gs_master_spec.specs.Upgrades.{accepted_plan, all_unquiet, begin_tests, chunk_count, commit_tests, end_tests, is_last_epoch, prepare_begin, prepare_commit, tell_all, unless}
 use Rattle.gs_master_spec.specs.declared.change.Change.{Change}
 use Rattle.gs_master_spec.specs.declared.change.Change.TheVariants as changes
 use Rattle.gs_master_spec.specs.declared.pending.Pending.{Pending}
 use Rattle.gs_master_calm.proofs.Answered.{insert_up, more}
-use Rattle.gs_master_calm.proofs.Asking.{all_quiet, comes_to_tests, fits_so, is_ordinary_where_none, is_upgrade_where_kept, kept_is}
+use Rattle.gs_master_calm.proofs.Asking.{all_quiet, comes_to_tests, fits_so, is_ordinary_where_none, is_upgrade_where_kept}
 use Rattle.gs_master_calm.proofs.Going.{one_applied, refused_went}
 use Rattle.gs_master_calm.specs.Calm.{Asked, FinalizesGo, IsStill, IsUpTo, PreparesBegin, PreparesCommit, WasShort, WentTo, bare}
 

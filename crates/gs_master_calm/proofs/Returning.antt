@@ -1,6 +1,6 @@
 -- A rollback at a master of which no chunk is settled: it is begun, servers that name nothing change nothing, and it is committed.
-use Rattle.std.proofs.Common.{arith, ◌≡◌, ◌⊎◌, inl, inr, ◌∙◌, ◌++◌, ◌+◌, ◌&&◌, ◌||◌, ◌==◌, ◌≤◌, ◌<◌, ℕ, zero, suc, Bool, true, false, not, cond, List, [], ◌∷◌, length, map, nat_lt, refl, sym, ap, subst}
-use Rattle.std.specs.Prelude.{Option, Some, None, option_map, Result, Ok, Err, filter, is_some, if◌then◌else◌}
+use Rattle.std.proofs.Common.{arith, ◌≡◌, ◌⊎◌, inl, inr, ◌∙◌, ◌+◌, ◌&&◌, ◌==◌, ℕ, Bool, true, false, List, [], ◌∷◌, nat_lt, refl, sym, ap, subst}
+use Rattle.std.specs.Prelude.{Option, Some, None, Ok, Err, is_some, if◌then◌else◌}
 use Rattle.std.specs.FinMap as fin
 use Rattle.std.specs.Ordering.{nat_cmp}
 use Rattle.std.proofs.lemmas.Bool.{false≢true}
@@ -9,27 +9,22 @@ use Rattle.gs_base.specs.declared.config.Config.{Config}
 use Rattle.gs_base.specs.declared.epoch.EpochEnd.TheVariants as ends
 use Rattle.gs_base.specs.declared.numbers.Moment.{Moment}
 use Rattle.gs_base.specs.declared.numbers.ReqId.{ReqId}
-use Rattle.gs_base.specs.declared.refusal.Refusal.{Refusal}
 use Rattle.gs_base.specs.declared.refusal.Refusal.TheVariants as refusals
 use Rattle.gs_edit.specs.Machine.{Plain, restored}
 use Rattle.gs_edit.specs.Mapped.{mapped_rows}
 use Rattle.gs_edit.specs.View.{NamesView}
-use Rattle.gs_msg.specs.declared.answer.Answer.{Answer}
 use Rattle.gs_msg.specs.declared.answer.Answer.TheVariants as answers
 use Rattle.gs_msg.specs.declared.call.Call.TheVariants as calls
-use Rattle.gs_msg.specs.declared.message.Message.{Message}
 use Rattle.gs_master_laws.proofs.Beginnings.{fits_gives}
-use Rattle.gs_master_laws.specs.Promises.{IsStillThere}
 use Rattle.gs_master_laws.specs.Standing.{FitsAndStands}
 use Rattle.gs_master_plain.specs.Commands.{Texts}
 use Rattle.gs_master_plain.specs.Records.{kept_in, machine_of}
-use Rattle.gs_master_record.specs.Plain.{PlainEntry, RollbackBegin, RollbackCommit}
+use Rattle.gs_master_record.specs.Plain.{RollbackBegin, RollbackCommit}
 use Rattle.gs_master_record.specs.declared.checkpoint.Phase.{Phase}
 use Rattle.gs_master_record.specs.declared.checkpoint.Phase.TheVariants.{Ordinary, Upgrade, Rolling}
-use Rattle.gs_master_record.specs.declared.entry.Answered.{Answered}
 use Rattle.gs_master_spec.specs.Applied.{after_undoing, applied, are_answers, is_next_epoch, rolled_back, with_epoch}
 use Rattle.gs_master_spec.specs.Durable.{Durable, is_listed, is_ordinary, is_rolling, is_upgrade, prepared_view}
-use Rattle.gs_master_spec.specs.Handling.{call_turn, called, handle}
+use Rattle.gs_master_spec.specs.Handling.{handle}
 use Rattle.gs_master_spec.specs.Hearing.{learned}
 use Rattle.gs_master_spec.specs.Replies.{is_later}
 use Rattle.gs_master_spec.specs.Settling.{requests_of}
@@ -37,15 +32,14 @@ use Rattle.gs_master_spec.specs.State.{Fault, Sound, State, Turn, all_ended_by, 
 use Rattle.gs_master_spec.specs.Undoing.{all_undone}
 use Rattle.gs_master_spec.specs.Upgrades.{accepted_plan, answers_for, commit_if, commit_on, end_tests, is_last_epoch, rollback_begin, rollback_commit, tell_all, told_of, unless, unrestored}
 use Rattle.gs_master_spec.specs.declared.asking.Prepared.{Prepared}
-use Rattle.gs_master_spec.specs.declared.change.Change.{Change}
 use Rattle.gs_master_spec.specs.declared.change.Change.TheVariants as changes
 use Rattle.gs_master_spec.specs.declared.pending.Pending.{Pending}
 use Rattle.gs_master_calm.proofs.Answered.{insert_up, more}
-use Rattle.gs_master_calm.proofs.Asking.{comes_to_tests, fits_so, is_ordinary_where_none, is_upgrade_where_kept, kept_is, no_entries}
+use Rattle.gs_master_calm.proofs.Asking.{comes_to_tests, fits_so, is_ordinary_where_none, is_upgrade_where_kept, no_entries}
 use Rattle.gs_master_calm.proofs.Bare.{no_refs, unlisted}
 use Rattle.gs_master_calm.proofs.Going.{one_applied, refused_went}
 use Rattle.gs_master_calm.proofs.Preparing.{Leaves, ending, ending_went, exhausted, full, kept_if}
-use Rattle.gs_master_calm.specs.Calm.{Asked, IsStill, IsUpTo, LearnedLeaves, RollbacksBegin, RollbacksCommit, WasShort, WentTo, bare}
+use Rattle.gs_master_calm.specs.Calm.{Asked, IsUpTo, LearnedLeaves, RollbacksBegin, RollbacksCommit, WasShort, WentTo, bare}
 
 -- ---- it is begun
 

@@ -1,9 +1,7 @@
 -- A call of the tree at a calm master is answered as the plain machine answers it, which goes on by its command.
-use Rattle.std.proofs.Common.{arith, ◌≡◌, ◌⊎◌, inl, inr, ◌∙◌, ◌++◌, ◌+◌, ◌&&◌, ◌==◌, ◌≤◌, ◌<◌, ℕ, zero, suc, Bool, true, false, not, cond, List, [], ◌∷◌, refl, sym, ap, subst}
-use Rattle.std.specs.Prelude.{Option, Some, None, option_map, Result, Ok, Err, filter, is_none, if◌then◌else◌}
+use Rattle.std.proofs.Common.{arith, ◌≡◌, ◌⊎◌, inl, inr, ◌∙◌, ◌+◌, ◌&&◌, ◌==◌, ℕ, Bool, true, false, not, List, [], ◌∷◌, refl, sym, ap, subst}
+use Rattle.std.specs.Prelude.{Option, Some, None, option_map, Result, Ok, Err, is_none, if◌then◌else◌}
 use Rattle.std.specs.FinMap as fin
-use Rattle.std.specs.List.{list_any}
-use Rattle.std.proofs.lemmas.Bool.{false≢true}
 use Rattle.std.proofs.lemmas.Bool.Decides.{nat_tests}
 use Rattle.gs_base.specs.Numbers.{last_number}
 use Rattle.gs_base.specs.Told.{IsNumber}
@@ -53,15 +51,15 @@ use Rattle.gs_master_spec.specs.Calls as store
 use Rattle.gs_master_spec.specs.Calls.{accept_plan, answered_with, deleted, edit_if, edited_by, has_visible_child, is_always_taken, is_any_hidden, is_locked, is_work, looked_up, refused_before, renames}
 use Rattle.gs_master_spec.specs.Durable.{after_number, is_rolling}
 use Rattle.gs_master_spec.specs.Handling.{Numbered, New, call_turn, called, called_unless, handle, new_call, numbered, taken_as}
-use Rattle.gs_master_spec.specs.State.{Fault, Sound, State, Turn, first_of, fits, is_failed, is_unopened, last_reply, refused, reply_to, turned}
+use Rattle.gs_master_spec.specs.State.{Fault, Sound, State, Turn, first_of, fits, is_failed, is_unopened, last_reply, refused, turned}
 use Rattle.gs_master_spec.specs.Undoing.{all_undone, edited_names, names_from}
 use Rattle.gs_master_spec.specs.Volatile.{is_pending}
-use Rattle.gs_master_spec.specs.Working.{begins_snapshot, snapshot_if, unquiet}
+use Rattle.gs_master_spec.specs.Working.{begins_snapshot, snapshot_if}
 use Rattle.gs_master_spec.specs.declared.pending.Pending.{Pending}
 use Rattle.gs_master_calm.proofs.Answered.{is_new}
 use Rattle.gs_master_calm.proofs.Bare.{nothing_unquiet, source_bare}
 use Rattle.gs_master_calm.proofs.Going.{answered_went, edit_went, refused_went}
-use Rattle.gs_master_calm.specs.Calm.{Asked, IsShort, IsStill, Shows, TreeCallsGo, WasShort, WentTo, bare, command_of_call, hidden_after, hidden_behind, plain_after, plain_behind, plain_by}
+use Rattle.gs_master_calm.specs.Calm.{Asked, IsShort, IsStill, TreeCallsGo, WasShort, WentTo, bare, command_of_call, hidden_after, hidden_behind, plain_after, plain_behind, plain_by}
 
 -- ---- what comes before a call's own tests
 

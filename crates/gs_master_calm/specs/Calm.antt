@@ -1,9 +1,8 @@
 -- A master of which no file has a chunk, for which no call waits: what its calls make of it.
-use Rattle.std.specs.Prelude.{[], ◌∷◌, ◌+◌, ◌++◌, ◌≡◌, ◌⊎◌, ◌<◌, ◌≤◌, Bool, Err, List, None, Ok, Option, Result, Some, false, true, refl, ℕ}
+use Rattle.std.specs.Prelude.{[], ◌∷◌, ◌+◌, ◌++◌, ◌≡◌, ◌⊎◌, ◌<◌, ◌≤◌, Bool, Err, List, None, Ok, Option, Result, Some, false, true, ℕ}
 use Rattle.std.specs.FinMap as fin
 use Rattle.gs_base.specs.Told.{IsNumber}
 use Rattle.gs_base.specs.declared.config.Config.{Config}
-use Rattle.gs_base.specs.declared.epoch.EpochEnd.{EpochEnd}
 use Rattle.gs_base.specs.declared.epoch.EpochEnd.TheVariants as ends
 use Rattle.gs_base.specs.declared.numbers.ClientId.{ClientId}
 use Rattle.gs_base.specs.declared.numbers.Moment.{Moment}
@@ -11,7 +10,6 @@ use Rattle.gs_base.specs.declared.numbers.ReqId.{ReqId}
 use Rattle.gs_base.specs.declared.refusal.Refusal.{Refusal}
 use Rattle.gs_base.specs.declared.refusal.Refusal.TheVariants as refusals
 use Rattle.gs_edit.specs.Machine.{Plain, prepared, finalized, restored}
-use Rattle.gs_edit.specs.View.{NamesView}
 use Rattle.gs_msg.specs.declared.answer.Answer.{Answer}
 use Rattle.gs_msg.specs.declared.answer.Answer.TheVariants as answers
 use Rattle.gs_msg.specs.declared.answer.Phase.{Phase as Told_phase}
@@ -27,7 +25,7 @@ use Rattle.gs_master_plain.specs.Answers.{plain_answer}
 use Rattle.gs_master_plain.specs.Commands.{Command, Texts, commanded}
 use Rattle.gs_master_plain.specs.Commands as commands
 use Rattle.gs_master_plain.specs.Records.{Telling, machine_of}
-use Rattle.gs_master_spec.specs.Durable.{Durable, is_rolling}
+use Rattle.gs_master_spec.specs.Durable.{is_rolling}
 use Rattle.gs_master_spec.specs.Handling.{call_turn, handle}
 use Rattle.gs_master_spec.specs.State.{Sound, State, Turn, reply_to}
 use Rattle.gs_master_spec.specs.Upgrades.{tell_all}

@@ -1,16 +1,16 @@
 -- A store without disks, delivered message by message.
-use Rattle.std.proofs.Common.{arith, ◌≡◌, ◌∙◌, ◌++◌, ◌+◌, ◌-◌, ◌==◌, ◌≤◌, ◌<◌, ℕ, zero, suc, Bool, true, false, cond, List, [], ◌∷◌, refl, sym, ap, subst}
-use Rattle.std.specs.Prelude.{Option, Some, None, Result, Ok, Err, if◌then◌else◌, min, slice_get, slice_set}
+use Rattle.std.proofs.Common.{arith, ◌≡◌, ◌∙◌, ◌++◌, ◌+◌, ◌-◌, ◌==◌, ◌<◌, ℕ, zero, suc, true, List, [], ◌∷◌, refl, sym, ap}
+use Rattle.std.specs.Prelude.{Option, Some, None, Result, if◌then◌else◌, min}
 use Rattle.std.proofs.lemmas.Bool.Decides.{nat_tests}
 use Rattle.gs_base.specs.declared.config.Config.{Config}
 use Rattle.gs_base.specs.declared.numbers.Moment.{Moment}
 use Rattle.gs_base.specs.declared.numbers.ReqId.{ReqId}
 use Rattle.gs_base.specs.declared.refusal.Refusal.{Refusal}
-use Rattle.gs_client.specs.Nodes.{Node, answered, is_of, takes}
+use Rattle.gs_client.specs.Nodes.{Node, answered}
 use Rattle.gs_client.specs.declared.link.Reply.{Reply}
 use Rattle.gs_client.specs.declared.link.Reply.TheVariants as replies
 use Rattle.gs_master_spec.specs.Handling.{handle}
-use Rattle.gs_master_spec.specs.State.{State, Turn, reply_to}
+use Rattle.gs_master_spec.specs.State.{State, reply_to}
 use Rattle.gs_msg.specs.Bodies.{kind_of}
 use Rattle.gs_msg.specs.declared.answer.Answer.{Answer}
 use Rattle.gs_msg.specs.declared.body.Body.{Body}
@@ -18,9 +18,8 @@ use Rattle.gs_msg.specs.declared.message.Message.{Message}
 use Rattle.gs_msg.specs.declared.node.NodeId.{NodeId}
 use Rattle.gs_msg.specs.declared.node.NodeId.TheVariants as nodes
 use Rattle.gs_server.specs.Servers.{Server}
-use Rattle.gs_server.specs.Servers as servers
 use Rattle.gs_shell_desk.specs.Ways.{is_drop, last_count}
-use Rattle.gs_world_laws.specs.Plain.{Plain, delivered, delivers, delivers_whole, sends, sends_all}
+use Rattle.gs_world_laws.specs.Plain.{Plain, delivered, delivers, delivers_whole, sends_all}
 
 -- the store with one client, of which no kind of message is held back
 abbrev pub store : Config → State → List Server → Node → Moment → List Message → List Message → ℕ → Plain
@@ -99,9 +98,11 @@ module _ (config : Config) (moment : Moment) (held : List Message) (s : State) (
       (next : ℕ) × Leads 1 (store config s all n moment (record { from = from; to = nodes.Master; body = body } ∷ queue) held drops)
       (store config (handle config s (record { from = from; to = nodes.Master; body = body }) moment).after all n moment (queue ++ (handle config s (record { from = from; to = nodes.Master; body = body }) moment).sent) held next)
   to_master from body queue drops =
-      let t = handle config s (record { from = from; to = nodes.Master; body = body }) moment in
-      (drops_behind t.sent drops, λ more. one_step (record { from = from; to = nodes.Master; body = body }) queue drops more
-      ∙ ap (delivers more) (sends_in config moment held (handle config s (record { from = from; to = nodes.Master; body = body }) moment).sent (handle config s (record { from = from; to = nodes.Master; body = body }) moment).after all n queue drops))
+      let t = handle config s (record { from = from; to = nodes.Master; body = body }) moment in (
+        drops_behind t.sent drops,
+        λ more. one_step (record { from = from; to = nodes.Master; body = body }) queue drops more
+            ∙ ap (delivers more) (sends_in config moment held (handle config s (record { from = from; to = nodes.Master; body = body }) moment).sent (handle config s (record { from = from; to = nodes.Master; body = body }) moment).after all n queue drops),
+      )
 
 -- ---- the client
 

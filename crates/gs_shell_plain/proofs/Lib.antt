@@ -2,3 +2,8 @@ mod Settled
 mod Delivering
 mod Telling
 mod Serving
+mod Asking
+mod Lines
+mod Upgrades
+mod Beginning
+mod Answering

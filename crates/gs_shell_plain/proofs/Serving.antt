@@ -1,8 +1,8 @@
 -- A request that the master answers at once, alone or behind what it tells every server.
-use Rattle.std.proofs.Common.{arith, ◌≡◌, ◌⊎◌, inl, inr, ◌∙◌, ◌++◌, ◌+◌, ◌-◌, ◌&&◌, ◌==◌, ◌≤◌, ◌<◌, ℕ, zero, suc, Bool, true, false, cond, List, [], ◌∷◌, length, map, nat_le, refl, sym, ap, subst}
-use Rattle.std.specs.Prelude.{Option, Some, None, Result, Ok, Err, if◌then◌else◌, slice_get, slice_set}
+use Rattle.std.proofs.Common.{arith, ◌≡◌, ◌⊎◌, inl, inr, ◌∙◌, ◌++◌, ◌+◌, ◌==◌, ◌≤◌, ◌<◌, ℕ, Bool, true, false, List, [], ◌∷◌, length, nat_le, refl, ap, subst}
+use Rattle.std.specs.Prelude.{Some, None, Result, Ok, Err, if◌then◌else◌}
 use Rattle.std.specs.List.{AllByRecursion}
-use Rattle.std.proofs.lemmas.Bool.{and_parts, false≢true}
+use Rattle.std.proofs.lemmas.Bool.{and_parts}
 use Rattle.std.proofs.lemmas.Bool.Decides.{nat_tests}
 use Rattle.gs_base.specs.Configs.{is_within}
 use Rattle.gs_base.specs.declared.config.Config.{Config}
@@ -10,10 +10,9 @@ use Rattle.gs_base.specs.declared.epoch.EpochEnd.{EpochEnd}
 use Rattle.gs_base.specs.declared.numbers.Moment.{Moment}
 use Rattle.gs_base.specs.declared.refusal.Refusal.{Refusal}
 use Rattle.gs_base.specs.declared.refusal.Refusal.TheVariants as refusals
-use Rattle.gs_client.specs.Nodes.{Node, answered, asks, messages_of}
+use Rattle.gs_client.specs.Nodes.{answered}
 use Rattle.gs_client.specs.Sends.{last_number}
 use Rattle.gs_client.specs.declared.client.Client.{Client}
-use Rattle.gs_client.specs.declared.link.Reply.{Reply}
 use Rattle.gs_client.specs.declared.link.Reply.TheVariants as replies
 use Rattle.gs_master_calm.specs.Calm.{IsStill}
 use Rattle.gs_master_spec.specs.Handling.{call_turn, handle}
@@ -93,12 +92,14 @@ module _ (config : Config) (s : State) (all : List Server) (moment : Moment) (he
   pub alone : (result : Result Answer Refusal) (drops : ℕ) → the_turn.sent ≡ reply_to (request (last + 1)) result ∷ [] → (next : ℕ) × delivered_so result all drops next
   alone result drops sent =
       let first = to_master config moment held s all (node (last + 1) (Some (last + 1)) None) (nodes.Client (request (last + 1)).client) (bodies.Call (request (last + 1)) call) [] (drops_behind (the_message ∷ []) drops) in
-      let second = to_client config moment held the_turn.after all (last + 1) None result [] first.0 in
-      (first.0, whole_from config moment held the_turn.after all (node (last + 1) None (Some (answered replies.Answer result))) (1 + 1) (store config s all (node (last + 1) (Some (last + 1)) None) moment (the_message ∷ []) held (drops_behind (the_message ∷ []) drops)) first.0
-      (leads_then 1 1 (store config s all (node (last + 1) (Some (last + 1)) None) moment (the_message ∷ []) held (drops_behind (the_message ∷ []) drops))
-      (store config the_turn.after all (node (last + 1) (Some (last + 1)) None) moment (reply_to (request (last + 1)) result ∷ []) held first.0) (store config the_turn.after all (node (last + 1) None (Some (answered replies.Answer result))) moment [] held first.0)
-      (subst (λ (ms : List Message). Leads 1 (store config s all (node (last + 1) (Some (last + 1)) None) moment (the_message ∷ []) held (drops_behind (the_message ∷ []) drops)) (store config the_turn.after all (node (last + 1) (Some (last + 1)) None) moment ms held first.0)) sent
-      (subst (λ (t : Turn). Leads 1 (store config s all (node (last + 1) (Some (last + 1)) None) moment (the_message ∷ []) held (drops_behind (the_message ∷ []) drops)) (store config t.after all (node (last + 1) (Some (last + 1)) None) moment t.sent held first.0)) handled first.1)) second) few)
+      let second = to_client config moment held the_turn.after all (last + 1) None result [] first.0 in (
+        first.0,
+        whole_from config moment held the_turn.after all (node (last + 1) None (Some (answered replies.Answer result))) (1 + 1) (store config s all (node (last + 1) (Some (last + 1)) None) moment (the_message ∷ []) held (drops_behind (the_message ∷ []) drops)) first.0
+            (leads_then 1 1 (store config s all (node (last + 1) (Some (last + 1)) None) moment (the_message ∷ []) held (drops_behind (the_message ∷ []) drops))
+            (store config the_turn.after all (node (last + 1) (Some (last + 1)) None) moment (reply_to (request (last + 1)) result ∷ []) held first.0) (store config the_turn.after all (node (last + 1) None (Some (answered replies.Answer result))) moment [] held first.0)
+            (subst (λ (ms : List Message). Leads 1 (store config s all (node (last + 1) (Some (last + 1)) None) moment (the_message ∷ []) held (drops_behind (the_message ∷ []) drops)) (store config the_turn.after all (node (last + 1) (Some (last + 1)) None) moment ms held first.0)) sent
+            (subst (λ (t : Turn). Leads 1 (store config s all (node (last + 1) (Some (last + 1)) None) moment (the_message ∷ []) held (drops_behind (the_message ∷ []) drops)) (store config t.after all (node (last + 1) (Some (last + 1)) None) moment t.sent held first.0)) handled first.1)) second) few,
+      )
     where
       few : 1 + 1 < 1000
       few = omega arith
@@ -112,20 +113,22 @@ module _ (config : Config) (s : State) (all : List Server) (moment : Moment) (he
       let first = to_master config moment held s all (node (last + 1) (Some (last + 1)) None) (nodes.Client (request (last + 1)).client) (bodies.Call (request (last + 1)) call) [] (drops_behind (the_message ∷ []) drops) in
       let second = all_told config moment held the_turn.after (node (last + 1) (Some (last + 1)) None) [] all epoch end 0 (reply_to (request (last + 1)) result ∷ []) first.0 none at in
       let third = to_client config moment held the_turn.after (all_gone all (epoch + 1) end) (last + 1) None result (answers_of (epoch + 1) all) second.0 in
-      let fourth = answers_come config moment held the_turn.after (node (last + 1) None (Some (answered replies.Answer result))) (all_gone all (epoch + 1) end) all (epoch + 1) second.0 still now in
-      (fourth.0, whole_from config moment held the_turn.after (all_gone all (epoch + 1) end) (node (last + 1) None (Some (answered replies.Answer result))) (1 + (length all + (1 + length all))) start fourth.0
-      (leads_then 1 (length all + (1 + length all)) start (store config the_turn.after all (node (last + 1) (Some (last + 1)) None) moment (tell_all config (epoch + 1) end ++ reply_to (request (last + 1)) result ∷ []) held first.0)
-      (store config the_turn.after (all_gone all (epoch + 1) end) (node (last + 1) None (Some (answered replies.Answer result))) moment [] held fourth.0)
-      (subst (λ (ms : List Message). Leads 1 start (store config the_turn.after all (node (last + 1) (Some (last + 1)) None) moment ms held first.0)) sent
-      (subst (λ (t : Turn). Leads 1 start (store config t.after all (node (last + 1) (Some (last + 1)) None) moment t.sent held first.0)) handled first.1))
-      (leads_then (length all) (1 + length all) (store config the_turn.after all (node (last + 1) (Some (last + 1)) None) moment (tell_all config (epoch + 1) end ++ reply_to (request (last + 1)) result ∷ []) held first.0)
-      (store config the_turn.after (all_gone all (epoch + 1) end) (node (last + 1) (Some (last + 1)) None) moment (reply_to (request (last + 1)) result ∷ answers_of (epoch + 1) all) held second.0)
-      (store config the_turn.after (all_gone all (epoch + 1) end) (node (last + 1) None (Some (answered replies.Answer result))) moment [] held fourth.0)
-      (subst (λ (k : ℕ). Leads (length all) (store config the_turn.after all (node (last + 1) (Some (last + 1)) None) moment (Rattle.gs_shell_plain.proofs.Telling.told_from 0 (epoch + 1) end k ++ reply_to (request (last + 1)) result ∷ []) held first.0)
-      (store config the_turn.after (all_gone all (epoch + 1) end) (node (last + 1) (Some (last + 1)) None) moment (reply_to (request (last + 1)) result ∷ answers_of (epoch + 1) all) held second.0)) many second.1)
-      (leads_then 1 (length all) (store config the_turn.after (all_gone all (epoch + 1) end) (node (last + 1) (Some (last + 1)) None) moment (reply_to (request (last + 1)) result ∷ answers_of (epoch + 1) all) held second.0)
-      (store config the_turn.after (all_gone all (epoch + 1) end) (node (last + 1) None (Some (answered replies.Answer result))) moment (answers_of (epoch + 1) all) held second.0)
-      (store config the_turn.after (all_gone all (epoch + 1) end) (node (last + 1) None (Some (answered replies.Answer result))) moment [] held fourth.0) third fourth.1))) few)
+      let fourth = answers_come config moment held the_turn.after (node (last + 1) None (Some (answered replies.Answer result))) (all_gone all (epoch + 1) end) all (epoch + 1) second.0 still now in (
+        fourth.0,
+        whole_from config moment held the_turn.after (all_gone all (epoch + 1) end) (node (last + 1) None (Some (answered replies.Answer result))) (1 + (length all + (1 + length all))) start fourth.0
+            (leads_then 1 (length all + (1 + length all)) start (store config the_turn.after all (node (last + 1) (Some (last + 1)) None) moment (tell_all config (epoch + 1) end ++ reply_to (request (last + 1)) result ∷ []) held first.0)
+            (store config the_turn.after (all_gone all (epoch + 1) end) (node (last + 1) None (Some (answered replies.Answer result))) moment [] held fourth.0)
+            (subst (λ (ms : List Message). Leads 1 start (store config the_turn.after all (node (last + 1) (Some (last + 1)) None) moment ms held first.0)) sent
+            (subst (λ (t : Turn). Leads 1 start (store config t.after all (node (last + 1) (Some (last + 1)) None) moment t.sent held first.0)) handled first.1))
+            (leads_then (length all) (1 + length all) (store config the_turn.after all (node (last + 1) (Some (last + 1)) None) moment (tell_all config (epoch + 1) end ++ reply_to (request (last + 1)) result ∷ []) held first.0)
+            (store config the_turn.after (all_gone all (epoch + 1) end) (node (last + 1) (Some (last + 1)) None) moment (reply_to (request (last + 1)) result ∷ answers_of (epoch + 1) all) held second.0)
+            (store config the_turn.after (all_gone all (epoch + 1) end) (node (last + 1) None (Some (answered replies.Answer result))) moment [] held fourth.0)
+            (subst (λ (k : ℕ). Leads (length all) (store config the_turn.after all (node (last + 1) (Some (last + 1)) None) moment (Rattle.gs_shell_plain.proofs.Telling.told_from 0 (epoch + 1) end k ++ reply_to (request (last + 1)) result ∷ []) held first.0)
+            (store config the_turn.after (all_gone all (epoch + 1) end) (node (last + 1) (Some (last + 1)) None) moment (reply_to (request (last + 1)) result ∷ answers_of (epoch + 1) all) held second.0)) many second.1)
+            (leads_then 1 (length all) (store config the_turn.after (all_gone all (epoch + 1) end) (node (last + 1) (Some (last + 1)) None) moment (reply_to (request (last + 1)) result ∷ answers_of (epoch + 1) all) held second.0)
+            (store config the_turn.after (all_gone all (epoch + 1) end) (node (last + 1) None (Some (answered replies.Answer result))) moment (answers_of (epoch + 1) all) held second.0)
+            (store config the_turn.after (all_gone all (epoch + 1) end) (node (last + 1) None (Some (answered replies.Answer result))) moment [] held fourth.0) third fourth.1))) few,
+      )
     where
       start : Plain
       start = store config s all (node (last + 1) (Some (last + 1)) None) moment (the_message ∷ []) held (drops_behind (the_message ∷ []) drops)

@@ -1,6 +1,6 @@
 -- What the plain tree refuses is refused for sure: it is no refusal for want of memory, or of a disk.
-use Rattle.std.proofs.Common.{◌≡◌, ◌∙◌, ◌++◌, ◌&&◌, ◌||◌, ℕ, Bool, true, false, not, cond, List, [], ◌∷◌, map, refl, sym, ap, subst}
-use Rattle.std.specs.Prelude.{Option, Some, None, Result, Ok, Err, if◌then◌else◌, is_none, is_some, option_map, nat_lt, length}
+use Rattle.std.proofs.Common.{◌≡◌, ◌++◌, ◌&&◌, ℕ, Bool, true, false, not, List, [], map, refl, subst}
+use Rattle.std.specs.Prelude.{Option, Some, None, Result, Ok, Err, if◌then◌else◌, is_none, is_some}
 use Rattle.gs_base.specs.declared.refusal.Refusal.{Refusal}
 use Rattle.gs_base.specs.declared.refusal.Refusal.TheVariants as refusals
 use Rattle.gs_client.specs.Replies.{unsure_or}
@@ -49,18 +49,18 @@ sure_three e f g new x y z false false true = z
 sure_three e f g new x y z false false false = tt
 
 module _ (rows : Rows (List ℕ)) where
-  sure_mkdirs : (p : Path) → IsSure (mkdirs_rows rows p)
+  pub sure_mkdirs : (p : Path) → IsSure (mkdirs_rows rows p)
   sure_mkdirs p = sure_tabled (paths_of rows ++ fronts p) (mkdirs (at rows) p) (sure_two refusals.Exists refusals.NotADirectory (with_dirs p (at rows)) refl refl (is_file (at rows p)) (file_above (at rows) p))
 
-  sure_create : (p : Path) → IsSure (create_rows rows p)
+  pub sure_create : (p : Path) → IsSure (create_rows rows p)
   sure_create p = sure_tabled (paths_of rows ++ fronts p) (create (at rows) p) (sure_two refusals.Exists refusals.NotADirectory (with_entry p (File []) (with_dirs p (at rows))) refl refl (is_some (at rows p)) (file_above (at rows) p))
 
-  sure_hide : (p : Path) (moment number : ℕ) → IsSure (hide_rows rows p moment number)
+  pub sure_hide : (p : Path) (moment number : ℕ) → IsSure (hide_rows rows p moment number)
   sure_hide p moment number =
       sure_tabled (paths_of rows ++ map (moved_path p (hidden_path p moment number)) (paths_of rows)) (hide (at rows) p moment number)
       (sure_three refusals.IsRoot refusals.NotFound refusals.Exists (moved p (hidden_path p moment number) (at rows)) refl refl refl (same_path p []) (is_none (at rows p)) (is_some (at rows (hidden_path p moment number))))
 
-  sure_unhide : (p : Path) → IsSure (unhide_rows rows p)
+  pub sure_unhide : (p : Path) → IsSure (unhide_rows rows p)
   sure_unhide p = sure_tabled (paths_of rows ++ map (moved_path p (unhide_target p (old_name p))) (paths_of rows)) (unhide (at rows) p) (each (old_name p))
     where
       each : (o : Option Name) → IsSure (unhidden (at rows) p o)
@@ -85,19 +85,19 @@ module _ (rows : Rows (List ℕ)) where
   sure_from from r x false true = refl
   sure_from from r x false false = x
 
-  sure_rename : (from to : Path) → IsSure (rename_rows rows from to)
+  pub sure_rename : (from to : Path) → IsSure (rename_rows rows from to)
   sure_rename from to =
       let target = target_of (at rows) from to in
       sure_tabled (paths_of rows ++ map (moved_path from (target_of (at rows) from to)) (paths_of rows)) (rename (is_too_deep rows from) (at rows) from to)
       (sure_from from (move_to (is_too_deep rows from (target_of (at rows) from to)) (at rows) from (target_of (at rows) from to))
       (sure_placed (is_too_deep rows from (target_of (at rows) from to)) from (target_of (at rows) from to) (moved from (target_of (at rows) from to) (at rows))) (same_path from []) (is_none (at rows from)))
 
-  sure_snapshot : (from to : Path) → IsSure (snapshot_rows rows from to)
+  pub sure_snapshot : (from to : Path) → IsSure (snapshot_rows rows from to)
   sure_snapshot from to =
       sure_tabled (paths_of rows ++ map (moved_path from to) (paths_of rows)) (snapshot (is_copied_too_deep rows from) (at rows) from to)
       (sure_from from (placed (is_copied_too_deep rows from to) (at rows) from to (copied from to (at rows))) (sure_placed (is_copied_too_deep rows from to) from to (copied from to (at rows))) (same_path from []) (is_none (at rows from)))
 
-  sure_deletes : (p : Path) (recursive : Bool) (moment number : ℕ) → IsSure (deletes rows p recursive moment number)
+  pub sure_deletes : (p : Path) (recursive : Bool) (moment number : ℕ) → IsSure (deletes rows p recursive moment number)
   sure_deletes p recursive moment number = each (same_path p []) (is_none (at rows p)) (not recursive && has_visible rows p)
     where
       hides : Result Answer Refusal
@@ -109,7 +109,7 @@ module _ (rows : Rows (List ℕ)) where
       each false false true = refl
       each false false false = sure_answered (answers.Path (hidden_path p moment number)) (hide_rows rows p moment number) (sure_hide p moment number)
 
-  sure_listed : (p : Path) (o : Option (Entry (List ℕ))) → IsSure (listed rows p o)
+  pub sure_listed : (p : Path) (o : Option (Entry (List ℕ))) → IsSure (listed rows p o)
   sure_listed p None = refl
   sure_listed p (Some Dir) = tt
   sure_listed p (Some (File texts)) = tt

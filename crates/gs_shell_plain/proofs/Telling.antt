@@ -1,6 +1,6 @@
 -- Every server is told how an epoch ended, and answers that it names nothing; the master does nothing with that.
-use Rattle.std.proofs.Common.{arith, ◌≡◌, ◌∙◌, ◌++◌, ◌+◌, ◌-◌, ◌==◌, ◌≤◌, ◌<◌, ℕ, zero, suc, Bool, true, false, cond, List, [], ◌∷◌, length, map, refl, sym, ap, subst}
-use Rattle.std.specs.Prelude.{Option, Some, None, Result, Ok, Err, if◌then◌else◌, filter, slice_get, slice_set}
+use Rattle.std.proofs.Common.{arith, ◌≡◌, ◌∙◌, ◌++◌, ◌+◌, ◌==◌, ℕ, suc, Bool, true, false, cond, List, [], ◌∷◌, length, map, refl, sym, ap, subst}
+use Rattle.std.specs.Prelude.{Option, Some, filter, slice_get, slice_set}
 use Rattle.std.specs.FinMap as fin
 use Rattle.std.specs.List.{AllByRecursion}
 use Rattle.std.specs.Ordering.{nat_cmp}
@@ -16,19 +16,17 @@ use Rattle.gs_master_calm.proofs.Returning.{learned_leaves}
 use Rattle.gs_master_calm.specs.Calm.{IsStill}
 use Rattle.gs_master_spec.specs.Handling.{handle}
 use Rattle.gs_master_spec.specs.State.{State, post}
-use Rattle.gs_master_spec.specs.Upgrades.{tell_all}
 use Rattle.gs_msg.specs.declared.body.Body.TheVariants as bodies
 use Rattle.gs_msg.specs.declared.message.Message.{Message}
 use Rattle.gs_msg.specs.declared.node.NodeId.TheVariants as nodes
 use Rattle.gs_server.specs.Servers.{Server, learn, learned, leases_after, named_at, store_of, with_leases, with_store}
-use Rattle.gs_server.specs.Servers as servers
 use Rattle.gs_server_lease.specs.Leases.{tell}
 use Rattle.gs_store.specs.Learning.{is_named}
 use Rattle.gs_store.specs.Slots.{Slot}
 use Rattle.gs_store.specs.Stores as stores
 use Rattle.gs_store.specs.Stores.{each, gone_on}
 use Rattle.gs_world_laws.specs.Plain.{Plain, delivers}
-use Rattle.gs_shell_plain.proofs.Delivering.{Leads, drops_behind, leads_none, leads_then, none_behind, one_behind, one_step, sends_in, store, to_master}
+use Rattle.gs_shell_plain.proofs.Delivering.{Leads, drops_behind, leads_none, none_behind, one_behind, one_step, sends_in, store, to_master}
 
 -- ---- one server
 
@@ -69,10 +67,10 @@ learns s epoch end at = subst (λ (n : ℕ). Learns s (n + 1) end) at.now (each_
     each_way false false a b = absurd (grind (arith, nat_tests))
     each_way false true a b = record {
       after = ap (λ (b : Bool). (cond b (learned s (s.kept.epoch + 1) end s) (cond (s.kept.epoch + 1 == s.kept.epoch + 1) (learned s (s.kept.epoch + 1) end (gone s (s.kept.epoch + 1) end)) (record { after = s; sent = tell s.me nodes.Master (bodies.Behind s.kept.epoch) ∷ []; said = Some (refusals.Epoch s.kept.epoch) }))).after) a
-        ∙ ap (λ (b : Bool). (cond b (learned s (s.kept.epoch + 1) end (gone s (s.kept.epoch + 1) end)) (record { after = s; sent = tell s.me nodes.Master (bodies.Behind s.kept.epoch) ∷ []; said = Some (refusals.Epoch s.kept.epoch) })).after) b;
+          ∙ ap (λ (b : Bool). (cond b (learned s (s.kept.epoch + 1) end (gone s (s.kept.epoch + 1) end)) (record { after = s; sent = tell s.me nodes.Master (bodies.Behind s.kept.epoch) ∷ []; said = Some (refusals.Epoch s.kept.epoch) })).after) b;
       sent = ap (λ (b : Bool). (cond b (learned s (s.kept.epoch + 1) end s) (cond (s.kept.epoch + 1 == s.kept.epoch + 1) (learned s (s.kept.epoch + 1) end (gone s (s.kept.epoch + 1) end)) (record { after = s; sent = tell s.me nodes.Master (bodies.Behind s.kept.epoch) ∷ []; said = Some (refusals.Epoch s.kept.epoch) }))).sent) a
-        ∙ ap (λ (b : Bool). (cond b (learned s (s.kept.epoch + 1) end (gone s (s.kept.epoch + 1) end)) (record { after = s; sent = tell s.me nodes.Master (bodies.Behind s.kept.epoch) ∷ []; said = Some (refusals.Epoch s.kept.epoch) })).sent) b
-        ∙ ap (λ (names : List ℕ). tell s.me nodes.Master (bodies.Learned (s.kept.epoch + 1) names) ∷ []) (names_nothing (gone s (s.kept.epoch + 1) end) (s.kept.epoch + 1) end (gone_at s (s.kept.epoch + 1) end at.blank).blank);
+          ∙ ap (λ (b : Bool). (cond b (learned s (s.kept.epoch + 1) end (gone s (s.kept.epoch + 1) end)) (record { after = s; sent = tell s.me nodes.Master (bodies.Behind s.kept.epoch) ∷ []; said = Some (refusals.Epoch s.kept.epoch) })).sent) b
+          ∙ ap (λ (names : List ℕ). tell s.me nodes.Master (bodies.Learned (s.kept.epoch + 1) names) ∷ []) (names_nothing (gone s (s.kept.epoch + 1) end) (s.kept.epoch + 1) end (gone_at s (s.kept.epoch + 1) end at.blank).blank);
     }
 
 -- ---- all servers
@@ -113,14 +111,15 @@ module _ (config : Config) (moment : Moment) (held : List Message) (s : State) (
       (next : ℕ) × Leads 1 (store config s (before ++ sv ∷ after) n moment (post (nodes.Server (length before)) (bodies.Epoch (epoch + 1) end) ∷ queue) held drops)
       (store config s (before ++ gone sv (epoch + 1) end ∷ after) n moment (queue ++ answer_of (epoch + 1) sv.me ∷ []) held next)
   one_told before sv after epoch end queue drops at =
-      let l = learns sv epoch end at in
-      (drops_behind (answer_of (epoch + 1) sv.me ∷ []) drops,
-      λ more. one_step config moment held s (before ++ sv ∷ after) n (post (nodes.Server (length before)) (bodies.Epoch (epoch + 1) end)) queue drops more
-      ∙ ap (λ (o : Option Server). delivers more (Rattle.gs_world_laws.specs.Plain.at_found o (length before) (λ (x : Server). learn x (epoch + 1) end) (store config s (before ++ sv ∷ after) n moment queue held drops)).1) (got before sv after)
-      ∙ ap (λ (ms : List Message). delivers more (Rattle.gs_world_laws.specs.Plain.sends_all ms (store config s (slice_set (before ++ sv ∷ after) (length before) (learn sv (epoch + 1) end).after) n moment queue held drops))) l.sent
-      ∙ ap (λ (x : Server). delivers more (Rattle.gs_world_laws.specs.Plain.sends_all (answer_of (epoch + 1) sv.me ∷ []) (store config s (slice_set (before ++ sv ∷ after) (length before) x) n moment queue held drops))) l.after
-      ∙ ap (λ (all : List Server). delivers more (Rattle.gs_world_laws.specs.Plain.sends_all (answer_of (epoch + 1) sv.me ∷ []) (store config s all n moment queue held drops))) (put before sv (gone sv (epoch + 1) end) after)
-      ∙ ap (delivers more) (sends_in config moment held (answer_of (epoch + 1) sv.me ∷ []) s (before ++ gone sv (epoch + 1) end ∷ after) n queue drops))
+      let l = learns sv epoch end at in (
+        drops_behind (answer_of (epoch + 1) sv.me ∷ []) drops,
+        λ more. one_step config moment held s (before ++ sv ∷ after) n (post (nodes.Server (length before)) (bodies.Epoch (epoch + 1) end)) queue drops more
+            ∙ ap (λ (o : Option Server). delivers more (Rattle.gs_world_laws.specs.Plain.at_found o (length before) (λ (x : Server). learn x (epoch + 1) end) (store config s (before ++ sv ∷ after) n moment queue held drops)).1) (got before sv after)
+            ∙ ap (λ (ms : List Message). delivers more (Rattle.gs_world_laws.specs.Plain.sends_all ms (store config s (slice_set (before ++ sv ∷ after) (length before) (learn sv (epoch + 1) end).after) n moment queue held drops))) l.sent
+            ∙ ap (λ (x : Server). delivers more (Rattle.gs_world_laws.specs.Plain.sends_all (answer_of (epoch + 1) sv.me ∷ []) (store config s (slice_set (before ++ sv ∷ after) (length before) x) n moment queue held drops))) l.after
+            ∙ ap (λ (all : List Server). delivers more (Rattle.gs_world_laws.specs.Plain.sends_all (answer_of (epoch + 1) sv.me ∷ []) (store config s all n moment queue held drops))) (put before sv (gone sv (epoch + 1) end) after)
+            ∙ ap (delivers more) (sends_in config moment held (answer_of (epoch + 1) sv.me ∷ []) s (before ++ gone sv (epoch + 1) end ∷ after) n queue drops),
+      )
 
   -- all behind some are told
   pub all_told : (before todo : List Server) (epoch : ℕ) (end : EpochEnd) (first : ℕ) (queue : List Message) (drops : ℕ) → first ≡ length before → AllByRecursion (IsAt epoch) todo →
@@ -129,16 +128,18 @@ module _ (config : Config) (moment : Moment) (held : List Message) (s : State) (
   all_told before [] epoch end first queue drops is at = (drops, λ more. leads_none (store config s (before ++ []) n moment queue held drops) more ∙ ap (λ q. delivers more (store config s (before ++ []) n moment q held drops)) (sym (none_behind queue)))
   all_told before (sv ∷ todo) epoch end first queue drops is at =
       let one = one_told before sv todo epoch end (told_from (first + 1) (epoch + 1) end (length todo) ++ queue) drops at.0 in
-      let rest = all_told (before ++ gone sv (epoch + 1) end ∷ []) todo epoch end (first + 1) (queue ++ answer_of (epoch + 1) sv.me ∷ []) one.0 (ap (λ k. k + 1) is ∙ sym (longer before (gone sv (epoch + 1) end))) at.1 in
-      (rest.0, λ more.
-        ap (λ k. delivers k (store config s (before ++ sv ∷ todo) n moment (told_from first (epoch + 1) end (length (sv ∷ todo)) ++ queue) held drops)) (counts more)
-        ∙ ap (λ k. delivers (1 + (length todo + more)) (store config s (before ++ sv ∷ todo) n moment (post (nodes.Server k) (bodies.Epoch (epoch + 1) end) ∷ (told_from (first + 1) (epoch + 1) end (length todo) ++ queue)) held drops)) is
-        ∙ one.1 (length todo + more)
-        ∙ ap (λ q. delivers (length todo + more) (store config s (before ++ gone sv (epoch + 1) end ∷ todo) n moment q held one.0)) (joins (told_from (first + 1) (epoch + 1) end (length todo)) queue (answer_of (epoch + 1) sv.me ∷ []))
-        ∙ ap (λ all. delivers (length todo + more) (store config s all n moment (told_from (first + 1) (epoch + 1) end (length todo) ++ (queue ++ answer_of (epoch + 1) sv.me ∷ [])) held one.0)) (sym (one_behind before (gone sv (epoch + 1) end) todo))
-        ∙ rest.1 more
-        ∙ ap (λ all. delivers more (store config s all n moment ((queue ++ answer_of (epoch + 1) sv.me ∷ []) ++ answers_of (epoch + 1) todo) held rest.0)) (one_behind before (gone sv (epoch + 1) end) (all_gone todo (epoch + 1) end))
-        ∙ ap (λ q. delivers more (store config s (before ++ gone sv (epoch + 1) end ∷ all_gone todo (epoch + 1) end) n moment q held rest.0)) (one_behind queue (answer_of (epoch + 1) sv.me) (answers_of (epoch + 1) todo)))
+      let rest = all_told (before ++ gone sv (epoch + 1) end ∷ []) todo epoch end (first + 1) (queue ++ answer_of (epoch + 1) sv.me ∷ []) one.0 (ap (λ k. k + 1) is ∙ sym (longer before (gone sv (epoch + 1) end))) at.1 in (
+        rest.0,
+        λ more.
+            ap (λ k. delivers k (store config s (before ++ sv ∷ todo) n moment (told_from first (epoch + 1) end (length (sv ∷ todo)) ++ queue) held drops)) (counts more)
+            ∙ ap (λ k. delivers (1 + (length todo + more)) (store config s (before ++ sv ∷ todo) n moment (post (nodes.Server k) (bodies.Epoch (epoch + 1) end) ∷ (told_from (first + 1) (epoch + 1) end (length todo) ++ queue)) held drops)) is
+            ∙ one.1 (length todo + more)
+            ∙ ap (λ q. delivers (length todo + more) (store config s (before ++ gone sv (epoch + 1) end ∷ todo) n moment q held one.0)) (joins (told_from (first + 1) (epoch + 1) end (length todo)) queue (answer_of (epoch + 1) sv.me ∷ []))
+            ∙ ap (λ all. delivers (length todo + more) (store config s all n moment (told_from (first + 1) (epoch + 1) end (length todo) ++ (queue ++ answer_of (epoch + 1) sv.me ∷ [])) held one.0)) (sym (one_behind before (gone sv (epoch + 1) end) todo))
+            ∙ rest.1 more
+            ∙ ap (λ all. delivers more (store config s all n moment ((queue ++ answer_of (epoch + 1) sv.me ∷ []) ++ answers_of (epoch + 1) todo) held rest.0)) (one_behind before (gone sv (epoch + 1) end) (all_gone todo (epoch + 1) end))
+            ∙ ap (λ q. delivers more (store config s (before ++ gone sv (epoch + 1) end ∷ all_gone todo (epoch + 1) end) n moment q held rest.0)) (one_behind queue (answer_of (epoch + 1) sv.me) (answers_of (epoch + 1) todo)),
+      )
     where
       counts : (more : ℕ) → length (sv ∷ todo) + more ≡ 1 + (length todo + more)
       counts more = omega arith
@@ -155,14 +156,16 @@ module _ (config : Config) (moment : Moment) (held : List Message) (s : State) (
   answers_come all (sv ∷ told) epoch drops still is =
       let heard = to_master config moment held s all n (nodes.Server sv.me) (bodies.Learned epoch []) (answers_of epoch told) drops in
       let leaves = subst (λ (e : ℕ). ((handle config s (record { from = nodes.Server sv.me; to = nodes.Master; body = bodies.Learned e [] }) moment).after ≡ s) × ((handle config s (record { from = nodes.Server sv.me; to = nodes.Master; body = bodies.Learned e [] }) moment).sent ≡ [])) is (learned_leaves config s moment sv.me nodes.Master still) in
-      let rest = answers_come all told epoch heard.0 still is in
-      (rest.0, λ more.
-        ap (λ k. delivers k (store config s all n moment (answers_of epoch (sv ∷ told)) held drops)) (counts more)
-        ∙ heard.1 (length told + more)
-        ∙ ap (λ (t : State). delivers (length told + more) (store config t all n moment (answers_of epoch told ++ (handle config s (record { from = nodes.Server sv.me; to = nodes.Master; body = bodies.Learned epoch [] }) moment).sent) held heard.0)) leaves.0
-        ∙ ap (λ (ms : List Message). delivers (length told + more) (store config s all n moment (answers_of epoch told ++ ms) held heard.0)) leaves.1
-        ∙ ap (λ q. delivers (length told + more) (store config s all n moment q held heard.0)) (none_behind (answers_of epoch told))
-        ∙ rest.1 more)
+      let rest = answers_come all told epoch heard.0 still is in (
+        rest.0,
+        λ more.
+            ap (λ k. delivers k (store config s all n moment (answers_of epoch (sv ∷ told)) held drops)) (counts more)
+            ∙ heard.1 (length told + more)
+            ∙ ap (λ (t : State). delivers (length told + more) (store config t all n moment (answers_of epoch told ++ (handle config s (record { from = nodes.Server sv.me; to = nodes.Master; body = bodies.Learned epoch [] }) moment).sent) held heard.0)) leaves.0
+            ∙ ap (λ (ms : List Message). delivers (length told + more) (store config s all n moment (answers_of epoch told ++ ms) held heard.0)) leaves.1
+            ∙ ap (λ q. delivers (length told + more) (store config s all n moment q held heard.0)) (none_behind (answers_of epoch told))
+            ∙ rest.1 more,
+      )
     where
       counts : (more : ℕ) → length (sv ∷ told) + more ≡ 1 + (length told + more)
       counts more = omega arith
