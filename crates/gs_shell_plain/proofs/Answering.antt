@@ -1,5 +1,5 @@
 -- A script of lines of the tree and of an upgrade, line by line.
-use Rattle.std.proofs.Common.{◌≡◌, ◌⊎◌, inl, inr, ◌∙◌, ℕ, Bool, true, false, List, [], ◌∷◌, length, nat_le, refl, ap, subst}
+use Rattle.std.proofs.Common.{◌≡◌, ◌⊎◌, inl, inr, ◌∙◌, ℕ, Bool, true, false, List, [], ◌∷◌, length, take, nat_le, refl, ap, subst, zero, suc}
 use Rattle.std.specs.Prelude.{Err, Option, Some, None, if◌then◌else◌}
 use Rattle.std.specs.List.{AllByRecursion}
 use Rattle.std.proofs.lemmas.Bool.{false≢true}
@@ -102,14 +102,17 @@ module _ (config : Config) (m : Machine) (w : PlainDesk) (st : Standing config m
       each true is room = by_request (line_request (content whole)) (λ r h. line_spoken (content whole) r h) is room
       each false is room = (refl, st)
 
-all_go : (config : Config) (whole : List (List ℕ)) (m : Machine) (w : PlainDesk) → Standing config m w → AllByRecursion (λ line. is_plain_line line ≡ true) whole → AllByRecursion HasRoom (answers_all whole w).0 → (answers_all whole w).0 ≡ machine_answers whole m
-all_go config [] m w st are room = refl
-all_go config (line ∷ whole) m w st are room =
+all_go : (config : Config) (many : ℕ) (whole : List (List ℕ)) (m : Machine) (w : PlainDesk) → Standing config m w → AllByRecursion (λ line. is_plain_line line ≡ true) (take many whole) →
+    AllByRecursion HasRoom (take many (answers_all whole w).0) → take many (answers_all whole w).0 ≡ machine_answers (take many whole) m
+all_go config zero [] m w st are room = refl
+all_go config zero (line ∷ whole) m w st are room = refl
+all_go config (suc many) [] m w st are room = refl
+all_go config (suc many) (line ∷ whole) m w st are room =
     let one = line_goes config m w st line are.0 room.0 in
-    ap (λ text. text ∷ (answers_all whole (answers_line line w).1).0) one.0
-    ∙ ap (λ texts. answer_text (comes (asked_in line) m).0 ∷ texts) (all_go config whole (comes (asked_in line) m).1 (answers_line line w).1 one.1 are.1 room.1)
+    ap (λ text. text ∷ take many (answers_all whole (answers_line line w).1).0) one.0
+    ∙ ap (λ texts. answer_text (comes (asked_in line) m).0 ∷ texts) (all_go config many whole (comes (asked_in line) m).1 (answers_line line w).1 one.1 are.1 room.1)
 
 pub scripts_are_plain : {D : Type 0} (seen : D → List ℕ) (failures : D → ℕ) (config : Config) (disks : D × D) → ScriptsArePlain seen failures config disks
-scripts_are_plain seen failures config disks input old new s well are room =
+scripts_are_plain seen failures config disks input old new s well many are room =
     let is = (script_is_answered seen failures config disks well.empty.0 well.empty.1 input old new s well).0 in
-    is ∙ all_go config (lines_of input) new_machine (begins config) (begins_standing config) are (subst (AllByRecursion HasRoom) is room)
+    ap (take many) is ∙ all_go config many (lines_of input) new_machine (begins config) (begins_standing config) are (subst (λ texts. AllByRecursion HasRoom (take many texts)) is room)

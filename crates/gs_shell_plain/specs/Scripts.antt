@@ -1,5 +1,5 @@
 -- What scripts of lines of the tree and of an upgrade are answered.
-use Rattle.std.specs.Prelude.{◌≡◌, ◌≢◌, List, Option, true, ℕ}
+use Rattle.std.specs.Prelude.{◌≡◌, ◌≢◌, List, Option, take, true, ℕ}
 use Rattle.std.specs.List.{AllByRecursion}
 use Rattle.gs_base.specs.Refusals.{refusal_text}
 use Rattle.gs_base.specs.declared.config.Config.{Config}
@@ -13,7 +13,9 @@ use Rattle.gs_shell_plain.specs.Machines.{is_plain_line, machine_answers, new_ma
 abbrev pub HasRoom : List ℕ → Type 0
 HasRoom text = (text ≢ refusal_text refusals.Full) × (text ≢ refusal_text refusals.Exhausted)
 
--- Such a script is answered by the program, over empty disks, and where memory isn't wanting and no disk fails, as the plain machine answers it.
+-- What so many lines are answered, if they are all of the tree and of an upgrade and each answer has room: what the plain machine answers, by the program over empty disks, and where memory isn't
+-- wanting and no disk fails. What the lines behind them are, and are answered, is nothing to it; and where there are no more lines it is all that is written.
 abbrev pub ScriptsArePlain : {D : Type 0} → (D → List ℕ) → (D → ℕ) → Config → D × D → Type 0
 ScriptsArePlain seen failures config disks = (input : List ℕ) (old new : Option (List ℕ)) (s : Serves seen failures config disks input old new) → RunsWell seen failures config disks input old new s →
-    AllByRecursion (λ whole. is_plain_line whole ≡ true) (lines_of input) → AllByRecursion HasRoom s.writes.texts → s.writes.texts ≡ machine_answers (lines_of input) new_machine
+    (many : ℕ) → AllByRecursion (λ whole. is_plain_line whole ≡ true) (take many (lines_of input)) → AllByRecursion HasRoom (take many s.writes.texts) →
+    take many s.writes.texts ≡ machine_answers (take many (lines_of input)) new_machine

@@ -1,13 +1,13 @@
-//! What scripts of lines of the tree and of an upgrade are answered is what a plain machine answers, which copies the whole tree.
+//! What lines of the tree and of an upgrade are answered, at the beginning of a script, is what a plain machine answers, which copies the whole tree.
 #![tactic(auto)]
 
 ghost use Rattle.std.specs.Prelude.{ℕ, List};
 ghost use Rattle.gs_base.specs.declared.config.Config.{Config};
 ghost use Rattle.gs_shell_plain.specs.Scripts.{ScriptsArePlain};
 
-/// A script of lines of the tree and of an upgrade is answered by `run` as the plain machine answers it, line for line: over empty disks, where memory isn't wanting and no disk fails, and where no answer is that
-/// there is no room, or that a counter has no value left. The machine has a tree of names and texts, of which a prepare keeps a copy, and a rollback puts that back: it has no handles, counts, replicas, stamps,
-/// journal or inverses.
+/// So long as the lines of a script are of the tree (`mkdir`, `create`, `ls`, `mv`, `rm`, `undelete`, `snapshot`), of an upgrade (`rollingUpgrade` with each of its four words), `at`, or bad, and no answer is that
+/// there is no room (30) or that a counter has no value left (31), `run` answers them as the plain machine does, line for line: over empty disks, and where memory isn't wanting and neither a disk nor a read or a write
+/// fails. The machine has a tree of names and texts, of which a prepare keeps a copy, and a rollback puts that back: it has no handles, counts, replicas, stamps, journal or inverses.
 pub fn scripts_are_answered_as_by_the_plain_machine<D>()
     ensures { (seen : D → List ℕ) (failures : D → ℕ) (config : Config) (disks : D × D) → ScriptsArePlain seen failures config disks }
 {}

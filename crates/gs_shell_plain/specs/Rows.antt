@@ -1,0 +1,50 @@
+-- Worked: a script of the tree with an upgrade that is rolled back, line by line.
+use Rattle.std.specs.Prelude.{[], ◌∷◌, ◌≡◌, List, codes, refl, ℕ}
+use Rattle.std.specs.Char.{encode_utf8}
+use Rattle.std.specs.Fmt.{digits}
+use Rattle.std.specs.Str.{chars, is_utf8}
+use Rattle.gs_path.specs.Element.{twenty_digits}
+use Rattle.gs_shell_grammar.specs.Grammar.{number_line, three_words, two_words, upgrade_line}
+use Rattle.gs_shell_plain.specs.Machines.{machine_answers, new_machine}
+
+abbrev script : List (List ℕ)
+script =
+    codes "mkdir /photos/2024"
+    ∷ codes "create /photos/2024/beach"
+    ∷ codes "create /notes"
+    ∷ codes "rollingUpgrade prepare"
+    ∷ codes "mv /notes /photos"
+    ∷ codes "at 7"
+    ∷ codes "rm -r /photos/2024"
+    ∷ codes "ls /photos"
+    ∷ codes "ls /photos/2024"
+    ∷ codes "rollingUpgrade query"
+    ∷ codes "rollingUpgrade rollback"
+    ∷ codes "ls /"
+    ∷ codes "snapshot /photos /copies"
+    ∷ codes "rm -r /photos"
+    ∷ codes "ls /copies/2024"
+    ∷ []
+
+abbrev answers : List (List ℕ)
+answers =
+    codes "ok"
+    ∷ codes "ok"
+    ∷ codes "ok"
+    ∷ codes "ok 1"
+    ∷ codes "ok"
+    ∷ codes "ok"
+    ∷ codes "ok /photos/.deleted.00000000000000000007.00000000000000000001.2024"
+    ∷ codes "ok notes"
+    ∷ codes "refused 3 NotFound"
+    ∷ codes "ok upgrade 1"
+    ∷ codes "ok 2"
+    ∷ codes "ok notes photos/"
+    ∷ codes "ok"
+    ∷ codes "ok /.deleted.00000000000000000007.00000000000000000002.photos"
+    ∷ codes "ok beach"
+    ∷ []
+
+they_are_answered_so : machine_answers script new_machine ≡ answers
+unfolding two_words three_words upgrade_line number_line is_utf8 chars encode_utf8 digits twenty_digits
+they_are_answered_so = refl
