@@ -17,7 +17,8 @@ pub fn edits_are_commands()
 {}
 
 /// Each record that isn't a checkpoint leads, where what is durable stands, as its command, or changes nothing where it is none: from the tree with texts,
-/// and while an upgrade stands with the tree to which what takes edits back leads, to that behind it. So does a checkpoint that tells what it meets. So do many, one after the other.
+/// and while an upgrade stands with the tree to which what takes edits back leads, to that behind it; where a chunk that is added has no text, and one that takes the place of another
+/// has the other's. So does a checkpoint that tells what it meets. So do many, one after the other.
 pub fn records_are_commands()
     ensures each { (entry : PlainEntry) → RecordIsCommand entry }
     ensures all { RecordsAreCommands }
