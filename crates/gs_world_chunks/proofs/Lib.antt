@@ -61,3 +61,4 @@ mod KeepingReplicas
 mod SurvivedOn
 mod Answering
 mod Accepted
+pub mod Through

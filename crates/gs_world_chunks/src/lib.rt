@@ -7,6 +7,7 @@ ghost use Rattle.std.specs.Prelude.{List, ℕ, ◌≡◌, Bool, [], true};
 ghost use Rattle.gs_base.specs.declared.config.Config.{Config};
 ghost use Rattle.gs_base.specs.declared.numbers.ReqId.{ReqId};
 ghost use Rattle.gs_world_chunks.specs.Running.{Setup, BlocksAmong, FirstIsOne, HaveAccounts, NextIsOne, ReachedStaySound};
+ghost use Rattle.gs_world_chunks.specs.Through.{HaveAccountsThrough, NextIsOneThrough, SoundAreThrough};
 ghost use Rattle.gs_world_chunks.specs.Agreeing.{BirthsAgree, BlanksStay, ListsStayOn, MastersAgree, MastersKeepLists, ServersAgree, ServersKeepLists, StillAgree, StillKeepsLists};
 ghost use Rattle.gs_world_chunks.specs.Reached.{EachIsARun, EachLeadsOn};
 ghost use Rattle.gs_world_chunks.specs.Copying.{CopiesAreOfViews, CopiesInherit};
@@ -32,6 +33,14 @@ pub fn runs_have_accounts<D>()
     ensures some { (x : Setup D) → HaveAccounts x }
     ensures first { (x : Setup D) → FirstIsOne x }
     ensures next { (x : Setup D) → NextIsOne x }
+{}
+
+/// So has each run in which disks of the master fail, in its restarts or at its records, as often as they may: once one has failed the account goes by what the disks tell, which is
+/// one thing. Where none fails it is the same account.
+pub fn runs_have_accounts_whatever_disks_fail<D>()
+    ensures some { (x : Setup D) → HaveAccountsThrough x }
+    ensures next { (x : Setup D) → NextIsOneThrough x }
+    ensures sound { (x : Setup D) → SoundAreThrough x }
 {}
 
 /// Behind each run the master stands firm, or its disks wait and tell one; all that was sent keeps to its types; and the run is one in which no disk fails.

@@ -292,7 +292,7 @@ module _ (keeps : ℕ → Bool) (whole : ℕ → ℕ → Bool) (heard : Heard) (
     heard_there chunk = family_hears keeps whole s u sent family f heard hears chunk
 
     -- one chunk
-    next : (chunk : ℕ) (m : Life chunk u) → HeardOf chunk u heard m → Life chunk again
+    abbrev next : (chunk : ℕ) (m : Life chunk u) → HeardOf chunk u heard m → Life chunk again
     next chunk (Unborn k) was = Unborn (r.unborn chunk k).0
     next chunk (Alive b) was =
         let x = r.reaches chunk b.world b.shows was in
@@ -398,6 +398,7 @@ module _ (keeps : ℕ → Bool) (whole : ℕ → ℕ → Bool) (heard : Heard) (
 
     pub all_rows : IsLinked u.durable d → EpochGoes s.durable d → rolls_back s.durable d ≡ false → (prepares s.durable d ≡ true → MayPrepare s) → ((chunk : ℕ) → RowGoes s u chunk) → ((chunk : ℕ) → UnledIn chunk s u (family chunk) (f.last chunk))
         → ((chunk : ℕ) → LateIn chunk s u d (family chunk) (f.last chunk)) → FamilyRows keeps whole s again messages family
+    unfolding all_goes
     all_rows links epochs none may row unled late = record {
       goes = all_goes;
       rows = λ chunk. rows_in links epochs none may chunk (row chunk) (family chunk) (f.last chunk) (heard_there chunk) (f.goes chunk) (unled chunk) (late chunk);
@@ -445,7 +446,7 @@ module _ (keeps : ℕ → Bool) (whole : ℕ → ℕ → Bool) (heard : Heard) (
             record { before = t; chain = chain; restarts = restarts_still heard t.after d log kept left; links = linked_still t.after.durable d left }
 
   module _ (config : Config) where
-    Calm : State → Move → Type 0
+    abbrev Calm : State → Move → Type 0
     Calm u move = IsMadeWell config heard u move × (is_alone move ≡ false)
 
     scans_alone : (move : Move) → is_alone move ≡ false → is_scan move ≡ false
@@ -524,7 +525,7 @@ module _ (keeps : ℕ → Bool) (whole : ℕ → ℕ → Bool) (heard : Heard) (
         above later = let within = ((reached_world a.world a.reached).known).viewtop in let view = x.known.view in omega arith
 
     part_rows : (move : Move) (many : ℕ) → IsMadeWell config heard s move → is_alone move ≡ true → IsPartOf config heard s d many move → FamilyRows keeps whole s again messages family
-    unfolding family_still
+    unfolding family_still all_goes
     part_rows move many well alone part = record { goes = all_goes s [] still r; rows = λ chunk. rows_there chunk (family chunk) (heard_there s [] still r chunk) }
       where
         still : FamilyGoes keeps whole s s [] family
@@ -567,6 +568,7 @@ module _ (keeps : ℕ → Bool) (whole : ℕ → ℕ → Bool) (heard : Heard) (
 
       -- a rollback is committed
       committed_rows : is_commit move ≡ true → behind.durable ≡ d → FamilyRows keeps whole s again messages family
+      unfolding all_goes
       committed_rows is same = record { goes = all_goes behind sent_by f.goes r; rows = λ chunk. rows_there chunk (family chunk) (f.goes.last chunk) (heard_there behind sent_by f.goes r chunk) (f.goes.goes chunk) (f.alone chunk) }
         where
           f : AloneFamily keeps whole move s behind sent_by family

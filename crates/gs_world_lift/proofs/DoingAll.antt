@@ -158,9 +158,6 @@ either P true t u one other = one
 either P false t u one other = other
 
 module _ (config : Config) (s : State) (moment : Moment) (failed : is_failed s.fault ≡ true) where
-  Replies : Turn → Type 0
-  Replies t = AreReplies t.sent
-
   taken : (req : ReqId) (call : Call) (n : Numbered) → AreReplies (taken_as config s req moment call n).sent
   taken req call New =
       subst (λ b. AreReplies (called_unless config s req moment call (first_of (ordered b (is_rolling s.durable.phase) s.volatile.is_preparing (is_locked s req call) call))).sent) (sym failed) (tt, tt)
