@@ -5,6 +5,7 @@ use Rattle.std.specs.FinMap as fin
 use Rattle.std.specs.List.{AllByRecursion, list_all}
 use Rattle.std.proofs.lemmas.Bool.{and_parts, false≢true, true≢false}
 use Rattle.std.proofs.lemmas.Bool.Decides.{nat_tests}
+use Rattle.std.proofs.Math.Seq.{take-append-add}
 use Rattle.std.proofs.lemmas.List.{length-append, take-append-le, take_all}
 use Rattle.gs_base.specs.Members.{is_member}
 use Rattle.gs_base.specs.Told.{IsNumber}
@@ -24,6 +25,7 @@ use Rattle.gs_msg.specs.declared.body.Body.{Body}
 use Rattle.gs_msg.specs.declared.body.Body.TheVariants as bodies
 use Rattle.gs_msg.specs.declared.message.Message.{Message}
 use Rattle.gs_msg.specs.declared.node.NodeId.{NodeId}
+use Rattle.gs_msg.specs.declared.node.NodeId.TheVariants as nodes
 use Rattle.gs_master_entry.proofs.Calm.{AloneFamily, AloneIn, CalmIn, each_closing, each_made, families_alone, families_calm, families_close, none_commits, unmoved_unled}
 use Rattle.gs_master_entry.proofs.Cutting.{has_many, part_reached, settles_cut, started_again}
 use Rattle.gs_master_entry.proofs.Ending.{answer_both, scan_keeps}
@@ -107,6 +109,7 @@ reply_copies : (s : State) (family : Family s) (to : NodeId) (body : Body) → I
 reply_copies s family to (bodies.Reply req result) is = by_to to
   where
     by_to : (to : NodeId) → CopiesTo s family to (bodies.Reply req result)
+    by_to (nodes.Server me) = tt
     by_to to = tt
 reply_copies s family to body is = absurd is
 
@@ -759,18 +762,20 @@ module _ (keeps : ℕ → Bool) (whole : ℕ → ℕ → Bool) (heard : Heard) (
         by_place false more =
             let above : length xs ≤ many = grind (arith, nat_tests) in
             let rest = many - length xs in
-            let is_rest : many ≡ length xs + rest = omega arith in
-            let taken : take many (xs ++ ys) ≡ xs ++ take rest ys = ap (λ n. take n (xs ++ ys)) is_rest ∙ take_behind xs ys rest in
+            let is_rest = back_again many (length xs) above in
+            let taken : take many (xs ++ ys) ≡ xs ++ take rest ys = ap (λ n. take n (xs ++ ys)) is_rest ∙ take-append-add xs ys rest in
             let parts = split xs (take rest ys) s.durable d (ap (replayed s.durable) (sym taken) ∙ fit) in
             let t = record (move_turn config s move) { said = None } in
             let left = chain_leaves config heard (IsMadeWell config heard) (λ v m made. made.made.may) s t parts.mid (Moves s move None well) parts.first in
-            let rest_within : rest ≤ length ys = (let all = length-append xs ys in omega arith) in
+            let rest_within = less_rest many (length xs) (length ys) (length (xs ++ ys)) within (length-append xs ys) in
             let front = closing_front move well alone (move_turn config s move).after next rest chain rest_within (subst (λ m. replayed m (take rest ys) ≡ Some d) (sym left) parts.then) in
             closed_rows move well alone is said front.0 front.1 front.2
           where
-            take_behind : (xs ys : List PlainEntry) (n : ℕ) → take (length xs + n) (xs ++ ys) ≡ xs ++ take n ys
-            take_behind [] ys n = refl
-            take_behind (x ∷ xs) ys n = ap (λ l. x ∷ l) (take_behind xs ys n)
+            back_again : (n m : ℕ) → m ≤ n → n ≡ m + (n - m)
+            back_again n m least = omega arith
+
+            less_rest : (n a b all : ℕ) → n ≤ all → all ≡ a + b → n - a ≤ b
+            less_rest n a b all within both = omega arith
 
 -- So it is of each turn that ends one epoch at most.
 pub cut_rows : (keeps : ℕ → Bool) (whole : ℕ → ℕ → Bool) (config : Config) (heard : Heard) (s : State) (t : Turn) (many : ℕ) (d : Durable) (log : Log) (messages : List Message) (family : Family s) → ((chunk : ℕ) → HeardOf chunk s heard (family chunk)) → ((chunk : ℕ) → MarksOf chunk s (whole chunk) (family chunk))
