@@ -373,9 +373,9 @@ module _ (keeps : ℕ → Bool) (whole : ℕ → ℕ → Bool) (heard : Heard) (
           by_listed true is = absurd (false≢true (sym unknown ∙ shows.entry.durable.listed is))
           by_listed false is = refl
 
-      fades : (b : IsAlive chunk u) (x : Reaches chunk b.world again) (low : ℕ) → (low < b.world.known.view → is_listed u.durable chunk ≡ false → b.world.entry.view.holder ≡ None) → IsReached x.world → Shows chunk again x.world
+      unled_fades : (b : IsAlive chunk u) (x : Reaches chunk b.world again) (low : ℕ) → (low < b.world.known.view → is_listed u.durable chunk ≡ false → b.world.entry.view.holder ≡ None) → IsReached x.world → Shows chunk again x.world
           → x.world.entry.is_known ≡ false → low < x.world.known.view → x.world.known.holder x.world.known.view ≡ None
-      fades b x low unled reached shows unknown later =
+      unled_fades b x low unled reached shows unknown later =
           let known = agrees x.world (reached_world x.world reached) in
           ap x.world.known.holder known.view ∙ known.holder ∙ ap (λ (view : machine.View). view.holder) x.view ∙ unled (subst (λ n. low < n) x.known.view later) (out_of x.world shows unknown)
 
@@ -385,7 +385,7 @@ module _ (keeps : ℕ → Bool) (whole : ℕ → ℕ → Bool) (heard : Heard) (
           let shows : Shows chunk again x.world = record { entry = x.shows; said = starts_so (Says chunk x.world) d log chunk } in
           let reached : IsReached x.world = (b.reached.0, leads_on (world_of b.reached.0) b.world x.world b.reached.1 x.leads) in (
             rows_go chunk s again a.world x.world (leads_on a.world b.world x.world goes.leads x.leads) (masters_on a.world b.world x.world goes.leads x.leads goes.masters x.masters) a.reached a.shows shows epochs none row_again
-                (fades b x a.world.known.view unled reached shows) may,
+                (unled_fades b x a.world.known.view unled reached shows) may,
             all_copied chunk a.world.known.view a.world.entry.is_known x.world,
           )
       rows_in (Unborn k) (Alive b) was goes unled late =
@@ -394,12 +394,12 @@ module _ (keeps : ℕ → Bool) (whole : ℕ → ℕ → Bool) (heard : Heard) (
           let reached : IsReached x.world = (b.reached.0, leads_on (world_of b.reached.0) b.world x.world b.reached.1 x.leads) in
           let born =
           rows_born chunk s.durable again b.reached.0 x.world (leads_on (world_of b.reached.0) b.world x.world goes.leads x.leads) (masters_on (world_of b.reached.0) b.world x.world goes.leads x.leads goes.masters x.masters) shows k.ungiven late.0 epochs none late.1 row_again.row
-          (fades b x (world_of b.reached.0).known.view unled reached shows) in
+          (unled_fades b x (world_of b.reached.0).known.view unled reached shows) in
           (born.0, born.1, all_copied chunk 0 true x.world)
       rows_in (Alive a) (Unborn m) was goes unled late = absurd goes
       rows_in (Unborn k) (Unborn m) was goes unled late = tt
 
-    pub all_rows : IsLinked u.durable d → EpochGoes s.durable d → rolls_back s.durable d ≡ false → (prepares s.durable d ≡ true → MayPrepare s) → ((chunk : ℕ) → RowGoes s u chunk) → ((chunk : ℕ) → UnledIn chunk s u (family chunk) (f.last chunk))
+    all_rows : IsLinked u.durable d → EpochGoes s.durable d → rolls_back s.durable d ≡ false → (prepares s.durable d ≡ true → MayPrepare s) → ((chunk : ℕ) → RowGoes s u chunk) → ((chunk : ℕ) → UnledIn chunk s u (family chunk) (f.last chunk))
         → ((chunk : ℕ) → LateIn chunk s u d (family chunk) (f.last chunk)) → FamilyRows keeps whole s again messages family
     unfolding all_goes
     all_rows links epochs none may row unled late = record {
@@ -768,9 +768,12 @@ module _ (keeps : ℕ → Bool) (whole : ℕ → ℕ → Bool) (heard : Heard) (
             let t = record (move_turn config s move) { said = None } in
             let left = chain_leaves config heard (IsMadeWell config heard) (λ v m made. made.made.may) s t parts.mid (Moves s move None well) parts.first in
             let rest_within = less_rest many (length xs) (length ys) (length (xs ++ ys)) within (length-append xs ys) in
-            let front = closing_front move well alone (move_turn config s move).after next rest chain rest_within (subst (λ m. replayed m (take rest ys) ≡ Some d) (sym left) parts.then) in
+            let front = closing_front move well alone (move_turn config s move).after next rest chain rest_within (fit_there (move_turn config s move).after.durable parts.mid (take rest ys) left parts.then) in
             closed_rows move well alone is said front.0 front.1 front.2
           where
+            fit_there : (u mid : Durable) (es : List PlainEntry) → u ≡ mid → replayed mid es ≡ Some d → replayed u es ≡ Some d
+            fit_there u mid es same fit = subst (λ m. replayed m es ≡ Some d) (sym same) fit
+
             back_again : (n m : ℕ) → m ≤ n → n ≡ m + (n - m)
             back_again n m least = omega arith
 
