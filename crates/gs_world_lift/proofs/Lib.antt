@@ -37,3 +37,4 @@ pub mod CutRows
 pub mod DoingAll
 pub mod Turns
 pub mod SteppingAll
+pub mod TellingAll

@@ -63,7 +63,7 @@ replies_there messages replies = replies_so (λ (m : Message). ReplyThere m.body
     by_body (bodies.Reply req result) is = tt
     by_body body is = absurd is
 
-replies_of_master : (messages : List Message) → AreReplies messages → AreOfMaster messages
+pub replies_of_master : (messages : List Message) → AreReplies messages → AreOfMaster messages
 replies_of_master [] replies = tt
 replies_of_master (m ∷ messages) replies = (by_body m.body replies.0, replies_of_master messages replies.1)
   where
@@ -122,6 +122,12 @@ module _ {D : Type 0} (seen : D → List ℕ) (config : Config) (bytes : ReqId �
 
 -- ---- a step
 
+-- while no disk has failed all is left
+pub left_still : {D : Type 0} (seen : D → List ℕ) (place : MasterPlace D) → Lasts seen place → as_left place ≡ place
+left_still seen (Standing m) lasts = ap (λ b. left_of b m) lasts.sound
+left_still seen (Closed first second) lasts = refl
+left_still seen Away lasts = refl
+
 module _ {D : Type 0} (seen : D → List ℕ) (failures : D → ℕ) (armed : DiskId → ℕ → MasterPlace D → MasterPlace D) (config : Config) (bytes : ReqId → List ℕ) (among : List ℕ → Bool) where
   kind_next : IsSetUp seen failures armed config bytes among → (step : Step) (old new : History D) (lives : StoreLives seen config bytes among (left_in old)) (kind : Kind seen failures armed step old new) → Lasts seen (as_left new.nodes.master)
       → ((chunk : ℕ) → AllAmong among config.block chunk new.nodes.servers) → AllSent (PushRight bytes) new.sent → AllNext seen config bytes among step (heard_in seen failures armed kind) (left_in old) (left_in new) lives
@@ -156,11 +162,11 @@ module _ {D : Type 0} (seen : D → List ℕ) (failures : D → ℕ) (armed : Di
   -- ---- a run
 
   -- what was sent stays so
-  lasting_stays : (steps : List Step) (old new : History D) → RunsLasting seen failures armed steps old new → StaySent old.sent new.sent
+  pub lasting_stays : (steps : List Step) (old new : History D) → RunsLasting seen failures armed steps old new → StaySent old.sent new.sent
   lasting_stays [] old new same = λ id message stands. subst (λ s. message_of s id ≡ Some message) (sym (ap (λ (h : History D). h.sent) same)) stands
   lasting_stays (step ∷ steps) old new (mid, goes, named, lasts, rest) = chained old.sent mid.sent new.sent (step_stays seen failures armed step old mid goes) (lasting_stays steps mid new rest)
 
-  held_first : (chunk : ℕ) (steps : List Step) (mid new : History D) (runs : RunsLasting seen failures armed steps mid new) → AreHeldThrough seen failures armed config bytes among chunk steps mid new runs → AllAmong among config.block chunk mid.nodes.servers
+  pub held_first : (chunk : ℕ) (steps : List Step) (mid new : History D) (runs : RunsLasting seen failures armed steps mid new) → AreHeldThrough seen failures armed config bytes among chunk steps mid new runs → AllAmong among config.block chunk mid.nodes.servers
   held_first chunk [] mid new same held = held
   held_first chunk (step ∷ steps) mid new runs held = held.0
 
@@ -178,14 +184,8 @@ module _ {D : Type 0} (seen : D → List ℕ) (failures : D → ℕ) (armed : Di
 
   -- ---- from the beginning
 
-  -- while no disk has failed all is left
-  left_still : (place : MasterPlace D) → Lasts seen place → as_left place ≡ place
-  left_still (Standing m) lasts = ap (λ b. left_of b m) lasts.sound
-  left_still (Closed first second) lasts = refl
-  left_still Away lasts = refl
-
   left_lives : (h : History D) → StoreLives seen config bytes among h → StoreLives seen config bytes among (left_in h)
-  left_lives h lives = subst (StoreLives seen config bytes among) (λ i. record h { nodes = with_master (sym (left_still h.nodes.master lives.lasts) i) h.nodes }) lives
+  left_lives h lives = subst (StoreLives seen config bytes among) (λ i. record h { nodes = with_master (sym (left_still seen h.nodes.master lives.lasts) i) h.nodes }) lives
 
   pub each_lives_all : HaveSizes → EachLivesAll seen failures armed config bytes among
   each_lives_all sizes x clients pair steps begun now none begins runs held right =

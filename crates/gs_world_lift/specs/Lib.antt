@@ -19,3 +19,4 @@ pub mod Telling
 pub mod Passing
 pub mod Left
 pub mod LeftRunning
+pub mod LeftTelling

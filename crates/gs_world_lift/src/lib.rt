@@ -34,6 +34,7 @@ ghost use Rattle.gs_world_lift.specs.Running.{EachLives, LastsArmed, StoresBegin
 ghost use Rattle.gs_world_lift.specs.Marking.{WholeMembersAreMarked};
 ghost use Rattle.gs_world_lift.specs.Left.{MastersDoAll};
 ghost use Rattle.gs_world_lift.specs.LeftRunning.{ArmsLeft, EachLivesAll, StoresGoAll, StoresRunAll};
+ghost use Rattle.gs_world_lift.specs.LeftTelling.{AreAskedOverAll, AskOnAll, StoresTellFirstAll, StoresTellOnAll, StoresTellRunAll};
 ghost use Rattle.gs_world_lift.specs.Living.{ShowsArmed};
 
 use gs_block::promises::configurations_have_sizes;
@@ -157,6 +158,19 @@ pub fn all_chunks_live_whatever_disks_fail<D>()
     ensures reached { (seen : D → List ℕ) (failures : D → ℕ) (armed : DiskId → ℕ → MasterPlace D → MasterPlace D) (config : Config) (bytes : ReqId → List ℕ) (among : List ℕ → Bool) → EachLivesAll seen failures armed config bytes among }
     ensures onward { (seen : D → List ℕ) (failures : D → ℕ) (armed : DiskId → ℕ → MasterPlace D → MasterPlace D) (config : Config) (bytes : ReqId → List ℕ) (among : List ℕ → Bool) → StoresRunAll seen failures armed config bytes among }
     ensures arms { (seen : D → List ℕ) → ArmsLeft (seen_of seen) arms }
+{
+    configurations_have_sizes();
+}
+
+/// What clients have asked and were told goes along with the machines of a store's chunks over each step and each run, whatever disks of the master fail: a master of
+/// which a disk fails tells callers alone, and asks for no edit. So behind any run all that was ever sent for a request is of its one edit, and what a client was told
+/// done is done in the machine of a chunk, also where disks have failed since.
+pub fn what_clients_are_told_goes_along_whatever_disks_fail<D>()
+    ensures asks { (seen : D → List ℕ) (failures : D → ℕ) (armed : DiskId → ℕ → MasterPlace D → MasterPlace D) → AskOnAll seen failures armed }
+    ensures over { (seen : D → List ℕ) (failures : D → ℕ) (armed : DiskId → ℕ → MasterPlace D → MasterPlace D) → AreAskedOverAll seen failures armed }
+    ensures begins { (seen : D → List ℕ) (failures : D → ℕ) (armed : DiskId → ℕ → MasterPlace D → MasterPlace D) (config : Config) (bytes : ReqId → List ℕ) (among : List ℕ → Bool) (asked : ℕ → Asked) → StoresTellFirstAll seen failures armed config bytes among asked }
+    ensures step { (seen : D → List ℕ) (failures : D → ℕ) (armed : DiskId → ℕ → MasterPlace D → MasterPlace D) (config : Config) (bytes : ReqId → List ℕ) (among : List ℕ → Bool) (asked : ℕ → Asked) → StoresTellOnAll seen failures armed config bytes among asked }
+    ensures runs { (seen : D → List ℕ) (failures : D → ℕ) (armed : DiskId → ℕ → MasterPlace D → MasterPlace D) (config : Config) (bytes : ReqId → List ℕ) (among : List ℕ → Bool) (asked : ℕ → Asked) → StoresTellRunAll seen failures armed config bytes among asked }
 {
     configurations_have_sizes();
 }
