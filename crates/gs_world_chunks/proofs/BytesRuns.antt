@@ -47,6 +47,7 @@ use Rattle.gs_world_lift.specs.Saying.{PushRight}
 use Rattle.gs_world_lift.specs.Showing.{IsAlive, Life}
 use Rattle.gs_world_chunks.proofs.Bytes.{calm_back, free_back, free_prepared, list_back, rolls as rolls_on, settled_there, stamp_back, text_there}
 use Rattle.gs_world_chunks.specs.Back.{HasBytes, IsMemberAt}
+use Rattle.gs_world_chunks.specs.Through.{accounted}
 
 never_both : (phase : Phase) → (is_rolling phase && is_ordinary phase) ≡ false
 never_both Ordinary = refl
@@ -130,7 +131,7 @@ module _ (sizes : HaveSizes) (law : AreNumbered) {D : Type 0} (x : Setup D) (pre
   -- the master isn't as it was
   not_same : back.nodes.master ≡ now.nodes.master → (chunk : ℕ) → ⊥
   not_same master chunk =
-      let same = told_same x bytes chunk step now back after last moves here.last.lives here.last.agrees.told next.goes.last master in
+      let same = told_same x bytes chunk step now back after last (accounted x step now after back last moves) here.last.lives here.last.agrees.told next.goes.last master in
       false≢true (sym (never_both after.durable.phase) ∙ ap (λ (d : Durable). is_rolling after.durable.phase && is_ordinary d.phase) same ∙ committed)
 
   -- ---- a chunk of which a view is told behind the commit is one that a file has

@@ -70,6 +70,7 @@ use Rattle.gs_world_chunks.specs.Sealing.{SurvivorsKeepTheirText, SurvivorsName}
 use Rattle.gs_world_chunks.specs.Seeing.{Sees, SeesBoth, SeesOn}
 use Rattle.gs_world_chunks.specs.Standing.{IsBeginningOf, QuietStaysStill, ReplicasStand}
 use Rattle.gs_world_chunks.specs.Upgrading.{IsUpgrading, RunsUpgraded, Survives, is_holder}
+use Rattle.gs_world_chunks.specs.Through.{accounted}
 
 -- ---- runs, one behind the other
 
@@ -250,7 +251,7 @@ module _ (law : AreNumbered) {D : Type 0} (x : Setup D) (asked : ℕ → Asked) 
     EpochsAt (inr m) = Epochs
 
     same_there : mid.nodes.master ≡ old.nodes.master → Epochs
-    same_there master = inr (told_same x bytes chunk step old mid a c moves first.lives first.agrees.told next.goes.last master)
+    same_there master = inr (told_same x bytes chunk step old mid a c (accounted x step old a mid c moves) first.lives first.agrees.told next.goes.last master)
 
     goes_there : (before behind : Durable) → HasDurable x.seen old.nodes.master before → HasDurable x.seen mid.nodes.master behind → EpochGoes before behind → Epochs
     goes_there before behind had has goes =

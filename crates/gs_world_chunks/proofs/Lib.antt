@@ -62,3 +62,4 @@ mod SurvivedOn
 mod Answering
 mod Accepted
 pub mod Through
+pub mod SeeingThrough

@@ -40,10 +40,11 @@ use Rattle.gs_world_chunks.specs.Agreeing.{ListsStay}
 use Rattle.gs_world_chunks.specs.Joining.{StoreAgrees}
 use Rattle.gs_world_chunks.specs.Reached.{EachIsARun, EachLeadsOn, Shows}
 use Rattle.gs_world_chunks.specs.Seeing.{EachIsSeen, EachSeesOn, IntactAt, Sees, SeesOn}
+use Rattle.gs_world_chunks.specs.Through.{IsAccounted, accounted}
 
 -- ---- a step of one chunk
 
-module _ {D : Type 0} (x : Setup D) (bytes : ReqId → List ℕ) (law : AreNumbered) (step : Step) (old new : History D) (a b : Account) (moves : Moves x step old a new b) (lives : StoreLives x.seen x.config bytes x.among old) (behind : StoreLives x.seen x.config bytes x.among new)
+module _ {D : Type 0} (x : Setup D) (bytes : ReqId → List ℕ) (law : AreNumbered) (step : Step) (old new : History D) (a b : Account) (moves : IsAccounted x step old a new b) (lives : StoreLives x.seen x.config bytes x.among old) (behind : StoreLives x.seen x.config bytes x.among new)
     (agrees : StoreAgrees x bytes old a lives) (chunk : ℕ) where
   -- where the master is as it was, the account goes on by what is told then
   account_same : new.nodes.master ≡ old.nodes.master → account_behind step old a new a.durable ≡ b
@@ -65,14 +66,14 @@ module _ {D : Type 0} (x : Setup D) (bytes : ReqId → List ℕ) (law : AreNumbe
       (subst (λ (c : Account). ListsStay chunk a l.world c l.world) (account_same master) (still_keeps D chunk step old new a l.world servers))
 
   -- a step, and others behind it
-  sees_more : (about : _) (next : History D) (c : Account) (l : Life x.seen x.config bytes chunk old) (m : Life x.seen x.config bytes chunk new) (n : Life x.seen x.config bytes chunk next) → GoesOn x.seen x.config bytes chunk step about old new l m → SeesOn x bytes chunk new b next c m n → SeesOn x bytes chunk old a next c l n
+  pub sees_more : (about : _) (next : History D) (c : Account) (l : Life x.seen x.config bytes chunk old) (m : Life x.seen x.config bytes chunk new) (n : Life x.seen x.config bytes chunk next) → GoesOn x.seen x.config bytes chunk step about old new l m → SeesOn x bytes chunk new b next c m n → SeesOn x bytes chunk old a next c l n
   sees_more about next c (inl l) m n goes on = tt
   sees_more about next c (inr l) (inl m) n goes on = absurd goes
   sees_more about next c (inr l) (inr m) (inl n) goes on = absurd on
   sees_more about next c (inr l) (inr m) (inr n) goes on =
       (on.0 ∙ goes.same, leads_on l.world m.world n.world goes.leads on.1, lists_stay_on chunk a b c l.world m.world n.world l.reached goes.leads (lists_step l m goes.same goes.by) on.2)
 
-sees_still : {D : Type 0} (x : Setup D) (bytes : ReqId → List ℕ) (chunk : ℕ) (h : History D) (a : Account) (life : Life x.seen x.config bytes chunk h) → SeesOn x bytes chunk h a h a life life
+pub sees_still : {D : Type 0} (x : Setup D) (bytes : ReqId → List ℕ) (chunk : ℕ) (h : History D) (a : Account) (life : Life x.seen x.config bytes chunk h) → SeesOn x bytes chunk h a h a life life
 sees_still x bytes chunk h a (inl unborn) = tt
 sees_still x bytes chunk h a (inr l) = (refl, Rests, λ t within same. same)
 
@@ -117,7 +118,7 @@ module _ {D : Type 0} (x : Setup D) (asked : ℕ → Asked) (given : IsGiven x) 
       let next = sees_step apart step old mid a c first types moves (before x.seen x.failures x.armed (PushRight bytes) mid.sent new.sent stays right) (before x.seen x.failures x.armed (IsOfOneEdit asked) mid.sent new.sent stays one) in
       let then : Sees x asked mid c = record { lives = next.goes.last; tells = next.tells; agrees = next.agrees; intact = next.intact } in
       let more = sees_run apart steps mid new c b then next.types rest right one in
-      record { last = more.last; on = λ chunk. sees_more x bytes law step old mid a c moves first.lives next.goes.last first.agrees chunk _ new b (first.lives.life chunk) (next.goes.last.life chunk) (more.last.lives.life chunk) (next.goes.goes chunk) (more.on chunk) }
+      record { last = more.last; on = λ chunk. sees_more x bytes law step old mid a c (accounted x step old a mid c moves) first.lives next.goes.last first.agrees chunk _ new b (first.lives.life chunk) (next.goes.last.life chunk) (more.last.lives.life chunk) (next.goes.goes chunk) (more.on chunk) }
 
   -- when a store begins new no server survives anything
   nobody_intact : (begun : History D) (a : Account) → IsNew x begun a → (chunk : ℕ) (life : Life x.seen x.config bytes chunk begun) → IntactAt x bytes a chunk begun life

@@ -1,5 +1,6 @@
 -- Runs of a store with their accounts, whatever disks of the master fail.
 use Rattle.std.specs.Prelude.{[], ◌∷◌, ◌≡◌, List, refl}
+use Rattle.gs_block.specs.Written.{TellsApart}
 use Rattle.gs_world.specs.Histories.{Begins, History}
 use Rattle.gs_world.specs.Runs.{Goes, Step}
 use Rattle.gs_world_chunks.specs.Accounts.{Account}
@@ -20,6 +21,14 @@ module _ {D : Type 0} (x : Setup D) where
     pub told : IsToldAt x.seen new.nodes.master b.durable
     pub account : b ≡ account_behind step old a new b.durable
 
+  -- what an account goes by of such a step: what is told behind it
+  pub record IsAccounted (step : Step) (old : History D) (a : Account) (new : History D) (b : Account) : Type 0 where
+    pub told : IsToldAt x.seen new.nodes.master b.durable
+    pub account : b ≡ account_behind step old a new b.durable
+
+  abbrev pub accounted : (step : Step) (old : History D) (a : Account) (new : History D) (b : Account) → Moves x step old a new b → IsAccounted step old a new b
+  accounted step old a new b moves = record { told = moves.told; account = moves.account }
+
   -- one after the other, without accounts and with them
   abbrev pub RunsBareThrough : List Step → History D → History D → Type 0
   RunsBareThrough [] old new = new ≡ old
@@ -28,6 +37,15 @@ module _ {D : Type 0} (x : Setup D) where
   abbrev pub RunsThrough : List Step → History D → Account → History D → Account → Type 0
   RunsThrough [] old a new b = (new ≡ old) × (b ≡ a)
   RunsThrough (step ∷ steps) old a new b = (mid : History D) × (c : Account) × MovesThrough step old a mid c × RunsThrough steps mid c new b
+
+  -- a store that has begun new, behind some such steps, where different blocks among those that its servers have had have different digests
+  pub record IsReachedThrough (now : History D) (a : Account) : Type 0 where
+    pub apart : TellsApart x.among
+    pub begun : History D
+    pub first : Account
+    pub steps : List Step
+    pub begins : IsNew x begun first
+    pub runs : RunsThrough steps begun first now a
 
   -- ---- what is to hold
 
