@@ -143,7 +143,7 @@ module _ {D : Type 0} (x : Setup D) (asked : ℕ → Asked) (given : IsGiven x) 
       let keeps_mid = keeps_then x.seen x.failures x.armed x.config bytes step old mid first.lives.pushes was (kind_of x.seen x.failures x.armed step old mid moves.steps.goes is_named) in
       let behind = one_through x given step old mid lasts types moves.steps in
       let goes = stores_go_all x.seen x.failures x.armed x.config bytes x.among (record { arming = arms_left x given; apart = apart; empty = empty_text x asked given }) step old mid first.lives moves.steps.goes is_named (lasts_left x.seen mid.nodes.master behind.0)
-              (all_among x asked given mid keeps_mid moves.steps.among) right in
+      (all_among x asked given mid keeps_mid moves.steps.among) right in
       let account : IsAccounted x step (left_in old) a (left_in mid) c = record { told = told_left x.seen mid.nodes.master c.durable moves.told; account = moves.account } in
       record {
         goes = goes;

@@ -7,6 +7,7 @@ ghost use Rattle.std.specs.Prelude.{List, ℕ, ◌≡◌, Bool, [], true};
 ghost use Rattle.gs_base.specs.declared.config.Config.{Config};
 ghost use Rattle.gs_base.specs.declared.numbers.ReqId.{ReqId};
 ghost use Rattle.gs_world_chunks.specs.Running.{Setup, BlocksAmong, FirstIsOne, HaveAccounts, NextIsOne, ReachedStaySound};
+ghost use Rattle.gs_world_chunks.specs.SeenThrough.{EachIsSeenThrough, EachSeesOnThrough, ReachedStayThrough};
 ghost use Rattle.gs_world_chunks.specs.Through.{HaveAccountsThrough, NextIsOneThrough, SoundAreThrough};
 ghost use Rattle.gs_world_chunks.specs.Agreeing.{BirthsAgree, BlanksStay, ListsStayOn, MastersAgree, MastersKeepLists, ServersAgree, ServersKeepLists, StillAgree, StillKeepsLists};
 ghost use Rattle.gs_world_chunks.specs.Reached.{EachIsARun, EachLeadsOn};
@@ -117,6 +118,18 @@ pub fn accounts_tell_who_is_intact<D>()
 pub fn all_chunks_are_seen<D>()
     ensures reached { (x : Setup D) → EachIsSeen x }
     ensures onward { (x : Setup D) → EachSeesOn x }
+{
+    configurations_have_sizes();
+    a_message_edits_a_replica_by_what_it_says();
+}
+
+/// So it is whatever disks of the master fail, as often as they may. Behind each run the master stands, or its disks tell what one may stand on that is started again. Once a disk has failed
+/// what they tell is all that is left of the master, and the account goes by that: then too each chunk is not born yet, or a machine of it shows the store; the account agrees with the machines, and
+/// who survives by it is intact in them; and in a later world of the run each chunk that lived leads on. So behind a failure what stood before it stands, with so many records of the event at which it failed.
+pub fn all_chunks_are_seen_whatever_disks_fail<D>()
+    ensures stays { (x : Setup D) → ReachedStayThrough x }
+    ensures reached { (x : Setup D) → EachIsSeenThrough x }
+    ensures onward { (x : Setup D) → EachSeesOnThrough x }
 {
     configurations_have_sizes();
     a_message_edits_a_replica_by_what_it_says();
