@@ -5,8 +5,8 @@ use Rattle.std.specs.List.{AllByRecursion}
 use Rattle.std.proofs.lemmas.Bool.Decides.{nat_tests}
 use Rattle.std.proofs.lemmas.List.{length-append, map-append, take-append-le, take_all}
 use Rattle.std.proofs.lemmas.List.Sums.{sum_by-append, sum_by-cons, sum_by-take-le}
-use Rattle.gs_journal.specs.Journal.{checkpoint_size, checkpointed, header_length, record_size, text_size}
-use Rattle.gs_journal.specs.Records.{Text}
+use Rattle.gs_journal.specs.Journal.{checkpoint_size, checkpointed, record_size, text_size}
+use Rattle.gs_journal.specs.Records.{header_length, Text}
 use Rattle.gs_journal.specs.declared.version.Version.TheVariants.{Two}
 use Rattle.gs_master.proofs.Composing.{all_joined, replayed_both}
 use Rattle.gs_master.proofs.Turning.{replayed_behind}
@@ -152,17 +152,24 @@ part_of_more d records more all text is part = record {
     longer : (many first rest both : ℕ) → both ≡ first + rest → many ≤ first → many ≤ both
     longer many first rest both same within = omega arith
 
+-- the size of a checkpoint that stands alone
+checkpoint_sized : (body : List ℕ) → text_size (checkpointed body) ≡ checkpoint_size body
+checkpoint_sized body = one_alone (record_size (9, body)) (sum_by record_size ((9, body) ∷ [])) (sum_by-cons record_size (9, body) [])
+  where
+    one_alone : (one all : ℕ) → all ≡ one + sum_by record_size [] → header_length + all + 1 ≡ header_length + one + 1
+    one_alone one all is = omega arith
+
 -- where they end with a checkpoint, and that stands alone
 pub part_anew : (d last next : Durable) (records all : List PlainEntry) (new : Text) → all ≡ records ++ Whole (checkpoint_of next) ∷ [] → IsEntry Two (Whole (checkpoint_of next)) → replayed d records ≡ Some next → replayed d all ≡ Some last → AtEach d all
     → checkpoint_size (checkpoint_body next) ≤ limit → new ≡ checkpointed (checkpoint_body next) → IsPart d all new
-part_anew d last next records all new is is_entry fit fits each room anew =
-    let told = tells_anew new d last records next is_entry fit (ap (replayed d) (sym is) ∙ fits) anew in
-    let whole : replayed d (take (length all) all) ≡ Some last = ap (replayed d) (take_all (length all) all (omega arith)) ∙ fits in
+part_anew d last next records all new is is_entry fit whole each room anew =
+    let told = tells_anew new d last records next is_entry fit (ap (replayed d) (sym is) ∙ whole) anew in
+    let taken : replayed d (take (length all) all) ≡ Some last = ap (replayed d) (take_all (length all) all (omega arith)) ∙ whole in
     record {
       many = length all;
       within = omega arith;
       durable = last;
-      stand = whole;
+      stand = taken;
       told = told;
-      steady = record { durable = last; told = told; steady = λ log here small. each.steady (length all) last log whole here small; within = subst (λ n. n ≤ limit) (sym (ap text_size anew)) room };
+      steady = record { durable = last; told = told; steady = λ log here small. each.steady (length all) last log taken here small; within = subst (λ n. n ≤ limit) (sym (ap text_size anew ∙ checkpoint_sized (checkpoint_body next))) room };
     }

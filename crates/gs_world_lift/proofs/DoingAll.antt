@@ -1,5 +1,5 @@
 -- What the master does at a step, whatever disk of it fails.
-use Rattle.std.proofs.Common.{◌≡◌, ◌∙◌, ◌<◌, ◌≤◌, ◌+◌, ◌++◌, ◌&&◌, not, ℕ, Bool, true, false, List, [], ◌∷◌, length, map, Option, Some, None, Ok, Err, refl, sym, ap, subst, inl, inr, arith}
+use Rattle.std.proofs.Common.{◌≡◌, ◌∙◌, ◌<◌, ◌≤◌, ◌+◌, ◌++◌, ◌&&◌, not, ℕ, zero, suc, Bool, true, false, List, [], ◌∷◌, length, map, Option, Some, None, Ok, Err, refl, sym, ap, subst, inl, inr, arith}
 use Rattle.std.specs.Prelude.{if◌then◌else◌, option_and_then, take}
 use Rattle.std.specs.List.{AllByRecursion}
 use Rattle.std.proofs.lemmas.Bool.{false≢true}
@@ -249,7 +249,7 @@ module _ {D : Type 0} (seen : D → List ℕ) (failures : D → ℕ) (armed : Di
 
   heard_does : (there place : MasterPlace D) (message : Message) (at_moment : Moment) (turn : Told) → old ≡ there → new ≡ place → Lasts seen (as_left there) → Lasts seen (as_left new) → IsNamedBody message.body × IsNumber at_moment.0 → IsSent message sent
       → MasterHears seen failures message at_moment there (Ok turn) place → messages ≡ turn.sent.items → X
-  heard_does (Standing m) place message at_moment turn at master lasts then named was (after, is, answers) sends = by_fault (is_failed m.state.fault) refl
+  heard_does (Standing m) place message at_moment turn at master lasts behind named was (after, is, answers) sends = by_fault (is_failed m.state.fault) refl
     where
       t : Turn
       t = handle m.config m.state message at_moment
@@ -258,10 +258,10 @@ module _ {D : Type 0} (seen : D → List ℕ) (failures : D → ℕ) (armed : Di
       by_fault true failed = idle_does m after (caller_of message.body) t turn at (master ∙ is) failed (nothing_recorded m.config m.state message at_moment failed) (failed_replies m.config m.state message at_moment failed) answers sends
       by_fault false sound =
           let firm = firm_of m sound lasts in
-          answered m after (caller_of message.body) (said_from message.from message.body) t turn at (master ∙ is) sound then firm (inr (message, was, refl))
+          answered m after (caller_of message.body) (said_from message.from message.body) t turn at (master ∙ is) sound behind firm (inr (message, was, refl))
           (events_end_once m.config m.state (HearsAt message at_moment) named firm.firm) (events_fit m.config m.state (HearsAt message at_moment) named firm.firm).fits answers sends
-  heard_does (Closed first second) place message at_moment turn at master lasts then named was meets sends = closed place (Closed first second) (caller_of message.body) turn master at meets sends
-  heard_does Away place message at_moment turn at master lasts then named was meets sends = closed place Away (caller_of message.body) turn master at meets sends
+  heard_does (Closed first second) place message at_moment turn at master lasts behind named was meets sends = closed place (Closed first second) (caller_of message.body) turn master at meets sends
+  heard_does Away place message at_moment turn at master lasts behind named was meets sends = closed place Away (caller_of message.body) turn master at meets sends
 
   -- ---- a tick
 
@@ -317,7 +317,7 @@ module _ {D : Type 0} (seen : D → List ℕ) (failures : D → ℕ) (armed : Di
           cut_does m after None t at master sound (has_failed m after None t (LeavesAnew steps) place told is) lasts firm.firm (inl refl) turn is.are_entries (stood_by is.are_entries place is.shown) (cut_replies m after None t (LeavesAnew steps) place told is sends)
 
   ticked_does : (there place : MasterPlace D) (at_moment : Moment) (turn : Told) → old ≡ there → new ≡ place → Lasts seen (as_left there) → Lasts seen (as_left new) → MasterTicks seen failures at_moment there (Ok turn) place → messages ≡ turn.sent.items → X
-  ticked_does (Standing m) place at_moment turn at master lasts then (after, is, answers) sends = by_fault (is_failed m.state.fault) refl answers
+  ticked_does (Standing m) place at_moment turn at master lasts behind (after, is, answers) sends = by_fault (is_failed m.state.fault) refl answers
     where
       steps : Turn
       steps = pressed_all m.state at_moment
@@ -329,13 +329,13 @@ module _ {D : Type 0} (seen : D → List ℕ) (failures : D → ℕ) (armed : Di
           idle_does m after None (tick m.state at_moment) turn at (master ∙ is) failed (ap (λ (t : Turn). t.records) none) (subst (λ (t : Turn). AreReplies t.sent) (sym none) tt)
           (subst (λ b. AnswersAs seen failures b (tick m.state at_moment) steps m turn after) plain whole) sends
       by_fault true failed (inr (sound, is_due, none, short)) = absurd (false≢true (sym sound ∙ failed))
-      by_fault false sound (inl whole) = whole_ticked m after at_moment turn (writes_one m.state steps) refl at (master ∙ is) sound then (firm_of m sound lasts) whole sends
+      by_fault false sound (inl whole) = whole_ticked m after at_moment turn (writes_one m.state steps) refl at (master ∙ is) sound behind (firm_of m sound lasts) whole sends
       by_fault false sound (inr (still, is_due, none, short)) =
           let firm = firm_of m sound lasts in
           let fit : AllFit m.state (lacking steps) = steps_fit m.state at_moment firm.firm in
-          answered m after None None (lacking steps) turn at (master ∙ is) sound then firm (inl refl) (said_once m.config None m.state steps (lacking steps).said (ticks_end_once m.config m.state at_moment firm.firm fit)) fit short sends
-  ticked_does (Closed first second) place at_moment turn at master lasts then meets sends = closed place (Closed first second) None turn master at meets sends
-  ticked_does Away place at_moment turn at master lasts then meets sends = closed place Away None turn master at meets sends
+          answered m after None None (lacking steps) turn at (master ∙ is) sound behind firm (inl refl) (said_once m.config None m.state steps (lacking steps).said (ticks_end_once m.config m.state at_moment firm.firm fit)) fit short sends
+  ticked_does (Closed first second) place at_moment turn at master lasts behind meets sends = closed place (Closed first second) None turn master at meets sends
+  ticked_does Away place at_moment turn at master lasts behind meets sends = closed place Away None turn master at meets sends
 
   -- ---- a restart
 
@@ -396,9 +396,9 @@ module _ {D : Type 0} (seen : D → List ℕ) (failures : D → ℕ) (armed : Di
 
 -- whatever happens at the master
 pub masters_do_all : {D : Type 0} (seen : D → List ℕ) (failures : D → ℕ) (armed : DiskId → ℕ → MasterPlace D → MasterPlace D) → MastersDoAll seen failures armed
-masters_do_all seen failures armed config sent old new messages lasts then (MasterHeard message at_moment turn was to named hears sends) =
-    heard_does seen failures armed sent old new messages old new message at_moment turn refl refl lasts then named was hears sends
-masters_do_all seen failures armed config sent old new messages lasts then (MasterTicked at_moment turn ticks sends) = ticked_does seen failures armed sent old new messages old new at_moment turn refl refl lasts then ticks sends
-masters_do_all seen failures armed config sent old new messages lasts then (MasterOpened turn opens sends) = reopened_does seen failures armed sent old new messages config old new turn refl refl lasts opens sends
-masters_do_all seen failures armed config sent old new messages lasts then (MasterUnopened e opens none) = refused_does seen failures armed sent old new messages config old new e refl refl lasts opens none
-masters_do_all seen failures armed config sent old new messages lasts then (MasterArmed disk call is none) = Arranges disk call is (subst AreReplies (sym none) tt)
+masters_do_all seen failures armed config sent old new messages lasts behind (MasterHeard message at_moment turn was to named hears sends) =
+    heard_does seen failures armed sent old new messages old new message at_moment turn refl refl lasts behind named was hears sends
+masters_do_all seen failures armed config sent old new messages lasts behind (MasterTicked at_moment turn ticks sends) = ticked_does seen failures armed sent old new messages old new at_moment turn refl refl lasts behind ticks sends
+masters_do_all seen failures armed config sent old new messages lasts behind (MasterOpened turn opens sends) = reopened_does seen failures armed sent old new messages config old new turn refl refl lasts opens sends
+masters_do_all seen failures armed config sent old new messages lasts behind (MasterUnopened e opens none) = refused_does seen failures armed sent old new messages config old new e refl refl lasts opens none
+masters_do_all seen failures armed config sent old new messages lasts behind (MasterArmed disk call is none) = Arranges disk call is (subst AreReplies (sym none) tt)

@@ -31,7 +31,6 @@ use Rattle.gs_chunk.specs.Machine as machine
 use Rattle.gs_chunk.specs.Events.{Leads, marked}
 use Rattle.gs_chunk.specs.Events as events
 use Rattle.gs_chunk.specs.Laws.{Birth}
-use Rattle.gs_chunk.specs.Mastering.{AreOfMaster}
 use Rattle.gs_server_member.specs.Showing.{Setting}
 use Rattle.gs_server_member.specs.Telling.{ServersTell}
 use Rattle.gs_master_entry.specs.Families.{ComesFrom, CopiesOf, CopiesTo as CopiesThere, FamilyGoes, HeardOf, IsCopiedTo, IsCopyOf, ListsFrom, MarksOf, is_kept}
