@@ -39,7 +39,7 @@ use Rattle.gs_world_lift.specs.Waiting.{AllWaitAsked}
 module _ {D : Type 0} (seen : D → List ℕ) (armed : DiskId → ℕ → MasterPlace D → MasterPlace D) (sent : Sent) (old new : MasterPlace D) (messages : List Message) where
   does_all_say : MasterDoesAll seen armed sent old new messages → AreOfMaster messages
   does_all_say (Does does) = does_say seen (λ disk call place. place) sent (as_left old) (as_left new) messages does
-  does_all_say (Cuts m heard t many d first second at turn within stand master kept counters told replies) = replies_of_master messages replies
+  does_all_say (Cuts m heard t many d first second at was turn within stand master kept counters told replies) = replies_of_master messages replies
   does_all_say (Keeps same replies) = replies_of_master messages replies
   does_all_say (Arranges disk call is replies) = replies_of_master messages replies
 
