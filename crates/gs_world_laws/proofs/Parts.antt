@@ -19,7 +19,7 @@ use Rattle.gs_master_record.specs.Writable.{IsEntry}
 use Rattle.gs_master_spec.specs.Applied.{applied, replayed}
 use Rattle.gs_master_spec.specs.Durable.{Durable, start}
 use Rattle.gs_master_spec.specs.Handling.{checkpoint_body, restarted}
-use Rattle.gs_master_spec.specs.State.{Log, State, Turn, fits, size_of, size_of_all}
+use Rattle.gs_master_spec.specs.State.{Log, State, Turn, size_of, size_of_all}
 use Rattle.gs_master_spec.specs.Whole.{checkpoint_of}
 use Rattle.gs_nodes.specs.Happenings.{limit}
 use Rattle.gs_world.specs.Lasting.{IsToldIn}

@@ -1,5 +1,5 @@
 -- That the master lasts through failures of its disks, and what they tell then.
-use Rattle.std.proofs.Common.{◌≡◌, ◌∙◌, inl, inr, ◌+◌, ◌<◌, ◌≤◌, ◌&&◌, ◌++◌, ℕ, Bool, true, false, not, List, [], ◌∷◌, map, length, Option, Some, None, MatchOption, Result, Ok, Err, refl, ap, subst, sym, arith}
+use Rattle.std.proofs.Common.{◌≡◌, ◌∙◌, inl, inr, ◌+◌, ◌<◌, ◌≤◌, ◌&&◌, ◌++◌, ℕ, Bool, true, false, not, List, [], ◌∷◌, length, Option, Some, None, MatchOption, Result, Ok, Err, refl, ap, subst, sym, arith}
 use Rattle.std.specs.Prelude.{MatchBool, take}
 use Rattle.std.specs.List.{AllByRecursion}
 use Rattle.std.proofs.lemmas.Bool.{false≢true}
@@ -36,14 +36,13 @@ use Rattle.gs_master_laws.specs.Rooms.{HasRoom}
 use Rattle.gs_master_laws.specs.Standing.{Comes as HearsAt, IsFirm, IsNamedBody, Ticks as TicksAt}
 use Rattle.gs_master_laws.specs.Written.{IsSteady}
 use Rattle.gs_master_plan.specs.Renewable.{renewal_refusal}
-use Rattle.gs_master_record.specs.Encoding.{encoded}
 use Rattle.gs_master_record.specs.Plain.{PlainEntry, Whole}
 use Rattle.gs_master_record.specs.Writable.{IsEntry}
 use Rattle.gs_master_spec.specs.Applied.{replayed}
 use Rattle.gs_master_spec.specs.Durable.{Durable, start}
 use Rattle.gs_master_spec.specs.Handling.{checkpoint_body, due, handle, tick}
 use Rattle.gs_master_spec.specs.Outcomes.{caller_of}
-use Rattle.gs_master_spec.specs.State.{Fault, State, Turn, is_failed, size_of_all}
+use Rattle.gs_master_spec.specs.State.{State, Turn, is_failed, size_of_all}
 use Rattle.gs_master_spec.specs.Whole.{checkpoint_of}
 use Rattle.gs_msg.specs.declared.event.DiskId.{DiskId}
 use Rattle.gs_msg.specs.declared.event.DiskId.TheVariants as disks
@@ -54,7 +53,7 @@ use Rattle.gs_msg.specs.declared.node.NodeId.{NodeId}
 use Rattle.gs_msg.specs.declared.node.NodeId.TheVariants as nodes
 use Rattle.gs_msg.specs.declared.node.StoreNode.{StoreNode}
 use Rattle.gs_msg.specs.declared.node.StoreNode.TheVariants as keepers
-use Rattle.gs_nodes.specs.Happenings.{ClientAsks, ClientHears, Delivers, Hears, MasterHears, MasterTicks, Opens, Reopens, ServerDoes, disks_of, limit}
+use Rattle.gs_nodes.specs.Happenings.{ClientAsks, ClientHears, Delivers, Hears, MasterHears, MasterTicks, Opens, Reopens, ServerDoes, limit}
 use Rattle.gs_nodes.specs.Nodes.{Nodes, with_master}
 use Rattle.gs_nodes.specs.declared.place.MasterPlace.{MasterPlace}
 use Rattle.gs_nodes.specs.declared.place.MasterPlace.TheVariants.{Standing, Closed, Away}
@@ -71,7 +70,7 @@ use Rattle.gs_world_laws.proofs.PlainReopens.{same_entries}
 use Rattle.gs_world_laws.proofs.Steady.{begins_steady, both, goes_on, goes_on_anew, left_standing, nothing, opened, sound_writes, steps_bounded, tells_one}
 use Rattle.gs_world_laws.specs.Saying.{IsStepWithin, KeepsTypes}
 use Rattle.gs_world_laws.specs.Steady.{HearsWithin, IsHeardAt, LastsSteady, StandsSteady, StepWithin, TellsSteady}
-use Rattle.gs_world_laws.specs.Through.{LastsThrough, StandsPart, TellsAt, TellsOn, Turns, TurnsAt}
+use Rattle.gs_world_laws.specs.Through.{LastsThrough, TellsAt, TellsOn, Turns, TurnsAt}
 
 some_is : {A : Type 0} (x y : A) → Some x ≡ Some y → x ≡ y
 some_is x y is = cc
