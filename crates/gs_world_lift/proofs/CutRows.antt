@@ -1,5 +1,5 @@
 -- All chunks of a master together, with their rows, where a turn of it is cut: so many of its records stand, and it is started again on them.
-use Rattle.std.proofs.Common.{◌≡◌, ◌∙◌, ◌&&◌, ◌||◌, ◌==◌, ◌+◌, ◌-◌, ◌<◌, ◌≤◌, ◌⊎◌, ◌++◌, ℕ, zero, suc, Bool, true, false, List, [], ◌∷◌, length, Option, Some, None, refl, sym, ap, subst, inl, inr, arith}
+use Rattle.std.proofs.Common.{◌≡◌, ◌∙◌, ◌&&◌, ◌||◌, ◌+◌, ◌-◌, ◌<◌, ◌≤◌, ◌⊎◌, ◌++◌, ℕ, zero, suc, Bool, true, false, List, [], ◌∷◌, length, Option, Some, None, refl, sym, ap, subst, inl, inr, arith}
 use Rattle.std.specs.Prelude.{Contains, if◌then◌else◌, is_some, map, nat_le, nat_lt, option_and_then, take}
 use Rattle.std.specs.FinMap as fin
 use Rattle.std.specs.List.{AllByRecursion, list_all}
@@ -11,12 +11,9 @@ use Rattle.gs_base.specs.Members.{is_member}
 use Rattle.gs_base.specs.Told.{IsNumber}
 use Rattle.gs_base.specs.declared.config.Config.{Config}
 use Rattle.gs_base.specs.declared.numbers.ReqId.{ReqId}
-use Rattle.gs_base.specs.declared.numbers.Stamp.{Stamp}
 use Rattle.gs_base.specs.declared.refusal.Refusal.{Refusal}
 use Rattle.gs_chunk.proofs.Facts.{reached_world}
 use Rattle.gs_chunk.proofs.Lasting.{agrees}
-use Rattle.gs_chunk.proofs.Numbering.{stays_behind}
-use Rattle.gs_chunk.specs.Events.{Leads}
 use Rattle.gs_chunk.specs.Laws.{IsReached, world_of}
 use Rattle.gs_chunk.specs.Machine.{ChunkWorld}
 use Rattle.gs_chunk.specs.Machine as machine
@@ -31,8 +28,8 @@ use Rattle.gs_master_entry.proofs.Cutting.{has_many, part_reached, settles_cut, 
 use Rattle.gs_master_entry.proofs.Ending.{answer_both, scan_keeps}
 use Rattle.gs_master_entry.proofs.Fading.{Keeps, fades, records_fade}
 use Rattle.gs_master_entry.proofs.Families.{bare_both, families_both, family_hears, family_lists, family_marks, family_still, from_both, goes_both}
-use Rattle.gs_master_entry.proofs.Leaving.{rises_both, rises_itself}
-use Rattle.gs_master_entry.proofs.Marking.{marks_on_still, same_epoch}
+use Rattle.gs_master_entry.proofs.Leaving.{rises_itself}
+use Rattle.gs_master_entry.proofs.Marking.{same_epoch}
 use Rattle.gs_master_entry.proofs.Restarting.{restarts_reach}
 use Rattle.gs_master_entry.proofs.Rowing.{rows_back, rows_born, rows_go}
 use Rattle.gs_master_entry.proofs.Scanning.{scans_cut_reach}
@@ -40,22 +37,22 @@ use Rattle.gs_master_entry.proofs.Sending.{leads_on, masters_on}
 use Rattle.gs_master_entry.proofs.Unborn.{IsCounted, counted_rises, counted_ungiven, counts_on, other_than, records_counted, restarts_unborn, scan_counts, settle_counts}
 use Rattle.gs_master_entry.specs.Families.{Alive, BornBare, BornFrom, ComesFrom, CopiesTo, Family, FamilyGoes, Goes, HeardOf, IsAlive, Life, MarksOf, Unborn, birth_of, is_kept}
 use Rattle.gs_master_entry.specs.Laws.{Reaches}
-use Rattle.gs_master_entry.specs.Rows.{AreCopiedSince, CopiesSince, FamilyRows, IsFirst, RowsGo, RowsIn}
+use Rattle.gs_master_entry.specs.Rows.{AreCopiedSince, CopiesSince, FamilyRows, RowsGo, RowsIn}
 use Rattle.gs_master_entry.specs.Showing.{Rises, ShowsDurable}
 use Rattle.gs_master_entry.specs.Single.{AsOf, IsCommitted, IsUnmoved}
-use Rattle.gs_master_entry.specs.Telling.{IsSameMember, MastersTell, Says, Shows}
+use Rattle.gs_master_entry.specs.Telling.{MastersTell, Says, Shows}
 use Rattle.gs_master_entry.specs.Unborn.{IsUnborn, SaysNothing}
 use Rattle.gs_master_laws.proofs.Beginnings.{fits_gives}
 use Rattle.gs_master_laws.specs.Promises.{IsKept}
 use Rattle.gs_master_moves.proofs.Asked.{starts_so}
 use Rattle.gs_master_moves.proofs.Epochs.{epochs_go, within_stays}
-use Rattle.gs_master_moves.proofs.Fitting.{AreSplit, chain_leaves, cuts_are_beginnings, mapped, split}
+use Rattle.gs_master_moves.proofs.Fitting.{chain_leaves, cuts_are_beginnings, split}
 use Rattle.gs_master_moves.proofs.Phases.{commits_by, followed_none, prepares_by, same_commits_none, same_prepares_none}
-use Rattle.gs_master_moves.proofs.Rows.{listed_stay, rows_go_over}
+use Rattle.gs_master_moves.proofs.Rows.{rows_go_over}
 use Rattle.gs_master_moves.specs.Asked.{WasHeard}
 use Rattle.gs_master_moves.specs.Epochs.{ByItself, Closes, EndsOnce, EpochGoes, IsSameEpoch, Stays, Within, closes, is_alone, is_followed, prepares, rolls_back}
-use Rattle.gs_master_moves.specs.Guards.{Heard, IsMade, MayPrepare}
-use Rattle.gs_master_moves.specs.Laws.{IsCutAt, IsMadeWell}
+use Rattle.gs_master_moves.specs.Guards.{Heard, MayPrepare}
+use Rattle.gs_master_moves.specs.Laws.{IsMadeWell}
 use Rattle.gs_master_moves.specs.Moved.{is_commit}
 use Rattle.gs_master_moves.specs.Moves.{Alone, Answers as AnswersCall, Begins, Chain, CommitsRollback, Copies, FromNow, Further, Move, BeginsRollback, Moves, Refuses, Scans, Settles, Then, move_turn}
 use Rattle.gs_master_moves.specs.Rows.{RowGoes}
@@ -65,12 +62,11 @@ use Rattle.gs_master_spec.specs.Settling.{own_request}
 use Rattle.gs_master_spec.specs.Volatile.{changed}
 use Rattle.gs_master_spec.specs.Working.{scan_edits}
 use Rattle.gs_master_spec.specs.declared.change.Change.TheVariants as changes
-use Rattle.gs_master_spec.specs.Applied.{applied, replayed, view_in}
+use Rattle.gs_master_spec.specs.Applied.{applied, replayed}
 use Rattle.gs_master_spec.specs.Chunks.{has_entry, holder_records, is_holder, target_of}
 use Rattle.gs_master_spec.specs.Durable.{Durable, Settled, is_given, is_listed, is_ordinary, is_rolling, is_upgrade, prepared_view}
 use Rattle.gs_master_spec.specs.Handling.{restarted}
 use Rattle.gs_master_spec.specs.State.{Log, State, Turn, fits, joined, keeps_refusal, said_records}
-use Rattle.gs_master_spec.specs.declared.asking.Asking.{Asking}
 use Rattle.gs_replica.specs.Stands.{Edit}
 use Rattle.gs_world_lift.specs.Left.{AreReplies, IsReply}
 

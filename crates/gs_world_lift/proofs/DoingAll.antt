@@ -20,9 +20,8 @@ use Rattle.gs_master.proofs.Renewed.{failed_tick, written_tick}
 use Rattle.gs_master.proofs.Turning.{front_fits, replayed_behind}
 use Rattle.gs_master.specs.Finishing.{and_checkpoint}
 use Rattle.gs_master.specs.Journaled.{text_seen}
-use Rattle.gs_master.specs.Masters.{IsAnswered, IsAnsweredUnsure, LeavesText, MasterAnswers, MasterOf}
+use Rattle.gs_master.specs.Masters.{IsAnsweredUnsure, LeavesText, MasterAnswers, MasterOf}
 use Rattle.gs_master.specs.Recovering.{TellsStill}
-use Rattle.gs_master.specs.Starting.{IsOpened}
 use Rattle.gs_master.specs.Ticking.{AnswersAs, AnswersTick, LeavesAnew, is_written, lacking, pressed_all, writes_one}
 use Rattle.gs_master.specs.declared.turn.Turn.{Turn as Told}
 use Rattle.gs_master_laws.proofs.StandingRuns.{events_fit, opens_firm, steps_fit}
@@ -42,7 +41,7 @@ use Rattle.gs_master_spec.specs.Calls.{is_locked, ordered}
 use Rattle.gs_master_spec.specs.Durable.{Durable, is_rolling, start}
 use Rattle.gs_master_spec.specs.Handling.{Again, New, Numbered, Older, call_turn, called_unless, checkpoint_body, due, from_client, from_node, handle, numbered, reopened, restarted, server_turn, taken_as, tick}
 use Rattle.gs_master_spec.specs.Outcomes.{IsDone, caller_of, unsure}
-use Rattle.gs_master_spec.specs.State.{Fault, State, Turn, first_of, is_failed, is_unopened, last_reply, met_by}
+use Rattle.gs_master_spec.specs.State.{State, Turn, first_of, is_failed, is_unopened, last_reply, met_by}
 use Rattle.gs_master_spec.specs.Volatile.{is_pending}
 use Rattle.gs_master_spec.specs.Whole.{checkpoint_of}
 use Rattle.gs_msg.specs.declared.body.Body.{Body}
@@ -52,14 +51,14 @@ use Rattle.gs_msg.specs.declared.event.DiskId.{DiskId}
 use Rattle.gs_msg.specs.declared.message.Message.{Message}
 use Rattle.gs_msg.specs.declared.node.NodeId.{NodeId}
 use Rattle.gs_msg.specs.declared.node.NodeId.TheVariants as ids
-use Rattle.gs_nodes.specs.Happenings.{MasterHears, MasterTicks, MeetsClosed, Opens, Reopens, limit, refusal_of_call}
+use Rattle.gs_nodes.specs.Happenings.{MasterHears, MasterTicks, MeetsClosed, Opens, Reopens, refusal_of_call}
 use Rattle.gs_nodes.specs.declared.place.MasterPlace.{MasterPlace}
 use Rattle.gs_nodes.specs.declared.place.MasterPlace.TheVariants.{Standing, Closed, Away}
 use Rattle.gs_world.proofs.Lasting.{opens_told}
 use Rattle.gs_world.specs.Lasting.{IsToldIn, Lasts, OpensAs, StandsFirm, TellsAMaster}
 use Rattle.gs_world.specs.Sent.{IsSent, Sent}
 use Rattle.gs_world_lift.proofs.Durable.{told_once}
-use Rattle.gs_world_lift.proofs.Mastering.{both, not_true, nothing, said_once}
+use Rattle.gs_world_lift.proofs.Mastering.{both, nothing, said_once}
 use Rattle.gs_world_lift.proofs.Reopening.{standing_is, started}
 use Rattle.gs_world_lift.specs.Doing.{HasDurable, IsHeardIn, Moves, Refuses, Starts, Waits}
 use Rattle.gs_world_lift.specs.Going.{MasterArmed, MasterHeard, MasterOpened, MasterTicked, MasterUnopened}

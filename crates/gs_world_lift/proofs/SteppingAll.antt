@@ -1,5 +1,5 @@
 -- All chunks of a store at once, over each step, whatever disk of the master fails at it, and over runs.
-use Rattle.std.proofs.Common.{◌≡◌, ◌∙◌, ℕ, Bool, true, false, List, [], ◌∷◌, Option, Some, None, refl, sym, ap, subst, inl, inr, arith}
+use Rattle.std.proofs.Common.{◌≡◌, ℕ, Bool, true, false, List, [], ◌∷◌, Option, Some, None, refl, sym, ap, subst, arith}
 use Rattle.std.specs.List.{AllByRecursion}
 use Rattle.gs_base.specs.declared.config.Config.{Config}
 use Rattle.gs_base.specs.declared.numbers.Moment.{Moment}
@@ -7,14 +7,13 @@ use Rattle.gs_base.specs.declared.numbers.ReqId.{ReqId}
 use Rattle.gs_block.specs.Written.{HasBlocks}
 use Rattle.gs_journal.specs.Faults.{Failing, armed}
 use Rattle.gs_journal.specs.Records.{standing}
-use Rattle.gs_chunk.specs.Machine.{ChunkWorld}
 use Rattle.gs_master.specs.Masters.{MasterOf, with_journal}
 use Rattle.gs_master_entry.specs.Rows.{FamilyRows}
 use Rattle.gs_master_laws.specs.Promises.{IsKept}
 use Rattle.gs_master_laws.specs.Standing.{AreCounters}
-use Rattle.gs_master_spec.specs.Durable.{Durable, is_given}
+use Rattle.gs_master_spec.specs.Durable.{Durable}
 use Rattle.gs_master_spec.specs.Handling.{restarted}
-use Rattle.gs_master_spec.specs.State.{State, is_failed}
+use Rattle.gs_master_spec.specs.State.{is_failed}
 use Rattle.gs_msg.specs.declared.body.Body.{Body}
 use Rattle.gs_msg.specs.declared.body.Body.TheVariants as bodies
 use Rattle.gs_msg.specs.declared.event.DiskId.{DiskId}
@@ -30,7 +29,7 @@ use Rattle.gs_world.proofs.Sending.{chained, step_stays}
 use Rattle.gs_world.specs.Histories.{History, arms, fault_at, seen_of}
 use Rattle.gs_world.specs.Lasting.{IsToldIn, Lasts}
 use Rattle.gs_world.specs.Runs.{StaySent, Step}
-use Rattle.gs_world.specs.Sent.{Sent, message_of}
+use Rattle.gs_world.specs.Sent.{message_of}
 use Rattle.gs_world_lift.proofs.Arming.{shows_armed, unknown_armed}
 use Rattle.gs_world_lift.proofs.Chains.{begun_standing, heard_of, marks_of}
 use Rattle.gs_world_lift.proofs.CutRows.{cut_rows, replies_so}
@@ -51,7 +50,7 @@ use Rattle.gs_world_lift.specs.LeftRunning.{AreHeldThrough, ArmsLeft, EachLivesA
 use Rattle.gs_world_lift.specs.Living.{ShowsArmed, StoreLives}
 use Rattle.gs_world_lift.specs.Running.{UnknownArmed}
 use Rattle.gs_world_lift.specs.Saying.{AreOfMaster, IsOfMaster, PushRight}
-use Rattle.gs_world_lift.specs.Showing.{Keeps as KeepsNodes, ShowsMaster, whole_in}
+use Rattle.gs_world_lift.specs.Showing.{ShowsMaster, whole_in}
 use Rattle.gs_world_lift.specs.Unborn.{IsUnknown}
 
 -- ---- replies

@@ -1,5 +1,5 @@
 -- What clients have asked and were told goes on with the machines of a store's chunks, whatever disks of the master fail.
-use Rattle.std.proofs.Common.{◌≡◌, ◌∙◌, ℕ, Bool, true, false, List, [], ◌∷◌, Option, Some, None, refl, sym, ap, subst}
+use Rattle.std.proofs.Common.{◌≡◌, ℕ, Bool, List, [], ◌∷◌, None, refl, sym, subst}
 use Rattle.gs_base.specs.declared.config.Config.{Config}
 use Rattle.gs_base.specs.declared.numbers.ReqId.{ReqId}
 use Rattle.gs_msg.specs.declared.event.DiskId.{DiskId}
@@ -27,7 +27,6 @@ use Rattle.gs_world_lift.specs.Answers.{DonesAreAnswered, LivesOf}
 use Rattle.gs_world_lift.specs.Asking.{AreAskedIn, AskMore}
 use Rattle.gs_world_lift.specs.Going.{AllSent, Elsewhere, Kind, MasterGoes, OfMaster, OfServer, about_of, heard_in}
 use Rattle.gs_world_lift.specs.Left.{Arranges, Cuts, Does, Keeps, MasterDoesAll, as_left, left_in}
-use Rattle.gs_world_lift.specs.LeftRunning.{RunsLasting, StoreLeadsAll}
 use Rattle.gs_world_lift.specs.LeftTelling.{AreAskedOverAll, AskOnAll, StoreTellsOnAll, StoresTellFirstAll, StoresTellOnAll, StoresTellRunAll}
 use Rattle.gs_world_lift.specs.Living.{GoesOn, StoreLives}
 use Rattle.gs_world_lift.specs.Saying.{AreOfMaster, PushRight}

@@ -1,6 +1,6 @@
 -- All chunks of a store at once, behind whatever the master does, where all of them go on with their rows: each goes on, is born, or isn't born yet.
-use Rattle.std.proofs.Common.{◌≡◌, ◌∙◌, ◌&&◌, ◌||◌, ◌<◌, ◌≤◌, ◌⊎◌, ℕ, take, Bool, true, false, List, [], ◌∷◌, length, Option, Some, None, refl, sym, ap, subst, inl, inr, slice_get, arith}
-use Rattle.std.specs.Prelude.{Contains, is_some}
+use Rattle.std.proofs.Common.{◌≡◌, ◌∙◌, ◌<◌, ◌≤◌, ◌⊎◌, ℕ, take, Bool, true, false, List, [], ◌∷◌, length, Option, Some, None, refl, sym, subst, inl, inr, slice_get, arith}
+use Rattle.std.specs.Prelude.{Contains}
 use Rattle.std.specs.List.{AllByRecursion}
 use Rattle.std.proofs.lemmas.List.{take_all}
 use Rattle.gs_base.specs.declared.config.Config.{Config}
@@ -9,7 +9,6 @@ use Rattle.gs_base.specs.declared.numbers.ReqId.{ReqId}
 use Rattle.gs_base.specs.declared.numbers.Stamp.{Stamp}
 use Rattle.gs_block.specs.Written.{HasBlocks}
 use Rattle.gs_master_laws.specs.Promises.{IsKept}
-use Rattle.gs_master_laws.specs.Standing.{AreCounters}
 use Rattle.gs_master.specs.Masters.{MasterOf}
 use Rattle.gs_msg.specs.declared.body.Body.{Body}
 use Rattle.gs_msg.specs.declared.body.Body.TheVariants as bodies
@@ -17,63 +16,44 @@ use Rattle.gs_msg.specs.declared.message.Message.{Message}
 use Rattle.gs_msg.specs.declared.node.NodeId.{NodeId}
 use Rattle.gs_msg.specs.declared.node.NodeId.TheVariants as ids
 use Rattle.gs_replica.specs.Stands.{Edit, replica_of}
-use Rattle.gs_server.specs.Places.{Place}
-use Rattle.gs_server.specs.Servers.{Server}
-use Rattle.gs_master_spec.specs.Durable.{Durable, is_given}
-use Rattle.gs_master_spec.specs.Handling.{restarted}
-use Rattle.gs_master_spec.specs.State.{Log, State, Turn}
-use Rattle.gs_store.specs.Slots.{sealed_of}
+use Rattle.gs_master_spec.specs.Durable.{is_given}
+use Rattle.gs_master_spec.specs.State.{State}
 use Rattle.gs_nodes.specs.declared.place.MasterPlace.TheVariants.{Standing}
 use Rattle.gs_world.specs.Histories.{History}
-use Rattle.gs_world.specs.Lasting.{Lasts}
 use Rattle.gs_chunk.specs.Machine.{Member, ChunkWorld}
 use Rattle.gs_chunk.specs.Machine as machine
 use Rattle.gs_chunk.specs.Events.{Leads, marked}
-use Rattle.gs_chunk.specs.Events as events
 use Rattle.gs_chunk.specs.Laws.{Birth}
 use Rattle.gs_server_member.specs.Showing.{Setting}
 use Rattle.gs_server_member.specs.Telling.{ServersTell}
 use Rattle.gs_master_entry.specs.Families.{ComesFrom, CopiesOf, CopiesTo as CopiesThere, FamilyGoes, HeardOf, IsCopiedTo, IsCopyOf, ListsFrom, MarksOf, is_kept}
 use Rattle.gs_master_entry.specs.Families as families
-use Rattle.gs_master_entry.specs.Laws.{Reaches, StaysKnownSo}
 use Rattle.gs_master_entry.specs.Rows.{AreCopiedSince, FamilyRows, RowsIn}
 use Rattle.gs_master_entry.specs.Telling.{IsSameMember, Marks, Says, Shows}
 use Rattle.gs_master_entry.specs.Telling as entry
 use Rattle.gs_master_entry.specs.Unborn as unborn
 use Rattle.gs_master_entry.proofs.Families.{family_lists}
-use Rattle.gs_master_entry.proofs.Rows.{families_go_by_rows}
 use Rattle.gs_master_entry.proofs.Leading.{masters_leave}
-use Rattle.gs_master_entry.proofs.Restarting.{restarts_reach}
-use Rattle.gs_master_entry.proofs.Sending.{heard_more, leads_on, masters_on}
-use Rattle.gs_master_entry.proofs.Unborn.{restarts_unborn}
-use Rattle.gs_master_moves.specs.Asked.{WasHeard}
-use Rattle.gs_master_moves.specs.Guards.{Heard, IsMade}
-use Rattle.gs_master_moves.specs.Laws.{IsMadeWell}
-use Rattle.gs_master_moves.specs.Moves.{Chain}
-use Rattle.gs_master_moves.specs.Epochs.{EndsOnce}
-use Rattle.gs_master_moves.proofs.Fitting.{mapped, once_chain}
-use Rattle.gs_master_moves.proofs.Rows.{copies_are_new}
+use Rattle.gs_master_entry.proofs.Sending.{leads_on, masters_on}
 use Rattle.gs_world.specs.Runs.{Step}
 use Rattle.gs_world_lift.specs.Among.{TextsAmong}
 use Rattle.gs_world_lift.specs.Copying.{MakesOther, is_copied}
-use Rattle.gs_world_lift.specs.Doing.{HasDurable, IsHeardIn}
+use Rattle.gs_world_lift.specs.Doing.{HasDurable}
 use Rattle.gs_world_lift.specs.Going.{AllSent, Posts}
 use Rattle.gs_world_lift.specs.Joint.{AtMaster}
 use Rattle.gs_world_lift.specs.Living.{BeginsOld, BornFrom, CopiesTo, GoesOn, IsCopy, StoreLives, TextsOf}
 use Rattle.gs_world_lift.specs.Saying.{PushRight}
-use Rattle.gs_world_lift.specs.Showing.{IsAlive, Life, ShowsMaster, ShowsStore, is_live_whole, is_over, is_seal_whole, is_whole_there, setting, whole_in}
+use Rattle.gs_world_lift.specs.Showing.{IsAlive, Life, ShowsMaster, ShowsStore, setting, whole_in}
 use Rattle.gs_world_lift.specs.Unborn.{IsUnborn, IsUnknown}
 use Rattle.gs_world_lift.proofs.Among.{old_among}
-use Rattle.gs_world_lift.proofs.Births.{all_before, born_shown, heard_silent, stays_unborn}
-use Rattle.gs_world_lift.proofs.Durable.{durable_shown, kept_there, unknown_on}
-use Rattle.gs_world_lift.proofs.Joint.{all_of_master, body_grown, chain_of_master}
+use Rattle.gs_world_lift.proofs.Births.{all_before, born_shown, stays_unborn}
+use Rattle.gs_world_lift.proofs.Durable.{durable_shown, unknown_on}
+use Rattle.gs_world_lift.proofs.Joint.{all_of_master, body_grown}
 use Rattle.gs_world_lift.proofs.Living.{AllNext, copies_there}
-use Rattle.gs_world_lift.proofs.Machines.{reached_then}
-use Rattle.gs_world_lift.proofs.Mastering.{heard_so, marks_live, members_then}
-use Rattle.gs_world_lift.proofs.Copying.{copied_there, makes_others}
+use Rattle.gs_world_lift.proofs.Mastering.{members_then}
+use Rattle.gs_world_lift.proofs.Copying.{copied_there}
 use Rattle.gs_world_lift.proofs.Posting.{HasSaid, posted_all, sent_then}
 use Rattle.gs_world_lift.proofs.Rowing.{copies_readied, rows_readied}
-use Rattle.gs_world_lift.proofs.Reopening.{none_asked}
 use Rattle.gs_nodes.specs.Nodes.{with_master}
 use Rattle.gs_world_lift.proofs.Chains.{Begun, Linked as AreLinked, Readied}
 use Rattle.gs_world_lift.specs.Saying.{AreOfMaster}
