@@ -1,6 +1,15 @@
 -- What is seen of all chunks behind each run of a store, whatever disks of the master fail.
-use Rattle.std.proofs.Common.{◌≡◌, ◌∙◌, ℕ, Bool, true, false, List, [], ◌∷◌, Some, refl, sym, ap, subst}
+use Rattle.std.proofs.Common.{◌≡◌, ◌∙◌, ℕ, Bool, true, false, List, [], ◌∷◌, Option, Some, None, refl, sym, ap, subst}
 use Rattle.std.specs.Prelude.{MatchBool}
+use Rattle.std.specs.FinMap as fin
+use Rattle.gs_base.specs.declared.numbers.Moment.{Moment}
+use Rattle.gs_base.specs.declared.numbers.Stamp.{Stamp}
+use Rattle.gs_master_spec.specs.Applied.{view_in}
+use Rattle.gs_msg.specs.declared.event.Happening.{Happening}
+use Rattle.gs_msg.specs.declared.event.Happening.TheVariants as happenings
+use Rattle.gs_msg.specs.declared.message.Message.{Message}
+use Rattle.gs_replica.specs.Stands.{Edit}
+use Rattle.gs_world_chunks.specs.Moving.{account_behind, list_behind, numbered, numbered_at, numbered_by, numbered_of, server_of}
 use Rattle.gs_base.specs.declared.numbers.ReqId.{ReqId}
 use Rattle.gs_block.specs.Written.{TellsApart}
 use Rattle.gs_chunk.specs.Machine.{ChunkWorld}
@@ -18,7 +27,7 @@ use Rattle.gs_world.proofs.Reaching.{HaveSizes}
 use Rattle.gs_world.proofs.Sending.{chained, step_stays}
 use Rattle.gs_world.specs.Histories.{History}
 use Rattle.gs_world.specs.Lasting.{IsToldIn, Lasts}
-use Rattle.gs_world.specs.Runs.{StaySent, Step}
+use Rattle.gs_world.specs.Runs.{Comes, StaySent, Step, Takes}
 use Rattle.gs_world.specs.Sent.{message_of}
 use Rattle.gs_world_laws.proofs.Keeping.{begins_keeping}
 use Rattle.gs_world_laws.proofs.Steady.{tells_one}
@@ -92,6 +101,38 @@ module _ {D : Type 0} (seen : D → List ℕ) where
   armed_left (Closed first second) new (other, another, is, one, two) = (other, another, ap as_left is, one, two)
   armed_left Away new is = ap as_left is
 
+-- ---- the account goes by servers and by what was sent
+
+module _ {D : Type 0} (old new : History D) where
+  numbered_in : (id : Option ℕ) (message : Message) (moment : Moment) (chunk : ℕ) → numbered_by id message moment (left_in old) (left_in new) chunk ≡ numbered_by id message moment old new chunk
+  numbered_in None message moment chunk = refl
+  numbered_in (Some id) message moment chunk = refl
+
+  numbered_heard : (message : Option Message) (moment : Moment) (chunk : ℕ) → numbered_of message moment (left_in old) (left_in new) chunk ≡ numbered_of message moment old new chunk
+  numbered_heard None moment chunk = refl
+  numbered_heard (Some message) moment chunk = numbered_in (server_of message.to) message moment chunk
+
+  numbered_there : (happening : Happening) (moment : Moment) (chunk : ℕ) → numbered_at happening moment (left_in old) (left_in new) chunk ≡ numbered_at happening moment old new chunk
+  numbered_there (happenings.Ask req request) moment chunk = refl
+  numbered_there (happenings.Deliver id) moment chunk = numbered_heard (message_of old.sent id) moment chunk
+  numbered_there (happenings.Tick node) moment chunk = refl
+  numbered_there (happenings.Beat id) moment chunk = refl
+  numbered_there (happenings.Restart node) moment chunk = refl
+  numbered_there (happenings.Lose id handle) moment chunk = refl
+  numbered_there (happenings.Damage id handle block) moment chunk = refl
+  numbered_there (happenings.FailDisk disk call) moment chunk = refl
+
+  numbered_left : (step : Step) (chunk : ℕ) → numbered step (left_in old) (left_in new) chunk ≡ numbered step old new chunk
+  numbered_left (Comes event) chunk = numbered_there event.happening event.moment chunk
+  numbered_left (Takes client) chunk = refl
+
+  abbrev with_numbered : Step → Account → Durable → (ℕ → Option (Stamp × Edit)) → Account
+  with_numbered step a d found = record (account_behind step old a new d) { list = λ chunk stamp. list_behind a new.sent d (found chunk) chunk stamp (view_in (fin.get d.chunks chunk)) }
+
+  -- so it is the same of what is left
+  pub account_left : (step : Step) (a : Account) (d : Durable) → account_behind step old a new d ≡ account_behind step (left_in old) a (left_in new) d
+  account_left step a d = sym (ap (with_numbered step a d) (λ i chunk. numbered_left step chunk i))
+
 module _ {D : Type 0} (x : Setup D) (given : IsGiven x) where
   pub arms_left : ArmsLeft x.seen x.armed
   arms_left = record {
@@ -144,7 +185,7 @@ module _ {D : Type 0} (x : Setup D) (asked : ℕ → Asked) (given : IsGiven x) 
       let behind = one_through x given step old mid lasts types moves.steps in
       let goes = stores_go_all x.seen x.failures x.armed x.config bytes x.among (record { arming = arms_left x given; apart = apart; empty = empty_text x asked given }) step old mid first.lives moves.steps.goes is_named (lasts_left x.seen mid.nodes.master behind.0)
       (all_among x asked given mid keeps_mid moves.steps.among) right in
-      let account : IsAccounted x step (left_in old) a (left_in mid) c = record { told = told_left x.seen mid.nodes.master c.durable moves.told; account = moves.account } in
+      let account : IsAccounted x step (left_in old) a (left_in mid) c = record { told = told_left x.seen mid.nodes.master c.durable moves.told; account = moves.account ∙ account_left old mid step a c.durable } in
       record {
         goes = goes;
         tells = stores_tell_on_all x.seen x.failures x.armed x.config bytes x.among asked step old mid first.lives goes one first.tells;
