@@ -1,4 +1,8 @@
 -- What a client's call to commit a rollback is answered.
+use Rattle.gs_world_chunks.proofs.Holding.{prepared_reached, reach_more, runs_of}
+use Rattle.gs_world_chunks.proofs.Told.{reached_sound}
+use Rattle.gs_world.specs.Lasting.{Lasts, StandsFirm, failures_at}
+use Rattle.gs_world_lift.specs.Left.{as_left}
 use Rattle.std.proofs.Common.{arith, ◌≡◌, ◌∙◌, inl, inr, ◌⊎◌, ◌<◌, ◌&&◌, ℕ, Bool, true, false, List, [], ◌∷◌, Option, Some, None, Result, Ok, Err, refl, ap, subst, sym}
 use Rattle.std.specs.Prelude.{is_some, if◌then◌else◌}
 use Rattle.std.specs.FinMap as fin
@@ -36,16 +40,20 @@ use Rattle.gs_nodes.specs.Happenings.{met_by}
 use Rattle.gs_nodes.specs.declared.place.MasterPlace.TheVariants.{Standing}
 use Rattle.gs_refs.specs.Counts.{count_or_zero}
 use Rattle.gs_world.proofs.Reaching.{HaveSizes}
-use Rattle.gs_world_chunks.specs.Running.{Setup}
+use Rattle.gs_world.specs.Histories.{History}
+use Rattle.gs_world.specs.Runs.{Step}
+use Rattle.gs_world_chunks.specs.Accounts.{Account}
+use Rattle.gs_world_chunks.specs.Running.{Moves, Setup}
+use Rattle.gs_world_chunks.specs.Upgrading.{IsUpgrading}
 use Rattle.gs_world_chunks.proofs.Edits.{AreNumbered}
 use Rattle.gs_world_laws.specs.Steady.{StandsSteady}
-use Rattle.gs_world_chunks.proofs.Became.{Became, ByItself, ByMessage, IsHearing, Opened, Stays, Turns, Waits, became}
+use Rattle.gs_world_chunks.proofs.Became.{Became, BecameAll, Cuts, Loses, Whole, ByItself, ByMessage, IsHearing, Opened, Stays, Turns, Waits, became}
 use Rattle.gs_world_chunks.proofs.Counted.{named_restored}
 use Rattle.gs_world_chunks.proofs.Going.{committed_ordinary}
 use Rattle.gs_world_chunks.proofs.Leading.{has_at, steady_at}
 use Rattle.gs_world_chunks.proofs.Telling.{NowSo, none_unnamed, now_so, same_master, told_has}
-use Rattle.gs_world_chunks.proofs.Well.{step_well}
-use Rattle.gs_world_chunks.specs.Accepting.{CommitsAreDecided, IsAsItWas, IsDecided, WasNamed, met_at, references_then}
+use Rattle.gs_world_chunks.proofs.Well.{left_sound, step_well, well_steady}
+use Rattle.gs_world_chunks.specs.Accepting.{AsksToCommit, CommitsAreDecided, DisksHold, IsAsItWas, IsDecided, WasNamed, met_at, references_then}
 
 -- ---- the call comes to its own tests
 
@@ -123,8 +131,18 @@ both_true : (a b : Bool) → a ≡ true → b ≡ true → (a && b) ≡ true
 both_true true b p q = q
 both_true false b p q = absurd (false≢true p)
 
+-- no disk fails, where none may, or none does
+pub holds_at : HaveSizes → AreNumbered → {D : Type 0} (x : Setup D) (prepared now next : History D) (before after back : Account) (step : Step) (upgrade : IsUpgrading x prepared before now after) (moves : Moves x step now after next back) (asks : AsksToCommit x now step) → (x.fails ≡ true → DisksHold x now next step asks) → DisksHold x now next step asks
+holds_at sizes law x prepared now next before after back step upgrade moves asks holds_if = by_setup x.fails refl
+  where
+    by_setup : (fails : Bool) → x.fails ≡ fails → DisksHold x now next step asks
+    by_setup true may = holds_if may
+    by_setup false quiet =
+        let sound = reached_sound x quiet now after (reach_more x prepared now before after upgrade.steps (prepared_reached sizes law x prepared now before after upgrade) (runs_of x upgrade.steps prepared now before after upgrade.runs)) in
+        let firm : StandsFirm x.seen asks.master = subst (Lasts x.seen) asks.there sound.lasts in record { sound = firm.sound; none = moves.steps.sound quiet }
+
 pub decided : HaveSizes → AreNumbered → {D : Type 0} (x : Setup D) → CommitsAreDecided x
-decided sizes law {D} x prepared now next before after back step upgrade moves asks = by_case (became x n.given step now next n.well moves.steps)
+decided sizes law {D} x prepared now next before after back step upgrade moves asks holds_if = by_all (became x n.given step now next n.well moves.steps)
   where
     n : NowSo x prepared now before after upgrade
     n = now_so x prepared now before after upgrade
@@ -132,11 +150,17 @@ decided sizes law {D} x prepared now next before after back step upgrade moves a
     m : MasterOf D
     m = asks.master
 
+    holds : DisksHold x now next step asks
+    holds = holds_at sizes law x prepared now next before after back step upgrade moves asks holds_if
+
+    at_left : as_left now.nodes.master ≡ Standing m
+    at_left = ap as_left asks.there ∙ left_sound x.seen m holds.sound
+
     steady : StandsSteady x.seen m
-    steady = steady_at x now.nodes.master m asks.there n.well.steady
+    steady = steady_at x (as_left now.nodes.master) m at_left (well_steady x now n.well)
 
     same : after.durable ≡ m.state.durable
-    same = has_at x now.nodes.master m after.durable asks.there n.has
+    same = has_at x (as_left now.nodes.master) m after.durable at_left n.has
 
     since : IsSince before.durable m.state.durable
     since = subst (IsSince before.durable) same n.since
@@ -172,7 +196,7 @@ decided sizes law {D} x prepared now next before after back step upgrade moves a
         by_count : (o : Option ℕ) → fin.get before.durable.names.refs less ≡ o → 0 < count_or_zero o → WasNamed x prepared before now after upgrade less
         by_count None has few = absurd (omega arith)
         by_count (Some count) has few =
-            let told = f.lower less count lt (ap (λ (names : NamesView). fin.get names.refs less) (names_is (sym f.back ∙ since.back)) ∙ has) few in n.named m asks.there less told.0 (ap is_some has) told.1
+            let told = f.lower less count lt (ap (λ (names : NamesView). fin.get names.refs less) (names_is (sym f.back ∙ since.back)) ∙ has) few in n.named m at_left less told.0 (ap is_some has) told.1
 
     refused_for : (chunk : ℕ) → IsAsItWas asks.req (refusals.Unrestored chunk) after.durable back.durable → (rollback_commit m.state asks.req).said ≡ Some (refusals.Unrestored chunk) → met_at x step now next moves.steps.goes ≡ Err (refusals.Unrestored chunk) → IsDecided x prepared before now after upgrade asks.req (met_at x step now next moves.steps.goes) back
     refused_for chunk kept t so = record {
@@ -180,7 +204,7 @@ decided sizes law {D} x prepared now next before after back step upgrade moves a
       refused = λ c e.
           (let f = (order.unrestored c).0 (t ∙ ap Some (err_is (sym so ∙ e))) in record {
             referred = referred_so c f;
-            unnamed = λ named. f.lacks (named_restored sizes law x prepared now before after upgrade m c asks.there same n.well.steady n.since rolling named);
+            unnamed = λ named. f.lacks (named_restored sizes law x prepared now before after upgrade m c at_left same (well_steady x now n.well) n.since rolling named);
             lower = λ less lt more. lower_so c f less lt more;
           });
       kept = λ other e. subst (λ r. IsAsItWas asks.req r after.durable back.durable) (err_is (sym so ∙ e)) kept;
@@ -216,7 +240,7 @@ decided sizes law {D} x prepared now next before after back step upgrade moves a
     by_said fit leaves (inr (inl (chunk, t))) so there = refused_for chunk (kept_so (refusals.Unrestored chunk) leaves t there) t (so ∙ ap met_by t)
     by_said fit leaves (inr (inr full)) so there = other refusals.Full (so ∙ ap met_by full) (kept_so refusals.Full leaves full there) not_full (inl (so ∙ ap met_by full))
 
-    at_turn : (after_m : MasterOf D) (heard : Heard) (t : Turn) → next.nodes.master ≡ Standing after_m → AllFit m.state t → after_m.state ≡ t.after → IsHearing step now.sent (met_at x step now next moves.steps.goes) m.config m.state heard t
+    at_turn : (after_m : MasterOf D) (heard : Heard) (t : Turn) → (as_left next.nodes.master) ≡ Standing after_m → AllFit m.state t → after_m.state ≡ t.after → IsHearing step now.sent (met_at x step now next moves.steps.goes) m.config m.state heard t
         → IsDecided x prepared before now after upgrade asks.req (met_at x step now next moves.steps.goes) back
     at_turn after_m heard t to fit is (ByItself alone unheard left) = absurd (false≢true (ap is_some (sym unheard ∙ asks.heard)))
     at_turn after_m heard t to fit is (ByMessage message moment found hearing is_turn says) =
@@ -225,17 +249,23 @@ decided sizes law {D} x prepared now next before after back step upgrade moves a
         let turn : t ≡ rollback_commit m.state asks.req = is_turn ∙ ap (λ it. handle m.config m.state it moment) one ∙ judgement in
         let call : call_turn m.config m.state asks.req moment calls.RollbackCommit ≡ rollback_commit m.state asks.req = sym (called m.config m.state asks.message moment asks.req asks.client asks.from asks.asks) ∙ judgement in
         let leaves : LeavesSo m.state asks.req = subst (λ (u : Turn). (refusal : Refusal) → u.said ≡ Some refusal → LeavesAll m.state asks.req refusal u) call (refused_leaves_all m.config m.state asks.req moment calls.RollbackCommit) in
-        let there = has_at x next.nodes.master after_m back.durable to (told_has x next back.durable (step_well x n.given step now next n.well moves.steps) moves.told) ∙ ap (λ (s : State). s.durable) is ∙ ap (λ (u : Turn). u.after.durable) turn in
+        let there = has_at x (as_left next.nodes.master) after_m back.durable to (told_has x next back.durable (step_well x n.given step now next n.well moves.steps) moves.told) ∙ ap (λ (s : State). s.durable) is ∙ ap (λ (u : Turn). u.after.durable) turn in
         by_said (subst (AllFit m.state) turn fit) leaves (commit_says m.state asks.req before.durable.names asks.rolling since.back) (says ∙ ap (λ (u : Turn). met_by u.said) turn) there
 
-    by_case : Became x.seen step now.sent (met_at x step now next moves.steps.goes) now.nodes.master next.nodes.master → IsDecided x prepared before now after upgrade asks.req (met_at x step now next moves.steps.goes) back
+    by_case : Became x.seen step now.sent (met_at x step now next moves.steps.goes) (as_left now.nodes.master) (as_left next.nodes.master) → IsDecided x prepared before now after upgrade asks.req (met_at x step now next moves.steps.goes) back
     by_case (Stays here after_m at to is low calm) =
         let memory = low asks.message asks.heard in
-        let there : back.durable ≡ here.state.durable = has_at x next.nodes.master after_m back.durable to (told_has x next back.durable (step_well x n.given step now next n.well moves.steps) moves.told) ∙ ap (λ (s : State). s.durable) is in
-        let was : after.durable ≡ here.state.durable = has_at x now.nodes.master here after.durable at n.has in
+        let there : back.durable ≡ here.state.durable = has_at x (as_left next.nodes.master) after_m back.durable to (told_has x next back.durable (step_well x n.given step now next n.well moves.steps) moves.told) ∙ ap (λ (s : State). s.durable) is in
+        let was : after.durable ≡ here.state.durable = has_at x (as_left now.nodes.master) here after.durable at n.has in
         other refusals.Memory memory (inl (there ∙ sym was)) not_memory (inr memory)
     by_case (Turns here after_m heard t at to turn written is hears calm) =
-        let master = same_master now.nodes.master here m at asks.there in
+        let master = same_master (as_left now.nodes.master) here m at at_left in
         at_turn after_m heard t to (subst (λ (z : MasterOf D). AllFit z.state t) master (turn_fits here.config heard here.state t turn written)) is (subst (λ (z : MasterOf D). IsHearing step now.sent (met_at x step now next moves.steps.goes) z.config z.state heard t) master hears)
     by_case (Opened after_m d log had to is unheard again) = absurd (false≢true (ap is_some (sym unheard ∙ asks.heard)))
-    by_case (Waits none f unheard) = absurd (false≢true (ap is_some (sym (unheard m asks.there) ∙ asks.heard)))
+    by_case (Waits none f unheard) = absurd (false≢true (ap is_some (sym (unheard m at_left) ∙ asks.heard)))
+
+    by_all : BecameAll x.seen step now.sent (met_at x step now next moves.steps.goes) (failures_at x.failures next.nodes.master ≡ failures_at x.failures now.nodes.master) (as_left now.nodes.master) (as_left next.nodes.master)
+        → IsDecided x prepared before now after upgrade asks.req (met_at x step now next moves.steps.goes) back
+    by_all (Whole b) = by_case b
+    by_all (Loses here at none fails f) = absurd (fails holds.none)
+    by_all (Cuts here heard t many f at none fails turn written low stand has) = absurd (fails holds.none)

@@ -8,7 +8,7 @@ use Rattle.gs_base.specs.declared.numbers.ReqId.{ReqId}
 use Rattle.gs_world_chunks.specs.Accounts.{Account}
 use Rattle.gs_world_chunks.specs.Moving.{call_in, comes_to, event_at, is_server, server_of}
 use Rattle.gs_world_chunks.specs.Running.{IsToldAt, Setup}
-use Rattle.gs_world_chunks.specs.Through.{IsAccounted, accounted}
+use Rattle.gs_world_chunks.specs.Running.{IsAccounted, accounted}
 use Rattle.gs_chunk.specs.Events.{Leads, Rests}
 use Rattle.gs_chunk.specs.Laws.{IsReached, IsUpgrading, is_member, world_of}
 use Rattle.gs_chunk.specs.Machine.{Entry, Member, ChunkWorld}

@@ -24,7 +24,7 @@ use Rattle.gs_world_chunks.specs.Moving.{account_behind}
 use Rattle.gs_world_chunks.specs.Running.{IsToldAt, Setup}
 use Rattle.gs_world_chunks.specs.Agreeing.{Agrees, CopiesNone, CopyShows, IsBlank, OriginShows}
 use Rattle.gs_world_chunks.specs.Joining.{AgreesAt, Life, StoreAgrees, StoresAgreeFirst, StoresAgreeOn}
-use Rattle.gs_world_chunks.specs.Through.{IsAccounted, accounted}
+use Rattle.gs_world_chunks.specs.Running.{IsAccounted, accounted}
 use Rattle.gs_world_chunks.proofs.Agreeing.{master_copied, masters_agree, server_copied, servers_agree, still_agrees, still_copied}
 use Rattle.gs_world_chunks.proofs.Births.{birth_copied, births_agree}
 use Rattle.gs_world_chunks.proofs.Origins.{CopiedAt, copied_same, origin_shows, unborn_copies_none}

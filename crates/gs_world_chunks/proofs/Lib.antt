@@ -63,3 +63,5 @@ mod Answering
 mod Accepted
 pub mod Through
 pub mod SeeingThrough
+mod MasterSays
+mod Cutting

@@ -10,7 +10,7 @@ use Rattle.gs_world_laws.specs.Reached.{history, unarmed}
 use Rattle.gs_world_laws.specs.Saying.{IsStepWithin, RunsQuietly}
 use Rattle.gs_nodes.specs.declared.place.MasterPlace.{MasterPlace}
 use Rattle.gs_nodes.specs.declared.place.MasterPlace.TheVariants.{Standing, Closed, Away}
-use Rattle.gs_world_chunks.proofs.Told.{have_accounts}
+use Rattle.gs_world_chunks.proofs.Through.{have_accounts}
 use Rattle.gs_world_chunks.specs.Running.{IsArmed, IsGiven, RunsBare}
 use Rattle.gs_world_chunks.specs.Scripts.{AreAlways, EachScriptIsReached, setup_of}
 
@@ -24,7 +24,7 @@ module _ {D : Type 0} (seen : D → List ℕ) (failures : D → ℕ) (config : C
   -- the steps are such as runs are made of
   runs_bare : (steps : List Step) (old new : History D) (runs : RunsQuietly seen failures unarmed steps old new) → AllByRecursion IsStepWithin steps → AreAlways seen failures among steps old new runs → RunsBare (setup_of seen failures config disks among) steps old new
   runs_bare [] old new same within always = same
-  runs_bare (step ∷ steps) old new (mid, goes, quiet, rest) within always = (mid, record { goes = goes; within = within.0; among = always.0; sound = quiet }, runs_bare steps mid new rest within.1 always.1)
+  runs_bare (step ∷ steps) old new (mid, goes, quiet, rest) within always = (mid, record { goes = goes; within = within.0; among = always.0; sound = λ never. quiet }, runs_bare steps mid new rest within.1 always.1)
 
 pub each_script_is_reached : (D : Type 0) → EachScriptIsReached D
 each_script_is_reached D seen failures config disks desk r none runs among empty apart always =

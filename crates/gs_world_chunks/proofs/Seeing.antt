@@ -1,5 +1,5 @@
 -- What is seen of all chunks behind each run of a store, and in two worlds of one.
-use Rattle.std.proofs.Common.{◌≡◌, ◌∙◌, ℕ, List, [], ◌∷◌, refl, sym, ap, subst, inl, inr}
+use Rattle.std.proofs.Common.{◌≡◌, ◌∙◌, ℕ, List, [], ◌∷◌, false, refl, sym, ap, subst, inl, inr}
 use Rattle.std.proofs.lemmas.Bool.{false≢true}
 use Rattle.gs_base.specs.declared.numbers.ReqId.{ReqId}
 use Rattle.gs_world_chunks.specs.Accounts.{Account}
@@ -40,7 +40,7 @@ use Rattle.gs_world_chunks.specs.Agreeing.{ListsStay}
 use Rattle.gs_world_chunks.specs.Joining.{StoreAgrees}
 use Rattle.gs_world_chunks.specs.Reached.{EachIsARun, EachLeadsOn, Shows}
 use Rattle.gs_world_chunks.specs.Seeing.{EachIsSeen, EachSeesOn, IntactAt, Sees, SeesOn}
-use Rattle.gs_world_chunks.specs.Through.{IsAccounted, accounted}
+use Rattle.gs_world_chunks.specs.Running.{IsAccounted, accounted}
 
 -- ---- a step of one chunk
 
@@ -77,9 +77,22 @@ pub sees_still : {D : Type 0} (x : Setup D) (bytes : ReqId → List ℕ) (chunk 
 sees_still x bytes chunk h a (inl unborn) = tt
 sees_still x bytes chunk h a (inr l) = (refl, Rests, λ t within same. same)
 
+-- ---- where a store begins new
+
+module _ {D : Type 0} (x : Setup D) (asked : ℕ → Asked) (given : IsGiven x) where
+  -- when a store begins new no server survives anything
+  nobody_intact : (begun : History D) (a : Account) → IsNew x begun a → (chunk : ℕ) (life : Life x.seen x.config (bytes_in asked) chunk begun) → IntactAt x (bytes_in asked) a chunk begun life
+  nobody_intact begun a new chunk (inl unborn) = tt
+  nobody_intact begun a new chunk (inr l) = λ e j upgrading known fit is. absurd (false≢true (sym (ap (λ (c : Account). c.intact chunk j) new.account) ∙ is))
+
+  pub sees_first : HaveSizes → (begun : History D) (first : Account) → IsNew x begun first → AllSent (PushRight (bytes_in asked)) begun.sent → AllSent (IsOfOneEdit asked) begun.sent → Sees x asked begun first
+  sees_first sizes begun first new right one =
+      let shows = shows_first x asked given sizes begun first new right one in
+      record { lives = shows.lives; tells = shows.tells; agrees = stores_agree_first x (bytes_in asked) begun first shows.lives new; intact = λ chunk. nobody_intact begun first new chunk (shows.lives.life chunk) }
+
 -- ---- all of them
 
-module _ {D : Type 0} (x : Setup D) (asked : ℕ → Asked) (given : IsGiven x) (law : AreNumbered) where
+module _ {D : Type 0} (x : Setup D) (asked : ℕ → Asked) (given : IsGiven x) (quiet : x.fails ≡ false) (law : AreNumbered) where
   abbrev bytes : ReqId → List ℕ
   bytes = bytes_in asked
 
@@ -95,13 +108,13 @@ module _ {D : Type 0} (x : Setup D) (asked : ℕ → Asked) (given : IsGiven x) 
   sees_step apart step old mid a c first types moves right one =
       let is_named = named x step old moves.steps.within types in
       let keeps_mid = keeps_then x.seen x.failures x.armed x.config bytes step old mid first.lives.pushes first.lives.keeps (kind_of x.seen x.failures x.armed step old mid moves.steps.goes is_named) in
-      let goes = stores_go_on x.seen x.failures x.armed x.config bytes x.among (arms_shown x asked given) (arms_lasting x asked given) (arms_unknown x asked given) apart (empty_text x asked given) step old mid first.lives moves.steps.goes is_named moves.steps.sound (all_among x asked given mid keeps_mid moves.steps.among) right in
+      let goes = stores_go_on x.seen x.failures x.armed x.config bytes x.among (arms_shown x asked given) (arms_lasting x asked given) (arms_unknown x asked given) apart (empty_text x asked given) step old mid first.lives moves.steps.goes is_named (moves.steps.sound quiet) (all_among x asked given mid keeps_mid moves.steps.among) right in
       record {
         goes = goes;
-        tells = stores_tell_on x.seen x.failures x.armed x.config bytes x.among asked step old mid first.lives goes moves.steps.sound one first.tells;
+        tells = stores_tell_on x.seen x.failures x.armed x.config bytes x.among asked step old mid first.lives goes (moves.steps.sound quiet) one first.tells;
         agrees = stores_agree_on x bytes law step old mid a c first.lives goes moves first.agrees;
         intact = stores_stay_intact x bytes step old mid a c first.lives goes moves first.agrees first.intact;
-        types = (one_lasts x given step old mid first.lives.lasts types moves.steps).1;
+        types = (one_lasts x given quiet step old mid first.lives.lasts types moves.steps).1;
       }
 
   -- from a world in which all is seen steps lead to another
@@ -120,40 +133,30 @@ module _ {D : Type 0} (x : Setup D) (asked : ℕ → Asked) (given : IsGiven x) 
       let more = sees_run apart steps mid new c b then next.types rest right one in
       record { last = more.last; on = λ chunk. sees_more x bytes law step old mid a c (accounted x step old a mid c moves) first.lives next.goes.last first.agrees chunk _ new b (first.lives.life chunk) (next.goes.last.life chunk) (more.last.lives.life chunk) (next.goes.goes chunk) (more.on chunk) }
 
-  -- when a store begins new no server survives anything
-  nobody_intact : (begun : History D) (a : Account) → IsNew x begun a → (chunk : ℕ) (life : Life x.seen x.config bytes chunk begun) → IntactAt x bytes a chunk begun life
-  nobody_intact begun a new chunk (inl unborn) = tt
-  nobody_intact begun a new chunk (inr l) = λ e j upgrading known fit is. absurd (false≢true (sym (ap (λ (c : Account). c.intact chunk j) new.account) ∙ is))
-
-  pub sees_first : HaveSizes → (begun : History D) (first : Account) → IsNew x begun first → AllSent (PushRight bytes) begun.sent → AllSent (IsOfOneEdit asked) begun.sent → Sees x asked begun first
-  sees_first sizes begun first new right one =
-      let shows = shows_first x asked given sizes begun first new right one in
-      record { lives = shows.lives; tells = shows.tells; agrees = stores_agree_first x bytes begun first shows.lives new; intact = λ chunk. nobody_intact begun first new chunk (shows.lives.life chunk) }
-
 -- behind each run, for all that is said to be asked by which what was sent for a request is of its one edit
-pub sees_for : HaveSizes → AreNumbered → {D : Type 0} (x : Setup D) (asked : ℕ → Asked) (now : History D) (a : Account) → IsReached x now a → AllSent (PushRight (bytes_in asked)) now.sent → AllSent (IsOfOneEdit asked) now.sent → Sees x asked now a
-sees_for sizes law x asked now a r right one =
+pub sees_for : HaveSizes → AreNumbered → {D : Type 0} (x : Setup D) → x.fails ≡ false → (asked : ℕ → Asked) (now : History D) (a : Account) → IsReached x now a → AllSent (PushRight (bytes_in asked)) now.sent → AllSent (IsOfOneEdit asked) now.sent → Sees x asked now a
+sees_for sizes law x quiet asked now a r right one =
     let given = r.begins.given in
     let stays = run_stays x asked given r.steps r.begun now r.first a r.runs in
-    let first = sees_first x asked given law sizes r.begun r.first r.begins (before x.seen x.failures x.armed (PushRight (bytes_in asked)) r.begun.sent now.sent stays right) (before x.seen x.failures x.armed (IsOfOneEdit asked) r.begun.sent now.sent stays one) in
+    let first = sees_first x asked given sizes r.begun r.first r.begins (before x.seen x.failures x.armed (PushRight (bytes_in asked)) r.begun.sent now.sent stays right) (before x.seen x.failures x.armed (IsOfOneEdit asked) r.begun.sent now.sent stays one) in
     let types = begins_keeping x.seen x.failures x.armed x.config x.clients x.disks r.begun given.few r.begins.begins in
-    (sees_run x asked given law r.apart r.steps r.begun now r.first a first types r.runs right one).last
+    (sees_run x asked given quiet law r.apart r.steps r.begun now r.first a first types r.runs right one).last
 
 pub each_is_seen : HaveSizes → AreNumbered → {D : Type 0} (x : Setup D) → EachIsSeen x
-each_is_seen sizes law x now a r =
+each_is_seen sizes law x quiet now a r =
     let given = r.begins.given in
-    let sound = reached_sound x now a r in
+    let sound = reached_sound x quiet now a r in
     let asks = asked_over x.seen x.failures x.armed (λ disk call place lasts. arming x x.seen place (x.armed disk call place) (given.armed disk call place) lasts) x.config x.clients x.disks r.steps r.begun now given.new r.begins.begins sound.runs in
-    (asks.0, asks.1, sees_for sizes law x asks.0 now a r (pushes_right asks.0 now asks.1) (of_one_edit asks.0 now asks.1))
+    (asks.0, asks.1, sees_for sizes law x quiet asks.0 now a r (pushes_right asks.0 now asks.1) (of_one_edit asks.0 now asks.1))
 
 -- and in two worlds of one
 pub each_sees_on : HaveSizes → AreNumbered → {D : Type 0} (x : Setup D) → EachSeesOn x
-each_sees_on sizes law x now later a b steps r runs =
+each_sees_on sizes law x quiet now later a b steps r runs =
     let given = r.begins.given in
     let arms : LastsArmed x.seen x.armed = λ disk call place lasts. arming x x.seen place (x.armed disk call place) (given.armed disk call place) lasts in
-    let sound = reached_sound x now a r in
+    let sound = reached_sound x quiet now a r in
     let asks = asked_over x.seen x.failures x.armed arms x.config x.clients x.disks r.steps r.begun now given.new r.begins.begins sound.runs in
-    let more = ask_on x.seen x.failures x.armed arms steps now later asks.0 asks.1 sound.lasts (runs_sound x given steps now later a b sound.lasts sound.types runs).runs in
+    let more = ask_on x.seen x.failures x.armed arms steps now later asks.0 asks.1 sound.lasts (runs_sound x given quiet steps now later a b sound.lasts sound.types runs).runs in
     let asked = more.all in
     let right = pushes_right asked later more.are in
     let one = of_one_edit asked later more.are in
@@ -161,10 +164,10 @@ each_sees_on sizes law x now later a b steps r runs =
     let right_now = before x.seen x.failures x.armed (PushRight (bytes_in asked)) now.sent later.sent on right in
     let one_now = before x.seen x.failures x.armed (IsOfOneEdit asked) now.sent later.sent on one in
     let stays = run_stays x asked given r.steps r.begun now r.first a r.runs in
-    let first = sees_first x asked given law sizes r.begun r.first r.begins (before x.seen x.failures x.armed (PushRight (bytes_in asked)) r.begun.sent now.sent stays right_now) (before x.seen x.failures x.armed (IsOfOneEdit asked) r.begun.sent now.sent stays one_now) in
+    let first = sees_first x asked given sizes r.begun r.first r.begins (before x.seen x.failures x.armed (PushRight (bytes_in asked)) r.begun.sent now.sent stays right_now) (before x.seen x.failures x.armed (IsOfOneEdit asked) r.begun.sent now.sent stays one_now) in
     let types = begins_keeping x.seen x.failures x.armed x.config x.clients x.disks r.begun given.few r.begins.begins in
-    let here = (sees_run x asked given law r.apart r.steps r.begun now r.first a first types r.runs right_now one_now).last in
-    let there = sees_run x asked given law r.apart steps now later a b here sound.types runs right one in
+    let here = (sees_run x asked given quiet law r.apart r.steps r.begun now r.first a first types r.runs right_now one_now).last in
+    let there = sees_run x asked given quiet law r.apart steps now later a b here sound.types runs right one in
     record { asked = asked; are = more.are; first = here; last = there.last; on = there.on }
 
 -- ---- each chunk is a run of its machine
@@ -178,11 +181,11 @@ leads_seen x bytes chunk old new a b (inr l) (inl unborn) on = on
 leads_seen x bytes chunk old new a b (inr l) (inr m) on = (on.0, on.1)
 
 pub each_is_a_run : HaveSizes → AreNumbered → {D : Type 0} (x : Setup D) → EachIsARun x
-each_is_a_run sizes law x now a r = (let sees = each_is_seen sizes law x now a r in (sees.0, sees.1, shown_by x sees.0 now a sees.2))
+each_is_a_run sizes law x quiet now a r = (let sees = each_is_seen sizes law x quiet now a r in (sees.0, sees.1, shown_by x sees.0 now a sees.2))
 
 pub each_leads_on : HaveSizes → AreNumbered → {D : Type 0} (x : Setup D) → EachLeadsOn x
-each_leads_on sizes law x now later a b steps r runs =
-    let sees = each_sees_on sizes law x now later a b steps r runs in
+each_leads_on sizes law x quiet now later a b steps r runs =
+    let sees = each_sees_on sizes law x quiet now later a b steps r runs in
     record {
       asked = sees.asked;
       are = sees.are;

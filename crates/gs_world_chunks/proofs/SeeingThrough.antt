@@ -1,6 +1,5 @@
 -- What is seen of all chunks behind each run of a store, whatever disks of the master fail.
-use Rattle.std.proofs.Common.{◌≡◌, ◌∙◌, ℕ, Bool, true, false, List, [], ◌∷◌, Option, Some, None, refl, sym, ap, subst}
-use Rattle.std.specs.Prelude.{MatchBool}
+use Rattle.std.proofs.Common.{◌≡◌, ◌∙◌, ℕ, List, [], ◌∷◌, Option, Some, None, refl, sym, ap, subst}
 use Rattle.std.specs.FinMap as fin
 use Rattle.gs_base.specs.declared.numbers.Moment.{Moment}
 use Rattle.gs_base.specs.declared.numbers.Stamp.{Stamp}
@@ -12,28 +11,14 @@ use Rattle.gs_replica.specs.Stands.{Edit}
 use Rattle.gs_world_chunks.specs.Moving.{account_behind, list_behind, numbered, numbered_at, numbered_by, numbered_of, server_of}
 use Rattle.gs_base.specs.declared.numbers.ReqId.{ReqId}
 use Rattle.gs_block.specs.Written.{TellsApart}
-use Rattle.gs_chunk.specs.Machine.{ChunkWorld}
-use Rattle.gs_journal.specs.Records.{standing}
-use Rattle.gs_journal.specs.Journal.{State as Journal}
-use Rattle.gs_master.specs.Journaled.{text_seen}
-use Rattle.gs_master.specs.Masters.{MasterOf, with_journal}
 use Rattle.gs_master_spec.specs.Durable.{Durable}
-use Rattle.gs_master_spec.specs.State.{is_failed}
-use Rattle.gs_msg.specs.declared.event.DiskId.{DiskId}
-use Rattle.gs_nodes.specs.declared.place.MasterPlace.{MasterPlace}
-use Rattle.gs_nodes.specs.declared.place.MasterPlace.TheVariants.{Standing, Closed, Away}
 use Rattle.gs_server_member.specs.Requests.{Asked, IsOfOneEdit, bytes_in}
 use Rattle.gs_world.proofs.Reaching.{HaveSizes}
-use Rattle.gs_world.proofs.Sending.{chained, step_stays}
+use Rattle.gs_world.proofs.Sending.{step_stays}
 use Rattle.gs_world.specs.Histories.{History}
-use Rattle.gs_world.specs.Lasting.{IsToldIn, Lasts}
 use Rattle.gs_world.specs.Runs.{Comes, StaySent, Step, Takes}
 use Rattle.gs_world.specs.Sent.{message_of}
-use Rattle.gs_world_laws.proofs.Keeping.{begins_keeping}
-use Rattle.gs_world_laws.proofs.Steady.{tells_one}
-use Rattle.gs_world_laws.proofs.Through.{begins_through}
 use Rattle.gs_world_laws.specs.Saying.{KeepsTypes}
-use Rattle.gs_world_laws.specs.Steady.{StandsSteady, TellsSteady}
 use Rattle.gs_world_laws.specs.Through.{LastsThrough}
 use Rattle.gs_world_lift.proofs.AskingRuns.{of_one_edit, pushes_right}
 use Rattle.gs_world_lift.proofs.Keeping.{keeps_then}
@@ -41,65 +26,24 @@ use Rattle.gs_world_lift.proofs.Placing.{kind_of}
 use Rattle.gs_world_lift.proofs.Running.{before}
 use Rattle.gs_world_lift.proofs.SteppingAll.{stores_go_all}
 use Rattle.gs_world_lift.proofs.TellingAll.{ask_on_all, asked_over_all, stores_tell_on_all}
-use Rattle.gs_world_lift.specs.Doing.{HasDurable}
 use Rattle.gs_world_lift.specs.Going.{AllSent, heard_in}
-use Rattle.gs_world_lift.specs.Left.{as_left, left_in, left_of}
-use Rattle.gs_world_lift.specs.LeftRunning.{ArmsLeft, RunsLasting, StoreGoesAll}
+use Rattle.gs_world_lift.specs.Left.{as_left, left_in}
+use Rattle.gs_world_lift.specs.LeftRunning.{ArmsLeft, StoreGoesAll}
 use Rattle.gs_world_lift.specs.Saying.{PushRight}
-use Rattle.gs_world_lift.specs.Showing.{Keeps, ShowsMaster}
+use Rattle.gs_world_lift.specs.Showing.{Keeps}
 use Rattle.gs_world_lift.specs.Telling.{StoreTells}
-use Rattle.gs_world_lift.specs.Unborn.{IsUnknown}
 use Rattle.gs_world_chunks.proofs.Edits.{AreNumbered}
 use Rattle.gs_world_chunks.proofs.Intact.{one_intact}
 use Rattle.gs_world_chunks.proofs.Joining.{stores_agree}
 use Rattle.gs_world_chunks.proofs.Reached.{all_among, durable_armed, empty_text, shown_armed, unknown_armed}
 use Rattle.gs_world_chunks.proofs.Seeing.{sees_first, sees_more, sees_still}
-use Rattle.gs_world_chunks.proofs.Through.{one_through}
+use Rattle.gs_world_chunks.proofs.Well.{IsWell, armed_left, begins_well, left_so, step_well, told_left, well_lasts}
 use Rattle.gs_world_chunks.proofs.Told.{named}
 use Rattle.gs_world_chunks.specs.Accounts.{Account}
 use Rattle.gs_world_chunks.specs.Joining.{StoreAgrees}
-use Rattle.gs_world_chunks.specs.Running.{AreAmong, IsArmed, IsGiven, IsNew, IsSeenAlike, IsToldAt, Setup}
+use Rattle.gs_world_chunks.specs.Running.{IsAccounted, IsGiven, IsNew, IsReached, Moves, Runs, Setup}
 use Rattle.gs_world_chunks.specs.Seeing.{IntactAt, Sees, SeesOn}
 use Rattle.gs_world_chunks.specs.SeenThrough.{EachIsSeenThrough, EachSeesOnThrough, ReachedStayThrough, StaysThrough}
-use Rattle.gs_world_chunks.specs.Through.{IsAccounted, IsReachedThrough, MovesThrough, RunsThrough}
-
--- ---- what is left of the master
-
-module _ {D : Type 0} (seen : D → List ℕ) where
-  pub lasts_left : (place : MasterPlace D) → LastsThrough seen place → Lasts seen (as_left place)
-  lasts_left (Standing m) h = by_fault (is_failed m.state.fault) h
-    where
-      by_fault : (b : Bool) → MatchBool b (TellsSteady (text_seen seen m.journal)) (StandsSteady seen m) → Lasts seen (left_of b m)
-      by_fault true told = tells_one (text_seen seen m.journal) told
-      by_fault false steady = steady.firm
-  lasts_left (Closed first second) h = tells_one (standing (seen first) (seen second)) h
-  lasts_left Away h = absurd h
-
-  -- as long as none has failed it is all there
-  pub left_so : (place : MasterPlace D) → Lasts seen place → as_left place ≡ place
-  left_so (Standing m) lasts = ap (λ b. left_of b m) lasts.sound
-  left_so (Closed first second) lasts = refl
-  left_so Away lasts = refl
-
-  -- the same is told of it
-  pub told_left : (place : MasterPlace D) (d : Durable) → IsToldAt seen place d → IsToldAt seen (as_left place) d
-  told_left (Standing m) d told = by_fault (is_failed m.state.fault) refl told
-    where
-      by_fault : (b : Bool) → is_failed m.state.fault ≡ b → MatchBool b (IsToldIn (text_seen seen m.journal) d) (d ≡ m.state.durable) → IsToldAt seen (left_of b m) d
-      by_fault true failed told = told
-      by_fault false sound told = subst (λ b. MatchBool b (IsToldIn (text_seen seen m.journal) d) (d ≡ m.state.durable)) (sym sound) told
-  told_left (Closed first second) d told = told
-  told_left Away d told = told
-
-  -- a failure that is arranged changes nothing that is seen of it
-  armed_left : (place new : MasterPlace D) → IsArmed seen place new → IsArmed seen (as_left place) (as_left new)
-  armed_left (Standing m) new (j, is, alike) = by_fault (is_failed m.state.fault) refl
-    where
-      by_fault : (b : Bool) → is_failed m.state.fault ≡ b → IsArmed seen (left_of b m) (as_left new)
-      by_fault true failed = (j.first, j.second, ap as_left is ∙ ap (λ b. left_of b (with_journal m j)) failed, alike.first, alike.second)
-      by_fault false sound = (j, ap as_left is ∙ ap (λ b. left_of b (with_journal m j)) sound, alike)
-  armed_left (Closed first second) new (other, another, is, one, two) = (other, another, ap as_left is, one, two)
-  armed_left Away new is = ap as_left is
 
 -- ---- the account goes by servers and by what was sent
 
@@ -142,23 +86,23 @@ module _ {D : Type 0} (x : Setup D) (given : IsGiven x) where
   }
 
   -- what stands behind many steps
-  pub runs_through : (steps : List Step) (old new : History D) (a b : Account) → LastsThrough x.seen old.nodes.master → KeepsTypes old → RunsThrough x steps old a new b → StaysThrough x steps old new
-  runs_through [] old new a b lasts types runs = record { lasts = subst (λ (h : History D). LastsThrough x.seen h.nodes.master) (sym runs.0) lasts; types = subst (λ (h : History D). KeepsTypes h) (sym runs.0) types; runs = runs.0 }
-  runs_through (step ∷ steps) old new a b lasts types (mid, c, one, rest) =
-      let behind = one_through x given step old mid lasts types one.steps in
-      let more = runs_through steps mid new c b behind.0 behind.1 rest in
-      record { lasts = more.lasts; types = more.types; runs = (mid, one.steps.goes, named x step old one.steps.within types, lasts_left x.seen mid.nodes.master behind.0, more.runs) }
+  pub runs_through : (steps : List Step) (old new : History D) (a b : Account) → IsWell x old → Runs x steps old a new b → StaysThrough x steps old new
+  runs_through [] old new a b well runs = record { lasts = subst (λ (h : History D). LastsThrough x.seen h.nodes.master) (sym runs.0) well.steady; types = subst (λ (h : History D). KeepsTypes h) (sym runs.0) well.types; runs = runs.0 }
+  runs_through (step ∷ steps) old new a b well (mid, c, one, rest) =
+      let behind = step_well x given step old mid well one.steps in
+      let more = runs_through steps mid new c b behind rest in
+      record { lasts = more.lasts; types = more.types; runs = (mid, one.steps.goes, named x step old one.steps.within well.types, well_lasts x mid behind, more.runs) }
 
   -- what was sent stays so
-  pub through_stays : (steps : List Step) (old new : History D) (a b : Account) → RunsThrough x steps old a new b → StaySent old.sent new.sent
+  pub through_stays : (steps : List Step) (old new : History D) (a b : Account) → Runs x steps old a new b → StaySent old.sent new.sent
   through_stays [] old new a b runs id message is = subst (λ (h : History D). message_of h.sent id ≡ Some message) (sym runs.0) is
   through_stays (step ∷ steps) old new a b (mid, c, one, rest) id message is = through_stays steps mid new c b rest id message (step_stays x.seen x.failures x.armed step old mid one.steps.goes id message is)
 
 pub reached_through : {D : Type 0} (x : Setup D) → ReachedStayThrough x
-reached_through x now a r =
-    let given = r.begins.given in
-    runs_through x given r.steps r.begun now r.first a (begins_through x.seen x.failures x.armed x.config x.clients x.disks r.begun given.new r.begins.begins)
-    (begins_keeping x.seen x.failures x.armed x.config x.clients x.disks r.begun given.few r.begins.begins) r.runs
+reached_through x now a r = runs_through x r.begins.given r.steps r.begun now r.first a (begins_well x r.begins.given r.begun r.begins.begins) r.runs
+
+pub reached_well : {D : Type 0} (x : Setup D) (now : History D) (a : Account) → IsReached x now a → IsWell x now
+reached_well x now a r = let stays = reached_through x now a r in record { types = stays.types; steady = stays.lasts }
 
 -- ---- all chunks
 
@@ -173,17 +117,16 @@ module _ {D : Type 0} (x : Setup D) (asked : ℕ → Asked) (given : IsGiven x) 
     pub account : IsAccounted x step (left_in old) a (left_in mid) c
     pub agrees : StoreAgrees x bytes (left_in mid) c goes.last
     pub intact : (chunk : ℕ) → IntactAt x bytes c chunk (left_in mid) (goes.last.life chunk)
-    pub lasts : LastsThrough x.seen mid.nodes.master
-    pub types : KeepsTypes mid
+    pub well : IsWell x mid
 
-  pub sees_step_through : TellsApart x.among → (step : Step) (old mid : History D) (a c : Account) (first : Sees x asked (left_in old) a) → LastsThrough x.seen old.nodes.master → KeepsTypes old → MovesThrough x step old a mid c → AllSent (PushRight bytes) mid.sent
+  pub sees_step_through : TellsApart x.among → (step : Step) (old mid : History D) (a c : Account) (first : Sees x asked (left_in old) a) → IsWell x old → Moves x step old a mid c → AllSent (PushRight bytes) mid.sent
       → AllSent (IsOfOneEdit asked) mid.sent → SeesNextThrough step old mid a c first
-  sees_step_through apart step old mid a c first lasts types moves right one =
-      let is_named = named x step old moves.steps.within types in
+  sees_step_through apart step old mid a c first well moves right one =
+      let is_named = named x step old moves.steps.within well.types in
       let was : Keeps x.config bytes old = record { servers = first.lives.keeps.servers; buffers = first.lives.keeps.buffers } in
       let keeps_mid = keeps_then x.seen x.failures x.armed x.config bytes step old mid first.lives.pushes was (kind_of x.seen x.failures x.armed step old mid moves.steps.goes is_named) in
-      let behind = one_through x given step old mid lasts types moves.steps in
-      let goes = stores_go_all x.seen x.failures x.armed x.config bytes x.among (record { arming = arms_left x given; apart = apart; empty = empty_text x asked given }) step old mid first.lives moves.steps.goes is_named (lasts_left x.seen mid.nodes.master behind.0)
+      let behind = step_well x given step old mid well moves.steps in
+      let goes = stores_go_all x.seen x.failures x.armed x.config bytes x.among (record { arming = arms_left x given; apart = apart; empty = empty_text x asked given }) step old mid first.lives moves.steps.goes is_named (well_lasts x mid behind)
       (all_among x asked given mid keeps_mid moves.steps.among) right in
       let account : IsAccounted x step (left_in old) a (left_in mid) c = record { told = told_left x.seen mid.nodes.master c.durable moves.told; account = moves.account ∙ account_left old mid step a c.durable } in
       record {
@@ -193,8 +136,7 @@ module _ {D : Type 0} (x : Setup D) (asked : ℕ → Asked) (given : IsGiven x) 
         agrees = stores_agree x bytes law step (heard_in x.seen x.failures x.armed goes.kind) (left_in old) (left_in mid) a c first.lives goes.last goes.goes account first.agrees;
         intact = λ chunk.
             one_intact x bytes chunk step (left_in old) (left_in mid) a c account first.lives first.agrees.told goes.last (heard_in x.seen x.failures x.armed goes.kind) (first.lives.life chunk) (goes.last.life chunk) (goes.goes chunk) (first.intact chunk);
-        lasts = behind.0;
-        types = behind.1;
+        well = behind;
       }
 
   -- from a world in which all is seen steps lead to another
@@ -202,16 +144,16 @@ module _ {D : Type 0} (x : Setup D) (asked : ℕ → Asked) (given : IsGiven x) 
     pub last : Sees x asked (left_in new) b
     pub on : (chunk : ℕ) → SeesOn x bytes chunk (left_in old) a (left_in new) b (first.lives.life chunk) (last.lives.life chunk)
 
-  pub sees_run_through : TellsApart x.among → (steps : List Step) (old new : History D) (a b : Account) (first : Sees x asked (left_in old) a) → LastsThrough x.seen old.nodes.master → KeepsTypes old → RunsThrough x steps old a new b → AllSent (PushRight bytes) new.sent
+  pub sees_run_through : TellsApart x.among → (steps : List Step) (old new : History D) (a b : Account) (first : Sees x asked (left_in old) a) → IsWell x old → Runs x steps old a new b → AllSent (PushRight bytes) new.sent
       → AllSent (IsOfOneEdit asked) new.sent → SeesToThrough old new a b first
-  sees_run_through apart [] old new a b first lasts types runs right one =
+  sees_run_through apart [] old new a b first well runs right one =
       subst (λ (h : History D). SeesToThrough old h a b first) (sym runs.0)
       (subst (λ (c : Account). SeesToThrough old old a c first) (sym runs.1) (record { last = first; on = λ chunk. sees_still x bytes chunk (left_in old) a (first.lives.life chunk) }))
-  sees_run_through apart (step ∷ steps) old new a b first lasts types (mid, c, moves, rest) right one =
+  sees_run_through apart (step ∷ steps) old new a b first well (mid, c, moves, rest) right one =
       let stays = through_stays x given steps mid new c b rest in
-      let next = sees_step_through apart step old mid a c first lasts types moves (before x.seen x.failures x.armed (PushRight bytes) mid.sent new.sent stays right) (before x.seen x.failures x.armed (IsOfOneEdit asked) mid.sent new.sent stays one) in
+      let next = sees_step_through apart step old mid a c first well moves (before x.seen x.failures x.armed (PushRight bytes) mid.sent new.sent stays right) (before x.seen x.failures x.armed (IsOfOneEdit asked) mid.sent new.sent stays one) in
       let mid_seen : Sees x asked (left_in mid) c = record { lives = next.goes.last; tells = next.tells; agrees = next.agrees; intact = next.intact } in
-      let more = sees_run_through apart steps mid new c b mid_seen next.lasts next.types rest right one in
+      let more = sees_run_through apart steps mid new c b mid_seen next.well rest right one in
       record {
         last = more.last;
         on = λ chunk.
@@ -222,18 +164,16 @@ module _ {D : Type 0} (x : Setup D) (asked : ℕ → Asked) (given : IsGiven x) 
   -- when a store begins new
   pub sees_first_through : HaveSizes → (begun : History D) (first : Account) → IsNew x begun first → AllSent (PushRight bytes) begun.sent → AllSent (IsOfOneEdit asked) begun.sent → Sees x asked (left_in begun) first
   sees_first_through sizes begun first new right one =
-      let sees = sees_first x asked given law sizes begun first new right one in
+      let sees = sees_first x asked given sizes begun first new right one in
       subst (λ place. Sees x asked (record begun { nodes = record begun.nodes { master = place } }) first) (sym (left_so x.seen begun.nodes.master sees.lives.lasts)) sees
 
 -- behind each run, for all that is said to be asked by which what was sent for a request is of its one edit
-pub sees_for_through : HaveSizes → AreNumbered → {D : Type 0} (x : Setup D) (asked : ℕ → Asked) (now : History D) (a : Account) → IsReachedThrough x now a → AllSent (PushRight (bytes_in asked)) now.sent → AllSent (IsOfOneEdit asked) now.sent → Sees x asked (left_in now) a
+pub sees_for_through : HaveSizes → AreNumbered → {D : Type 0} (x : Setup D) (asked : ℕ → Asked) (now : History D) (a : Account) → IsReached x now a → AllSent (PushRight (bytes_in asked)) now.sent → AllSent (IsOfOneEdit asked) now.sent → Sees x asked (left_in now) a
 sees_for_through sizes law x asked now a r right one =
     let given = r.begins.given in
     let stays = through_stays x given r.steps r.begun now r.first a r.runs in
     let first = sees_first_through x asked given law sizes r.begun r.first r.begins (before x.seen x.failures x.armed (PushRight (bytes_in asked)) r.begun.sent now.sent stays right) (before x.seen x.failures x.armed (IsOfOneEdit asked) r.begun.sent now.sent stays one) in
-    let lasts = begins_through x.seen x.failures x.armed x.config x.clients x.disks r.begun given.new r.begins.begins in
-    let types = begins_keeping x.seen x.failures x.armed x.config x.clients x.disks r.begun given.few r.begins.begins in
-    (sees_run_through x asked given law r.apart r.steps r.begun now r.first a first lasts types r.runs right one).last
+    (sees_run_through x asked given law r.apart r.steps r.begun now r.first a first (begins_well x given r.begun r.begins.begins) r.runs right one).last
 
 pub each_is_seen_through : HaveSizes → AreNumbered → {D : Type 0} (x : Setup D) → EachIsSeenThrough x
 each_is_seen_through sizes law x now a r =
@@ -247,11 +187,12 @@ each_sees_on_through sizes law x now later a b steps r runs =
     let given = r.begins.given in
     let here = reached_through x now a r in
     let asks = asked_over_all x.seen x.failures x.armed x.config x.clients x.disks r.steps r.begun now given.new r.begins.begins here.runs in
-    let more = ask_on_all x.seen x.failures x.armed steps now later asks.0 asks.1 (lasts_left x.seen now.nodes.master here.lasts) (runs_through x given steps now later a b here.lasts here.types runs).runs in
+    let well = reached_well x now a r in
+    let more = ask_on_all x.seen x.failures x.armed steps now later asks.0 asks.1 (well_lasts x now well) (runs_through x given steps now later a b well runs).runs in
     let asked = more.all in
     let right = pushes_right asked later more.are in
     let one = of_one_edit asked later more.are in
     let on = through_stays x given steps now later a b runs in
     let first = sees_for_through sizes law x asked now a r (before x.seen x.failures x.armed (PushRight (bytes_in asked)) now.sent later.sent on right) (before x.seen x.failures x.armed (IsOfOneEdit asked) now.sent later.sent on one) in
-    let there = sees_run_through x asked given law r.apart steps now later a b first here.lasts here.types runs right one in
+    let there = sees_run_through x asked given law r.apart steps now later a b first well runs right one in
     record { asked = asked; are = more.are; first = first; last = there.last; on = there.on }

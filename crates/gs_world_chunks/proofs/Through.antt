@@ -1,24 +1,20 @@
 -- The disks of the master tell something in each world of a run, whatever disks fail, so there is an account.
 use Rattle.std.proofs.Common.{◌≡◌, ◌∙◌, Bool, List, [], ◌∷◌, false, true, length, refl, ap, subst, sym}
 use Rattle.std.specs.Prelude.{MatchBool, ℕ}
-use Rattle.std.specs.List.{AllByRecursion}
 use Rattle.gs_journal.specs.Records.{Text, generation_of, standing}
 use Rattle.gs_master.specs.Journaled.{text_seen}
 use Rattle.gs_master.specs.Masters.{MasterOf, with_journal}
 use Rattle.gs_journal.specs.Journal.{State as Journal, counting, text_size}
 use Rattle.gs_master_spec.specs.Durable.{Durable}
 use Rattle.gs_master_spec.specs.State.{is_failed}
-use Rattle.gs_msg.specs.declared.event.DiskId.{DiskId}
 use Rattle.gs_nodes.specs.declared.place.MasterPlace.{MasterPlace}
 use Rattle.gs_nodes.specs.declared.place.MasterPlace.TheVariants.{Standing, Closed, Away}
 use Rattle.gs_world.specs.Histories.{History}
 use Rattle.gs_world.specs.Lasting.{IsToldIn, StandsFirm}
 use Rattle.gs_world.specs.Runs.{Step}
-use Rattle.gs_world_chunks.proofs.Once.{told_at_once}
 use Rattle.gs_world_chunks.specs.Accounts.{Account, first_account}
 use Rattle.gs_world_chunks.specs.Moving.{account_behind}
-use Rattle.gs_world_chunks.specs.Running.{IsArmed, IsGiven, IsSeenAlike, IsToldAt, Moves, Setup}
-use Rattle.gs_world_chunks.specs.Through.{HaveAccountsThrough, MovesThrough, NextIsOneThrough, RunsBareThrough, RunsThrough, SoundAreThrough, StepsThrough}
+use Rattle.gs_world_chunks.specs.Running.{HaveAccounts, IsArmed, IsGiven, IsSeenAlike, IsToldAt, Runs, RunsBare, Setup, StepsWithin}
 use Rattle.gs_world_laws.proofs.Keeping.{begins_keeping, step_keeps, step_within}
 use Rattle.gs_world_laws.proofs.Through.{begins_through, step_on, tells_some}
 use Rattle.gs_world_laws.specs.Saying.{KeepsTypes}
@@ -85,7 +81,7 @@ module _ {D : Type 0} (seen : D → List ℕ) where
 
 module _ {D : Type 0} (x : Setup D) (given : IsGiven x) where
   -- what stands behind a step
-  pub one_through : (step : Step) (old mid : History D) → LastsThrough x.seen old.nodes.master → KeepsTypes old → StepsThrough x step old mid → LastsThrough x.seen mid.nodes.master × KeepsTypes mid
+  pub one_through : (step : Step) (old mid : History D) → LastsThrough x.seen old.nodes.master → KeepsTypes old → StepsWithin x step old mid → LastsThrough x.seen mid.nodes.master × KeepsTypes mid
   one_through step old mid lasts types one =
       let t = tells_some x.seen x.failures old.nodes.master lasts in (
         (step_on x.seen x.failures x.armed (λ disk call place h. arming_through x.seen place (x.armed disk call place) (given.armed disk call place) h) (λ d disk call place h. telling_through x.seen d place (x.armed disk call place) (given.armed disk call place) h) step
@@ -93,7 +89,7 @@ module _ {D : Type 0} (x : Setup D) (given : IsGiven x) where
         step_keeps x.seen x.failures x.armed step old mid one.goes one.within types,
       )
 
-  goes_through : (steps : List Step) (old new : History D) (a : Account) → LastsThrough x.seen old.nodes.master → KeepsTypes old → RunsBareThrough x steps old new → (b : Account) × RunsThrough x steps old a new b
+  goes_through : (steps : List Step) (old new : History D) (a : Account) → LastsThrough x.seen old.nodes.master → KeepsTypes old → RunsBare x steps old new → (b : Account) × Runs x steps old a new b
   goes_through [] old new a lasts types is = (a, (is, refl))
   goes_through (step ∷ steps) old new a lasts types (mid, one, rest) =
       let behind = one_through step old mid lasts types one in
@@ -102,17 +98,10 @@ module _ {D : Type 0} (x : Setup D) (given : IsGiven x) where
       let more = goes_through steps mid new c behind.0 behind.1 rest in
       (more.0, (mid, c, record { steps = one; told = tells.1; account = refl }, more.1))
 
-pub have_accounts_through : {D : Type 0} (x : Setup D) → HaveAccountsThrough x
-have_accounts_through x begun now steps given begins runs =
+pub have_accounts : {D : Type 0} (x : Setup D) → HaveAccounts x
+have_accounts x begun now steps given begins runs =
     let lasts = begins_through x.seen x.failures x.armed x.config x.clients x.disks begun given.new begins in
     let types = begins_keeping x.seen x.failures x.armed x.config x.clients x.disks begun given.few begins in
     let first = told_there x.seen begun.nodes.master lasts in
     let on = goes_through x given steps begun now (first_account first.0) lasts types runs in
     (first_account first.0, on.0, record { given = given; begins = begins; told = first.1; account = refl }, on.1)
-
-pub next_is_one_through : {D : Type 0} (x : Setup D) → NextIsOneThrough x
-next_is_one_through x old new a b c step p q =
-    p.account ∙ ap (account_behind step old a new) (told_at_once x.seen new.nodes.master b.durable c.durable p.told q.told) ∙ sym q.account
-
-pub sound_are_through : {D : Type 0} (x : Setup D) → SoundAreThrough x
-sound_are_through x old new a b step m = record { steps = record { goes = m.steps.goes; within = m.steps.within; among = m.steps.among }; told = m.told; account = m.account }

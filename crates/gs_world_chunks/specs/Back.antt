@@ -32,7 +32,11 @@ module _ {D : Type 0} (x : Setup D) where
     pub moves : Moves x step now after back last
     pub accepted : rolls_back after.durable last.durable ≡ true
 
-  -- Each chunk that a file had at the prepare, or before, has a settled view behind the rollback, and what is settled of it is what was settled then;
+  -- The names behind it are those of the prepare, by what the records tell; also where a disk failed at the commit, and its record stands;
+  abbrev pub GivesNamesTold : Type 0
+  GivesNamesTold = (prepared now back : History D) (before after last : Account) → HasRolledBack prepared before now after back last → last.durable.names ≡ before.durable.names
+
+  -- each chunk that a file had then, or before, has a settled view, and what is settled of it is what was settled then;
   abbrev pub GivesSettledBack : Type 0
   GivesSettledBack = (prepared now back : History D) (before after last : Account) (chunk : ℕ) → HasRolledBack prepared before now after back last → is_listed before.durable chunk ≡ true →
       (is_some (fin.get last.durable.chunks chunk) ≡ true) × (settled_edits last chunk ≡ settled_edits before chunk)

@@ -1,5 +1,5 @@
 -- What a script leaves is a store that is reached, with an account.
-use Rattle.std.specs.Prelude.{◌≡◌, ℕ, Bool, List, [], ◌∷◌, true}
+use Rattle.std.specs.Prelude.{◌≡◌, ℕ, Bool, List, [], ◌∷◌, true, false}
 use Rattle.gs_base.specs.declared.config.Config.{Config}
 use Rattle.gs_block.specs.Written.{TellsApart}
 use Rattle.gs_shell_desk.specs.Ways.{way_of}
@@ -13,9 +13,9 @@ use Rattle.gs_world_laws.specs.Within.{IsReachedWithin}
 use Rattle.gs_world_chunks.specs.Accounts.{Account}
 use Rattle.gs_world_chunks.specs.Running.{AreAmong, IsReached, Setup}
 
--- the store of a script: over these disks, with one client, and no failure of a disk arranged
+-- the store of a script: over these disks, with one client, and no failure of a disk arranged; and none fails
 abbrev pub setup_of : {D : Type 0} → (D → List ℕ) → (D → ℕ) → Config → D × D → (List ℕ → Bool) → Setup D
-setup_of seen failures config disks among = record { seen = seen; failures = failures; armed = unarmed; config = config; clients = 1; disks = disks; among = among }
+setup_of seen failures config disks among = record { seen = seen; failures = failures; armed = unarmed; config = config; clients = 1; disks = disks; among = among; fails = false }
 
 -- behind each step of a run the blocks that servers have are among some
 abbrev pub AreAlways : {D : Type 0} (seen : D → List ℕ) (failures : D → ℕ) → (List ℕ → Bool) → (steps : List Step) (old new : History D) → RunsQuietly seen failures unarmed steps old new → Type 0

@@ -8,7 +8,6 @@ ghost use Rattle.gs_base.specs.declared.config.Config.{Config};
 ghost use Rattle.gs_base.specs.declared.numbers.ReqId.{ReqId};
 ghost use Rattle.gs_world_chunks.specs.Running.{Setup, BlocksAmong, FirstIsOne, HaveAccounts, NextIsOne, ReachedStaySound};
 ghost use Rattle.gs_world_chunks.specs.SeenThrough.{EachIsSeenThrough, EachSeesOnThrough, ReachedStayThrough};
-ghost use Rattle.gs_world_chunks.specs.Through.{HaveAccountsThrough, NextIsOneThrough, SoundAreThrough};
 ghost use Rattle.gs_world_chunks.specs.Agreeing.{BirthsAgree, BlanksStay, ListsStayOn, MastersAgree, MastersKeepLists, ServersAgree, ServersKeepLists, StillAgree, StillKeepsLists};
 ghost use Rattle.gs_world_chunks.specs.Reached.{EachIsARun, EachLeadsOn};
 ghost use Rattle.gs_world_chunks.specs.Copying.{CopiesAreOfViews, CopiesInherit};
@@ -21,35 +20,27 @@ ghost use Rattle.gs_world_chunks.specs.Standing.{QuietStaysStill, ReplicasStand}
 ghost use Rattle.gs_world_chunks.specs.Durables.{ToldIsHad};
 ghost use Rattle.gs_world_chunks.specs.Seeing.{EachIsSeen, EachSeesOn, StoresStayIntact};
 ghost use Rattle.gs_world_chunks.specs.Accepting.{CommitsAreDecided, MembersHaveNamed, NoneGoesBackUnnamed, OneSurvivorIsEnough, SurvivorsAreAccepted};
-ghost use Rattle.gs_world_chunks.specs.Back.{EachIsOfAPrepare, GivesBytesBack, GivesNamesBack, GivesNoOtherBack, GivesReplicasBack, GivesSettledBack, KeepsBytes, NoOtherText};
+ghost use Rattle.gs_world_chunks.specs.Back.{EachIsOfAPrepare, GivesBytesBack, GivesNamesBack, GivesNamesTold, GivesNoOtherBack, GivesReplicasBack, GivesSettledBack, KeepsBytes, NoOtherText};
 ghost use Rattle.gs_block.specs.Written.{HasBlocks};
 ghost use Rattle.gs_world_chunks.specs.Scripts.{EachScriptIsReached};
 
 use gs_block::promises::configurations_have_sizes;
 use gs_server_laws::{a_message_edits_a_replica_by_what_it_says, an_event_calls_what_it_says};
 
-/// Each run of a store has an account: what its records tell, and beside that which edits its chunks have in each view, and which of them are settled. There
-/// is one alone.
+/// Each run of a store has an account: what its records tell, and beside that which edits its chunks have in each view, and which of them are settled. There is one alone. So it is whatever disks of the master
+/// fail, in its restarts or at its records, as often as they may: once one has failed the account goes by what the disks tell, which is one thing. A setup says whether disks may fail in its runs.
 pub fn runs_have_accounts<D>()
     ensures some { (x : Setup D) → HaveAccounts x }
     ensures first { (x : Setup D) → FirstIsOne x }
     ensures next { (x : Setup D) → NextIsOne x }
 {}
 
-/// So has each run in which disks of the master fail, in its restarts or at its records, as often as they may: once one has failed the account goes by what the disks tell, which is
-/// one thing. Where none fails it is the same account.
-pub fn runs_have_accounts_whatever_disks_fail<D>()
-    ensures some { (x : Setup D) → HaveAccountsThrough x }
-    ensures next { (x : Setup D) → NextIsOneThrough x }
-    ensures sound { (x : Setup D) → SoundAreThrough x }
-{}
-
-/// Behind each run the master stands firm, or its disks wait and tell one; all that was sent keeps to its types; and the run is one in which no disk fails.
+/// Behind each run in which no disk may fail the master stands firm, or its disks wait and tell one; all that was sent keeps to its types; and in each step none fails.
 pub fn runs_stay_sound<D>()
     ensures { (x : Setup D) → ReachedStaySound x }
 {}
 
-/// What a script leaves is a store that is reached by such a run: over disks that said nothing, where in no step one failed. So what holds of each store that is reached holds of what a
+/// What a script leaves is a store that is reached by a run: over disks that said nothing, where in no step one failed. So what holds of each store that is reached holds of what a
 /// script leaves, where different blocks that its servers ever had have different digests.
 pub fn each_script_is_reached<D>()
     ensures { EachScriptIsReached D }
@@ -136,8 +127,8 @@ pub fn all_chunks_are_seen_whatever_disks_fail<D>()
 }
 
 /// Behind each run of a store, each live replica stands for a beginning of a list: it has applied that many edits of one view's list, from the first on, has as many bytes as they leave, and each of its blocks
-/// that has its digest holds theirs. The list is the chunk's own, or, until a view of a copy is settled, that of which it is a copy. Here and below a run is one that has begun new, in which no disk of the
-/// master fails, all that is asked is within its types, and different blocks have different digests.
+/// that has its digest holds theirs. The list is the chunk's own, or, until a view of a copy is settled, that of which it is a copy. Here and below a run is one that has begun new, all that is asked in it
+/// is within its types, and different blocks have different digests; whatever disks of the master fail in it, but where it is said that none may.
 pub fn replicas_stand_for_beginnings_of_lists<D>()
     ensures { (x : Setup D) → ReplicasStand x }
 {
@@ -221,9 +212,11 @@ pub fn copies_inherit<D>()
 }
 
 /// An accepted rollback gives back the names of the last accepted prepare: the tree with the handles of its files, and how often each stands there; whatever has happened between, at whichever nodes. No more is
-/// asked of a run than that no disk of the master fails in it, and all that is asked is within its types.
+/// asked of a run than that all that is asked is within its types; disks of the master may fail as they like. Where one fails at the record of a commit, the rollback is done if that record stands: it is told
+/// where the master is started again.
 pub fn an_accepted_rollback_gives_the_names_back<D>()
-    ensures { (x : Setup D) → GivesNamesBack x }
+    ensures kept { (x : Setup D) → GivesNamesBack x }
+    ensures told { (x : Setup D) → GivesNamesTold x }
 {}
 
 /// No rollback is done unless each chunk that stood in a file at the prepare was named, since the master was restarted last, by a server that had it by its view of then or was recorded as a holder since.
