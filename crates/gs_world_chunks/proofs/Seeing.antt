@@ -172,10 +172,10 @@ each_sees_on sizes law x quiet now later a b steps r runs =
 
 -- ---- each chunk is a run of its machine
 
-abbrev shown_by : {D : Type 0} (x : Setup D) (asked : ℕ → Asked) (h : History D) (a : Account) → Sees x asked h a → Shows x asked h
+abbrev pub shown_by : {D : Type 0} (x : Setup D) (asked : ℕ → Asked) (h : History D) (a : Account) → Sees x asked h a → Shows x asked h
 shown_by x asked h a sees = record { lives = sees.lives; tells = sees.tells }
 
-leads_seen : {D : Type 0} (x : Setup D) (bytes : ReqId → List ℕ) (chunk : ℕ) (old new : History D) (a b : Account) (life : Life x.seen x.config bytes chunk old) (last : Life x.seen x.config bytes chunk new) → SeesOn x bytes chunk old a new b life last → LeadsOn x.seen x.config bytes chunk old new life last
+pub leads_seen : {D : Type 0} (x : Setup D) (bytes : ReqId → List ℕ) (chunk : ℕ) (old new : History D) (a b : Account) (life : Life x.seen x.config bytes chunk old) (last : Life x.seen x.config bytes chunk new) → SeesOn x bytes chunk old a new b life last → LeadsOn x.seen x.config bytes chunk old new life last
 leads_seen x bytes chunk old new a b (inl unborn) last on = tt
 leads_seen x bytes chunk old new a b (inr l) (inl unborn) on = on
 leads_seen x bytes chunk old new a b (inr l) (inr m) on = (on.0, on.1)

@@ -36,7 +36,8 @@ use Rattle.gs_world_chunks.proofs.Edits.{AreNumbered}
 use Rattle.gs_world_chunks.proofs.Intact.{one_intact}
 use Rattle.gs_world_chunks.proofs.Joining.{stores_agree}
 use Rattle.gs_world_chunks.proofs.Reached.{all_among, durable_armed, empty_text, shown_armed, unknown_armed}
-use Rattle.gs_world_chunks.proofs.Seeing.{sees_first, sees_more, sees_still}
+use Rattle.gs_world_chunks.proofs.Seeing.{leads_seen, sees_first, sees_more, sees_still, shown_by}
+use Rattle.gs_world_chunks.specs.Reached.{EachIsARunThrough, EachLeadsOnThrough}
 use Rattle.gs_world_chunks.proofs.Well.{IsWell, armed_left, begins_well, left_so, step_well, told_left, well_lasts}
 use Rattle.gs_world_chunks.proofs.Told.{named}
 use Rattle.gs_world_chunks.specs.Accounts.{Account}
@@ -196,3 +197,19 @@ each_sees_on_through sizes law x now later a b steps r runs =
     let first = sees_for_through sizes law x asked now a r (before x.seen x.failures x.armed (PushRight (bytes_in asked)) now.sent later.sent on right) (before x.seen x.failures x.armed (IsOfOneEdit asked) now.sent later.sent on one) in
     let there = sees_run_through x asked given law r.apart steps now later a b first well runs right one in
     record { asked = asked; are = more.are; first = first; last = there.last; on = there.on }
+
+-- ---- each chunk is a run of its machine
+
+pub each_is_a_run_through : HaveSizes → AreNumbered → {D : Type 0} (x : Setup D) → EachIsARunThrough x
+each_is_a_run_through sizes law x now a r = (let sees = each_is_seen_through sizes law x now a r in (sees.0, sees.1, shown_by x sees.0 (left_in now) a sees.2))
+
+pub each_leads_on_through : HaveSizes → AreNumbered → {D : Type 0} (x : Setup D) → EachLeadsOnThrough x
+each_leads_on_through sizes law x now later a b steps r runs =
+    let sees = each_sees_on_through sizes law x now later a b steps r runs in
+    record {
+      asked = sees.asked;
+      are = sees.are;
+      first = shown_by x sees.asked (left_in now) a sees.first;
+      last = shown_by x sees.asked (left_in later) b sees.last;
+      leads = λ chunk. leads_seen x (bytes_in sees.asked) chunk (left_in now) (left_in later) a b (sees.first.lives.life chunk) (sees.last.lives.life chunk) (sees.on chunk);
+    }

@@ -1,4 +1,5 @@
 -- The chunks of a store behind each run of it, and what its clients have asked and were told.
+use Rattle.gs_world_lift.specs.Left.{left_in}
 use Rattle.std.specs.Prelude.{◌≡◌, ℕ, List, false}
 use Rattle.gs_world.specs.Histories.{History}
 use Rattle.gs_world.specs.Runs.{Step}
@@ -30,3 +31,17 @@ module _ {D : Type 0} (x : Setup D) where
 
   abbrev pub EachLeadsOn : Type 0
   EachLeadsOn = x.fails ≡ false → (now later : History D) (a b : Account) (steps : List Step) → IsReached x now a → Runs x steps now a later b → ShowsOn now later
+
+  -- So it is whatever disks of it fail: of the store as it is left, once one has.
+  abbrev pub EachIsARunThrough : Type 0
+  EachIsARunThrough = (now : History D) (a : Account) → IsReached x now a → (asked : ℕ → Asked) × AreAskedIn asked now × Shows asked (left_in now)
+
+  pub record ShowsOnThrough (now later : History D) : Type 0 where
+    pub asked : ℕ → Asked
+    pub are : AreAskedIn asked later
+    pub first : Shows asked (left_in now)
+    pub last : Shows asked (left_in later)
+    pub leads : (chunk : ℕ) → LeadsOn x.seen x.config (bytes_in asked) chunk (left_in now) (left_in later) (first.lives.life chunk) (last.lives.life chunk)
+
+  abbrev pub EachLeadsOnThrough : Type 0
+  EachLeadsOnThrough = (now later : History D) (a b : Account) (steps : List Step) → IsReached x now a → Runs x steps now a later b → ShowsOnThrough now later

@@ -9,7 +9,7 @@ ghost use Rattle.gs_base.specs.declared.numbers.ReqId.{ReqId};
 ghost use Rattle.gs_world_chunks.specs.Running.{Setup, BlocksAmong, FirstIsOne, HaveAccounts, NextIsOne, ReachedStaySound};
 ghost use Rattle.gs_world_chunks.specs.SeenThrough.{EachIsSeenThrough, EachSeesOnThrough, ReachedStayThrough};
 ghost use Rattle.gs_world_chunks.specs.Agreeing.{BirthsAgree, BlanksStay, ListsStayOn, MastersAgree, MastersKeepLists, ServersAgree, ServersKeepLists, StillAgree, StillKeepsLists};
-ghost use Rattle.gs_world_chunks.specs.Reached.{EachIsARun, EachLeadsOn};
+ghost use Rattle.gs_world_chunks.specs.Reached.{EachIsARun, EachIsARunThrough, EachLeadsOn, EachLeadsOnThrough};
 ghost use Rattle.gs_world_chunks.specs.Copying.{CopiesAreOfViews, CopiesInherit};
 ghost use Rattle.gs_world_chunks.specs.Acknowledged.{DoneStays, RepeatsAreAlike};
 ghost use Rattle.gs_world_chunks.specs.Asked.{EditsWereAsked};
@@ -22,7 +22,7 @@ ghost use Rattle.gs_world_chunks.specs.Seeing.{EachIsSeen, EachSeesOn, StoresSta
 ghost use Rattle.gs_world_chunks.specs.Accepting.{CommitsAreDecided, MembersHaveNamed, NoneGoesBackUnnamed, OneSurvivorIsEnough, SurvivorsAreAccepted};
 ghost use Rattle.gs_world_chunks.specs.Back.{EachIsOfAPrepare, GivesBytesBack, GivesNamesBack, GivesNamesTold, GivesNoOtherBack, GivesReplicasBack, GivesSettledBack, KeepsBytes, NoOtherText};
 ghost use Rattle.gs_block.specs.Written.{HasBlocks};
-ghost use Rattle.gs_world_chunks.specs.Scripts.{EachScriptIsReached};
+ghost use Rattle.gs_world_chunks.specs.Scripts.{AnyScriptIsReached, EachScriptIsReached};
 
 use gs_block::promises::configurations_have_sizes;
 use gs_server_laws::{a_message_edits_a_replica_by_what_it_says, an_event_calls_what_it_says};
@@ -40,10 +40,11 @@ pub fn runs_stay_sound<D>()
     ensures { (x : Setup D) → ReachedStaySound x }
 {}
 
-/// What a script leaves is a store that is reached by a run: over disks that said nothing, where in no step one failed. So what holds of each store that is reached holds of what a
-/// script leaves, where different blocks that its servers ever had have different digests.
+/// What a script leaves is a store that is reached by a run, over disks that said nothing: by one in which no disk may fail, where in no step one failed, and else by one in which they may. So what holds of each
+/// store that is reached holds of what a script leaves, where different blocks that its servers ever had have different digests.
 pub fn each_script_is_reached<D>()
-    ensures { EachScriptIsReached D }
+    ensures sound { EachScriptIsReached D }
+    ensures any { AnyScriptIsReached D }
 {}
 
 /// Where the empty block is among some, and each block of a text up to its end, so is whatever is cut out at any place of a block.
@@ -53,10 +54,13 @@ pub fn blocks_that_stand_are_all_blocks()
 
 /// Each chunk of a store is a run of its machine: behind each run of a store that has begun new, in which no disk of the master fails and all that is asked is within its types, each chunk
 /// is not born yet, or a world of its machine, which is reached from its birth, shows the store as it is then: what each server keeps of it, the master's part, and all that was ever said.
-/// Copies among them. Different blocks of the run are to have different digests. From one world of a run to a later one the machine of each chunk leads on, from the same birth.
+/// Copies among them. Different blocks of the run are to have different digests. From one world of a run to a later one the machine of each chunk leads on, from the same birth. So it is where disks of the master
+/// fail, of the store as it is left: once one has failed, what the disks tell is all that is left of the master.
 pub fn each_chunk_of_a_store_is_a_run_of_its_machine<D>()
     ensures reached { (x : Setup D) → EachIsARun x }
     ensures onward { (x : Setup D) → EachLeadsOn x }
+    ensures left { (x : Setup D) → EachIsARunThrough x }
+    ensures left_onward { (x : Setup D) → EachLeadsOnThrough x }
 {
     configurations_have_sizes();
     a_message_edits_a_replica_by_what_it_says();
