@@ -115,7 +115,7 @@ servers_stay x step now back d e well one had has done = by_kind (kind_of x.seen
 -- ---- over runs
 
 -- a live replica that is whole has some bytes, and it has them behind a step that leaves each server as it is
-bytes_there : {D : Type 0} (old new : History D) (id chunk epoch : ℕ) → new.nodes.servers ≡ old.nodes.servers → HasWhole old id chunk epoch → (bytes : List ℕ) × HasBytes new id chunk bytes
+pub bytes_there : {D : Type 0} (old new : History D) (id chunk epoch : ℕ) → new.nodes.servers ≡ old.nodes.servers → HasWhole old id chunk epoch → (bytes : List ℕ) × HasBytes new id chunk bytes
 bytes_there old new id chunk epoch servers h = by_live (slot_in chunk h.s).live refl h.still.live h.still.whole
   where
     there : slice_get new.nodes.servers id ≡ Some h.s
@@ -125,7 +125,7 @@ bytes_there old new id chunk epoch servers h = by_live (slot_in chunk h.s).live 
     by_live None is live whole = absurd (false≢true live)
     by_live (Some l) is live whole = (l.replica.held.chunk.bytes, record { s = h.s; there = there; live = l; lives = is; whole = whole; is = refl })
 
-with_bytes : {D : Type 0} (h : History D) (id chunk : ℕ) (had : List ℕ) → (bytes : List ℕ) × HasBytes h id chunk bytes → ((has : List ℕ) → HasBytes h id chunk has → has ≡ had) → HasBytes h id chunk had
+pub with_bytes : {D : Type 0} (h : History D) (id chunk : ℕ) (had : List ℕ) → (bytes : List ℕ) × HasBytes h id chunk bytes → ((has : List ℕ) → HasBytes h id chunk has → has ≡ had) → HasBytes h id chunk had
 with_bytes h id chunk had (bytes, has) same = subst (HasBytes h id chunk) (same bytes has) has
 
 pub keeps_bytes : HaveSizes → AreNumbered → {D : Type 0} (x : Setup D) → KeepsBytes x

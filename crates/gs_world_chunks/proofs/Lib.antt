@@ -65,3 +65,4 @@ pub mod Through
 pub mod SeeingThrough
 mod MasterSays
 mod Cutting
+mod ToldBack

@@ -20,7 +20,7 @@ ghost use Rattle.gs_world_chunks.specs.Standing.{QuietStaysStill, ReplicasStand}
 ghost use Rattle.gs_world_chunks.specs.Durables.{ToldIsHad};
 ghost use Rattle.gs_world_chunks.specs.Seeing.{EachIsSeen, EachSeesOn, StoresStayIntact};
 ghost use Rattle.gs_world_chunks.specs.Accepting.{CommitsAreDecided, MembersHaveNamed, NoneGoesBackUnnamed, OneSurvivorIsEnough, SurvivorsAreAccepted};
-ghost use Rattle.gs_world_chunks.specs.Back.{EachIsOfAPrepare, GivesBytesBack, GivesNamesBack, GivesNamesTold, GivesNoOtherBack, GivesReplicasBack, GivesSettledBack, KeepsBytes, NoOtherText};
+ghost use Rattle.gs_world_chunks.specs.Back.{EachIsOfAPrepare, GivesBytesBack, GivesNamesBack, GivesNamesTold, GivesNoOtherBack, GivesReplicasBack, GivesSettledBack, KeepsBytes, NoOtherText, ToldBytesBack, ToldKeepsBytes, ToldNamesBack};
 ghost use Rattle.gs_block.specs.Written.{HasBlocks};
 ghost use Rattle.gs_world_chunks.specs.Scripts.{AnyScriptIsReached, EachScriptIsReached};
 
@@ -220,7 +220,8 @@ pub fn copies_inherit<D>()
 /// where the master is started again.
 pub fn an_accepted_rollback_gives_the_names_back<D>()
     ensures kept { (x : Setup D) → GivesNamesBack x }
-    ensures told { (x : Setup D) → GivesNamesTold x }
+    ensures told { (x : Setup D) → ToldNamesBack x }
+    ensures accounts { (x : Setup D) → GivesNamesTold x }
 {}
 
 /// No rollback is done unless each chunk that stood in a file at the prepare was named, since the master was restarted last, by a server that had it by its view of then or was recorded as a holder since.
@@ -271,10 +272,15 @@ pub fn a_rollback_gives_back_what_was_settled<D>()
 /// An accepted rollback gives back what stood at the last accepted prepare, by what the nodes have alone: the names are those of the prepare; and where digests tell blocks apart, of each chunk what a sound replica of a member had right behind
 /// the prepare is what each sound replica of a member has behind the rollback; whatever has happened between. And each member has it, live, whose server would have named the chunk on the way, and of which nothing
 /// was lost or damaged since.
+/// So it is in each run, whatever disks of the master fail. It is said of what a sound master keeps; and of what is told: by it, or, once a disk has failed, by its disks. So a commit at whose record a disk failed has
+/// given back all that if the record stands, also before the master is started again, which then opens what was told.
 pub fn a_rollback_gives_back_names_and_bytes<D>()
     ensures names { (x : Setup D) → GivesNamesBack x }
     ensures bytes { (x : Setup D) → GivesBytesBack x }
     ensures kept { (x : Setup D) → KeepsBytes x }
+    ensures told_names { (x : Setup D) → ToldNamesBack x }
+    ensures told_bytes { (x : Setup D) → ToldBytesBack x }
+    ensures told_kept { (x : Setup D) → ToldKeepsBytes x }
 {
     configurations_have_sizes();
     a_message_edits_a_replica_by_what_it_says();
