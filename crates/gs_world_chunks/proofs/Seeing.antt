@@ -11,7 +11,7 @@ use Rattle.gs_chunk.specs.Events.{Rests}
 use Rattle.gs_chunk.specs.Laws.{Birth}
 use Rattle.gs_chunk.specs.Machine.{ChunkWorld}
 use Rattle.gs_master_entry.proofs.Sending.{leads_on}
-use Rattle.gs_world_lift.specs.Going.{AllSent}
+use Rattle.gs_world_lift.specs.Going.{AllSent, heard_in}
 use Rattle.gs_world_lift.specs.Joint.{AtMaster, AtServer, Elsewhere, GoesBy}
 use Rattle.gs_world_lift.specs.Living.{GoesOn, LeadsOn, StoreGoes, StoreLives}
 use Rattle.gs_world_lift.specs.Running.{LastsArmed}
@@ -116,6 +116,15 @@ module _ {D : Type 0} (x : Setup D) (asked : ℕ → Asked) (given : IsGiven x) 
         intact = stores_stay_intact x bytes step old mid a c first.lives goes moves first.agrees first.intact;
         types = (one_lasts x given quiet step old mid first.lives.lasts types moves.steps).1;
       }
+
+  -- a chunk that lived lives on
+  pub lives_on_sound : (step : Step) (old mid : History D) (a c : Account) (first : Sees x asked old a) (next : SeesNext step old mid a c first) (chunk : ℕ) (l : IsAlive x.seen x.config bytes chunk old) → first.lives.life chunk ≡ inr l
+      → (m : IsAlive x.seen x.config bytes chunk mid) × (next.goes.last.life chunk ≡ inr m)
+  lives_on_sound step old mid a c first next chunk l is = by_life (next.goes.last.life chunk) refl (subst (λ life. GoesOn x.seen x.config bytes chunk step (heard_in x.seen x.failures x.armed next.goes.kind) old mid life (next.goes.last.life chunk)) is (next.goes.goes chunk))
+    where
+      by_life : (life : Life x.seen x.config bytes chunk mid) → next.goes.last.life chunk ≡ life → GoesOn x.seen x.config bytes chunk step (heard_in x.seen x.failures x.armed next.goes.kind) old mid (inr l) (next.goes.last.life chunk) → (m : IsAlive x.seen x.config bytes chunk mid) × (next.goes.last.life chunk ≡ inr m)
+      by_life (inl unborn) at goes = absurd (subst (GoesOn x.seen x.config bytes chunk step (heard_in x.seen x.failures x.armed next.goes.kind) old mid (inr l)) at goes)
+      by_life (inr m) at goes = (m, at)
 
   -- from a world in which all is seen steps lead to another
   pub record SeesTo (old new : History D) (a b : Account) (first : Sees x asked old a) : Type 0 where

@@ -196,7 +196,8 @@ pub fn survivors_keep_what_stood_at_the_prepare<D>()
 }
 
 /// Each view of a chunk that a client was ever told was looked up in some world of the run in which the call that is answered had been sent: the records told then that a file has the chunk, or had it, that this is its
-/// settled view, and that this is the epoch; and nothing was rolled back. It needn't be where the client was first told: an answer that is kept may be sent later, when another view has been settled.
+/// settled view, and that this is the epoch; and nothing was rolled back. It needn't be where the client was first told: an answer that is kept may be sent later, when another view has been settled. This is over runs in
+/// which no disk of the master may fail.
 pub fn locations_were_looked_up<D>()
     ensures { (x : Setup D) → LocationsWereLookedUp x }
 {
@@ -232,7 +233,8 @@ pub fn no_rollback_is_done_unnamed<D>()
 {}
 
 /// A client's new call to commit a rollback is accepted only where each chunk that stood in a file at the prepare was named, and the rollback is done then. Else it is refused for the lowest such chunk that
-/// wasn't named, or for want of room in the journal or of memory; and the rollback goes on as it was, with nothing else durable than the refusal of this request, where that is kept.
+/// wasn't named, or for want of room in the journal or of memory; and the rollback goes on as it was, with nothing else durable than the refusal of this request, where that is kept. So it is whatever disks have failed before, if none
+/// has since the master was opened and none fails at the call.
 pub fn a_commit_is_decided_by_what_was_named<D>()
     ensures { (x : Setup D) → CommitsAreDecided x }
 {
@@ -242,7 +244,7 @@ pub fn a_commit_is_decided_by_what_was_named<D>()
 
 /// While a rollback goes on one survivor that has answered is enough for a chunk: what a survivor of the chunk has told that it has learned of the rollback, in a message that the master took, names the chunk, whenever
 /// it was sent, if the master wasn't restarted since it took that. So where each chunk that stood in a file at the prepare has such a survivor, all were named, as a commit asks for; and a client's new
-/// call to commit is accepted, but for want of room in the journal or of memory.
+/// call to commit is accepted, but for want of room in the journal or of memory, and where a disk of the master has failed since it was opened or fails at the call.
 pub fn one_survivor_is_enough<D>()
     ensures named { (x : Setup D) → OneSurvivorIsEnough x }
     ensures accepted { (x : Setup D) → SurvivorsAreAccepted x }
