@@ -90,12 +90,16 @@ pub data Became {D : Type 0} (seen : D → List ℕ) (step : Step) (sent : Sent)
   Opened : (after : MasterOf D) (d : Durable) (log : Log) → HasDurable seen old d → new ≡ Standing after → after.state ≡ restarted d log → heard_by_master step sent ≡ None → restarts_master step ≡ true → Became seen step sent said old new
   Waits : ((m : MasterOf D) → new ≡ Standing m → ⊥) → ((d : Durable) → HasDurable seen old d → HasDurable seen new d) → ((m : MasterOf D) → old ≡ Standing m → heard_by_master step sent ≡ None) → Became seen step sent said old new
 
+-- where a message is heard, the turn is that of it
+abbrev pub HandlesAt : {D : Type 0} → Step → Sent → MasterOf D → Turn → Type 0
+HandlesAt step sent m t = (message : Message) → heard_by_master step sent ≡ Some message → (moment : Moment) × (t ≡ handle m.config m.state message moment)
+
 -- So it is of what is left of it. Or a disk fails at a turn: so many of its records stand, and its disks tell what they lead to.
 pub data BecameAll {D : Type 0} (seen : D → List ℕ) (step : Step) (sent : Sent) (said : Result (Unit {0}) Refusal) (Holds : Type 0) (old new : MasterPlace D) : Type 0 where
   Whole : Became seen step sent said old new → BecameAll seen step sent said Holds old new
   Loses : (m : MasterOf D) → old ≡ Standing m → ((z : MasterOf D) → new ≡ Standing z → ⊥) → (Holds → ⊥) → ((d : Durable) → HasDurable seen old d → HasDurable seen new d) → BecameAll seen step sent said Holds old new
   Cuts : (m : MasterOf D) (heard : Heard) (t : Turn) (many : ℕ) (d : Durable) → old ≡ Standing m → ((z : MasterOf D) → new ≡ Standing z → ⊥) → (Holds → ⊥) → EndsOnce m.config (IsMade m.config heard) m.state t → IsWritten t
-      → many ≤ length t.records → replayed m.state.durable (take many t.records) ≡ Some d → HasDurable seen new d → BecameAll seen step sent said Holds old new
+      → many ≤ length t.records → replayed m.state.durable (take many t.records) ≡ Some d → HasDurable seen new d → HandlesAt step sent m t → BecameAll seen step sent said Holds old new
 
 -- a disk failed at a turn
 data Rough {D : Type 0} (seen : D → List ℕ) (failures : D → ℕ) (step : Step) (sent : Sent) (said : Result (Unit {0}) Refusal) (old new : MasterPlace D) : Type 0 where
@@ -112,8 +116,11 @@ to_server message id h = rw h refl
 to_client : (message : Message) (id : ClientId) → message.to ≡ nodes.Client id → to_master (Some message) ≡ None
 to_client message id h = rw h refl
 
-closed_not : {D : Type 0} (first second : D) (m : MasterOf D) → ◌≡◌ {A = MasterPlace D} (Closed first second) (Standing m) → ⊥
+pub closed_not : {D : Type 0} (first second : D) (m : MasterOf D) → ◌≡◌ {A = MasterPlace D} (Closed first second) (Standing m) → ⊥
 closed_not first second m e = absurd (cc)
+
+message_is : {a b : Message} → ◌≡◌ {A = Option Message} (Some a) (Some b) → a ≡ b
+message_is e = cc
 
 above : (n m : ℕ) → n < m → m ≡ 0 → ⊥
 above n m below none = omega arith
@@ -389,7 +396,7 @@ module _ {D : Type 0} (x : Setup D) (given : IsGiven x) where
   -- ---- what stands of a turn
 
   -- a turn that a master makes, of which so many records stand
-  record IsPartOf (m : MasterOf D) (e : Durable) : Type 0 where
+  record IsPartOf (step : Step) (sent : Sent) (m : MasterOf D) (e : Durable) : Type 0 where
     heard : Heard
     turn : Turn
     many : ℕ
@@ -397,13 +404,17 @@ module _ {D : Type 0} (x : Setup D) (given : IsGiven x) where
     written : IsWritten turn
     within : many ≤ length turn.records
     stand : replayed m.state.durable (take many turn.records) ≡ Some e
+    handles : HandlesAt step sent m turn
 
-  part_of : (step : Step) (old : History D) (m : MasterOf D) (t : Turn) (many : ℕ) (e : Durable) → old.nodes.master ≡ Standing m → StandsSteady x.seen m → StepWithin step old → TurnsAt step old m t → many ≤ length t.records → replayed m.state.durable (take many t.records) ≡ Some e → IsPartOf m e
+  part_of : (step : Step) (old : History D) (m : MasterOf D) (t : Turn) (many : ℕ) (e : Durable) → old.nodes.master ≡ Standing m → StandsSteady x.seen m → StepWithin step old → TurnsAt step old m t → many ≤ length t.records → replayed m.state.durable (take many t.records) ≡ Some e → IsPartOf step old.sent m e
   part_of (Takes client) old m t many e at h within made low stand = absurd made
-  part_of (Comes event) old m t many e at h within made low stand = by_happening event.happening within made
+  part_of (Comes event) old m t many e at h within made low stand = by_happening event.happening refl within made
     where
-      by_happening : (happening : Happening) → HearsNamed event.moment happening old × HearsWithin happening old → TurnsOf event.moment happening old m t → IsPartOf m e
-      by_happening (happenings.Deliver id) within (message, found, to, is) =
+      none : (happening : Happening) → event.happening ≡ happening → heard_by_master (Comes (record { moment = event.moment; happening = happening })) old.sent ≡ None → (t : Turn) → HandlesAt (Comes event) old.sent m t
+      none happening is silent t message heard = absurd (false≢true (ap is_some (sym (heard_as event old.sent happening is ∙ silent) ∙ heard)))
+
+      by_happening : (happening : Happening) → event.happening ≡ happening → HearsNamed event.moment happening old × HearsWithin happening old → TurnsOf event.moment happening old m t → IsPartOf (Comes event) old.sent m e
+      by_happening (happenings.Deliver id) same within (message, found, to, is) =
           let named = within.0 message found to in
           let low_body : IsHeardBody m.state.durable.names message.body = subst (λ p. IsHeardAt p message.body) at (within.1 message found to) in record {
             heard = said_from message.from message.body;
@@ -413,8 +424,9 @@ module _ {D : Type 0} (x : Setup D) (given : IsGiven x) where
             written = (events_written m.config m.state (HearsAt message event.moment) named low_body h.steady).written;
             within = subst (λ (u : Turn). many ≤ length u.records) is low;
             stand = subst (λ (u : Turn). replayed m.state.durable (take many u.records) ≡ Some e) is stand;
+            handles = λ other heard. (event.moment, ap (λ one. handle m.config m.state one event.moment) (message_is (sym (heard_as event old.sent (happenings.Deliver id) same ∙ ap to_master found ∙ to_it message to) ∙ heard)));
           }
-      by_happening (happenings.Tick keepers.Master) within (inl is) = record {
+      by_happening (happenings.Tick keepers.Master) same within (inl is) = record {
         heard = None;
         turn = tick m.state event.moment;
         many = many;
@@ -422,8 +434,9 @@ module _ {D : Type 0} (x : Setup D) (given : IsGiven x) where
         written = (events_written m.config m.state (TicksAt event.moment) tt tt h.steady).written;
         within = subst (λ (u : Turn). many ≤ length u.records) is low;
         stand = subst (λ (u : Turn). replayed m.state.durable (take many u.records) ≡ Some e) is stand;
+        handles = none (happenings.Tick keepers.Master) same refl _;
       }
-      by_happening (happenings.Tick keepers.Master) within (inr is) = record {
+      by_happening (happenings.Tick keepers.Master) same within (inr is) = record {
         heard = None;
         turn = pressed_all m.state event.moment;
         many = many;
@@ -431,14 +444,15 @@ module _ {D : Type 0} (x : Setup D) (given : IsGiven x) where
         written = (all_steps_written m.state event.moment h.steady).written;
         within = subst (λ (u : Turn). many ≤ length u.records) is low;
         stand = subst (λ (u : Turn). replayed m.state.durable (take many u.records) ≡ Some e) is stand;
+        handles = none (happenings.Tick keepers.Master) same refl _;
       }
-      by_happening (happenings.Tick (keepers.Server id)) within made = absurd made
-      by_happening (happenings.Ask req request) within made = absurd made
-      by_happening (happenings.Beat id) within made = absurd made
-      by_happening (happenings.Restart node) within made = absurd made
-      by_happening (happenings.Lose id handle) within made = absurd made
-      by_happening (happenings.Damage id handle block) within made = absurd made
-      by_happening (happenings.FailDisk disk call) within made = absurd made
+      by_happening (happenings.Tick (keepers.Server id)) same within made = absurd made
+      by_happening (happenings.Ask req request) same within made = absurd made
+      by_happening (happenings.Beat id) same within made = absurd made
+      by_happening (happenings.Restart node) same within made = absurd made
+      by_happening (happenings.Lose id handle) same within made = absurd made
+      by_happening (happenings.Damage id handle block) same within made = absurd made
+      by_happening (happenings.FailDisk disk call) same within made = absurd made
 
   pub became : (step : Step) (old new : History D) → IsWell x old → (one : StepsWithin x step old new) → BecameAll x.seen step old.sent (met_at x step old new one.goes) (failures_at x.failures new.nodes.master ≡ failures_at x.failures old.nodes.master) (as_left old.nodes.master) (as_left new.nodes.master)
   became step old new well one = by_rough (rough step old new well within one.goes)
@@ -466,7 +480,7 @@ module _ {D : Type 0} (x : Setup D) (given : IsGiven x) where
           let is : part.master ≡ m = standing_is part.master m (sym part.place ∙ at) in
           let durable : m.state.durable ≡ d.0 = subst (λ p. HasDurable x.seen p d.0) at_left (tells_has x.seen x.failures old.nodes.master d.0 well.steady d.1) in
           let y = part_of step old m part.turn part.many behind.durable at h within (subst (λ (k : MasterOf D). TurnsAt step old k part.turn) is part.made) part.within (ap (λ z. replayed z (take part.many part.turn.records)) durable ∙ part.stand) in
-          Cuts m y.heard y.turn y.many behind.durable at_left none fails y.ends y.written y.within y.stand has_behind
+          Cuts m y.heard y.turn y.many behind.durable at_left none fails y.ends y.written y.within y.stand has_behind y.handles
 
       by_rough : Rough x.seen x.failures step old.sent (met_at x step old new one.goes) old.nodes.master new.nodes.master → BecameAll x.seen step old.sent (met_at x step old new one.goes) (failures_at x.failures new.nodes.master ≡ failures_at x.failures old.nodes.master) (as_left old.nodes.master) (as_left new.nodes.master)
       by_rough (Done b) = Whole b

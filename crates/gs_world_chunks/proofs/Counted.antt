@@ -295,14 +295,14 @@ module _ {D : Type 0} (x : Setup D) where
       → HasIt place chunk server → HasIt new chunk server
   stays_told_all step sent said place new e chunk server low (Whole b) ek going none has = stays_told step sent said place new e chunk server low b ek going none has
   stays_told_all step sent said place new e chunk server low (Loses m at none fails f) ek going calm has = λ other also. absurd (none other also)
-  stays_told_all step sent said place new e chunk server low (Cuts m heard t many f at none fails turn written below stand had) ek going calm has = λ other also. absurd (none other also)
+  stays_told_all step sent said place new e chunk server low (Cuts m heard t many f at none fails turn written below stand had handles) ek going calm has = λ other also. absurd (none other also)
 
   taken_told_all : {Holds : Type 0} (step : Step) (old new : History D) (goes : Goes x.seen x.failures x.armed step old new) (d : Durable) (chunk server epoch : ℕ) → server < 16 → LastsSteady x.seen (as_left old.nodes.master)
       → BecameAll x.seen step old.sent (met_at x step old new goes) Holds (as_left old.nodes.master) (as_left new.nodes.master)
       → HasDurable x.seen (as_left old.nodes.master) d → is_rolling d.phase ≡ true → d.epoch ≡ epoch → TakesSuch x (NamesChunk epoch chunk server) step old new goes → HasIt (as_left new.nodes.master) chunk server
   taken_told_all step old new goes d chunk server epoch low h (Whole b) dk rolling same taken = taken_told step old new goes d chunk server epoch low h b dk rolling same taken
   taken_told_all step old new goes d chunk server epoch low h (Loses m at none fails f) dk rolling same taken = λ other also. absurd (none other also)
-  taken_told_all step old new goes d chunk server epoch low h (Cuts m heard t many f at none fails turn written below stand has) dk rolling same taken = λ other also. absurd (none other also)
+  taken_told_all step old new goes d chunk server epoch low h (Cuts m heard t many f at none fails turn written below stand has handles) dk rolling same taken = λ other also. absurd (none other also)
 
 -- ---- over an upgrade
 

@@ -74,7 +74,7 @@ module _ {D : Type 0} (x : Setup D) where
       → is_ordinary d.phase ≡ false → is_ordinary e.phase ≡ false → RisesTo d e
   place_rises_all step sent said place new d e h (Whole b) dk ek was next = place_rises step sent said place new d e h b dk ek was next
   place_rises_all step sent said place new d e h (Loses m at none fails f) dk ek was next = same_rises d e (has_one x.seen new e d ek (f d dk))
-  place_rises_all step sent said place new d e h (Cuts m heard t many f at none fails turn written low stand has) dk ek was next = elim (part_stands m.config heard m.state t turn written many f stand) [
+  place_rises_all step sent said place new d e h (Cuts m heard t many f at none fails turn written low stand has handles) dk ek was next = elim (part_stands m.config heard m.state t turn written many f stand) [
     | inl within ↦ subst (λ z. RisesTo z e) (sym dm) (subst (RisesTo m.state.durable) same (record { rises = within.rises; stays = within.stays }))
     | inr whole ↦
         let goes = epochs_go m.config heard m.state t (once_stands m.config heard m.state t turn written (steady_at x place m at h).steady.firm.stands.kept).turn in

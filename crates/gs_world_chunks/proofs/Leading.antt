@@ -77,7 +77,7 @@ module _ {D : Type 0} (x : Setup D) where
   pub leads_all : {Holds : Type 0} (step : Step) (sent : Sent) (said : Result (Unit {0}) Refusal) (place new : MasterPlace D) (prepared d e : Durable) → BecameAll x.seen step sent said Holds place new → HasDurable x.seen place d → HasDurable x.seen new e → IsSince prepared d → PlaceLeads place prepared d e
   leads_all step sent said place new prepared d e (Whole b) dk ek s = leads step sent said place new prepared d e b dk ek s
   leads_all step sent said place new prepared d e (Loses m at none fails f) dk ek s = stays_led place prepared d e (subst (IsSince prepared) (has_one x.seen new d e (f d dk) ek) s)
-  leads_all step sent said place new prepared d e (Cuts m heard t many f at none fails turn written low stand has) dk ek s = elim (low_or_all many (length t.records)) [
+  leads_all step sent said place new prepared d e (Cuts m heard t many f at none fails turn written low stand has handles) dk ek s = elim (low_or_all many (length t.records)) [
     | inl below ↦ stays_led place prepared d e (subst (IsSince prepared) same (cuts_lead m.config heard m.state t prepared many f turn written since below stand).since)
     | inr all ↦ led place m prepared d e t.after.durable at dm (sym same ∙ all_stand m.config heard m.state t turn written many f all stand) (turns_lead m.config heard m.state t prepared turn written since)
   ]
@@ -122,7 +122,7 @@ module _ {D : Type 0} (x : Setup D) where
       by_case : BecameAll x.seen step sent said Holds place new → IsSince prepared e ⊎ IsOver new e
       by_case (Whole b) = by_whole b
       by_case (Loses m at none fails f) = by_phase none (is_ordinary e.phase) refl
-      by_case (Cuts m heard t many f at none fails turn written low stand has) = by_phase none (is_ordinary e.phase) refl
+      by_case (Cuts m heard t many f at none fails turn written low stand has handles) = by_phase none (is_ordinary e.phase) refl
 
   -- and one that is over stays so
   over_on : {Holds : Type 0} (step : Step) (sent : Sent) (said : Result (Unit {0}) Refusal) (place new : MasterPlace D) (d e : Durable) → LastsSteady x.seen new → BecameAll x.seen step sent said Holds place new → HasDurable x.seen place d → HasDurable x.seen new e
@@ -134,7 +134,7 @@ module _ {D : Type 0} (x : Setup D) where
       absurd (false≢true (sym (going after.state.durable (subst (λ p. MasterKeeps p after.state.durable) (sym to) ((steady_at new after to h).firm.sound, refl))) ∙ ap (λ (z : Durable). is_ordinary z.phase) same ∙ o.over))
   over_on step sent said place new d e h (Whole (Waits none f unheard)) dk ek o going = record { over = ap (λ (z : Durable). is_ordinary z.phase) (sym (has_one x.seen new d e (f d dk) ek)) ∙ o.over; none = none }
   over_on step sent said place new d e h (Loses m at none fails f) dk ek o going = absurd (o.none m at)
-  over_on step sent said place new d e h (Cuts m heard t many f at none fails turn written low stand has) dk ek o going = absurd (o.none m at)
+  over_on step sent said place new d e h (Cuts m heard t many f at none fails turn written low stand has handles) dk ek o going = absurd (o.none m at)
 
   -- what leads from an ordinary phase to another is a prepare
   pub begins_upgrade : (step : Step) (sent : Sent) (said : Result (Unit {0}) Refusal) (place new : MasterPlace D) (d e : Durable) → LastsSteady x.seen place → Became x.seen step sent said place new → HasDurable x.seen place d → HasDurable x.seen new e
@@ -159,7 +159,7 @@ module _ {D : Type 0} (x : Setup D) where
   begins_upgrade_all step sent said place new d e h (Whole b) dk ek ordinary other = begins_upgrade step sent said place new d e h b dk ek ordinary other
   begins_upgrade_all step sent said place new d e h (Loses m at none fails f) dk ek ordinary other =
       absurd (true≢false (sym ordinary ∙ ap (λ (z : Durable). is_ordinary z.phase) (has_one x.seen new d e (f d dk) ek) ∙ other))
-  begins_upgrade_all step sent said place new d e h (Cuts m heard t many f at none fails turn written low stand has) dk ek ordinary other = elim (part_stands m.config heard m.state t turn written many f stand) [
+  begins_upgrade_all step sent said place new d e h (Cuts m heard t many f at none fails turn written low stand has handles) dk ek ordinary other = elim (part_stands m.config heard m.state t turn written many f stand) [
     | inl within ↦ absurd (true≢false (sym (within.ordinary was) ∙ ap (λ (z : Durable). is_ordinary z.phase) same ∙ other))
     | inr whole ↦ subst (λ (z : Durable). (is_upgrade z.phase ≡ true) × IsSince z z) (sym whole ∙ same)
         (turns_begin m.config heard m.state t turn written (steady_at place m at h).steady.firm.stands.kept was (ap (λ (z : Durable). is_ordinary z.phase) (sym whole ∙ same) ∙ other))

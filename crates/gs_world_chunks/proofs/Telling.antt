@@ -156,7 +156,7 @@ module _ {D : Type 0} (x : Setup D) where
       → AskedAt P (as_left old.nodes.master) → AskedAt (Next step old new goes P) (as_left new.nodes.master)
   asks_on_all P step old new goes h (Whole b) asked = asks_on P step old new goes h b asked
   asks_on_all P step old new goes h (Loses m at none fails f) asked = λ other also chunk. absurd (none other also)
-  asks_on_all P step old new goes h (Cuts m heard t many f at none fails turn written low stand has) asked = λ other also chunk. absurd (none other also)
+  asks_on_all P step old new goes h (Cuts m heard t many f at none fails turn written low stand has handles) asked = λ other also chunk. absurd (none other also)
 
   -- ---- one step after the other
 

@@ -127,6 +127,11 @@ module _ {D : Type 0} (x : Setup D) where
   CommitsAreDecided = (prepared now next : History D) (before after back : Account) (step : Step) (upgrade : IsUpgrading x prepared before now after) (moves : Moves x step now after next back) (asks : AsksToCommit now step) → (x.fails ≡ true → DisksHold now next step asks) →
       IsDecided prepared before now after upgrade asks.req (met_at x step now next moves.steps.goes) back
 
+  -- Whatever disks have failed, and whichever fail at the call: what is told stays, or the refusal of this request is kept beside it; or the rollback is done, and then all was named.
+  abbrev pub CommitsDoOneThing : Type 0
+  CommitsDoOneThing = (prepared now next : History D) (before after back : Account) (step : Step) (upgrade : IsUpgrading x prepared before now after) → Moves x step now after next back → (asks : AsksToCommit now step) →
+      ((refusal : Refusal) × IsAsItWas asks.req refusal after.durable back.durable) ⊎ ((rolls_back after.durable back.durable ≡ true) × AllWereNamed prepared before now after upgrade)
+
   -- no rollback is done without it
   abbrev pub NoneGoesBackUnnamed : Type 0
   NoneGoesBackUnnamed = (prepared now next : History D) (before after back : Account) (step : Step) (upgrade : IsUpgrading x prepared before now after) → Moves x step now after next back →

@@ -19,7 +19,7 @@ ghost use Rattle.gs_world_chunks.specs.Sealing.{RolledBackStay, SurvivorsKeepThe
 ghost use Rattle.gs_world_chunks.specs.Standing.{QuietStaysStill, ReplicasStand};
 ghost use Rattle.gs_world_chunks.specs.Durables.{ToldIsHad};
 ghost use Rattle.gs_world_chunks.specs.Seeing.{EachIsSeen, EachSeesOn, StoresStayIntact};
-ghost use Rattle.gs_world_chunks.specs.Accepting.{CommitsAreDecided, MembersHaveNamed, NoneGoesBackUnnamed, OneSurvivorIsEnough, SurvivorsAreAccepted};
+ghost use Rattle.gs_world_chunks.specs.Accepting.{CommitsAreDecided, CommitsDoOneThing, MembersHaveNamed, NoneGoesBackUnnamed, OneSurvivorIsEnough, SurvivorsAreAccepted};
 ghost use Rattle.gs_world_chunks.specs.Back.{EachIsOfAPrepare, GivesBytesBack, GivesNamesBack, GivesNamesTold, GivesNoOtherBack, GivesReplicasBack, GivesSettledBack, KeepsBytes, NoOtherText, ToldBytesBack, ToldKeepsBytes, ToldNamesBack};
 ghost use Rattle.gs_block.specs.Written.{HasBlocks};
 ghost use Rattle.gs_world_chunks.specs.Scripts.{AnyScriptIsReached, EachScriptIsReached};
@@ -234,9 +234,10 @@ pub fn no_rollback_is_done_unnamed<D>()
 
 /// A client's new call to commit a rollback is accepted only where each chunk that stood in a file at the prepare was named, and the rollback is done then. Else it is refused for the lowest such chunk that
 /// wasn't named, or for want of room in the journal or of memory; and the rollback goes on as it was, with nothing else durable than the refusal of this request, where that is kept. So it is whatever disks have failed before, if none
-/// has since the master was opened and none fails at the call.
+/// has since the master was opened and none fails at the call. And whichever fail, even then: what is told stays, or the refusal is kept beside it, or the rollback is done, and all was named.
 pub fn a_commit_is_decided_by_what_was_named<D>()
-    ensures { (x : Setup D) → CommitsAreDecided x }
+    ensures decided { (x : Setup D) → CommitsAreDecided x }
+    ensures whatever_fails { (x : Setup D) → CommitsDoOneThing x }
 {
     configurations_have_sizes();
     a_message_edits_a_replica_by_what_it_says();
