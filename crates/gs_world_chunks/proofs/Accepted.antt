@@ -1,10 +1,13 @@
 -- A commit is accepted where for each chunk one survivor has answered, but for want of room or of memory.
+use Rattle.gs_world_lift.specs.Left.{as_left}
+use Rattle.gs_world_chunks.proofs.Well.{left_sound}
+use Rattle.gs_nodes.specs.declared.place.MasterPlace.TheVariants.{Standing}
 use Rattle.std.proofs.Common.{◌≡◌, ◌∙◌, inl, inr, ◌⊎◌, ℕ, true, Ok, Err, ap}
 use Rattle.gs_base.specs.declared.refusal.Refusal.TheVariants as refusals
 use Rattle.gs_master_spec.specs.Durable.{Durable, is_rolling}
 use Rattle.gs_world.proofs.Reaching.{HaveSizes}
 use Rattle.gs_world_chunks.proofs.Answering.{one_survivor_is_enough}
-use Rattle.gs_world_chunks.proofs.Deciding.{decided}
+use Rattle.gs_world_chunks.proofs.Deciding.{decided, holds_at}
 use Rattle.gs_world_chunks.proofs.Edits.{AreNumbered}
 use Rattle.gs_world_chunks.proofs.Leading.{has_at}
 use Rattle.gs_world_chunks.proofs.Telling.{now_so}
@@ -12,13 +15,16 @@ use Rattle.gs_world_chunks.specs.Accepting.{IsDecided, SurvivorsAreAccepted, met
 use Rattle.gs_world_chunks.specs.Running.{Setup}
 
 pub survivors_are_accepted : HaveSizes → AreNumbered → {D : Type 0} (x : Setup D) → SurvivorsAreAccepted x
-survivors_are_accepted sizes law {D} x prepared now next before after back step upgrade moves asks answered = by_case d.either
+survivors_are_accepted sizes law {D} x prepared now next before after back step upgrade moves asks holds_if answered = by_case d.either
   where
     d : IsDecided x prepared before now after upgrade asks.req (met_at x step now next moves.steps.goes) back
-    d = decided sizes law x prepared now next before after back step upgrade moves asks
+    d = decided sizes law x prepared now next before after back step upgrade moves asks holds_if
+
+    at_left : as_left now.nodes.master ≡ Standing asks.master
+    at_left = ap as_left asks.there ∙ left_sound x.seen asks.master (holds_at sizes law x prepared now next before after back step upgrade moves asks holds_if).sound
 
     rolling : is_rolling after.durable.phase ≡ true
-    rolling = ap (λ (z : Durable). is_rolling z.phase) (has_at x now.nodes.master asks.master after.durable asks.there (now_so x prepared now before after upgrade).has) ∙ asks.rolling
+    rolling = ap (λ (z : Durable). is_rolling z.phase) (has_at x (as_left now.nodes.master) asks.master after.durable at_left (now_so x prepared now before after upgrade).has) ∙ asks.rolling
 
     by_case : (met_at x step now next moves.steps.goes ≡ Ok tt) ⊎ ((chunk : ℕ) × (met_at x step now next moves.steps.goes ≡ Err (refusals.Unrestored chunk))) ⊎ (met_at x step now next moves.steps.goes ≡ Err refusals.Full) ⊎ (met_at x step now next moves.steps.goes ≡ Err refusals.Memory)
         → (met_at x step now next moves.steps.goes ≡ Ok tt) ⊎ (met_at x step now next moves.steps.goes ≡ Err refusals.Full) ⊎ (met_at x step now next moves.steps.goes ≡ Err refusals.Memory)

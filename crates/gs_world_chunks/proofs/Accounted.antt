@@ -1,5 +1,5 @@
 -- What is said by the nodes alone, from what is said with accounts.
-use Rattle.std.proofs.Common.{refl, sym, ap, subst, ◌∙◌, ◌≡◌, [], ◌∷◌, Bool, List, false, true}
+use Rattle.std.proofs.Common.{◌++◌, refl, sym, ap, subst, ◌∙◌, ◌≡◌, [], ◌∷◌, Bool, List, false, true}
 use Rattle.std.specs.Prelude.{MatchBool, is_some}
 use Rattle.std.specs.FinMap as fin
 use Rattle.gs_block.specs.Written.{TellsApart}
@@ -11,9 +11,10 @@ use Rattle.gs_nodes.specs.declared.place.MasterPlace.{MasterPlace}
 use Rattle.gs_nodes.specs.declared.place.MasterPlace.TheVariants.{Away, Closed, Standing}
 use Rattle.gs_world.proofs.Reaching.{HaveSizes}
 use Rattle.gs_world.specs.Histories.{History}
-use Rattle.gs_world.specs.Lasting.{IsToldIn, Lasts}
+use Rattle.gs_world.specs.Lasting.{IsToldIn}
+use Rattle.gs_world_lift.specs.Left.{as_left, left_of}
 use Rattle.gs_world.specs.Runs.{Step}
-use Rattle.gs_world_chunks.proofs.Told.{have_accounts}
+use Rattle.gs_world_chunks.proofs.Through.{have_accounts}
 use Rattle.gs_world_chunks.specs.Accounts.{Account}
 use Rattle.gs_world_chunks.specs.Moving.{account_behind}
 use Rattle.gs_world_chunks.specs.Running.{IsGiven, IsNew, IsToldAt, Moves, Runs, Setup, StepsWithin}
@@ -24,37 +25,46 @@ use Rattle.gs_world_chunks.specs.Upgrading.{RunsUpgraded}
 use Rattle.gs_world_lift.proofs.Durable.{has_durable}
 use Rattle.gs_world_lift.specs.Doing.{HasDurable}
 use Rattle.gs_world_chunks.proofs.BytesRuns.{bytes_back, listed_there}
-use Rattle.gs_world_chunks.proofs.Leading.{StandsSo, gives_names_back, keeps_has, stands_prepared, within_so}
-use Rattle.gs_world_chunks.proofs.Well.{IsWell, bare_well, begins_well, step_well, well_lasts}
-use Rattle.gs_world_chunks.specs.Back.{GivesBytesBack, GoesBack, IsMemberAt, HasRolledBack, RunsWithin}
+use Rattle.gs_world_chunks.proofs.Leading.{StandsSo, gives_names_back, keeps_has, next_so, stands_prepared, within_so}
+use Rattle.gs_world_chunks.proofs.Well.{IsWell, bare_well, begins_well, told_left, well_lasts}
+use Rattle.gs_world_chunks.specs.Back.{MasterKeeps, GivesBytesBack, GoesBack, IsMemberAt, HasRolledBack, RunsWithin}
 
 module _ {D : Type 0} (x : Setup D) where
-  -- what a sound master has is told
-  has_told : (place : MasterPlace D) (d : Durable) → Lasts x.seen place → HasDurable x.seen place d → IsToldAt x.seen place d
-  has_told (Standing m) d lasts has = by_fault (is_failed m.state.fault) lasts.sound
+  -- what is left has is told
+  has_told : (place : MasterPlace D) (d : Durable) → HasDurable x.seen (as_left place) d → IsToldAt x.seen place d
+  has_told (Standing m) d has = by_fault (is_failed m.state.fault) has
     where
-      by_fault : (failed : Bool) → failed ≡ false → MatchBool failed (IsToldIn (text_seen x.seen m.journal) d) (d ≡ m.state.durable)
-      by_fault true sound = absurd (cc)
-      by_fault false sound = sym has
-  has_told (Closed first second) d lasts has = has
-  has_told Away d lasts has = absurd lasts
+      by_fault : (failed : Bool) → HasDurable x.seen (left_of failed m) d → MatchBool failed (IsToldIn (text_seen x.seen m.journal) d) (d ≡ m.state.durable)
+      by_fault true has = has
+      by_fault false has = sym has
+  has_told (Closed first second) d has = has
+  has_told Away d has = absurd has
 
   pub runs_told : (steps : List Step) (old new : History D) (a b : Account) → IsToldAt x.seen old.nodes.master a.durable → Runs x steps old a new b → IsToldAt x.seen new.nodes.master b.durable
   runs_told [] old new a b told runs = subst (λ (h : History D). IsToldAt x.seen h.nodes.master b.durable) (sym runs.0) (subst (λ (c : Account). IsToldAt x.seen old.nodes.master c.durable) (sym runs.1) told)
   runs_told (step ∷ steps) old new a b told (mid, c, moves, rest) = runs_told steps mid new c b moves.told rest
 
-  module _ (given : IsGiven x) where
-    moves_on : (step : Step) (old new : History D) (a : Account) (d : Durable) → IsWell x new → StepsWithin x step old new → HasDurable x.seen new.nodes.master d → Moves x step old a new (account_behind step old a new d)
-    moves_on step old new a d well one has = record { steps = one; told = has_told new.nodes.master d (well_lasts x new well) has; account = refl }
+  -- steps one behind the other
+  within_then : (steps more : List Step) (old mid new : History D) → RunsWithin x steps old mid → RunsWithin x more mid new → RunsWithin x (steps ++ more) old new
+  within_then [] more old mid new is rest = subst (λ h. RunsWithin x more h new) is rest
+  within_then (step ∷ steps) more old mid new (next, one, going, on) rest = (next, one, going, within_then steps more next mid new on rest)
 
-    -- steps behind none of which a master stands that keeps no upgrade, with their accounts
-    pub within_accounts : (prepared : Durable) (steps : List Step) (old new : History D) (a : Account) → RunsWithin x steps old new → StandsSo x prepared old → (b : Account) × RunsUpgraded x steps old a new b
-    within_accounts prepared [] old new a is s = (a, (is, refl))
-    within_accounts prepared (step ∷ steps) old new a (mid, one, going, rest) s =
-        let there = within_so x given prepared (step ∷ []) old mid (mid, one, going, refl) s in
-        let has = has_durable x.seen mid.nodes.master (well_lasts x mid there.well) in
-        let more = within_accounts prepared steps mid new (account_behind step old a mid has.0) rest there in
-        (more.0, (mid, account_behind step old a mid has.0, moves_on step old mid a has.0 there.well one has.1, (there.since has.0 has.1).stands, more.1))
+  -- what is told is what is kept
+  told_kept : (h : History D) (d e : Durable) → IsWell x h → IsToldAt x.seen h.nodes.master d → MasterKeeps h.nodes.master e → e ≡ d
+  told_kept h d e well told keeps = told_is_had x.seen (as_left h.nodes.master) d e (well_lasts x h well) (told_left x.seen h.nodes.master d told) (keeps_has x h.nodes.master e keeps)
+
+  module _ (given : IsGiven x) where
+    moves_on : (step : Step) (old new : History D) (a : Account) (d : Durable) → StepsWithin x step old new → HasDurable x.seen (as_left new.nodes.master) d → Moves x step old a new (account_behind step old a new d)
+    moves_on step old new a d one has = record { steps = one; told = has_told new.nodes.master d has; account = refl }
+
+    -- steps behind none of which a master stands that keeps no upgrade, up to one that stands, with their accounts
+    pub within_accounts : (prepared : Durable) (steps : List Step) (old new : History D) (a : Account) → RunsWithin x steps old new → (more : List Step) (end : History D) (last : Durable) → RunsWithin x more new end → MasterKeeps end.nodes.master last → StandsSo x prepared old → (b : Account) × RunsUpgraded x steps old a new b
+    within_accounts prepared [] old new a is more end last rest keeps s = (a, (is, refl))
+    within_accounts prepared (step ∷ steps) old new a (mid, one, going, on) more end last rest keeps s =
+        let there = next_so x given prepared step old mid one going (steps ++ more) end last (within_then steps more mid new end on rest) keeps s in
+        let has = has_durable x.seen (as_left mid.nodes.master) (well_lasts x mid there.well) in
+        let found = within_accounts prepared steps mid new (account_behind step old a mid has.0) on more end last rest keeps there in
+        (found.0, (mid, account_behind step old a mid has.0, moves_on step old mid a has.0 one has.1, (there.since has.0 has.1).stands, found.1))
 
 -- an accepted rollback has accounts
 pub record RolledBackSo {D : Type 0} (x : Setup D) (prepared back : History D) (before last : Durable) (now : History D) : Type 0 where
@@ -69,19 +79,17 @@ pub rolled_back_so : {D : Type 0} (x : Setup D) (prepared back : History D) (bef
 rolled_back_so x prepared back before last apart goes =
     let given = goes.given in
     let old_well = bare_well x given goes.first goes.begun goes.old goes.runs (begins_well x given goes.begun goes.begins) in
-    let well = step_well x given goes.step goes.old prepared old_well goes.steps in
     let accounts = have_accounts x goes.begun goes.old goes.first given goes.begins goes.runs in
     let a : Account = accounts.1 in
     let new : IsNew x goes.begun accounts.0 = accounts.2 in
     let runs : Runs x goes.first goes.begun accounts.0 goes.old a = accounts.3 in
-    let was : goes.ordinary ≡ a.durable = told_is_had x.seen goes.old.nodes.master a.durable goes.ordinary (well_lasts x goes.old old_well) (runs_told x goes.first goes.begun goes.old accounts.0 a new.told runs) (keeps_has x goes.old.nodes.master goes.ordinary goes.stood) in
+    let was : goes.ordinary ≡ a.durable = told_kept x goes.old a.durable goes.ordinary old_well (runs_told x goes.first goes.begun goes.old accounts.0 a new.told runs) goes.stood in
     let first = account_behind goes.step goes.old a prepared before in
-    let moves = moves_on x given goes.step goes.old prepared a before well goes.steps (keeps_has x prepared.nodes.master before goes.keeps) in
+    let moves = moves_on x given goes.step goes.old prepared a before goes.steps (keeps_has x prepared.nodes.master before goes.keeps) in
     let begun = stands_prepared x prepared back before last goes in
-    let on = within_accounts x given before goes.between prepared goes.now first goes.rest begun in
-    let there = within_so x given before goes.between prepared goes.now goes.rest begun in
-    let rolling : goes.rolling ≡ on.0.durable = told_is_had x.seen goes.now.nodes.master on.0.durable goes.rolling (well_lasts x goes.now there.well) (runs_told x goes.between prepared goes.now first on.0 moves.told (runs_of x goes.between prepared goes.now first on.0 on.1)) (keeps_has x goes.now.nodes.master goes.rolling goes.rolls) in
-    let back_well = step_well x given goes.commit goes.now back there.well goes.commits in
+    let on = within_accounts x given before goes.between prepared goes.now first goes.rest [] goes.now goes.rolling refl goes.rolls begun in
+    let there = within_so x given before goes.between prepared goes.now goes.rolling goes.rest goes.rolls begun in
+    let rolling : goes.rolling ≡ on.0.durable = told_kept x goes.now on.0.durable goes.rolling there.well (runs_told x goes.between prepared goes.now first on.0 moves.told (runs_of x goes.between prepared goes.now first on.0 on.1)) goes.rolls in
     record {
       first = first;
       after = on.0;
@@ -100,7 +108,7 @@ rolled_back_so x prepared back before last apart goes =
           runs = on.1;
         };
         step = goes.commit;
-        moves = moves_on x given goes.commit goes.now back on.0 last back_well goes.commits (keeps_has x back.nodes.master last goes.ended);
+        moves = moves_on x given goes.commit goes.now back on.0 last goes.commits (keeps_has x back.nodes.master last goes.ended);
         accepted = ap (λ d. rolls_back d last) (sym rolling) ∙ goes.done;
       };
     }

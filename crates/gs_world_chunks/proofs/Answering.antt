@@ -1,4 +1,5 @@
 -- A survivor that has answered in the epoch of the rollback has named its chunk.
+use Rattle.gs_world_lift.specs.Left.{left_in}
 use Rattle.std.proofs.Common.{◌≡◌, ◌∙◌, ◌+◌, ◌<◌, ◌≤◌, inl, inr, ℕ, Bool, true, false, List, [], ◌∷◌, Some, refl, sym, ap, subst, slice_get, arith}
 use Rattle.std.specs.Prelude.{Contains}
 use Rattle.gs_base.specs.Members.{is_member}
@@ -32,7 +33,6 @@ use Rattle.gs_world.proofs.Sending.{step_stays}
 use Rattle.gs_world.specs.Histories.{History}
 use Rattle.gs_world.specs.Runs.{StaySent, Step}
 use Rattle.gs_world.specs.Sent.{IsSent}
-use Rattle.gs_world_chunks.proofs.Told.{reached_sound}
 use Rattle.gs_world_chunks.specs.Accounts.{Account}
 use Rattle.gs_world_chunks.specs.Running.{IsGiven, IsReached, Runs, Setup, StepsWithin}
 use Rattle.gs_world_lift.proofs.AskingRuns.{of_one_edit, pushes_right}
@@ -51,14 +51,14 @@ use Rattle.gs_world_chunks.proofs.Leading.{StandsSo}
 use Rattle.gs_world_chunks.proofs.LearnedSent.{AreOwn, HasLearned, SaysLearned, learned_at, learned_below}
 use Rattle.gs_world_chunks.proofs.Reached.{run_stays}
 use Rattle.gs_world_chunks.proofs.Runs.{NextSeen, seen_next}
-use Rattle.gs_world_chunks.proofs.Seeing.{SeesTo, sees_run}
+use Rattle.gs_world_chunks.proofs.SeeingThrough.{reached_well, SeesToThrough, sees_run_through}
 use Rattle.gs_world_chunks.proofs.Surviving.{still, survivor}
 use Rattle.gs_world_chunks.proofs.SurvivedOn.{survived}
 use Rattle.gs_world_chunks.proofs.Telling.{begins_so, stands_next}
-use Rattle.gs_world_chunks.proofs.Well.{IsWell}
+use Rattle.gs_world_chunks.proofs.Well.{IsWell, step_well}
 use Rattle.gs_world_chunks.specs.Accepting.{HasTaken, NamesChunk, OneSurvivorIsEnough, TellsLearned, WasNamed}
 use Rattle.gs_world_chunks.specs.Joined.{SeenSince}
-use Rattle.gs_world_chunks.specs.Seeing.{SeesBoth}
+use Rattle.gs_world_chunks.specs.SeenThrough.{SeesBothThrough}
 use Rattle.gs_world_chunks.specs.Upgrading.{IsUpgrading, RunsUpgraded, Survives}
 
 two_ends : Prepare ≡ Rollback → ⊥
@@ -70,7 +70,7 @@ module _ (sizes : HaveSizes) (law : AreNumbered) {D : Type 0} (x : Setup D) (pre
   listed : is_listed before.durable chunk ≡ true
   listed = listed_then before after chunk id survives
 
-  sees : SeesBoth x prepared before now after
+  sees : SeesBothThrough x prepared before now after
   sees = sees_there sizes law x prepared now before after upgrade
 
   abbrev asked : ℕ → Asked
@@ -115,20 +115,20 @@ module _ (sizes : HaveSizes) (law : AreNumbered) {D : Type 0} (x : Setup D) (pre
     one : AllSent (IsOfOneEdit asked) mid.sent
     one = sent_before x.seen x.failures x.armed (IsOfOneEdit asked) mid.sent now.sent stays one_now
 
-    to_mid : SeesTo x asked given law prepared mid before c sees.first
-    to_mid = sees_run x asked given law apart up.steps prepared mid before c sees.first (reached_sound x prepared before reached_then).types runs right one
+    to_mid : SeesToThrough x asked given law prepared mid before c sees.first
+    to_mid = sees_run_through x asked given law apart up.steps prepared mid before c sees.first (reached_well x prepared before reached_then) runs right one
 
     reached_mid : IsReached x mid c
     reached_mid = reach_more x prepared mid before c up.steps reached_then runs
 
-    to_now : SeesTo x asked given law mid now c after to_mid.last
-    to_now = sees_run x asked given law apart steps mid now c after to_mid.last (reached_sound x mid c reached_mid).types later right_now one_now
+    to_now : SeesToThrough x asked given law mid now c after to_mid.last
+    to_now = sees_run_through x asked given law apart steps mid now c after to_mid.last (reached_well x mid c reached_mid) later right_now one_now
 
     here : SinceSeen sizes law x prepared mid before c up asked to_mid.last chunk
     here = since_seen sizes law x prepared mid before c up asked right one sees.first to_mid.last to_mid.on chunk listed
 
-    next : NextSeen x bytes chunk mid c now after here.since.last (to_now.last.lives.life chunk)
-    next = seen_next x asked mid now c after to_mid.last to_now.last apart chunk (to_now.on chunk) here.since.last here.lives
+    next : NextSeen x bytes chunk (left_in mid) c (left_in now) after here.since.last (to_now.last.lives.life chunk)
+    next = seen_next x asked (left_in mid) (left_in now) c after to_mid.last to_now.last apart chunk (to_now.on chunk) here.since.last here.lives
 
     abbrev p : ChunkWorld
     p = here.since.first.alive.world
@@ -139,7 +139,7 @@ module _ (sizes : HaveSizes) (law : AreNumbered) {D : Type 0} (x : Setup D) (pre
     abbrev v : ChunkWorld
     v = next.last.alive.world
 
-    abbrev k : SeenSince x bytes chunk prepared before now after
+    abbrev k : SeenSince x bytes chunk (left_in prepared) before (left_in now) after
     k = record {
       first = here.since.first;
       last = next.last;
@@ -154,10 +154,10 @@ module _ (sizes : HaveSizes) (law : AreNumbered) {D : Type 0} (x : Setup D) (pre
     }
 
     survivor_now : IsSurvivor v id
-    survivor_now = survivor x bytes chunk prepared before now after k listed id survives
+    survivor_now = survivor x bytes chunk (left_in prepared) before (left_in now) after k listed id survives
 
     up_here : machine.IsUpgrading w before.durable.epoch
-    up_here = still x bytes chunk prepared before mid c here.since
+    up_here = still x bytes chunk (left_in prepared) before (left_in mid) c here.since
 
     okp : WorldOk p
     okp = reached_world p here.since.first.alive.reached
@@ -173,7 +173,7 @@ module _ (sizes : HaveSizes) (law : AreNumbered) {D : Type 0} (x : Setup D) (pre
 
     -- the epoch is the one behind that of the prepare
     next_epoch : before.durable.epoch + 1 ≡ after.durable.epoch
-    next_epoch = elim (still x bytes chunk prepared before now after k) [
+    next_epoch = elim (still x bytes chunk (left_in prepared) before (left_in now) after k) [
       | inl y ↦
           absurd (
           let r = (okv.entry).rolling rolls_now in
@@ -243,7 +243,7 @@ module _ (sizes : HaveSizes) (law : AreNumbered) {D : Type 0} (x : Setup D) (pre
       me = (here.since.last.keeps.servers id s found).me
 
       shown : IsShown (setting_of bytes b.epoch s) chunk w s
-      shown = is_shown x.seen x.config bytes b.epoch chunk mid w here.since.last.alive.reached (record { members = here.since.last.alive.shows.members; sent = here.since.last.alive.shows.sent }) here.since.last.keeps here.since.last.apart id s found
+      shown = is_shown x.seen x.config bytes b.epoch chunk (left_in mid) w here.since.last.alive.reached (record { members = here.since.last.alive.shows.members; sent = here.since.last.alive.shows.sent }) here.since.last.keeps here.since.last.apart id s found
 
       -- it has what it names
       has_it : Contains (named s.kept.epoch (store_of s)) chunk
@@ -269,7 +269,7 @@ module _ (sizes : HaveSizes) (law : AreNumbered) {D : Type 0} (x : Setup D) (pre
 
     -- and behind a step what it has said of that epoch names the chunk, if it did before
     names_next : (step : Step) (old : History D) → IsWell x old → AreOwn old → StepsWithin x step old mid → AllName old → AllName mid
-    names_next step old well own_old goes named_before message handles sent tells = elim (learned_at x step old mid well own_old goes message id after.durable.epoch handles sent tells) [
+    names_next step old well own_old goes named_before message handles sent tells = elim (learned_at x step old mid well (step_well x given step old mid well goes) own_old goes message id after.durable.epoch handles sent tells) [
       | inl was ↦ named_before message handles was tells
       | inr l ↦ newly l
     ]

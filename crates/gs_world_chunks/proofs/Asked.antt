@@ -1,4 +1,5 @@
 -- Each edit in each list of a store is one that was asked for.
+use Rattle.gs_world_lift.specs.Left.{left_in}
 use Rattle.std.proofs.Common.{◌≡◌, ◌∙◌, ◌+◌, ℕ, Bool, true, false, cond, List, [], ◌∷◌, Option, Some, inl, inr, refl, sym, ap, subst, take, arith}
 use Rattle.std.specs.Prelude.{◌==◌, length, slice_get}
 use Rattle.std.proofs.lemmas.Bool.Decides.{nat_tests}
@@ -33,7 +34,7 @@ use Rattle.gs_world.specs.Sent.{IsSent, Sent}
 use Rattle.gs_server.specs.Edits.{applied_bytes}
 use Rattle.gs_world_chunks.proofs.Edits.{AreNumbered}
 use Rattle.gs_world_chunks.proofs.Pushed.{same_or_other, were_pushed}
-use Rattle.gs_world_chunks.proofs.Seeing.{each_is_seen, sees_for}
+use Rattle.gs_world_chunks.proofs.SeeingThrough.{each_is_seen_through, sees_for_through}
 use Rattle.gs_world_chunks.specs.Acknowledged.{IsAskedHere, WasPushed, taken_bytes}
 use Rattle.gs_world_chunks.specs.Agreeing.{Agrees}
 use Rattle.gs_world_chunks.specs.Asked.{EditsWereAsked}
@@ -109,12 +110,12 @@ some_at place edit edits none at = none_at (subst (λ xs. slice_get xs place ≡
     none_at is = absurd (cc)
 
 -- what an account has of a list is the one that its request asks for, and was asked for
-module _ {D : Type 0} (x : Setup D) (asked : ℕ → Asked) (now : History D) (a : Account) (sees : Sees x asked now a) (chunk : ℕ) (stamp : Stamp) (place : ℕ) (edit : Edit) (at : slice_get (a.list chunk stamp) place ≡ Some edit) where
+module _ {D : Type 0} (x : Setup D) (asked : ℕ → Asked) (now : History D) (a : Account) (sees : Sees x asked (left_in now) a) (chunk : ℕ) (stamp : Stamp) (place : ℕ) (edit : Edit) (at : slice_get (a.list chunk stamp) place ≡ Some edit) where
   own_there : IsAskedEdit (bytes_in asked) asked x.config.chunk (take place (a.list chunk stamp)) edit × WasAskedFor now.sent edit
   own_there = by_life (sees.lives.life chunk) refl
     where
-      by_life : (life : Life x.seen x.config (bytes_in asked) chunk now) → sees.lives.life chunk ≡ life → IsAskedEdit (bytes_in asked) asked x.config.chunk (take place (a.list chunk stamp)) edit × WasAskedFor now.sent edit
-      by_life (inl unborn) is = (let blank = subst (AgreesAt x (bytes_in asked) a chunk now) is (sees.agrees.agrees chunk) in absurd (some_at place edit (a.list chunk stamp) (blank.list stamp) at))
+      by_life : (life : Life x.seen x.config (bytes_in asked) chunk (left_in now)) → sees.lives.life chunk ≡ life → IsAskedEdit (bytes_in asked) asked x.config.chunk (take place (a.list chunk stamp)) edit × WasAskedFor now.sent edit
+      by_life (inl unborn) is = (let blank = subst (AgreesAt x (bytes_in asked) a chunk (left_in now)) is (sees.agrees.agrees chunk) in absurd (some_at place edit (a.list chunk stamp) (blank.list stamp) at))
       by_life (inr l) is = elim (agrees.others stamp) [
         | inl none ↦ absurd (some_at place edit (a.list chunk stamp) none at)
         | inr (t, at_t, late, stood, same) ↦
@@ -123,13 +124,13 @@ module _ {D : Type 0} (x : Setup D) (asked : ℕ → Asked) (now : History D) (a
       ]
         where
           agrees : Agrees a now.sent chunk l.reached.0 l.world
-          agrees = subst (AgreesAt x (bytes_in asked) a chunk now) is (sees.agrees.agrees chunk)
+          agrees = subst (AgreesAt x (bytes_in asked) a chunk (left_in now)) is (sees.agrees.agrees chunk)
 
           owns : AreOwn (IsAskedEdit (bytes_in asked) asked x.config.chunk) l.world.known
-          owns = subst (OwnIn x.seen x.config (bytes_in asked) asked chunk now) is (sees.tells.own chunk)
+          owns = subst (OwnIn x.seen x.config (bytes_in asked) asked chunk (left_in now)) is (sees.tells.own chunk)
 
           heard : AreOwn (λ before edit. WasAskedFor now.sent edit) l.world.known
-          heard = subst (AskedIn x.seen x.config (bytes_in asked) chunk now) is (sees.tells.asked_for chunk)
+          heard = subst (AskedIn x.seen x.config (bytes_in asked) chunk (left_in now)) is (sees.tells.asked_for chunk)
 
 -- ---- its bytes were pushed
 
@@ -201,8 +202,8 @@ module _ (sizes : HaveSizes) (law : AreNumbered) {D : Type 0} (x : Setup D) wher
   edits_were_asked now a chunk stamp place edit r at =
       (own.0.handle, own.0.stamp, is_asked bytes seen.0 x.config.chunk now.sent seen.2.lives.pushes seen.2.tells.one (take place (a.list chunk stamp)) edit own.0 own.1 (λ never. were_pushed now.sent edit.req (pushed never)))
     where
-      seen : (asked : ℕ → Asked) × AreAskedIn asked now × Sees x asked now a
-      seen = each_is_seen sizes law x now a r
+      seen : (asked : ℕ → Asked) × AreAskedIn asked now × Sees x asked (left_in now) a
+      seen = each_is_seen_through sizes law x now a r
 
       bytes : ReqId → List ℕ
       bytes = bytes_in seen.0
@@ -217,7 +218,7 @@ module _ (sizes : HaveSizes) (law : AreNumbered) {D : Type 0} (x : Setup D) wher
           let more : List ℕ = 0 ∷ bytes edit.req in
           let asked = other_asked seen.0 now.sent seen.2.tells.one edit.req o.handle o.members o.primary o.stamp o.op o.asks none more in
           let one = other_one seen.0 now.sent seen.2.tells.one edit.req o.handle o.members o.primary o.stamp o.op o.asks none more in
-          let sees = sees_for sizes law x asked now a r (λ id m is. right_of asked m (one id m is)) one in
+          let sees = sees_for_through sizes law x asked now a r (λ id m is. right_of asked m (one id m is)) one in
           let other = (own_there x asked now a sees chunk stamp place edit at).0 in
           let first : edit.bytes ≡ bytes edit.req = own_bytes bytes seen.0 x.config.chunk (take place (a.list chunk stamp)) edit o never in
           let then : edit.bytes ≡ bytes_in asked edit.req = own_bytes (bytes_in asked) asked x.config.chunk (take place (a.list chunk stamp)) edit other never in

@@ -1,4 +1,5 @@
 -- Where an upgrade stands in a run, its prepare was accepted in it.
+use Rattle.gs_world_lift.specs.Left.{as_left}
 use Rattle.std.proofs.Common.{◌≡◌, ◌∙◌, ◌⊎◌, inl, inr, Bool, true, false, List, [], ◌∷◌, refl, sym, ap, subst}
 use Rattle.std.proofs.lemmas.Bool.{and_from, and_parts, true≢false}
 use Rattle.gs_master_record.specs.declared.checkpoint.Phase.{Phase}
@@ -13,9 +14,9 @@ use Rattle.gs_world_lift.specs.Doing.{HasDurable}
 use Rattle.gs_world_chunks.proofs.Became.{became, has_one}
 use Rattle.gs_world_chunks.proofs.Going.{upgrading_on}
 use Rattle.gs_world_chunks.proofs.Holding.{reach_more}
-use Rattle.gs_world_chunks.proofs.Leading.{begins_upgrade}
+use Rattle.gs_world_chunks.proofs.Leading.{begins_upgrade_all}
 use Rattle.gs_world_chunks.proofs.Telling.{told_has}
-use Rattle.gs_world_chunks.proofs.Well.{IsWell, begins_well, step_well}
+use Rattle.gs_world_chunks.proofs.Well.{IsWell, begins_well, left_sound, step_well, well_steady}
 use Rattle.gs_world_chunks.specs.Accepting.{met_at}
 use Rattle.gs_world_chunks.specs.Accounts.{Account}
 use Rattle.gs_world_chunks.specs.Back.{EachIsOfAPrepare, HasRolledBack}
@@ -35,7 +36,7 @@ module _ {D : Type 0} (x : Setup D) where
   record StandsBegun (h : History D) (a : Account) : Type 0 where
     reached : IsReached x h a
     well : IsWell x h
-    has : HasDurable x.seen h.nodes.master a.durable
+    has : HasDurable x.seen (as_left h.nodes.master) a.durable
     begun : IsBegun h a
 
   -- ---- a step
@@ -51,7 +52,7 @@ module _ {D : Type 0} (x : Setup D) where
       well : IsWell x new
       well = step_well x given step old new s.well moves.steps
 
-      has : HasDurable x.seen new.nodes.master b.durable
+      has : HasDurable x.seen (as_left new.nodes.master) b.durable
       has = told_has x new b.durable well moves.told
 
       prepared_now : is_ordinary a.durable.phase ≡ true → is_ordinary b.durable.phase ≡ false → IsUpgrading x new b new b
@@ -62,7 +63,7 @@ module _ {D : Type 0} (x : Setup D) where
         step = step;
         moves = moves;
         accepted = and_from (is_ordinary a.durable.phase) (is_upgrade b.durable.phase) ordinary
-            (begins_upgrade x step old.sent (met_at x step old new moves.steps.goes) old.nodes.master new.nodes.master a.durable b.durable s.well.steady (became x given step old new s.well moves.steps) s.has has ordinary other).0;
+            (begins_upgrade_all x step old.sent (met_at x step old new moves.steps.goes) (as_left old.nodes.master) (as_left new.nodes.master) a.durable b.durable (well_steady x old s.well) (became x given step old new s.well moves.steps) s.has has ordinary other).0;
         steps = [];
         runs = (refl, refl);
       }
@@ -83,19 +84,19 @@ module _ {D : Type 0} (x : Setup D) where
 
   -- a new store has no upgrade
   new_begun : (h : History D) (a : Account) → IsReached x h a → IsNew x h a → StandsBegun h a
-  new_begun h a reached new = record { reached = reached; well = well; has = has; begun = inl (ap (λ (d : Durable). is_ordinary d.phase) (has_one x.seen h.nodes.master a.durable start has starts)) }
+  new_begun h a reached new = record { reached = reached; well = well; has = has; begun = inl (ap (λ (d : Durable). is_ordinary d.phase) (has_one x.seen (as_left h.nodes.master) a.durable start has starts)) }
     where
       well : IsWell x h
       well = begins_well x new.given h new.begins
 
-      has : HasDurable x.seen h.nodes.master a.durable
+      has : HasDurable x.seen (as_left h.nodes.master) a.durable
       has = told_has x h a.durable well new.told
 
-      starts : HasDurable x.seen h.nodes.master start
+      starts : HasDurable x.seen (as_left h.nodes.master) start
       starts = by_opens (begins_told x.seen x.failures x.armed x.config x.clients x.disks h new.given.new new.begins)
         where
-          by_opens : OpensAs x.seen start h.nodes.master → HasDurable x.seen h.nodes.master start
-          by_opens (after, is, state, firm) = subst (λ p. HasDurable x.seen p start) (sym is) (ap (λ (s : State). s.durable) state)
+          by_opens : OpensAs x.seen start h.nodes.master → HasDurable x.seen (as_left h.nodes.master) start
+          by_opens (after, is, state, firm) = subst (λ p. HasDurable x.seen p start) (sym (ap as_left is ∙ left_sound x.seen after firm.sound)) (ap (λ (s : State). s.durable) state)
 
   each_begun : (now : History D) (after : Account) → IsReached x now after → StandsBegun now after
   each_begun now after r =

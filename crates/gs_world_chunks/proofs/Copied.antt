@@ -1,4 +1,6 @@
 -- What is copied is a view of its source that was settled, in which nobody may number.
+use Rattle.gs_world_lift.proofs.TellingAll.{asked_over_all}
+use Rattle.gs_world_lift.specs.Left.{left_in}
 use Rattle.std.proofs.Common.{◌≡◌, ◌≢◌, ◌∙◌, ◌<◌, ◌≤◌, ◌++◌, ◌⊎◌, ℕ, Bool, true, false, List, [], ◌∷◌, Option, Some, None, refl, sym, ap, subst, inl, inr, arith}
 use Rattle.std.specs.Prelude.{◌==◌, if◌then◌else◌, is_some}
 use Rattle.std.specs.FinMap as fin
@@ -29,7 +31,7 @@ use Rattle.gs_world_chunks.proofs.Mastering.{stood_before}
 use Rattle.gs_world_chunks.proofs.Origins.{by_servers_others, copied_same, of_clients_others, unborn_copies_none}
 use Rattle.gs_world_chunks.proofs.Reached.{run_stays}
 use Rattle.gs_world_chunks.proofs.Runs.{both_seen, has_told, living_copied, living_told}
-use Rattle.gs_world_chunks.proofs.Seeing.{each_sees_on, sees_first, sees_step}
+use Rattle.gs_world_chunks.proofs.SeeingThrough.{reached_through, each_sees_on_through, sees_first_through, sees_step_through}
 use Rattle.gs_world_chunks.proofs.Viewing.{told_view}
 use Rattle.gs_world_chunks.specs.Agreeing.{Agrees, CopiesNone, IsBlank}
 use Rattle.gs_world_chunks.specs.Copying.{CopiesAreOfViews, WasCopied}
@@ -39,7 +41,7 @@ use Rattle.gs_master_entry.specs.Rows.{AreCopiedSince, CopiesSince, IsCopiedSinc
 use Rattle.gs_master_entry.specs.Showing.{ShowsDurable, primary_of}
 use Rattle.gs_lease.specs.declared.view.Term.{Term}
 use Rattle.gs_lease.specs.declared.view.View.{View}
-use Rattle.gs_world_lift.proofs.AskingRuns.{asked_over, of_one_edit, pushes_right}
+use Rattle.gs_world_lift.proofs.AskingRuns.{of_one_edit, pushes_right}
 use Rattle.gs_world_lift.proofs.Beginning.{begins_none}
 use Rattle.gs_world_lift.proofs.Copying.{IsToldToCopy, copied_beside, copied_is_told, copied_there}
 use Rattle.gs_world_lift.proofs.Durable.{durable_shown}
@@ -58,15 +60,13 @@ use Rattle.gs_msg.specs.declared.body.Body.TheVariants as bodies
 use Rattle.gs_msg.specs.declared.message.Message.{Message}
 use Rattle.gs_msg.specs.declared.node.NodeId.{NodeId}
 use Rattle.gs_msg.specs.declared.node.NodeId.TheVariants as nodes
-use Rattle.gs_world_chunks.proofs.Told.{arming, reached_sound}
 use Rattle.gs_world.proofs.Reaching.{HaveSizes}
 use Rattle.gs_world.specs.Histories.{History}
 use Rattle.gs_world.specs.Runs.{Step}
 use Rattle.gs_world.specs.Sent.{Sent, message_in, posts_of}
 use Rattle.gs_master_spec.specs.Applied.{view_in}
 use Rattle.gs_master_spec.specs.Durable.{Durable, Settled, is_listed, is_rolling}
-use Rattle.gs_world_laws.proofs.Keeping.{begins_keeping}
-use Rattle.gs_world_laws.specs.Saying.{KeepsTypes}
+use Rattle.gs_world_chunks.proofs.Well.{IsWell, begins_well}
 
 -- ---- the machine of the source
 
@@ -158,7 +158,7 @@ record IsToldUnled (a c : Account) (source : ℕ) (at : Stamp) : Type 0 where
   pub under : view.stamp ≡ at
   pub unled : view.term ≡ None
 
-module _ {D : Type 0} (x : Setup D) (asked : ℕ → Asked) (step : Step) (old mid : History D) (a c : Account) (moves : Moves x step old a mid c) (first : Sees x asked old a) (last : Sees x asked mid c) where
+module _ {D : Type 0} (x : Setup D) (asked : ℕ → Asked) (step : Step) (old mid : History D) (a c : Account) (first : Sees x asked old a) (last : Sees x asked mid c) where
   abbrev bytes : ReqId → List ℕ
   bytes = bytes_in asked
 
@@ -178,7 +178,7 @@ module _ {D : Type 0} (x : Setup D) (asked : ℕ → Asked) (step : Step) (old m
         shows_mid = durable_shown x.seen source m.world mid.nodes.master c.durable (has_told x asked mid c last) m.shows.master
 
         listed : is_listed c.durable source ≡ true
-        listed = subst (λ (d : Durable). is_listed d source ≡ true) (told_is_had x.seen mid.nodes.master c.durable by.behind last.lives.lasts moves.told by.has) k.listed
+        listed = subst (λ (d : Durable). is_listed d source ≡ true) (told_is_had x.seen mid.nodes.master c.durable by.behind last.lives.lasts last.agrees.told by.has) k.listed
 
         later : Later l.world.known m.world.known
         later = leads_later l.world m.world by.leads (reached_world l.world l.reached)
@@ -253,21 +253,21 @@ module _ {D : Type 0} (x : Setup D) (chunk : ℕ) where
 
   module _ (law : AreNumbered) (asked : ℕ → Asked) (given : IsGiven x) where
     -- behind a step
-    step_copies : (step : Step) (old mid : History D) (a c : Account) → IsReached x old a → Moves x step old a mid c → (first : Sees x asked old a) (last : Sees x asked mid c)
-        → ((other : ℕ) → (about : Option ℕ) × GoesOn x.seen x.config (bytes_in asked) other step about old mid (first.lives.life other) (last.lives.life other)) → IsCopiedSo old a → IsCopiedSo mid c
+    step_copies : (step : Step) (old mid : History D) (a c : Account) → IsReached x old a → Moves x step old a mid c → (first : Sees x asked (left_in old) a) (last : Sees x asked (left_in mid) c)
+        → ((other : ℕ) → (about : Option ℕ) × GoesOn x.seen x.config (bytes_in asked) other step about (left_in old) (left_in mid) (first.lives.life other) (last.lives.life other)) → IsCopiedSo old a → IsCopiedSo mid c
     step_copies step old mid a c r moves first last goes copies source at some = by_old (copied_from old.sent chunk) refl
       where
-        by_lives : (l : Life x (bytes_in asked) chunk old) (m : Life x (bytes_in asked) chunk mid) → (about : Option ℕ) → GoesOn x.seen x.config (bytes_in asked) chunk step about old mid l m → (alive : IsAlive x.seen x.config (bytes_in asked) chunk old) → l ≡ inr alive → copied_from mid.sent chunk ≡ copied_from old.sent chunk
+        by_lives : (l : Life x (bytes_in asked) chunk (left_in old)) (m : Life x (bytes_in asked) chunk (left_in mid)) → (about : Option ℕ) → GoesOn x.seen x.config (bytes_in asked) chunk step about (left_in old) (left_in mid) l m → (alive : IsAlive x.seen x.config (bytes_in asked) chunk (left_in old)) → l ≡ inr alive → copied_from mid.sent chunk ≡ copied_from old.sent chunk
         by_lives (inl l) m about goes alive is = absurd (cc)
         by_lives (inr l) (inl m) about goes alive is = absurd goes
-        by_lives (inr l) (inr m) about goes alive is = copied_same x.seen x.config (bytes_in asked) l.reached.0.epoch chunk step old mid l.world m.world goes.by
+        by_lives (inr l) (inr m) about goes alive is = copied_same x.seen x.config (bytes_in asked) l.reached.0.epoch chunk step (left_in old) (left_in mid) l.world m.world goes.by
 
         by_old : (o : Option (ℕ × Stamp)) → copied_from old.sent chunk ≡ o → WasCopied x mid c chunk source at
         by_old None none =
-            let is = by_life x asked step old mid a c moves first last source chunk at none some (goes source).0 (first.lives.life source) (last.lives.life source) refl (goes source).1 (first.agrees.agrees source) (last.agrees.agrees source) in
+            let is = by_life x asked step (left_in old) (left_in mid) a c first last source chunk at none some (goes source).0 (first.lives.life source) (last.lives.life source) refl (goes source).1 (first.agrees.agrees source) (last.agrees.agrees source) in
             record { old = old; before = a; step = step; asked = mid; behind = c; steps = []; reached = r; moves = moves; runs = (refl, refl); none = none; some = some; view = is.view; told = is.told; under = is.under; unled = is.unled }
         by_old (Some of) had =
-            let living = living_copied x asked old a first chunk of.0 of.1 had in
+            let living = living_copied x asked (left_in old) a first chunk of.0 of.1 had in
             let same = by_lives (first.lives.life chunk) (last.lives.life chunk) (goes chunk).0 (goes chunk).1 living.0 living.1 in
             let was = copies source at (sym same ∙ some) in
             record {
@@ -289,29 +289,28 @@ module _ {D : Type 0} (x : Setup D) (chunk : ℕ) where
             }
 
     -- so it is along a run
-    run_copies : TellsApart x.among → (steps : List Step) (old new : History D) (a b : Account) → IsReached x old a → Sees x asked old a → KeepsTypes old → IsCopiedSo old a → Runs x steps old a new b → AllSent (PushRight (bytes_in asked)) new.sent → AllSent (IsOfOneEdit asked) new.sent → IsCopiedSo new b
-    run_copies apart [] old new a b r first types copies runs right one = subst (λ h. IsCopiedSo h b) (sym runs.0) (subst (IsCopiedSo old) (sym runs.1) copies)
-    run_copies apart (step ∷ steps) old new a b r first types copies (mid, c, moves, rest) right one =
+    run_copies : TellsApart x.among → (steps : List Step) (old new : History D) (a b : Account) → IsReached x old a → Sees x asked (left_in old) a → IsWell x old → IsCopiedSo old a → Runs x steps old a new b → AllSent (PushRight (bytes_in asked)) new.sent → AllSent (IsOfOneEdit asked) new.sent → IsCopiedSo new b
+    run_copies apart [] old new a b r first well copies runs right one = subst (λ h. IsCopiedSo h b) (sym runs.0) (subst (IsCopiedSo old) (sym runs.1) copies)
+    run_copies apart (step ∷ steps) old new a b r first well copies (mid, c, moves, rest) right one =
         let stays = run_stays x asked given steps mid new c b rest in
-        let next = sees_step x asked given law apart step old mid a c first types moves (before x.seen x.failures x.armed (PushRight (bytes_in asked)) mid.sent new.sent stays right) (before x.seen x.failures x.armed (IsOfOneEdit asked) mid.sent new.sent stays one) in
-        let last : Sees x asked mid c = record { lives = next.goes.last; tells = next.tells; agrees = next.agrees; intact = next.intact } in
-        run_copies apart steps mid new c b (reach_more x old mid a c (step ∷ []) r (mid, c, moves, (refl, refl))) last next.types
+        let next = sees_step_through x asked given law apart step old mid a c first well moves (before x.seen x.failures x.armed (PushRight (bytes_in asked)) mid.sent new.sent stays right) (before x.seen x.failures x.armed (IsOfOneEdit asked) mid.sent new.sent stays one) in
+        let last : Sees x asked (left_in mid) c = record { lives = next.goes.last; tells = next.tells; agrees = next.agrees; intact = next.intact } in
+        run_copies apart steps mid new c b (reach_more x old mid a c (step ∷ []) r (mid, c, moves, (refl, refl))) last next.well
         (step_copies step old mid a c r moves first last (λ other. (_, next.goes.goes other)) copies) rest right one
 
   -- behind each run
   copied_so : HaveSizes → AreNumbered → (now : History D) (a : Account) → IsReached x now a → IsCopiedSo now a
   copied_so sizes law now a r =
       let given = r.begins.given in
-      let sound = reached_sound x now a r in
-      let asks = asked_over x.seen x.failures x.armed (λ disk call place lasts. arming x x.seen place (x.armed disk call place) (given.armed disk call place) lasts) x.config x.clients x.disks r.steps r.begun now given.new r.begins.begins sound.runs in
+      let asks = asked_over_all x.seen x.failures x.armed x.config x.clients x.disks r.steps r.begun now given.new r.begins.begins (reached_through x now a r).runs in
       let asked = asks.0 in
       let right = pushes_right asked now asks.1 in
       let one = of_one_edit asked now asks.1 in
       let stays = run_stays x asked given r.steps r.begun now r.first a r.runs in
       let begun : IsReached x r.begun r.first = record { apart = r.apart; begun = r.begun; first = r.first; steps = []; begins = r.begins; runs = (refl, refl) } in
-      let first = sees_first x asked given law sizes r.begun r.first r.begins (before x.seen x.failures x.armed (PushRight (bytes_in asked)) r.begun.sent now.sent stays right) (before x.seen x.failures x.armed (IsOfOneEdit asked) r.begun.sent now.sent stays one) in
-      let types = begins_keeping x.seen x.failures x.armed x.config x.clients x.disks r.begun given.few r.begins.begins in
-      run_copies law asked given r.apart r.steps r.begun now r.first a begun first types (λ source at some. absurd (none_yet source at some)) r.runs right one
+      let first = sees_first_through x asked given law sizes r.begun r.first r.begins (before x.seen x.failures x.armed (PushRight (bytes_in asked)) r.begun.sent now.sent stays right) (before x.seen x.failures x.armed (IsOfOneEdit asked) r.begun.sent now.sent stays one) in
+      let well = begins_well x given r.begun r.begins.begins in
+      run_copies law asked given r.apart r.steps r.begun now r.first a begun first well (λ source at some. absurd (none_yet source at some)) r.runs right one
     where
       -- nobody was told anything where a store begins
       none_yet : (source : ℕ) (at : Stamp) → copied_from r.begun.sent chunk ≡ Some (source, at) → ⊥
@@ -324,11 +323,11 @@ module _ {D : Type 0} (x : Setup D) (chunk : ℕ) where
 -- a list in which nobody may number is what it was
 lists_same : HaveSizes → AreNumbered → {D : Type 0} (x : Setup D) (old now : History D) (before a : Account) (steps : List Step) (source : ℕ) (at : Stamp) (view : View) → IsReached x old before → Runs x steps old before now a → view_at before source ≡ Some view → view.stamp ≡ at → view.term ≡ None → a.list source at ≡ before.list source at
 lists_same sizes law x old now before a steps source at view r runs told under unled =
-    let sees = each_sees_on sizes law x old now before a steps r runs in
-    let living = living_told x sees.asked old before sees.first source (is_told (fin.get before.durable.chunks source) told) in
-    let seen = both_seen x sees.asked old now before a sees.first sees.last r.apart source (sees.on source) living.0 living.1 in
+    let sees = each_sees_on_through sizes law x old now before a steps r runs in
+    let living = living_told x sees.asked (left_in old) before sees.first source (is_told (fin.get before.durable.chunks source) told) in
+    let seen = both_seen x sees.asked (left_in old) (left_in now) before a sees.first sees.last r.apart source (sees.on source) living.0 living.1 in
     let w : ChunkWorld = seen.first.alive.world in
-    let v = told_view x (bytes_in sees.asked) source old before seen.first view told in
+    let v = told_view x (bytes_in sees.asked) source (left_in old) before seen.first view told in
     let ok = reached_world w seen.first.alive.reached in
     let k = agrees w ok in
     let t : ℕ = w.entry.view.stamp in

@@ -1,4 +1,6 @@
 -- What a server has named, and the master took, is counted: while the master isn't restarted the server has told of it in memory.
+use Rattle.gs_world_lift.specs.Left.{as_left}
+use Rattle.gs_world_chunks.proofs.Well.{well_steady}
 use Rattle.std.proofs.Common.{arith, ◌≡◌, ◌∙◌, inl, inr, ◌⊎◌, ◌<◌, ◌≤◌, ◌&&◌, ◌==◌, ◌||◌, ℕ, Bool, true, false, List, [], ◌∷◌, Option, Some, None, Result, Ok, Err, refl, ap, subst, sym, nat_lt}
 use Rattle.std.specs.Prelude.{is_some, option_map, if◌then◌else◌}
 use Rattle.std.specs.FinMap as fin
@@ -58,8 +60,8 @@ use Rattle.gs_world_chunks.specs.Upgrading.{IsUpgrading, RunsUpgraded, is_holder
 use Rattle.gs_world_laws.specs.Steady.{LastsSteady}
 use Rattle.gs_world_lift.specs.Doing.{HasDurable}
 use Rattle.gs_world_lift.specs.Showing.{setting}
-use Rattle.gs_world_chunks.proofs.Became.{Became, ByItself, ByMessage, IsHearing, Opened, Stays, Turns, Waits, became}
-use Rattle.gs_world_chunks.proofs.Going.{RisesTo, committed_ordinary, place_rises, same_rises, then_rises, upgrading_on}
+use Rattle.gs_world_chunks.proofs.Became.{Became, BecameAll, ByItself, ByMessage, Cuts, IsHearing, Loses, Opened, Stays, Turns, Waits, Whole, became}
+use Rattle.gs_world_chunks.proofs.Going.{RisesTo, committed_ordinary, place_rises_all, same_rises, then_rises, upgrading_on}
 use Rattle.gs_world_chunks.proofs.Leading.{StandsSo, has_at, steady_at}
 use Rattle.gs_world_chunks.proofs.Telling.{BeginsSo, begins_so, same_master, stands_next, told_has}
 use Rattle.gs_world_chunks.specs.Accepting.{HasTaken, NamesChunk, NoRestart, TakesSuch, WasNamed, met_at, restarts_master}
@@ -257,24 +259,24 @@ module _ {D : Type 0} (x : Setup D) where
   stays_told step sent said place new e chunk server low (Waits none f unheard) ek going calm has other also = absurd (none other also)
 
   -- what is taken in the epoch of the rollback is counted
-  taken_told : (step : Step) (old new : History D) (goes : Goes x.seen x.failures x.armed step old new) (d : Durable) (chunk server epoch : ℕ) → server < 16 → LastsSteady x.seen old.nodes.master → Became x.seen step old.sent (met_at x step old new goes) old.nodes.master new.nodes.master
-      → HasDurable x.seen old.nodes.master d → is_rolling d.phase ≡ true → d.epoch ≡ epoch → TakesSuch x (NamesChunk epoch chunk server) step old new goes → HasIt new.nodes.master chunk server
+  taken_told : (step : Step) (old new : History D) (goes : Goes x.seen x.failures x.armed step old new) (d : Durable) (chunk server epoch : ℕ) → server < 16 → LastsSteady x.seen (as_left old.nodes.master) → Became x.seen step old.sent (met_at x step old new goes) (as_left old.nodes.master) (as_left new.nodes.master)
+      → HasDurable x.seen (as_left old.nodes.master) d → is_rolling d.phase ≡ true → d.epoch ≡ epoch → TakesSuch x (NamesChunk epoch chunk server) step old new goes → HasIt (as_left new.nodes.master) chunk server
   taken_told step old new goes d chunk server epoch low h (Stays m after at to is refused calm) dk rolling same (message, found, names, taken) other also = absurd (apart (sym taken ∙ refused message found))
     where
       apart : ◌≡◌ {A = Result (Unit {0}) Refusal} (Ok tt) (Err refusals.Memory) → ⊥
       apart e = absurd (cc)
   taken_told step old new goes d chunk server epoch low h (Turns m after heard t at to turn written is hears calm) dk rolling same (message, found, names, taken) other also =
-      subst (λ (z : MasterOf D). is_member (told_of z.state chunk) server ≡ true) (same_master new.nodes.master after other to also) (subst (λ (s : State). is_member (told_of s chunk) server ≡ true) (sym is) (by_hearing hears))
+      subst (λ (z : MasterOf D). is_member (told_of z.state chunk) server ≡ true) (same_master (as_left new.nodes.master) after other to also) (subst (λ (s : State). is_member (told_of s chunk) server ≡ true) (sym is) (by_hearing hears))
     where
       dm : d ≡ m.state.durable
-      dm = has_at x old.nodes.master m d at dk
+      dm = has_at x (as_left old.nodes.master) m d at dk
 
       tells : TellsHandles m.state message server names.handles
       tells = record {
         from = names.from;
         said = names.says ∙ ap (λ e. bodies.Learned e names.handles) (sym same ∙ ap (λ (z : Durable). z.epoch) dm);
         begun = sym (ap (λ (z : Durable). is_rolling z.phase) dm) ∙ rolling;
-        sound = (steady_at x old.nodes.master m at h).firm.sound;
+        sound = (steady_at x (as_left old.nodes.master) m at h).firm.sound;
       }
 
       by_hearing : IsHearing step old.sent (met_at x step old new goes) m.config m.state heard t → is_member (told_of t.after chunk) server ≡ true
@@ -289,31 +291,44 @@ module _ {D : Type 0} (x : Setup D) where
   taken_told step old new goes d chunk server epoch low h (Opened after f log had to is unheard again) dk rolling same (message, found, names, taken) other also = absurd (false≢true (ap is_some (sym unheard ∙ found)))
   taken_told step old new goes d chunk server epoch low h (Waits none f unheard) dk rolling same taken other also = absurd (none other also)
 
+  stays_told_all : {Holds : Type 0} (step : Step) (sent : Sent) (said : Result (Unit {0}) Refusal) (place new : MasterPlace D) (e : Durable) (chunk server : ℕ) → server < 16 → BecameAll x.seen step sent said Holds place new → HasDurable x.seen new e → is_ordinary e.phase ≡ false → restarts_master step ≡ false
+      → HasIt place chunk server → HasIt new chunk server
+  stays_told_all step sent said place new e chunk server low (Whole b) ek going none has = stays_told step sent said place new e chunk server low b ek going none has
+  stays_told_all step sent said place new e chunk server low (Loses m at none fails f) ek going calm has = λ other also. absurd (none other also)
+  stays_told_all step sent said place new e chunk server low (Cuts m heard t many f at none fails turn written below stand had handles) ek going calm has = λ other also. absurd (none other also)
+
+  taken_told_all : {Holds : Type 0} (step : Step) (old new : History D) (goes : Goes x.seen x.failures x.armed step old new) (d : Durable) (chunk server epoch : ℕ) → server < 16 → LastsSteady x.seen (as_left old.nodes.master)
+      → BecameAll x.seen step old.sent (met_at x step old new goes) Holds (as_left old.nodes.master) (as_left new.nodes.master)
+      → HasDurable x.seen (as_left old.nodes.master) d → is_rolling d.phase ≡ true → d.epoch ≡ epoch → TakesSuch x (NamesChunk epoch chunk server) step old new goes → HasIt (as_left new.nodes.master) chunk server
+  taken_told_all step old new goes d chunk server epoch low h (Whole b) dk rolling same taken = taken_told step old new goes d chunk server epoch low h b dk rolling same taken
+  taken_told_all step old new goes d chunk server epoch low h (Loses m at none fails f) dk rolling same taken = λ other also. absurd (none other also)
+  taken_told_all step old new goes d chunk server epoch low h (Cuts m heard t many f at none fails turn written below stand has handles) dk rolling same taken = λ other also. absurd (none other also)
+
 -- ---- over an upgrade
 
 module _ {D : Type 0} (x : Setup D) (given : IsGiven x) (prepared : Durable) where
   -- while the master isn't restarted it stays
-  stays_through : (steps : List Step) (old : History D) (a : Account) (new : History D) (b : Account) (chunk server : ℕ) → server < 16 → RunsUpgraded x steps old a new b → NoRestart steps → StandsSo x prepared old → HasIt old.nodes.master chunk server → HasIt new.nodes.master chunk server
-  stays_through [] old a new b chunk server low (is, same) calm s has = subst (λ (h : History D). HasIt h.nodes.master chunk server) (sym is) has
+  stays_through : (steps : List Step) (old : History D) (a : Account) (new : History D) (b : Account) (chunk server : ℕ) → server < 16 → RunsUpgraded x steps old a new b → NoRestart steps → StandsSo x prepared old → HasIt (as_left old.nodes.master) chunk server → HasIt (as_left new.nodes.master) chunk server
+  stays_through [] old a new b chunk server low (is, same) calm s has = subst (λ (h : History D). HasIt (as_left h.nodes.master) chunk server) (sym is) has
   stays_through (step ∷ steps) old a new b chunk server low (mid, c, moves, going, rest) calm s has =
       let next = stands_next x given prepared step old mid a c moves going s in
       stays_through steps mid c new b chunk server low rest calm.1 next
-      (stays_told x step old.sent (met_at x step old mid moves.steps.goes) old.nodes.master mid.nodes.master c.durable chunk server low (became x given step old mid s.well moves.steps) (told_has x mid c.durable next.well moves.told) going calm.0 has)
+      (stays_told_all x step old.sent (met_at x step old mid moves.steps.goes) (as_left old.nodes.master) (as_left mid.nodes.master) c.durable chunk server low (became x given step old mid s.well moves.steps) (told_has x mid c.durable next.well moves.told) going calm.0 has)
 
   -- epochs rise
-  rises_through : (steps : List Step) (old : History D) (a : Account) (new : History D) (b : Account) → RunsUpgraded x steps old a new b → StandsSo x prepared old → HasDurable x.seen old.nodes.master a.durable → RisesTo a.durable b.durable
+  rises_through : (steps : List Step) (old : History D) (a : Account) (new : History D) (b : Account) → RunsUpgraded x steps old a new b → StandsSo x prepared old → HasDurable x.seen (as_left old.nodes.master) a.durable → RisesTo a.durable b.durable
   rises_through [] old a new b (is, same) s has = (let d = ap (λ (k : Account). k.durable) same in same_rises a.durable b.durable d)
   rises_through (step ∷ steps) old a new b (mid, c, moves, going, rest) s has =
       let next = stands_next x given prepared step old mid a c moves going s in
       let now = told_has x mid c.durable next.well moves.told in
       then_rises a.durable c.durable b.durable
-      (place_rises x step old.sent (met_at x step old mid moves.steps.goes) old.nodes.master mid.nodes.master a.durable c.durable s.well.steady (became x given step old mid s.well moves.steps) has now ((s.since a.durable has).stands) going)
+      (place_rises_all x step old.sent (met_at x step old mid moves.steps.goes) (as_left old.nodes.master) (as_left mid.nodes.master) a.durable c.durable (well_steady x old s.well) (became x given step old mid s.well moves.steps) has now ((s.since a.durable has).stands) going)
       (rises_through steps mid c new b rest next now)
 
 module _ (sizes : HaveSizes) (law : AreNumbered) {D : Type 0} (x : Setup D) (given : IsGiven x) (prepared : History D) (before : Account) where
   -- what was taken in the last epoch is counted at the end
   counted : (steps : List Step) (old : History D) (a : Account) (new : History D) (b : Account) (runs : RunsUpgraded x steps old a new b) (chunk server : ℕ) → server < 16 → is_listed before.durable chunk ≡ true → is_rolling b.durable.phase ≡ true → IsUpgrading x prepared before old a
-      → StandsSo x before.durable old → HasDurable x.seen old.nodes.master a.durable → HasTaken x (NamesChunk b.durable.epoch chunk server) steps old a new b runs → HasIt new.nodes.master chunk server
+      → StandsSo x before.durable old → HasDurable x.seen (as_left old.nodes.master) a.durable → HasTaken x (NamesChunk b.durable.epoch chunk server) steps old a new b runs → HasIt (as_left new.nodes.master) chunk server
   counted [] old a new b runs chunk server low listed rolling up s has taken = absurd taken
   counted (step ∷ steps) old a new b (mid, c, moves, going, rest) chunk server low listed rolling up s has (inl (taken, calm)) =
       let next = stands_next x given before.durable step old mid a c moves going s in
@@ -321,7 +336,7 @@ module _ (sizes : HaveSizes) (law : AreNumbered) {D : Type 0} (x : Setup D) (giv
       let within = learned_within sizes law x prepared before old a chunk server b.durable.epoch taken.0 up listed (was_sent step old.sent taken.0 taken.1) taken.2 in
       let same : a.durable.epoch ≡ b.durable.epoch = (let up_to = rise.rises in omega arith) in
       stays_through x given before.durable steps mid c new b chunk server low rest calm next
-      (taken_told x step old mid moves.steps.goes a.durable chunk server b.durable.epoch low s.well.steady (became x given step old mid s.well moves.steps) has (sym (ap is_rolling (rise.stays same)) ∙ rolling) same taken)
+      (taken_told_all x step old mid moves.steps.goes a.durable chunk server b.durable.epoch low (well_steady x old s.well) (became x given step old mid s.well moves.steps) has (sym (ap is_rolling (rise.stays same)) ∙ rolling) same taken)
   counted (step ∷ steps) old a new b (mid, c, moves, going, rest) chunk server low listed rolling up s has (inr later) =
       let next = stands_next x given before.durable step old mid a c moves going s in
       counted steps mid c new b rest chunk server low listed rolling (upgrading_on x prepared old mid before a c step up moves going) next (told_has x mid c.durable next.well moves.told) later
@@ -329,7 +344,7 @@ module _ (sizes : HaveSizes) (law : AreNumbered) {D : Type 0} (x : Setup D) (giv
 -- ---- so who was named is restored
 
 module _ (sizes : HaveSizes) (law : AreNumbered) {D : Type 0} (x : Setup D) where
-  pub named_restored : (prepared now : History D) (before after : Account) (upgrade : IsUpgrading x prepared before now after) (m : MasterOf D) (chunk : ℕ) → now.nodes.master ≡ Standing m → after.durable ≡ m.state.durable → LastsSteady x.seen now.nodes.master → IsSince before.durable after.durable
+  pub named_restored : (prepared now : History D) (before after : Account) (upgrade : IsUpgrading x prepared before now after) (m : MasterOf D) (chunk : ℕ) → (as_left now.nodes.master) ≡ Standing m → after.durable ≡ m.state.durable → LastsSteady x.seen (as_left now.nodes.master) → IsSince before.durable after.durable
       → is_rolling after.durable.phase ≡ true → WasNamed x prepared before now after upgrade chunk → IsRestored m.state chunk
   named_restored prepared now before after upgrade m chunk at same h since rolling (server, current, taken) = by_kept (prepared_view after.durable chunk) refl
     where
@@ -353,7 +368,7 @@ module _ (sizes : HaveSizes) (law : AreNumbered) {D : Type 0} (x : Setup D) wher
           has_it = ap (λ v. is_member (members_in v) server || is_member p.holders server) view ∙ ap (λ o. is_member (members_in (view_at before chunk)) server || is_holder server o) (sym kept) ∙ parts.1
 
           low : server < 16
-          low = low_prepared m.state.durable chunk server p ((steady_at x now.nodes.master m at h).steady.firm.stands.kept) ((steady_at x now.nodes.master m at h).steady.within.holders) kept_there has_it
+          low = low_prepared m.state.durable chunk server p ((steady_at x (as_left now.nodes.master) m at h).steady.firm.stands.kept) ((steady_at x (as_left now.nodes.master) m at h).steady.within.holders) kept_there has_it
 
           begun : BeginsSo x prepared now before after upgrade
           begun = begins_so x prepared now before after upgrade

@@ -1,5 +1,6 @@
 -- Whatever is given at an event, a server gives where it is asked for it, and it is of a text of the chunk.
-use Rattle.std.proofs.Common.{◌≡◌, ◌∙◌, ◌⊎◌, inl, inr, ℕ, List, [], ◌∷◌, None, Option, Some, Result, Ok, Err, refl, sym, ap, subst, slice_get, slice_set}
+use Rattle.gs_world_lift.specs.Left.{left_in}
+use Rattle.std.proofs.Common.{◌≡◌, ◌∙◌, ◌⊎◌, inl, inr, ℕ, List, [], ◌∷◌, None, Option, Some, Result, Ok, Err, refl, ap, subst, slice_get, slice_set}
 use Rattle.std.specs.Prelude.{MatchOption, Vec}
 use Rattle.std.specs.List.{AllByRecursion}
 use Rattle.std.specs.declared.alloc.Global.{Global}
@@ -7,13 +8,11 @@ use Rattle.gs_base.specs.declared.numbers.ReqId.{ReqId}
 use Rattle.gs_base.specs.declared.numbers.Stamp.{Stamp}
 use Rattle.gs_base.specs.declared.refusal.Refusal.{Refusal}
 use Rattle.gs_base.specs.declared.refusal.Refusal.TheVariants as refusals
-use Rattle.gs_world_chunks.proofs.Told.{named, reached_sound}
+use Rattle.gs_world_chunks.proofs.Told.{named}
 use Rattle.gs_world_chunks.specs.Accounts.{Account}
 use Rattle.gs_world_chunks.specs.Running.{IsReached, Moves, Setup}
 use Rattle.gs_client.specs.Nodes.{Asks, Node}
 use Rattle.gs_client.specs.Nodes as client
-use Rattle.gs_world_lift.proofs.AskingRuns.{does_say}
-use Rattle.gs_world_lift.proofs.Doing.{masters_do}
 use Rattle.gs_world_lift.proofs.Placing.{asked_of_client, one_client}
 use Rattle.gs_world_lift.specs.Asking.{AreAskedIn}
 use Rattle.gs_world_lift.specs.Going.{MasterGoes, MasterHeard, MasterOpened, MasterTicked}
@@ -38,7 +37,7 @@ use Rattle.gs_msg.specs.declared.node.StoreNode.{StoreNode}
 use Rattle.gs_msg.specs.declared.node.StoreNode.TheVariants as keepers
 use Rattle.gs_world.proofs.Reaching.{HaveSizes}
 use Rattle.gs_world.specs.Histories.{AtNode, ComesTo, Happens, History, Restarts, Ticks, asked, silent, told}
-use Rattle.gs_world.specs.Lasting.{HearsNamed, failures_at}
+use Rattle.gs_world.specs.Lasting.{HearsNamed}
 use Rattle.gs_world.specs.Runs.{Comes}
 use Rattle.gs_world.specs.Sent.{message_of}
 use Rattle.gs_server.specs.Servers.{Server, Step as ServerStep, handle_body}
@@ -51,7 +50,9 @@ use Rattle.gs_world_chunks.proofs.Fetching.{nothing_given, served}
 use Rattle.gs_world_chunks.proofs.Given.{given_of_text}
 use Rattle.gs_world_chunks.proofs.Giving.{GivesIf, IsFetchOf, handled_gives, tick_gives, without_none}
 use Rattle.gs_world_chunks.proofs.Runs.{seen_of}
-use Rattle.gs_world_chunks.proofs.Seeing.{each_is_seen}
+use Rattle.gs_world_chunks.proofs.MasterSays.{master_says}
+use Rattle.gs_world_chunks.proofs.Well.{step_well}
+use Rattle.gs_world_chunks.proofs.SeeingThrough.{reached_well, each_is_seen_through}
 use Rattle.gs_world_chunks.proofs.Standing.{unborn_none}
 use Rattle.gs_world_chunks.specs.Reading.{BytesAreFetched, GivesBytes, IsOfText, WasFetched, sent_at}
 use Rattle.gs_world_chunks.specs.Seeing.{Sees}
@@ -99,9 +100,8 @@ module _ (sizes : HaveSizes) (law : AreNumbered) {D : Type 0} (x : Setup D) (now
 
   by_master : {Z : Type 0} (place : MasterPlace D) (turn : Turn) → MasterGoes x.seen x.failures x.armed now.nodes.config now.sent now.nodes.master place turn.sent.items → next.nodes ≡ with_master place now.nodes → happens.outcome ≡ told (Ok turn) → Z
   by_master place turn goes same is =
-      let sound = reached_sound x now a r in
-      let quiet : failures_at x.failures place ≡ failures_at x.failures now.nodes.master = sym (ap (λ (n : Nodes D). failures_at x.failures n.master) same) ∙ moves.steps.sound in
-      silently turn.sent.items (ap sent_at is) (master_gives turn.sent.items (does_say x.seen x.armed now.sent now.nodes.master place turn.sent.items (masters_do x.seen x.failures x.armed now.nodes.config now.sent now.nodes.master place turn.sent.items sound.lasts quiet goes)))
+      let well = reached_well x now a r in
+      silently turn.sent.items (ap sent_at is) (master_gives turn.sent.items (master_says x now next place turn.sent.items well (step_well x r.begins.given (Comes event) now next well moves.steps) (ap (λ (n : Nodes D). n.master) same) goes))
 
   -- ---- a server
 
@@ -133,14 +133,14 @@ module _ (sizes : HaveSizes) (law : AreNumbered) {D : Type 0} (x : Setup D) (now
       → IsOfText x.config.block x.config.chunk a now.sent chunk want given
   of_chunk s id chunk from stamp epoch want found gives = by_life (sees.2.lives.life chunk) refl
     where
-      sees : (asked : ℕ → Asked) × AreAskedIn asked now × Sees x asked now a
-      sees = each_is_seen sizes law x now a r
+      sees : (asked : ℕ → Asked) × AreAskedIn asked now × Sees x asked (left_in now) a
+      sees = each_is_seen_through sizes law x now a r
 
-      by_life : (life : Life x.seen x.config (bytes_in sees.0) chunk now) → sees.2.lives.life chunk ≡ life → IsOfText x.config.block x.config.chunk a now.sent chunk want given
+      by_life : (life : Life x.seen x.config (bytes_in sees.0) chunk (left_in now)) → sees.2.lives.life chunk ≡ life → IsOfText x.config.block x.config.chunk a now.sent chunk want given
       by_life (inl unborn) is =
           absurd (gives_so (λ req. ⊥) (handle_body s from (bodies.About chunk (chunks.Fetch req stamp epoch want)) event.moment).sent req given
-          (without_none s from chunk req stamp epoch want event.moment (unborn_none x.seen now id chunk s unborn found)) gives)
-      by_life (inr alive) is = given_of_text x (bytes_in sees.0) chunk now a (seen_of x sees.0 now a sees.2 r.apart chunk alive is).0 id s found from req stamp epoch want event.moment given gives
+          (without_none s from chunk req stamp epoch want event.moment (unborn_none x.seen (left_in now) id chunk s unborn found)) gives)
+      by_life (inr alive) is = given_of_text x (bytes_in sees.0) chunk (left_in now) a (seen_of x sees.0 (left_in now) a sees.2 r.apart chunk alive is).0 id s found from req stamp epoch want event.moment given gives
 
   -- a server gives it only where it is asked for it
   by_served : (at : MsgId) (message : Message) (id : ℕ) → event.happening ≡ happenings.Deliver at → message_of now.sent at ≡ Some message → message.to ≡ nodes.Server id → happens.by ≡ message.to → Fetched
@@ -212,7 +212,7 @@ module _ (sizes : HaveSizes) (law : AreNumbered) {D : Type 0} (x : Setup D) (now
   by_happening (happenings.FailDisk disk call) is named_so (by, (with, told_it)) = silent_none (Ok tt) told_it
 
   was_fetched : Fetched
-  was_fetched = let sound = reached_sound x now a r in by_happening event.happening refl (named x (Comes event) now moves.steps.within sound.types) happens.at
+  was_fetched = let well = reached_well x now a r in by_happening event.happening refl (named x (Comes event) now moves.steps.within well.types) happens.at
 
 pub bytes_are_fetched : HaveSizes → AreNumbered → {D : Type 0} (x : Setup D) → BytesAreFetched x
 bytes_are_fetched sizes law x now next a b event said req given r moves happens gives = was_fetched sizes law x now next a b event said req given r moves happens gives

@@ -1,4 +1,5 @@
 -- What a member of a view gives that was told of a chunk is legal.
+use Rattle.gs_world_lift.specs.Left.{left_in}
 use Rattle.std.proofs.Common.{◌≡◌, ◌∙◌, ◌++◌, ◌+◌, ◌<◌, ◌≤◌, ◌⊎◌, inl, inr, ℕ, zero, suc, Bool, false, true, List, [], length, None, Option, Some, Result, Ok, Err, refl, sym, ap, subst, arith, append_assoc, slice_get, slice_set}
 use Rattle.std.specs.Prelude.{Contains, MatchOption}
 use Rattle.std.proofs.lemmas.Bool.{cases_lt}
@@ -104,7 +105,7 @@ no_less a b more = by_case (is_before (stamp_at a) (stamp_at b)) refl
 
 -- ---- a look-up, and a read later
 
-module _ {D : Type 0} (x : Setup D) (bytes : ReqId → List ℕ) (chunk epoch : ℕ) (looked now : History D) (a b : Account) (view : View) (first : IsSeen x bytes chunk looked a) (last : IsSeen x bytes chunk now b) (on : SeenOn x bytes chunk looked a now b first last) (is : IsLookedUp a chunk view epoch) where
+module _ {D : Type 0} (x : Setup D) (bytes : ReqId → List ℕ) (chunk epoch : ℕ) (looked now : History D) (a b : Account) (view : View) (first : IsSeen x bytes chunk (left_in looked) a) (last : IsSeen x bytes chunk (left_in now) b) (on : SeenOn x bytes chunk (left_in looked) a (left_in now) b first last) (is : IsLookedUp a chunk view epoch) where
   abbrev w : ChunkWorld
   w = first.alive.world
 
@@ -112,7 +113,7 @@ module _ {D : Type 0} (x : Setup D) (bytes : ReqId → List ℕ) (chunk epoch : 
   v = last.alive.world
 
   at_look : IsViewed a chunk w view
-  at_look = viewed x bytes chunk looked a first view is.listed is.settled
+  at_look = viewed x bytes chunk (left_in looked) a first view is.listed is.settled
 
   later : Later w.known v.known
   later = leads_later w v on.leads (reached_world w first.alive.reached)
@@ -199,7 +200,7 @@ module _ {D : Type 0} (x : Setup D) (bytes : ReqId → List ℕ) (chunk epoch : 
 
     read : IsRead c v s.me epoch view.stamp asked given
     read =
-        read_of_member x bytes chunk now b last id s serves.found message.from req view.stamp epoch asked event.moment given
+        read_of_member x bytes chunk (left_in now) b last id s serves.found message.from req view.stamp epoch asked event.moment given
         (subst (λ sent. GivesBytes sent req given) (serves.sends ∙ ap (λ body. (servers.handle_body s message.from body event.moment).sent) fetch.7) gives)
 
     me : s.me ≡ id

@@ -1,5 +1,5 @@
 -- How epochs go on within an upgrade, and how one is continued by a step.
-use Rattle.std.proofs.Common.{◌≡◌, ◌∙◌, ◌++◌, ◌≤◌, ◌&&◌, ◌==◌, ℕ, true, false, List, [], ◌∷◌, Option, Some, None, Result, refl, sym, ap, subst, arith}
+use Rattle.std.proofs.Common.{◌≡◌, ◌∙◌, ◌++◌, ◌≤◌, ◌&&◌, ◌==◌, inl, inr, ℕ, true, false, List, [], ◌∷◌, Option, Some, None, Result, refl, sym, ap, subst, arith}
 use Rattle.std.specs.Prelude.{is_some}
 use Rattle.std.specs.FinMap as fin
 use Rattle.std.proofs.lemmas.Bool.{false≢true, true≢false}
@@ -24,7 +24,8 @@ use Rattle.gs_world_chunks.specs.Running.{Moves, Setup}
 use Rattle.gs_world_chunks.specs.Upgrading.{IsUpgrading, RunsUpgraded}
 use Rattle.gs_world_laws.specs.Steady.{LastsSteady}
 use Rattle.gs_world_lift.specs.Doing.{HasDurable}
-use Rattle.gs_world_chunks.proofs.Became.{Became, Opened, Stays, Turns, Waits, has_one}
+use Rattle.gs_world_chunks.proofs.Became.{Became, BecameAll, Cuts, Loses, Opened, Stays, Turns, Waits, Whole, has_one}
+use Rattle.gs_world_chunks.proofs.Cutting.{part_stands}
 use Rattle.gs_world_chunks.proofs.Leading.{has_at, steady_at}
 
 -- ---- the commit of a rollback
@@ -68,6 +69,23 @@ module _ {D : Type 0} (x : Setup D) where
       rises d e (subst (λ z. EpochGoes z e) (sym (has_at x place m d at dk)) (subst (EpochGoes m.state.durable) (sym (has_at x new after e to ek ∙ ap (λ (z : State). z.durable) is)) goes)) was next
   place_rises step sent said place new d e h (Opened after f log has to is none again) dk ek was next = same_rises d e (has_at x new after e to ek ∙ ap (λ (z : State). z.durable) is ∙ has_one x.seen place f d has dk)
   place_rises step sent said place new d e h (Waits none f unheard) dk ek was next = same_rises d e (has_one x.seen new e d ek (f d dk))
+
+  pub place_rises_all : {Holds : Type 0} (step : Step) (sent : Sent) (said : Result (Unit {0}) Refusal) (place new : MasterPlace D) (d e : Durable) → LastsSteady x.seen place → BecameAll x.seen step sent said Holds place new → HasDurable x.seen place d → HasDurable x.seen new e
+      → is_ordinary d.phase ≡ false → is_ordinary e.phase ≡ false → RisesTo d e
+  place_rises_all step sent said place new d e h (Whole b) dk ek was next = place_rises step sent said place new d e h b dk ek was next
+  place_rises_all step sent said place new d e h (Loses m at none fails f) dk ek was next = same_rises d e (has_one x.seen new e d ek (f d dk))
+  place_rises_all step sent said place new d e h (Cuts m heard t many f at none fails turn written low stand has handles) dk ek was next = elim (part_stands m.config heard m.state t turn written many f stand) [
+    | inl within ↦ subst (λ z. RisesTo z e) (sym dm) (subst (RisesTo m.state.durable) same (record { rises = within.rises; stays = within.stays }))
+    | inr whole ↦
+        let goes = epochs_go m.config heard m.state t (once_stands m.config heard m.state t turn written (steady_at x place m at h).steady.firm.stands.kept).turn in
+        rises d e (subst (λ z. EpochGoes z e) (sym dm) (subst (EpochGoes m.state.durable) (sym whole ∙ same) goes)) was next
+  ]
+    where
+      dm : d ≡ m.state.durable
+      dm = has_at x place m d at dk
+
+      same : f ≡ e
+      same = has_one x.seen new f e has ek
 
   -- ---- an upgrade and a step more
 

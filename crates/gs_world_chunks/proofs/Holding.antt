@@ -1,4 +1,5 @@
 -- What holds over runs of a store, from what is seen of its chunks.
+use Rattle.gs_world_lift.specs.Left.{left_in}
 use Rattle.std.proofs.Common.{◌≡◌, ◌∙◌, ◌+◌, ◌-◌, ◌&&◌, ◌++◌, ◌⊎◌, ℕ, List, [], ◌∷◌, Bool, true, false, None, Ok, Option, Some, refl, sym, ap, subst, inl, inr, arith}
 use Rattle.std.specs.Prelude.{◌||◌, is_some, length, slice_get, take}
 use Rattle.std.proofs.lemmas.Bool.{false≢true}
@@ -9,7 +10,6 @@ use Rattle.gs_base.specs.declared.numbers.ReqId.{ReqId}
 use Rattle.gs_base.specs.declared.numbers.Stamp.{Stamp}
 use Rattle.gs_world_chunks.specs.Accounts.{Account, text_of, view_at}
 use Rattle.gs_world_chunks.specs.Running.{IsGiven, IsReached, Moves, Runs, Setup}
-use Rattle.gs_world_chunks.proofs.Told.{reached_sound}
 use Rattle.gs_block.specs.Written.{TellsApart}
 use Rattle.gs_chunk.specs.Owning.{AreOwn}
 use Rattle.gs_lease.specs.declared.view.View.{View}
@@ -45,7 +45,7 @@ use Rattle.gs_world.specs.Sent.{Sent}
 use Rattle.gs_master_spec.specs.Applied.{view_in}
 use Rattle.gs_master_spec.specs.Chunks.{members_in}
 use Rattle.gs_master_spec.specs.Durable.{Durable, Settled, is_listed, is_ordinary, is_upgrade, prepared_view, upgrade_epoch}
-use Rattle.gs_world_laws.specs.Saying.{KeepsTypes}
+use Rattle.gs_world_chunks.proofs.Well.{IsWell}
 use Rattle.gs_world_chunks.proofs.Copying.{seen_inherits}
 use Rattle.gs_world_chunks.proofs.Asked.{edits_were_asked}
 use Rattle.gs_world_chunks.proofs.Done.{dones_stay}
@@ -58,7 +58,7 @@ use Rattle.gs_world_chunks.proofs.Preparing.{prepares_settled}
 use Rattle.gs_world_chunks.proofs.Quiet.{AreCalled, seen_still}
 use Rattle.gs_world_chunks.proofs.Reached.{run_stays}
 use Rattle.gs_world_chunks.proofs.Runs.{both_seen, keeps_told, living_copied, living_listed, living_told, seen_next, seen_of}
-use Rattle.gs_world_chunks.proofs.Seeing.{SeesNext, each_is_seen, each_sees_on, sees_step}
+use Rattle.gs_world_chunks.proofs.SeeingThrough.{reached_well, SeesNextThrough, each_is_seen_through, each_sees_on_through, sees_step_through}
 use Rattle.gs_world_chunks.proofs.Standing.{seen_stands, unborn_none}
 use Rattle.gs_world_chunks.proofs.Surviving.{seen_survivors_keep}
 use Rattle.gs_world_chunks.specs.Copying.{CopiesInherit}
@@ -67,7 +67,8 @@ use Rattle.gs_world_chunks.specs.Joined.{SeenSince}
 use Rattle.gs_world_chunks.specs.Reading.{ReadsAreLegal}
 use Rattle.gs_world_chunks.specs.SeenEdits.{WerePushed}
 use Rattle.gs_world_chunks.specs.Sealing.{SurvivorsKeepTheirText, SurvivorsName}
-use Rattle.gs_world_chunks.specs.Seeing.{Sees, SeesBoth, SeesOn}
+use Rattle.gs_world_chunks.specs.Seeing.{Sees, SeesOn}
+use Rattle.gs_world_chunks.specs.SeenThrough.{SeesBothThrough}
 use Rattle.gs_world_chunks.specs.Standing.{IsBeginningOf, QuietStaysStill, ReplicasStand}
 use Rattle.gs_world_chunks.specs.Upgrading.{IsUpgrading, RunsUpgraded, Survives, is_holder}
 
@@ -128,34 +129,34 @@ module _ (sizes : HaveSizes) (law : AreNumbered) {D : Type 0} (x : Setup D) wher
   pub replicas_stand : ReplicasStand x
   replicas_stand now a id chunk s l r found live = by_life (sees.2.lives.life chunk) refl
     where
-      sees : (asked : ℕ → Asked) × AreAskedIn asked now × Sees x asked now a
-      sees = each_is_seen sizes law x now a r
+      sees : (asked : ℕ → Asked) × AreAskedIn asked now × Sees x asked (left_in now) a
+      sees = each_is_seen_through sizes law x now a r
 
-      by_life : (life : Life x.seen x.config (bytes_in sees.0) chunk now) → sees.2.lives.life chunk ≡ life → IsBeginningOf x.config.chunk chunk a now.sent s l
-      by_life (inl unborn) is = absurd (let none = unborn_none x.seen now id chunk s unborn found in cc)
-      by_life (inr alive) is = seen_stands x (bytes_in sees.0) now a id chunk s l (seen_of x sees.0 now a sees.2 r.apart chunk alive is).0 found live
+      by_life : (life : Life x.seen x.config (bytes_in sees.0) chunk (left_in now)) → sees.2.lives.life chunk ≡ life → IsBeginningOf x.config.chunk chunk a now.sent s l
+      by_life (inl unborn) is = absurd (let none = unborn_none x.seen (left_in now) id chunk s unborn found in cc)
+      by_life (inr alive) is = seen_stands x (bytes_in sees.0) (left_in now) a id chunk s l (seen_of x sees.0 (left_in now) a sees.2 r.apart chunk alive is).0 found live
 
   pub quiet_stays_still : AreCalled → QuietStaysStill x
   quiet_stays_still called now a id chunk view s r quiet member found =
-      let sees = each_is_seen sizes law x now a r in
-      let living = living_told x sees.0 now a sees.2 chunk (ap is_some quiet.told) in
-      seen_still called x (bytes_in sees.0) now a id chunk view s (seen_of x sees.0 now a sees.2 r.apart chunk living.0 living.1).0 quiet member found
+      let sees = each_is_seen_through sizes law x now a r in
+      let living = living_told x sees.0 (left_in now) a sees.2 chunk (ap is_some quiet.told) in
+      seen_still called x (bytes_in sees.0) (left_in now) a id chunk view s (seen_of x sees.0 (left_in now) a sees.2 r.apart chunk living.0 living.1).0 quiet member found
 
   -- ---- in two worlds
 
   pub reads_legal : ReadsAreLegal x
   reads_legal looked now next a b c steps event said chunk epoch view req asked given r is runs moves happens fetch gives =
-      let sees = each_sees_on sizes law x looked now a b steps r runs in
-      let living = living_told x sees.asked looked a sees.first chunk (view_told (fin.get a.durable.chunks chunk) view is.settled) in
-      let seen = both_seen x sees.asked looked now a b sees.first sees.last r.apart chunk (sees.on chunk) living.0 living.1 in
+      let sees = each_sees_on_through sizes law x looked now a b steps r runs in
+      let living = living_told x sees.asked (left_in looked) a sees.first chunk (view_told (fin.get a.durable.chunks chunk) view is.settled) in
+      let seen = both_seen x sees.asked (left_in looked) (left_in now) a b sees.first sees.last r.apart chunk (sees.on chunk) living.0 living.1 in
       reads_are_legal x (bytes_in sees.asked) looked now next a b event said chunk epoch view req asked given seen.first seen.last seen.on is happens fetch gives
 
   pub copies_inherit : CopiesInherit x
   copies_inherit now later a b steps chunk source at view r copied runs told =
-      let sees = each_sees_on sizes law x now later a b steps r runs in
-      let living = living_copied x sees.asked now a sees.first chunk source at copied in
-      let seen = both_seen x sees.asked now later a b sees.first sees.last r.apart chunk (sees.on chunk) living.0 living.1 in
-      seen_inherits x (bytes_in sees.asked) chunk source at now later a b view seen.first seen.last seen.on copied told
+      let sees = each_sees_on_through sizes law x now later a b steps r runs in
+      let living = living_copied x sees.asked (left_in now) a sees.first chunk source at copied in
+      let seen = both_seen x sees.asked (left_in now) (left_in later) a b sees.first sees.last r.apart chunk (sees.on chunk) living.0 living.1 in
+      seen_inherits x (bytes_in sees.asked) chunk source at (left_in now) (left_in later) a b view seen.first seen.last seen.on copied told
 
   -- what a client was told done was numbered, and stays settled, of a chunk for which its request asks; or it passed that chunk, which was full
   abbrev DoneIn : (asked : ℕ → Asked) → Sent → Sent → Account → Account → ReqId → EditOutcome → Type 0
@@ -163,26 +164,26 @@ module _ (sizes : HaveSizes) (law : AreNumbered) {D : Type 0} (x : Setup D) wher
       ⊎ ((numbered : IsNumbered x.config.chunk sent a chunk req outcome)
       × (is_listed b.durable chunk ≡ true → is_undone b.durable numbered.stamp ≡ false → IsSettledStill a b chunk req numbered.stamp numbered.place)))
 
-  done_in : (now later : History D) (a b : Account) (req : ReqId) (outcome : EditOutcome) → TellsApart x.among → (sees : SeesBoth x now a later b) → StaySent now.sent later.sent → ((chunk : ℕ) → WerePushed now.sent a chunk) → WasDone now.sent req outcome → DoneIn sees.asked now.sent later.sent a b req outcome
-  done_in now later a b req outcome apart sees stays pushed (message, (id, is), says) = by_done (subst (HasDoneBody x.seen x.config (bytes_in sees.asked) sees.asked now sees.first.lives.life) says (sees.first.tells.dones id message is))
+  done_in : (now later : History D) (a b : Account) (req : ReqId) (outcome : EditOutcome) → TellsApart x.among → (sees : SeesBothThrough x now a later b) → StaySent now.sent later.sent → ((chunk : ℕ) → WerePushed now.sent a chunk) → WasDone now.sent req outcome → DoneIn sees.asked now.sent later.sent a b req outcome
+  done_in now later a b req outcome apart sees stays pushed (message, (id, is), says) = by_done (subst (HasDoneBody x.seen x.config (bytes_in sees.asked) sees.asked (left_in now) sees.first.lives.life) says (sees.first.tells.dones id message is))
     where
-      by_life : (chunk : ℕ) → AsksFor sees.asked chunk req → (life : Life x.seen x.config (bytes_in sees.asked) chunk now) → sees.first.lives.life chunk ≡ life → HasDone x.seen x.config (bytes_in sees.asked) sees.asked chunk now life req outcome → DoneIn sees.asked now.sent later.sent a b req outcome
+      by_life : (chunk : ℕ) → AsksFor sees.asked chunk req → (life : Life x.seen x.config (bytes_in sees.asked) chunk (left_in now)) → sees.first.lives.life chunk ≡ life → HasDone x.seen x.config (bytes_in sees.asked) sees.asked chunk (left_in now) life req outcome → DoneIn sees.asked now.sent later.sent a b req outcome
       by_life chunk asks (inl unborn) at done = absurd done
       by_life chunk asks (inr l) at (me, done) =
-          let here = seen_of x sees.asked now a sees.first apart chunk l at in
-          let there = seen_next x sees.asked now later a b sees.first sees.last apart chunk (sees.on chunk) here.0
-          (at ∙ ap (λ (z : IsAlive x.seen x.config (bytes_in sees.asked) chunk now). (let life : Life x.seen x.config (bytes_in sees.asked) chunk now = inr z in life)) (sym here.1)) in
-          let first : EditsStandFirst x.seen x.config (bytes_in sees.asked) sees.asked l.world.known chunk = tells_first x.seen x.config (bytes_in sees.asked) sees.asked x.among now sees.first.lives sees.first.tells chunk l at in
-          let heard : AreOwn (λ before edit. WasAskedFor now.sent edit) l.world.known = subst (AskedIn x.seen x.config (bytes_in sees.asked) chunk now) at (sees.first.tells.asked_for chunk) in (
+          let here = seen_of x sees.asked (left_in now) a sees.first apart chunk l at in
+          let there = seen_next x sees.asked (left_in now) (left_in later) a b sees.first sees.last apart chunk (sees.on chunk) here.0
+          (at ∙ ap (λ (z : IsAlive x.seen x.config (bytes_in sees.asked) chunk (left_in now)). (let life : Life x.seen x.config (bytes_in sees.asked) chunk (left_in now) = inr z in life)) (sym here.1)) in
+          let first : EditsStandFirst x.seen x.config (bytes_in sees.asked) sees.asked l.world.known chunk = tells_first x.seen x.config (bytes_in sees.asked) sees.asked x.among (left_in now) sees.first.lives sees.first.tells chunk l at in
+          let heard : AreOwn (λ before edit. WasAskedFor now.sent edit) l.world.known = subst (AskedIn x.seen x.config (bytes_in sees.asked) chunk (left_in now)) at (sees.first.tells.asked_for chunk) in (
             chunk,
             asks,
-            dones_stay x (bytes_in sees.asked) sees.asked chunk me req outcome now later a b here.0 there.last there.on stays
-                (subst (λ (z : IsAlive x.seen x.config (bytes_in sees.asked) chunk now). EditsStandFirst x.seen x.config (bytes_in sees.asked) sees.asked z.world.known chunk) (sym here.1) first)
-                (tells_first x.seen x.config (bytes_in sees.asked) sees.asked x.among later sees.last.lives sees.last.tells chunk there.last.alive there.lives) sees.first.lives.pushes sees.first.tells.one sees.last.tells.one (subst (λ (z : IsAlive x.seen x.config (bytes_in sees.asked) chunk now). AreOwn (λ before edit. WasAskedFor now.sent edit) z.world.known) (sym here.1) heard) (pushed chunk) asks (keeps_told x sees.asked later b sees.last)
-                (subst (λ (z : IsAlive x.seen x.config (bytes_in sees.asked) chunk now). IsAnswered (setting x.config (bytes_in sees.asked) z.reached.0.epoch) z.world me req outcome ⊎ HasPassed sees.asked chunk now.sent (setting x.config (bytes_in sees.asked) z.reached.0.epoch) z.world req outcome) (sym here.1) done),
+            dones_stay x (bytes_in sees.asked) sees.asked chunk me req outcome (left_in now) (left_in later) a b here.0 there.last there.on stays
+                (subst (λ (z : IsAlive x.seen x.config (bytes_in sees.asked) chunk (left_in now)). EditsStandFirst x.seen x.config (bytes_in sees.asked) sees.asked z.world.known chunk) (sym here.1) first)
+                (tells_first x.seen x.config (bytes_in sees.asked) sees.asked x.among (left_in later) sees.last.lives sees.last.tells chunk there.last.alive there.lives) sees.first.lives.pushes sees.first.tells.one sees.last.tells.one (subst (λ (z : IsAlive x.seen x.config (bytes_in sees.asked) chunk (left_in now)). AreOwn (λ before edit. WasAskedFor now.sent edit) z.world.known) (sym here.1) heard) (pushed chunk) asks (keeps_told x sees.asked (left_in later) b sees.last)
+                (subst (λ (z : IsAlive x.seen x.config (bytes_in sees.asked) chunk (left_in now)). IsAnswered (setting x.config (bytes_in sees.asked) z.reached.0.epoch) z.world me req outcome ⊎ HasPassed sees.asked chunk now.sent (setting x.config (bytes_in sees.asked) z.reached.0.epoch) z.world req outcome) (sym here.1) done),
           )
 
-      by_done : HasDoneBody x.seen x.config (bytes_in sees.asked) sees.asked now sees.first.lives.life (bodies.Done req (Ok outcome)) → DoneIn sees.asked now.sent later.sent a b req outcome
+      by_done : HasDoneBody x.seen x.config (bytes_in sees.asked) sees.asked (left_in now) sees.first.lives.life (bodies.Done req (Ok outcome)) → DoneIn sees.asked now.sent later.sent a b req outcome
       by_done (chunk, done, asks) = by_life chunk asks (sees.first.lives.life chunk) refl done
 
   pushed_for : (now : History D) (a : Account) → IsReached x now a → (chunk : ℕ) → WerePushed now.sent a chunk
@@ -190,7 +191,7 @@ module _ (sizes : HaveSizes) (law : AreNumbered) {D : Type 0} (x : Setup D) wher
 
   pub done_stays : DoneStays x
   done_stays now later a b steps req outcome r runs told =
-      let sees = each_sees_on sizes law x now later a b steps r runs in
+      let sees = each_sees_on_through sizes law x now later a b steps r runs in
       let done = done_in now later a b req outcome r.apart sees (run_stays x sees.asked r.begins.given steps now later a b runs) (pushed_for now a r) told in
       (done.0, done.2)
 
@@ -203,7 +204,7 @@ module _ (sizes : HaveSizes) (law : AreNumbered) {D : Type 0} (x : Setup D) wher
 
   pub repeats_alike : RepeatsAreAlike x
   repeats_alike now a req one other r told again =
-      let sees = each_sees_on sizes law x now now a a [] r (refl, refl) in
+      let sees = each_sees_on_through sizes law x now now a a [] r (refl, refl) in
       let first = done_in now now a a req one r.apart sees (λ id message is. is) (pushed_for now a r) told in
       let then = done_in now now a a req other r.apart sees (λ id message is. is) (pushed_for now a r) again in
       let same : then.0 ≡ first.0 = asks_one_chunk sees.asked first.0 then.0 req first.1 then.1 in
@@ -241,53 +242,53 @@ module _ (law : AreNumbered) {D : Type 0} (x : Setup D) (asked : ℕ → Asked) 
   bytes = bytes_in asked
 
   -- what becomes of the epoch at a step behind which a chunk lives
-  module _ (step : Step) (old mid : History D) (a c : Account) (moves : Moves x step old a mid c) (first : Sees x asked old a) (next : SeesNext x asked given law step old mid a c first) (chunk : ℕ) where
+  module _ (step : Step) (old mid : History D) (a c : Account) (moves : Moves x step old a mid c) (first : Sees x asked (left_in old) a) (next : SeesNextThrough x asked given law step old mid a c first) (chunk : ℕ) where
     abbrev Epochs : Type 0
     Epochs = EpochGoes a.durable c.durable ⊎ (a.durable ≡ c.durable)
 
-    abbrev EpochsAt : Life x.seen x.config bytes chunk mid → Type 0
+    abbrev EpochsAt : Life x.seen x.config bytes chunk (left_in mid) → Type 0
     EpochsAt (inl unborn) = Unit {0}
     EpochsAt (inr m) = Epochs
 
-    same_there : mid.nodes.master ≡ old.nodes.master → Epochs
-    same_there master = inr (told_same x bytes chunk step old mid a c moves first.lives first.agrees.told next.goes.last master)
+    same_there : (left_in mid).nodes.master ≡ (left_in old).nodes.master → Epochs
+    same_there master = inr (told_same x bytes chunk step (left_in old) (left_in mid) a c next.account first.lives first.agrees.told next.goes.last master)
 
-    goes_there : (before behind : Durable) → HasDurable x.seen old.nodes.master before → HasDurable x.seen mid.nodes.master behind → EpochGoes before behind → Epochs
+    goes_there : (before behind : Durable) → HasDurable x.seen (left_in old).nodes.master before → HasDurable x.seen (left_in mid).nodes.master behind → EpochGoes before behind → Epochs
     goes_there before behind had has goes =
-        inl (subst (λ d. EpochGoes d c.durable) (told_is_had x.seen old.nodes.master a.durable before first.lives.lasts first.agrees.told had)
-        (subst (EpochGoes before) (told_is_had x.seen mid.nodes.master c.durable behind next.goes.last.lasts moves.told has) goes))
+        inl (subst (λ d. EpochGoes d c.durable) (told_is_had x.seen (left_in old).nodes.master a.durable before first.lives.lasts first.agrees.told had)
+        (subst (EpochGoes before) (told_is_had x.seen (left_in mid).nodes.master c.durable behind next.goes.last.lasts next.account.told has) goes))
 
-    by_goes : (heard : Option ℕ) (l : Life x.seen x.config bytes chunk old) (m : Life x.seen x.config bytes chunk mid) → GoesOn x.seen x.config bytes chunk step heard old mid l m → EpochsAt m
+    by_goes : (heard : Option ℕ) (l : Life x.seen x.config bytes chunk (left_in old)) (m : Life x.seen x.config bytes chunk (left_in mid)) → GoesOn x.seen x.config bytes chunk step heard (left_in old) (left_in mid) l m → EpochsAt m
     by_goes heard l (inl unborn) goes = tt
     by_goes heard (inl unborn) (inr m) comes = goes_there comes.before comes.behind comes.had comes.has comes.rows.epochs
     by_goes heard (inr l) (inr m) goes = by_what goes.by
       where
-        by_what : GoesBy x.seen x.config bytes l.reached.0.epoch chunk step old mid l.world m.world → Epochs
+        by_what : GoesBy x.seen x.config bytes l.reached.0.epoch chunk step (left_in old) (left_in mid) l.world m.world → Epochs
         by_what (AtServer by) = same_there by.master
         by_what (AtMaster by) = goes_there by.before by.behind by.had by.has by.rows.epochs
         by_what (Elsewhere still servers master node messages moment are posted) = same_there master
 
-    pub step_epochs : (m : IsAlive x.seen x.config bytes chunk mid) → next.goes.last.life chunk ≡ inr m → Epochs
+    pub step_epochs : (m : IsAlive x.seen x.config bytes chunk (left_in mid)) → next.goes.last.life chunk ≡ inr m → Epochs
     step_epochs m is = subst EpochsAt is (by_goes _ (first.lives.life chunk) (next.goes.last.life chunk) (next.goes.goes chunk))
 
     -- one that lived lives on
-    pub lives_on : (l : IsAlive x.seen x.config bytes chunk old) → first.lives.life chunk ≡ inr l → (m : IsAlive x.seen x.config bytes chunk mid) × (next.goes.last.life chunk ≡ inr m)
-    lives_on l is = by_life (next.goes.last.life chunk) refl (subst (λ life. GoesOn x.seen x.config bytes chunk step (heard_in x.seen x.failures x.armed next.goes.kind) old mid life (next.goes.last.life chunk)) is (next.goes.goes chunk))
+    pub lives_on : (l : IsAlive x.seen x.config bytes chunk (left_in old)) → first.lives.life chunk ≡ inr l → (m : IsAlive x.seen x.config bytes chunk (left_in mid)) × (next.goes.last.life chunk ≡ inr m)
+    lives_on l is = by_life (next.goes.last.life chunk) refl (subst (λ life. GoesOn x.seen x.config bytes chunk step (heard_in x.seen x.failures x.armed next.goes.kind) (left_in old) (left_in mid) life (next.goes.last.life chunk)) is (next.goes.goes chunk))
       where
-        by_life : (life : Life x.seen x.config bytes chunk mid) → next.goes.last.life chunk ≡ life → GoesOn x.seen x.config bytes chunk step (heard_in x.seen x.failures x.armed next.goes.kind) old mid (inr l) (next.goes.last.life chunk) → (m : IsAlive x.seen x.config bytes chunk mid) × (next.goes.last.life chunk ≡ inr m)
-        by_life (inl unborn) at goes = absurd (subst (GoesOn x.seen x.config bytes chunk step (heard_in x.seen x.failures x.armed next.goes.kind) old mid (inr l)) at goes)
+        by_life : (life : Life x.seen x.config bytes chunk (left_in mid)) → next.goes.last.life chunk ≡ life → GoesOn x.seen x.config bytes chunk step (heard_in x.seen x.failures x.armed next.goes.kind) (left_in old) (left_in mid) (inr l) (next.goes.last.life chunk) → (m : IsAlive x.seen x.config bytes chunk (left_in mid)) × (next.goes.last.life chunk ≡ inr m)
+        by_life (inl unborn) at goes = absurd (subst (GoesOn x.seen x.config bytes chunk step (heard_in x.seen x.failures x.armed next.goes.kind) (left_in old) (left_in mid) (inr l)) at goes)
         by_life (inr m) at goes = (m, at)
 
   -- over steps by which no upgrade is over it is the same
-  same_upgrade_on : TellsApart x.among → (steps : List Step) (old new : History D) (a b : Account) (first : Sees x asked old a) → KeepsTypes old → RunsUpgraded x steps old a new b → AllSent (PushRight bytes) new.sent → AllSent (IsOfOneEdit asked) new.sent
-      → (chunk : ℕ) (l : IsAlive x.seen x.config bytes chunk old) → first.lives.life chunk ≡ inr l → is_ordinary a.durable.phase ≡ false → upgrade_epoch b.durable.phase b.durable.epoch ≡ upgrade_epoch a.durable.phase a.durable.epoch
-  same_upgrade_on apart [] old new a b first types runs right one chunk l is stands = ap (λ (c : Account). upgrade_epoch c.durable.phase c.durable.epoch) runs.1
-  same_upgrade_on apart (step ∷ steps) old new a b first types (mid, c, moves, upgraded, rest) right one chunk l is stands =
+  same_upgrade_on : TellsApart x.among → (steps : List Step) (old new : History D) (a b : Account) (first : Sees x asked (left_in old) a) → IsWell x old → RunsUpgraded x steps old a new b → AllSent (PushRight bytes) new.sent → AllSent (IsOfOneEdit asked) new.sent
+      → (chunk : ℕ) (l : IsAlive x.seen x.config bytes chunk (left_in old)) → first.lives.life chunk ≡ inr l → is_ordinary a.durable.phase ≡ false → upgrade_epoch b.durable.phase b.durable.epoch ≡ upgrade_epoch a.durable.phase a.durable.epoch
+  same_upgrade_on apart [] old new a b first well runs right one chunk l is stands = ap (λ (c : Account). upgrade_epoch c.durable.phase c.durable.epoch) runs.1
+  same_upgrade_on apart (step ∷ steps) old new a b first well (mid, c, moves, upgraded, rest) right one chunk l is stands =
       let stays = run_stays x asked given steps mid new c b (runs_of x steps mid new c b rest) in
-      let next = sees_step x asked given law apart step old mid a c first types moves (before x.seen x.failures x.armed (PushRight bytes) mid.sent new.sent stays right) (before x.seen x.failures x.armed (IsOfOneEdit asked) mid.sent new.sent stays one) in
+      let next = sees_step_through x asked given law apart step old mid a c first well moves (before x.seen x.failures x.armed (PushRight bytes) mid.sent new.sent stays right) (before x.seen x.failures x.armed (IsOfOneEdit asked) mid.sent new.sent stays one) in
       let m = lives_on step old mid a c moves first next chunk l is in
-      let then : Sees x asked mid c = record { lives = next.goes.last; tells = next.tells; agrees = next.agrees; intact = next.intact } in
-      same_upgrade_on apart steps mid new c b then next.types rest right one chunk m.0 m.1 upgraded
+      let then : Sees x asked (left_in mid) c = record { lives = next.goes.last; tells = next.tells; agrees = next.agrees; intact = next.intact } in
+      same_upgrade_on apart steps mid new c b then next.well rest right one chunk m.0 m.1 upgraded
       ∙ elim (step_epochs step old mid a c moves first next chunk m.0 m.1) [
         | inl goes ↦ same_upgrade a.durable c.durable goes stands upgraded
         | inr same ↦ ap (λ (d : Durable). upgrade_epoch d.phase d.epoch) (sym same)
@@ -308,47 +309,47 @@ module _ (sizes : HaveSizes) (law : AreNumbered) {D : Type 0} (x : Setup D) (pre
   -- right behind the prepare
   unchanged_there : (chunk : ℕ) → is_listed first_after.durable chunk ≡ true → (first_after.durable.inverses ≡ []) × ((chunk : ℕ) → fin.get first_after.durable.prepared chunk ≡ None)
   unchanged_there chunk listed =
-      let sees = each_sees_on sizes law x up.old prepared up.first first_after (up.step ∷ []) up.reached (prepared, first_after, up.moves, (refl, refl)) in
-      let sound = reached_sound x up.old up.first up.reached in
-      let next = sees_step x sees.asked given_there law up.reached.apart up.step up.old prepared up.first first_after sees.first sound.types up.moves (pushes_right sees.asked prepared sees.are) (of_one_edit sees.asked prepared sees.are) in
-      let then : Sees x sees.asked prepared first_after = record { lives = next.goes.last; tells = next.tells; agrees = next.agrees; intact = next.intact } in
-      let m = living_listed x sees.asked prepared first_after then chunk listed in
+      let sees = each_sees_on_through sizes law x up.old prepared up.first first_after (up.step ∷ []) up.reached (prepared, first_after, up.moves, (refl, refl)) in
+      let well = reached_well x up.old up.first up.reached in
+      let next = sees_step_through x sees.asked given_there law up.reached.apart up.step up.old prepared up.first first_after sees.first well up.moves (pushes_right sees.asked prepared sees.are) (of_one_edit sees.asked prepared sees.are) in
+      let then : Sees x sees.asked (left_in prepared) first_after = record { lives = next.goes.last; tells = next.tells; agrees = next.agrees; intact = next.intact } in
+      let m = living_listed x sees.asked (left_in prepared) first_after then chunk listed in
       elim (step_epochs law x sees.asked given_there up.step up.old prepared up.first first_after up.moves sees.first next chunk m.0 m.1) [
         | inl goes ↦ nothing_changed up.first.durable first_after.durable goes up.accepted
         | inr same ↦ absurd (false≢true (sym (subst (λ (d : Durable). prepares up.first.durable d ≡ false) same (never_both up.first.durable.phase)) ∙ up.accepted))
       ]
 
   -- a chunk that a file had at the prepare is seen since
-  pub record SinceSeen (asked : ℕ → Asked) (last : Sees x asked now after) (chunk : ℕ) : Type 0 where
-    pub since : SeenSince x (bytes_in asked) chunk prepared first_after now after
+  pub record SinceSeen (asked : ℕ → Asked) (last : Sees x asked (left_in now) after) (chunk : ℕ) : Type 0 where
+    pub since : SeenSince x (bytes_in asked) chunk (left_in prepared) first_after (left_in now) after
     pub lives : last.lives.life chunk ≡ inr since.last.alive
 
-  pub since_seen : (asked : ℕ → Asked) → AllSent (PushRight (bytes_in asked)) now.sent → AllSent (IsOfOneEdit asked) now.sent → (first : Sees x asked prepared first_after) (last : Sees x asked now after)
-      → ((chunk : ℕ) → SeesOn x (bytes_in asked) chunk prepared first_after now after (first.lives.life chunk) (last.lives.life chunk)) → (chunk : ℕ) → is_listed first_after.durable chunk ≡ true → SinceSeen asked last chunk
+  pub since_seen : (asked : ℕ → Asked) → AllSent (PushRight (bytes_in asked)) now.sent → AllSent (IsOfOneEdit asked) now.sent → (first : Sees x asked (left_in prepared) first_after) (last : Sees x asked (left_in now) after)
+      → ((chunk : ℕ) → SeesOn x (bytes_in asked) chunk (left_in prepared) first_after (left_in now) after (first.lives.life chunk) (last.lives.life chunk)) → (chunk : ℕ) → is_listed first_after.durable chunk ≡ true → SinceSeen asked last chunk
   since_seen asked right one first last on chunk listed =
-      let sound = reached_sound x prepared first_after prepared_reached in
+      let well = reached_well x prepared first_after prepared_reached in
       let begun = upgrade_begun first_after.durable.phase first_after.durable.epoch upgrade_there in
       let unchanged = unchanged_there chunk listed in
-      let living = living_listed x asked prepared first_after first chunk listed in
-      let seen = seen_of x asked prepared first_after first up.reached.apart chunk living.0 living.1 in
-      let next = seen_next x asked prepared now first_after after first last up.reached.apart chunk (on chunk) seen.0 (living.1 ∙ ap (λ (z : IsAlive x.seen x.config (bytes_in asked) chunk prepared). (let life : Life x.seen x.config (bytes_in asked) chunk prepared = inr z in life)) (sym seen.1)) in
+      let living = living_listed x asked (left_in prepared) first_after first chunk listed in
+      let seen = seen_of x asked (left_in prepared) first_after first up.reached.apart chunk living.0 living.1 in
+      let next = seen_next x asked (left_in prepared) (left_in now) first_after after first last up.reached.apart chunk (on chunk) seen.0 (living.1 ∙ ap (λ (z : IsAlive x.seen x.config (bytes_in asked) chunk (left_in prepared)). (let life : Life x.seen x.config (bytes_in asked) chunk (left_in prepared) = inr z in life)) (sym seen.1)) in
       record {
         since = record {
           first = seen.0;
           last = next.last;
           on = next.on;
           begun = upgrade_there;
-          settled = prepares_settled chunk first_after.durable seen.0.alive.world.entry seen.0.told (keeps_told x asked prepared first_after first) upgrade_there unchanged.0 (unchanged.1 chunk);
-          still = same_upgrade_on law x asked given_there up.reached.apart up.steps prepared now first_after after first sound.types up.runs right one chunk living.0 living.1 begun.0 ∙ begun.1;
+          settled = prepares_settled chunk first_after.durable seen.0.alive.world.entry seen.0.told (keeps_told x asked (left_in prepared) first_after first) upgrade_there unchanged.0 (unchanged.1 chunk);
+          still = same_upgrade_on law x asked given_there up.reached.apart up.steps prepared now first_after after first well up.runs right one chunk living.0 living.1 begun.0 ∙ begun.1;
         };
         lives = next.lives;
       }
 
   -- for what clients have asked up to the later world
-  pub sees_there : SeesBoth x prepared first_after now after
-  sees_there = each_sees_on sizes law x prepared now first_after after up.steps prepared_reached (runs_of x up.steps prepared now first_after after up.runs)
+  pub sees_there : SeesBothThrough x prepared first_after now after
+  sees_there = each_sees_on_through sizes law x prepared now first_after after up.steps prepared_reached (runs_of x up.steps prepared now first_after after up.runs)
 
-  pub seen_since : (chunk : ℕ) → is_listed first_after.durable chunk ≡ true → SeenSince x (bytes_in sees_there.asked) chunk prepared first_after now after
+  pub seen_since : (chunk : ℕ) → is_listed first_after.durable chunk ≡ true → SeenSince x (bytes_in sees_there.asked) chunk (left_in prepared) first_after (left_in now) after
   seen_since chunk listed =
       (since_seen sees_there.asked (pushes_right sees_there.asked now sees_there.are) (of_one_edit sees_there.asked now sees_there.are) sees_there.first sees_there.last sees_there.on chunk listed).since
 
@@ -359,9 +360,9 @@ module _ (sizes : HaveSizes) (law : AreNumbered) {D : Type 0} (x : Setup D) wher
   pub survivors_keep_text : SurvivorsKeepTheirText x
   survivors_keep_text prepared now before after chunk id view s up survives is found =
       let since = seen_since sizes law x prepared now before after up chunk (listed_then before after chunk id survives) in
-      seen_survivors_keep x (bytes_in (sees_there sizes law x prepared now before after up).asked) prepared now before after chunk id view s since survives is found
+      seen_survivors_keep x (bytes_in (sees_there sizes law x prepared now before after up).asked) (left_in prepared) (left_in now) before after chunk id view s since survives is found
 
   pub survivors_name : SurvivorsName x
   survivors_name prepared now before after chunk id s up rolling survives found at =
       let since = seen_since sizes law x prepared now before after up chunk (listed_then before after chunk id survives) in
-      seen_survivors_name x (bytes_in (sees_there sizes law x prepared now before after up).asked) prepared now before after chunk id s since rolling survives found at
+      seen_survivors_name x (bytes_in (sees_there sizes law x prepared now before after up).asked) (left_in prepared) (left_in now) before after chunk id s since rolling survives found at

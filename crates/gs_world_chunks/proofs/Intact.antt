@@ -7,7 +7,8 @@ use Rattle.gs_base.specs.declared.epoch.EpochEnd.TheVariants.{Prepare}
 use Rattle.gs_base.specs.declared.numbers.ReqId.{ReqId}
 use Rattle.gs_world_chunks.specs.Accounts.{Account}
 use Rattle.gs_world_chunks.specs.Moving.{call_in, comes_to, event_at, is_server, server_of}
-use Rattle.gs_world_chunks.specs.Running.{IsToldAt, Moves, Setup}
+use Rattle.gs_world_chunks.specs.Running.{IsToldAt, Setup}
+use Rattle.gs_world_chunks.specs.Running.{IsAccounted, accounted}
 use Rattle.gs_chunk.specs.Events.{Leads, Rests}
 use Rattle.gs_chunk.specs.Laws.{IsReached, IsUpgrading, is_member, world_of}
 use Rattle.gs_chunk.specs.Machine.{Entry, Member, ChunkWorld}
@@ -149,7 +150,7 @@ module _ {D : Type 0} (chunk id : ℕ) (step : Step) (old : History D) (c : Sett
 
 -- ---- a step
 
-module _ {D : Type 0} (x : Setup D) (bytes : ReqId → List ℕ) (chunk : ℕ) (step : Step) (old new : History D) (a b : Account) (moves : Moves x step old a new b) where
+module _ {D : Type 0} (x : Setup D) (bytes : ReqId → List ℕ) (chunk : ℕ) (step : Step) (old new : History D) (a b : Account) (moves : IsAccounted x step old a new b) where
   abbrev server_then : ℕ → Option Server
   server_then j = slice_get new.nodes.servers j
 
@@ -401,4 +402,4 @@ module _ {D : Type 0} (x : Setup D) (bytes : ReqId → List ℕ) (chunk : ℕ) (
 
 pub stores_stay_intact : {D : Type 0} (x : Setup D) (bytes : ReqId → List ℕ) → StoresStayIntact x bytes
 stores_stay_intact x bytes step old new a b lives goes moves agrees before chunk =
-    one_intact x bytes chunk step old new a b moves lives agrees.told goes.last _ (lives.life chunk) (goes.last.life chunk) (goes.goes chunk) (before chunk)
+    one_intact x bytes chunk step old new a b (accounted x step old a new b moves) lives agrees.told goes.last _ (lives.life chunk) (goes.last.life chunk) (goes.goes chunk) (before chunk)

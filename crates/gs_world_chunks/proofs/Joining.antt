@@ -21,9 +21,10 @@ use Rattle.gs_world_lift.specs.Showing.{IsAlive, ShowsMaster, ShowsNodes, ShowsS
 use Rattle.gs_world_lift.specs.Unborn.{IsUnborn, IsUnknown}
 use Rattle.gs_world_chunks.specs.Accounts.{Account}
 use Rattle.gs_world_chunks.specs.Moving.{account_behind}
-use Rattle.gs_world_chunks.specs.Running.{IsToldAt, Moves, Setup}
+use Rattle.gs_world_chunks.specs.Running.{IsToldAt, Setup}
 use Rattle.gs_world_chunks.specs.Agreeing.{Agrees, CopiesNone, CopyShows, IsBlank, OriginShows}
-use Rattle.gs_world_chunks.specs.Joining.{AgreesAt, Life, StoresAgreeFirst, StoresAgreeOn}
+use Rattle.gs_world_chunks.specs.Joining.{AgreesAt, Life, StoreAgrees, StoresAgreeFirst, StoresAgreeOn}
+use Rattle.gs_world_chunks.specs.Running.{IsAccounted, accounted}
 use Rattle.gs_world_chunks.proofs.Agreeing.{master_copied, masters_agree, server_copied, servers_agree, still_agrees, still_copied}
 use Rattle.gs_world_chunks.proofs.Births.{birth_copied, births_agree}
 use Rattle.gs_world_chunks.proofs.Origins.{CopiedAt, copied_same, origin_shows, unborn_copies_none}
@@ -31,7 +32,7 @@ use Rattle.gs_master_entry.specs.Rows.{RowsGo}
 use Rattle.gs_world_lift.proofs.Beginning.{begins_told, not_given}
 use Rattle.gs_world_lift.specs.Accounts.{edits_copied}
 use Rattle.gs_world_lift.specs.Copying.{copied_from}
-use Rattle.gs_world_lift.specs.Going.{AllSent}
+use Rattle.gs_world_lift.specs.Going.{AllSent, heard_in}
 use Rattle.gs_msg.specs.declared.message.Message.{Message}
 use Rattle.gs_world_chunks.proofs.Durables.{told_is_had}
 use Rattle.gs_world_chunks.proofs.Edits.{AreNumbered}
@@ -57,7 +58,7 @@ module _ {D : Type 0} (x : Setup D) (bytes : ReqId → List ℕ) where
   unknown_none chunk epoch Away d lasts told unknown = absurd unknown
 
   module _ (law : AreNumbered) (step : Step) (old new : History D) (a b : Account) (before : StoreLives x.seen x.config bytes x.among old) (behind : StoreLives x.seen x.config bytes x.among new)
-      (moves : Moves x step old a new b) (told : IsToldAt x.seen old.nodes.master a.durable) where
+      (moves : IsAccounted x step old a new b) (told : IsToldAt x.seen old.nodes.master a.durable) where
     -- the account behind the step
     abbrev B : Durable → Account
     B d = account_behind step old a new d
@@ -188,13 +189,18 @@ module _ {D : Type 0} (x : Setup D) (bytes : ReqId → List ℕ) where
         one_agrees copied (inr l) (inr m) is there goes agrees =
             by_what l m goes.same agrees goes.by (origin_shows x.seen x.config bytes new behind.life behind.copies b.list copied chunk m there (one_bare (inr l) m is goes agrees))
 
-  pub stores_agree_on : AreNumbered → StoresAgreeOn x bytes
-  stores_agree_on law step old new a b lives goes moves agrees = record {
+  -- as all chunks go on
+  pub stores_agree : AreNumbered → (step : Step) (heard : Option ℕ) (old new : History D) (a b : Account) (before : StoreLives x.seen x.config bytes x.among old) (behind : StoreLives x.seen x.config bytes x.among new)
+      → ((chunk : ℕ) → GoesOn x.seen x.config bytes chunk step heard old new (before.life chunk) (behind.life chunk)) → IsAccounted x step old a new b → StoreAgrees x bytes old a before → StoreAgrees x bytes new b behind
+  stores_agree law step heard old new a b before behind goes moves agrees = record {
     told = moves.told;
-    agrees = λ chunk. one_agrees law step old new a b lives goes.last moves agrees.told chunk _
-        (λ c. one_shows law step old new a b lives goes.last moves agrees.told c _ (lives.life c) (goes.last.life c) refl (goes.goes c) (agrees.agrees c))
-        (lives.life chunk) (goes.last.life chunk) refl refl (goes.goes chunk) (agrees.agrees chunk);
+    agrees = λ chunk. one_agrees law step old new a b before behind moves agrees.told chunk heard
+        (λ c. one_shows law step old new a b before behind moves agrees.told c heard (before.life c) (behind.life c) refl (goes c) (agrees.agrees c))
+        (before.life chunk) (behind.life chunk) refl refl (goes chunk) (agrees.agrees chunk);
   }
+
+  pub stores_agree_on : AreNumbered → StoresAgreeOn x bytes
+  stores_agree_on law step old new a b lives goes moves agrees = stores_agree law step (heard_in x.seen x.failures x.armed goes.kind) old new a b lives goes.last goes.goes (accounted x step old a new b moves) agrees
 
   -- ---- a store that begins new
 

@@ -1,4 +1,5 @@
 -- A replica that its server would name while the master rolls back is live and undamaged until the commit, where nothing of it is lost or damaged.
+use Rattle.gs_world_lift.specs.Left.{left_in}
 use Rattle.std.proofs.Common.{◌≡◌, ◌∙◌, ◌+◌, ◌<◌, ◌≤◌, ◌==◌, inl, inr, ℕ, [], ◌∷◌, Bool, true, false, List, None, Option, Some, refl, sym, ap, subst, length, slice_get, arith}
 use Rattle.std.specs.Prelude.{is_none, is_some}
 use Rattle.std.proofs.lemmas.Bool.{eqb-true, false≢true}
@@ -33,13 +34,12 @@ use Rattle.gs_world.proofs.Sending.{step_stays}
 use Rattle.gs_world.specs.Histories.{History}
 use Rattle.gs_world.specs.Runs.{StaySent, Step}
 use Rattle.gs_world.specs.Sent.{message_of}
-use Rattle.gs_world_chunks.proofs.Told.{reached_sound}
 use Rattle.gs_world_chunks.specs.Accounts.{Account}
 use Rattle.gs_world_chunks.specs.Running.{IsGiven, IsReached, Runs, Setup}
 use Rattle.gs_world_chunks.proofs.Edits.{AreNumbered}
 use Rattle.gs_world_chunks.proofs.Holding.{reach_more}
 use Rattle.gs_world_chunks.proofs.Runs.{seen_next}
-use Rattle.gs_world_chunks.proofs.Seeing.{sees_run}
+use Rattle.gs_world_chunks.proofs.SeeingThrough.{reached_well, sees_run_through}
 use Rattle.gs_world_chunks.proofs.Spared.{StillLive}
 use Rattle.gs_world_chunks.proofs.Staying.{IsStaying, staying_on}
 use Rattle.gs_world_chunks.specs.Joined.{IsSeen}
@@ -80,21 +80,21 @@ module _ (law : AreNumbered) {D : Type 0} (x : Setup D) (asked : ℕ → Asked) 
   sent_stay [] old a runs place message is = subst (λ (h : History D). message_of h.sent place ≡ Some message) (sym runs.0) is
   sent_stay (step ∷ steps) old a (mid, c, moves, rest) place message is = sent_stay steps mid c rest place message (step_stays x.seen x.failures x.armed step old mid moves.steps.goes place message is)
 
-  last_seen : (steps : List Step) (old : History D) (a : Account) (first : Sees x asked old a) → IsReached x old a → Runs x steps old a new b → (seen : IsSeen x bytes chunk old a) → first.lives.life chunk ≡ inr seen.alive
-      → (last : IsSeen x bytes chunk new b) × Leads seen.alive.world last.alive.world
+  last_seen : (steps : List Step) (old : History D) (a : Account) (first : Sees x asked (left_in old) a) → IsReached x old a → Runs x steps old a new b → (seen : IsSeen x bytes chunk (left_in old) a) → first.lives.life chunk ≡ inr seen.alive
+      → (last : IsSeen x bytes chunk (left_in new) b) × Leads seen.alive.world last.alive.world
   last_seen steps old a first r runs seen is =
-      let to = sees_run x asked given law apart steps old new a b first (reached_sound x old a r).types runs right one in
-      let next = seen_next x asked old new a b first to.last apart chunk (to.on chunk) seen is in
+      let to = sees_run_through x asked given law apart steps old new a b first (reached_well x old a r) runs right one in
+      let next = seen_next x asked (left_in old) (left_in new) a b first to.last apart chunk (to.on chunk) seen is in
       (next.last, next.on.leads)
 
-  rolling_there : (steps : List Step) (old : History D) (a : Account) (first : Sees x asked old a) → IsReached x old a → Runs x steps old a new b → (seen : IsSeen x bytes chunk old a) → first.lives.life chunk ≡ inr seen.alive
+  rolling_there : (steps : List Step) (old : History D) (a : Account) (first : Sees x asked (left_in old) a) → IsReached x old a → Runs x steps old a new b → (seen : IsSeen x bytes chunk (left_in old) a) → first.lives.life chunk ≡ inr seen.alive
       → e + 1 ≤ (seen.alive.world.members id).epoch → IsRollingAt seen.alive.world e id
   rolling_there steps old a first r runs seen is low =
       let last = last_seen steps old a first r runs seen is in
       rolling_at seen.alive.world last.0.alive.world (reached_world seen.alive.world seen.alive.reached) last.1 (last.0.told.rolling ∙ rolling) e id (last.0.told.epoch ∙ same) low
 
   -- a server that has learned of it drops nothing on the way
-  drops_none : (steps : List Step) (old : History D) (a : Account) (first : Sees x asked old a) (r : IsReached x old a) (runs : Runs x steps old a new b) (seen : IsSeen x bytes chunk old a) → first.lives.life chunk ≡ inr seen.alive
+  drops_none : (steps : List Step) (old : History D) (a : Account) (first : Sees x asked (left_in old) a) (r : IsReached x old a) (runs : Runs x steps old a new b) (seen : IsSeen x bytes chunk (left_in old) a) → first.lives.life chunk ≡ inr seen.alive
       → e + 1 ≤ (seen.alive.world.members id).epoch → DropsNone x chunk id steps old a new b runs
   drops_none [] old a first r runs seen is low = tt
   drops_none (step ∷ steps) old a first r (mid, c, moves, rest) seen is low =
@@ -102,15 +102,15 @@ module _ (law : AreNumbered) {D : Type 0} (x : Setup D) (asked : ℕ → Asked) 
       let here = rolling_there (step ∷ steps) old a first r (mid, c, moves, rest) seen is low in
       let single : Runs x (step ∷ []) old a mid c = (mid, c, moves, (refl, refl)) in
       let stays = sent_stay steps mid c rest in
-      let to = sees_run x asked given law apart (step ∷ []) old mid a c first (reached_sound x old a r).types single (before x.seen x.failures x.armed (PushRight bytes) mid.sent new.sent stays right)
+      let to = sees_run_through x asked given law apart (step ∷ []) old mid a c first (reached_well x old a r) single (before x.seen x.failures x.armed (PushRight bytes) mid.sent new.sent stays right)
       (before x.seen x.failures x.armed (IsOfOneEdit asked) mid.sent new.sent stays one) in
-      let next = seen_next x asked old mid a c first to.last apart chunk (to.on chunk) seen is in
+      let next = seen_next x asked (left_in old) (left_in mid) a c first to.last apart chunk (to.on chunk) seen is in
       let up : (w.members id).epoch ≤ (next.last.alive.world.members id).epoch = (stays_known w (reached_world w seen.alive.reached) next.last.alive.world next.on.leads).epochs id in
-      (step_keeps x bytes chunk id e old a seen here step, drops_none steps mid c to.last (reach_more x old mid a c (step ∷ []) r single) rest next.last next.lives (omega arith))
+      (step_keeps x bytes chunk id e (left_in old) a seen here step, drops_none steps mid c to.last (reach_more x old mid a c (step ∷ []) r single) rest next.last next.lives (omega arith))
 
   -- ---- from where it would name the chunk
 
-  module _ (steps : List Step) (old : History D) (a : Account) (first : Sees x asked old a) (r : IsReached x old a) (runs : Runs x steps old a new b) (seen : IsSeen x bytes chunk old a) (is : first.lives.life chunk ≡ inr seen.alive) (s : Server)
+  module _ (steps : List Step) (old : History D) (a : Account) (first : Sees x asked (left_in old) a) (r : IsReached x old a) (runs : Runs x steps old a new b) (seen : IsSeen x bytes chunk (left_in old) a) (is : first.lives.life chunk ≡ inr seen.alive) (s : Server)
       (at : slice_get old.nodes.servers id ≡ Some s) (learned : s.kept.epoch ≡ e + 1) (named : is_named (e + 1) (slot_in chunk s) ≡ true) where
     abbrev w : ChunkWorld
     w = seen.alive.world
@@ -150,7 +150,7 @@ module _ (law : AreNumbered) {D : Type 0} (x : Setup D) (asked : ℕ → Asked) 
         by_none None is image = subst SealUndamaged (sym image) tt
         by_none (Some ys) is image = absurd (cc)
 
-    stays_first : IsStaying x bytes chunk id e old w s
+    stays_first : IsStaying x bytes chunk id e (left_in old) w s
     stays_first = record {
       at = at;
       least = (let promise = promise_is in omega arith);
@@ -171,7 +171,7 @@ module _ (law : AreNumbered) {D : Type 0} (x : Setup D) (asked : ℕ → Asked) 
             let ahead : w.known.view < stamps.start_of (e + 1) = goes_on.ahead in omega arith
             )
 
-    last : (last : IsSeen x bytes chunk new b) × Leads w last.alive.world
+    last : (last : IsSeen x bytes chunk (left_in new) b) × Leads w last.alive.world
     last = last_seen steps old a first r runs seen is
 
     -- it has promised no more at the end
@@ -189,7 +189,7 @@ module _ (law : AreNumbered) {D : Type 0} (x : Setup D) (asked : ℕ → Asked) 
     pub still_live : Spare chunk id steps → (t : Server) × (slice_get new.nodes.servers id ≡ Some t) × StillLive (slot_in chunk t) × ((slot_in chunk t).promise ≡ start_of (e + 1))
     still_live spared =
         let drops = drops_none steps old a first r runs seen is (let here = epoch_is in omega arith) in
-        let ends = staying_on law x asked given chunk id e apart steps old new a b first (reached_sound x old a r).types runs right one seen.alive is s stays_first spared drops in (
+        let ends = staying_on law x asked given chunk id e apart steps old new a b first (reached_well x old a r) runs right one seen.alive is s stays_first spared drops in (
           ends.0,
           ends.1,
           elim ends.2 [

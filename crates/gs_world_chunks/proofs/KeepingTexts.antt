@@ -1,4 +1,5 @@
 -- What a member's replica has behind the commit of a rollback, then and later, as long as it makes no greater promise.
+use Rattle.gs_world_lift.specs.Left.{left_in}
 use Rattle.std.proofs.Common.{◌≡◌, ◌∙◌, ◌≤◌, ℕ, [], ◌∷◌, List, false, true, None, Option, Some, length, refl, sym, ap, subst, slice_get, arith}
 use Rattle.std.specs.Prelude.{is_some}
 use Rattle.std.proofs.lemmas.List.{take_all}
@@ -37,7 +38,7 @@ use Rattle.gs_world_chunks.specs.Running.{IsReached, Setup}
 use Rattle.gs_world_chunks.proofs.Edits.{AreNumbered}
 use Rattle.gs_world_chunks.proofs.Holding.{prepared_reached, reach_more, runs_of}
 use Rattle.gs_world_chunks.proofs.Runs.{both_seen, living_told}
-use Rattle.gs_world_chunks.proofs.Seeing.{each_sees_on}
+use Rattle.gs_world_chunks.proofs.SeeingThrough.{each_sees_on_through}
 use Rattle.gs_world_chunks.proofs.Surviving.{live_text}
 use Rattle.gs_world_chunks.proofs.Viewing.{told_view}
 use Rattle.gs_world_chunks.specs.Joined.{IsSeen, SeenOn}
@@ -149,9 +150,9 @@ no_other_text sizes law x prepared now back later before after last d steps chun
     let listed = gives_no_other_back sizes law x prepared now back before after last chunk r row in
     let there = reach_more x prepared now before after up.steps (prepared_reached sizes law x prepared now before after up) (runs_of x up.steps prepared now before after up.runs) in
     let reached : IsReached x back last = reach_more x now back after last (r.step ∷ []) there (back, last, r.moves, (refl, refl)) in
-    let sees = each_sees_on sizes law x back later last d steps reached runs in
-    let living = living_told x sees.asked back last sees.first chunk row in
-    let seen = both_seen x sees.asked back later last d sees.first sees.last reached.apart chunk (sees.on chunk) living.0 living.1 in
+    let sees = each_sees_on_through sizes law x back later last d steps reached runs in
+    let living = living_told x sees.asked (left_in back) last sees.first chunk row in
+    let seen = both_seen x sees.asked (left_in back) (left_in later) last d sees.first sees.last reached.apart chunk (sees.on chunk) living.0 living.1 in
     let unled = unled_back sizes law x prepared now back before after last r.step up r.moves r.accepted chunk listed row view told in
     subst (λ edits. HasText x.config.chunk edits l.replica.held.chunk l.replica.held.count) (gives_settled_back sizes law x prepared now back before after last chunk r listed).1
-    (all_text x _ chunk back last seen.first later d seen.last seen.on view told unled id member s at below l is whole)
+    (all_text x _ chunk (left_in back) last seen.first (left_in later) d seen.last seen.on view told unled id member s at below l is whole)

@@ -31,22 +31,20 @@ use Rattle.gs_store.specs.Slots as slots
 use Rattle.gs_store.specs.Stores.{Store, set_slot}
 use Rattle.gs_store.specs.Stores as stores
 use Rattle.gs_world.specs.Histories.{Begins, History}
-use Rattle.gs_world.specs.Lasting.{failures_at}
 use Rattle.gs_world.specs.Runs.{Step}
 use Rattle.gs_world.specs.Sent.{IsSent, Sent, none_sent}
 use Rattle.gs_world_chunks.proofs.Told.{named}
 use Rattle.gs_world_chunks.specs.Accounts.{Account}
 use Rattle.gs_world_chunks.specs.Running.{IsGiven, IsReached, Runs, Setup, StepsWithin}
-use Rattle.gs_world_lift.proofs.AskingRuns.{does_say}
+use Rattle.gs_world_chunks.proofs.MasterSays.{master_says}
 use Rattle.gs_world_lift.proofs.Beginning.{begins_silent, none_of, silent_at}
-use Rattle.gs_world_lift.proofs.Doing.{masters_do}
 use Rattle.gs_world_lift.proofs.Placing.{kind_of}
 use Rattle.gs_world_lift.proofs.Posting.{posted_all}
 use Rattle.gs_world_lift.proofs.Serving.{set_cases, set_found}
 use Rattle.gs_world_lift.specs.Going.{AllSent, Beats, Damages, Elsewhere, Hears, Kind, Loses, OfMaster, OfServer, Restarts, ServerGoes, Ticks}
 use Rattle.gs_world_lift.specs.Saying.{AreOfClient, AreOfMaster, IsOfClient, IsOfMaster}
 use Rattle.gs_world_chunks.proofs.Intact.{set_other}
-use Rattle.gs_world_chunks.proofs.Well.{IsWell, begins_well, step_well, well_lasts}
+use Rattle.gs_world_chunks.proofs.Well.{IsWell, begins_well, step_well}
 
 -- a server tells that it has learned of an epoch, and names these handles
 pub record SaysLearned (message : Message) (id epoch : ℕ) (handles : List ℕ) : Type 0 where
@@ -214,7 +212,7 @@ module _ (sent : Sent) (id : ℕ) (s : Server) where
 abbrev pub AreOwn : {D : Type 0} → History D → Type 0
 AreOwn h = (id : ℕ) (s : Server) → slice_get h.nodes.servers id ≡ Some s → s.me ≡ id
 
-module _ {D : Type 0} (x : Setup D) (step : Step) (old new : History D) (well : IsWell x old) (own : AreOwn old) (one : StepsWithin x step old new) where
+module _ {D : Type 0} (x : Setup D) (step : Step) (old new : History D) (well : IsWell x old) (still : IsWell x new) (own : AreOwn old) (one : StepsWithin x step old new) where
   abbrev IsSaid : Message → Type 0
   IsSaid message = (id epoch : ℕ) (handles : List ℕ) → SaysLearned message id epoch handles → IsSent message old.sent ⊎ HasLearned old new id epoch handles
 
@@ -247,11 +245,11 @@ module _ {D : Type 0} (x : Setup D) (step : Step) (old new : History D) (well : 
   all_said (OfServer id s after messages moment found goes met servers master posted) = posted_all IsSaid moment (nodes.Server id) messages old.sent new.sent posted were_said (each_said id s after messages found servers (goes_say old.sent id s after messages goes))
   all_said (OfMaster place messages moment goes servers master posted) =
       posted_all IsSaid moment nodes.Master messages old.sent new.sent posted were_said (none_said messages
-      (of_master_quiet messages (does_say x.seen x.armed old.sent old.nodes.master place messages (masters_do x.seen x.failures x.armed old.nodes.config old.sent old.nodes.master place messages (well_lasts x old well) (sym (ap (failures_at x.failures) master) ∙ one.sound) goes))))
+      (of_master_quiet messages (master_says x old new place messages well still master goes)))
   all_said (Elsewhere by messages moment are servers master posted) = posted_all IsSaid moment by messages old.sent new.sent posted were_said (none_said messages (of_client_quiet messages are))
 
-pub learned_at : {D : Type 0} (x : Setup D) (step : Step) (old new : History D) → IsWell x old → AreOwn old → StepsWithin x step old new → (message : Message) (id epoch : ℕ) (handles : List ℕ) → IsSent message new.sent → SaysLearned message id epoch handles → IsSent message old.sent ⊎ HasLearned old new id epoch handles
-learned_at x step old new well own one message id epoch handles sent said = all_said x step old new well own one (kind_of x.seen x.failures x.armed step old new one.goes (named x step old one.within well.types)) sent.0 message sent.1 id epoch handles said
+pub learned_at : {D : Type 0} (x : Setup D) (step : Step) (old new : History D) → IsWell x old → IsWell x new → AreOwn old → StepsWithin x step old new → (message : Message) (id epoch : ℕ) (handles : List ℕ) → IsSent message new.sent → SaysLearned message id epoch handles → IsSent message old.sent ⊎ HasLearned old new id epoch handles
+learned_at x step old new well still own one message id epoch handles sent said = all_said x step old new well still own one (kind_of x.seen x.failures x.armed step old new one.goes (named x step old one.within well.types)) sent.0 message sent.1 id epoch handles said
 
 -- ---- neither its number nor its epoch falls
 
@@ -373,7 +371,7 @@ pub record IsLearned {D : Type 0} (x : Setup D) (h : History D) : Type 0 where
 
 module _ {D : Type 0} (x : Setup D) (given : IsGiven x) where
   below_on : (step : Step) (old new : History D) → IsLearned x old → StepsWithin x step old new → LearnedBelow new
-  below_on step old new l one message id epoch handles sent said = elim (learned_at x step old new l.well l.own one message id epoch handles sent said) [
+  below_on step old new l one message id epoch handles sent said = elim (learned_at x step old new l.well (step_well x given step old new l.well one) l.own one message id epoch handles sent said) [
     | inl before ↦ (
         let had = l.below message id epoch handles before said in
         let now = up_on x step old new (kind_of x.seen x.failures x.armed step old new one.goes (named x step old one.within l.well.types)) id had.0 had.1 in

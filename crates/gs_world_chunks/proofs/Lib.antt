@@ -61,3 +61,8 @@ mod KeepingReplicas
 mod SurvivedOn
 mod Answering
 mod Accepted
+pub mod Through
+pub mod SeeingThrough
+mod MasterSays
+mod Cutting
+mod ToldBack

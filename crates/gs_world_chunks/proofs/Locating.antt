@@ -1,5 +1,5 @@
 -- Each view of a chunk that a client was told was looked up.
-use Rattle.std.proofs.Common.{◌≡◌, ◌⊎◌, ◌∙◌, ◌++◌, ℕ, Bool, List, [], ◌∷◌, Option, Some, None, refl, sym, ap, subst, inl, inr}
+use Rattle.std.proofs.Common.{◌≡◌, ◌⊎◌, ◌∙◌, ◌++◌, ℕ, Bool, false, List, [], ◌∷◌, Option, Some, None, refl, sym, ap, subst, inl, inr}
 use Rattle.std.specs.Prelude.{is_some, Ok}
 use Rattle.std.specs.FinMap as fin
 use Rattle.std.specs.List.{AllByRecursion}
@@ -268,7 +268,7 @@ module _ {D : Type 0} (x : Setup D) where
 
   -- ---- a step
 
-  module _ (sizes : HaveSizes) (law : AreNumbered) (step : Step) (old new : History D) (a b : Account) (r : IsReached x old a) (moves : Moves x step old a new b) (were : WereLookedUp x old a) where
+  module _ (sizes : HaveSizes) (law : AreNumbered) (quiet : x.fails ≡ false) (step : Step) (old new : History D) (a b : Account) (r : IsReached x old a) (moves : Moves x step old a new b) (were : WereLookedUp x old a) where
     abbrev Then : ReqId → ℕ → View → ℕ → Type 0
     Then = WasLookedUp x new b
 
@@ -292,7 +292,7 @@ module _ {D : Type 0} (x : Setup D) where
     }
 
     lasts : Lasts x.seen new.nodes.master
-    lasts = let sound = reached_sound x old a r in (one_lasts x r.begins.given step old new sound.lasts sound.types moves.steps).0
+    lasts = let sound = reached_sound x quiet old a r in (one_lasts x r.begins.given quiet step old new sound.lasts sound.types moves.steps).0
 
     looked : (caller : ReqId) (chunk : ℕ) (view : View) (epoch : ℕ) → IsLocatedAt x.seen old.sent old.nodes.master new.nodes.master caller chunk view epoch → Then caller chunk view epoch
     looked caller chunk view epoch (inl k) = on caller chunk view epoch (were.kept caller chunk view epoch k)
@@ -302,9 +302,9 @@ module _ {D : Type 0} (x : Setup D) where
     by_kind (OfServer id s after messages moment found goes met servers master posted) = elsewhere moment (ids.Server id) messages master posted (servers_silent Then messages (goes_by old.sent id s after messages goes))
     by_kind (Elsewhere by messages moment are servers master posted) = elsewhere moment by messages master posted (clients_silent Then messages are)
     by_kind (OfMaster place messages moment goes servers master posted) =
-        let run = each_is_a_run sizes law x old a r in
+        let run = each_is_a_run sizes law x quiet old a r in
         let lives = run.2.lives in
-        let does = masters_do x.seen x.failures x.armed old.nodes.config old.sent old.nodes.master place messages lives.lasts (sym (ap (failures_at x.failures) master) ∙ moves.steps.sound) goes in
+        let does = masters_do x.seen x.failures x.armed old.nodes.config old.sent old.nodes.master place messages lives.lasts (sym (ap (failures_at x.failures) master) ∙ moves.steps.sound quiet) goes in
         let so = masters_locate x.seen x.config _ x.among step old new lives x.armed r.begins.given.armed place messages were.waits does in
         let there = subst (λ p. LocatesSo x.seen old.sent old.nodes.master p messages) (sym master) so in
         record {
@@ -314,13 +314,13 @@ module _ {D : Type 0} (x : Setup D) where
         }
 
     step_locates : WereLookedUp x new b
-    step_locates = let sound = reached_sound x old a r in by_kind (kind_of x.seen x.failures x.armed step old new moves.steps.goes (named x step old moves.steps.within sound.types))
+    step_locates = let sound = reached_sound x quiet old a r in by_kind (kind_of x.seen x.failures x.armed step old new moves.steps.goes (named x step old moves.steps.within sound.types))
 
   -- ---- a run
 
-  run_locates : HaveSizes → AreNumbered → (steps : List Step) (old new : History D) (a b : Account) → IsReached x old a → WereLookedUp x old a → Runs x steps old a new b → WereLookedUp x new b
-  run_locates sizes law [] old new a b r were same = subst (λ h. WereLookedUp x h b) (sym same.0) (subst (WereLookedUp x old) (sym same.1) were)
-  run_locates sizes law (step ∷ steps) old new a b r were (mid, c, moves, rest) = run_locates sizes law steps mid new c b (reached_then step old mid a c r moves) (step_locates sizes law step old mid a c r moves were) rest
+  run_locates : HaveSizes → AreNumbered → x.fails ≡ false → (steps : List Step) (old new : History D) (a b : Account) → IsReached x old a → WereLookedUp x old a → Runs x steps old a new b → WereLookedUp x new b
+  run_locates sizes law quiet [] old new a b r were same = subst (λ h. WereLookedUp x h b) (sym same.0) (subst (WereLookedUp x old) (sym same.1) were)
+  run_locates sizes law quiet (step ∷ steps) old new a b r were (mid, c, moves, rest) = run_locates sizes law quiet steps mid new c b (reached_then step old mid a c r moves) (step_locates sizes law quiet step old mid a c r moves were) rest
 
   -- a store that has begun new
   first_locates : HaveSizes → (begun : History D) (first : Account) → IsNew x begun first → WereLookedUp x begun first
@@ -337,7 +337,7 @@ module _ {D : Type 0} (x : Setup D) where
           both_none found.0 caller chunk view epoch (subst (λ (u : State). KeepsLocation u caller chunk view epoch) found.3 (subst (λ p. KeepsAt x.seen p caller chunk view epoch) found.2 k))
 
 pub locations_were_looked_up : HaveSizes → AreNumbered → {D : Type 0} (x : Setup D) → LocationsWereLookedUp x
-locations_were_looked_up sizes law x now b req chunk epoch view r (message, sent, is) =
+locations_were_looked_up sizes law x quiet now b req chunk epoch view r (message, sent, is) =
     let first : IsReached x r.begun r.first = record { apart = r.apart; begun = r.begun; first = r.first; steps = []; begins = r.begins; runs = (refl, refl) } in
-    let were = run_locates x sizes law r.steps r.begun now r.first b first (first_locates x sizes r.begun r.first r.begins) r.runs in
+    let were = run_locates x sizes law quiet r.steps r.begun now r.first b first (first_locates x sizes r.begun r.first r.begins) r.runs in
     subst (IsToldOnlyIf (WasLookedUp x now b)) is (were.sent sent.0 message sent.1)

@@ -52,19 +52,19 @@ module _ {D : Type 0} (seen : D → List ℕ) where
   same_text : (one two other another : D) → seen other ≡ seen one → seen another ≡ seen two → standing (seen other) (seen another) ≡ standing (seen one) (seen two)
   same_text one two other another first second = ap (λ s. standing s (seen another)) first ∙ ap (standing (seen one)) second
 
-  shown_armed : (chunk : ℕ) (w : ChunkWorld) (place new : MasterPlace D) → IsArmed seen place new → ShowsMaster seen chunk place w → ShowsMaster seen chunk new w
+  pub shown_armed : (chunk : ℕ) (w : ChunkWorld) (place new : MasterPlace D) → IsArmed seen place new → ShowsMaster seen chunk place w → ShowsMaster seen chunk new w
   shown_armed chunk w (Standing m) new (j, is, alike) shows = subst (λ place. ShowsMaster seen chunk place w) (sym is) shows
   shown_armed chunk w (Closed one two) new (other, another, is, first, second) shows =
       subst (λ place. ShowsMaster seen chunk place w) (sym is)
       (record { durable = shows.durable; kept = shows.kept; counters = shows.counters; told = subst (λ t. IsToldIn t shows.durable) (sym (same_text one two other another first second)) shows.told; shows = shows.shows })
   shown_armed chunk w Away new is shows = absurd shows
 
-  durable_armed : (d : Durable) (place new : MasterPlace D) → IsArmed seen place new → HasDurable seen place d → HasDurable seen new d
+  pub durable_armed : (d : Durable) (place new : MasterPlace D) → IsArmed seen place new → HasDurable seen place d → HasDurable seen new d
   durable_armed d (Standing m) new (j, is, alike) has = subst (λ place. HasDurable seen place d) (sym is) has
   durable_armed d (Closed one two) new (other, another, is, first, second) has = subst (λ place. HasDurable seen place d) (sym is) (subst (λ t. IsToldIn t d) (sym (same_text one two other another first second)) has)
   durable_armed d Away new is has = absurd has
 
-  unknown_armed : (chunk epoch : ℕ) (place new : MasterPlace D) → IsArmed seen place new → IsUnknown seen chunk epoch place → IsUnknown seen chunk epoch new
+  pub unknown_armed : (chunk epoch : ℕ) (place new : MasterPlace D) → IsArmed seen place new → IsUnknown seen chunk epoch place → IsUnknown seen chunk epoch new
   unknown_armed chunk epoch (Standing m) new (j, is, alike) unknown = subst (IsUnknown seen chunk epoch) (sym is) unknown
   unknown_armed chunk epoch (Closed one two) new (other, another, is, first, second) unknown =
       subst (IsUnknown seen chunk epoch) (sym is)

@@ -1,4 +1,5 @@
--- A survivor that has rolled back has the text of the prepare for good, as long as nothing of its replica is lost, damaged or dropped, and no greater promise is made.
+-- A survivor that has rolled (left_in back) has the text of the prepare for good, as long as nothing of its replica is lost, damaged or dropped, and no greater promise is made.
+use Rattle.gs_world_lift.specs.Left.{left_in}
 use Rattle.std.proofs.Common.{◌≡◌, ◌∙◌, ◌+◌, ◌++◌, ◌⊎◌, inl, inr, ℕ, List, true, false, None, Option, Some, refl, sym, ap, subst, slice_get, arith}
 use Rattle.std.specs.Prelude.{is_some}
 use Rattle.std.proofs.lemmas.Bool.{false≢true}
@@ -6,7 +7,6 @@ use Rattle.std.specs.FinMap as fin
 use Rattle.gs_base.specs.Stamps.{is_before}
 use Rattle.gs_base.specs.declared.epoch.EpochEnd.TheVariants.{Prepare, Rollback}
 use Rattle.gs_base.specs.declared.numbers.Stamp.{Stamp}
-use Rattle.gs_world_chunks.proofs.Told.{reached_sound}
 use Rattle.gs_world_chunks.specs.Accounts.{Account, settled_edits, view_at}
 use Rattle.gs_world_chunks.specs.Running.{Setup}
 use Rattle.gs_chunk.proofs.Facts.{reached_world}
@@ -36,7 +36,7 @@ use Rattle.gs_world_chunks.proofs.Edits.{AreNumbered}
 use Rattle.gs_world_chunks.proofs.Holding.{given_there, listed_then, prepared_reached, reach_more, runs_of, runs_then, since_seen}
 use Rattle.gs_world_chunks.proofs.Reached.{run_stays}
 use Rattle.gs_world_chunks.proofs.Runs.{keeps_told, seen_next}
-use Rattle.gs_world_chunks.proofs.Seeing.{each_sees_on, sees_run}
+use Rattle.gs_world_chunks.proofs.SeeingThrough.{reached_well, each_sees_on_through, sees_run_through}
 use Rattle.gs_world_chunks.proofs.Spared.{StillLive}
 use Rattle.gs_world_chunks.proofs.Staying.{IsStaying, staying_on}
 use Rattle.gs_world_chunks.proofs.Surviving.{epoch_there, sealed_there, seen_survivors_keep, still}
@@ -131,23 +131,23 @@ rolled_back_stay sizes law x prepared now later before_account after b chunk id 
     let upgraded = runs_of x up.steps prepared now before_account after up.runs in
     let reached = prepared_reached sizes law x prepared now before_account after up in
     let given = given_there sizes law x prepared now before_account after up in
-    let sees = each_sees_on sizes law x prepared later before_account b (up.steps ++ steps) reached (runs_then x up.steps steps prepared now later before_account after b upgraded runs) in
+    let sees = each_sees_on_through sizes law x prepared later before_account b (up.steps ++ steps) reached (runs_then x up.steps steps prepared now later before_account after b upgraded runs) in
     let asked = sees.asked in
     let right = pushes_right asked later sees.are in
     let one = of_one_edit asked later sees.are in
     let stays = run_stays x asked given steps now later after b runs in
     let right_now = before x.seen x.failures x.armed (PushRight (bytes_in asked)) now.sent later.sent stays right in
     let one_now = before x.seen x.failures x.armed (IsOfOneEdit asked) now.sent later.sent stays one in
-    let sound = reached_sound x prepared before_account reached in
-    let here = sees_run x asked given law up.reached.apart up.steps prepared now before_account after sees.first sound.types upgraded right_now one_now in
-    let sound_now = reached_sound x now after (reach_more x prepared now before_account after up.steps reached upgraded) in
-    let last = sees_run x asked given law up.reached.apart steps now later after b here.last sound_now.types runs right one in
+    let well = reached_well x prepared before_account reached in
+    let here = sees_run_through x asked given law up.reached.apart up.steps prepared now before_account after sees.first well upgraded right_now one_now in
+    let well_now = reached_well x now after (reach_more x prepared now before_account after up.steps reached upgraded) in
+    let last = sees_run_through x asked given law up.reached.apart steps now later after b here.last well_now runs right one in
     let listed = listed_then before_account after chunk id survives in
     let since = since_seen sizes law x prepared now before_account after up asked right_now one_now sees.first here.last here.on chunk listed in
-    let next = seen_next x asked now later after b here.last last.last up.reached.apart chunk (last.on chunk) since.since.last since.lives in
-    let view = view_there (fin.get before_account.durable.chunks chunk) ((keeps_told x asked prepared before_account sees.first).settled chunk listed) in
-    let first = stays_first x (bytes_in asked) chunk prepared before_account now after since.since id s view.0 survives view.1 at rolled in
-    let ends = staying_on law x asked given chunk id before_account.durable.epoch up.reached.apart steps now later after b here.last sound_now.types runs right one since.since.last.alive since.lives s first spare drops in
+    let next = seen_next x asked (left_in now) (left_in later) after b here.last last.last up.reached.apart chunk (last.on chunk) since.since.last since.lives in
+    let view = view_there (fin.get before_account.durable.chunks chunk) ((keeps_told x asked (left_in prepared) before_account sees.first).settled chunk listed) in
+    let first = stays_first x (bytes_in asked) chunk (left_in prepared) before_account (left_in now) after since.since id s view.0 survives view.1 at rolled in
+    let ends = staying_on law x asked given chunk id before_account.durable.epoch up.reached.apart steps now later after b here.last well_now runs right one since.since.last.alive since.lives s first spare drops in
     let same : ends.0 ≡ r = (let one = ends.1 in cc) in
     let still = stays_at chunk (start_of (before_account.durable.epoch + 1)) ends.0 r same ends.2 below in
-    seen_rolled_back_stay x (bytes_in asked) prepared now later before_account after b chunk id view.0 s r since.since next.last next.on survives view.1 at rolled there below still.live still.whole
+    seen_rolled_back_stay x (bytes_in asked) (left_in prepared) (left_in now) (left_in later) before_account after b chunk id view.0 s r since.since next.last next.on survives view.1 at rolled there below still.live still.whole

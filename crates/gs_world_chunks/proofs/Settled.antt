@@ -1,4 +1,5 @@
 -- What is settled behind the commit of a rollback.
+use Rattle.gs_world_lift.specs.Left.{left_in}
 use Rattle.std.proofs.Common.{◌≡◌, ◌∙◌, true, ℕ, Option, Some, None, ap, refl, sym}
 use Rattle.std.specs.Prelude.{is_some}
 use Rattle.std.proofs.lemmas.Bool.{false≢true}
@@ -30,7 +31,7 @@ gives_settled_back sizes law x prepared now back before after last chunk r liste
     let s = sees sizes law x prepared now back before after last r.step r.upgrade r.moves r.accepted in
     let row = (kept_back sizes law x prepared now back before after last r.step r.upgrade r.moves r.accepted).settled chunk (listed_same x prepared now back before after last r chunk ∙ listed) in
     let view = view_there (fin.get last.durable.chunks chunk) row in
-    let former = view_there (fin.get before.durable.chunks chunk) ((keeps_told x s.asked prepared before s.first).settled chunk listed) in
+    let former = view_there (fin.get before.durable.chunks chunk) ((keeps_told x s.asked (left_in prepared) before s.first).settled chunk listed) in
     (row, settled_back sizes law x prepared now back before after last r.step r.upgrade r.moves r.accepted chunk listed row view.0 view.1 former.0 former.1)
 
 pub gives_no_other_back : HaveSizes → AreNumbered → {D : Type 0} (x : Setup D) → GivesNoOtherBack x

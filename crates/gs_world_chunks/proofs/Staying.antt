@@ -1,4 +1,5 @@
 -- A replica that is live behind a rollback stays so, where nothing of it is lost, damaged or dropped, until its server makes a greater promise.
+use Rattle.gs_world_lift.specs.Left.{left_in}
 use Rattle.std.proofs.Common.{◌≡◌, ◌≢◌, ◌∙◌, ◌+◌, ◌<◌, ◌≤◌, ◌⊎◌, ◌&&◌, ◌==◌, inl, inr, ℕ, List, [], ◌∷◌, Bool, true, false, cond, None, Option, Some, Result, Ok, Err, refl, sym, ap, subst, slice_get, arith}
 use Rattle.std.specs.Prelude.{is_some}
 use Rattle.std.proofs.lemmas.Bool.{cases_eq, cases_lt, false≢true}
@@ -67,12 +68,12 @@ use Rattle.gs_store.specs.Learning.{start_of}
 use Rattle.gs_store.specs.Moves.{copied_from}
 use Rattle.gs_store.specs.Slots.{Live, Slot, sealed_of}
 use Rattle.gs_store.specs.Slots as slots
-use Rattle.gs_world_laws.specs.Saying.{KeepsTypes}
+use Rattle.gs_world_chunks.proofs.Well.{IsWell}
 use Rattle.gs_world_chunks.proofs.Edits.{AreNumbered}
 use Rattle.gs_world_chunks.proofs.Intact.{heard_event, same_number, set_other}
 use Rattle.gs_world_chunks.proofs.Reached.{run_stays}
 use Rattle.gs_world_chunks.proofs.Sealed.{alternates, sealed_there}
-use Rattle.gs_world_chunks.proofs.Seeing.{SeesNext, sees_step}
+use Rattle.gs_world_chunks.proofs.SeeingThrough.{SeesNextThrough, sees_step_through}
 use Rattle.gs_world_chunks.proofs.Spared.{AllowsIn, StillLive, stays_by}
 use Rattle.gs_world_chunks.specs.Seeing.{Sees}
 use Rattle.gs_world_chunks.specs.Upgrading.{DropsNone, Spare, is_drop, is_harm}
@@ -358,27 +359,27 @@ module _ (law : AreNumbered) {D : Type 0} (x : Setup D) (asked : ℕ → Asked) 
   )
 
   -- a chunk lives on over a step, and the replica stays
-  step_on : TellsApart x.among → (step : Step) (old mid : History D) (a c : Account) (first : Sees x asked old a) (next : SeesNext x asked given law step old mid a c first) (l : IsAlive x.seen x.config (bytes_in asked) chunk old) → first.lives.life chunk ≡ inr l
-      → (s : Server) → IsStaying x (bytes_in asked) chunk id e old l.world s → is_harm chunk id step ≡ false → is_drop (call_in chunk (event_at step old.sent id) (slice_get old.nodes.servers id)) ≡ false
-      → (m : IsAlive x.seen x.config (bytes_in asked) chunk mid) × (next.goes.last.life chunk ≡ inr m) × (t : Server) × IsStaying x (bytes_in asked) chunk id e mid m.world t
+  step_on : TellsApart x.among → (step : Step) (old mid : History D) (a c : Account) (first : Sees x asked (left_in old) a) (next : SeesNextThrough x asked given law step old mid a c first) (l : IsAlive x.seen x.config (bytes_in asked) chunk (left_in old)) → first.lives.life chunk ≡ inr l
+      → (s : Server) → IsStaying x (bytes_in asked) chunk id e (left_in old) l.world s → is_harm chunk id step ≡ false → is_drop (call_in chunk (event_at step old.sent id) (slice_get old.nodes.servers id)) ≡ false
+      → (m : IsAlive x.seen x.config (bytes_in asked) chunk (left_in mid)) × (next.goes.last.life chunk ≡ inr m) × (t : Server) × IsStaying x (bytes_in asked) chunk id e (left_in mid) m.world t
   step_on apart step old mid a c first next l is s staying spared kept =
-      by_life (next.goes.last.life chunk) refl (subst (λ life. GoesOn x.seen x.config (bytes_in asked) chunk step (heard_in x.seen x.failures x.armed next.goes.kind) old mid life (next.goes.last.life chunk)) is (next.goes.goes chunk))
+      by_life (next.goes.last.life chunk) refl (subst (λ life. GoesOn x.seen x.config (bytes_in asked) chunk step (heard_in x.seen x.failures x.armed next.goes.kind) (left_in old) (left_in mid) life (next.goes.last.life chunk)) is (next.goes.goes chunk))
     where
-      by_life : (life : Life x.seen x.config (bytes_in asked) chunk mid) → next.goes.last.life chunk ≡ life → GoesOn x.seen x.config (bytes_in asked) chunk step (heard_in x.seen x.failures x.armed next.goes.kind) old mid (inr l) (next.goes.last.life chunk)
-          → (m : IsAlive x.seen x.config (bytes_in asked) chunk mid) × (next.goes.last.life chunk ≡ inr m) × (t : Server) × IsStaying x (bytes_in asked) chunk id e mid m.world t
-      by_life (inl unborn) at goes = absurd (subst (GoesOn x.seen x.config (bytes_in asked) chunk step (heard_in x.seen x.failures x.armed next.goes.kind) old mid (inr l)) at goes)
+      by_life : (life : Life x.seen x.config (bytes_in asked) chunk (left_in mid)) → next.goes.last.life chunk ≡ life → GoesOn x.seen x.config (bytes_in asked) chunk step (heard_in x.seen x.failures x.armed next.goes.kind) (left_in old) (left_in mid) (inr l) (next.goes.last.life chunk)
+          → (m : IsAlive x.seen x.config (bytes_in asked) chunk (left_in mid)) × (next.goes.last.life chunk ≡ inr m) × (t : Server) × IsStaying x (bytes_in asked) chunk id e (left_in mid) m.world t
+      by_life (inl unborn) at goes = absurd (subst (GoesOn x.seen x.config (bytes_in asked) chunk step (heard_in x.seen x.failures x.armed next.goes.kind) (left_in old) (left_in mid) (inr l)) at goes)
       by_life (inr alive) at goes =
-          let on : LivesOn x.seen x.config (bytes_in asked) chunk step (heard_in x.seen x.failures x.armed next.goes.kind) old mid l alive = subst (GoesOn x.seen x.config (bytes_in asked) chunk step (heard_in x.seen x.failures x.armed next.goes.kind) old mid (inr l)) at goes in
-          let told = told_there x.config (bytes_in asked) x.among chunk old l.world l.reached first.lives.keeps apart (subst (TextsOf x.seen x.config (bytes_in asked) x.among chunk old) is (first.lives.texts chunk)) (first.lives.held chunk) in
-          let stayed = stays_on x (bytes_in asked) chunk id e step old mid l alive on.same on.leads first.lives.keeps told s staying spared kept on.by in
+          let on : LivesOn x.seen x.config (bytes_in asked) chunk step (heard_in x.seen x.failures x.armed next.goes.kind) (left_in old) (left_in mid) l alive = subst (GoesOn x.seen x.config (bytes_in asked) chunk step (heard_in x.seen x.failures x.armed next.goes.kind) (left_in old) (left_in mid) (inr l)) at goes in
+          let told = told_there x.config (bytes_in asked) x.among chunk (left_in old) l.world l.reached first.lives.keeps apart (subst (TextsOf x.seen x.config (bytes_in asked) x.among chunk (left_in old)) is (first.lives.texts chunk)) (first.lives.held chunk) in
+          let stayed = stays_on x (bytes_in asked) chunk id e step (left_in old) (left_in mid) l alive on.same on.leads first.lives.keeps told s staying spared kept on.by in
           (alive, at, stayed.0, stayed.1)
 
-  pub staying_on : TellsApart x.among → (steps : List Step) (old new : History D) (a b : Account) (first : Sees x asked old a) → KeepsTypes old → (runs : Runs x steps old a new b) → AllSent (PushRight (bytes_in asked)) new.sent → AllSent (IsOfOneEdit asked) new.sent
-      → (l : IsAlive x.seen x.config (bytes_in asked) chunk old) → first.lives.life chunk ≡ inr l → (s : Server) → IsStaying x (bytes_in asked) chunk id e old l.world s → Spare chunk id steps → DropsNone x chunk id steps old a new b runs → Ends new
-  staying_on apart [] old new a b first types runs right one l is s staying spare drops = subst Ends (sym runs.0) (ends_there old l s staying)
-  staying_on apart (step ∷ steps) old new a b first types (mid, c, moves, rest) right one l is s staying spare drops =
+  pub staying_on : TellsApart x.among → (steps : List Step) (old new : History D) (a b : Account) (first : Sees x asked (left_in old) a) → IsWell x old → (runs : Runs x steps old a new b) → AllSent (PushRight (bytes_in asked)) new.sent → AllSent (IsOfOneEdit asked) new.sent
+      → (l : IsAlive x.seen x.config (bytes_in asked) chunk (left_in old)) → first.lives.life chunk ≡ inr l → (s : Server) → IsStaying x (bytes_in asked) chunk id e (left_in old) l.world s → Spare chunk id steps → DropsNone x chunk id steps old a new b runs → Ends new
+  staying_on apart [] old new a b first well runs right one l is s staying spare drops = subst Ends (sym runs.0) (ends_there (left_in old) l s staying)
+  staying_on apart (step ∷ steps) old new a b first well (mid, c, moves, rest) right one l is s staying spare drops =
       let stays = run_stays x asked given steps mid new c b rest in
-      let next = sees_step x asked given law apart step old mid a c first types moves (before x.seen x.failures x.armed (PushRight (bytes_in asked)) mid.sent new.sent stays right) (before x.seen x.failures x.armed (IsOfOneEdit asked) mid.sent new.sent stays one) in
-      let behind : Sees x asked mid c = record { lives = next.goes.last; tells = next.tells; agrees = next.agrees; intact = next.intact } in
+      let next = sees_step_through x asked given law apart step old mid a c first well moves (before x.seen x.failures x.armed (PushRight (bytes_in asked)) mid.sent new.sent stays right) (before x.seen x.failures x.armed (IsOfOneEdit asked) mid.sent new.sent stays one) in
+      let behind : Sees x asked (left_in mid) c = record { lives = next.goes.last; tells = next.tells; agrees = next.agrees; intact = next.intact } in
       let on = step_on apart step old mid a c first next l is s staying spare.0 drops.0 in
-      staying_on apart steps mid new c b behind next.types rest right one on.0 on.1 on.2 on.3 spare.1 drops.1
+      staying_on apart steps mid new c b behind next.well rest right one on.0 on.1 on.2 on.3 spare.1 drops.1

@@ -1,4 +1,6 @@
 -- Who has told of a chunk in memory has told of it since the master was started last.
+use Rattle.gs_world_chunks.specs.Back.{GivesNamesTold}
+use Rattle.gs_world_lift.specs.Left.{as_left}
 use Rattle.std.proofs.Common.{◌≡◌, ◌∙◌, inl, inr, ◌⊎◌, ◌<◌, ◌&&◌, ◌==◌, ◌||◌, ℕ, Bool, true, false, List, [], ◌∷◌, Option, Some, None, Ok, refl, ap, subst, sym, arith, nat_lt}
 use Rattle.std.specs.Prelude.{is_some, option_map, unwrap_or, if◌then◌else◌}
 use Rattle.std.specs.FinMap as fin
@@ -51,9 +53,9 @@ use Rattle.gs_world_laws.specs.Steady.{LastsSteady}
 use Rattle.gs_world_lift.proofs.Durable.{has_durable}
 use Rattle.gs_world_lift.proofs.Reopening.{standing_is}
 use Rattle.gs_world_lift.specs.Doing.{HasDurable}
-use Rattle.gs_world_chunks.proofs.Became.{Became, ByItself, ByMessage, IsHearing, Opened, Stays, Turns, Waits, became, has_one, opened_state}
-use Rattle.gs_world_chunks.proofs.Leading.{PlaceLeads, StandsSo, begins, has_at, leads, steady_at, upgrade_stands}
-use Rattle.gs_world_chunks.proofs.Well.{IsWell, begins_well, step_well, well_lasts}
+use Rattle.gs_world_chunks.proofs.Became.{Became, BecameAll, ByItself, Cuts, Loses, Whole, ByMessage, IsHearing, Opened, Stays, Turns, Waits, became, has_one, opened_state}
+use Rattle.gs_world_chunks.proofs.Leading.{PlaceLeads, StandsSo, begins, has_at, leads_all, steady_at, upgrade_stands}
+use Rattle.gs_world_chunks.proofs.Well.{IsWell, begins_well, step_well, stands_left, told_left, well_lasts, well_steady}
 use Rattle.gs_world_chunks.specs.Accepting.{AllWereNamed, HasTaken, IsGivenTo, MembersHaveNamed, NamesChunk, NoneGoesBackUnnamed, NoRestart, TakesSuch, WasNamed, met_at, restarts_master}
 use Rattle.gs_world_chunks.specs.Hearing.{heard_by_master}
 
@@ -112,18 +114,18 @@ module _ {D : Type 0} (x : Setup D) where
   abbrev Next : (step : Step) (old new : History D) → Goes x.seen x.failures x.armed step old new → (ℕ → ℕ → List ℕ → Type 0) → ℕ → ℕ → List ℕ → Type 0
   Next step old new goes P server epoch handles = (P server epoch handles × (restarts_master step ≡ false)) ⊎ TakesSuch x (Says server epoch handles) step old new goes
 
-  asks_on : (P : ℕ → ℕ → List ℕ → Type 0) (step : Step) (old new : History D) (goes : Goes x.seen x.failures x.armed step old new) → LastsSteady x.seen old.nodes.master → Became x.seen step old.sent (met_at x step old new goes) old.nodes.master new.nodes.master
-      → AskedAt P old.nodes.master → AskedAt (Next step old new goes P) new.nodes.master
+  asks_on : (P : ℕ → ℕ → List ℕ → Type 0) (step : Step) (old new : History D) (goes : Goes x.seen x.failures x.armed step old new) → LastsSteady x.seen (as_left old.nodes.master) → Became x.seen step old.sent (met_at x step old new goes) (as_left old.nodes.master) (as_left new.nodes.master)
+      → AskedAt P (as_left old.nodes.master) → AskedAt (Next step old new goes P) (as_left new.nodes.master)
   asks_on P step old new goes h b asked = by_case b
     where
-      lift : restarts_master step ≡ false → (m : MasterOf D) → old.nodes.master ≡ Standing m → (chunk : ℕ) → IsAskedSo (Only (Next step old new goes P)) m.state chunk
+      lift : restarts_master step ≡ false → (m : MasterOf D) → (as_left old.nodes.master) ≡ Standing m → (chunk : ℕ) → IsAskedSo (Only (Next step old new goes P)) m.state chunk
       lift calm m at chunk = more_so (Only P) (Only (Next step old new goes P)) (only_more P (Next step old new goes P) (λ server epoch handles p. inl (p, calm))) m.state chunk (asked m at chunk)
 
-      put : (after other : MasterOf D) → new.nodes.master ≡ Standing after → new.nodes.master ≡ Standing other → (s : State) (chunk : ℕ) → after.state ≡ s → IsAskedSo (Only (Next step old new goes P)) s chunk → IsAskedSo (Only (Next step old new goes P)) other.state chunk
+      put : (after other : MasterOf D) → (as_left new.nodes.master) ≡ Standing after → (as_left new.nodes.master) ≡ Standing other → (s : State) (chunk : ℕ) → after.state ≡ s → IsAskedSo (Only (Next step old new goes P)) s chunk → IsAskedSo (Only (Next step old new goes P)) other.state chunk
       put after other to also s chunk is k =
-          subst (λ (z : MasterOf D). IsAskedSo (Only (Next step old new goes P)) z.state chunk) (same_master new.nodes.master after other to also) (subst (λ (z : State). IsAskedSo (Only (Next step old new goes P)) z chunk) (sym is) k)
+          subst (λ (z : MasterOf D). IsAskedSo (Only (Next step old new goes P)) z.state chunk) (same_master (as_left new.nodes.master) after other to also) (subst (λ (z : State). IsAskedSo (Only (Next step old new goes P)) z chunk) (sym is) k)
 
-      heard_so : (m : MasterOf D) (message : Message) (moment : Moment) → old.nodes.master ≡ Standing m → heard_by_master step old.sent ≡ Some message → met_at x step old new goes ≡ met (handle m.config m.state message moment).said
+      heard_so : (m : MasterOf D) (message : Message) (moment : Moment) → (as_left old.nodes.master) ≡ Standing m → heard_by_master step old.sent ≡ Some message → met_at x step old new goes ≡ met (handle m.config m.state message moment).said
           → (from : NodeId) → message.from ≡ from → (server : ℕ) (body : Body) → said_from from message.body ≡ Some (server, body) → Only (Next step old new goes P) server body
       heard_so m message moment at found says nodes.Master from server body e = absurd (false≢true (ap is_some e))
       heard_so m message moment at found says (nodes.Client id) from server body e = by_body message.body e
@@ -135,14 +137,14 @@ module _ {D : Type 0} (x : Setup D) where
         where
           by_body : (said : Body) → message.from ≡ nodes.Server server → message.body ≡ said → Only (Next step old new goes P) server said
           by_body (bodies.Learned epoch handles) whence is =
-              inr (message, found, (whence, is), says ∙ ap met (handled_said m.config m.state message moment server epoch handles (steady_at x old.nodes.master m at h).firm.sound whence is))
+              inr (message, found, (whence, is), says ∙ ap met (handled_said m.config m.state message moment server epoch handles (steady_at x (as_left old.nodes.master) m at h).firm.sound whence is))
           by_body other whence is = tt
 
-      was : (m : MasterOf D) (heard : Heard) (t : Turn) → old.nodes.master ≡ Standing m → IsHearing step old.sent (met_at x step old new goes) m.config m.state heard t → (server : ℕ) (body : Body) → heard ≡ Some (server, body) → Only (Next step old new goes P) server body
+      was : (m : MasterOf D) (heard : Heard) (t : Turn) → (as_left old.nodes.master) ≡ Standing m → IsHearing step old.sent (met_at x step old new goes) m.config m.state heard t → (server : ℕ) (body : Body) → heard ≡ Some (server, body) → Only (Next step old new goes P) server body
       was m heard t at (ByItself none unheard left) server body e = absurd (false≢true (ap is_some (sym none ∙ e)))
       was m heard t at (ByMessage message moment found is same says) server body e = heard_so m message moment at found (says ∙ ap (λ (u : Turn). met u.said) same) message.from refl server body (sym is ∙ e)
 
-      by_case : Became x.seen step old.sent (met_at x step old new goes) old.nodes.master new.nodes.master → AskedAt (Next step old new goes P) new.nodes.master
+      by_case : Became x.seen step old.sent (met_at x step old new goes) (as_left old.nodes.master) (as_left new.nodes.master) → AskedAt (Next step old new goes P) (as_left new.nodes.master)
       by_case (Stays m after at to is refused calm) other also chunk = put after other to also m.state chunk is (lift calm m at chunk)
       by_case (Turns m after heard t at to turn written is hears calm) other also chunk =
           put after other to also t.after chunk is
@@ -150,36 +152,42 @@ module _ {D : Type 0} (x : Setup D) where
       by_case (Opened after d log has to is none again) other also chunk = put after other to also (restarted d log) chunk is (starts_so (Only (Next step old new goes P)) d log chunk)
       by_case (Waits none f unheard) other also chunk = absurd (none other also)
 
+  asks_on_all : {Holds : Type 0} (P : ℕ → ℕ → List ℕ → Type 0) (step : Step) (old new : History D) (goes : Goes x.seen x.failures x.armed step old new) → LastsSteady x.seen (as_left old.nodes.master) → BecameAll x.seen step old.sent (met_at x step old new goes) Holds (as_left old.nodes.master) (as_left new.nodes.master)
+      → AskedAt P (as_left old.nodes.master) → AskedAt (Next step old new goes P) (as_left new.nodes.master)
+  asks_on_all P step old new goes h (Whole b) asked = asks_on P step old new goes h b asked
+  asks_on_all P step old new goes h (Loses m at none fails f) asked = λ other also chunk. absurd (none other also)
+  asks_on_all P step old new goes h (Cuts m heard t many f at none fails turn written low stand has handles) asked = λ other also chunk. absurd (none other also)
+
   -- ---- one step after the other
 
   -- what the records tell is what the master has
-  pub told_has : (h : History D) (d : Durable) → IsWell x h → IsToldAt x.seen h.nodes.master d → HasDurable x.seen h.nodes.master d
+  pub told_has : (h : History D) (d : Durable) → IsWell x h → IsToldAt x.seen h.nodes.master d → HasDurable x.seen (as_left h.nodes.master) d
   told_has h d well told =
-      let had = has_durable x.seen h.nodes.master (well_lasts x h well) in subst (HasDurable x.seen h.nodes.master) (told_is_had x.seen h.nodes.master d had.0 (well_lasts x h well) told had.1) had.1
+      let had = has_durable x.seen (as_left h.nodes.master) (well_lasts x h well) in subst (HasDurable x.seen (as_left h.nodes.master)) (told_is_had x.seen (as_left h.nodes.master) d had.0 (well_lasts x h well) (told_left x.seen h.nodes.master d told) had.1) had.1
 
 module _ {D : Type 0} (x : Setup D) (given : IsGiven x) where
   -- what was prepared stands on
   pub stands_next : (prepared : Durable) (step : Step) (old mid : History D) (a c : Account) → Moves x step old a mid c → is_ordinary c.durable.phase ≡ false → StandsSo x prepared old → StandsSo x prepared mid
   stands_next prepared step old mid a c moves going s =
       let well = step_well x given step old mid s.well moves.steps in
-      let had = has_durable x.seen old.nodes.master (well_lasts x old s.well) in
+      let had = has_durable x.seen (as_left old.nodes.master) (well_lasts x old s.well) in
       let now = told_has x mid c.durable well moves.told in record {
         well = well;
-        since = λ e has. subst (IsSince prepared) (has_one x.seen mid.nodes.master c.durable e now has) ((leads x step old.sent (met_at x step old mid moves.steps.goes) old.nodes.master mid.nodes.master prepared had.0 c.durable (became x given step old mid s.well moves.steps) had.1 now (s.since had.0 had.1)).since going);
+        since = λ e has. subst (IsSince prepared) (has_one x.seen (as_left mid.nodes.master) c.durable e now has) ((leads_all x step old.sent (met_at x step old mid moves.steps.goes) (as_left old.nodes.master) (as_left mid.nodes.master) prepared had.0 c.durable (became x given step old mid s.well moves.steps) had.1 now (s.since had.0 had.1)).since going);
       }
 
-  told_since : (P : ℕ → ℕ → List ℕ → Type 0) (prepared : Durable) (steps : List Step) (old : History D) (a : Account) (new : History D) (b : Account) (runs : RunsUpgraded x steps old a new b) → StandsSo x prepared old → AskedAt P old.nodes.master
-      → StandsSo x prepared new × AskedAt (λ server epoch handles. (P server epoch handles × NoRestart steps) ⊎ HasTaken x (Says server epoch handles) steps old a new b runs) new.nodes.master
+  told_since : (P : ℕ → ℕ → List ℕ → Type 0) (prepared : Durable) (steps : List Step) (old : History D) (a : Account) (new : History D) (b : Account) (runs : RunsUpgraded x steps old a new b) → StandsSo x prepared old → AskedAt P (as_left old.nodes.master)
+      → StandsSo x prepared new × AskedAt (λ server epoch handles. (P server epoch handles × NoRestart steps) ⊎ HasTaken x (Says server epoch handles) steps old a new b runs) (as_left new.nodes.master)
   told_since P prepared [] old a new b (is, same) s asked = (
     subst (StandsSo x prepared) (sym is) s,
-    subst (λ (k : History D). AskedAt (λ server epoch handles. (P server epoch handles × Unit {0}) ⊎ ⊥) k.nodes.master) (sym is) (asked_more P (λ server epoch handles. (P server epoch handles × Unit {0}) ⊎ ⊥) (λ server epoch handles p. inl (p, tt)) old.nodes.master asked),
+    subst (λ (k : History D). AskedAt (λ server epoch handles. (P server epoch handles × Unit {0}) ⊎ ⊥) (as_left k.nodes.master)) (sym is) (asked_more P (λ server epoch handles. (P server epoch handles × Unit {0}) ⊎ ⊥) (λ server epoch handles p. inl (p, tt)) (as_left old.nodes.master) asked),
   )
   told_since P prepared (step ∷ steps) old a new b (mid, c, moves, going, rest) s asked =
       let goes = moves.steps.goes in
-      let last = told_since (Next x step old mid goes P) prepared steps mid c new b rest (stands_next prepared step old mid a c moves going s) (asks_on x P step old mid goes s.well.steady (became x given step old mid s.well moves.steps) asked) in (
+      let last = told_since (Next x step old mid goes P) prepared steps mid c new b rest (stands_next prepared step old mid a c moves going s) (asks_on_all x P step old mid goes (well_steady x old s.well) (became x given step old mid s.well moves.steps) asked) in (
         last.0,
         asked_more (λ server epoch handles. (Next x step old mid goes P server epoch handles × NoRestart steps) ⊎ HasTaken x (Says server epoch handles) steps mid c new b rest)
-            (λ server epoch handles. (P server epoch handles × NoRestart (step ∷ steps)) ⊎ HasTaken x (Says server epoch handles) (step ∷ steps) old a new b (mid, c, moves, going, rest)) (λ server epoch handles p. joined server epoch handles p) new.nodes.master last.1,
+            (λ server epoch handles. (P server epoch handles × NoRestart (step ∷ steps)) ⊎ HasTaken x (Says server epoch handles) (step ∷ steps) old a new b (mid, c, moves, going, rest)) (λ server epoch handles p. joined server epoch handles p) (as_left new.nodes.master) last.1,
       )
     where
       joined : (server epoch : ℕ) (handles : List ℕ) → (Next x step old mid moves.steps.goes P server epoch handles × NoRestart steps) ⊎ HasTaken x (Says server epoch handles) steps mid c new b rest
@@ -195,12 +203,12 @@ module _ {D : Type 0} (x : Setup D) (given : IsGiven x) where
 
   pub record AsksSo (h : History D) : Type 0 where
     pub well : IsWell x h
-    pub asked : AskedAt Anything h.nodes.master
+    pub asked : AskedAt Anything (as_left h.nodes.master)
 
   step_asks : (step : Step) (old new : History D) → StepsWithin x step old new → AsksSo old → AsksSo new
   step_asks step old new one s = record {
     well = step_well x given step old new s.well one;
-    asked = asked_more (Next x step old new one.goes Anything) Anything (λ server epoch handles p. tt) new.nodes.master (asks_on x Anything step old new one.goes s.well.steady (became x given step old new s.well one) s.asked);
+    asked = asked_more (Next x step old new one.goes Anything) Anything (λ server epoch handles p. tt) (as_left new.nodes.master) (asks_on_all x Anything step old new one.goes (well_steady x old s.well) (became x given step old new s.well one) s.asked);
   }
 
   runs_ask : (steps : List Step) (old : History D) (a : Account) (new : History D) (b : Account) → Runs x steps old a new b → AsksSo old → AsksSo new
@@ -208,7 +216,7 @@ module _ {D : Type 0} (x : Setup D) (given : IsGiven x) where
   runs_ask (step ∷ steps) old a new b (mid, c, moves, rest) s = runs_ask steps mid c new b rest (step_asks step old mid moves.steps s)
 
   begins_ask : (begun : History D) → Begins x.seen x.failures x.armed x.config x.clients x.disks begun → AsksSo begun
-  begins_ask begun b = record { well = begins_well x given begun b; asked = λ m at chunk. by_opens b.place b.turn b.opens m (sym (ap (λ (n : Nodes D). n.master) b.nodes) ∙ at) chunk }
+  begins_ask begun b = record { well = begins_well x given begun b; asked = λ m at chunk. by_opens b.place b.turn b.opens m (sym (ap (λ (n : Nodes D). n.master) b.nodes) ∙ stands_left x.seen begun.nodes.master m at) chunk }
     where
       counters : AreCounters start
       counters = record { handle = omega arith; version = omega arith; hidden = omega arith }
@@ -266,8 +274,8 @@ current before after chunk server p listed kept view has =
 pub record BeginsSo {D : Type 0} (x : Setup D) (prepared now : History D) (before after : Account) (upgrade : IsUpgrading x prepared before now after) : Type 0 where
   pub given : IsGiven x
   pub stands : StandsSo x before.durable prepared
-  pub told : AskedAt Nothing prepared.nodes.master
-  pub has : HasDurable x.seen prepared.nodes.master before.durable
+  pub told : AskedAt Nothing (as_left prepared.nodes.master)
+  pub has : HasDurable x.seen (as_left prepared.nodes.master) before.durable
 
 pub begins_so : {D : Type 0} (x : Setup D) (prepared now : History D) (before after : Account) (upgrade : IsUpgrading x prepared before now after) → BeginsSo x prepared now before after upgrade
 begins_so {D = D} x prepared now before after upgrade = record { given = given; stands = stands; told = nothing_told; has = has_before }
@@ -284,22 +292,22 @@ begins_so {D = D} x prepared now before after upgrade = record { given = given; 
     phases : (is_ordinary upgrade.first.durable.phase ≡ true) × (is_upgrade before.durable.phase ≡ true)
     phases = and_parts (is_ordinary upgrade.first.durable.phase) (is_upgrade before.durable.phase) upgrade.accepted
 
-    has_before : HasDurable x.seen prepared.nodes.master before.durable
+    has_before : HasDurable x.seen (as_left prepared.nodes.master) before.durable
     has_before = told_has x prepared before.durable first_asks.well upgrade.moves.told
 
-    old_has : HasDurable x.seen upgrade.old.nodes.master upgrade.first.durable
+    old_has : HasDurable x.seen (as_left upgrade.old.nodes.master) upgrade.first.durable
     old_has = told_has x upgrade.old upgrade.first.durable old_asks.well (runs_told x given upgrade.reached.steps upgrade.reached.begun upgrade.reached.first upgrade.old upgrade.first upgrade.reached.runs upgrade.reached.begins.told)
 
     begun : IsSince before.durable before.durable
     begun =
-        begins x upgrade.step upgrade.old.sent (met_at x upgrade.step upgrade.old prepared upgrade.moves.steps.goes) upgrade.old.nodes.master prepared.nodes.master upgrade.first.durable before.durable old_asks.well.steady
+        begins x upgrade.step upgrade.old.sent (met_at x upgrade.step upgrade.old prepared upgrade.moves.steps.goes) (as_left upgrade.old.nodes.master) (as_left prepared.nodes.master) upgrade.first.durable before.durable (well_steady x upgrade.old old_asks.well)
         (became x given upgrade.step upgrade.old prepared old_asks.well upgrade.moves.steps) old_has has_before phases.0 (upgrade_stands before.durable.phase phases.1)
 
     stands : StandsSo x before.durable prepared
-    stands = record { well = first_asks.well; since = λ e has. subst (IsSince before.durable) (has_one x.seen prepared.nodes.master before.durable e has_before has) begun }
+    stands = record { well = first_asks.well; since = λ e has. subst (IsSince before.durable) (has_one x.seen (as_left prepared.nodes.master) before.durable e has_before has) begun }
 
-    nothing_told : AskedAt Nothing prepared.nodes.master
-    nothing_told m at chunk = nobody_told x given Nothing m.state chunk (sym (ap (λ (d : Durable). is_rolling d.phase) (has_at x prepared.nodes.master m before.durable at has_before)) ∙ upgrade_calm before.durable.phase phases.1) (first_asks.asked m at chunk)
+    nothing_told : AskedAt Nothing (as_left prepared.nodes.master)
+    nothing_told m at chunk = nobody_told x given Nothing m.state chunk (sym (ap (λ (d : Durable). is_rolling d.phase) (has_at x (as_left prepared.nodes.master) m before.durable at has_before)) ∙ upgrade_calm before.durable.phase phases.1) (first_asks.asked m at chunk)
 
 -- this server has the chunk by its view at the prepare, or is a holder of it, and has named it
 abbrev NamedBy : {D : Type 0} (x : Setup D) (prepared now : History D) (before after : Account) (upgrade : IsUpgrading x prepared before now after) (chunk server : ℕ) → Type 0
@@ -310,10 +318,10 @@ NamedBy x prepared now before after upgrade chunk server =
 pub record NowSo {D : Type 0} (x : Setup D) (prepared now : History D) (before after : Account) (upgrade : IsUpgrading x prepared before now after) : Type 0 where
   pub given : IsGiven x
   pub well : IsWell x now
-  pub has : HasDurable x.seen now.nodes.master after.durable
+  pub has : HasDurable x.seen (as_left now.nodes.master) after.durable
   pub since : IsSince before.durable after.durable
-  pub named_by : (m : MasterOf D) → now.nodes.master ≡ Standing m → (chunk server : ℕ) → is_listed before.durable chunk ≡ true → HasTold m.state chunk server → NamedBy x prepared now before after upgrade chunk server
-  pub named : (m : MasterOf D) → now.nodes.master ≡ Standing m → (chunk server : ℕ) → is_listed before.durable chunk ≡ true → HasTold m.state chunk server → WasNamed x prepared before now after upgrade chunk
+  pub named_by : (m : MasterOf D) → (as_left now.nodes.master) ≡ Standing m → (chunk server : ℕ) → is_listed before.durable chunk ≡ true → HasTold m.state chunk server → NamedBy x prepared now before after upgrade chunk server
+  pub named : (m : MasterOf D) → (as_left now.nodes.master) ≡ Standing m → (chunk server : ℕ) → is_listed before.durable chunk ≡ true → HasTold m.state chunk server → WasNamed x prepared before now after upgrade chunk
 
 pub now_so : {D : Type 0} (x : Setup D) (prepared now : History D) (before after : Account) (upgrade : IsUpgrading x prepared before now after) → NowSo x prepared now before after upgrade
 now_so {D = D} x prepared now before after upgrade = record { given = b.given; well = last.0.well; has = has_after; since = since; named_by = named_by; named = λ m at chunk server listed t. (let k = named_by m at chunk server listed t in (server, k.0, k.1)) }
@@ -321,23 +329,23 @@ now_so {D = D} x prepared now before after upgrade = record { given = b.given; w
     b : BeginsSo x prepared now before after upgrade
     b = begins_so x prepared now before after upgrade
 
-    last : StandsSo x before.durable now × AskedAt (λ server epoch handles. (Nothing server epoch handles × NoRestart upgrade.steps) ⊎ HasTaken x (Says server epoch handles) upgrade.steps prepared before now after upgrade.runs) now.nodes.master
+    last : StandsSo x before.durable now × AskedAt (λ server epoch handles. (Nothing server epoch handles × NoRestart upgrade.steps) ⊎ HasTaken x (Says server epoch handles) upgrade.steps prepared before now after upgrade.runs) (as_left now.nodes.master)
     last = told_since x b.given Nothing before.durable upgrade.steps prepared before now after upgrade.runs b.stands b.told
 
-    has_after : HasDurable x.seen now.nodes.master after.durable
+    has_after : HasDurable x.seen (as_left now.nodes.master) after.durable
     has_after = told_has x now after.durable last.0.well (upgraded_told x b.given upgrade.steps prepared before now after upgrade.runs upgrade.moves.told)
 
     since : IsSince before.durable after.durable
     since = last.0.since after.durable has_after
 
-    named_by : (m : MasterOf D) → now.nodes.master ≡ Standing m → (chunk server : ℕ) → is_listed before.durable chunk ≡ true → HasTold m.state chunk server → NamedBy x prepared now before after upgrade chunk server
+    named_by : (m : MasterOf D) → (as_left now.nodes.master) ≡ Standing m → (chunk server : ℕ) → is_listed before.durable chunk ≡ true → HasTold m.state chunk server → NamedBy x prepared now before after upgrade chunk server
     named_by m at chunk server listed t = by_said n.said
       where
         n : HasNamed (Only (λ server epoch handles. (Nothing server epoch handles × NoRestart upgrade.steps) ⊎ HasTaken x (Says server epoch handles) upgrade.steps prepared before now after upgrade.runs)) m.state chunk server
         n = (last.1 m at chunk).restored server t.told
 
         same : after.durable ≡ m.state.durable
-        same = has_at x now.nodes.master m after.durable at has_after
+        same = has_at x (as_left now.nodes.master) m after.durable at has_after
 
         kept : prepared_view after.durable chunk ≡ Some t.prepared
         kept = ap (λ (d : Durable). prepared_view d chunk) same ∙ t.kept
@@ -356,9 +364,9 @@ now_so {D = D} x prepared now before after upgrade = record { given = b.given; w
 -- ---- a rollback that is done
 
 -- and how a step leads on from there
-lead_next : {D : Type 0} (x : Setup D) (prepared now next : History D) (before after back : Account) (step : Step) (upgrade : IsUpgrading x prepared before now after) → Moves x step now after next back → PlaceLeads now.nodes.master before.durable after.durable back.durable
+lead_next : {D : Type 0} (x : Setup D) (prepared now next : History D) (before after back : Account) (step : Step) (upgrade : IsUpgrading x prepared before now after) → Moves x step now after next back → PlaceLeads (as_left now.nodes.master) before.durable after.durable back.durable
 lead_next {D = D} x prepared now next before after back step upgrade moves =
-    leads x step now.sent (met_at x step now next moves.steps.goes) now.nodes.master next.nodes.master before.durable after.durable back.durable (became x n.given step now next n.well moves.steps) n.has
+    leads_all x step now.sent (met_at x step now next moves.steps.goes) (as_left now.nodes.master) (as_left next.nodes.master) before.durable after.durable back.durable (became x n.given step now next n.well moves.steps) n.has
     (told_has x next back.durable (step_well x n.given step now next n.well moves.steps) moves.told) n.since
   where
     n : NowSo x prepared now before after upgrade
@@ -370,13 +378,16 @@ pub names_back : {D : Type 0} (x : Setup D) (prepared now next : History D) (bef
 names_back x prepared now next before after back step upgrade moves rolled =
     let ends = and_parts (is_rolling after.durable.phase) (is_ordinary back.durable.phase) rolled in (lead_next x prepared now next before after back step upgrade moves).names ends.0 ends.1
 
+pub gives_names_told : {D : Type 0} (x : Setup D) → GivesNamesTold x
+gives_names_told x prepared now back before after last r = names_back x prepared now back before after last r.step r.upgrade r.moves r.accepted
+
 pub none_unnamed : {D : Type 0} (x : Setup D) → NoneGoesBackUnnamed x
 none_unnamed {D = D} x prepared now next before after back step upgrade moves rolled = all_named
   where
     n : NowSo x prepared now before after upgrade
     n = now_so x prepared now before after upgrade
 
-    lead : PlaceLeads now.nodes.master before.durable after.durable back.durable
+    lead : PlaceLeads (as_left now.nodes.master) before.durable after.durable back.durable
     lead = lead_next x prepared now next before after back step upgrade moves
 
     ends : (is_rolling after.durable.phase ≡ true) × (is_ordinary back.durable.phase ≡ true)
@@ -385,7 +396,7 @@ none_unnamed {D = D} x prepared now next before after back step upgrade moves ro
     all_named : AllWereNamed x prepared before now after upgrade
     all_named chunk more = by_place (lead.restored ends.0 ends.1)
       where
-        by_place : (m : MasterOf D) × (now.nodes.master ≡ Standing m) × AreRestored m.state before.durable × AreGiven m.state before.durable back.durable → WasNamed x prepared before now after upgrade chunk
+        by_place : (m : MasterOf D) × ((as_left now.nodes.master) ≡ Standing m) × AreRestored m.state before.durable × AreGiven m.state before.durable back.durable → WasNamed x prepared before now after upgrade chunk
         by_place (m, at, restored, given) = by_count (fin.get before.durable.names.refs chunk) refl more
           where
             by_count : (o : Option ℕ) → fin.get before.durable.names.refs chunk ≡ o → 0 < count_or_zero o → WasNamed x prepared before now after upgrade chunk
@@ -402,7 +413,7 @@ members_have_named {D = D} x prepared now next before after back step upgrade mo
     ends : (is_rolling after.durable.phase ≡ true) × (is_ordinary back.durable.phase ≡ true)
     ends = and_parts (is_rolling after.durable.phase) (is_ordinary back.durable.phase) rolled
 
-    by_place : (m : MasterOf D) × (now.nodes.master ≡ Standing m) × AreRestored m.state before.durable × AreGiven m.state before.durable back.durable → IsGivenTo x prepared before now after upgrade back chunk
+    by_place : (m : MasterOf D) × ((as_left now.nodes.master) ≡ Standing m) × AreRestored m.state before.durable × AreGiven m.state before.durable back.durable → IsGivenTo x prepared before now after upgrade back chunk
     by_place (m, at, restored, given) = by_count (fin.get before.durable.names.refs chunk) refl more
       where
         by_count : (o : Option ℕ) → fin.get before.durable.names.refs chunk ≡ o → 0 < count_or_zero o → IsGivenTo x prepared before now after upgrade back chunk
@@ -414,7 +425,7 @@ members_have_named {D = D} x prepared now next before after back step upgrade mo
               told = g.here;
               still = g.still;
               unled = g.unled;
-              first = g.stamp ∙ ap (λ (d : Durable). record { epoch = d.epoch; version = 0 }) (sym (has_at x now.nodes.master m after.durable at n.has));
+              first = g.stamp ∙ ap (λ (d : Durable). record { epoch = d.epoch; version = 0 }) (sym (has_at x (as_left now.nodes.master) m after.durable at n.has));
               some = (r.0, (g.members r.0).1 r.1);
               named = λ server among. n.named_by m at chunk server (ap is_some has) ((g.members server).0 among);
             }

@@ -4,15 +4,12 @@ use Rattle.std.specs.Prelude.{ℕ}
 use Rattle.gs_journal.specs.Journal.{State as Journal, counting, text_size}
 use Rattle.gs_journal.specs.Records.{Text, generation_of, standing}
 use Rattle.gs_master.specs.Masters.{MasterOf, with_journal}
-use Rattle.gs_world_chunks.specs.Accounts.{Account, first_account}
-use Rattle.gs_world_chunks.specs.Moving.{account_behind}
-use Rattle.gs_world_chunks.specs.Running.{HaveAccounts, IsArmed, IsGiven, IsSeenAlike, IsToldAt, ReachedStaySound, Runs, RunsBare, Setup, StaysSound, StepsWithin}
+use Rattle.gs_world_chunks.specs.Accounts.{Account}
+use Rattle.gs_world_chunks.specs.Running.{IsArmed, IsGiven, IsSeenAlike, ReachedStaySound, Runs, Setup, StaysSound, StepsWithin}
 use Rattle.gs_world.proofs.Lasting.{begins_firm, run_lasts}
 use Rattle.gs_world.specs.Histories.{History}
 use Rattle.gs_world.specs.Lasting.{HearsNamed, IsToldIn, Lasts, StandsFirm, StepNamed, TellsAMaster}
 use Rattle.gs_world.specs.Runs.{Comes, Step, Takes}
-use Rattle.gs_master_spec.specs.Durable.{Durable}
-use Rattle.gs_master_spec.specs.State.{is_failed}
 use Rattle.gs_world_laws.proofs.Keeping.{begins_keeping, run_keeps}
 use Rattle.gs_world_laws.specs.Saying.{IsStepWithin, KeepsTypes, MayBeHeard, MayBeSaid}
 use Rattle.gs_msg.specs.declared.event.Happening.{Happening}
@@ -20,19 +17,9 @@ use Rattle.gs_msg.specs.declared.event.Happening.TheVariants as happenings
 use Rattle.gs_msg.specs.declared.node.NodeId.{NodeId}
 use Rattle.gs_nodes.specs.declared.place.MasterPlace.{MasterPlace}
 use Rattle.gs_nodes.specs.declared.place.MasterPlace.TheVariants.{Standing, Closed, Away}
-use Rattle.std.specs.Prelude.{Bool, MatchBool, false, true}
+use Rattle.std.specs.Prelude.{false}
 
 module _ {D : Type 0} (x : Setup D) where
-  -- what stands firm, or waits, tells something
-  tells_of : (seen : D → List ℕ) (place : MasterPlace D) → Lasts seen place → (d : Durable) × IsToldAt seen place d
-  tells_of seen (Standing m) h = (m.state.durable, sound_tells (is_failed m.state.fault) h.sound)
-    where
-      sound_tells : (failed : Bool) → failed ≡ false → MatchBool failed (IsToldIn (standing (seen m.journal.first) (seen m.journal.second)) m.state.durable) (m.state.durable ≡ m.state.durable)
-      sound_tells true e = absurd (cc)
-      sound_tells false e = refl
-  tells_of seen (Closed first second) h = (h.durable, h.told)
-  tells_of seen Away h = absurd h
-
   counts : (seen : D → List ℕ) (m : MasterOf D) (j : Journal D) → IsSeenAlike seen m.journal j → counting (seen j.first) (seen j.second) ≡ counting (seen m.journal.first) (seen m.journal.second)
   counts seen m j alike = ap (λ s. counting s (seen j.second)) alike.first ∙ ap (counting (seen m.journal.first)) alike.second
 
@@ -77,39 +64,22 @@ module _ {D : Type 0} (x : Setup D) where
       heard (happenings.FailDisk disk call) = tt
 
   -- what stands behind a step
-  pub one_lasts : IsGiven x → (step : Step) (old mid : History D) → Lasts x.seen old.nodes.master → KeepsTypes old → StepsWithin x step old mid → Lasts x.seen mid.nodes.master × KeepsTypes mid
-  one_lasts given step old mid lasts types one = (
-    run_lasts x.seen x.failures x.armed (λ disk call place k. arming x.seen place (x.armed disk call place) (given.armed disk call place) k) (step ∷ []) old mid (mid, one.goes, named step old one.within types, one.sound, refl) lasts,
+  pub one_lasts : IsGiven x → x.fails ≡ false → (step : Step) (old mid : History D) → Lasts x.seen old.nodes.master → KeepsTypes old → StepsWithin x step old mid → Lasts x.seen mid.nodes.master × KeepsTypes mid
+  one_lasts given quiet step old mid lasts types one = (
+    run_lasts x.seen x.failures x.armed (λ disk call place k. arming x.seen place (x.armed disk call place) (given.armed disk call place) k) (step ∷ []) old mid (mid, one.goes, named step old one.within types, one.sound quiet, refl) lasts,
     run_keeps x.seen x.failures x.armed (step ∷ []) old mid (mid, one.goes, refl) (one.within, tt) types,
   )
 
-  goes_on : IsGiven x → (steps : List Step) (old new : History D) (a : Account) → Lasts x.seen old.nodes.master → KeepsTypes old → RunsBare x steps old new → (b : Account) × Runs x steps old a new b
-  goes_on given [] old new a lasts types is = (a, (is, refl))
-  goes_on given (step ∷ steps) old new a lasts types (mid, one, rest) =
-      let behind = one_lasts given step old mid lasts types one in
-      let tells = tells_of x.seen mid.nodes.master behind.0 in
-      let c = account_behind step old a mid tells.0 in
-      let more = goes_on given steps mid new c behind.0 behind.1 rest in
-      (more.0, (mid, c, record { steps = one; told = tells.1; account = refl }, more.1))
-
   -- and behind many
-  pub runs_sound : IsGiven x → (steps : List Step) (old new : History D) (a b : Account) → Lasts x.seen old.nodes.master → KeepsTypes old → Runs x steps old a new b → StaysSound x steps old new
-  runs_sound given [] old new a b lasts types runs = record { lasts = subst (λ (h : History D). Lasts x.seen h.nodes.master) (sym runs.0) lasts; types = subst (λ (h : History D). KeepsTypes h) (sym runs.0) types; runs = runs.0 }
-  runs_sound given (step ∷ steps) old new a b lasts types (mid, c, one, rest) =
-      let behind = one_lasts given step old mid lasts types one.steps in
-      let more = runs_sound given steps mid new c b behind.0 behind.1 rest in
-      record { lasts = more.lasts; types = more.types; runs = (mid, one.steps.goes, named step old one.steps.within types, one.steps.sound, more.runs) }
+  pub runs_sound : IsGiven x → x.fails ≡ false → (steps : List Step) (old new : History D) (a b : Account) → Lasts x.seen old.nodes.master → KeepsTypes old → Runs x steps old a new b → StaysSound x steps old new
+  runs_sound given quiet [] old new a b lasts types runs = record { lasts = subst (λ (h : History D). Lasts x.seen h.nodes.master) (sym runs.0) lasts; types = subst (λ (h : History D). KeepsTypes h) (sym runs.0) types; runs = runs.0 }
+  runs_sound given quiet (step ∷ steps) old new a b lasts types (mid, c, one, rest) =
+      let behind = one_lasts given quiet step old mid lasts types one.steps in
+      let more = runs_sound given quiet steps mid new c b behind.0 behind.1 rest in
+      record { lasts = more.lasts; types = more.types; runs = (mid, one.steps.goes, named step old one.steps.within types, one.steps.sound quiet, more.runs) }
 
 pub reached_sound : {D : Type 0} (x : Setup D) → ReachedStaySound x
-reached_sound x now a r =
+reached_sound x quiet now a r =
     let given = r.begins.given in
-    runs_sound x given r.steps r.begun now r.first a (begins_firm x.seen x.failures x.armed x.config x.clients x.disks r.begun given.new r.begins.begins)
+    runs_sound x given quiet r.steps r.begun now r.first a (begins_firm x.seen x.failures x.armed x.config x.clients x.disks r.begun given.new r.begins.begins)
     (begins_keeping x.seen x.failures x.armed x.config x.clients x.disks r.begun given.few r.begins.begins) r.runs
-
-pub have_accounts : {D : Type 0} (x : Setup D) → HaveAccounts x
-have_accounts x begun now steps given begins runs =
-    let lasts = begins_firm x.seen x.failures x.armed x.config x.clients x.disks begun given.new begins in
-    let types = begins_keeping x.seen x.failures x.armed x.config x.clients x.disks begun given.few begins in
-    let first = tells_of x x.seen begun.nodes.master lasts in
-    let on = goes_on x given steps begun now (first_account first.0) lasts types runs in
-    (first_account first.0, on.0, record { given = given; begins = begins; told = first.1; account = refl }, on.1)

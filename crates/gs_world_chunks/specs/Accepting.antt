@@ -12,7 +12,7 @@ use Rattle.gs_master_moves.specs.Epochs.{rolls_back}
 use Rattle.gs_master_spec.specs.Applied.{with_reply}
 use Rattle.gs_master_spec.specs.Durable.{Durable, Settled, is_rolling}
 use Rattle.gs_master_spec.specs.Handling.{New, numbered}
-use Rattle.gs_master_spec.specs.State.{last_reply}
+use Rattle.gs_master_spec.specs.State.{is_failed, last_reply}
 use Rattle.gs_msg.specs.declared.body.Body.TheVariants as bodies
 use Rattle.gs_msg.specs.declared.call.Call.TheVariants as calls
 use Rattle.gs_msg.specs.declared.event.Happening.{Happening}
@@ -23,6 +23,7 @@ use Rattle.gs_msg.specs.declared.node.StoreNode.TheVariants as keepers
 use Rattle.gs_nodes.specs.declared.place.MasterPlace.TheVariants.{Standing}
 use Rattle.gs_refs.specs.Counts.{count_or_zero}
 use Rattle.gs_world.specs.Histories.{History}
+use Rattle.gs_world.specs.Lasting.{failures_at}
 use Rattle.gs_world.specs.Runs.{Comes, Goes, Step, Takes}
 use Rattle.gs_world_chunks.specs.Accounts.{Account}
 use Rattle.gs_world_chunks.specs.Running.{Moves, Setup}
@@ -117,9 +118,19 @@ module _ {D : Type 0} (x : Setup D) where
     pub new : numbered (last_reply master.state req.client) req.number ≡ New
     pub rolling : is_rolling master.state.durable.phase ≡ true
 
+  -- No disk of the master has failed since it was opened, and none fails at the step. Behind a failure it refuses any new call, till it is restarted.
+  pub record DisksHold (now next : History D) (step : Step) (asks : AsksToCommit now step) : Type 0 where
+    pub sound : is_failed asks.master.state.fault ≡ false
+    pub none : failures_at x.failures next.nodes.master ≡ failures_at x.failures now.nodes.master
+
   abbrev pub CommitsAreDecided : Type 0
-  CommitsAreDecided = (prepared now next : History D) (before after back : Account) (step : Step) (upgrade : IsUpgrading x prepared before now after) (moves : Moves x step now after next back) (asks : AsksToCommit now step) →
+  CommitsAreDecided = (prepared now next : History D) (before after back : Account) (step : Step) (upgrade : IsUpgrading x prepared before now after) (moves : Moves x step now after next back) (asks : AsksToCommit now step) → (x.fails ≡ true → DisksHold now next step asks) →
       IsDecided prepared before now after upgrade asks.req (met_at x step now next moves.steps.goes) back
+
+  -- Whatever disks have failed, and whichever fail at the call: what is told stays, or the refusal of this request is kept beside it; or the rollback is done, and then all was named.
+  abbrev pub CommitsDoOneThing : Type 0
+  CommitsDoOneThing = (prepared now next : History D) (before after back : Account) (step : Step) (upgrade : IsUpgrading x prepared before now after) → Moves x step now after next back → (asks : AsksToCommit now step) →
+      ((refusal : Refusal) × IsAsItWas asks.req refusal after.durable back.durable) ⊎ ((rolls_back after.durable back.durable ≡ true) × AllWereNamed prepared before now after upgrade)
 
   -- no rollback is done without it
   abbrev pub NoneGoesBackUnnamed : Type 0
@@ -137,7 +148,7 @@ module _ {D : Type 0} (x : Setup D) where
 
   -- So a client's new call to commit is accepted then, but for want of room in the journal or of memory.
   abbrev pub SurvivorsAreAccepted : Type 0
-  SurvivorsAreAccepted = (prepared now next : History D) (before after back : Account) (step : Step) (upgrade : IsUpgrading x prepared before now after) (moves : Moves x step now after next back) → AsksToCommit now step →
+  SurvivorsAreAccepted = (prepared now next : History D) (before after back : Account) (step : Step) (upgrade : IsUpgrading x prepared before now after) (moves : Moves x step now after next back) (asks : AsksToCommit now step) → (x.fails ≡ true → DisksHold now next step asks) →
       ((chunk : ℕ) → 0 < references_then before chunk → HasAnswered prepared before now after upgrade chunk) →
       (met_at x step now next moves.steps.goes ≡ Ok tt) ⊎ (met_at x step now next moves.steps.goes ≡ Err refusals.Full) ⊎ (met_at x step now next moves.steps.goes ≡ Err refusals.Memory)
 

@@ -6,7 +6,7 @@ use Rattle.gs_base.specs.Members.{is_member}
 use Rattle.gs_lease.specs.declared.view.View.{View}
 use Rattle.gs_world_chunks.specs.Accounts.{Account, settled_edits, view_at}
 use Rattle.gs_master_moves.specs.Epochs.{prepares, rolls_back}
-use Rattle.gs_world_chunks.specs.Running.{IsGiven, IsReached, Moves, Runs, RunsBare, Setup, StepsWithin}
+use Rattle.gs_world_chunks.specs.Running.{IsGiven, IsReached, IsToldAt, Moves, Runs, RunsBare, Setup, StepsWithin}
 use Rattle.gs_replica.specs.Seals.{lowest_damaged}
 use Rattle.gs_server.specs.Servers.{Server}
 use Rattle.gs_master_spec.specs.Durable.{Durable, Settled, is_listed, is_ordinary}
@@ -32,7 +32,11 @@ module _ {D : Type 0} (x : Setup D) where
     pub moves : Moves x step now after back last
     pub accepted : rolls_back after.durable last.durable ≡ true
 
-  -- Each chunk that a file had at the prepare, or before, has a settled view behind the rollback, and what is settled of it is what was settled then;
+  -- The names behind it are those of the prepare, by what the records tell; also where a disk failed at the commit, and its record stands;
+  abbrev pub GivesNamesTold : Type 0
+  GivesNamesTold = (prepared now back : History D) (before after last : Account) → HasRolledBack prepared before now after back last → last.durable.names ≡ before.durable.names
+
+  -- each chunk that a file had then, or before, has a settled view, and what is settled of it is what was settled then;
   abbrev pub GivesSettledBack : Type 0
   GivesSettledBack = (prepared now back : History D) (before after last : Account) (chunk : ℕ) → HasRolledBack prepared before now after back last → is_listed before.durable chunk ≡ true →
       (is_some (fin.get last.durable.chunks chunk) ≡ true) × (settled_edits last chunk ≡ settled_edits before chunk)
@@ -93,15 +97,16 @@ pub record IsMemberAt (d : Durable) (chunk id : ℕ) : Type 0 where
   pub told : fin.get d.chunks chunk ≡ Some settled
   pub among : is_member settled.view.members id ≡ true
 
-module _ {D : Type 0} (x : Setup D) where
-  -- steps behind none of which a master stands that keeps no upgrade
-  abbrev pub RunsWithin : List Step → History D → History D → Type 0
-  RunsWithin [] old new = new ≡ old
-  RunsWithin (step ∷ steps) old new =
-      (mid : History D) × StepsWithin x step old mid × ((d : Durable) → MasterKeeps mid.nodes.master d → is_ordinary d.phase ≡ false) × RunsWithin steps mid new
+-- Twice: by what a master keeps of which no disk has failed, and by what is told: by it, or, once a disk has failed, by the disks.
+module _ {D : Type 0} (x : Setup D) (Keeps : MasterPlace D → Durable → Type 0) where
+  -- steps behind none of which no upgrade is kept
+  abbrev pub RunsWithinBy : List Step → History D → History D → Type 0
+  RunsWithinBy [] old new = new ≡ old
+  RunsWithinBy (step ∷ steps) old new =
+      (mid : History D) × StepsWithin x step old mid × ((d : Durable) → Keeps mid.nodes.master d → is_ordinary d.phase ≡ false) × RunsWithinBy steps mid new
 
   -- A store that has begun comes to a step at which a prepare is accepted, and then to one at which a rollback is; no upgrade is ended between.
-  pub record GoesBack (prepared back : History D) (before last : Durable) : Type 0 where
+  pub record GoesBackBy (prepared back : History D) (before last : Durable) : Type 0 where
     pub given : IsGiven x
     pub begun : History D
     pub begins : Begins x.seen x.failures x.armed x.config x.clients x.disks begun
@@ -109,44 +114,73 @@ module _ {D : Type 0} (x : Setup D) where
     pub old : History D
     pub runs : RunsBare x first begun old
     pub ordinary : Durable
-    pub stood : MasterKeeps old.nodes.master ordinary
+    pub stood : Keeps old.nodes.master ordinary
     pub step : Step
     pub steps : StepsWithin x step old prepared
-    pub keeps : MasterKeeps prepared.nodes.master before
+    pub keeps : Keeps prepared.nodes.master before
     pub accepted : prepares ordinary before ≡ true
     pub between : List Step
     pub now : History D
-    pub rest : RunsWithin between prepared now
+    pub rest : RunsWithinBy between prepared now
     pub rolling : Durable
-    pub rolls : MasterKeeps now.nodes.master rolling
+    pub rolls : Keeps now.nodes.master rolling
     pub commit : Step
     pub commits : StepsWithin x commit now back
-    pub ended : MasterKeeps back.nodes.master last
+    pub ended : Keeps back.nodes.master last
     pub done : rolls_back rolling last ≡ true
 
   -- the tree with the handles of its files, and how often each stands there, are those of the prepare
-  abbrev pub GivesNamesBack : Type 0
-  GivesNamesBack = (prepared back : History D) (before last : Durable) → GoesBack prepared back before last → last.names ≡ before.names
+  abbrev pub GivesNamesBy : Type 0
+  GivesNamesBy = (prepared back : History D) (before last : Durable) → GoesBackBy prepared back before last → last.names ≡ before.names
 
   -- Where digests tell blocks apart, and a member of a chunk's view had these bytes right behind the prepare, each block with its digest, each member of its view
   -- behind the rollback has just these, if each block of it has its digest.
-  abbrev pub GivesBytesBack : Type 0
-  GivesBytesBack = (prepared back : History D) (before last : Durable) (chunk id other : ℕ) (had has : List ℕ) → TellsApart x.among → GoesBack prepared back before last →
+  abbrev pub GivesBytesBy : Type 0
+  GivesBytesBy = (prepared back : History D) (before last : Durable) (chunk id other : ℕ) (had has : List ℕ) → TellsApart x.among → GoesBackBy prepared back before last →
       IsMemberAt before chunk id → HasBytes prepared id chunk had → IsMemberAt last chunk other → HasBytes back other chunk has → has ≡ had
 
   -- And it has them, where in a world of some run from the prepare to the commit it would have named the chunk, and nothing of it was lost or damaged since. It may be marked as bad there, from before.
-  pub record WasUnharmed (prepared now : History D) (rolling : Durable) (chunk id : ℕ) : Type 0 where
+  pub record WasUnharmedBy (prepared now : History D) (rolling : Durable) (chunk id : ℕ) : Type 0 where
     pub first : List Step
     pub mid : History D
-    pub way : RunsWithin first prepared mid
+    pub way : RunsWithinBy first prepared mid
     pub s : Server
     pub there : slice_get mid.nodes.servers id ≡ Some s
     pub learned : s.kept.epoch ≡ rolling.epoch
     pub named : is_named rolling.epoch (slot_in chunk s) ≡ true
     pub steps : List Step
-    pub rest : RunsWithin steps mid now
+    pub rest : RunsWithinBy steps mid now
     pub spared : Spare chunk id steps
 
+  abbrev pub KeepsBytesBy : Type 0
+  KeepsBytesBy = (prepared back : History D) (before last : Durable) (chunk id other : ℕ) (had : List ℕ) → TellsApart x.among → (goes : GoesBackBy prepared back before last) →
+      IsMemberAt before chunk id → HasBytes prepared id chunk had → IsMemberAt last chunk other → WasUnharmedBy prepared goes.now goes.rolling chunk other → HasBytes back other chunk had
+
+module _ {D : Type 0} (x : Setup D) where
+  -- ---- by what a master keeps, of which no disk has failed
+
+  abbrev pub RunsWithin : List Step → History D → History D → Type 0
+  RunsWithin = RunsWithinBy x MasterKeeps
+
+  abbrev pub GoesBack : (prepared back : History D) (before last : Durable) → Type 0
+  GoesBack = GoesBackBy x MasterKeeps
+
+  abbrev pub GivesNamesBack : Type 0
+  GivesNamesBack = GivesNamesBy x MasterKeeps
+
+  abbrev pub GivesBytesBack : Type 0
+  GivesBytesBack = GivesBytesBy x MasterKeeps
+
   abbrev pub KeepsBytes : Type 0
-  KeepsBytes = (prepared back : History D) (before last : Durable) (chunk id other : ℕ) (had : List ℕ) → TellsApart x.among → (goes : GoesBack prepared back before last) →
-      IsMemberAt before chunk id → HasBytes prepared id chunk had → IsMemberAt last chunk other → WasUnharmed prepared goes.now goes.rolling chunk other → HasBytes back other chunk had
+  KeepsBytes = KeepsBytesBy x MasterKeeps
+
+  -- ---- by what is told: so a prepare or a commit at whose record a disk failed is done if that record stands
+
+  abbrev pub ToldNamesBack : Type 0
+  ToldNamesBack = GivesNamesBy x (IsToldAt x.seen)
+
+  abbrev pub ToldBytesBack : Type 0
+  ToldBytesBack = GivesBytesBy x (IsToldAt x.seen)
+
+  abbrev pub ToldKeepsBytes : Type 0
+  ToldKeepsBytes = KeepsBytesBy x (IsToldAt x.seen)

@@ -22,3 +22,4 @@ pub mod Copying
 pub mod Accepting
 pub mod Back
 pub mod Hearing
+pub mod SeenThrough

@@ -1,5 +1,5 @@
 -- Runs of a store with their accounts, and what is taken of them.
-use Rattle.std.specs.Prelude.{[], ◌*◌, ◌<◌, ◌^◌, ◌∷◌, ◌≡◌, Bool, List, MatchBool, None, Option, Some, length, refl, slice_get, true, ℕ}
+use Rattle.std.specs.Prelude.{[], ◌*◌, ◌<◌, ◌^◌, ◌∷◌, ◌≡◌, Bool, List, MatchBool, None, Option, Some, false, length, refl, slice_get, true, ℕ}
 use Rattle.gs_base.specs.declared.config.Config.{Config}
 use Rattle.gs_block.specs.Stored.{block_at}
 use Rattle.gs_block.specs.Written.{TellsApart}
@@ -35,8 +35,8 @@ IsToldAt seen Away d = ⊥
 
 -- ---- what is taken of a store
 
--- How its disks are seen, how often one has failed, and how failures of them are arranged; its sizes, its clients, and the disks over which it begins; and
--- a set of blocks, which is to hold all that its servers ever have.
+-- How its disks are seen, how often one has failed, and how failures of them are arranged; its sizes, its clients, and the disks over which it begins; a set
+-- of blocks, which is to hold all that its servers ever have; and whether disks of its master may fail in its runs. Where nothing else is said they may or may not.
 pub record Setup (D : Type 0) : Type 0 where
   pub seen : D → List ℕ
   pub failures : D → ℕ
@@ -45,6 +45,7 @@ pub record Setup (D : Type 0) : Type 0 where
   pub clients : ℕ
   pub disks : D × D
   pub among : List ℕ → Bool
+  pub fails : Bool
 
 -- the same is seen of the disks
 pub record IsSeenAlike {D : Type 0} (seen : D → List ℕ) (old new : Journal D) : Type 0 where
@@ -93,19 +94,27 @@ AreAmong among nodes = (id chunk : ℕ) (s : Server) → slice_get nodes.servers
 -- ---- runs
 
 module _ {D : Type 0} (x : Setup D) where
-  -- A step of the store: what is asked is within its types, and so is its moment; the blocks that servers have then are among those; and no disk of the
-  -- master fails. Runs in which one fails are left to when it is promised that disks tell the same behind an opening that fails as before it.
+  -- A step of the store: what is asked is within its types, and so is its moment; the blocks that servers have then are among those; and where no disk of the
+  -- master may fail, none does.
   pub record StepsWithin (step : Step) (old new : History D) : Type 0 where
     pub goes : Goes x.seen x.failures x.armed step old new
     pub within : IsStepWithin step
     pub among : AreAmong x.among new.nodes
-    pub sound : failures_at x.failures new.nodes.master ≡ failures_at x.failures old.nodes.master
+    pub sound : x.fails ≡ false → failures_at x.failures new.nodes.master ≡ failures_at x.failures old.nodes.master
 
   -- and the account behind it
   pub record Moves (step : Step) (old : History D) (a : Account) (new : History D) (b : Account) : Type 0 where
     pub steps : StepsWithin step old new
     pub told : IsToldAt x.seen new.nodes.master b.durable
     pub account : b ≡ account_behind step old a new b.durable
+
+  -- what an account goes by of such a step: what is told behind it
+  pub record IsAccounted (step : Step) (old : History D) (a : Account) (new : History D) (b : Account) : Type 0 where
+    pub told : IsToldAt x.seen new.nodes.master b.durable
+    pub account : b ≡ account_behind step old a new b.durable
+
+  abbrev pub accounted : (step : Step) (old : History D) (a : Account) (new : History D) (b : Account) → Moves step old a new b → IsAccounted step old a new b
+  accounted step old a new b moves = record { told = moves.told; account = moves.account }
 
   -- one after the other, without accounts and with them
   abbrev pub RunsBare : List Step → History D → History D → Type 0
@@ -146,7 +155,7 @@ module _ {D : Type 0} (x : Setup D) where
   abbrev pub NextIsOne : Type 0
   NextIsOne = (old new : History D) (a b c : Account) (step : Step) → Moves step old a new b → Moves step old a new c → b ≡ c
 
-  -- ---- what stands behind each run: the master lasts, all keeps to its types, and the steps are such as no disk fails in
+  -- ---- what stands behind each run in which no disk fails: the master lasts, all keeps to its types, and the steps are such
 
   pub record StaysSound (steps : List Step) (old new : History D) : Type 0 where
     pub lasts : Lasts x.seen new.nodes.master
@@ -154,7 +163,7 @@ module _ {D : Type 0} (x : Setup D) where
     pub runs : RunsSoundly x.seen x.failures x.armed steps old new
 
   abbrev pub ReachedStaySound : Type 0
-  ReachedStaySound = (now : History D) (a : Account) (r : IsReached now a) → StaysSound r.steps r.begun now
+  ReachedStaySound = x.fails ≡ false → (now : History D) (a : Account) (r : IsReached now a) → StaysSound r.steps r.begun now
 
 -- ---- Worked: no step leaves all as it is, and of nothing all blocks are among some
 no_step : {D : Type 0} (x : Setup D) (h : History D) (a : Account) → Runs x [] h a h a

@@ -1,5 +1,5 @@
 -- What is seen of all chunks behind each run of a store, and in two worlds of one.
-use Rattle.std.specs.Prelude.{◌≡◌, ℕ, List}
+use Rattle.std.specs.Prelude.{◌≡◌, ℕ, List, false}
 use Rattle.std.proofs.Common.{inl, inr}
 use Rattle.gs_base.specs.declared.numbers.ReqId.{ReqId}
 use Rattle.gs_world.specs.Histories.{History}
@@ -33,9 +33,9 @@ module _ {D : Type 0} (x : Setup D) where
     pub agrees : StoreAgrees x (bytes_in asked) h a lives
     pub intact : (chunk : ℕ) → IntactAt (bytes_in asked) a chunk h (lives.life chunk)
 
-  -- So it is behind each run,
+  -- So it is behind each run in which no disk of the master fails,
   abbrev pub EachIsSeen : Type 0
-  EachIsSeen = (now : History D) (a : Account) → IsReached x now a → (asked : ℕ → Asked) × AreAskedIn asked now × Sees asked now a
+  EachIsSeen = x.fails ≡ false → (now : History D) (a : Account) → IsReached x now a → (asked : ℕ → Asked) × AreAskedIn asked now × Sees asked now a
 
   -- and in two worlds of a run: a chunk that lives in the first leads on, from the same birth, and what the account had as the machine of views that stood it has so still.
   abbrev pub SeesOn : (bytes : ReqId → List ℕ) (chunk : ℕ) (old : History D) (a : Account) (new : History D) (b : Account) → Life x bytes chunk old → Life x bytes chunk new → Type 0
@@ -51,4 +51,4 @@ module _ {D : Type 0} (x : Setup D) where
     pub on : (chunk : ℕ) → SeesOn (bytes_in asked) chunk now a later b (first.lives.life chunk) (last.lives.life chunk)
 
   abbrev pub EachSeesOn : Type 0
-  EachSeesOn = (now later : History D) (a b : Account) (steps : List Step) → IsReached x now a → Runs x steps now a later b → SeesBoth now a later b
+  EachSeesOn = x.fails ≡ false → (now later : History D) (a b : Account) (steps : List Step) → IsReached x now a → Runs x steps now a later b → SeesBoth now a later b

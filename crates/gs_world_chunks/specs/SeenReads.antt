@@ -1,4 +1,5 @@
 -- What a member of a view gives that was told of a chunk, by what the chunk's machine shows at the look-up and at the read.
+use Rattle.gs_world_lift.specs.Left.{left_in}
 use Rattle.std.specs.Prelude.{ℕ, List, Result}
 use Rattle.gs_base.specs.declared.numbers.ReqId.{ReqId}
 use Rattle.gs_base.specs.declared.refusal.Refusal.{Refusal}
@@ -15,5 +16,5 @@ use Rattle.gs_world_chunks.specs.Reading.{GivesBytes, IsFetch, IsLegalRead, IsLo
 -- Of a chunk that is born where it is looked up, each read under what was told is legal, in whichever later world it is asked for.
 abbrev pub SeenReadsAreLegal : {D : Type 0} → Setup D → (ReqId → List ℕ) → Type 0
 SeenReadsAreLegal {D} x bytes = (looked now next : History D) (a b : Account) (event : Event) (said : Result (Unit {0}) Refusal) (chunk epoch : ℕ) (view : View) (req : ReqId) (asked : Asked) (given : Given)
-    → (first : IsSeen x bytes chunk looked a) (last : IsSeen x bytes chunk now b) → SeenOn x bytes chunk looked a now b first last → IsLookedUp a chunk view epoch
+    → (first : IsSeen x bytes chunk (left_in looked) a) (last : IsSeen x bytes chunk (left_in now) b) → SeenOn x bytes chunk (left_in looked) a (left_in now) b first last → IsLookedUp a chunk view epoch
     → (happens : Happens x.seen x.failures x.armed event now said next) → IsFetch now.sent event chunk view epoch req asked → GivesBytes (sent_at happens.outcome) req given → IsLegalRead x.config.block x.config.chunk a b chunk view asked given

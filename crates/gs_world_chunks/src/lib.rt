@@ -7,8 +7,9 @@ ghost use Rattle.std.specs.Prelude.{List, ℕ, ◌≡◌, Bool, [], true};
 ghost use Rattle.gs_base.specs.declared.config.Config.{Config};
 ghost use Rattle.gs_base.specs.declared.numbers.ReqId.{ReqId};
 ghost use Rattle.gs_world_chunks.specs.Running.{Setup, BlocksAmong, FirstIsOne, HaveAccounts, NextIsOne, ReachedStaySound};
+ghost use Rattle.gs_world_chunks.specs.SeenThrough.{EachIsSeenThrough, EachSeesOnThrough, ReachedStayThrough};
 ghost use Rattle.gs_world_chunks.specs.Agreeing.{BirthsAgree, BlanksStay, ListsStayOn, MastersAgree, MastersKeepLists, ServersAgree, ServersKeepLists, StillAgree, StillKeepsLists};
-ghost use Rattle.gs_world_chunks.specs.Reached.{EachIsARun, EachLeadsOn};
+ghost use Rattle.gs_world_chunks.specs.Reached.{EachIsARun, EachIsARunThrough, EachLeadsOn, EachLeadsOnThrough};
 ghost use Rattle.gs_world_chunks.specs.Copying.{CopiesAreOfViews, CopiesInherit};
 ghost use Rattle.gs_world_chunks.specs.Acknowledged.{DoneStays, RepeatsAreAlike};
 ghost use Rattle.gs_world_chunks.specs.Asked.{EditsWereAsked};
@@ -18,31 +19,32 @@ ghost use Rattle.gs_world_chunks.specs.Sealing.{RolledBackStay, SurvivorsKeepThe
 ghost use Rattle.gs_world_chunks.specs.Standing.{QuietStaysStill, ReplicasStand};
 ghost use Rattle.gs_world_chunks.specs.Durables.{ToldIsHad};
 ghost use Rattle.gs_world_chunks.specs.Seeing.{EachIsSeen, EachSeesOn, StoresStayIntact};
-ghost use Rattle.gs_world_chunks.specs.Accepting.{CommitsAreDecided, MembersHaveNamed, NoneGoesBackUnnamed, OneSurvivorIsEnough, SurvivorsAreAccepted};
-ghost use Rattle.gs_world_chunks.specs.Back.{EachIsOfAPrepare, GivesBytesBack, GivesNamesBack, GivesNoOtherBack, GivesReplicasBack, GivesSettledBack, KeepsBytes, NoOtherText};
+ghost use Rattle.gs_world_chunks.specs.Accepting.{CommitsAreDecided, CommitsDoOneThing, MembersHaveNamed, NoneGoesBackUnnamed, OneSurvivorIsEnough, SurvivorsAreAccepted};
+ghost use Rattle.gs_world_chunks.specs.Back.{EachIsOfAPrepare, GivesBytesBack, GivesNamesBack, GivesNamesTold, GivesNoOtherBack, GivesReplicasBack, GivesSettledBack, KeepsBytes, NoOtherText, ToldBytesBack, ToldKeepsBytes, ToldNamesBack};
 ghost use Rattle.gs_block.specs.Written.{HasBlocks};
-ghost use Rattle.gs_world_chunks.specs.Scripts.{EachScriptIsReached};
+ghost use Rattle.gs_world_chunks.specs.Scripts.{AnyScriptIsReached, EachScriptIsReached};
 
 use gs_block::promises::configurations_have_sizes;
 use gs_server_laws::{a_message_edits_a_replica_by_what_it_says, an_event_calls_what_it_says};
 
-/// Each run of a store has an account: what its records tell, and beside that which edits its chunks have in each view, and which of them are settled. There
-/// is one alone.
+/// Each run of a store has an account: what its records tell, and beside that which edits its chunks have in each view, and which of them are settled. There is one alone. So it is whatever disks of the master
+/// fail, in its restarts or at its records, as often as they may: once one has failed the account goes by what the disks tell, which is one thing. A setup says whether disks may fail in its runs.
 pub fn runs_have_accounts<D>()
     ensures some { (x : Setup D) → HaveAccounts x }
     ensures first { (x : Setup D) → FirstIsOne x }
     ensures next { (x : Setup D) → NextIsOne x }
 {}
 
-/// Behind each run the master stands firm, or its disks wait and tell one; all that was sent keeps to its types; and the run is one in which no disk fails.
+/// Behind each run in which no disk may fail the master stands firm, or its disks wait and tell one; all that was sent keeps to its types; and in each step none fails.
 pub fn runs_stay_sound<D>()
     ensures { (x : Setup D) → ReachedStaySound x }
 {}
 
-/// What a script leaves is a store that is reached by such a run: over disks that said nothing, where in no step one failed. So what holds of each store that is reached holds of what a
-/// script leaves, where different blocks that its servers ever had have different digests.
+/// What a script leaves is a store that is reached by a run, over disks that said nothing: by one in which no disk may fail, where in no step one failed, and else by one in which they may. So what holds of each
+/// store that is reached holds of what a script leaves, where different blocks that its servers ever had have different digests.
 pub fn each_script_is_reached<D>()
-    ensures { EachScriptIsReached D }
+    ensures sound { EachScriptIsReached D }
+    ensures any { AnyScriptIsReached D }
 {}
 
 /// Where the empty block is among some, and each block of a text up to its end, so is whatever is cut out at any place of a block.
@@ -52,10 +54,13 @@ pub fn blocks_that_stand_are_all_blocks()
 
 /// Each chunk of a store is a run of its machine: behind each run of a store that has begun new, in which no disk of the master fails and all that is asked is within its types, each chunk
 /// is not born yet, or a world of its machine, which is reached from its birth, shows the store as it is then: what each server keeps of it, the master's part, and all that was ever said.
-/// Copies among them. Different blocks of the run are to have different digests. From one world of a run to a later one the machine of each chunk leads on, from the same birth.
+/// Copies among them. Different blocks of the run are to have different digests. From one world of a run to a later one the machine of each chunk leads on, from the same birth. So it is where disks of the master
+/// fail, of the store as it is left: once one has failed, what the disks tell is all that is left of the master.
 pub fn each_chunk_of_a_store_is_a_run_of_its_machine<D>()
     ensures reached { (x : Setup D) → EachIsARun x }
     ensures onward { (x : Setup D) → EachLeadsOn x }
+    ensures left { (x : Setup D) → EachIsARunThrough x }
+    ensures left_onward { (x : Setup D) → EachLeadsOnThrough x }
 {
     configurations_have_sizes();
     a_message_edits_a_replica_by_what_it_says();
@@ -113,9 +118,21 @@ pub fn all_chunks_are_seen<D>()
     a_message_edits_a_replica_by_what_it_says();
 }
 
+/// So it is whatever disks of the master fail, as often as they may. Behind each run the master stands, or its disks tell what one may stand on that is started again. Once a disk has failed
+/// what they tell is all that is left of the master, and the account goes by that: then too each chunk is not born yet, or a machine of it shows the store; the account agrees with the machines, and
+/// who survives by it is intact in them; and in a later world of the run each chunk that lived leads on. So behind a failure what stood before it stands, with so many records of the event at which it failed.
+pub fn all_chunks_are_seen_whatever_disks_fail<D>()
+    ensures stays { (x : Setup D) → ReachedStayThrough x }
+    ensures reached { (x : Setup D) → EachIsSeenThrough x }
+    ensures onward { (x : Setup D) → EachSeesOnThrough x }
+{
+    configurations_have_sizes();
+    a_message_edits_a_replica_by_what_it_says();
+}
+
 /// Behind each run of a store, each live replica stands for a beginning of a list: it has applied that many edits of one view's list, from the first on, has as many bytes as they leave, and each of its blocks
-/// that has its digest holds theirs. The list is the chunk's own, or, until a view of a copy is settled, that of which it is a copy. Here and below a run is one that has begun new, in which no disk of the
-/// master fails, all that is asked is within its types, and different blocks have different digests.
+/// that has its digest holds theirs. The list is the chunk's own, or, until a view of a copy is settled, that of which it is a copy. Here and below a run is one that has begun new, all that is asked in it
+/// is within its types, and different blocks have different digests; whatever disks of the master fail in it, but where it is said that none may.
 pub fn replicas_stand_for_beginnings_of_lists<D>()
     ensures { (x : Setup D) → ReplicasStand x }
 {
@@ -179,7 +196,8 @@ pub fn survivors_keep_what_stood_at_the_prepare<D>()
 }
 
 /// Each view of a chunk that a client was ever told was looked up in some world of the run in which the call that is answered had been sent: the records told then that a file has the chunk, or had it, that this is its
-/// settled view, and that this is the epoch; and nothing was rolled back. It needn't be where the client was first told: an answer that is kept may be sent later, when another view has been settled.
+/// settled view, and that this is the epoch; and nothing was rolled back. It needn't be where the client was first told: an answer that is kept may be sent later, when another view has been settled. This is over runs in
+/// which no disk of the master may fail.
 pub fn locations_were_looked_up<D>()
     ensures { (x : Setup D) → LocationsWereLookedUp x }
 {
@@ -199,9 +217,12 @@ pub fn copies_inherit<D>()
 }
 
 /// An accepted rollback gives back the names of the last accepted prepare: the tree with the handles of its files, and how often each stands there; whatever has happened between, at whichever nodes. No more is
-/// asked of a run than that no disk of the master fails in it, and all that is asked is within its types.
+/// asked of a run than that all that is asked is within its types; disks of the master may fail as they like. Where one fails at the record of a commit, the rollback is done if that record stands: it is told
+/// where the master is started again.
 pub fn an_accepted_rollback_gives_the_names_back<D>()
-    ensures { (x : Setup D) → GivesNamesBack x }
+    ensures kept { (x : Setup D) → GivesNamesBack x }
+    ensures told { (x : Setup D) → ToldNamesBack x }
+    ensures accounts { (x : Setup D) → GivesNamesTold x }
 {}
 
 /// No rollback is done unless each chunk that stood in a file at the prepare was named, since the master was restarted last, by a server that had it by its view of then or was recorded as a holder since.
@@ -212,9 +233,11 @@ pub fn no_rollback_is_done_unnamed<D>()
 {}
 
 /// A client's new call to commit a rollback is accepted only where each chunk that stood in a file at the prepare was named, and the rollback is done then. Else it is refused for the lowest such chunk that
-/// wasn't named, or for want of room in the journal or of memory; and the rollback goes on as it was, with nothing else durable than the refusal of this request, where that is kept.
+/// wasn't named, or for want of room in the journal or of memory; and the rollback goes on as it was, with nothing else durable than the refusal of this request, where that is kept. So it is whatever disks have failed before, if none
+/// has since the master was opened and none fails at the call. And whichever fail, even then: what is told stays, or the refusal is kept beside it, or the rollback is done, and all was named.
 pub fn a_commit_is_decided_by_what_was_named<D>()
-    ensures { (x : Setup D) → CommitsAreDecided x }
+    ensures decided { (x : Setup D) → CommitsAreDecided x }
+    ensures whatever_fails { (x : Setup D) → CommitsDoOneThing x }
 {
     configurations_have_sizes();
     a_message_edits_a_replica_by_what_it_says();
@@ -222,7 +245,7 @@ pub fn a_commit_is_decided_by_what_was_named<D>()
 
 /// While a rollback goes on one survivor that has answered is enough for a chunk: what a survivor of the chunk has told that it has learned of the rollback, in a message that the master took, names the chunk, whenever
 /// it was sent, if the master wasn't restarted since it took that. So where each chunk that stood in a file at the prepare has such a survivor, all were named, as a commit asks for; and a client's new
-/// call to commit is accepted, but for want of room in the journal or of memory.
+/// call to commit is accepted, but for want of room in the journal or of memory, and where a disk of the master has failed since it was opened or fails at the call.
 pub fn one_survivor_is_enough<D>()
     ensures named { (x : Setup D) → OneSurvivorIsEnough x }
     ensures accepted { (x : Setup D) → SurvivorsAreAccepted x }
@@ -252,10 +275,15 @@ pub fn a_rollback_gives_back_what_was_settled<D>()
 /// An accepted rollback gives back what stood at the last accepted prepare, by what the nodes have alone: the names are those of the prepare; and where digests tell blocks apart, of each chunk what a sound replica of a member had right behind
 /// the prepare is what each sound replica of a member has behind the rollback; whatever has happened between. And each member has it, live, whose server would have named the chunk on the way, and of which nothing
 /// was lost or damaged since.
+/// So it is in each run, whatever disks of the master fail. It is said of what a sound master keeps; and of what is told: by it, or, once a disk has failed, by its disks. So a commit at whose record a disk failed has
+/// given back all that if the record stands, also before the master is started again, which then opens what was told.
 pub fn a_rollback_gives_back_names_and_bytes<D>()
     ensures names { (x : Setup D) → GivesNamesBack x }
     ensures bytes { (x : Setup D) → GivesBytesBack x }
     ensures kept { (x : Setup D) → KeepsBytes x }
+    ensures told_names { (x : Setup D) → ToldNamesBack x }
+    ensures told_bytes { (x : Setup D) → ToldBytesBack x }
+    ensures told_kept { (x : Setup D) → ToldKeepsBytes x }
 {
     configurations_have_sizes();
     a_message_edits_a_replica_by_what_it_says();

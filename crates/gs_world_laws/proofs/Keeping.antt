@@ -497,7 +497,7 @@ module _ {D : Type 0} (seen : D → List ℕ) (failures : D → ℕ) where
     happens_within moment (happenings.Damage id handle block) old small keeps = (tt, tt)
     happens_within moment (happenings.FailDisk disk call) old small keeps = (tt, tt)
 
-    step_within : (step : Step) (old : History D) → IsStepWithin step → KeepsTypes old → StepWithin step old
+    pub step_within : (step : Step) (old : History D) → IsStepWithin step → KeepsTypes old → StepWithin step old
     step_within (Comes event) old within keeps = happens_within event.moment event.happening old within.0 keeps
     step_within (Takes client) old within keeps = tt
 

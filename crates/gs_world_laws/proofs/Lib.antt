@@ -6,6 +6,7 @@ pub mod Failing
 pub mod Keeping
 pub mod Lines
 pub mod MasterSays
+pub mod Parts
 pub mod PlainAnswers
 pub mod PlainEnduring
 pub mod PlainEvents
@@ -23,6 +24,7 @@ pub mod Refusing
 pub mod Sending
 pub mod ServersSay
 pub mod Steady
+pub mod Through
 pub mod Ways
 pub mod When
 pub mod Words

@@ -67,7 +67,7 @@ within_limit size bound many least room is same = omega arith
 abbrev Bounded : State → Turn → Type 0
 Bounded s t = t.after.log.limit ≡ s.log.limit
 
-steps_bounded : (s : State) (moment : Moment) → Bounded s (pressed_all s moment)
+pub steps_bounded : (s : State) (moment : Moment) → Bounded s (pressed_all s moment)
 steps_bounded s moment =
     let press = for_each s (proposals s) (pressed moment) in
     let each = each_adds true (proposals s) (pressed moment) (λ proposal next. (pressed_roomy true moment proposal next).adds) s in
@@ -96,17 +96,17 @@ start_tells = record {
   within = omega arith;
 }
 
-both : (a b : Bool) → (a && b) ≡ true → (a ≡ true) × (b ≡ true)
+pub both : (a b : Bool) → (a && b) ≡ true → (a ≡ true) × (b ≡ true)
 both true true is = (refl, refl)
 both true false is = absurd (false≢true is)
 both false b is = absurd (false≢true is)
 
-nothing : {A : Type 0} (o : Option A) → is_none o ≡ true → o ≡ None
+pub nothing : {A : Type 0} (o : Option A) → is_none o ≡ true → o ≡ None
 nothing None is = refl
 nothing (Some x) is = absurd (false≢true is)
 
 -- where no disk failed before, a tick writes one where it is due
-sound_writes : (failed due_now : Bool) → failed ≡ false → (not failed && due_now) ≡ due_now
+pub sound_writes : (failed due_now : Bool) → failed ≡ false → (not failed && due_now) ≡ due_now
 sound_writes true due_now sound = absurd (false≢true (sym sound))
 sound_writes false due_now sound = refl
 
@@ -115,7 +115,7 @@ never : (n m : ℕ) → n < m → m ≡ n → ⊥
 never n m more same = omega arith
 
 -- what tells a steady master tells a firm one
-tells_one : (text : Text) → TellsSteady text → TellsAMaster text
+pub tells_one : (text : Text) → TellsSteady text → TellsAMaster text
 tells_one text h =
     let firm = (h.steady no_log (omega arith) (omega arith)).firm in record { durable = h.durable; kept = firm.stands.kept; counters = firm.stands.counters; told = h.told }
 
@@ -132,7 +132,7 @@ module _ {D : Type 0} (seen : D → List ℕ) (failures : D → ℕ) where
   lasts Away h = h
 
   -- what is opened is what the disks tell
-  opened : (config : Config) (first second : D) (turn : Told) (m : MasterOf D) → TellsSteady (standing (seen first) (seen second)) →
+  pub opened : (config : Config) (first second : D) (turn : Told) (m : MasterOf D) → TellsSteady (standing (seen first) (seen second)) →
       IsOpened seen failures config first second (standing (seen first) (seen second)) limit m turn.sent.items → turn.said ≡ None → StandsSteady seen m
   unfolding tells_one
   opened config first second turn m h is said = by_firm (opens_told seen failures config first second h.durable turn (Standing m) known.kept known.counters h.told (m, refl, is, said))
@@ -160,7 +160,7 @@ module _ {D : Type 0} (seen : D → List ℕ) (failures : D → ℕ) where
             bound = ap (λ (s : State). s.log.limit) state ∙ is.limit;
           }
 
-  left_standing : (m : MasterOf D) → StandsSteady seen m → TellsSteady (standing (seen m.journal.first) (seen m.journal.second))
+  pub left_standing : (m : MasterOf D) → StandsSteady seen m → TellsSteady (standing (seen m.journal.first) (seen m.journal.second))
   left_standing m h = subst TellsSteady (sym h.firm.as_seen.text) (record {
     durable = m.state.durable;
     told = h.firm.told;
@@ -169,7 +169,7 @@ module _ {D : Type 0} (seen : D → List ℕ) (failures : D → ℕ) where
   })
 
   -- a turn that is done
-  goes_on : (t : Turn) (old : MasterOf D) (told : Told) (new : MasterOf D) → StandsSteady seen old → StandsFirm seen new → IsSteady t.after → Bounded old.state t → IsAnswered seen failures t old told new → StandsSteady seen new
+  pub goes_on : (t : Turn) (old : MasterOf D) (told : Told) (new : MasterOf D) → StandsSteady seen old → StandsFirm seen new → IsSteady t.after → Bounded old.state t → IsAnswered seen failures t old told new → StandsSteady seen new
   goes_on t old told new h firm steady bounded is = record {
     firm = firm;
     steady = subst IsSteady (sym is.done.after) steady;
@@ -177,7 +177,7 @@ module _ {D : Type 0} (seen : D → List ℕ) (failures : D → ℕ) where
   }
 
   -- steps with a checkpoint behind them
-  goes_on_anew : (steps : Turn) (old : MasterOf D) (told : Told) (new : MasterOf D) → StandsSteady seen old → StandsFirm seen new → IsSteady (and_checkpoint steps).after → Bounded old.state steps →
+  pub goes_on_anew : (steps : Turn) (old : MasterOf D) (told : Told) (new : MasterOf D) → StandsSteady seen old → StandsFirm seen new → IsSteady (and_checkpoint steps).after → Bounded old.state steps →
       IsAnsweredAnew seen failures (and_checkpoint steps) steps old told new → StandsSteady seen new
   goes_on_anew steps old told new h firm steady bounded is = record {
     firm = firm;

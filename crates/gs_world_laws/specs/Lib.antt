@@ -6,4 +6,5 @@ pub mod Reached
 pub mod Refusing
 pub mod Saying
 pub mod Steady
+pub mod Through
 pub mod Within

@@ -1,7 +1,7 @@
 //! The theorems over every run of the whole store.
 #![tactic(auto)]
 
-ghost use Rattle.std.specs.Prelude.{◌≡◌, ◌≤◌, ◌<◌, ◌+◌, ◌^◌, ℕ, Err, List, Option, Some, slice_get};
+ghost use Rattle.std.specs.Prelude.{◌≡◌, ◌≤◌, ◌<◌, ◌+◌, ◌^◌, ℕ, Err, List, Ok, Option, Some, false, slice_get};
 ghost use Rattle.std.specs.List.{AllByRecursion};
 ghost use Rattle.gs_base.specs.Told.{IsNumber};
 ghost use Rattle.gs_base.specs.declared.config.Config.{Config};
@@ -31,18 +31,22 @@ ghost use Rattle.gs_msg.specs.declared.event.Request.{Request as Req};
 ghost use Rattle.gs_msg.specs.declared.message.Message.{Message};
 ghost use Rattle.gs_msg.specs.declared.node.NodeId.TheVariants as nodes;
 ghost use Rattle.gs_world.specs.Histories.{Begins, History, arms, failures_of, seen_of};
-ghost use Rattle.gs_world.specs.Lasting.{Lasts, StandsFirm, failures_at};
-ghost use Rattle.gs_world.specs.Runs.{RunsTo, Step};
+ghost use Rattle.gs_world.specs.Lasting.{Lasts, OpensAs, StandsFirm, WaitsAs, failures_at};
+ghost use Rattle.gs_world.specs.Runs.{Goes, RunsTo, Step};
 ghost use Rattle.gs_world.specs.Sent.{IsSent, Sent};
+ghost use Rattle.gs_master.specs.declared.turn.Turn.{Turn};
+ghost use Rattle.gs_master_spec.specs.Durable.{Durable};
 ghost use Rattle.gs_master_spec.specs.Handling.{handle};
+ghost use Rattle.gs_master_spec.specs.State.{is_failed};
 ghost use Rattle.gs_world_laws.specs.Asking.{AllAsked, MayBeAsked};
 ghost use Rattle.gs_world_laws.specs.Enduring.{RunsForMemory};
 ghost use Rattle.gs_world_laws.specs.Reached.{Covers, IsReachedDesk, LeadsBySteps, history, unarmed};
 ghost use Rattle.gs_world_laws.specs.Refusing.{RefusesAlone};
 ghost use Rattle.gs_world_laws.specs.Saying.{IsStepWithin, KeepsTypes, MayBeSaid, RunsQuietly};
 ghost use Rattle.gs_world_laws.specs.Steady.{LastsSteady, RunsSteadily};
+ghost use Rattle.gs_world_laws.specs.Through.{LastsThrough, TellsAt, TellsOn, TurnsAt};
 ghost use Rattle.gs_world_laws.specs.Within.{IsReachedWithin};
-ghost use Rattle.gs_nodes.specs.Happenings.{MasterHears, MasterTicks};
+ghost use Rattle.gs_nodes.specs.Happenings.{MasterHears, MasterTicks, Reopens};
 ghost use Rattle.gs_nodes.specs.declared.place.MasterPlace.{MasterPlace};
 ghost use Rattle.gs_nodes.specs.declared.place.MasterPlace.TheVariants.{Standing};
 
@@ -136,4 +140,21 @@ pub fn each_script_asks_within_its_types<D>()
 pub fn a_script_whose_disks_have_not_failed_ends_steady<D>()
     ensures quiet { (seen : D → List ℕ) (failures : D → ℕ) (steps : List Step) (old new : History D) → RunsTo seen failures unarmed steps old new → failures_at failures new.nodes.master ≡ failures_at failures old.nodes.master → RunsQuietly seen failures unarmed steps old new }
     ensures ended { (seen : D → List ℕ) (failures : D → ℕ) (config : Config) (disks : D × D) (desk : Desk D) → IsReachedWithin seen failures config disks desk → standing (seen disks.0) (seen disks.1) ≡ fresh → failures_at failures desk.wire.nodes.master ≡ failures disks.0 + failures disks.1 → LastsSteady seen desk.wire.nodes.master }
+{}
+
+/// A master lasts through failures of its disks, whatever happens: one fails at a record or at a checkpoint, in a restart, or a failure is arranged that
+/// comes later. Over disks that say nothing a store begins so. While no disk has failed since it was opened it stands steady; once one has, and where its disks
+/// wait, they tell something on which a restarted master is steady, whatever log it has. The disks tell one thing, and that is what is durable where no
+/// disk has failed. At a step it stays, or a master of which no disk had failed makes a turn of which so many records stand behind it, perhaps all, and
+/// the others never were. So behind any run a restart opens what stood, or the disks wait, and tell what they told.
+pub fn a_master_lasts_through_failures<D>()
+    ensures begun { (seen : D → List ℕ) (failures : D → ℕ) (armed : DiskId → ℕ → MasterPlace D → MasterPlace D) (config : Config) (clients : ℕ) (disks : D × D) (new : History D) → standing (seen disks.0) (seen disks.1) ≡ fresh → Begins seen failures armed config clients disks new → LastsThrough seen new.nodes.master }
+    ensures kept { (seen : D → List ℕ) (failures : D → ℕ) (steps : List Step) (old new : History (Failing D)) → RunsTo (seen_of seen) (failures_of failures) arms steps old new → AllByRecursion IsStepWithin steps → KeepsTypes old → LastsThrough (seen_of seen) old.nodes.master → LastsThrough (seen_of seen) new.nodes.master }
+    ensures unarmed { (seen : D → List ℕ) (failures : D → ℕ) (armed : DiskId → ℕ → MasterPlace D → MasterPlace D) (steps : List Step) (old new : History D) → ((disk : DiskId) (call : ℕ) (place : MasterPlace D) → armed disk call place ≡ place) → RunsTo seen failures armed steps old new → AllByRecursion IsStepWithin steps → KeepsTypes old → LastsThrough seen old.nodes.master → LastsThrough seen new.nodes.master }
+    ensures told { (seen : D → List ℕ) (place : MasterPlace D) → LastsThrough seen place → (d : Durable) × TellsAt seen place d }
+    ensures once { (seen : D → List ℕ) (place : MasterPlace D) (d e : Durable) → TellsAt seen place d → TellsAt seen place e → d ≡ e }
+    ensures sound { (seen : D → List ℕ) (m : MasterOf D) → is_failed m.state.fault ≡ false → LastsThrough seen (Standing m) → TellsAt seen (Standing m) m.state.durable }
+    ensures step { (seen : D → List ℕ) (failures : D → ℕ) (step : Step) (old new : History (Failing D)) (d : Durable) → Goes (seen_of seen) (failures_of failures) arms step old new → IsStepWithin step → KeepsTypes old → LastsThrough (seen_of seen) old.nodes.master → TellsAt (seen_of seen) old.nodes.master d → (e : Durable) × TellsAt (seen_of seen) new.nodes.master e × TellsOn (TurnsAt step old) old.nodes.master d e }
+    ensures opens { (seen : D → List ℕ) (failures : D → ℕ) (config : Config) (place : MasterPlace D) (d : Durable) (turn : Turn) (new : MasterPlace D) → LastsThrough seen place → TellsAt seen place d → Reopens seen failures config place (Ok turn) new → OpensAs seen d new }
+    ensures waits { (seen : D → List ℕ) (failures : D → ℕ) (config : Config) (place : MasterPlace D) (d : Durable) (e : Refusal) (new : MasterPlace D) → LastsThrough seen place → TellsAt seen place d → Reopens seen failures config place (Err e) new → WaitsAs seen d new }
 {}

@@ -157,7 +157,7 @@ master_quiet : (body : Body) → IsOfMaster body → NoYes body
 master_quiet (bodies.Done req result) of = absurd of
 master_quiet body of = tt
 
-of_master_quiet : (messages : List Message) → AreOfMaster messages → NoYeses messages
+pub of_master_quiet : (messages : List Message) → AreOfMaster messages → NoYeses messages
 of_master_quiet [] of = tt
 of_master_quiet (m ∷ messages) of = (master_quiet m.body of.0, of_master_quiet messages of.1)
 
@@ -165,7 +165,7 @@ client_quiet : (body : Body) → IsOfClient body → NoYes body
 client_quiet (bodies.Done req result) of = absurd of
 client_quiet body of = tt
 
-of_client_quiet : (messages : List Message) → AreOfClient messages → NoYeses messages
+pub of_client_quiet : (messages : List Message) → AreOfClient messages → NoYeses messages
 of_client_quiet [] of = tt
 of_client_quiet (m ∷ messages) of = (client_quiet m.body of.0, of_client_quiet messages of.1)
 
@@ -230,16 +230,8 @@ heard_passed asked chunk old new stays c w Calm req outcome heard passes = absur
 
 -- ---- a step
 
-module _ {D : Type 0} (seen : D → List ℕ) (failures : D → ℕ) (armed : DiskId → ℕ → MasterPlace D → MasterPlace D) (config : Config) (bytes : ReqId → List ℕ) (step : Step) (old new : History D) (kind : Kind seen failures armed step old new)
-    (asked : ℕ → Asked) (before : LivesOf seen config bytes old) (behind : LivesOf seen config bytes new) (each : (chunk : ℕ) → GoesOn seen config bytes chunk step (heard_in seen failures armed kind) old new (before chunk) (behind chunk)) where
-  stays : StaySent old.sent new.sent
-  stays = by_kind kind
-    where
-      by_kind : Kind seen failures armed step old new → StaySent old.sent new.sent
-      by_kind (OfServer id s after messages moment found goes met servers master posted) = posts_stay moment (nodes.Server id) messages old.sent new.sent posted
-      by_kind (OfMaster place messages moment goes servers master posted) = posts_stay moment nodes.Master messages old.sent new.sent posted
-      by_kind (going.Elsewhere by messages moment are servers master posted) = posts_stay moment by messages old.sent new.sent posted
-
+module _ {D : Type 0} (seen : D → List ℕ) (config : Config) (bytes : ReqId → List ℕ) (step : Step) (hears : Option ℕ) (old new : History D) (stays : StaySent old.sent new.sent)
+    (asked : ℕ → Asked) (before : LivesOf seen config bytes old) (behind : LivesOf seen config bytes new) (each : (chunk : ℕ) → GoesOn seen config bytes chunk step hears old new (before chunk) (behind chunk)) where
   abbrev IsDone : Message → Type 0
   IsDone m = HasDoneBody seen config bytes asked new behind m.body
 
@@ -247,7 +239,7 @@ module _ {D : Type 0} (seen : D → List ℕ) (failures : D → ℕ) (armed : Di
   done_on : (chunk : ℕ) (req : ReqId) (outcome : EditOutcome) → HasDone seen config bytes asked chunk old (before chunk) req outcome → HasDone seen config bytes asked chunk new (behind chunk) req outcome
   done_on chunk req outcome has = by_lives (before chunk) (behind chunk) (each chunk) has
     where
-      by_lives : (l : Life seen config bytes chunk old) (m : Life seen config bytes chunk new) → GoesOn seen config bytes chunk step (heard_in seen failures armed kind) old new l m → HasDone seen config bytes asked chunk old l req outcome → HasDone seen config bytes asked chunk new m req outcome
+      by_lives : (l : Life seen config bytes chunk old) (m : Life seen config bytes chunk new) → GoesOn seen config bytes chunk step hears old new l m → HasDone seen config bytes asked chunk old l req outcome → HasDone seen config bytes asked chunk new m req outcome
       by_lives (inl unborn) life goes has = absurd has
       by_lives (inr a) (inl unborn) goes has = absurd goes
       by_lives (inr a) (inr b) goes (me, is) = (
@@ -278,7 +270,7 @@ module _ {D : Type 0} (seen : D → List ℕ) (failures : D → ℕ) (armed : Di
     first : AllSent IsDone old.sent
     first = sent_then (λ (m : Message). HasDoneBody seen config bytes asked old before m.body) IsDone old.sent old_done answered
 
-    nothing_new : (by : NodeId) (messages : List Message) (moment : Moment) → Posts moment by messages old.sent new.sent → NoYeses messages → AllSent IsDone new.sent
+    pub nothing_new : (by : NodeId) (messages : List Message) (moment : Moment) → Posts moment by messages old.sent new.sent → NoYeses messages → AllSent IsDone new.sent
     nothing_new by messages moment posted none = posted_all IsDone moment by messages old.sent new.sent posted first (quiet_done messages none)
 
     -- the machine of the chunk that a server hears about has done what it tells
@@ -307,14 +299,14 @@ module _ {D : Type 0} (seen : D → List ℕ) (failures : D → ℕ) (armed : Di
       heard_done (Elsewhere still servers master by said moment are sent) about = absurd (cc)
 
     -- whatever a server hears about
-    server_done : (id : ℕ) (s after : Server) (messages : List Message) (moment : Moment) (goes : ServerGoes old.sent id s after messages) → slice_get old.nodes.servers id ≡ Some s → Posts moment (nodes.Server id) messages old.sent new.sent
-        → heard_in seen failures armed kind ≡ about_of goes → AllSent IsDone new.sent
+    pub server_done : (id : ℕ) (s after : Server) (messages : List Message) (moment : Moment) (goes : ServerGoes old.sent id s after messages) → slice_get old.nodes.servers id ≡ Some s → Posts moment (nodes.Server id) messages old.sent new.sent
+        → hears ≡ about_of goes → AllSent IsDone new.sent
     server_done id s after messages moment goes found posted same = by_about (about_of goes) refl
       where
         none_new : NoYeses messages → AllSent IsDone new.sent
         none_new none = nothing_new (nodes.Server id) messages moment posted none
 
-        by_lives : (chunk : ℕ) → about_of goes ≡ Some chunk → (l : Life seen config bytes chunk old) (m : Life seen config bytes chunk new) → behind chunk ≡ m → GoesOn seen config bytes chunk step (heard_in seen failures armed kind) old new l m → AllSent IsDone new.sent
+        by_lives : (chunk : ℕ) → about_of goes ≡ Some chunk → (l : Life seen config bytes chunk old) (m : Life seen config bytes chunk new) → behind chunk ≡ m → GoesOn seen config bytes chunk step hears old new l m → AllSent IsDone new.sent
         by_lives chunk about (inl unborn) life now goes_so = none_new (goes_nothing old.sent id s after messages goes chunk about (unborn.servers id s found).0)
         by_lives chunk about (inr a) (inl unborn) now goes_so = absurd goes_so
         by_lives chunk about (inr a) (inr b) now goes_so = heard_done chunk a b now goes_so.same goes_so.by (goes_so.heard ∙ same ∙ about)
@@ -325,12 +317,12 @@ module _ {D : Type 0} (seen : D → List ℕ) (failures : D → ℕ) (armed : Di
 
 pub answers_go_on : {D : Type 0} (seen : D → List ℕ) (failures : D → ℕ) (armed : DiskId → ℕ → MasterPlace D → MasterPlace D) (config : Config) (bytes : ReqId → List ℕ) (asked : ℕ → Asked) → AnswersGoOn seen failures armed config bytes asked
 answers_go_on seen failures armed config bytes asked step old new (OfServer id s after messages moment found goes met servers master posted) one waits lasts quiet before behind each answered =
-    server_done seen failures armed config bytes step old new (OfServer id s after messages moment found goes met servers master posted) asked before behind each one waits answered id s after messages moment goes found posted refl
+    server_done seen config bytes step (about_of goes) old new (posts_stay moment (nodes.Server id) messages old.sent new.sent posted) asked before behind each one waits answered id s after messages moment goes found posted refl
 answers_go_on seen failures armed config bytes asked step old new (OfMaster place messages moment goes servers master posted) one waits lasts quiet before behind each answered =
-    nothing_new seen failures armed config bytes step old new (OfMaster place messages moment goes servers master posted) asked before behind each one waits answered nodes.Master messages moment posted
+    nothing_new seen config bytes step None old new (posts_stay moment nodes.Master messages old.sent new.sent posted) asked before behind each one waits answered nodes.Master messages moment posted
     (of_master_quiet messages (does_say seen armed old.sent old.nodes.master place messages (masters_do seen failures armed old.nodes.config old.sent old.nodes.master place messages lasts (sym (ap (failures_at failures) master) ∙ quiet) goes)))
 answers_go_on seen failures armed config bytes asked step old new (going.Elsewhere by messages moment are servers master posted) one waits lasts quiet before behind each answered =
-    nothing_new seen failures armed config bytes step old new (going.Elsewhere by messages moment are servers master posted) asked before behind each one waits answered by messages moment posted (of_client_quiet messages are)
+    nothing_new seen config bytes step None old new (posts_stay moment by messages old.sent new.sent posted) asked before behind each one waits answered by messages moment posted (of_client_quiet messages are)
 
 pub answers_begin : {D : Type 0} (seen : D → List ℕ) (failures : D → ℕ) (armed : DiskId → ℕ → MasterPlace D → MasterPlace D) (config : Config) (bytes : ReqId → List ℕ) (asked : ℕ → Asked) → AnswersBegin seen failures armed config bytes asked
 answers_begin seen failures armed config bytes asked clients disks begun none begins = (

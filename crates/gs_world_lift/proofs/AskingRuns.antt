@@ -81,7 +81,7 @@ set_client clients id j n after k found is = by_number (id == 0) (j == 0) refl r
 
 -- ---- what was asked stays
 
-none_more : (asked : ℕ → Asked) → StayAsked asked asked
+pub none_more : (asked : ℕ → Asked) → StayAsked asked asked
 none_more asked id = ([], sym (append-nil (asked id)))
 
 one_more : (asked : ℕ → Asked) (id number : ℕ) (request : Request) → StayAsked asked (with_asked asked id number request)
@@ -91,7 +91,7 @@ one_more asked id number request j = by_case (nat_eq j id)
     by_case true = ((number, request) ∷ [], refl)
     by_case false = none_more asked j
 
-stay_then : (old mid new : ℕ → Asked) → StayAsked old mid → StayAsked mid new → StayAsked old new
+pub stay_then : (old mid new : ℕ → Asked) → StayAsked old mid → StayAsked mid new → StayAsked old new
 stay_then old mid new first rest id =
     let a = first id in
     let b = rest id in
@@ -156,7 +156,7 @@ module _ {D : Type 0} (old new : History D) (asked : ℕ → Asked) (are : AreAs
   clients_so : AreAsked (client_at old.nodes.clients) asked []
   clients_so = record { have = are.have; once = are.once; are = tt }
 
-  asks_more : ClientsGo old new → AskMore asked new
+  pub asks_more : ClientsGo old new → AskMore asked new
   asks_more (Asks id number request n after messages moment found is clients posted) =
       let all = with_asked asked id.0 number request in
       let now = clients_ask (client_at old.nodes.clients) asked [] clients_so id.0 number request n after messages found is in record {

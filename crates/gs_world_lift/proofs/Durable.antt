@@ -36,7 +36,7 @@ entries_same (x ∷ xs) (y ∷ ys) p q same =
     let rest = entries_same xs ys p.1 q.1 parts.1 in λ i. first i ∷ rest i
 
 -- a text tells one
-told_once : (text : Text) (d e : Durable) → IsToldIn text d → IsToldIn text e → d ≡ e
+pub told_once : (text : Text) (d e : Durable) → IsToldIn text d → IsToldIn text e → d ≡ e
 told_once text d e t u =
     let same = entries_same t.entries u.entries t.are_entries u.are_entries (ap (λ (x : Text). x.1) (sym t.records ∙ u.records)) in
     some_is d e (sym t.replays ∙ ap (replayed start) same ∙ u.replays)

@@ -33,3 +33,8 @@ pub mod Answered
 pub mod Marking
 pub mod Telling
 pub mod Passing
+pub mod CutRows
+pub mod DoingAll
+pub mod Turns
+pub mod SteppingAll
+pub mod TellingAll

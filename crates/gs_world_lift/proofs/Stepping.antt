@@ -45,7 +45,7 @@ use Rattle.gs_world_lift.proofs.Living.{AllNext, Next, all_next, elsewhere_next,
 use Rattle.gs_world_lift.proofs.Placing.{kind_of}
 use Rattle.gs_world_lift.proofs.Posting.{posted_all}
 
-abbrev IsReply : Body → Type 0
+abbrev pub IsReply : Body → Type 0
 IsReply (bodies.Reply req result) = Unit {0}
 IsReply body = ⊥
 
@@ -132,7 +132,7 @@ module _ {D : Type 0} (seen : D → List ℕ) (config : Config) (bytes : ReqId �
           heard = quiet;
         })
 
-    still_next : AllNext seen config bytes among step about old new lives
+    pub still_next : AllNext seen config bytes among step about old new lives
     still_next =
         let each : (chunk : ℕ) → Next seen config bytes among step about old new lives chunk (lives.life chunk) = λ chunk. stays chunk (lives.life chunk) (lives.texts chunk) in
         all_next seen config bytes among step about old new lives each ids.Master moment messages posted
@@ -141,7 +141,7 @@ module _ {D : Type 0} (seen : D → List ℕ) (config : Config) (bytes : ReqId �
   -- ---- whatever the master does
 
   module _ (armed : DiskId → ℕ → MasterPlace D → MasterPlace D) (arming : ShowsArmed seen armed) (lasting : LastsArmed seen armed) (unknown : UnknownArmed seen armed) (empty : HasBlocks config.block among (replica_of config.chunk []).bytes) (right : AllSent (PushRight bytes) new.sent) where
-    master_next : MasterDoes seen armed old.sent old.nodes.master new.nodes.master messages → AllNext seen config bytes among step about old new lives
+    pub master_next : MasterDoes seen armed old.sent old.nodes.master new.nodes.master messages → AllNext seen config bytes among step about old new lives
     master_next (Moves m after heard t at master was turn state sends) =
         chain_next seen config bytes among step about old new lives quiet empty right moment messages servers posted m.state (subst (λ place. HasDurable seen place m.state.durable) (sym at) refl)
         (λ chunk. begun_standing seen config bytes among step about old new lives m at chunk (lives.life chunk)) m.config heard t turn was after master lasts state sends

@@ -126,7 +126,7 @@ module _ {D : Type 0} (seen : D → List ℕ) (config : Config) (bytes : ReqId �
             let shown = durable_shown seen o.chunk w old.nodes.master comes.before comes.had o.alive.shows.master in
             subst (IsPast comes.before) (sym (agrees w (reached_world w o.alive.reached)).top) shown.past
 
-    numbered_on : (chunk : ℕ) (l : Life seen config bytes chunk old) (m : Life seen config bytes chunk new) → before chunk ≡ l → GoesOn seen config bytes chunk step about old new l m → BornFrom seen config bytes chunk old new before l m
+    pub numbered_on : (chunk : ℕ) (l : Life seen config bytes chunk old) (m : Life seen config bytes chunk new) → before chunk ≡ l → GoesOn seen config bytes chunk step about old new l m → BornFrom seen config bytes chunk old new before l m
         → NumberedIn seen config bytes asked chunk old before l → NumberedIn seen config bytes asked chunk new behind m
     numbered_on chunk l (inl unborn) is goes_so from numbered = tt
     numbered_on chunk (inl unborn) (inr b) is goes_so from numbered = born_numbered chunk b (λ living. subst (IsLiving seen config bytes chunk old) is living) goes_so from
@@ -152,7 +152,7 @@ module _ {D : Type 0} (seen : D → List ℕ) (config : Config) (bytes : ReqId �
       origin_own edits (inl none) = subst (IsOwnList Own) (sym none) (λ place edit at. absurd (nothing_at place edit at))
       origin_own edits (inr o) = subst (IsOwnList Own) (sym o.begins) (beginnings_own Own o.many (o.alive.world.known.list o.stamp) (all o.chunk o.alive o.is o.stamp))
 
-    own_on : ((other : ℕ) → OwnIn seen config bytes asked other old (before other)) → (chunk : ℕ) (l : Life seen config bytes chunk old) (m : Life seen config bytes chunk new) → GoesOn seen config bytes chunk step about old new l m
+    pub own_on : ((other : ℕ) → OwnIn seen config bytes asked other old (before other)) → (chunk : ℕ) (l : Life seen config bytes chunk old) (m : Life seen config bytes chunk new) → GoesOn seen config bytes chunk step about old new l m
         → BornFrom seen config bytes chunk old new before l m → OwnIn seen config bytes asked chunk old l → OwnIn seen config bytes asked chunk new m
     own_on all chunk l (inl unborn) goes from own = tt
     own_on all chunk (inl unborn) (inr b) comes from own =
@@ -160,7 +160,7 @@ module _ {D : Type 0} (seen : D → List ℕ) (config : Config) (bytes : ReqId �
         (origin_own (IsAskedEdit bytes asked config.chunk) (λ other a is. subst (OwnIn seen config bytes asked other old) is (all other)) b.reached.0.origin from)
     own_on all chunk (inr a) (inr b) goes from own = owning_goes_on seen config bytes asked a.reached.0.epoch chunk step old new a.world b.world one goes.by own
 
-    asked_on : ((other : ℕ) → AskedIn seen config bytes other old (before other)) → (chunk : ℕ) (l : Life seen config bytes chunk old) (m : Life seen config bytes chunk new) → GoesOn seen config bytes chunk step about old new l m
+    pub asked_on : ((other : ℕ) → AskedIn seen config bytes other old (before other)) → (chunk : ℕ) (l : Life seen config bytes chunk old) (m : Life seen config bytes chunk new) → GoesOn seen config bytes chunk step about old new l m
         → BornFrom seen config bytes chunk old new before l m → AskedIn seen config bytes chunk old l → AskedIn seen config bytes chunk new m
     asked_on all chunk l (inl unborn) goes from own = tt
     asked_on all chunk (inl unborn) (inr b) comes from own =

@@ -17,3 +17,6 @@ pub mod Answers
 pub mod Marking
 pub mod Telling
 pub mod Passing
+pub mod Left
+pub mod LeftRunning
+pub mod LeftTelling

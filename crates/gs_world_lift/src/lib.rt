@@ -32,6 +32,9 @@ ghost use Rattle.gs_world_lift.specs.Owning.{AskingGoesOn, NewbornsAsked, Newbor
 ghost use Rattle.gs_world_lift.specs.Doing.{MastersDo};
 ghost use Rattle.gs_world_lift.specs.Running.{EachLives, LastsArmed, StoresBegin, StoresGoOn, StoresRun, UnknownArmed};
 ghost use Rattle.gs_world_lift.specs.Marking.{WholeMembersAreMarked};
+ghost use Rattle.gs_world_lift.specs.Left.{MastersDoAll};
+ghost use Rattle.gs_world_lift.specs.LeftRunning.{ArmsLeft, EachLivesAll, StoresGoAll, StoresRunAll};
+ghost use Rattle.gs_world_lift.specs.LeftTelling.{AreAskedOverAll, AskOnAll, StoresTellFirstAll, StoresTellOnAll, StoresTellRunAll};
 ghost use Rattle.gs_world_lift.specs.Living.{ShowsArmed};
 
 use gs_block::promises::configurations_have_sizes;
@@ -140,6 +143,34 @@ pub fn what_clients_are_told_goes_along_with_the_machines<D>()
     ensures runs { (seen : D → List ℕ) (failures : D → ℕ) (armed : DiskId → ℕ → MasterPlace D → MasterPlace D) (config : Config) (bytes : ReqId → List ℕ) (among : List ℕ → Bool) (asked : ℕ → Asked) → StoresTellRun seen failures armed config bytes among asked }
     ensures first { (seen : D → List ℕ) (config : Config) (bytes : ReqId → List ℕ) (among : List ℕ → Bool) (asked : ℕ → Asked) → TellsFirst seen config bytes asked among }
     ensures passed { (seen : D → List ℕ) (config : Config) (bytes : ReqId → List ℕ) (asked : ℕ → Asked) → PassedHasNone seen config bytes asked }
+{
+    configurations_have_sizes();
+}
+
+/// All chunks of a store go on with their machines over each step, whatever disk of the master fails at it, and so over each run. Once one has failed, what the disks
+/// tell is all that is left of the master, as where they wait for it: so the machine of each chunk shows it. Where one fails at a turn, so many of its records stand,
+/// perhaps all, and nobody is told anything but the caller; the machine leads on by events of the master's part to where what they lead to is shown, or the chunk is
+/// born by them. A master of which a disk has failed changes nothing of what is left, and answers calls alone; and a restart leads from there as from any disks. What is
+/// left of the master is to last: its disks tell what a master may stand on.
+pub fn all_chunks_live_whatever_disks_fail<D>()
+    ensures does { (seen : D → List ℕ) (failures : D → ℕ) (armed : DiskId → ℕ → MasterPlace D → MasterPlace D) → MastersDoAll seen failures armed }
+    ensures step { (seen : D → List ℕ) (failures : D → ℕ) (armed : DiskId → ℕ → MasterPlace D → MasterPlace D) (config : Config) (bytes : ReqId → List ℕ) (among : List ℕ → Bool) → StoresGoAll seen failures armed config bytes among }
+    ensures reached { (seen : D → List ℕ) (failures : D → ℕ) (armed : DiskId → ℕ → MasterPlace D → MasterPlace D) (config : Config) (bytes : ReqId → List ℕ) (among : List ℕ → Bool) → EachLivesAll seen failures armed config bytes among }
+    ensures onward { (seen : D → List ℕ) (failures : D → ℕ) (armed : DiskId → ℕ → MasterPlace D → MasterPlace D) (config : Config) (bytes : ReqId → List ℕ) (among : List ℕ → Bool) → StoresRunAll seen failures armed config bytes among }
+    ensures arms { (seen : D → List ℕ) → ArmsLeft (seen_of seen) arms }
+{
+    configurations_have_sizes();
+}
+
+/// What clients have asked and were told goes along with the machines of a store's chunks over each step and each run, whatever disks of the master fail: a master of
+/// which a disk fails tells callers alone, and asks for no edit. So behind any run all that was ever sent for a request is of its one edit, and what a client was told
+/// done is done in the machine of a chunk, also where disks have failed since.
+pub fn what_clients_are_told_goes_along_whatever_disks_fail<D>()
+    ensures asks { (seen : D → List ℕ) (failures : D → ℕ) (armed : DiskId → ℕ → MasterPlace D → MasterPlace D) → AskOnAll seen failures armed }
+    ensures over { (seen : D → List ℕ) (failures : D → ℕ) (armed : DiskId → ℕ → MasterPlace D → MasterPlace D) → AreAskedOverAll seen failures armed }
+    ensures begins { (seen : D → List ℕ) (failures : D → ℕ) (armed : DiskId → ℕ → MasterPlace D → MasterPlace D) (config : Config) (bytes : ReqId → List ℕ) (among : List ℕ → Bool) (asked : ℕ → Asked) → StoresTellFirstAll seen failures armed config bytes among asked }
+    ensures step { (seen : D → List ℕ) (failures : D → ℕ) (armed : DiskId → ℕ → MasterPlace D → MasterPlace D) (config : Config) (bytes : ReqId → List ℕ) (among : List ℕ → Bool) (asked : ℕ → Asked) → StoresTellOnAll seen failures armed config bytes among asked }
+    ensures runs { (seen : D → List ℕ) (failures : D → ℕ) (armed : DiskId → ℕ → MasterPlace D → MasterPlace D) (config : Config) (bytes : ReqId → List ℕ) (among : List ℕ → Bool) (asked : ℕ → Asked) → StoresTellRunAll seen failures armed config bytes among asked }
 {
     configurations_have_sizes();
 }

@@ -1,5 +1,13 @@
 use Rattle.gs_world_chunks.proofs.Leading.{gives_names_back}
+use Rattle.gs_world_chunks.proofs.Telling.{gives_names_told}
+use Rattle.gs_world_chunks.proofs.ToldBack.{told_names_back}
 use Rattle.gs_world_chunks.proofs.an_accepted_rollback_gives_the_names_back.Goals as goal
 
-pub returns : goal.returns
-returns g c = gives_names_back
+pub returns-clause-kept : goal.returns-clause-kept
+returns-clause-kept g c x = gives_names_back x
+
+pub returns-clause-told : goal.returns-clause-told
+returns-clause-told g c x = told_names_back x
+
+pub returns-clause-accounts : goal.returns-clause-accounts
+returns-clause-accounts g c x = gives_names_told x

@@ -1,5 +1,5 @@
 use Rattle.gs_world_chunks.proofs.Once.{first_is_one, next_is_one}
-use Rattle.gs_world_chunks.proofs.Told.{have_accounts}
+use Rattle.gs_world_chunks.proofs.Through.{have_accounts}
 use Rattle.gs_world_chunks.proofs.runs_have_accounts.Goals as goal
 
 pub returns-clause-some : goal.returns-clause-some
