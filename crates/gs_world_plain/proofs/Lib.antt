@@ -1,0 +1,16 @@
+mod Stepping
+mod Ending
+mod Beginning
+mod Runs
+mod Machine
+mod Writing
+mod Counted
+mod Unleased
+mod Onward
+mod Shapes
+mod Undone
+mod Shared
+mod Committed
+mod Stepped
+mod Unlisted
+mod Fresh
