@@ -95,7 +95,7 @@ same_kind : (text : ℕ → List ℕ) (e : Entry ℕ) → is_dir (Some (mapped_e
 same_kind text Dir = refl
 same_kind text (File chunks) = refl
 
-same_names : (text : ℕ → List ℕ) (p : Path) (rows : Rows ℕ) → flat_map named (plain.children (mapped_rows text rows) p) ≡ names_of_rows (store.children rows p)
+pub same_names : (text : ℕ → List ℕ) (p : Path) (rows : Rows ℕ) → flat_map named (plain.children (mapped_rows text rows) p) ≡ names_of_rows (store.children rows p)
 same_names text p [] = refl
 same_names text p (row ∷ rows) = each (same_names text p rows) (is_listed p row)
   where
@@ -106,7 +106,7 @@ same_names text p (row ∷ rows) = each (same_names text p rows) (is_listed p ro
         ∙ ap (λ names. name_of_row row ++ names) rest
     each rest false = rest
 
-same_visible : (text : ℕ → List ℕ) (p : Path) (rows : Rows ℕ) → has_visible (mapped_rows text rows) p ≡ has_visible_child rows p
+pub same_visible : (text : ℕ → List ℕ) (p : Path) (rows : Rows ℕ) → has_visible (mapped_rows text rows) p ≡ has_visible_child rows p
 same_visible text p [] = refl
 same_visible text p (row ∷ rows) = ap (λ b. is_listed p row || b) (same_visible text p rows)
 
@@ -118,7 +118,7 @@ list_replies s req p text (Some (File chunks)) = record { result = _; sent = ref
 
 -- ---- a deletion
 
-none_mapped : (text : ℕ → List ℕ) (v : Option (Entry ℕ)) → is_none (mapped_at text v) ≡ is_none v
+pub none_mapped : (text : ℕ → List ℕ) (v : Option (Entry ℕ)) → is_none (mapped_at text v) ≡ is_none v
 none_mapped text None = refl
 none_mapped text (Some e) = refl
 

@@ -7,4 +7,4 @@ pub mod Places
 pub mod Placed
 pub mod Steps
 mod Raised
-mod Answering
+pub mod Answering
