@@ -40,7 +40,7 @@ module _ (sizes : HaveSizes) (law : AreNumbered) {D : Type 0} (x : Setup D) wher
   -- ---- since a prepare
 
   module _ (prepared now : History D) (before after : Account) (up : IsUpgrading x prepared before now after) (chunk : ℕ) (listed : is_listed before.durable chunk ≡ true) (kept : IsKept before.durable) where
-    bytes : ReqId → List ℕ
+    abbrev bytes : ReqId → List ℕ
     bytes = bytes_in (sees_there sizes law x prepared now before after up).asked
 
     since : SeenSince x bytes chunk prepared before now after

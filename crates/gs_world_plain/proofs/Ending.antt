@@ -1,6 +1,6 @@
 -- Steps within an epoch, and those at which an upgrade begins or ends.
 use Rattle.std.proofs.Common.{◌≡◌, ◌∙◌, ◌&&◌, ◌++◌, true, List, [], ◌∷◌, refl, ap, sym, ℕ}
-use Rattle.std.specs.Prelude.{◌==◌, Option, None, Some, option_and_then}
+use Rattle.std.specs.Prelude.{◌==◌, Option, Some, option_and_then}
 use Rattle.std.specs.FinMap as fin
 use Rattle.std.specs.List.{list_all}
 use Rattle.std.proofs.lemmas.Bool.{false≢true, and_parts}

@@ -1,17 +1,15 @@
 -- What is settled of a chunk that no file has yet.
-use Rattle.std.proofs.Common.{◌≡◌, ◌∙◌, ◌⊎◌, ◌<◌, ◌≤◌, ◌++◌, ⊎_elim, inl, inr, ℕ, zero, suc, Bool, true, false, List, [], ◌∷◌, length, take, drop, append-nil, refl, sym, ap, subst, arith}
+use Rattle.std.proofs.Common.{◌≡◌, ◌∙◌, ◌<◌, ◌≤◌, ◌++◌, inl, inr, ℕ, zero, suc, Bool, true, false, List, [], ◌∷◌, length, take, drop, append-nil, refl, sym, ap, subst, arith}
 use Rattle.std.specs.Prelude.{◌&&◌, is_some, not, if◌then◌else◌, Option, Some, None}
 use Rattle.std.specs.List.{AllByRecursion}
 use Rattle.std.proofs.lemmas.Bool.{false≢true, true≢false}
 use Rattle.std.specs.FinMap as fin
 use Rattle.std.specs.Ordering.{nat_cmp}
-use Rattle.gs_base.specs.Stamps.{is_same}
 use Rattle.gs_base.specs.declared.numbers.Stamp.{Stamp}
 use Rattle.gs_chunk.proofs.Lists.{nil_list}
 use Rattle.gs_chunk.proofs.Mastering.{masters_settle_once}
 use Rattle.gs_chunk.specs.Events.{Rests}
 use Rattle.gs_chunk.specs.Laws.{Birth, world_of}
-use Rattle.gs_chunk.specs.Machine.{ChunkWorld}
 use Rattle.gs_chunk.specs.Mastering.{SettlesOnce}
 use Rattle.gs_journal.specs.Records.{standing}
 use Rattle.gs_lease.specs.declared.view.View.{View}
@@ -30,8 +28,7 @@ use Rattle.gs_master_moves.specs.Guards.{Heard, IsMade}
 use Rattle.gs_master_moves.specs.Laws.{IsMadeWell}
 use Rattle.gs_master_moves.specs.Moves.{CommitsRollback, Finalizes, Move, Prepares, move_turn}
 use Rattle.gs_master_moves.specs.Shared.{HasNoTerm}
-use Rattle.gs_master_record.specs.Plain.{PlainEntry}
-use Rattle.gs_master_spec.specs.Applied.{applied, replayed, view_in}
+use Rattle.gs_master_spec.specs.Applied.{replayed, view_in}
 use Rattle.gs_master_spec.specs.Durable.{Durable, Settled, is_listed, is_ordinary, is_rolling, start}
 use Rattle.gs_master_spec.specs.State.{State, Turn}
 use Rattle.gs_master_upgrade.proofs.Records.{Goes, Paced, Turns as Bounds, chain_within, is_bound, paced, turn_fits}
@@ -52,9 +49,7 @@ use Rattle.gs_world_chunks.proofs.Once.{told_once}
 use Rattle.gs_world_chunks.proofs.Origins.{copied_same}
 use Rattle.gs_world_chunks.proofs.Runs.{blank_of, living_told, seen_of}
 use Rattle.gs_world_chunks.proofs.Told.{named, reached_sound}
-use Rattle.gs_world_chunks.specs.Accounts.{Account, edits_in, settled_count, settled_edits, settled_in, view_at}
-use Rattle.gs_world_chunks.specs.Agreeing.{IsBlank}
-use Rattle.gs_world_chunks.specs.Joined.{IsSeen}
+use Rattle.gs_world_chunks.specs.Accounts.{Account, settled_count, settled_edits, settled_in, view_at}
 use Rattle.gs_world_chunks.specs.Moving.{begun, continued, edit_under, edits_of, is_under, list_behind, numbered}
 use Rattle.gs_world_chunks.specs.Running.{IsArmed, IsGiven, IsNew, IsReached, Moves, Runs, Setup}
 use Rattle.gs_world_laws.proofs.Keeping.{begins_keeping}
@@ -67,8 +62,8 @@ use Rattle.gs_world_lift.specs.Living.{ComesAlive, GoesOn}
 use Rattle.gs_world_lift.specs.Showing.{IsAlive, Life}
 use Rattle.gs_world_lift.specs.Unborn.{IsUnborn}
 use Rattle.gs_world_plain.proofs.Beginning.{opens_as_start}
-use Rattle.gs_world_plain.proofs.Onward.{asked, begins_with, bytes, drop_short, had, has, kept_before, kept_behind, next, no_more, none_new, sees, then}
-use Rattle.gs_world_plain.proofs.Shapes.{commit_is_back, finalize_ends, none_is_back, prepare_begins, same_phase_over}
+use Rattle.gs_world_plain.proofs.Onward.{asked, bytes, had, has, kept_before, kept_behind, next, no_more, none_new, sees, behind as sees_behind}
+use Rattle.gs_world_plain.proofs.Shapes.{finalize_ends, none_is_back, prepare_begins, same_phase_over}
 use Rattle.gs_world_plain.proofs.Unleased.{holds_over}
 use Rattle.gs_world_plain.proofs.Unlisted.{IsUnledUnlisted, chain_unled, commit_lists, turn_out}
 use Rattle.gs_world_plain.proofs.Writing.{Keeps, Turns, Writes, has_one, writes}
@@ -104,7 +99,7 @@ module _ {D : Type 0} (x : Setup D) (chunk : ℕ) where
       subst (IsUnledUnlisted chunk) (sym (ap (λ (s : State). s.durable) state) ∙ subst (λ p. HasDurable x.seen p e) to has) (unled_turn config _ _ t turn (k d had))
   unled_does given sent old new messages lasts (Waits d first second had kept counters to told sends) k e has =
       subst (IsUnledUnlisted chunk) (told_once (standing (x.seen first) (x.seen second)) d e told (subst (λ p. HasDurable x.seen p e) to has)) (k d had)
-  unled_does given sent old new messages lasts (Refuses caller same sends) k = subst IsUnledAt (sym same) k
+  unled_does given sent old new messages lasts (Refuses caller same sends) k d has = k d (subst (λ p. HasDurable x.seen p d) same has)
   unled_does given sent old new messages lasts (Arms disk call is sends) k d has = k d (armed_had old (x.armed disk call old) (given.armed disk call old) d (subst (λ p. HasDurable x.seen p d) is has))
 
   unled_first : (place : MasterPlace D) → OpensAs x.seen start place → IsUnledAt place
@@ -190,18 +185,18 @@ module _ (sizes : HaveSizes) (law : AreNumbered) {D : Type 0} (x : Setup D) (ste
   -- one of which a view is told behind it lives then
   module _ (later : View) (told_then : view_at b chunk ≡ Some later) (goes_on : rolls_back a.durable b.durable ≡ false) where
     living : (m : IsAlive x.seen x.config (bytes sizes law x step old new a b r moves) chunk new) × ((next sizes law x step old new a b r moves).goes.last.life chunk ≡ inr m)
-    living = living_told x (asked sizes law x step old new a b r moves) new b (then sizes law x step old new a b r moves) chunk (has_row (fin.get b.durable.chunks chunk) later told_then)
+    living = living_told x (asked sizes law x step old new a b r moves) new b (sees_behind sizes law x step old new a b r moves) chunk (has_row (fin.get b.durable.chunks chunk) later told_then)
 
     abbrev heard : Option ℕ
     heard = heard_in x.seen x.failures x.armed (next sizes law x step old new a b r moves).goes.kind
 
     -- with what it was born
-    origin : List Edit
+    abbrev origin : List Edit
     origin = (living.0.reached.0).origin
 
     origin_then : edits_of b (copied_from new.sent chunk) ≡ origin
     origin_then =
-        let seen = seen_of x (asked sizes law x step old new a b r moves) new b (then sizes law x step old new a b r moves) r.apart chunk living.0 living.1 in
+        let seen = seen_of x (asked sizes law x step old new a b r moves) new b (sees_behind sizes law x step old new a b r moves) r.apart chunk living.0 living.1 in
         copied_edits b (copied_from new.sent chunk) ∙ (seen.0.agrees).lists.origin ∙ ap (λ (z : IsAlive x.seen x.config (bytes sizes law x step old new a b r moves) chunk new). z.reached.0.origin) seen.1
 
     -- it isn't born at this step
@@ -279,16 +274,16 @@ module _ (sizes : HaveSizes) (law : AreNumbered) {D : Type 0} (x : Setup D) (ste
   commit_listed back some = by_writes written
     where
       by_move : (config : Config) (heard : Heard) (s : State) (move : Move) → is_bound move ≡ true → IsMade config heard s move → (move_turn config s move).after.durable ≡ b.durable → replayed a.durable (move_turn config s move).records ≡ Some b.durable → is_listed b.durable chunk ≡ true
-      by_move config heard s (Prepares req moment) bound made is replays = absurd (true≢false (sym back ∙ (prepare_begins a.durable b.durable _ _ _ (one_fits a.durable b.durable _ replays)).1))
-      by_move config heard s (Finalizes req) bound made is replays = absurd (true≢false (sym back ∙ finalize_ends a.durable b.durable _ (one_fits a.durable b.durable _ replays)))
-      by_move config heard s (CommitsRollback req names) bound made is replays =
-          ap (λ (d : Durable). is_listed d chunk) (sym is) ∙ commit_lists chunk config heard s req names made (ap (λ (d : Durable). is_some (fin.get d.chunks chunk)) is ∙ some)
-      by_move config heard s move bound made is replays = absurd (false≢true bound)
+      by_move config said s (Prepares req moment) bound made is replays = absurd (true≢false (sym back ∙ (prepare_begins a.durable b.durable _ _ _ (one_fits a.durable b.durable _ replays)).1))
+      by_move config said s (Finalizes req) bound made is replays = absurd (true≢false (sym back ∙ finalize_ends a.durable b.durable _ (one_fits a.durable b.durable _ replays)))
+      by_move config said s (CommitsRollback req names) bound made is replays =
+          ap (λ (d : Durable). is_listed d chunk) (sym is) ∙ commit_lists chunk config said s req names made (ap (λ (d : Durable). is_some (fin.get d.chunks chunk)) is ∙ some)
+      by_move config said s move bound made is replays = absurd (false≢true bound)
 
       by_pace : (config : Config) (heard : Heard) (s : State) (t : Turn) → Paced config heard s t → s.durable ≡ a.durable → t.after.durable ≡ b.durable → AllByRecursion (IsEntry Two) t.records → replayed a.durable t.records ≡ Some b.durable → is_listed b.durable chunk ≡ true
-      by_pace config heard s t (Goes u v chain) first last written replays =
-          absurd (true≢false (sym back ∙ none_is_back a.durable b.durable (same_phase_over a.durable b.durable v.records (kept_before sizes law x step old new a b r moves) written (subst (λ d. GoWithin d v.records) first (chain_within config heard u v chain written).0) replays)))
-      by_pace config heard s t (Bounds u move said made bound) first last written replays = by_move config heard u move bound made last replays
+      by_pace config said s t (Goes u v chain) first last fits replays =
+          absurd (true≢false (sym back ∙ none_is_back a.durable b.durable (same_phase_over a.durable b.durable v.records (kept_before sizes law x step old new a b r moves) fits (subst (λ d. GoWithin d v.records) first (chain_within config said u v chain fits).0) replays)))
+      by_pace config said s t (Bounds u move refused made bound) first last fits replays = by_move config said u move bound made last replays
 
       by_writes : Writes x.seen (records_at step old) old.nodes.master new.nodes.master → is_listed b.durable chunk ≡ true
       by_writes (Keeps f) =

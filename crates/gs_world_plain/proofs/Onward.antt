@@ -31,7 +31,7 @@ use Rattle.gs_world_chunks.proofs.Told.{reached_sound}
 use Rattle.gs_world_chunks.proofs.Viewing.{IsToldView, told_view}
 use Rattle.gs_world_chunks.specs.Accounts.{Account, settled_edits, settled_in, view_at}
 use Rattle.gs_world_chunks.specs.Joined.{IsSeen}
-use Rattle.gs_world_chunks.specs.Running.{IsGiven, IsReached, Moves, Runs, Setup}
+use Rattle.gs_world_chunks.specs.Running.{IsGiven, IsReached, Moves, Setup}
 use Rattle.gs_world_chunks.specs.Seeing.{Sees, SeesBoth}
 use Rattle.gs_world_lift.proofs.AskingRuns.{of_one_edit, pushes_right}
 use Rattle.gs_world_lift.specs.Doing.{HasDurable}
@@ -39,7 +39,7 @@ use Rattle.gs_world_lift.specs.Going.{AllSent, heard_in}
 use Rattle.gs_world_lift.specs.Joint.{AtMaster, AtServer, Elsewhere, GoesBy}
 use Rattle.gs_world_lift.specs.Living.{GoesOn, LivesOn}
 use Rattle.gs_world_lift.specs.Saying.{PushRight}
-use Rattle.gs_world_lift.specs.Showing.{IsAlive, Life}
+use Rattle.gs_world_lift.specs.Showing.{IsAlive}
 use Rattle.gs_world_plain.proofs.Machine.{grows_over, none_more, none_more_still}
 use Rattle.gs_world_plain.specs.Settling.{newly_settled}
 
@@ -74,7 +74,7 @@ module _ (sizes : HaveSizes) (law : AreNumbered) {D : Type 0} (x : Setup D) (ste
   abbrev pub bytes : ReqId → List ℕ
   bytes = bytes_in asked
 
-  given : IsGiven x
+  pub given : IsGiven x
   given = r.begins.given
 
   right : AllSent (PushRight bytes) new.sent
@@ -86,31 +86,31 @@ module _ (sizes : HaveSizes) (law : AreNumbered) {D : Type 0} (x : Setup D) (ste
   pub next : SeesNext x asked given law step old new a b sees.first
   next = sees_step x asked given law r.apart step old new a b sees.first (reached_sound x old a r).types moves right one_edit
 
-  pub then : Sees x asked new b
-  then = record { lives = next.goes.last; tells = next.tells; agrees = next.agrees; intact = next.intact }
+  abbrev pub behind : Sees x asked new b
+  behind = record { lives = next.goes.last; tells = next.tells; agrees = next.agrees; intact = next.intact }
 
   pub kept_before : IsKept a.durable
   kept_before = keeps_told x asked old a sees.first
 
   pub kept_behind : IsKept b.durable
-  kept_behind = keeps_told x asked new b then
+  kept_behind = keeps_told x asked new b behind
 
   pub had : HasDurable x.seen old.nodes.master a.durable
   had = has_told x asked old a sees.first
 
   pub has : HasDurable x.seen new.nodes.master b.durable
-  has = has_told x asked new b then
+  has = has_told x asked new b behind
 
   -- ---- a chunk of which a view is told before the step and behind it
 
   module _ (chunk : ℕ) (view later : View) (told : view_at a chunk ≡ Some view) (told_then : view_at b chunk ≡ Some later) where
-    living : (l : IsAlive x.seen x.config bytes chunk old) × (sees.first.lives.life chunk ≡ inr l)
+    pub living : (l : IsAlive x.seen x.config bytes chunk old) × (sees.first.lives.life chunk ≡ inr l)
     living = living_told x asked old a sees.first chunk (row_of (fin.get a.durable.chunks chunk) view told)
 
     abbrev l : IsAlive x.seen x.config bytes chunk old
     l = living.0
 
-    lived : (m : IsAlive x.seen x.config bytes chunk new) × (next.goes.last.life chunk ≡ inr m)
+    pub lived : (m : IsAlive x.seen x.config bytes chunk new) × (next.goes.last.life chunk ≡ inr m)
     lived = lives_on law x asked given step old new a b moves sees.first next chunk l living.1
 
     abbrev m : IsAlive x.seen x.config bytes chunk new
@@ -119,15 +119,15 @@ module _ (sizes : HaveSizes) (law : AreNumbered) {D : Type 0} (x : Setup D) (ste
     abbrev heard : Option ℕ
     heard = heard_in x.seen x.failures x.armed next.goes.kind
 
-    goes : LivesOn x.seen x.config bytes chunk step heard old new l m
+    pub goes : LivesOn x.seen x.config bytes chunk step heard old new l m
     goes = subst (λ life. GoesOn x.seen x.config bytes chunk step heard old new (inr l) life) lived.1
         (subst (λ life. GoesOn x.seen x.config bytes chunk step heard old new life (next.goes.last.life chunk)) living.1 (next.goes.goes chunk))
 
-    here : (seen : IsSeen x bytes chunk old a) × (seen.alive ≡ l)
+    pub here : (seen : IsSeen x bytes chunk old a) × (seen.alive ≡ l)
     here = seen_of x asked old a sees.first r.apart chunk l living.1
 
-    there : (seen : IsSeen x bytes chunk new b) × (seen.alive ≡ m)
-    there = seen_of x asked new b then r.apart chunk m lived.1
+    pub there : (seen : IsSeen x bytes chunk new b) × (seen.alive ≡ m)
+    there = seen_of x asked new b behind r.apart chunk m lived.1
 
     abbrev w : ChunkWorld
     w = here.0.alive.world
@@ -138,10 +138,10 @@ module _ (sizes : HaveSizes) (law : AreNumbered) {D : Type 0} (x : Setup D) (ste
     goes_so : LivesOn x.seen x.config bytes chunk step heard old new here.0.alive there.0.alive
     goes_so = subst (λ z. LivesOn x.seen x.config bytes chunk step heard old new z there.0.alive) (sym here.1) (subst (λ z. LivesOn x.seen x.config bytes chunk step heard old new l z) (sym there.1) goes)
 
-    ok : WorldOk w
+    pub ok : WorldOk w
     ok = reached_world w here.0.alive.reached
 
-    okv : WorldOk v
+    pub okv : WorldOk v
     okv = reached_world v there.0.alive.reached
 
     first : IsToldView a chunk w view
@@ -177,8 +177,8 @@ module _ (sizes : HaveSizes) (law : AreNumbered) {D : Type 0} (x : Setup D) (ste
     beyond goes_on (AtServer by) above = still (same_view by.master) above
     beyond goes_on (AtMaster by) above =
         let before : by.before ≡ a.durable = told_is_had x.seen old.nodes.master a.durable by.before sees.first.lives.lasts sees.first.agrees.told by.had in
-        let behind : by.behind ≡ b.durable = told_is_had x.seen new.nodes.master b.durable by.behind next.goes.last.lasts moves.told by.has in
-        false≢true (sym goes_on ∙ ap (λ (d : Durable). rolls_back d b.durable) (sym before) ∙ ap (rolls_back by.before) (sym behind) ∙ (by.rows.back above).0)
+        let later_on : by.behind ≡ b.durable = told_is_had x.seen new.nodes.master b.durable by.behind next.goes.last.lasts moves.told by.has in
+        false≢true (sym goes_on ∙ ap (λ (d : Durable). rolls_back d b.durable) (sym before) ∙ ap (rolls_back by.before) (sym later_on) ∙ (by.rows.back above).0)
     beyond goes_on (Elsewhere same servers master node messages moment are posted) above = still (ap (λ (z : ChunkWorld). z.known.view) same) above
 
     -- What was settled stands first in what is settled then.

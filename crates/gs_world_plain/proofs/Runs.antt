@@ -1,13 +1,11 @@
 -- Where each step is plain, so is each run.
-use Rattle.std.proofs.Common.{◌∙◌, ◌++◌, List, [], ◌∷◌, refl, ap, sym}
+use Rattle.std.proofs.Common.{◌∙◌, ◌++◌, [], ◌∷◌, refl, ap, sym}
 use Rattle.std.specs.Prelude.{Ok}
 use Rattle.gs_master_plain.proofs.Leading.{then_many}
-use Rattle.gs_world.specs.Histories.{History}
-use Rattle.gs_world.specs.Runs.{Step}
 use Rattle.gs_world_chunks.proofs.Holding.{reach_more}
 use Rattle.gs_world_chunks.specs.Accounts.{Account}
-use Rattle.gs_world_chunks.specs.Running.{IsReached, Moves, Runs, Setup}
-use Rattle.gs_world_plain.specs.Plainly.{IsPlainRun, RunsArePlain, StepsArePlain}
+use Rattle.gs_world_chunks.specs.Running.{Setup}
+use Rattle.gs_world_plain.specs.Plainly.{RunsArePlain, StepsArePlain}
 use Rattle.gs_world_plain.specs.Views.{plain_view}
 
 module _ {D : Type 0} (x : Setup D) where

@@ -11,7 +11,7 @@ use Rattle.gs_master_laws.specs.Promises.{IsKept, goes_on_within}
 use Rattle.gs_master_laws.specs.Reached.{GoWithin}
 use Rattle.gs_master_moves.specs.Epochs.{prepares, rolls_back}
 use Rattle.gs_master_plain.proofs.Records.{SamePhase, phase_whole, phase_within, stays_kept}
-use Rattle.gs_master_plain.specs.Records.{IsOwn, KeepTexts, KeepsTexts, Telling, texts_behind}
+use Rattle.gs_master_plain.specs.Records.{IsOwn, KeepTexts, KeepsTexts, Telling}
 use Rattle.gs_master_record.specs.Plain.{PlainEntry, Whole}
 use Rattle.gs_master_record.specs.Plain as entries
 use Rattle.gs_master_record.specs.Writable.{IsEntry}

@@ -1,28 +1,25 @@
 -- At a step edits are settled only of chunks that stand at one place, where no rollback is committed.
-use Rattle.std.proofs.Common.{◌≡◌, ◌∙◌, ◌&&◌, ◌≢◌, ℕ, Bool, true, false, List, [], refl, sym, ap, arith}
+use Rattle.std.proofs.Common.{◌≡◌, ◌∙◌, ℕ, Bool, true, false, List, [], refl, sym, ap, arith}
 use Rattle.std.specs.Prelude.{◌==◌, is_some, Option, Some, None}
-use Rattle.std.proofs.lemmas.Bool.{and_parts, false≢true}
+use Rattle.std.proofs.lemmas.Bool.{false≢true}
 use Rattle.std.proofs.lemmas.Bool.Decides.{nat_tests}
 use Rattle.std.specs.FinMap as fin
 use Rattle.gs_edit.proofs.Tables.{same_itself, same_path-is}
 use Rattle.gs_edit.specs.View.{NamesView}
-use Rattle.gs_lease.specs.declared.view.View.{View}
 use Rattle.gs_master_laws.specs.Promises.{AreKept}
 use Rattle.gs_master_moves.specs.Epochs.{rolls_back}
 use Rattle.gs_master_moves.specs.Shared.{HasNoTerm}
-use Rattle.gs_master_plain.specs.OnePlace.{standing_at}
 use Rattle.gs_master_plain.specs.Places.{AreAlone}
 use Rattle.gs_master_spec.specs.Applied.{view_in}
 use Rattle.gs_master_spec.specs.Calls.{is_shared}
 use Rattle.gs_master_spec.specs.Durable.{Settled}
-use Rattle.gs_path.specs.Path.{Path}
 use Rattle.gs_replica.specs.Stands.{Edit}
 use Rattle.gs_tree.specs.Edits.{same_path}
 use Rattle.gs_world.proofs.Reaching.{HaveSizes}
 use Rattle.gs_world.specs.Histories.{History}
 use Rattle.gs_world.specs.Runs.{Step}
 use Rattle.gs_world_chunks.proofs.Edits.{AreNumbered}
-use Rattle.gs_world_chunks.specs.Accounts.{Account, view_at}
+use Rattle.gs_world_chunks.specs.Accounts.{Account}
 use Rattle.gs_world_chunks.specs.Running.{IsReached, Moves, Setup}
 use Rattle.gs_world_plain.proofs.Counted.{is_listed_there, is_shared_there}
 use Rattle.gs_world_plain.proofs.Onward.{had, kept_before, none_new}

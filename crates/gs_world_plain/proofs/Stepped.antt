@@ -1,30 +1,26 @@
 -- Each step of a run is commands of the plain machine, where chunks that are put into files have their texts.
-use Rattle.std.proofs.Common.{◌≡◌, ◌∙◌, ◌+◌, ◌++◌, ℕ, Bool, true, false, List, [], ◌∷◌, take, refl, sym, ap, subst}
-use Rattle.std.specs.Prelude.{is_some, Option, Some, None, if◌then◌else◌}
+use Rattle.std.proofs.Common.{◌≡◌, ◌∙◌, ◌++◌, ℕ, Bool, true, false, List, [], ◌∷◌, take, refl, sym, ap, subst}
+use Rattle.std.specs.Prelude.{is_some, Option, Some, if◌then◌else◌}
 use Rattle.std.specs.FinMap as fin
 use Rattle.std.specs.List.{AllByRecursion}
 use Rattle.std.proofs.lemmas.Bool.{false≢true}
 use Rattle.gs_journal.specs.declared.version.Version.TheVariants.{Two}
-use Rattle.gs_lease.specs.declared.view.View.{View}
-use Rattle.gs_master_laws.specs.Promises.{IsKept, IsWritten}
+use Rattle.gs_master_laws.specs.Promises.{IsKept}
 use Rattle.gs_master_laws.specs.Reached.{GoWithin}
-use Rattle.gs_master_moves.specs.Epochs.{EndsOnce, prepares, rolls_back}
-use Rattle.gs_master_moves.specs.Guards.{Heard, IsMade}
+use Rattle.gs_master_moves.specs.Epochs.{prepares, rolls_back}
+use Rattle.gs_master_moves.specs.Guards.{Heard}
 use Rattle.gs_master_moves.specs.Moves.{CommitsRollback, Finalizes, Move, Prepares, move_turn}
 use Rattle.gs_master_plain.proofs.Placed.{stand_in}
 use Rattle.gs_master_plain.proofs.Places.{all_weaker}
 use Rattle.gs_master_plain.specs.OnePlace.{standing_at}
 use Rattle.gs_master_plain.specs.Places.{AreAlone, Place, places_in}
-use Rattle.gs_master_plain.specs.Records.{KeepsTexts}
 use Rattle.gs_master_record.specs.Plain.{Finalize, PlainEntry, Prepare, RollbackCommit}
 use Rattle.gs_master_record.specs.Writable.{IsEntry}
 use Rattle.gs_master_record.specs.declared.entry.Answered.{Answered}
 use Rattle.gs_master_spec.specs.Applied.{applied, replayed}
 use Rattle.gs_master_spec.specs.Durable.{Durable, is_listed}
 use Rattle.gs_master_spec.specs.State.{State, Turn}
-use Rattle.gs_master_spec.specs.Undoing.{all_undone}
 use Rattle.gs_master_upgrade.proofs.Records.{Goes, Paced, Turns as Bounds, chain_within, is_bound, paced, turn_fits}
-use Rattle.gs_nodes.specs.declared.place.MasterPlace.TheVariants.{Standing}
 use Rattle.gs_world.proofs.Reaching.{HaveSizes}
 use Rattle.gs_world.specs.Histories.{History}
 use Rattle.gs_world.specs.Runs.{Step}
@@ -132,9 +128,9 @@ module _ (sizes : HaveSizes) (law : AreNumbered) {D : Type 0} (x : Setup D) (add
   by_move many config s move bound is written replays = absurd (false≢true bound)
 
   by_pace : (many : ℕ) (config : _) (heard : Heard) (s : State) (t : Turn) → Paced config heard s t → s.durable ≡ a.durable → t.records ≡ take many (records_at step old) → AllByRecursion (IsEntry Two) t.records → replayed a.durable t.records ≡ Some b.durable → IsPlainStep size step old a b
-  by_pace many config heard s t (Goes u v chain) had is written replays =
-      within many (subst (AllByRecursion (IsEntry Two)) is written) (subst (GoWithin a.durable) is (subst (λ d. GoWithin d v.records) had (chain_within config heard u v chain written).0)) (ap (replayed a.durable) (sym is) ∙ replays)
-  by_pace many config heard s t (Bounds u move said made bound) had is written replays = by_move many config u move bound is written replays
+  by_pace many config heard s t (Goes u v chain) first is written replays =
+      within many (subst (AllByRecursion (IsEntry Two)) is written) (subst (GoWithin a.durable) is (subst (λ d. GoWithin d v.records) first (chain_within config heard u v chain written).0)) (ap (replayed a.durable) (sym is) ∙ replays)
+  by_pace many config heard s t (Bounds u move said made bound) first is written replays = by_move many config u move bound is written replays
 
   same_there : Writes x.seen (records_at step old) old.nodes.master new.nodes.master → IsPlainStep size step old a b
   same_there (Keeps f) =

@@ -1,5 +1,5 @@
 -- A step leads from plain view to plain view.
-use Rattle.std.proofs.Common.{◌≡◌, ◌∙◌, ◌++◌, map, refl, ap, sym, ℕ}
+use Rattle.std.proofs.Common.{◌≡◌, ◌∙◌, map, refl, ap, ℕ}
 use Rattle.std.specs.Prelude.{Ok, Option, None, Some}
 use Rattle.std.specs.FinMap as fin
 use Rattle.gs_master_plain.proofs.Placed.{same_rows}

@@ -1,5 +1,5 @@
 -- What was settled at a prepare is no longer than what is settled of a chunk that a file has still.
-use Rattle.std.proofs.Common.{◌≡◌, ◌∙◌, ◌+◌, ◌<◌, ◌≤◌, ◌⊎◌, inl, inr, ℕ, zero, suc, true, false, List, length, refl, sym, ap, subst, arith}
+use Rattle.std.proofs.Common.{◌≡◌, ◌∙◌, ◌+◌, ◌<◌, ◌≤◌, inl, inr, ℕ, zero, suc, true, false, List, length, refl, sym, ap, subst, arith}
 use Rattle.std.specs.Prelude.{Some, slice_get}
 use Rattle.std.proofs.lemmas.Bool.{cases_eq, cases_lt, false≢true}
 use Rattle.std.proofs.lemmas.Option.{slice_get_within}
@@ -11,9 +11,8 @@ use Rattle.gs_chunk.proofs.Lists.{there}
 use Rattle.gs_chunk.proofs.Stamps.{epoch_of-le}
 use Rattle.gs_chunk.proofs.Stays.{settled_stays}
 use Rattle.gs_chunk.proofs.Worlds.{WorldOk}
-use Rattle.gs_chunk.specs.Laws.{StandsStill, StaysKnown, WasUndone, settled}
+use Rattle.gs_chunk.specs.Laws.{StaysKnown, WasUndone, settled}
 use Rattle.gs_chunk.specs.Machine.{ChunkWorld}
-use Rattle.gs_chunk.specs.Stamps.{epoch_of, start_of}
 use Rattle.gs_lease.specs.declared.view.View.{View}
 use Rattle.gs_master_record.specs.declared.checkpoint.Phase.{Phase}
 use Rattle.gs_master_record.specs.declared.checkpoint.Phase.TheVariants.{Ordinary, Rolling, Upgrade}

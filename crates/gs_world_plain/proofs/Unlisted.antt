@@ -1,5 +1,5 @@
 -- A chunk that no file has is leased to nobody, through each move.
-use Rattle.std.proofs.Common.{◌≡◌, ◌∙◌, arith, ◌==◌, ◌&&◌, ℕ, Bool, true, false, not, cond, List, [], ◌∷◌, refl, ap, sym, subst}
+use Rattle.std.proofs.Common.{◌≡◌, ◌∙◌, arith, ◌==◌, ◌&&◌, ℕ, Bool, true, false, cond, List, [], ◌∷◌, refl, ap, sym, subst}
 use Rattle.std.specs.Prelude.{filter_map, is_some, nat_lt, option_map, Option, Some, None, Result, Ok, Err}
 use Rattle.std.specs.Cmp.{nat_cmp_total}
 use Rattle.std.specs.FinMap as fin
@@ -27,8 +27,7 @@ use Rattle.gs_master_moves.proofs.Right.{one_fits, settled_gives}
 use Rattle.gs_master_moves.proofs.Rows.{listed_stay, new_are_unled}
 use Rattle.gs_master_moves.specs.Epochs.{ByItself, Closes, EndsOnce, Within, closes, is_alone, is_followed}
 use Rattle.gs_master_moves.specs.Guards.{Heard, IsMade}
-use Rattle.gs_master_moves.specs.Laws.{IsMadeWell}
-use Rattle.gs_master_moves.specs.Moves.{BeginsRollback, Finalizes, Prepares, TellsRollback, Chain, FromNow, Further, Move, Moves, Rests, Then, Answers as AnswersCall, Begins, Checkpoints, CommitsRollback, Copies, Refuses, Scans, Settles, move_turn}
+use Rattle.gs_master_moves.specs.Moves.{BeginsRollback, Finalizes, Prepares, TellsRollback, Chain, Move, Moves, Rests, Then, Answers as AnswersCall, Begins, Checkpoints, CommitsRollback, Copies, Refuses, Scans, Settles, move_turn}
 use Rattle.gs_master_moves.specs.Shared.{HasNoTerm}
 use Rattle.gs_master_record.specs.Plain.{Edited, Finalize, Holder, PlainEdit, PlainEntry, Prepare, Propose, RollbackBegin, RollbackCommit, Said, Settle, Whole}
 use Rattle.gs_master_record.specs.declared.checkpoint.Phase.TheVariants.{Ordinary, Rolling, Upgrade}

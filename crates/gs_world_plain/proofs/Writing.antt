@@ -1,5 +1,5 @@
 -- What the master writes at a step, and what of it is durable then.
-use Rattle.std.proofs.Common.{◌≡◌, ◌∙◌, inl, inr, ◌⊎◌, ◌-◌, ◌+◌, ◌≤◌, ◌++◌, ℕ, zero, suc, Bool, true, false, List, [], ◌∷◌, length, take, Option, Some, None, MatchOption, Result, Ok, Err, refl, ap, subst, sym, slice_get, slice_set, arith}
+use Rattle.std.proofs.Common.{◌≡◌, ◌∙◌, inl, inr, ◌-◌, ◌+◌, ◌++◌, ℕ, Bool, true, false, List, [], ◌∷◌, length, take, Option, Some, None, MatchOption, Result, Ok, Err, refl, ap, subst, sym, slice_get, slice_set, arith}
 use Rattle.std.specs.Prelude.{◌&&◌, if◌then◌else◌, is_none}
 use Rattle.std.specs.List.{AllByRecursion}
 use Rattle.std.proofs.lemmas.Bool.{and_parts, false≢true}
@@ -16,7 +16,7 @@ use Rattle.gs_journal.specs.Journal.{failures_of_both}
 use Rattle.gs_journal.specs.Records.{standing}
 use Rattle.gs_journal.specs.declared.version.Version.TheVariants.{Two}
 use Rattle.gs_master.proofs.Renewed.{plain_tick, written_tick}
-use Rattle.gs_master.specs.Masters.{MasterAnswers, MasterOf, with_journal}
+use Rattle.gs_master.specs.Masters.{MasterAnswers, MasterOf}
 use Rattle.gs_master.specs.Ticking.{AnswersAs, is_written, lacking, pressed_all, writes_one}
 use Rattle.gs_master.specs.declared.turn.Turn.{Turn as Told}
 use Rattle.gs_master_laws.proofs.StandingRuns.{steps_fit}
@@ -30,10 +30,9 @@ use Rattle.gs_master_plan.specs.Renewable.{renewal_refusal}
 use Rattle.gs_master_record.specs.Plain.{PlainEntry, Whole}
 use Rattle.gs_master_record.specs.Writable.{IsEntry}
 use Rattle.gs_master_spec.specs.Durable.{Durable}
-use Rattle.gs_master_spec.specs.Handling.{due, handle, restarted, tick}
-use Rattle.gs_master_spec.specs.State.{Log, State, Turn, is_failed}
+use Rattle.gs_master_spec.specs.Handling.{due, handle, tick}
+use Rattle.gs_master_spec.specs.State.{State, Turn, is_failed}
 use Rattle.gs_master_spec.specs.Whole.{checkpoint_of}
-use Rattle.gs_msg.specs.declared.event.Event.{Event}
 use Rattle.gs_msg.specs.declared.event.Happening.{Happening}
 use Rattle.gs_msg.specs.declared.event.Happening.TheVariants as happenings
 use Rattle.gs_msg.specs.declared.message.Message.{Message}

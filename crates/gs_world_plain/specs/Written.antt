@@ -1,5 +1,5 @@
 -- The records that the master is to write at a step.
-use Rattle.std.specs.Prelude.{[], ◌≡◌, List, None, Option, Some, refl}
+use Rattle.std.specs.Prelude.{[], ◌≡◌, List, Option, Some, refl}
 use Rattle.gs_base.specs.declared.numbers.ClientId.{ClientId}
 use Rattle.gs_base.specs.declared.numbers.Moment.{Moment}
 use Rattle.gs_master_record.specs.Plain.{PlainEntry}

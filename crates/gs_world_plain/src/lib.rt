@@ -36,8 +36,8 @@ pub fn edits_come_to_one_place_each<D>()
 {
     configurations_have_sizes();
     a_message_edits_a_replica_by_what_it_says();
-    each_rollback_is_of_a_prepare();
-    a_rollback_gives_back_what_was_settled();
+    each_rollback_is_of_a_prepare::<D>();
+    a_rollback_gives_back_what_was_settled::<D>();
 }
 
 /// Of a chunk that no file has just those edits are settled of which it is a copy, and none where it is no copy, whatever has happened since it was made; and so it is at a step that puts it into
@@ -59,6 +59,6 @@ pub fn a_run_is_plain_where_added_chunks_have_their_texts<D>()
 {
     configurations_have_sizes();
     a_message_edits_a_replica_by_what_it_says();
-    each_rollback_is_of_a_prepare();
-    a_rollback_gives_back_what_was_settled();
+    each_rollback_is_of_a_prepare::<D>();
+    a_rollback_gives_back_what_was_settled::<D>();
 }
