@@ -28,7 +28,7 @@ use Rattle.gs_world_plain.proofs.Shared.{alone_where_shared_stay}
 use Rattle.gs_world_plain.proofs.Undone.{no_less_settled}
 use Rattle.gs_world_plain.specs.Settling.{newly_settled}
 
-view_of : (o : Option Settled) → is_some o ≡ true → (view : View) × (view_in o ≡ Some view)
+pub view_of : (o : Option Settled) → is_some o ≡ true → (view : View) × (view_in o ≡ Some view)
 view_of None some = absurd (false≢true some)
 view_of (Some y) some = (y.view, refl)
 

@@ -238,6 +238,10 @@ module _ (sizes : HaveSizes) (law : AreNumbered) {D : Type 0} (x : Setup D) (ste
             ∙ ap (λ (z : IsAlive x.seen x.config (bytes sizes law x step old new a b r moves) chunk old). z.reached.0.origin) seen.1 ∙ ap (λ (birth : Birth). birth.origin) (sym goes.same) in
             (ap (edits_of a) copied ∙ was, was)
 
+    -- it is a copy of what it was
+    pub same_made : edits_of b (copied_from new.sent chunk) ≡ edits_of a (copied_from old.sent chunk)
+    same_made = origin_then ∙ sym origin_before.1
+
     -- a first view begins with what is copied
     first_list : view_at a chunk ≡ None → length (settled_edits b chunk) ≤ length origin
     first_list none =

@@ -14,3 +14,4 @@ mod Committed
 mod Stepped
 mod Unlisted
 mod Fresh
+mod Bare

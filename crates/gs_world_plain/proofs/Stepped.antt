@@ -1,6 +1,6 @@
 -- Each step of a run is commands of the plain machine, where chunks that are put into files have their texts.
 use Rattle.std.proofs.Common.{◌≡◌, ◌∙◌, ◌++◌, ℕ, Bool, true, false, List, [], ◌∷◌, take, refl, sym, ap, subst}
-use Rattle.std.specs.Prelude.{is_some, Option, Some, if◌then◌else◌}
+use Rattle.std.specs.Prelude.{None, is_some, Option, Some, if◌then◌else◌}
 use Rattle.std.specs.FinMap as fin
 use Rattle.std.specs.List.{AllByRecursion}
 use Rattle.std.proofs.lemmas.Bool.{false≢true}
@@ -13,8 +13,9 @@ use Rattle.gs_master_moves.specs.Moves.{CommitsRollback, Finalizes, Move, Prepar
 use Rattle.gs_master_plain.proofs.Placed.{stand_in}
 use Rattle.gs_master_plain.proofs.Places.{all_weaker}
 use Rattle.gs_master_plain.specs.OnePlace.{standing_at}
+use Rattle.gs_master_plain.specs.Records.{KeepsTexts, Telling}
 use Rattle.gs_master_plain.specs.Places.{AreAlone, Place, places_in}
-use Rattle.gs_master_record.specs.Plain.{Finalize, PlainEntry, Prepare, RollbackCommit}
+use Rattle.gs_master_record.specs.Plain.{AddChunk, Cow, Edited, PlainEdit, Finalize, PlainEntry, Prepare, RollbackCommit}
 use Rattle.gs_master_record.specs.Writable.{IsEntry}
 use Rattle.gs_master_record.specs.declared.entry.Answered.{Answered}
 use Rattle.gs_master_spec.specs.Applied.{applied, replayed}
@@ -38,7 +39,18 @@ use Rattle.gs_world_plain.proofs.Onward.{grows, had, has, kept_before, kept_behi
 use Rattle.gs_world_plain.proofs.Shapes.{all_keep_texts, all_within, commit_is_back, finalize_ends, none_begins, none_is_back, prepare_begins, same_phase_over, then_replays}
 use Rattle.gs_world_plain.proofs.Shared.{alone_within}
 use Rattle.gs_world_plain.proofs.Writing.{Keeps, Turns, Writes, has_one, writes}
-use Rattle.gs_world_plain.specs.Plainly.{AddedHaveTexts, EditsOnePlace, IsPlainStep, StepsArePlain}
+use Rattle.gs_base.specs.declared.numbers.ReqId.{ReqId}
+use Rattle.gs_replica.specs.Stands.{replica_of}
+use Rattle.gs_master_copies.proofs.Added.{once_over}
+use Rattle.gs_master_copies.proofs.Bare.{adds_weaker}
+use Rattle.gs_master_copies.specs.Bare.{AddsBare}
+use Rattle.gs_master_moves.proofs.Stands.{once_stands}
+use Rattle.gs_world_chunks.specs.Moving.{edits_of}
+use Rattle.gs_world_lift.specs.Copying.{copied_from}
+use Rattle.gs_world_plain.proofs.Bare.{BareAt, NoCopy, bare_there}
+use Rattle.gs_world_plain.proofs.Committed.{view_of}
+use Rattle.gs_world_plain.proofs.Fresh.{added_as_made, same_made}
+use Rattle.gs_world_plain.specs.Plainly.{KeepsCopy, CopiesHaveTexts, EditsOnePlace, IsPlainStep, StepsArePlain}
 use Rattle.gs_world_plain.specs.Settling.{newly_settled}
 use Rattle.gs_world_plain.specs.Stepping.{AreCommandsOf, EndsBy, OfEachPlace, texts_between}
 use Rattle.gs_world_plain.specs.Written.{records_at}
@@ -55,7 +67,7 @@ durable_is h = cc
 one_applies : (d next : Durable) (entry : PlainEntry) → replayed d (entry ∷ []) ≡ Some next → applied d entry ≡ Some next
 one_applies d next entry is = let first = then_replays d next entry [] is in first.1 ∙ first.2
 
-module _ (sizes : HaveSizes) (law : AreNumbered) {D : Type 0} (x : Setup D) (added : AddedHaveTexts x) (of_prepare : EachIsOfAPrepare x) (settled_back : GivesSettledBack x) (no_other : GivesNoOtherBack x) (step : Step) (old new : History D) (a b : Account) (r : IsReached x old a) (moves : Moves x step old a new b) where
+module _ (sizes : HaveSizes) (law : AreNumbered) {D : Type 0} (x : Setup D) (copies : CopiesHaveTexts x) (of_prepare : EachIsOfAPrepare x) (settled_back : GivesSettledBack x) (no_other : GivesNoOtherBack x) (step : Step) (old new : History D) (a b : Account) (r : IsReached x old a) (moves : Moves x step old a new b) where
   abbrev size : ℕ
   size = x.config.chunk
 
@@ -73,8 +85,37 @@ module _ (sizes : HaveSizes) (law : AreNumbered) {D : Type 0} (x : Setup D) (add
 
   -- ---- within an epoch
 
-  within : (many : ℕ) → AllByRecursion (IsEntry Two) (take many (records_at step old)) → GoWithin a.durable (take many (records_at step old)) → replayed a.durable (take many (records_at step old)) ≡ Some b.durable → IsPlainStep size step old a b
-  within many written go replays =
+  -- a chunk that is put at the end of a file has no text
+  abbrev HasNoText : ℕ → Type 0
+  HasNoText chunk = text_of size (settled_edits a chunk ++ newly_settled a b chunk) ≡ []
+
+  no_edits_no_text : text_of size [] ≡ []
+  unfolding replica_of
+  no_edits_no_text = refl
+
+  added_text : rolls_back a.durable b.durable ≡ false → (chunk : ℕ) → copied_from old.sent chunk ≡ None → is_listed a.durable chunk ≡ false → is_listed b.durable chunk ≡ true → HasNoText chunk
+  added_text goes_on chunk none out listed =
+      let there = view_of (fin.get b.durable.chunks chunk) (last_kept.settled chunk listed) in
+      ap (text_of size) (added_as_made sizes law x old new a b step chunk r moves goes_on out listed ∙ same_made sizes law x step old new a b r moves chunk there.0 there.1 goes_on ∙ ap (edits_of a) none) ∙ no_edits_no_text
+
+  both_keep : (t : Telling) (records : List PlainEntry) → AllByRecursion (AddsBare (λ chunk. t.now chunk ≡ [])) records → AllByRecursion (KeepsCopy t) records → AllByRecursion (KeepsTexts t) records
+  both_keep t [] adds copy = tt
+  both_keep t (entry ∷ records) adds copy = (by_entry entry adds.0 copy.0, both_keep t records adds.1 copy.1)
+    where
+      by_edit : (by : ReqId) (edit : PlainEdit) → AddsBare (λ chunk. t.now chunk ≡ []) (Edited by edit) → KeepsCopy t (Edited by edit) → KeepsTexts t (Edited by edit)
+      by_edit by (AddChunk path chunk) adds copy = adds
+      by_edit by (Cow path index before after) adds copy = copy
+      by_edit by edit adds copy = tt
+
+      by_entry : (entry : PlainEntry) → AddsBare (λ chunk. t.now chunk ≡ []) entry → KeepsCopy t entry → KeepsTexts t entry
+      by_entry (Edited by edit) adds copy = by_edit by edit adds copy
+      by_entry entry adds copy = tt
+
+  abbrev AddNone : List PlainEntry → Type 0
+  AddNone records = rolls_back a.durable b.durable ≡ false → AllByRecursion (AddsBare HasNoText) records
+
+  within : (many : ℕ) → AddNone (take many (records_at step old)) → AllByRecursion (IsEntry Two) (take many (records_at step old)) → GoWithin a.durable (take many (records_at step old)) → replayed a.durable (take many (records_at step old)) ≡ Some b.durable → IsPlainStep size step old a b
+  within many adds written go replays =
       let records = take many (records_at step old) in
       let phase = same_phase_over a.durable b.durable records first_kept written go replays in
       let goes_on = none_is_back a.durable b.durable phase in
@@ -83,7 +124,7 @@ module _ (sizes : HaveSizes) (law : AreNumbered) {D : Type 0} (x : Setup D) (add
         within = all_within a.durable b.durable records go replays;
         alone = alone_within sizes law x step old new a b r moves goes_on;
         written = written;
-        keep = all_keep_texts (texts_between size a b) a.durable records go (added old new a b step many r moves replays);
+        keep = all_keep_texts (texts_between size a b) a.durable records go (both_keep (texts_between size a b) records (adds goes_on) (copies old new a b step many r moves replays));
         replays = replays;
         grows = of_places b last_kept (λ chunk. settled_edits a chunk ++ newly_settled a b chunk ≡ settled_edits b chunk) (λ chunk listed. grows sizes law x step old new a b r moves chunk listed goes_on);
         before = before_same (none_begins a.durable b.durable phase);
@@ -127,29 +168,34 @@ module _ (sizes : HaveSizes) (law : AreNumbered) {D : Type 0} (x : Setup D) (add
   by_move many config s (CommitsRollback req names) bound is written replays = by_one many _ is replays (rolled_back _ _ written.0)
   by_move many config s move bound is written replays = absurd (false≢true bound)
 
-  by_pace : (many : ℕ) (config : _) (heard : Heard) (s : State) (t : Turn) → Paced config heard s t → s.durable ≡ a.durable → t.records ≡ take many (records_at step old) → AllByRecursion (IsEntry Two) t.records → replayed a.durable t.records ≡ Some b.durable → IsPlainStep size step old a b
-  by_pace many config heard s t (Goes u v chain) first is written replays =
-      within many (subst (AllByRecursion (IsEntry Two)) is written) (subst (GoWithin a.durable) is (subst (λ d. GoWithin d v.records) first (chain_within config heard u v chain written).0)) (ap (replayed a.durable) (sym is) ∙ replays)
-  by_pace many config heard s t (Bounds u move said made bound) first is written replays = by_move many config u move bound is written replays
+  by_pace : (many : ℕ) (config : _) (heard : Heard) (s : State) (t : Turn) → AddNone t.records → Paced config heard s t → s.durable ≡ a.durable → t.records ≡ take many (records_at step old) → AllByRecursion (IsEntry Two) t.records → replayed a.durable t.records ≡ Some b.durable → IsPlainStep size step old a b
+  by_pace many config heard s t adds (Goes u v chain) first is written replays =
+      within many (subst AddNone is adds) (subst (AllByRecursion (IsEntry Two)) is written) (subst (GoWithin a.durable) is (subst (λ d. GoWithin d v.records) first (chain_within config heard u v chain written).0)) (ap (replayed a.durable) (sym is) ∙ replays)
+  by_pace many config heard s t adds (Bounds u move said made bound) first is written replays = by_move many config u move bound is written replays
 
   same_there : Writes x.seen (records_at step old) old.nodes.master new.nodes.master → IsPlainStep size step old a b
   same_there (Keeps f) =
       let same = has_one x new.nodes.master a.durable b.durable (f a.durable (had sizes law x step old new a b r moves)) (has sizes law x step old new a b r moves) in
-      within 0 tt tt (ap Some same)
+      within 0 (λ goes_on. tt) tt tt (ap Some same)
   same_there (Turns m after heard t at to turn written state many is) =
       let first : m.state.durable ≡ a.durable = subst (λ p. HasDurable x.seen p a.durable) at (had sizes law x step old new a b r moves) in
       let last : after.state.durable ≡ b.durable = subst (λ p. HasDurable x.seen p b.durable) to (has sizes law x step old new a b r moves) in
       let fit = turn_fits m.config heard m.state t turn written in
       let replays : replayed a.durable t.records ≡ Some b.durable = ap (λ d. replayed d t.records) (sym first) ∙ fit ∙ ap Some (sym (ap (λ (s : State). s.durable) state) ∙ last) in
-      by_pace many m.config heard m.state t (paced m.config heard m.state t turn) first is written replays
+      let well = once_stands m.config heard m.state t turn written (subst IsKept (sym first) first_kept) in
+      let bare = subst (BareAt x old.sent) at (bare_there x sizes old a r) in
+      let out : (chunk : ℕ) → is_listed m.state.durable chunk ≡ false → is_listed a.durable chunk ≡ false = λ chunk none. ap (λ (d : Durable). is_listed d chunk) (sym first) ∙ none in
+      let in_file : (chunk : ℕ) → is_listed t.after.durable chunk ≡ true → is_listed b.durable chunk ≡ true = λ chunk some. ap (λ (d : Durable). is_listed d chunk) (sym (sym (ap (λ (s : State). s.durable) state) ∙ last)) ∙ some in
+      by_pace many m.config heard m.state t
+      (λ goes_on. adds_weaker _ HasNoText (λ chunk o. added_text goes_on chunk o.0 (out chunk o.1.0) (in_file chunk o.1.1)) t.records (once_over m.config heard (NoCopy x old.sent) m.state t well.turn bare)) (paced m.config heard m.state t turn) first is written replays
 
   pub step_plain : IsPlainStep size step old a b
   step_plain =
       let sound = reached_sound x old a r in
       same_there (writes x r.begins.given step old new moves.steps.goes (named x step old moves.steps.within sound.types) sound.lasts moves.steps.sound)
 
-pub steps_plain : HaveSizes → AreNumbered → {D : Type 0} (x : Setup D) → EachIsOfAPrepare x → GivesSettledBack x → GivesNoOtherBack x → AddedHaveTexts x → StepsArePlain x
-steps_plain sizes law x of_prepare settled_back no_other added old new a b step r moves = step_plain sizes law x added of_prepare settled_back no_other step old new a b r moves
+pub steps_plain : HaveSizes → AreNumbered → {D : Type 0} (x : Setup D) → EachIsOfAPrepare x → GivesSettledBack x → GivesNoOtherBack x → CopiesHaveTexts x → StepsArePlain x
+steps_plain sizes law x of_prepare settled_back no_other copies old new a b step r moves = step_plain sizes law x copies of_prepare settled_back no_other step old new a b r moves
 
 -- edits come to chunks at one place each
 pub edits_one_place : HaveSizes → AreNumbered → {D : Type 0} (x : Setup D) → EachIsOfAPrepare x → GivesSettledBack x → GivesNoOtherBack x → EditsOnePlace x

@@ -4,7 +4,8 @@ use Rattle.std.specs.List.{AllByRecursion}
 use Rattle.gs_edit.specs.Machine.{first}
 use Rattle.gs_master_plain.specs.Commands.{Command, all_commanded, but_edit, command_of, edit_at}
 use Rattle.gs_master_plain.specs.Places.{AreAlone, op_of}
-use Rattle.gs_master_plain.specs.Records.{KeepsTexts}
+use Rattle.gs_master_plain.specs.Records.{Telling}
+use Rattle.gs_master_record.specs.Plain.{Cow, Edited, Finalize, PlainEntry}
 use Rattle.gs_master_spec.specs.Applied.{replayed}
 use Rattle.gs_path.specs.Path.{Path}
 use Rattle.gs_world.specs.Histories.{History}
@@ -15,6 +16,11 @@ use Rattle.gs_world_plain.specs.Settling.{newly_settled, settled_at}
 use Rattle.gs_world_plain.specs.Stepping.{texts_between}
 use Rattle.gs_world_plain.specs.Views.{chunk_at, plain_view}
 use Rattle.gs_world_plain.specs.Written.{records_at}
+
+-- where a record puts a copy in the place of another chunk, that has its text
+abbrev pub KeepsCopy : Telling → PlainEntry → Type 0
+KeepsCopy t (Edited by (Cow path index before copy)) = t.now copy ≡ t.now before
+KeepsCopy t entry = Unit {0}
 
 -- The step is a list of commands of the plain machine, which lead from the plain view before it to the one behind it. Those that edit no text are what
 -- its records say, each once and in their order; of the records those stand that were written. Those that edit a text are, at each place of a file, the
@@ -50,11 +56,14 @@ module _ {D : Type 0} (x : Setup D) where
   abbrev pub EditsOnePlace : Type 0
   EditsOnePlace = (old new : History D) (a b : Account) (step : Step) → IsReached x old a → Moves x step old a new b → AreAlone a.durable.names (newly_settled a b)
 
-  -- A chunk that a record of a step puts into a file has no text, and one that takes the place of another has its text, once what is settled at the step is.
-  abbrev pub AddedHaveTexts : Type 0
-  AddedHaveTexts = (old new : History D) (a b : Account) (step : Step) (written : ℕ) → IsReached x old a → Moves x step old a new b → replayed a.durable (take written (records_at step old)) ≡ Some b.durable →
-      AllByRecursion (KeepsTexts (texts_between x.config.chunk a b)) (take written (records_at step old))
+  -- A chunk that takes the place of another, by a record of a step, has its text, once what is settled at the step is.
+  abbrev pub CopiesHaveTexts : Type 0
+  CopiesHaveTexts = (old new : History D) (a b : Account) (step : Step) (written : ℕ) → IsReached x old a → Moves x step old a new b → replayed a.durable (take written (records_at step old)) ≡ Some b.durable →
+      AllByRecursion (KeepsCopy (texts_between x.config.chunk a b)) (take written (records_at step old))
 
 -- ---- Worked: no steps are no commands
 no_steps : {D : Type 0} (x : Setup D) (a : Account) → IsPlainRun x a a
 no_steps x a = record { commands = []; leads = refl }
+
+what_is_no_copy_keeps_texts : (t : Telling) (epoch : ℕ) → KeepsCopy t (Finalize epoch) ≡ Unit {0}
+what_is_no_copy_keeps_texts t epoch = refl

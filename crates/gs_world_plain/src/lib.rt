@@ -3,7 +3,7 @@
 
 ghost use Rattle.gs_world_chunks.specs.Running.{Setup};
 ghost use Rattle.gs_world_plain.specs.Fresh.{AddedAreAsMade, NewAreAsMade};
-ghost use Rattle.gs_world_plain.specs.Plainly.{AddedHaveTexts, BeginsPlain, EditsOnePlace, RunsArePlain, StepsArePlain};
+ghost use Rattle.gs_world_plain.specs.Plainly.{CopiesHaveTexts, BeginsPlain, EditsOnePlace, RunsArePlain, StepsArePlain};
 ghost use Rattle.gs_world_plain.specs.Stepping.{CommitsLead, FinalizesLead, GrowingStepsLead, PreparesLead, StepsOfAccountsLead};
 
 use gs_block::promises::configurations_have_sizes;
@@ -50,12 +50,11 @@ pub fn new_chunks_are_as_they_were_made<D>()
     a_message_edits_a_replica_by_what_it_says();
 }
 
-/// Each step of a run is commands of the plain machine, and so is each run, where a chunk that is put into a file has no text then, and one that takes the place of another
-/// has its text. A new store shows the machine that has done nothing.
-pub fn a_run_is_plain_where_added_chunks_have_their_texts<D>()
+/// Each step of a run is commands of the plain machine, and so is each run, where a chunk that takes the place of another has its text then. One that is put at the end of a file has none. A new store shows the machine that has done nothing.
+pub fn a_run_is_plain_where_copies_have_their_texts<D>()
     ensures begins { (x : Setup D) → BeginsPlain x }
-    ensures steps { (x : Setup D) → AddedHaveTexts x → StepsArePlain x }
-    ensures runs { (x : Setup D) → AddedHaveTexts x → RunsArePlain x }
+    ensures steps { (x : Setup D) → CopiesHaveTexts x → StepsArePlain x }
+    ensures runs { (x : Setup D) → CopiesHaveTexts x → RunsArePlain x }
 {
     configurations_have_sizes();
     a_message_edits_a_replica_by_what_it_says();

@@ -1,7 +1,7 @@
 use Rattle.gs_world_plain.proofs.Beginning.{begins_plain}
 use Rattle.gs_world_plain.proofs.Runs.{runs_plain}
 use Rattle.gs_world_plain.proofs.Stepped.{steps_plain}
-use Rattle.gs_world_plain.proofs.a_run_is_plain_where_added_chunks_have_their_texts.Goals as goal
+use Rattle.gs_world_plain.proofs.a_run_is_plain_where_copies_have_their_texts.Goals as goal
 
 pub returns-clause-begins : goal.returns-clause-begins
 returns-clause-begins g c x = begins_plain x
