@@ -168,7 +168,7 @@ module _ (config : Config) (heard : Heard) (s : State) where
     further_bare M req old waiting is = absurd is
 
     begun : (move : Move) → IsMadeWell config heard s move → AreBare N s → BegunIn (Waits_bare move) s move
-    begun (Begins q purpose call (FromNow req waiting)) well k = begun_bare _ req q waiting well.made.may.begun
+    begun (Begins q purpose call (FromNow req waiting)) well k = begun_bare _ req q waiting well.made.may.begun.1
     begun (Begins q purpose call (Further req waiting)) well k = leased_bare _ waiting well.made.may.begun
     begun (Makes targets req path) well k =
         (makes_given targets req path well.made, (k.fresh s.durable.next_handle (next_ungiven s.durable.next_handle), none_others s.durable.next_handle _ (no_copies config heard s (Makes targets req path) well refl)))

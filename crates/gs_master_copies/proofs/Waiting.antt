@@ -25,12 +25,12 @@ use Rattle.gs_master_laws.proofs.Standing.{same_call, same_parts, set_so, set_wa
 use Rattle.gs_master_moves.specs.Moves.{Alone, FromNow, Further, Move, Begins, Makes, Copies, Hears, Sends, Settles, Edits, Extends, CopiesTree, Replaces, Scans, Refuses, Answers as AnswersCall, Waits, Restores, Says, Flags, Prepares, Finalizes, BeginsRollback, TellsRollback, CommitsRollback, Checkpoints, move_turn}
 
 -- a change by which no call waits from now on, nor for something else
-abbrev begins_none : Change → Bool
+abbrev pub begins_none : Change → Bool
 begins_none (changes.Begin p) = false
 begins_none (changes.Wait req waiting) = false
 begins_none change = true
 
-both_all : (xs ys : List Change) → list_all begins_none xs ≡ true → list_all begins_none ys ≡ true → list_all begins_none (xs ++ ys) ≡ true
+pub both_all : (xs ys : List Change) → list_all begins_none xs ≡ true → list_all begins_none ys ≡ true → list_all begins_none (xs ++ ys) ≡ true
 both_all [] ys a b = b
 both_all (x ∷ xs) ys a b = (let parts = and_parts (begins_none x) (list_all begins_none xs) a in ap (λ t. t && list_all begins_none (xs ++ ys)) parts.0 ∙ both_all xs ys parts.1 b)
 
@@ -43,21 +43,21 @@ let_go_begins new req (e ∷ es) = both_all (let_go_of new req e) (flat_map (let
     by_tests true true = refl
     by_tests true false = refl
 
-said_begins : (s : State) (req : ReqId) (refusal : Refusal) → list_all begins_none (said_changes (keeps_refusal s req refusal) s.log req refusal) ≡ true
+pub said_begins : (s : State) (req : ReqId) (refusal : Refusal) → list_all begins_none (said_changes (keeps_refusal s req refusal) s.log req refusal) ≡ true
 said_begins s req refusal = by_test (keeps_refusal s req refusal && not (fits s.log (Said req refusal ∷ [])))
   where
     by_test : (b : Bool) → list_all begins_none (if b then kept_in_memory req (Err refusal) ∷ [] else []) ≡ true
     by_test true = refl
     by_test false = refl
 
-answer_begins : (s : State) (req : ReqId) (answer : Answer) → list_all begins_none (answer_changes s req answer) ≡ true
+pub answer_begins : (s : State) (req : ReqId) (answer : Answer) → list_all begins_none (answer_changes s req answer) ≡ true
 answer_begins s req answer = by_test (is_later (last_reply s req.client) req.number)
   where
     by_test : (b : Bool) → list_all begins_none (if b then kept_in_memory req (Ok answer) ∷ [] else []) ≡ true
     by_test true = refl
     by_test false = refl
 
-refused_begins : (s : State) (req : ReqId) (refusal : Refusal) (over : Bool) → list_all begins_none (said_changes (keeps_refusal s req refusal) s.log req refusal ++ (if over then end_changes s req else [])) ≡ true
+pub refused_begins : (s : State) (req : ReqId) (refusal : Refusal) (over : Bool) → list_all begins_none (said_changes (keeps_refusal s req refusal) s.log req refusal ++ (if over then end_changes s req else [])) ≡ true
 refused_begins s req refusal over = both_all (said_changes (keeps_refusal s req refusal) s.log req refusal) (if over then end_changes s req else []) (said_begins s req refusal) (further over)
   where
     further : (b : Bool) → list_all begins_none (if b then end_changes s req else []) ≡ true

@@ -35,6 +35,7 @@ use Rattle.gs_master_spec.specs.Settling.{is_quiet_at, source_chunks}
 use Rattle.gs_master_spec.specs.State.{State, Plan, Turn, turned, and_then, if_room, joined, refused, all_ended_by}
 use Rattle.gs_master_spec.specs.Undoing.{edited_names}
 use Rattle.gs_master_spec.specs.Working.{ascending, begins, begins_new, may_use, leased, copied_on_write, written_at, found_for_writing, created_on, extended_at, extends, unquiet, is_wanted_at, begin_pending, begins_snapshot, snapshot_if, replicated_to, replicates_chunk, replicates_most, scanned, scan_plan, waiting_for, removed_paths, forgotten_chunks, put_handles}
+use Rattle.gs_master_spec.specs.Volatile.{is_pending}
 use Rattle.gs_master_spec.specs.declared.pending.Waiting.{Waiting}
 use Rattle.gs_master_spec.specs.declared.pending.Waiting.TheVariants as waits
 use Rattle.std.specs.Cmp.{nat_cmp_total, tied_itself}
@@ -254,14 +255,14 @@ module _ (config : Config) (heard : Heard) where
   begins_new_chain s req plan waiting a =
       test_chain config heard s (not (has_handle s.durable)) (refused s req refusals.Exhausted) (begins s req plan waiting) (λ _. refused_chain config heard s req refusals.Exhausted) (λ _. begins_chain s req plan waiting a)
 
-  leased_turned : (s : State) (req : ReqId) → IsCalled heard s req → (path : Path) (index : ℕ) (stamp : Option Stamp) (moment : Moment) (chunk : ℕ) (c : Chunk) → IsOpenAt s req chunk → has_entry s chunk ≡ true → is_shared s.durable.names chunk ≡ false → is_rolling s.durable.phase ≡ false → is_listed s.durable chunk ≡ true
+  leased_turned : (s : State) (req : ReqId) → IsCalled heard s req → (path : Path) (index : ℕ) (stamp : Option Stamp) (moment : Moment) (chunk : ℕ) (c : Chunk) → IsOpenAt s req chunk → is_pending s.volatile.pending req ≡ false → has_entry s chunk ≡ true → is_shared s.durable.names chunk ≡ false → is_rolling s.durable.phase ≡ false → is_listed s.durable chunk ≡ true
       → Turned config heard s (leased s req path index stamp moment chunk c)
-  leased_turned s req called path index stamp moment chunk c clear known alone calm listed =
+  leased_turned s req called path index stamp moment chunk c clear new known alone calm listed =
       let begin = begins s req (begin_at s chunk purposes.Lease (Some req)) (waits.Lease path index chunk) in
       test_turned config heard s (is_leased c && may_use stamp moment (view_of c)) (looked_up s req (location s.durable (Ok chunk))) (if is_wanted c then refused s req refusals.Locked else begin)
       (λ _. located_turned s req called (Ok chunk) calm (λ b is. ap (is_listed s.durable) (sym (same chunk b is)) ∙ listed))
       (λ _. within config heard (test_chain config heard s (is_wanted c) (refused s req refusals.Locked) begin (λ _. refused_chain config heard s req refusals.Locked)
-      (λ _. begins_chain s req (begin_at s chunk purposes.Lease (Some req)) (waits.Lease path index chunk) (Moves s (Begins chunk purposes.Lease (Some req) (FromNow req (waits.Lease path index chunk))) None (record { known = known; alone = alone; elsewhere = tt; called = called; clear = clear; begun = tt })))))
+      (λ _. begins_chain s req (begin_at s chunk purposes.Lease (Some req)) (waits.Lease path index chunk) (Moves s (Begins chunk purposes.Lease (Some req) (FromNow req (waits.Lease path index chunk))) None (record { known = known; alone = alone; elsewhere = tt; called = called; clear = clear; begun = (new, tt) })))))
     where
       same : (a b : ℕ) → ◌≡◌ {A = Result ℕ Refusal} (Ok a) (Ok b) → a ≡ b
       same a b h = cc
@@ -271,7 +272,7 @@ module _ (config : Config) (heard : Heard) where
   written_turned s req called path index stamp moment chunk settled here visible free k has known calm listed =
       let c : Chunk = record { settled = settled; asking = fin.get s.volatile.moving chunk } in
       test_turned config heard s (is_shared s.durable.names chunk) (copied_on_write s req path index chunk c (view_of c)) (leased s req path index stamp moment chunk c) (λ shared. within config heard (by_view (record { here = here; visible = visible; free = shared_free s req path index chunk here shared free }) settled has))
-      (λ alone. leased_turned s req called path index stamp moment chunk c (record { path = path; index = index; here = here; clear = inl (alone_free s req path index chunk here alone free) }) known alone calm listed)
+      (λ alone. leased_turned s req called path index stamp moment chunk c (record { path = path; index = index; here = here; clear = inl (alone_free s req path index chunk here alone free) }) free.new known alone calm listed)
     where
       by_view : TakesPlace s req path index chunk → (o : Option Settled) → fin.get s.durable.chunks chunk ≡ o → let c : Chunk = record { settled = o; asking = fin.get s.volatile.moving chunk } in Chained config heard s (copied_on_write s req path index chunk c (view_of c))
       by_view takes None is = refused_chain config heard s req refusals.NoReplica
@@ -296,7 +297,7 @@ module _ (config : Config) (heard : Heard) where
             called,
             (refl, refl, takes),
           )))
-          (λ _. begins_chain s req (begin_at s chunk purposes.Quiet (Some req)) (waits.Quiet path index chunk) (Moves s (Begins chunk purposes.Quiet (Some req) (FromNow req (waits.Quiet path index chunk))) None (record { known = known; alone = tt; elsewhere = tt; called = called; clear = tt; begun = (refl, takes) }))))
+          (λ _. begins_chain s req (begin_at s chunk purposes.Quiet (Some req)) (waits.Quiet path index chunk) (Moves s (Begins chunk purposes.Quiet (Some req) (FromNow req (waits.Quiet path index chunk))) None (record { known = known; alone = tt; elsewhere = tt; called = called; clear = tt; begun = (takes.free.new, (refl, takes)) }))))
 
   pub found_turned : (s : State) (req : ReqId) → IsCalled heard s req → (path : Path) (index : ℕ) (stamp : Option Stamp) (moment : Moment) (chunk : Result ℕ Refusal) → is_visible path ≡ true
       → IsFree s req (path ∷ []) (if is_shared_in s.durable.names (slice_get (chunks_at s.durable.names path) index) then path ∷ [] else []) → IsKept s.durable → is_rolling s.durable.phase ≡ false → found_chunk (fin.get s.durable.names.tree path) index ≡ chunk
@@ -309,24 +310,24 @@ module _ (config : Config) (heard : Heard) where
       by_entry true known = written_turned s req called path index stamp moment chunk (fin.get s.durable.chunks chunk) (found_here (fin.get s.durable.names.tree path) index chunk is) visible free k refl known calm (found_listed s path index chunk k is)
       by_entry false known = within config heard (refused_chain config heard s req refusals.NoReplica)
 
-  created_chain : (s : State) (req : ReqId) → IsCalled heard s req → (path : Path) (targets : Option (List ℕ)) → IsKept s.durable → Chained config heard s (created_on s req path targets)
-  created_chain s req called path None k = refused_chain config heard s req refusals.NoServer
-  created_chain s req called path (Some targets) k =
-      begins_new_chain s req (create_plan (next_stamp s.durable) s.durable.next_handle targets req) (waits.Extend path s.durable.next_handle) (Moves s (Makes targets req path) None (next_is s k, called))
+  created_chain : (s : State) (req : ReqId) → IsCalled heard s req → is_pending s.volatile.pending req ≡ false → (path : Path) (targets : Option (List ℕ)) → IsKept s.durable → Chained config heard s (created_on s req path targets)
+  created_chain s req called new path None k = refused_chain config heard s req refusals.NoServer
+  created_chain s req called new path (Some targets) k =
+      begins_new_chain s req (create_plan (next_stamp s.durable) s.durable.next_handle targets req) (waits.Extend path s.durable.next_handle) (Moves s (Makes targets req path) None (next_is s k, called, new))
 
-  extended_turned : (s : State) (req : ReqId) → IsCalled heard s req → (path : Path) (chunks : List ℕ) (index : ℕ) → IsKept s.durable → is_rolling s.durable.phase ≡ false → fin.get s.durable.names.tree path ≡ Some (File chunks) → Turned config heard s (extended_at config s req path chunks index)
-  extended_turned s req called path chunks index k calm is =
+  extended_turned : (s : State) (req : ReqId) → IsCalled heard s req → is_pending s.volatile.pending req ≡ false → (path : Path) (chunks : List ℕ) (index : ℕ) → IsKept s.durable → is_rolling s.durable.phase ≡ false → fin.get s.durable.names.tree path ≡ Some (File chunks) → Turned config heard s (extended_at config s req path chunks index)
+  extended_turned s req called new path chunks index k calm is =
       let makes = created_on s req path (targets_for config (counted_views s) [] config.replicas) in
       test_turned config heard s (nat_lt index (length chunks)) (looked_up s req (location s.durable (found_chunk (Some (File chunks)) index)))
       (if nat_lt (length chunks) index || nat_le most_chunks index then refused s req refusals.Range else makes)
       (λ _. located_turned s req called (found_chunk (Some (File chunks)) index) calm (λ c found. found_listed s path index c k (ap (λ o. found_chunk o index) is ∙ found)))
       (λ _. within config heard (test_chain config heard s (nat_lt (length chunks) index || nat_le most_chunks index) (refused s req refusals.Range) makes (λ _. refused_chain config heard s req refusals.Range)
-      (λ _. created_chain s req called path (targets_for config (counted_views s) [] config.replicas) k)))
+      (λ _. created_chain s req called new path (targets_for config (counted_views s) [] config.replicas) k)))
 
-  pub extends_turned : (s : State) (req : ReqId) → IsCalled heard s req → (path : Path) (index : ℕ) (entry : Option (Entry ℕ)) → IsKept s.durable → is_rolling s.durable.phase ≡ false → fin.get s.durable.names.tree path ≡ entry → Turned config heard s (extends config s req path index entry)
-  extends_turned s req called path index None k calm is = within config heard (refused_chain config heard s req refusals.NotFound)
-  extends_turned s req called path index (Some Dir) k calm is = within config heard (refused_chain config heard s req refusals.IsADirectory)
-  extends_turned s req called path index (Some (File chunks)) k calm is = extended_turned s req called path chunks index k calm is
+  pub extends_turned : (s : State) (req : ReqId) → IsCalled heard s req → is_pending s.volatile.pending req ≡ false → (path : Path) (index : ℕ) (entry : Option (Entry ℕ)) → IsKept s.durable → is_rolling s.durable.phase ≡ false → fin.get s.durable.names.tree path ≡ entry → Turned config heard s (extends config s req path index entry)
+  extends_turned s req called new path index None k calm is = within config heard (refused_chain config heard s req refusals.NotFound)
+  extends_turned s req called new path index (Some Dir) k calm is = within config heard (refused_chain config heard s req refusals.IsADirectory)
+  extends_turned s req called new path index (Some (File chunks)) k calm is = extended_turned s req called new path chunks index k calm is
 
   snapshot_chain : (s : State) (req : ReqId) → IsCalled heard s req → IsFree s req [] [] → (from to : Path) (many : List ℕ) → unquiet s from ≡ many → list_all (has_entry s) many ≡ true → Chained config heard s (begins_snapshot s req from to many)
   snapshot_chain s req called free from to [] is all = edited_chain s req (Snapshot from to) answers.Nothing refl (all_still (is_quiet_at s) (source_chunks s from) is) refl free
@@ -338,7 +339,7 @@ module _ (config : Config) (heard : Heard) where
       (if not (has_versions s.durable (length (chunk ∷ chunks))) then refused s req refusals.Exhausted else both) (λ _. refused_chain config heard s req refusals.Locked)
       (λ _. test_chain config heard s (not (has_versions s.durable (length (chunk ∷ chunks)))) (refused s req refusals.Exhausted) both (λ _. refused_chain config heard s req refusals.Exhausted)
       (λ _. room_chain config heard s req (and_then wait begin)
-      (then_chain config heard s wait begin (Moves s (Waits req (waits.Snapshot from to)) None (called, refl)) (all_begun_chain config heard (chunk ∷ chunks) (Some req) wait.after all))))
+      (then_chain config heard s wait begin (Moves s (Waits req (waits.Snapshot from to)) None (called, refl, free.new)) (all_begun_chain config heard (chunk ∷ chunks) (Some req) wait.after all))))
 
   pub snapshot_if_chain : (s : State) (req : ReqId) → IsCalled heard s req → IsFree s req [] [] → (from to : Path) (rows : Result (Rows ℕ) Refusal) → IsKept s.durable → Chained config heard s (snapshot_if s req from to rows)
   snapshot_if_chain s req called free from to (Ok rows) k =
@@ -357,28 +358,28 @@ module _ (config : Config) (heard : Heard) where
 
   -- ---- making a replica
 
-  replicated_chain : (s : State) (req : ReqId) → IsCalled heard s req → (chunk : ℕ) (members : List ℕ) (targets : Option (List ℕ)) → targets_for config (counted_views s) (members_in (view_in (fin.get s.durable.chunks chunk))) 1 ≡ targets → has_entry s chunk ≡ true → Chained config heard s (replicated_to s req chunk targets)
-  replicated_chain s req called chunk members None is known = refused_chain config heard s req refusals.NoServer
-  replicated_chain s req called chunk members (Some []) is known = refused_chain config heard s req refusals.NoServer
-  replicated_chain s req called chunk members (Some (target ∷ targets)) is known =
+  replicated_chain : (s : State) (req : ReqId) → IsCalled heard s req → is_pending s.volatile.pending req ≡ false → (chunk : ℕ) (members : List ℕ) (targets : Option (List ℕ)) → targets_for config (counted_views s) (members_in (view_in (fin.get s.durable.chunks chunk))) 1 ≡ targets → has_entry s chunk ≡ true → Chained config heard s (replicated_to s req chunk targets)
+  replicated_chain s req called new chunk members None is known = refused_chain config heard s req refusals.NoServer
+  replicated_chain s req called new chunk members (Some []) is known = refused_chain config heard s req refusals.NoServer
+  replicated_chain s req called new chunk members (Some (target ∷ targets)) is known =
       begins_chain s req (begin_at s chunk (purposes.Copy target) (Some req)) (waits.Replicate chunk target)
       (Moves s (Begins chunk (purposes.Copy target) (Some req) (FromNow req (waits.Replicate chunk target))) None
-      (record { known = known; alone = tt; elsewhere = target_out config (counted_views s) (members_in (view_in (fin.get s.durable.chunks chunk))) target targets is; called = called; clear = tt; begun = tt }))
+      (record { known = known; alone = tt; elsewhere = target_out config (counted_views s) (members_in (view_in (fin.get s.durable.chunks chunk))) target targets is; called = called; clear = tt; begun = (new, tt) }))
 
-  replicates_chain : (s : State) (req : ReqId) → IsCalled heard s req → (chunk : ℕ) → Chained config heard s (replicates_chunk config s req chunk (chunk_at s chunk))
+  replicates_chain : (s : State) (req : ReqId) → IsCalled heard s req → is_pending s.volatile.pending req ≡ false → (chunk : ℕ) → Chained config heard s (replicates_chunk config s req chunk (chunk_at s chunk))
   unfolding chunk_at
-  replicates_chain s req called chunk = by_entry (has_entry s chunk) refl
+  replicates_chain s req called new chunk = by_entry (has_entry s chunk) refl
     where
       by_entry : (b : Bool) → has_entry s chunk ≡ b → Chained config heard s (replicates_chunk config s req chunk (if b then Some (record { settled = fin.get s.durable.chunks chunk; asking = fin.get s.volatile.moving chunk }) else None))
       by_entry true known =
           let c : Chunk = record { settled = fin.get s.durable.chunks chunk; asking = fin.get s.volatile.moving chunk } in
           let targets = targets_for config (counted_views s) (members_of c) 1 in
-          test_chain config heard s (is_wanted c) (refused s req refusals.Locked) (replicated_to s req chunk targets) (λ _. refused_chain config heard s req refusals.Locked) (λ _. replicated_chain s req called chunk [] targets refl known)
+          test_chain config heard s (is_wanted c) (refused s req refusals.Locked) (replicated_to s req chunk targets) (λ _. refused_chain config heard s req refusals.Locked) (λ _. replicated_chain s req called new chunk [] targets refl known)
       by_entry false known = refused_chain config heard s req refusals.NoReplica
 
-  pub most_chain : (s : State) (req : ReqId) → IsCalled heard s req → (chunk : Option ℕ) → Chained config heard s (replicates_most config s req chunk)
-  most_chain s req called None = answered_chain config heard s req (answers.Copied None) refl
-  most_chain s req called (Some chunk) = replicates_chain s req called chunk
+  pub most_chain : (s : State) (req : ReqId) → IsCalled heard s req → is_pending s.volatile.pending req ≡ false → (chunk : Option ℕ) → Chained config heard s (replicates_most config s req chunk)
+  most_chain s req called new None = answered_chain config heard s req (answers.Copied None) refl
+  most_chain s req called new (Some chunk) = replicates_chain s req called new chunk
 
   -- ---- scanning
 

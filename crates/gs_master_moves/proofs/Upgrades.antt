@@ -197,9 +197,9 @@ module _ (config : Config) (heard : Heard) where
   called_chain s req come new moment (calls.FindForWriting path index stamp) h passed =
       found_turned config heard s req come path index stamp moment (found_chunk (fin.get s.durable.names.tree path) index) (one_visible (list_any is_hidden path) (passes s req (calls.FindForWriting path index stamp) passed).hidden) (free_of s req (calls.FindForWriting path index stamp) new passed) h.stands.kept (left_false (is_rolling s.durable.phase) (passes s req (calls.FindForWriting path index stamp) passed).rolling) refl
   called_chain s req come new moment (calls.Extend path index) h passed =
-      extends_turned config heard s req come path index (fin.get s.durable.names.tree path) h.stands.kept (left_false (is_rolling s.durable.phase) (passes s req (calls.Extend path index) passed).rolling) refl
+      extends_turned config heard s req come new path index (fin.get s.durable.names.tree path) h.stands.kept (left_false (is_rolling s.durable.phase) (passes s req (calls.Extend path index) passed).rolling) refl
   called_chain s req come new moment calls.Scan h passed = scans_turned config heard s req moment h.stands
-  called_chain s req come new moment calls.Replicate h passed = within config heard (most_chain config heard s req come (most_needed_of config.replicas (needs_of s)))
+  called_chain s req come new moment calls.Replicate h passed = within config heard (most_chain config heard s req come new (most_needed_of config.replicas (needs_of s)))
   called_chain s req come new moment calls.Query h passed = within config heard (answered_chain config heard s req (answers.Phase (told_phase s.volatile.is_preparing s.durable.phase) s.durable.epoch) refl)
   called_chain s req come new moment calls.PrepareBegin h passed = within config heard (prepare_chain s req h)
   called_chain s req come new moment calls.PrepareCommit h passed = commit_chain s req moment h.stands.kept

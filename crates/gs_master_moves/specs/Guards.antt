@@ -342,7 +342,7 @@ is_lease_wait waiting = false
 
 abbrev pub IsBegunBeside : State → ℕ → Beside → Type 0
 IsBegunBeside s chunk Alone = Unit {0}
-IsBegunBeside s chunk (FromNow req waiting) = IsBegunBy s req chunk waiting
+IsBegunBeside s chunk (FromNow req waiting) = (is_pending s.volatile.pending req ≡ false) × IsBegunBy s req chunk waiting
 IsBegunBeside s chunk (Further req waiting) = is_lease_wait waiting ≡ true
 
 -- A copy is made for a call that waits for it from now on: at a place that it takes now, or that it has taken to copy this chunk.
@@ -482,7 +482,7 @@ pub record MayCheckpoint (s : State) : Type 0 where
 
 abbrev pub May : Config → Heard → State → Move → Type 0
 May config heard s (Begins chunk purpose call beside) = MayBegin heard s chunk purpose call beside
-May config heard s (Makes targets req path) = IsNext s × IsCalled heard s req
+May config heard s (Makes targets req path) = IsNext s × IsCalled heard s req × (is_pending s.volatile.pending req ≡ false)
 May config heard s (Copies old view req beside) = MayCopy s old view × IsCalledBeside heard s beside × IsCopiedBeside s old beside
 May config heard s (Hears chunk asking) = MayHear heard s chunk asking
 May config heard s (Sends chunk asking source target) = MaySend s chunk asking source target
@@ -494,7 +494,7 @@ May config heard s (Replaces path index old new) = IsEdit s (Cow path index old 
 May config heard s (Scans removed forgotten) = MayScan s removed forgotten
 May config heard s (Refuses req refusal over) = Unit {0}
 May config heard s (AnswersCall req answer over) = IsRightAnswer s answer × IsEnd s answer over × IsCalledFor heard s req answer
-May config heard s (Waits req waiting) = IsCalled heard s req × (is_tree_wait waiting ≡ true)
+May config heard s (Waits req waiting) = IsCalled heard s req × (is_tree_wait waiting ≡ true) × (is_pending s.volatile.pending req ≡ false)
 May config heard s (Restores server chunks) = MayRestore heard s server chunks
 May config heard s (Says messages) = AreRight heard s messages × (ask_nobody messages ≡ true) × AreSaidAgain s messages
 May config heard s (Flags req preparing epoch) = Unit {0}
