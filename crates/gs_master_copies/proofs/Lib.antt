@@ -4,3 +4,6 @@ pub mod Added
 pub mod Unleased
 pub mod Locks
 pub mod Locked
+pub mod Counted
+pub mod Slots
+pub mod Held

@@ -4,7 +4,6 @@ mod Beginning
 mod Runs
 mod Machine
 mod Writing
-mod Counted
 mod Unleased
 mod Onward
 mod Shapes

@@ -21,7 +21,7 @@ use Rattle.gs_world.specs.Runs.{Step}
 use Rattle.gs_world_chunks.proofs.Edits.{AreNumbered}
 use Rattle.gs_world_chunks.specs.Accounts.{Account}
 use Rattle.gs_world_chunks.specs.Running.{IsReached, Moves, Setup}
-use Rattle.gs_world_plain.proofs.Counted.{is_listed_there, is_shared_there}
+use Rattle.gs_master_copies.proofs.Counted.{is_listed_there, is_shared_there}
 use Rattle.gs_world_plain.proofs.Onward.{had, kept_before, none_new}
 use Rattle.gs_world_plain.proofs.Unleased.{no_lease_where_shared}
 use Rattle.gs_world_plain.specs.Settling.{newly_settled}

@@ -33,7 +33,7 @@ use Rattle.gs_world_chunks.specs.Running.{IsReached, Moves, Setup}
 use Rattle.gs_world_chunks.specs.Upgrading.{IsUpgrading}
 use Rattle.gs_world_lift.specs.Doing.{HasDurable}
 use Rattle.gs_world_plain.proofs.Committed.{alone_back, before_is_settled, settled_is_before}
-use Rattle.gs_world_plain.proofs.Counted.{is_listed_there}
+use Rattle.gs_master_copies.proofs.Counted.{is_listed_there}
 use Rattle.gs_world_plain.proofs.Ending.{commits_lead, finalizes_lead, growing_lead, prepares_lead}
 use Rattle.gs_world_plain.proofs.Onward.{grows, had, has, kept_before, kept_behind}
 use Rattle.gs_world_plain.proofs.Shapes.{all_keep_texts, all_within, commit_is_back, finalize_ends, none_begins, none_is_back, prepare_begins, same_phase_over, then_replays}
