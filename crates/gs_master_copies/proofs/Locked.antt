@@ -1,7 +1,7 @@
 -- Each call that holds a place has its locks, and no other holds a place of that file, through each move.
 use Rattle.std.proofs.Common.{◌≡◌, ◌∙◌, ◌+◌, ◌⊎◌, inl, inr, ◌&&◌, ◌||◌, ◌++◌, ℕ, Bool, true, false, not, cond, List, [], ◌∷◌, filter, refl, ap, sym, subst}
-use Rattle.std.specs.Prelude.{Option, Some, None, if◌then◌else◌}
-use Rattle.std.specs.List.{list_all, list_any}
+use Rattle.std.specs.Prelude.{Some, if◌then◌else◌}
+use Rattle.std.specs.List.{list_all}
 use Rattle.std.proofs.lemmas.Bool.{and_parts, false≢true, true≢false}
 use Rattle.gs_base.specs.declared.config.Config.{Config}
 use Rattle.gs_base.specs.declared.numbers.ReqId.{ReqId}
@@ -10,7 +10,7 @@ use Rattle.gs_lock.specs.Operations.{same_op}
 use Rattle.gs_msg.specs.declared.answer.Answer.TheVariants as answers
 use Rattle.gs_path.specs.Path.{Path}
 use Rattle.gs_master_spec.specs.State.{State, answer_changes, end_changes, keeps_refusal, said_changes}
-use Rattle.gs_master_spec.specs.Volatile.{Volatile, all_changed, changed, is_pending, without_pending}
+use Rattle.gs_master_spec.specs.Volatile.{Volatile, all_changed, changed, is_pending}
 use Rattle.gs_master_spec.specs.declared.change.Change.{Change}
 use Rattle.gs_master_spec.specs.declared.change.Change.TheVariants as changes
 use Rattle.gs_master_spec.specs.declared.pending.Pending.{Pending}
@@ -22,19 +22,9 @@ use Rattle.gs_master_moves.specs.Guards.{Heard, IsBegunBy, IsCopyFromNow, IsCopy
 use Rattle.gs_master_moves.specs.Moves.{Alone, FromNow, Further, Move, Begins, Makes, Copies, Hears, Sends, Settles, Edits, Extends, CopiesTree, Replaces, Scans, Refuses, Answers as AnswersCall, Waits, Restores, Says, Flags, Prepares, Finalizes, BeginsRollback, TellsRollback, CommitsRollback, Checkpoints, move_turn}
 use Rattle.gs_edit.proofs.Tables.{same_path-is}
 use Rattle.gs_tree.specs.Edits.{same_path}
-use Rattle.gs_master_copies.proofs.Locks.{IsIn, IsLocked, in_filter, locked_more, locked_now, locked_reads, locked_still}
+use Rattle.gs_master_copies.specs.Held.{AreLocked, IsIn, IsLocked, place_path}
+use Rattle.gs_master_copies.proofs.Locks.{locked_more, locked_now, locked_reads, locked_still}
 use Rattle.gs_master_copies.proofs.Waiting.{answer_begins, begins_none, both_all, refused_begins}
-
--- the file of which a call holds a place
-abbrev pub place_path : Waiting → Option Path
-place_path (waits.Quiet path index quiet) = Some path
-place_path (waits.Copy path index old new) = Some path
-place_path waiting = None
-
-pub record AreLocked (v : Volatile) : Type 0 where
-  pub locked : (p : Pending) → IsIn p v.pending → (path : Path) → place_path p.waits ≡ Some path → IsLocked v.locks p.req path
-  pub alone : (p q : Pending) → IsIn p v.pending → IsIn q v.pending → (path : Path) → place_path p.waits ≡ Some path → place_path q.waits ≡ Some path → p.req ≡ q.req
-  pub apart : are_apart v.pending ≡ true
 
 -- ---- lists
 

@@ -1,7 +1,7 @@
 -- The locks of a call that holds a place: no other call may write what is there or above it, or read what is there.
-use Rattle.std.proofs.Common.{◌≡◌, ◌∙◌, ◌⊎◌, inl, inr, ◌&&◌, ◌||◌, ◌++◌, ℕ, Bool, true, false, not, cond, List, [], ◌∷◌, map, filter, refl, ap, sym, subst}
+use Rattle.std.proofs.Common.{◌≡◌, ◌∙◌, ◌⊎◌, inl, inr, ◌&&◌, ◌||◌, ◌++◌, Bool, true, false, not, cond, List, [], ◌∷◌, map, filter, refl, ap, sym, subst}
 use Rattle.std.specs.List.{list_any}
-use Rattle.std.proofs.lemmas.Bool.{false≢true, true≢false}
+use Rattle.std.proofs.lemmas.Bool.{true≢false}
 use Rattle.gs_base.specs.declared.numbers.ReqId.{ReqId}
 use Rattle.gs_edit.proofs.Removals.{begins-itself}
 use Rattle.gs_edit.proofs.Tables.{same_itself}
@@ -12,13 +12,10 @@ use Rattle.gs_path.specs.Path.{Name, Path, begins}
 use Rattle.gs_tree.proofs.Splice.{begins_parts}
 use Rattle.gs_tree.specs.Edits.{parent, same_path}
 use Rattle.gs_tree.specs.Plain.{after}
+use Rattle.gs_master_copies.specs.Held.{IsIn, IsLocked}
 use Rattle.gs_master_spec.specs.Volatile.{above}
 
 -- ---- lists
-
-abbrev pub IsIn : {A : Type 0} → A → List A → Type 0
-IsIn a [] = ⊥
-IsIn a (x ∷ xs) = (x ≡ a) ⊎ IsIn a xs
 
 pub in_left : {A : Type 0} (a : A) (xs ys : List A) → IsIn a xs → IsIn a (xs ++ ys)
 in_left a [] ys h = absurd h
@@ -66,10 +63,6 @@ above_has (n ∷ (m ∷ t)) x r = inr (in_map (λ front. n ∷ front) (m ∷ t) 
 
 -- ---- who has locked a path
 
--- what is there is written, and what is above it is read
-pub record IsLocked (locks : List Lock) (req : ReqId) (path : Path) : Type 0 where
-  pub each : (touched : Path) → begins touched path ≡ true → (w : Bool) × IsIn (record { op = req; path = touched; writes = w }) locks × (touched ≡ path → w ≡ true)
-
 on_has : (req : ReqId) (w : Bool) (path : Path) (paths : List Path) → IsIn path paths → IsIn (record { op = req; path = path; writes = w }) (locks_on req w paths)
 on_has req w path paths here = in_map (λ p. (let l : Lock = record { op = req; path = p; writes = w } in l)) path paths here
 
@@ -90,7 +83,7 @@ locked_now locks req path = record { each = λ touched begun. by_rest touched (a
     by_rest touched (x ∷ rest) is = (
       false,
       in_right _ locks _ (in_left _ (locks_on req false ((above path ++ []) ++ [])) _
-      (on_has req false touched ((above path ++ []) ++ []) (in_left touched (above path ++ []) [] (in_left touched (above path) [] (subst (λ p. IsIn touched (above p)) (sym is) (above_has touched x rest)))))),
+          (on_has req false touched ((above path ++ []) ++ []) (in_left touched (above path ++ []) [] (in_left touched (above path) [] (subst (λ p. IsIn touched (above p)) (sym is) (above_has touched x rest)))))),
       λ same. absurd (longer touched x rest (same ∙ is)),
     )
       where

@@ -1,24 +1,23 @@
 -- What records leave at a place of a file.
-use Rattle.std.proofs.Common.{◌≡◌, arith, zero, suc, ◌∙◌, ◌&&◌, ◌||◌, ◌++◌, ◌+◌, ℕ, Bool, true, false, not, cond, List, [], ◌∷◌, map, refl, ap, sym, subst}
-use Rattle.std.specs.Prelude.{is_none, is_some, option_map, slice_get, Option, Some, None, Result, Ok, Err, if◌then◌else◌}
+use Rattle.std.proofs.Common.{◌≡◌, zero, suc, ◌∙◌, ◌&&◌, ◌||◌, ◌++◌, ℕ, Bool, true, false, not, cond, List, [], ◌∷◌, map, refl, ap, sym}
+use Rattle.std.specs.Prelude.{is_none, is_some, slice_get, Option, Some, None, Result, Ok}
 use Rattle.std.specs.FinMap as fin
 use Rattle.std.specs.List.{list_all, list_any}
-use Rattle.std.proofs.lemmas.Bool.{and_parts, false≢true, true≢false}
+use Rattle.std.proofs.lemmas.Bool.{false≢true, true≢false}
 use Rattle.gs_base.specs.declared.epoch.EpochEnd.TheVariants as ends
-use Rattle.gs_base.specs.declared.numbers.ReqId.{ReqId}
 use Rattle.gs_base.specs.declared.refusal.Refusal.{Refusal}
 use Rattle.gs_base.specs.declared.refusal.Refusal.TheVariants.{IsADirectory, NotFound, NotHidden}
 use Rattle.gs_edit.proofs.Covers.{covered-add, covered-remove}
 use Rattle.gs_edit.proofs.Tables.{same_itself, same_path-is}
 use Rattle.gs_edit.specs.View.{NamesView}
 use Rattle.gs_edit.specs.declared.edit.Edit.TheVariants as edits
-use Rattle.gs_path.specs.Element.{hidden_parts, is_hidden}
-use Rattle.gs_path.specs.Path.{Name, Path, begins, path_cmp, path_total}
+use Rattle.gs_path.specs.Element.{is_hidden}
+use Rattle.gs_path.specs.Path.{Path, begins, path_cmp, path_total}
 use Rattle.gs_refs.specs.Counts.{taken_each}
 use Rattle.gs_tree.proofs.Apart.{past, same_answer, through}
 use Rattle.gs_tree.proofs.Splice.{begins_parts}
 use Rattle.gs_tree.specs.Edits.{add_chunk, chunks_in, is_dir, old_name, remove, same_path, with_chunks}
-use Rattle.gs_tree.specs.Entry.{Dir, Entry, File}
+use Rattle.gs_tree.specs.Entry.{Entry, File}
 use Rattle.gs_tree.specs.Find.{Rows}
 use Rattle.gs_tree.specs.Plain.{Plain, after, without}
 use Rattle.gs_master_entry.proofs.Ending.{names_given}
@@ -29,18 +28,14 @@ use Rattle.gs_master_laws.specs.Promises.{AreKept}
 use Rattle.gs_master_record.specs.Plain.{AddChunk, Edited, Finalize, Forget, Holder, PlainEdit, PlainEntry, Prepare, Propose, Remove, RollbackBegin, Said, Settle}
 use Rattle.gs_master_record.specs.declared.checkpoint.Phase.TheVariants.{Ordinary, Rolling, Upgrade}
 use Rattle.gs_master_spec.specs.Applied.{applied, are_at_rest, held_by, is_next_epoch, is_visible, may_be_settled, may_propose, proposed, replayed, with_epoch, with_view, without_prepared}
-use Rattle.gs_master_spec.specs.Calls.{chunks_at}
 use Rattle.gs_master_spec.specs.Durable.{Durable, is_ordinary, is_upgrade, prepared_view, with_prepared}
 use Rattle.gs_master_spec.specs.Settling.{own_request}
 use Rattle.gs_master_spec.specs.Undoing.{edited_names}
 use Rattle.gs_master_spec.specs.Working.{scan_edits}
+use Rattle.gs_master_copies.specs.Held.{slot}
 use Rattle.gs_master_moves.proofs.Listed.{over_records}
 use Rattle.gs_master_moves.proofs.Places.{edits_spare}
 use Rattle.gs_master_moves.specs.Places.{spares_path}
-
--- the chunk at a place
-abbrev pub slot : NamesView → Path → ℕ → Option ℕ
-slot names path index = slice_get (chunks_at names path) index
 
 slot_there : (names : NamesView) (path : Path) (index c : ℕ) → slot names path index ≡ Some c → is_some (fin.get names.tree path) ≡ true
 slot_there names path index c is = by_entry (fin.get names.tree path) is

@@ -1,6 +1,6 @@
 -- A chunk that nobody may write stays such, where no lease is asked for it, and no rollback is committed.
-use Rattle.std.proofs.Common.{◌≡◌, arith, ◌+◌, ◌∙◌, ◌==◌, ◌&&◌, ◌⊎◌, inl, inr, ℕ, Bool, true, false, not, List, [], ◌∷◌, refl, ap, sym, subst}
-use Rattle.std.specs.Prelude.{is_some, Option, Some, None, Ok, Err, if◌then◌else◌}
+use Rattle.std.proofs.Common.{◌≡◌, arith, ◌+◌, ◌∙◌, ◌==◌, ◌&&◌, inl, inr, ℕ, Bool, true, false, List, [], ◌∷◌, refl, ap, sym, subst}
+use Rattle.std.specs.Prelude.{Option, Some, if◌then◌else◌}
 use Rattle.std.specs.FinMap as fin
 use Rattle.std.specs.List.{list_all}
 use Rattle.std.proofs.lemmas.Bool.{false≢true, true≢false}
@@ -19,7 +19,7 @@ use Rattle.gs_master_spec.specs.Calls.{accept_plan}
 use Rattle.gs_master_spec.specs.Chunks.{asking_for, chunk_at, heard_no, heard_yes, holder_records, is_holder, target_of, with_answers}
 use Rattle.gs_base.specs.Members.{is_member}
 use Rattle.gs_view.specs.Spoken.{with_no, with_yes}
-use Rattle.gs_master_spec.specs.Durable.{Durable, Settled, prepared_view}
+use Rattle.gs_master_spec.specs.Durable.{Settled, prepared_view}
 use Rattle.gs_master_spec.specs.Handling.{without_place}
 use Rattle.gs_master_spec.specs.Settling.{edit_plan, end_plan, own_request, replace_plan}
 use Rattle.gs_master_spec.specs.State.{State, Plan, answer_changes, answered, keeps_refusal, said_changes, turned}
@@ -38,7 +38,7 @@ use Rattle.gs_master_moves.proofs.Right.{one_fits, settled_gives}
 use Rattle.gs_master_moves.proofs.Sharing.{view_term}
 use Rattle.gs_master_moves.specs.Guards.{ComesOf, Heard, IsMade, settled_chunk}
 use Rattle.gs_master_moves.specs.Moved.{is_commit}
-use Rattle.gs_master_moves.specs.Moves.{Alone, Beside, FromNow, Further, Move, Begins, Makes, Copies, Hears, Sends, Settles, Edits, Extends, CopiesTree, Replaces, Scans, Refuses, Answers as AnswersCall, Waits, Restores, Says, Flags, Prepares, Finalizes, BeginsRollback, TellsRollback, CommitsRollback, Checkpoints, move_turn, plan_of_refusal, plan_of_restore, plan_of_rollback, plan_of_settle, with_beside}
+use Rattle.gs_master_moves.specs.Moves.{Alone, Beside, FromNow, Further, Move, Begins, Makes, Copies, Hears, Sends, Settles, Edits, Extends, CopiesTree, Replaces, Scans, Refuses, Answers as AnswersCall, Waits, Restores, Says, Flags, Prepares, Finalizes, BeginsRollback, TellsRollback, CommitsRollback, Checkpoints, move_turn, plan_of_refusal, plan_of_restore, plan_of_rollback, with_beside}
 use Rattle.gs_master_moves.specs.Shared.{IsUnleased}
 
 same_number : (a b : ℕ) → (a == b) ≡ true → a ≡ b
