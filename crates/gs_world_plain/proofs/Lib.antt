@@ -14,3 +14,4 @@ mod Stepped
 mod Unlisted
 mod Fresh
 mod Bare
+mod Holding

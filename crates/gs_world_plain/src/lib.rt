@@ -2,7 +2,7 @@
 #![tactic(auto)]
 
 ghost use Rattle.gs_world_chunks.specs.Running.{Setup};
-ghost use Rattle.gs_world_plain.specs.Fresh.{AddedAreAsMade, NewAreAsMade};
+ghost use Rattle.gs_world_plain.specs.Fresh.{AddedAreAsMade, NewAreAsMade, PlacesAreHeld};
 ghost use Rattle.gs_world_plain.specs.Plainly.{CopiesHaveTexts, BeginsPlain, EditsOnePlace, RunsArePlain, StepsArePlain};
 ghost use Rattle.gs_world_plain.specs.Stepping.{CommitsLead, FinalizesLead, GrowingStepsLead, PreparesLead, StepsOfAccountsLead};
 
@@ -49,6 +49,12 @@ pub fn new_chunks_are_as_they_were_made<D>()
     configurations_have_sizes();
     a_message_edits_a_replica_by_what_it_says();
 }
+
+/// A call that waits to copy a chunk at a place of a file, or for that copy, holds the place in each world of a run: no other call that waits is about that file, and nobody may write the chunk until the
+/// copy has come there.
+pub fn places_that_are_copied_are_held<D>()
+    ensures { (x : Setup D) → PlacesAreHeld x }
+{}
 
 /// Each step of a run is commands of the plain machine, and so is each run, where a chunk that takes the place of another has its text then. One that is put at the end of a file has none. A new store shows the machine that has done nothing.
 pub fn a_run_is_plain_where_copies_have_their_texts<D>()
