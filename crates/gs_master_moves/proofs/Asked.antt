@@ -274,7 +274,7 @@ module _ (Was : ℕ → Body → Type 0) (chunk : ℕ) where
     source = λ server e. absurd (false≢true (ap is_some e));
   }
 
-  begins_so : (config : Config) (heard : Heard) (s : State) (q : ℕ) (purpose : Purpose) (call : Option ReqId) (beside : Beside) → MayBegin heard s q purpose beside → AllFit s (move_turn config s (Begins q purpose call beside)) → IsAskedSo Was s chunk → IsAskedSo Was (move_turn config s (Begins q purpose call beside)).after chunk
+  begins_so : (config : Config) (heard : Heard) (s : State) (q : ℕ) (purpose : Purpose) (call : Option ReqId) (beside : Beside) → MayBegin heard s q purpose call beside → AllFit s (move_turn config s (Begins q purpose call beside)) → IsAskedSo Was s chunk → IsAskedSo Was (move_turn config s (Begins q purpose call beside)).after chunk
   begins_so config heard s q purpose call beside may fit k = by_key (q == chunk) refl
     where
       u : State

@@ -140,7 +140,7 @@ module _ (P : ReqId → Type 0) where
     move_waits s (Refuses req refusal over) made all = changes_wait (said_changes (keeps_refusal s req refusal) s.log req refusal ++ (if over then end_changes s req else [])) s.volatile (refused_begins s req refusal over) all
     move_waits s (AnswersCall req answer true) made all = changes_wait (answer_changes s req answer ++ changes.End req ∷ []) s.volatile (both_all (answer_changes s req answer) (changes.End req ∷ []) (answer_begins s req answer) refl) all
     move_waits s (AnswersCall req answer false) made all = changes_wait (answer_changes s req answer) s.volatile (answer_begins s req answer) all
-    move_waits s (Waits req waiting) made all = one_more s.volatile.pending (record { req = req; waits = waiting }) all (called_is s req all made.may)
+    move_waits s (Waits req waiting) made all = one_more s.volatile.pending (record { req = req; waits = waiting }) all (called_is s req all made.may.0)
     move_waits s (Restores server chunks) made all = all
     move_waits s (Says messages) made all = all
     move_waits s (Flags req preparing now) made all = changes_wait (answer_changes s req (answers.Epoch now)) (changed s.volatile (changes.Prepare preparing)) (answer_begins s req (answers.Epoch now)) all

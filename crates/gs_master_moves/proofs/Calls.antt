@@ -1,5 +1,5 @@
 -- Each call is a chain of moves.
-use Rattle.std.proofs.Common.{◌≡◌, arith, ◌∙◌, ◌==◌, ◌&&◌, ◌||◌, ℕ, Bool, true, false, not, cond, List, [], ◌∷◌, filter, length, refl, ap, subst, sym}
+use Rattle.std.proofs.Common.{◌≡◌, arith, inl, slice_get, ◌∙◌, ◌==◌, ◌&&◌, ◌||◌, ℕ, Bool, true, false, not, cond, List, [], ◌∷◌, filter, length, refl, ap, subst, sym}
 use Rattle.std.specs.Prelude.{map, nat_lt, nat_le, is_none, is_some, find, option_and_then, Option, Some, None, Result, Ok, Err, if◌then◌else◌}
 use Rattle.std.specs.List.{AllByRecursion, list_all, list_any}
 use Rattle.std.specs.FinMap as fin
@@ -26,15 +26,16 @@ use Rattle.gs_lease.specs.declared.view.View.{View}
 use Rattle.gs_msg.specs.declared.answer.Answer.{Answer}
 use Rattle.gs_msg.specs.declared.answer.Answer.TheVariants as answers
 use Rattle.gs_master_record.specs.Plain.{PlainEdit, Hide, Snapshot, Rename}
-use Rattle.gs_master_spec.specs.Applied.{view_in}
+use Rattle.gs_master_spec.specs.Applied.{is_visible, view_in}
 use Rattle.gs_master_spec.specs.Beginning.{next_stamp, has_versions, has_handle, all_begun, begin_at, copy_plan, create_plan, waits_from_now, targets_for, counted_views, replica_counts}
-use Rattle.gs_master_spec.specs.Calls.{answered_with, edited_by, edit_if, accept_plan, deleted, has_visible_child, looked_up, listing, status, location, location_on, found_chunk, is_shared, most_chunks, renames}
+use Rattle.gs_master_spec.specs.Calls.{chunks_at, is_shared_in, answered_with, edited_by, edit_if, accept_plan, deleted, has_visible_child, looked_up, listing, status, location, location_on, found_chunk, is_shared, most_chunks, renames}
 use Rattle.gs_master_spec.specs.Chunks.{Chunk, chunk_at, has_entry, is_leased, is_quiet, is_wanted, members_of, members_in, view_of}
 use Rattle.gs_master_spec.specs.Durable.{Settled, is_given, is_listed, is_rolling}
 use Rattle.gs_master_spec.specs.Settling.{is_quiet_at, source_chunks}
 use Rattle.gs_master_spec.specs.State.{State, Plan, Turn, turned, and_then, if_room, joined, refused, all_ended_by}
 use Rattle.gs_master_spec.specs.Undoing.{edited_names}
 use Rattle.gs_master_spec.specs.Working.{ascending, begins, begins_new, may_use, leased, copied_on_write, written_at, found_for_writing, created_on, extended_at, extends, unquiet, is_wanted_at, begin_pending, begins_snapshot, snapshot_if, replicated_to, replicates_chunk, replicates_most, scanned, scan_plan, waiting_for, removed_paths, forgotten_chunks, put_handles}
+use Rattle.gs_master_spec.specs.Volatile.{is_pending}
 use Rattle.gs_master_spec.specs.declared.pending.Waiting.{Waiting}
 use Rattle.gs_master_spec.specs.declared.pending.Waiting.TheVariants as waits
 use Rattle.std.specs.Cmp.{nat_cmp_total, tied_itself}
@@ -49,7 +50,8 @@ use Rattle.gs_master_laws.proofs.AcceptedViews.{ascending_all, fewer_rows, or_le
 use Rattle.gs_master_laws.proofs.StandingCalls.{all_placed, found_placed, is_placed}
 use Rattle.gs_master_moves.proofs.Chains.{Chained, Turned, all_begun_chain, answered_chain, closing_chain, is_located, joined_together, looked_chain, refused_chain, room_chain, room_turned, test_chain, test_turned, then_chain, within}
 use Rattle.gs_master_moves.specs.Epochs.{ByItself, Closes}
-use Rattle.gs_master_moves.specs.Guards.{IsCalled, Heard, IsNext, is_location, is_of_tree, is_still_for}
+use Rattle.gs_master_moves.proofs.Free.{alone_free, found_here, shared_free}
+use Rattle.gs_master_moves.specs.Guards.{IsCalled, IsFree, IsOpenAt, Heard, IsNext, TakesPlace, is_location, is_of_tree, is_still_for, moved_by}
 use Rattle.gs_master_moves.specs.Moves.{FromNow, Moves, Then, Begins, Makes, Copies, Edits, Scans, Waits, Answers as AnswersCall}
 use Rattle.gs_master_state.proofs.Renames.{resolved_does}
 
@@ -199,15 +201,15 @@ all_still f xs none = all_of f xs xs (λ k here. not_false (f k) (none_passes (�
 module _ (config : Config) (heard : Heard) where
   -- ---- calls of the tree
 
-  edit_chain : (s : State) (req : ReqId) (edit : PlainEdit) (answer : Answer) → is_of_tree edit ≡ true → is_still_for s edit ≡ true → is_location answer ≡ false → (names : Result NamesView Refusal) → edited_names edit s.durable.names ≡ names → Chained config heard s (edit_if s req edit answer names)
-  edit_chain s req edit answer tree still plain (Ok names) e = room_chain config heard s req (turned s (accept_plan req edit answer)) (Moves s (Edits req edit answer) None (record { edits = (names, e); tree = tree; still = still; answers = plain }))
-  edit_chain s req edit answer tree still plain (Err refusal) e = refused_chain config heard s req refusal
+  edit_chain : (s : State) (req : ReqId) (edit : PlainEdit) (answer : Answer) → is_of_tree edit ≡ true → is_still_for s edit ≡ true → is_location answer ≡ false → IsFree s req [] (moved_by edit) → (names : Result NamesView Refusal) → edited_names edit s.durable.names ≡ names → Chained config heard s (edit_if s req edit answer names)
+  edit_chain s req edit answer tree still plain free (Ok names) e = room_chain config heard s req (turned s (accept_plan req edit answer)) (Moves s (Edits req edit answer) None (record { edits = (names, e); tree = tree; still = still; answers = plain; free = free }))
+  edit_chain s req edit answer tree still plain free (Err refusal) e = refused_chain config heard s req refusal
 
-  edited_chain : (s : State) (req : ReqId) (edit : PlainEdit) (answer : Answer) → is_of_tree edit ≡ true → is_still_for s edit ≡ true → is_location answer ≡ false → Chained config heard s (edited_by s req edit answer)
-  edited_chain s req edit answer tree still plain = edit_chain s req edit answer tree still plain (edited_names edit s.durable.names) refl
+  edited_chain : (s : State) (req : ReqId) (edit : PlainEdit) (answer : Answer) → is_of_tree edit ≡ true → is_still_for s edit ≡ true → is_location answer ≡ false → IsFree s req [] (moved_by edit) → Chained config heard s (edited_by s req edit answer)
+  edited_chain s req edit answer tree still plain free = edit_chain s req edit answer tree still plain free (edited_names edit s.durable.names) refl
 
-  deleted_chain : (s : State) (req : ReqId) (path : Path) (recursive : Bool) (moment : Moment) → Chained config heard s (deleted s req path recursive moment)
-  deleted_chain s req path recursive moment =
+  deleted_chain : (s : State) (req : ReqId) (path : Path) (recursive : Bool) (moment : Moment) → IsFree s req [] (path ∷ []) → Chained config heard s (deleted s req path recursive moment)
+  deleted_chain s req path recursive moment free =
       let hides = edited_by s req (Hide path moment.0 s.durable.next_hidden) (answers.Path (hidden_path path moment.0 s.durable.next_hidden)) in
       let third = if s.durable.next_hidden == 0 then refused s req refusals.Exhausted else hides in
       let second = if not recursive && has_visible_child (fin.entries s.durable.names.tree) path then refused s req refusals.NotEmpty else third in
@@ -215,7 +217,7 @@ module _ (config : Config) (heard : Heard) where
       (λ _. test_chain config heard s (is_none (fin.get s.durable.names.tree path)) _ second (λ _. answered_chain config heard s req answers.Absent refl)
       (λ _. test_chain config heard s (not recursive && has_visible_child (fin.entries s.durable.names.tree) path) (refused s req refusals.NotEmpty) third (λ _. refused_chain config heard s req refusals.NotEmpty)
       (λ _. test_chain config heard s (s.durable.next_hidden == 0) (refused s req refusals.Exhausted) hides (λ _. refused_chain config heard s req refusals.Exhausted)
-      (λ _. edited_chain s req (Hide path moment.0 s.durable.next_hidden) (answers.Path (hidden_path path moment.0 s.durable.next_hidden)) refl refl refl))))
+      (λ _. edited_chain s req (Hide path moment.0 s.durable.next_hidden) (answers.Path (hidden_path path moment.0 s.durable.next_hidden)) refl refl refl free))))
 
   -- ---- look-ups
 
@@ -253,28 +255,28 @@ module _ (config : Config) (heard : Heard) where
   begins_new_chain s req plan waiting a =
       test_chain config heard s (not (has_handle s.durable)) (refused s req refusals.Exhausted) (begins s req plan waiting) (λ _. refused_chain config heard s req refusals.Exhausted) (λ _. begins_chain s req plan waiting a)
 
-  leased_turned : (s : State) (req : ReqId) → IsCalled heard s req → (path : Path) (index : ℕ) (stamp : Option Stamp) (moment : Moment) (chunk : ℕ) (c : Chunk) → has_entry s chunk ≡ true → is_shared s.durable.names chunk ≡ false → is_rolling s.durable.phase ≡ false → is_listed s.durable chunk ≡ true
+  leased_turned : (s : State) (req : ReqId) → IsCalled heard s req → (path : Path) (index : ℕ) (stamp : Option Stamp) (moment : Moment) (chunk : ℕ) (c : Chunk) → IsOpenAt s req chunk → is_pending s.volatile.pending req ≡ false → has_entry s chunk ≡ true → is_shared s.durable.names chunk ≡ false → is_rolling s.durable.phase ≡ false → is_listed s.durable chunk ≡ true
       → Turned config heard s (leased s req path index stamp moment chunk c)
-  leased_turned s req called path index stamp moment chunk c known alone calm listed =
+  leased_turned s req called path index stamp moment chunk c clear new known alone calm listed =
       let begin = begins s req (begin_at s chunk purposes.Lease (Some req)) (waits.Lease path index chunk) in
       test_turned config heard s (is_leased c && may_use stamp moment (view_of c)) (looked_up s req (location s.durable (Ok chunk))) (if is_wanted c then refused s req refusals.Locked else begin)
       (λ _. located_turned s req called (Ok chunk) calm (λ b is. ap (is_listed s.durable) (sym (same chunk b is)) ∙ listed))
       (λ _. within config heard (test_chain config heard s (is_wanted c) (refused s req refusals.Locked) begin (λ _. refused_chain config heard s req refusals.Locked)
-      (λ _. begins_chain s req (begin_at s chunk purposes.Lease (Some req)) (waits.Lease path index chunk) (Moves s (Begins chunk purposes.Lease (Some req) (FromNow req (waits.Lease path index chunk))) None (record { known = known; alone = alone; elsewhere = tt; called = called })))))
+      (λ _. begins_chain s req (begin_at s chunk purposes.Lease (Some req)) (waits.Lease path index chunk) (Moves s (Begins chunk purposes.Lease (Some req) (FromNow req (waits.Lease path index chunk))) None (record { known = known; alone = alone; elsewhere = tt; called = called; clear = clear; begun = (new, tt) })))))
     where
       same : (a b : ℕ) → ◌≡◌ {A = Result ℕ Refusal} (Ok a) (Ok b) → a ≡ b
       same a b h = cc
 
-  written_turned : (s : State) (req : ReqId) → IsCalled heard s req → (path : Path) (index : ℕ) (stamp : Option Stamp) (moment : Moment) (chunk : ℕ) (settled : Option Settled) → IsKept s.durable → fin.get s.durable.chunks chunk ≡ settled → has_entry s chunk ≡ true → is_rolling s.durable.phase ≡ false → is_listed s.durable chunk ≡ true
+  written_turned : (s : State) (req : ReqId) → IsCalled heard s req → (path : Path) (index : ℕ) (stamp : Option Stamp) (moment : Moment) (chunk : ℕ) (settled : Option Settled) → slice_get (chunks_at s.durable.names path) index ≡ Some chunk → is_visible path ≡ true → IsFree s req (path ∷ []) (if is_shared_in s.durable.names (slice_get (chunks_at s.durable.names path) index) then path ∷ [] else []) → IsKept s.durable → fin.get s.durable.chunks chunk ≡ settled → has_entry s chunk ≡ true → is_rolling s.durable.phase ≡ false → is_listed s.durable chunk ≡ true
       → Turned config heard s (written_at s req path index stamp moment chunk (Some (record { settled = settled; asking = fin.get s.volatile.moving chunk })))
-  written_turned s req called path index stamp moment chunk settled k has known calm listed =
+  written_turned s req called path index stamp moment chunk settled here visible free k has known calm listed =
       let c : Chunk = record { settled = settled; asking = fin.get s.volatile.moving chunk } in
-      test_turned config heard s (is_shared s.durable.names chunk) (copied_on_write s req path index chunk c (view_of c)) (leased s req path index stamp moment chunk c) (λ _. within config heard (by_view settled has))
-      (λ alone. leased_turned s req called path index stamp moment chunk c known alone calm listed)
+      test_turned config heard s (is_shared s.durable.names chunk) (copied_on_write s req path index chunk c (view_of c)) (leased s req path index stamp moment chunk c) (λ shared. within config heard (by_view (record { here = here; visible = visible; free = shared_free s req path index chunk here shared free }) settled has))
+      (λ alone. leased_turned s req called path index stamp moment chunk c (record { path = path; index = index; here = here; clear = inl (alone_free s req path index chunk here alone free) }) free.new known alone calm listed)
     where
-      by_view : (o : Option Settled) → fin.get s.durable.chunks chunk ≡ o → let c : Chunk = record { settled = o; asking = fin.get s.volatile.moving chunk } in Chained config heard s (copied_on_write s req path index chunk c (view_of c))
-      by_view None is = refused_chain config heard s req refusals.NoReplica
-      by_view (Some x) is =
+      by_view : TakesPlace s req path index chunk → (o : Option Settled) → fin.get s.durable.chunks chunk ≡ o → let c : Chunk = record { settled = o; asking = fin.get s.volatile.moving chunk } in Chained config heard s (copied_on_write s req path index chunk c (view_of c))
+      by_view takes None is = refused_chain config heard s req refusals.NoReplica
+      by_view takes (Some x) is =
           let c : Chunk = record { settled = Some x; asking = fin.get s.volatile.moving chunk } in
           let copy = waits.Copy path index chunk s.durable.next_handle in
           let begins_copy = begins_new s req (copy_plan (next_stamp s.durable) chunk x.view s.durable.next_handle req) copy in
@@ -293,41 +295,43 @@ module _ (config : Config) (heard : Heard) where
               quiet = nobody_at x.view.term parts.1.1;
             },
             called,
+            (refl, refl, takes),
           )))
-          (λ _. begins_chain s req (begin_at s chunk purposes.Quiet (Some req)) (waits.Quiet path index chunk) (Moves s (Begins chunk purposes.Quiet (Some req) (FromNow req (waits.Quiet path index chunk))) None (record { known = known; alone = tt; elsewhere = tt; called = called }))))
+          (λ _. begins_chain s req (begin_at s chunk purposes.Quiet (Some req)) (waits.Quiet path index chunk) (Moves s (Begins chunk purposes.Quiet (Some req) (FromNow req (waits.Quiet path index chunk))) None (record { known = known; alone = tt; elsewhere = tt; called = called; clear = tt; begun = (takes.free.new, (refl, takes)) }))))
 
-  pub found_turned : (s : State) (req : ReqId) → IsCalled heard s req → (path : Path) (index : ℕ) (stamp : Option Stamp) (moment : Moment) (chunk : Result ℕ Refusal) → IsKept s.durable → is_rolling s.durable.phase ≡ false → found_chunk (fin.get s.durable.names.tree path) index ≡ chunk
+  pub found_turned : (s : State) (req : ReqId) → IsCalled heard s req → (path : Path) (index : ℕ) (stamp : Option Stamp) (moment : Moment) (chunk : Result ℕ Refusal) → is_visible path ≡ true
+      → IsFree s req (path ∷ []) (if is_shared_in s.durable.names (slice_get (chunks_at s.durable.names path) index) then path ∷ [] else []) → IsKept s.durable → is_rolling s.durable.phase ≡ false → found_chunk (fin.get s.durable.names.tree path) index ≡ chunk
       → Turned config heard s (found_for_writing s req path index stamp moment chunk)
   unfolding chunk_at
-  found_turned s req called path index stamp moment (Err refusal) k calm is = within config heard (refused_chain config heard s req refusal)
-  found_turned s req called path index stamp moment (Ok chunk) k calm is = by_entry (has_entry s chunk) refl
+  found_turned s req called path index stamp moment (Err refusal) visible free k calm is = within config heard (refused_chain config heard s req refusal)
+  found_turned s req called path index stamp moment (Ok chunk) visible free k calm is = by_entry (has_entry s chunk) refl
     where
       by_entry : (b : Bool) → has_entry s chunk ≡ b → Turned config heard s (written_at s req path index stamp moment chunk (if b then Some (record { settled = fin.get s.durable.chunks chunk; asking = fin.get s.volatile.moving chunk }) else None))
-      by_entry true known = written_turned s req called path index stamp moment chunk (fin.get s.durable.chunks chunk) k refl known calm (found_listed s path index chunk k is)
+      by_entry true known = written_turned s req called path index stamp moment chunk (fin.get s.durable.chunks chunk) (found_here (fin.get s.durable.names.tree path) index chunk is) visible free k refl known calm (found_listed s path index chunk k is)
       by_entry false known = within config heard (refused_chain config heard s req refusals.NoReplica)
 
-  created_chain : (s : State) (req : ReqId) → IsCalled heard s req → (path : Path) (targets : Option (List ℕ)) → IsKept s.durable → Chained config heard s (created_on s req path targets)
-  created_chain s req called path None k = refused_chain config heard s req refusals.NoServer
-  created_chain s req called path (Some targets) k =
-      begins_new_chain s req (create_plan (next_stamp s.durable) s.durable.next_handle targets req) (waits.Extend path s.durable.next_handle) (Moves s (Makes targets req path) None (next_is s k, called))
+  created_chain : (s : State) (req : ReqId) → IsCalled heard s req → is_pending s.volatile.pending req ≡ false → (path : Path) (targets : Option (List ℕ)) → IsKept s.durable → Chained config heard s (created_on s req path targets)
+  created_chain s req called new path None k = refused_chain config heard s req refusals.NoServer
+  created_chain s req called new path (Some targets) k =
+      begins_new_chain s req (create_plan (next_stamp s.durable) s.durable.next_handle targets req) (waits.Extend path s.durable.next_handle) (Moves s (Makes targets req path) None (next_is s k, called, new))
 
-  extended_turned : (s : State) (req : ReqId) → IsCalled heard s req → (path : Path) (chunks : List ℕ) (index : ℕ) → IsKept s.durable → is_rolling s.durable.phase ≡ false → fin.get s.durable.names.tree path ≡ Some (File chunks) → Turned config heard s (extended_at config s req path chunks index)
-  extended_turned s req called path chunks index k calm is =
+  extended_turned : (s : State) (req : ReqId) → IsCalled heard s req → is_pending s.volatile.pending req ≡ false → (path : Path) (chunks : List ℕ) (index : ℕ) → IsKept s.durable → is_rolling s.durable.phase ≡ false → fin.get s.durable.names.tree path ≡ Some (File chunks) → Turned config heard s (extended_at config s req path chunks index)
+  extended_turned s req called new path chunks index k calm is =
       let makes = created_on s req path (targets_for config (counted_views s) [] config.replicas) in
       test_turned config heard s (nat_lt index (length chunks)) (looked_up s req (location s.durable (found_chunk (Some (File chunks)) index)))
       (if nat_lt (length chunks) index || nat_le most_chunks index then refused s req refusals.Range else makes)
       (λ _. located_turned s req called (found_chunk (Some (File chunks)) index) calm (λ c found. found_listed s path index c k (ap (λ o. found_chunk o index) is ∙ found)))
       (λ _. within config heard (test_chain config heard s (nat_lt (length chunks) index || nat_le most_chunks index) (refused s req refusals.Range) makes (λ _. refused_chain config heard s req refusals.Range)
-      (λ _. created_chain s req called path (targets_for config (counted_views s) [] config.replicas) k)))
+      (λ _. created_chain s req called new path (targets_for config (counted_views s) [] config.replicas) k)))
 
-  pub extends_turned : (s : State) (req : ReqId) → IsCalled heard s req → (path : Path) (index : ℕ) (entry : Option (Entry ℕ)) → IsKept s.durable → is_rolling s.durable.phase ≡ false → fin.get s.durable.names.tree path ≡ entry → Turned config heard s (extends config s req path index entry)
-  extends_turned s req called path index None k calm is = within config heard (refused_chain config heard s req refusals.NotFound)
-  extends_turned s req called path index (Some Dir) k calm is = within config heard (refused_chain config heard s req refusals.IsADirectory)
-  extends_turned s req called path index (Some (File chunks)) k calm is = extended_turned s req called path chunks index k calm is
+  pub extends_turned : (s : State) (req : ReqId) → IsCalled heard s req → is_pending s.volatile.pending req ≡ false → (path : Path) (index : ℕ) (entry : Option (Entry ℕ)) → IsKept s.durable → is_rolling s.durable.phase ≡ false → fin.get s.durable.names.tree path ≡ entry → Turned config heard s (extends config s req path index entry)
+  extends_turned s req called new path index None k calm is = within config heard (refused_chain config heard s req refusals.NotFound)
+  extends_turned s req called new path index (Some Dir) k calm is = within config heard (refused_chain config heard s req refusals.IsADirectory)
+  extends_turned s req called new path index (Some (File chunks)) k calm is = extended_turned s req called new path chunks index k calm is
 
-  snapshot_chain : (s : State) (req : ReqId) → IsCalled heard s req → (from to : Path) (many : List ℕ) → unquiet s from ≡ many → list_all (has_entry s) many ≡ true → Chained config heard s (begins_snapshot s req from to many)
-  snapshot_chain s req called from to [] is all = edited_chain s req (Snapshot from to) answers.Nothing refl (all_still (is_quiet_at s) (source_chunks s from) is) refl
-  snapshot_chain s req called from to (chunk ∷ chunks) is all =
+  snapshot_chain : (s : State) (req : ReqId) → IsCalled heard s req → IsFree s req [] [] → (from to : Path) (many : List ℕ) → unquiet s from ≡ many → list_all (has_entry s) many ≡ true → Chained config heard s (begins_snapshot s req from to many)
+  snapshot_chain s req called free from to [] is all = edited_chain s req (Snapshot from to) answers.Nothing refl (all_still (is_quiet_at s) (source_chunks s from) is) refl free
+  snapshot_chain s req called free from to (chunk ∷ chunks) is all =
       let wait = turned s (begin_pending req (waits.Snapshot from to)) in
       let begin : State → Turn = λ next. all_begun next (chunk ∷ chunks) purposes.Quiet (Some req) in
       let both = if_room s (and_then wait begin) (refused s req refusals.Full) in
@@ -335,11 +339,11 @@ module _ (config : Config) (heard : Heard) where
       (if not (has_versions s.durable (length (chunk ∷ chunks))) then refused s req refusals.Exhausted else both) (λ _. refused_chain config heard s req refusals.Locked)
       (λ _. test_chain config heard s (not (has_versions s.durable (length (chunk ∷ chunks)))) (refused s req refusals.Exhausted) both (λ _. refused_chain config heard s req refusals.Exhausted)
       (λ _. room_chain config heard s req (and_then wait begin)
-      (then_chain config heard s wait begin (Moves s (Waits req (waits.Snapshot from to)) None called) (all_begun_chain config heard (chunk ∷ chunks) (Some req) wait.after all))))
+      (then_chain config heard s wait begin (Moves s (Waits req (waits.Snapshot from to)) None (called, refl, free.new)) (all_begun_chain config heard (chunk ∷ chunks) (Some req) wait.after all))))
 
-  pub snapshot_if_chain : (s : State) (req : ReqId) → IsCalled heard s req → (from to : Path) (rows : Result (Rows ℕ) Refusal) → IsKept s.durable → Chained config heard s (snapshot_if s req from to rows)
-  snapshot_if_chain s req called from to (Ok rows) k =
-      snapshot_chain s req called from to (unquiet s from) refl
+  pub snapshot_if_chain : (s : State) (req : ReqId) → IsCalled heard s req → IsFree s req [] [] → (from to : Path) (rows : Result (Rows ℕ) Refusal) → IsKept s.durable → Chained config heard s (snapshot_if s req from to rows)
+  snapshot_if_chain s req called free from to (Ok rows) k =
+      snapshot_chain s req called free from to (unquiet s from) refl
       (weaker (unquiet s from)
       (passes_all (is_placed s.durable) (λ chunk. not (is_quiet_at s chunk)) (ascending (source_chunks s from))
       (ascending_all (is_placed s.durable) (source_chunks s from) (fewer_rows (is_placed s.durable) _ (fin.entries s.durable.names.tree) (all_placed s.durable k)))))
@@ -350,32 +354,32 @@ module _ (config : Config) (heard : Heard) where
           let parts = and_parts (is_placed s.durable x) (list_all (is_placed s.durable) xs) all in
           let listed = and_parts (is_some (fin.get s.durable.names.refs x)) _ parts.0 in
           ap (λ b. b && list_all (has_entry s) xs) (or_left (is_some (fin.get s.durable.names.refs x)) (is_member s.volatile.unplaced x) listed.0) ∙ weaker xs parts.1
-  snapshot_if_chain s req called from to (Err refusal) k = refused_chain config heard s req refusal
+  snapshot_if_chain s req called free from to (Err refusal) k = refused_chain config heard s req refusal
 
   -- ---- making a replica
 
-  replicated_chain : (s : State) (req : ReqId) → IsCalled heard s req → (chunk : ℕ) (members : List ℕ) (targets : Option (List ℕ)) → targets_for config (counted_views s) (members_in (view_in (fin.get s.durable.chunks chunk))) 1 ≡ targets → has_entry s chunk ≡ true → Chained config heard s (replicated_to s req chunk targets)
-  replicated_chain s req called chunk members None is known = refused_chain config heard s req refusals.NoServer
-  replicated_chain s req called chunk members (Some []) is known = refused_chain config heard s req refusals.NoServer
-  replicated_chain s req called chunk members (Some (target ∷ targets)) is known =
+  replicated_chain : (s : State) (req : ReqId) → IsCalled heard s req → is_pending s.volatile.pending req ≡ false → (chunk : ℕ) (members : List ℕ) (targets : Option (List ℕ)) → targets_for config (counted_views s) (members_in (view_in (fin.get s.durable.chunks chunk))) 1 ≡ targets → has_entry s chunk ≡ true → Chained config heard s (replicated_to s req chunk targets)
+  replicated_chain s req called new chunk members None is known = refused_chain config heard s req refusals.NoServer
+  replicated_chain s req called new chunk members (Some []) is known = refused_chain config heard s req refusals.NoServer
+  replicated_chain s req called new chunk members (Some (target ∷ targets)) is known =
       begins_chain s req (begin_at s chunk (purposes.Copy target) (Some req)) (waits.Replicate chunk target)
       (Moves s (Begins chunk (purposes.Copy target) (Some req) (FromNow req (waits.Replicate chunk target))) None
-      (record { known = known; alone = tt; elsewhere = target_out config (counted_views s) (members_in (view_in (fin.get s.durable.chunks chunk))) target targets is; called = called }))
+      (record { known = known; alone = tt; elsewhere = target_out config (counted_views s) (members_in (view_in (fin.get s.durable.chunks chunk))) target targets is; called = called; clear = tt; begun = (new, tt) }))
 
-  replicates_chain : (s : State) (req : ReqId) → IsCalled heard s req → (chunk : ℕ) → Chained config heard s (replicates_chunk config s req chunk (chunk_at s chunk))
+  replicates_chain : (s : State) (req : ReqId) → IsCalled heard s req → is_pending s.volatile.pending req ≡ false → (chunk : ℕ) → Chained config heard s (replicates_chunk config s req chunk (chunk_at s chunk))
   unfolding chunk_at
-  replicates_chain s req called chunk = by_entry (has_entry s chunk) refl
+  replicates_chain s req called new chunk = by_entry (has_entry s chunk) refl
     where
       by_entry : (b : Bool) → has_entry s chunk ≡ b → Chained config heard s (replicates_chunk config s req chunk (if b then Some (record { settled = fin.get s.durable.chunks chunk; asking = fin.get s.volatile.moving chunk }) else None))
       by_entry true known =
           let c : Chunk = record { settled = fin.get s.durable.chunks chunk; asking = fin.get s.volatile.moving chunk } in
           let targets = targets_for config (counted_views s) (members_of c) 1 in
-          test_chain config heard s (is_wanted c) (refused s req refusals.Locked) (replicated_to s req chunk targets) (λ _. refused_chain config heard s req refusals.Locked) (λ _. replicated_chain s req called chunk [] targets refl known)
+          test_chain config heard s (is_wanted c) (refused s req refusals.Locked) (replicated_to s req chunk targets) (λ _. refused_chain config heard s req refusals.Locked) (λ _. replicated_chain s req called new chunk [] targets refl known)
       by_entry false known = refused_chain config heard s req refusals.NoReplica
 
-  pub most_chain : (s : State) (req : ReqId) → IsCalled heard s req → (chunk : Option ℕ) → Chained config heard s (replicates_most config s req chunk)
-  most_chain s req called None = answered_chain config heard s req (answers.Copied None) refl
-  most_chain s req called (Some chunk) = replicates_chain s req called chunk
+  pub most_chain : (s : State) (req : ReqId) → IsCalled heard s req → is_pending s.volatile.pending req ≡ false → (chunk : Option ℕ) → Chained config heard s (replicates_most config s req chunk)
+  most_chain s req called new None = answered_chain config heard s req (answers.Copied None) refl
+  most_chain s req called new (Some chunk) = replicates_chain s req called new chunk
 
   -- ---- scanning
 
@@ -395,19 +399,19 @@ module _ (config : Config) (heard : Heard) where
 
   -- ---- the calls of the tree
 
-  pub edits_chain : (s : State) (req : ReqId) (edit : PlainEdit) (answer : Answer) → is_of_tree edit ≡ true → is_still_for s edit ≡ true → is_location answer ≡ false → Chained config heard s (edited_by s req edit answer)
-  edits_chain s req edit answer tree still plain = edited_chain s req edit answer tree still plain
+  pub edits_chain : (s : State) (req : ReqId) (edit : PlainEdit) (answer : Answer) → is_of_tree edit ≡ true → is_still_for s edit ≡ true → is_location answer ≡ false → IsFree s req [] (moved_by edit) → Chained config heard s (edited_by s req edit answer)
+  edits_chain s req edit answer tree still plain free = edited_chain s req edit answer tree still plain free
 
   -- a rename's record holds its target as it was resolved
-  pub renames_chain : (s : State) (req : ReqId) (from to : Path) → Chained config heard s (renames s req from to)
-  renames_chain s req from to = by_names (edited_names (Rename from to) s.durable.names) refl
+  pub renames_chain : (s : State) (req : ReqId) (from to : Path) → IsFree s req [] (from ∷ []) → Chained config heard s (renames s req from to)
+  renames_chain s req from to free = by_names (edited_names (Rename from to) s.durable.names) refl
     where
       by_names : (names : Result NamesView Refusal) → edited_names (Rename from to) s.durable.names ≡ names → Chained config heard s (edit_if s req (Rename from (target_of (fin.get s.durable.names.tree) from to)) answers.Nothing names)
       by_names (Err refusal) is = refused_chain config heard s req refusal
-      by_names (Ok after) is = edit_chain s req (Rename from (target_of (fin.get s.durable.names.tree) from to)) answers.Nothing refl refl refl (Ok after) (resolved_does s.durable.names after from to is)
+      by_names (Ok after) is = edit_chain s req (Rename from (target_of (fin.get s.durable.names.tree) from to)) answers.Nothing refl refl refl free (Ok after) (resolved_does s.durable.names after from to is)
 
-  pub deletes_chain : (s : State) (req : ReqId) (path : Path) (recursive : Bool) (moment : Moment) → Chained config heard s (deleted s req path recursive moment)
-  deletes_chain s req path recursive moment = deleted_chain s req path recursive moment
+  pub deletes_chain : (s : State) (req : ReqId) (path : Path) (recursive : Bool) (moment : Moment) → IsFree s req [] (path ∷ []) → Chained config heard s (deleted s req path recursive moment)
+  deletes_chain s req path recursive moment free = deleted_chain s req path recursive moment free
 
   pub lists_chain : (s : State) (req : ReqId) (path : Path) → Chained config heard s (looked_up s req (listing (fin.entries s.durable.names.tree) path (fin.get s.durable.names.tree path)))
   lists_chain s req path = looked_chain config heard s req _ (listed_plain s path (fin.get s.durable.names.tree path))

@@ -162,5 +162,5 @@ module _ (config : Config) (heard : Heard) where
   all_begun_chain (chunk ∷ many) call s all =
       let parts = and_parts (has_entry s chunk) (list_all (has_entry s) many) all in
       let next = begun s chunk purposes.Quiet call in
-      then_chain s next (λ after. all_begun after many purposes.Quiet call) (Moves s (Begins chunk purposes.Quiet call Alone) None (record { known = parts.0; alone = tt; elsewhere = tt; called = tt }))
+      then_chain s next (λ after. all_begun after many purposes.Quiet call) (Moves s (Begins chunk purposes.Quiet call Alone) None (record { known = parts.0; alone = tt; elsewhere = tt; called = tt; clear = tt; begun = tt }))
       (all_begun_chain many call next.after (all_entries many s chunk purposes.Quiet call parts.1))

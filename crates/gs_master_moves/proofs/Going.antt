@@ -4,7 +4,7 @@ use Rattle.std.specs.Prelude.{is_some, option_and_then, option_map, unwrap_or, O
 use Rattle.std.specs.Cmp.{nat_cmp_total, tied_itself}
 use Rattle.std.specs.FinMap as fin
 use Rattle.gs_edit.specs.declared.edit.Edit.TheVariants as edits
-use Rattle.gs_master_spec.specs.Calls.{is_shared}
+use Rattle.gs_master_spec.specs.Calls.{chunks_at, is_shared}
 use Rattle.gs_master_laws.proofs.KeptViews.{same_key}
 use Rattle.gs_master_laws.proofs.Undone.{was_named}
 use Rattle.gs_master_laws.proofs.EditsBack.{admitted}
@@ -68,7 +68,8 @@ use Rattle.gs_master_laws.proofs.StandingTurns.{Holds}
 use Rattle.gs_master_moves.proofs.Calls.{next_is}
 use Rattle.gs_master_moves.proofs.Entries.{copied_listed, either as either_known, ended_known, settling_known, settling_names}
 use Rattle.gs_master_moves.proofs.Chains.{Chained, all_ended_chain, ended_chain, rests, test_chain, then_chain}
-use Rattle.gs_master_moves.specs.Guards.{Heard, HasCarried, IsCalled, IsMadeBy, IsNext, IsSettledOn, IsYes, May, settled_chunk}
+use Rattle.gs_master_moves.proofs.Free.{copied_itself, copies_itself, cow_here, extends_itself}
+use Rattle.gs_master_moves.specs.Guards.{Heard, HasCarried, IsCalled, IsMadeBy, IsNext, IsOpenAt, IsSettledOn, IsWaiting, IsYes, May, settled_chunk, waits_for_copy, waits_to_copy, waits_to_extend}
 use Rattle.gs_master_moves.specs.Moves.{Further, Moves, Answers as AnswersCall, Begins, Copies, CopiesTree, Extends, Hears, Replaces, Sends, Settles}
 
 -- ---- what each step is made of
@@ -256,43 +257,43 @@ module _ (config : Config) (came : Heard) (chunk : ℕ) (view : View) (placed : 
   room_for_chain : (s : State) (req : ReqId) (t : Turn) → Chained config came s t → Chained config came s (if_room_for s req t)
   room_for_chain s req t a = test_chain config came s (fits s.log t.records) t (ended_by s req refusals.Full) (λ _. a) (λ _. ended_chain config came s req refusals.Full)
 
-  leased_next_chain : (req : ReqId) (path : Path) (index new : ℕ) (s : State) → has_entry s new ≡ true → is_shared s.durable.names new ≡ false → Chained config came s (leased_next req path index new s)
-  leased_next_chain req path index new s known alone =
+  leased_next_chain : (req : ReqId) (path : Path) (index new : ℕ) (s : State) → IsOpenAt s req new → has_entry s new ≡ true → is_shared s.durable.names new ≡ false → Chained config came s (leased_next req path index new s)
+  leased_next_chain req path index new s clear known alone =
       let t = turned s (waits_on (begin_at s new purposes.Lease (Some req)) req (waits.Lease path index new)) in
       let begin = if_room_for s req t in
       test_chain config came s (not (may_begin s.durable.phase)) (ended_by s req refusals.RollingBack) (if not (has_versions s.durable 1) then ended_by s req refusals.Exhausted else begin) (λ _. ended_chain config came s req refusals.RollingBack)
       (λ _. test_chain config came s (not (has_versions s.durable 1)) (ended_by s req refusals.Exhausted) begin (λ _. ended_chain config came s req refusals.Exhausted)
-      (λ _. room_for_chain s req t (Moves s (Begins new purposes.Lease (Some req) (Further req (waits.Lease path index new))) None (record { known = known; alone = alone; elsewhere = tt; called = tt }))))
+      (λ _. room_for_chain s req t (Moves s (Begins new purposes.Lease (Some req) (Further req (waits.Lease path index new))) None (record { known = known; alone = alone; elsewhere = tt; called = tt; clear = clear; begun = refl }))))
 
   -- the copy is listed once it has its place
-  replaced_chain : (req : ReqId) (path : Path) (index old new : ℕ) (s : State) → new ≡ chunk → is_visible path ≡ true → Ready chunk s.durable → IsSettledOn s new view → has_entry s new ≡ true → (names : Result NamesView Refusal) → edited_names (Cow path index old new) s.durable.names ≡ names
+  replaced_chain : (req : ReqId) (path : Path) (index old new : ℕ) (s : State) → IsWaiting s req (waits_for_copy path index old new) → new ≡ chunk → is_visible path ≡ true → Ready chunk s.durable → IsSettledOn s new view → has_entry s new ≡ true → (names : Result NamesView Refusal) → edited_names (Cow path index old new) s.durable.names ≡ names
       → Chained config came s (replaced_if s req path index old new names)
-  replaced_chain req path index old new s same visible r settled at_new (Ok names) e =
+  replaced_chain req path index old new s waits_so same visible r settled at_new (Ok names) e =
       let t = turned s (replace_plan path index old new) in
       let may = subst (λ c. may_edit s.durable (Cow path index old c) ≡ true) (sym same) (may_place chunk s.durable (Cow path index old chunk) r visible (viewed chunk s.durable r) refl) in
       let fit = edit_applies ⊥ s.durable own_request (Cow path index old new) names e may in
       let listed : is_listed t.after.durable new ≡ true = ap (λ o. is_listed (unwrap_or o s.durable) new) fit ∙ cow_lists path index old new s.durable.names names e in
       let alone : is_shared t.after.durable.names new ≡ false = ap (λ o. is_shared (unwrap_or o s.durable).names new) fit ∙ cow_alone path index old new s.durable.names names e in
       test_chain config came s (fits s.log (Edited own_request (Cow path index old new) ∷ [])) (and_then t (leased_next req path index new)) (ended_by s req refusals.Full)
-      (λ _. then_chain config came s t (leased_next req path index new) (Moves s (Replaces path index old new) None ((names, e), (view, settled), at_new))
-      (leased_next_chain req path index new t.after (or_left (is_listed t.after.durable new) (is_member t.after.volatile.unplaced new) listed) alone))
+      (λ _. then_chain config came s t (leased_next req path index new) (Moves s (Replaces path index old new) None ((names, e), (view, settled), at_new, (req, waits_so)))
+      (leased_next_chain req path index new t.after (record { path = path; index = index; here = ap (λ o. slice_get (chunks_at (unwrap_or o s.durable).names path) index) fit ∙ cow_here path index old new s.durable.names names e; clear = inr (old, waits_so) }) (or_left (is_listed t.after.durable new) (is_member t.after.volatile.unplaced new) listed) alone))
       (λ _. ended_chain config came s req refusals.Full)
-  replaced_chain req path index old new s same visible r settled at_new (Err refusal) e = ended_chain config came s req refusal
+  replaced_chain req path index old new s waits_so same visible r settled at_new (Err refusal) e = ended_chain config came s req refusal
 
-  extended_chain : (req : ReqId) (path : Path) (new : ℕ) (s : State) → IsCalled came s req → IsSettledOn s new view → has_entry s new ≡ true → (names : Result NamesView Refusal) → edited_names (AddChunk path new) s.durable.names ≡ names
+  extended_chain : (req : ReqId) (path : Path) (new : ℕ) (s : State) → IsCalled came s req → IsWaiting s req (waits_to_extend new) → IsSettledOn s new view → has_entry s new ≡ true → (names : Result NamesView Refusal) → edited_names (AddChunk path new) s.durable.names ≡ names
       → Chained config came s (edit_turn s req (edit_plan req (AddChunk path new) (answers.Location new view s.durable.epoch) (changes.Place new ∷ [])) names)
-  extended_chain req path new s called settled at_new (Ok names) e =
-      room_for_chain s req (turned s (edit_plan req (AddChunk path new) (answers.Location new view s.durable.epoch) (changes.Place new ∷ []))) (Moves s (Extends req path new view) None ((names, e), settled, at_new, called))
-  extended_chain req path new s called settled at_new (Err refusal) e = ended_chain config came s req refusal
+  extended_chain req path new s called waits_so settled at_new (Ok names) e =
+      room_for_chain s req (turned s (edit_plan req (AddChunk path new) (answers.Location new view s.durable.epoch) (changes.Place new ∷ []))) (Moves s (Extends req path new view) None ((names, e), settled, at_new, called, waits_so))
+  extended_chain req path new s called waits_so settled at_new (Err refusal) e = ended_chain config came s req refusal
 
-  copied_chain : (req : ReqId) (path : Path) (index old : ℕ) (s : State) → has_entry s old ≡ true → is_listed s.durable old ≡ true → IsNext s → is_given s.durable.next_handle old ≡ true → IsSettledOn s old view → view.term ≡ None → Chained config came s (copied s req path index old view)
-  copied_chain req path index old s known listed fresh given settled none =
+  copied_chain : (req : ReqId) (path : Path) (index old : ℕ) (s : State) → IsWaiting s req (waits_to_copy path index old) → has_entry s old ≡ true → is_listed s.durable old ≡ true → IsNext s → is_given s.durable.next_handle old ≡ true → IsSettledOn s old view → view.term ≡ None → Chained config came s (copied s req path index old view)
+  copied_chain req path index old s waits_so known listed fresh given settled none =
       let new = s.durable.next_handle in
       let t = turned s (waits_on (copy_plan (next_stamp s.durable) old view new req) req (waits.Copy path index old new)) in
       let begin = if_room_for s req t in
       test_chain config came s (not (may_begin s.durable.phase)) (ended_by s req refusals.RollingBack) (if not (has_handle s.durable && has_versions s.durable 1) then ended_by s req refusals.Exhausted else begin) (λ _. ended_chain config came s req refusals.RollingBack)
       (λ _. test_chain config came s (not (has_handle s.durable && has_versions s.durable 1)) (ended_by s req refusals.Exhausted) begin (λ _. ended_chain config came s req refusals.Exhausted)
-      (λ _. room_for_chain s req t (Moves s (Copies old view req (Further req (waits.Copy path index old new))) None (record { known = known; listed = listed; fresh = fresh; given = given; settled = settled; quiet = none }, tt))))
+      (λ _. room_for_chain s req t (Moves s (Copies old view req (Further req (waits.Copy path index old new))) None (record { known = known; listed = listed; fresh = fresh; given = given; settled = settled; quiet = none }, tt, (refl, refl, waits_so)))))
 
   tree_chain : (req : ReqId) (from to : Path) (s : State) → list_all (is_quiet_at s) (source_chunks s from) ≡ true → (names : Result NamesView Refusal) → edited_names (Snapshot from to) s.durable.names ≡ names
       → Chained config came s (edit_turn s req (edit_plan req (Snapshot from to) answers.Nothing []) names)
@@ -335,13 +336,13 @@ module _ (config : Config) (came : Heard) (chunk : ℕ) (view : View) (placed : 
               by_head false false same some rest = rest some
 
       by_waiting : (w : Waiting) → w ≡ p.waits → may_wait_for chunk w ≡ true → list_all is_visible (paths_of w) ≡ true → (is_quieting w ≡ true → view.term ≡ None) → (is_of_file w ≡ true → placed ≡ true) → Chained config came s (goes_on s p.req view w)
-      by_waiting (waits.Extend path new) e may visible quiet in_file = extended_chain p.req path new s called (settled_so s new (same_number new chunk may) k) (known_so s new (same_number new chunk may) k) (edited_names (AddChunk path new) s.durable.names) refl
+      by_waiting (waits.Extend path new) e may visible quiet in_file = extended_chain p.req path new s called (go.now (waits_to_extend new) ∙ ap (waits_to_extend new) (sym e) ∙ extends_itself path new) (settled_so s new (same_number new chunk may) k) (known_so s new (same_number new chunk may) k) (edited_names (AddChunk path new) s.durable.names) refl
       by_waiting (waits.Lease path index leased) e may visible quiet in_file =
           let settled = settled_so s leased (same_number leased chunk may) k in
           Moves s (AnswersCall p.req (answers.Location leased view s.durable.epoch) true) None ((record { settled = ap view_in settled.has; now = refl; listed = ap (is_listed s.durable) (same_number leased chunk may) ∙ k.listed (in_file refl); calm = r.rolling }, settled, called), refl)
-      by_waiting (waits.Quiet path index old) e may visible quiet in_file = copied_chain p.req path index old s (known_so s old (same_number old chunk may) k) (ap (is_listed s.durable) (same_number old chunk may) ∙ k.listed (in_file refl)) (next_is s h.stands.kept) (h.stands.kept.handles old (ap is_some (settled_so s old (same_number old chunk may) k).has)) (settled_so s old (same_number old chunk may) k) (quiet refl)
+      by_waiting (waits.Quiet path index old) e may visible quiet in_file = copied_chain p.req path index old s (go.now (waits_to_copy path index old) ∙ ap (waits_to_copy path index old) (sym e) ∙ copies_itself path index old) (known_so s old (same_number old chunk may) k) (ap (is_listed s.durable) (same_number old chunk may) ∙ k.listed (in_file refl)) (next_is s h.stands.kept) (h.stands.kept.handles old (ap is_some (settled_so s old (same_number old chunk may) k).has)) (settled_so s old (same_number old chunk may) k) (quiet refl)
       by_waiting (waits.Copy path index old new) e may visible quiet in_file =
-          replaced_chain p.req path index old new s (same_number new chunk may) (left_true (is_visible path) visible) r (settled_so s new (same_number new chunk may) k) (known_so s new (same_number new chunk may) k) (edited_names (Cow path index old new) s.durable.names) refl
+          replaced_chain p.req path index old new s (go.now (waits_for_copy path index old new) ∙ ap (waits_for_copy path index old new) (sym e) ∙ copied_itself path index old new) (same_number new chunk may) (left_true (is_visible path) visible) r (settled_so s new (same_number new chunk may) k) (known_so s new (same_number new chunk may) k) (edited_names (Cow path index old new) s.durable.names) refl
       by_waiting (waits.Snapshot from to) e may visible quiet in_file = snapshot_chain s p.req (waits.Snapshot from to) refl
       by_waiting (waits.Replicate old target) e may visible quiet in_file =
           test_chain config came s (is_member view.members target) (ended_with s p.req (answers.Copied (Some (record { handle = old; server = target })))) (ended_by s p.req refusals.NoReplica)

@@ -1,7 +1,7 @@
 -- Each call of an upgrade, and each call, is a chain of moves.
 use Rattle.std.proofs.Common.{◌≡◌, arith, inl, inr, ◌∙◌, ◌==◌, ◌&&◌, ◌||◌, ◌+◌, ◌++◌, ℕ, Bool, true, false, not, cond, List, [], ◌∷◌, length, refl, ap, sym, subst}
 use Rattle.std.specs.Prelude.{nat_lt, slice_get, unwrap_or, Option, Some, None, Result, Ok, Err, if◌then◌else◌}
-use Rattle.std.specs.List.{list_all}
+use Rattle.std.specs.List.{list_any, list_all}
 use Rattle.std.specs.FinMap as fin
 use Rattle.std.proofs.lemmas.Bool.{false≢true, true≢false, and_parts}
 use Rattle.std.proofs.lemmas.Bool.Decides.{nat_tests}
@@ -22,7 +22,7 @@ use Rattle.gs_msg.specs.declared.answer.Answer.TheVariants as answers
 use Rattle.gs_msg.specs.declared.call.Call.{Call}
 use Rattle.gs_msg.specs.declared.call.Call.TheVariants as calls
 use Rattle.gs_place.specs.Needs.{most_needed_of}
-use Rattle.gs_master_record.specs.Plain.{Mkdirs, Create, Rename, Unhide, Prepare, Finalize, RollbackBegin, RollbackCommit}
+use Rattle.gs_master_record.specs.Plain.{Mkdirs, Create, Unhide, Prepare, Finalize, RollbackBegin, RollbackCommit}
 use Rattle.gs_master_spec.specs.Beginning.{all_begun, has_versions}
 use Rattle.gs_master_spec.specs.Calls.{found_chunk, refused_before, told_phase}
 use Rattle.gs_master_spec.specs.Chunks.{has_entry}
@@ -40,7 +40,9 @@ use Rattle.gs_master_spec.specs.declared.change.Change.TheVariants as changes
 use Rattle.gs_master_spec.specs.declared.pending.Pending.{Pending}
 use Rattle.gs_master_spec.specs.declared.reply.KeptReply.{KeptReply}
 use Rattle.gs_master_laws.specs.Promises.{IsKept}
-use Rattle.gs_master_laws.proofs.AcceptedCalls.{left_false, passes}
+use Rattle.gs_master_laws.proofs.AcceptedCalls.{left_false, one_visible, passes}
+use Rattle.gs_master_moves.proofs.Free.{first_free, free_of, none_free}
+use Rattle.gs_path.specs.Element.{is_hidden}
 use Rattle.gs_master_laws.proofs.AcceptedUpgrades.{begin_fits, first_test, not_so, unquiet_none}
 use Rattle.gs_master_laws.proofs.AcceptedViews.{filter_holds}
 use Rattle.gs_master_laws.proofs.AcceptedWork.{all_ended_same, no_makers, pending_none}
@@ -181,36 +183,36 @@ module _ (config : Config) (heard : Heard) where
 
   -- ---- all calls
 
-  called_chain : (s : State) (req : ReqId) → IsCalled heard s req → (moment : Moment) (call : Call) → Holds true s → refused_before s req call ≡ None → Turned config heard s (called config s req moment call)
-  called_chain s req come moment (calls.Mkdirs path) h passed = within config heard (edits_chain config heard s req (Mkdirs path) answers.Nothing refl refl refl)
-  called_chain s req come moment (calls.Create path) h passed = within config heard (edits_chain config heard s req (Create path) answers.Nothing refl refl refl)
-  called_chain s req come moment (calls.Rename from to) h passed = within config heard (renames_chain config heard s req from to)
-  called_chain s req come moment (calls.Delete path recursive) h passed = within config heard (deletes_chain config heard s req path recursive moment)
-  called_chain s req come moment (calls.Undelete path) h passed = within config heard (edits_chain config heard s req (Unhide path) _ refl refl refl)
-  called_chain s req come moment (calls.Snapshot from to) h passed = within config heard (snapshot_if_chain config heard s req come from to (edited (edits.Snapshot from to) (fin.entries s.durable.names.tree)) h.stands.kept)
-  called_chain s req come moment (calls.List path) h passed = within config heard (lists_chain config heard s req path)
-  called_chain s req come moment (calls.Status path) h passed = within config heard (status_chain config heard s req path)
-  called_chain s req come moment (calls.FindForReading path index) h passed =
+  called_chain : (s : State) (req : ReqId) → IsCalled heard s req → is_pending s.volatile.pending req ≡ false → (moment : Moment) (call : Call) → Holds true s → refused_before s req call ≡ None → Turned config heard s (called config s req moment call)
+  called_chain s req come new moment (calls.Mkdirs path) h passed = within config heard (edits_chain config heard s req (Mkdirs path) answers.Nothing refl refl refl (none_free s req _ _ (free_of s req (calls.Mkdirs path) new passed)))
+  called_chain s req come new moment (calls.Create path) h passed = within config heard (edits_chain config heard s req (Create path) answers.Nothing refl refl refl (none_free s req _ _ (free_of s req (calls.Create path) new passed)))
+  called_chain s req come new moment (calls.Rename from to) h passed = within config heard (renames_chain config heard s req from to (first_free s req from _ _ (free_of s req (calls.Rename from to) new passed)))
+  called_chain s req come new moment (calls.Delete path recursive) h passed = within config heard (deletes_chain config heard s req path recursive moment (first_free s req path _ _ (free_of s req (calls.Delete path recursive) new passed)))
+  called_chain s req come new moment (calls.Undelete path) h passed = within config heard (edits_chain config heard s req (Unhide path) _ refl refl refl (first_free s req path _ _ (free_of s req (calls.Undelete path) new passed)))
+  called_chain s req come new moment (calls.Snapshot from to) h passed = within config heard (snapshot_if_chain config heard s req come (none_free s req _ _ (free_of s req (calls.Snapshot from to) new passed)) from to (edited (edits.Snapshot from to) (fin.entries s.durable.names.tree)) h.stands.kept)
+  called_chain s req come new moment (calls.List path) h passed = within config heard (lists_chain config heard s req path)
+  called_chain s req come new moment (calls.Status path) h passed = within config heard (status_chain config heard s req path)
+  called_chain s req come new moment (calls.FindForReading path index) h passed =
       located_turned config heard s req come (found_chunk (fin.get s.durable.names.tree path) index) (left_false (is_rolling s.durable.phase) (passes s req (calls.FindForReading path index) passed).rolling) (λ c is. found_listed config heard s path index c h.stands.kept is)
-  called_chain s req come moment (calls.FindForWriting path index stamp) h passed =
-      found_turned config heard s req come path index stamp moment (found_chunk (fin.get s.durable.names.tree path) index) h.stands.kept (left_false (is_rolling s.durable.phase) (passes s req (calls.FindForWriting path index stamp) passed).rolling) refl
-  called_chain s req come moment (calls.Extend path index) h passed =
-      extends_turned config heard s req come path index (fin.get s.durable.names.tree path) h.stands.kept (left_false (is_rolling s.durable.phase) (passes s req (calls.Extend path index) passed).rolling) refl
-  called_chain s req come moment calls.Scan h passed = scans_turned config heard s req moment h.stands
-  called_chain s req come moment calls.Replicate h passed = within config heard (most_chain config heard s req come (most_needed_of config.replicas (needs_of s)))
-  called_chain s req come moment calls.Query h passed = within config heard (answered_chain config heard s req (answers.Phase (told_phase s.volatile.is_preparing s.durable.phase) s.durable.epoch) refl)
-  called_chain s req come moment calls.PrepareBegin h passed = within config heard (prepare_chain s req h)
-  called_chain s req come moment calls.PrepareCommit h passed = commit_chain s req moment h.stands.kept
-  called_chain s req come moment calls.PrepareAbort h passed = within config heard (abort_chain s req)
-  called_chain s req come moment calls.Finalize h passed = finalize_chain s req h.stands.kept
-  called_chain s req come moment calls.RollbackBegin h passed = rollback_chain s req h.stands.kept
-  called_chain s req come moment calls.RollbackCommit h passed =
+  called_chain s req come new moment (calls.FindForWriting path index stamp) h passed =
+      found_turned config heard s req come path index stamp moment (found_chunk (fin.get s.durable.names.tree path) index) (one_visible (list_any is_hidden path) (passes s req (calls.FindForWriting path index stamp) passed).hidden) (free_of s req (calls.FindForWriting path index stamp) new passed) h.stands.kept (left_false (is_rolling s.durable.phase) (passes s req (calls.FindForWriting path index stamp) passed).rolling) refl
+  called_chain s req come new moment (calls.Extend path index) h passed =
+      extends_turned config heard s req come new path index (fin.get s.durable.names.tree path) h.stands.kept (left_false (is_rolling s.durable.phase) (passes s req (calls.Extend path index) passed).rolling) refl
+  called_chain s req come new moment calls.Scan h passed = scans_turned config heard s req moment h.stands
+  called_chain s req come new moment calls.Replicate h passed = within config heard (most_chain config heard s req come new (most_needed_of config.replicas (needs_of s)))
+  called_chain s req come new moment calls.Query h passed = within config heard (answered_chain config heard s req (answers.Phase (told_phase s.volatile.is_preparing s.durable.phase) s.durable.epoch) refl)
+  called_chain s req come new moment calls.PrepareBegin h passed = within config heard (prepare_chain s req h)
+  called_chain s req come new moment calls.PrepareCommit h passed = commit_chain s req moment h.stands.kept
+  called_chain s req come new moment calls.PrepareAbort h passed = within config heard (abort_chain s req)
+  called_chain s req come new moment calls.Finalize h passed = finalize_chain s req h.stands.kept
+  called_chain s req come new moment calls.RollbackBegin h passed = rollback_chain s req h.stands.kept
+  called_chain s req come new moment calls.RollbackCommit h passed =
       test_turned config heard s (is_rolling s.durable.phase) (commit_on s req (all_undone s.durable.inverses s.durable.names)) (refused s req refusals.NotUpgrading)
       (λ rolling. commits_chain s req (all_undone s.durable.inverses s.durable.names) rolling refl) (λ _. within config heard (refused_chain config heard s req refusals.NotUpgrading))
 
-  called_unless_chain : (s : State) (req : ReqId) → IsCalled heard s req → (moment : Moment) (call : Call) (refusal : Option Refusal) → Holds true s → refused_before s req call ≡ refusal → Turned config heard s (called_unless config s req moment call refusal)
-  called_unless_chain s req come moment call None h passed = called_chain s req come moment call h passed
-  called_unless_chain s req come moment call (Some refusal) h passed = within config heard (refused_chain config heard s req refusal)
+  called_unless_chain : (s : State) (req : ReqId) → IsCalled heard s req → is_pending s.volatile.pending req ≡ false → (moment : Moment) (call : Call) (refusal : Option Refusal) → Holds true s → refused_before s req call ≡ refusal → Turned config heard s (called_unless config s req moment call refusal)
+  called_unless_chain s req come new moment call None h passed = called_chain s req come new moment call h passed
+  called_unless_chain s req come new moment call (Some refusal) h passed = within config heard (refused_chain config heard s req refusal)
 
   -- ---- a reply again
 
@@ -221,12 +223,12 @@ module _ (config : Config) (heard : Heard) where
   again_chain s req (Ok answer) was = Moves s (Says _) (refusal_in (Ok answer)) ((inr was, tt), refl, (was, tt))
   again_chain s req (Err refusal) was = Moves s (Says _) (refusal_in (Err refusal)) ((inr was, tt), refl, (tt, tt))
 
-  taken_chain : (s : State) (req : ReqId) → IsCalled heard s req → (moment : Moment) (call : Call) → Holds true s → Turned config heard s (taken_as config s req moment call (numbered (last_reply s req.client) req.number))
-  taken_chain s req come moment call h = by_reply (last_reply s req.client) refl
+  taken_chain : (s : State) (req : ReqId) → IsCalled heard s req → is_pending s.volatile.pending req ≡ false → (moment : Moment) (call : Call) → Holds true s → Turned config heard s (taken_as config s req moment call (numbered (last_reply s req.client) req.number))
+  taken_chain s req come new moment call h = by_reply (last_reply s req.client) refl
     where
       by_order : (reply : KeptReply) (b : Bool) → last_reply s req.client ≡ Some reply → Turned config heard s (taken_as config s req moment call (if b then Older else New))
       by_order reply true has = within config heard (refused_again s req refusals.Old)
-      by_order reply false has = called_unless_chain s req come moment call (refused_before s req call) h refl
+      by_order reply false has = called_unless_chain s req come new moment call (refused_before s req call) h refl
 
       by_number : (reply : KeptReply) (b : Bool) → (reply.number == req.number) ≡ b → last_reply s req.client ≡ Some reply
           → Turned config heard s (taken_as config s req moment call (if b then Again reply.result else if nat_lt req.number reply.number then Older else New))
@@ -234,7 +236,7 @@ module _ (config : Config) (heard : Heard) where
       by_number reply false same has = by_order reply (nat_lt req.number reply.number) has
 
       by_reply : (o : Option KeptReply) → last_reply s req.client ≡ o → Turned config heard s (taken_as config s req moment call (numbered o req.number))
-      by_reply None has = called_unless_chain s req come moment call (refused_before s req call) h refl
+      by_reply None has = called_unless_chain s req come new moment call (refused_before s req call) h refl
       by_reply (Some reply) has = by_number reply (reply.number == req.number) refl has
 
   pub call_chain : (s : State) (req : ReqId) → IsCalled heard s req → (moment : Moment) (call : Call) → Holds true s → Turned config heard s (call_turn config s req moment call)
@@ -242,4 +244,4 @@ module _ (config : Config) (heard : Heard) where
       let taken = taken_as config s req moment call (numbered (last_reply s req.client) req.number) in
       test_turned config heard s (is_unopened s.fault) (replied_again s req (Err refusals.Device)) (if is_pending s.volatile.pending req then waits_still s req else taken) (λ _. within config heard (refused_again s req refusals.Device))
       (λ _. test_turned config heard s (is_pending s.volatile.pending req) (waits_still s req) taken
-      (λ _. test_turned config heard s (is_failed s.fault) (replied_again s req (Err refusals.Device)) (unmoved s) (λ _. within config heard (refused_again s req refusals.Device)) (λ _. within config heard (rests config heard s))) (λ _. taken_chain s req come moment call h))
+      (λ _. test_turned config heard s (is_failed s.fault) (replied_again s req (Err refusals.Device)) (unmoved s) (λ _. within config heard (refused_again s req refusals.Device)) (λ _. within config heard (rests config heard s))) (λ new. taken_chain s req come new moment call h))

@@ -1,5 +1,5 @@
 -- Under what the master makes a move, and what is right to be sent in a state.
-use Rattle.std.specs.Prelude.{◌≡◌, ◌⊎◌, ◌+◌, ◌==◌, ℕ, Bool, true, false, List, ◌∷◌, [], length, slice_get, Contains, Option, Some, None, Result, Ok, Err, refl}
+use Rattle.std.specs.Prelude.{◌≡◌, ◌⊎◌, ◌+◌, ◌==◌, ◌&&◌, ℕ, Bool, true, false, List, ◌∷◌, [], length, slice_get, Contains, codes, Option, Some, None, Result, Ok, Err, refl}
 use Rattle.std.specs.FinMap as fin
 use Rattle.std.specs.List.{AllByRecursion, list_all}
 use Rattle.gs_base.specs.Members.{is_member}
@@ -29,10 +29,12 @@ use Rattle.gs_msg.specs.declared.message.Message.{Message}
 use Rattle.gs_msg.specs.declared.node.NodeId.{NodeId}
 use Rattle.gs_msg.specs.declared.node.NodeId.TheVariants as nodes
 use Rattle.gs_path.specs.Path.{Path}
+use Rattle.gs_lock.specs.Locks.{stands_in_the_way}
+use Rattle.gs_tree.specs.Edits.{same_path}
 use Rattle.gs_master_record.specs.Plain.{PlainEdit, Mkdirs, Create, Rename, Hide, Unhide, AddChunk, Cow, Snapshot}
 use Rattle.gs_view.specs.declared.poll.Poll.{Poll}
-use Rattle.gs_master_spec.specs.Applied.{view_in}
-use Rattle.gs_master_spec.specs.Calls.{is_shared}
+use Rattle.gs_master_spec.specs.Applied.{is_visible, view_in}
+use Rattle.gs_master_spec.specs.Calls.{chunks_at, is_shared}
 use Rattle.gs_master_spec.specs.Chunks.{Chunk, chunk_at, has_entry, heard_no, heard_yes, hears, is_target, members_in, source_in, view_by, with_target}
 use Rattle.gs_master_laws.specs.Promises.{AllFit}
 use Rattle.gs_master_spec.specs.Durable.{is_given, is_listed, is_rolling, prepared_view}
@@ -45,8 +47,11 @@ use Rattle.gs_master_spec.specs.Upgrades.{all_unquiet, end_tests, is_last_epoch,
 use Rattle.gs_master_spec.specs.Volatile.{is_pending}
 use Rattle.gs_master_spec.specs.Working.{forgotten_chunks, removed_paths}
 use Rattle.gs_master_spec.specs.declared.asking.Asking.{Asking}
+use Rattle.gs_master_spec.specs.declared.pending.Waiting.{Waiting}
+use Rattle.gs_master_spec.specs.declared.pending.Waiting.TheVariants as waits
+use Rattle.gs_master_state.specs.Sane.{is_waited_by}
 use Rattle.gs_master_spec.specs.declared.reply.KeptReply.{KeptReply}
-use Rattle.gs_master_moves.specs.Moves.{Beside, FromNow, Move, Begins, Makes, Copies, Hears, Sends, Settles, Edits, Extends, CopiesTree, Replaces, Scans, Refuses, Answers as AnswersCall, Waits, Restores, Says, Flags, Prepares, Finalizes, BeginsRollback, TellsRollback, CommitsRollback, Checkpoints, move_turn}
+use Rattle.gs_master_moves.specs.Moves.{Alone, Beside, FromNow, Further, Move, Begins, Makes, Copies, Hears, Sends, Settles, Edits, Extends, CopiesTree, Replaces, Scans, Refuses, Answers as AnswersCall, Waits, Restores, Says, Flags, Prepares, Finalizes, BeginsRollback, TellsRollback, CommitsRollback, Checkpoints, move_turn}
 
 -- what a server has said in the event, if one has, or what a client has called
 abbrev pub Heard : Type 0
@@ -286,6 +291,79 @@ pub record MaySend (s : State) (chunk : ℕ) (asking : Asking) (source target : 
   pub copies : asking.purpose ≡ purposes.Copy target
   pub chosen : source_in asking ≡ Some source
 
+-- ---- calls that wait
+
+-- a call waits for a new chunk of a file; to copy a chunk at a place, or for its copy
+abbrev pub waits_to_extend : ℕ → Waiting → Bool
+waits_to_extend chunk (waits.Extend path new) = new == chunk
+waits_to_extend chunk waiting = false
+
+abbrev pub waits_to_copy : Path → ℕ → ℕ → Waiting → Bool
+waits_to_copy path index old (waits.Quiet p i quiet) = same_path p path && (i == index && quiet == old)
+waits_to_copy path index old waiting = false
+
+abbrev pub waits_for_copy : Path → ℕ → ℕ → ℕ → Waiting → Bool
+waits_for_copy path index old new (waits.Copy p i o n) = same_path p path && (i == index && (o == old && n == new))
+waits_for_copy path index old new waiting = false
+
+-- a call waits so
+abbrev pub IsWaiting : State → ReqId → (Waiting → Bool) → Type 0
+IsWaiting s req test = is_waited_by (Some req) test s.volatile.pending ≡ true
+
+-- a call doesn't wait, and none that waits is in the way of one that reads and writes these paths
+pub record IsFree (s : State) (req : ReqId) (reads writes : List Path) : Type 0 where
+  pub new : is_pending s.volatile.pending req ≡ false
+  pub free : stands_in_the_way s.volatile.locks req reads writes ≡ false
+
+-- a call takes a place of a file, to put a copy of the chunk there
+pub record TakesPlace (s : State) (req : ReqId) (path : Path) (index chunk : ℕ) : Type 0 where
+  pub here : slice_get (chunks_at s.durable.names path) index ≡ Some chunk
+  pub visible : is_visible path ≡ true
+  pub free : IsFree s req (path ∷ []) (path ∷ [])
+
+-- The chunk stands at a place that a call reads; or the call waits for the copy that has come to stand there.
+pub record IsOpenAt (s : State) (req : ReqId) (chunk : ℕ) : Type 0 where
+  pub path : Path
+  pub index : ℕ
+  pub here : slice_get (chunks_at s.durable.names path) index ≡ Some chunk
+  pub clear : IsFree s req (path ∷ []) [] ⊎ ((old : ℕ) × IsWaiting s req (waits_for_copy path index old chunk))
+
+-- what a call waits for from now on, for which a view of the chunk is proposed: no new chunk, and no copy
+abbrev pub IsBegunBy : State → ReqId → ℕ → Waiting → Type 0
+IsBegunBy s req chunk (waits.Extend path new) = ⊥
+IsBegunBy s req chunk (waits.Copy path index old new) = ⊥
+IsBegunBy s req chunk (waits.Quiet path index quiet) = (quiet ≡ chunk) × TakesPlace s req path index chunk
+IsBegunBy s req chunk waiting = Unit {0}
+
+-- one that has waited waits for a lease then
+abbrev pub is_lease_wait : Waiting → Bool
+is_lease_wait (waits.Lease path index chunk) = true
+is_lease_wait waiting = false
+
+abbrev pub IsBegunBeside : State → ℕ → Beside → Type 0
+IsBegunBeside s chunk Alone = Unit {0}
+IsBegunBeside s chunk (FromNow req waiting) = (is_pending s.volatile.pending req ≡ false) × IsBegunBy s req chunk waiting
+IsBegunBeside s chunk (Further req waiting) = is_lease_wait waiting ≡ true
+
+-- A copy is made for a call that waits for it from now on: at a place that it takes now, or that it has taken to copy this chunk.
+abbrev pub IsCopyFromNow : State → ReqId → ℕ → Waiting → Type 0
+IsCopyFromNow s req chunk (waits.Copy path index old new) = (old ≡ chunk) × (new ≡ s.durable.next_handle) × TakesPlace s req path index chunk
+IsCopyFromNow s req chunk waiting = ⊥
+
+abbrev pub IsCopyFurther : State → ReqId → ℕ → Waiting → Type 0
+IsCopyFurther s req chunk (waits.Copy path index old new) = (old ≡ chunk) × (new ≡ s.durable.next_handle) × IsWaiting s req (waits_to_copy path index chunk)
+IsCopyFurther s req chunk waiting = ⊥
+
+abbrev pub IsCopiedBeside : State → ℕ → Beside → Type 0
+IsCopiedBeside s chunk Alone = ⊥
+IsCopiedBeside s chunk (FromNow req waiting) = IsCopyFromNow s req chunk waiting
+IsCopiedBeside s chunk (Further req waiting) = IsCopyFurther s req chunk waiting
+
+-- a call waits to copy a tree
+abbrev pub is_tree_wait : Waiting → Bool
+is_tree_wait (waits.Snapshot from to) = true
+is_tree_wait waiting = false
+
 -- ---- what is begun
 
 -- the target of a copy is none of these
@@ -300,11 +378,19 @@ IsAlone s chunk purposes.Quiet = Unit {0}
 IsAlone s chunk purposes.Lease = is_shared s.durable.names chunk ≡ false
 IsAlone s chunk (purposes.Copy target) = Unit {0}
 
-pub record MayBegin (heard : Heard) (s : State) (chunk : ℕ) (purpose : Purpose) (beside : Beside) : Type 0 where
+-- and one is asked for a call alone, at a place that is open to it
+abbrev pub IsOpenFor : State → ℕ → Purpose → Option ReqId → Type 0
+IsOpenFor s chunk purposes.Lease None = ⊥
+IsOpenFor s chunk purposes.Lease (Some req) = IsOpenAt s req chunk
+IsOpenFor s chunk purpose call = Unit {0}
+
+pub record MayBegin (heard : Heard) (s : State) (chunk : ℕ) (purpose : Purpose) (call : Option ReqId) (beside : Beside) : Type 0 where
   pub known : has_entry s chunk ≡ true
   pub alone : IsAlone s chunk purpose
   pub elsewhere : IsElsewhere purpose (members_in (view_in (fin.get s.durable.chunks chunk)))
   pub called : IsCalledBeside heard s beside
+  pub clear : IsOpenFor s chunk purpose call
+  pub begun : IsBegunBeside s chunk beside
 
 -- the next handle is that of no settled chunk
 abbrev pub IsNext : State → Type 0
@@ -343,11 +429,19 @@ abbrev pub is_location : Answer → Bool
 is_location (answers.Location chunk view epoch) = true
 is_location answer = false
 
-pub record MayEdit (s : State) (edit : PlainEdit) (answer : Answer) : Type 0 where
+-- what an edit of a call moves or hides
+abbrev pub moved_by : PlainEdit → List Path
+moved_by (Rename from to) = from ∷ []
+moved_by (Hide path moment number) = path ∷ []
+moved_by (Unhide path) = path ∷ []
+moved_by edit = []
+
+pub record MayEdit (s : State) (req : ReqId) (edit : PlainEdit) (answer : Answer) : Type 0 where
   pub edits : IsEdit s edit
   pub tree : is_of_tree edit ≡ true
   pub still : is_still_for s edit ≡ true
   pub answers : is_location answer ≡ false
+  pub free : IsFree s req [] (moved_by edit)
 
 pub record MayScan (s : State) (removed : List Path) (forgotten : List ℕ) : Type 0 where
   pub moment : Moment
@@ -387,20 +481,20 @@ pub record MayCheckpoint (s : State) : Type 0 where
 -- ---- all of them
 
 abbrev pub May : Config → Heard → State → Move → Type 0
-May config heard s (Begins chunk purpose call beside) = MayBegin heard s chunk purpose beside
-May config heard s (Makes targets req path) = IsNext s × IsCalled heard s req
-May config heard s (Copies old view req beside) = MayCopy s old view × IsCalledBeside heard s beside
+May config heard s (Begins chunk purpose call beside) = MayBegin heard s chunk purpose call beside
+May config heard s (Makes targets req path) = IsNext s × IsCalled heard s req × (is_pending s.volatile.pending req ≡ false)
+May config heard s (Copies old view req beside) = MayCopy s old view × IsCalledBeside heard s beside × IsCopiedBeside s old beside
 May config heard s (Hears chunk asking) = MayHear heard s chunk asking
 May config heard s (Sends chunk asking source target) = MaySend s chunk asking source target
 May config heard s (Settles chunk asking carried view) = MaySettle heard s chunk asking carried view
-May config heard s (Edits req edit answer) = MayEdit s edit answer
-May config heard s (Extends req path chunk view) = IsEdit s (AddChunk path chunk) × IsSettledOn s chunk view × (has_entry s chunk ≡ true) × IsCalled heard s req
+May config heard s (Edits req edit answer) = MayEdit s req edit answer
+May config heard s (Extends req path chunk view) = IsEdit s (AddChunk path chunk) × IsSettledOn s chunk view × (has_entry s chunk ≡ true) × IsCalled heard s req × IsWaiting s req (waits_to_extend chunk)
 May config heard s (CopiesTree req from to) = IsEdit s (Snapshot from to) × (is_still_for s (Snapshot from to) ≡ true)
-May config heard s (Replaces path index old new) = IsEdit s (Cow path index old new) × ((view : View) × IsSettledOn s new view) × (has_entry s new ≡ true)
+May config heard s (Replaces path index old new) = IsEdit s (Cow path index old new) × ((view : View) × IsSettledOn s new view) × (has_entry s new ≡ true) × ((req : ReqId) × IsWaiting s req (waits_for_copy path index old new))
 May config heard s (Scans removed forgotten) = MayScan s removed forgotten
 May config heard s (Refuses req refusal over) = Unit {0}
 May config heard s (AnswersCall req answer over) = IsRightAnswer s answer × IsEnd s answer over × IsCalledFor heard s req answer
-May config heard s (Waits req waiting) = IsCalled heard s req
+May config heard s (Waits req waiting) = IsCalled heard s req × (is_tree_wait waiting ≡ true) × (is_pending s.volatile.pending req ≡ false)
 May config heard s (Restores server chunks) = MayRestore heard s server chunks
 May config heard s (Says messages) = AreRight heard s messages × (ask_nobody messages ≡ true) × AreSaidAgain s messages
 May config heard s (Flags req preparing epoch) = Unit {0}
@@ -431,3 +525,15 @@ an_extend_is_no_edit_at_once path = refl
 
 a_stray_answer_is_never_sent : (heard : Heard) (s : State) → IsRightAbout heard s 7 (nodes.Server 0) (abouts.Bad (record { epoch = 0; version = 5 })) ≡ ⊥
 a_stray_answer_is_never_sent heard s = refl
+
+abbrev f : Path
+f = codes "f" ∷ []
+
+the_copy_of_a_place : waits_for_copy f 0 7 8 (waits.Copy f 0 7 8) ≡ true
+the_copy_of_a_place = refl
+
+no_copy_of_another : waits_for_copy f 0 7 8 (waits.Copy f 0 9 8) ≡ false
+no_copy_of_another = refl
+
+an_extend_copies_nothing : (s : State) (req : ReqId) → IsCopyFromNow s req 7 (waits.Extend f 8) ≡ ⊥
+an_extend_copies_nothing s req = refl

@@ -1,0 +1,9 @@
+pub mod Waiting
+pub mod Bare
+pub mod Added
+pub mod Unleased
+pub mod Locks
+pub mod Locked
+pub mod Counted
+pub mod Slots
+pub mod Held

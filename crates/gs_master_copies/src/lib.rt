@@ -1,0 +1,19 @@
+//! What stands of new chunks that calls wait for: which of them are copies, and of what.
+#![tactic(auto)]
+
+ghost use Rattle.gs_master_copies.specs.Bare.{AddedAreBare, BareStays};
+ghost use Rattle.gs_master_copies.specs.Held.{HeldStarts, HeldStays};
+
+/// A new chunk for which a call waits to put it at the end of a file was told to no server as a copy, and nor was one whose handle isn't given: so it stays through each turn. So what a
+/// turn puts at the end of a file is no copy; it was in no file, and is in one behind the turn.
+pub fn a_chunk_that_is_added_is_no_copy()
+    ensures stays { BareStays }
+    ensures added { AddedAreBare }
+{}
+
+/// A call that waits to copy a chunk at a place of a file, or for that copy, has the locks of its path, and no other call holds a place of that file. The chunk stands at the place, till the copy that
+/// the call waits for has come there; and while it is copied nobody has its lease, and none is asked for it. So it stays through each turn, and so it is at a start.
+pub fn a_place_that_a_call_copies_is_held()
+    ensures stays { HeldStays }
+    ensures starts { HeldStarts }
+{}

@@ -1,0 +1,17 @@
+mod Stepping
+mod Ending
+mod Beginning
+mod Runs
+mod Machine
+mod Writing
+mod Unleased
+mod Onward
+mod Shapes
+mod Undone
+mod Shared
+mod Committed
+mod Stepped
+mod Unlisted
+mod Fresh
+mod Bare
+mod Holding

@@ -1,0 +1,69 @@
+-- A run of a store is a run of the plain machine.
+use Rattle.std.specs.Prelude.{[], ◌≡◌, List, Ok, Some, filter_map, map, refl, take, ℕ}
+use Rattle.std.specs.List.{AllByRecursion}
+use Rattle.gs_edit.specs.Machine.{first}
+use Rattle.gs_master_plain.specs.Commands.{Command, all_commanded, but_edit, command_of, edit_at}
+use Rattle.gs_master_plain.specs.Places.{AreAlone, op_of}
+use Rattle.gs_master_plain.specs.Records.{Telling}
+use Rattle.gs_master_record.specs.Plain.{Cow, Edited, Finalize, PlainEntry}
+use Rattle.gs_master_spec.specs.Applied.{replayed}
+use Rattle.gs_path.specs.Path.{Path}
+use Rattle.gs_world.specs.Histories.{History}
+use Rattle.gs_world.specs.Runs.{Step}
+use Rattle.gs_world_chunks.specs.Accounts.{Account}
+use Rattle.gs_world_chunks.specs.Running.{IsNew, IsReached, Moves, Runs, Setup}
+use Rattle.gs_world_plain.specs.Settling.{newly_settled, settled_at}
+use Rattle.gs_world_plain.specs.Stepping.{texts_between}
+use Rattle.gs_world_plain.specs.Views.{chunk_at, plain_view}
+use Rattle.gs_world_plain.specs.Written.{records_at}
+
+-- where a record puts a copy in the place of another chunk, that has its text
+abbrev pub KeepsCopy : Telling → PlainEntry → Type 0
+KeepsCopy t (Edited by (Cow path index before copy)) = t.now copy ≡ t.now before
+KeepsCopy t entry = Unit {0}
+
+-- The step is a list of commands of the plain machine, which lead from the plain view before it to the one behind it. Those that edit no text are what
+-- its records say, each once and in their order; of the records those stand that were written. Those that edit a text are, at each place of a file, the
+-- edits that are settled there, each once and in their order.
+pub record IsPlainStep {D : Type 0} (size : ℕ) (step : Step) (old : History D) (a b : Account) : Type 0 where
+  pub commands : List Command
+  pub leads : all_commanded size commands (plain_view size a) ≡ Ok (plain_view size b)
+  pub written : ℕ
+  pub records : replayed a.durable (take written (records_at step old)) ≡ Some b.durable
+  pub others : filter_map but_edit commands ≡ filter_map command_of (take written (records_at step old))
+  pub edits : (p : Path) (index : ℕ) → filter_map (edit_at p index) commands ≡ map op_of (settled_at a b (chunk_at a p index))
+
+module _ {D : Type 0} (x : Setup D) where
+  -- The plain view of a new store is the plain machine that has done nothing;
+  abbrev pub BeginsPlain : Type 0
+  BeginsPlain = (begun : History D) (a : Account) → IsNew x begun a → plain_view x.config.chunk a ≡ first
+
+  -- each step of each run is such;
+  abbrev pub StepsArePlain : Type 0
+  StepsArePlain = (old new : History D) (a b : Account) (step : Step) → IsReached x old a → Moves x step old a new b → IsPlainStep x.config.chunk step old a b
+
+  -- and so commands lead from one plain view of a run to each later one.
+  pub record IsPlainRun (a b : Account) : Type 0 where
+    pub commands : List Command
+    pub leads : all_commanded x.config.chunk commands (plain_view x.config.chunk a) ≡ Ok (plain_view x.config.chunk b)
+
+  abbrev pub RunsArePlain : Type 0
+  RunsArePlain = (old new : History D) (a b : Account) (steps : List Step) → IsReached x old a → Runs x steps old a new b → IsPlainRun a b
+
+  -- ---- what it rests on
+
+  -- An edit is settled only of a chunk that stands at one place: no other text changes with it.
+  abbrev pub EditsOnePlace : Type 0
+  EditsOnePlace = (old new : History D) (a b : Account) (step : Step) → IsReached x old a → Moves x step old a new b → AreAlone a.durable.names (newly_settled a b)
+
+  -- A chunk that takes the place of another, by a record of a step, has its text, once what is settled at the step is.
+  abbrev pub CopiesHaveTexts : Type 0
+  CopiesHaveTexts = (old new : History D) (a b : Account) (step : Step) (written : ℕ) → IsReached x old a → Moves x step old a new b → replayed a.durable (take written (records_at step old)) ≡ Some b.durable →
+      AllByRecursion (KeepsCopy (texts_between x.config.chunk a b)) (take written (records_at step old))
+
+-- ---- Worked: no steps are no commands
+no_steps : {D : Type 0} (x : Setup D) (a : Account) → IsPlainRun x a a
+no_steps x a = record { commands = []; leads = refl }
+
+what_is_no_copy_keeps_texts : (t : Telling) (epoch : ℕ) → KeepsCopy t (Finalize epoch) ≡ Unit {0}
+what_is_no_copy_keeps_texts t epoch = refl

@@ -1,0 +1,69 @@
+//! A run of a store is a run of the plain machine: what a store shows is a tree of texts, and while an upgrade stands the tree of its prepare; each step is commands that lead from what was shown to what is.
+#![tactic(auto)]
+
+ghost use Rattle.gs_world_chunks.specs.Running.{Setup};
+ghost use Rattle.gs_world_plain.specs.Fresh.{AddedAreAsMade, NewAreAsMade, PlacesAreHeld};
+ghost use Rattle.gs_world_plain.specs.Plainly.{CopiesHaveTexts, BeginsPlain, EditsOnePlace, RunsArePlain, StepsArePlain};
+ghost use Rattle.gs_world_plain.specs.Stepping.{CommitsLead, FinalizesLead, GrowingStepsLead, PreparesLead, StepsOfAccountsLead};
+
+use gs_block::promises::configurations_have_sizes;
+use gs_server_laws::a_message_edits_a_replica_by_what_it_says;
+use gs_world_chunks::{a_rollback_gives_back_what_was_settled, each_rollback_is_of_a_prepare};
+
+/// A step leads from the plain view before it to that behind it, where more is settled of chunks that stand at one place each, its records change no text
+/// but at a rollback, and what is told of the texts behind them is what is settled then, and what was at the last prepare.
+pub fn a_step_leads_from_plain_view_to_plain_view()
+    ensures { StepsOfAccountsLead }
+{}
+
+/// Where a step neither begins nor ends an upgrade, what was settled of each chunk is a beginning of what is settled then, and the account keeps what it
+/// has of the last prepare, it leads from plain view to plain view.
+pub fn a_step_within_an_epoch_leads()
+    ensures { GrowingStepsLead }
+{}
+
+/// So do the steps at which an upgrade is prepared, finalized and rolled back, each by one record: at a prepare what the account has
+/// of each chunk has the text that is settled, and behind a rollback the text of each chunk is that of the prepare.
+pub fn each_end_of_an_upgrade_leads()
+    ensures prepares { PreparesLead }
+    ensures finalizes { FinalizesLead }
+    ensures commits { CommitsLead }
+{}
+
+/// At each step of a run edits are settled only of chunks that stand at one place of the tree: so no other text changes with one.
+pub fn edits_come_to_one_place_each<D>()
+    ensures { (x : Setup D) → EditsOnePlace x }
+{
+    configurations_have_sizes();
+    a_message_edits_a_replica_by_what_it_says();
+    each_rollback_is_of_a_prepare::<D>();
+    a_rollback_gives_back_what_was_settled::<D>();
+}
+
+/// Of a chunk that no file has just those edits are settled of which it is a copy, and none where it is no copy, whatever has happened since it was made; and so it is at a step that puts it into
+/// a file, but where a rollback is committed.
+pub fn new_chunks_are_as_they_were_made<D>()
+    ensures new { (x : Setup D) → NewAreAsMade x }
+    ensures added { (x : Setup D) → AddedAreAsMade x }
+{
+    configurations_have_sizes();
+    a_message_edits_a_replica_by_what_it_says();
+}
+
+/// A call that waits to copy a chunk at a place of a file, or for that copy, holds the place in each world of a run: no other call that waits is about that file, and nobody may write the chunk until the
+/// copy has come there.
+pub fn places_that_are_copied_are_held<D>()
+    ensures { (x : Setup D) → PlacesAreHeld x }
+{}
+
+/// Each step of a run is commands of the plain machine, and so is each run, where a chunk that takes the place of another has its text then. One that is put at the end of a file has none. A new store shows the machine that has done nothing.
+pub fn a_run_is_plain_where_copies_have_their_texts<D>()
+    ensures begins { (x : Setup D) → BeginsPlain x }
+    ensures steps { (x : Setup D) → CopiesHaveTexts x → StepsArePlain x }
+    ensures runs { (x : Setup D) → CopiesHaveTexts x → RunsArePlain x }
+{
+    configurations_have_sizes();
+    a_message_edits_a_replica_by_what_it_says();
+    each_rollback_is_of_a_prepare::<D>();
+    a_rollback_gives_back_what_was_settled::<D>();
+}
