@@ -116,8 +116,8 @@ module _ {D : Type 0} (x : Setup D) where
           subst (BareAt next) (sym to) (subst (λ t. (d : Durable) → IsToldIn t d → (chunk : ℕ) → is_given d.next_handle chunk ≡ false → NoCopy next chunk) (sym (ap (λ s. standing s (x.seen two)) same ∙ ap (standing (x.seen first)) alike)) k)
       armed_at Away other to k = subst (BareAt next) (sym to) k
 
-  bare_on : IsGiven x → (step : Step) (old mid : History D) → Lasts x.seen old.nodes.master → KeepsTypes old → StepsWithin x step old mid → BareAt old.sent old.nodes.master → BareAt mid.sent mid.nodes.master
-  bare_on given step old mid lasts types one k = by_kind (kind_of x.seen x.failures x.armed step old mid one.goes (named x step old one.within types))
+  bare_on : x.fails ≡ false → IsGiven x → (step : Step) (old mid : History D) → Lasts x.seen old.nodes.master → KeepsTypes old → StepsWithin x step old mid → BareAt old.sent old.nodes.master → BareAt mid.sent mid.nodes.master
+  bare_on quiet given step old mid lasts types one k = by_kind (kind_of x.seen x.failures x.armed step old mid one.goes (named x step old one.within types))
     where
       by_kind : Kind x.seen x.failures x.armed step old mid → BareAt mid.sent mid.nodes.master
       by_kind (OfServer id s after messages moment found goes met servers master posted) = subst (BareAt mid.sent) (sym master) (same_at old.sent mid.sent old.nodes.master (λ chunk. copied_by_server chunk id moment messages old.sent mid.sent posted) k)
@@ -126,12 +126,12 @@ module _ {D : Type 0} (x : Setup D) where
       by_kind (OfMaster place messages moment goes servers master posted) =
           subst (BareAt mid.sent) (sym master)
           (does_at given old.sent mid.sent old.nodes.master place messages moment posted
-          (masters_do x.seen x.failures x.armed old.nodes.config old.sent old.nodes.master place messages lasts (sym (ap (failures_at x.failures) master) ∙ one.sound) goes) k)
+          (masters_do x.seen x.failures x.armed old.nodes.config old.sent old.nodes.master place messages lasts (sym (ap (failures_at x.failures) master) ∙ one.sound quiet) goes) k)
 
-  bare_over : IsGiven x → (steps : List Step) (old new : History D) (a b : Account) → Runs x steps old a new b → Lasts x.seen old.nodes.master → KeepsTypes old → BareAt old.sent old.nodes.master → BareAt new.sent new.nodes.master
-  bare_over given [] old new a b runs lasts types k = subst (λ (h : History D). BareAt h.sent h.nodes.master) (sym runs.0) k
-  bare_over given (step ∷ steps) old new a b (mid, c, one, rest) lasts types k =
-      let behind = one_lasts x given step old mid lasts types one.steps in bare_over given steps mid new c b rest behind.0 behind.1 (bare_on given step old mid lasts types one.steps k)
+  bare_over : x.fails ≡ false → IsGiven x → (steps : List Step) (old new : History D) (a b : Account) → Runs x steps old a new b → Lasts x.seen old.nodes.master → KeepsTypes old → BareAt old.sent old.nodes.master → BareAt new.sent new.nodes.master
+  bare_over quiet given [] old new a b runs lasts types k = subst (λ (h : History D). BareAt h.sent h.nodes.master) (sym runs.0) k
+  bare_over quiet given (step ∷ steps) old new a b (mid, c, one, rest) lasts types k =
+      let behind = one_lasts x given quiet step old mid lasts types one.steps in bare_over quiet given steps mid new c b rest behind.0 behind.1 (bare_on quiet given step old mid lasts types one.steps k)
 
   -- in a new store nobody was told anything, and no call waits
   none_told : HaveSizes → (begun : History D) → IsGiven x → Begins x.seen x.failures x.armed x.config x.clients x.disks begun → (chunk : ℕ) → NoCopy begun.sent chunk
@@ -146,9 +146,9 @@ module _ {D : Type 0} (x : Setup D) where
   bare_first : (sent : Sent) (place : MasterPlace D) → ((chunk : ℕ) → NoCopy sent chunk) → OpensAs x.seen start place → BareAt sent place
   bare_first sent place none (after, is, state, firm) = subst (BareAt sent) (sym is) (subst (AreBare (NoCopy sent)) (sym state) (record { waiting = tt; fresh = λ chunk out. none chunk }))
 
-  pub bare_there : HaveSizes → (now : History D) (a : Account) → IsReached x now a → BareAt now.sent now.nodes.master
-  bare_there sizes now a r =
+  pub bare_there : x.fails ≡ false → HaveSizes → (now : History D) (a : Account) → IsReached x now a → BareAt now.sent now.nodes.master
+  bare_there quiet sizes now a r =
       let given = r.begins.given in
-      bare_over given r.steps r.begun now r.first a r.runs (begins_firm x.seen x.failures x.armed x.config x.clients x.disks r.begun given.new r.begins.begins)
+      bare_over quiet given r.steps r.begun now r.first a r.runs (begins_firm x.seen x.failures x.armed x.config x.clients x.disks r.begun given.new r.begins.begins)
       (begins_keeping x.seen x.failures x.armed x.config x.clients x.disks r.begun given.few r.begins.begins)
       (bare_first r.begun.sent r.begun.nodes.master (none_told sizes r.begun given r.begins.begins) (begins_told x.seen x.failures x.armed x.config x.clients x.disks r.begun given.new r.begins.begins))

@@ -106,10 +106,10 @@ module _ {D : Type 0} (x : Setup D) (chunk : ℕ) where
   unled_first place (after, is, state, firm) d has =
       subst (IsUnledUnlisted chunk) (sym (ap (λ (s : State). s.durable) state) ∙ subst (λ p. HasDurable x.seen p d) is has) (λ out. record { term = λ y there. absurd (false≢true (sym (ap is_some (fin.get-empty nat_cmp chunk)) ∙ ap is_some there)) })
 
-  pub unled_there : (now : History D) (a : Account) → IsReached x now a → HasDurable x.seen now.nodes.master a.durable → is_listed a.durable chunk ≡ false → HasNoTerm a.durable chunk
-  unled_there now a r has =
+  pub unled_there : x.fails ≡ false → (now : History D) (a : Account) → IsReached x now a → HasDurable x.seen now.nodes.master a.durable → is_listed a.durable chunk ≡ false → HasNoTerm a.durable chunk
+  unled_there quiet now a r has =
       let given = r.begins.given in
-      holds_over x IsUnledAt given (unled_does given) r.steps r.begun now r.first a r.runs (begins_firm x.seen x.failures x.armed x.config x.clients x.disks r.begun given.new r.begins.begins)
+      holds_over x quiet IsUnledAt given (unled_does given) r.steps r.begun now r.first a r.runs (begins_firm x.seen x.failures x.armed x.config x.clients x.disks r.begun given.new r.begins.begins)
       (begins_keeping x.seen x.failures x.armed x.config x.clients x.disks r.begun given.few r.begins.begins) (unled_first r.begun.nodes.master (begins_told x.seen x.failures x.armed x.config x.clients x.disks r.begun given.new r.begins.begins)) a.durable has
 
 -- ---- lists
@@ -155,12 +155,12 @@ never_back Rolling = refl
 
 -- ---- a step
 
-module _ (sizes : HaveSizes) (law : AreNumbered) {D : Type 0} (x : Setup D) (step : Step) (old new : History D) (a b : Account) (r : IsReached x old a) (moves : Moves x step old a new b) (chunk : ℕ) where
+module _ (sizes : HaveSizes) (law : AreNumbered) {D : Type 0} (x : Setup D) (quiet : x.fails ≡ false) (step : Step) (old new : History D) (a b : Account) (r : IsReached x old a) (moves : Moves x step old a new b) (chunk : ℕ) where
   -- what the master writes
   written : Writes x.seen (records_at step old) old.nodes.master new.nodes.master
   written =
-      let sound = reached_sound x old a r in
-      writes x r.begins.given step old new moves.steps.goes (named x step old moves.steps.within sound.types) sound.lasts moves.steps.sound
+      let sound = reached_sound x quiet old a r in
+      writes x r.begins.given step old new moves.steps.goes (named x step old moves.steps.within sound.types) sound.lasts (moves.steps.sound quiet)
 
   -- a chunk in no file that is settled behind the step was in none
   out_before : is_listed b.durable chunk ≡ false → is_some (fin.get b.durable.chunks chunk) ≡ true → is_listed a.durable chunk ≡ false
@@ -168,10 +168,10 @@ module _ (sizes : HaveSizes) (law : AreNumbered) {D : Type 0} (x : Setup D) (ste
     where
       by_writes : Writes x.seen (records_at step old) old.nodes.master new.nodes.master → is_listed a.durable chunk ≡ false
       by_writes (Keeps f) =
-          ap (λ (d : Durable). is_listed d chunk) (has_one x new.nodes.master a.durable b.durable (f a.durable (had sizes law x step old new a b r moves)) (has sizes law x step old new a b r moves)) ∙ out
+          ap (λ (d : Durable). is_listed d chunk) (has_one x new.nodes.master a.durable b.durable (f a.durable (had sizes law x quiet step old new a b r moves)) (has sizes law x quiet step old new a b r moves)) ∙ out
       by_writes (Turns m after heard t at to turn fits state many is) =
-          let first : m.state.durable ≡ a.durable = subst (λ p. HasDurable x.seen p a.durable) at (had sizes law x step old new a b r moves) in
-          let last : after.state.durable ≡ b.durable = subst (λ p. HasDurable x.seen p b.durable) to (has sizes law x step old new a b r moves) in
+          let first : m.state.durable ≡ a.durable = subst (λ p. HasDurable x.seen p a.durable) at (had sizes law x quiet step old new a b r moves) in
+          let last : after.state.durable ≡ b.durable = subst (λ p. HasDurable x.seen p b.durable) to (has sizes law x quiet step old new a b r moves) in
           let same : t.after.durable ≡ b.durable = sym (ap (λ (s : State). s.durable) state) ∙ last in
           ap (λ (d : Durable). is_listed d chunk) (sym first)
           ∙ turn_out chunk m.config heard m.state t turn (ap (λ (d : Durable). is_listed d chunk) same ∙ out) (ap (λ (d : Durable). is_some (fin.get d.chunks chunk)) same ∙ some)
@@ -180,15 +180,15 @@ module _ (sizes : HaveSizes) (law : AreNumbered) {D : Type 0} (x : Setup D) (ste
   unled_view : (view : View) → view_at a chunk ≡ Some view → is_listed a.durable chunk ≡ false → view.term ≡ None
   unled_view view told out =
       let row = row_of (fin.get a.durable.chunks chunk) view told in
-      ap (λ (v : View). v.term) (sym row.2) ∙ (unled_there x chunk old a r (had sizes law x step old new a b r moves) out).term row.0 row.1
+      ap (λ (v : View). v.term) (sym row.2) ∙ (unled_there x chunk quiet old a r (had sizes law x quiet step old new a b r moves) out).term row.0 row.1
 
   -- one of which a view is told behind it lives then
   module _ (later : View) (told_then : view_at b chunk ≡ Some later) (goes_on : rolls_back a.durable b.durable ≡ false) where
-    living : (m : IsAlive x.seen x.config (bytes sizes law x step old new a b r moves) chunk new) × ((next sizes law x step old new a b r moves).goes.last.life chunk ≡ inr m)
-    living = living_told x (asked sizes law x step old new a b r moves) new b (sees_behind sizes law x step old new a b r moves) chunk (has_row (fin.get b.durable.chunks chunk) later told_then)
+    living : (m : IsAlive x.seen x.config (bytes sizes law x quiet step old new a b r moves) chunk new) × ((next sizes law x quiet step old new a b r moves).goes.last.life chunk ≡ inr m)
+    living = living_told x (asked sizes law x quiet step old new a b r moves) new b (sees_behind sizes law x quiet step old new a b r moves) chunk (has_row (fin.get b.durable.chunks chunk) later told_then)
 
     abbrev heard : Option ℕ
-    heard = heard_in x.seen x.failures x.armed (next sizes law x step old new a b r moves).goes.kind
+    heard = heard_in x.seen x.failures x.armed (next sizes law x quiet step old new a b r moves).goes.kind
 
     -- with what it was born
     abbrev origin : List Edit
@@ -196,20 +196,20 @@ module _ (sizes : HaveSizes) (law : AreNumbered) {D : Type 0} (x : Setup D) (ste
 
     origin_then : edits_of b (copied_from new.sent chunk) ≡ origin
     origin_then =
-        let seen = seen_of x (asked sizes law x step old new a b r moves) new b (sees_behind sizes law x step old new a b r moves) r.apart chunk living.0 living.1 in
-        copied_edits b (copied_from new.sent chunk) ∙ (seen.0.agrees).lists.origin ∙ ap (λ (z : IsAlive x.seen x.config (bytes sizes law x step old new a b r moves) chunk new). z.reached.0.origin) seen.1
+        let seen = seen_of x (asked sizes law x quiet step old new a b r moves) new b (sees_behind sizes law x quiet step old new a b r moves) r.apart chunk living.0 living.1 in
+        copied_edits b (copied_from new.sent chunk) ∙ (seen.0.agrees).lists.origin ∙ ap (λ (z : IsAlive x.seen x.config (bytes sizes law x quiet step old new a b r moves) chunk new). z.reached.0.origin) seen.1
 
     -- it isn't born at this step
-    module _ (unborn : IsUnborn x.seen chunk old) (is : (sees sizes law x step old new a b r moves).first.lives.life chunk ≡ inl unborn) (comes : ComesAlive x.seen x.config (bytes sizes law x step old new a b r moves) chunk old new living.0) where
+    module _ (unborn : IsUnborn x.seen chunk old) (is : (sees sizes law x quiet step old new a b r moves).first.lives.life chunk ≡ inl unborn) (comes : ComesAlive x.seen x.config (bytes sizes law x quiet step old new a b r moves) chunk old new living.0) where
       before : comes.before ≡ a.durable
-      before = told_is_had x.seen old.nodes.master a.durable comes.before (sees sizes law x step old new a b r moves).first.lives.lasts (sees sizes law x step old new a b r moves).first.agrees.told comes.had
+      before = told_is_had x.seen old.nodes.master a.durable comes.before (sees sizes law x quiet step old new a b r moves).first.lives.lasts (sees sizes law x quiet step old new a b r moves).first.agrees.told comes.had
 
       behind : comes.behind ≡ b.durable
-      behind = told_is_had x.seen new.nodes.master b.durable comes.behind (next sizes law x step old new a b r moves).goes.last.lasts moves.told comes.has
+      behind = told_is_had x.seen new.nodes.master b.durable comes.behind (next sizes law x quiet step old new a b r moves).goes.last.lasts moves.told comes.has
 
       up : (world_of living.0.reached.0).known.view < (living.0.world).known.view
       up =
-          let blank = blank_of x (asked sizes law x step old new a b r moves) old a (sees sizes law x step old new a b r moves).first chunk unborn is in
+          let blank = blank_of x (asked sizes law x quiet step old new a b r moves) old a (sees sizes law x quiet step old new a b r moves).first chunk unborn is in
           let y = row_of (fin.get b.durable.chunks chunk) later told_then in
           comes.rows.appears y.0 (ap (λ (d : Durable). fin.get d.chunks chunk) before ∙ blank.none) (ap (λ (d : Durable). fin.get d.chunks chunk) behind ∙ y.1)
 
@@ -224,18 +224,18 @@ module _ (sizes : HaveSizes) (law : AreNumbered) {D : Type 0} (x : Setup D) (ste
     -- the account had of what it copies just that before
     origin_before : (edits_of a (copied_from new.sent chunk) ≡ origin) × (edits_of a (copied_from old.sent chunk) ≡ origin)
     origin_before =
-        by_life ((sees sizes law x step old new a b r moves).first.lives.life chunk) refl
-        (subst (λ life. GoesOn x.seen x.config (bytes sizes law x step old new a b r moves) chunk step heard old new ((sees sizes law x step old new a b r moves).first.lives.life chunk) life) living.1 ((next sizes law x step old new a b r moves).goes.goes chunk))
+        by_life ((sees sizes law x quiet step old new a b r moves).first.lives.life chunk) refl
+        (subst (λ life. GoesOn x.seen x.config (bytes sizes law x quiet step old new a b r moves) chunk step heard old new ((sees sizes law x quiet step old new a b r moves).first.lives.life chunk) life) living.1 ((next sizes law x quiet step old new a b r moves).goes.goes chunk))
       where
-        by_life : (life : Life x.seen x.config (bytes sizes law x step old new a b r moves) chunk old) → (sees sizes law x step old new a b r moves).first.lives.life chunk ≡ life
-            → GoesOn x.seen x.config (bytes sizes law x step old new a b r moves) chunk step heard old new life (inr living.0) → (edits_of a (copied_from new.sent chunk) ≡ origin) × (edits_of a (copied_from old.sent chunk) ≡ origin)
+        by_life : (life : Life x.seen x.config (bytes sizes law x quiet step old new a b r moves) chunk old) → (sees sizes law x quiet step old new a b r moves).first.lives.life chunk ≡ life
+            → GoesOn x.seen x.config (bytes sizes law x quiet step old new a b r moves) chunk step heard old new life (inr living.0) → (edits_of a (copied_from new.sent chunk) ≡ origin) × (edits_of a (copied_from old.sent chunk) ≡ origin)
         by_life (inl unborn) is comes = absurd (not_born unborn is comes)
         by_life (inr l) is goes =
-            let seen = seen_of x (asked sizes law x step old new a b r moves) old a (sees sizes law x step old new a b r moves).first r.apart chunk l is in
-            let copied = copied_same x.seen x.config (bytes sizes law x step old new a b r moves) l.reached.0.epoch chunk step old new l.world living.0.world goes.by in
+            let seen = seen_of x (asked sizes law x quiet step old new a b r moves) old a (sees sizes law x quiet step old new a b r moves).first r.apart chunk l is in
+            let copied = copied_same x.seen x.config (bytes sizes law x quiet step old new a b r moves) l.reached.0.epoch chunk step old new l.world living.0.world goes.by in
             let was : edits_of a (copied_from old.sent chunk) ≡ origin =
             copied_edits a (copied_from old.sent chunk) ∙ (seen.0.agrees).lists.origin
-            ∙ ap (λ (z : IsAlive x.seen x.config (bytes sizes law x step old new a b r moves) chunk old). z.reached.0.origin) seen.1 ∙ ap (λ (birth : Birth). birth.origin) (sym goes.same) in
+            ∙ ap (λ (z : IsAlive x.seen x.config (bytes sizes law x quiet step old new a b r moves) chunk old). z.reached.0.origin) seen.1 ∙ ap (λ (birth : Birth). birth.origin) (sym goes.same) in
             (ap (edits_of a) copied ∙ was, was)
 
     -- it is a copy of what it was
@@ -267,7 +267,7 @@ module _ (sizes : HaveSizes) (law : AreNumbered) {D : Type 0} (x : Setup D) (ste
         by_view None none = (let short = first_list none in let is = made in omega arith)
         by_view (Some view) told =
             let none = unled_view view told out in
-            let less = no_more sizes law x step old new a b r moves chunk view later told told_then goes_on none in
+            let less = no_more sizes law x quiet step old new a b r moves chunk view later told told_then goes_on none in
             let was = before view told in
             let same = ap (λ (es : List Edit). length es) origin_before.1 in
             let is = made in
@@ -286,16 +286,16 @@ module _ (sizes : HaveSizes) (law : AreNumbered) {D : Type 0} (x : Setup D) (ste
 
       by_pace : (config : Config) (heard : Heard) (s : State) (t : Turn) → Paced config heard s t → s.durable ≡ a.durable → t.after.durable ≡ b.durable → AllByRecursion (IsEntry Two) t.records → replayed a.durable t.records ≡ Some b.durable → is_listed b.durable chunk ≡ true
       by_pace config said s t (Goes u v chain) first last fits replays =
-          absurd (true≢false (sym back ∙ none_is_back a.durable b.durable (same_phase_over a.durable b.durable v.records (kept_before sizes law x step old new a b r moves) fits (subst (λ d. GoWithin d v.records) first (chain_within config said u v chain fits).0) replays)))
+          absurd (true≢false (sym back ∙ none_is_back a.durable b.durable (same_phase_over a.durable b.durable v.records (kept_before sizes law x quiet step old new a b r moves) fits (subst (λ d. GoWithin d v.records) first (chain_within config said u v chain fits).0) replays)))
       by_pace config said s t (Bounds u move refused made bound) first last fits replays = by_move config said u move bound made last replays
 
       by_writes : Writes x.seen (records_at step old) old.nodes.master new.nodes.master → is_listed b.durable chunk ≡ true
       by_writes (Keeps f) =
-          let same = has_one x new.nodes.master a.durable b.durable (f a.durable (had sizes law x step old new a b r moves)) (has sizes law x step old new a b r moves) in
+          let same = has_one x new.nodes.master a.durable b.durable (f a.durable (had sizes law x quiet step old new a b r moves)) (has sizes law x quiet step old new a b r moves) in
           absurd (true≢false (sym back ∙ ap (λ (d : Durable). rolls_back a.durable d) (sym same) ∙ never_back a.durable.phase))
       by_writes (Turns m after heard t at to turn fits state many is) =
-          let first : m.state.durable ≡ a.durable = subst (λ p. HasDurable x.seen p a.durable) at (had sizes law x step old new a b r moves) in
-          let last : after.state.durable ≡ b.durable = subst (λ p. HasDurable x.seen p b.durable) to (has sizes law x step old new a b r moves) in
+          let first : m.state.durable ≡ a.durable = subst (λ p. HasDurable x.seen p a.durable) at (had sizes law x quiet step old new a b r moves) in
+          let last : after.state.durable ≡ b.durable = subst (λ p. HasDurable x.seen p b.durable) to (has sizes law x quiet step old new a b r moves) in
           let same : t.after.durable ≡ b.durable = sym (ap (λ (s : State). s.durable) state) ∙ last in
           let replays : replayed a.durable t.records ≡ Some b.durable = ap (λ d. replayed d t.records) (sym first) ∙ turn_fits m.config heard m.state t turn fits ∙ ap Some same in
           by_pace m.config heard m.state t (paced m.config heard m.state t turn) first same fits replays
@@ -314,14 +314,14 @@ module _ (sizes : HaveSizes) (law : AreNumbered) {D : Type 0} (x : Setup D) (ste
 
 -- ---- runs
 
-module _ (sizes : HaveSizes) (law : AreNumbered) {D : Type 0} (x : Setup D) where
+module _ (sizes : HaveSizes) (law : AreNumbered) {D : Type 0} (x : Setup D) (quiet : x.fails ≡ false) where
   abbrev AreFresh : History D → Account → Type 0
   AreFresh now a = (chunk : ℕ) (view : View) → is_listed a.durable chunk ≡ false → view_at a chunk ≡ Some view → length (settled_edits a chunk) ≤ length (edits_of a (copied_from now.sent chunk))
 
   fresh_over : (steps : List Step) (old new : History D) (a b : Account) → IsReached x old a → Runs x steps old a new b → AreFresh old a → AreFresh new b
   fresh_over [] old new a b r runs fresh = subst (λ h. AreFresh h b) (sym runs.0) (subst (AreFresh old) (sym runs.1) fresh)
   fresh_over (step ∷ steps) old new a b r (mid, c, one, rest) fresh =
-      fresh_over steps mid new c b (reach_more x old mid a c (step ∷ []) r (mid, c, one, (refl, refl))) rest (λ chunk later out told. fresh_step sizes law x step old mid a c r one chunk (λ view was there. fresh chunk view was there) later out told)
+      fresh_over steps mid new c b (reach_more x old mid a c (step ∷ []) r (mid, c, one, (refl, refl))) rest (λ chunk later out told. fresh_step sizes law x quiet step old mid a c r one chunk (λ view was there. fresh chunk view was there) later out told)
 
   -- in a new store no view is told
   fresh_first : (begun : History D) (a : Account) → IsNew x begun a → AreFresh begun a
@@ -349,9 +349,9 @@ module _ (sizes : HaveSizes) (law : AreNumbered) {D : Type 0} (x : Setup D) wher
 
   pub added_as_made : AddedAreAsMade x
   added_as_made old new a b step chunk r moves goes_on out listed =
-      let there = view_there (fin.get b.durable.chunks chunk) ((kept_behind sizes law x step old new a b r moves).settled chunk listed) in
+      let there = view_there (fin.get b.durable.chunks chunk) ((kept_behind sizes law x quiet step old new a b r moves).settled chunk listed) in
       let reached = reach_more x old new a b (step ∷ []) r (new, b, moves, (refl, refl)) in
-      let short = fresh_list sizes law x step old new a b r moves chunk there.0 there.1 goes_on out (λ view told. fresh_there old a r chunk view out told) in
+      let short = fresh_list sizes law x quiet step old new a b r moves chunk there.0 there.1 goes_on out (λ view told. fresh_there old a r chunk view out told) in
       by_view there.0 there.1 (just_made new b chunk there.0 reached there.1 short) (view_at a chunk) refl
     where
       view_there : (o : Option Settled) → is_some o ≡ true → (view : View) × (view_in o ≡ Some view)
@@ -361,6 +361,6 @@ module _ (sizes : HaveSizes) (law : AreNumbered) {D : Type 0} (x : Setup D) wher
       by_view : (later : View) → view_at b chunk ≡ Some later → settled_edits b chunk ≡ edits_of b (copied_from new.sent chunk) → (o : Option View) → view_at a chunk ≡ o → settled_edits a chunk ++ newly_settled a b chunk ≡ edits_of b (copied_from new.sent chunk)
       by_view later told_then all None none = ap (λ es. es ++ drop (length es) (settled_edits b chunk)) (ap (settled_in a chunk) none) ∙ all
       by_view later told_then all (Some view) told =
-          let origin = origin_before sizes law x step old new a b r moves chunk later told_then goes_on in
-          ap (λ es. settled_edits a chunk ++ es) (none_new sizes law x step old new a b r moves chunk view told (unled_view sizes law x step old new a b r moves chunk view told out) goes_on)
-          ∙ append-nil (settled_edits a chunk) ∙ new_as_made old a chunk view r out told ∙ origin.1 ∙ sym (origin_then sizes law x step old new a b r moves chunk later told_then goes_on)
+          let origin = origin_before sizes law x quiet step old new a b r moves chunk later told_then goes_on in
+          ap (λ es. settled_edits a chunk ++ es) (none_new sizes law x quiet step old new a b r moves chunk view told (unled_view sizes law x quiet step old new a b r moves chunk view told out) goes_on)
+          ∙ append-nil (settled_edits a chunk) ∙ new_as_made old a chunk view r out told ∙ origin.1 ∙ sym (origin_then sizes law x quiet step old new a b r moves chunk later told_then goes_on)

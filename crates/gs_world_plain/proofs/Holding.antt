@@ -41,11 +41,11 @@ module _ {D : Type 0} (x : Setup D) where
   held_first : (place : MasterPlace D) → OpensAs x.seen start place → IsHeldAt place
   held_first place (after, is, state, firm) = subst IsHeldAt (sym is) (subst AreHeld (sym state) (none_held (restarted start after.state.log) refl))
 
-  pub held_there : (now : History D) (a : Account) → IsReached x now a → IsHeldAt now.nodes.master
-  held_there now a r =
+  pub held_there : x.fails ≡ false → (now : History D) (a : Account) → IsReached x now a → IsHeldAt now.nodes.master
+  held_there quiet now a r =
       let given = r.begins.given in
-      holds_over x IsHeldAt given (held_does given) r.steps r.begun now r.first a r.runs (begins_firm x.seen x.failures x.armed x.config x.clients x.disks r.begun given.new r.begins.begins)
+      holds_over x quiet IsHeldAt given (held_does given) r.steps r.begun now r.first a r.runs (begins_firm x.seen x.failures x.armed x.config x.clients x.disks r.begun given.new r.begins.begins)
       (begins_keeping x.seen x.failures x.armed x.config x.clients x.disks r.begun given.few r.begins.begins) (held_first r.begun.nodes.master (begins_told x.seen x.failures x.armed x.config x.clients x.disks r.begun given.new r.begins.begins))
 
   pub places_held : PlacesAreHeld x
-  places_held now a m r at = subst IsHeldAt at (held_there now a r)
+  places_held quiet now a m r at = subst IsHeldAt at (held_there quiet now a r)

@@ -23,10 +23,9 @@ use Rattle.gs_world.specs.Histories.{History}
 use Rattle.gs_world.specs.Runs.{Step}
 use Rattle.gs_world_chunks.proofs.Durables.{told_is_had}
 use Rattle.gs_world_chunks.proofs.Edits.{AreNumbered}
-use Rattle.gs_world_chunks.proofs.Holding.{lives_on}
 use Rattle.gs_world_chunks.proofs.Intact.{told_same}
 use Rattle.gs_world_chunks.proofs.Runs.{has_told, keeps_told, living_told, seen_of}
-use Rattle.gs_world_chunks.proofs.Seeing.{SeesNext, each_sees_on, sees_step}
+use Rattle.gs_world_chunks.proofs.Seeing.{SeesNext, each_sees_on, lives_on_sound, sees_step}
 use Rattle.gs_world_chunks.proofs.Told.{reached_sound}
 use Rattle.gs_world_chunks.proofs.Viewing.{IsToldView, told_view}
 use Rattle.gs_world_chunks.specs.Accounts.{Account, settled_edits, settled_in, view_at}
@@ -64,9 +63,9 @@ view_of : (o : Option Settled) → is_some o ≡ true → (view : View) × (view
 view_of None some = absurd (false≢true some)
 view_of (Some y) some = (y.view, refl)
 
-module _ (sizes : HaveSizes) (law : AreNumbered) {D : Type 0} (x : Setup D) (step : Step) (old new : History D) (a b : Account) (r : IsReached x old a) (moves : Moves x step old a new b) where
+module _ (sizes : HaveSizes) (law : AreNumbered) {D : Type 0} (x : Setup D) (quiet : x.fails ≡ false) (step : Step) (old new : History D) (a b : Account) (r : IsReached x old a) (moves : Moves x step old a new b) where
   pub sees : SeesBoth x old a new b
-  sees = each_sees_on sizes law x old new a b (step ∷ []) r (new, b, moves, (refl, refl))
+  sees = each_sees_on sizes law x quiet old new a b (step ∷ []) r (new, b, moves, (refl, refl))
 
   abbrev pub asked : ℕ → Asked
   asked = sees.asked
@@ -84,7 +83,7 @@ module _ (sizes : HaveSizes) (law : AreNumbered) {D : Type 0} (x : Setup D) (ste
   one_edit = of_one_edit asked new sees.are
 
   pub next : SeesNext x asked given law step old new a b sees.first
-  next = sees_step x asked given law r.apart step old new a b sees.first (reached_sound x old a r).types moves right one_edit
+  next = sees_step x asked given quiet law r.apart step old new a b sees.first (reached_sound x quiet old a r).types moves right one_edit
 
   abbrev pub behind : Sees x asked new b
   behind = record { lives = next.goes.last; tells = next.tells; agrees = next.agrees; intact = next.intact }
@@ -111,7 +110,7 @@ module _ (sizes : HaveSizes) (law : AreNumbered) {D : Type 0} (x : Setup D) (ste
     l = living.0
 
     pub lived : (m : IsAlive x.seen x.config bytes chunk new) × (next.goes.last.life chunk ≡ inr m)
-    lived = lives_on law x asked given step old new a b moves sees.first next chunk l living.1
+    lived = lives_on_sound x asked given quiet law step old new a b sees.first next chunk l living.1
 
     abbrev m : IsAlive x.seen x.config bytes chunk new
     m = lived.0

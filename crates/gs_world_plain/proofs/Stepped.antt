@@ -67,15 +67,15 @@ durable_is h = cc
 one_applies : (d next : Durable) (entry : PlainEntry) → replayed d (entry ∷ []) ≡ Some next → applied d entry ≡ Some next
 one_applies d next entry is = let first = then_replays d next entry [] is in first.1 ∙ first.2
 
-module _ (sizes : HaveSizes) (law : AreNumbered) {D : Type 0} (x : Setup D) (copies : CopiesHaveTexts x) (of_prepare : EachIsOfAPrepare x) (settled_back : GivesSettledBack x) (no_other : GivesNoOtherBack x) (step : Step) (old new : History D) (a b : Account) (r : IsReached x old a) (moves : Moves x step old a new b) where
+module _ (sizes : HaveSizes) (law : AreNumbered) {D : Type 0} (x : Setup D) (quiet : x.fails ≡ false) (copies : CopiesHaveTexts x) (of_prepare : EachIsOfAPrepare x) (settled_back : GivesSettledBack x) (no_other : GivesNoOtherBack x) (step : Step) (old new : History D) (a b : Account) (r : IsReached x old a) (moves : Moves x step old a new b) where
   abbrev size : ℕ
   size = x.config.chunk
 
   first_kept : IsKept a.durable
-  first_kept = kept_before sizes law x step old new a b r moves
+  first_kept = kept_before sizes law x quiet step old new a b r moves
 
   last_kept : IsKept b.durable
-  last_kept = kept_behind sizes law x step old new a b r moves
+  last_kept = kept_behind sizes law x quiet step old new a b r moves
 
   before_same : prepares a.durable b.durable ≡ false → b.before ≡ a.before
   before_same none = ap (λ (c : Account). c.before) moves.account ∙ ap (λ q. (λ (chunk : ℕ). if q then edits_in a chunk (view_at a chunk) else a.before chunk)) none
@@ -96,7 +96,7 @@ module _ (sizes : HaveSizes) (law : AreNumbered) {D : Type 0} (x : Setup D) (cop
   added_text : rolls_back a.durable b.durable ≡ false → (chunk : ℕ) → copied_from old.sent chunk ≡ None → is_listed a.durable chunk ≡ false → is_listed b.durable chunk ≡ true → HasNoText chunk
   added_text goes_on chunk none out listed =
       let there = view_of (fin.get b.durable.chunks chunk) (last_kept.settled chunk listed) in
-      ap (text_of size) (added_as_made sizes law x old new a b step chunk r moves goes_on out listed ∙ same_made sizes law x step old new a b r moves chunk there.0 there.1 goes_on ∙ ap (edits_of a) none) ∙ no_edits_no_text
+      ap (text_of size) (added_as_made sizes law x quiet old new a b step chunk r moves goes_on out listed ∙ same_made sizes law x quiet step old new a b r moves chunk there.0 there.1 goes_on ∙ ap (edits_of a) none) ∙ no_edits_no_text
 
   both_keep : (t : Telling) (records : List PlainEntry) → AllByRecursion (AddsBare (λ chunk. t.now chunk ≡ [])) records → AllByRecursion (KeepsCopy t) records → AllByRecursion (KeepsTexts t) records
   both_keep t [] adds copy = tt
@@ -122,11 +122,11 @@ module _ (sizes : HaveSizes) (law : AreNumbered) {D : Type 0} (x : Setup D) (cop
       plain_by many replays (growing_lead size a b records (record {
         stands = first_kept;
         within = all_within a.durable b.durable records go replays;
-        alone = alone_within sizes law x step old new a b r moves goes_on;
+        alone = alone_within sizes law x quiet step old new a b r moves goes_on;
         written = written;
         keep = all_keep_texts (texts_between size a b) a.durable records go (both_keep (texts_between size a b) records (adds goes_on) (copies old new a b step many r moves replays));
         replays = replays;
-        grows = of_places b last_kept (λ chunk. settled_edits a chunk ++ newly_settled a b chunk ≡ settled_edits b chunk) (λ chunk listed. grows sizes law x step old new a b r moves chunk listed goes_on);
+        grows = of_places b last_kept (λ chunk. settled_edits a chunk ++ newly_settled a b chunk ≡ settled_edits b chunk) (λ chunk listed. grows sizes law x quiet step old new a b r moves chunk listed goes_on);
         before = before_same (none_begins a.durable b.durable phase);
       }))
 
@@ -140,22 +140,22 @@ module _ (sizes : HaveSizes) (law : AreNumbered) {D : Type 0} (x : Setup D) (cop
       let begins = prepare_begins a.durable b.durable epoch moment chunks applies in
       let up : IsUpgrading x new b new b = record { old = old; first = a; reached = r; step = step; moves = moves; accepted = begins.0; steps = []; runs = (refl, refl) } in
       let listed_then : (chunk : ℕ) → is_listed a.durable chunk ≡ true → is_listed b.durable chunk ≡ true = λ chunk listed. ap (λ names. is_some (fin.get names.refs chunk)) begins.2 ∙ listed in
-      prepares_lead size a b epoch moment chunks (ends_by (Prepare epoch moment chunks) (alone_within sizes law x step old new a b r moves begins.1) written applies)
-      (of_places b last_kept (λ chunk. settled_edits a chunk ++ newly_settled a b chunk ≡ settled_edits b chunk) (λ chunk listed. grows sizes law x step old new a b r moves chunk listed begins.1))
+      prepares_lead size a b epoch moment chunks (ends_by (Prepare epoch moment chunks) (alone_within sizes law x quiet step old new a b r moves begins.1) written applies)
+      (of_places b last_kept (λ chunk. settled_edits a chunk ++ newly_settled a b chunk ≡ settled_edits b chunk) (λ chunk listed. grows sizes law x quiet step old new a b r moves chunk listed begins.1))
       (of_places a first_kept (λ chunk. text_of size (settled_edits a chunk ++ newly_settled a b chunk) ≡ text_of size (b.before chunk))
-      (λ chunk listed. ap (text_of size) (grows sizes law x step old new a b r moves chunk (listed_then chunk listed) begins.1 ∙ sym (before_is_settled sizes law x new new b b up chunk (listed_then chunk listed) last_kept))))
+      (λ chunk listed. ap (text_of size) (grows sizes law x quiet step old new a b r moves chunk (listed_then chunk listed) begins.1 ∙ sym (before_is_settled sizes law x quiet new new b b up chunk (listed_then chunk listed) last_kept))))
 
   finalized : (epoch : ℕ) → IsEntry Two (Finalize epoch) → applied a.durable (Finalize epoch) ≡ Some b.durable → AreCommandsOf size a b (Finalize epoch ∷ [])
   finalized epoch written applies =
       let goes_on = finalize_ends a.durable b.durable epoch applies in
-      finalizes_lead size a b epoch (ends_by (Finalize epoch) (alone_within sizes law x step old new a b r moves goes_on) written applies)
-      (of_places b last_kept (λ chunk. settled_edits a chunk ++ newly_settled a b chunk ≡ settled_edits b chunk) (λ chunk listed. grows sizes law x step old new a b r moves chunk listed goes_on))
+      finalizes_lead size a b epoch (ends_by (Finalize epoch) (alone_within sizes law x quiet step old new a b r moves goes_on) written applies)
+      (of_places b last_kept (λ chunk. settled_edits a chunk ++ newly_settled a b chunk ≡ settled_edits b chunk) (λ chunk listed. grows sizes law x quiet step old new a b r moves chunk listed goes_on))
 
   rolled_back : (epoch : ℕ) (answers : List Answered) → IsEntry Two (RollbackCommit epoch answers) → applied a.durable (RollbackCommit epoch answers) ≡ Some b.durable → AreCommandsOf size a b (RollbackCommit epoch answers ∷ [])
   rolled_back epoch answers written applies =
       let committed = commit_is_back a.durable b.durable epoch answers first_kept applies in
-      commits_lead size a b epoch answers (ends_by (RollbackCommit epoch answers) (alone_back sizes law x of_prepare settled_back no_other step old new a b r moves committed) written applies)
-      (of_places b last_kept (λ chunk. text_of size (a.before chunk) ≡ text_of size (settled_edits b chunk)) (λ chunk listed. ap (text_of size) (settled_is_before sizes law x of_prepare settled_back no_other step old new a b r moves committed chunk listed)))
+      commits_lead size a b epoch answers (ends_by (RollbackCommit epoch answers) (alone_back sizes law x quiet of_prepare settled_back no_other step old new a b r moves committed) written applies)
+      (of_places b last_kept (λ chunk. text_of size (a.before chunk) ≡ text_of size (settled_edits b chunk)) (λ chunk listed. ap (text_of size) (settled_is_before sizes law x quiet of_prepare settled_back no_other step old new a b r moves committed chunk listed)))
 
   -- ---- a turn
 
@@ -175,15 +175,15 @@ module _ (sizes : HaveSizes) (law : AreNumbered) {D : Type 0} (x : Setup D) (cop
 
   same_there : Writes x.seen (records_at step old) old.nodes.master new.nodes.master → IsPlainStep size step old a b
   same_there (Keeps f) =
-      let same = has_one x new.nodes.master a.durable b.durable (f a.durable (had sizes law x step old new a b r moves)) (has sizes law x step old new a b r moves) in
+      let same = has_one x new.nodes.master a.durable b.durable (f a.durable (had sizes law x quiet step old new a b r moves)) (has sizes law x quiet step old new a b r moves) in
       within 0 (λ goes_on. tt) tt tt (ap Some same)
   same_there (Turns m after heard t at to turn written state many is) =
-      let first : m.state.durable ≡ a.durable = subst (λ p. HasDurable x.seen p a.durable) at (had sizes law x step old new a b r moves) in
-      let last : after.state.durable ≡ b.durable = subst (λ p. HasDurable x.seen p b.durable) to (has sizes law x step old new a b r moves) in
+      let first : m.state.durable ≡ a.durable = subst (λ p. HasDurable x.seen p a.durable) at (had sizes law x quiet step old new a b r moves) in
+      let last : after.state.durable ≡ b.durable = subst (λ p. HasDurable x.seen p b.durable) to (has sizes law x quiet step old new a b r moves) in
       let fit = turn_fits m.config heard m.state t turn written in
       let replays : replayed a.durable t.records ≡ Some b.durable = ap (λ d. replayed d t.records) (sym first) ∙ fit ∙ ap Some (sym (ap (λ (s : State). s.durable) state) ∙ last) in
       let well = once_stands m.config heard m.state t turn written (subst IsKept (sym first) first_kept) in
-      let bare = subst (BareAt x old.sent) at (bare_there x sizes old a r) in
+      let bare = subst (BareAt x old.sent) at (bare_there x quiet sizes old a r) in
       let out : (chunk : ℕ) → is_listed m.state.durable chunk ≡ false → is_listed a.durable chunk ≡ false = λ chunk none. ap (λ (d : Durable). is_listed d chunk) (sym first) ∙ none in
       let in_file : (chunk : ℕ) → is_listed t.after.durable chunk ≡ true → is_listed b.durable chunk ≡ true = λ chunk some. ap (λ (d : Durable). is_listed d chunk) (sym (sym (ap (λ (s : State). s.durable) state) ∙ last)) ∙ some in
       by_pace many m.config heard m.state t
@@ -191,16 +191,16 @@ module _ (sizes : HaveSizes) (law : AreNumbered) {D : Type 0} (x : Setup D) (cop
 
   pub step_plain : IsPlainStep size step old a b
   step_plain =
-      let sound = reached_sound x old a r in
-      same_there (writes x r.begins.given step old new moves.steps.goes (named x step old moves.steps.within sound.types) sound.lasts moves.steps.sound)
+      let sound = reached_sound x quiet old a r in
+      same_there (writes x r.begins.given step old new moves.steps.goes (named x step old moves.steps.within sound.types) sound.lasts (moves.steps.sound quiet))
 
 pub steps_plain : HaveSizes → AreNumbered → {D : Type 0} (x : Setup D) → EachIsOfAPrepare x → GivesSettledBack x → GivesNoOtherBack x → CopiesHaveTexts x → StepsArePlain x
-steps_plain sizes law x of_prepare settled_back no_other copies old new a b step r moves = step_plain sizes law x copies of_prepare settled_back no_other step old new a b r moves
+steps_plain sizes law x quiet of_prepare settled_back no_other copies old new a b step r moves = step_plain sizes law x quiet copies of_prepare settled_back no_other step old new a b r moves
 
 -- edits come to chunks at one place each
 pub edits_one_place : HaveSizes → AreNumbered → {D : Type 0} (x : Setup D) → EachIsOfAPrepare x → GivesSettledBack x → GivesNoOtherBack x → EditsOnePlace x
-edits_one_place sizes law x of_prepare settled_back no_other old new a b step r moves = by_phase (rolls_back a.durable b.durable) refl
+edits_one_place sizes law x quiet of_prepare settled_back no_other old new a b step r moves = by_phase (rolls_back a.durable b.durable) refl
   where
     by_phase : (back : Bool) → rolls_back a.durable b.durable ≡ back → AreAlone a.durable.names (newly_settled a b)
-    by_phase false goes_on = alone_within sizes law x step old new a b r moves goes_on
-    by_phase true committed = alone_back sizes law x of_prepare settled_back no_other step old new a b r moves committed
+    by_phase false goes_on = alone_within sizes law x quiet step old new a b r moves goes_on
+    by_phase true committed = alone_back sizes law x quiet of_prepare settled_back no_other step old new a b r moves committed

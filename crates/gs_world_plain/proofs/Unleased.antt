@@ -40,7 +40,7 @@ use Rattle.gs_world.proofs.Lasting.{begins_firm}
 
 -- ---- what holds where the master is, over a run
 
-module _ {D : Type 0} (x : Setup D) (Holds : MasterPlace D → Type 0) (given : IsGiven x)
+module _ {D : Type 0} (x : Setup D) (quiet : x.fails ≡ false) (Holds : MasterPlace D → Type 0) (given : IsGiven x)
     (on : (sent : Sent) (old new : MasterPlace D) (messages : List Message) → Lasts x.seen old → MasterDoes x.seen x.armed sent old new messages → Holds old → Holds new) where
   holds_on : (step : Step) (old mid : History D) → Lasts x.seen old.nodes.master → KeepsTypes old → StepsWithin x step old mid → Holds old.nodes.master → Holds mid.nodes.master
   holds_on step old mid lasts types one h = by_kind (kind_of x.seen x.failures x.armed step old mid one.goes (named x step old one.within types))
@@ -51,12 +51,12 @@ module _ {D : Type 0} (x : Setup D) (Holds : MasterPlace D → Type 0) (given : 
       by_kind (OfMaster place messages moment goes servers master posted) =
           subst Holds (sym master)
           (on old.sent old.nodes.master place messages lasts
-          (masters_do x.seen x.failures x.armed old.nodes.config old.sent old.nodes.master place messages lasts (sym (ap (failures_at x.failures) master) ∙ one.sound) goes) h)
+          (masters_do x.seen x.failures x.armed old.nodes.config old.sent old.nodes.master place messages lasts (sym (ap (failures_at x.failures) master) ∙ one.sound quiet) goes) h)
 
   pub holds_over : (steps : List Step) (old new : History D) (a b : Account) → Runs x steps old a new b → Lasts x.seen old.nodes.master → KeepsTypes old → Holds old.nodes.master → Holds new.nodes.master
   holds_over [] old new a b runs lasts types h = subst (λ (k : History D). Holds k.nodes.master) (sym runs.0) h
   holds_over (step ∷ steps) old new a b (mid, c, one, rest) lasts types h =
-      let behind = one_lasts x given step old mid lasts types one.steps in holds_over steps mid new c b rest behind.0 behind.1 (holds_on step old mid lasts types one.steps h)
+      let behind = one_lasts x given quiet step old mid lasts types one.steps in holds_over steps mid new c b rest behind.0 behind.1 (holds_on step old mid lasts types one.steps h)
 
 -- ---- a chunk that stands in several places
 
@@ -106,9 +106,9 @@ module _ {D : Type 0} (x : Setup D) (chunk : ℕ) where
   shared_first place (after, is, state, firm) = subst IsSharedAt (sym is) (subst (λ s. IsSharedSo s chunk) (sym state) (starts_shared start after.state.log chunk none_shared))
 
   -- So it is behind each run.
-  pub no_lease_where_shared : (now : History D) (a : Account) → IsReached x now a → HasDurable x.seen now.nodes.master a.durable → is_shared a.durable.names chunk ≡ true → HasNoTerm a.durable chunk
-  no_lease_where_shared now a r has =
+  pub no_lease_where_shared : x.fails ≡ false → (now : History D) (a : Account) → IsReached x now a → HasDurable x.seen now.nodes.master a.durable → is_shared a.durable.names chunk ≡ true → HasNoTerm a.durable chunk
+  no_lease_where_shared quiet now a r has =
       let given = r.begins.given in
       has_no_term now.nodes.master a.durable has
-      (holds_over x IsSharedAt given (shared_does given) r.steps r.begun now r.first a r.runs (begins_firm x.seen x.failures x.armed x.config x.clients x.disks r.begun given.new r.begins.begins)
+      (holds_over x quiet IsSharedAt given (shared_does given) r.steps r.begun now r.first a r.runs (begins_firm x.seen x.failures x.armed x.config x.clients x.disks r.begun given.new r.begins.begins)
       (begins_keeping x.seen x.failures x.armed x.config x.clients x.disks r.begun given.few r.begins.begins) (shared_first r.begun.nodes.master (begins_told x.seen x.failures x.armed x.config x.clients x.disks r.begun given.new r.begins.begins)))
