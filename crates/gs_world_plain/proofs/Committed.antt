@@ -1,5 +1,5 @@
 -- Where a rollback is committed what is settled is what was prepared.
-use Rattle.std.proofs.Common.{◌≡◌, ◌∙◌, ◌≤◌, ℕ, true, List, [], length, refl, sym, ap, arith}
+use Rattle.std.proofs.Common.{◌≡◌, ◌∙◌, ◌≤◌, ℕ, true, false, List, [], length, refl, sym, ap, arith}
 use Rattle.std.specs.Prelude.{is_some, Option, Some, None}
 use Rattle.std.proofs.lemmas.Bool.{false≢true}
 use Rattle.std.specs.FinMap as fin
@@ -19,6 +19,7 @@ use Rattle.gs_world_chunks.proofs.Surviving.{still, text_then, was_then}
 use Rattle.gs_world_chunks.specs.Accounts.{Account, settled_edits, settled_in, view_at}
 use Rattle.gs_world_chunks.specs.Back.{EachIsOfAPrepare, GivesNoOtherBack, GivesSettledBack, HasRolledBack}
 use Rattle.gs_world_chunks.specs.Joined.{SeenSince}
+use Rattle.gs_world_lift.specs.Left.{left_in}
 use Rattle.gs_world_chunks.specs.Running.{IsReached, Moves, Setup}
 use Rattle.gs_world_chunks.specs.Upgrading.{IsUpgrading}
 use Rattle.gs_server_member.specs.Requests.{bytes_in}
@@ -43,7 +44,7 @@ module _ (sizes : HaveSizes) (law : AreNumbered) {D : Type 0} (x : Setup D) (qui
     abbrev bytes : ReqId → List ℕ
     bytes = bytes_in (sees_there sizes law x prepared now before after up).asked
 
-    since : SeenSince x bytes chunk prepared before now after
+    since : SeenSince x bytes chunk (left_in prepared) before (left_in now) after
     since = seen_since sizes law x prepared now before after up chunk listed
 
     view : (view : View) × (view_at before chunk ≡ Some view)
@@ -52,11 +53,11 @@ module _ (sizes : HaveSizes) (law : AreNumbered) {D : Type 0} (x : Setup D) (qui
     -- What the account has of the prepare is what was settled right behind it.
     pub before_is_settled : after.before chunk ≡ settled_edits before chunk
     before_is_settled =
-        since.last.agrees.before before.durable.epoch (still x bytes chunk prepared before now after since) (was_then x bytes chunk prepared before now after since listed)
-        ∙ sym (text_then x bytes chunk prepared before now after since listed view.0 view.1)
+        since.last.agrees.before before.durable.epoch (still x bytes chunk (left_in prepared) before (left_in now) after since) (was_then x bytes chunk (left_in prepared) before (left_in now) after since listed)
+        ∙ sym (text_then x bytes chunk (left_in prepared) before (left_in now) after since listed view.0 view.1)
 
     pub none_lost : (later : View) → is_listed after.durable chunk ≡ true → view_at after chunk ≡ Some later → length (settled_edits before chunk) ≤ length (settled_edits after chunk)
-    none_lost later listed_now told = no_less_settled x bytes chunk prepared now before after since listed listed_now view.0 later view.1 told
+    none_lost later listed_now told = no_less_settled x bytes chunk (left_in prepared) (left_in now) before after since listed listed_now view.0 later view.1 told
 
   -- ---- where its rollback is committed
 

@@ -314,14 +314,14 @@ module _ (sizes : HaveSizes) (law : AreNumbered) {D : Type 0} (x : Setup D) (qui
 
 -- ---- runs
 
-module _ (sizes : HaveSizes) (law : AreNumbered) {D : Type 0} (x : Setup D) (quiet : x.fails ≡ false) where
+module _ (sizes : HaveSizes) (law : AreNumbered) {D : Type 0} (x : Setup D) where
   abbrev AreFresh : History D → Account → Type 0
   AreFresh now a = (chunk : ℕ) (view : View) → is_listed a.durable chunk ≡ false → view_at a chunk ≡ Some view → length (settled_edits a chunk) ≤ length (edits_of a (copied_from now.sent chunk))
 
-  fresh_over : (steps : List Step) (old new : History D) (a b : Account) → IsReached x old a → Runs x steps old a new b → AreFresh old a → AreFresh new b
-  fresh_over [] old new a b r runs fresh = subst (λ h. AreFresh h b) (sym runs.0) (subst (AreFresh old) (sym runs.1) fresh)
-  fresh_over (step ∷ steps) old new a b r (mid, c, one, rest) fresh =
-      fresh_over steps mid new c b (reach_more x old mid a c (step ∷ []) r (mid, c, one, (refl, refl))) rest (λ chunk later out told. fresh_step sizes law x quiet step old mid a c r one chunk (λ view was there. fresh chunk view was there) later out told)
+  fresh_over : x.fails ≡ false → (steps : List Step) (old new : History D) (a b : Account) → IsReached x old a → Runs x steps old a new b → AreFresh old a → AreFresh new b
+  fresh_over quiet [] old new a b r runs fresh = subst (λ h. AreFresh h b) (sym runs.0) (subst (AreFresh old) (sym runs.1) fresh)
+  fresh_over quiet (step ∷ steps) old new a b r (mid, c, one, rest) fresh =
+      fresh_over quiet steps mid new c b (reach_more x old mid a c (step ∷ []) r (mid, c, one, (refl, refl))) rest (λ chunk later out told. fresh_step sizes law x quiet step old mid a c r one chunk (λ view was there. fresh chunk view was there) later out told)
 
   -- in a new store no view is told
   fresh_first : (begun : History D) (a : Account) → IsNew x begun a → AreFresh begun a
@@ -330,8 +330,8 @@ module _ (sizes : HaveSizes) (law : AreNumbered) {D : Type 0} (x : Setup D) (qui
       from_start : a.durable ≡ start
       from_start = opens_as_start x.seen begun.nodes.master a.durable (begins_told x.seen x.failures x.armed x.config x.clients x.disks begun new.given.new new.begins) new.told
 
-  fresh_there : (now : History D) (a : Account) → IsReached x now a → AreFresh now a
-  fresh_there now a r = fresh_over r.steps r.begun now r.first a (reached_first r) r.runs (fresh_first r.begun r.first r.begins)
+  fresh_there : x.fails ≡ false → (now : History D) (a : Account) → IsReached x now a → AreFresh now a
+  fresh_there quiet now a r = fresh_over quiet r.steps r.begun now r.first a (reached_first r) r.runs (fresh_first r.begun r.first r.begins)
     where
       reached_first : IsReached x now a → IsReached x r.begun r.first
       reached_first k = record { apart = r.apart; begun = r.begun; first = r.first; steps = []; begins = r.begins; runs = (refl, refl) }
@@ -345,13 +345,13 @@ module _ (sizes : HaveSizes) (law : AreNumbered) {D : Type 0} (x : Setup D) (qui
       by_copied (Some (source, at)) is few = just_these (settled_edits a chunk) (a.list source at) (copies_inherit sizes law x now now a a [] chunk source at view r is (refl, refl) told) few
 
   pub new_as_made : NewAreAsMade x
-  new_as_made now a chunk view r out told = just_made now a chunk view r told (fresh_there now a r chunk view out told)
+  new_as_made quiet now a chunk view r out told = just_made now a chunk view r told (fresh_there quiet now a r chunk view out told)
 
   pub added_as_made : AddedAreAsMade x
-  added_as_made old new a b step chunk r moves goes_on out listed =
+  added_as_made quiet old new a b step chunk r moves goes_on out listed =
       let there = view_there (fin.get b.durable.chunks chunk) ((kept_behind sizes law x quiet step old new a b r moves).settled chunk listed) in
       let reached = reach_more x old new a b (step ∷ []) r (new, b, moves, (refl, refl)) in
-      let short = fresh_list sizes law x quiet step old new a b r moves chunk there.0 there.1 goes_on out (λ view told. fresh_there old a r chunk view out told) in
+      let short = fresh_list sizes law x quiet step old new a b r moves chunk there.0 there.1 goes_on out (λ view told. fresh_there quiet old a r chunk view out told) in
       by_view there.0 there.1 (just_made new b chunk there.0 reached there.1 short) (view_at a chunk) refl
     where
       view_there : (o : Option Settled) → is_some o ≡ true → (view : View) × (view_in o ≡ Some view)
@@ -363,4 +363,4 @@ module _ (sizes : HaveSizes) (law : AreNumbered) {D : Type 0} (x : Setup D) (qui
       by_view later told_then all (Some view) told =
           let origin = origin_before sizes law x quiet step old new a b r moves chunk later told_then goes_on in
           ap (λ es. settled_edits a chunk ++ es) (none_new sizes law x quiet step old new a b r moves chunk view told (unled_view sizes law x quiet step old new a b r moves chunk view told out) goes_on)
-          ∙ append-nil (settled_edits a chunk) ∙ new_as_made old a chunk view r out told ∙ origin.1 ∙ sym (origin_then sizes law x quiet step old new a b r moves chunk later told_then goes_on)
+          ∙ append-nil (settled_edits a chunk) ∙ new_as_made quiet old a chunk view r out told ∙ origin.1 ∙ sym (origin_then sizes law x quiet step old new a b r moves chunk later told_then goes_on)

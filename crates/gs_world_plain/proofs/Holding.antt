@@ -1,5 +1,5 @@
 -- Calls hold the places that they copy in each world of a run.
-use Rattle.std.proofs.Common.{List, refl, sym, subst}
+use Rattle.std.proofs.Common.{◌≡◌, false, List, refl, sym, subst}
 use Rattle.gs_master_copies.proofs.Held.{none_held, turn_held}
 use Rattle.gs_master_copies.specs.Held.{AreHeld}
 use Rattle.gs_master_spec.specs.Durable.{start}

@@ -30,7 +30,7 @@ use Rattle.gs_world_chunks.proofs.Told.{reached_sound}
 use Rattle.gs_world_chunks.proofs.Viewing.{IsToldView, told_view}
 use Rattle.gs_world_chunks.specs.Accounts.{Account, settled_edits, settled_in, view_at}
 use Rattle.gs_world_chunks.specs.Joined.{IsSeen}
-use Rattle.gs_world_chunks.specs.Running.{IsGiven, IsReached, Moves, Setup}
+use Rattle.gs_world_chunks.specs.Running.{IsGiven, IsReached, Moves, Setup, accounted}
 use Rattle.gs_world_chunks.specs.Seeing.{Sees, SeesBoth}
 use Rattle.gs_world_lift.proofs.AskingRuns.{of_one_edit, pushes_right}
 use Rattle.gs_world_lift.specs.Doing.{HasDurable}
@@ -82,7 +82,7 @@ module _ (sizes : HaveSizes) (law : AreNumbered) {D : Type 0} (x : Setup D) (qui
   one_edit : AllSent (IsOfOneEdit asked) new.sent
   one_edit = of_one_edit asked new sees.are
 
-  pub next : SeesNext x asked given law step old new a b sees.first
+  pub next : SeesNext x asked given quiet law step old new a b sees.first
   next = sees_step x asked given quiet law r.apart step old new a b sees.first (reached_sound x quiet old a r).types moves right one_edit
 
   abbrev pub behind : Sees x asked new b
@@ -161,7 +161,7 @@ module _ (sizes : HaveSizes) (law : AreNumbered) {D : Type 0} (x : Setup D) (qui
 
     same_view : new.nodes.master ≡ old.nodes.master → v.known.view ≡ w.known.view
     same_view master =
-        let same = told_same x bytes chunk step old new a b moves sees.first.lives sees.first.agrees.told next.goes.last master in
+        let same = told_same x bytes chunk step old new a b (accounted x step old a new b moves) sees.first.lives sees.first.agrees.told next.goes.last master in
         let views : view ≡ later = one_view (sym told ∙ ap (λ (d : Durable). view_in (fin.get d.chunks chunk)) same ∙ told_then) in
         (agrees v okv).view ∙ stamp_number v.entry.view.stamp w.entry.view.stamp (sym last.shows.stamp ∙ ap (λ (z : View). z.stamp) (sym views) ∙ first.shows.stamp) ∙ sym (agrees w ok).view
 

@@ -124,7 +124,7 @@ module _ (sizes : HaveSizes) (law : AreNumbered) {D : Type 0} (x : Setup D) (qui
         within = all_within a.durable b.durable records go replays;
         alone = alone_within sizes law x quiet step old new a b r moves goes_on;
         written = written;
-        keep = all_keep_texts (texts_between size a b) a.durable records go (both_keep (texts_between size a b) records (adds goes_on) (copies old new a b step many r moves replays));
+        keep = all_keep_texts (texts_between size a b) a.durable records go (both_keep (texts_between size a b) records (adds goes_on) (copies quiet old new a b step many r moves replays));
         replays = replays;
         grows = of_places b last_kept (λ chunk. settled_edits a chunk ++ newly_settled a b chunk ≡ settled_edits b chunk) (λ chunk listed. grows sizes law x quiet step old new a b r moves chunk listed goes_on);
         before = before_same (none_begins a.durable b.durable phase);
@@ -195,11 +195,11 @@ module _ (sizes : HaveSizes) (law : AreNumbered) {D : Type 0} (x : Setup D) (qui
       same_there (writes x r.begins.given step old new moves.steps.goes (named x step old moves.steps.within sound.types) sound.lasts (moves.steps.sound quiet))
 
 pub steps_plain : HaveSizes → AreNumbered → {D : Type 0} (x : Setup D) → EachIsOfAPrepare x → GivesSettledBack x → GivesNoOtherBack x → CopiesHaveTexts x → StepsArePlain x
-steps_plain sizes law x quiet of_prepare settled_back no_other copies old new a b step r moves = step_plain sizes law x quiet copies of_prepare settled_back no_other step old new a b r moves
+steps_plain sizes law x of_prepare settled_back no_other copies quiet old new a b step r moves = step_plain sizes law x quiet copies of_prepare settled_back no_other step old new a b r moves
 
 -- edits come to chunks at one place each
 pub edits_one_place : HaveSizes → AreNumbered → {D : Type 0} (x : Setup D) → EachIsOfAPrepare x → GivesSettledBack x → GivesNoOtherBack x → EditsOnePlace x
-edits_one_place sizes law x quiet of_prepare settled_back no_other old new a b step r moves = by_phase (rolls_back a.durable b.durable) refl
+edits_one_place sizes law x of_prepare settled_back no_other quiet old new a b step r moves = by_phase (rolls_back a.durable b.durable) refl
   where
     by_phase : (back : Bool) → rolls_back a.durable b.durable ≡ back → AreAlone a.durable.names (newly_settled a b)
     by_phase false goes_on = alone_within sizes law x quiet step old new a b r moves goes_on

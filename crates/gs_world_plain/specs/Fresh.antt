@@ -15,18 +15,18 @@ use Rattle.gs_world_lift.specs.Copying.{copied_from}
 use Rattle.gs_world_plain.specs.Settling.{newly_settled}
 
 module _ {D : Type 0} (x : Setup D) where
-  -- Of a chunk that no file has, once a view of it is settled, just those edits are settled of which it is a copy: none, where it is no copy.
+  -- In a run in which no disk fails: of a chunk that no file has, once a view of it is settled, just those edits are settled of which it is a copy: none, where it is no copy.
   abbrev pub NewAreAsMade : Type 0
-  NewAreAsMade = (now : History D) (a : Account) (chunk : ℕ) (view : View) → IsReached x now a → is_listed a.durable chunk ≡ false → view_at a chunk ≡ Some view → settled_edits a chunk ≡ edits_of a (copied_from now.sent chunk)
+  NewAreAsMade = x.fails ≡ false → (now : History D) (a : Account) (chunk : ℕ) (view : View) → IsReached x now a → is_listed a.durable chunk ≡ false → view_at a chunk ≡ Some view → settled_edits a chunk ≡ edits_of a (copied_from now.sent chunk)
 
   -- And so it is where a step puts it into a file, with what is settled at the step.
   abbrev pub AddedAreAsMade : Type 0
-  AddedAreAsMade = (old new : History D) (a b : Account) (step : Step) (chunk : ℕ) → IsReached x old a → Moves x step old a new b → rolls_back a.durable b.durable ≡ false →
+  AddedAreAsMade = x.fails ≡ false → (old new : History D) (a b : Account) (step : Step) (chunk : ℕ) → IsReached x old a → Moves x step old a new b → rolls_back a.durable b.durable ≡ false →
       is_listed a.durable chunk ≡ false → is_listed b.durable chunk ≡ true → settled_edits a chunk ++ newly_settled a b chunk ≡ edits_of b (copied_from new.sent chunk)
 
   -- A call that waits to copy a chunk at a place of a file, or for that copy, holds the place: nobody may write the chunk until the copy has come there.
   abbrev pub PlacesAreHeld : Type 0
-  PlacesAreHeld = (now : History D) (a : Account) (m : MasterOf D) → IsReached x now a → now.nodes.master ≡ Standing m → AreHeld m.state
+  PlacesAreHeld = x.fails ≡ false → (now : History D) (a : Account) (m : MasterOf D) → IsReached x now a → now.nodes.master ≡ Standing m → AreHeld m.state
 
 -- ---- Worked
 of_no_copy_none : (a : Account) → edits_of a None ≡ []

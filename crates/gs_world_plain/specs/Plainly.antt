@@ -1,5 +1,5 @@
 -- A run of a store is a run of the plain machine.
-use Rattle.std.specs.Prelude.{[], ◌≡◌, List, Ok, Some, filter_map, map, refl, take, ℕ}
+use Rattle.std.specs.Prelude.{[], ◌≡◌, List, Ok, Some, false, filter_map, map, refl, take, ℕ}
 use Rattle.std.specs.List.{AllByRecursion}
 use Rattle.gs_edit.specs.Machine.{first}
 use Rattle.gs_master_plain.specs.Commands.{Command, all_commanded, but_edit, command_of, edit_at}
@@ -34,13 +34,13 @@ pub record IsPlainStep {D : Type 0} (size : ℕ) (step : Step) (old : History D)
   pub edits : (p : Path) (index : ℕ) → filter_map (edit_at p index) commands ≡ map op_of (settled_at a b (chunk_at a p index))
 
 module _ {D : Type 0} (x : Setup D) where
-  -- The plain view of a new store is the plain machine that has done nothing;
+  -- In a run no disk is to fail, but for the first of these. The plain view of a new store is the plain machine that has done nothing;
   abbrev pub BeginsPlain : Type 0
   BeginsPlain = (begun : History D) (a : Account) → IsNew x begun a → plain_view x.config.chunk a ≡ first
 
   -- each step of each run is such;
   abbrev pub StepsArePlain : Type 0
-  StepsArePlain = (old new : History D) (a b : Account) (step : Step) → IsReached x old a → Moves x step old a new b → IsPlainStep x.config.chunk step old a b
+  StepsArePlain = x.fails ≡ false → (old new : History D) (a b : Account) (step : Step) → IsReached x old a → Moves x step old a new b → IsPlainStep x.config.chunk step old a b
 
   -- and so commands lead from one plain view of a run to each later one.
   pub record IsPlainRun (a b : Account) : Type 0 where
@@ -48,17 +48,17 @@ module _ {D : Type 0} (x : Setup D) where
     pub leads : all_commanded x.config.chunk commands (plain_view x.config.chunk a) ≡ Ok (plain_view x.config.chunk b)
 
   abbrev pub RunsArePlain : Type 0
-  RunsArePlain = (old new : History D) (a b : Account) (steps : List Step) → IsReached x old a → Runs x steps old a new b → IsPlainRun a b
+  RunsArePlain = x.fails ≡ false → (old new : History D) (a b : Account) (steps : List Step) → IsReached x old a → Runs x steps old a new b → IsPlainRun a b
 
   -- ---- what it rests on
 
   -- An edit is settled only of a chunk that stands at one place: no other text changes with it.
   abbrev pub EditsOnePlace : Type 0
-  EditsOnePlace = (old new : History D) (a b : Account) (step : Step) → IsReached x old a → Moves x step old a new b → AreAlone a.durable.names (newly_settled a b)
+  EditsOnePlace = x.fails ≡ false → (old new : History D) (a b : Account) (step : Step) → IsReached x old a → Moves x step old a new b → AreAlone a.durable.names (newly_settled a b)
 
   -- A chunk that takes the place of another, by a record of a step, has its text, once what is settled at the step is.
   abbrev pub CopiesHaveTexts : Type 0
-  CopiesHaveTexts = (old new : History D) (a b : Account) (step : Step) (written : ℕ) → IsReached x old a → Moves x step old a new b → replayed a.durable (take written (records_at step old)) ≡ Some b.durable →
+  CopiesHaveTexts = x.fails ≡ false → (old new : History D) (a b : Account) (step : Step) (written : ℕ) → IsReached x old a → Moves x step old a new b → replayed a.durable (take written (records_at step old)) ≡ Some b.durable →
       AllByRecursion (KeepsCopy (texts_between x.config.chunk a b)) (take written (records_at step old))
 
 -- ---- Worked: no steps are no commands
