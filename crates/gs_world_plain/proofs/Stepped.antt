@@ -67,7 +67,7 @@ durable_is h = cc
 one_applies : (d next : Durable) (entry : PlainEntry) → replayed d (entry ∷ []) ≡ Some next → applied d entry ≡ Some next
 one_applies d next entry is = let first = then_replays d next entry [] is in first.1 ∙ first.2
 
-module _ (sizes : HaveSizes) (law : AreNumbered) {D : Type 0} (x : Setup D) (quiet : x.fails ≡ false) (copies : CopiesHaveTexts x) (of_prepare : EachIsOfAPrepare x) (settled_back : GivesSettledBack x) (no_other : GivesNoOtherBack x) (step : Step) (old new : History D) (a b : Account) (r : IsReached x old a) (moves : Moves x step old a new b) where
+module _ (sizes : HaveSizes) (law : AreNumbered) {D : Type 0} (x : Setup D) (quiet : x.fails ≡ false) (of_prepare : EachIsOfAPrepare x) (settled_back : GivesSettledBack x) (no_other : GivesNoOtherBack x) (step : Step) (old new : History D) (a b : Account) (r : IsReached x old a) (moves : Moves x step old a new b) (copies : CopiesHaveTexts x.config.chunk step old a b) where
   abbrev size : ℕ
   size = x.config.chunk
 
@@ -81,7 +81,7 @@ module _ (sizes : HaveSizes) (law : AreNumbered) {D : Type 0} (x : Setup D) (qui
   before_same none = ap (λ (c : Account). c.before) moves.account ∙ ap (λ q. (λ (chunk : ℕ). if q then edits_in a chunk (view_at a chunk) else a.before chunk)) none
 
   plain_by : (many : ℕ) → replayed a.durable (take many (records_at step old)) ≡ Some b.durable → AreCommandsOf size a b (take many (records_at step old)) → IsPlainStep size step old a b
-  plain_by many replays c = record { commands = c.commands; leads = c.leads; written = many; records = replays; others = c.others; edits = c.edits }
+  plain_by many replays c = record { commands = c.commands; leads = c.leads; written = many; records = replays; others = c.others; edits = c.edits; grows = λ chunk goes_on listed. grows sizes law x quiet step old new a b r moves chunk listed goes_on }
 
   -- ---- within an epoch
 
@@ -124,7 +124,7 @@ module _ (sizes : HaveSizes) (law : AreNumbered) {D : Type 0} (x : Setup D) (qui
         within = all_within a.durable b.durable records go replays;
         alone = alone_within sizes law x quiet step old new a b r moves goes_on;
         written = written;
-        keep = all_keep_texts (texts_between size a b) a.durable records go (both_keep (texts_between size a b) records (adds goes_on) (copies quiet old new a b step many r moves replays));
+        keep = all_keep_texts (texts_between size a b) a.durable records go (both_keep (texts_between size a b) records (adds goes_on) (copies many replays));
         replays = replays;
         grows = of_places b last_kept (λ chunk. settled_edits a chunk ++ newly_settled a b chunk ≡ settled_edits b chunk) (λ chunk listed. grows sizes law x quiet step old new a b r moves chunk listed goes_on);
         before = before_same (none_begins a.durable b.durable phase);
@@ -194,8 +194,8 @@ module _ (sizes : HaveSizes) (law : AreNumbered) {D : Type 0} (x : Setup D) (qui
       let sound = reached_sound x quiet old a r in
       same_there (writes x r.begins.given step old new moves.steps.goes (named x step old moves.steps.within sound.types) sound.lasts (moves.steps.sound quiet))
 
-pub steps_plain : HaveSizes → AreNumbered → {D : Type 0} (x : Setup D) → EachIsOfAPrepare x → GivesSettledBack x → GivesNoOtherBack x → CopiesHaveTexts x → StepsArePlain x
-steps_plain sizes law x of_prepare settled_back no_other copies quiet old new a b step r moves = step_plain sizes law x quiet copies of_prepare settled_back no_other step old new a b r moves
+pub steps_plain : HaveSizes → AreNumbered → {D : Type 0} (x : Setup D) → EachIsOfAPrepare x → GivesSettledBack x → GivesNoOtherBack x → StepsArePlain x
+steps_plain sizes law x of_prepare settled_back no_other quiet old new a b step r moves copies = step_plain sizes law x quiet of_prepare settled_back no_other step old new a b r moves copies
 
 -- edits come to chunks at one place each
 pub edits_one_place : HaveSizes → AreNumbered → {D : Type 0} (x : Setup D) → EachIsOfAPrepare x → GivesSettledBack x → GivesNoOtherBack x → EditsOnePlace x

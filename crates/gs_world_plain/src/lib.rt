@@ -1,9 +1,10 @@
-//! A run of a store is a run of the plain machine: what a store shows is a tree of texts, and while an upgrade stands the tree of its prepare; each step is commands that lead from what was shown to what is.
+//! A run of a store in which no disk fails is a run of the plain machine, as long as copies on write have the texts of what they copy: what a store shows is a tree of texts, and while an upgrade stands the tree of its
+//! prepare; each step is commands that lead from what was shown to what is.
 #![tactic(auto)]
 
 ghost use Rattle.gs_world_chunks.specs.Running.{Setup};
 ghost use Rattle.gs_world_plain.specs.Fresh.{AddedAreAsMade, NewAreAsMade, PlacesAreHeld};
-ghost use Rattle.gs_world_plain.specs.Plainly.{CopiesHaveTexts, BeginsPlain, EditsOnePlace, RunsArePlain, StepsArePlain};
+ghost use Rattle.gs_world_plain.specs.Plainly.{BeginsPlain, EditsOnePlace, RunsArePlain, StepsArePlain};
 ghost use Rattle.gs_world_plain.specs.Stepping.{CommitsLead, FinalizesLead, GrowingStepsLead, PreparesLead, StepsOfAccountsLead};
 
 use gs_block::promises::configurations_have_sizes;
@@ -56,11 +57,12 @@ pub fn places_that_are_copied_are_held<D>()
     ensures { (x : Setup D) → PlacesAreHeld x }
 {}
 
-/// Each step of a run is commands of the plain machine, and so is each run, where a chunk that takes the place of another has its text then. One that is put at the end of a file has none. A new store shows the machine that has done nothing.
+/// A new store shows the machine that has done nothing. In a run in which no disk fails each step is commands of the plain machine, by its records and by the edits that are settled at it, wherever a copy that is put in
+/// the place of another chunk at that step has the text of that (a chunk that is put at the end of a file has none, which is no premise). So is each run of such steps, and commands lead from what was shown to what is.
 pub fn a_run_is_plain_where_copies_have_their_texts<D>()
     ensures begins { (x : Setup D) → BeginsPlain x }
-    ensures steps { (x : Setup D) → CopiesHaveTexts x → StepsArePlain x }
-    ensures runs { (x : Setup D) → CopiesHaveTexts x → RunsArePlain x }
+    ensures steps { (x : Setup D) → StepsArePlain x }
+    ensures runs { (x : Setup D) → RunsArePlain x }
 {
     configurations_have_sizes();
     a_message_edits_a_replica_by_what_it_says();

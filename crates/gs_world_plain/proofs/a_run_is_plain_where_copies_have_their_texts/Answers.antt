@@ -12,6 +12,6 @@ returns-clause-steps g c x =
     (c.a_rollback_gives_back_what_was_settled.ensures.others x)
 
 pub returns-clause-runs : goal.returns-clause-runs
-returns-clause-runs g c x added =
+returns-clause-runs g c x =
     runs_plain x (steps_plain c.configurations_have_sizes.ensures c.a_message_edits_a_replica_by_what_it_says.ensures.edit x (c.each_rollback_is_of_a_prepare.ensures x) (c.a_rollback_gives_back_what_was_settled.ensures.settled x)
-    (c.a_rollback_gives_back_what_was_settled.ensures.others x) added)
+    (c.a_rollback_gives_back_what_was_settled.ensures.others x))
