@@ -1,0 +1,4 @@
+pub mod Coding
+pub mod Histories
+pub mod Logs
+pub mod Merging

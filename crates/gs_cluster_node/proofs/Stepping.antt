@@ -1,0 +1,65 @@
+-- One event more leaves a node sound.
+use Rattle.std.proofs.Common.{◌≡◌, ℕ, ◌+◌, ◌<◌, List, [], ◌∷◌, ◌++◌, map, length, Result, refl, sym, ap, ◌∙◌, subst, arith}
+use Rattle.gs_base.specs.declared.refusal.Refusal.{Refusal}
+use Rattle.gs_msg.specs.declared.message.Message.{Message}
+use Rattle.gs_msg.specs.declared.node.NodeId.{NodeId}
+use Rattle.gs_msg.specs.declared.sent.Sent.{Sent}
+use Rattle.gs_cluster_channel.specs.Settled.{Hearing, Putting}
+use Rattle.gs_cluster_history.specs.declared.took.Took.{Took}
+use Rattle.gs_cluster_history.specs.declared.took.Took.TheVariants.{Heard, Did}
+use Rattle.gs_cluster_history.specs.Histories.{Entry, IsKept, Kept, Leads, Listed, MayTake, Past, Takes, Upshot}
+use Rattle.gs_cluster_node.specs.Nodes.{AllListed, Counts, IsSound, Stepped, heard_in, heard_of, next_clock}
+use Rattle.gs_cluster_node.specs.inner.Acting.{Acts, Goes}
+
+heard_on : (took : Took) (xs ys : List Sent) → heard_in took (xs ++ ys) ≡ heard_in took xs ++ ys
+heard_on (Heard sent) xs ys = refl
+heard_on (Did event) xs ys = refl
+
+heard_last : (es : List Entry) (e : Entry) → heard_of (es ++ e ∷ []) ≡ heard_of es ++ heard_in e.took []
+heard_last [] e = refl
+heard_last (x ∷ es) e = ap (heard_in x.took) (heard_last es e) ∙ heard_on x.took (heard_of es) (heard_in e.took [])
+
+module _ {C : Type 0} (Does : NodeId → Took → C → Upshot → C → Type 0) where
+  leads_on : (me : NodeId) (p : Past C) (es : List Entry) (q r : Past C) (e : Entry) → Leads Does me p es q → Takes Does me q e r → Leads Does me p (es ++ e ∷ []) r
+  leads_on me p [] q r e l t = (r, subst (λ (z : Past C). Takes Does me z e r) l t, refl)
+  leads_on me p (x ∷ es) q r e (mid, u, l) t = (mid, u, leads_on me mid es q r e l t)
+
+  -- a core that has acted has made one step
+  pub has_stepped : (old : Kept C) (took : Took) (clock : ℕ) (said : Result (Unit {0}) Refusal) (core : C) (entries : List Entry) (sent : List Listed)
+      → Goes Does old.me took clock old.past.core old.entries old.past.sent said core entries sent → old.past.clock < clock → clock ≡ next_clock old.past.clock took → MayTake old.me clock took
+      → Stepped Does old took said (record { me = old.me; past = record { core = core; clock = clock; sent = sent }; entries = entries })
+  has_stepped old took clock said core entries sent (out, moment, a) later next may = record {
+    entry = a.entry;
+    takes = record {
+      does = subst (λ t. Does old.me t old.past.core a.entry.outcome core) (sym a.took) a.does;
+      clock = sym a.clock;
+      later = (let c = a.clock in omega arith);
+      may = subst (λ c. MayTake old.me c a.entry.took) (sym a.clock) (subst (MayTake old.me clock) (sym a.took) may);
+      sent = a.sent;
+    };
+    took = a.took;
+    clock = a.clock ∙ next;
+    said = a.said;
+    me = refl;
+    entries = a.entries;
+  }
+
+  pub stays_sound : (Starts : NodeId → C → List Message → Type 0) (old : Kept C) (took : Took) (said : Result (Unit {0}) Refusal) (core : C) (clock : ℕ) (entries : List Entry) (sent : List Listed)
+      (count later : ℕ) (ways after : List Putting) (ear now : Hearing)
+      → IsSound Does Starts old count ways ear → Stepped Does old took said (record { me = old.me; past = record { core = core; clock = clock; sent = sent }; entries = entries })
+      → Counts later sent → AllListed old.me sent after → now.taken ≡ ear.taken ++ heard_in took [] → now.me ≡ ear.me
+      → IsSound Does Starts (record { me = old.me; past = record { core = core; clock = clock; sent = sent }; entries = entries }) later after now
+  stays_sound Starts old took said core clock entries sent count later ways after ear now s p counts put taken me = record {
+    kept = record {
+      begun = s.kept.begun;
+      begins = s.kept.begins;
+      leads = subst (λ es. Leads Does old.me s.kept.begun es (record { core = core; clock = clock; sent = sent })) (sym p.entries)
+          (leads_on old.me s.kept.begun old.entries old.past (record { core = core; clock = clock; sent = sent }) p.entry s.kept.leads p.takes);
+    };
+    counts = counts;
+    put = put;
+    heard =
+        taken ∙ ap (λ l. l ++ heard_in took []) s.heard ∙ ap (λ t. heard_of old.entries ++ heard_in t []) (sym p.took)
+        ∙ sym (heard_last old.entries p.entry) ∙ ap heard_of (sym p.entries);
+    me = me ∙ s.me;
+  }

@@ -1,0 +1,14 @@
+//! A node as it is kept under its lock: what it is, with a history that leads there, its ear, and its ways to the others.
+#![tactic(auto)]
+
+mod acting;
+mod core;
+mod gate;
+mod node;
+mod plan;
+mod posting;
+
+pub use core::Core;
+pub use gate::{Gate, Open};
+pub use node::Node;
+pub use plan::Plan;
