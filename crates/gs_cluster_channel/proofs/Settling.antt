@@ -7,11 +7,11 @@ use Rattle.gs_cluster_channel.specs.Settled.{Among, PutBy, Putting}
 use Rattle.gs_cluster_channel.proofs.Moves.{in_either, in_left, in_none}
 
 -- Of these ways those that are left aren't in it yet. What it has put they have put, and all that was taken at first is taken.
-pub record Pooled (all rest : List Putting) (first v : Hand) : Type 0 where
-  pub parts : v.parts + length rest ≡ 1024
+pub record Pooled (all left : List Putting) (first v : Hand) : Type 0 where
+  pub parts : v.parts + length left ≡ 1024
   pub put : (x : Sent) → In v.put x → PutBy all x
   pub taken : (x : Sent) → In first.taken x → In v.taken x
-  pub rest : (w : Putting) → Among rest w → Among all w
+  pub rest : (w : Putting) → Among left w → Among all w
 
 pub none_pooled : (all : List Putting) (v : Hand) → v.parts + length all ≡ 1024 → v.put ≡ [] → Pooled all all v v
 none_pooled all v parts quiet = record { parts = parts; put = λ x i. absurd (in_none x (subst (λ l. In l x) quiet i)); taken = λ x i. i; rest = λ w a. a }

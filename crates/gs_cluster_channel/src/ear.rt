@@ -29,19 +29,19 @@ pub struct Ear<N: Naming> {
 
 impl<N: Naming> Model for Ear<N> {
     ghost use Rattle.std.specs.Prelude.{◌≡◌, []};
-    ghost use Rattle.crossbeam_channel.specs.Claims.{view, IsSeatAt};
+    ghost use Rattle.crossbeam_channel.specs.Claims.{IsSeatAt};
     ghost use Rattle.crossbeam_channel.specs.Ends.{sends_on, receives_on};
     ghost use Rattle.gs_cluster_channel.specs.Carried.{hand};
-    ghost use Rattle.gs_cluster_channel.specs.Named.{IsNamed};
+    ghost use Rattle.gs_cluster_channel.specs.Named.{IsNamed, known};
     ghost use Rattle.gs_cluster_channel.specs.Settled.{Hearing, coded_hearing};
 
     ghost Value = { Hearing };
 
     ghost coded = { coded_hearing };
 
-    ghost view = { λ e. record { me = e.me; parts = e.parts; taken = (view e.pass).taken } };
+    ghost view = { λ e. record { me = e.me; parts = e.parts; taken = (known e.pass).taken } };
 
-    ghost invariant = { λ e. IsSeatAt (sends_on e.outlet) e.pass × (receives_on e.inlet ≡ sends_on e.outlet) × ((view e.pass).parts ≡ e.parts) × ((view e.pass).ears ≡ 1) × ((view e.pass).put ≡ []) × IsNamed N.names e.me e.pass };
+    ghost invariant = { λ e. IsSeatAt (sends_on e.outlet) e.pass × (receives_on e.inlet ≡ sends_on e.outlet) × ((known e.pass).parts ≡ e.parts) × ((known e.pass).ears ≡ 1) × ((known e.pass).put ≡ []) × IsNamed N.names e.me e.pass };
 }
 
 impl<N: Naming> Ear<N> {

@@ -25,18 +25,18 @@ pub struct Way<N: Naming> {
 
 impl<N: Naming> Model for Way<N> {
     ghost use Rattle.std.specs.Prelude.{◌≡◌};
-    ghost use Rattle.crossbeam_channel.specs.Claims.{view, IsSeatAt};
+    ghost use Rattle.crossbeam_channel.specs.Claims.{IsSeatAt};
     ghost use Rattle.crossbeam_channel.specs.Ends.{sends_on};
-    ghost use Rattle.gs_cluster_channel.specs.Named.{IsNamed};
+    ghost use Rattle.gs_cluster_channel.specs.Named.{IsNamed, known};
     ghost use Rattle.gs_cluster_channel.specs.Settled.{Putting, coded_putting};
 
     ghost Value = { Putting };
 
     ghost coded = { coded_putting };
 
-    ghost view = { λ w. record { to = w.to; put = (view w.pass).put } };
+    ghost view = { λ w. record { to = w.to; put = (known w.pass).put } };
 
-    ghost invariant = { λ w. IsSeatAt (sends_on w.outlet) w.pass × ((view w.pass).parts ≡ 1) × IsNamed N.names w.to w.pass };
+    ghost invariant = { λ w. IsSeatAt (sends_on w.outlet) w.pass × ((known w.pass).parts ≡ 1) × IsNamed N.names w.to w.pass };
 }
 
 impl<N: Naming> Way<N> {

@@ -38,19 +38,19 @@ module _ {C : Type 0} (Does : NodeId → Took → C → Upshot → C → Type 0)
 
   of : (ks : List (Kept C)) (all : AllKept Does Starts ks) (i : ℕ) (g : Going C) → slice_get (all_going ks all) i ≡ Some g → (k : Kept C) × (slice_get ks i ≡ Some k) × IsOf g k
   of [] all i g h = absurd (none-some g h)
-  of (k ∷ ks) all zero g h = (k, refl, all k (0, refl), same_Some (going_of k (all k (0, refl))) g h)
+  of (k ∷ ks) all zero g h = (k, refl, (all k (0, refl), same_Some (going_of k (all k (0, refl))) g h))
   of (k ∷ ks) all (suc i) g h = of ks (rest_kept k ks all) i g h
 
   leads_of : (k : Kept C) (g : Going C) → IsOf g k → Leads Does g.me g.now g.rest g.end
   leads_of k g (is, same) = subst (λ (z : Going C). Leads Does z.me z.now z.rest z.end) same is.leads
 
   all_lead : (ks : List (Kept C)) (all : AllKept Does Starts ks) → AllLead Does (all_going ks all)
-  all_lead ks all i g h = let f = of ks all i g h in leads_of f.0 g (f.2, f.3)
+  all_lead ks all i g h = let f = of ks all i g h in leads_of f.0 g f.2
 
   all_stand : (ks : List (Kept C)) (all : AllKept Does Starts ks) → Matches ks → AllStand Does (all_going ks all)
   all_stand ks all matches i g h e m =
       let f = of ks all i g h in
-      subst (λ l. Stands l g.me e.took) (sym (ends ks all)) (subst (λ (z : Going C). Stands (lines_of ks) z.me e.took) f.3 (matches f.0 (i, f.1) e (subst (λ (z : Going C). Among z.rest e) (sym f.3) m)))
+      subst (λ l. Stands l g.me e.took) (sym (ends ks all)) (subst (λ (z : Going C). Stands (lines_of ks) z.me e.took) f.2.1 (matches f.0 (i, f.1) e (subst (λ (z : Going C). Among z.rest e) (sym f.2.1) m)))
 
   abbrev begun_of : (ks : List (Kept C)) → AllKept Does Starts ks → List (Line C)
   begun_of ks all = map now_of (all_going ks all)

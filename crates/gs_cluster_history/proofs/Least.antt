@@ -22,8 +22,8 @@ abbrev pub LeastOf : ℕ → List (List Entry) → Option Place → Type 0
 LeastOf i rests None = AreOver rests
 LeastOf i rests (Some p) = IsLeast i rests p
 
-cons_head : (a b : Entry) (as bs : List Entry) → ◌≡◌ {A = List Entry} (a ∷ as) (b ∷ bs) → a ≡ b
-cons_head a b as bs e = cc
+cons_head : (a b : Entry) (xs ys : List Entry) → ◌≡◌ {A = List Entry} (a ∷ xs) (b ∷ ys) → a ≡ b
+cons_head a b xs ys e = cc
 
 no_nil : (e : Entry) (es : List Entry) → ◌≡◌ {A = List Entry} [] (e ∷ es) → ⊥
 no_nil e es h = cc
@@ -44,7 +44,7 @@ module _ (i : ℕ) (rests : List (List Entry)) where
 
   -- one more in front, of which this is the first
   module _ (e : Entry) (es : List Entry) where
-    here : Place
+    abbrev here : Place
     here = record { at = i; entry = e }
 
     below_here : ((j : ℕ) (d : Entry) (ds : List Entry) → slice_get rests j ≡ Some (d ∷ ds) → e.clock ≤ d.clock)
@@ -76,8 +76,8 @@ is_least i ((e ∷ es) ∷ rests) = chosen i rests e es (least (suc i) rests) (i
 
 -- nothing is left where none is counted
 pub none_left : (rests : List (List Entry)) → count rests ≡ 0 → AreOver rests
-none_left [] z j rest h = absurd (none-some rest h)
-none_left ([] ∷ rests) z = over_empty 0 rests (none_left rests z)
+none_left [] z = λ j rest h. absurd (none-some rest h)
+none_left ([] ∷ rests) z = over_empty 0 rests (none_left rests (omega arith))
 none_left ((e ∷ es) ∷ rests) z = absurd (omega arith)
 
 pub one_less : (rests : List (List Entry)) (i : ℕ) (e : Entry) (es : List Entry) → slice_get rests i ≡ Some (e ∷ es) → count (without_first rests i) + 1 ≡ count rests

@@ -109,19 +109,19 @@ module _ {C : Type 0} (Does : NodeId → Took → C → Upshot → C → Type 0)
 
   -- one takes the next entry
   module _ (gs : List (Going C)) (lead : AllLead gs) (stand : AllStand gs) (p : Place) (b : IsLeast 0 (map rest_of gs) p) where
-    found : (g : Going C) × (slice_get gs p.at ≡ Some g) × (g.rest ≡ p.entry ∷ b.behind)
+    pub found : (g : Going C) × (slice_get gs p.at ≡ Some g) × (g.rest ≡ p.entry ∷ b.behind)
     found =
         let m = map_found rest_of gs b.at (p.entry ∷ b.behind) b.there in
         let same : b.at ≡ p.at = (let h = b.place in omega arith) in
         (m.0, subst (λ i. slice_get gs i ≡ Some m.0) same m.1, m.2)
 
-    abbrev goes : Going C
+    abbrev pub goes : Going C
     goes = found.0
 
-    leads : Leads Does goes.me goes.now (p.entry ∷ b.behind) goes.end
+    pub leads : Leads Does goes.me goes.now (p.entry ∷ b.behind) goes.end
     leads = subst (λ r. Leads Does goes.me goes.now r goes.end) found.2 (lead p.at goes found.1)
 
-    abbrev next : Going C
+    abbrev pub next : Going C
     next = record { me = goes.me; now = leads.0; rest = b.behind; end = goes.end }
 
     abbrev pub moved : List (Going C)

@@ -2,3 +2,4 @@ pub mod Coding
 pub mod Histories
 pub mod Logs
 pub mod Merging
+pub mod Setting

@@ -121,10 +121,10 @@ places_of {C} ks = merged (map (λ (k : Kept C). k.entries) ks)
 
 -- Worked: of two histories, the first has entries at clocks 1 and 4, the second at 3 and 4.
 module _ (t : Took) (u : Upshot) where
-  e : ℕ → Entry
+  abbrev e : ℕ → Entry
   e clock = record { clock = clock; took = t; outcome = u }
 
-  at : ℕ → ℕ → Place
+  abbrev at : ℕ → ℕ → Place
   at i clock = record { at = i; entry = e clock }
 
   merged_by_clock : merged ((e 1 ∷ e 4 ∷ []) ∷ (e 3 ∷ e 4 ∷ []) ∷ []) ≡ at 0 1 ∷ at 1 3 ∷ at 0 4 ∷ at 1 4 ∷ []

@@ -4,9 +4,8 @@ ghost use Rattle.gs_cluster_history.specs.Histories.{moment_of, out_of, said_of}
 ghost use Rattle.gs_cluster_history.specs.Logs.{told};
 ghost use Rattle.gs_cluster_node.specs.inner.Acting.{Acts};
 
-use crate::core::Core;
 use gs_base::{Moment, Refusal};
-use gs_cluster_history::{Deed, Log, Note, Took, Turn};
+use gs_cluster_history::{Core, Deed, Log, Note, Took, Turn};
 use gs_msg::{Message, NodeId};
 use std::alloc::Global;
 

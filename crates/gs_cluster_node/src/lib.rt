@@ -2,13 +2,11 @@
 #![tactic(auto)]
 
 mod acting;
-mod core;
 mod gate;
 mod node;
 mod plan;
 mod posting;
 
-pub use core::Core;
 pub use gate::{Gate, Open};
 pub use node::Node;
 pub use plan::Plan;

@@ -5,13 +5,12 @@ ghost use Rattle.gs_cluster_node.specs.Nodes.{AllListed, Counts, Receives, Steps
 ghost use Rattle.gs_cluster_node.specs.inner.Acting.{Goes, HaveSentNothing};
 
 use crate::acting::{Done, act};
-use crate::core::Core;
 use crate::gate::Gate;
 use crate::plan::Plan;
 use crate::posting::put_all;
 use gs_base::{Moment, Refusal};
 use gs_cluster_channel::{Ear, Way};
-use gs_cluster_history::{Log, Took, Turn};
+use gs_cluster_history::{Core, Log, Took, Turn};
 use gs_msg::{Event, Happening, NodeId};
 use std::alloc::Global;
 use std::marker::Model;

@@ -1,4 +1,4 @@
-use Rattle.std.proofs.Common.{refl, arith}
+use Rattle.std.proofs.Common.{arith}
 use Rattle.crossbeam_channel.specs.Claims.{view}
 use Rattle.gs_cluster_channel.proofs.Moves.{forks}
 use Rattle.gs_cluster_channel.proofs.steps.cut_keys.Goals as goal

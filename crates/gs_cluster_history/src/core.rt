@@ -1,5 +1,6 @@
+use crate::took::Took;
+use crate::turn::Turn;
 use gs_base::Refusal;
-use gs_cluster_history::{Took, Turn};
 use gs_msg::NodeId;
 use std::alloc::Global;
 
@@ -11,7 +12,7 @@ pub trait Core {
     ghost use Rattle.gs_cluster_history.specs.declared.took.Took.{Took};
     ghost use Rattle.gs_cluster_history.specs.Histories.{Upshot};
     ghost use Rattle.gs_cluster_history.specs.Logs.{told};
-    ghost use Rattle.gs_cluster_node.specs.Setting.{Setting};
+    ghost use Rattle.gs_cluster_history.specs.Setting.{Setting};
 
     /// Whether a node of this number begins so in a cluster, and sends this at first.
     ghost Starts: { Setting → NodeId → Self → List Message → Type 0 };
