@@ -1,2 +1,2 @@
-mod Posting
+mod Listing
 mod Stepping

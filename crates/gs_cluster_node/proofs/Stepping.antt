@@ -1,5 +1,6 @@
 -- One event more leaves a node sound.
 use Rattle.std.proofs.Common.{◌≡◌, ℕ, ◌+◌, ◌<◌, List, [], ◌∷◌, ◌++◌, map, length, Result, refl, sym, ap, ◌∙◌, subst, arith}
+use Rattle.gs_base.specs.declared.numbers.Moment.{Moment}
 use Rattle.gs_base.specs.declared.refusal.Refusal.{Refusal}
 use Rattle.gs_msg.specs.declared.message.Message.{Message}
 use Rattle.gs_msg.specs.declared.node.NodeId.{NodeId}
@@ -7,9 +8,10 @@ use Rattle.gs_msg.specs.declared.sent.Sent.{Sent}
 use Rattle.gs_cluster_channel.specs.Settled.{Hearing, Putting}
 use Rattle.gs_cluster_history.specs.declared.took.Took.{Took}
 use Rattle.gs_cluster_history.specs.declared.took.Took.TheVariants.{Heard, Did}
-use Rattle.gs_cluster_history.specs.Histories.{Entry, IsKept, Kept, Leads, Listed, MayTake, Past, Takes, Upshot}
-use Rattle.gs_cluster_node.specs.Nodes.{AllListed, Counts, IsSound, Stepped, heard_in, heard_of, next_clock}
-use Rattle.gs_cluster_node.specs.inner.Acting.{Acts, Goes}
+use Rattle.gs_cluster_history.specs.Histories.{Entry, IsKept, Kept, Leads, Listed, MayTake, Past, Takes, Upshot, listed, moment_of, out_of}
+use Rattle.gs_cluster_node.specs.Nodes.{AllListed, Counts, IsSound, Stepped, heard_in, heard_of, last_clock, next_clock}
+use Rattle.gs_cluster_node.specs.inner.Acting.{Acts, AreAt, Goes}
+use Rattle.gs_cluster_node.proofs.Listing.{are_behind, still_listed}
 
 heard_on : (took : Took) (xs ys : List Sent) → heard_in took (xs ++ ys) ≡ heard_in took xs ++ ys
 heard_on (Heard sent) xs ys = refl
@@ -24,6 +26,22 @@ module _ {C : Type 0} (Does : NodeId → Took → C → Upshot → C → Type 0)
   leads_on me p [] q r e l t = (r, subst (λ (z : Past C). Takes Does me z e r) l t, refl)
   leads_on me p (x ∷ es) q r e (mid, u, l) t = (mid, u, leads_on me mid es q r e l t)
 
+  module _ (me : NodeId) (took : Took) (clock : ℕ) (old : C) (entries : List Entry) (sent : List Listed) (out : List Message) (moment : Moment) (said : Result (Unit {0}) Refusal)
+      (core : C) (new_entries : List Entry) (new_sent : List Listed) where
+    -- what was sent stands at the end
+    same_sent : (a : Acts Does me took clock old entries sent out moment said core new_entries new_sent) → new_sent ≡ sent ++ map (listed clock moment) out
+    same_sent a =
+        a.lists ∙ ap (λ c. sent ++ map (listed c (moment_of a.entry.took)) (out_of a.entry.outcome)) a.at
+        ∙ ap (λ t. sent ++ map (listed clock (moment_of t)) (out_of a.entry.outcome)) a.of
+        ∙ ap (λ m. sent ++ map (listed clock m) (out_of a.entry.outcome)) (sym a.when)
+        ∙ ap (λ ms. sent ++ map (listed clock moment) ms) (sym a.sends)
+
+    pub acts_place : (count : ℕ) → Acts Does me took clock old entries sent out moment said core new_entries new_sent → Counts count sent → count < last_clock → AreAt new_sent count clock moment out
+    acts_place count a counts below = subst (λ s. AreAt s count clock moment out) (sym (same_sent a)) (are_behind sent count clock moment out (counts below))
+
+    pub acts_listed : (ways : List Putting) → Acts Does me took clock old entries sent out moment said core new_entries new_sent → AllListed me sent ways → AllListed me new_sent ways
+    acts_listed ways a all = subst (λ s. AllListed me s ways) (sym (same_sent a)) (still_listed me sent (map (listed clock moment) out) ways all)
+
   -- a core that has acted has made one step
   pub has_stepped : (old : Kept C) (took : Took) (clock : ℕ) (said : Result (Unit {0}) Refusal) (core : C) (entries : List Entry) (sent : List Listed)
       → Goes Does old.me took clock old.past.core old.entries old.past.sent said core entries sent → old.past.clock < clock → clock ≡ next_clock old.past.clock took → MayTake old.me clock took
@@ -31,17 +49,17 @@ module _ {C : Type 0} (Does : NodeId → Took → C → Upshot → C → Type 0)
   has_stepped old took clock said core entries sent (out, moment, a) later next may = record {
     entry = a.entry;
     takes = record {
-      does = subst (λ t. Does old.me t old.past.core a.entry.outcome core) (sym a.took) a.does;
-      clock = sym a.clock;
-      later = (let c = a.clock in omega arith);
-      may = subst (λ c. MayTake old.me c a.entry.took) (sym a.clock) (subst (MayTake old.me clock) (sym a.took) may);
-      sent = a.sent;
+      does = subst (λ t. Does old.me t old.past.core a.entry.outcome core) (sym a.of) a.does;
+      clock = sym a.at;
+      later = (let c = a.at in omega arith);
+      may = subst (λ c. MayTake old.me c a.entry.took) (sym a.at) (subst (MayTake old.me clock) (sym a.of) may);
+      sent = a.lists;
     };
-    took = a.took;
-    clock = a.clock ∙ next;
-    said = a.said;
+    of = a.of;
+    clock = a.at ∙ next;
+    says = a.says;
     me = refl;
-    entries = a.entries;
+    entries = a.goes_on;
   }
 
   pub stays_sound : (Starts : NodeId → C → List Message → Type 0) (old : Kept C) (took : Took) (said : Result (Unit {0}) Refusal) (core : C) (clock : ℕ) (entries : List Entry) (sent : List Listed)
@@ -59,7 +77,7 @@ module _ {C : Type 0} (Does : NodeId → Took → C → Upshot → C → Type 0)
     counts = counts;
     put = put;
     heard =
-        taken ∙ ap (λ l. l ++ heard_in took []) s.heard ∙ ap (λ t. heard_of old.entries ++ heard_in t []) (sym p.took)
+        taken ∙ ap (λ l. l ++ heard_in took []) s.heard ∙ ap (λ t. heard_of old.entries ++ heard_in t []) (sym p.of)
         ∙ sym (heard_last old.entries p.entry) ∙ ap heard_of (sym p.entries);
     me = me ∙ s.me;
   }

@@ -20,8 +20,8 @@ last_clock = 18446744073709551615
 
 -- A message on its way into this node stands in the list of what was sent by that one.
 pub record IsListed (from to : NodeId) (sent : List Listed) (x : Sent) : Type 0 where
-  pub from : x.from ≡ from
-  pub to : x.message.to ≡ to
+  pub sender : x.from ≡ from
+  pub receiver : x.message.to ≡ to
   pub at : slice_get sent x.place ≡ Some (listing x)
 
 -- All that the ways have put stands in what their node has sent.
@@ -29,21 +29,22 @@ abbrev pub AllListed : NodeId → List Listed → List Putting → Type 0
 AllListed me sent ways = (way : Putting) → Among ways way → (x : Sent) → In way.put x → IsListed me way.to sent x
 
 -- the messages that were taken
-abbrev pub heard_of : List Entry → List Sent
-abbrev heard_in : Took → List Sent → List Sent
-heard_of [] = []
-heard_of (e ∷ es) = heard_in e.took (heard_of es)
+abbrev pub heard_in : Took → List Sent → List Sent
 heard_in (Heard sent) rest = sent ∷ rest
 heard_in (Did event) rest = rest
+
+abbrev pub heard_of : List Entry → List Sent
+heard_of [] = []
+heard_of (e ∷ es) = heard_in e.took (heard_of es)
 
 -- The count is of what was sent, as long as it is below the greatest number.
 abbrev pub Counts : ℕ → List Listed → Type 0
 Counts count sent = count < last_clock → count ≡ length sent
 
 -- The history leads to what the node is; its ways have put what it has sent, and its ear has taken what the history took, in its order.
-pub record IsSound {C : Type 0} (Does : NodeId → Took → C → Upshot → C → Type 0) (Starts : NodeId → C → List Message → Type 0) (k : Kept C) (count : ℕ) (ways : List Putting) (ear : Hearing) : Type 0 where
+pub record IsSound {C : Type 0} (Does : NodeId → Took → C → Upshot → C → Type 0) (Starts : NodeId → C → List Message → Type 0) (k : Kept C) (number : ℕ) (ways : List Putting) (ear : Hearing) : Type 0 where
   pub kept : IsKept Does Starts k
-  pub counts : Counts count k.past.sent
+  pub counts : Counts number k.past.sent
   pub put : AllListed k.me k.past.sent ways
   pub heard : ear.taken ≡ heard_of k.entries
   pub me : ear.me ≡ k.me
@@ -60,9 +61,9 @@ module _ {C : Type 0} (Does : NodeId → Took → C → Upshot → C → Type 0)
   pub record Stepped (old : Kept C) (took : Took) (said : Result (Unit {0}) Refusal) (new : Kept C) : Type 0 where
     pub entry : Entry
     pub takes : Takes Does old.me old.past entry new.past
-    pub took : entry.took ≡ took
+    pub of : entry.took ≡ took
     pub clock : entry.clock ≡ next_clock old.past.clock took
-    pub said : said ≡ said_of entry.outcome
+    pub says : said ≡ said_of entry.outcome
     pub me : new.me ≡ old.me
     pub entries : new.entries ≡ old.entries ++ entry ∷ []
 

@@ -1,4 +1,4 @@
-ghost use Rattle.std.specs.Prelude.{◌≡◌, ◌<◌, ◌+◌, max, []};
+ghost use Rattle.std.specs.Prelude.{◌≡◌, ◌<◌, ◌+◌, ◌↔◌, IsTrue, Some, max, []};
 ghost use Rattle.gs_cluster_history.specs.Histories.{doer};
 ghost use Rattle.gs_cluster_history.specs.Logs.{first_sent};
 ghost use Rattle.gs_cluster_node.specs.Nodes.{AllListed, Counts, Receives, Steps, last_clock};
@@ -7,7 +7,7 @@ ghost use Rattle.gs_cluster_node.specs.inner.Acting.{Goes, HaveSentNothing};
 use crate::acting::{Done, act};
 use crate::gate::Gate;
 use crate::plan::Plan;
-use crate::posting::put_all;
+use crate::posting::{put_all, same};
 use gs_base::{Moment, Refusal};
 use gs_cluster_channel::{Ear, Way};
 use gs_cluster_history::{Core, Log, Took, Turn};
@@ -31,10 +31,13 @@ pub struct Node<N: Plan, C: Core + Drop> {
 }
 
 impl<N: Plan, C: Core + Drop> Model for Node<N, C> {
+    ghost use Rattle.gs_cluster_history.specs.Coding.{coded_kept};
     ghost use Rattle.gs_cluster_history.specs.Histories.{Kept};
     ghost use Rattle.gs_cluster_node.specs.Nodes.{IsSound};
 
     ghost Value = { Kept C };
+
+    ghost coded = { coded_kept C.code };
 
     ghost view = { λ n. record { me = n.me; past = record { core = n.core; clock = n.clock; sent = n.log.sent }; entries = n.log.entries } };
 
@@ -48,6 +51,16 @@ fn doer(event: &Event) -> Option<NodeId>
         Happening::Ask { req, .. } => Some(NodeId::Client(req.client)),
         Happening::Tick(node) => Some(NodeId::from(*node)),
         _ => None,
+    }
+}
+
+/// Whether an event is this node's own.
+fn is_of(event: &Event, me: &NodeId) -> bool
+    ensures { IsTrue result ↔ (doer event.now.happening ≡ Some me.now) }
+{
+    match doer(event) {
+        Some(node) => node == *me,
+        None => false,
     }
 }
 
@@ -71,15 +84,15 @@ fn go<N: Plan, C: Core, R: Wait>(
     count: &mut u64,
     log: &mut Log,
     ways: &mut Vec<Way<N>>,
-    me: NodeId,
+    me: &NodeId,
     clock: u64,
     took: Took,
 ) -> Result<(), Refusal>
     requires counts { Counts count.old log.old.sent }
-    requires listed { AllListed me log.old.sent ways.old.items }
-    ensures goes { Goes C.Does me took clock core.old log.old.entries log.old.sent result core.new log.new.entries log.new.sent }
+    requires listed { AllListed me.now log.old.sent ways.old.items }
+    ensures goes { Goes C.Does me.now took clock core.old log.old.entries log.old.sent result core.new log.new.entries log.new.sent }
     ensures counts { Counts count.new log.new.sent }
-    ensures listed { AllListed me log.new.sent ways.new.items }
+    ensures listed { AllListed me.now log.new.sent ways.new.items }
 {
     let first = *count;
     let Done { out, moment, said } = act(alloc, core, log, me, clock, took);
@@ -106,7 +119,7 @@ impl<N: Plan, C: Core + Drop> Node<N, C> {
         let log = Log::new().first(&turn);
         let mut ways = ways;
         let count = turn.sent.len() as u64;
-        put_all(rt, &mut ways, &log, me, 0, 0, Moment(0), turn.sent);
+        put_all(rt, &mut ways, &log, &me, 0, 0, Moment(0), turn.sent);
         Node {
             me,
             core,
@@ -129,7 +142,7 @@ impl<N: Plan, C: Core + Drop> Node<N, C> {
     ) -> Result<Result<(), Refusal>, Refusal>
         ensures { Steps C.Does self.old event result self.new }
     {
-        if doer(&event) != Some(self.me) {
+        if !is_of(&event, &self.me) {
             drop(event);
             return Err(Refusal::Stray);
         }
@@ -150,7 +163,7 @@ impl<N: Plan, C: Core + Drop> Node<N, C> {
         *clock += 1;
         *steps = steps.saturating_add(1);
         let took = Took::Did(event);
-        Ok(go(rt, alloc, core, count, log, ways, *me, *clock, took))
+        Ok(go(rt, alloc, core, count, log, ways, me, *clock, took))
     }
 
     /// Takes the message that has waited longest, and does what it comes to, in one. `None` where no message waits. `Exhausted`
@@ -179,11 +192,11 @@ impl<N: Plan, C: Core + Drop> Node<N, C> {
         let Some(sent) = ear.take(rt) else {
             return Ok(None);
         };
-        gate.enter(*me, *steps);
+        gate.enter(same(me), *steps);
         *clock = above(*clock, sent.clock);
         *steps = steps.saturating_add(1);
         let took = Took::Heard(sent);
-        let said = go(rt, alloc, core, count, log, ways, *me, *clock, took);
+        let said = go(rt, alloc, core, count, log, ways, me, *clock, took);
         Ok(Some(said))
     }
 }

@@ -23,6 +23,13 @@ fn way_to<N: Naming>(ways: &Vec<Way<N>>, to: NodeId) -> Option<usize>
     None
 }
 
+/// The same node.
+pub(crate) fn same(node: &NodeId) -> NodeId
+    ensures { result ≡ node.now }
+{
+    *node
+}
+
 fn receiver(sent: &Sent) -> NodeId
     ensures { result ≡ sent.now.message.to }
 {
@@ -56,15 +63,15 @@ pub(crate) fn put_all<N: Naming, R: Wait>(
     rt: &R,
     ways: &mut Vec<Way<N>>,
     log: &Log,
-    me: NodeId,
+    me: &NodeId,
     first: u64,
     clock: u64,
     moment: Moment,
     messages: Vec<Message>,
 )
     requires listed { first < last_clock → AreAt log.now.sent first clock moment messages.items }
-    requires all { AllListed me log.now.sent ways.old.items }
-    ensures { AllListed me log.now.sent ways.new.items }
+    requires all { AllListed me.now log.now.sent ways.old.items }
+    ensures { AllListed me.now log.now.sent ways.new.items }
 {
     if clock == u64::MAX {
         return;
@@ -75,7 +82,7 @@ pub(crate) fn put_all<N: Naming, R: Wait>(
             return;
         }
         let sent = Sent {
-            from: me,
+            from: same(me),
             place,
             clock,
             moment,

@@ -13,14 +13,14 @@ use Rattle.gs_cluster_history.specs.Logs.{sent_at}
 pub record Acts {C : Type 0} (Does : NodeId → Took → C → Upshot → C → Type 0) (me : NodeId) (took : Took) (clock : ℕ) (old : C) (entries : List Entry) (sent : List Listed)
     (out : List Message) (moment : Moment) (said : Result (Unit {0}) Refusal) (new : C) (new_entries : List Entry) (new_sent : List Listed) : Type 0 where
   pub entry : Entry
-  pub took : entry.took ≡ took
-  pub clock : entry.clock ≡ clock
+  pub of : entry.took ≡ took
+  pub at : entry.clock ≡ clock
   pub does : Does me took old entry.outcome new
-  pub entries : new_entries ≡ entries ++ entry ∷ []
-  pub sent : new_sent ≡ sent ++ sent_at entry
-  pub out : out ≡ out_of entry.outcome
-  pub moment : moment ≡ moment_of took
-  pub said : said ≡ said_of entry.outcome
+  pub goes_on : new_entries ≡ entries ++ entry ∷ []
+  pub lists : new_sent ≡ sent ++ sent_at entry
+  pub sends : out ≡ out_of entry.outcome
+  pub when : moment ≡ moment_of took
+  pub says : said ≡ said_of entry.outcome
 
 -- a message is put into the way to its receiver, if there is one and it has room
 pub record PutOn (x : Sent) (old new : List Putting) : Type 0 where
@@ -29,7 +29,7 @@ pub record PutOn (x : Sent) (old new : List Putting) : Type 0 where
   pub there : slice_get old at ≡ Some way
   pub to : way.to ≡ x.message.to
   pub done : Bool
-  pub new : new ≡ slice_set old at (puts done x way)
+  pub then : new ≡ slice_set old at (puts done x way)
 
 -- these messages stand in a list, from this place on
 abbrev pub AreAt : List Listed → ℕ → ℕ → Moment → List Message → Type 0

@@ -19,8 +19,8 @@ get_left (x ∷ xs) ys zero v h = h
 get_left (x ∷ xs) ys (suc k) v h = get_left xs ys k v h
 
 get_right : {X : Type 0} (xs ys : List X) (k : ℕ) → slice_get (xs ++ ys) (length xs + k) ≡ slice_get ys k
-get_right [] ys k = refl
-get_right (x ∷ xs) ys k = get_right xs ys k
+get_right [] ys k = let e : 0 + k ≡ k = omega arith in ap (slice_get ys) e
+get_right (x ∷ xs) ys k = let e : suc (length xs) + k ≡ suc (length xs + k) = omega arith in ap (slice_get (x ∷ xs ++ ys)) e ∙ get_right xs ys k
 
 map_at : {X Y : Type 0} (f : X → Y) (xs : List X) (i : ℕ) (x : X) → slice_get xs i ≡ Some x → slice_get (map f xs) i ≡ Some (f x)
 map_at f [] i x h = absurd (none-some x h)
@@ -45,7 +45,7 @@ in_last (z ∷ xs) y x (suc k, h) = ⊎_elim (λ (r : In xs x). inl (suc r.0, r.
 pub still_listed : (me : NodeId) (sent more : List Listed) (ways : List Putting) → AllListed me sent ways → AllListed me (sent ++ more) ways
 still_listed me sent more ways all w a x i =
     let l = all w a x i in
-    record { from = l.from; to = l.to; at = get_left sent more x.place (listing x) l.at }
+    record { sender = l.sender; receiver = l.receiver; at = get_left sent more x.place (listing x) l.at }
 
 pub none_listed : (me : NodeId) (sent : List Listed) (ways : List Putting) → HaveSentNothing ways → AllListed me sent ways
 none_listed me sent ways none w a x (k, h) = absurd (none-some x (subst (λ l. slice_get l k ≡ Some x) (none w a) h))
@@ -53,14 +53,14 @@ none_listed me sent ways none w a x (k, h) = absurd (none-some x (subst (λ l. s
 one_way : (sent : List Listed) (x : Sent) (way : Putting) (done : Bool) → slice_get sent x.place ≡ Some (listing x) → way.to ≡ x.message.to
     → ((y : Sent) → In way.put y → IsListed x.from way.to sent y) → (y : Sent) → In (puts done x way).put y → IsListed x.from (puts done x way).to sent y
 one_way sent x way true at to all y i = ⊎_elim (λ (a : In way.put y). all y a)
-    (λ (e : x ≡ y). subst (λ (z : Sent). IsListed x.from way.to sent z) e (record { from = refl; to = sym to; at = at }))
+    (λ (e : x ≡ y). subst (λ (z : Sent). IsListed x.from way.to sent z) e (record { sender = refl; receiver = sym to; at = at }))
     (in_last way.put x y i)
 one_way sent x way false at to all y i = all y i
 
 pub one_put : (sent : List Listed) (x : Sent) (old new : List Putting) → slice_get sent x.place ≡ Some (listing x) → AllListed x.from sent old → (new ≡ old) ⊎ PutOn x old new → AllListed x.from sent new
 one_put sent x old new at all put = ⊎_elim
     (λ (s : new ≡ old). subst (AllListed x.from sent) (sym s) all)
-    (λ (p : PutOn x old new). subst (AllListed x.from sent) (sym p.new) (λ w a y i. ⊎_elim
+    (λ (p : PutOn x old new). subst (AllListed x.from sent) (sym p.then) (λ w a y i. ⊎_elim
         (λ (s : puts p.done x p.way ≡ w).
             subst (λ (z : Putting). IsListed x.from z.to sent y) s (one_way sent x p.way p.done at p.to (λ z j. all p.way (p.at, p.there) z j) y (subst (λ (z : Putting). In z.put y) (sym s) i)))
         (λ (o : slice_get old a.0 ≡ Some w). all w (a.0, o) y i)
