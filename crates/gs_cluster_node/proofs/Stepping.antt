@@ -1,5 +1,5 @@
 -- One event more leaves a node sound.
-use Rattle.std.proofs.Common.{◌≡◌, ℕ, ◌+◌, ◌<◌, List, [], ◌∷◌, ◌++◌, map, length, Result, refl, sym, ap, ◌∙◌, subst, arith}
+use Rattle.std.proofs.Common.{◌≡◌, ℕ, suc, ◌+◌, ◌<◌, List, [], ◌∷◌, ◌++◌, map, length, Result, refl, sym, ap, ◌∙◌, subst, arith}
 use Rattle.gs_base.specs.declared.numbers.Moment.{Moment}
 use Rattle.gs_base.specs.declared.refusal.Refusal.{Refusal}
 use Rattle.gs_msg.specs.declared.message.Message.{Message}
@@ -20,6 +20,20 @@ heard_on (Did event) xs ys = refl
 heard_last : (es : List Entry) (e : Entry) → heard_of (es ++ e ∷ []) ≡ heard_of es ++ heard_in e.took []
 heard_last [] e = refl
 heard_last (x ∷ es) e = ap (heard_in x.took) (heard_last es e) ∙ heard_on x.took (heard_of es) (heard_in e.took [])
+
+abbrev pub past_as : {C : Type 0} → C → ℕ → List Listed → Past C
+past_as core clock sent = record { core = core; clock = clock; sent = sent }
+
+abbrev pub kept_as : {C : Type 0} → NodeId → C → ℕ → List Listed → List Entry → Kept C
+kept_as me core clock sent entries = record { me = me; past = past_as core clock sent; entries = entries }
+
+map_length : {A B : Type 0} (f : A → B) (xs : List A) → length (map f xs) ≡ length xs
+map_length f [] = refl
+map_length f (x ∷ xs) = ap suc (map_length f xs)
+
+-- as many messages are counted as were sent at first
+pub first_count : (messages : List Message) (sent : List Listed) (count : ℕ) → count ≡ length messages → sent ≡ map (listed 0 (record { 0 = 0 })) messages → count ≡ length sent
+first_count messages sent count e same = e ∙ sym (map_length (listed 0 (record { 0 = 0 })) messages) ∙ ap length (sym same)
 
 module _ {C : Type 0} (Does : NodeId → Took → C → Upshot → C → Type 0) where
   leads_on : (me : NodeId) (p : Past C) (es : List Entry) (q r : Past C) (e : Entry) → Leads Does me p es q → Takes Does me q e r → Leads Does me p (es ++ e ∷ []) r
