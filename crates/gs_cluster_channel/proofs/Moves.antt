@@ -62,8 +62,8 @@ total_snoc f (x ∷ xs) v = let r = total_snoc f xs v in omega arith
 still : (views : List Hand) (port : ℕ) (v w : Hand) → get_elem? views port ≡ some v → (x : Sent) → (In v.put x → In w.put x) → IsPut views x → IsPut (set views port w) x
 still views port v w at x grows (q, u, e, i) = ⊎_elim
     (λ (s : q ≡ port).
-        let same : u ≡ v = some-injective u v (sym e ∙ ap (get_elem? views) s ∙ at) in
-        (port, w, set_here views port w (at_within views port v at), grows (subst (λ (z : Hand). In z.put x) same i)))
+    let same : u ≡ v = some-injective u v (sym e ∙ ap (get_elem? views) s ∙ at) in
+    (port, w, set_here views port w (at_within views port v at), grows (subst (λ (z : Hand). In z.put x) same i)))
     (λ (d : q ≢ port). (q, u, set_else views port q w d ∙ e, i))
     (cases_eq q port)
 
@@ -107,9 +107,9 @@ takes port v x items views b at =
         held = λ y i. keep y (b.held y (suc i.0, i.1));
         taken = λ q u e y i. ⊎_elim
             (λ (s : (q ≡ port) × (w ≡ u)). keep y (⊎_elim
-                (λ (a : In v.taken y). b.taken port v at y a)
-                (λ (a : In (x ∷ []) y). b.held y (zero, ap Some (in_one x y a)))
-                (in_either v.taken (x ∷ []) y (subst (λ (z : Hand). In z.taken y) (sym s.1) i))))
+            (λ (a : In v.taken y). b.taken port v at y a)
+            (λ (a : In (x ∷ []) y). b.held y (zero, ap Some (in_one x y a)))
+            (in_either v.taken (x ∷ []) y (subst (λ (z : Hand). In z.taken y) (sym s.1) i))))
             (λ (s : (q ≢ port) × (get_elem? views q ≡ some u)). keep y (b.taken q u s.1 y i))
             (at_set views port q w u e);
         idle = λ q u e z. ⊎_elim
@@ -124,9 +124,9 @@ pub learns : (port : ℕ) (v : Hand) → v.parts ≡ 1024 → Learns Carried por
 learns port v all items views b at x i = let p = b.taken port v at x i in ⊎_elim
     (λ (s : p.0 ≡ port). subst (λ (z : Hand). In z.put x) (some-injective p.1 v (sym p.2 ∙ ap (get_elem? views) s ∙ at)) p.3)
     (λ (d : p.0 ≢ port).
-        let t = total_two (λ h. h.parts) views p.0 port p.1 v d p.2 at in
-        let q = b.parts in
-        absurd (in_none x (subst (λ l. In l x) (b.idle p.0 p.1 p.2 (omega arith)) p.3)))
+    let t = total_two (λ h. h.parts) views p.0 port p.1 v d p.2 at in
+    let q = b.parts in
+    absurd (in_none x (subst (λ l. In l x) (b.idle p.0 p.1 p.2 (omega arith)) p.3)))
     (cases_eq p.0 port)
 
 -- there is one ear
@@ -138,7 +138,7 @@ pub all_keys : (port : ℕ) (v : Hand) → 17 < v.keys → Learns Carried port v
 all_keys port v more items views b at = let t = total_one (λ h. h.keys) views port v at in let q = b.keys in absurd (omega arith)
 
 total_merged : (f : Hand → ℕ) (views : List Hand) (port other : ℕ) (v u both spent : Hand) (n : ℕ) → get_elem? views port ≡ some v → get_elem? (set views port both) other ≡ some u
-  → f both ≡ f v + f u → f spent ≡ 0 → total f views ≡ n → total f (set (set views port both) other spent) ≡ n
+    → f both ≡ f v + f u → f spent ≡ 0 → total f views ≡ n → total f (set (set views port both) other spent) ≡ n
 total_merged f views port other v u both spent n at at' e z h =
     let s = total_set f views port v both at in let t = total_set f (set views port both) other u spent at' in omega arith
 
@@ -151,12 +151,12 @@ merges port v other u items views b at two at' =
     let was : get_elem? views other ≡ some u = sym (set_else views port other both two) ∙ at' in
     let here : get_elem? end port ≡ some both = set_else mid other port spent (λ e. two (sym e)) ∙ set_here views port both (at_within views port v at) in
     let keep : (x : Sent) → IsPut views x → IsPut end x = λ x p. ⊎_elim
-        (λ (s : p.0 ≡ other). (port, both, here, in_right v.put u.put x (subst (λ (z : Hand). In z.put x) (some-injective p.1 u (sym p.2 ∙ ap (get_elem? views) s ∙ was)) p.3)))
-        (λ (d : p.0 ≢ other). ⊎_elim
-            (λ (s : p.0 ≡ port). (port, both, here, in_left v.put u.put x (subst (λ (z : Hand). In z.put x) (some-injective p.1 v (sym p.2 ∙ ap (get_elem? views) s ∙ at)) p.3)))
-            (λ (n : p.0 ≢ port). (p.0, p.1, set_else mid other p.0 spent d ∙ set_else views port p.0 both n ∙ p.2, p.3))
-            (cases_eq p.0 port))
-        (cases_eq p.0 other) in
+    (λ (s : p.0 ≡ other). (port, both, here, in_right v.put u.put x (subst (λ (z : Hand). In z.put x) (some-injective p.1 u (sym p.2 ∙ ap (get_elem? views) s ∙ was)) p.3)))
+    (λ (d : p.0 ≢ other). ⊎_elim
+    (λ (s : p.0 ≡ port). (port, both, here, in_left v.put u.put x (subst (λ (z : Hand). In z.put x) (some-injective p.1 v (sym p.2 ∙ ap (get_elem? views) s ∙ at)) p.3)))
+    (λ (n : p.0 ≢ port). (p.0, p.1, set_else mid other p.0 spent d ∙ set_else views port p.0 both n ∙ p.2, p.3))
+    (cases_eq p.0 port))
+    (cases_eq p.0 other) in
     record {
       parts = total_merged (λ h. h.parts) views port other v u both spent 1024 at at' refl refl b.parts;
       ears = total_merged (λ h. h.ears) views port other v u both spent 1 at at' refl refl b.ears;
@@ -165,33 +165,33 @@ merges port v other u items views b at two at' =
       taken = λ q z e x i. ⊎_elim
           (λ (s : (q ≡ other) × (spent ≡ z)). absurd (in_none x (subst (λ (h : Hand). In h.taken x) (sym s.1) i)))
           (λ (s : (q ≢ other) × (get_elem? mid q ≡ some z)). ⊎_elim
-              (λ (t : (q ≡ port) × (both ≡ z)). keep x (⊎_elim (λ (a : In v.taken x). b.taken port v at x a) (λ (a : In u.taken x). b.taken other u was x a)
-                  (in_either v.taken u.taken x (subst (λ (h : Hand). In h.taken x) (sym t.1) i))))
-              (λ (t : (q ≢ port) × (get_elem? views q ≡ some z)). keep x (b.taken q z t.1 x i))
-              (at_set views port q both z s.1))
+          (λ (t : (q ≡ port) × (both ≡ z)). keep x (⊎_elim (λ (a : In v.taken x). b.taken port v at x a) (λ (a : In u.taken x). b.taken other u was x a)
+          (in_either v.taken u.taken x (subst (λ (h : Hand). In h.taken x) (sym t.1) i))))
+          (λ (t : (q ≢ port) × (get_elem? views q ≡ some z)). keep x (b.taken q z t.1 x i))
+          (at_set views port q both z s.1))
           (at_set mid other q spent z e);
       idle = λ q z e n. ⊎_elim
           (λ (s : (q ≡ other) × (spent ≡ z)). ap (λ (h : Hand). h.put) (sym s.1))
           (λ (s : (q ≢ other) × (get_elem? mid q ≡ some z)). ⊎_elim
-              (λ (t : (q ≡ port) × (both ≡ z)).
-                  let p = ap (λ (h : Hand). h.parts) t.1 in
-                  let c : v.put ≡ [] = b.idle port v at (omega arith) in
-                  let d : u.put ≡ [] = b.idle other u was (omega arith) in
-                  ap (λ (h : Hand). h.put) (sym t.1) ∙ ap (λ l. l ++ u.put) c ∙ d)
-              (λ (t : (q ≢ port) × (get_elem? views q ≡ some z)). b.idle q z t.1 n)
-              (at_set views port q both z s.1))
+          (λ (t : (q ≡ port) × (both ≡ z)).
+          let p = ap (λ (h : Hand). h.parts) t.1 in
+          let c : v.put ≡ [] = b.idle port v at (omega arith) in
+          let d : u.put ≡ [] = b.idle other u was (omega arith) in
+          ap (λ (h : Hand). h.put) (sym t.1) ∙ ap (λ l. l ++ u.put) c ∙ d)
+          (λ (t : (q ≢ port) × (get_elem? views q ≡ some z)). b.idle q z t.1 n)
+          (at_set views port q both z s.1))
           (at_set mid other q spent z e);
     }
 
 total_forked : (f : Hand → ℕ) (views : List Hand) (port : ℕ) (v left right : Hand) (n : ℕ) → get_elem? views port ≡ some v
-  → f left + f right ≡ f v → total f views ≡ n → total f (set views port left ++ right ∷ []) ≡ n
+    → f left + f right ≡ f v → total f views ≡ n → total f (set views port left ++ right ∷ []) ≡ n
 total_forked f views port v left right n at e h =
     let s = total_set f views port v left at in let t = total_snoc f (set views port left) right in omega arith
 
 -- a new pass gets some parts and keys, and has put and taken nothing; who has put something keeps a part
 pub forks : (port : ℕ) (v : Hand) (parts ears keys left_parts left_ears left_keys : ℕ)
-  → left_parts + parts ≡ v.parts → left_ears + ears ≡ v.ears → left_keys + keys ≡ v.keys → (left_parts ≡ 0 → v.parts ≡ 0)
-  → Forks Carried port v (hand left_parts left_ears left_keys v.put v.taken) (hand parts ears keys [] [])
+    → left_parts + parts ≡ v.parts → left_ears + ears ≡ v.ears → left_keys + keys ≡ v.keys → (left_parts ≡ 0 → v.parts ≡ 0)
+    → Forks Carried port v (hand left_parts left_ears left_keys v.put v.taken) (hand parts ears keys [] [])
 forks port v parts ears keys left_parts left_ears left_keys ep ee ek stays items views b at =
     let left : Hand = hand left_parts left_ears left_keys v.put v.taken in
     let right : Hand = hand parts ears keys [] [] in
@@ -204,18 +204,18 @@ forks port v parts ears keys left_parts left_ears left_keys ep ee ek stays items
       held = λ x i. keep x (b.held x i);
       taken = λ q u e x i. ⊎_elim
           (λ (m : get_elem? mid q ≡ some u). ⊎_elim
-              (λ (s : (q ≡ port) × (left ≡ u)). keep x (b.taken port v at x (subst (λ (z : Hand). In z.taken x) (sym s.1) i)))
-              (λ (s : (q ≢ port) × (get_elem? views q ≡ some u)). keep x (b.taken q u s.1 x i))
-              (at_set views port q left u m))
+          (λ (s : (q ≡ port) × (left ≡ u)). keep x (b.taken port v at x (subst (λ (z : Hand). In z.taken x) (sym s.1) i)))
+          (λ (s : (q ≢ port) × (get_elem? views q ≡ some u)). keep x (b.taken q u s.1 x i))
+          (at_set views port q left u m))
           (λ (r : right ≡ u). absurd (in_none x (subst (λ (z : Hand). In z.taken x) (sym r) i)))
           (at_snoc mid right u q e);
       idle = λ q u e z. ⊎_elim
           (λ (m : get_elem? mid q ≡ some u). ⊎_elim
-              (λ (s : (q ≡ port) × (left ≡ u)).
-                  let t = ap (λ (h : Hand). h.parts) s.1 in
-                  ap (λ (h : Hand). h.put) (sym s.1) ∙ b.idle port v at (stays (omega arith)))
-              (λ (s : (q ≢ port) × (get_elem? views q ≡ some u)). b.idle q u s.1 z)
-              (at_set views port q left u m))
+          (λ (s : (q ≡ port) × (left ≡ u)).
+          let t = ap (λ (h : Hand). h.parts) s.1 in
+          ap (λ (h : Hand). h.put) (sym s.1) ∙ b.idle port v at (stays (omega arith)))
+          (λ (s : (q ≢ port) × (get_elem? views q ≡ some u)). b.idle q u s.1 z)
+          (at_set views port q left u m))
           (λ (r : right ≡ u). ap (λ (h : Hand). h.put) (sym r))
           (at_snoc mid right u q e);
     }

@@ -12,7 +12,9 @@ mod steps;
 mod way;
 
 pub use ear::{Ear, settle, two_ears};
-pub use hand::{Carries, Cut, CutKey, CutKeys, Hand, Joined, Puts, SpareKey, Takes, Total, TwoEars};
+pub use hand::{
+    Carries, Cut, CutKey, CutKeys, Hand, Joined, Puts, SpareKey, Takes, Total, TwoEars,
+};
 pub use key::{Key, spare_key};
 pub use line::{CAPACITY, Inlet, Line, Outlet};
 pub use naming::Naming;

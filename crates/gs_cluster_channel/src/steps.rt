@@ -11,7 +11,12 @@ use crossbeam_channel::Pass;
 use gs_msg::Sent;
 use std::sync::Wait;
 
-pub(crate) fn try_put<R: Wait>(rt: &R, outlet: &Outlet, pass: &mut Pass<Sent, Hand>, sent: Sent) -> bool
+pub(crate) fn try_put<R: Wait>(
+    rt: &R,
+    outlet: &Outlet,
+    pass: &mut Pass<Sent, Hand>,
+    sent: Sent,
+) -> bool
     requires seat { IsSeatAt (sends_on outlet.now) pass.old }
     requires part { 0 < (view pass.old).parts }
     ensures seat { IsSeatAt (sends_on outlet.now) pass.new }

@@ -98,8 +98,7 @@ module _ {C : Type 0} (Does : NodeId → Took → C → Upshot → C → Type 0)
     sent_by_now (Heard sent) me f (to, l, (k, at), from, stands) =
         let m = map_found end_of gs k l at in
         let g : Going C = m.0 in
-        let there : slice_get g.end.sent sent.place ≡ Some (listing sent) = subst (λ (z : Line C). slice_get z.past.sent sent.place ≡ Some (listing sent)) (sym m.2) stands in
-        (
+        let there : slice_get g.end.sent sent.place ≡ Some (listing sent) = subst (λ (z : Line C). slice_get z.past.sent sent.place ≡ Some (listing sent)) (sym m.2) stands in (
           to,
           now_of g,
           (k, map_at now_of gs k g m.1),
@@ -194,7 +193,7 @@ module _ {C : Type 0} (Does : NodeId → Took → C → Upshot → C → Type 0)
         map now_of after,
         comes gs lead stand p b,
         subst (λ rs. RunsAll Does (merged_from n rs) (map now_of after) (map end_of gs)) (fewer gs lead stand p b)
-        (subst (λ ends. RunsAll Does (merged_from n (map rest_of after)) (map now_of after) ends) (same_ends gs lead stand p b) rest),
+            (subst (λ ends. RunsAll Does (merged_from n (map rest_of after)) (map now_of after) ends) (same_ends gs lead stand p b) rest),
       )
 
   pub run : (n : ℕ) → Ongoing n
@@ -221,11 +220,11 @@ order_with n go_on rests c i r at (Some p) b =
     let others = mine i (merged_from n left) in
     ⊎_elim
     (λ (s : p.at ≡ i).
-        let whole : p.entry ∷ b.behind ≡ r = same_Some (p.entry ∷ b.behind) r (sym (at_place rests p b) ∙ ap (slice_get rests) s ∙ at) in
-        let rest : others ≡ b.behind = go_on left (fewer_left rests p b n c) i b.behind (ap (slice_get left) (sym s) ∙ without_here rests p.at p.entry b.behind (at_place rests p b)) in
-        cond-true (p.at == i) (p.entry ∷ others) others (eq-eqb p.at i s) ∙ ap (λ l. p.entry ∷ l) rest ∙ whole)
+    let whole : p.entry ∷ b.behind ≡ r = same_Some (p.entry ∷ b.behind) r (sym (at_place rests p b) ∙ ap (slice_get rests) s ∙ at) in
+    let rest : others ≡ b.behind = go_on left (fewer_left rests p b n c) i b.behind (ap (slice_get left) (sym s) ∙ without_here rests p.at p.entry b.behind (at_place rests p b)) in
+    cond-true (p.at == i) (p.entry ∷ others) others (eq-eqb p.at i s) ∙ ap (λ l. p.entry ∷ l) rest ∙ whole)
     (λ (d : p.at ≡ i → ⊥).
-        cond-false (p.at == i) (p.entry ∷ others) others (ne_eqb p.at i d) ∙ go_on left (fewer_left rests p b n c) i r (without_else rests p.at i d ∙ at))
+    cond-false (p.at == i) (p.entry ∷ others) others (ne_eqb p.at i d) ∙ go_on left (fewer_left rests p b n c) i r (without_else rests p.at i d ∙ at))
     (cases_eq p.at i)
 
 pub in_order : (n : ℕ) → InOrder n
@@ -250,11 +249,11 @@ rising_with n go_on c rests a (Some p) b =
       here.0,
       go_on p.entry.clock (without_first rests p.at) (λ i r at. ⊎_elim
           (λ (s : p.at ≡ i).
-              let same : b.behind ≡ r = same_Some b.behind r (sym (without_here rests p.at p.entry b.behind (at_place rests p b)) ∙ ap (slice_get (without_first rests p.at)) s ∙ at) in
-              subst (Ascends p.entry.clock) same here.1)
+          let same : b.behind ≡ r = same_Some b.behind r (sym (without_here rests p.at p.entry b.behind (at_place rests p b)) ∙ ap (slice_get (without_first rests p.at)) s ∙ at) in
+          subst (Ascends p.entry.clock) same here.1)
           (λ (d : p.at ≡ i → ⊥).
-              let was : slice_get rests i ≡ Some r = sym (without_else rests p.at i d) ∙ at in
-              behind_next c p.entry.clock r (λ e es h. b.below i e es (was ∙ ap Some h)) (a i r was))
+          let was : slice_get rests i ≡ Some r = sym (without_else rests p.at i d) ∙ at in
+          behind_next c p.entry.clock r (λ e es h. b.below i e es (was ∙ ap Some h)) (a i r was))
           (cases_eq p.at i)),
     )
 

@@ -61,10 +61,10 @@ pub one_put : (sent : List Listed) (x : Sent) (old new : List Putting) → slice
 one_put sent x old new at all put = ⊎_elim
     (λ (s : new ≡ old). subst (AllListed x.from sent) (sym s) all)
     (λ (p : PutOn x old new). subst (AllListed x.from sent) (sym p.then) (λ w a y i. ⊎_elim
-        (λ (s : puts p.done x p.way ≡ w).
-            subst (λ (z : Putting). IsListed x.from z.to sent y) s (one_way sent x p.way p.done at p.to (λ z j. all p.way (p.at, p.there) z j) y (subst (λ (z : Putting). In z.put y) (sym s) i)))
-        (λ (o : slice_get old a.0 ≡ Some w). all w (a.0, o) y i)
-        (set_cases old p.at a.0 (puts p.done x p.way) w a.1)))
+    (λ (s : puts p.done x p.way ≡ w).
+    subst (λ (z : Putting). IsListed x.from z.to sent y) s (one_way sent x p.way p.done at p.to (λ z j. all p.way (p.at, p.there) z j) y (subst (λ (z : Putting). In z.put y) (sym s) i)))
+    (λ (o : slice_get old a.0 ≡ Some w). all w (a.0, o) y i)
+    (set_cases old p.at a.0 (puts p.done x p.way) w a.1)))
     put
 
 pub at_first : (sent : List Listed) (place clock : ℕ) (moment : Moment) (m : Message) (ms : List Message) → AreAt sent place clock moment (m ∷ ms) → slice_get sent place ≡ Some (listed clock moment m)

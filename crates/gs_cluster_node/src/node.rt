@@ -69,11 +69,7 @@ fn above(clock: u64, other: u64) -> u64
     requires { (clock < last_clock) × (other < last_clock) }
     ensures { result ≡ max clock other + 1 }
 {
-    if clock < other {
-        other + 1
-    } else {
-        clock + 1
-    }
+    if clock < other { other + 1 } else { clock + 1 }
 }
 
 /// A node takes something at a clock, its history goes on by that, and what it sends goes on its ways.

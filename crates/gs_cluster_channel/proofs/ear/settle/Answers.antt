@@ -13,7 +13,7 @@ join-requires g c =
     let e = c.in-Some.ensures.steps.0 in
     let among : Among c.args.ways.items c.in-Some.way = c.loop-way.invariant.1.rest c.in-Some.way (0, ap (λ (l : List Putting). slice_get l 0) e) in
     let same : c.way.inside.to ≡ c.ear.inside.me =
-        ap (λ (w : Putting). w.to) c.way.view_is ∙ c.requires c.in-Some.way among ∙ ap (λ h. h.me) (sym c.ear.view_is) in
+    ap (λ (w : Putting). w.to) c.way.view_is ∙ c.requires c.in-Some.way among ∙ ap (λ h. h.me) (sym c.ear.view_is) in
     record {
       seat = (
         c.loop-way.invariant.0,
@@ -33,10 +33,9 @@ loop-way-preserved g c =
     let rest = c.next.new.self.rest.items in
     let first = view c.ear.inside.pass in
     let v = view c.loop-way.pass in
-    let u = view c.way.inside.pass in
-    (
+    let u = view c.way.inside.pass in (
       c.join.ensures.seat,
       subst (λ (h : Hand). Pooled all rest first h) (sym c.join.ensures.joined)
-      (one_pooled all rest c.in-Some.way first v u c.way.invariant.1 (ap (λ (w : Putting). w.put) c.way.view_is)
-        (subst (λ (l : List Putting). Pooled all l first v) e c.loop-way.invariant.1)),
+          (one_pooled all rest c.in-Some.way first v u c.way.invariant.1 (ap (λ (w : Putting). w.put) c.way.view_is)
+          (subst (λ (l : List Putting). Pooled all l first v) e c.loop-way.invariant.1)),
     )

@@ -29,7 +29,6 @@ use Rattle.gs_cluster_history.proofs.Walks.{none, none_made}
 use Rattle.gs_cluster_history.specs.Logs.{first_sent}
 use Rattle.gs_cluster_history.specs.contracts.log.Log as Log
 use Rattle.gs_cluster_history.specs.contracts.turn.Turn as Turn
-
 use Rattle.gs_cluster_history.specs.contracts.log.Log.first as F
 use Rattle.gs_cluster_history.specs.contracts.log.Log.first.Key.{name as #self}
 use Rattle.gs_cluster_history.proofs.log.Log.first.Statement as stated

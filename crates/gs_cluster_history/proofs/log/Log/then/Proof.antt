@@ -29,7 +29,6 @@ use Rattle.gs_cluster_history.proofs.Walks.{none, none_made}
 use Rattle.gs_cluster_history.specs.Logs.{entry_of, sent_at}
 use Rattle.gs_cluster_history.specs.contracts.log.Log as Log
 use Rattle.gs_cluster_history.specs.contracts.turn.Deed as Deed
-
 use Rattle.gs_cluster_history.specs.contracts.log.Log.then as F
 use Rattle.gs_cluster_history.specs.contracts.log.Log.then.Key.{name as #self}
 use Rattle.gs_cluster_history.proofs.log.Log.then.Statement as stated

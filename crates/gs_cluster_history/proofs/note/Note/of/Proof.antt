@@ -28,7 +28,6 @@ use denote.Triple.Walked.{says, Stays, stay_dropped, walk_of, ends_at, walk_Meet
 use Rattle.gs_cluster_history.proofs.Walks.{none, none_made}
 use Rattle.gs_cluster_history.specs.contracts.note.Note as Note
 use Rattle.gs_cluster_history.specs.contracts.took.Took as Took
-
 use Rattle.gs_cluster_history.specs.contracts.note.Note.of as F
 use Rattle.gs_cluster_history.specs.contracts.note.Note.of.Key.{name as #self}
 use Rattle.gs_cluster_history.proofs.note.Note.of.Statement as stated

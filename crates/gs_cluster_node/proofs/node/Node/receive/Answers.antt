@@ -27,8 +27,7 @@ returns g c =
     let next = c.above.ensures in
     let later : inside.clock < c.above.result = omega arith in
     let may : c.in-Some.sent.clock < c.above.result = omega arith in
-    let stepped = has_stepped g.C.Core.Does old (Heard c.in-Some.sent) c.above.result c.go-said.result c.go-said.new.core c.go-said.new.log.entries c.go-said.new.log.sent c.go-said.ensures.goes later next may in
-    (
+    let stepped = has_stepped g.C.Core.Does old (Heard c.in-Some.sent) c.above.result c.go-said.result c.go-said.new.core c.go-said.new.log.entries c.go-said.new.log.sent c.go-said.ensures.goes later next may in (
       c.in-Some.sent,
       subst (λ (o : Kept g.row.C.Denot). Stepped g.C.Core.Does o (Heard c.in-Some.sent) c.go-said.result (kept_as inside.me c.go-said.new.core c.above.result c.go-said.new.log.sent c.go-said.new.log.entries)) c.self.view_is stepped,
     )
