@@ -13,7 +13,6 @@ use Rattle.gs_msg.specs.declared.node.NodeId.TheVariants as ids
 use Rattle.gs_msg.specs.declared.node.StoreNode.TheVariants as keepers
 use Rattle.gs_msg.specs.declared.sent.Sent.{Sent}
 use Rattle.gs_master.specs.declared.turn.Turn.{Turn}
-use Rattle.gs_server.specs.declared.turn.Turn as at_server
 use Rattle.gs_server.specs.Servers.{Server}
 use Rattle.gs_server.specs.Servers as servers
 use Rattle.gs_nodes.specs.Happenings.{ClientAsks, ClientHears, MasterHears, MasterTicks, Opens, ServerDoes}
@@ -26,11 +25,6 @@ use Rattle.gs_cluster_history.specs.Histories.{Upshot}
 use Rattle.gs_cluster_history.specs.Setting.{Setting}
 use Rattle.gs_cluster_core.specs.declared.role.Role.{Role}
 use Rattle.gs_cluster_core.specs.declared.role.Role.TheVariants.{Master, Server as AServer, Client}
-
--- a server's turn, told as the master's
-abbrev pub told_by_server : Result at_server.Turn Refusal → Upshot
-told_by_server (Ok turn) = Ok (turn.sent.items, turn.said)
-told_by_server (Err refusal) = Err refusal
 
 -- It is nothing that such a node does.
 abbrev pub IsStray : {A : Type 0} → A → Upshot → A → Type 0

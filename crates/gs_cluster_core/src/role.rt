@@ -1,14 +1,16 @@
 ghost use Rattle.gs_cluster_history.specs.Logs.{told};
-ghost use Rattle.gs_cluster_core.specs.Roles.{ActsAs, HearsAs, told_by_server};
+ghost use Rattle.gs_cluster_core.specs.Roles.{ActsAs, HearsAs};
+ghost use Rattle.gs_nodes.specs.Happenings.{ServerDoes};
+ghost use Rattle.gs_server.specs.Servers as servers;
 ghost use Rattle.gs_world.specs.Histories.{told as told_by_master};
 ghost use Rattle.std.specs.Prelude.{◌≡◌};
 
-use gs_base::Refusal;
+use gs_base::{Moment, Refusal};
 use gs_client::ClientNode;
 use gs_cluster_history::{Core, Took, Turn};
 use gs_journal::Disk;
-use gs_msg::{Event, Happening, NodeId, Sent, StoreNode};
-use gs_nodes::MasterPlace;
+use gs_msg::{Event, Happening, Message, NodeId, Sent, StoreNode};
+use gs_nodes::{MasterPlace, turn_of};
 use gs_server::Server;
 use std::alloc::Global;
 
@@ -28,20 +30,32 @@ fn by_master(done: Result<gs_nodes::Turn, Refusal>) -> Result<Turn, Refusal>
     Ok(Turn { sent, said })
 }
 
-/// What a server does.
-fn by_server(done: Result<gs_server::Turn, Refusal>) -> Result<Turn, Refusal>
-    ensures { told result ≡ told_by_server done }
+/// A server hears a message.
+fn server_hears(
+    server: &mut Server,
+    message: Message,
+    moment: Moment,
+) -> Result<gs_nodes::Turn, Refusal>
+    ensures { ServerDoes (servers.handle server.old message moment) server.old result server.new }
 {
-    let gs_server::Turn { sent, said } = done?;
-    Ok(Turn { sent, said })
+    match server.handle(message, moment) {
+        Ok(turn) => Ok(turn_of(turn)),
+        Err(refusal) => Err(refusal),
+    }
+}
+
+/// A server's clock ticks.
+fn server_ticks(server: &mut Server, moment: Moment) -> Result<gs_nodes::Turn, Refusal>
+    ensures { ServerDoes (servers.tick server.old moment) server.old result server.new }
+{
+    match server.tick(moment) {
+        Ok(turn) => Ok(turn_of(turn)),
+        Err(refusal) => Err(refusal),
+    }
 }
 
 /// A node hears a message that was sent.
-fn hear<D: Disk + Drop>(
-    alloc: Global,
-    role: &mut Role<D>,
-    sent: Sent,
-) -> Result<Turn, Refusal>
+fn hear<D: Disk + Drop>(alloc: Global, role: &mut Role<D>, sent: Sent) -> Result<Turn, Refusal>
     ensures { HearsAs D.seen D.failures sent role.old (told result) role.new }
 {
     let Sent {
@@ -53,7 +67,7 @@ fn hear<D: Disk + Drop>(
     } = sent;
     match role {
         Role::Master(master) => by_master(master.hear(alloc, message, moment)),
-        Role::Server(server) => by_server(server.handle(message, moment)),
+        Role::Server(server) => by_master(server_hears(server, message, moment)),
         Role::Client(client) => Ok(Turn {
             sent: Vec::new(alloc),
             said: client.hear(message.body).err(),
@@ -62,11 +76,7 @@ fn hear<D: Disk + Drop>(
 }
 
 /// A node does something by itself. `Stray` where it is nothing that such a node does.
-fn act<D: Disk + Drop>(
-    alloc: Global,
-    role: &mut Role<D>,
-    event: Event,
-) -> Result<Turn, Refusal>
+fn act<D: Disk + Drop>(alloc: Global, role: &mut Role<D>, event: Event) -> Result<Turn, Refusal>
     ensures { ActsAs D.seen D.failures event.moment event.happening role.old (told result) role.new }
 {
     let Event { moment, happening } = event;
@@ -75,7 +85,7 @@ fn act<D: Disk + Drop>(
             by_master(master.tick(alloc, moment))
         }
         (Role::Server(server), Happening::Tick(StoreNode::Server(_))) => {
-            by_server(server.tick(moment))
+            by_master(server_ticks(server, moment))
         }
         (Role::Client(client), Happening::Ask { req, request }) => Ok(Turn {
             sent: client.ask(alloc, req.number, request)?,
@@ -87,7 +97,7 @@ fn act<D: Disk + Drop>(
 
 impl<D: Disk + Drop> Core for Role<D> {
     ghost use Rattle.gs_cluster_core.specs.Roles.{DoesAs, StartsAs};
-    
+
     ghost Starts = { StartsAs D.seen D.failures };
 
     ghost Does = { DoesAs D.seen D.failures };
