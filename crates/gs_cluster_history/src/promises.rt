@@ -5,7 +5,7 @@ ghost use Rattle.gs_cluster_history.specs.Histories.{Kept, Line};
 ghost use Rattle.gs_cluster_history.specs.Merging.{AllKept, AreBegun, IsRunOf, Matches, places_of};
 ghost use Rattle.gs_cluster_history.specs.Setting.{Setting};
 
-use crate::core::Core;
+use crate::acts::Core;
 
 /// The entries of histories that match, taken by (clock, node), are a run of all nodes together, from how they began to what they
 /// are: whatever a node takes there has been sent to it by then, each history stands in it in its own order, and clocks never
