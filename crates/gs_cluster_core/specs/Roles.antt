@@ -1,5 +1,5 @@
 -- What each kind of node does with what it takes, and how it begins.
-use Rattle.std.specs.Prelude.{◌≡◌, ◌≤◌, ℕ, List, [], Option, Some, Result, Ok, Err, Vec, slice_get}
+use Rattle.std.specs.Prelude.{◌≡◌, ◌≤◌, ℕ, List, [], Option, Some, Result, Ok, Err, Vec, slice_get, refl}
 use Rattle.std.specs.declared.alloc.Global.{Global}
 use Rattle.gs_base.specs.declared.numbers.Moment.{Moment}
 use Rattle.gs_base.specs.declared.refusal.Refusal.{Refusal}
@@ -15,7 +15,7 @@ use Rattle.gs_msg.specs.declared.sent.Sent.{Sent}
 use Rattle.gs_master.specs.declared.turn.Turn.{Turn}
 use Rattle.gs_server.specs.Servers.{Server, Step}
 use Rattle.gs_server.specs.Servers as servers
-use Rattle.gs_nodes.specs.Happenings.{ClientAsks, ClientHears, MasterHears, MasterTicks, Opens, ServerDoes}
+use Rattle.gs_nodes.specs.Happenings.{ClientAsks, ClientHears, MasterHears, MasterTicks, Opens, Says, ServerDoes}
 use Rattle.gs_nodes.specs.Nodes.{new_servers}
 use Rattle.gs_nodes.specs.declared.place.MasterPlace.{MasterPlace}
 use Rattle.gs_world.specs.Histories.{asked, told}
@@ -42,8 +42,12 @@ ServerActs moment happening old outcome new = IsStray old outcome new
 
 -- ---- a client
 
+-- it says how it is met, and sends nothing
+abbrev pub ClientTurns : Message → Node → Result Turn Refusal → Node → Type 0
+ClientTurns message old turn new = (said : Option Refusal) × ClientHears message.body old said new × Says said turn
+
 abbrev pub ClientTakes : Message → Node → Upshot → Node → Type 0
-ClientTakes message old outcome new = (said : Option Refusal) × ClientHears message.body old said new × (outcome ≡ Ok ([], said))
+ClientTakes message old outcome new = (turn : Result Turn Refusal) × ClientTurns message old turn new × (outcome ≡ told turn)
 
 -- it asks
 abbrev pub ClientActs : Happening → Node → Upshot → Node → Type 0
@@ -87,3 +91,7 @@ module _ {D : Type 0} (seen : D → List ℕ) (failures : D → ℕ) where
   StartsAs setting (ids.Server id) (AServer server) first = (slice_get (new_servers setting.config) id ≡ Some server) × (first ≡ [])
   StartsAs setting (ids.Client id) (Client node) first = (1 ≤ id.0) × (id.0 ≤ setting.clients) × (node ≡ silent id) × (first ≡ [])
   StartsAs setting me role first = ⊥
+
+-- Worked: a client asks, and its clock never ticks.
+no_client_ticks : (node : Node) → ClientActs (happenings.Tick keepers.Master) node (Err refusals.Stray) node
+no_client_ticks node = (refl, refl)

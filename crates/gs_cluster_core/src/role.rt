@@ -1,5 +1,5 @@
 ghost use Rattle.gs_cluster_history.specs.Logs.{told};
-ghost use Rattle.gs_cluster_core.specs.Roles.{ActsAs, ClientActs, ClientTakes, HearsAs, MasterActs, MasterTakes, ServerActs, ServerTakes};
+ghost use Rattle.gs_cluster_core.specs.Roles.{ActsAs, ClientActs, ClientTakes, ClientTurns, HearsAs, MasterActs, MasterTakes, ServerActs, ServerTakes};
 ghost use Rattle.gs_nodes.specs.Happenings.{ServerDoes};
 ghost use Rattle.gs_server.specs.Servers as servers;
 ghost use Rattle.gs_world.specs.Histories.{told as told_by_master};
@@ -68,12 +68,22 @@ fn server_hears(server: &mut Server, message: Message, moment: Moment) -> Result
     turn_from(server_handles(server, message, moment))
 }
 
-fn client_hears(alloc: Global, client: &mut ClientNode, message: Message) -> Result<Turn, Refusal>
-    ensures { ClientTakes message client.old (told result) client.new }
+fn client_turn(
+    alloc: Global,
+    client: &mut ClientNode,
+    message: Message,
+) -> Result<gs_nodes::Turn, Refusal>
+    ensures { ClientTurns message client.old result client.new }
 {
     let said = client.hear(message.body).err();
     let sent = Vec::new(alloc);
-    Ok(Turn { sent, said })
+    Ok(gs_nodes::Turn { sent, said })
+}
+
+fn client_hears(alloc: Global, client: &mut ClientNode, message: Message) -> Result<Turn, Refusal>
+    ensures { ClientTakes message client.old (told result) client.new }
+{
+    turn_from(client_turn(alloc, client, message))
 }
 
 fn master_acts<D: Disk + Drop>(
