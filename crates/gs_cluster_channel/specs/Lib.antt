@@ -1,0 +1,4 @@
+pub mod Carried
+pub mod Named
+pub mod Names
+pub mod Settled

@@ -1,0 +1,22 @@
+//! The channels between nodes that run at once, under a rule: whatever is in a channel, or was taken out of it, stands in what was
+//! put into it.
+#![tactic(auto)]
+
+mod ear;
+mod hand;
+mod key;
+mod line;
+mod naming;
+mod stem;
+mod steps;
+mod way;
+
+pub use ear::{Ear, settle, two_ears};
+pub use hand::{
+    Carries, Cut, CutKey, CutKeys, Hand, Joined, Puts, SpareKey, Takes, Total, TwoEars,
+};
+pub use key::{Key, spare_key};
+pub use line::{CAPACITY, Inlet, Line, Outlet};
+pub use naming::Naming;
+pub use stem::Stem;
+pub use way::Way;

@@ -1,0 +1,5 @@
+mod Happening
+mod Placing
+mod Running
+mod Sending
+mod Starting

@@ -1,0 +1,5 @@
+mod Gathered
+mod Leading
+mod Least
+mod Merging
+mod Walks

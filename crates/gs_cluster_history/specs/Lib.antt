@@ -1,0 +1,5 @@
+pub mod Coding
+pub mod Histories
+pub mod Logs
+pub mod Merging
+pub mod Setting

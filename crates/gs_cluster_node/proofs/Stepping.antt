@@ -1,0 +1,97 @@
+-- One event more leaves a node sound.
+use Rattle.std.proofs.Common.{◌≡◌, ℕ, suc, ◌+◌, ◌<◌, List, [], ◌∷◌, ◌++◌, map, length, Result, refl, sym, ap, ◌∙◌, subst, arith}
+use Rattle.gs_base.specs.declared.numbers.Moment.{Moment}
+use Rattle.gs_base.specs.declared.refusal.Refusal.{Refusal}
+use Rattle.gs_msg.specs.declared.message.Message.{Message}
+use Rattle.gs_msg.specs.declared.node.NodeId.{NodeId}
+use Rattle.gs_msg.specs.declared.sent.Sent.{Sent}
+use Rattle.gs_cluster_channel.specs.Settled.{Hearing, Putting}
+use Rattle.gs_cluster_history.specs.declared.took.Took.{Took}
+use Rattle.gs_cluster_history.specs.declared.took.Took.TheVariants.{Heard, Did}
+use Rattle.gs_cluster_history.specs.Histories.{Entry, IsKept, Kept, Leads, Listed, MayTake, Past, Takes, Upshot, listed, moment_of, out_of}
+use Rattle.gs_cluster_node.specs.Nodes.{AllListed, Counts, IsSound, Stepped, heard_in, heard_of, last_clock, next_clock}
+use Rattle.gs_cluster_node.specs.inner.Acting.{Acts, AreAt, Goes}
+use Rattle.gs_cluster_node.proofs.Listing.{are_behind, still_listed}
+
+heard_on : (took : Took) (xs ys : List Sent) → heard_in took (xs ++ ys) ≡ heard_in took xs ++ ys
+heard_on (Heard sent) xs ys = refl
+heard_on (Did event) xs ys = refl
+
+heard_last : (es : List Entry) (e : Entry) → heard_of (es ++ e ∷ []) ≡ heard_of es ++ heard_in e.took []
+heard_last [] e = refl
+heard_last (x ∷ es) e = ap (heard_in x.took) (heard_last es e) ∙ heard_on x.took (heard_of es) (heard_in e.took [])
+
+abbrev pub past_as : {C : Type 0} → C → ℕ → List Listed → Past C
+past_as core clock sent = record { core = core; clock = clock; sent = sent }
+
+abbrev pub kept_as : {C : Type 0} → NodeId → C → ℕ → List Listed → List Entry → Kept C
+kept_as me core clock sent entries = record { me = me; past = past_as core clock sent; entries = entries }
+
+map_length : {A B : Type 0} (f : A → B) (xs : List A) → length (map f xs) ≡ length xs
+map_length f [] = refl
+map_length f (x ∷ xs) = ap suc (map_length f xs)
+
+-- as many messages are counted as were sent at first
+pub first_count : (messages : List Message) (sent : List Listed) (count : ℕ) → count ≡ length messages → sent ≡ map (listed 0 (record { 0 = 0 })) messages → count ≡ length sent
+first_count messages sent count e same = e ∙ sym (map_length (listed 0 (record { 0 = 0 })) messages) ∙ ap length (sym same)
+
+module _ {C : Type 0} (Does : NodeId → Took → C → Upshot → C → Type 0) where
+  leads_on : (me : NodeId) (p : Past C) (es : List Entry) (q r : Past C) (e : Entry) → Leads Does me p es q → Takes Does me q e r → Leads Does me p (es ++ e ∷ []) r
+  leads_on me p [] q r e l t = (r, subst (λ (z : Past C). Takes Does me z e r) l t, refl)
+  leads_on me p (x ∷ es) q r e (mid, u, l) t = (mid, u, leads_on me mid es q r e l t)
+
+  module _ (me : NodeId) (took : Took) (clock : ℕ) (old : C) (entries : List Entry) (sent : List Listed) (out : List Message) (moment : Moment) (said : Result (Unit {0}) Refusal)
+      (core : C) (new_entries : List Entry) (new_sent : List Listed) where
+    -- what was sent stands at the end
+    same_sent : (a : Acts Does me took clock old entries sent out moment said core new_entries new_sent) → new_sent ≡ sent ++ map (listed clock moment) out
+    same_sent a =
+        a.lists ∙ ap (λ c. sent ++ map (listed c (moment_of a.entry.took)) (out_of a.entry.outcome)) a.at
+        ∙ ap (λ t. sent ++ map (listed clock (moment_of t)) (out_of a.entry.outcome)) a.of
+        ∙ ap (λ m. sent ++ map (listed clock m) (out_of a.entry.outcome)) (sym a.when)
+        ∙ ap (λ ms. sent ++ map (listed clock moment) ms) (sym a.sends)
+
+    pub acts_place : (count : ℕ) → Acts Does me took clock old entries sent out moment said core new_entries new_sent → Counts count sent → count < last_clock → AreAt new_sent count clock moment out
+    acts_place count a counts below = subst (λ s. AreAt s count clock moment out) (sym (same_sent a)) (are_behind sent count clock moment out (counts below))
+
+    pub acts_listed : (ways : List Putting) → Acts Does me took clock old entries sent out moment said core new_entries new_sent → AllListed me sent ways → AllListed me new_sent ways
+    acts_listed ways a all = subst (λ s. AllListed me s ways) (sym (same_sent a)) (still_listed me sent (map (listed clock moment) out) ways all)
+
+  -- a core that has acted has made one step
+  pub has_stepped : (old : Kept C) (took : Took) (clock : ℕ) (said : Result (Unit {0}) Refusal) (core : C) (entries : List Entry) (sent : List Listed)
+      → Goes Does old.me took clock old.past.core old.entries old.past.sent said core entries sent → old.past.clock < clock → clock ≡ next_clock old.past.clock took → MayTake old.me clock took
+      → Stepped Does old took said (record { me = old.me; past = record { core = core; clock = clock; sent = sent }; entries = entries })
+  has_stepped old took clock said core entries sent (out, moment, a) later next may = record {
+    entry = a.entry;
+    takes = record {
+      does = subst (λ t. Does old.me t old.past.core a.entry.outcome core) (sym a.of) a.does;
+      clock = sym a.at;
+      later = (let c = a.at in omega arith);
+      may = subst (λ c. MayTake old.me c a.entry.took) (sym a.at) (subst (MayTake old.me clock) (sym a.of) may);
+      sent = a.lists;
+    };
+    of = a.of;
+    clock = a.at ∙ next;
+    says = a.says;
+    me = refl;
+    entries = a.goes_on;
+  }
+
+  pub stays_sound : (Starts : NodeId → C → List Message → Type 0) (old : Kept C) (took : Took) (said : Result (Unit {0}) Refusal) (core : C) (clock : ℕ) (entries : List Entry) (sent : List Listed)
+      (count later : ℕ) (ways after : List Putting) (ear now : Hearing)
+      → IsSound Does Starts old count ways ear → Stepped Does old took said (record { me = old.me; past = record { core = core; clock = clock; sent = sent }; entries = entries })
+      → Counts later sent → AllListed old.me sent after → now.taken ≡ ear.taken ++ heard_in took [] → now.me ≡ ear.me
+      → IsSound Does Starts (record { me = old.me; past = record { core = core; clock = clock; sent = sent }; entries = entries }) later after now
+  stays_sound Starts old took said core clock entries sent count later ways after ear now s p counts put taken me = record {
+    kept = record {
+      begun = s.kept.begun;
+      begins = s.kept.begins;
+      leads = subst (λ es. Leads Does old.me s.kept.begun es (record { core = core; clock = clock; sent = sent })) (sym p.entries)
+          (leads_on old.me s.kept.begun old.entries old.past (record { core = core; clock = clock; sent = sent }) p.entry s.kept.leads p.takes);
+    };
+    counts = counts;
+    put = put;
+    heard =
+        taken ∙ ap (λ l. l ++ heard_in took []) s.heard ∙ ap (λ t. heard_of old.entries ++ heard_in t []) (sym p.of)
+        ∙ sym (heard_last old.entries p.entry) ∙ ap heard_of (sym p.entries);
+    me = me ∙ s.me;
+  }

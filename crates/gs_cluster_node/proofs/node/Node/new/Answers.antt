@@ -1,0 +1,34 @@
+use Rattle.std.proofs.Common.{◌≡◌, ◌++◌, List, [], map, length, refl, sym, ap, ◌∙◌, subst, arith}
+use Rattle.gs_cluster_channel.specs.Settled.{Hearing}
+use Rattle.gs_cluster_history.specs.Histories.{Entry, Listed, Leads, listed}
+use Rattle.gs_cluster_history.specs.Logs.{first_sent}
+use Rattle.gs_cluster_node.specs.Nodes.{AllListed, heard_of}
+use Rattle.gs_cluster_node.specs.inner.Acting.{AreAt}
+use Rattle.gs_cluster_node.proofs.Listing.{are_behind, none_listed}
+use Rattle.gs_cluster_node.proofs.Stepping.{first_count, past_as}
+use Rattle.gs_cluster_node.proofs.node.Node.new.Goals as goal
+
+pub put_all-requires-clause-listed : goal.put_all-requires-clause-listed
+put_all-requires-clause-listed g c =
+    let same : c.first-log.result.sent ≡ first_sent c.args.turn = c.first-log.ensures.1 ∙ ap (λ (l : List Listed). l ++ first_sent c.args.turn) c.new.ensures.1 in
+    λ below. subst (λ (s : List Listed). AreAt s 0 0 (record { 0 = 0 }) c.args.turn.sent.items) (sym same) (are_behind [] 0 0 (record { 0 = 0 }) c.args.turn.sent.items refl)
+
+pub put_all-requires-clause-all : goal.put_all-requires-clause-all
+put_all-requires-clause-all g c = none_listed c.args.me c.first-log.result.sent c.args.ways.items c.requires.silent
+
+pub invariant_of-result : goal.invariant_of-result
+invariant_of-result g c =
+    let same : c.first-log.result.sent ≡ first_sent c.args.turn = c.first-log.ensures.1 ∙ ap (λ (l : List Listed). l ++ first_sent c.args.turn) c.new.ensures.1 in
+    let none : c.first-log.result.entries ≡ [] = c.first-log.ensures.0 ∙ c.new.ensures.0 in
+    let begun = past_as c.args.core 0 c.first-log.result.sent in
+    record {
+      kept = record {
+        begun = begun;
+        begins = record { first = c.args.turn.sent.items; starts = c.requires.starts; clock = refl; sent = same };
+        leads = subst (λ (es : List Entry). Leads g.C.Core.Does c.args.me begun es begun) (sym none) refl;
+      };
+      counts = λ below. first_count c.args.turn.sent.items c.first-log.result.sent c.len-count.result (c.len-count.ensures ∙ c.args.turn.sent.ok.0) same;
+      put = c.put_all.ensures;
+      heard = ap (λ (e : Hearing). e.taken) c.requires.ear ∙ ap heard_of (sym none);
+      me = ap (λ (e : Hearing). e.me) c.requires.ear;
+    }
