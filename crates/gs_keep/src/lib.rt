@@ -1,0 +1,12 @@
+//! A store that outlives its process: each line is logged before it is answered, and a log's lines are run again at the start.
+//! Whatever it is that answers, and whatever the log is kept in.
+#![tactic(auto)]
+
+mod batch;
+mod fault;
+mod keeping;
+mod serve;
+
+pub use fault::KeepFault;
+pub use keeping::Keeping;
+pub use serve::serve;
