@@ -1,4 +1,4 @@
-// Views: how one is begun, and for which calls.
+// Views: which versions and handles are left for them.
 ghost use Rattle.std.specs.Prelude.{◌≡◌, IfSome, is_some};
 ghost use Rattle.gs_master_spec.specs.Beginning.{has_handle, has_versions, next_stamp};
 ghost use Rattle.gs_master_state.specs.inner.Recorded.{durable_of};
@@ -15,13 +15,6 @@ impl Recorded {
             return many == 0;
         }
         many - 1 <= u64::MAX - self.next_version
-    }
-
-    /// Whether a handle is left.
-    pub fn has_handle(&self) -> bool
-        ensures { result ≡ has_handle (durable_of self.now) }
-    {
-        self.next_handle != 0
     }
 
     /// The stamp of the view that is begun next.
