@@ -9,7 +9,7 @@ pub trait Keeping: Answering {
     ghost is_kept: { List ℕ → Bool };
 
     /// Whether a line given without its end may change anything. `Err` where memory is lacking to tell.
-    fn is_kept(&self, alloc: Global, line: &[u8]) -> Result<bool, AllocError>
+    fn keeps(&self, alloc: Global, line: &[u8]) -> Result<bool, AllocError>
         ensures { IfOk result (λ kept. kept ≡ is_kept line.now) };
 
     /// Any other line changes nothing.

@@ -5,8 +5,8 @@
 mod batch;
 mod fault;
 mod keeping;
-mod serve;
+mod turns;
 
 pub use fault::KeepFault;
 pub use keeping::Keeping;
-pub use serve::serve;
+pub use turns::serve;

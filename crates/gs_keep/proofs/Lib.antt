@@ -1,0 +1,6 @@
+pub mod Weaken
+pub mod Logs
+pub mod Asking
+pub mod Answering
+pub mod Gathering
+pub mod Rounds
