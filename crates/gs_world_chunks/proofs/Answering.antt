@@ -56,7 +56,7 @@ use Rattle.gs_world_chunks.proofs.Surviving.{still, survivor}
 use Rattle.gs_world_chunks.proofs.SurvivedOn.{survived}
 use Rattle.gs_world_chunks.proofs.Telling.{begins_so, stands_next}
 use Rattle.gs_world_chunks.proofs.Well.{IsWell}
-use Rattle.gs_world_chunks.specs.Accepting.{Answers, HasTaken, NamesChunk, OneSurvivorIsEnough, WasNamed}
+use Rattle.gs_world_chunks.specs.Accepting.{HasTaken, NamesChunk, OneSurvivorIsEnough, TellsLearned, WasNamed}
 use Rattle.gs_world_chunks.specs.Joined.{SeenSince}
 use Rattle.gs_world_chunks.specs.Seeing.{SeesBoth}
 use Rattle.gs_world_chunks.specs.Upgrading.{IsUpgrading, RunsUpgraded, Survives}
@@ -291,7 +291,7 @@ module _ (sizes : HaveSizes) (law : AreNumbered) {D : Type 0} (x : Setup D) (pre
       absurd (none_yet upgrade.steps prepared before first upgrade.runs l.0 l.1 l.2)
 
   answered : (steps : List Step) (old : History D) (a : Account) (up : IsUpgrading x prepared before old a) (rest : RunsUpgraded x steps old a now after) → StandsSo x before.durable old → AllName old
-      → HasTaken x (Answers after.durable.epoch id) steps old a now after rest → HasTaken x (NamesChunk after.durable.epoch chunk id) steps old a now after rest
+      → HasTaken x (TellsLearned after.durable.epoch id) steps old a now after rest → HasTaken x (NamesChunk after.durable.epoch chunk id) steps old a now after rest
   answered [] old a up rest s names taken = absurd taken
   answered (step ∷ steps) old a up (mid, c, moves, going, rest) s names (inl ((message, found, such, met_so), others)) = inl (
     (
@@ -307,7 +307,7 @@ module _ (sizes : HaveSizes) (law : AreNumbered) {D : Type 0} (x : Setup D) (pre
       inr (answered steps mid c up_next rest (stands_next x given before.durable step old mid a c moves going s)
       (names_next steps mid c up_next rest step old s.well (own (step ∷ steps) old a up (mid, c, moves, going, rest)) moves.steps names) later)
 
-  pub was_named : HasTaken x (Answers after.durable.epoch id) upgrade.steps prepared before now after upgrade.runs → WasNamed x prepared before now after upgrade chunk
+  pub was_named : HasTaken x (TellsLearned after.durable.epoch id) upgrade.steps prepared before now after upgrade.runs → WasNamed x prepared before now after upgrade chunk
   was_named taken = (id, survives.current, answered upgrade.steps prepared before first upgrade.runs (begins_so x prepared now before after upgrade).stands names_first taken)
 
 pub one_survivor_is_enough : HaveSizes → AreNumbered → {D : Type 0} (x : Setup D) → OneSurvivorIsEnough x

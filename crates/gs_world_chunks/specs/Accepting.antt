@@ -45,7 +45,7 @@ pub record NamesChunk (epoch chunk server : ℕ) (message : Message) : Type 0 wh
   pub named : is_member handles chunk ≡ true
 
 -- it tells so, whatever it names
-pub record Answers (epoch server : ℕ) (message : Message) : Type 0 where
+pub record TellsLearned (epoch server : ℕ) (message : Message) : Type 0 where
   pub handles : List ℕ
   pub from : message.from ≡ nodes.Server server
   pub says : message.body ≡ bodies.Learned epoch handles
@@ -128,7 +128,7 @@ module _ {D : Type 0} (x : Setup D) where
 
   -- a survivor of a chunk has answered in the epoch that stands, and the master wasn't restarted since it took that
   abbrev pub HasAnswered : (prepared : History D) (before : Account) (now : History D) (after : Account) → IsUpgrading x prepared before now after → ℕ → Type 0
-  HasAnswered prepared before now after upgrade chunk = (server : ℕ) × Survives before after chunk server × HasTaken x (Answers after.durable.epoch server) upgrade.steps prepared before now after upgrade.runs
+  HasAnswered prepared before now after upgrade chunk = (server : ℕ) × Survives before after chunk server × HasTaken x (TellsLearned after.durable.epoch server) upgrade.steps prepared before now after upgrade.runs
 
   -- For each chunk one survivor that has answered is enough: it has named the chunk.
   abbrev pub OneSurvivorIsEnough : Type 0
