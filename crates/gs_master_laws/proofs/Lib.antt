@@ -39,7 +39,7 @@ pub mod Preparing
 pub mod Reached
 pub mod Refusing
 pub mod Resting
-pub mod Resolved
+mod Resolved
 pub mod Retold
 pub mod RolledBack
 pub mod Rolling
