@@ -11,7 +11,7 @@ use Rattle.gs_keep.specs.Serving.{Answers, AnswersAll, AnswersSome, AnswersWaiti
 use Rattle.gs_keep.proofs.Asking.{unlines_push}
 
 -- a list that has something has a last element
-last_of : {X : Type 0} (xs : List X) → 0 < length xs → (done : List X) × (last : X) × (xs ≡ done ++ last ∷ [])
+pub last_of : {X : Type 0} (xs : List X) → 0 < length xs → (done : List X) × (last : X) × (xs ≡ done ++ last ∷ [])
 last_of [] some = absurd (omega arith)
 last_of (x ∷ []) some = ([], x, refl)
 last_of (x ∷ y ∷ ys) some = let (done, last, is) = last_of (y ∷ ys) (omega arith) in (x ∷ done, last, ap (λ l. x ∷ l) is)

@@ -4,3 +4,5 @@ pub mod Asking
 pub mod Answering
 pub mod Gathering
 pub mod Rounds
+pub mod Replaying
+pub mod Standing

@@ -1,3 +1,4 @@
 pub mod Lines
 pub mod Gathering
 pub mod Serving
+pub mod Replaying

@@ -2,11 +2,13 @@
 //! Whatever it is that answers, and whatever the log is kept in.
 #![tactic(auto)]
 
+mod again;
 mod batch;
 mod fault;
 mod keeping;
 mod turns;
 
+pub use again::{Progress, ReplayFault, Replayed, replay};
 pub use fault::KeepFault;
 pub use keeping::Keeping;
 pub use turns::serve;
