@@ -6,3 +6,4 @@ pub mod Gathering
 pub mod Rounds
 pub mod Replaying
 pub mod Standing
+pub mod Going

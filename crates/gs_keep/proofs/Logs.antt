@@ -1,7 +1,9 @@
 -- What a log holds, from one call to the next.
-use Rattle.std.proofs.Common.{◌≡◌, ◌+◌, ◌++◌, ◌∷◌, ℕ, zero, suc, List, [], take, drop, Option, Some, None, IfSome, refl, sym, ap, subst, ◌∙◌, append_assoc, append-nil}
+use Rattle.std.proofs.Common.{◌≡◌, ◌+◌, ◌++◌, ◌∷◌, ℕ, zero, suc, List, [], take, drop, Option, Some, None, IfSome, refl, sym, ap, subst, ◌∙◌, append_assoc, append-nil, ◌≤◌, length, length-take, arith}
+use Rattle.std.proofs.lemmas.List.{take-append-le}
 use Rattle.std.proofs.Math.Seq.{take-add}
-use Rattle.gs_keep_log.specs.Log.{Held, Does, DoesPart, MayLeave, appended, partly_appended, settled, synced}
+use Rattle.gs_keep_log.specs.Log.{Held, Does, DoesPart, MayLeave, appended, partly_appended, partly_shortened, settled, synced}
+use Rattle.gs_keep.specs.Keeping.{LeavesFront}
 use Rattle.gs_keep.specs.Serving.{Kept, Leaves, at_rest}
 
 -- nothing is logged
@@ -20,7 +22,7 @@ abbrev Crashed : List ℕ → List ℕ → Option Held → Type 0
 Crashed all bytes new = IfSome new (λ h. (c : List ℕ) → MayLeave h c → (count : ℕ) × (c ≡ all ++ take count bytes))
 
 -- a beginning of a beginning is a beginning
-shorter : (k n : ℕ) (xs : List ℕ) → (m : ℕ) × (take k (take n xs) ≡ take m xs)
+pub shorter : (k n : ℕ) (xs : List ℕ) → (m : ℕ) × (take k (take n xs) ≡ take m xs)
 shorter zero n xs = (0, refl)
 shorter (suc k) zero xs = (0, refl)
 shorter (suc k) (suc n) [] = (0, refl)
@@ -55,3 +57,23 @@ leaves_join old mid new a b c kept fails all is = weaker new (fails (all ++ a) (
         → IfSome o (λ h. (x : List ℕ) → MayLeave h x → (count : ℕ) × (x ≡ all ++ ((a ++ b) ++ take count c)))
     weaker None left = tt
     weaker (Some h) left = λ x may. let (n, e) = left x may in (n, e ∙ joined n)
+
+take_length : (n : ℕ) (xs : List ℕ) → take (length (take n xs)) xs ≡ take n xs
+take_length zero xs = refl
+take_length (suc n) [] = refl
+take_length (suc n) (x ∷ xs) = ap (λ (l : List ℕ). x ∷ l) (take_length n xs)
+
+-- a cut fails
+pub cut_fails : (len : ℕ) (old new : Option Held) → DoesPart (partly_shortened len) old new → LeavesFront len old new
+cut_fails len None new part = tt
+cut_fails len (Some h) new (n, done) =
+    let front = take len h.durable in
+    let all = h.durable ++ h.pending in
+    let begins : front ≡ take (length front) all =
+    sym (take_length len h.durable) ∙ sym (take-append-le (length front) h.durable h.pending (omega (arith, length-take len h.durable))) in
+    let leaves : (c : List ℕ) → MayLeave (partly_shortened len n h) c → (count : ℕ) × (length front ≤ count) × (c ≡ take count all) =
+    λ c left.
+    let (m, e) = left in
+    let (j, is) = shorter m n (drop (length front) all) in
+    (length front + j, omega arith, e ∙ ap (λ (l : List ℕ). front ++ l) is ∙ ap (λ (l : List ℕ). l ++ take j (drop (length front) all)) begins ∙ sym (take-add (length front) j all)) in
+    subst (λ (o : Option Held). IfSome o (λ k. (c : List ℕ) → MayLeave k c → (count : ℕ) × (length front ≤ count) × (c ≡ take count all))) (sym done) leaves

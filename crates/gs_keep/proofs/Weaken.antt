@@ -37,3 +37,10 @@ was_ok (Err e) P ok h = absurd (true≢false ok)
 pub was_err : {T E : Type 0} (r : Result T E) (P : Type 0) → is_err r ≡ true → OnErr r P → P
 was_err (Ok t) P err h = absurd (true≢false (sym err))
 was_err (Err e) P err h = h
+
+-- what holds of two options, each by itself, makes what holds of both
+pub if_some₃ : {A B : Type 0} (o : Option A) (p : Option B) (P : A → Type 0) (Q : B → Type 0) (R : A → B → Type 0) → ((x : A) (y : B) → P x → Q y → R x y)
+    → IfSome o P → IfSome p Q → IfSome o (λ x. IfSome p (R x))
+if_some₃ None p P Q R f h k = tt
+if_some₃ (Some x) None P Q R f h k = tt
+if_some₃ (Some x) (Some y) P Q R f h k = f x y h k

@@ -2,3 +2,4 @@ pub mod Lines
 pub mod Gathering
 pub mod Serving
 pub mod Replaying
+pub mod Keeping

@@ -36,6 +36,9 @@ pub struct Replayed {
 pub trait Progress {
     /// So many lines have been run.
     fn passed(&mut self, lines: u64);
+
+    /// All have been.
+    fn ended(&mut self, replayed: Replayed);
 }
 
 /// What comes of the next line.

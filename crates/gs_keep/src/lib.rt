@@ -7,8 +7,10 @@ mod batch;
 mod fault;
 mod keeping;
 mod turns;
+mod whole;
 
 pub use again::{Progress, ReplayFault, Replayed, replay};
-pub use fault::KeepFault;
+pub use fault::{KeepFault, StoreFault};
 pub use keeping::Keeping;
 pub use turns::serve;
+pub use whole::keep_on;
