@@ -1,4 +1,4 @@
-ghost use Rattle.std.specs.Prelude.{◌≡◌, ℕ, take, OnOk, OnErr, is_err, is_some};
+ghost use Rattle.std.specs.Prelude.{◌≡◌, ℕ, None, take, OnOk, OnErr, is_err, is_some};
 ghost use Rattle.std.specs.Io.KnownBytes.{Appends};
 
 use gs_keep_log::{Failed, Log};
@@ -41,13 +41,22 @@ fn cut_and_sync(file: &File, len: u64) -> io::Result<()> {
 
 impl FileLog {
     /// A log in a file that is open to append to, and locked.
-    pub(crate) fn new(file: File) -> FileLog {
+    pub(crate) fn new(file: File) -> FileLog
+        ensures { result.fault ≡ None }
+    {
         FileLog { file, fault: None }
     }
 
     /// Why a call failed, if one has.
     pub fn fault(&self) -> Option<&io::Error> {
         self.fault.as_ref()
+    }
+
+    /// Why a call failed, if one has. The file is closed.
+    pub fn into_fault(self) -> Option<io::Error>
+        ensures { result ≡ self.fault }
+    {
+        self.fault
     }
 
     /// Notes how a call of the file went.

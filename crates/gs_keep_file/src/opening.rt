@@ -1,6 +1,8 @@
+ghost use Rattle.std.specs.Prelude.{◌≡◌, None, IfOk};
+
 use crate::log::FileLog;
 use std::fs::{File, OpenOptions, TryLockError};
-use std::io::{self, BufReader, Seek, SeekFrom};
+use std::io;
 use std::rt::Files;
 
 /// Why a file can't be a log.
@@ -36,7 +38,9 @@ fn lock(file: &File) -> Result<(), OpenFault> {
 
 /// Opens the file of a log, or makes it, and locks it. As long as what is given lives, no other process that opens it so gets it. No byte of
 /// it is changed.
-pub fn open<R: Files<File = File>>(rt: &R, path: &str) -> Result<Opened, OpenFault> {
+pub fn open<R: Files<File = File>>(rt: &R, path: &str) -> Result<Opened, OpenFault>
+    ensures { IfOk result (λ opened. opened.log.fault ≡ None) }
+{
     let file = OpenOptions::new()
         .read(true)
         .append(true)
