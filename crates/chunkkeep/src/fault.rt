@@ -1,0 +1,61 @@
+use gs_keep::{KeepFault, ReplayFault, StoreFault};
+use gs_keep_file::FileLog;
+use std::io;
+use thiserror::Error;
+
+/// Why a run ends before its input does, with the text for standard error, behind the file's name.
+#[derive(Debug, Drop, Error)]
+pub(crate) enum Fault {
+    #[error("the store that is kept here has --{name} {size}")]
+    Differs { name: &'static str, size: u64 },
+    #[error("it isn't there, and there is no store of these sizes to be made")]
+    NoStore,
+    #[error("another process has it")]
+    InUse,
+    #[error("it can't be opened: {0}")]
+    Open(io::Error),
+    #[error("it can't be read: {0}")]
+    Read(io::Error),
+    #[error("it can't be written: {0}")]
+    Write(io::Error),
+    #[error("memory is lacking")]
+    Memory,
+    #[error("line 1 says that another version of this program wrote it; nothing is changed")]
+    OtherVersion,
+    #[error("line 1 isn't that of a store that is kept; nothing is changed")]
+    Other,
+    #[error("line {0} is none of a script; nothing is changed")]
+    BadLine(u64),
+    #[error("{0}")]
+    Run(StoreFault),
+}
+
+impl Fault {
+    /// The status that the program ends with.
+    pub(crate) fn status(&self) -> u8 {
+        match self {
+            Fault::Differs { .. } | Fault::NoStore => 2,
+            _ => 1,
+        }
+    }
+
+    /// Why a call of a log failed.
+    pub(crate) fn of_log(log: FileLog) -> Fault {
+        match log.into_fault() {
+            Some(error) => Fault::Write(error),
+            None => Fault::Memory,
+        }
+    }
+
+    /// Why a run over a log ended.
+    pub(crate) fn of_run(fault: StoreFault, log: FileLog) -> Fault {
+        match fault {
+            StoreFault::Cut | StoreFault::Serve(KeepFault::Log) => Fault::of_log(log),
+            // The first line stands before those that are counted.
+            StoreFault::Replay(ReplayFault::BadLine(before)) => {
+                Fault::BadLine(before.saturating_add(2))
+            }
+            fault => Fault::Run(fault),
+        }
+    }
+}

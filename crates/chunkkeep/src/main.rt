@@ -1,0 +1,132 @@
+//! The program: the shell of a store over standard input and standard output, which is kept in a file.
+#![tactic(auto)]
+
+ghost use Rattle.std.specs.Prelude.{◌≡◌, false, is_some};
+
+mod fault;
+mod opening;
+mod telling;
+
+use fault::Fault;
+use gs_base::{Config, Refusal};
+use gs_journal::MemoryDisk;
+use gs_keep::{StoreFault, keep_on};
+use gs_keep_desk::KeptDesk;
+use gs_keep_options::{Asked, explanation, read_words};
+use gs_nodes::empty_disks;
+use gs_shell_desk::Desk;
+use opening::{Kept, opened};
+use std::alloc::Global;
+use std::env;
+use std::fs::File;
+use std::io::{self, BufReader, BufWriter};
+use std::process::ExitCode;
+use std::rt::{Clock, Env, Files};
+use telling::Teller;
+
+/// The most bytes of the input that are held beside a line: so much comes together at most.
+const INPUT_BYTES: usize = 1_048_576;
+
+/// Says on standard error what is wrong with words that are refused.
+fn explain(rt: &(impl Eprint + AllocGlobal), words: &[String], refusal: &Refusal) {
+    let text = match refusal {
+        Refusal::Memory => None,
+        _ => explanation(rt.alloc(), words).ok(),
+    };
+    let _ = match text {
+        Some(text) => eprint!(rt; "{text}"),
+        None => eprintln!(rt; "chunkkeep: {refusal}"),
+    };
+}
+
+/// The words of the command line, of which the first is the program's own.
+fn words(rt: &(impl Env + AllocGlobal)) -> io::Result<Vec<String>> {
+    Ok(env::args(rt)?.collect(rt.alloc())?)
+}
+
+/// What the command line asks for. Where it is refused, standard error says why, and this is the status to end with.
+fn asked_for(rt: &(impl Eprint + Env + AllocGlobal)) -> Result<Asked, ExitCode> {
+    let Ok(words) = words(rt) else {
+        let _ = eprintln!(rt; "chunkkeep: the arguments can't be read");
+        return Err(ExitCode::from(2));
+    };
+    match read_words(rt.alloc(), &words) {
+        Ok(asked) => Ok(asked),
+        Err(refusal) => {
+            explain(rt, &words, &refusal);
+            Err(ExitCode::from(2))
+        }
+    }
+}
+
+/// A new store's desk, whose journal is in memory.
+fn new_desk(alloc: Global, config: Config) -> Result<KeptDesk<MemoryDisk>, Fault> {
+    match Desk::new(alloc, config, empty_disks(alloc)) {
+        Ok(desk) => Ok(KeptDesk::new(desk)),
+        Err(_) => Err(Fault::Memory),
+    }
+}
+
+/// Runs the file's lines again, and then answers standard input on standard output.
+fn serve(
+    rt: &(impl Input + Print + Eprint + Clock + AllocGlobal),
+    path: &str,
+    kept: Kept,
+) -> Result<(), Fault>
+    requires { is_some kept.log.fault ≡ false }
+{
+    let alloc = rt.alloc();
+    let Kept {
+        mut log,
+        config,
+        measure,
+        mut lines,
+    } = kept;
+    let Ok(mut reader) = BufReader::with_capacity(alloc, INPUT_BYTES, rt.reader()) else {
+        return Err(Fault::Memory);
+    };
+    let Ok(mut writer) = BufWriter::new(alloc, io::writer(rt)) else {
+        return Err(Fault::Memory);
+    };
+    let mut desk = new_desk(alloc, config)?;
+    let mut teller = Teller::new(rt, path, measure);
+    match keep_on(
+        alloc,
+        &mut desk,
+        &mut log,
+        measure.whole,
+        &mut lines,
+        &mut teller,
+        &mut reader,
+        &mut writer,
+    ) {
+        Ok(()) => Ok(()),
+        Err(fault) => Err(Fault::of_run(fault, log)),
+    }
+}
+
+/// Opens the file, or makes it, and goes on with what it keeps.
+fn run(
+    rt: &(impl Files<File = File> + Input + Print + Eprint + Clock + AllocGlobal),
+    asked: &Asked,
+) -> Result<(), Fault> {
+    let kept = opened(rt, asked)?;
+    serve(rt, &asked.path, kept)
+}
+
+/// The status is 0 at the end of the input; 1 where a read, a write or a sync fails, another process has the file, it isn't the
+/// program's, or the run can't begin; and 2 where the words of the command line are refused, or sizes that they give aren't the
+/// file's.
+fn main(rt: HostRuntime) -> ExitCode {
+    let asked = match asked_for(&rt) {
+        Ok(asked) => asked,
+        Err(status) => return status,
+    };
+    match run(&rt, &asked) {
+        Ok(()) => ExitCode::SUCCESS,
+        Err(fault) => {
+            let _ = eprintln!(&rt; "chunkkeep: {}: {fault}", asked.path);
+            ExitCode::from(fault.status())
+        }
+    }
+}

@@ -1,0 +1,5 @@
+pub mod Lines
+pub mod Gathering
+pub mod Serving
+pub mod Replaying
+pub mod Keeping

@@ -1,0 +1,17 @@
+use gs_shell_script::Answering;
+use std::alloc::{AllocError, Global};
+
+/// What answers lines, and says which of them may change it.
+pub trait Keeping: Answering {
+    ghost use Rattle.std.specs.Prelude.{◌≡◌, ℕ, Bool, false, List, IfOk};
+
+    /// Whether a line given without its end may change anything.
+    ghost is_kept: { List ℕ → Bool };
+
+    /// Whether a line given without its end may change anything. `Err` where memory is lacking to tell.
+    fn keeps(&self, alloc: Global, line: &[u8]) -> Result<bool, AllocError>
+        ensures { IfOk result (λ kept. kept ≡ is_kept line.now) };
+
+    /// Any other line changes nothing.
+    ghost changes_nothing: { (old new : Self) (line text : List ℕ) → is_kept line ≡ false → Self.Answers old line text new → new ≡ old };
+}

@@ -1,0 +1,16 @@
+//! A store that outlives its process: each line is logged before it is answered, and a log's lines are run again at the start.
+//! Whatever it is that answers, and whatever the log is kept in.
+#![tactic(auto)]
+
+mod again;
+mod batch;
+mod fault;
+mod keeping;
+mod turns;
+mod whole;
+
+pub use again::{Progress, ReplayFault, Replayed, replay};
+pub use fault::{KeepFault, StoreFault};
+pub use keeping::Keeping;
+pub use turns::serve;
+pub use whole::keep_on;

@@ -1,0 +1,4 @@
+pub mod Words
+pub mod Splitting
+pub mod Numbers
+pub mod Beginning

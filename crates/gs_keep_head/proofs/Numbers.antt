@@ -1,0 +1,124 @@
+-- What a first line says is read.
+use Rattle.std.proofs.Common.{◌≡◌, ◌<◌, ◌≤◌, ◌∷◌, [], ◌*◌, ◌/◌, ◌%◌, ◌^◌, ◌&&◌, ◌==◌, ℕ, zero, suc, true, not, cond, length, List, nat_lt, nat_le, codes, Option, Some, None, refl, sym, ap, subst, ◌∙◌, arith, mul-le-mul, div-add-mod', mod-lt}
+use Rattle.std.specs.Fmt.{decimal}
+use Rattle.std.specs.List.{slice_split}
+use Rattle.std.specs.Str.{IsAscii, IsUtf8, all_ascii_digits}
+use Rattle.std.specs.Str.Parse.{digits_value}
+use Rattle.std.proofs.lemmas.Bool.{and_from, and_parts, lt-ltb, leb-true}
+use Rattle.std.proofs.lemmas.Bool.Decides.{nat_tests}
+use Rattle.std.proofs.lemmas.Fmt.{decimal_is_IsNumeral, decimal_nonempty, digits_decimal, digits_value-decimal}
+use Rattle.std.proofs.lemmas.Str.{IsUtf8-from_ascii}
+use Rattle.std.proofs.lemmas.Str.Parse.{IsNumeralModel, numerals_by_value, tells_all_ascii_digits}
+use Rattle.gs_base.specs.Configs.{is_within}
+use Rattle.gs_keep_head.specs.Head.{AreSizes, Sizes, ◌>>=◌, head_text, head_words, number_of, store_sizes, words_sizes}
+use Rattle.gs_keep_head.proofs.Splitting.{AllPlain, joined, joined_ascii, plain, plain_digits, split_joined}
+
+-- ---- sizes are below 2 ^ 64
+
+within : (n low high : ℕ) → is_within n low high ≡ true → (low ≤ n) × (n ≤ high)
+within n low high h = let s = and_parts (nat_le low n) (nat_le n high) h in (leb-true low n s.0, leb-true n high s.1)
+
+small_product : (q b : ℕ) → q ≤ 1024 → b ≤ 65536 → q * b ≤ 67108864
+small_product q b hq hb = let m = mul-le-mul hq hb in omega (arith, m)
+
+pub record Small (s : Sizes) : Type 0 where
+  pub servers : s.servers < 2 ^ 64
+  pub racks : s.racks < 2 ^ 64
+  pub replicas : s.replicas < 2 ^ 64
+  pub chunk : s.chunk < 2 ^ 64
+  pub block : s.block < 2 ^ 64
+
+pub small : (s : Sizes) → AreSizes s → Small s
+small s h =
+    let a = and_parts (is_within s.servers 1 16) _ h in
+    let b = and_parts (is_within s.racks 1 16) _ a.1 in
+    let c = and_parts (is_within s.replicas 1 s.servers) _ b.1 in
+    let d = and_parts (is_within s.block 1 65536) _ c.1 in
+    let e = and_parts (is_within (s.chunk / s.block) 1 1024) _ d.1 in
+    let servers = within s.servers 1 16 a.0 in
+    let racks = within s.racks 1 16 b.0 in
+    let replicas = within s.replicas 1 s.servers c.0 in
+    let block = within s.block 1 65536 d.0 in
+    let quotient = within (s.chunk / s.block) 1 1024 e.0 in
+    let product = small_product (s.chunk / s.block) s.block quotient.1 block.1 in
+    let parts = div-add-mod' s.chunk s.block in
+    let left : s.chunk % s.block < s.block = mod-lt s.chunk (omega (arith, block)) in
+    record {
+      servers = omega (arith, servers);
+      racks = omega (arith, racks);
+      replicas = omega (arith, replicas, servers);
+      chunk = omega (arith, product, parts, left, block);
+      block = omega (arith, block);
+    }
+
+-- ---- a number is read as it is written
+
+digits : IsNumeralModel (λ ds. all_ascii_digits ds ≡ true) (digits_value 10)
+digits = numerals_by_value _ tells_all_ascii_digits
+
+long : (n : ℕ) → 0 < n → not (n == 0) ≡ true
+long zero h = absurd (omega arith)
+long (suc n) h = grind (arith, nat_tests)
+
+number_decimal : (n : ℕ) → n < 2 ^ 64 → number_of (decimal n) ≡ Some n
+number_decimal n h =
+    let text = decimal n in
+    let value : digits_value 10 text ≡ n = digits_value-decimal digits n h in
+    let test : not (length text == 0) && (all_ascii_digits text && nat_lt (digits_value 10 text) (2 ^ 64)) ≡ true =
+    and_from _ _ (long (length text) (decimal_nonempty n h)) (and_from _ _ (digits_decimal digits n h) (lt-ltb _ _ (omega (arith, value, h)))) in
+    ap (λ b. cond b (Some (digits_value 10 text)) None) test ∙ ap Some value
+
+abbrev chain : (o1 o2 o3 o4 o5 : Option ℕ) → Option Sizes
+chain o1 o2 o3 o4 o5 = o1 >>= λ a. o2 >>= λ b. o3 >>= λ c. o4 >>= λ d. o5 >>= λ e. store_sizes a b c d e
+
+pub words_say : (s : Sizes) → AreSizes s → words_sizes (head_words s) ≡ Some s
+unfolding words_sizes
+words_say s h =
+    let m = small s h in
+    (λ i. chain (number_decimal s.servers m.servers i) (number_decimal s.racks m.racks i) (number_decimal s.replicas m.replicas i) (number_decimal s.chunk m.chunk i) (number_decimal s.block m.block i))
+    ∙ ap (λ b. cond b (Some s) None) h
+
+-- ---- its words
+
+plain_number : (n : ℕ) → n < 2 ^ 64 → plain (decimal n) ≡ true
+plain_number n h = plain_digits (decimal n) (decimal_is_IsNumeral n h).0.1
+
+abbrev behind : Sizes → List (List ℕ)
+behind s =
+    codes "1" ∷ codes "--servers" ∷ decimal s.servers ∷ codes "--racks" ∷ decimal s.racks ∷ codes "--replicas" ∷ decimal s.replicas
+    ∷ codes "--chunk" ∷ decimal s.chunk ∷ codes "--block" ∷ decimal s.block ∷ []
+
+all_plain : (s : Sizes) → AreSizes s → AllPlain (behind s)
+all_plain s h =
+    let m = small s h in (
+      refl,
+      (
+        refl,
+        (
+          plain_number s.servers m.servers,
+          (
+            refl,
+            (
+              plain_number s.racks m.racks,
+              (
+                refl,
+                (
+                  plain_number s.replicas m.replicas,
+                  (refl, (plain_number s.chunk m.chunk, (refl, (plain_number s.block m.block, tt)))),
+                ),
+              ),
+            ),
+          ),
+        ),
+      ),
+    )
+
+is_joined : (s : Sizes) → head_text s ≡ joined (codes "chunkkeep") (behind s)
+unfolding head_text
+is_joined s = refl
+
+pub head_splits : (s : Sizes) → AreSizes s → slice_split (λ b. b == 32) (head_text s) ≡ head_words s
+head_splits s h = ap (slice_split (λ b. b == 32)) (is_joined s) ∙ split_joined (codes "chunkkeep") (behind s) refl (all_plain s h)
+
+pub head_utf8 : (s : Sizes) → AreSizes s → IsUtf8 (head_text s)
+head_utf8 s h = IsUtf8-from_ascii (head_text s) (subst IsAscii (sym (is_joined s)) (joined_ascii (codes "chunkkeep") (behind s) refl (all_plain s h)))

@@ -1,0 +1,44 @@
+-- The words of a first line, one by one.
+use Rattle.std.proofs.Common.{◌≡◌, ◌<◌, ◌≤◌, ◌∷◌, [], ℕ, List, ◌&&◌, cond, length, map, get_or, Option, None, refl, arith, codes, bytes_eq, Bor}
+use Rattle.gs_keep_head.specs.Head.{Sizes, named_sizes, words_sizes}
+
+pub not_twelve : (ws : List (Bor (List ℕ))) → (length ws ≡ 12 → ⊥) → words_sizes (map (λ w. w.now) ws) ≡ None
+unfolding words_sizes
+not_twelve [] other = refl
+not_twelve (w0 ∷ []) other = refl
+not_twelve (w0 ∷ w1 ∷ []) other = refl
+not_twelve (w0 ∷ w1 ∷ w2 ∷ []) other = refl
+not_twelve (w0 ∷ w1 ∷ w2 ∷ w3 ∷ []) other = refl
+not_twelve (w0 ∷ w1 ∷ w2 ∷ w3 ∷ w4 ∷ []) other = refl
+not_twelve (w0 ∷ w1 ∷ w2 ∷ w3 ∷ w4 ∷ w5 ∷ []) other = refl
+not_twelve (w0 ∷ w1 ∷ w2 ∷ w3 ∷ w4 ∷ w5 ∷ w6 ∷ []) other = refl
+not_twelve (w0 ∷ w1 ∷ w2 ∷ w3 ∷ w4 ∷ w5 ∷ w6 ∷ w7 ∷ []) other = refl
+not_twelve (w0 ∷ w1 ∷ w2 ∷ w3 ∷ w4 ∷ w5 ∷ w6 ∷ w7 ∷ w8 ∷ []) other = refl
+not_twelve (w0 ∷ w1 ∷ w2 ∷ w3 ∷ w4 ∷ w5 ∷ w6 ∷ w7 ∷ w8 ∷ w9 ∷ []) other = refl
+not_twelve (w0 ∷ w1 ∷ w2 ∷ w3 ∷ w4 ∷ w5 ∷ w6 ∷ w7 ∷ w8 ∷ w9 ∷ w10 ∷ []) other = refl
+not_twelve (w0 ∷ w1 ∷ w2 ∷ w3 ∷ w4 ∷ w5 ∷ w6 ∷ w7 ∷ w8 ∷ w9 ∷ w10 ∷ w11 ∷ []) other = absurd (other refl)
+not_twelve (w0 ∷ w1 ∷ w2 ∷ w3 ∷ w4 ∷ w5 ∷ w6 ∷ w7 ∷ w8 ∷ w9 ∷ w10 ∷ w11 ∷ w12 ∷ rest) other = refl
+
+-- what twelve words name
+abbrev pub named : (ws : List (Bor (List ℕ))) (d : Bor (List ℕ)) → Option Sizes
+named ws d =
+    cond (bytes_eq (get_or ws 0 d).now (codes "chunkkeep") && bytes_eq (get_or ws 1 d).now (codes "1"))
+    (named_sizes (get_or ws 2 d).now (get_or ws 3 d).now (get_or ws 4 d).now (get_or ws 5 d).now (get_or ws 6 d).now (get_or ws 7 d).now (get_or ws 8 d).now (get_or ws 9 d).now (get_or ws 10 d).now (get_or ws 11 d).now)
+    None
+
+pub twelve : (ws : List (Bor (List ℕ))) (d : Bor (List ℕ)) → 12 ≤ length ws → length ws < 13 → words_sizes (map (λ w. w.now) ws) ≡ named ws d
+unfolding words_sizes
+twelve [] d least most = absurd (omega (arith, least))
+twelve (w0 ∷ []) d least most = absurd (omega (arith, least))
+twelve (w0 ∷ w1 ∷ []) d least most = absurd (omega (arith, least))
+twelve (w0 ∷ w1 ∷ w2 ∷ []) d least most = absurd (omega (arith, least))
+twelve (w0 ∷ w1 ∷ w2 ∷ w3 ∷ []) d least most = absurd (omega (arith, least))
+twelve (w0 ∷ w1 ∷ w2 ∷ w3 ∷ w4 ∷ []) d least most = absurd (omega (arith, least))
+twelve (w0 ∷ w1 ∷ w2 ∷ w3 ∷ w4 ∷ w5 ∷ []) d least most = absurd (omega (arith, least))
+twelve (w0 ∷ w1 ∷ w2 ∷ w3 ∷ w4 ∷ w5 ∷ w6 ∷ []) d least most = absurd (omega (arith, least))
+twelve (w0 ∷ w1 ∷ w2 ∷ w3 ∷ w4 ∷ w5 ∷ w6 ∷ w7 ∷ []) d least most = absurd (omega (arith, least))
+twelve (w0 ∷ w1 ∷ w2 ∷ w3 ∷ w4 ∷ w5 ∷ w6 ∷ w7 ∷ w8 ∷ []) d least most = absurd (omega (arith, least))
+twelve (w0 ∷ w1 ∷ w2 ∷ w3 ∷ w4 ∷ w5 ∷ w6 ∷ w7 ∷ w8 ∷ w9 ∷ []) d least most = absurd (omega (arith, least))
+twelve (w0 ∷ w1 ∷ w2 ∷ w3 ∷ w4 ∷ w5 ∷ w6 ∷ w7 ∷ w8 ∷ w9 ∷ w10 ∷ []) d least most = absurd (omega (arith, least))
+twelve (w0 ∷ w1 ∷ w2 ∷ w3 ∷ w4 ∷ w5 ∷ w6 ∷ w7 ∷ w8 ∷ w9 ∷ w10 ∷ w11 ∷ []) d least most = refl
+twelve (w0 ∷ w1 ∷ w2 ∷ w3 ∷ w4 ∷ w5 ∷ w6 ∷ w7 ∷ w8 ∷ w9 ∷ w10 ∷ w11 ∷ w12 ∷ rest) d least most = absurd (omega (arith, most))

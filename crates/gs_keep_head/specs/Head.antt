@@ -1,0 +1,80 @@
+-- The first line of a log, without its end.
+use Rattle.std.specs.Prelude.{◌≡◌, ◌≢◌, ◌++◌, ◌∷◌, ◌^◌, ◌&&◌, ◌==◌, ℕ, true, not, List, [], length, codes, bytes_eq, nat_lt, Option, Some, None, option_and_then, Result, Ok, Err, if◌then◌else◌}
+use Rattle.std.specs.Fmt.{decimal}
+use Rattle.std.specs.Str.{all_ascii_digits}
+use Rattle.std.specs.Str.Parse.{digits_value}
+use Rattle.gs_base.specs.Configs.{is_config}
+use Rattle.gs_base.specs.declared.config.Config.{Config}
+use Rattle.gs_keep_head.specs.declared.HeadFault.{HeadFault}
+use Rattle.gs_keep_head.specs.declared.HeadFault.TheVariants as fault
+
+pub record Sizes : Type 0 where
+  pub servers : ℕ
+  pub racks : ℕ
+  pub replicas : ℕ
+  pub chunk : ℕ
+  pub block : ℕ
+
+abbrev pub sizes_of : Config → Sizes
+sizes_of c = record { servers = c.servers; racks = c.racks; replicas = c.replicas; chunk = c.chunk; block = c.block }
+
+-- there is a store of these sizes
+abbrev pub AreSizes : Sizes → Type 0
+AreSizes s = is_config s.servers s.racks s.replicas s.block s.chunk ≡ true
+
+-- the first line of the log of a store of these sizes
+unfoldable pub head_text : Sizes → List ℕ
+head_text s =
+    codes "chunkkeep 1 --servers " ++ (decimal s.servers ++ (codes " --racks " ++ (decimal s.racks ++ (codes " --replicas " ++ (decimal s.replicas
+    ++ (codes " --chunk " ++ (decimal s.chunk ++ (codes " --block " ++ decimal s.block))))))))
+
+-- its words
+abbrev pub head_words : Sizes → List (List ℕ)
+head_words s =
+    codes "chunkkeep" ∷ codes "1" ∷ codes "--servers" ∷ decimal s.servers ∷ codes "--racks" ∷ decimal s.racks ∷ codes "--replicas" ∷ decimal s.replicas
+    ∷ codes "--chunk" ∷ decimal s.chunk ∷ codes "--block" ∷ decimal s.block ∷ []
+
+-- What is read is the line of a store of its sizes; what isn't read is the line of no store, unless memory is lacking to tell.
+abbrev pub Reads : Result Config HeadFault → List ℕ → Type 0
+Reads (Ok config) line = line ≡ head_text (sizes_of config)
+Reads (Err fault.Memory) line = Unit {0}
+Reads (Err fault.Version) line = (s : Sizes) → AreSizes s → line ≢ head_text s
+Reads (Err fault.Other) line = (s : Sizes) → AreSizes s → line ≢ head_text s
+
+-- ---- how the words are read
+
+-- the number that decimal digits write, with zeros in front or without, if it is below 2 ^ 64
+abbrev pub number_of : List ℕ → Option ℕ
+number_of word =
+    if not (length word == 0) && (all_ascii_digits word && nat_lt (digits_value 10 word) (2 ^ 64)) then Some (digits_value 10 word)
+    else None
+
+-- the number behind its name
+abbrev pub named_number : List ℕ → List ℕ → List ℕ → Option ℕ
+named_number name wanted word = if bytes_eq name wanted then number_of word else None
+
+infixl 10 ◌>>=◌
+abbrev pub ◌>>=◌ : {A B : Type 0} → Option A → (A → Option B) → Option B
+o >>= f = option_and_then f o
+
+abbrev pub store_sizes : ℕ → ℕ → ℕ → ℕ → ℕ → Option Sizes
+store_sizes servers racks replicas chunk block =
+    if is_config servers racks replicas block chunk then Some (record { servers = servers; racks = racks; replicas = replicas; chunk = chunk; block = block }) else None
+
+abbrev pub named_sizes : List ℕ → List ℕ → List ℕ → List ℕ → List ℕ → List ℕ → List ℕ → List ℕ → List ℕ → List ℕ → Option Sizes
+named_sizes a servers b racks c replicas d chunk e block = do
+  servers ← named_number a (codes "--servers") servers
+  racks ← named_number b (codes "--racks") racks
+  replicas ← named_number c (codes "--replicas") replicas
+  chunk ← named_number d (codes "--chunk") chunk
+  block ← named_number e (codes "--block") block
+  store_sizes servers racks replicas chunk block
+
+unfoldable pub words_sizes : List (List ℕ) → Option Sizes
+words_sizes (name ∷ version ∷ a ∷ servers ∷ b ∷ racks ∷ c ∷ replicas ∷ d ∷ chunk ∷ e ∷ block ∷ []) =
+    if bytes_eq name (codes "chunkkeep") && bytes_eq version (codes "1") then named_sizes a servers b racks c replicas d chunk e block else None
+words_sizes words = None
+
+abbrev pub SizedAs : Option Config → Option Sizes → Type 0
+SizedAs (Some c) sizes = sizes ≡ Some (sizes_of c)
+SizedAs None sizes = sizes ≡ None

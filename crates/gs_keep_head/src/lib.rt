@@ -1,0 +1,188 @@
+//! The first line of the log of a store that is kept: the version of its form, and the sizes of the store.
+#![tactic(auto)]
+
+ghost use Rattle.std.specs.Prelude.{◌≡◌, ◌≢◌, ◌==◌, ◌&&◌, ℕ, true, take, bytes_eq, codes, if◌then◌else◌, IfOk, IfErr, map, string_bytes};
+ghost use Rattle.std.specs.List.{slice_split};
+ghost use Rattle.gs_keep_head.specs.Head.{AreSizes, Reads, SizedAs, Sizes, head_text, named_number, named_sizes, number_of, sizes_of, words_sizes};
+
+use gs_base::Config;
+use std::alloc::{AllocError, Global};
+use std::str;
+
+/// Why a line isn't the first one of a log.
+#[derive(Clone, Copy, Debug, PartialEq, Eq)]
+pub enum HeadFault {
+    /// Memory is lacking to tell.
+    Memory,
+    /// It is the first line of a log of another version.
+    Version,
+    /// It is none of a log.
+    Other,
+}
+
+impl From<AllocError> for HeadFault {
+    ghost use Rattle.std.specs.Prelude.{◌≡◌};
+    ghost use Rattle.gs_keep_head.specs.declared.HeadFault.TheVariants.{Memory};
+
+    ghost from_gives = { λ _ e. e ≡ Memory };
+
+    fn from(_error: AllocError) -> HeadFault {
+        HeadFault::Memory
+    }
+}
+
+/// The first line of the log of a store of these sizes, without its end.
+#[tactic(auto, unfolding(crate::specs::Head::head_text))]
+pub fn head(alloc: Global, config: &Config) -> Result<String, AllocError>
+    ensures { IfOk result (λ text. string_bytes text ≡ head_text (sizes_of config.now)) }
+{
+    let servers = config.servers;
+    let racks = config.racks;
+    let replicas = config.replicas;
+    let chunk = config.chunk;
+    let block = config.block;
+    format!(in alloc;
+        "chunkkeep 1 --servers {servers} --racks {racks} --replicas {replicas} --chunk {chunk} --block {block}"
+    )
+}
+
+/// The number that decimal digits write, where it has 64 bits.
+fn number(word: &str) -> Option<u64>
+    ensures { result ≡ number_of word.now }
+{
+    // Rust's reader of numbers takes a plus.
+    if word.starts_with('+') {
+        return None;
+    }
+    word.parse::<u64>().ok()
+}
+
+/// The number behind its name.
+fn named(name: &str, wanted: &str, word: &str) -> Option<u64>
+    ensures { result ≡ named_number name.now wanted.now word.now }
+{
+    if name == wanted { number(word) } else { None }
+}
+
+/// A name and the word behind it.
+#[derive(Clone, Copy)]
+struct Pair<'a> {
+    name: &'a str,
+    word: &'a str,
+}
+
+/// The sizes that five names and the words behind them tell.
+fn named_sizes(a: Pair<'_>, b: Pair<'_>, c: Pair<'_>, d: Pair<'_>, e: Pair<'_>) -> Option<Config>
+    ensures { SizedAs result (named_sizes a.entry.name.now a.entry.word.now b.entry.name.now b.entry.word.now c.entry.name.now c.entry.word.now
+        d.entry.name.now d.entry.word.now e.entry.name.now e.entry.word.now) }
+{
+    let servers = named(a.name, "--servers", a.word)?;
+    let racks = named(b.name, "--racks", b.word)?;
+    let replicas = named(c.name, "--replicas", c.word)?;
+    let chunk = named(d.name, "--chunk", d.word)?;
+    let block = named(e.name, "--block", e.word)?;
+    Config::new(servers, racks, replicas, block, chunk).ok()
+}
+
+/// The sizes that the words of a first line name, which begin with the program's name and the version.
+fn first_line(
+    head: Pair<'_>,
+    a: Pair<'_>,
+    b: Pair<'_>,
+    c: Pair<'_>,
+    d: Pair<'_>,
+    e: Pair<'_>,
+) -> Option<Config>
+    ensures { SizedAs result (if bytes_eq head.entry.name.now (codes "chunkkeep") && bytes_eq head.entry.word.now (codes "1") then
+        named_sizes a.entry.name.now a.entry.word.now b.entry.name.now b.entry.word.now c.entry.name.now c.entry.word.now
+        d.entry.name.now d.entry.word.now e.entry.name.now e.entry.word.now else None) }
+{
+    if head.name == "chunkkeep" && head.word == "1" {
+        return named_sizes(a, b, c, d, e);
+    }
+    None
+}
+
+/// The sizes that the words of a first line name.
+fn sizes(words: &[&str]) -> Option<Config>
+    ensures { SizedAs result (words_sizes (map (λ w. w.now) words.now)) }
+{
+    if words.len() != 12 {
+        return None;
+    }
+    first_line(
+        Pair {
+            name: words[0],
+            word: words[1],
+        },
+        Pair {
+            name: words[2],
+            word: words[3],
+        },
+        Pair {
+            name: words[4],
+            word: words[5],
+        },
+        Pair {
+            name: words[6],
+            word: words[7],
+        },
+        Pair {
+            name: words[8],
+            word: words[9],
+        },
+        Pair {
+            name: words[10],
+            word: words[11],
+        },
+    )
+}
+
+/// The words of a text, which single spaces separate.
+fn words_of<'a>(alloc: Global, text: &'a str) -> Result<Vec<&'a str>, AllocError>
+    ensures { IfOk result (λ v. map (λ w. w.now) v.items ≡ slice_split (λ b. b == 32) text.entry.now) }
+{
+    text.split(' ').collect(alloc)
+}
+
+/// Why words are those of no first line.
+fn fault_of(words: &[&str]) -> HeadFault
+    ensures { result ≢ HeadFault.Memory }
+{
+    match *words {
+        ["chunkkeep", version, ..] if version != "1" => HeadFault::Version,
+        _ => HeadFault::Other,
+    }
+}
+
+/// The sizes of the store of whose log this is the first line, without its end. A line is taken exactly as [`head`] writes it: with
+/// no number written otherwise, no space more, and no size of which there is no store.
+pub fn read_head(alloc: Global, line: &[u8]) -> Result<Config, HeadFault>
+    ensures { Reads result line.now }
+{
+    let Ok(text) = str::from_utf8(line) else {
+        return Err(HeadFault::Other);
+    };
+    let words = words_of(alloc, text)?;
+    let Some(config) = sizes(&words) else {
+        return Err(fault_of(&words));
+    };
+    let again = head(alloc, &config)?;
+    if again.as_str() == text {
+        return Ok(config);
+    }
+    Err(HeadFault::Other)
+}
+
+/// What each first line begins with.
+const START: &[u8] = b"chunkkeep 1 --servers ";
+
+/// No first line is longer.
+const MOST_BYTES: usize = 200;
+
+/// Whether a text may be a beginning of a first line, as a crash leaves one: each beginning of one is.
+pub fn begins_head(text: &[u8]) -> bool
+    ensures { (s : Sizes) (n : ℕ) → AreSizes s → text.now ≡ take n (head_text s) → result ≡ true }
+{
+    text.len() <= MOST_BYTES && (START.starts_with(text) || text.starts_with(START))
+}

@@ -1,0 +1,68 @@
+-- What a log holds, what a crash leaves of it, and what its calls do.
+use Rattle.std.specs.Prelude.{◌≡◌, ◌++◌, ◌∷◌, ℕ, List, [], length, take, drop, Option, Some, None, IfSome, Bool, true, false, refl}
+
+-- the bytes that each crash leaves, and those behind them that aren't synced yet
+pub record Held : Type 0 where
+  pub durable : List ℕ
+  pub pending : List ℕ
+
+-- what a read gives
+abbrev pub whole : Held → List ℕ
+whole h = h.durable ++ h.pending
+
+-- A crash leaves what is durable, and any beginning of what isn't.
+abbrev pub MayLeave : Held → List ℕ → Type 0
+MayLeave h c = (count : ℕ) × (c ≡ h.durable ++ take count h.pending)
+
+-- with these bytes at its end
+abbrev pub appended : List ℕ → Held → Held
+appended bytes h = record { durable = h.durable; pending = h.pending ++ bytes }
+
+-- with so many of the pending bytes made durable
+abbrev pub settled : ℕ → Held → Held
+settled count h = record { durable = h.durable ++ take count h.pending; pending = drop count h.pending }
+
+-- cut behind so many bytes, for good
+abbrev pub shortened : ℕ → Held → Held
+shortened len h = record { durable = take len (whole h); pending = [] }
+
+-- cut behind so many bytes, where a crash may leave so many of those behind
+abbrev pub partly_shortened : ℕ → ℕ → Held → Held
+partly_shortened len count h =
+    let front = take len h.durable in
+    record { durable = front; pending = take count (drop (length front) (whole h)) }
+
+-- ---- what a call does, where it is known what the log holds
+
+-- the step is done
+abbrev pub Does : (Held → Held) → Option Held → Option Held → Type 0
+Does step old new = IfSome old (λ h. new ≡ Some (step h))
+
+-- as much of the step is done as some number says
+abbrev pub DoesPart : (ℕ → Held → Held) → Option Held → Option Held → Type 0
+DoesPart step old new = IfSome old (λ h. (count : ℕ) × (new ≡ Some (step count h)))
+
+-- a beginning of these bytes is at its end
+abbrev pub partly_appended : List ℕ → ℕ → Held → Held
+partly_appended bytes count h = appended (take count bytes) h
+
+-- all of the pending bytes are made durable
+abbrev pub synced : Held → Held
+synced h = record { durable = whole h; pending = [] }
+
+-- ---- examples
+
+two_and_three : Held
+two_and_three = record { durable = 1 ∷ 2 ∷ []; pending = 3 ∷ 4 ∷ 5 ∷ [] }
+
+a_crash_leaves_one_of_three : MayLeave two_and_three (1 ∷ 2 ∷ 3 ∷ [])
+unfolding two_and_three
+a_crash_leaves_one_of_three = (1, refl)
+
+a_sync_breaks_off : settled 1 two_and_three ≡ record { durable = 1 ∷ 2 ∷ 3 ∷ []; pending = 4 ∷ 5 ∷ [] }
+unfolding two_and_three
+a_sync_breaks_off = refl
+
+a_cut_breaks_off : partly_shortened 1 2 two_and_three ≡ record { durable = 1 ∷ []; pending = 2 ∷ 3 ∷ [] }
+unfolding two_and_three
+a_cut_breaks_off = refl

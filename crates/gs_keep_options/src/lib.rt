@@ -1,0 +1,233 @@
+//! The command line of a store that is kept: its file, and the sizes that are asked for.
+#![tactic(auto)]
+
+ghost use Rattle.std.specs.Prelude.{◌≡◌, is_some, not};
+ghost use Rattle.gs_base.specs.Configured.{Configured};
+ghost use Rattle.gs_keep_options.specs.Sizes.{fits, given_or, is_given_as};
+
+use clap::error::ErrorKind;
+use clap::{Arg, ArgAction, ArgMatches, Command};
+use gs_base::{Config, Refusal};
+use std::alloc::{AllocError, Global};
+
+/// The sizes that are asked for. What isn't given may be anything.
+#[derive(Clone, Copy, Debug, PartialEq, Eq)]
+pub struct Sizes {
+    pub servers: Option<u64>,
+    pub racks: Option<u64>,
+    pub replicas: Option<u64>,
+    pub chunk: Option<u64>,
+    pub block: Option<u64>,
+}
+
+/// A size that differs from what is asked for.
+#[derive(Clone, Copy, Debug, PartialEq, Eq)]
+pub struct Difference {
+    /// The name of the option.
+    pub name: &'static str,
+    /// What the size is.
+    pub size: u64,
+}
+
+/// What a command line asks for.
+#[derive(Debug, Drop)]
+pub struct Asked {
+    /// The file that the store is kept in.
+    pub path: String,
+    pub sizes: Sizes,
+}
+
+/// Whether a size is the one that is asked for, if one is.
+fn is_given_as(given: Option<u64>, size: u64) -> bool
+    ensures { result ≡ is_given_as given size }
+{
+    match given {
+        Some(wanted) => wanted == size,
+        None => true,
+    }
+}
+
+impl Sizes {
+    /// The configuration of a new store, where 3 servers in 1 rack, 3 replicas, chunks of 67,108,864 bytes and blocks of 65,536 bytes
+    /// stand for what isn't given. `Config` where there is no store of these sizes.
+    pub fn config(&self) -> Result<Config, Refusal>
+        ensures { Configured (given_or self.now.servers 3) (given_or self.now.racks 1) (given_or self.now.replicas 3)
+            (given_or self.now.block 65536) (given_or self.now.chunk 67108864) result }
+    {
+        Config::new(
+            self.servers.unwrap_or(3),
+            self.racks.unwrap_or(1),
+            self.replicas.unwrap_or(3),
+            self.block.unwrap_or(65_536),
+            self.chunk.unwrap_or(67_108_864),
+        )
+    }
+
+    /// The first size of a store that differs from what is asked for.
+    pub fn difference(&self, config: &Config) -> Option<Difference>
+        ensures { is_some result ≡ not (fits self.now config.now) }
+    {
+        if !is_given_as(self.servers, config.servers) {
+            return Some(Difference {
+                name: "servers",
+                size: config.servers,
+            });
+        }
+        if !is_given_as(self.racks, config.racks) {
+            return Some(Difference {
+                name: "racks",
+                size: config.racks,
+            });
+        }
+        if !is_given_as(self.replicas, config.replicas) {
+            return Some(Difference {
+                name: "replicas",
+                size: config.replicas,
+            });
+        }
+        if !is_given_as(self.chunk, config.chunk) {
+            return Some(Difference {
+                name: "chunk",
+                size: config.chunk,
+            });
+        }
+        if !is_given_as(self.block, config.block) {
+            return Some(Difference {
+                name: "block",
+                size: config.block,
+            });
+        }
+        None
+    }
+}
+
+/// An option that takes a number.
+#[derive(Clone, Copy)]
+struct NumberOption<'a> {
+    name: &'a str,
+    /// What the help calls the number.
+    value_name: &'a str,
+    help: &'a str,
+}
+
+fn number_argument<'a>(alloc: Global, option: NumberOption<'a>) -> Arg<'a> {
+    Arg::new(alloc, option.name)
+        .long(option.name)
+        .help(option.help)
+        .action(ArgAction::Set)
+        .value_name(option.value_name)
+        .value_parser(clap::value_parser!(u64))
+}
+
+fn with_number<'a>(
+    alloc: Global,
+    command: Command<'a>,
+    option: NumberOption<'a>,
+) -> Result<Command<'a>, AllocError> {
+    command.arg(number_argument(alloc, option))
+}
+
+const SERVERS: NumberOption<'static> = NumberOption {
+    name: "servers",
+    value_name: "N",
+    help: "How many chunkservers there are, 1 to 16; of a new store 3",
+};
+
+const RACKS: NumberOption<'static> = NumberOption {
+    name: "racks",
+    value_name: "N",
+    help: "Over how many racks they are spread, 1 to 16; of a new store 1",
+};
+
+const REPLICAS: NumberOption<'static> = NumberOption {
+    name: "replicas",
+    value_name: "N",
+    help: "On how many chunkservers a chunk is put, 1 to as many as there are; of a new store 3",
+};
+
+const CHUNK: NumberOption<'static> = NumberOption {
+    name: "chunk",
+    value_name: "BYTES",
+    help: "The bytes of a chunk, 1 to 1024 whole blocks; of a new store 67108864",
+};
+
+const BLOCK: NumberOption<'static> = NumberOption {
+    name: "block",
+    value_name: "BYTES",
+    help: "The bytes of a block, 1 to 65536; of a new store 65536",
+};
+
+const FILE_HELP: &str =
+    "The file that the store is kept in, which is made if it isn't there. Sizes that are given must be its own";
+
+/// The command of which clap reads the words.
+fn command<'a>(alloc: Global) -> Result<Command<'a>, AllocError> {
+    let file = Arg::new(alloc, "FILE")
+        .required(true)
+        .help(FILE_HELP)
+        .action(ArgAction::Set);
+    let command = Command::new(alloc, "chunkkeep").arg(file)?;
+    let command = with_number(alloc, command, SERVERS)?;
+    let command = with_number(alloc, command, RACKS)?;
+    let command = with_number(alloc, command, REPLICAS)?;
+    let command = with_number(alloc, command, CHUNK)?;
+    with_number(alloc, command, BLOCK)
+}
+
+/// The sizes that clap has read.
+fn sizes_in(matches: &ArgMatches<'_>) -> Sizes {
+    Sizes {
+        servers: matches.get_one::<u64>("servers"),
+        racks: matches.get_one::<u64>("racks"),
+        replicas: matches.get_one::<u64>("replicas"),
+        chunk: matches.get_one::<u64>("chunk"),
+        block: matches.get_one::<u64>("block"),
+    }
+}
+
+/// What clap makes of the words.
+fn matches_of<'a>(alloc: Global, words: &'a [String]) -> Result<ArgMatches<'a>, Refusal> {
+    match command(alloc)?.try_get_matches_from(words) {
+        Ok(matches) => Ok(matches),
+        Err(error) => match error.kind() {
+            ErrorKind::OutOfMemory => Err(Refusal::Memory),
+            _ => Err(Refusal::Config),
+        },
+    }
+}
+
+/// What the words of the command line ask for, of which the first is the program's own. `Config` refuses words without a file or with two,
+/// an option that isn't there, one that is given twice, a value that is no whole number or lacks, and `--help`.
+pub fn read_words(alloc: Global, words: &[String]) -> Result<Asked, Refusal> {
+    let matches = matches_of(alloc, words)?;
+    let Some(path) = matches.get_str("FILE") else {
+        return Err(Refusal::Config);
+    };
+    Ok(Asked {
+        path: String::from_str(alloc, path)?,
+        sizes: sizes_in(&matches),
+    })
+}
+
+/// What is wrong with words that are refused, or nothing where they ask for help.
+fn fault_text(alloc: Global, words: &[String]) -> Result<String, AllocError> {
+    match command(alloc)?.try_get_matches_from(words) {
+        Ok(_) => Ok(String::new(alloc)),
+        Err(error) => match error.kind() {
+            ErrorKind::OutOfMemory => Err(AllocError),
+            ErrorKind::DisplayHelp => Ok(String::new(alloc)),
+            _ => error.to_string(alloc),
+        },
+    }
+}
+
+/// The text for a person whose words `read_words` refuses: what is wrong with them, and then the file and each option. Words that ask for help
+/// get these alone.
+pub fn explanation(alloc: Global, words: &[String]) -> Result<String, AllocError> {
+    let mut text = fault_text(alloc, words)?;
+    if !text.is_empty() {
+        text.push('\n')?;
+    }
+    text.push_str(&command(alloc)?.render_help()?)?;
+    Ok(text)
+}
