@@ -3,7 +3,7 @@ ghost use Rattle.std.specs.Prelude.{◌≡◌, true, false, IfOk, is_some};
 use crate::fault::Fault;
 use gs_base::Config;
 use gs_keep_file::{FileLog, OpenFault, Opened, open};
-use gs_keep_head::{HeadFault, begins_head, head, read_head};
+use gs_keep_head::{HeadFault, head, read_head};
 use gs_keep_log::Log;
 use gs_keep_measure::{Measure, measure_all};
 use gs_keep_options::{Asked, Sizes};
@@ -62,8 +62,10 @@ fn compare(sizes: &Sizes, config: &Config) -> Result<(), Fault> {
 
 /// The store of a first line.
 fn config_of(alloc: Global, line: &Line) -> Result<Config, Fault> {
-    let Line::Text(text) = line else {
-        return Err(Fault::Other);
+    let text = match line {
+        Line::Text(text) => text,
+        Line::NoMemory => return Err(Fault::Memory),
+        _ => return Err(Fault::Other),
     };
     match read_head(alloc, text) {
         Ok(config) => Ok(config),
@@ -88,7 +90,7 @@ fn head_line(alloc: Global, config: &Config) -> Result<String, AllocError> {
     Ok(text)
 }
 
-/// Makes a store in a file in which nothing stands, or what a crash left of a first line.
+/// Makes a store in a file in which nothing stands, or a beginning of the first line that is to stand there, as a crash leaves it.
 fn made(
     alloc: Global,
     mut log: FileLog,
@@ -99,13 +101,14 @@ fn made(
     ensures { IfOk result (λ kept. is_some kept.log.fault ≡ false) }
 {
     let next = next_line(alloc, &mut lines).map_err(Fault::Read)?;
-    match next.line {
-        Line::End => {}
-        Line::Text(text) if begins_head(&text) => {}
-        _ => return Err(Fault::Other),
-    }
     let config = sizes.config().map_err(|_| Fault::NoStore)?;
     let text = head_line(alloc, &config).map_err(|_| Fault::Memory)?;
+    match next.line {
+        Line::End => {}
+        Line::Text(left) if text.as_bytes().starts_with(&left) => {}
+        Line::NoMemory => return Err(Fault::Memory),
+        _ => return Err(Fault::Other),
+    }
     if !put_head(&mut log, &text) {
         return Err(Fault::of_log(log));
     }
@@ -174,8 +177,8 @@ pub(crate) fn opened<R: Files<File = File> + AllocGlobal>(
     let alloc = rt.alloc();
     let Opened { log, reader } = opened_file(rt, asked)?;
     let (file, measure) = measured(alloc, reader).map_err(Fault::Read)?;
-    sync_folder(rt, &asked.path).map_err(Fault::Write)?;
     if measure.whole == 0 {
+        sync_folder(rt, &asked.path).map_err(Fault::Write)?;
         let lines = front(alloc, file, measure.rest).map_err(Fault::Read)?;
         return made(alloc, log, lines, &asked.sizes);
     }

@@ -1,4 +1,3 @@
 pub mod Words
 pub mod Splitting
 pub mod Numbers
-pub mod Beginning

@@ -1,9 +1,9 @@
 //! The first line of the log of a store that is kept: the version of its form, and the sizes of the store.
 #![tactic(auto)]
 
-ghost use Rattle.std.specs.Prelude.{◌≡◌, ◌≢◌, ◌==◌, ◌&&◌, ℕ, true, take, bytes_eq, codes, if◌then◌else◌, IfOk, IfErr, map, string_bytes};
+ghost use Rattle.std.specs.Prelude.{◌≡◌, ◌≢◌, ◌==◌, ◌&&◌, ℕ, true, bytes_eq, codes, if◌then◌else◌, IfOk, IfErr, map, string_bytes};
 ghost use Rattle.std.specs.List.{slice_split};
-ghost use Rattle.gs_keep_head.specs.Head.{AreSizes, Reads, SizedAs, Sizes, head_text, named_number, named_sizes, number_of, sizes_of, words_sizes};
+ghost use Rattle.gs_keep_head.specs.Head.{Reads, SizedAs, Sizes, head_text, named_number, named_sizes, number_of, sizes_of, words_sizes};
 
 use gs_base::Config;
 use std::alloc::{AllocError, Global};
@@ -172,17 +172,4 @@ pub fn read_head(alloc: Global, line: &[u8]) -> Result<Config, HeadFault>
         return Ok(config);
     }
     Err(HeadFault::Other)
-}
-
-/// What each first line begins with.
-const START: &[u8] = b"chunkkeep 1 --servers ";
-
-/// No first line is longer.
-const MOST_BYTES: usize = 200;
-
-/// Whether a text may be a beginning of a first line, as a crash leaves one: each beginning of one is.
-pub fn begins_head(text: &[u8]) -> bool
-    ensures { (s : Sizes) (n : ℕ) → AreSizes s → text.now ≡ take n (head_text s) → result ≡ true }
-{
-    text.len() <= MOST_BYTES && (START.starts_with(text) || text.starts_with(START))
 }
