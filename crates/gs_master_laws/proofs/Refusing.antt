@@ -1,9 +1,10 @@
 -- A call that is refused leaves all but its kept reply.
-use Rattle.std.proofs.Common.{◌≡◌, inl, inr, ◌∙◌, ◌++◌, ℕ, Bool, true, false, not, ◌&&◌, ◌||◌, ◌==◌, ◌+◌, List, [], ◌∷◌, length, refl, ap, subst, sym}
+use Rattle.std.proofs.Common.{arith, ◌≡◌, inl, inr, ◌∙◌, ◌++◌, ℕ, Bool, true, false, not, ◌&&◌, ◌||◌, ◌==◌, ◌+◌, List, [], ◌∷◌, length, refl, ap, subst, sym, ◌⊎◌, cond}
 use Rattle.std.specs.Prelude.{fold, nat_lt, nat_le, is_none, Option, Some, None, is_some, Result, Ok, Err, if◌then◌else◌}
 use Rattle.std.specs.List.{list_any}
 use Rattle.std.specs.FinMap as fin
-use Rattle.std.proofs.lemmas.Bool.{false≢true}
+use Rattle.std.proofs.lemmas.Bool.Decides.{nat_tests}
+use Rattle.std.proofs.lemmas.Bool.{false≢true, true≢false}
 use Rattle.gs_base.specs.declared.config.Config.{Config}
 use Rattle.gs_base.specs.declared.numbers.Moment.{Moment}
 use Rattle.gs_base.specs.declared.numbers.ReqId.{ReqId}
@@ -32,15 +33,22 @@ use Rattle.gs_master_spec.specs.Applied.{applied, replayed, with_reply}
 use Rattle.gs_master_spec.specs.Beginning.{next_stamp, has_versions, has_handle, begin_at, begun, all_begun, create_plan, copy_plan, waits_from_now, targets_for, counted_views}
 use Rattle.gs_master_spec.specs.Calls.{edited_by, edit_if, accept_plan, deleted, answered_with, has_visible_child, looked_up, listing, status, location, found_chunk, refused_before, queried, is_shared, most_chunks, renames}
 use Rattle.gs_master_spec.specs.Chunks.{Chunk, chunk_at, is_leased, is_quiet, is_wanted, view_of, members_of}
-use Rattle.gs_master_spec.specs.Durable.{is_rolling, prepared_view}
+use Rattle.gs_master_spec.specs.Durable.{is_rolling, prepared_view, Durable}
 use Rattle.gs_master_spec.specs.Handling.{call_turn, called, called_unless, taken_as, numbered, replied_again, waits_still, Numbered, New, Again, Older}
-use Rattle.gs_master_laws.specs.Promises.{FitsAndKeeps, IsKept, LeavesAll, RefusedFits, RefusedLeavesAll}
+use Rattle.gs_master_spec.specs.Replies.{is_later, later}
+use Rattle.gs_master_spec.specs.declared.reply.KeptReply.{KeptReply}
+use Rattle.std.specs.Cmp.{tied_itself}
+use Rattle.std.specs.Ordering.{is_eq}
+use Rattle.gs_master_state.proofs.Tracking.{client_total}
+use Rattle.gs_master_laws.specs.Promises.{FitsAndKeeps, IsKept, LeavesAll, RefusedFits, RefusedLeavesAll, with_kept, with_said}
+use Rattle.gs_master_laws.specs.Standing.{IsOver, OverMakeNothing, RefusedAreOver, was_answered}
 use Rattle.gs_master_laws.proofs.KeptRecords.{said_kept}
+use Rattle.gs_master_laws.proofs.Standing.{now_answered}
 use Rattle.gs_master_spec.specs.Settling.{requests_of}
-use Rattle.gs_master_spec.specs.State.{State, Plan, Turn, with_record, turned, unmoved, and_then, for_each, fits, if_room, refused, ended_by, all_ended_by, keeps_refusal, kept_in_memory, reply_to, is_failed, is_unopened, last_reply, first_of}
+use Rattle.gs_master_spec.specs.State.{State, Plan, Turn, with_record, turned, unmoved, and_then, for_each, fits, if_room, refused, ended_by, all_ended_by, keeps_refusal, kept_in_memory, reply_to, is_failed, is_unopened, last_reply, first_of, is_kept}
 use Rattle.gs_master_spec.specs.Undoing.{edited_names, all_undone}
 use Rattle.gs_master_spec.specs.Upgrades.{accepted_plan, all_unquiet, begin_tests, commit_tests, end_tests, is_last_epoch, chunk_count, tell_all, answers_for, unless, prepare_begin, prepare_commit, prepare_abort, finalize, rollback_begin, rollback_commit, commit_on, commit_if, unrestored, told_of}
-use Rattle.gs_master_spec.specs.Volatile.{is_pending}
+use Rattle.gs_master_spec.specs.Volatile.{is_pending, Volatile}
 use Rattle.gs_master_spec.specs.Working.{begins, begins_new, may_use, leased, copied_on_write, written_at, found_for_writing, created_on, extended_at, extends, unquiet, is_wanted_at, begin_pending, begins_snapshot, snapshot_if, replicated_to, replicates_chunk, replicates_most, needs_of, scanned, scan_plan, waiting_for, removed_paths, forgotten_chunks}
 use Rattle.gs_master_spec.specs.declared.pending.Waiting.{Waiting}
 use Rattle.gs_master_spec.specs.declared.pending.Waiting.TheVariants as waits
@@ -49,6 +57,7 @@ use Rattle.gs_master_spec.specs.declared.pending.Waiting.TheVariants as waits
 pub record Refuses (s : State) (req : ReqId) (refusal : Refusal) (t : Turn) : Type 0 where
   pub left : LeavesAll s req refusal t
   pub fits : FitsAndKeeps s t
+  pub over : is_kept refusal ≡ true → was_answered t.after.durable t.after.volatile req ≡ true
 
 abbrev pub Leaves : State → ReqId → Turn → Type 0
 Leaves s req t = (refusal : Refusal) → t.said ≡ Some refusal → Refuses s req refusal t
@@ -104,19 +113,47 @@ said_left true true s req refusal = record { left = inr (inl (refl, refl)); sent
 said_left true false s req refusal = record { left = inr (inr (refl, refl)); sent = refl }
 said_left false room s req refusal = record { left = inl (refl, refl); sent = refl }
 
+-- one that is kept in memory is the last reply
+kept_answered : (d : Durable) (v : Volatile) (req : ReqId) (result : Result Answer Refusal) → was_answered d (record v { replies = fin.insert v.replies req.client (record { number = req.number; result = result }) }) req ≡ true
+kept_answered d v req result =
+    ap (λ o. not (is_later (later (fin.get d.replies req.client) o) req.number)) (fin.get-insert client_total v.replies req.client (record { number = req.number; result = result }) req.client)
+    ∙ ap (λ o. not (is_later (later (fin.get d.replies req.client) (cond (is_eq o) (Some (record { number = req.number; result = result })) (fin.get v.replies req.client))) req.number)) (tied_itself client_total req.client)
+    ∙ by_last (fin.get d.replies req.client)
+  where
+    not_less : (n : ℕ) → nat_lt n n ≡ false
+    not_less n = grind (arith, nat_tests)
+
+    by_less : (r : KeptReply) (b : Bool) → nat_lt r.number req.number ≡ b → not (is_later (if b then Some (record { number = req.number; result = result }) else Some r) req.number) ≡ true
+    by_less r true is = ap not (not_less req.number)
+    by_less r false is = ap not is
+
+    by_last : (o : Option KeptReply) → not (is_later (later o (Some (record { number = req.number; result = result }))) req.number) ≡ true
+    by_last None = ap not (not_less req.number)
+    by_last (Some r) = by_less r (nat_lt r.number req.number) refl
+
+said_over : (kept later_one room : Bool) (s : State) (req : ReqId) (refusal : Refusal) → is_later (last_reply s req.client) req.number ≡ later_one → kept ≡ true
+    → was_answered (said_turn (kept && later_one) room s req refusal).after.durable (said_turn (kept && later_one) room s req refusal).after.volatile req ≡ true
+unfolding applied
+said_over true true true s req refusal last is = now_answered s.durable s.volatile req (Err refusal)
+said_over true true false s req refusal last is = kept_answered s.durable s.volatile req (Err refusal)
+said_over true false room s req refusal last is = ap not last
+said_over false later_one room s req refusal last is = absurd (false≢true is)
+
 pub refused_leaves : (s : State) (req : ReqId) (refusal : Refusal) → Leaves s req (refused s req refusal)
 refused_leaves s req refusal other some =
     let said = keeps_refusal s req refusal && fits s.log (Said req refusal ∷ []) in record {
       left = subst (λ r. LeavesAll s req r (refused s req refusal)) (refusal_is some) (said_left (keeps_refusal s req refusal) (fits s.log (Said req refusal ∷ [])) s req refusal);
       fits = record { fits = said_fits said s req refusal; kept = λ k. said_keeps said s req refusal k };
+      over = λ kept. said_over (is_kept refusal) (is_later (last_reply s req.client) req.number) (fits s.log (Said req refusal ∷ [])) s req refusal refl (ap is_kept (refusal_is some) ∙ kept);
     }
 
 -- the reply is told again
-again_leaves : (s : State) (req : ReqId) (result : Result Answer Refusal) → Leaves s req (replied_again s req result)
-again_leaves s req (Ok answer) refusal some = absurd (false≢true (ap is_some some))
-again_leaves s req (Err refusal) other some = record {
+again_leaves : (s : State) (req : ReqId) (result : Result Answer Refusal) → ((refusal : Refusal) → result ≡ Err refusal → is_kept refusal ≡ true → was_answered s.durable s.volatile req ≡ true) → Leaves s req (replied_again s req result)
+again_leaves s req (Ok answer) over refusal some = absurd (false≢true (ap is_some some))
+again_leaves s req (Err refusal) over other some = record {
   left = subst (λ r. LeavesAll s req r (replied_again s req (Err refusal))) (refusal_is some) (record { left = inl (refl, refl); sent = refl });
   fits = record { fits = refl; kept = λ k. k };
+  over = λ kept. over refusal refl (ap is_kept (refusal_is some) ∙ kept);
 }
 
 either : (s : State) (req : ReqId) (b : Bool) (t u : Turn) → Leaves s req t → Leaves s req u → Leaves s req (if b then t else u)
@@ -330,20 +367,52 @@ unless_called : (config : Config) (s : State) (req : ReqId) (moment : Moment) (c
 unless_called config s req moment call None = called_leaves config s req moment call
 unless_called config s req moment call (Some refusal) = refused_leaves s req refusal
 
-taken_leaves : (config : Config) (s : State) (req : ReqId) (moment : Moment) (call : Call) (how : Numbered) → Leaves s req (taken_as config s req moment call how)
-taken_leaves config s req moment call New = unless_called config s req moment call (refused_before s req call)
-taken_leaves config s req moment call (Again result) = again_leaves s req result
-taken_leaves config s req moment call Older = again_leaves s req (Err refusals.Old)
+-- a reply that is told again was the last one
+again_answered : (s : State) (req : ReqId) (result : Result Answer Refusal) → numbered (last_reply s req.client) req.number ≡ Again result → was_answered s.durable s.volatile req ≡ true
+again_answered s req result is = by_last (last_reply s req.client) is
+  where
+    by_less : (r : KeptReply) (b : Bool) → nat_lt req.number r.number ≡ b → (if b then Older else New) ≡ Again result → not (nat_lt r.number req.number) ≡ true
+    by_less r true less h = absurd (no_older h)
+      where
+        no_older : Older ≡ Again result → ⊥
+        no_older h = cc
+    by_less r false less h = absurd (no_new h)
+      where
+        no_new : New ≡ Again result → ⊥
+        no_new h = cc
+
+    by_same : (r : KeptReply) (b : Bool) → (r.number == req.number) ≡ b → (if b then Again r.result else (if nat_lt req.number r.number then Older else New)) ≡ Again result → not (nat_lt r.number req.number) ≡ true
+    by_same r true same h = grind (arith, nat_tests)
+    by_same r false other h = by_less r (nat_lt req.number r.number) refl h
+
+    by_last : (o : Option KeptReply) → numbered o req.number ≡ Again result → not (is_later o req.number) ≡ true
+    by_last None h = absurd (no_new h)
+      where
+        no_new : New ≡ Again result → ⊥
+        no_new h = cc
+    by_last (Some r) h = by_same r (r.number == req.number) refl h
+
+-- a refusal that isn't kept
+unkept : (s : State) (req : ReqId) (r refusal : Refusal) → is_kept r ≡ false → ◌≡◌ {A = Result Answer Refusal} (Err r) (Err refusal) → is_kept refusal ≡ true → was_answered s.durable s.volatile req ≡ true
+unkept s req r refusal out same kept = absurd (false≢true (sym out ∙ ap is_kept (error_is same) ∙ kept))
+  where
+    error_is : {a b : Refusal} → ◌≡◌ {A = Result Answer Refusal} (Err a) (Err b) → a ≡ b
+    error_is h = cc
+
+taken_leaves : (config : Config) (s : State) (req : ReqId) (moment : Moment) (call : Call) (how : Numbered) → numbered (last_reply s req.client) req.number ≡ how → Leaves s req (taken_as config s req moment call how)
+taken_leaves config s req moment call New is = unless_called config s req moment call (refused_before s req call)
+taken_leaves config s req moment call (Again result) is = again_leaves s req result (λ refusal same kept. again_answered s req result is)
+taken_leaves config s req moment call Older is = again_leaves s req (Err refusals.Old) (λ refusal. unkept s req refusals.Old refusal refl)
 
 call_leaves : (config : Config) (s : State) (req : ReqId) (moment : Moment) (call : Call) → Leaves s req (call_turn config s req moment call)
 call_leaves config s req moment call =
     let taken = taken_as config s req moment call (numbered (last_reply s req.client) req.number) in
-    let device = again_leaves s req (Err refusals.Device) in
+    let device = again_leaves s req (Err refusals.Device) (λ refusal. unkept s req refusals.Device refusal refl) in
     either s req (is_unopened s.fault) (replied_again s req (Err refusals.Device)) (if is_pending s.volatile.pending req then waits_still s req else taken)
     device
     (either s req (is_pending s.volatile.pending req) (waits_still s req) taken
     (either s req (is_failed s.fault) (replied_again s req (Err refusals.Device)) (unmoved s) device (silent_leaves s req (unmoved s) refl))
-    (taken_leaves config s req moment call (numbered (last_reply s req.client) req.number)))
+    (taken_leaves config s req moment call (numbered (last_reply s req.client) req.number) refl))
 
 pub refused_leaves_all : RefusedLeavesAll
 refused_leaves_all config s req moment call refusal some = (call_leaves config s req moment call refusal some).left
@@ -354,3 +423,78 @@ refused_fits config s req moment call some = by_said (call_turn config s req mom
     by_said : (said : Option Refusal) → (call_turn config s req moment call).said ≡ said → is_some said ≡ true → FitsAndKeeps s (call_turn config s req moment call)
     by_said None is h = absurd (false≢true h)
     by_said (Some refusal) is h = (call_leaves config s req moment call refusal is).fits
+
+-- ---- a call that was answered is over
+
+-- a call that waits is refused only as its disk has failed
+still_rests : (s : State) (req : ReqId) (refusal : Refusal) → (waits_still s req).said ≡ Some refusal → is_kept refusal ≡ true → ⊥
+still_rests s req refusal some kept = by_failed (is_failed s.fault) some
+  where
+    by_failed : (b : Bool) → (if b then replied_again s req (Err refusals.Device) else unmoved s).said ≡ Some refusal → ⊥
+    by_failed true h = false≢true (ap is_kept (refusal_is h) ∙ kept)
+    by_failed false h = false≢true (ap is_some h)
+
+-- a refusal leaves the calls that wait
+left_waiting : (s : State) (req : ReqId) (refusal : Refusal) (t : Turn) → LeavesAll s req refusal t → t.after.volatile.pending ≡ s.volatile.pending
+left_waiting s req refusal t k = by_left k.left
+  where
+    by_left : ((t.after ≡ s) × (t.records ≡ [])) ⊎ (((t.after ≡ with_said s req refusal) × (t.records ≡ Said req refusal ∷ [])) ⊎ ((t.after ≡ with_kept s req refusal) × (t.records ≡ []))) → t.after.volatile.pending ≡ s.volatile.pending
+    by_left (inl same) = ap (λ (x : State). x.volatile.pending) same.0
+    by_left (inr (inl said)) = ap (λ (x : State). x.volatile.pending) said.0
+    by_left (inr (inr kept)) = ap (λ (x : State). x.volatile.pending) kept.0
+
+refused_rests : (config : Config) (s : State) (req : ReqId) (moment : Moment) (call : Call) (refusal : Refusal) → (call_turn config s req moment call).said ≡ Some refusal → is_kept refusal ≡ true → is_pending s.volatile.pending req ≡ false
+refused_rests config s req moment call refusal some kept = by_opened (is_unopened s.fault) some
+  where
+    by_waiting : (b : Bool) → is_pending s.volatile.pending req ≡ b → (if b then waits_still s req else taken_as config s req moment call (numbered (last_reply s req.client) req.number)).said ≡ Some refusal → is_pending s.volatile.pending req ≡ false
+    by_waiting true is h = absurd (still_rests s req refusal h kept)
+    by_waiting false is h = is
+
+    by_opened : (b : Bool) → (if b then replied_again s req (Err refusals.Device) else (if is_pending s.volatile.pending req then waits_still s req else taken_as config s req moment call (numbered (last_reply s req.client) req.number))).said ≡ Some refusal
+        → is_pending s.volatile.pending req ≡ false
+    by_opened true h = absurd (false≢true (ap is_kept (refusal_is h) ∙ kept))
+    by_opened false h = by_waiting (is_pending s.volatile.pending req) refl h
+
+pub refused_are_over : RefusedAreOver
+refused_are_over config s req moment call refusal some kept =
+    let k = call_leaves config s req moment call refusal some in record {
+      answered = k.over kept;
+      rests = ap (λ ps. is_pending ps req) (left_waiting s req refusal (call_turn config s req moment call) k.left) ∙ refused_rests config s req moment call refusal some kept;
+    }
+
+abbrev MakesNothing : State → Turn → Type 0
+MakesNothing s t = (t.records ≡ []) × (t.after ≡ s)
+
+pub over_make_nothing : OverMakeNothing
+over_make_nothing config s req moment call over = by_opened (is_unopened s.fault)
+  where
+    by_number : (how : Numbered) → numbered (last_reply s req.client) req.number ≡ how → MakesNothing s (taken_as config s req moment call how)
+    by_number New is = absurd (new_is_later (last_reply s req.client) is over.answered)
+      where
+        by_less : (r : KeptReply) (b : Bool) → nat_lt req.number r.number ≡ b → (r.number == req.number) ≡ false → (if b then Older else New) ≡ New → not (nat_lt r.number req.number) ≡ true → ⊥
+        by_less r true less other h out = no_older h
+          where
+            no_older : Older ≡ New → ⊥
+            no_older h = cc
+        by_less r false less other h out = true≢false (let k = out in grind (arith, nat_tests))
+
+        by_same : (r : KeptReply) (b : Bool) → (r.number == req.number) ≡ b → (if b then Again r.result else (if nat_lt req.number r.number then Older else New)) ≡ New → not (nat_lt r.number req.number) ≡ true → ⊥
+        by_same r true same h out = no_again h
+          where
+            no_again : Again r.result ≡ New → ⊥
+            no_again h = cc
+        by_same r false other h out = by_less r (nat_lt req.number r.number) refl other h out
+
+        new_is_later : (o : Option KeptReply) → numbered o req.number ≡ New → not (is_later o req.number) ≡ true → ⊥
+        new_is_later None h out = false≢true out
+        new_is_later (Some r) h out = by_same r (r.number == req.number) refl h out
+    by_number (Again result) is = (refl, refl)
+    by_number Older is = (refl, refl)
+
+    by_waiting : (b : Bool) → is_pending s.volatile.pending req ≡ b → MakesNothing s (if b then waits_still s req else taken_as config s req moment call (numbered (last_reply s req.client) req.number))
+    by_waiting true is = absurd (false≢true (sym over.rests ∙ is))
+    by_waiting false is = by_number (numbered (last_reply s req.client) req.number) refl
+
+    by_opened : (b : Bool) → MakesNothing s (if b then replied_again s req (Err refusals.Device) else (if is_pending s.volatile.pending req then waits_still s req else taken_as config s req moment call (numbered (last_reply s req.client) req.number)))
+    by_opened true = (refl, refl)
+    by_opened false = by_waiting (is_pending s.volatile.pending req) refl

@@ -7,6 +7,7 @@ use Rattle.gs_base.specs.Told.{IsNumber}
 use Rattle.gs_base.specs.declared.config.Config.{Config}
 use Rattle.gs_base.specs.declared.numbers.Moment.{Moment}
 use Rattle.gs_base.specs.declared.numbers.ReqId.{ReqId}
+use Rattle.gs_base.specs.declared.refusal.Refusal.{Refusal}
 use Rattle.gs_lease.specs.Transitions.{is_for_lease}
 use Rattle.gs_lease.specs.declared.view.Purpose.{Purpose}
 use Rattle.gs_lease.specs.declared.view.Purpose.TheVariants as purposes
@@ -23,8 +24,8 @@ use Rattle.gs_master_spec.specs.Applied.{records_behind, follows_view, is_since,
 use Rattle.gs_master_spec.specs.Durable.{Durable, is_given, is_listed, is_ordinary, is_rolling, upgrade_epoch}
 use Rattle.gs_master_spec.specs.Replies.{is_later, later}
 use Rattle.gs_master_state.specs.Sane.{are_apart, is_waited_by, makes, may_wait_for}
-use Rattle.gs_master_spec.specs.Handling.{checkpoint, fresh, handle, recover, reopened, restarted, tick}
-use Rattle.gs_master_spec.specs.State.{State, Log, Turn, for_each}
+use Rattle.gs_master_spec.specs.Handling.{call_turn, checkpoint, fresh, handle, recover, reopened, restarted, tick}
+use Rattle.gs_master_spec.specs.State.{State, Log, Turn, for_each, is_kept}
 use Rattle.gs_master_spec.specs.Volatile.{Volatile, is_call, is_pending, paths_of}
 use Rattle.gs_master_spec.specs.declared.asking.Asking.{Asking}
 use Rattle.gs_master_spec.specs.declared.pending.Pending.{Pending}
@@ -56,6 +57,20 @@ CanWait p = (list_all is_visible (paths_of p.waits) ≡ true) × IsToldWaiting p
 -- a request, or a later one of its client, has been answered
 abbrev pub was_answered : Durable → Volatile → ReqId → Bool
 was_answered d v req = not (is_later (later (fin.get d.replies req.client) (fin.get v.replies req.client)) req.number)
+
+-- it is over: it doesn't wait, either
+pub record IsOver (d : Durable) (v : Volatile) (req : ReqId) : Type 0 where
+  pub answered : was_answered d v req ≡ true
+  pub rests : is_pending v.pending req ≡ false
+
+-- So it is behind the event that refuses a call, but for a disk that has failed, for a number that is too old, and for want of memory.
+abbrev pub RefusedAreOver : Type 0
+RefusedAreOver = (config : Config) (s : State) (req : ReqId) (moment : Moment) (call : Call) (refusal : Refusal) → (call_turn config s req moment call).said ≡ Some refusal → is_kept refusal ≡ true →
+    IsOver (call_turn config s req moment call).after.durable (call_turn config s req moment call).after.volatile req
+
+-- A call that comes again once it is over changes nothing: it has no record.
+abbrev pub OverMakeNothing : Type 0
+OverMakeNothing = (config : Config) (s : State) (req : ReqId) (moment : Moment) (call : Call) → IsOver s.durable s.volatile req → ((call_turn config s req moment call).records ≡ []) × ((call_turn config s req moment call).after ≡ s)
 
 -- ---- what is asked for a chunk
 

@@ -201,15 +201,15 @@ all_still f xs none = all_of f xs xs (λ k here. not_false (f k) (none_passes (�
 module _ (config : Config) (heard : Heard) where
   -- ---- calls of the tree
 
-  edit_chain : (s : State) (req : ReqId) (edit : PlainEdit) (answer : Answer) → is_of_tree edit ≡ true → is_still_for s edit ≡ true → is_location answer ≡ false → IsFree s req [] (moved_by edit) → (names : Result NamesView Refusal) → edited_names edit s.durable.names ≡ names → Chained config heard s (edit_if s req edit answer names)
-  edit_chain s req edit answer tree still plain free (Ok names) e = room_chain config heard s req (turned s (accept_plan req edit answer)) (Moves s (Edits req edit answer) None (record { edits = (names, e); tree = tree; still = still; answers = plain; free = free }))
-  edit_chain s req edit answer tree still plain free (Err refusal) e = refused_chain config heard s req refusal
+  edit_chain : (s : State) (req : ReqId) (edit : PlainEdit) (answer : Answer) → is_of_tree edit ≡ true → is_still_for s edit ≡ true → is_location answer ≡ false → IsFree s req [] (moved_by edit) → IsCalled heard s req → (names : Result NamesView Refusal) → edited_names edit s.durable.names ≡ names → Chained config heard s (edit_if s req edit answer names)
+  edit_chain s req edit answer tree still plain free called (Ok names) e = room_chain config heard s req (turned s (accept_plan req edit answer)) (Moves s (Edits req edit answer) None (record { called = called; edits = (names, e); tree = tree; still = still; answers = plain; free = free }))
+  edit_chain s req edit answer tree still plain free called (Err refusal) e = refused_chain config heard s req refusal
 
-  edited_chain : (s : State) (req : ReqId) (edit : PlainEdit) (answer : Answer) → is_of_tree edit ≡ true → is_still_for s edit ≡ true → is_location answer ≡ false → IsFree s req [] (moved_by edit) → Chained config heard s (edited_by s req edit answer)
-  edited_chain s req edit answer tree still plain free = edit_chain s req edit answer tree still plain free (edited_names edit s.durable.names) refl
+  edited_chain : (s : State) (req : ReqId) (edit : PlainEdit) (answer : Answer) → is_of_tree edit ≡ true → is_still_for s edit ≡ true → is_location answer ≡ false → IsFree s req [] (moved_by edit) → IsCalled heard s req → Chained config heard s (edited_by s req edit answer)
+  edited_chain s req edit answer tree still plain free called = edit_chain s req edit answer tree still plain free called (edited_names edit s.durable.names) refl
 
-  deleted_chain : (s : State) (req : ReqId) (path : Path) (recursive : Bool) (moment : Moment) → IsFree s req [] (path ∷ []) → Chained config heard s (deleted s req path recursive moment)
-  deleted_chain s req path recursive moment free =
+  deleted_chain : (s : State) (req : ReqId) (path : Path) (recursive : Bool) (moment : Moment) → IsFree s req [] (path ∷ []) → IsCalled heard s req → Chained config heard s (deleted s req path recursive moment)
+  deleted_chain s req path recursive moment free called =
       let hides = edited_by s req (Hide path moment.0 s.durable.next_hidden) (answers.Path (hidden_path path moment.0 s.durable.next_hidden)) in
       let third = if s.durable.next_hidden == 0 then refused s req refusals.Exhausted else hides in
       let second = if not recursive && has_visible_child (fin.entries s.durable.names.tree) path then refused s req refusals.NotEmpty else third in
@@ -217,7 +217,7 @@ module _ (config : Config) (heard : Heard) where
       (λ _. test_chain config heard s (is_none (fin.get s.durable.names.tree path)) _ second (λ _. answered_chain config heard s req answers.Absent refl)
       (λ _. test_chain config heard s (not recursive && has_visible_child (fin.entries s.durable.names.tree) path) (refused s req refusals.NotEmpty) third (λ _. refused_chain config heard s req refusals.NotEmpty)
       (λ _. test_chain config heard s (s.durable.next_hidden == 0) (refused s req refusals.Exhausted) hides (λ _. refused_chain config heard s req refusals.Exhausted)
-      (λ _. edited_chain s req (Hide path moment.0 s.durable.next_hidden) (answers.Path (hidden_path path moment.0 s.durable.next_hidden)) refl refl refl free))))
+      (λ _. edited_chain s req (Hide path moment.0 s.durable.next_hidden) (answers.Path (hidden_path path moment.0 s.durable.next_hidden)) refl refl refl free called))))
 
   -- ---- look-ups
 
@@ -330,7 +330,7 @@ module _ (config : Config) (heard : Heard) where
   extends_turned s req called new path index (Some (File chunks)) k calm is = extended_turned s req called new path chunks index k calm is
 
   snapshot_chain : (s : State) (req : ReqId) → IsCalled heard s req → IsFree s req [] [] → (from to : Path) (many : List ℕ) → unquiet s from ≡ many → list_all (has_entry s) many ≡ true → Chained config heard s (begins_snapshot s req from to many)
-  snapshot_chain s req called free from to [] is all = edited_chain s req (Snapshot from to) answers.Nothing refl (all_still (is_quiet_at s) (source_chunks s from) is) refl free
+  snapshot_chain s req called free from to [] is all = edited_chain s req (Snapshot from to) answers.Nothing refl (all_still (is_quiet_at s) (source_chunks s from) is) refl free called
   snapshot_chain s req called free from to (chunk ∷ chunks) is all =
       let wait = turned s (begin_pending req (waits.Snapshot from to)) in
       let begin : State → Turn = λ next. all_begun next (chunk ∷ chunks) purposes.Quiet (Some req) in
@@ -399,19 +399,19 @@ module _ (config : Config) (heard : Heard) where
 
   -- ---- the calls of the tree
 
-  pub edits_chain : (s : State) (req : ReqId) (edit : PlainEdit) (answer : Answer) → is_of_tree edit ≡ true → is_still_for s edit ≡ true → is_location answer ≡ false → IsFree s req [] (moved_by edit) → Chained config heard s (edited_by s req edit answer)
-  edits_chain s req edit answer tree still plain free = edited_chain s req edit answer tree still plain free
+  pub edits_chain : (s : State) (req : ReqId) (edit : PlainEdit) (answer : Answer) → is_of_tree edit ≡ true → is_still_for s edit ≡ true → is_location answer ≡ false → IsFree s req [] (moved_by edit) → IsCalled heard s req → Chained config heard s (edited_by s req edit answer)
+  edits_chain s req edit answer tree still plain free called = edited_chain s req edit answer tree still plain free called
 
   -- a rename's record holds its target as it was resolved
-  pub renames_chain : (s : State) (req : ReqId) (from to : Path) → IsFree s req [] (from ∷ []) → Chained config heard s (renames s req from to)
-  renames_chain s req from to free = by_names (edited_names (Rename from to) s.durable.names) refl
+  pub renames_chain : (s : State) (req : ReqId) (from to : Path) → IsFree s req [] (from ∷ []) → IsCalled heard s req → Chained config heard s (renames s req from to)
+  renames_chain s req from to free called = by_names (edited_names (Rename from to) s.durable.names) refl
     where
       by_names : (names : Result NamesView Refusal) → edited_names (Rename from to) s.durable.names ≡ names → Chained config heard s (edit_if s req (Rename from (target_of (fin.get s.durable.names.tree) from to)) answers.Nothing names)
       by_names (Err refusal) is = refused_chain config heard s req refusal
-      by_names (Ok after) is = edit_chain s req (Rename from (target_of (fin.get s.durable.names.tree) from to)) answers.Nothing refl refl refl free (Ok after) (resolved_does s.durable.names after from to is)
+      by_names (Ok after) is = edit_chain s req (Rename from (target_of (fin.get s.durable.names.tree) from to)) answers.Nothing refl refl refl free called (Ok after) (resolved_does s.durable.names after from to is)
 
-  pub deletes_chain : (s : State) (req : ReqId) (path : Path) (recursive : Bool) (moment : Moment) → IsFree s req [] (path ∷ []) → Chained config heard s (deleted s req path recursive moment)
-  deletes_chain s req path recursive moment free = deleted_chain s req path recursive moment free
+  pub deletes_chain : (s : State) (req : ReqId) (path : Path) (recursive : Bool) (moment : Moment) → IsFree s req [] (path ∷ []) → IsCalled heard s req → Chained config heard s (deleted s req path recursive moment)
+  deletes_chain s req path recursive moment free called = deleted_chain s req path recursive moment free called
 
   pub lists_chain : (s : State) (req : ReqId) (path : Path) → Chained config heard s (looked_up s req (listing (fin.entries s.durable.names.tree) path (fin.get s.durable.names.tree path)))
   lists_chain s req path = looked_chain config heard s req _ (listed_plain s path (fin.get s.durable.names.tree path))

@@ -295,10 +295,10 @@ module _ (config : Config) (came : Heard) (chunk : ℕ) (view : View) (placed : 
       (λ _. test_chain config came s (not (has_handle s.durable && has_versions s.durable 1)) (ended_by s req refusals.Exhausted) begin (λ _. ended_chain config came s req refusals.Exhausted)
       (λ _. room_for_chain s req t (Moves s (Copies old view req (Further req (waits.Copy path index old new))) None (record { known = known; listed = listed; fresh = fresh; given = given; settled = settled; quiet = none }, tt, (refl, refl, waits_so)))))
 
-  tree_chain : (req : ReqId) (from to : Path) (s : State) → list_all (is_quiet_at s) (source_chunks s from) ≡ true → (names : Result NamesView Refusal) → edited_names (Snapshot from to) s.durable.names ≡ names
+  tree_chain : (req : ReqId) (from to : Path) (s : State) → IsCalled came s req → list_all (is_quiet_at s) (source_chunks s from) ≡ true → (names : Result NamesView Refusal) → edited_names (Snapshot from to) s.durable.names ≡ names
       → Chained config came s (edit_turn s req (edit_plan req (Snapshot from to) answers.Nothing []) names)
-  tree_chain req from to s still (Ok names) e = room_for_chain s req (turned s (edit_plan req (Snapshot from to) answers.Nothing [])) (Moves s (CopiesTree req from to) None ((names, e), still))
-  tree_chain req from to s still (Err refusal) e = ended_chain config came s req refusal
+  tree_chain req from to s called still (Ok names) e = room_for_chain s req (turned s (edit_plan req (Snapshot from to) answers.Nothing [])) (Moves s (CopiesTree req from to) None ((names, e), still, called))
+  tree_chain req from to s called still (Err refusal) e = ended_chain config came s req refusal
 
   settled_so : (s : State) (c : ℕ) → c ≡ chunk → Stays chunk view placed s → IsSettledOn s c view
   settled_so s c same k = subst (λ x. IsSettledOn s x view) (sym same) (record { has = k.has; unasked = k.unasked })
@@ -307,33 +307,36 @@ module _ (config : Config) (came : Heard) (chunk : ℕ) (view : View) (placed : 
   known_so s c same k = ap (has_entry s) same ∙ k.known
 
   -- a snapshot looks at no view
-  snapshot_chain : (s : State) (req : ReqId) (waiting : Waiting) → is_snapshot waiting ≡ true → Chained config came s (goes_on s req view waiting)
+  snapshot_chain : (s : State) (req : ReqId) (waiting : Waiting) → IsCalled came s req → is_snapshot waiting ≡ true → Chained config came s (goes_on s req view waiting)
   unfolding goes_on
-  snapshot_chain s req (waits.Snapshot from to) is =
+  snapshot_chain s req (waits.Snapshot from to) called is =
       test_chain config came s (list_all (is_quiet_at s) (source_chunks s from)) (ended_by_edit s req (Snapshot from to) answers.Nothing []) (unmoved s)
-      (λ still. tree_chain req from to s still (edited_names (Snapshot from to) s.durable.names) refl) (λ _. rests config came s)
-  snapshot_chain s req waiting is = absurd (false≢true is)
+      (λ still. tree_chain req from to s called still (edited_names (Snapshot from to) s.durable.names) refl) (λ _. rests config came s)
+  snapshot_chain s req waiting called is = absurd (false≢true is)
 
   -- A call that copies the chunk waits for a view without a lease, and one that waits for a chunk of a file waits for one that was placed in one.
   abbrev IsQuiet : Pending → Type 0
   IsQuiet p = (is_quieting p.waits ≡ true → view.term ≡ None) × (is_of_file p.waits ≡ true → placed ≡ true)
 
+  -- it waits
+  goes_called : (s : State) (p : Pending) → CanGo chunk s.volatile p → IsCalled came s p.req
+  goes_called s p go = inr (weaker s.volatile.pending (go.now (λ waiting. true)))
+    where
+      weaker : (ps : List Pending) → is_waited_by (Some p.req) (λ waiting. true) ps ≡ true → is_pending ps p.req ≡ true
+      weaker [] some = some
+      weaker (q ∷ ps) some = by_head (is_call q.req (Some p.req)) (same_call p.req q.req) (turned_about q.req p.req) some (weaker ps)
+        where
+          by_head : (a b : Bool) → (a ≡ true → b ≡ true) → ((a && true) || is_waited_by (Some p.req) (λ waiting. true) ps) ≡ true → (is_waited_by (Some p.req) (λ waiting. true) ps ≡ true → is_pending ps p.req ≡ true) → (b || is_pending ps p.req) ≡ true
+          by_head true b same some rest = ap (λ c. c || is_pending ps p.req) (same refl)
+          by_head false true same some rest = refl
+          by_head false false same some rest = rest some
+
   one_chain : (s : State) (p : Pending) → Holds true s → CanGo chunk s.volatile p → Ready chunk s.durable → Stays chunk view placed s → IsQuiet p → Chained config came s (goes_on s p.req view p.waits)
   unfolding goes_on
   one_chain s p h go r k quiet = by_waiting p.waits refl go.may go.can.0 quiet.0 quiet.1
     where
-      -- it waits
       called : IsCalled came s p.req
-      called = inr (weaker s.volatile.pending (go.now (λ waiting. true)))
-        where
-          weaker : (ps : List Pending) → is_waited_by (Some p.req) (λ waiting. true) ps ≡ true → is_pending ps p.req ≡ true
-          weaker [] some = some
-          weaker (q ∷ ps) some = by_head (is_call q.req (Some p.req)) (same_call p.req q.req) (turned_about q.req p.req) some (weaker ps)
-            where
-              by_head : (a b : Bool) → (a ≡ true → b ≡ true) → ((a && true) || is_waited_by (Some p.req) (λ waiting. true) ps) ≡ true → (is_waited_by (Some p.req) (λ waiting. true) ps ≡ true → is_pending ps p.req ≡ true) → (b || is_pending ps p.req) ≡ true
-              by_head true b same some rest = ap (λ c. c || is_pending ps p.req) (same refl)
-              by_head false true same some rest = refl
-              by_head false false same some rest = rest some
+      called = goes_called s p go
 
       by_waiting : (w : Waiting) → w ≡ p.waits → may_wait_for chunk w ≡ true → list_all is_visible (paths_of w) ≡ true → (is_quieting w ≡ true → view.term ≡ None) → (is_of_file w ≡ true → placed ≡ true) → Chained config came s (goes_on s p.req view w)
       by_waiting (waits.Extend path new) e may visible quiet in_file = extended_chain p.req path new s called (go.now (waits_to_extend new) ∙ ap (waits_to_extend new) (sym e) ∙ extends_itself path new) (settled_so s new (same_number new chunk may) k) (known_so s new (same_number new chunk may) k) (edited_names (AddChunk path new) s.durable.names) refl
@@ -343,7 +346,7 @@ module _ (config : Config) (came : Heard) (chunk : ℕ) (view : View) (placed : 
       by_waiting (waits.Quiet path index old) e may visible quiet in_file = copied_chain p.req path index old s (go.now (waits_to_copy path index old) ∙ ap (waits_to_copy path index old) (sym e) ∙ copies_itself path index old) (known_so s old (same_number old chunk may) k) (ap (is_listed s.durable) (same_number old chunk may) ∙ k.listed (in_file refl)) (next_is s h.stands.kept) (h.stands.kept.handles old (ap is_some (settled_so s old (same_number old chunk may) k).has)) (settled_so s old (same_number old chunk may) k) (quiet refl)
       by_waiting (waits.Copy path index old new) e may visible quiet in_file =
           replaced_chain p.req path index old new s (go.now (waits_for_copy path index old new) ∙ ap (waits_for_copy path index old new) (sym e) ∙ copied_itself path index old new) (same_number new chunk may) (left_true (is_visible path) visible) r (settled_so s new (same_number new chunk may) k) (known_so s new (same_number new chunk may) k) (edited_names (Cow path index old new) s.durable.names) refl
-      by_waiting (waits.Snapshot from to) e may visible quiet in_file = snapshot_chain s p.req (waits.Snapshot from to) refl
+      by_waiting (waits.Snapshot from to) e may visible quiet in_file = snapshot_chain s p.req (waits.Snapshot from to) called refl
       by_waiting (waits.Replicate old target) e may visible quiet in_file =
           test_chain config came s (is_member view.members target) (ended_with s p.req (answers.Copied (Some (record { handle = old; server = target })))) (ended_by s p.req refusals.NoReplica)
           (λ _. Moves s (AnswersCall p.req (answers.Copied (Some (record { handle = old; server = target }))) true) None ((tt, tt, tt), refl)) (λ _. ended_chain config came s p.req refusals.NoReplica)
@@ -361,10 +364,12 @@ module _ (config : Config) (came : Heard) (chunk : ℕ) (view : View) (placed : 
       only true b e k = absurd (true≢false e)
       only false b e k = k
 
-  snapshots_chain : (calls : List Pending) (s : State) → AllSnapshots calls → Chained config came s (all_go_on view calls s)
-  snapshots_chain [] s all = rests config came s
-  snapshots_chain (p ∷ calls) s all =
-      let t = goes_on s p.req view p.waits in then_chain config came s t (all_go_on view calls) (snapshot_chain s p.req p.waits all.0) (snapshots_chain calls t.after all.1)
+  snapshots_chain : (calls : List Pending) (s : State) → Holds true s → Going chunk s.volatile calls → Ready chunk s.durable → AllSnapshots calls → Chained config came s (all_go_on view calls s)
+  snapshots_chain [] s h go r all = rests config came s
+  snapshots_chain (p ∷ calls) s h go r all =
+      let one = one_goes_so chunk view p calls s h go r in
+      let t = goes_on s p.req view p.waits in
+      then_chain config came s t (all_go_on view calls) (snapshot_chain s p.req p.waits (goes_called s p go.0) all.0) (snapshots_chain calls t.after one.held one.going one.ready all.1)
 
   abbrev AreQuiet : List Pending → Type 0
   AreQuiet ps = AllByRecursion IsQuiet ps
@@ -376,7 +381,7 @@ module _ (config : Config) (came : Heard) (chunk : ℕ) (view : View) (placed : 
       then_chain config came s (goes_on s p.req view p.waits) (all_go_on view calls) (one_chain s p h go.0 r k quiet.0)
       (by_waiting (is_snapshot p.waits) refl
       (λ is. all_chain calls (goes_on s p.req view p.waits).after one.held one.going one.ready (record { has = snapshot_has chunk view s p.req p.waits is ∙ k.has; unasked = one.bare is chunk k.unasked; known = snapshot_known chunk view s p.req p.waits is k.unasked k.known; listed = λ there. snapshot_listed chunk view s p.req p.waits is (k.listed there) }) quiet.1)
-      (λ other. snapshots_chain calls (goes_on s p.req view p.waits).after (others_snapshots p calls other go.1.0)))
+      (λ other. snapshots_chain calls (goes_on s p.req view p.waits).after one.held one.going one.ready (others_snapshots p calls other go.1.0)))
     where
       by_waiting : (b : Bool) → is_snapshot p.waits ≡ b → (is_snapshot p.waits ≡ true → Chained config came (goes_on s p.req view p.waits).after (all_go_on view calls (goes_on s p.req view p.waits).after))
           → (is_snapshot p.waits ≡ false → Chained config came (goes_on s p.req view p.waits).after (all_go_on view calls (goes_on s p.req view p.waits).after)) → Chained config came (goes_on s p.req view p.waits).after (all_go_on view calls (goes_on s p.req view p.waits).after)

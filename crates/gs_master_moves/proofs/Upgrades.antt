@@ -184,11 +184,11 @@ module _ (config : Config) (heard : Heard) where
   -- ---- all calls
 
   called_chain : (s : State) (req : ReqId) → IsCalled heard s req → is_pending s.volatile.pending req ≡ false → (moment : Moment) (call : Call) → Holds true s → refused_before s req call ≡ None → Turned config heard s (called config s req moment call)
-  called_chain s req come new moment (calls.Mkdirs path) h passed = within config heard (edits_chain config heard s req (Mkdirs path) answers.Nothing refl refl refl (none_free s req _ _ (free_of s req (calls.Mkdirs path) new passed)))
-  called_chain s req come new moment (calls.Create path) h passed = within config heard (edits_chain config heard s req (Create path) answers.Nothing refl refl refl (none_free s req _ _ (free_of s req (calls.Create path) new passed)))
-  called_chain s req come new moment (calls.Rename from to) h passed = within config heard (renames_chain config heard s req from to (first_free s req from _ _ (free_of s req (calls.Rename from to) new passed)))
-  called_chain s req come new moment (calls.Delete path recursive) h passed = within config heard (deletes_chain config heard s req path recursive moment (first_free s req path _ _ (free_of s req (calls.Delete path recursive) new passed)))
-  called_chain s req come new moment (calls.Undelete path) h passed = within config heard (edits_chain config heard s req (Unhide path) _ refl refl refl (first_free s req path _ _ (free_of s req (calls.Undelete path) new passed)))
+  called_chain s req come new moment (calls.Mkdirs path) h passed = within config heard (edits_chain config heard s req (Mkdirs path) answers.Nothing refl refl refl (none_free s req _ _ (free_of s req (calls.Mkdirs path) new passed)) come)
+  called_chain s req come new moment (calls.Create path) h passed = within config heard (edits_chain config heard s req (Create path) answers.Nothing refl refl refl (none_free s req _ _ (free_of s req (calls.Create path) new passed)) come)
+  called_chain s req come new moment (calls.Rename from to) h passed = within config heard (renames_chain config heard s req from to (first_free s req from _ _ (free_of s req (calls.Rename from to) new passed)) come)
+  called_chain s req come new moment (calls.Delete path recursive) h passed = within config heard (deletes_chain config heard s req path recursive moment (first_free s req path _ _ (free_of s req (calls.Delete path recursive) new passed)) come)
+  called_chain s req come new moment (calls.Undelete path) h passed = within config heard (edits_chain config heard s req (Unhide path) _ refl refl refl (first_free s req path _ _ (free_of s req (calls.Undelete path) new passed)) come)
   called_chain s req come new moment (calls.Snapshot from to) h passed = within config heard (snapshot_if_chain config heard s req come (none_free s req _ _ (free_of s req (calls.Snapshot from to) new passed)) from to (edited (edits.Snapshot from to) (fin.entries s.durable.names.tree)) h.stands.kept)
   called_chain s req come new moment (calls.List path) h passed = within config heard (lists_chain config heard s req path)
   called_chain s req come new moment (calls.Status path) h passed = within config heard (status_chain config heard s req path)

@@ -436,7 +436,8 @@ moved_by (Hide path moment number) = path ∷ []
 moved_by (Unhide path) = path ∷ []
 moved_by edit = []
 
-pub record MayEdit (s : State) (req : ReqId) (edit : PlainEdit) (answer : Answer) : Type 0 where
+pub record MayEdit (heard : Heard) (s : State) (req : ReqId) (edit : PlainEdit) (answer : Answer) : Type 0 where
+  pub called : IsCalled heard s req
   pub edits : IsEdit s edit
   pub tree : is_of_tree edit ≡ true
   pub still : is_still_for s edit ≡ true
@@ -487,9 +488,9 @@ May config heard s (Copies old view req beside) = MayCopy s old view × IsCalled
 May config heard s (Hears chunk asking) = MayHear heard s chunk asking
 May config heard s (Sends chunk asking source target) = MaySend s chunk asking source target
 May config heard s (Settles chunk asking carried view) = MaySettle heard s chunk asking carried view
-May config heard s (Edits req edit answer) = MayEdit s req edit answer
+May config heard s (Edits req edit answer) = MayEdit heard s req edit answer
 May config heard s (Extends req path chunk view) = IsEdit s (AddChunk path chunk) × IsSettledOn s chunk view × (has_entry s chunk ≡ true) × IsCalled heard s req × IsWaiting s req (waits_to_extend chunk)
-May config heard s (CopiesTree req from to) = IsEdit s (Snapshot from to) × (is_still_for s (Snapshot from to) ≡ true)
+May config heard s (CopiesTree req from to) = IsEdit s (Snapshot from to) × (is_still_for s (Snapshot from to) ≡ true) × IsCalled heard s req
 May config heard s (Replaces path index old new) = IsEdit s (Cow path index old new) × ((view : View) × IsSettledOn s new view) × (has_entry s new ≡ true) × ((req : ReqId) × IsWaiting s req (waits_for_copy path index old new))
 May config heard s (Scans removed forgotten) = MayScan s removed forgotten
 May config heard s (Refuses req refusal over) = Unit {0}
