@@ -237,6 +237,19 @@ chain_over config heard s t (Then u first next a b) =
     let x = chain_over config heard u first a in let y = chain_over config heard first.after next b in
     record { answered = λ req was. y.answered req (x.answered req was); durable = λ v req was. y.durable v req (x.durable v req was) }
 
+-- ---- what a record has told
+
+later_none : (o : Option KeptReply) → later o None ≡ o
+later_none None = refl
+later_none (Some reply) = refl
+
+-- where a record has told the answer, nothing that is kept in memory is needed
+told_is : (d : Durable) (out : List ℕ) (req : ReqId) → was_answered d (behind_restart out) req ≡ was_told d req
+told_is d out req = ap (λ o. not (is_later (later (fin.get d.replies req.client) o) req.number)) (fin.get-empty client_cmp req.client) ∙ ap (λ o. not (is_later o req.number)) (later_none (fin.get d.replies req.client))
+
+told_on : (d e : Durable) (req : ReqId) → AnsweredOver d e → was_told d req ≡ true → was_told e req ≡ true
+told_on d e req on told = sym (told_is e [] req) ∙ on (behind_restart []) req (told_is d [] req ∙ told)
+
 -- ---- which edits are told
 
 any_both : {A : Type 0} (p : A → Bool) (xs ys : List A) → list_any p xs ≡ false → list_any p ys ≡ false → list_any p (xs ++ ys) ≡ false
@@ -334,18 +347,19 @@ module _ (req : ReqId) where
 
   -- ---- an event
 
-  chained_over : (config : Config) (heard : Heard) (s : State) (t : Turn) → HearsFor IsOther heard → Chain config (IsMade config heard) s t → IsOver s.durable s.volatile req → IsOverBy req t
+  pub chained_over : (config : Config) (heard : Heard) (s : State) (t : Turn) → HearsFor IsOther heard → Chain config (IsMade config heard) s t → IsOver s.durable s.volatile req → IsOverBy req s t
   chained_over config heard s t hears chain over =
       let all = rest_others s.volatile.pending over.rests in record {
         edits = chain_tells config heard hears s t chain all;
         over = record { answered = (chain_over config heard s t chain).answered req over.answered; rests = others_rest t.after.volatile.pending (chain_waits IsOther config heard hears s t chain all) };
+        told = told_on s.durable t.after.durable req (chain_over config heard s t chain).durable;
       }
 
   -- where nothing is left or recorded
-  nothing_over : (s : State) (t : Turn) → t.records ≡ [] → t.after ≡ s → IsOver s.durable s.volatile req → IsOverBy req t
-  nothing_over s t none same over = record { edits = ap (list_any tells) none; over = subst (λ (x : State). IsOver x.durable x.volatile req) (sym same) over }
+  nothing_over : (s : State) (t : Turn) → t.records ≡ [] → t.after ≡ s → IsOver s.durable s.volatile req → IsOverBy req s t
+  nothing_over s t none same over = record { edits = ap (list_any tells) none; over = subst (λ (x : State). IsOver x.durable x.volatile req) (sym same) over; told = subst (λ (x : State). was_told s.durable req ≡ true → was_told x.durable req ≡ true) (sym same) (λ told. told) }
 
-  hears_nobody : HearsFor IsOther None
+  pub hears_nobody : HearsFor IsOther None
   hears_nobody from by call is = absurd (no_one is)
     where
       no_one : {A : Type 0} {a : A} → ◌≡◌ {A = Option A} None (Some a) → ⊥
@@ -362,18 +376,18 @@ module _ (req : ReqId) where
       called_in None = false
       called_in (Some h) = is_called h.1
 
-  node_over : (config : Config) (s : State) (moment : Moment) (said : Body) (from : NodeId) → Chain config (IsMade config (said_from from said)) s (from_node config s moment said from) → IsOver s.durable s.volatile req → IsOverBy req (from_node config s moment said from)
+  node_over : (config : Config) (s : State) (moment : Moment) (said : Body) (from : NodeId) → Chain config (IsMade config (said_from from said)) s (from_node config s moment said from) → IsOver s.durable s.volatile req → IsOverBy req s (from_node config s moment said from)
   node_over config s moment said nodes.Master chain over = nothing_over s _ refl refl over
   node_over config s moment (bodies.Call by call) (nodes.Server server) chain over = by_failed (is_failed s.fault)
     where
-      by_failed : (b : Bool) → IsOverBy req (if b then met_by s refusals.Device else met_by s refusals.Stray)
+      by_failed : (b : Bool) → IsOverBy req s (if b then met_by s refusals.Device else met_by s refusals.Stray)
       by_failed true = nothing_over s _ refl refl over
       by_failed false = nothing_over s _ refl refl over
   node_over config s moment said (nodes.Server server) chain over = chained_over config (Some (server, said)) s _ (hears_server server said refl) chain over
   node_over config s moment (bodies.Call by call) (nodes.Client client) chain over = by_same (is_call req (Some by)) refl
     where
-      own : req ≡ by → IsOverBy req (call_turn config s by moment call)
-      own same = subst (λ r. IsOverBy req (call_turn config s r moment call)) same (let k = over_make_nothing config s req moment call over in nothing_over s (call_turn config s req moment call) k.0 k.1 over)
+      own : req ≡ by → IsOverBy req s (call_turn config s by moment call)
+      own same = subst (λ r. IsOverBy req s (call_turn config s r moment call)) same (let k = over_make_nothing config s req moment call over in nothing_over s (call_turn config s req moment call) k.0 k.1 over)
 
       hears_it : is_call req (Some by) ≡ false → HearsFor IsOther (Some (client.0, bodies.Call by call))
       hears_it other from q asked is = subst IsOther (ap caller_in is) other
@@ -386,7 +400,7 @@ module _ (req : ReqId) where
           caller_in None = by
           caller_in (Some h) = caller_of h.1
 
-      by_same : (b : Bool) → is_call req (Some by) ≡ b → IsOverBy req (call_turn config s by moment call)
+      by_same : (b : Bool) → is_call req (Some by) ≡ b → IsOverBy req s (call_turn config s by moment call)
       by_same true same = own (same_parts req by same)
       by_same false other = chained_over config (Some (client.0, bodies.Call by call)) s _ (hears_it other) chain over
   node_over config s moment said (nodes.Client client) chain over = nothing_over s _ refl refl over
@@ -396,20 +410,10 @@ unfolding handle
 over_makes_no_edit config s (Comes message moment) req named firm over = node_over req config s moment message.body message.from (events_are_chains config s (Comes message moment) named firm) over
 over_makes_no_edit config s (Ticks moment) req named firm over = chained_over req config None s _ (hears_nobody req) (events_are_chains config s (Ticks moment) named firm) over
 over_makes_no_edit config s Renews req named firm over = chained_over req config None s _ (hears_nobody req) (events_are_chains config s Renews named firm) over
-over_makes_no_edit config s Restarts req named firm over = chained_over req config None (restarted s.durable s.log) _ (hears_nobody req) (events_are_chains config s Restarts named firm) over
+over_makes_no_edit config s Restarts req named firm over =
+    let k = chained_over req config None (restarted s.durable s.log) (turn_of config s Restarts) (hears_nobody req) (events_are_chains config s Restarts named firm) over in record { edits = k.edits; over = k.over; told = k.told }
 
 -- ---- a list of events
-
-later_none : (o : Option KeptReply) → later o None ≡ o
-later_none None = refl
-later_none (Some reply) = refl
-
--- where a record has told the answer, nothing that is kept in memory is needed
-told_is : (d : Durable) (out : List ℕ) (req : ReqId) → was_answered d (behind_restart out) req ≡ was_told d req
-told_is d out req = ap (λ o. not (is_later (later (fin.get d.replies req.client) o) req.number)) (fin.get-empty client_cmp req.client) ∙ ap (λ o. not (is_later o req.number)) (later_none (fin.get d.replies req.client))
-
-told_on : (d e : Durable) (req : ReqId) → AnsweredOver d e → was_told d req ≡ true → was_told e req ≡ true
-told_on d e req on told = sym (told_is e [] req) ∙ on (behind_restart []) req (told_is d [] req ∙ told)
 
 module _ (config : Config) (req : ReqId) where
   event_chain : (s : State) (event : Event) → IsNamed event → IsFirm s → StaysOver (met_in s event) (turn_of config s event)
@@ -440,12 +444,12 @@ module _ (config : Config) (req : ReqId) where
   goes_on s event events named firm (inr told) =
       inr (told_on s.durable (turn_of config s event).after.durable req (subst (λ d. AnsweredOver d (turn_of config s event).after.durable) (met_durable s event) (event_chain s event named firm).durable) told)
 
-  run_over : (events : List Event) (s : State) → AllByRecursion IsNamed events → IsFirm s → IsOver s.durable s.volatile req → MayGo events s → IsOverBy req (run_of config s events)
-  run_over [] s named firm over may = record { edits = refl; over = over }
+  run_over : (events : List Event) (s : State) → AllByRecursion IsNamed events → IsFirm s → IsOver s.durable s.volatile req → MayGo events s → IsOverBy req s (run_of config s events)
+  run_over [] s named firm over may = record { edits = refl; over = over; told = λ told. told }
   run_over (event ∷ events) s named firm over may =
       let one = over_makes_no_edit config s event req named.0 firm (meets_over s event events over may) in
       let rest = run_over events (turn_of config s event).after named.1 (events_fit config s event named.0 firm).firm one.over (goes_on s event events named.0 firm may) in
-      record { edits = any_both (tells_edit_of req) (turn_of config s event).records (run_of config (turn_of config s event).after events).records one.edits rest.edits; over = rest.over }
+      record { edits = any_both (tells_edit_of req) (turn_of config s event).records (run_of config (turn_of config s event).after events).records one.edits rest.edits; over = rest.over; told = λ told. rest.told (one.told told) }
 
 pub over_makes_no_edit_later : OverMakesNoEditLater
 over_makes_no_edit_later config s events req named firm over may = run_over config req events s named firm over may

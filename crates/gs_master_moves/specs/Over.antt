@@ -19,17 +19,18 @@ abbrev pub tells_edit_of : ReqId → PlainEntry → Bool
 tells_edit_of req (Edited by edit) = is_call req (Some by) && not (is_call by (Some own_request))
 tells_edit_of req entry = false
 
-pub record IsOverBy (req : ReqId) (t : Turn) : Type 0 where
-  pub edits : list_any (tells_edit_of req) t.records ≡ false
-  pub over : IsOver t.after.durable t.after.volatile req
-
--- Once a request is over, as the event meets it, no event makes an edit for it, whatever comes, and it stays over. (A restart forgets what was answered in memory alone.)
-abbrev pub OverMakesNoEdit : Type 0
-OverMakesNoEdit = (config : Config) (s : State) (event : Event) (req : ReqId) → IsNamed event → IsFirm s → IsOver (met_in s event).durable (met_in s event).volatile req → IsOverBy req (turn_of config s event)
-
 -- a record has told the answer of the request, or of a later one of its client
 abbrev pub was_told : Durable → ReqId → Bool
 was_told d req = not (is_later (fin.get d.replies req.client) req.number)
+
+pub record IsOverBy (req : ReqId) (s : State) (t : Turn) : Type 0 where
+  pub edits : list_any (tells_edit_of req) t.records ≡ false
+  pub over : IsOver t.after.durable t.after.volatile req
+  pub told : was_told s.durable req ≡ true → was_told t.after.durable req ≡ true
+
+-- Once a request is over, as the event meets it, no event makes an edit for it, whatever comes, and it stays over. (A restart forgets what was answered in memory alone.)
+abbrev pub OverMakesNoEdit : Type 0
+OverMakesNoEdit = (config : Config) (s : State) (event : Event) (req : ReqId) → IsNamed event → IsFirm s → IsOver (met_in s event).durable (met_in s event).volatile req → IsOverBy req s (turn_of config s event)
 
 abbrev pub is_restart : Event → Bool
 is_restart Restarts = true
@@ -38,7 +39,7 @@ is_restart event = false
 -- So over every list of events, where none is a restart; and over every list, where a record has told the answer.
 abbrev pub OverMakesNoEditLater : Type 0
 OverMakesNoEditLater = (config : Config) (s : State) (events : List Event) (req : ReqId) → AllByRecursion IsNamed events → IsFirm s → IsOver s.durable s.volatile req → (list_any is_restart events ≡ false) ⊎ (was_told s.durable req ≡ true) →
-    IsOverBy req (run_of config s events)
+    IsOverBy req s (run_of config s events)
 
 -- ---- examples
 
