@@ -116,44 +116,46 @@ module _ (P : ReqId → Type 0) where
   changes_wait [] v none all = all
   changes_wait (c ∷ cs) v none all = (let parts = and_parts (begins_none c) (list_all begins_none cs) none in changes_wait cs (changed v c) parts.1 (change_waits v c parts.0 all))
 
+  -- where each call of which a move can be is one of these
+  module _ (config : Config) (heard : Heard) where
+    pub move_waits : (s : State) (move : Move) → ((by : ReqId) → IsCalled heard s by → P by) → IsMade config heard s move → AllWait P s → AllWait P (move_turn config s move).after
+    move_waits s (Begins q purpose call Alone) called made all = all
+    move_waits s (Begins q purpose call (FromNow req waiting)) called made all = one_more s.volatile.pending (record { req = req; waits = waiting }) all (called req made.may.called)
+    move_waits s (Begins q purpose call (Further req waiting)) called made all = change_waits s.volatile (changes.Wait req waiting) refl all
+    move_waits s (Makes targets req path) called made all = one_more s.volatile.pending _ all (called req made.may.1)
+    move_waits s (Copies old at req Alone) called made all = all
+    move_waits s (Copies old at req (FromNow by waiting)) called made all = one_more s.volatile.pending (record { req = by; waits = waiting }) all (called by made.may.1)
+    move_waits s (Copies old at req (Further by waiting)) called made all = change_waits s.volatile (changes.Wait by waiting) refl all
+    move_waits s (Hears q asking) called made all = all
+    move_waits s (Sends q asking source target) called made all = all
+    move_waits s (Settles q asking carried at) called made all = all
+    move_waits s (Edits req edit answer) called made all = all
+    move_waits s (Extends req path new at) called made all = fewer_all s.volatile.pending req all
+    move_waits s (CopiesTree req from to) called made all = fewer_all s.volatile.pending req all
+    move_waits s (Replaces path index old new) called made all = all
+    move_waits s (Scans removed forgotten) called made all = all
+    move_waits s (Refuses req refusal over) called made all = changes_wait (said_changes (keeps_refusal s req refusal) s.log req refusal ++ (if over then end_changes s req else [])) s.volatile (refused_begins s req refusal over) all
+    move_waits s (AnswersCall req answer true) called made all = changes_wait (answer_changes s req answer ++ changes.End req ∷ []) s.volatile (both_all (answer_changes s req answer) (changes.End req ∷ []) (answer_begins s req answer) refl) all
+    move_waits s (AnswersCall req answer false) called made all = changes_wait (answer_changes s req answer) s.volatile (answer_begins s req answer) all
+    move_waits s (Waits req waiting) called made all = one_more s.volatile.pending (record { req = req; waits = waiting }) all (called req made.may.0)
+    move_waits s (Restores server chunks) called made all = all
+    move_waits s (Says messages) called made all = all
+    move_waits s (Flags req preparing now) called made all = changes_wait (answer_changes s req (answers.Epoch now)) (changed s.volatile (changes.Prepare preparing)) (answer_begins s req (answers.Epoch now)) all
+    move_waits s (Prepares req moment) called made all = changes_wait (answer_changes s req (answers.Epoch (s.durable.epoch + 1))) (changed s.volatile (changes.Prepare false)) (answer_begins s req (answers.Epoch (s.durable.epoch + 1))) all
+    move_waits s (Finalizes req) called made all = changes_wait (answer_changes s req (answers.Epoch (s.durable.epoch + 1))) s.volatile (answer_begins s req (answers.Epoch (s.durable.epoch + 1))) all
+    move_waits s BeginsRollback called made all = all
+    move_waits s (TellsRollback req now) called made all = changes_wait (answer_changes s req (answers.Epoch now)) s.volatile (answer_begins s req (answers.Epoch now)) all
+    move_waits s (CommitsRollback req names) called made all = changes_wait (answer_changes s req (answers.Epoch s.durable.epoch)) (changed s.volatile changes.RolledBack) (answer_begins s req (answers.Epoch s.durable.epoch)) all
+    move_waits s Checkpoints called made all = all
+
   module _ (config : Config) (heard : Heard) (hears : HearsFor P heard) where
     pub called_is : (s : State) (req : ReqId) → AllWait P s → IsCalled heard s req → P req
-    called_is s req all (inl (from, call, is)) = hears from req call is
+    called_is s req all (inl ((from, call, is), later)) = hears from req call is
     called_is s req all (inr waits) = one_of s.volatile.pending req all waits
-
-    move_waits : (s : State) (move : Move) → IsMade config heard s move → AllWait P s → AllWait P (move_turn config s move).after
-    move_waits s (Begins q purpose call Alone) made all = all
-    move_waits s (Begins q purpose call (FromNow req waiting)) made all = one_more s.volatile.pending (record { req = req; waits = waiting }) all (called_is s req all made.may.called)
-    move_waits s (Begins q purpose call (Further req waiting)) made all = change_waits s.volatile (changes.Wait req waiting) refl all
-    move_waits s (Makes targets req path) made all = one_more s.volatile.pending _ all (called_is s req all made.may.1)
-    move_waits s (Copies old at req Alone) made all = all
-    move_waits s (Copies old at req (FromNow by waiting)) made all = one_more s.volatile.pending (record { req = by; waits = waiting }) all (called_is s by all made.may.1)
-    move_waits s (Copies old at req (Further by waiting)) made all = change_waits s.volatile (changes.Wait by waiting) refl all
-    move_waits s (Hears q asking) made all = all
-    move_waits s (Sends q asking source target) made all = all
-    move_waits s (Settles q asking carried at) made all = all
-    move_waits s (Edits req edit answer) made all = all
-    move_waits s (Extends req path new at) made all = fewer_all s.volatile.pending req all
-    move_waits s (CopiesTree req from to) made all = fewer_all s.volatile.pending req all
-    move_waits s (Replaces path index old new) made all = all
-    move_waits s (Scans removed forgotten) made all = all
-    move_waits s (Refuses req refusal over) made all = changes_wait (said_changes (keeps_refusal s req refusal) s.log req refusal ++ (if over then end_changes s req else [])) s.volatile (refused_begins s req refusal over) all
-    move_waits s (AnswersCall req answer true) made all = changes_wait (answer_changes s req answer ++ changes.End req ∷ []) s.volatile (both_all (answer_changes s req answer) (changes.End req ∷ []) (answer_begins s req answer) refl) all
-    move_waits s (AnswersCall req answer false) made all = changes_wait (answer_changes s req answer) s.volatile (answer_begins s req answer) all
-    move_waits s (Waits req waiting) made all = one_more s.volatile.pending (record { req = req; waits = waiting }) all (called_is s req all made.may.0)
-    move_waits s (Restores server chunks) made all = all
-    move_waits s (Says messages) made all = all
-    move_waits s (Flags req preparing now) made all = changes_wait (answer_changes s req (answers.Epoch now)) (changed s.volatile (changes.Prepare preparing)) (answer_begins s req (answers.Epoch now)) all
-    move_waits s (Prepares req moment) made all = changes_wait (answer_changes s req (answers.Epoch (s.durable.epoch + 1))) (changed s.volatile (changes.Prepare false)) (answer_begins s req (answers.Epoch (s.durable.epoch + 1))) all
-    move_waits s (Finalizes req) made all = changes_wait (answer_changes s req (answers.Epoch (s.durable.epoch + 1))) s.volatile (answer_begins s req (answers.Epoch (s.durable.epoch + 1))) all
-    move_waits s BeginsRollback made all = all
-    move_waits s (TellsRollback req now) made all = changes_wait (answer_changes s req (answers.Epoch now)) s.volatile (answer_begins s req (answers.Epoch now)) all
-    move_waits s (CommitsRollback req names) made all = changes_wait (answer_changes s req (answers.Epoch s.durable.epoch)) (changed s.volatile changes.RolledBack) (answer_begins s req (answers.Epoch s.durable.epoch)) all
-    move_waits s Checkpoints made all = all
 
     pub chain_waits : (s : State) (t : Turn) → Chain config (IsMade config heard) s t → AllWait P s → AllWait P t.after
     chain_waits s t (Rests u said) all = all
-    chain_waits s t (Moves u move said made) all = move_waits s move made all
+    chain_waits s t (Moves u move said made) all = move_waits config heard u move (λ by. called_is u by all) made all
     chain_waits s t (Then u first next a b) all = chain_waits first.after next b (chain_waits s first a all)
 
     located_called : (s : State) (move : Move) (caller : ReqId) (chunk : ℕ) (view : View) (epoch : ℕ) → IsMade config heard s move → AllWait P s → Locates s move caller chunk view epoch → P caller

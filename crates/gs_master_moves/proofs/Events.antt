@@ -1,5 +1,5 @@
 -- Each event of a firm master is a chain of moves.
-use Rattle.std.proofs.Common.{inl, ◌≡◌, arith, ◌∙◌, ◌==◌, ◌&&◌, ◌||◌, ◌+◌, ◌-◌, ◌++◌, ℕ, Bool, true, false, not, cond, List, [], ◌∷◌, filter, length, refl, ap, sym, subst}
+use Rattle.std.proofs.Common.{◌≡◌, arith, ◌∙◌, ◌==◌, ◌&&◌, ◌||◌, ◌+◌, ◌-◌, ◌++◌, ℕ, Bool, true, false, not, cond, List, [], ◌∷◌, filter, length, refl, ap, sym, subst}
 use Rattle.std.specs.Prelude.{flat_map, map, nat_lt, is_some, slice_get, Contains, Option, Some, None, if◌then◌else◌}
 use Rattle.std.specs.List.{list_all}
 use Rattle.std.specs.FinMap as fin
@@ -357,7 +357,7 @@ module _ (config : Config) where
     server_chain server moment said named = Rests s (Some refusals.Stray)
 
     client_chain : (moment : Moment) (client : ClientId) (said : Body) → Turned config (said_from (nodes.Client client) said) s (from_client config s moment said)
-    client_chain moment client (bodies.Call req call) = call_chain config (Some (client.0, bodies.Call req call)) s req (inl (client.0, call, refl)) moment call h
+    client_chain moment client (bodies.Call req call) = call_chain config (Some (client.0, bodies.Call req call)) s req (client.0, call, refl) moment call h
     client_chain moment client said = within config None (Rests s (Some refusals.Stray))
 
     node_chain : (moment : Moment) (said : Body) (from : NodeId) → IsNamedBody said → Turned config (said_from from said) s (from_node config s moment said from)

@@ -295,7 +295,7 @@ module _ (config : Config) (came : Heard) (chunk : ℕ) (view : View) (placed : 
       (λ _. test_chain config came s (not (has_handle s.durable && has_versions s.durable 1)) (ended_by s req refusals.Exhausted) begin (λ _. ended_chain config came s req refusals.Exhausted)
       (λ _. room_for_chain s req t (Moves s (Copies old view req (Further req (waits.Copy path index old new))) None (record { known = known; listed = listed; fresh = fresh; given = given; settled = settled; quiet = none }, tt, (refl, refl, waits_so)))))
 
-  tree_chain : (req : ReqId) (from to : Path) (s : State) → IsCalled came s req → list_all (is_quiet_at s) (source_chunks s from) ≡ true → (names : Result NamesView Refusal) → edited_names (Snapshot from to) s.durable.names ≡ names
+  tree_chain : (req : ReqId) (from to : Path) (s : State) → is_pending s.volatile.pending req ≡ true → list_all (is_quiet_at s) (source_chunks s from) ≡ true → (names : Result NamesView Refusal) → edited_names (Snapshot from to) s.durable.names ≡ names
       → Chained config came s (edit_turn s req (edit_plan req (Snapshot from to) answers.Nothing []) names)
   tree_chain req from to s called still (Ok names) e = room_for_chain s req (turned s (edit_plan req (Snapshot from to) answers.Nothing [])) (Moves s (CopiesTree req from to) None ((names, e), still, called))
   tree_chain req from to s called still (Err refusal) e = ended_chain config came s req refusal
@@ -307,7 +307,7 @@ module _ (config : Config) (came : Heard) (chunk : ℕ) (view : View) (placed : 
   known_so s c same k = ap (has_entry s) same ∙ k.known
 
   -- a snapshot looks at no view
-  snapshot_chain : (s : State) (req : ReqId) (waiting : Waiting) → IsCalled came s req → is_snapshot waiting ≡ true → Chained config came s (goes_on s req view waiting)
+  snapshot_chain : (s : State) (req : ReqId) (waiting : Waiting) → is_pending s.volatile.pending req ≡ true → is_snapshot waiting ≡ true → Chained config came s (goes_on s req view waiting)
   unfolding goes_on
   snapshot_chain s req (waits.Snapshot from to) called is =
       test_chain config came s (list_all (is_quiet_at s) (source_chunks s from)) (ended_by_edit s req (Snapshot from to) answers.Nothing []) (unmoved s)
@@ -319,8 +319,8 @@ module _ (config : Config) (came : Heard) (chunk : ℕ) (view : View) (placed : 
   IsQuiet p = (is_quieting p.waits ≡ true → view.term ≡ None) × (is_of_file p.waits ≡ true → placed ≡ true)
 
   -- it waits
-  goes_called : (s : State) (p : Pending) → CanGo chunk s.volatile p → IsCalled came s p.req
-  goes_called s p go = inr (weaker s.volatile.pending (go.now (λ waiting. true)))
+  goes_called : (s : State) (p : Pending) → CanGo chunk s.volatile p → is_pending s.volatile.pending p.req ≡ true
+  goes_called s p go = weaker s.volatile.pending (go.now (λ waiting. true))
     where
       weaker : (ps : List Pending) → is_waited_by (Some p.req) (λ waiting. true) ps ≡ true → is_pending ps p.req ≡ true
       weaker [] some = some
@@ -336,7 +336,7 @@ module _ (config : Config) (came : Heard) (chunk : ℕ) (view : View) (placed : 
   one_chain s p h go r k quiet = by_waiting p.waits refl go.may go.can.0 quiet.0 quiet.1
     where
       called : IsCalled came s p.req
-      called = goes_called s p go
+      called = inr (goes_called s p go)
 
       by_waiting : (w : Waiting) → w ≡ p.waits → may_wait_for chunk w ≡ true → list_all is_visible (paths_of w) ≡ true → (is_quieting w ≡ true → view.term ≡ None) → (is_of_file w ≡ true → placed ≡ true) → Chained config came s (goes_on s p.req view w)
       by_waiting (waits.Extend path new) e may visible quiet in_file = extended_chain p.req path new s called (go.now (waits_to_extend new) ∙ ap (waits_to_extend new) (sym e) ∙ extends_itself path new) (settled_so s new (same_number new chunk may) k) (known_so s new (same_number new chunk may) k) (edited_names (AddChunk path new) s.durable.names) refl
@@ -346,7 +346,7 @@ module _ (config : Config) (came : Heard) (chunk : ℕ) (view : View) (placed : 
       by_waiting (waits.Quiet path index old) e may visible quiet in_file = copied_chain p.req path index old s (go.now (waits_to_copy path index old) ∙ ap (waits_to_copy path index old) (sym e) ∙ copies_itself path index old) (known_so s old (same_number old chunk may) k) (ap (is_listed s.durable) (same_number old chunk may) ∙ k.listed (in_file refl)) (next_is s h.stands.kept) (h.stands.kept.handles old (ap is_some (settled_so s old (same_number old chunk may) k).has)) (settled_so s old (same_number old chunk may) k) (quiet refl)
       by_waiting (waits.Copy path index old new) e may visible quiet in_file =
           replaced_chain p.req path index old new s (go.now (waits_for_copy path index old new) ∙ ap (waits_for_copy path index old new) (sym e) ∙ copied_itself path index old new) (same_number new chunk may) (left_true (is_visible path) visible) r (settled_so s new (same_number new chunk may) k) (known_so s new (same_number new chunk may) k) (edited_names (Cow path index old new) s.durable.names) refl
-      by_waiting (waits.Snapshot from to) e may visible quiet in_file = snapshot_chain s p.req (waits.Snapshot from to) called refl
+      by_waiting (waits.Snapshot from to) e may visible quiet in_file = snapshot_chain s p.req (waits.Snapshot from to) (goes_called s p go) refl
       by_waiting (waits.Replicate old target) e may visible quiet in_file =
           test_chain config came s (is_member view.members target) (ended_with s p.req (answers.Copied (Some (record { handle = old; server = target })))) (ended_by s p.req refusals.NoReplica)
           (λ _. Moves s (AnswersCall p.req (answers.Copied (Some (record { handle = old; server = target }))) true) None ((tt, tt, tt), refl)) (λ _. ended_chain config came s p.req refusals.NoReplica)

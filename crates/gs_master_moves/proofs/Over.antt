@@ -1,5 +1,5 @@
 -- A request that is over makes no edit any more, and stays over: move by move, and so over each event and each list of events.
-use Rattle.std.proofs.Common.{◌≡◌, ◌⊎◌, inl, inr, ◌∙◌, ◌&&◌, ◌||◌, ◌++◌, ◌+◌, ◌==◌, ℕ, Bool, true, false, not, cond, List, [], ◌∷◌, map, refl, ap, sym, subst}
+use Rattle.std.proofs.Common.{◌≡◌, ◌⊎◌, inl, inr, ◌∙◌, ◌&&◌, ◌||◌, ◌++◌, ◌+◌, ◌==◌, ℕ, Bool, true, false, not, List, [], ◌∷◌, map, refl, ap, sym, subst}
 use Rattle.std.specs.Prelude.{flat_map, nat_lt, is_some, Option, Some, None, Result, Ok, Err, if◌then◌else◌}
 use Rattle.std.specs.FinMap as fin
 use Rattle.std.specs.List.{AllByRecursion, list_all, list_any}
@@ -7,32 +7,23 @@ use Rattle.std.proofs.lemmas.Bool.{false≢true, true≢false, and_parts}
 use Rattle.gs_base.specs.declared.config.Config.{Config}
 use Rattle.gs_base.specs.declared.numbers.ReqId.{ReqId}
 use Rattle.gs_base.specs.declared.refusal.Refusal.{Refusal}
-use Rattle.gs_base.specs.declared.refusal.Refusal.TheVariants as refusals
 use Rattle.gs_base.specs.Members.{is_member}
 use Rattle.gs_lease.specs.declared.view.View.{View}
 use Rattle.gs_lock.specs.Operations.{same_op}
 use Rattle.gs_edit.specs.View.{NamesView}
 use Rattle.gs_msg.specs.declared.answer.Answer.{Answer}
 use Rattle.gs_msg.specs.declared.answer.Answer.TheVariants as answers
-use Rattle.gs_msg.specs.declared.body.Body.{Body}
-use Rattle.gs_msg.specs.declared.body.Body.TheVariants as bodies
-use Rattle.gs_msg.specs.declared.call.Call.{Call}
-use Rattle.gs_msg.specs.declared.message.Message.{Message}
-use Rattle.gs_msg.specs.declared.node.NodeId.{NodeId}
-use Rattle.gs_msg.specs.declared.node.NodeId.TheVariants as nodes
-use Rattle.gs_path.specs.Path.{Path}
 use Rattle.gs_base.specs.declared.epoch.EpochEnd.TheVariants as ends
-use Rattle.gs_base.specs.declared.numbers.Moment.{Moment}
 use Rattle.gs_master_record.specs.Plain.{AddChunk, Edited, Finalize, Holder, PlainEdit, PlainEntry, Prepare, Propose, Remove, RollbackBegin, RollbackCommit, Said, Settle, Snapshot, Whole}
 use Rattle.gs_master_record.specs.declared.checkpoint.Phase.TheVariants.{Ordinary, Upgrade, Rolling}
 use Rattle.gs_master_record.specs.declared.entry.Answered.{Answered}
-use Rattle.gs_master_spec.specs.Applied.{after_edit, after_undoing, applied, are_answers, are_at_rest, held_by, is_next_epoch, may_be_settled, may_edit, may_propose, proposed, replayed, rolled_back, with_edit, with_epoch, with_reply, with_view, without_prepared, view_for, chunk_of_edit, with_answer}
+use Rattle.gs_master_spec.specs.Applied.{after_edit, after_undoing, applied, are_answers, are_at_rest, held_by, is_next_epoch, may_be_settled, may_edit, may_propose, proposed, rolled_back, with_edit, with_epoch, with_reply, with_view, without_prepared, view_for, chunk_of_edit, with_answer}
 use Rattle.gs_master_spec.specs.Chunks.{holder_records, is_holder, target_of}
 use Rattle.gs_master_spec.specs.Durable.{Durable, is_ordinary, is_rolling, is_upgrade, prepared_view, with_prepared}
-use Rattle.gs_master_spec.specs.Handling.{call_turn, from_node, handle, restarted, unlisted}
+use Rattle.gs_master_spec.specs.Handling.{unlisted}
 use Rattle.gs_master_spec.specs.Replies.{answer_to, client_cmp, is_later, later}
 use Rattle.gs_master_spec.specs.Settling.{own_request}
-use Rattle.gs_master_spec.specs.State.{State, Turn, answer_changes, end_changes, fits, is_failed, is_kept, keeps_refusal, kept_in_memory, last_reply, met_by, said_changes, said_records}
+use Rattle.gs_master_spec.specs.State.{State, Turn, answer_changes, end_changes, fits, is_kept, keeps_refusal, kept_in_memory, last_reply, said_changes, said_records}
 use Rattle.gs_master_spec.specs.Undoing.{all_undone, edited_names}
 use Rattle.gs_master_spec.specs.Volatile.{Volatile, all_changed, behind_restart, changed, is_call, is_pending, let_go, let_go_of, without_call}
 use Rattle.gs_master_spec.specs.Working.{forget_if}
@@ -42,17 +33,15 @@ use Rattle.gs_master_spec.specs.declared.change.Change.TheVariants as changes
 use Rattle.gs_master_spec.specs.declared.pending.Pending.{Pending}
 use Rattle.gs_master_spec.specs.declared.reply.KeptReply.{KeptReply}
 use Rattle.gs_master_laws.proofs.Beginnings.{fits_gives}
-use Rattle.gs_master_laws.proofs.Refusing.{over_make_nothing}
 use Rattle.gs_master_laws.proofs.Standing.{StaysAnswered, changed_more, kept_answers, same_parts, told_answers}
 use Rattle.gs_master_laws.proofs.StandingRuns.{events_fit}
 use Rattle.gs_master_laws.specs.Standing.{Comes, Event, IsFirm, IsNamed, IsOver, Renews, Restarts, Ticks, run_of, turn_of, was_answered}
-use Rattle.gs_master_moves.proofs.Called.{chain_waits, called_is}
+use Rattle.gs_master_moves.proofs.Called.{move_waits}
 use Rattle.gs_master_moves.proofs.Listed.{over_records}
 use Rattle.gs_master_moves.proofs.Made.{events_are_chains}
 use Rattle.gs_master_moves.proofs.Stands.{plain, plain_records}
-use Rattle.gs_master_moves.specs.Called.{AllWait, HearsFor}
 use Rattle.gs_master_moves.specs.Guards.{Heard, IsCalled, IsMade}
-use Rattle.gs_master_moves.specs.Laws.{heard_in, met_in, said_from}
+use Rattle.gs_master_moves.specs.Laws.{heard_in, met_in}
 use Rattle.gs_master_moves.specs.Moves.{Alone, Chain, FromNow, Further, Move, Moves, Rests, Then, Begins, Makes, Copies, Hears, Sends, Settles, Edits, Extends, CopiesTree, Replaces, Scans, Refuses, Answers as AnswersCall, Waits, Restores, Says, Flags, Prepares, Finalizes, BeginsRollback, TellsRollback, CommitsRollback, Checkpoints, move_turn}
 use Rattle.gs_master_moves.specs.Over.{IsOverBy, OverMakesNoEdit, OverMakesNoEditLater, is_restart, tells_edit_of, was_told}
 
@@ -223,20 +212,6 @@ memory_over config s (TellsRollback req now) = answer_in s s.volatile req (answe
 memory_over config s (CommitsRollback req names) = answer_in s (changed s.volatile changes.RolledBack) req (answers.Epoch s.durable.epoch) refl
 memory_over config s Checkpoints = same_in s.durable s.volatile (move_turn config s Checkpoints).after.volatile refl
 
--- ---- over a chain
-
-pub record StaysOver (s : State) (t : Turn) : Type 0 where
-  pub answered : StaysAnswered s.durable s.volatile t.after.durable t.after.volatile
-  pub durable : AnsweredOver s.durable t.after.durable
-
-chain_over : (config : Config) (heard : Heard) (s : State) (t : Turn) → Chain config (IsMade config heard) s t → StaysOver s t
-chain_over config heard s t (Rests u said) = record { answered = λ req was. was; durable = λ v req was. was }
-chain_over config heard s t (Moves u move said made) =
-    record { answered = λ req was. durable_over config heard u move made (move_turn config u move).after.volatile req (memory_over config u move req was); durable = durable_over config heard u move made }
-chain_over config heard s t (Then u first next a b) =
-    let x = chain_over config heard u first a in let y = chain_over config heard first.after next b in
-    record { answered = λ req was. y.answered req (x.answered req was); durable = λ v req was. y.durable v req (x.durable v req was) }
-
 -- ---- what a record has told
 
 later_none : (o : Option KeptReply) → later o None ≡ o
@@ -295,42 +270,6 @@ module _ (req : ReqId) where
       by_test true = refl
       by_test false = refl
 
-  module _ (config : Config) (heard : Heard) (hears : HearsFor IsOther heard) where
-    move_tells : (s : State) (move : Move) → IsMade config heard s move → AllWait IsOther s → list_any tells (move_turn config s move).records ≡ false
-    move_tells s (Begins q purpose call Alone) made all = refl
-    move_tells s (Begins q purpose call (FromNow by waiting)) made all = refl
-    move_tells s (Begins q purpose call (Further by waiting)) made all = refl
-    move_tells s (Makes targets by path) made all = refl
-    move_tells s (Copies old at by Alone) made all = refl
-    move_tells s (Copies old at by (FromNow other waiting)) made all = refl
-    move_tells s (Copies old at by (Further other waiting)) made all = refl
-    move_tells s (Hears q asking) made all = refl
-    move_tells s (Sends q asking source target) made all = refl
-    move_tells s (Settles q asking carried at) made all = settle_tells (is_holder s.durable.phase (prepared_view s.durable q) carried asking at) q (target_of asking.purpose) at
-    move_tells s (Edits by edit answer) made all = others_edit by edit (called_is IsOther config heard hears s by all made.may.called)
-    move_tells s (Extends by path new at) made all = others_edit by (AddChunk path new) (called_is IsOther config heard hears s by all made.may.3)
-    move_tells s (CopiesTree by from to) made all = others_edit by (Snapshot from to) (called_is IsOther config heard hears s by all made.may.2)
-    move_tells s (Replaces path index old new) made all = and_none (is_call req (Some own_request))
-    move_tells s (Scans removed forgotten) made all = own_tells (map (λ path. Remove path) removed ++ forget_if forgotten)
-    move_tells s (Refuses by refusal over) made all = said_tells s by refusal
-    move_tells s (AnswersCall by answer true) made all = refl
-    move_tells s (AnswersCall by answer false) made all = refl
-    move_tells s (Waits by waiting) made all = refl
-    move_tells s (Restores server chunks) made all = refl
-    move_tells s (Says messages) made all = refl
-    move_tells s (Flags by preparing now) made all = refl
-    move_tells s (Prepares by moment) made all = refl
-    move_tells s (Finalizes by) made all = refl
-    move_tells s BeginsRollback made all = refl
-    move_tells s (TellsRollback by now) made all = refl
-    move_tells s (CommitsRollback by names) made all = refl
-    move_tells s Checkpoints made all = refl
-
-    chain_tells : (s : State) (t : Turn) → Chain config (IsMade config heard) s t → AllWait IsOther s → list_any tells t.records ≡ false
-    chain_tells s t (Rests u said) all = refl
-    chain_tells s t (Moves u move said made) all = move_tells u move made all
-    chain_tells s t (Then u first next a b) all = any_both tells first.records next.records (chain_tells u first a all) (chain_tells first.after next b (chain_waits IsOther config heard hears u first a all))
-
   -- ---- calls that wait
 
   rest_others : (ps : List Pending) → is_pending ps req ≡ false → AllByRecursion (λ (p : Pending). IsOther p.req) ps
@@ -345,88 +284,88 @@ module _ (req : ReqId) where
   others_rest [] all = refl
   others_rest (p ∷ ps) all = ap (λ b. b || is_pending ps req) all.0 ∙ others_rest ps all.1
 
-  -- ---- an event
-
-  pub chained_over : (config : Config) (heard : Heard) (s : State) (t : Turn) → HearsFor IsOther heard → Chain config (IsMade config heard) s t → IsOver s.durable s.volatile req → IsOverBy req s t
-  chained_over config heard s t hears chain over =
-      let all = rest_others s.volatile.pending over.rests in record {
-        edits = chain_tells config heard hears s t chain all;
-        over = record { answered = (chain_over config heard s t chain).answered req over.answered; rests = others_rest t.after.volatile.pending (chain_waits IsOther config heard hears s t chain all) };
-        told = told_on s.durable t.after.durable req (chain_over config heard s t chain).durable;
-      }
-
-  -- where nothing is left or recorded
-  nothing_over : (s : State) (t : Turn) → t.records ≡ [] → t.after ≡ s → IsOver s.durable s.volatile req → IsOverBy req s t
-  nothing_over s t none same over = record { edits = ap (list_any tells) none; over = subst (λ (x : State). IsOver x.durable x.volatile req) (sym same) over; told = subst (λ (x : State). was_told s.durable req ≡ true → was_told x.durable req ≡ true) (sym same) (λ told. told) }
-
-  pub hears_nobody : HearsFor IsOther None
-  hears_nobody from by call is = absurd (no_one is)
+  -- a call of which a move can be isn't one that is over
+  called_other : (heard : Heard) (s : State) → IsOver s.durable s.volatile req → (by : ReqId) → IsCalled heard s by → IsOther by
+  called_other heard s over by called = by_same (is_call req (Some by)) refl
     where
-      no_one : {A : Type 0} {a : A} → ◌≡◌ {A = Option A} None (Some a) → ⊥
-      no_one h = cc
+      later : is_later (last_reply s by.client) by.number ≡ true → req ≡ by → ⊥
+      later new same = true≢false (sym (subst (λ r. not (is_later (last_reply s r.client) r.number) ≡ true) same over.answered) ∙ ap not new)
 
-  abbrev is_called : Body → Bool
-  is_called (bodies.Call by call) = true
-  is_called body = false
+      waits : is_pending s.volatile.pending by ≡ true → req ≡ by → ⊥
+      waits there same = true≢false (sym there ∙ subst (λ r. is_pending s.volatile.pending r ≡ false) same over.rests)
 
-  hears_server : (server : ℕ) (body : Body) → is_called body ≡ false → HearsFor IsOther (Some (server, body))
-  hears_server server body other from by call is = absurd (true≢false (sym (ap called_in is) ∙ other))
-    where
-      called_in : Heard → Bool
-      called_in None = false
-      called_in (Some h) = is_called h.1
+      none : IsCalled heard s by → req ≡ by → ⊥
+      none (inl (call, new)) same = later new same
+      none (inr there) same = waits there same
 
-  node_over : (config : Config) (s : State) (moment : Moment) (said : Body) (from : NodeId) → Chain config (IsMade config (said_from from said)) s (from_node config s moment said from) → IsOver s.durable s.volatile req → IsOverBy req s (from_node config s moment said from)
-  node_over config s moment said nodes.Master chain over = nothing_over s _ refl refl over
-  node_over config s moment (bodies.Call by call) (nodes.Server server) chain over = by_failed (is_failed s.fault)
-    where
-      by_failed : (b : Bool) → IsOverBy req s (if b then met_by s refusals.Device else met_by s refusals.Stray)
-      by_failed true = nothing_over s _ refl refl over
-      by_failed false = nothing_over s _ refl refl over
-  node_over config s moment said (nodes.Server server) chain over = chained_over config (Some (server, said)) s _ (hears_server server said refl) chain over
-  node_over config s moment (bodies.Call by call) (nodes.Client client) chain over = by_same (is_call req (Some by)) refl
-    where
-      own : req ≡ by → IsOverBy req s (call_turn config s by moment call)
-      own same = subst (λ r. IsOverBy req s (call_turn config s r moment call)) same (let k = over_make_nothing config s req moment call over in nothing_over s (call_turn config s req moment call) k.0 k.1 over)
+      by_same : (b : Bool) → is_call req (Some by) ≡ b → b ≡ false
+      by_same true is = absurd (none called (same_parts req by is))
+      by_same false is = refl
 
-      hears_it : is_call req (Some by) ≡ false → HearsFor IsOther (Some (client.0, bodies.Call by call))
-      hears_it other from q asked is = subst IsOther (ap caller_in is) other
-        where
-          caller_of : Body → ReqId
-          caller_of (bodies.Call r c) = r
-          caller_of body = by
+  module _ (config : Config) (heard : Heard) where
+    move_tells : (s : State) (move : Move) → ((by : ReqId) → IsCalled heard s by → IsOther by) → IsMade config heard s move → list_any tells (move_turn config s move).records ≡ false
+    move_tells s (Begins q purpose call Alone) other made = refl
+    move_tells s (Begins q purpose call (FromNow by waiting)) other made = refl
+    move_tells s (Begins q purpose call (Further by waiting)) other made = refl
+    move_tells s (Makes targets by path) other made = refl
+    move_tells s (Copies old at by Alone) other made = refl
+    move_tells s (Copies old at by (FromNow mine waiting)) other made = refl
+    move_tells s (Copies old at by (Further mine waiting)) other made = refl
+    move_tells s (Hears q asking) other made = refl
+    move_tells s (Sends q asking source target) other made = refl
+    move_tells s (Settles q asking carried at) other made = settle_tells (is_holder s.durable.phase (prepared_view s.durable q) carried asking at) q (target_of asking.purpose) at
+    move_tells s (Edits by edit answer) other made = others_edit by edit (other by made.may.called)
+    move_tells s (Extends by path new at) other made = others_edit by (AddChunk path new) (other by made.may.3)
+    move_tells s (CopiesTree by from to) other made = others_edit by (Snapshot from to) (other by (inr made.may.2))
+    move_tells s (Replaces path index old new) other made = and_none (is_call req (Some own_request))
+    move_tells s (Scans removed forgotten) other made = own_tells (map (λ path. Remove path) removed ++ forget_if forgotten)
+    move_tells s (Refuses by refusal over) other made = said_tells s by refusal
+    move_tells s (AnswersCall by answer true) other made = refl
+    move_tells s (AnswersCall by answer false) other made = refl
+    move_tells s (Waits by waiting) other made = refl
+    move_tells s (Restores server chunks) other made = refl
+    move_tells s (Says messages) other made = refl
+    move_tells s (Flags by preparing now) other made = refl
+    move_tells s (Prepares by moment) other made = refl
+    move_tells s (Finalizes by) other made = refl
+    move_tells s BeginsRollback other made = refl
+    move_tells s (TellsRollback by now) other made = refl
+    move_tells s (CommitsRollback by names) other made = refl
+    move_tells s Checkpoints other made = refl
 
-          caller_in : Heard → ReqId
-          caller_in None = by
-          caller_in (Some h) = caller_of h.1
+    move_over : (s : State) (move : Move) → IsMade config heard s move → IsOver s.durable s.volatile req → IsOver (move_turn config s move).after.durable (move_turn config s move).after.volatile req
+    move_over s move made over = record {
+      answered = durable_over config heard s move made (move_turn config s move).after.volatile req (memory_over config s move req over.answered);
+      rests = others_rest (move_turn config s move).after.volatile.pending (move_waits IsOther config heard s move (called_other heard s over) made (rest_others s.volatile.pending over.rests));
+    }
 
-      by_same : (b : Bool) → is_call req (Some by) ≡ b → IsOverBy req s (call_turn config s by moment call)
-      by_same true same = own (same_parts req by same)
-      by_same false other = chained_over config (Some (client.0, bodies.Call by call)) s _ (hears_it other) chain over
-  node_over config s moment said (nodes.Client client) chain over = nothing_over s _ refl refl over
+    -- So it is over each chain, whoever calls.
+    pub chained_over : (s : State) (t : Turn) → Chain config (IsMade config heard) s t → IsOver s.durable s.volatile req → IsOverBy req s t
+    chained_over s t (Rests u said) over = record { edits = refl; over = over; told = λ told. told }
+    chained_over s t (Moves u move said made) over =
+        record { edits = move_tells u move (called_other heard u over) made; over = move_over u move made over; told = told_on u.durable (move_turn config u move).after.durable req (durable_over config heard u move made) }
+    chained_over s t (Then u first next a b) over =
+        let x = chained_over u first a over in
+        let y = chained_over first.after next b x.over in
+        record { edits = any_both tells first.records next.records x.edits y.edits; over = y.over; told = λ told. y.told (x.told told) }
+
+-- a restart leaves what is durable
+met_durable : (s : State) (event : Event) → (met_in s event).durable ≡ s.durable
+met_durable s (Comes message moment) = refl
+met_durable s (Ticks moment) = refl
+met_durable s Renews = refl
+met_durable s Restarts = refl
 
 pub over_makes_no_edit : OverMakesNoEdit
-unfolding handle
-over_makes_no_edit config s (Comes message moment) req named firm over = node_over req config s moment message.body message.from (events_are_chains config s (Comes message moment) named firm) over
-over_makes_no_edit config s (Ticks moment) req named firm over = chained_over req config None s _ (hears_nobody req) (events_are_chains config s (Ticks moment) named firm) over
-over_makes_no_edit config s Renews req named firm over = chained_over req config None s _ (hears_nobody req) (events_are_chains config s Renews named firm) over
-over_makes_no_edit config s Restarts req named firm over =
-    let k = chained_over req config None (restarted s.durable s.log) (turn_of config s Restarts) (hears_nobody req) (events_are_chains config s Restarts named firm) over in record { edits = k.edits; over = k.over; told = k.told }
+over_makes_no_edit config s event req named firm over =
+    let k = chained_over req config (heard_in event) (met_in s event) (turn_of config s event) (events_are_chains config s event named firm) over in
+    record { edits = k.edits; over = k.over; told = λ told. k.told (ap (λ (d : Durable). was_told d req) (met_durable s event) ∙ told) }
 
 -- ---- a list of events
 
 module _ (config : Config) (req : ReqId) where
-  event_chain : (s : State) (event : Event) → IsNamed event → IsFirm s → StaysOver (met_in s event) (turn_of config s event)
-  event_chain s event named firm = chain_over config (heard_in event) (met_in s event) (turn_of config s event) (events_are_chains config s event named firm)
-
   abbrev MayGo : List Event → State → Type 0
   MayGo events s = (list_any is_restart events ≡ false) ⊎ (was_told s.durable req ≡ true)
-
-  met_durable : (s : State) (event : Event) → (met_in s event).durable ≡ s.durable
-  met_durable s (Comes message moment) = refl
-  met_durable s (Ticks moment) = refl
-  met_durable s Renews = refl
-  met_durable s Restarts = refl
 
   meets_over : (s : State) (event : Event) (events : List Event) → IsOver s.durable s.volatile req → MayGo (event ∷ events) s → IsOver (met_in s event).durable (met_in s event).volatile req
   meets_over s (Comes message moment) events over may = over
@@ -435,20 +374,19 @@ module _ (config : Config) (req : ReqId) where
   meets_over s Restarts events over (inl none) = absurd (true≢false none)
   meets_over s Restarts events over (inr told) = record { answered = told_is s.durable (unlisted s.durable) req ∙ told; rests = refl }
 
-  goes_on : (s : State) (event : Event) (events : List Event) → IsNamed event → IsFirm s → MayGo (event ∷ events) s → MayGo events (turn_of config s event).after
-  goes_on s event events named firm (inl none) = inl (second (is_restart event) (list_any is_restart events) none)
+  goes_on : (s : State) (event : Event) (events : List Event) → IsOverBy req s (turn_of config s event) → MayGo (event ∷ events) s → MayGo events (turn_of config s event).after
+  goes_on s event events one (inl none) = inl (second (is_restart event) (list_any is_restart events) none)
     where
       second : (a b : Bool) → (a || b) ≡ false → b ≡ false
       second true b h = absurd (true≢false h)
       second false b h = h
-  goes_on s event events named firm (inr told) =
-      inr (told_on s.durable (turn_of config s event).after.durable req (subst (λ d. AnsweredOver d (turn_of config s event).after.durable) (met_durable s event) (event_chain s event named firm).durable) told)
+  goes_on s event events one (inr told) = inr (one.told told)
 
   run_over : (events : List Event) (s : State) → AllByRecursion IsNamed events → IsFirm s → IsOver s.durable s.volatile req → MayGo events s → IsOverBy req s (run_of config s events)
   run_over [] s named firm over may = record { edits = refl; over = over; told = λ told. told }
   run_over (event ∷ events) s named firm over may =
       let one = over_makes_no_edit config s event req named.0 firm (meets_over s event events over may) in
-      let rest = run_over events (turn_of config s event).after named.1 (events_fit config s event named.0 firm).firm one.over (goes_on s event events named.0 firm may) in
+      let rest = run_over events (turn_of config s event).after named.1 (events_fit config s event named.0 firm).firm one.over (goes_on s event events one may) in
       record { edits = any_both (tells_edit_of req) (turn_of config s event).records (run_of config (turn_of config s event).after events).records one.edits rest.edits; over = rest.over; told = λ told. rest.told (one.told told) }
 
 pub over_makes_no_edit_later : OverMakesNoEditLater

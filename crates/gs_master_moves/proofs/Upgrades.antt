@@ -30,6 +30,7 @@ use Rattle.gs_master_spec.specs.Durable.{Durable, is_listed, is_ordinary, is_rol
 use Rattle.gs_master_spec.specs.Handling.{call_turn, called, called_unless, numbered, refusal_in, replied_again, taken_as, waits_still, New, Again, Older}
 use Rattle.gs_master_state.specs.Sane.{is_waited_by, makes}
 use Rattle.gs_master_spec.specs.Settling.{is_quiet_at, requests_of}
+use Rattle.gs_master_spec.specs.Replies.{is_later}
 use Rattle.gs_master_spec.specs.State.{State, Turn, turned, and_then, joined, refused, all_ended_by, ended_by, first_of, is_failed, is_unopened, last_reply, unmoved}
 use Rattle.gs_master_spec.specs.Undoing.{all_undone}
 use Rattle.gs_master_spec.specs.Upgrades.{accepted_plan, all_unquiet, answers_for, begin_tests, chunk_count, commit_if, commit_on, commit_tests, end_tests, finalize, first_in, if_pending, if_unquiet, is_last_epoch, lowest_path, pending_paths, prepare_abort, prepare_begin, prepare_commit, rollback_begin, tell_all, told_of, unless, unrestored}
@@ -50,7 +51,7 @@ use Rattle.gs_master_laws.proofs.StandingTurns.{Holds, given_up}
 use Rattle.gs_master_moves.proofs.Calls.{deletes_chain, edits_chain, renames_chain, extends_turned, found_listed, found_turned, lists_chain, located_turned, most_chain, scans_turned, snapshot_if_chain, status_chain}
 use Rattle.gs_master_moves.proofs.Chains.{Chained, Turned, all_begun_chain, all_ended_chain, answered_chain, closing_chain, joined_together, refused_chain, rests, room_chain, room_turned, test_chain, test_turned, then_chain, within}
 use Rattle.gs_master_moves.specs.Epochs.{ByItself, Closes}
-use Rattle.gs_master_moves.specs.Guards.{IsCalled, Heard, WasReplied}
+use Rattle.gs_master_moves.specs.Guards.{IsCalled, IsHeardCall, Heard, WasReplied}
 use Rattle.gs_master_moves.specs.Moves.{Moves, Then, BeginsRollback, CommitsRollback, Finalizes, Flags, Prepares, Says, TellsRollback}
 
 -- ---- calls that wait for no path make no chunk
@@ -223,23 +224,29 @@ module _ (config : Config) (heard : Heard) where
   again_chain s req (Ok answer) was = Moves s (Says _) (refusal_in (Ok answer)) ((inr was, tt), refl, (was, tt))
   again_chain s req (Err refusal) was = Moves s (Says _) (refusal_in (Err refusal)) ((inr was, tt), refl, (tt, tt))
 
-  taken_chain : (s : State) (req : ReqId) → IsCalled heard s req → is_pending s.volatile.pending req ≡ false → (moment : Moment) (call : Call) → Holds true s → Turned config heard s (taken_as config s req moment call (numbered (last_reply s req.client) req.number))
+  taken_chain : (s : State) (req : ReqId) → IsHeardCall heard req → is_pending s.volatile.pending req ≡ false → (moment : Moment) (call : Call) → Holds true s → Turned config heard s (taken_as config s req moment call (numbered (last_reply s req.client) req.number))
   taken_chain s req come new moment call h = by_reply (last_reply s req.client) refl
     where
-      by_order : (reply : KeptReply) (b : Bool) → last_reply s req.client ≡ Some reply → Turned config heard s (taken_as config s req moment call (if b then Older else New))
-      by_order reply true has = within config heard (refused_again s req refusals.Old)
-      by_order reply false has = called_unless_chain s req come new moment call (refused_before s req call) h refl
+      called : (o : Option KeptReply) → last_reply s req.client ≡ o → is_later o req.number ≡ true → IsCalled heard s req
+      called o has later = inl (come, ap (λ o. is_later o req.number) has ∙ later)
+
+      by_order : (reply : KeptReply) (b : Bool) → (reply.number == req.number) ≡ false → nat_lt req.number reply.number ≡ b → last_reply s req.client ≡ Some reply → Turned config heard s (taken_as config s req moment call (if b then Older else New))
+      by_order reply true other older has = within config heard (refused_again s req refusals.Old)
+      by_order reply false other older has = called_unless_chain s req (called (Some reply) has (behind reply.number req.number other older)) new moment call (refused_before s req call) h refl
+        where
+          behind : (a b : ℕ) → (a == b) ≡ false → nat_lt b a ≡ false → nat_lt a b ≡ true
+          behind a b other older = grind (arith, nat_tests)
 
       by_number : (reply : KeptReply) (b : Bool) → (reply.number == req.number) ≡ b → last_reply s req.client ≡ Some reply
           → Turned config heard s (taken_as config s req moment call (if b then Again reply.result else if nat_lt req.number reply.number then Older else New))
       by_number reply true same has = within config heard (again_chain s req reply.result (record { reply = reply; has = has; number = same; is = refl }))
-      by_number reply false same has = by_order reply (nat_lt req.number reply.number) has
+      by_number reply false same has = by_order reply (nat_lt req.number reply.number) same refl has
 
       by_reply : (o : Option KeptReply) → last_reply s req.client ≡ o → Turned config heard s (taken_as config s req moment call (numbered o req.number))
-      by_reply None has = called_unless_chain s req come new moment call (refused_before s req call) h refl
+      by_reply None has = called_unless_chain s req (called None has refl) new moment call (refused_before s req call) h refl
       by_reply (Some reply) has = by_number reply (reply.number == req.number) refl has
 
-  pub call_chain : (s : State) (req : ReqId) → IsCalled heard s req → (moment : Moment) (call : Call) → Holds true s → Turned config heard s (call_turn config s req moment call)
+  pub call_chain : (s : State) (req : ReqId) → IsHeardCall heard req → (moment : Moment) (call : Call) → Holds true s → Turned config heard s (call_turn config s req moment call)
   call_chain s req come moment call h =
       let taken = taken_as config s req moment call (numbered (last_reply s req.client) req.number) in
       test_turned config heard s (is_unopened s.fault) (replied_again s req (Err refusals.Device)) (if is_pending s.volatile.pending req then waits_still s req else taken) (λ _. within config heard (refused_again s req refusals.Device))

@@ -40,6 +40,7 @@ use Rattle.gs_master_laws.specs.Promises.{AllFit}
 use Rattle.gs_master_spec.specs.Durable.{is_given, is_listed, is_rolling, prepared_view}
 use Rattle.gs_master_spec.specs.Handling.{written}
 use Rattle.gs_master_spec.specs.Hearing.{is_stray, is_with_sealed}
+use Rattle.gs_master_spec.specs.Replies.{is_later}
 use Rattle.gs_master_spec.specs.Settling.{is_quiet_at, source_chunks}
 use Rattle.gs_master_spec.specs.State.{State, last_reply, first_of, is_failed}
 use Rattle.gs_master_spec.specs.Undoing.{all_undone, edited_names}
@@ -175,9 +176,13 @@ abbrev pub IsRightResult : State → Result Answer Refusal → Type 0
 IsRightResult s (Ok answer) = IsRightAnswer s answer
 IsRightResult s (Err refusal) = Unit {0}
 
--- This call is heard in the event, or it waits.
+-- This call is heard in the event
+abbrev pub IsHeardCall : Heard → ReqId → Type 0
+IsHeardCall heard req = (from : ℕ) × (call : Call) × (heard ≡ Some (from, bodies.Call req call))
+
+-- and is later than what was answered last; or it waits.
 abbrev pub IsCalled : Heard → State → ReqId → Type 0
-IsCalled heard s req = ((from : ℕ) × (call : Call) × (heard ≡ Some (from, bodies.Call req call))) ⊎ (is_pending s.volatile.pending req ≡ true)
+IsCalled heard s req = (IsHeardCall heard req × (is_later (last_reply s req.client) req.number ≡ true)) ⊎ (is_pending s.volatile.pending req ≡ true)
 
 -- so it is of what tells where a chunk is
 abbrev pub IsCalledFor : Heard → State → ReqId → Answer → Type 0
@@ -490,7 +495,7 @@ May config heard s (Sends chunk asking source target) = MaySend s chunk asking s
 May config heard s (Settles chunk asking carried view) = MaySettle heard s chunk asking carried view
 May config heard s (Edits req edit answer) = MayEdit heard s req edit answer
 May config heard s (Extends req path chunk view) = IsEdit s (AddChunk path chunk) × IsSettledOn s chunk view × (has_entry s chunk ≡ true) × IsCalled heard s req × IsWaiting s req (waits_to_extend chunk)
-May config heard s (CopiesTree req from to) = IsEdit s (Snapshot from to) × (is_still_for s (Snapshot from to) ≡ true) × IsCalled heard s req
+May config heard s (CopiesTree req from to) = IsEdit s (Snapshot from to) × (is_still_for s (Snapshot from to) ≡ true) × (is_pending s.volatile.pending req ≡ true)
 May config heard s (Replaces path index old new) = IsEdit s (Cow path index old new) × ((view : View) × IsSettledOn s new view) × (has_entry s new ≡ true) × ((req : ReqId) × IsWaiting s req (waits_for_copy path index old new))
 May config heard s (Scans removed forgotten) = MayScan s removed forgotten
 May config heard s (Refuses req refusal over) = Unit {0}

@@ -1,11 +1,11 @@
 -- A request that is over makes no edit any more.
-use Rattle.std.specs.Prelude.{◌&&◌, ◌≡◌, ◌⊎◌, Bool, List, Some, codes, false, not, refl, true}
+use Rattle.std.specs.Prelude.{◌&&◌, ◌≡◌, ◌⊎◌, Bool, List, Some, false, not, refl, true}
 use Rattle.std.specs.FinMap as fin
 use Rattle.std.specs.List.{AllByRecursion, list_any}
 use Rattle.gs_base.specs.declared.config.Config.{Config}
 use Rattle.gs_base.specs.declared.numbers.ReqId.{ReqId}
 use Rattle.gs_path.specs.Path.{Path}
-use Rattle.gs_master_laws.specs.Standing.{Event, IsFirm, IsNamed, IsOver, Restarts, Ticks, run_of, turn_of}
+use Rattle.gs_master_laws.specs.Standing.{Event, IsFirm, IsNamed, IsOver, Restarts, run_of, turn_of}
 use Rattle.gs_master_moves.specs.Laws.{met_in}
 use Rattle.gs_master_record.specs.Plain.{Cow, Create, Edited, Finalize, PlainEntry}
 use Rattle.gs_master_spec.specs.Durable.{Durable}
