@@ -219,7 +219,7 @@ later_none None = refl
 later_none (Some reply) = refl
 
 -- where a record has told the answer, nothing that is kept in memory is needed
-told_is : (d : Durable) (out : List ℕ) (req : ReqId) → was_answered d (behind_restart out) req ≡ was_told d req
+pub told_is : (d : Durable) (out : List ℕ) (req : ReqId) → was_answered d (behind_restart out) req ≡ was_told d req
 told_is d out req = ap (λ o. not (is_later (later (fin.get d.replies req.client) o) req.number)) (fin.get-empty client_cmp req.client) ∙ ap (λ o. not (is_later o req.number)) (later_none (fin.get d.replies req.client))
 
 told_on : (d e : Durable) (req : ReqId) → AnsweredOver d e → was_told d req ≡ true → was_told e req ≡ true

@@ -15,3 +15,4 @@ mod Unlisted
 mod Fresh
 mod Bare
 mod Holding
+mod Over

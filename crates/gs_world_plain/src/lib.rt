@@ -4,6 +4,7 @@
 
 ghost use Rattle.gs_world_chunks.specs.Running.{Setup};
 ghost use Rattle.gs_world_plain.specs.Fresh.{AddedAreAsMade, NewAreAsMade, PlacesAreHeld};
+ghost use Rattle.gs_world_plain.specs.Over.{OverMakesNoEdits};
 ghost use Rattle.gs_world_plain.specs.Plainly.{BeginsPlain, EditsOnePlace, RunsArePlain, StepsArePlain};
 ghost use Rattle.gs_world_plain.specs.Stepping.{CommitsLead, FinalizesLead, GrowingStepsLead, PreparesLead, StepsOfAccountsLead};
 
@@ -68,4 +69,13 @@ pub fn a_run_is_plain_where_copies_have_their_texts<D>()
     a_message_edits_a_replica_by_what_it_says();
     each_rollback_is_of_a_prepare::<D>();
     a_rollback_gives_back_what_was_settled::<D>();
+}
+
+/// Once a request is over at the master, and a record has told its answer, as one tells a refusal wherever there is room, no step of the run makes an edit for it, whatever comes: its own call once more, deliveries of any
+/// message ever sent, ticks, and restarts.
+pub fn a_request_that_is_over_makes_no_edit_in_a_run<D>()
+    ensures { (x : Setup D) → OverMakesNoEdits x }
+{
+    configurations_have_sizes();
+    a_message_edits_a_replica_by_what_it_says();
 }

@@ -1,0 +1,36 @@
+-- A request that is over makes no edit in a run, whatever happens in it.
+use Rattle.std.specs.Prelude.{[], ◌∷◌, ◌≡◌, List, Some, false, refl, take, true, ℕ}
+use Rattle.std.specs.List.{list_any}
+use Rattle.gs_base.specs.declared.numbers.ClientId.{ClientId}
+use Rattle.gs_base.specs.declared.numbers.ReqId.{ReqId}
+use Rattle.gs_master.specs.Masters.{MasterOf}
+use Rattle.gs_master_laws.specs.Standing.{IsOver}
+use Rattle.gs_master_moves.specs.Over.{tells_edit_of, was_told}
+use Rattle.gs_master_spec.specs.Applied.{replayed}
+use Rattle.gs_nodes.specs.declared.place.MasterPlace.TheVariants.{Standing}
+use Rattle.gs_world.specs.Histories.{History}
+use Rattle.gs_world.specs.Runs.{Step, Takes}
+use Rattle.gs_world_chunks.specs.Accounts.{Account}
+use Rattle.gs_world_chunks.specs.Running.{IsReached, Runs, Setup}
+use Rattle.gs_world_plain.specs.Written.{records_at}
+
+-- so many of the records of a step are written, and none of these tells an edit of the request
+pub record WritesNoEdit {D : Type 0} (req : ReqId) (step : Step) (old : History D) (a b : Account) : Type 0 where
+  pub written : ℕ
+  pub records : replayed a.durable (take written (records_at step old)) ≡ Some b.durable
+  pub none : list_any (tells_edit_of req) (take written (records_at step old)) ≡ false
+
+module _ {D : Type 0} (x : Setup D) where
+  -- so of each step of a run
+  abbrev pub EachWritesNoEdit : ReqId → (steps : List Step) (old : History D) (a : Account) (new : History D) (b : Account) → Runs x steps old a new b → Type 0
+  EachWritesNoEdit req [] old a new b runs = Unit {0}
+  EachWritesNoEdit req (step ∷ steps) old a new b (mid, c, one, rest) = WritesNoEdit req step old a c × EachWritesNoEdit req steps mid c new b rest
+
+  -- In a run in which no disk fails, and whatever else happens, restarts of the master among it: once a request is over, and a record has told so, no step makes an edit for it.
+  abbrev pub OverMakesNoEdits : Type 0
+  OverMakesNoEdits = x.fails ≡ false → (old new : History D) (a b : Account) (steps : List Step) (m : MasterOf D) (req : ReqId) → IsReached x old a → old.nodes.master ≡ Standing m →
+      IsOver m.state.durable m.state.volatile req → was_told m.state.durable req ≡ true → (runs : Runs x steps old a new b) → EachWritesNoEdit req steps old a new b runs
+
+-- ---- Worked: where a client takes its answer nothing is written
+nothing_is_told : {D : Type 0} (req : ReqId) (client : ClientId) (old : History D) (a : Account) → WritesNoEdit req (Takes client) old a a
+nothing_is_told req client old a = record { written = 0; records = refl; none = refl }
