@@ -4,7 +4,7 @@ use Rattle.std.specs.Char.{encode_utf8}
 use Rattle.std.specs.Fmt.{digits}
 use Rattle.std.specs.Str.{chars, is_utf8}
 use Rattle.gs_path.specs.Element.{twenty_digits}
-use Rattle.gs_shell_grammar.specs.Grammar.{number_line, three_words, two_words, upgrade_line}
+use Rattle.gs_shell_grammar.specs.Grammar.{number_line, one_word, three_words, two_words, upgrade_line}
 use Rattle.gs_shell_plain.specs.Machines.{machine_answers, new_machine}
 
 abbrev script : List (List ℕ)
@@ -94,5 +94,5 @@ abbrev refusals : List (List ℕ)
 refusals = codes "ok" ∷ codes "refused 4 Exists" ∷ codes "refused 8 IntoItself" ∷ codes "refused 13 NotUpgrading" ∷ codes "ok false" ∷ codes "refused 7 NotEmpty" ∷ codes "refused 38 NotHidden" ∷ codes "refused 34 BadLine" ∷ []
 
 they_are_refused_so : machine_answers refused new_machine ≡ refusals
-unfolding two_words three_words upgrade_line number_line is_utf8 chars encode_utf8 digits twenty_digits
+unfolding one_word two_words three_words upgrade_line number_line is_utf8 chars encode_utf8 digits twenty_digits
 they_are_refused_so = refl

@@ -42,7 +42,7 @@ use Rattle.gs_world.proofs.Lasting.{begins_firm}
 
 module _ {D : Type 0} (x : Setup D) (quiet : x.fails ≡ false) (Holds : MasterPlace D → Type 0) (given : IsGiven x)
     (on : (sent : Sent) (old new : MasterPlace D) (messages : List Message) → Lasts x.seen old → MasterDoes x.seen x.armed sent old new messages → Holds old → Holds new) where
-  holds_on : (step : Step) (old mid : History D) → Lasts x.seen old.nodes.master → KeepsTypes old → StepsWithin x step old mid → Holds old.nodes.master → Holds mid.nodes.master
+  pub holds_on : (step : Step) (old mid : History D) → Lasts x.seen old.nodes.master → KeepsTypes old → StepsWithin x step old mid → Holds old.nodes.master → Holds mid.nodes.master
   holds_on step old mid lasts types one h = by_kind (kind_of x.seen x.failures x.armed step old mid one.goes (named x step old one.within types))
     where
       by_kind : Kind x.seen x.failures x.armed step old mid → Holds mid.nodes.master
