@@ -1,2 +1,2 @@
-pub mod Bare
+pub mod Told
 pub mod Held
